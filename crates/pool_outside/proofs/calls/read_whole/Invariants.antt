@@ -1,0 +1,21 @@
+-- The told text is what was read so far and what is left.
+use Rattle.std.proofs.Common.{◌≡◌, ◌+◌, ◌-◌, ◌≤◌, ◌++◌, true, length, option_map}
+use Rattle.pool_outside.proofs.calls.read_whole.Given as goal
+
+abbrev pub invariant-loop-text : goal.invariant-loop-text
+invariant-loop-text g l =
+    let files = g.F.Files in
+    record {
+      so_far : files.told l.fn.files l.name ≡ option_map (λ r. l.text.items ++ r) (files.rest l.files);
+      given : files.given l.files ≡ length l.text.items;
+      within : length l.text.items ≤ l.limit;
+      live : files.live l.files ≡ true;
+      room : length l.piece.items ≡ 65536;
+      opens : files.opens l.files ≡ files.opens l.fn.files + 1;
+      faults : files.faults l.fn.files ≤ files.faults l.files;
+      told : files.told l.files ≡ files.told l.fn.files;
+      may : files.may l.files ≡ files.may l.fn.files;
+    }
+
+abbrev pub decreases-loop-text : goal.decreases-loop-text
+decreases-loop-text g l = l.limit - length l.text.items

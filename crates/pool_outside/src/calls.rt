@@ -1,0 +1,107 @@
+// Reading a text whole, and writing a piece whole.
+ghost use Rattle.std.specs.Prelude.{◌≡◌, ℕ, ◌+◌, ◌-◌, ◌^◌, ◌<◌, ◌≤◌, ◌++◌, ◌↔◌, true, false, length, take, option_map, IsTrue, IfOk, OnOk, OnErr, IfSome, IsErrOf};
+ghost use Rattle.pool_outside.specs.Outside.{Rose};
+ghost use Rattle.pool_outside.specs.declared.calls.ReadFault.TheVariants.{Failed as ReadFailed, Memory};
+
+use crate::outside::{Failed, Files, Sink};
+use std::alloc::{AllocError, Global};
+use thiserror::Error;
+
+/// Why a text was not read whole.
+#[derive(Clone, Copy, Debug, PartialEq, Eq, Error)]
+pub enum ReadFault {
+    /// The open or a read failed, and the count of faults rose or stands at its last value.
+    #[error("a read failed")]
+    Failed,
+    /// More bytes were given than the limit.
+    #[error("the text is too long")]
+    TooLong,
+    /// Out of memory.
+    #[error("out of memory")]
+    Memory,
+}
+
+impl From<Failed> for ReadFault {
+    ghost from_gives = { λ _ e. e ≡ ReadFailed };
+
+    fn from(_failed: Failed) -> ReadFault {
+        ReadFault::Failed
+    }
+}
+
+impl From<AllocError> for ReadFault {
+    ghost from_gives = { λ _ e. e ≡ Memory };
+
+    fn from(_error: AllocError) -> ReadFault {
+        ReadFault::Memory
+    }
+}
+
+/// A write failed before the piece was written whole.
+#[derive(Clone, Copy, Debug, PartialEq, Eq)]
+pub struct WriteFault;
+
+/// The most bytes that are asked for in one read.
+const PIECE: usize = 65536;
+
+fn zeros(alloc: Global, count: usize) -> Result<Vec<u8>, AllocError>
+    ensures { IfOk result (λ bytes. length bytes.items ≡ count) }
+{
+    vec![in alloc; 0u8; count]
+}
+
+/// Opens the name once, and reads its text to the end, in pieces of at most 64 KiB. Once more than `limit` bytes
+/// were given it reads no further, and answers `TooLong`. `Failed` comes where the open or a read failed.
+pub fn read_whole<F: Files>(
+    alloc: Global,
+    files: &mut F,
+    name: &str,
+    limit: usize,
+) -> Result<Vec<u8>, ReadFault>
+    requires allowed { IsTrue (F.may files.old (F.opens files.old) name.now) }
+    requires countable { F.opens files.old < 2 ^ 64 - 1 }
+    requires bounded { limit < 2 ^ 32 }
+    ensures whole { IfOk result (λ text. IfSome (F.told files.old name.now) (λ s. text.items ≡ s)) }
+    ensures counted { IfOk result (λ text. F.given files.new ≡ length text.items) }
+    ensures within { IfOk result (λ text. length text.items ≤ limit) }
+    ensures ended { OnOk result (F.live files.new ≡ false) }
+    ensures failed { IsErrOf result ReadFault.Failed → Rose (F.faults files.old) (F.faults files.new) }
+    ensures too_long { IsErrOf result ReadFault.TooLong ↔ limit < F.given files.new }
+    ensures stops { F.given files.new ≤ limit + 65536 }
+    ensures no_more_than_told { IfSome (F.told files.old name.now) (λ s. F.given files.new ≤ length s) }
+    ensures opened_once { F.opens files.new ≡ F.opens files.old + 1 }
+    ensures faults_stay_or_rise { F.faults files.old ≤ F.faults files.new }
+    ensures same_texts { F.told files.new ≡ F.told files.old }
+    ensures same_leave { F.may files.new ≡ F.may files.old }
+{
+    files.open_file(name)?;
+    let mut piece = zeros(alloc, PIECE)?;
+    let mut text = Vec::new(alloc);
+    loop {
+        let taken = files.read(&mut piece)?;
+        if taken == 0 {
+            return Ok(text);
+        }
+        if taken > limit - text.len() {
+            return Err(ReadFault::TooLong);
+        }
+        text.extend_from_slice(&piece[..taken])?;
+    }
+}
+
+/// Writes the piece whole, in as many writes as the sink needs. An empty piece needs none.
+pub fn write_all_of<K: Sink>(sink: &mut K, piece: &[u8]) -> Result<(), WriteFault>
+    ensures whole { OnOk result (K.written sink.new ≡ option_map (λ w. w ++ piece.now) (K.written sink.old)) }
+    ensures front { OnErr result ((n : ℕ) × (n ≤ length piece.now) × (K.written sink.new ≡ option_map (λ w. w ++ take n piece.now) (K.written sink.old))) }
+    ensures failed { OnErr result (Rose (K.faults sink.old) (K.faults sink.new)) }
+    ensures faults_stay_or_rise { K.faults sink.old ≤ K.faults sink.new }
+{
+    let mut at = 0;
+    while at < piece.len() {
+        match sink.write(&piece[at..]) {
+            Ok(taken) => at += taken,
+            Err(Failed) => return Err(WriteFault),
+        }
+    }
+    Ok(())
+}

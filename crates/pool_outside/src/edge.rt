@@ -1,0 +1,141 @@
+// Files and sinks of the system, over std. No contract tells what they hold.
+ghost use Rattle.std.specs.Prelude.{◌≡◌, ℕ, ◌+◌, ◌-◌, ◌^◌, ◌<◌, ◌≤◌, None, true, false, length, is_some};
+ghost use Rattle.pool_outside.specs.Outside.{Rose};
+ghost use Rattle.pool_outside.specs.Memory.{counted};
+ghost use Rattle.pool_outside.specs.Edge.{Counts};
+
+use crate::outside::{Failed, Files, Sink};
+use std::io::{Read, Write};
+use std::marker::Model;
+use std::{fs, rt};
+
+/// The files of the system, through the runtime. A path that cannot be opened for reading fails at
+/// `open_file`, and a folder there or at its first read.
+#[derive(Drop)]
+pub struct StdFiles<R: rt::Files + Drop> {
+    rt: R,
+    file: Option<R::File>,
+    opens: u64,
+    given: u64,
+    faults: u64,
+}
+
+impl<R: rt::Files + Drop> Model for StdFiles<R> {
+    ghost Value = { Counts };
+
+    ghost view = { λ f. record { opens = f.opens; given = f.given; faults = f.faults; live = is_some f.file } };
+}
+
+impl<R: rt::Files + Drop> StdFiles<R> {
+    /// The files that this runtime reaches.
+    pub fn make(rt: R) -> StdFiles<R>
+        ensures { result ≡ record { opens = 0; given = 0; faults = 0; live = false } }
+    {
+        StdFiles {
+            rt,
+            file: None,
+            opens: 0,
+            given: 0,
+            faults: 0,
+        }
+    }
+
+    fn fail(&mut self)
+        ensures fields { self.new ≡ record self.old { faults = counted self.old.faults 1; live = false } }
+        ensures rose { Rose self.old.faults self.new.faults }
+        ensures stay_or_rise { self.old.faults ≤ self.new.faults }
+    {
+        self.file = None;
+        self.faults = self.faults.saturating_add(1);
+    }
+}
+
+impl<R: rt::Files + Drop> Files for StdFiles<R> {
+    ghost told = { λ f name. None };
+
+    ghost rest = { λ f. None };
+
+    ghost given = { λ f. f.given };
+
+    ghost faults = { λ f. f.faults };
+
+    ghost opens = { λ f. f.opens };
+
+    ghost may = { λ f n name. true };
+
+    ghost live = { λ f. f.live };
+
+    fn open_file(&mut self, name: &str) -> Result<(), Failed> {
+        self.opens += 1;
+        self.given = 0;
+        match fs::open(&self.rt, name) {
+            Ok(file) => {
+                self.file = Some(file);
+                Ok(())
+            }
+            Err(_) => {
+                self.fail();
+                Err(Failed)
+            }
+        }
+    }
+
+    fn read(&mut self, into: &mut [u8]) -> Result<usize, Failed> {
+        let outcome = match &mut self.file {
+            Some(file) => file.read(into),
+            None => unreachable!(),
+        };
+        match outcome {
+            Ok(count) => {
+                self.given = self.given.saturating_add(count as u64);
+                if count == 0 {
+                    self.file = None;
+                }
+                Ok(count)
+            }
+            Err(_) => {
+                self.fail();
+                Err(Failed)
+            }
+        }
+    }
+}
+
+/// A writer of the system, as standard output or standard error. It has no buffer. A write that takes no byte is a
+/// failure.
+#[derive(Drop)]
+pub struct StdSink<W: Write + Drop> {
+    writer: W,
+    faults: u64,
+}
+
+impl<W: Write + Drop> Model for StdSink<W> {
+    ghost Value = { ℕ };
+
+    ghost view = { λ s. s.faults };
+}
+
+impl<W: Write + Drop> StdSink<W> {
+    /// A sink that hands its bytes to the writer.
+    pub fn make(writer: W) -> StdSink<W>
+        ensures { result ≡ 0 }
+    {
+        StdSink { writer, faults: 0 }
+    }
+}
+
+impl<W: Write + Drop> Sink for StdSink<W> {
+    ghost written = { λ s. None };
+
+    ghost faults = { λ s. s };
+
+    fn write(&mut self, piece: &[u8]) -> Result<usize, Failed> {
+        match self.writer.write(piece) {
+            Ok(count) if count > 0 => Ok(count),
+            _ => {
+                self.faults = self.faults.saturating_add(1);
+                Err(Failed)
+            }
+        }
+    }
+}

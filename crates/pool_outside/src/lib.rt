@@ -1,0 +1,14 @@
+//! What the program reads from and writes to: files by their names, and sinks of bytes.
+#![tactic(auto)]
+
+mod calls;
+mod edge;
+mod memory;
+mod outside;
+#[cfg(test)]
+mod tests;
+
+pub use calls::{ReadFault, WriteFault, read_whole, write_all_of};
+pub use edge::{StdFiles, StdSink};
+pub use memory::{CalmFiles, CalmSink, MemFiles, MemSink, NamedText};
+pub use outside::{Failed, Files, Sink};

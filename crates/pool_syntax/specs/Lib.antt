@@ -1,0 +1,13 @@
+pub mod formers
+pub mod Filled
+pub mod Table
+pub mod Terms
+pub mod TreeOf
+pub mod Classes
+pub mod Typing
+pub mod Rules
+pub mod Grammar
+pub mod Derives
+pub mod Nesting
+pub mod Tokens
+pub mod Spelled

@@ -1,0 +1,119 @@
+-- Programs whose names, strings and integers can be written as tokens: what the tokens of a text always give.
+use Rattle.std.specs.Prelude.{ℕ, ◌≤◌, pos, negsuc, List, [], ◌∷◌, length, slice_get, Option, Some, None, Bool, true, false, not, ◌&&◌, nat_le}
+use Rattle.pool_syntax.specs.declared.token.Tok.{Tok}
+use Rattle.pool_syntax.specs.declared.words.Value.{Value}
+use Rattle.pool_syntax.specs.declared.words.Value.TheVariants as value
+use Rattle.pool_syntax.specs.declared.tree.Kind.{Kind}
+use Rattle.pool_syntax.specs.declared.tree.Kind.TheVariants as kind
+use Rattle.pool_syntax.specs.declared.tree.Named.{Named}
+use Rattle.pool_syntax.specs.declared.tree.Var.{Var}
+use Rattle.pool_syntax.specs.Terms.{Expression, Literal, Me, Variable, Create, Prefix, Infix, Call, Send, Frame, Wait, Expressions, NoArgs, Arg, Statement, Assign, Write, WriteText, Do, Async, If, While, Answer, Select, Serve, Statements, Done, Then, Alternatives, NoAlts, Alt, MethodTree, ProgramTree}
+use Rattle.pool_syntax.specs.Tokens.{Text, keywords, is_listed, is_word, every, is_inner}
+use Rattle.pool_syntax.specs.Derives.{IsProgram}
+
+-- a name of the language: a word of at most 64 bytes that is no keyword
+abbrev pub is_name_text : Text → Bool
+is_name_text w = is_word w && not (is_listed keywords w) && nat_le (length w) 64
+
+-- the inside of a string of at most 256 bytes
+abbrev pub is_string_text : Text → Bool
+is_string_text w = every is_inner w && nat_le (length w) 256
+
+-- the test holds of the text of this number, which is there
+abbrev pub text_passes : (Text → Bool) → Option Text → Bool
+text_passes test None = false
+text_passes test (Some w) = test w
+
+abbrev pub is_name : List Text → ℕ → Bool
+is_name names n = text_passes is_name_text (slice_get names n)
+
+abbrev pub is_string_number : List Text → ℕ → Bool
+is_string_number names n = text_passes is_string_text (slice_get names n)
+
+-- a value that a literal can have: no negative integer, and no object's name
+abbrev pub is_literal : Value → Bool
+is_literal (value.Int (pos z)) = true
+is_literal (value.Int (negsuc z)) = false
+is_literal (value.Bool b) = true
+is_literal (value.Ref n) = false
+is_literal value.Nil = true
+
+abbrev pub is_kind : List Text → Kind → Bool
+is_kind names kind.Int = true
+is_kind names kind.Bool = true
+is_kind names (kind.Class c) = is_name names c.0
+
+abbrev pub are_names : List Text → List Named → Bool
+are_names names [] = true
+are_names names (n ∷ ns) = is_name names n.name.0 && are_names names ns
+
+abbrev pub are_answer_names : List Text → Option (List Named) → Bool
+are_answer_names names None = true
+are_answer_names names (Some ns) = are_names names ns
+
+abbrev pub are_variables : List Text → List Var → Bool
+are_variables names [] = true
+are_variables names (v ∷ vs) = is_name names v.name.0 && is_kind names v.kind && are_variables names vs
+
+abbrev mutual
+  pub is_spelled_expression : List Text → Expression → Bool
+  is_spelled_expression names (Literal v p) = is_literal v
+  is_spelled_expression names (Me p) = true
+  is_spelled_expression names (Variable x p) = is_name names x
+  is_spelled_expression names (Create c p) = is_name names c
+  is_spelled_expression names (Prefix op e p) = is_spelled_expression names e
+  is_spelled_expression names (Infix op l r p) = is_spelled_expression names l && is_spelled_expression names r
+  is_spelled_expression names (Call m es p) = is_name names m && are_spelled_expressions names es
+  is_spelled_expression names (Send e m es p) =
+      is_spelled_expression names e && is_name names m && are_spelled_expressions names es
+  is_spelled_expression names (Frame m t ss e) = false
+  is_spelled_expression names (Wait b m) = false
+
+  pub are_spelled_expressions : List Text → Expressions → Bool
+  are_spelled_expressions names NoArgs = true
+  are_spelled_expressions names (Arg e es) = is_spelled_expression names e && are_spelled_expressions names es
+
+  pub is_spelled_statement : List Text → Statement → Bool
+  is_spelled_statement names (Assign x p e) = is_name names x && is_spelled_expression names e
+  is_spelled_statement names (Write e) = is_spelled_expression names e
+  is_spelled_statement names (WriteText s) = is_string_number names s
+  is_spelled_statement names (Do e) = is_spelled_expression names e
+  is_spelled_statement names (Async e m p es) =
+      is_spelled_expression names e && is_name names m && are_spelled_expressions names es
+  is_spelled_statement names (If e these those) =
+      is_spelled_expression names e && are_spelled_statements names these && are_spelled_statements names those
+  is_spelled_statement names (While e ss) = is_spelled_expression names e && are_spelled_statements names ss
+  is_spelled_statement names (Answer ns) = are_names names ns
+  is_spelled_statement names (Select alts) = are_spelled_alternatives names alts
+  is_spelled_statement names (Serve m k t ss e) = false
+
+  pub are_spelled_statements : List Text → Statements → Bool
+  are_spelled_statements names Done = true
+  are_spelled_statements names (Then s ss) = is_spelled_statement names s && are_spelled_statements names ss
+
+  pub are_spelled_alternatives : List Text → Alternatives → Bool
+  are_spelled_alternatives names NoAlts = true
+  are_spelled_alternatives names (Alt e ns ss alts) =
+      is_spelled_expression names e && are_answer_names names ns && are_spelled_statements names ss
+      && are_spelled_alternatives names alts
+
+abbrev pub is_outcome : List Text → Option Kind → Bool
+is_outcome names None = true
+is_outcome names (Some k) = is_kind names k
+
+abbrev pub are_spelled_methods : List Text → List MethodTree → Bool
+are_spelled_methods names [] = true
+are_spelled_methods names (m ∷ ms) =
+    is_name names m.name.name.0 && are_variables names m.params && are_variables names m.locals && is_outcome names m.outcome
+    && are_spelled_statements names m.body && is_spelled_expression names m.value && are_spelled_methods names ms
+
+-- each name is a name, each string the inside of a string, and no integer is negative; every number is a place of the table
+abbrev pub is_spelled : List Text → ProgramTree → Bool
+is_spelled names [] = true
+is_spelled names (k ∷ ks) =
+    is_name names k.name.name.0 && are_variables names k.vars && are_spelled_methods names k.methods
+    && are_spelled_statements names k.body && is_spelled names ks
+
+-- the program is one that the grammar has, for a list of at most 67,108,865 tokens
+abbrev pub IsGrammatical : ProgramTree → Type 0
+IsGrammatical p = (ts : List Tok) × (length ts ≤ 67108865) × IsProgram ts p

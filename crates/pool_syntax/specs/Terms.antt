@@ -1,0 +1,79 @@
+-- Programs and terms as trees without addresses. A term is what an object has still to do.
+use Rattle.std.specs.Prelude.{ℕ, List, Option}
+use Rattle.pool_syntax.specs.declared.words.Value.{Value}
+use Rattle.pool_syntax.specs.declared.words.Op.{Op}
+use Rattle.pool_syntax.specs.declared.tree.Kind.{Kind}
+use Rattle.pool_syntax.specs.declared.tree.Named.{Named}
+use Rattle.pool_syntax.specs.declared.tree.Var.{Var}
+
+-- variables with their values, in the order of their declarations
+abbrev pub Store : Type 0
+Store = List (ℕ × Value)
+
+-- expressions, statements and alternatives, with lists of their own
+mutual
+  pub data Expression : Type 0 where
+    -- a literal of the text, or at the position 0 what an expression was evaluated to
+    Literal : (value : Value) (pos : ℕ) → Expression
+    Me : (pos : ℕ) → Expression
+    Variable : (name pos : ℕ) → Expression
+    Create : (class pos : ℕ) → Expression
+    Prefix : (op : Op) (arg : Expression) (pos : ℕ) → Expression
+    Infix : (op : Op) (left right : Expression) (pos : ℕ) → Expression
+    Call : (method : ℕ) (args : Expressions) (pos : ℕ) → Expression
+    Send : (to : Expression) (method : ℕ) (args : Expressions) (pos : ℕ) → Expression
+    -- an own method under way, with its parameters and locals, what it has still to do, and its value
+    Frame : (method : ℕ) (temps : Store) (rest : Statements) (value : Expression) → Expression
+    -- the call of the method is being served by the receiver
+    Wait : (receiver method : ℕ) → Expression
+
+  pub data Expressions : Type 0 where
+    NoArgs : Expressions
+    Arg : (first : Expression) (rest : Expressions) → Expressions
+
+  pub data Statement : Type 0 where
+    Assign : (target pos : ℕ) (value : Expression) → Statement
+    Write : (value : Expression) → Statement
+    WriteText : (text : ℕ) → Statement
+    Do : (value : Expression) → Statement
+    Async : (to : Expression) (method pos : ℕ) (args : Expressions) → Statement
+    If : (cond : Expression) (yes no : Statements) → Statement
+    While : (cond : Expression) (body : Statements) → Statement
+    Answer : (names : List Named) → Statement
+    Select : (alts : Alternatives) → Statement
+    -- a method under way for the caller, or for no one
+    Serve : (method : ℕ) (caller : Option ℕ) (temps : Store) (rest : Statements) (value : Expression) → Statement
+
+  pub data Statements : Type 0 where
+    Done : Statements
+    Then : (first : Statement) (rest : Statements) → Statements
+
+  pub data Alternatives : Type 0 where
+    NoAlts : Alternatives
+    Alt : (guard : Expression) (answer : Option (List Named)) (work : Statements) (rest : Alternatives) → Alternatives
+
+-- a method
+pub record MethodTree : Type 0 where
+  pub name : Named
+  pub params : List Var
+  pub locals : List Var
+  pub outcome : Option Kind
+  pub outcome_pos : ℕ
+  pub body : Statements
+  pub value : Expression
+
+-- a class
+pub record ClassTree : Type 0 where
+  pub name : Named
+  pub vars : List Var
+  pub methods : List MethodTree
+  pub body : Statements
+
+-- the classes in the order of the text
+abbrev pub ProgramTree : Type 0
+ProgramTree = List ClassTree
+
+-- one list of statements, then another
+abbrev pub append : Statements → Statements → Statements
+append Done rest = rest
+append (Then s ss) rest = Then s (append ss rest)

@@ -1,0 +1,241 @@
+-- How a text splits into pieces: white space, comments and tokens, each the longest at its place; and its tokens and its first fault.
+use Rattle.std.specs.Prelude.{◌≡◌, ℕ, zero, suc, ◌+◌, ◌-◌, ◌*◌, ◌≤◌, Bool, true, false, ◌&&◌, ◌||◌, not, List, [], ◌∷◌, length, take, drop, Option, Some, None, nat_le, nat_eq, bytes_eq, codes, pos}
+use Rattle.std.specs.List.{AllByRecursion}
+use Rattle.pool_syntax.specs.Table.{with_text, name_of}
+use Rattle.pool_syntax.specs.declared.words.NameId.{NameId}
+use Rattle.pool_syntax.specs.declared.token.Keyword.{Keyword}
+use Rattle.pool_syntax.specs.declared.token.Keyword.TheVariants as word
+use Rattle.pool_syntax.specs.declared.token.Sign.{Sign}
+use Rattle.pool_syntax.specs.declared.token.Sign.TheVariants as sign
+use Rattle.pool_syntax.specs.declared.token.Tok.{Tok}
+use Rattle.pool_syntax.specs.declared.token.Tok.TheVariants as tok
+use Rattle.pool_syntax.specs.declared.token.Token.{Token}
+use Rattle.pool_syntax.specs.declared.token.LexFault.{LexFault}
+use Rattle.pool_syntax.specs.declared.token.LexFault.TheVariants.{BadByte, IntegerTooLarge, OpenString, TooLong}
+
+-- a text is a list of bytes
+abbrev pub Text : Type 0
+Text = List ℕ
+
+-- the words and the signs
+
+abbrev pub keywords : List (Text × Keyword)
+keywords =
+    (codes "class", word.Class)
+    ∷ (codes "var", word.Var)
+    ∷ (codes "method", word.Method)
+    ∷ (codes "local", word.Local)
+    ∷ (codes "begin", word.Begin)
+    ∷ (codes "result", word.Result)
+    ∷ (codes "post", word.Post)
+    ∷ (codes "end", word.End)
+    ∷ (codes "body", word.Body)
+    ∷ (codes "if", word.If)
+    ∷ (codes "then", word.Then)
+    ∷ (codes "else", word.Else)
+    ∷ (codes "fi", word.Fi)
+    ∷ (codes "while", word.While)
+    ∷ (codes "do", word.Do)
+    ∷ (codes "od", word.Od)
+    ∷ (codes "answer", word.Answer)
+    ∷ (codes "select", word.Select)
+    ∷ (codes "when", word.When)
+    ∷ (codes "write", word.Write)
+    ∷ (codes "new", word.New)
+    ∷ (codes "self", word.SelfWord)
+    ∷ (codes "nil", word.Nil)
+    ∷ (codes "true", word.True)
+    ∷ (codes "false", word.False)
+    ∷ (codes "not", word.Not)
+    ∷ (codes "and", word.And)
+    ∷ (codes "or", word.Or)
+    ∷ (codes "Int", word.Int)
+    ∷ (codes "Bool", word.Bool)
+    ∷ []
+
+abbrev pub signs : List (Text × Sign)
+signs =
+    (codes ":=", sign.Becomes)
+    ∷ (codes ":", sign.Colon)
+    ∷ (codes ";", sign.Semicolon)
+    ∷ (codes ",", sign.Comma)
+    ∷ (codes "(", sign.LeftParen)
+    ∷ (codes ")", sign.RightParen)
+    ∷ (codes "!", sign.Bang)
+    ∷ (codes "!!", sign.BangBang)
+    ∷ (codes "==", sign.Equal)
+    ∷ (codes "!=", sign.Differs)
+    ∷ (codes "<", sign.Less)
+    ∷ (codes "<=", sign.LessEq)
+    ∷ (codes ">", sign.More)
+    ∷ (codes ">=", sign.MoreEq)
+    ∷ (codes "+", sign.Plus)
+    ∷ (codes "-", sign.Minus)
+    ∷ (codes "*", sign.Star)
+    ∷ (codes "/", sign.Slash)
+    ∷ (codes "%", sign.Percent)
+    ∷ []
+
+-- what stands beside the text in a table
+abbrev pub lookup : {A : Type 0} → List (Text × A) → Text → Option A
+lookup [] w = None
+lookup (row ∷ rows) w = elim (bytes_eq row.0 w) [ true ↦ Some row.1 | false ↦ lookup rows w ]
+
+abbrev pub is_listed : {A : Type 0} → List (Text × A) → Text → Bool
+is_listed [] w = false
+is_listed (row ∷ rows) w = bytes_eq row.0 w || is_listed rows w
+
+-- bytes
+
+abbrev pub every : (ℕ → Bool) → Text → Bool
+every p [] = true
+every p (b ∷ bs) = p b && every p bs
+
+abbrev between : ℕ → ℕ → ℕ → Bool
+between low high b = nat_le low b && nat_le b high
+
+-- space, tab, line feed, carriage return
+abbrev pub is_space : ℕ → Bool
+is_space b = nat_eq b 32 || (nat_eq b 9 || (nat_eq b 10 || nat_eq b 13))
+
+abbrev pub is_digit : ℕ → Bool
+is_digit b = between 48 57 b
+
+-- a letter of ASCII, or `_`
+abbrev pub is_letter : ℕ → Bool
+is_letter b = between 65 90 b || (between 97 122 b || nat_eq b 95)
+
+-- pieces
+
+abbrev pub is_white : Text → Bool
+is_white [] = false
+is_white (b ∷ bs) = every is_space (b ∷ bs)
+
+-- `#`, and what is no line feed
+abbrev pub is_comment : Text → Bool
+is_comment [] = false
+is_comment (b ∷ bs) = nat_eq b 35 && every (λ c. not (nat_eq c 10)) bs
+
+-- a name or a keyword
+abbrev pub is_word : Text → Bool
+is_word [] = false
+is_word (b ∷ bs) = is_letter b && every (λ c. is_letter c || is_digit c) bs
+
+abbrev pub is_integer : Text → Bool
+is_integer [] = false
+is_integer (b ∷ bs) = every is_digit (b ∷ bs)
+
+-- a byte that may stand inside a string: a printable one of ASCII, but for the quote
+abbrev pub is_inner : ℕ → Bool
+is_inner b = between 32 126 b && not (nat_eq b 34)
+
+-- the inside of a string, and its closing quote
+abbrev pub is_rest_of_string : Text → Bool
+is_rest_of_string [] = false
+is_rest_of_string (b ∷ []) = nat_eq b 34
+is_rest_of_string (b ∷ c ∷ bs) = is_inner b && is_rest_of_string (c ∷ bs)
+
+abbrev pub is_string : Text → Bool
+is_string [] = false
+is_string (b ∷ bs) = nat_eq b 34 && is_rest_of_string bs
+
+abbrev pub is_piece : Text → Bool
+is_piece w = is_white w || (is_comment w || (is_word w || (is_integer w || (is_string w || is_listed signs w))))
+
+-- the length of the longest piece among the fronts of at most n bytes, or 0
+abbrev pub longest_within : ℕ → Text → ℕ
+longest_within zero s = 0
+longest_within (suc n) s = elim (is_piece (take (suc n) s)) [ true ↦ suc n | false ↦ longest_within n s ]
+
+-- the length of the longest piece at the front of the text, or 0
+abbrev pub longest : Text → ℕ
+longest s = longest_within (length s) s
+
+-- The text is these pieces, each the longest at its place, and then the rest.
+abbrev pub IsPieces : Text → List Text → Text → Type 0
+IsPieces s [] rest = s ≡ rest
+IsPieces s (w ∷ ws) rest = (1 ≤ longest s) × (w ≡ take (longest s) s) × IsPieces (drop (longest s) s) ws rest
+
+-- faults
+
+abbrev pub value_of : ℕ → Text → ℕ
+value_of before [] = before
+value_of before (d ∷ ds) = value_of (before * 10 + (d - 48)) ds
+
+abbrev if_over : ℕ → ℕ → LexFault → Option LexFault
+if_over limit n fault = elim (nat_le n limit) [ true ↦ None | false ↦ Some fault ]
+
+-- the fault of a piece that begins at a place
+abbrev pub piece_fault : ℕ → Text → Option LexFault
+piece_fault at w = elim (is_word w) [
+  | true ↦ if_over 64 (length w) (TooLong at)
+  | false ↦ elim (is_integer w) [
+    | true ↦ if_over 9223372036854775807 (value_of 0 w) (IntegerTooLarge at)
+    | false ↦ elim (is_string w) [ true ↦ if_over 258 (length w) (TooLong at) | false ↦ None ]
+  ]
+]
+
+-- the fault of a place where no piece begins
+abbrev pub no_piece : ℕ → Text → Option LexFault
+no_piece at [] = None
+no_piece at (b ∷ bs) = elim (nat_eq b 34) [ true ↦ Some (OpenString at) | false ↦ Some (BadByte at) ]
+
+-- the fault at the front of the text, which begins at a place
+abbrev pub fault_of : ℕ → Text → Option LexFault
+fault_of at s = elim (longest s) [ zero ↦ no_piece at s | suc n ↦ piece_fault at (take (longest s) s) ]
+
+abbrev pub length_of : List Text → ℕ
+length_of [] = 0
+length_of (w ∷ ws) = length w + length_of ws
+
+abbrev pub IsFaultless : List Text → Type 0
+IsFaultless ws = AllByRecursion (λ w. piece_fault 0 w ≡ None) ws
+
+-- Faultless pieces stand before the fault.
+abbrev pub IsFirstFault : Text → LexFault → Type 0
+IsFirstFault s fault = (ws : List Text) × (rest : Text) × IsPieces s ws rest × IsFaultless ws × (fault_of (length_of ws) rest ≡ Some fault)
+
+-- tokens
+
+-- the text of a name, or the inside of a string
+abbrev pub kept_text : Text → Option Text
+kept_text w = elim (is_word w) [
+  | true ↦ elim (is_listed keywords w) [ true ↦ None | false ↦ Some w ]
+  | false ↦ elim (is_string w) [ true ↦ Some (take (length w - 2) (drop 1 w)) | false ↦ None ]
+]
+
+-- the texts of the names and strings in the order in which they are first seen, behind those that were seen before
+abbrev pub texts_after : List Text → List Text → List Text
+texts_after seen [] = seen
+texts_after seen (w ∷ ws) = elim (kept_text w) [
+  | None ↦ texts_after seen ws
+  | Some x ↦ texts_after (with_text seen x) ws
+]
+
+abbrev name_id : List Text → Text → NameId
+name_id names w = record { 0 = name_of names w }
+
+-- the token that a piece is; white space and comments are none
+abbrev pub token_of : List Text → Text → Option Tok
+token_of names w = elim (is_word w) [
+  | true ↦ elim (lookup keywords w) [ Some k ↦ Some (tok.Word k) | None ↦ Some (tok.Name (name_id names w)) ]
+  | false ↦ elim (is_integer w) [
+    | true ↦ Some (tok.Int (pos (value_of 0 w)))
+    | false ↦ elim (kept_text w) [
+      | Some x ↦ Some (tok.Str (name_id names x))
+      | None ↦ elim (lookup signs w) [ Some s ↦ Some (tok.Sign s) | None ↦ None ]
+    ]
+  ]
+]
+
+-- the tokens of the pieces that begin at a place, with End behind them
+abbrev pub tokens_from : List Text → ℕ → List Text → List Token
+tokens_from names at [] = record { tok = tok.End; at = at } ∷ []
+tokens_from names at (w ∷ ws) = elim (token_of names w) [
+  | None ↦ tokens_from names (at + length w) ws
+  | Some t ↦ record { tok = t; at = at } ∷ tokens_from names (at + length w) ws
+]
+
+-- The text has these tokens, and this table of the texts of its names and strings.
+abbrev pub HasTokens : Text → List Text → List Token → Type 0
+HasTokens s names ts = (ws : List Text) × IsPieces s ws [] × IsFaultless ws × (names ≡ texts_after [] ws) × (ts ≡ tokens_from names 0 ws)

@@ -1,0 +1,399 @@
+-- The faults of a program, each with the token where it stands. A program without fault is typed.
+use Rattle.std.specs.Prelude.{ℕ, zero, suc, ◌+◌, ◌==◌, List, [], ◌∷◌, ◌++◌, length, Option, Some, None, is_some, is_none, Bool, true, false, not, ◌||◌, if◌then◌else◌, nat_le}
+use Rattle.std.specs.List.{list_any}
+use Rattle.pool_syntax.specs.declared.words.Value.{Value}
+use Rattle.pool_syntax.specs.declared.words.Value.TheVariants as V
+use Rattle.pool_syntax.specs.declared.words.Op.{Op}
+use Rattle.pool_syntax.specs.declared.words.Op.TheVariants as O
+use Rattle.pool_syntax.specs.declared.tree.Kind.{Kind}
+use Rattle.pool_syntax.specs.declared.tree.Kind.TheVariants as K
+use Rattle.pool_syntax.specs.declared.tree.Named.{Named}
+use Rattle.pool_syntax.specs.declared.tree.Var.{Var}
+use Rattle.pool_syntax.specs.Terms.{Expression, Literal, Me, Variable, Create, Prefix, Infix, Call, Send, Frame, Wait, Expressions, NoArgs, Arg, Statement, Assign, Write, WriteText, Do, Async, If, While, Answer, Select, Serve, Statements, Done, Then, Alternatives, NoAlts, Alt, MethodTree, ClassTree, ProgramTree}
+use Rattle.pool_syntax.specs.Classes.{class_of, named_method}
+
+-- a token and the number of the fault, from 1
+abbrev pub Fault : Type 0
+Fault = ℕ × ℕ
+
+-- the sort of an expression
+pub data Sort : Type 0 where
+  IntSort : Sort
+  BoolSort : Sort
+  ClassSort : (class : ℕ) → Sort
+  NilSort : Sort
+  -- the sort of a call without result
+  NoSort : Sort
+  -- a part that already has a fault
+  BrokenSort : Sort
+
+-- where an expression stands: the program, its class, the temps of its method, and the classes of the objects that are there
+pub record Scope : Type 0 where
+  pub program : ProgramTree
+  pub class : ℕ
+  -- the declaration into which own calls, variables and answer lists look, also where an earlier class has its name
+  pub own : Option ClassTree
+  pub temps : List Var
+  pub object_class : ℕ → Option ℕ
+  -- whether it is a term under way, where a destination may have become nil
+  pub under_way : Bool
+
+-- the sort of a kind
+abbrev pub kind_sort : ProgramTree → Kind → Sort
+kind_sort p K.Int = IntSort
+kind_sort p K.Bool = BoolSort
+kind_sort p (K.Class c) = if is_some (class_of p c.0) then ClassSort c.0 else BrokenSort
+
+-- the first variable of this name
+abbrev pub var_of : List Var → ℕ → Option Var
+var_of [] x = None
+var_of (v ∷ vs) x = if v.name.0 == x then Some v else var_of vs x
+
+-- the variables of a class
+abbrev pub vars_of_class : Option ClassTree → List Var
+vars_of_class None = []
+vars_of_class (Some k) = k.vars
+
+-- the methods of a class
+abbrev pub methods_of_class : Option ClassTree → List MethodTree
+methods_of_class None = []
+methods_of_class (Some k) = k.methods
+
+-- the methods of the class of this name
+abbrev pub methods_of : ProgramTree → ℕ → List MethodTree
+methods_of p c = methods_of_class (class_of p c)
+
+-- the sort of a temp, or else of a variable
+abbrev pub var_sort : ProgramTree → Option Var → Option Var → Sort
+var_sort p (Some v) own = kind_sort p v.kind
+var_sort p None (Some v) = kind_sort p v.kind
+var_sort p None None = BrokenSort
+
+-- the sort of a name
+abbrev pub name_sort : Scope → ℕ → Sort
+name_sort g x = var_sort g.program (var_of g.temps x) (var_of (vars_of_class g.own) x)
+
+-- the sort of a result
+abbrev pub outcome_sort : ProgramTree → Option Kind → Sort
+outcome_sort p None = NoSort
+outcome_sort p (Some k) = kind_sort p k
+
+-- the sort of a method's value
+abbrev pub method_sort : ProgramTree → Option MethodTree → Sort
+method_sort p None = BrokenSort
+method_sort p (Some m) = outcome_sort p m.outcome
+
+-- the sort of an own call
+abbrev pub own_sort : Scope → ℕ → Sort
+own_sort g m = method_sort g.program (named_method (methods_of_class g.own) m)
+
+-- the result of the method in a class, or in the sort of a destination
+abbrev pub call_sort : ProgramTree → ℕ → ℕ → Sort
+call_sort p c m = method_sort p (named_method (methods_of p c) m)
+
+-- the sort of a send to this sort
+abbrev pub send_sort : ProgramTree → Sort → ℕ → Sort
+send_sort p (ClassSort c) m = call_sort p c m
+send_sort p _ m = BrokenSort
+
+-- the sort of an object's name
+abbrev pub object_sort : Option ℕ → Sort
+object_sort None = BrokenSort
+object_sort (Some c) = ClassSort c
+
+-- the sort of a value
+abbrev pub value_sort : Scope → Value → Sort
+value_sort g (V.Int z) = IntSort
+value_sort g (V.Bool b) = BoolSort
+value_sort g (V.Ref n) = object_sort (g.object_class n)
+value_sort g V.Nil = NilSort
+
+-- the name of no object
+abbrev pub is_dangling : Scope → Value → Bool
+is_dangling g (V.Ref n) = is_none (g.object_class n)
+is_dangling g _ = false
+
+-- the sort of an operator's value
+abbrev pub op_sort : Op → Sort
+op_sort O.Add = IntSort
+op_sort O.Sub = IntSort
+op_sort O.Mul = IntSort
+op_sort O.Div = IntSort
+op_sort O.Rem = IntSort
+op_sort O.Neg = IntSort
+op_sort _ = BoolSort
+
+-- the sort of an operator's operands, but for the two that take any
+abbrev pub operand_sort : Op → Sort
+operand_sort O.And = BoolSort
+operand_sort O.Or = BoolSort
+operand_sort O.Not = BoolSort
+operand_sort _ = IntSort
+
+-- the sort of an expression, whatever faults stand in it
+abbrev pub sort_of : Scope → Expression → Sort
+sort_of g (Literal v p) = value_sort g v
+sort_of g (Me p) = ClassSort g.class
+sort_of g (Variable x p) = name_sort g x
+sort_of g (Create c p) = if is_some (class_of g.program c) then ClassSort c else BrokenSort
+sort_of g (Prefix op e p) = op_sort op
+sort_of g (Infix op l r p) = op_sort op
+sort_of g (Call m es p) = own_sort g m
+sort_of g (Send e m es p) = send_sort g.program (sort_of g e) m
+sort_of g (Frame m t ss e) = own_sort g m
+sort_of g (Wait b m) = send_sort g.program (object_sort (g.object_class b)) m
+
+-- the token of an expression
+abbrev pub position : Expression → ℕ
+position (Literal v p) = p
+position (Me p) = p
+position (Variable x p) = p
+position (Create c p) = p
+position (Prefix op e p) = p
+position (Infix op l r p) = p
+position (Call m es p) = p
+position (Send e m es p) = p
+position (Frame m t ss e) = 0
+position (Wait b m) = 0
+
+-- whether two sorts are equal
+abbrev pub is_same_sort : Sort → Sort → Bool
+is_same_sort IntSort IntSort = true
+is_same_sort BoolSort BoolSort = true
+is_same_sort (ClassSort c) (ClassSort d) = c == d
+is_same_sort NilSort NilSort = true
+is_same_sort _ _ = false
+
+-- whether a sort fits every kind
+abbrev pub is_open : Sort → Bool
+is_open NilSort = true
+is_open BrokenSort = true
+is_open _ = false
+
+-- an expression of no sort has its own fault, and counts as broken around it
+abbrev pub counted : Sort → Sort
+counted NoSort = BrokenSort
+counted s = s
+
+-- the fault, where the test holds
+abbrev pub fault_if : Bool → ℕ → ℕ → List Fault
+fault_if true at number = (at, number) ∷ []
+fault_if false at number = []
+
+-- the fault of an expression of no sort
+abbrev pub no_result : Sort → ℕ → List Fault
+no_result NoSort at = (at, 10) ∷ []
+no_result _ at = []
+
+-- an expression of this sort where another is needed
+abbrev pub misfit : Sort → Sort → ℕ → List Fault
+misfit s need at = no_result s at ++ fault_if (not (is_open (counted s) || is_same_sort s need || is_broken need)) at 9
+  where
+    is_broken : Sort → Bool
+    is_broken BrokenSort = true
+    is_broken _ = false
+
+-- a name that is no temp of the method and no variable of the class
+abbrev pub is_broken_name : Scope → ℕ → Bool
+is_broken_name g x = not (is_some (var_of g.temps x) || is_some (var_of (vars_of_class g.own) x))
+
+-- the fault of an expression whose place needs this sort
+abbrev pub needs : Scope → Sort → Expression → List Fault
+needs g need e = misfit (sort_of g e) need (position e)
+
+-- the fault of an expression whose place takes any sort
+abbrev pub needs_any : Scope → Expression → List Fault
+needs_any g e = no_result (sort_of g e) (position e)
+
+-- whether two sorts can be compared
+abbrev pub is_comparable : Sort → Sort → Bool
+is_comparable s t = is_same_sort s t || is_open s || is_open t
+
+-- the operands of `==` and `!=`
+abbrev pub needs_alike : Scope → Expression → Expression → List Fault
+needs_alike g l r =
+    needs_any g l ++ (needs_any g r ++ fault_if (not (is_comparable (counted (sort_of g l)) (counted (sort_of g r)))) (position r) 9)
+
+-- the faults of operands by what their places need
+abbrev pub needs_operands : Scope → Op → Expression → Expression → List Fault
+needs_operands g O.Same l r = needs_alike g l r
+needs_operands g O.Differs l r = needs_alike g l r
+needs_operands g op l r = needs g (operand_sort op) l ++ needs g (operand_sort op) r
+
+-- an expression that begins with 64 operands held
+abbrev pub limit : ℕ → ℕ → List Fault
+limit held at = fault_if (nat_le 64 held) at 12
+
+-- the faults of a call of this method with so many arguments
+abbrev pub method_faults : Option MethodTree → ℕ → ℕ → List Fault
+method_faults None count at = (at, 7) ∷ []
+method_faults (Some m) count at = fault_if (not (length m.params == count)) at 8
+
+-- the parameters of a method
+abbrev pub params_of : Option MethodTree → List Var
+params_of None = []
+params_of (Some m) = m.params
+
+-- the number of expressions
+abbrev pub size : Expressions → ℕ
+size NoArgs = 0
+size (Arg e es) = suc (size es)
+
+-- the method of a destination; a destination that is broken, or has become nil, has no fault of its own
+abbrev pub sent_method : Scope → Sort → ℕ → Option MethodTree
+sent_method g (ClassSort c) m = named_method (methods_of g.program c) m
+sent_method g _ m = None
+
+-- the faults of a send by its destination's sort
+abbrev pub destination_faults : Scope → Sort → ℕ → ℕ → ℕ → ℕ → List Fault
+destination_faults g (ClassSort c) m count at to = method_faults (named_method (methods_of g.program c) m) count at
+destination_faults g BrokenSort m count at to = []
+destination_faults g NoSort m count at to = (to, 10) ∷ []
+destination_faults g NilSort m count at to = fault_if (not g.under_way) to 9
+destination_faults g _ m count at to = (to, 9) ∷ []
+
+-- the method of this name in the own class
+abbrev pub own_method : Scope → ℕ → Option MethodTree
+own_method g m = named_method (methods_of_class g.own) m
+
+-- the parameters and locals of a method
+abbrev pub temps_of_method : Option MethodTree → List Var
+temps_of_method None = []
+temps_of_method (Some m) = m.params ++ m.locals
+
+-- inside a method of the class
+abbrev pub inside : Scope → ℕ → Scope
+inside g m = record g { temps = temps_of_method (own_method g m) }
+
+-- what the value of a method under way needs: nothing where it has no result; the class has the method
+abbrev pub value_needs : Scope → Option MethodTree → Expression → List Fault
+value_needs g None e = (position e, 7) ∷ []
+value_needs g (Some m) e = value_fits m.outcome
+  where
+    value_fits : Option Kind → List Fault
+    value_fits None = []
+    value_fits (Some k) = needs g (kind_sort g.program k) e
+
+-- the faults of an answer list, after these names
+abbrev pub names_faults : Scope → List ℕ → List Named → List Fault
+names_faults g before [] = []
+names_faults g before (n ∷ ns) =
+    fault_if (not (is_some (own_method g n.name.0)) || list_any (λ m. m == n.name.0) before) n.pos 11
+    ++ names_faults g (n.name.0 ∷ before) ns
+
+-- the faults of an alternative's list, if it answers
+abbrev pub answer_faults : Scope → Option (List Named) → List Fault
+answer_faults g None = []
+answer_faults g (Some names) = names_faults g [] names
+
+-- the faults in an expression before which this many operands are held, but for what its own place needs
+abbrev mutual
+  pub expression_faults : Scope → ℕ → Expression → List Fault
+  expression_faults g h (Literal v p) = limit h p ++ fault_if (is_dangling g v) p 2
+  expression_faults g h (Me p) = limit h p
+  expression_faults g h (Variable x p) = limit h p ++ fault_if (is_broken_name g x) p 6
+  expression_faults g h (Create c p) = limit h p ++ fault_if (not (is_some (class_of g.program c))) p 2
+  expression_faults g h (Prefix op e p) = limit h p ++ (expression_faults g h e ++ needs g (operand_sort op) e)
+  expression_faults g h (Infix op l r p) =
+      limit h p ++ (expression_faults g h l ++ (expression_faults g (h + 1) r ++ needs_operands g op l r))
+  expression_faults g h (Call m es p) =
+      limit h p ++ (method_faults (own_method g m) (size es) p ++ arguments_faults g h (params_of (own_method g m)) es)
+  expression_faults g h (Send e m es p) =
+      limit h p ++ (expression_faults g h e ++ (destination_faults g (sort_of g e) m (size es) p (position e)
+      ++ arguments_faults g (h + 1) (params_of (sent_method g (sort_of g e) m)) es))
+  expression_faults g h (Frame m t ss e) =
+      statements_faults (inside g m) ss ++ (expression_faults (inside g m) 0 e ++ value_needs (inside g m) (own_method g m) e)
+  expression_faults g h (Wait b m) = []
+
+  pub arguments_faults : Scope → ℕ → List Var → Expressions → List Fault
+  arguments_faults g h vs NoArgs = []
+  arguments_faults g h [] (Arg e es) = expression_faults g h e ++ (needs_any g e ++ arguments_faults g (h + 1) [] es)
+  arguments_faults g h (v ∷ vs) (Arg e es) =
+      expression_faults g h e ++ (needs g (kind_sort g.program v.kind) e ++ arguments_faults g (h + 1) vs es)
+
+  pub statement_faults : Scope → Statement → List Fault
+  statement_faults g (Assign x p e) =
+      fault_if (is_broken_name g x) p 6 ++ (expression_faults g 0 e ++ needs g (name_sort g x) e)
+  statement_faults g (Write e) = expression_faults g 0 e ++ needs_any g e
+  statement_faults g (WriteText s) = []
+  statement_faults g (Do e) = expression_faults g 0 e
+  statement_faults g (Async e m p es) =
+      expression_faults g 0 e ++ (destination_faults g (sort_of g e) m (size es) p (position e)
+      ++ arguments_faults g 1 (params_of (sent_method g (sort_of g e) m)) es)
+  statement_faults g (If e these those) =
+      expression_faults g 0 e ++ (needs g BoolSort e ++ (statements_faults g these ++ statements_faults g those))
+  statement_faults g (While e ss) = expression_faults g 0 e ++ (needs g BoolSort e ++ statements_faults g ss)
+  statement_faults g (Answer names) = names_faults g [] names
+  statement_faults g (Select alts) = alternatives_faults g 0 alts
+  statement_faults g (Serve m k t ss e) =
+      statements_faults (inside g m) ss ++ (expression_faults (inside g m) 0 e ++ value_needs (inside g m) (own_method g m) e)
+
+  pub statements_faults : Scope → Statements → List Fault
+  statements_faults g Done = []
+  statements_faults g (Then s ss) = statement_faults g s ++ statements_faults g ss
+
+  pub alternatives_faults : Scope → ℕ → Alternatives → List Fault
+  alternatives_faults g i NoAlts = []
+  alternatives_faults g i (Alt e names ss alts) =
+      expression_faults g i e ++ (needs g BoolSort e ++ (answer_faults g names ++ (statements_faults g ss ++ alternatives_faults g (i + 1) alts)))
+
+-- the fault of a kind whose class does not exist
+abbrev pub kind_faults : ProgramTree → Kind → ℕ → List Fault
+kind_faults p K.Int at = []
+kind_faults p K.Bool at = []
+kind_faults p (K.Class c) at = fault_if (not (is_some (class_of p c.0))) at 2
+
+-- whether a name is among these
+abbrev pub contains : List ℕ → ℕ → Bool
+contains names n = list_any (λ m. m == n) names
+
+-- variables after these names: a name that is there already has the fault of this number
+abbrev pub vars_faults : ProgramTree → ℕ → List ℕ → List Var → List Fault
+vars_faults p number before [] = []
+vars_faults p number before (v ∷ vs) =
+    fault_if (contains before v.name.0) v.pos number ++ (kind_faults p v.kind v.kind_pos
+    ++ vars_faults p number (v.name.0 ∷ before) vs)
+
+-- the variable at this place of the list, if there is one
+abbrev pub too_many : ℕ → List Var → List Fault
+too_many n [] = []
+too_many zero (v ∷ vs) = (v.pos, 12) ∷ []
+too_many (suc n) (v ∷ vs) = too_many n vs
+
+-- the fault of a result's kind
+abbrev pub outcome_faults : ProgramTree → Option Kind → ℕ → List Fault
+outcome_faults p None at = []
+outcome_faults p (Some k) at = kind_faults p k at
+
+-- the faults of a method
+abbrev pub method_tree_faults : Scope → MethodTree → List Fault
+method_tree_faults g m =
+    vars_faults g.program 5 [] (m.params ++ m.locals) ++ (too_many 8 m.params ++ (too_many 32 (m.params ++ m.locals)
+    ++ (outcome_faults g.program m.outcome m.outcome_pos
+    ++ (statements_faults h m.body ++ (expression_faults h 0 m.value ++ value_needs h (Some m) m.value)))))
+  where
+    h : Scope
+    h = record g { temps = m.params ++ m.locals }
+
+-- the faults of methods, after these names
+abbrev pub methods_faults : Scope → List ℕ → List MethodTree → List Fault
+methods_faults g before [] = []
+methods_faults g before (m ∷ ms) =
+    fault_if (contains before m.name.name.0) m.name.pos 4 ++ (fault_if (length before == 64) m.name.pos 12
+    ++ (method_tree_faults g m ++ methods_faults g (m.name.name.0 ∷ before) ms))
+
+-- where the body of a class stands
+abbrev pub class_scope : ProgramTree → ClassTree → Scope
+class_scope p k = record { program = p; class = k.name.name.0; own = Some k; temps = []; object_class = λ n. None; under_way = false }
+
+-- the faults of classes, after these names
+abbrev pub classes_faults : ProgramTree → List ℕ → List ClassTree → List Fault
+classes_faults p before [] = []
+classes_faults p before (k ∷ ks) =
+    fault_if (contains before k.name.name.0) k.name.pos 1 ++ (fault_if (length before == 256) k.name.pos 12
+    ++ (vars_faults p 3 [] k.vars ++ (too_many 64 k.vars ++ (methods_faults (class_scope p k) [] k.methods
+    ++ (statements_faults (class_scope p k) k.body ++ classes_faults p (k.name.name.0 ∷ before) ks)))))
+
+-- the faults of a program
+abbrev pub faults : ProgramTree → List Fault
+faults p = classes_faults p [] p

@@ -1,0 +1,186 @@
+//! The plain words of a run.
+use crate::args::Args;
+use crate::list::List;
+
+#[derive(Clone, Copy, Debug, PartialEq, Eq)]
+pub struct NameId(pub u32);
+
+#[derive(Clone, Copy, Debug, PartialEq, Eq)]
+pub enum Op {
+    Add,
+    Sub,
+    Mul,
+    Div,
+    Rem,
+    Neg,
+    Less,
+    LessEq,
+    More,
+    MoreEq,
+    Same,
+    Differs,
+    And,
+    Or,
+    Not,
+}
+
+#[derive(Clone, Copy, Debug, PartialEq, Eq)]
+pub enum Value {
+    Int(i64),
+    Bool(bool),
+    Ref(u32),
+    Nil,
+}
+
+#[derive(Clone, Copy, Debug, PartialEq, Eq)]
+pub enum Error {
+    NilDestination,
+    NilOperand,
+    Overflow,
+    ZeroDivisor,
+    NoOpenGuard,
+}
+
+#[derive(Clone, Copy, Debug, PartialEq, Eq)]
+pub enum Item {
+    Value(Value),
+    Text(NameId),
+}
+
+#[derive(Clone, Copy, Debug, PartialEq, Eq)]
+pub enum Label {
+    Local {
+        object: u32,
+    },
+    New {
+        object: u32,
+        name: u32,
+        class: NameId,
+    },
+    Answer {
+        receiver: u32,
+        caller: u32,
+        method: NameId,
+        args: Args,
+    },
+    Return {
+        receiver: u32,
+        caller: u32,
+        value: Value,
+    },
+    Send {
+        object: u32,
+        receiver: u32,
+        method: NameId,
+        args: Args,
+    },
+    Take {
+        receiver: u32,
+        sender: u32,
+        method: NameId,
+        args: Args,
+    },
+    Write {
+        object: u32,
+        item: Item,
+    },
+    Pick {
+        object: u32,
+        alt: u32,
+    },
+    Fault {
+        object: u32,
+        error: Error,
+    },
+}
+
+#[derive(Clone, Copy, Debug, PartialEq, Eq)]
+pub enum What {
+    Step {
+        label: Label,
+        times: u32,
+    },
+    PostCreate {
+        object: u32,
+        class: NameId,
+        node: u32,
+    },
+    PostCall {
+        object: u32,
+        receiver: u32,
+        method: NameId,
+        args: Args,
+    },
+    Arrive {
+        object: u32,
+        receiver: u32,
+        method: NameId,
+    },
+    Created {
+        object: u32,
+        name: u32,
+    },
+    Result {
+        object: u32,
+        value: Value,
+    },
+    Pass,
+    Idle,
+}
+
+#[derive(Clone, Copy, Debug, PartialEq, Eq)]
+pub enum Event {
+    Turn { node: u32 },
+    Link { from: u32, to: u32 },
+}
+
+#[derive(Clone, Copy, Debug, PartialEq, Eq)]
+pub enum FullKind {
+    Heap,
+    Frames,
+    Cells,
+}
+
+/// How a run ends, with the number of its events.
+#[derive(Clone, Copy, Debug, PartialEq, Eq)]
+pub enum End {
+    Quiet {
+        done: u32,
+    },
+    Schedule {
+        done: u32,
+    },
+    Full {
+        kind: FullKind,
+        node: u32,
+        done: u32,
+    },
+}
+
+/// A line of a record: an event with its number, from 1, or the end.
+#[derive(Clone, Copy, Debug, PartialEq, Eq)]
+pub enum Line {
+    Event {
+        number: u32,
+        event: Event,
+        what: What,
+    },
+    End(End),
+}
+
+#[derive(Clone, Copy, Debug, PartialEq, Eq)]
+pub enum Place {
+    At(u32),
+    Same,
+    Spread,
+}
+
+#[derive(Debug, Drop)]
+pub struct Placement {
+    pub width: u32,
+    pub height: u32,
+    pub objects: u32,
+    pub frames: u32,
+    pub cells: u32,
+    pub places: List<Place>,
+}
