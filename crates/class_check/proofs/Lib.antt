@@ -1,0 +1,10 @@
+pub mod Looked
+pub mod Noting
+pub mod Held
+pub mod Arguments
+pub mod Trees
+pub mod ExpressionParts
+pub mod BeforeLaws
+pub mod StatementParts
+pub mod DeclarationParts
+pub mod LeastLaws

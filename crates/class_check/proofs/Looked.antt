@@ -1,0 +1,25 @@
+-- The look-ups of the definitions are searches for the first entry of a name.
+use Rattle.std.proofs.Common.{◌≡◌, refl, ℕ, ◌==◌, List, [], ◌∷◌, ◌++◌, map, find, option_map, Some, None, arith}
+use Rattle.pool_syntax.specs.declared.tree.ClassDecl.{ClassDecl}
+use Rattle.pool_syntax.specs.declared.tree.Method.{Method}
+use Rattle.pool_syntax.specs.declared.tree.Var.{Var}
+use Rattle.pool_syntax.specs.TreeOf.{class_tree, method_tree}
+use Rattle.pool_syntax.specs.Classes.{class_of, named_method}
+use Rattle.pool_syntax.specs.Typing.{var_of}
+
+pub class_of_found : (ks : List ClassDecl) (n : ℕ) → class_of (map class_tree ks) n ≡ option_map class_tree (find (λ k. k.name.name.0 == n) ks)
+class_of_found [] n = refl
+class_of_found (k ∷ ks) n = grind (arith, class_of_found ks n)
+
+pub named_method_found : (ms : List Method) (n : ℕ) → named_method (map method_tree ms) n ≡ option_map method_tree (find (λ m. m.name.name.0 == n) ms)
+named_method_found [] n = refl
+named_method_found (m ∷ ms) n = grind (arith, named_method_found ms n)
+
+pub var_of_found : (vs : List Var) (n : ℕ) → var_of vs n ≡ find (λ v. v.name.0 == n) vs
+var_of_found [] n = refl
+var_of_found (v ∷ vs) n = grind (arith, var_of_found vs n)
+
+-- the first of two lists is looked into first
+pub var_of_both : (vs ws : List Var) (n : ℕ) → var_of (vs ++ ws) n ≡ elim (var_of vs n) [ None ↦ var_of ws n | Some v ↦ Some v ]
+var_of_both [] ws n = refl
+var_of_both (v ∷ vs) ws n = grind (arith, var_of_both vs ws n)

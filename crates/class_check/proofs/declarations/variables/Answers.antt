@@ -1,0 +1,15 @@
+use Rattle.std.proofs.Common.{◌∙◌, arith, get_or, map}
+use Rattle.std.proofs.lemmas.List.{get_or_default}
+use Rattle.pool_syntax.specs.declared.tree.Var.{Var}
+use Rattle.pool_syntax.specs.declared.tree.Kind.TheVariants as K
+use Rattle.pool_syntax.specs.TreeOf.{class_tree}
+use Rattle.class_check.specs.Stands.{twice_number}
+use Rattle.class_check.proofs.DeclarationParts.{variable_noted}
+use Rattle.class_check.proofs.declarations.variables.Goals as goal
+
+pub loop-i-preserved : goal.loop-i-preserved
+loop-i-preserved c =
+    let v : Var = get_or c.args.vars.now c.loop-i.i (record { name = record { 0 = 0 }; kind = K.Int; pos = 0; kind_pos = 0 }) in
+    variable_noted (map class_tree c.args.classes.now) (twice_number c.args.owner) c.args.before.now c.args.vars.now c.loop-i.i v c.loop-i.first c.variable.new.first (omega arith)
+    (get_or_default c.args.vars.now c.loop-i.i _ v (omega arith)) c.variable.ensures
+    ∙ c.loop-i.invariant

@@ -1,0 +1,14 @@
+use Rattle.std.proofs.Common.{◌≡◌, [], take, drop, map}
+use Rattle.pool_syntax.specs.TreeOf.{class_tree}
+use Rattle.pool_syntax.specs.Typing.{vars_faults}
+use Rattle.class_check.specs.Before.{names_before}
+use Rattle.class_check.specs.Least.{noted}
+use Rattle.class_check.specs.PairOf.{found_of}
+use Rattle.class_check.specs.Stands.{twice_number}
+use Rattle.class_check.proofs.declarations.variables.Given as goal
+
+-- noting the rest gives what noting all gives
+abbrev pub invariant-loop-i : goal.invariant-loop-i
+invariant-loop-i l =
+    noted (found_of l.first) (vars_faults (map class_tree l.classes) (twice_number l.owner) (names_before (λ v. v.name.0) (names_before (λ v. v.name.0) [] l.before) (take l.i l.vars)) (drop l.i l.vars))
+    ≡ noted (found_of l.initial.first) (vars_faults (map class_tree l.classes) (twice_number l.owner) (names_before (λ v. v.name.0) [] l.before) l.vars)

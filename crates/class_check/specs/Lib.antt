@@ -1,0 +1,4 @@
+pub mod Least
+pub mod PairOf
+pub mod Stands
+pub mod Before

@@ -1,0 +1,73 @@
+-- What the checker's sorts and scopes stand for, and the faults of what stands at a place by its sort and token.
+use Rattle.std.specs.Prelude.{ℕ, ◌++◌, map, List, [], ◌∷◌, Option, Some, None, false, is_some, not, if◌then◌else◌, option_map}
+use Rattle.std.specs.Borrow.{Bor}
+use Rattle.std.specs.Option.{option_copied}
+use Rattle.pool_syntax.specs.declared.words.Op.{Op}
+use Rattle.pool_syntax.specs.declared.words.Op.TheVariants as O
+use Rattle.pool_syntax.specs.declared.tree.Kind.{Kind}
+use Rattle.pool_syntax.specs.declared.tree.Var.{Var}
+use Rattle.pool_syntax.specs.declared.tree.Method.{Method}
+use Rattle.pool_syntax.specs.declared.tree.Alt.{Alt, out-Alt}
+use Rattle.pool_syntax.specs.Terms.{MethodTree, ProgramTree, Alternatives, NoAlts, Alt as OneAlt}
+use Rattle.pool_syntax.specs.Classes.{class_of}
+use Rattle.pool_syntax.specs.TreeOf.{class_tree, method_tree, expression_of, statements_of}
+use Rattle.pool_syntax.specs.Typing as T
+use Rattle.class_check.specs.declared.sort.Sort.{Sort}
+use Rattle.class_check.specs.declared.sort.Sort.TheVariants as S
+use Rattle.class_check.specs.declared.scope.Scope.{Scope}
+use Rattle.class_check.specs.declared.declarations.Owner.{Owner}
+use Rattle.class_check.specs.declared.declarations.Owner.TheVariants as W
+
+abbrev pub sort_tree : Sort → T.Sort
+sort_tree S.Int = T.IntSort
+sort_tree S.Bool = T.BoolSort
+sort_tree (S.Class c) = T.ClassSort c.0
+sort_tree S.Nil = T.NilSort
+sort_tree S.NoResult = T.NoSort
+sort_tree S.Broken = T.BrokenSort
+
+-- the method that was found, if there is one
+abbrev pub method_of : Option (Bor Method) → Option MethodTree
+method_of m = option_map method_tree (option_copied m)
+
+abbrev pub scope_of : Scope → T.Scope
+scope_of s = record {
+  program = map class_tree s.classes.now;
+  class = s.own.now.name.name.0;
+  own = Some (class_tree s.own.now);
+  temps = s.params.now ++ s.locals.now;
+  object_class = λ n. None;
+  under_way = false;
+}
+
+-- the sort of a name of this kind, if it is declared
+abbrev pub declared_sort : T.Scope → Option Kind → T.Sort
+declared_sort g None = T.BrokenSort
+declared_sort g (Some k) = T.kind_sort g.program k
+
+abbrev pub creation_sort : T.Scope → ℕ → T.Sort
+creation_sort g c = if is_some (class_of g.program c) then T.ClassSort c else T.BrokenSort
+
+abbrev pub creation_faults : T.Scope → ℕ → ℕ → List T.Fault
+creation_faults g c at = T.fault_if (not (is_some (class_of g.program c))) at 2
+
+-- the faults of operands of these sorts at these tokens
+abbrev pub operands_faults : Op → T.Sort → ℕ → T.Sort → ℕ → List T.Fault
+operands_faults O.Same s at t to = T.no_result s at ++ (T.no_result t to ++ T.fault_if (not (T.is_comparable (T.counted s) (T.counted t))) to 9)
+operands_faults O.Differs s at t to = T.no_result s at ++ (T.no_result t to ++ T.fault_if (not (T.is_comparable (T.counted s) (T.counted t))) to 9)
+operands_faults op s at t to = T.misfit s (T.operand_sort op) at ++ T.misfit t (T.operand_sort op) to
+
+-- the faults of an argument of this sort at the parameter of its number, if there is one
+abbrev pub argument_faults : ProgramTree → Option Var → T.Sort → ℕ → List T.Fault
+argument_faults p None s at = T.no_result s at
+argument_faults p (Some v) s at = T.misfit s (T.kind_sort p v.kind) at
+
+-- the alternatives of a select
+abbrev pub alternatives_of : List Alt → Alternatives
+alternatives_of [] = NoAlts
+alternatives_of (a ∷ rest) = OneAlt (expression_of (out-Alt a).guard) (out-Alt a).answer (statements_of (out-Alt a).work) (alternatives_of rest)
+
+-- the number of the fault of a name that stands twice
+abbrev pub twice_number : Owner → ℕ
+twice_number W.Class = 3
+twice_number W.Method = 5

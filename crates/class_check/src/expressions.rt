@@ -1,0 +1,302 @@
+//! The faults and the sorts of expressions.
+ghost use Rattle.std.specs.Prelude.{◌≡◌, ◌≤◌, ◌+◌, ◌++◌, map, min, slice_get};
+ghost use Rattle.pool_syntax.specs.TreeOf.{class_tree, expression_of, expressions_of};
+ghost use Rattle.pool_syntax.specs.Typing.{arguments_faults, destination_faults, expression_faults, limit, method_faults, method_sort, name_sort, params_of, position, sent_method, send_sort, sort_of, is_broken_name, fault_if, no_result, is_comparable, counted};
+ghost use Rattle.class_check.specs.PairOf.{Notes};
+ghost use Rattle.class_check.specs.Stands.{sort_tree, scope_of, method_of, argument_faults, operands_faults, creation_sort, creation_faults};
+
+use crate::fault::{ClassFault, note};
+use crate::scope::{Scope, class_named, kind_sort, method_named};
+use crate::sort::{Placed, Sort, note_misfit, note_no_result, op_sort, operand_sort};
+use pool_syntax::{ClassDecl, Expr, Method, NameId, Named, Op, Var};
+
+/// The token of an expression.
+fn position(expr: &Expr) -> u32
+    ensures { result ≡ position (expression_of expr.now) }
+{
+    match expr {
+        Expr::Int { pos, .. } => *pos,
+        Expr::Bool { pos, .. } => *pos,
+        Expr::Nil { pos } => *pos,
+        Expr::Me { pos } => *pos,
+        Expr::Var { pos, .. } => *pos,
+        Expr::New { pos, .. } => *pos,
+        Expr::Unary { pos, .. } => *pos,
+        Expr::Binary { pos, .. } => *pos,
+        Expr::Call { pos, .. } => *pos,
+        Expr::Send { pos, .. } => *pos,
+    }
+}
+
+/// One more operand held; 64 stands for all counts from 64.
+pub fn one_more(held: u8) -> u8
+    requires { held ≤ 64 }
+    ensures { result ≡ min (held + 1) 64 }
+{
+    if held < 64 { held + 1 } else { 64 }
+}
+
+fn note_limit(held: u8, token: u32, first: &mut Option<ClassFault>)
+    ensures { Notes first.old first.new (limit held token) }
+{
+    if held >= 64 {
+        note(first, ClassFault::Limit { token });
+    }
+}
+
+/// The sort of a name.
+fn name_sort(scope: &Scope, name: NameId) -> Sort
+    ensures { sort_tree result ≡ name_sort (scope_of scope.now) name.0 }
+{
+    match scope.kind_of(name) {
+        Some(kind) => kind_sort(scope.classes, kind),
+        None => Sort::Broken,
+    }
+}
+
+/// The sort of a name at the token, which is noted where it is not declared.
+pub fn note_name(scope: &Scope, name: NameId, token: u32, first: &mut Option<ClassFault>) -> Sort
+    ensures sort { sort_tree result ≡ name_sort (scope_of scope.now) name.0 }
+    ensures first { Notes first.old first.new (fault_if (is_broken_name (scope_of scope.now) name.0) token 6) }
+{
+    match scope.kind_of(name) {
+        Some(kind) => kind_sort(scope.classes, kind),
+        None => {
+            note(first, ClassFault::UnknownVariable { token });
+            Sort::Broken
+        }
+    }
+}
+
+/// The sort of a `new` at the token, which is noted where the class does not exist.
+fn note_creation(scope: &Scope, class: NameId, token: u32, first: &mut Option<ClassFault>) -> Sort
+    ensures sort { sort_tree result ≡ creation_sort (scope_of scope.now) class.0 }
+    ensures first { Notes first.old first.new (creation_faults (scope_of scope.now) class.0 token) }
+{
+    match class_named(scope.classes, class) {
+        Some(_) => Sort::Class(class),
+        None => {
+            note(first, ClassFault::UnknownClass { token });
+            Sort::Broken
+        }
+    }
+}
+
+/// Notes what is wrong with the operands of an operator.
+fn note_operands(op: Op, left: Placed, right: Placed, first: &mut Option<ClassFault>)
+    ensures { Notes first.old first.new (operands_faults op (sort_tree left.sort) left.token (sort_tree right.sort) right.token) }
+{
+    match op {
+        Op::Same | Op::Differs => {
+            note_no_result(left, first);
+            note_no_result(right, first);
+            if !left.sort.is_comparable(right.sort) {
+                note(first, ClassFault::TypeDiffers { token: right.token });
+            }
+        }
+        _ => {
+            note_misfit(left, operand_sort(op), first);
+            note_misfit(right, operand_sort(op), first);
+        }
+    }
+}
+
+/// Notes a call of a method that is not there, or has another number of parameters.
+fn note_call(callee: Option<&Method>, token: u32, count: usize, first: &mut Option<ClassFault>)
+    ensures { Notes first.old first.new (method_faults (method_of callee.entry) count token) }
+{
+    match callee {
+        None => note(first, ClassFault::UnknownMethod { token }),
+        Some(callee) => {
+            if callee.params.items().len() != count {
+                note(first, ClassFault::ArgumentCount { token });
+            }
+        }
+    }
+}
+
+/// The sort of a method's result.
+fn method_sort(classes: &[ClassDecl], method: Option<&Method>) -> Sort
+    ensures { sort_tree result ≡ method_sort (map class_tree classes.now) (method_of method.entry) }
+{
+    match method {
+        None => Sort::Broken,
+        Some(method) => match method.result {
+            None => Sort::NoResult,
+            Some(kind) => kind_sort(classes, kind),
+        },
+    }
+}
+
+/// The parameters of a method; none where it is not there.
+pub fn params_of<'a>(method: Option<&'a Method>) -> &'a [Var]
+    ensures { result.now ≡ params_of (method_of method.entry) }
+{
+    match method {
+        None => &[],
+        Some(method) => method.params.items(),
+    }
+}
+
+/// The method of a send to a destination of this sort.
+fn sent_method<'a>(scope: &Scope<'a>, to: Sort, name: NameId) -> Option<&'a Method>
+    ensures method { method_of result ≡ sent_method (scope_of scope.now) (sort_tree to) name.0 }
+    ensures sort { send_sort (map class_tree scope.now.classes.now) (sort_tree to) name.0 ≡ method_sort (map class_tree scope.now.classes.now) (method_of result) }
+{
+    match to {
+        Sort::Class(class) => match class_named(scope.classes, class) {
+            Some(class) => method_named(class.methods.items(), name),
+            None => None,
+        },
+        _ => None,
+    }
+}
+
+/// The method of a send. Notes what is wrong with the destination, and with the method at its name.
+pub fn note_destination<'a>(
+    scope: &Scope<'a>,
+    to: Placed,
+    method: Named,
+    count: usize,
+    first: &mut Option<ClassFault>,
+) -> Option<&'a Method>
+    ensures method { method_of result ≡ sent_method (scope_of scope.now) (sort_tree to.sort) method.name.0 }
+    ensures sort { send_sort (map class_tree scope.now.classes.now) (sort_tree to.sort) method.name.0 ≡ method_sort (map class_tree scope.now.classes.now) (method_of result) }
+    ensures first { Notes first.old first.new (destination_faults (scope_of scope.now) (sort_tree to.sort) method.name.0 count method.pos to.token) }
+{
+    let callee = sent_method(scope, to.sort, method.name);
+    let token = to.token;
+    match to.sort {
+        Sort::Class(_) => note_call(callee, method.pos, count, first),
+        Sort::Broken => {}
+        Sort::NoResult => note(first, ClassFault::NoResult { token }),
+        Sort::Int | Sort::Bool | Sort::Nil => note(first, ClassFault::TypeDiffers { token }),
+    }
+    callee
+}
+
+/// The variable at the place, if there is one.
+pub fn variable_at(vars: &[Var], place: usize) -> Option<Var>
+    ensures { result ≡ slice_get vars.now place }
+{
+    vars.get(place).copied()
+}
+
+/// Notes an argument that does not fit its parameter, if there is one.
+fn note_argument(
+    classes: &[ClassDecl],
+    parameter: Option<Var>,
+    at: Placed,
+    first: &mut Option<ClassFault>,
+)
+    ensures { Notes first.old first.new (argument_faults (map class_tree classes.now) parameter (sort_tree at.sort) at.token) }
+{
+    match parameter {
+        None => note_no_result(at, first),
+        Some(parameter) => note_misfit(at, kind_sort(classes, parameter.kind), first),
+    }
+}
+
+/// The sort of an expression. Notes its faults, but for what its own place needs.
+#[cycle(expressions)]
+fn expression(scope: &Scope, held: u8, expr: &Expr, first: &mut Option<ClassFault>) -> Sort
+    requires { held ≤ 64 }
+    ensures sort { sort_tree result ≡ sort_of (scope_of scope.now) (expression_of expr.now) }
+    ensures first { Notes first.old first.new (expression_faults (scope_of scope.now) held (expression_of expr.now)) }
+{
+    note_limit(held, position(expr), first);
+    match expr {
+        Expr::Int { .. } => Sort::Int,
+        Expr::Bool { .. } => Sort::Bool,
+        Expr::Nil { .. } => Sort::Nil,
+        Expr::Me { .. } => Sort::Class(scope.own.name.name),
+        Expr::Var { name, pos } => note_name(scope, *name, *pos, first),
+        Expr::New { class, pos } => note_creation(scope, *class, *pos, first),
+        Expr::Unary { op, arg, .. } => {
+            let arg = placed(scope, held, arg, first);
+            note_misfit(arg, operand_sort(*op), first);
+            op_sort(*op)
+        }
+        Expr::Binary {
+            op,
+            left,
+            right,
+            ..
+        } => {
+            let left = placed(scope, held, left, first);
+            let right = placed(scope, one_more(held), right, first);
+            note_operands(*op, left, right, first);
+            op_sort(*op)
+        }
+        Expr::Call { method, args, pos } => {
+            let callee = scope.own_method(*method);
+            note_call(callee, *pos, args.items().len(), first);
+            called(scope, held, callee, args.items(), first)
+        }
+        Expr::Send {
+            to,
+            method,
+            args,
+            pos,
+        } => {
+            let to = placed(scope, held, to, first);
+            let method = Named {
+                name: *method,
+                pos: *pos,
+            };
+            let callee = note_destination(scope, to, method, args.items().len(), first);
+            called(scope, one_more(held), callee, args.items(), first)
+        }
+    }
+}
+
+/// The sort and the token of an expression before which so many operands are held, where 64 stands for all counts from 64. Notes its faults, but for what its own place needs.
+#[cycle(expressions)]
+pub fn placed(scope: &Scope, held: u8, expr: &Expr, first: &mut Option<ClassFault>) -> Placed
+    requires { held ≤ 64 }
+    ensures sort { sort_tree result.sort ≡ sort_of (scope_of scope.now) (expression_of expr.now) }
+    ensures token { result.token ≡ position (expression_of expr.now) }
+    ensures first { Notes first.old first.new (expression_faults (scope_of scope.now) held (expression_of expr.now)) }
+{
+    Placed {
+        sort: expression(scope, held, expr, first),
+        token: position(expr),
+    }
+}
+
+/// The sort of a call with these arguments. Notes their faults.
+#[cycle(expressions)]
+fn called(
+    scope: &Scope,
+    held: u8,
+    callee: Option<&Method>,
+    args: &[Expr],
+    first: &mut Option<ClassFault>,
+) -> Sort
+    requires { held ≤ 64 }
+    ensures sort { sort_tree result ≡ method_sort (map class_tree scope.now.classes.now) (method_of callee.entry) }
+    ensures first { Notes first.old first.new (arguments_faults (scope_of scope.now) held (params_of (method_of callee.entry)) (expressions_of args.now)) }
+{
+    arguments(scope, held, params_of(callee), args, first);
+    method_sort(scope.classes, callee)
+}
+
+/// Notes the faults of arguments before which so many operands are held.
+#[cycle(expressions)]
+pub fn arguments(
+    scope: &Scope,
+    held: u8,
+    params: &[Var],
+    args: &[Expr],
+    first: &mut Option<ClassFault>,
+)
+    requires { held ≤ 64 }
+    ensures { Notes first.old first.new (arguments_faults (scope_of scope.now) held params.now (expressions_of args.now)) }
+{
+    let mut now_held = held;
+    for (i, arg) in args.iter().enumerate() {
+        let arg = placed(scope, now_held, arg, first);
+        note_argument(scope.classes, variable_at(params, i), arg, first);
+        now_held = one_more(now_held);
+    }
+}

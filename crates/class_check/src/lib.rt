@@ -1,0 +1,15 @@
+//! The class faults of a program: whether it is typed, and if not, its first fault.
+#![tactic(auto)]
+
+mod declarations;
+mod expressions;
+mod fault;
+mod program;
+mod scope;
+mod sort;
+mod statements;
+#[cfg(test)]
+mod tests;
+
+pub use fault::ClassFault;
+pub use program::{Checked, check};

@@ -1,0 +1,44 @@
+//! The check of a program.
+ghost use Rattle.std.specs.Prelude.{◌≡◌, ◌≢◌, [], true, IfOk, IsOk, IsErr};
+ghost use Rattle.pool_syntax.specs.TreeOf.{program_of};
+ghost use Rattle.pool_syntax.specs.Typing.{faults};
+ghost use Rattle.pool_syntax.specs.Spelled.{is_spelled, IsGrammatical};
+ghost use Rattle.class_check.specs.Least.{IsLeastFault};
+ghost use Rattle.class_check.specs.PairOf.{pair_of};
+ghost use Rattle.class_check.specs.declared.fault.ClassFault.{ClassFault as AFault};
+
+use crate::declarations::classes;
+use crate::fault::ClassFault;
+use pool_syntax::{Names, Program};
+use std::alloc::Global;
+
+/// A program without class faults, and the table of its names.
+#[derive(Clone, Copy)]
+pub struct Checked<'a> {
+    pub program: &'a Program,
+    pub names: &'a Names,
+    pub ghost typed: { faults (program_of program.now) ≡ [] },
+    pub ghost grammatical: { ∥ IsGrammatical (program_of program.now) ∥₁ },
+    pub ghost spelled: { is_spelled names.now (program_of program.now) ≡ true },
+}
+
+/// The program without class faults; else its fault of least token, and of least number there. `Memory` comes where memory is wanting.
+pub fn check<'a>(
+    _alloc: Global,
+    program: &'a Program,
+    names: &'a Names,
+) -> Result<Checked<'a>, ClassFault>
+    requires grammatical { IsGrammatical (program_of program.now) }
+    requires spelled { is_spelled names.now (program_of program.now) ≡ true }
+    ensures same { IfOk result (λ c. (c.program.now ≡ program.now) × (c.names.now ≡ names.now)) }
+    ensures typed { IsOk result → faults (program_of program.now) ≡ [] }
+    ensures fault { (f : AFault) → result ≡ Err f → f ≢ ClassFault.Memory → IsLeastFault (faults (program_of program.now)) (pair_of f) }
+    ensures only { faults (program_of program.now) ≡ [] → IsErr result → result ≡ Err ClassFault.Memory }
+{
+    let mut first = None;
+    classes(program.classes.items(), &mut first);
+    match first {
+        None => Ok(Checked { program, names }),
+        Some(fault) => Err(fault),
+    }
+}

@@ -1,0 +1,105 @@
+//! The sorts of expressions, and what places need.
+ghost use Rattle.std.specs.Prelude.{◌≡◌, ◌||◌, not, map};
+ghost use Rattle.pool_syntax.specs.Terms.{ClassTree};
+ghost use Rattle.pool_syntax.specs.TreeOf.{class_tree};
+ghost use Rattle.pool_syntax.specs.Typing.{kind_sort, op_sort, operand_sort, is_open, is_same_sort, is_comparable, counted, misfit, no_result};
+ghost use Rattle.class_check.specs.PairOf.{Notes};
+ghost use Rattle.class_check.specs.Stands.{sort_tree};
+
+use crate::fault::{ClassFault, note};
+use pool_syntax::{NameId, Op};
+
+/// The sort of an expression.
+#[derive(Clone, Copy, Debug, PartialEq, Eq)]
+pub enum Sort {
+    Int,
+    Bool,
+    Class(NameId),
+    Nil,
+    /// Of a call without result.
+    NoResult,
+    /// Of a part that already has a fault.
+    Broken,
+}
+
+impl Sort {
+    fn is_open(self) -> bool
+        ensures { result ≡ is_open (counted (sort_tree self)) }
+    {
+        match self {
+            Sort::Nil | Sort::NoResult | Sort::Broken => true,
+            Sort::Int | Sort::Bool | Sort::Class(_) => false,
+        }
+    }
+
+    /// Whether two sorts can be compared.
+    pub fn is_comparable(self, other: Sort) -> bool
+        ensures { result ≡ is_comparable (counted (sort_tree self)) (counted (sort_tree other)) }
+    {
+        self.is_same(other) || self.is_open() || other.is_open()
+    }
+
+    fn is_same(self, other: Sort) -> bool
+        ensures { result ≡ is_same_sort (sort_tree self) (sort_tree other) }
+    {
+        match (self, other) {
+            (Sort::Int, Sort::Int) => true,
+            (Sort::Bool, Sort::Bool) => true,
+            (Sort::Class(class), Sort::Class(other_class)) => class.0 == other_class.0,
+            (Sort::Nil, Sort::Nil) => true,
+            _ => false,
+        }
+    }
+}
+
+/// The sort of an operator's value.
+pub fn op_sort(op: Op) -> Sort
+    ensures { sort_tree result ≡ op_sort op }
+{
+    match op {
+        Op::Add | Op::Sub | Op::Mul | Op::Div | Op::Rem | Op::Neg => Sort::Int,
+        Op::Less | Op::LessEq | Op::More | Op::MoreEq | Op::Same | Op::Differs => Sort::Bool,
+        Op::And | Op::Or | Op::Not => Sort::Bool,
+    }
+}
+
+/// The sort that an operator's operands need, but for `==` and `!=`.
+pub fn operand_sort(op: Op) -> Sort
+    ensures { sort_tree result ≡ operand_sort op }
+{
+    match op {
+        Op::And | Op::Or | Op::Not => Sort::Bool,
+        Op::Add | Op::Sub | Op::Mul | Op::Div | Op::Rem | Op::Neg => Sort::Int,
+        Op::Less | Op::LessEq | Op::More | Op::MoreEq | Op::Same | Op::Differs => Sort::Int,
+    }
+}
+
+/// An expression's sort, and its token.
+#[derive(Clone, Copy, Debug)]
+pub struct Placed {
+    pub sort: Sort,
+    pub token: u32,
+}
+
+/// Notes an expression of no sort.
+pub fn note_no_result(at: Placed, first: &mut Option<ClassFault>)
+    ensures { Notes first.old first.new (no_result (sort_tree at.sort) at.token) }
+{
+    if let Sort::NoResult = at.sort {
+        note(first, ClassFault::NoResult { token: at.token });
+    }
+}
+
+/// Notes an expression whose place needs another sort.
+pub fn note_misfit(at: Placed, need: Sort, first: &mut Option<ClassFault>)
+    ensures { Notes first.old first.new (misfit (sort_tree at.sort) (sort_tree need) at.token) }
+{
+    note_no_result(at, first);
+    let broken = match need {
+        Sort::Broken => true,
+        Sort::Int | Sort::Bool | Sort::Class(_) | Sort::Nil | Sort::NoResult => false,
+    };
+    if !at.sort.is_open() && !at.sort.is_same(need) && !broken {
+        note(first, ClassFault::TypeDiffers { token: at.token });
+    }
+}

@@ -1,0 +1,5 @@
+pub mod Carried
+pub mod FormLaws
+pub mod RecordLaws
+pub mod StopLaws
+pub mod SpelledTokens

@@ -1,0 +1,11 @@
+pub mod Commands
+pub mod Programs
+pub mod Kept
+pub mod Few
+pub mod Placements
+pub mod Schedules
+pub mod Records
+pub mod RecordText
+pub mod FaultText
+pub mod Outcomes
+pub mod Stops

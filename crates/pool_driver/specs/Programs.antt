@@ -1,0 +1,48 @@
+-- Which texts are programs that are run, and the fault of each other text. The judges come in order: tokens, grammar, classes, form.
+use Rattle.std.specs.Prelude.{◌≡◌, ◌+◌, List, [], true, false}
+use Rattle.pool_syntax.specs.declared.token.Tok.{Tok}
+use Rattle.pool_syntax.specs.declared.token.Token.{Token}
+use Rattle.pool_syntax.specs.declared.token.LexFault.{LexFault}
+use Rattle.pool_syntax.specs.Tokens.{Text, HasTokens, IsFirstFault}
+use Rattle.pool_syntax.specs.Terms.{ProgramTree}
+use Rattle.pool_syntax.specs.Rules.{program}
+use Rattle.pool_syntax.specs.Grammar.{rule}
+use Rattle.pool_syntax.specs.Derives.{Begins, IsFirstUnexpected}
+use Rattle.pool_syntax.specs.Nesting.{IsFirstTooDeep}
+use Rattle.pool_syntax.specs.Typing.{faults}
+use Rattle.pool_lexer.specs.Ended.{toks}
+use Rattle.pool_parser.specs.Programs.{HasProgram, IsShallowBelow}
+use Rattle.pool_parser.specs.declared.fault.SyntaxFault.{SyntaxFault}
+use Rattle.pool_parser.specs.declared.fault.SyntaxFault.TheVariants as Syntax
+use Rattle.class_check.specs.declared.fault.ClassFault.{ClassFault}
+use Rattle.class_check.specs.Least.{IsLeastFault}
+use Rattle.class_check.specs.PairOf.{pair_of}
+use Rattle.pool_semantics.specs.Writing.{is_writer}
+use Rattle.pool_driver.specs.declared.fault.Fault.{Fault}
+use Rattle.pool_driver.specs.declared.fault.Fault.TheVariants as F
+
+-- the text has the program, and this table of its names and strings
+abbrev pub IsParsed : Text → List Text → ProgramTree → Type 0
+IsParsed s names p = (ts : List Token) × HasTokens s names ts × HasProgram (toks ts) p
+
+-- the text has the program
+abbrev pub IsTextOf : Text → ProgramTree → Type 0
+IsTextOf s p = (names : List Text) × IsParsed s names p
+
+-- the text is a program without class faults, of the form that is run
+abbrev pub IsProgramText : Text → ProgramTree → Type 0
+IsProgramText s p = IsTextOf s p × (faults p ≡ []) × (is_writer p ≡ true)
+
+-- the first fault of tokens that have no program
+abbrev pub IsSyntaxFault : List Tok → SyntaxFault → Type 0
+IsSyntaxFault ts (Syntax.Unexpected t) = IsFirstUnexpected ts t × IsShallowBelow ts t
+IsSyntaxFault ts (Syntax.TooDeep t) = IsFirstTooDeep ts t × Begins ts program (rule program) 0 (t + 1)
+IsSyntaxFault ts Syntax.Memory = ⊥
+
+-- the text has this fault
+abbrev pub IsFaultOfProgram : Text → Fault → Type 0
+IsFaultOfProgram s (F.Lex f) = IsFirstFault s f
+IsFaultOfProgram s (F.Syntax f) = (names : List Text) × (ts : List Token) × HasTokens s names ts × IsSyntaxFault (toks ts) f
+IsFaultOfProgram s (F.Class f) = (p : ProgramTree) × IsTextOf s p × IsLeastFault (faults p) (pair_of f)
+IsFaultOfProgram s F.NotYet = (p : ProgramTree) × IsTextOf s p × (faults p ≡ []) × (is_writer p ≡ false)
+IsFaultOfProgram s F.TooLong = ⊥

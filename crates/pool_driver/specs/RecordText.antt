@@ -1,0 +1,67 @@
+-- The text of a record's lines, as far as programs of writes make them.
+use Rattle.std.specs.Prelude.{ℕ, ◌/◌, ◌%◌, List, [], ◌∷◌, ◌++◌, Bool, true, false, codes, decimal}
+use Rattle.std.specs.Fmt.{signed_decimal}
+use Rattle.pool_syntax.specs.Tokens.{Text}
+use Rattle.pool_syntax.specs.declared.words.Value.{Value}
+use Rattle.pool_syntax.specs.declared.words.Value.TheVariants as V
+use Rattle.pool_syntax.specs.declared.words.Item.{Item}
+use Rattle.pool_syntax.specs.declared.words.Item.TheVariants as I
+use Rattle.pool_syntax.specs.declared.words.Label.{Label}
+use Rattle.pool_syntax.specs.declared.words.Label.TheVariants as L
+use Rattle.pool_syntax.specs.declared.words.What.{What}
+use Rattle.pool_syntax.specs.declared.words.What.TheVariants as W
+use Rattle.pool_syntax.specs.declared.words.Event.{Event}
+use Rattle.pool_syntax.specs.declared.words.Event.TheVariants as E
+use Rattle.pool_syntax.specs.declared.words.End.{End}
+use Rattle.pool_syntax.specs.declared.words.End.TheVariants as F
+use Rattle.pool_syntax.specs.declared.words.Line.{Line}
+use Rattle.pool_syntax.specs.declared.words.Line.TheVariants as R
+
+abbrev pub space : Text
+space = codes " "
+
+abbrev pub line_feed : Text
+line_feed = codes "\n"
+
+-- an object's name, as `node.slot`
+abbrev pub object_text : ℕ → Text
+object_text o = decimal (o / 65536) ++ (codes "." ++ decimal (o % 65536))
+
+abbrev pub truth_text : Bool → Text
+truth_text true = codes "true"
+truth_text false = codes "false"
+
+abbrev pub value_text : Value → Text
+value_text (V.Int z) = signed_decimal z
+value_text (V.Bool b) = truth_text b
+value_text (V.Ref o) = object_text o
+value_text V.Nil = codes "nil"
+
+-- a written value; programs of writes write no string
+abbrev pub item_text : Item → Text
+item_text (I.Value v) = value_text v
+item_text (I.Text s) = []
+
+-- what a line shows: of such a program a write
+abbrev pub what_text : What → Text
+what_text (W.Step (L.Write o item) times) = codes "write " ++ (object_text o ++ (space ++ item_text item))
+what_text _ = []
+
+abbrev pub event_text : Event → Text
+event_text (E.Turn node) = codes "turn " ++ decimal node
+event_text (E.Link from to) = codes "link " ++ (decimal from ++ (space ++ decimal to))
+
+-- how a record ends, and the number of its events; no node of such a run is full
+abbrev pub end_text : End → Text
+end_text (F.Quiet done) = codes "end quiet " ++ decimal done
+end_text (F.Schedule done) = codes "end schedule " ++ decimal done
+end_text _ = []
+
+-- a line, with its line feed
+abbrev pub line_text : Line → Text
+line_text (R.Event number event what) = decimal number ++ (space ++ (event_text event ++ (space ++ (what_text what ++ line_feed))))
+line_text (R.End end) = end_text end ++ line_feed
+
+abbrev pub record_text : List Line → Text
+record_text [] = []
+record_text (l ∷ ls) = line_text l ++ record_text ls

@@ -1,0 +1,129 @@
+//! Why an input was refused, and the line that says so.
+ghost use Rattle.std.specs.Prelude.{◌≡◌, ◌++◌, OnOk, IfOk, decimal};
+ghost use Rattle.pool_driver.specs.FaultText.{class_fault_text, fault_text, input_text, lex_fault_text, refusal_line, syntax_fault_text, unread_line};
+
+use class_check::ClassFault;
+use itoa::Buffer;
+use pool_parser::SyntaxFault;
+use pool_syntax::LexFault;
+use std::alloc::{AllocError, Global};
+
+/// The inputs, in the order in which they are read.
+#[derive(Clone, Copy, Debug, PartialEq, Eq)]
+pub enum Input {
+    Program,
+    Placement,
+    Schedule,
+}
+
+/// Why an input was refused.
+#[derive(Clone, Copy, Debug, PartialEq, Eq)]
+pub enum Fault {
+    /// It has more than 1,048,576 bytes.
+    TooLong,
+    /// It is well formed, and of a form that is not served yet.
+    NotYet,
+    /// The first fault of a program's tokens.
+    Lex(LexFault),
+    /// The first fault of a program's grammar.
+    Syntax(SyntaxFault),
+    /// The least class fault of a program.
+    Class(ClassFault),
+}
+
+fn push_place(text: &mut Vec<u8>, words: &[u8], place: u32) -> Result<(), AllocError>
+    ensures { OnOk result (text.new.items ≡ text.old.items ++ (words.now ++ decimal place)) }
+{
+    let mut buffer = Buffer::new();
+    text.extend_from_slice(words)?;
+    text.extend_from_slice(buffer.format(place).as_bytes())?;
+    Ok(())
+}
+
+fn push_lex_fault(text: &mut Vec<u8>, fault: LexFault) -> Result<(), AllocError>
+    ensures { OnOk result (text.new.items ≡ text.old.items ++ lex_fault_text fault) }
+{
+    match fault {
+        LexFault::BadByte { at } => push_place(text, b"BadByte at byte ", at),
+        LexFault::IntegerTooLarge { at } => push_place(text, b"IntegerTooLarge at byte ", at),
+        LexFault::OpenString { at } => push_place(text, b"OpenString at byte ", at),
+        LexFault::TooLong { at } => push_place(text, b"TooLong at byte ", at),
+        LexFault::Memory => Ok(()),
+    }
+}
+
+fn push_syntax_fault(text: &mut Vec<u8>, fault: SyntaxFault) -> Result<(), AllocError>
+    ensures { OnOk result (text.new.items ≡ text.old.items ++ syntax_fault_text fault) }
+{
+    match fault {
+        SyntaxFault::Unexpected { token } => push_place(text, b"Unexpected at token ", token),
+        SyntaxFault::TooDeep { token } => push_place(text, b"TooDeep at token ", token),
+        SyntaxFault::Memory => Ok(()),
+    }
+}
+
+fn push_class_fault(text: &mut Vec<u8>, fault: ClassFault) -> Result<(), AllocError>
+    ensures { OnOk result (text.new.items ≡ text.old.items ++ class_fault_text fault) }
+{
+    match fault {
+        ClassFault::ClassTwice { token } => push_place(text, b"ClassTwice at token ", token),
+        ClassFault::UnknownClass { token } => push_place(text, b"UnknownClass at token ", token),
+        ClassFault::VariableTwice { token } => push_place(text, b"VariableTwice at token ", token),
+        ClassFault::MethodTwice { token } => push_place(text, b"MethodTwice at token ", token),
+        ClassFault::LocalTwice { token } => push_place(text, b"LocalTwice at token ", token),
+        ClassFault::UnknownVariable { token } => push_place(
+            text,
+            b"UnknownVariable at token ",
+            token,
+        ),
+        ClassFault::UnknownMethod { token } => push_place(text, b"UnknownMethod at token ", token),
+        ClassFault::ArgumentCount { token } => push_place(text, b"ArgumentCount at token ", token),
+        ClassFault::TypeDiffers { token } => push_place(text, b"TypeDiffers at token ", token),
+        ClassFault::NoResult { token } => push_place(text, b"NoResult at token ", token),
+        ClassFault::AnswerName { token } => push_place(text, b"AnswerName at token ", token),
+        ClassFault::Limit { token } => push_place(text, b"Limit at token ", token),
+        ClassFault::Memory => Ok(()),
+    }
+}
+
+fn push_fault(text: &mut Vec<u8>, fault: Fault) -> Result<(), AllocError>
+    ensures { OnOk result (text.new.items ≡ text.old.items ++ fault_text fault) }
+{
+    match fault {
+        Fault::TooLong => text.extend_from_slice(b"TooLong"),
+        Fault::NotYet => text.extend_from_slice(b"NotYet"),
+        Fault::Lex(fault) => push_lex_fault(text, fault),
+        Fault::Syntax(fault) => push_syntax_fault(text, fault),
+        Fault::Class(fault) => push_class_fault(text, fault),
+    }
+}
+
+/// `pool: ` and the input's name, with what stands before the fault.
+fn line_about(alloc: Global, input: Input) -> Result<Vec<u8>, AllocError>
+    ensures { IfOk result (λ line. line.items ≡ input_text input) }
+{
+    match input {
+        Input::Program => b"pool: program: ".to_vec(alloc),
+        Input::Placement => b"pool: placement: ".to_vec(alloc),
+        Input::Schedule => b"pool: schedule: ".to_vec(alloc),
+    }
+}
+
+/// The line of a refused input.
+pub fn line_of_refusal(alloc: Global, input: Input, fault: Fault) -> Result<Vec<u8>, AllocError>
+    ensures { IfOk result (λ line. line.items ≡ refusal_line input fault) }
+{
+    let mut line = line_about(alloc, input)?;
+    push_fault(&mut line, fault)?;
+    line.extend_from_slice(b"\n")?;
+    Ok(line)
+}
+
+/// The line of an input that could not be read.
+pub fn line_of_unread(alloc: Global, input: Input) -> Result<Vec<u8>, AllocError>
+    ensures { IfOk result (λ line. line.items ≡ unread_line input) }
+{
+    let mut line = line_about(alloc, input)?;
+    line.extend_from_slice(b"read fault\n")?;
+    Ok(line)
+}

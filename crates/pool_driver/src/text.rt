@@ -1,0 +1,128 @@
+//! The text of a record's lines.
+ghost use Rattle.std.specs.Prelude.{◌≡◌, ◌++◌, OnOk, decimal};
+ghost use Rattle.std.specs.Fmt.{signed_decimal};
+ghost use Rattle.pool_driver.specs.RecordText.{end_text, event_text, item_text, line_text, object_text, value_text, what_text};
+
+use itoa::Buffer;
+use pool_syntax::{End, Event, Item, Label, Line, Value, What};
+use std::alloc::AllocError;
+
+fn push_number(text: &mut Vec<u8>, number: u32) -> Result<(), AllocError>
+    ensures { OnOk result (text.new.items ≡ text.old.items ++ decimal number) }
+{
+    let mut buffer = Buffer::new();
+    text.extend_from_slice(buffer.format(number).as_bytes())?;
+    Ok(())
+}
+
+fn push_integer(text: &mut Vec<u8>, number: i64) -> Result<(), AllocError>
+    ensures { OnOk result (text.new.items ≡ text.old.items ++ signed_decimal number) }
+{
+    let mut buffer = Buffer::new();
+    text.extend_from_slice(buffer.format(number).as_bytes())?;
+    Ok(())
+}
+
+fn push_object(text: &mut Vec<u8>, object: u32) -> Result<(), AllocError>
+    ensures { OnOk result (text.new.items ≡ text.old.items ++ object_text object) }
+{
+    push_number(text, object / 65536)?;
+    text.extend_from_slice(b".")?;
+    push_number(text, object % 65536)?;
+    Ok(())
+}
+
+fn push_value(text: &mut Vec<u8>, value: Value) -> Result<(), AllocError>
+    ensures { OnOk result (text.new.items ≡ text.old.items ++ value_text value) }
+{
+    match value {
+        Value::Int(number) => push_integer(text, number)?,
+        Value::Bool(true) => text.extend_from_slice(b"true")?,
+        Value::Bool(false) => text.extend_from_slice(b"false")?,
+        Value::Ref(object) => push_object(text, object)?,
+        Value::Nil => text.extend_from_slice(b"nil")?,
+    }
+    Ok(())
+}
+
+fn push_item(text: &mut Vec<u8>, item: Item) -> Result<(), AllocError>
+    ensures { OnOk result (text.new.items ≡ text.old.items ++ item_text item) }
+{
+    match item {
+        Item::Value(value) => push_value(text, value),
+        Item::Text(_) => Ok(()),
+    }
+}
+
+fn push_what(text: &mut Vec<u8>, what: &What) -> Result<(), AllocError>
+    ensures { OnOk result (text.new.items ≡ text.old.items ++ what_text what.now) }
+{
+    match what {
+        What::Step {
+            label: Label::Write { object, item },
+            ..
+        } => {
+            text.extend_from_slice(b"write ")?;
+            push_object(text, *object)?;
+            text.extend_from_slice(b" ")?;
+            push_item(text, *item)
+        }
+        _ => Ok(()),
+    }
+}
+
+fn push_event(text: &mut Vec<u8>, event: Event) -> Result<(), AllocError>
+    ensures { OnOk result (text.new.items ≡ text.old.items ++ event_text event) }
+{
+    match event {
+        Event::Turn { node } => {
+            text.extend_from_slice(b"turn ")?;
+            push_number(text, node)
+        }
+        Event::Link { from, to } => {
+            text.extend_from_slice(b"link ")?;
+            push_number(text, from)?;
+            text.extend_from_slice(b" ")?;
+            push_number(text, to)
+        }
+    }
+}
+
+fn push_counted(text: &mut Vec<u8>, words: &[u8], count: u32) -> Result<(), AllocError>
+    ensures { OnOk result (text.new.items ≡ text.old.items ++ (words.now ++ decimal count)) }
+{
+    text.extend_from_slice(words)?;
+    push_number(text, count)
+}
+
+fn push_end(text: &mut Vec<u8>, end: End) -> Result<(), AllocError>
+    ensures { OnOk result (text.new.items ≡ text.old.items ++ end_text end) }
+{
+    match end {
+        End::Quiet { done } => push_counted(text, b"end quiet ", done),
+        End::Schedule { done } => push_counted(text, b"end schedule ", done),
+        End::Full { .. } => Ok(()),
+    }
+}
+
+/// Puts the line's text, with its line feed, behind a text.
+pub fn push_line(text: &mut Vec<u8>, line: &Line) -> Result<(), AllocError>
+    ensures { OnOk result (text.new.items ≡ text.old.items ++ line_text line.now) }
+{
+    match line {
+        Line::Event {
+            number,
+            event,
+            what,
+        } => {
+            push_number(text, *number)?;
+            text.extend_from_slice(b" ")?;
+            push_event(text, *event)?;
+            text.extend_from_slice(b" ")?;
+            push_what(text, what)?;
+        }
+        Line::End(end) => push_end(text, *end)?,
+    }
+    text.extend_from_slice(b"\n")?;
+    Ok(())
+}

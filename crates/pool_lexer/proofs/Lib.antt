@@ -1,0 +1,17 @@
+pub mod CutLaws
+pub mod DecimalLaws
+pub mod Ends
+pub mod Fronts
+pub mod LineLaws
+pub mod Kept
+pub mod Listed
+pub mod Longest
+pub mod PiecesAt
+pub mod RunLaws
+pub mod Signs
+pub mod Rests
+pub mod Steps
+pub mod Strings
+pub mod Wholes
+pub mod WordLaws
+pub mod WordTokens

@@ -1,0 +1,22 @@
+-- What a list of tokens is for its reader: it ends in End, and its numbers are places of the table.
+use Rattle.std.specs.Prelude.{◌≡◌, ℕ, ◌+◌, ◌<◌, ◌↔◌, List, map, length, slice_get, Some}
+use Rattle.pool_syntax.specs.declared.token.Tok.{Tok}
+use Rattle.pool_syntax.specs.declared.token.Tok.TheVariants as tok
+use Rattle.pool_syntax.specs.declared.token.Token.{Token}
+
+-- the tokens without their places
+abbrev pub toks : List Token → List Tok
+toks ts = map (λ t. t.tok) ts
+
+-- There is a last token, and a token is End exactly where it is the last.
+abbrev pub EndsInEnd : List Tok → Type 0
+EndsInEnd ts = (0 < length ts) × ((i : ℕ) (t : Tok) → slice_get ts i ≡ Some t → (t ≡ tok.End) ↔ (i + 1 ≡ length ts))
+
+-- The number of a name or a string is a place of a table with so many texts.
+abbrev pub IsPlaced : ℕ → Tok → Type 0
+IsPlaced count (tok.Name id) = id.0 < count
+IsPlaced count (tok.Str id) = id.0 < count
+IsPlaced count (tok.Word k) = Unit {0}
+IsPlaced count (tok.Int n) = Unit {0}
+IsPlaced count (tok.Sign s) = Unit {0}
+IsPlaced count tok.End = Unit {0}

@@ -1,0 +1,50 @@
+-- What reading one piece of a text gives.
+use Rattle.std.specs.Prelude.{◌≡◌, ℕ, ◌+◌, ◌<◌, ◌≤◌, List, [], ◌∷◌, ◌++◌, length, take, drop, Option, Some, None, Result, Ok, Err}
+use Rattle.pool_syntax.specs.Table.{with_text}
+use Rattle.pool_syntax.specs.Tokens.{Text, longest, piece_fault, fault_of, kept_text, token_of}
+use Rattle.pool_syntax.specs.declared.token.LexFault.{LexFault}
+use Rattle.pool_syntax.specs.declared.token.LexFault.TheVariants.{Memory, BadByte, IntegerTooLarge, OpenString, TooLong}
+use Rattle.pool_syntax.specs.declared.token.Tok.{Tok}
+use Rattle.pool_syntax.specs.declared.token.Token.{Token}
+use Rattle.pool_lexer.specs.declared.table.Tokens.{Tokens}
+
+-- the table with the text that a piece keeps
+abbrev pub with_kept : List Text → Text → List Text
+with_kept names w = elim (kept_text w) [ None ↦ names | Some x ↦ with_text names x ]
+
+-- a faultless piece: its token, and the table behind it
+pub record IsRead (at : ℕ) (w : Text) (old new : List Text) (t : Option Tok) : Type 0 where
+  pub faultless : piece_fault at w ≡ None
+  pub names_are : new ≡ with_kept old w
+  pub token_is : t ≡ token_of old w
+
+-- The fault is this one, unless memory ran out.
+abbrev pub IsTold : LexFault → Option LexFault → Type 0
+IsTold Memory told = Unit {0}
+IsTold (BadByte at) told = told ≡ Some (BadByte at)
+IsTold (IntegerTooLarge at) told = told ≡ Some (IntegerTooLarge at)
+IsTold (OpenString at) told = told ≡ Some (OpenString at)
+IsTold (TooLong at) told = told ≡ Some (TooLong at)
+
+-- the token or the fault of a piece that begins at a place
+abbrev pub TellsToken : {A : Type 0} → (A → Option Tok) → ℕ → Text → List Text → List Text → Result A LexFault → Type 0
+TellsToken as_token at w old new (Ok t) = IsRead at w old new (as_token t)
+TellsToken as_token at w old new (Err f) = IsTold f (piece_fault at w)
+
+-- the token at a place, if there is one
+abbrev pub placed_at : ℕ → Option Tok → List Token
+placed_at at None = []
+placed_at at (Some t) = record { tok = t; at = at } ∷ []
+
+-- the longest piece at a place is read
+pub record IsStep (bytes : Text) (at : ℕ) (old new : Tokens) (next : ℕ) : Type 0 where
+  pub ahead : at < next
+  pub within : next ≤ length bytes
+  pub next_is : next ≡ at + longest (drop at bytes)
+  pub faultless : piece_fault at (take (longest (drop at bytes)) (drop at bytes)) ≡ None
+  pub names_are : new.names ≡ with_kept old.names (take (longest (drop at bytes)) (drop at bytes))
+  pub list_is : new.list ≡ old.list ++ placed_at at (token_of old.names (take (longest (drop at bytes)) (drop at bytes)))
+
+abbrev pub TellsStep : Text → ℕ → Tokens → Tokens → Result ℕ LexFault → Type 0
+TellsStep bytes at old new (Ok next) = IsStep bytes at old new next
+TellsStep bytes at old new (Err f) = IsTold f (fault_of at (drop at bytes))

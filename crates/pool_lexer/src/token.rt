@@ -1,0 +1,71 @@
+//! Which token a piece of a text is.
+ghost use Rattle.std.specs.Prelude.{ℕ, ◌^◌, ◌<◌, List, Some, length};
+ghost use Rattle.pool_lexer.specs.Pieces.{IsKind};
+ghost use Rattle.pool_lexer.specs.Reading.{TellsToken};
+ghost use Rattle.pool_lexer.specs.declared.piece.Kind.TheVariants.{Word, Integer, Text as Quoted};
+
+use crate::lines::decimal;
+use crate::piece::Kind;
+use crate::places::Decimal;
+use crate::spelling::keyword;
+use pool_syntax::{LexFault, Names, Tok};
+
+/// The token of a piece, and the table with the text that it keeps.
+pub fn token(names: &mut Names, text: &[u8], kind: Kind, at: u32) -> Result<Option<Tok>, LexFault>
+    requires kind { IsKind kind text.now }
+    requires room { length names.old < 2 ^ 32 }
+    ensures { TellsToken (λ t. t) at text.now names.old names.new result }
+{
+    match kind {
+        Kind::Skipped => Ok(None),
+        Kind::Word => Ok(Some(word(names, text, at)?)),
+        Kind::Integer => Ok(Some(integer(text, at)?)),
+        Kind::Text => Ok(Some(string(names, text, at)?)),
+        Kind::Sign(sign) => Ok(Some(Tok::Sign(sign))),
+    }
+}
+
+/// A keyword or a name, which has at most 64 bytes.
+fn word(names: &mut Names, text: &[u8], at: u32) -> Result<Tok, LexFault>
+    requires kind { IsKind Word text.now }
+    requires room { length names.old < 2 ^ 32 }
+    ensures { TellsToken (λ t. Some t) at text.now names.old names.new result }
+{
+    if text.len() > 64 {
+        return Err(LexFault::TooLong { at });
+    }
+    match keyword(text) {
+        Some(keyword) => Ok(Tok::Word(keyword)),
+        None => match names.add(text) {
+            Ok(name) => Ok(Tok::Name(name)),
+            Err(_) => Err(LexFault::Memory),
+        },
+    }
+}
+
+/// An integer, which is below 2^63.
+fn integer(text: &[u8], at: u32) -> Result<Tok, LexFault>
+    requires { IsKind Integer text.now }
+    ensures { (names : List (List ℕ)) → TellsToken (λ t. Some t) at text.now names names result }
+{
+    match decimal(text) {
+        Decimal::Value(value) => Ok(Tok::Int(value as i64)),
+        Decimal::TooLarge => Err(LexFault::IntegerTooLarge { at }),
+        Decimal::NotDigits => unreachable!(),
+    }
+}
+
+/// A string, which has at most 256 bytes between its quotes.
+fn string(names: &mut Names, text: &[u8], at: u32) -> Result<Tok, LexFault>
+    requires kind { IsKind Quoted text.now }
+    requires room { length names.old < 2 ^ 32 }
+    ensures { TellsToken (λ t. Some t) at text.now names.old names.new result }
+{
+    if text.len() > 258 {
+        return Err(LexFault::TooLong { at });
+    }
+    match names.add(&text[1..text.len() - 1]) {
+        Ok(name) => Ok(Tok::Str(name)),
+        Err(_) => Err(LexFault::Memory),
+    }
+}

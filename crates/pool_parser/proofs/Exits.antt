@@ -1,0 +1,68 @@
+-- The exits of `?`.
+use Rattle.std.proofs.Common.{◌≡◌, ℕ, List, Result, Ok, Err}
+use Rattle.std.specs.Result.{IsErrAnd}
+use Rattle.std.proofs.lemmas.Result.{err_from_is_err_and}
+use Rattle.pool_syntax.specs.declared.token.Token.{Token}
+use Rattle.pool_syntax.specs.declared.token.Tok.{Tok}
+use Rattle.pool_syntax.specs.declared.tree.Var.{Var}
+use Rattle.pool_syntax.specs.declared.tree.Program.{Program}
+use Rattle.pool_syntax.specs.Rules.{Phrase, program, Tree, Rule}
+use Rattle.pool_syntax.specs.Grammar.{rule}
+use Rattle.pool_parser.specs.declared.fault.SyntaxFault.{SyntaxFault}
+use Rattle.pool_parser.specs.declared.fault.SyntaxFault.TheVariants.{Unexpected, TooDeep, Memory}
+use Rattle.pool_parser.specs.Reads.{Reads, read, refused}
+use Rattle.pool_parser.specs.Parses.{seen, ParsesRule, Refuses}
+use Rattle.pool_parser.specs.Tails.{declared_part}
+use Rattle.pool_parser.specs.Declarations.{RefusesDeclared, ParsesDeclared, ParsesProgram}
+
+-- where the rule r at i is refused, the rule s at j is refused at the same token
+pub passed_on : {ts : List Tok} {p q : Phrase} {r : Rule (Tree q)} {s : Rule (Tree p)} {i j : ℕ} → ((u : ℕ) → Reads ts q r i (refused u) → Reads ts p s j (refused u)) →
+    (e : SyntaxFault) → Refuses ts q r i e → Refuses ts p s j e
+passed_on f (Unexpected u) R = f u R
+passed_on f (TooDeep u) R = R
+passed_on f Memory R = tt
+
+-- what a `?` returns
+pub exit : {A : Type 0} (ts : List Token) (p : Phrase) (s : Rule (Tree p)) (j : ℕ) (v : A → Tree p) (e : SyntaxFault) (r : Result (A × ℕ) SyntaxFault) → IsErrAnd r (λ y. y ≡ e) → Refuses (seen ts) p s j e → ParsesRule ts p s j v r
+exit ts p s j v e r h R = let a = err_from_is_err_and r h in rw (a.1, a.2) R
+
+-- what `expect` refuses
+pub unexpected : (ts : List Tok) (p : Phrase) (s : Rule (Tree p)) (i u : ℕ) (e : SyntaxFault) → e ≡ Unexpected u → Reads ts p s i (refused u) → Refuses ts p s i e
+unexpected ts p s i u e h R = rw h R
+
+-- a result that is returned as it is
+pub relay : {A : Type 0} (ts : List Token) (p q : Phrase) (s : Rule (Tree p)) (r : Rule (Tree q)) (i j : ℕ) (v : A → Tree p) (w : A → Tree q) →
+    ((x : A) (k : ℕ) → Reads (seen ts) q r i (read (w x) k) → Reads (seen ts) p s j (read (v x) k)) → ((u : ℕ) → Reads (seen ts) q r i (refused u) → Reads (seen ts) p s j (refused u)) →
+    (o : Result (A × ℕ) SyntaxFault) → ParsesRule ts q r i w o → ParsesRule ts p s j v o
+relay ts p q s r i j v w f g (Ok x) R = f x.0 x.1 R
+relay ts p q s r i j v w f g (Err (Unexpected u)) R = g u R
+relay ts p q s r i j v w f g (Err (TooDeep u)) R = R
+relay ts p q s r i j v w f g (Err Memory) R = tt
+
+-- the same where names, a colon and a kind are read in the middle of a rule
+
+pub exit_declared : (ts : List Token) (vs : List Var) (i : ℕ) (e : SyntaxFault) (r : Result (List Var × ℕ) SyntaxFault) → IsErrAnd r (λ y. y ≡ e) → RefusesDeclared (seen ts) vs i e → ParsesDeclared ts vs i r
+exit_declared ts vs i e r h R = let a = err_from_is_err_and r h in rw (a.1, a.2) R
+
+pub declared_on : {ts : List Tok} {q : Phrase} {r : Rule (Tree q)} {i j : ℕ} (vs : List Var) →
+    ((u : ℕ) → Reads ts q r i (refused u) → (p : Phrase) (f : List Var → Rule (Tree p)) → Reads ts p (declared_part p vs f) j (refused u)) →
+    (e : SyntaxFault) → Refuses ts q r i e → RefusesDeclared ts vs j e
+declared_on vs f (Unexpected u) R = f u R
+declared_on vs f (TooDeep u) R = R
+declared_on vs f Memory R = tt
+
+pub declared_unexpected : (ts : List Tok) (vs : List Var) (i u : ℕ) (e : SyntaxFault) → e ≡ Unexpected u → ((p : Phrase) (f : List Var → Rule (Tree p)) → Reads ts p (declared_part p vs f) i (refused u)) → RefusesDeclared ts vs i e
+declared_unexpected ts vs i u e h R = rw h R
+
+-- where a declaration is refused, so is a phrase around it
+pub declared_off : {ts : List Tok} {p : Phrase} {s : Rule (Tree p)} {i j : ℕ} (vs : List Var) →
+    ((u : ℕ) → ((q : Phrase) (f : List Var → Rule (Tree q)) → Reads ts q (declared_part q vs f) i (refused u)) → Reads ts p s j (refused u)) →
+    (e : SyntaxFault) → RefusesDeclared ts vs i e → Refuses ts p s j e
+declared_off vs f (Unexpected u) R = f u R
+declared_off vs f (TooDeep u) R = R
+declared_off vs f Memory R = tt
+
+-- the same for the program
+
+pub exit_program : (ts : List Token) (e : SyntaxFault) (r : Result Program SyntaxFault) → IsErrAnd r (λ y. y ≡ e) → Refuses (seen ts) program (rule program) 0 e → ParsesProgram ts r
+exit_program ts e r h R = let a = err_from_is_err_and r h in rw (a.1, a.2) R

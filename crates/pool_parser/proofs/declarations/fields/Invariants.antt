@@ -1,0 +1,13 @@
+use Rattle.std.proofs.Common.{◌-◌, ◌≤◌, List, [], length}
+use Rattle.pool_syntax.specs.declared.tree.Var.{Var}
+use Rattle.pool_syntax.specs.Rules.{more_vars}
+use Rattle.pool_parser.specs.Reads.{Outcome, ReadsPhrase}
+use Rattle.pool_parser.specs.Parses.{seen}
+use Rattle.pool_parser.proofs.declarations.fields.Given as goal
+
+-- what is read from here on is what all give
+abbrev pub invariant-fields : goal.invariant-fields
+invariant-fields l = (l.at ≤ l.next) × (l.next ≤ length l.tokens) × ((o : Outcome (List Var)) → ReadsPhrase (seen l.tokens) (more_vars (l.vars)) l.next o → ReadsPhrase (seen l.tokens) (more_vars ([])) l.at o)
+
+abbrev pub decreases-fields : goal.decreases-fields
+decreases-fields l = length l.tokens - l.next

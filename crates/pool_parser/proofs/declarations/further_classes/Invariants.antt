@@ -1,0 +1,14 @@
+use Rattle.std.proofs.Common.{◌-◌, ◌≤◌, List, map, length}
+use Rattle.pool_syntax.specs.Terms.{ClassTree}
+use Rattle.pool_syntax.specs.Rules.{more_classes}
+use Rattle.pool_syntax.specs.TreeOf.{class_tree}
+use Rattle.pool_parser.specs.Reads.{Outcome, ReadsPhrase}
+use Rattle.pool_parser.specs.Parses.{seen}
+use Rattle.pool_parser.proofs.declarations.further_classes.Given as goal
+
+-- what is read from here on is what all give
+abbrev pub invariant-classes : goal.invariant-classes
+invariant-classes l = (l.at ≤ l.next) × (l.next ≤ length l.tokens) × ((o : Outcome (List ClassTree)) → ReadsPhrase (seen l.tokens) (more_classes (map class_tree l.classes)) l.next o → ReadsPhrase (seen l.tokens) (more_classes (map class_tree l.fn.classes)) l.at o)
+
+abbrev pub decreases-classes : goal.decreases-classes
+decreases-classes l = length l.tokens - l.next

@@ -1,0 +1,13 @@
+use Rattle.std.proofs.Common.{◌-◌, ◌≤◌, List, length}
+use Rattle.pool_syntax.specs.declared.tree.Var.{Var}
+use Rattle.pool_syntax.specs.Rules.{more_params}
+use Rattle.pool_parser.specs.Reads.{Outcome, ReadsPhrase}
+use Rattle.pool_parser.specs.Parses.{seen}
+use Rattle.pool_parser.proofs.declarations.further_params.Given as goal
+
+-- what is read from here on is what all give
+abbrev pub invariant-params : goal.invariant-params
+invariant-params l = (l.at ≤ l.next) × (l.next ≤ length l.tokens) × ((o : Outcome (List Var)) → ReadsPhrase (seen l.tokens) (more_params (l.params)) l.next o → ReadsPhrase (seen l.tokens) (more_params (l.fn.params)) l.at o)
+
+abbrev pub decreases-params : goal.decreases-params
+decreases-params l = length l.tokens - l.next

@@ -1,0 +1,5 @@
+use Rattle.pool_parser.proofs.Reading.{begun_of}
+use Rattle.pool_parser.proofs.laws.derived_begins.Goals as goal
+
+pub returns : goal.returns
+returns c = λ ts p i j x d. begun_of d

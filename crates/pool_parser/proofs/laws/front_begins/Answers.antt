@@ -1,0 +1,5 @@
+use Rattle.pool_parser.proofs.Reading.{shorter}
+use Rattle.pool_parser.proofs.laws.front_begins.Goals as goal
+
+pub returns : goal.returns
+returns c = λ ts p i j k b l m. shorter k b l m

@@ -1,0 +1,5 @@
+use Rattle.pool_parser.proofs.Unique as unique
+use Rattle.pool_parser.proofs.laws.one_program.Goals as goal
+
+pub returns : goal.returns
+returns c = λ ts p q d e. unique.one_program ts p q d e

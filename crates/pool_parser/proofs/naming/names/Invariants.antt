@@ -1,0 +1,14 @@
+use Rattle.std.proofs.Common.{◌-◌, ◌<◌, ◌≤◌, List, length}
+use Rattle.pool_syntax.specs.declared.tree.Named.{Named}
+use Rattle.pool_syntax.specs.Rules.{names, more_names}
+use Rattle.pool_parser.specs.Reads.{Outcome, ReadsPhrase}
+use Rattle.pool_parser.specs.Parses.{seen}
+use Rattle.pool_parser.proofs.naming.names.Given as goal
+
+-- what the names from here on give is what all give
+abbrev pub invariant-names : goal.invariant-names
+invariant-names l =
+    (l.at < l.next) × (l.next ≤ length l.tokens) × ((o : Outcome (List Named)) → ReadsPhrase (seen l.tokens) (more_names l.list) l.next o → ReadsPhrase (seen l.tokens) names l.at o)
+
+abbrev pub decreases-names : goal.decreases-names
+decreases-names l = length l.tokens - l.next

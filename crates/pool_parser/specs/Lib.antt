@@ -1,0 +1,10 @@
+pub mod Groups
+pub mod Literals
+pub mod Reads
+pub mod Parses
+pub mod Alternatives
+pub mod Tails
+pub mod Declarations
+pub mod Depths
+pub mod Programs
+pub mod Spelling

@@ -1,0 +1,334 @@
+//! Variables, methods, classes and the program.
+ghost use Rattle.std.specs.Prelude.{◌≡◌, ◌+◌, ◌^◌, ◌<◌, ◌≤◌, [], ◌++◌, length, map, ℕ, Some, IfOk, IfErr, slice_get, List as ListOf};
+ghost use Rattle.pool_syntax.specs.declared.tree.Var.{Var as OneVariable};
+ghost use Rattle.pool_syntax.specs.Rules.{more_vars, more_locals, params as params_phrase, more_params, param as param_phrase, method as method_phrase, more_methods, class as class_phrase, more_classes};
+ghost use Rattle.pool_syntax.specs.Grammar.{variables};
+ghost use Rattle.pool_syntax.specs.TreeOf.{method_tree, class_tree};
+ghost use Rattle.pool_parser.specs.declared.fault.SyntaxFault.TheVariants.{Memory};
+ghost use Rattle.pool_parser.specs.Tails.{proper_part, result_part, body_part};
+ghost use Rattle.pool_parser.specs.Declarations.{ParsesDeclared, ParsesProgram};
+ghost use Rattle.pool_parser.specs.Parses.{seen, RunsToEnd, Parses, ParsesRule, Advances, Stays};
+
+use crate::expressions::{Grouping, grouped};
+use crate::fault::SyntaxFault;
+use crate::naming::{kind, names};
+use crate::source::{expect, expect_name, is_at};
+use crate::statements::statements;
+use pool_syntax::{
+    ClassDecl, Expr, Keyword, Kind, List, Method, Named, Program, Sign, Tok, Token, Var,
+};
+use std::alloc::Global;
+
+/// One variable of this kind for each name, behind those that are there.
+fn declare(
+    mut vars: List<Var>,
+    names: &[Named],
+    kind: Kind,
+    kind_pos: u32,
+) -> Result<List<Var>, SyntaxFault>
+    ensures ok { IfOk result (λ all. all ≡ vars ++ variables names.now (kind, kind_pos)) }
+    ensures err { IfErr result (λ e. e ≡ Memory) }
+{
+    for name in names {
+        let var = Var {
+            name: name.name,
+            kind,
+            pos: name.pos,
+            kind_pos,
+        };
+        vars.push(var)?;
+    }
+    Ok(vars)
+}
+
+/// Names, a colon and a kind, as variables behind those that are there.
+fn declared(
+    alloc: Global,
+    tokens: &[Token],
+    at: usize,
+    vars: List<Var>,
+) -> Result<(List<Var>, usize), SyntaxFault>
+    requires within { at ≤ length tokens.now }
+    requires small { length tokens.now < 2 ^ 32 }
+    requires ended { RunsToEnd tokens.now }
+    ensures parses { ParsesDeclared tokens.now vars at result }
+    ensures next { Advances tokens.now at result }
+{
+    let (names, next) = names(alloc, tokens, at)?;
+    expect(tokens, next, Tok::Sign(Sign::Colon))?;
+    let ((kind, kind_pos), after) = kind(tokens, next + 1)?;
+    Ok((declare(vars, names.items(), kind, kind_pos)?, after))
+}
+
+/// The variables of a class.
+fn fields(alloc: Global, tokens: &[Token], at: usize) -> Result<(List<Var>, usize), SyntaxFault>
+    requires within { at ≤ length tokens.now }
+    requires small { length tokens.now < 2 ^ 32 }
+    requires ended { RunsToEnd tokens.now }
+    ensures parses { Parses tokens.now (more_vars []) at (λ vs. vs) result }
+    ensures next { Stays tokens.now at result }
+{
+    let mut vars = List::make(alloc);
+    let mut next = at;
+    'fields: while is_at(tokens, next, Tok::Word(Keyword::Var)) {
+        let (all, after) = declared(alloc, tokens, next + 1, vars)?;
+        vars = all;
+        next = after;
+    }
+    Ok((vars, next))
+}
+
+/// The locals of a method.
+fn locals(alloc: Global, tokens: &[Token], at: usize) -> Result<(List<Var>, usize), SyntaxFault>
+    requires within { at ≤ length tokens.now }
+    requires small { length tokens.now < 2 ^ 32 }
+    requires ended { RunsToEnd tokens.now }
+    ensures parses { Parses tokens.now (more_locals []) at (λ vs. vs) result }
+    ensures next { Stays tokens.now at result }
+{
+    let mut vars = List::make(alloc);
+    let mut next = at;
+    'locals: while is_at(tokens, next, Tok::Word(Keyword::Local)) {
+        let (all, after) = declared(alloc, tokens, next + 1, vars)?;
+        vars = all;
+        next = after;
+    }
+    Ok((vars, next))
+}
+
+/// A name, a colon and a kind.
+fn param(tokens: &[Token], at: usize) -> Result<(Var, usize), SyntaxFault>
+    requires within { at ≤ length tokens.now }
+    requires small { length tokens.now < 2 ^ 32 }
+    requires ended { RunsToEnd tokens.now }
+    ensures parses { Parses tokens.now param_phrase at (λ v. v) result }
+    ensures next { Advances tokens.now at result }
+{
+    let name = expect_name(tokens, at)?;
+    expect(tokens, at + 1, Tok::Sign(Sign::Colon))?;
+    let ((kind, kind_pos), next) = kind(tokens, at + 2)?;
+    let var = Var {
+        name: name.name,
+        kind,
+        pos: name.pos,
+        kind_pos,
+    };
+    Ok((var, next))
+}
+
+/// Parameters in parentheses.
+fn params(alloc: Global, tokens: &[Token], at: usize) -> Result<(List<Var>, usize), SyntaxFault>
+    requires within { at ≤ length tokens.now }
+    requires small { length tokens.now < 2 ^ 32 }
+    requires ended { RunsToEnd tokens.now }
+    ensures parses { Parses tokens.now params_phrase at (λ vs. vs) result }
+    ensures next { Advances tokens.now at result }
+{
+    expect(tokens, at, Tok::Sign(Sign::LeftParen))?;
+    let mut params = List::make(alloc);
+    if is_at(tokens, at + 1, Tok::Sign(Sign::RightParen)) {
+        return Ok((params, at + 2));
+    }
+    let (first, next) = param(tokens, at + 1)?;
+    params.push(first)?;
+    let (params, next) = further_params(tokens, next, params)?;
+    expect(tokens, next, Tok::Sign(Sign::RightParen))?;
+    Ok((params, next + 1))
+}
+
+fn further_params(
+    tokens: &[Token],
+    at: usize,
+    mut params: List<Var>,
+) -> Result<(List<Var>, usize), SyntaxFault>
+    requires within { at ≤ length tokens.now }
+    requires small { length tokens.now < 2 ^ 32 }
+    requires ended { RunsToEnd tokens.now }
+    ensures parses { Parses tokens.now (more_params params) at (λ vs. vs) result }
+    ensures next { Stays tokens.now at result }
+{
+    let mut next = at;
+    'params: while is_at(tokens, next, Tok::Sign(Sign::Comma)) {
+        let (param, after) = param(tokens, next + 1)?;
+        params.push(param)?;
+        next = after;
+    }
+    Ok((params, next))
+}
+
+/// A method, with or without a result.
+fn method(alloc: Global, tokens: &[Token], at: usize) -> Result<(Method, usize), SyntaxFault>
+    requires within { at ≤ length tokens.now }
+    requires small { length tokens.now < 2 ^ 32 }
+    requires ended { RunsToEnd tokens.now }
+    ensures parses { Parses tokens.now method_phrase at method_tree result }
+    ensures next { Advances tokens.now at result }
+{
+    expect(tokens, at, Tok::Word(Keyword::Method))?;
+    let name = expect_name(tokens, at + 1)?;
+    let (params, next) = params(alloc, tokens, at + 2)?;
+    if is_at(tokens, next, Tok::Sign(Sign::Colon)) {
+        with_result(alloc, tokens, next, name, params)
+    } else {
+        without_result(alloc, tokens, next, name, params)
+    }
+}
+
+/// The rest of a method without a result.
+fn without_result(
+    alloc: Global,
+    tokens: &[Token],
+    at: usize,
+    name: Named,
+    params: List<Var>,
+) -> Result<(Method, usize), SyntaxFault>
+    requires within { at ≤ length tokens.now }
+    requires small { length tokens.now < 2 ^ 32 }
+    requires ended { RunsToEnd tokens.now }
+    ensures parses { ParsesRule tokens.now method_phrase (proper_part name params) at method_tree result }
+    ensures next { Advances tokens.now at result }
+{
+    let (locals, begin) = locals(alloc, tokens, at)?;
+    expect(tokens, begin, Tok::Word(Keyword::Begin))?;
+    let (body, end) = statements(alloc, tokens, begin + 1)?;
+    expect(tokens, end, Tok::Word(Keyword::End))?;
+    let method = Method {
+        name,
+        params,
+        locals,
+        result: None,
+        result_pos: 0,
+        body,
+        value: Expr::Nil { pos: 0 },
+    };
+    Ok((method, end + 1))
+}
+
+/// The rest of a method with a result.
+fn with_result(
+    alloc: Global,
+    tokens: &[Token],
+    at: usize,
+    name: Named,
+    params: List<Var>,
+) -> Result<(Method, usize), SyntaxFault>
+    requires colon { slice_get (seen tokens.now) at ≡ Some (Tok.Sign Sign.Colon) }
+    requires within { at + 1 ≤ length tokens.now }
+    requires small { length tokens.now < 2 ^ 32 }
+    requires ended { RunsToEnd tokens.now }
+    ensures parses { ParsesRule tokens.now method_phrase (result_part name params) at method_tree result }
+    ensures next { Advances tokens.now at result }
+{
+    let ((kind, kind_pos), next) = kind(tokens, at + 1)?;
+    let (locals, begin) = locals(alloc, tokens, next)?;
+    expect(tokens, begin, Tok::Word(Keyword::Begin))?;
+    let (body, result) = statements(alloc, tokens, begin + 1)?;
+    expect(tokens, result, Tok::Word(Keyword::Result))?;
+    let (value, end) = grouped(alloc, tokens, result + 1, Grouping::Or)?;
+    expect(tokens, end, Tok::Word(Keyword::End))?;
+    let method = Method {
+        name,
+        params,
+        locals,
+        result: Some(kind),
+        result_pos: kind_pos,
+        body,
+        value,
+    };
+    Ok((method, end + 1))
+}
+
+/// The methods of a class.
+fn methods(alloc: Global, tokens: &[Token], at: usize) -> Result<(List<Method>, usize), SyntaxFault>
+    requires within { at ≤ length tokens.now }
+    requires small { length tokens.now < 2 ^ 32 }
+    requires ended { RunsToEnd tokens.now }
+    ensures parses { Parses tokens.now (more_methods []) at (λ ms. map method_tree ms) result }
+    ensures next { Stays tokens.now at result }
+{
+    let mut methods = List::make(alloc);
+    let mut next = at;
+    'methods: while is_at(tokens, next, Tok::Word(Keyword::Method)) {
+        let (method, after) = method(alloc, tokens, next)?;
+        methods.push(method)?;
+        next = after;
+    }
+    Ok((methods, next))
+}
+
+fn class(alloc: Global, tokens: &[Token], at: usize) -> Result<(ClassDecl, usize), SyntaxFault>
+    requires within { at ≤ length tokens.now }
+    requires small { length tokens.now < 2 ^ 32 }
+    requires ended { RunsToEnd tokens.now }
+    ensures parses { Parses tokens.now class_phrase at class_tree result }
+    ensures next { Advances tokens.now at result }
+{
+    expect(tokens, at, Tok::Word(Keyword::Class))?;
+    let name = expect_name(tokens, at + 1)?;
+    let (vars, next) = fields(alloc, tokens, at + 2)?;
+    let (methods, body) = methods(alloc, tokens, next)?;
+    class_body(alloc, tokens, body, name, vars, methods)
+}
+
+/// The rest of a class, behind its variables and methods.
+fn class_body(
+    alloc: Global,
+    tokens: &[Token],
+    at: usize,
+    name: Named,
+    vars: List<Var>,
+    methods: List<Method>,
+) -> Result<(ClassDecl, usize), SyntaxFault>
+    requires within { at ≤ length tokens.now }
+    requires small { length tokens.now < 2 ^ 32 }
+    requires ended { RunsToEnd tokens.now }
+    ensures parses { ParsesRule tokens.now class_phrase (body_part name vars (map method_tree methods)) at class_tree result }
+    ensures next { Advances tokens.now at result }
+{
+    expect(tokens, at, Tok::Word(Keyword::Body))?;
+    let (body, end) = statements(alloc, tokens, at + 1)?;
+    expect(tokens, end, Tok::Word(Keyword::End))?;
+    let class = ClassDecl {
+        name,
+        vars,
+        methods,
+        body,
+    };
+    Ok((class, end + 1))
+}
+
+fn further_classes(
+    alloc: Global,
+    tokens: &[Token],
+    at: usize,
+    mut classes: List<ClassDecl>,
+) -> Result<(List<ClassDecl>, usize), SyntaxFault>
+    requires within { at ≤ length tokens.now }
+    requires small { length tokens.now < 2 ^ 32 }
+    requires ended { RunsToEnd tokens.now }
+    ensures parses { Parses tokens.now (more_classes (map class_tree classes)) at (λ cs. map class_tree cs) result }
+    ensures next { Stays tokens.now at result }
+{
+    let mut next = at;
+    'classes: while is_at(tokens, next, Tok::Word(Keyword::Class)) {
+        let (class, after) = class(alloc, tokens, next)?;
+        classes.push(class)?;
+        next = after;
+    }
+    Ok((classes, next))
+}
+
+/// The program of the tokens, with End behind them.
+pub fn program(alloc: Global, tokens: &[Token]) -> Result<Program, SyntaxFault>
+    requires small { length tokens.now < 2 ^ 32 }
+    requires ended { RunsToEnd tokens.now }
+    requires once { (i : ℕ) → slice_get (seen tokens.now) i ≡ Some Tok.End → i ≡ length tokens.now }
+    ensures { ParsesProgram tokens.now result }
+{
+    let (first, next) = class(alloc, tokens, 0)?;
+    let mut classes = List::make(alloc);
+    classes.push(first)?;
+    let (classes, end) = further_classes(alloc, tokens, next, classes)?;
+    expect(tokens, end, Tok::End)?;
+    Ok(Program { classes })
+}

@@ -1,0 +1,409 @@
+//! Expressions: one function for each form of phrase.
+ghost use Rattle.std.specs.Prelude.{◌≡◌, ◌≢◌, ◌+◌, ◌^◌, ◌<◌, ◌≤◌, length, Some, None, IfOk, IfErr, IfSome, option_map, slice_get};
+ghost use Rattle.pool_syntax.specs.Rules.{group, comparison as comparison_level, factor as factor_level, postfix as postfix_level, primary as primary_level, args as args_phrase, more_args, expression as expression_phrase};
+ghost use Rattle.pool_syntax.specs.Grammar.{operator_of, operand as operand_level};
+ghost use Rattle.pool_syntax.specs.Terms.{Infix, Prefix, Send};
+ghost use Rattle.pool_syntax.specs.TreeOf.{expression_of, expressions_of};
+ghost use Rattle.pool_syntax.specs.declared.words.NameId.{NameId as AnyName};
+ghost use Rattle.pool_syntax.specs.declared.token.Tok.{Tok as AnyTok};
+ghost use Rattle.pool_syntax.specs.declared.token.Keyword.{Keyword as AnyWord};
+ghost use Rattle.pool_parser.specs.declared.fault.SyntaxFault.TheVariants.{Memory};
+ghost use Rattle.pool_parser.specs.Parses.{seen, RunsToEnd, Parses, ParsesExpression, TellsInvocation, postfix_tree, Advances, Stays};
+ghost use Rattle.pool_parser.specs.Groups.{group_of};
+ghost use Rattle.pool_parser.specs.Literals.{literal_of};
+
+use crate::fault::SyntaxFault;
+use crate::source::{expect, expect_name, is_at, peek};
+use pool_syntax::{Expr, Keyword, List, NameId, Named, Op, Sign, Tok, Token};
+use std::alloc::Global;
+
+/// The levels of operators whose repetition groups to the left.
+#[derive(Clone, Copy, Debug)]
+pub enum Grouping {
+    Or,
+    And,
+    Sum,
+    Product,
+}
+
+/// A postfix expression, and whether it is an invocation: a call, a `new` or a send, with no parentheses around it.
+#[derive(Drop)]
+pub struct PostfixTree {
+    pub tree: Expr,
+    pub invokes: bool,
+}
+
+/// The operator of this level that the token is.
+fn operator(grouping: Grouping, token: Tok) -> Option<Op>
+    ensures table { result ≡ operator_of (group (group_of grouping)) token }
+    ensures inside { IfSome result (λ _. token ≢ Tok.End) }
+{
+    match (grouping, token) {
+        (Grouping::Or, Tok::Word(Keyword::Or)) => Some(Op::Or),
+        (Grouping::And, Tok::Word(Keyword::And)) => Some(Op::And),
+        (Grouping::Sum, Tok::Sign(Sign::Plus)) => Some(Op::Add),
+        (Grouping::Sum, Tok::Sign(Sign::Minus)) => Some(Op::Sub),
+        (Grouping::Product, Tok::Sign(Sign::Star)) => Some(Op::Mul),
+        (Grouping::Product, Tok::Sign(Sign::Slash)) => Some(Op::Div),
+        (Grouping::Product, Tok::Sign(Sign::Percent)) => Some(Op::Rem),
+        _ => None,
+    }
+}
+
+/// The comparison that the token is.
+fn comparison_operator(token: Tok) -> Option<Op>
+    ensures { result ≡ operator_of comparison_level token }
+{
+    match token {
+        Tok::Sign(Sign::Equal) => Some(Op::Same),
+        Tok::Sign(Sign::Differs) => Some(Op::Differs),
+        Tok::Sign(Sign::Less) => Some(Op::Less),
+        Tok::Sign(Sign::LessEq) => Some(Op::LessEq),
+        Tok::Sign(Sign::More) => Some(Op::More),
+        Tok::Sign(Sign::MoreEq) => Some(Op::MoreEq),
+        _ => None,
+    }
+}
+
+/// The prefix that the token is.
+fn prefix_operator(token: Tok) -> Option<Op>
+    ensures { result ≡ operator_of factor_level token }
+{
+    match token {
+        Tok::Word(Keyword::Not) => Some(Op::Not),
+        Tok::Sign(Sign::Minus) => Some(Op::Neg),
+        _ => None,
+    }
+}
+
+/// The literal or `self` that the token is.
+fn literal(token: Tok, pos: u32) -> Option<Expr>
+    ensures { option_map expression_of result ≡ literal_of token pos }
+{
+    match token {
+        Tok::Int(value) => Some(Expr::Int { value, pos }),
+        Tok::Word(Keyword::True) => Some(Expr::Bool { value: true, pos }),
+        Tok::Word(Keyword::False) => Some(Expr::Bool { value: false, pos }),
+        Tok::Word(Keyword::Nil) => Some(Expr::Nil { pos }),
+        Tok::Word(Keyword::SelfWord) => Some(Expr::Me { pos }),
+        _ => None,
+    }
+}
+
+fn unary(alloc: Global, op: Op, arg: Expr, pos: u32) -> Result<Expr, SyntaxFault>
+    ensures ok { IfOk result (λ e. expression_of e ≡ Prefix op (expression_of arg) pos) }
+    ensures err { IfErr result (λ e. e ≡ Memory) }
+{
+    let arg = Box::new(alloc, arg)?;
+    Ok(Expr::Unary { op, arg, pos })
+}
+
+fn binary(alloc: Global, op: Op, left: Expr, right: Expr, pos: u32) -> Result<Expr, SyntaxFault>
+    ensures ok { IfOk result (λ e. expression_of e ≡ Infix op (expression_of left) (expression_of right) pos) }
+    ensures err { IfErr result (λ e. e ≡ Memory) }
+{
+    let left = Box::new(alloc, left)?;
+    let right = Box::new(alloc, right)?;
+    Ok(Expr::Binary {
+        op,
+        left,
+        right,
+        pos,
+    })
+}
+
+fn send(alloc: Global, to: Expr, method: Named, args: List<Expr>) -> Result<Expr, SyntaxFault>
+    ensures ok { IfOk result (λ e. expression_of e ≡ Send (expression_of to) method.name.0 (expressions_of args) method.pos) }
+    ensures err { IfErr result (λ e. e ≡ Memory) }
+{
+    let to = Box::new(alloc, to)?;
+    Ok(Expr::Send {
+        to,
+        method: method.name,
+        args,
+        pos: method.pos,
+    })
+}
+
+/// An operand of the operators of this level.
+#[cycle(expressions)]
+fn operand(
+    alloc: Global,
+    tokens: &[Token],
+    at: usize,
+    grouping: Grouping,
+) -> Result<(Expr, usize), SyntaxFault>
+    requires within { at ≤ length tokens.now }
+    requires small { length tokens.now < 2 ^ 32 }
+    requires ended { RunsToEnd tokens.now }
+    ensures parses { ParsesExpression tokens.now (operand_level (group_of grouping)) at result }
+    ensures next { Advances tokens.now at result }
+{
+    match grouping {
+        Grouping::Or => grouped(alloc, tokens, at, Grouping::And),
+        Grouping::And => comparison(alloc, tokens, at),
+        Grouping::Sum => grouped(alloc, tokens, at, Grouping::Product),
+        Grouping::Product => factor(alloc, tokens, at),
+    }
+}
+
+/// Operands with the operators of this level between them.
+#[cycle(expressions)]
+pub fn grouped(
+    alloc: Global,
+    tokens: &[Token],
+    at: usize,
+    grouping: Grouping,
+) -> Result<(Expr, usize), SyntaxFault>
+    requires within { at ≤ length tokens.now }
+    requires small { length tokens.now < 2 ^ 32 }
+    requires ended { RunsToEnd tokens.now }
+    ensures parses { ParsesExpression tokens.now (group (group_of grouping)) at result }
+    ensures next { Advances tokens.now at result }
+{
+    let (mut left, mut next) = operand(alloc, tokens, at, grouping)?;
+    'operands: while let Some(op) = operator(grouping, peek(tokens, next)) {
+        let (right, after) = operand(alloc, tokens, next + 1, grouping)?;
+        left = binary(alloc, op, left, right, next as u32)?;
+        next = after;
+    }
+    Ok((left, next))
+}
+
+/// A sum, or two with a comparison between them.
+#[cycle(expressions)]
+fn comparison(alloc: Global, tokens: &[Token], at: usize) -> Result<(Expr, usize), SyntaxFault>
+    requires within { at ≤ length tokens.now }
+    requires small { length tokens.now < 2 ^ 32 }
+    requires ended { RunsToEnd tokens.now }
+    ensures parses { ParsesExpression tokens.now comparison_level at result }
+    ensures next { Advances tokens.now at result }
+{
+    let (left, next) = grouped(alloc, tokens, at, Grouping::Sum)?;
+    match comparison_operator(peek(tokens, next)) {
+        None => Ok((left, next)),
+        Some(op) => {
+            let (right, after) = grouped(alloc, tokens, next + 1, Grouping::Sum)?;
+            Ok((binary(alloc, op, left, right, next as u32)?, after))
+        }
+    }
+}
+
+#[cycle(expressions)]
+fn factor(alloc: Global, tokens: &[Token], at: usize) -> Result<(Expr, usize), SyntaxFault>
+    requires within { at ≤ length tokens.now }
+    requires small { length tokens.now < 2 ^ 32 }
+    requires ended { RunsToEnd tokens.now }
+    ensures parses { ParsesExpression tokens.now factor_level at result }
+    ensures next { Advances tokens.now at result }
+{
+    match prefix_operator(peek(tokens, at)) {
+        None => {
+            let (postfix, next) = postfix(alloc, tokens, at)?;
+            Ok((postfix.tree, next))
+        }
+        Some(op) => {
+            let (arg, next) = factor(alloc, tokens, at + 1)?;
+            Ok((unary(alloc, op, arg, at as u32)?, next))
+        }
+    }
+}
+
+/// A primary, and sends to it.
+#[cycle(expressions)]
+pub fn postfix(
+    alloc: Global,
+    tokens: &[Token],
+    at: usize,
+) -> Result<(PostfixTree, usize), SyntaxFault>
+    requires within { at ≤ length tokens.now }
+    requires small { length tokens.now < 2 ^ 32 }
+    requires ended { RunsToEnd tokens.now }
+    ensures parses { Parses tokens.now (expression_phrase postfix_level) at postfix_tree result }
+    ensures invokes { TellsInvocation tokens.now at result }
+    ensures next { Advances tokens.now at result }
+{
+    let (mut to, mut next) = primary(alloc, tokens, at)?;
+    'sends: while is_at(tokens, next, Tok::Sign(Sign::Bang)) {
+        let method = expect_name(tokens, next + 1)?;
+        let (args, after) = arguments(alloc, tokens, next + 2)?;
+        to = PostfixTree {
+            tree: send(alloc, to.tree, method, args)?,
+            invokes: true,
+        };
+        next = after;
+    }
+    Ok((to, next))
+}
+
+#[cycle(expressions)]
+fn primary(alloc: Global, tokens: &[Token], at: usize) -> Result<(PostfixTree, usize), SyntaxFault>
+    requires within { at ≤ length tokens.now }
+    requires small { length tokens.now < 2 ^ 32 }
+    requires ended { RunsToEnd tokens.now }
+    ensures parses { Parses tokens.now (expression_phrase primary_level) at postfix_tree result }
+    ensures invokes { TellsInvocation tokens.now at result }
+    ensures next { Advances tokens.now at result }
+{
+    let token = peek(tokens, at);
+    if let Some(tree) = literal(token, at as u32) {
+        return Ok((
+            PostfixTree {
+                tree,
+                invokes: false,
+            },
+            at + 1,
+        ));
+    }
+    match token {
+        Tok::Name(name) => named(alloc, tokens, at, name),
+        Tok::Word(word) => created(tokens, at, word),
+        _ => parenthesized(alloc, tokens, at),
+    }
+}
+
+/// An expression in parentheses.
+#[cycle(expressions)]
+fn parenthesized(
+    alloc: Global,
+    tokens: &[Token],
+    at: usize,
+) -> Result<(PostfixTree, usize), SyntaxFault>
+    requires no_literal { (t : AnyTok) → slice_get (seen tokens.now) at ≡ Some t → literal_of t at ≡ None }
+    requires no_word { (w : AnyWord) → slice_get (seen tokens.now) at ≢ Some (Tok.Word w) }
+    requires no_name { (n : AnyName) → slice_get (seen tokens.now) at ≢ Some (Tok.Name n) }
+    requires within { at ≤ length tokens.now }
+    requires small { length tokens.now < 2 ^ 32 }
+    requires ended { RunsToEnd tokens.now }
+    ensures parses { Parses tokens.now (expression_phrase primary_level) at postfix_tree result }
+    ensures invokes { TellsInvocation tokens.now at result }
+    ensures next { Advances tokens.now at result }
+{
+    expect(tokens, at, Tok::Sign(Sign::LeftParen))?;
+    let (tree, next) = grouped(alloc, tokens, at + 1, Grouping::Or)?;
+    expect(tokens, next, Tok::Sign(Sign::RightParen))?;
+    Ok((
+        PostfixTree {
+            tree,
+            invokes: false,
+        },
+        next + 1,
+    ))
+}
+
+/// A variable, or a call.
+#[cycle(expressions)]
+fn named(
+    alloc: Global,
+    tokens: &[Token],
+    at: usize,
+    name: NameId,
+) -> Result<(PostfixTree, usize), SyntaxFault>
+    requires name { slice_get (seen tokens.now) at ≡ Some (Tok.Name name) }
+    requires within { at + 1 ≤ length tokens.now }
+    requires small { length tokens.now < 2 ^ 32 }
+    requires ended { RunsToEnd tokens.now }
+    ensures parses { Parses tokens.now (expression_phrase primary_level) at postfix_tree result }
+    ensures invokes { TellsInvocation tokens.now at result }
+    ensures next { Advances tokens.now at result }
+{
+    if is_at(tokens, at + 1, Tok::Sign(Sign::LeftParen)) {
+        let (args, next) = arguments(alloc, tokens, at + 1)?;
+        let tree = Expr::Call {
+            method: name,
+            args,
+            pos: at as u32,
+        };
+        Ok((
+            PostfixTree {
+                tree,
+                invokes: true,
+            },
+            next,
+        ))
+    } else {
+        let tree = Expr::Var {
+            name,
+            pos: at as u32,
+        };
+        Ok((
+            PostfixTree {
+                tree,
+                invokes: false,
+            },
+            at + 1,
+        ))
+    }
+}
+
+/// A new object of a class, where the word is `new`.
+fn created(tokens: &[Token], at: usize, word: Keyword) -> Result<(PostfixTree, usize), SyntaxFault>
+    requires word { slice_get (seen tokens.now) at ≡ Some (Tok.Word word) }
+    requires no_literal { literal_of (Tok.Word word) at ≡ None }
+    requires within { at + 1 ≤ length tokens.now }
+    requires small { length tokens.now < 2 ^ 32 }
+    requires ended { RunsToEnd tokens.now }
+    ensures parses { Parses tokens.now (expression_phrase primary_level) at postfix_tree result }
+    ensures invokes { TellsInvocation tokens.now at result }
+    ensures next { Advances tokens.now at result }
+{
+    expect(tokens, at, Tok::Word(Keyword::New))?;
+    let class = expect_name(tokens, at + 1)?;
+    let tree = Expr::New {
+        class: class.name,
+        pos: class.pos,
+    };
+    Ok((
+        PostfixTree {
+            tree,
+            invokes: true,
+        },
+        at + 2,
+    ))
+}
+
+#[cycle(expressions)]
+pub fn arguments(
+    alloc: Global,
+    tokens: &[Token],
+    at: usize,
+) -> Result<(List<Expr>, usize), SyntaxFault>
+    requires within { at ≤ length tokens.now }
+    requires small { length tokens.now < 2 ^ 32 }
+    requires ended { RunsToEnd tokens.now }
+    ensures parses { Parses tokens.now args_phrase at expressions_of result }
+    ensures next { Advances tokens.now at result }
+{
+    expect(tokens, at, Tok::Sign(Sign::LeftParen))?;
+    let mut args = List::make(alloc);
+    if is_at(tokens, at + 1, Tok::Sign(Sign::RightParen)) {
+        return Ok((args, at + 2));
+    }
+    let (first, next) = grouped(alloc, tokens, at + 1, Grouping::Or)?;
+    args.push(first)?;
+    let (args, next) = more_arguments(alloc, tokens, next, args)?;
+    expect(tokens, next, Tok::Sign(Sign::RightParen))?;
+    Ok((args, next + 1))
+}
+
+#[cycle(expressions)]
+fn more_arguments(
+    alloc: Global,
+    tokens: &[Token],
+    at: usize,
+    mut args: List<Expr>,
+) -> Result<(List<Expr>, usize), SyntaxFault>
+    requires within { at ≤ length tokens.now }
+    requires small { length tokens.now < 2 ^ 32 }
+    requires ended { RunsToEnd tokens.now }
+    ensures parses { Parses tokens.now (more_args (expressions_of args)) at expressions_of result }
+    ensures next { Stays tokens.now at result }
+{
+    let mut next = at;
+    'arguments: while is_at(tokens, next, Tok::Sign(Sign::Comma)) {
+        let (arg, after) = grouped(alloc, tokens, next + 1, Grouping::Or)?;
+        args.push(arg)?;
+        next = after;
+    }
+    Ok((args, next))
+}

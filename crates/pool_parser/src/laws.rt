@@ -1,0 +1,22 @@
+//! Laws of the grammar. Each is the contract of a function that does nothing.
+ghost use Rattle.std.specs.Prelude.{◌≡◌, ℕ, ◌≤◌, List as ListOf};
+ghost use Rattle.pool_syntax.specs.declared.token.Tok.{Tok as OneToken};
+ghost use Rattle.pool_syntax.specs.Rules.{Phrase, Tree};
+ghost use Rattle.pool_syntax.specs.Grammar.{rule};
+ghost use Rattle.pool_syntax.specs.Derives.{Derives, Begins, IsProgram};
+ghost use Rattle.pool_syntax.specs.Terms.{ProgramTree};
+
+/// Tokens that a phrase derives begin it.
+pub fn derived_begins()
+    ensures { (ts : ListOf OneToken) (p : Phrase) (i j : ℕ) (x : Tree p) → Derives ts p (rule p) i j x → Begins ts p (rule p) i j }
+{}
+
+/// Every front of tokens that begin a phrase begins it.
+pub fn front_begins()
+    ensures { (ts : ListOf OneToken) (p : Phrase) (i j k : ℕ) → Begins ts p (rule p) i j → i ≤ k → k ≤ j → Begins ts p (rule p) i k }
+{}
+
+/// Tokens have at most one program.
+pub fn one_program()
+    ensures { (ts : ListOf OneToken) (p q : ProgramTree) → IsProgram ts p → IsProgram ts q → p ≡ q }
+{}

@@ -1,0 +1,194 @@
+-- The redex of a term: the first part, from left to right, that is no value and has only values inside.
+use Rattle.std.specs.Prelude.{ℕ, List, [], ◌∷◌, ◌==◌, ◌&&◌, Option, Bool, true, false, if◌then◌else◌}
+use Rattle.pool_syntax.specs.declared.words.Value.{Value}
+use Rattle.pool_syntax.specs.declared.words.Op.{Op}
+use Rattle.pool_syntax.specs.declared.words.Item.{Item}
+use Rattle.pool_syntax.specs.declared.words.Item.TheVariants as I
+use Rattle.pool_syntax.specs.declared.tree.Named.{Named}
+use Rattle.pool_syntax.specs.Terms.{Store, Expression, Literal, Me, Variable, Create, Prefix, Infix, Call, Send, Frame, Wait, Expressions, NoArgs, Arg, Statement, Assign, Write, WriteText, Do, Async, If, While, Answer, Select, Serve, Statements, Done, Then, Alternatives, NoAlts, Alt, append}
+
+-- an alternative whose guard was evaluated, with the names that it answers, if it does
+pub record Choice : Type 0 where
+  pub guard : Value
+  pub answer : Option (List Named)
+  pub work : Statements
+
+-- a part that has only values inside
+pub data Reducible : Type 0 where
+  OwnName : Reducible
+  Read : (name : ℕ) → Reducible
+  Make : (class : ℕ) → Reducible
+  Unary : (op : Op) (arg : Value) → Reducible
+  Binary : (op : Op) (left right : Value) → Reducible
+  Invoke : (method : ℕ) (args : List Value) → Reducible
+  Request : (to : Value) (method : ℕ) (args : List Value) → Reducible
+  -- an own method that is done, with its value
+  Leave : (value : Value) → Reducible
+  Waiting : (receiver method : ℕ) → Reducible
+  Set : (target : ℕ) (value : Value) → Reducible
+  Print : (item : Item) → Reducible
+  Drop : (value : Value) → Reducible
+  Post : (to : Value) (method : ℕ) (args : List Value) → Reducible
+  Branch : (cond : Value) (yes no : Statements) → Reducible
+  Loop : (cond : Expression) (body : Statements) → Reducible
+  Accept : (names : List Named) → Reducible
+  Choose : (choices : List Choice) → Reducible
+  -- a served method that is done, with its value
+  Finish : (caller : Option ℕ) (value : Value) → Reducible
+
+-- the value of a part without redex, or the redex with the temps of the nearest method under way
+pub data Found (A : Type 0) : Type 0 where
+  Evaluated : (value : A) → Found A
+  At : (redex : Reducible) (temps : Store) → Found A
+
+-- goes on with the value, or stops at the redex
+abbrev pub and_then : {A B : Type 0} → Found A → (A → Found B) → Found B
+and_then (Evaluated a) next = next a
+and_then (At r t) next = At r t
+
+-- the redex, sought from left to right
+abbrev mutual
+  pub expression_redex : Store → Expression → Found Value
+  expression_redex t (Literal v p) = Evaluated v
+  expression_redex t (Me p) = At OwnName t
+  expression_redex t (Variable x p) = At (Read x) t
+  expression_redex t (Create c p) = At (Make c) t
+  expression_redex t (Prefix op e p) = and_then (expression_redex t e) (λ v. At (Unary op v) t)
+  expression_redex t (Infix op l r p) =
+      and_then (expression_redex t l) (λ v. and_then (expression_redex t r) (λ w. At (Binary op v w) t))
+  expression_redex t (Call m es p) = and_then (expressions_redex t es) (λ vs. At (Invoke m vs) t)
+  expression_redex t (Send e m es p) =
+      and_then (expression_redex t e) (λ v. and_then (expressions_redex t es) (λ vs. At (Request v m vs) t))
+  expression_redex t (Frame m u ss e) =
+      and_then (statements_redex u ss) (λ done. and_then (expression_redex u e) (λ v. At (Leave v) u))
+  expression_redex t (Wait b m) = At (Waiting b m) t
+
+  pub expressions_redex : Store → Expressions → Found (List Value)
+  expressions_redex t NoArgs = Evaluated []
+  expressions_redex t (Arg e es) =
+      and_then (expression_redex t e) (λ v. and_then (expressions_redex t es) (λ vs. Evaluated (v ∷ vs)))
+
+  pub statement_redex : Store → Statement → Found (Unit {0})
+  statement_redex t (Assign x p e) = and_then (expression_redex t e) (λ v. At (Set x v) t)
+  statement_redex t (Write e) = and_then (expression_redex t e) (λ v. At (Print (I.Value v)) t)
+  statement_redex t (WriteText s) = At (Print (I.Text (record { 0 = s }))) t
+  statement_redex t (Do e) = and_then (expression_redex t e) (λ v. At (Drop v) t)
+  statement_redex t (Async e m p es) =
+      and_then (expression_redex t e) (λ v. and_then (expressions_redex t es) (λ vs. At (Post v m vs) t))
+  statement_redex t (If e these those) = and_then (expression_redex t e) (λ v. At (Branch v these those) t)
+  statement_redex t (While e ss) = At (Loop e ss) t
+  statement_redex t (Answer names) = At (Accept names) t
+  statement_redex t (Select alts) = and_then (guards_redex t alts) (λ choices. At (Choose choices) t)
+  statement_redex t (Serve m k u ss e) =
+      and_then (statements_redex u ss) (λ done. and_then (expression_redex u e) (λ v. At (Finish k v) u))
+
+  -- of a list the first statement alone
+  pub statements_redex : Store → Statements → Found (Unit {0})
+  statements_redex t Done = Evaluated tt
+  statements_redex t (Then s ss) = statement_redex t s
+
+  pub guards_redex : Store → Alternatives → Found (List Choice)
+  guards_redex t NoAlts = Evaluated []
+  guards_redex t (Alt e names ss alts) =
+      and_then (expression_redex t e)
+      (λ v. and_then (guards_redex t alts) (λ cs. Evaluated (record { guard = v; answer = names; work = ss } ∷ cs)))
+
+-- whether an expression is a value
+abbrev pub is_value : Expression → Bool
+is_value (Literal v p) = true
+is_value _ = false
+
+-- whether all of these are values
+abbrev pub are_values : Expressions → Bool
+are_values NoArgs = true
+are_values (Arg e es) = is_value e && are_values es
+
+-- whether all guards are values
+abbrev pub guards_are_values : Alternatives → Bool
+guards_are_values NoAlts = true
+guards_are_values (Alt e names ss alts) = is_value e && guards_are_values alts
+
+-- whether no statement is left
+abbrev pub is_done : Statements → Bool
+is_done Done = true
+is_done (Then s ss) = false
+
+-- what takes the place of a redex
+pub data Part : Type 0 where
+  AsExpression : (e : Expression) → Part
+  AsStatements : (ss : Statements) → Part
+
+-- the part as an expression, or the old one
+abbrev pub as_expression : Part → Expression → Expression
+as_expression (AsExpression e) old = e
+as_expression (AsStatements ss) old = old
+
+-- the part as statements, or the old one alone
+abbrev pub as_statements : Part → Statement → Statements
+as_statements (AsExpression e) old = Then old Done
+as_statements (AsStatements ss) old = ss
+
+-- the variables with a new value for one that is there
+abbrev pub set_value : Store → ℕ → Value → Store
+set_value [] x v = []
+set_value (b ∷ bs) x v = if b.0 == x then (x, v) ∷ bs else b ∷ set_value bs x v
+
+-- the temps of a method under way, after an assignment if that comes next
+abbrev pub assigned : Statements → Store → Store
+assigned (Then (Assign x p (Literal v q)) ss) t = set_value t x v
+assigned _ t = t
+
+-- the term with another part in the place of its redex
+abbrev mutual
+  pub fill_expression : Expression → Part → Expression
+  fill_expression (Literal v p) x = Literal v p
+  fill_expression (Me p) x = as_expression x (Me p)
+  fill_expression (Variable n p) x = as_expression x (Variable n p)
+  fill_expression (Create c p) x = as_expression x (Create c p)
+  fill_expression (Prefix op e p) x =
+      if is_value e then as_expression x (Prefix op e p) else Prefix op (fill_expression e x) p
+  fill_expression (Infix op l r p) x =
+      if is_value l then (if is_value r then as_expression x (Infix op l r p) else Infix op l (fill_expression r x) p)
+      else Infix op (fill_expression l x) r p
+  fill_expression (Call m es p) x =
+      if are_values es then as_expression x (Call m es p) else Call m (fill_expressions es x) p
+  fill_expression (Send e m es p) x =
+      if is_value e then (if are_values es then as_expression x (Send e m es p) else Send e m (fill_expressions es x) p)
+      else Send (fill_expression e x) m es p
+  fill_expression (Frame m t ss e) x =
+      if is_done ss then (if is_value e then as_expression x (Frame m t ss e) else Frame m t ss (fill_expression e x))
+      else Frame m (assigned ss t) (fill_statements ss x) e
+  fill_expression (Wait b m) x = as_expression x (Wait b m)
+
+  pub fill_expressions : Expressions → Part → Expressions
+  fill_expressions NoArgs x = NoArgs
+  fill_expressions (Arg e es) x = if is_value e then Arg e (fill_expressions es x) else Arg (fill_expression e x) es
+
+  pub fill_statement : Statement → Part → Statements
+  fill_statement (Assign n p e) x =
+      if is_value e then as_statements x (Assign n p e) else Then (Assign n p (fill_expression e x)) Done
+  fill_statement (Write e) x = if is_value e then as_statements x (Write e) else Then (Write (fill_expression e x)) Done
+  fill_statement (WriteText s) x = as_statements x (WriteText s)
+  fill_statement (Do e) x = if is_value e then as_statements x (Do e) else Then (Do (fill_expression e x)) Done
+  fill_statement (Async e m p es) x =
+      if is_value e
+      then (if are_values es then as_statements x (Async e m p es) else Then (Async e m p (fill_expressions es x)) Done)
+      else Then (Async (fill_expression e x) m p es) Done
+  fill_statement (If e these those) x =
+      if is_value e then as_statements x (If e these those) else Then (If (fill_expression e x) these those) Done
+  fill_statement (While e ss) x = as_statements x (While e ss)
+  fill_statement (Answer names) x = as_statements x (Answer names)
+  fill_statement (Select alts) x =
+      if guards_are_values alts then as_statements x (Select alts) else Then (Select (fill_guards alts x)) Done
+  fill_statement (Serve m k t ss e) x =
+      if is_done ss then (if is_value e then as_statements x (Serve m k t ss e) else Then (Serve m k t ss (fill_expression e x)) Done)
+      else Then (Serve m k (assigned ss t) (fill_statements ss x) e) Done
+
+  pub fill_statements : Statements → Part → Statements
+  fill_statements Done x = Done
+  fill_statements (Then s ss) x = append (fill_statement s x) ss
+
+  pub fill_guards : Alternatives → Part → Alternatives
+  fill_guards NoAlts x = NoAlts
+  fill_guards (Alt e names ss alts) x =
+      if is_value e then Alt e names ss (fill_guards alts x) else Alt (fill_expression e x) names ss alts
