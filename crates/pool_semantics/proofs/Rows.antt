@@ -1,5 +1,5 @@
 -- Worked rows, computed.
-use Rattle.std.proofs.Common.{◌≡◌, refl, ℕ, ◌+◌, ◌-◌, ◌^◌, pos, List, [], ◌∷◌, ◌++◌, zero, suc, Option, Some, None, true}
+use Rattle.std.proofs.Common.{◌≡◌, refl, ℕ, ◌+◌, ◌-◌, ◌^◌, pos, List, [], ◌∷◌, ◌++◌, zero, suc, Option, Some, None, true, false}
 use Rattle.pool_syntax.specs.declared.words.Value.{Value}
 use Rattle.pool_syntax.specs.declared.words.Value.TheVariants as V
 use Rattle.pool_syntax.specs.declared.words.NameId.{NameId}
@@ -296,3 +296,63 @@ hundred_turns = refl
 
 method_twice : faults (class_with [] (takes [] ∷ record { name = at 1 9; params = []; locals = []; outcome = None; outcome_pos = 0; body = Done; value = Literal V.Nil 0 } ∷ []) Done ∷ []) ≡ (9, 4) ∷ []
 method_twice = refl
+
+-- the same with the two alternatives exchanged: both are possible, and the plain one is the second
+abbrev exchanged : ProgramTree
+exchanged = record {
+  name = named 0;
+  vars = [];
+  methods = record {
+    name = named 1;
+    params = [];
+    locals = [];
+    outcome = None;
+    outcome_pos = 0;
+    body = Then (Write (num 2)) Done;
+    value = Literal V.Nil 0;
+  } ∷ [];
+  body = Then (Async (Me 0) 1 0 NoArgs) (Then (Select
+      (Alt (Literal (V.Bool true) 0) (Some (named 1 ∷ [])) (Then (Write (num 3)) Done)
+      (Alt (Literal (V.Bool true) 0) None (Then (Write (num 1)) Done) NoAlts))) Done);
+} ∷ []
+
+exchanged_one : after exchanged (posted ++ L.Pick 0 1 ∷ []) ≡ None
+exchanged_one = refl
+
+exchanged_two : next exchanged (posted ++ L.Pick 0 2 ∷ []) 0 ≡ Some (A.Write (I.Value (int 1)))
+exchanged_two = refl
+
+exchanged_take : next exchanged (posted ++ L.Take 0 0 (name 1) [] ∷ L.Write 0 (I.Value (int 2)) ∷ L.Local 0 ∷ []) 0 ≡ Some (A.Write (I.Value (int 3)))
+exchanged_take = refl
+
+-- the other language errors, and their order
+
+abbrev nil : Expression
+nil = Literal V.Nil 0
+
+call_of_nil : next (only (Then (Do (Send nil 1 NoArgs 0)) Done)) [] 0 ≡ Some (A.Fault E.NilDestination)
+call_of_nil = refl
+
+message_to_nil : next (only (Then (Async nil 1 0 NoArgs) Done)) [] 0 ≡ Some (A.Fault E.NilDestination)
+message_to_nil = refl
+
+sum_with_nil : next (writes (Infix O.Add nil (num 1) 0)) [] 0 ≡ Some (A.Fault E.NilOperand)
+sum_with_nil = refl
+
+-- a nil operand comes before a zero divisor
+nil_by_zero : next (writes (Infix O.Div nil (num 0) 0)) [] 0 ≡ Some (A.Fault E.NilOperand)
+nil_by_zero = refl
+
+nil_condition : next (only (Then (If nil Done Done) Done)) [] 0 ≡ Some (A.Fault E.NilOperand)
+nil_condition = refl
+
+-- nil can be compared
+nil_is_nil : next (writes (Infix O.Same nil nil 0)) (L.Local 0 ∷ []) 0 ≡ Some (A.Write (I.Value (V.Bool true)))
+nil_is_nil = refl
+
+no_open_guard : next (only (Then (Select (Alt (Literal (V.Bool false) 0) None (Then (Write (num 1)) Done) NoAlts)) Done)) [] 0 ≡ Some (A.Fault E.NoOpenGuard)
+no_open_guard = refl
+
+-- a nil guard comes before that none is open
+nil_guard : next (only (Then (Select (Alt (Literal (V.Bool false) 0) None Done (Alt nil None Done NoAlts))) Done)) [] 0 ≡ Some (A.Fault E.NilOperand)
+nil_guard = refl
