@@ -1,5 +1,5 @@
 -- The faults of statements are those of their parts, one after another.
-use Rattle.std.proofs.Common.{◌≡◌, sym, ap, ◌∙◌, ℕ, ◌+◌, ◌<◌, ◌++◌, ◌||◌, ◌==◌, not, is_some, min, List, [], ◌∷◌, length, take, drop, get_or, Option, arith}
+use Rattle.std.proofs.Common.{◌≡◌, sym, ap, ◌∙◌, ℕ, ◌+◌, ◌<◌, ◌++◌, ◌||◌, ◌==◌, not, is_some, min, Bool, List, [], ◌∷◌, length, take, drop, get_or, Option, arith}
 use Rattle.std.specs.List.{list_any}
 use Rattle.std.proofs.lemmas.List.{at_drop_more}
 use Rattle.pool_syntax.specs.declared.tree.Expr.{Expr}
@@ -45,10 +45,11 @@ alternative_noted g h xs i x a b c d within at held cond names work =
     grind (arith, noted_append)
 
 -- and so of the names of an answer list
-pub name_noted : (g : Scope) (ns : List Named) (i : ℕ) (n : Named) (a b : Option ClassFault) → i < length ns → n ≡ get_or ns i n
-    → Notes a b (fault_if (not (is_some (own_method g n.name.0)) || list_any (λ m. m.name.0 == n.name.0) (take i ns)) n.pos 11)
+pub name_noted : (g : Scope) (ns : List Named) (i : ℕ) (n : Named) (twice : Bool) (a b : Option ClassFault) → i < length ns → n ≡ get_or ns i n
+    → twice ≡ list_any (λ m. m.name.0 == n.name.0) (take i ns)
+    → Notes a b (fault_if (not (is_some (own_method g n.name.0)) || twice) n.pos 11)
     → noted (found_of b) (names_faults g (names_before (λ m. m.name.0) [] (take (i + 1) ns)) (drop (i + 1) ns)) ≡ noted (found_of a) (names_faults g (names_before (λ m. m.name.0) [] (take i ns)) (drop i ns))
-name_noted g ns i n a b within at one =
+name_noted g ns i n twice a b within at is_twice one =
     let front : drop i ns ≡ n ∷ drop (i + 1) ns = at_drop_more (λ l. l) ns i n within ∙ ap (λ x. x ∷ drop (i + 1) ns) (sym at) in
     let more = before_more (λ (m : Named). m.name.0) [] ns i n within at in
     let known = any_before (λ (m : Named). m.name.0) (λ m. m == n.name.0) [] (take i ns) in

@@ -1,4 +1,5 @@
 pub mod Least
 pub mod PairOf
+pub mod Index
 pub mod Stands
 pub mod Before

@@ -32,10 +32,10 @@ method_of m = option_map method_tree (option_copied m)
 
 abbrev pub scope_of : Scope → T.Scope
 scope_of s = record {
-  program = map class_tree s.classes.now;
+  program = map class_tree s.classes.now.list.now;
   class = s.own.now.name.name.0;
   own = Some (class_tree s.own.now);
-  temps = s.params.now ++ s.locals.now;
+  temps = s.params.now.list.now ++ s.locals.now.list.now;
   object_class = λ n. None;
   under_way = false;
 }

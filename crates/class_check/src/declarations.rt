@@ -1,5 +1,5 @@
 //! The faults of classes, methods and variables.
-ghost use Rattle.std.specs.Prelude.{◌≡◌, ◌==◌, ◌++◌, ◌||◌, [], map, length, Some};
+ghost use Rattle.std.specs.Prelude.{◌≡◌, ◌==◌, ◌++◌, ◌||◌, [], map, length, take, Some, OnOk};
 ghost use Rattle.std.specs.List.{list_any};
 ghost use Rattle.pool_syntax.specs.TreeOf.{class_tree, expression_of, method_tree, statements_of};
 ghost use Rattle.pool_syntax.specs.Typing.{class_scope, expression_faults, fault_if, faults, kind_faults, method_tree_faults, methods_faults, outcome_faults, statements_faults, too_many, value_needs, vars_faults};
@@ -7,12 +7,15 @@ ghost use Rattle.class_check.specs.Before.{names_before};
 ghost use Rattle.class_check.specs.PairOf.{Notes, pair_of};
 ghost use Rattle.class_check.specs.Stands.{scope_of, twice_number};
 
+use crate::classes::{Classes, method_places};
 use crate::expressions::{placed, variable_at};
 use crate::fault::{ClassFault, note};
-use crate::scope::{Scope, class_named, kind_sort};
-use crate::sort::note_misfit;
+use crate::index::{Index, places_of};
+use crate::scope::Scope;
+use crate::sort::{kind_sort, note_misfit};
 use crate::statements::statements;
 use pool_syntax::{ClassDecl, Kind, Method, NameId, Var};
+use std::alloc::{AllocError, Global};
 
 /// Where variables are declared.
 #[derive(Clone, Copy, Debug)]
@@ -30,48 +33,35 @@ fn twice(owner: Owner, token: u32) -> ClassFault
     }
 }
 
-fn note_kind(classes: &[ClassDecl], kind: Kind, token: u32, first: &mut Option<ClassFault>)
-    ensures { Notes first.old first.new (kind_faults (map class_tree classes.now) kind token) }
+fn note_kind(classes: &Classes, kind: Kind, token: u32, first: &mut Option<ClassFault>)
+    ensures { Notes first.old first.new (kind_faults (map class_tree classes.now.list.now) kind token) }
 {
     if let Kind::Class(name) = kind {
-        if class_named(classes, name).is_none() {
+        if classes.named(name).is_none() {
             note(first, ClassFault::UnknownClass { token });
         }
     }
 }
 
-fn has_variable(vars: &[Var], name: NameId) -> bool
-    ensures { result ≡ list_any (λ v. v.name.0 == name.0) vars.now }
+/// Whether the name is among the variables before, or those in front of the place.
+fn is_twice(before: &Index<Var>, vars: &Index<Var>, place: usize, name: NameId) -> bool
+    ensures { result ≡ (list_any (λ v. v.name.0 == name.0) before.now.list.now || list_any (λ v. v.name.0 == name.0) (take place vars.now.list.now)) }
 {
-    vars.iter().any(|var| var.name.0 == name.0)
+    before.is_before(before.list.len(), name) || vars.is_before(place, name)
 }
 
-fn has_method(methods: &[Method], name: NameId) -> bool
-    ensures { result ≡ list_any (λ m. m.name.name.0 == name.0) methods.now }
-{
-    methods.iter().any(|method| method.name.name.0 == name.0)
-}
-
-fn has_class(classes: &[ClassDecl], name: NameId) -> bool
-    ensures { result ≡ list_any (λ k. k.name.name.0 == name.0) classes.now }
-{
-    classes.iter().any(|class| class.name.name.0 == name.0)
-}
-
-/// Notes a variable whose name is among the earlier ones, and a kind whose class does not exist.
+/// Notes a variable whose name stands twice, and a kind whose class does not exist.
 #[tactic(auto, using(crate::proofs::Noting::noted_append))]
 fn variable(
-    classes: &[ClassDecl],
+    classes: &Classes,
     owner: Owner,
-    earlier: (&[Var], &[Var]),
+    is_twice: bool,
     var: Var,
     first: &mut Option<ClassFault>,
 )
-    ensures { Notes first.old first.new
-        (fault_if (list_any (λ v. v.name.0 == var.name.0) earlier.entry.0.now || list_any (λ v. v.name.0 == var.name.0) earlier.entry.1.now) var.pos (twice_number owner)
-        ++ kind_faults (map class_tree classes.now) var.kind var.kind_pos) }
+    ensures { Notes first.old first.new (fault_if is_twice var.pos (twice_number owner) ++ kind_faults (map class_tree classes.now.list.now) var.kind var.kind_pos) }
 {
-    if has_variable(earlier.0, var.name) || has_variable(earlier.1, var.name) {
+    if is_twice {
         note(first, twice(owner, var.pos));
     }
     note_kind(classes, var.kind, var.kind_pos, first);
@@ -79,16 +69,17 @@ fn variable(
 
 /// Notes the faults of variables behind others.
 fn variables(
-    classes: &[ClassDecl],
+    classes: &Classes,
     owner: Owner,
-    before: &[Var],
-    vars: &[Var],
+    before: &Index<Var>,
+    vars: &Index<Var>,
     first: &mut Option<ClassFault>,
 )
-    ensures { Notes first.old first.new (vars_faults (map class_tree classes.now) (twice_number owner) (names_before (λ v. v.name.0) [] before.now) vars.now) }
+    ensures { Notes first.old first.new (vars_faults (map class_tree classes.now.list.now) (twice_number owner) (names_before (λ v. v.name.0) [] before.now.list.now) vars.now.list.now) }
 {
-    for (i, var) in vars.iter().enumerate() {
-        variable(classes, owner, (before, &vars[..i]), *var, first);
+    for (i, var) in vars.list.iter().enumerate() {
+        let again = is_twice(before, vars, i, var.name);
+        variable(classes, owner, again, *var, first);
     }
 }
 
@@ -127,121 +118,215 @@ fn value(scope: &Scope, method: &Method, first: &mut Option<ClassFault>)
     }
 }
 
-fn outcome(classes: &[ClassDecl], method: &Method, first: &mut Option<ClassFault>)
-    ensures { Notes first.old first.new (outcome_faults (map class_tree classes.now) method.now.result method.now.result_pos) }
+fn outcome(classes: &Classes, method: &Method, first: &mut Option<ClassFault>)
+    ensures { Notes first.old first.new (outcome_faults (map class_tree classes.now.list.now) method.now.result method.now.result_pos) }
 {
     if let Some(kind) = method.result {
         note_kind(classes, kind, method.result_pos, first);
     }
 }
 
-#[tactic(auto, using(crate::proofs::Noting::noted_append, crate::proofs::DeclarationParts::both_variables))]
 /// Notes the faults of a method's declarations.
-fn head(classes: &[ClassDecl], method: &Method, first: &mut Option<ClassFault>)
+#[tactic(auto, using(crate::proofs::Noting::noted_append, crate::proofs::DeclarationParts::both_variables))]
+fn head(none: &Index<Var>, scope: &Scope, method: &Method, first: &mut Option<ClassFault>)
+    requires none { none.now.list.now ≡ [] }
+    requires params { scope.now.params.now.list.now ≡ method.now.params }
+    requires locals { scope.now.locals.now.list.now ≡ method.now.locals }
     ensures { Notes first.old first.new
-        (vars_faults (map class_tree classes.now) 5 [] (method.now.params ++ method.now.locals)
+        (vars_faults (map class_tree scope.now.classes.now.list.now) 5 [] (method.now.params ++ method.now.locals)
         ++ (too_many 8 method.now.params ++ (too_many 32 (method.now.params ++ method.now.locals)
-        ++ outcome_faults (map class_tree classes.now) method.now.result method.now.result_pos))) }
+        ++ outcome_faults (map class_tree scope.now.classes.now.list.now) method.now.result method.now.result_pos))) }
 {
-    let params = method.params.items();
-    let locals = method.locals.items();
-    variables(classes, Owner::Method, &[], params, first);
-    variables(classes, Owner::Method, params, locals, first);
-    note_too_many(8, params, first);
-    note_too_many_locals(32, params, locals, first);
-    outcome(classes, method, first);
+    let params = scope.params;
+    let locals = scope.locals;
+    variables(scope.classes, Owner::Method, none, params, first);
+    variables(scope.classes, Owner::Method, params, locals, first);
+    note_too_many(8, params.list, first);
+    note_too_many_locals(32, params.list, locals.list, first);
+    outcome(scope.classes, method, first);
 }
 
+/// Notes the faults inside a method.
 #[tactic(auto, using(crate::proofs::Noting::noted_append))]
-/// Notes the faults inside a method of the scope's class.
-fn method(scope: &Scope, method: &Method, first: &mut Option<ClassFault>)
-    ensures { Notes first.old first.new (method_tree_faults (scope_of scope.now) (method_tree method.now)) }
+fn inside(
+    alloc: Global,
+    none: &Index<Var>,
+    scope: &Scope,
+    method: &Method,
+    first: &mut Option<ClassFault>,
+) -> Result<(), AllocError>
+    requires none { none.now.list.now ≡ [] }
+    requires params { scope.now.params.now.list.now ≡ method.now.params }
+    requires locals { scope.now.locals.now.list.now ≡ method.now.locals }
+    ensures { OnOk result (Notes first.old first.new (method_tree_faults (scope_of scope.now) (method_tree method.now))) }
 {
-    let inside = Scope {
-        classes: scope.classes,
-        own: scope.own,
-        params: method.params.items(),
-        locals: method.locals.items(),
+    head(none, scope, method, first);
+    statements(alloc, scope, method.body.items(), first)?;
+    value(scope, method, first);
+    Ok(())
+}
+
+/// Notes the faults of a method of the scope's class.
+fn method(
+    alloc: Global,
+    outer: &Scope,
+    method: &Method,
+    first: &mut Option<ClassFault>,
+) -> Result<(), AllocError>
+    requires { outer.now.params.now.list.now ≡ [] }
+    ensures { OnOk result (Notes first.old first.new (method_tree_faults (scope_of outer.now) (method_tree method.now))) }
+{
+    let param_places = places_of(alloc, method.params.items())?;
+    let local_places = places_of(alloc, method.locals.items())?;
+    let params = Index {
+        list: method.params.items(),
+        places: &param_places,
     };
-    head(scope.classes, method, first);
-    statements(&inside, method.body.items(), first);
-    value(&inside, method, first);
+    let locals = Index {
+        list: method.locals.items(),
+        places: &local_places,
+    };
+    let scope = Scope {
+        classes: outer.classes,
+        own: outer.own,
+        methods: outer.methods,
+        vars: outer.vars,
+        params: &params,
+        locals: &locals,
+    };
+    inside(alloc, outer.params, &scope, method, first)
 }
 
-/// Notes the faults of a method behind the earlier ones.
+/// Notes the faults of a method behind so many others, which may have its name.
 #[tactic(auto, using(crate::proofs::Noting::noted_append))]
-fn next_method(scope: &Scope, earlier: &[Method], next: &Method, first: &mut Option<ClassFault>)
-    ensures { Notes first.old first.new
-        (fault_if (list_any (λ m. m.name.name.0 == next.now.name.name.0) earlier.now) next.now.name.pos 4
-        ++ (fault_if (length earlier.now == 64) next.now.name.pos 12 ++ method_tree_faults (scope_of scope.now) (method_tree next.now))) }
+fn next_method(
+    alloc: Global,
+    scope: &Scope,
+    others: (usize, bool),
+    next: &Method,
+    first: &mut Option<ClassFault>,
+) -> Result<(), AllocError>
+    requires { scope.now.params.now.list.now ≡ [] }
+    ensures { OnOk result (Notes first.old first.new
+        (fault_if others.1 next.now.name.pos 4
+        ++ (fault_if (others.0 == 64) next.now.name.pos 12 ++ method_tree_faults (scope_of scope.now) (method_tree next.now)))) }
 {
     let token = next.name.pos;
-    if has_method(earlier, next.name.name) {
+    if others.1 {
         note(first, ClassFault::MethodTwice { token });
     }
-    if earlier.len() == 64 {
+    if others.0 == 64 {
         note(first, ClassFault::Limit { token });
     }
-    method(scope, next, first);
+    method(alloc, scope, next, first)
 }
 
-fn methods(scope: &Scope, methods: &[Method], first: &mut Option<ClassFault>)
-    ensures { Notes first.old first.new (methods_faults (scope_of scope.now) [] (map method_tree methods.now)) }
+/// Notes the faults of the methods of the scope's class.
+fn methods(alloc: Global, scope: &Scope, first: &mut Option<ClassFault>) -> Result<(), AllocError>
+    requires { scope.now.params.now.list.now ≡ [] }
+    ensures { OnOk result (Notes first.old first.new (methods_faults (scope_of scope.now) [] (map method_tree scope.now.own.now.methods))) }
 {
-    for (i, next) in methods.iter().enumerate() {
-        next_method(scope, &methods[..i], next, first);
+    let index = scope.own_methods();
+    for (i, next) in index.list.iter().enumerate() {
+        let again = index.is_before(i, next.name.name);
+        next_method(alloc, scope, (i, again), next, first)?;
     }
+    Ok(())
 }
 
 /// Notes the faults inside a class.
 #[tactic(auto, using(crate::proofs::Noting::noted_append))]
-fn class(classes: &[ClassDecl], class: &ClassDecl, first: &mut Option<ClassFault>)
-    ensures { Notes first.old first.new
-        (vars_faults (map class_tree classes.now) 3 [] class.now.vars ++ (too_many 64 class.now.vars
-        ++ (methods_faults (class_scope (map class_tree classes.now) (class_tree class.now)) [] (map method_tree class.now.methods)
-        ++ statements_faults (class_scope (map class_tree classes.now) (class_tree class.now)) (statements_of class.now.body)))) }
+fn class(
+    alloc: Global,
+    classes: &Classes,
+    class: &ClassDecl,
+    first: &mut Option<ClassFault>,
+) -> Result<(), AllocError>
+    ensures { OnOk result (Notes first.old first.new
+        (vars_faults (map class_tree classes.now.list.now) 3 [] class.now.vars ++ (too_many 64 class.now.vars
+        ++ (methods_faults (class_scope (map class_tree classes.now.list.now) (class_tree class.now)) [] (map method_tree class.now.methods)
+        ++ statements_faults (class_scope (map class_tree classes.now.list.now) (class_tree class.now)) (statements_of class.now.body))))) }
 {
+    let no_places = places_of::<Var>(alloc, &[])?;
+    let var_places = places_of(alloc, class.vars.items())?;
+    let method_places = places_of(alloc, class.methods.items())?;
+    let none = Index {
+        list: &[],
+        places: &no_places,
+    };
+    let vars = Index {
+        list: class.vars.items(),
+        places: &var_places,
+    };
     let scope = Scope {
         classes,
         own: class,
-        params: &[],
-        locals: &[],
+        methods: &method_places,
+        vars: &vars,
+        params: &none,
+        locals: &none,
     };
-    variables(classes, Owner::Class, &[], class.vars.items(), first);
-    note_too_many(64, class.vars.items(), first);
-    methods(&scope, class.methods.items(), first);
-    statements(&scope, class.body.items(), first);
+    variables(classes, Owner::Class, &none, &vars, first);
+    note_too_many(64, vars.list, first);
+    methods(alloc, &scope, first)?;
+    statements(alloc, &scope, class.body.items(), first)?;
+    Ok(())
 }
 
-/// Notes the faults of a class behind the earlier ones.
+/// Notes the faults of a class behind so many others, which may have its name.
 #[tactic(auto, using(crate::proofs::Noting::noted_append))]
 fn next_class(
-    classes: &[ClassDecl],
-    earlier: &[ClassDecl],
+    alloc: Global,
+    classes: &Classes,
+    others: (usize, bool),
     next: &ClassDecl,
     first: &mut Option<ClassFault>,
-)
-    ensures { Notes first.old first.new
-        (fault_if (list_any (λ k. k.name.name.0 == next.now.name.name.0) earlier.now) next.now.name.pos 1
-        ++ (fault_if (length earlier.now == 256) next.now.name.pos 12 ++ (vars_faults (map class_tree classes.now) 3 [] next.now.vars ++ (too_many 64 next.now.vars
-        ++ (methods_faults (class_scope (map class_tree classes.now) (class_tree next.now)) [] (map method_tree next.now.methods)
-        ++ statements_faults (class_scope (map class_tree classes.now) (class_tree next.now)) (statements_of next.now.body)))))) }
+) -> Result<(), AllocError>
+    ensures { OnOk result (Notes first.old first.new
+        (fault_if others.1 next.now.name.pos 1
+        ++ (fault_if (others.0 == 256) next.now.name.pos 12 ++ (vars_faults (map class_tree classes.now.list.now) 3 [] next.now.vars ++ (too_many 64 next.now.vars
+        ++ (methods_faults (class_scope (map class_tree classes.now.list.now) (class_tree next.now)) [] (map method_tree next.now.methods)
+        ++ statements_faults (class_scope (map class_tree classes.now.list.now) (class_tree next.now)) (statements_of next.now.body))))))) }
 {
     let token = next.name.pos;
-    if has_class(earlier, next.name.name) {
+    if others.1 {
         note(first, ClassFault::ClassTwice { token });
     }
-    if earlier.len() == 256 {
+    if others.0 == 256 {
         note(first, ClassFault::Limit { token });
     }
-    class(classes, next, first);
+    class(alloc, classes, next, first)
+}
+
+fn each_class(
+    alloc: Global,
+    classes: &Classes,
+    first: &mut Option<ClassFault>,
+) -> Result<(), AllocError>
+    ensures { OnOk result (Notes first.old first.new (faults (map class_tree classes.now.list.now))) }
+{
+    let index = classes.index();
+    for (i, next) in classes.list.iter().enumerate() {
+        let again = index.is_before(i, next.name.name);
+        next_class(alloc, classes, (i, again), next, first)?;
+    }
+    Ok(())
 }
 
 /// Notes the faults of a program's classes.
-pub fn classes(classes: &[ClassDecl], first: &mut Option<ClassFault>)
-    ensures { Notes first.old first.new (faults (map class_tree classes.now)) }
+pub fn classes(
+    alloc: Global,
+    list: &[ClassDecl],
+    first: &mut Option<ClassFault>,
+) -> Result<(), AllocError>
+    ensures { OnOk result (Notes first.old first.new (faults (map class_tree list.now))) }
 {
-    for (i, next) in classes.iter().enumerate() {
-        next_class(classes, &classes[..i], next, first);
-    }
+    let places = places_of(alloc, list)?;
+    let methods = method_places(alloc, list)?;
+    let classes = Classes {
+        list,
+        places: &places,
+        methods: &methods,
+    };
+    each_class(alloc, &classes, first)
 }

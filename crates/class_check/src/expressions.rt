@@ -5,10 +5,11 @@ ghost use Rattle.pool_syntax.specs.Typing.{arguments_faults, destination_faults,
 ghost use Rattle.class_check.specs.PairOf.{Notes};
 ghost use Rattle.class_check.specs.Stands.{sort_tree, scope_of, method_of, argument_faults, operands_faults, creation_sort, creation_faults};
 
+use crate::classes::Classes;
 use crate::fault::{ClassFault, note};
-use crate::scope::{Scope, class_named, kind_sort, method_named};
-use crate::sort::{Placed, Sort, note_misfit, note_no_result, op_sort, operand_sort};
-use pool_syntax::{ClassDecl, Expr, Method, NameId, Named, Op, Var};
+use crate::scope::Scope;
+use crate::sort::{Placed, Sort, kind_sort, note_misfit, note_no_result, op_sort, operand_sort};
+use pool_syntax::{Expr, Method, NameId, Named, Op, Var};
 
 /// The token of an expression.
 fn position(expr: &Expr) -> u32
@@ -73,7 +74,7 @@ fn note_creation(scope: &Scope, class: NameId, token: u32, first: &mut Option<Cl
     ensures sort { sort_tree result ≡ creation_sort (scope_of scope.now) class.0 }
     ensures first { Notes first.old first.new (creation_faults (scope_of scope.now) class.0 token) }
 {
-    match class_named(scope.classes, class) {
+    match scope.classes.named(class) {
         Some(_) => Sort::Class(class),
         None => {
             note(first, ClassFault::UnknownClass { token });
@@ -116,8 +117,8 @@ fn note_call(callee: Option<&Method>, token: u32, count: usize, first: &mut Opti
 }
 
 /// The sort of a method's result.
-fn method_sort(classes: &[ClassDecl], method: Option<&Method>) -> Sort
-    ensures { sort_tree result ≡ method_sort (map class_tree classes.now) (method_of method.entry) }
+fn method_sort(classes: &Classes, method: Option<&Method>) -> Sort
+    ensures { sort_tree result ≡ method_sort (map class_tree classes.now.list.now) (method_of method.entry) }
 {
     match method {
         None => Sort::Broken,
@@ -141,13 +142,10 @@ pub fn params_of<'a>(method: Option<&'a Method>) -> &'a [Var]
 /// The method of a send to a destination of this sort.
 fn sent_method<'a>(scope: &Scope<'a>, to: Sort, name: NameId) -> Option<&'a Method>
     ensures method { method_of result ≡ sent_method (scope_of scope.now) (sort_tree to) name.0 }
-    ensures sort { send_sort (map class_tree scope.now.classes.now) (sort_tree to) name.0 ≡ method_sort (map class_tree scope.now.classes.now) (method_of result) }
+    ensures sort { send_sort (map class_tree scope.now.classes.now.list.now) (sort_tree to) name.0 ≡ method_sort (map class_tree scope.now.classes.now.list.now) (method_of result) }
 {
     match to {
-        Sort::Class(class) => match class_named(scope.classes, class) {
-            Some(class) => method_named(class.methods.items(), name),
-            None => None,
-        },
+        Sort::Class(class) => scope.classes.method(class, name),
         _ => None,
     }
 }
@@ -161,7 +159,7 @@ pub fn note_destination<'a>(
     first: &mut Option<ClassFault>,
 ) -> Option<&'a Method>
     ensures method { method_of result ≡ sent_method (scope_of scope.now) (sort_tree to.sort) method.name.0 }
-    ensures sort { send_sort (map class_tree scope.now.classes.now) (sort_tree to.sort) method.name.0 ≡ method_sort (map class_tree scope.now.classes.now) (method_of result) }
+    ensures sort { send_sort (map class_tree scope.now.classes.now.list.now) (sort_tree to.sort) method.name.0 ≡ method_sort (map class_tree scope.now.classes.now.list.now) (method_of result) }
     ensures first { Notes first.old first.new (destination_faults (scope_of scope.now) (sort_tree to.sort) method.name.0 count method.pos to.token) }
 {
     let callee = sent_method(scope, to.sort, method.name);
@@ -184,12 +182,12 @@ pub fn variable_at(vars: &[Var], place: usize) -> Option<Var>
 
 /// Notes an argument that does not fit its parameter, if there is one.
 fn note_argument(
-    classes: &[ClassDecl],
+    classes: &Classes,
     parameter: Option<Var>,
     at: Placed,
     first: &mut Option<ClassFault>,
 )
-    ensures { Notes first.old first.new (argument_faults (map class_tree classes.now) parameter (sort_tree at.sort) at.token) }
+    ensures { Notes first.old first.new (argument_faults (map class_tree classes.now.list.now) parameter (sort_tree at.sort) at.token) }
 {
     match parameter {
         None => note_no_result(at, first),
@@ -274,7 +272,7 @@ fn called(
     first: &mut Option<ClassFault>,
 ) -> Sort
     requires { held ≤ 64 }
-    ensures sort { sort_tree result ≡ method_sort (map class_tree scope.now.classes.now) (method_of callee.entry) }
+    ensures sort { sort_tree result ≡ method_sort (map class_tree scope.now.classes.now.list.now) (method_of callee.entry) }
     ensures first { Notes first.old first.new (arguments_faults (scope_of scope.now) held (params_of (method_of callee.entry)) (expressions_of args.now)) }
 {
     arguments(scope, held, params_of(callee), args, first);

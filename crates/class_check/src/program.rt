@@ -24,7 +24,7 @@ pub struct Checked<'a> {
 
 /// The program without class faults; else its fault of least token, and of least number there. `Memory` comes where memory is wanting.
 pub fn check<'a>(
-    _alloc: Global,
+    alloc: Global,
     program: &'a Program,
     names: &'a Names,
 ) -> Result<Checked<'a>, ClassFault>
@@ -36,9 +36,11 @@ pub fn check<'a>(
     ensures only { faults (program_of program.now) ≡ [] → IsErr result → result ≡ Err ClassFault.Memory }
 {
     let mut first = None;
-    classes(program.classes.items(), &mut first);
-    match first {
-        None => Ok(Checked { program, names }),
-        Some(fault) => Err(fault),
+    match classes(alloc, program.classes.items(), &mut first) {
+        Err(_) => Err(ClassFault::Memory),
+        Ok(()) => match first {
+            None => Ok(Checked { program, names }),
+            Some(fault) => Err(fault),
+        },
     }
 }

@@ -6,8 +6,9 @@ ghost use Rattle.pool_syntax.specs.Typing.{kind_sort, op_sort, operand_sort, is_
 ghost use Rattle.class_check.specs.PairOf.{Notes};
 ghost use Rattle.class_check.specs.Stands.{sort_tree};
 
+use crate::classes::Classes;
 use crate::fault::{ClassFault, note};
-use pool_syntax::{NameId, Op};
+use pool_syntax::{Kind, NameId, Op};
 
 /// The sort of an expression.
 #[derive(Clone, Copy, Debug, PartialEq, Eq)]
@@ -49,6 +50,20 @@ impl Sort {
             (Sort::Nil, Sort::Nil) => true,
             _ => false,
         }
+    }
+}
+
+/// The sort of a kind.
+pub fn kind_sort(classes: &Classes, kind: Kind) -> Sort
+    ensures { sort_tree result ≡ kind_sort (map class_tree classes.now.list.now) kind }
+{
+    match kind {
+        Kind::Int => Sort::Int,
+        Kind::Bool => Sort::Bool,
+        Kind::Class(name) => match classes.named(name) {
+            Some(_) => Sort::Class(name),
+            None => Sort::Broken,
+        },
     }
 }
 

@@ -1,5 +1,10 @@
 pub mod Carried
-pub mod FormLaws
+pub mod ServedTrees
+pub mod ServedTerms
+pub mod ServedLaws
+pub mod ServedRows
+pub mod TurnLaws
 pub mod RecordLaws
 pub mod StopLaws
 pub mod SpelledTokens
+pub mod EndLaws

@@ -1,11 +1,15 @@
 pub mod Commands
+pub mod Served
 pub mod Programs
 pub mod Kept
 pub mod Few
 pub mod Placements
 pub mod Schedules
+pub mod Turn
 pub mod Records
 pub mod RecordText
 pub mod FaultText
 pub mod Outcomes
 pub mod Stops
+pub mod Ends
+pub mod Asked

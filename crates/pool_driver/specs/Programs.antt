@@ -1,4 +1,4 @@
--- Which texts are programs that are run, and the fault of each other text. The judges come in order: tokens, grammar, classes, form.
+-- Which texts are programs, which of them are run, and the fault of each other text. The judges come in order: tokens, grammar, classes, form.
 use Rattle.std.specs.Prelude.{◌≡◌, ◌+◌, List, [], true, false}
 use Rattle.pool_syntax.specs.declared.token.Tok.{Tok}
 use Rattle.pool_syntax.specs.declared.token.Token.{Token}
@@ -17,7 +17,7 @@ use Rattle.pool_parser.specs.declared.fault.SyntaxFault.TheVariants as Syntax
 use Rattle.class_check.specs.declared.fault.ClassFault.{ClassFault}
 use Rattle.class_check.specs.Least.{IsLeastFault}
 use Rattle.class_check.specs.PairOf.{pair_of}
-use Rattle.pool_semantics.specs.Writing.{is_writer}
+use Rattle.pool_driver.specs.Served.{is_served}
 use Rattle.pool_driver.specs.declared.fault.Fault.{Fault}
 use Rattle.pool_driver.specs.declared.fault.Fault.TheVariants as F
 
@@ -31,7 +31,7 @@ IsTextOf s p = (names : List Text) × IsParsed s names p
 
 -- the text is a program without class faults, of the form that is run
 abbrev pub IsProgramText : Text → ProgramTree → Type 0
-IsProgramText s p = IsTextOf s p × (faults p ≡ []) × (is_writer p ≡ true)
+IsProgramText s p = IsTextOf s p × (faults p ≡ []) × (is_served p ≡ true)
 
 -- the first fault of tokens that have no program
 abbrev pub IsSyntaxFault : List Tok → SyntaxFault → Type 0
@@ -39,10 +39,14 @@ IsSyntaxFault ts (Syntax.Unexpected t) = IsFirstUnexpected ts t × IsShallowBelo
 IsSyntaxFault ts (Syntax.TooDeep t) = IsFirstTooDeep ts t × Begins ts program (rule program) 0 (t + 1)
 IsSyntaxFault ts Syntax.Memory = ⊥
 
--- the text has this fault
-abbrev pub IsFaultOfProgram : Text → Fault → Type 0
-IsFaultOfProgram s (F.Lex f) = IsFirstFault s f
-IsFaultOfProgram s (F.Syntax f) = (names : List Text) × (ts : List Token) × HasTokens s names ts × IsSyntaxFault (toks ts) f
-IsFaultOfProgram s (F.Class f) = (p : ProgramTree) × IsTextOf s p × IsLeastFault (faults p) (pair_of f)
-IsFaultOfProgram s F.NotYet = (p : ProgramTree) × IsTextOf s p × (faults p ≡ []) × (is_writer p ≡ false)
-IsFaultOfProgram s F.TooLong = ⊥
+-- the text has no program, for this fault
+abbrev pub IsFaultOfText : Text → Fault → Type 0
+IsFaultOfText s (F.Lex f) = IsFirstFault s f
+IsFaultOfText s (F.Syntax f) = (names : List Text) × (ts : List Token) × HasTokens s names ts × IsSyntaxFault (toks ts) f
+IsFaultOfText s _ = ⊥
+
+-- the text has a program that is not run, for this fault
+abbrev pub IsFaultOfProgram : ProgramTree → Fault → Type 0
+IsFaultOfProgram p (F.Class f) = IsLeastFault (faults p) (pair_of f)
+IsFaultOfProgram p F.NotYet = (faults p ≡ []) × (is_served p ≡ false)
+IsFaultOfProgram p _ = ⊥

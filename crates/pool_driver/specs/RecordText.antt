@@ -1,4 +1,4 @@
--- The text of a record's lines, as far as programs of writes make them.
+-- The text of a record's lines, as far as the programs that are run make them.
 use Rattle.std.specs.Prelude.{ℕ, ◌/◌, ◌%◌, List, [], ◌∷◌, ◌++◌, Bool, true, false, codes, decimal}
 use Rattle.std.specs.Fmt.{signed_decimal}
 use Rattle.pool_syntax.specs.Tokens.{Text}
@@ -6,6 +6,10 @@ use Rattle.pool_syntax.specs.declared.words.Value.{Value}
 use Rattle.pool_syntax.specs.declared.words.Value.TheVariants as V
 use Rattle.pool_syntax.specs.declared.words.Item.{Item}
 use Rattle.pool_syntax.specs.declared.words.Item.TheVariants as I
+use Rattle.pool_syntax.specs.declared.words.Error.{Error}
+use Rattle.pool_syntax.specs.declared.words.Error.TheVariants as error
+use Rattle.pool_syntax.specs.declared.words.FullKind.{FullKind}
+use Rattle.pool_syntax.specs.declared.words.FullKind.TheVariants as full
 use Rattle.pool_syntax.specs.declared.words.Label.{Label}
 use Rattle.pool_syntax.specs.declared.words.Label.TheVariants as L
 use Rattle.pool_syntax.specs.declared.words.What.{What}
@@ -37,25 +41,39 @@ value_text (V.Bool b) = truth_text b
 value_text (V.Ref o) = object_text o
 value_text V.Nil = codes "nil"
 
--- a written value; programs of writes write no string
+-- a written value; the programs that are run write no string
 abbrev pub item_text : Item → Text
 item_text (I.Value v) = value_text v
 item_text (I.Text s) = []
 
--- what a line shows: of such a program a write
+abbrev pub error_text : Error → Text
+error_text error.NilDestination = codes "NilDestination"
+error_text error.NilOperand = codes "NilOperand"
+error_text error.Overflow = codes "Overflow"
+error_text error.ZeroDivisor = codes "ZeroDivisor"
+error_text error.NoOpenGuard = codes "NoOpenGuard"
+
+-- what a line shows: local transitions with their number, a write, or a language error; such a program makes no other line
 abbrev pub what_text : What → Text
+what_text (W.Step (L.Local o) times) = codes "local " ++ (object_text o ++ (space ++ decimal times))
 what_text (W.Step (L.Write o item) times) = codes "write " ++ (object_text o ++ (space ++ item_text item))
+what_text (W.Step (L.Fault o e) times) = codes "fault " ++ (object_text o ++ (space ++ error_text e))
 what_text _ = []
 
 abbrev pub event_text : Event → Text
 event_text (E.Turn node) = codes "turn " ++ decimal node
 event_text (E.Link from to) = codes "link " ++ (decimal from ++ (space ++ decimal to))
 
--- how a record ends, and the number of its events; no node of such a run is full
+abbrev pub full_text : FullKind → Text
+full_text full.Heap = codes "heap "
+full_text full.Frames = codes "frames "
+full_text full.Cells = codes "cells "
+
+-- how a record ends, where a node is full which, and the number of its events
 abbrev pub end_text : End → Text
 end_text (F.Quiet done) = codes "end quiet " ++ decimal done
 end_text (F.Schedule done) = codes "end schedule " ++ decimal done
-end_text _ = []
+end_text (F.Full kind node done) = codes "end full " ++ (full_text kind ++ (decimal node ++ (space ++ decimal done)))
 
 -- a line, with its line feed
 abbrev pub line_text : Line → Text

@@ -1,6 +1,6 @@
 //! The words of a command.
 ghost use Rattle.std.specs.Prelude.{◌≡◌, map, option_map};
-ghost use Rattle.pool_driver.specs.Commands.{command_of, is_option, names_of, texts_of};
+ghost use Rattle.pool_driver.specs.Commands.{is_option, request, request_of, texts_of};
 
 /// The names of the three inputs of `record`.
 #[derive(Clone, Copy)]
@@ -20,9 +20,17 @@ fn is_dashed(word: &str) -> bool
     }
 }
 
-/// The inputs that the words name, where they are of a command.
-pub fn command(words: &[String]) -> Option<Files<'_>>
-    ensures { option_map names_of result ≡ command_of (texts_of words.now) }
+/// A command.
+#[derive(Clone, Copy)]
+pub enum Command<'a> {
+    Record(Files<'a>),
+    /// With the name of a program.
+    Print(&'a str),
+}
+
+/// The command of the words, where they are of one.
+pub fn read_words(words: &[String]) -> Option<Command<'_>>
+    ensures { option_map request result ≡ request_of (texts_of words.now) }
 {
     match words {
         [name, program, placement, schedule] => {
@@ -33,11 +41,20 @@ pub fn command(words: &[String]) -> Option<Files<'_>>
                 schedule.as_str(),
             );
             if named && !is_dashed(program) && !is_dashed(placement) && !is_dashed(schedule) {
-                Some(Files {
+                Some(Command::Record(Files {
                     program,
                     placement,
                     schedule,
-                })
+                }))
+            } else {
+                None
+            }
+        }
+        [name, program] => {
+            let named = name.as_str() == "print";
+            let program = program.as_str();
+            if named && !is_dashed(program) {
+                Some(Command::Print(program))
             } else {
                 None
             }

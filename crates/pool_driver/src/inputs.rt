@@ -1,17 +1,18 @@
-//! Reads the three inputs in their order, judges each before the next is opened, and makes the record.
-ghost use Rattle.std.specs.Prelude.{◌≡◌, ◌≢◌, ◌<◌, ◌+◌, ◌-◌, ◌^◌, ◌≤◌, length, IsTrue, IsOk, IfOk, Err, Some, true};
+//! Reads the inputs in their order, judges each before the next is opened, and makes the record.
+ghost use Rattle.std.specs.Prelude.{◌≡◌, ◌≢◌, ◌<◌, ◌+◌, ◌-◌, ◌^◌, ◌≤◌, List, length, IsTrue, IsOk, IfOk, Err, Some, true};
 ghost use Rattle.pool_outside.specs.Outside.{Rose};
-ghost use Rattle.pool_driver.specs.Commands.{names_of};
-ghost use Rattle.pool_driver.specs.Stops.{stop_of};
 ghost use Rattle.pool_syntax.specs.Tokens.{Text};
 ghost use Rattle.pool_syntax.specs.TreeOf.{program_of};
+ghost use Rattle.pool_driver.specs.Commands.{FileNames as Names, Request, names_of, record_of};
+ghost use Rattle.pool_driver.specs.Stops.{stop_of};
 ghost use Rattle.pool_driver.specs.Placements.{is_one_node};
-ghost use Rattle.pool_driver.specs.Programs.{IsProgramText};
+ghost use Rattle.pool_driver.specs.Programs.{IsParsed};
 ghost use Rattle.pool_driver.specs.Schedules.{schedule_of};
-ghost use Rattle.pool_driver.specs.Outcomes.{AcceptsBefore, IsAcceptedAsTold, IsAcceptedPlacement, IsAcceptedProgram, IsAcceptedSchedule, IsReadAs, IsRecordOf, IsRefused, MayOpen, Stops, most_bytes, number_of};
+ghost use Rattle.pool_driver.specs.Outcomes.{AcceptsBefore, IsAcceptedAsTold, IsAcceptedPlacement, IsAcceptedSchedule, IsAcceptedText, IsReadAs, IsRecordOf, IsRefused, MayOpen, Stops, most_bytes, number_of};
 ghost use Rattle.pool_driver.specs.declared.fault.Fault.{Fault as AnyFault};
 ghost use Rattle.pool_driver.specs.declared.fault.Input.{Input as AnyInput};
 ghost use Rattle.pool_driver.specs.declared.schedule.Turns.{Turns as ReadTurns};
+ghost use Rattle.pool_syntax.specs.Spelled.{IsGrammatical, is_spelled};
 ghost use Rattle.pool_syntax.specs.Terms.{ProgramTree};
 
 use crate::command::Files as FileNames;
@@ -83,8 +84,8 @@ fn read_placement<F: Files>(alloc: Global, files: &mut F, name: &str) -> Result<
     requires allowed { IsTrue (F.may files.old (F.opens files.old) name.now) }
     requires countable { F.opens files.old < 2 ^ 64 - 1 }
     ensures read { IsOk result → (s : Text) × IsReadAs (F.told files.old) name.now s × (is_one_node s ≡ true) }
-    ensures refused { (i : AnyInput) (f : AnyFault) → result ≡ Err (Stop.Refused i f) → (i ≡ Input.Placement)
-        × Stops (F.told files.old) name.now (F.given files.new) Input.Placement f }
+    ensures refused { (names : Names) (i : AnyInput) (f : AnyFault) → result ≡ Err (Stop.Refused i f) → (i ≡ Input.Placement)
+        × Stops (F.told files.old) name.now (F.given files.new) (record_of names) Input.Placement f }
     ensures unread { (i : AnyInput) → result ≡ Err (Stop.Unread i) → (i ≡ Input.Placement) × Rose (F.faults files.old) (F.faults files.new) }
     ensures accepted { IsAcceptedPlacement (F.told files.old name.now) → (i : AnyInput) (f : AnyFault) → result ≢ Err (Stop.Refused i f) }
     ensures opened_once { F.opens files.new ≡ F.opens files.old + 1 }
@@ -109,8 +110,8 @@ fn read_schedule<F: Files>(alloc: Global, files: &mut F, name: &str) -> Result<T
     requires countable { F.opens files.old < 2 ^ 64 - 1 }
     ensures read { IfOk result (λ turns. (s : Text) × IsReadAs (F.told files.old) name.now s × (schedule_of s ≡ Some turns)) }
     ensures few { IfOk result (λ t. t.turns ≤ 2000000) }
-    ensures refused { (i : AnyInput) (f : AnyFault) → result ≡ Err (Stop.Refused i f) → (i ≡ Input.Schedule)
-        × Stops (F.told files.old) name.now (F.given files.new) Input.Schedule f }
+    ensures refused { (names : Names) (i : AnyInput) (f : AnyFault) → result ≡ Err (Stop.Refused i f) → (i ≡ Input.Schedule)
+        × Stops (F.told files.old) name.now (F.given files.new) (record_of names) Input.Schedule f }
     ensures unread { (i : AnyInput) → result ≡ Err (Stop.Unread i) → (i ≡ Input.Schedule) × Rose (F.faults files.old) (F.faults files.new) }
     ensures accepted { (turns : ReadTurns) → IsAcceptedSchedule (F.told files.old name.now) turns → (i : AnyInput) (f : AnyFault) → result ≢ Err (Stop.Refused i f) }
     ensures opened_once { F.opens files.new ≡ F.opens files.old + 1 }
@@ -128,27 +129,27 @@ fn read_schedule<F: Files>(alloc: Global, files: &mut F, name: &str) -> Result<T
     }
 }
 
-/// Reads the program and judges it.
-fn read_accepted_program<F: Files>(alloc: Global, files: &mut F, name: &str) -> Result<Parsed, Stop>
+/// Reads a program.
+pub fn read_parsed<F: Files>(alloc: Global, files: &mut F, name: &str) -> Result<Parsed, Stop>
     requires allowed { IsTrue (F.may files.old (F.opens files.old) name.now) }
     requires countable { F.opens files.old < 2 ^ 64 - 1 }
-    ensures read { IfOk result (λ p. (s : Text) × IsReadAs (F.told files.old) name.now s × IsProgramText s (program_of p.program)) }
-    ensures refused { (i : AnyInput) (f : AnyFault) → result ≡ Err (Stop.Refused i f) → (i ≡ Input.Program)
-        × Stops (F.told files.old) name.now (F.given files.new) Input.Program f }
+    ensures read { IfOk result (λ p. (s : Text) × IsReadAs (F.told files.old) name.now s × IsParsed s p.names (program_of p.program)) }
+    ensures grammatical { IfOk result (λ p. IsGrammatical (program_of p.program)) }
+    ensures spelled { IfOk result (λ p. is_spelled p.names (program_of p.program) ≡ true) }
+    ensures refused { (r : Request) (i : AnyInput) (f : AnyFault) → result ≡ Err (Stop.Refused i f) → (i ≡ Input.Program)
+        × Stops (F.told files.old) name.now (F.given files.new) r Input.Program f }
     ensures unread { (i : AnyInput) → result ≡ Err (Stop.Unread i) → (i ≡ Input.Program) × Rose (F.faults files.old) (F.faults files.new) }
-    ensures accepted { (p : ProgramTree) → IsAcceptedProgram (F.told files.old name.now) p → (i : AnyInput) (f : AnyFault) → result ≢ Err (Stop.Refused i f) }
+    ensures same { (s : Text) (names : List Text) (p : ProgramTree) → F.told files.old name.now ≡ Some s → length s ≤ most_bytes → IsParsed s names p
+        → IfOk result (λ q. program_of q.program ≡ p) }
+    ensures accepted { IsAcceptedText (F.told files.old name.now) → (i : AnyInput) (f : AnyFault) → result ≢ Err (Stop.Refused i f) }
     ensures opened_once { F.opens files.new ≡ F.opens files.old + 1 }
     ensures faults_stay_or_rise { F.faults files.old ≤ F.faults files.new }
     ensures same_texts { F.told files.new ≡ F.told files.old }
     ensures same_leave { F.may files.new ≡ F.may files.old }
 {
     let text = read_input(alloc, files, Input::Program, name)?;
-    let parsed = match read_program(alloc, &text) {
-        Ok(parsed) => parsed,
-        Err(refusal) => return Err(stop_at_program(refusal)),
-    };
-    match judge(alloc, &parsed) {
-        Ok(()) => Ok(parsed),
+    match read_program(alloc, &text) {
+        Ok(parsed) => Ok(parsed),
         Err(refusal) => Err(stop_at_program(refusal)),
     }
 }
@@ -160,19 +161,23 @@ pub fn record_inputs<F: Files>(
     names: FileNames<'_>,
 ) -> Result<Recorded, Stop>
     requires countable { F.opens files.old < 2 ^ 64 - 4 }
-    requires allowed { MayOpen (F.may files.old) (F.opens files.old) (names_of names) }
-    ensures recorded { IfOk result (λ r. IsRecordOf (F.told files.old) (names_of names.entry) r.text.items r.quiet) }
+    requires allowed { MayOpen (F.may files.old) (F.opens files.old) (record_of (names_of names)) }
+    ensures recorded { IfOk result (λ r. IsRecordOf (F.told files.old) (names_of names.entry) r.text.items r.status) }
     ensures refused { (i : AnyInput) (f : AnyFault) → result ≡ Err (Stop.Refused i f)
-        → IsRefused (F.told files.old) (names_of names.entry) (F.given files.new) i f × (F.opens files.new ≡ F.opens files.old + number_of i) }
+        → IsRefused (F.told files.old) (record_of (names_of names.entry)) (F.given files.new) i f × (F.opens files.new ≡ F.opens files.old + number_of i) }
     ensures unread { (i : AnyInput) → result ≡ Err (Stop.Unread i)
-        → AcceptsBefore (F.told files.old) (names_of names.entry) i × Rose (F.faults files.old) (F.faults files.new) × (F.opens files.new ≡ F.opens files.old + number_of i) }
+        → AcceptsBefore (F.told files.old) (record_of (names_of names.entry)) i × Rose (F.faults files.old) (F.faults files.new) × (F.opens files.new ≡ F.opens files.old + number_of i) }
     ensures accepted { (p : ProgramTree) (turns : ReadTurns) → IsAcceptedAsTold (F.told files.old) (names_of names.entry) p turns
         → (i : AnyInput) (f : AnyFault) → result ≢ Err (Stop.Refused i f) }
     ensures faults_stay_or_rise { F.faults files.old ≤ F.faults files.new }
 {
-    let parsed = match read_accepted_program(alloc, files, names.program) {
+    let parsed = match read_parsed(alloc, files, names.program) {
         Ok(parsed) => parsed,
         Err(stop) => return Err(stop),
+    };
+    let checked = match judge(alloc, &parsed) {
+        Ok(checked) => checked,
+        Err(refusal) => return Err(stop_at_program(refusal)),
     };
     if let Err(stop) = read_placement(alloc, files, names.placement) {
         return Err(stop);
@@ -181,7 +186,7 @@ pub fn record_inputs<F: Files>(
         Ok(turns) => turns,
         Err(stop) => return Err(stop),
     };
-    match record(alloc, &parsed.program, turns.turns) {
+    match record(alloc, &checked, turns) {
         Ok(recorded) => Ok(recorded),
         Err(AllocError) => Err(Stop::Memory),
     }

@@ -2,12 +2,25 @@
 #![tactic(auto)]
 
 mod command;
+#[cfg(test)]
+mod failing_tests;
 mod fault;
+#[cfg(test)]
+mod fault_rows;
+#[cfg(test)]
+mod fault_tests;
+mod form;
+#[cfg(test)]
+mod front_rows;
 mod inputs;
 mod kept;
 mod placement;
 mod program;
 mod run;
+#[cfg(test)]
+mod run_rows;
+#[cfg(test)]
+mod run_tests;
 mod schedule;
 mod status;
 #[cfg(test)]

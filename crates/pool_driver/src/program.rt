@@ -1,20 +1,21 @@
 //! Reads a program and judges it: its tokens, its grammar, its classes, its form.
-ghost use Rattle.std.specs.Prelude.{◌≡◌, ◌≢◌, ◌≤◌, List, length, true, [], IfOk, IsOk, MatchResult, Err};
+ghost use Rattle.std.specs.Prelude.{◌≡◌, ◌≢◌, ◌≤◌, List, length, true, [], IfOk, MatchResult, Err};
 ghost use Rattle.pool_syntax.specs.Terms.{ProgramTree};
 ghost use Rattle.pool_syntax.specs.Tokens.{Text};
-ghost use Rattle.pool_syntax.specs.TreeOf.{program_of, statement_of, statements_of};
+ghost use Rattle.pool_syntax.specs.TreeOf.{program_of};
 ghost use Rattle.pool_syntax.specs.Spelled.{IsGrammatical, is_spelled};
 ghost use Rattle.pool_syntax.specs.Typing.{faults};
-ghost use Rattle.pool_semantics.specs.Writing.{is_write, is_writer, writes_integers};
+ghost use Rattle.pool_driver.specs.Served.{is_served};
 ghost use Rattle.pool_driver.specs.Stops.{refusal_of_grammar, refusal_of_tokens};
-ghost use Rattle.pool_driver.specs.Programs.{IsFaultOfProgram, IsParsed, IsProgramText};
+ghost use Rattle.pool_driver.specs.Programs.{IsFaultOfProgram, IsFaultOfText, IsParsed};
 ghost use Rattle.pool_driver.specs.declared.fault.Fault.{Fault as AnyFault};
 
 use crate::fault::Fault;
-use class_check::{ClassFault, check};
+use crate::form::serves;
+use class_check::{Checked, ClassFault, check};
 use pool_lexer::tokens;
 use pool_parser::{SyntaxFault, parse};
-use pool_syntax::{Expr, LexFault, Names, Program, Stmt};
+use pool_syntax::{LexFault, Names, Program};
 use std::alloc::Global;
 
 /// Why a program is not run.
@@ -57,7 +58,7 @@ pub fn read_program(alloc: Global, bytes: &[u8]) -> Result<Parsed, Refusal>
     ensures ok { IfOk result (λ p. IsParsed bytes.now p.names (program_of p.program)) }
     ensures grammatical { IfOk result (λ p. IsGrammatical (program_of p.program)) }
     ensures spelled { IfOk result (λ p. is_spelled p.names (program_of p.program) ≡ true) }
-    ensures refused { (f : AnyFault) → result ≡ Err (Refusal.Because f) → IsFaultOfProgram bytes.now f }
+    ensures refused { (f : AnyFault) → result ≡ Err (Refusal.Because f) → IsFaultOfText bytes.now f }
     ensures only { (names : List Text) (p : ProgramTree) → IsParsed bytes.now names p
         → MatchResult result (λ q. (q.names ≡ names) × (program_of q.program ≡ p)) (λ r. r ≡ Refusal.Memory) }
 {
@@ -74,55 +75,22 @@ pub fn read_program(alloc: Global, bytes: &[u8]) -> Result<Parsed, Refusal>
     }
 }
 
-fn is_integer_write(stmt: &Stmt) -> bool
-    ensures { result ≡ is_write (statement_of stmt.now) }
-{
-    match stmt {
-        Stmt::Write { value } => matches!(value, Expr::Int { .. }),
-        _ => false,
-    }
-}
-
-fn writes_only(body: &[Stmt]) -> bool
-    ensures { result ≡ writes_integers (statements_of body.now) }
-{
-    for stmt in body {
-        if !is_integer_write(stmt) {
-            return false;
-        }
-    }
-    true
-}
-
-/// Whether the program is of the form that is run: one class without variables and methods, whose body writes integers.
-fn is_served(program: &Program) -> bool
-    ensures { result ≡ is_writer (program_of program.now) }
-{
-    match program.classes.items() {
-        [class] => {
-            class.vars.items().is_empty()
-                && class.methods.items().is_empty()
-                && writes_only(class.body.items())
-        }
-        _ => false,
-    }
-}
-
 /// Judges a program that was read: its classes, and then its form.
-pub fn judge(alloc: Global, parsed: &Parsed) -> Result<(), Refusal>
+pub fn judge<'a>(alloc: Global, parsed: &'a Parsed) -> Result<Checked<'a>, Refusal>
     requires grammatical { IsGrammatical (program_of parsed.now.program) }
     requires spelled { is_spelled parsed.now.names (program_of parsed.now.program) ≡ true }
-    ensures ok { IsOk result → (faults (program_of parsed.now.program) ≡ []) × (is_writer (program_of parsed.now.program) ≡ true) }
-    ensures only { faults (program_of parsed.now.program) ≡ [] → is_writer (program_of parsed.now.program) ≡ true → (f : AnyFault) → result ≢ Err (Refusal.Because f) }
-    ensures refused { (s : Text) (f : AnyFault) → IsParsed s parsed.now.names (program_of parsed.now.program) → result ≡ Err (Refusal.Because f) → IsFaultOfProgram s f }
+    ensures same { IfOk result (λ c. c.program.now ≡ parsed.now.program) }
+    ensures form { IfOk result (λ c. is_served (program_of c.program.now) ≡ true) }
+    ensures only { faults (program_of parsed.now.program) ≡ [] → is_served (program_of parsed.now.program) ≡ true → (f : AnyFault) → result ≢ Err (Refusal.Because f) }
+    ensures refused { (f : AnyFault) → result ≡ Err (Refusal.Because f) → IsFaultOfProgram (program_of parsed.now.program) f }
 {
-    match check(alloc, &parsed.program, &parsed.names) {
-        Ok(_) => {}
+    let checked = match check(alloc, &parsed.program, &parsed.names) {
+        Ok(checked) => checked,
         Err(ClassFault::Memory) => return Err(Refusal::Memory),
         Err(fault) => return Err(Refusal::Because(Fault::Class(fault))),
-    }
-    if is_served(&parsed.program) {
-        Ok(())
+    };
+    if serves(&parsed.program) {
+        Ok(checked)
     } else {
         Err(Refusal::Because(Fault::NotYet))
     }

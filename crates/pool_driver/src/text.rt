@@ -1,10 +1,10 @@
 //! The text of a record's lines.
 ghost use Rattle.std.specs.Prelude.{◌≡◌, ◌++◌, OnOk, decimal};
 ghost use Rattle.std.specs.Fmt.{signed_decimal};
-ghost use Rattle.pool_driver.specs.RecordText.{end_text, event_text, item_text, line_text, object_text, value_text, what_text};
+ghost use Rattle.pool_driver.specs.RecordText.{end_text, error_text, event_text, full_text, item_text, line_text, object_text, space, value_text, what_text};
 
 use itoa::Buffer;
-use pool_syntax::{End, Event, Item, Label, Line, Value, What};
+use pool_syntax::{End, Error, Event, FullKind, Item, Label, Line, Value, What};
 use std::alloc::AllocError;
 
 fn push_number(text: &mut Vec<u8>, number: u32) -> Result<(), AllocError>
@@ -54,18 +54,51 @@ fn push_item(text: &mut Vec<u8>, item: Item) -> Result<(), AllocError>
     }
 }
 
-fn push_what(text: &mut Vec<u8>, what: &What) -> Result<(), AllocError>
-    ensures { OnOk result (text.new.items ≡ text.old.items ++ what_text what.now) }
+fn push_error(text: &mut Vec<u8>, error: Error) -> Result<(), AllocError>
+    ensures { OnOk result (text.new.items ≡ text.old.items ++ error_text error) }
+{
+    match error {
+        Error::NilDestination => text.extend_from_slice(b"NilDestination"),
+        Error::NilOperand => text.extend_from_slice(b"NilOperand"),
+        Error::Overflow => text.extend_from_slice(b"Overflow"),
+        Error::ZeroDivisor => text.extend_from_slice(b"ZeroDivisor"),
+        Error::NoOpenGuard => text.extend_from_slice(b"NoOpenGuard"),
+    }
+}
+
+/// Puts words and an object's name, with a space behind it.
+fn push_about(text: &mut Vec<u8>, words: &[u8], object: u32) -> Result<(), AllocError>
+    ensures { OnOk result (text.new.items ≡ text.old.items ++ (words.now ++ (object_text object ++ space))) }
+{
+    text.extend_from_slice(words)?;
+    push_object(text, object)?;
+    text.extend_from_slice(b" ")
+}
+
+fn push_what(text: &mut Vec<u8>, what: What) -> Result<(), AllocError>
+    ensures { OnOk result (text.new.items ≡ text.old.items ++ what_text what) }
 {
     match what {
+        What::Step {
+            label: Label::Local { object },
+            times,
+        } => {
+            push_about(text, b"local ", object)?;
+            push_number(text, times)
+        }
         What::Step {
             label: Label::Write { object, item },
             ..
         } => {
-            text.extend_from_slice(b"write ")?;
-            push_object(text, *object)?;
-            text.extend_from_slice(b" ")?;
-            push_item(text, *item)
+            push_about(text, b"write ", object)?;
+            push_item(text, item)
+        }
+        What::Step {
+            label: Label::Fault { object, error },
+            ..
+        } => {
+            push_about(text, b"fault ", object)?;
+            push_error(text, error)
         }
         _ => Ok(()),
     }
@@ -95,13 +128,28 @@ fn push_counted(text: &mut Vec<u8>, words: &[u8], count: u32) -> Result<(), Allo
     push_number(text, count)
 }
 
+fn push_full(text: &mut Vec<u8>, kind: FullKind) -> Result<(), AllocError>
+    ensures { OnOk result (text.new.items ≡ text.old.items ++ full_text kind) }
+{
+    match kind {
+        FullKind::Heap => text.extend_from_slice(b"heap "),
+        FullKind::Frames => text.extend_from_slice(b"frames "),
+        FullKind::Cells => text.extend_from_slice(b"cells "),
+    }
+}
+
 fn push_end(text: &mut Vec<u8>, end: End) -> Result<(), AllocError>
     ensures { OnOk result (text.new.items ≡ text.old.items ++ end_text end) }
 {
     match end {
         End::Quiet { done } => push_counted(text, b"end quiet ", done),
         End::Schedule { done } => push_counted(text, b"end schedule ", done),
-        End::Full { .. } => Ok(()),
+        End::Full { kind, node, done } => {
+            text.extend_from_slice(b"end full ")?;
+            push_full(text, kind)?;
+            push_number(text, node)?;
+            push_counted(text, b" ", done)
+        }
     }
 }
 
@@ -119,7 +167,7 @@ pub fn push_line(text: &mut Vec<u8>, line: &Line) -> Result<(), AllocError>
             text.extend_from_slice(b" ")?;
             push_event(text, *event)?;
             text.extend_from_slice(b" ")?;
-            push_what(text, what)?;
+            push_what(text, *what)?;
         }
         Line::End(end) => push_end(text, *end)?,
     }

@@ -1,7 +1,5 @@
 mod Rows
 pub mod Runs
-pub mod Writing
-pub mod Alone
 pub mod Quiet
 pub mod Searched
 pub mod TypedTerm
@@ -42,3 +40,23 @@ pub mod Grammatical
 mod NotEnough
 mod Meets
 pub mod Grown
+pub mod Plugged
+pub mod Layers
+pub mod Weights
+pub mod Views
+pub mod Lengths
+pub mod Acting
+pub mod Changing
+pub mod Stored
+pub mod Labels
+pub mod Offering
+pub mod Mailing
+pub mod Posting
+pub mod Queued
+pub mod TypedFacts
+pub mod AlwaysShown
+pub mod RootClass
+pub mod Merely
+pub mod SoundSteps
+pub mod Frames
+pub mod FrameCounts

@@ -15,7 +15,7 @@ use Rattle.pool_semantics.specs.Action as A
 use Rattle.pool_semantics.specs.Action.{Object, Action, action}
 use Rattle.pool_semantics.specs.Transition.{◌>>=◌, transition, offer, running, local_step, makes, calls, posts, returns, waits_on, writes, fails, picked, plain_choice}
 use Rattle.pool_semantics.specs.Ready.{is_ready, is_open_plain}
-use Rattle.pool_semantics.specs.Writing.{alone}
+use Rattle.pool_semantics.specs.Alone.{alone}
 
 -- what an object that is not ready does not do
 

@@ -8,7 +8,7 @@ ghost use Rattle.pool_semantics.specs.Action as A;
 ghost use Rattle.pool_semantics.specs.Action.{Object, action};
 ghost use Rattle.pool_semantics.specs.Configuration.{Configuration, object_of};
 ghost use Rattle.pool_semantics.specs.Ready.{is_ready};
-ghost use Rattle.pool_semantics.specs.Writing.{alone};
+ghost use Rattle.pool_semantics.specs.Alone.{alone};
 ghost use Rattle.pool_semantics.specs.Transition.{transition, run, start};
 ghost use Rattle.pool_semantics.specs.Typed.{GoesWrong};
 ghost use Rattle.pool_semantics.specs.WellFormed.{is_written, WellTyped};

@@ -1,167 +1,160 @@
-//! A stepper of one object that writes integers.
-ghost use Rattle.std.specs.Prelude.{◌≡◌, ◌≢◌, ◌⊎◌, ◌≤◌, ◌<◌, ◌^◌, true, false, Some, None, OnOk, IfOk, IsSome, IsTrue};
-ghost use Rattle.pool_syntax.specs.TreeOf.{program_of, statements_of, statement_of};
-ghost use Rattle.pool_syntax.specs.declared.words.Item.{Item as WrittenItem};
-ghost use Rattle.pool_semantics.specs.Transition.{start, transition};
-ghost use Rattle.pool_semantics.specs.Writing.{is_writer, is_write, body_of, count_of, item_of};
+//! The plain stepper: it makes the transitions of the relation, one label at a time.
+mod act;
+mod change;
+mod enter;
+mod frames;
+mod lookup;
+mod mail;
+mod objects;
+mod offers;
+mod operators;
+mod parts;
+mod redex;
+mod seek;
+mod state;
+mod steps;
+mod thing;
+mod work;
 
-use pool_syntax::{Args, Error, Expr, Item, Label, NameId, Program, Stmt, Value};
+ghost use Rattle.std.specs.Prelude.{◌≡◌, false};
+ghost use Rattle.pool_syntax.specs.TreeOf.{program_of};
+ghost use Rattle.pool_semantics.specs.Plains.{configuration};
+ghost use Rattle.pool_semantics.specs.Sound.{Sound};
+ghost use Rattle.pool_semantics.specs.Asked.{asked_of};
+
+use crate::plain::act::Act;
+use crate::plain::objects::add;
+pub use crate::plain::redex::Redex;
+use crate::plain::state::State;
+use crate::plain::thing::Thing;
+use class_check::Checked;
+use pool_syntax::Label;
 use std::alloc::{AllocError, Global};
+use std::collections::BTreeMap;
 
-/// What an object does next, as far as it is shown.
-#[derive(Clone, Copy, Debug, PartialEq, Eq)]
-pub enum Redex {
-    /// No object has the name.
-    NoObject,
-    /// Nothing is left to do.
-    Finished,
-    /// A language error was met.
-    Faulted,
-    Local,
-    New { class: NameId },
-    Send { to: u32, method: NameId, args: Args },
-    Async { to: u32, method: NameId, args: Args },
-    Write { item: Item },
-    Answer,
-    Select,
-    Return { value: Value },
-    Waits { on: u32 },
-    /// A language error is met next.
-    Fault { error: Error },
-}
-
-/// Why a label was not made.
+/// Why a label was not applied.
 #[derive(Clone, Copy, Debug, PartialEq, Eq)]
 pub enum Refuse {
-    /// The label is no transition of the configuration; of an answer, a return and a take the redex is the receiver's, else that of the label's object.
+    /// The label is no transition of the configuration. The redex is that of the receiver for Answer, Return and Take,
+    /// and of the label's object for every other label.
     NotPossible { redex: Redex },
+    /// There was not enough memory. The Plain is spent.
     Memory,
 }
 
-/// A configuration of one object, and the program that it runs.
-#[derive(Clone, Copy)]
+/// A typed configuration of a checked program, until it is spent.
+#[derive(Drop)]
 pub struct Plain<'a> {
-    program: &'a Program,
-    root: u32,
-    at: usize,
-    ghost form: { is_writer (program_of program.now) ≡ true },
-    ghost within: { at ≤ count_of (body_of (program_of program.now)) },
+    state: State<'a>,
+    spent: bool,
+    ghost typed: { ∥ (spent ≡ false → Sound (program_of state.program.now) (configuration state)) ∥₁ },
+}
+
+/// The object whose redex tells why the label is not possible.
+fn asked(label: &Label) -> u32
+    ensures { result ≡ asked_of label.now }
+{
+    match *label {
+        Label::Answer { receiver, .. }
+        | Label::Return { receiver, .. }
+        | Label::Take { receiver, .. } => receiver,
+        Label::Local { object }
+        | Label::New { object, .. }
+        | Label::Send { object, .. }
+        | Label::Write { object, .. }
+        | Label::Pick { object, .. }
+        | Label::Fault { object, .. } => object,
+    }
 }
 
 impl<'a> Plain<'a> {
-    ghost use Rattle.pool_semantics.specs.PlainOf.{configuration_of, program_tree, written_at};
+    ghost use Rattle.std.specs.Prelude.{Some, None, Err, IfOk, OnOk, true};
+    ghost use Rattle.pool_semantics.specs.Action.{Object, action};
+    ghost use Rattle.pool_semantics.specs.Configuration.{object_of};
+    ghost use Rattle.pool_semantics.specs.PlainOf.{configuration_of, program_tree, is_spent, frames_next};
+    ghost use Rattle.pool_semantics.specs.Typed.{GoesWrong};
+    ghost use Rattle.pool_semantics.specs.WellFormed.{WellTyped};
+    ghost use Rattle.pool_semantics.specs.Transition.{transition, start};
     ghost use Rattle.pool_semantics.specs.Shown.{Shows};
 
-    /// The start: one object of the class, under the name `root`.
-    pub fn make(_alloc: Global, program: &'a Program, root: u32) -> Result<Plain<'a>, AllocError>
-        requires { is_writer (program_of program.now) ≡ true }
-        ensures start { IfOk result (λ s. start (program_of program.now) root ≡ Some (configuration_of s)) }
-        ensures program { IfOk result (λ s. program_tree s ≡ program_of program.now) }
+    /// One object of the last class of the text, under this name.
+    pub fn make(alloc: Global, program: &Checked<'a>, root: u32) -> Result<Plain<'a>, AllocError>
+        ensures start { IfOk result (λ s. start (program_of program.now.program.now) root ≡ Some (configuration_of s)) }
+        ensures program { IfOk result (λ s. program_tree s ≡ program_of program.now.program.now) }
+        ensures fresh { IfOk result (λ s. is_spent s ≡ false) }
     {
+        let Some(class) = program.program.classes.items().last() else {
+            return Err(AllocError);
+        };
+        let thing = Thing::make(alloc, class)?;
+        let mut objects = BTreeMap::new(alloc);
+        add(&mut objects, root, thing)?;
         Ok(Plain {
-            program,
-            root,
-            at: 0,
+            state: State {
+                alloc,
+                program: program.program,
+                objects,
+                messages: BTreeMap::new(alloc),
+            },
+            spent: false,
         })
     }
 
-    /// The item that the next statement writes; `None` where the body is over.
-    fn next_item(&self) -> Option<Item>
-        ensures item { result ≡ written_at self.now }
-        ensures more { IsSome result → (self.now.at < count_of (body_of (program_tree self.now))) × (self.now.at < 2 ^ 63) }
-    {
-        let statements = body(self.program);
-        if self.at < statements.len() {
-            Some(written(&statements[self.at]))
-        } else {
-            None
-        }
-    }
-
-    /// What the object does next.
+    /// What the object of this name does next.
     pub fn redex(&self, object: u32) -> Redex
-        ensures shown { Shows (program_tree self.now) (configuration_of self.now) object result }
+        ensures shown { is_spent self.now ≡ false → Shows (program_tree self.now) (configuration_of self.now) object result }
 
-        // Programs of this form do nothing else.
-        ensures form { (result ≡ Redex.NoObject) ⊎ ((result ≡ Redex.Finished) ⊎ ((item : WrittenItem) × (result ≡ Redex.Write item))) }
+        // No object goes wrong.
+        ensures right { is_spent self.now ≡ false → (x : Object) → object_of (configuration_of self.now) object ≡ Some x
+            → ¬ (GoesWrong (program_tree self.now) (configuration_of self.now) object (action (program_tree self.now) object x)) }
     {
-        if object != self.root {
-            return Redex::NoObject;
-        }
-        match self.next_item() {
-            Some(item) => Redex::Write { item },
-            None => Redex::Finished,
+        match self.state.shown(object) {
+            Some(redex) => redex,
+            None => Redex::NoObject,
         }
     }
 
-    /// Whether the label is the write that comes next.
-    fn is_next(&self, label: &Label) -> bool
-        ensures written { IsTrue result → (item : WrittenItem) × (label.now ≡ Label.Write self.now.root item) × (written_at self.now ≡ Some item) }
-        ensures more { IsTrue result → (self.now.at < count_of (body_of (program_tree self.now))) × (self.now.at < 2 ^ 63) }
-        ensures other { result ≡ false → (item : WrittenItem) → written_at self.now ≡ Some item → label.now ≢ Label.Write self.now.root item }
+    /// The number of methods under way in the object after its local transition; None exactly where it has none.
+    pub fn next_frames(&self, object: u32) -> Option<usize>
+        ensures { result ≡ frames_next (program_tree self.now) (configuration_of self.now) object }
     {
-        match label {
-            Label::Write { object, item } => *object == self.root
-                && self.next_item() == Some(*item),
-            _ => false,
+        match self.state.acting(object) {
+            None => None,
+            Some((thing, act)) => match act {
+                Act::Local(change) => Some(thing.work.frames_after(&change)),
+                _ => None,
+            },
         }
     }
 
     /// Makes the label's transition.
     pub fn apply(&mut self, label: &Label) -> Result<(), Refuse>
         ensures made { OnOk result (transition (program_tree self.old) (configuration_of self.old) label.now ≡ Some (configuration_of self.new)) }
-        ensures program { program_tree self.new ≡ program_tree self.old }
         ensures refused { (r : Redex) → result ≡ Err (Refuse.NotPossible r)
             → (transition (program_tree self.old) (configuration_of self.old) label.now ≡ None)
             × (configuration_of self.new ≡ configuration_of self.old)
             × Shows (program_tree self.old) (configuration_of self.old) (asked_of label.now) r }
+        ensures program { program_tree self.new ≡ program_tree self.old }
+        ensures memory { result ≡ Err Refuse.Memory → is_spent self.new ≡ true }
+        ensures typed { is_spent self.new ≡ false → WellTyped (program_tree self.new) (configuration_of self.new) }
+        ensures going_on { (result ≡ Err Refuse.Memory → ⊥) → (is_spent self.old ≡ false) × (is_spent self.new ≡ false) }
     {
-        if !self.is_next(label) {
-            return Err(Refuse::NotPossible {
-                redex: self.redex(asked(label)),
-            });
+        if self.spent {
+            return Err(Refuse::Memory);
         }
-        self.at += 1;
-        Ok(())
-    }
-}
-
-ghost use Rattle.pool_semantics.specs.Shown.{asked_of};
-
-/// The object whose redex a refusal of the label shows.
-fn asked(label: &Label) -> u32
-    ensures { result ≡ asked_of label.now }
-{
-    match label {
-        Label::Local { object } => *object,
-        Label::New { object, .. } => *object,
-        Label::Answer { receiver, .. } => *receiver,
-        Label::Return { receiver, .. } => *receiver,
-        Label::Send { object, .. } => *object,
-        Label::Take { receiver, .. } => *receiver,
-        Label::Write { object, .. } => *object,
-        Label::Pick { object, .. } => *object,
-        Label::Fault { object, .. } => *object,
-    }
-}
-
-/// The body of the one class.
-fn body<'a>(program: &'a Program) -> &'a [Stmt]
-    requires { is_writer (program_of program.now) ≡ true }
-    ensures { statements_of result.now ≡ body_of (program_of program.now) }
-{
-    program.classes.items()[0].body.items()
-}
-
-/// The item that a statement writes.
-fn written(stmt: &Stmt) -> Item
-    requires { is_write (statement_of stmt.now) ≡ true }
-    ensures { item_of (statement_of stmt.now) ≡ Some result }
-{
-    match stmt {
-        Stmt::Write {
-            value: Expr::Int { value, .. },
-        } => Item::Value(Value::Int(*value)),
-        _ => unreachable!(),
+        match self.state.step(label) {
+            Err(_) => {
+                self.spent = true;
+                Err(Refuse::Memory)
+            }
+            Ok(made) => {
+                if made {
+                    return Ok(());
+                }
+                Err(Refuse::NotPossible {
+                    redex: self.redex(asked(label)),
+                })
+            }
+        }
     }
 }

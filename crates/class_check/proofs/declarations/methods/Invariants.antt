@@ -10,5 +10,5 @@ use Rattle.class_check.proofs.declarations.methods.Given as goal
 -- noting the rest gives what noting all gives
 abbrev pub invariant-loop-i : goal.invariant-loop-i
 invariant-loop-i l =
-    noted (found_of l.first) (methods_faults (scope_of l.scope) (names_before (λ m. m.name.name.0) [] (take l.i l.methods)) (map method_tree (drop l.i l.methods)))
-    ≡ noted (found_of l.initial.first) (methods_faults (scope_of l.scope) [] (map method_tree l.methods))
+    noted (found_of l.first) (methods_faults (scope_of l.scope) (names_before (λ m. m.name.name.0) [] (take l.i l.scope.own.now.methods)) (map method_tree (drop l.i l.scope.own.now.methods)))
+    ≡ noted (found_of l.initial.first) (methods_faults (scope_of l.scope) [] (map method_tree l.scope.own.now.methods))

@@ -10,5 +10,5 @@ use Rattle.class_check.proofs.declarations.variables.Given as goal
 -- noting the rest gives what noting all gives
 abbrev pub invariant-loop-i : goal.invariant-loop-i
 invariant-loop-i l =
-    noted (found_of l.first) (vars_faults (map class_tree l.classes) (twice_number l.owner) (names_before (λ v. v.name.0) (names_before (λ v. v.name.0) [] l.before) (take l.i l.vars)) (drop l.i l.vars))
-    ≡ noted (found_of l.initial.first) (vars_faults (map class_tree l.classes) (twice_number l.owner) (names_before (λ v. v.name.0) [] l.before) l.vars)
+    noted (found_of l.first) (vars_faults (map class_tree l.classes.list.now) (twice_number l.owner) (names_before (λ v. v.name.0) (names_before (λ v. v.name.0) [] l.before.list.now) (take l.i l.vars.list.now)) (drop l.i l.vars.list.now))
+    ≡ noted (found_of l.initial.first) (vars_faults (map class_tree l.classes.list.now) (twice_number l.owner) (names_before (λ v. v.name.0) [] l.before.list.now) l.vars.list.now)

@@ -7,13 +7,13 @@ use Rattle.class_check.proofs.Trees.{if_tree, while_tree, select_tree}
 use Rattle.class_check.proofs.StatementParts.{async_noted, statement_noted, alternative_noted}
 use Rattle.class_check.proofs.statements.+statements.Goals as goal
 
-pub statement-returns-in-If : goal.statement-returns-in-If
-statement-returns-in-If t c =
+pub statement-returns-in_ok-statements-in-If-2 : goal.statement-returns-in_ok-statements-in-If-2
+statement-returns-in_ok-statements-in-If-2 t c =
     let e : statement_of c.args.stmt.now ≡ If (expression_of c.in-If.cond) (statements_of c.in-If.yes) (statements_of c.in-If.no) = ap statement_of c.in-If.is ∙ if_tree c.in-If.cond c.in-If.yes c.in-If.no in
     rw e (grind (arith, noted_append))
 
-pub statement-returns-in-While : goal.statement-returns-in-While
-statement-returns-in-While t c =
+pub statement-returns-in_ok-statements-in-While : goal.statement-returns-in_ok-statements-in-While
+statement-returns-in_ok-statements-in-While t c =
     let e : statement_of c.args.stmt.now ≡ While (expression_of c.in-While.cond) (statements_of c.in-While.body) = ap statement_of c.in-While.is ∙ while_tree c.in-While.cond c.in-While.body in
     rw e (grind (arith, noted_append))
 
@@ -30,7 +30,7 @@ statement-returns-in-Async t c =
 
 pub statements-loop-stmt-preserved : goal.statements-loop-stmt-preserved
 statements-loop-stmt-preserved t c =
-    statement_noted (scope_of c.args.scope.now) c.args.stmts.now c.loop-stmt.stmt-index c.stmt-item.result c.loop-stmt.first c.statement.new.first (omega arith) c.stmt-item.is c.statement.ensures
+    statement_noted (scope_of c.args.scope.now) c.args.stmts.now c.loop-stmt.stmt-index c.stmt-item.result c.loop-stmt.first c.statement.new.first (omega arith) c.stmt-item.is c.in_ok-statement.ensures
     ∙ c.loop-stmt.invariant
 
 pub alternatives-loop-alt-preserved : goal.alternatives-loop-alt-preserved

@@ -6,7 +6,7 @@ use Rattle.pool_driver.specs.Outcomes.{faulty}
 use Rattle.pool_driver.proofs.inputs.read_placement.Goals as goal
 
 pub returns-clause-refused : goal.returns-clause-refused
-returns-clause-refused g c i f e =
+returns-clause-refused g c names i f e =
     let at : i ≡ I.Placement = cc in
     let fault : f ≡ F.NotYet = cc in
     let other : is_one_node c.in_ok-text.text.items ≡ false = cc in

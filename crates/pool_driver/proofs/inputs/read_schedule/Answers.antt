@@ -6,7 +6,7 @@ use Rattle.pool_driver.specs.Outcomes.{faulty}
 use Rattle.pool_driver.proofs.inputs.read_schedule.Goals as goal
 
 pub returns-clause-refused : goal.returns-clause-refused
-returns-clause-refused g c i f e =
+returns-clause-refused g c names i f e =
     let at : i ≡ I.Schedule = cc in
     let fault : f ≡ F.NotYet = cc in
     let other : schedule_of c.in_ok-text.text.items ≡ None = cc in

@@ -1,0 +1,72 @@
+//! The first place of each name in a list.
+ghost use Rattle.std.specs.Prelude.{◌≡◌, ℕ, nat_eq, IfOk, OnOk};
+ghost use Rattle.std.specs.HashMap.{get};
+ghost use Rattle.class_check.specs.Index.{IsIndex, place_with};
+
+use crate::named::HasName;
+use pool_syntax::NameId;
+use std::alloc::{AllocError, Global};
+use std::collections::HashMap;
+
+/// A list whose items are found by their names.
+#[derive(Drop)]
+pub struct Index<'a, T: HasName> {
+    pub list: &'a [T],
+    pub places: &'a HashMap<u32, usize>,
+    pub ghost indexed: { IsIndex T.name places.now list.now },
+}
+
+/// Adds the place to a name that has none yet.
+fn add(places: &mut HashMap<u32, usize>, name: NameId, place: usize) -> Result<(), AllocError>
+    ensures { OnOk result ((n : ℕ) → get nat_eq places.new n ≡ place_with (get nat_eq places.old n) name.0 place n) }
+{
+    if !places.contains_key(&name.0) {
+        places.insert(name.0, place)?;
+    }
+    Ok(())
+}
+
+/// The first place of each name.
+pub fn places_of<T: HasName>(alloc: Global, list: &[T]) -> Result<HashMap<u32, usize>, AllocError>
+    ensures { IfOk result (λ places. IsIndex T.name places list.now) }
+{
+    let mut places = HashMap::new(alloc);
+    for (i, item) in list.iter().enumerate() {
+        add(&mut places, item.name(), i)?;
+    }
+    Ok(places)
+}
+
+impl<'a, T: HasName> Index<'a, T> {
+    ghost use Rattle.std.specs.Prelude.{◌≡◌, ◌==◌, find, take};
+    ghost use Rattle.std.specs.List.{list_any};
+    ghost use Rattle.std.specs.Option.{option_copied};
+    ghost use Rattle.class_check.specs.Index.{place_of};
+
+    /// The place of the first item of this name.
+    pub fn place(&self, name: NameId) -> Option<usize>
+        ensures { result ≡ place_of T.name self.now.list.now name.0 }
+    {
+        self.places.get(&name.0).copied()
+    }
+
+    /// The first item of this name.
+    pub fn first(&self, name: NameId) -> Option<&'a T>
+        ensures { option_copied result ≡ find (λ x. T.name x == name.0) self.now.list.now }
+    {
+        match self.place(name) {
+            Some(place) => self.list.get(place),
+            None => None,
+        }
+    }
+
+    /// Whether an item before the place has this name.
+    pub fn is_before(&self, place: usize, name: NameId) -> bool
+        ensures { result ≡ list_any (λ x. T.name x == name.0) (take place self.now.list.now) }
+    {
+        match self.place(name) {
+            Some(first) => first < place,
+            None => false,
+        }
+    }
+}

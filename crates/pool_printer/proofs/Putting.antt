@@ -1,0 +1,123 @@
+-- What is put one text after another.
+use Rattle.std.proofs.Common.{◌≡◌, refl, sym, ap, ◌∙◌, ℕ, suc, ◌+◌, ◌≤◌, inl, inr, List, [], ◌∷◌, ◌++◌, length, take, Bool, true, false, Option, Some, None, option_map, append_assoc, subst, arith}
+use Rattle.std.proofs.lemmas.Grind.{common_steps}
+use Rattle.pool_outside.specs.Outside.{Rose}
+use Rattle.pool_syntax.specs.Tokens.{Text}
+use Rattle.pool_syntax.specs.declared.token.Tok.{Tok}
+use Rattle.pool_printer.specs.Canonical.{gap, text_behind}
+use Rattle.pool_printer.specs.Saying.{State, Puts, whole, cut, idle, Prints, last_of}
+use Rattle.pool_printer.specs.Spelling.{spelling}
+
+joined : (s t : Text) (a b c : Option Text) → b ≡ option_map (λ w. w ++ s) a → c ≡ option_map (λ w. w ++ t) b → c ≡ option_map (λ w. w ++ (s ++ t)) a
+joined s t None b c e f = f ∙ ap (option_map (λ w. w ++ t)) e
+joined s t (Some w) b c e f = f ∙ ap (option_map (λ w. w ++ t)) e ∙ ap Some (append_assoc w s t)
+
+same_text : (s t : Text) (a b : Option Text) → s ≡ t → b ≡ option_map (λ w. w ++ s) a → b ≡ option_map (λ w. w ++ t) a
+same_text s t a b e f = f ∙ ap (λ u. option_map (λ w. w ++ u) a) e
+
+front_of_first : (n : ℕ) (s t : Text) → n ≤ length s → take n s ≡ take n (s ++ t)
+front_of_first n s t h = grind (arith, common_steps)
+
+front_of_second : (n : ℕ) (s t : Text) → s ++ take n t ≡ take (length s + n) (s ++ t)
+front_of_second n [] t = let e : 0 + n ≡ n = omega arith in rw e refl
+front_of_second n (x ∷ s) t = let e : suc (length s) + n ≡ suc (length s + n) = omega arith in rw e (ap (λ u. x ∷ u) (front_of_second n s t))
+
+rose_later : (a b c : ℕ) → a ≤ b → Rose b c → Rose a c
+rose_later a b c h (inl r) = inl (omega arith)
+rose_later a b c h (inr r) = inr r
+
+rose_before : (a b c : ℕ) → Rose a b → b ≡ c → Rose a c
+rose_before a b c (inl r) e = inl (omega arith)
+rose_before a b c (inr r) e = inr (omega arith)
+
+-- one text and then another
+pub puts_append : (s t : Text) (a b c : State) → Puts s a b → Puts t b c → Puts (s ++ t) a c
+puts_append s t a b c (whole o p w f) (whole o2 p2 w2 f2) = whole o p2 (joined s t _ _ _ w w2) (omega arith)
+puts_append s t a b c (whole o p w f) (cut n o2 p2 h w2 f2 r) =
+    cut (length s + n) o p2 (grind (arith, common_steps)) (same_text _ _ _ _ (front_of_second n s t) (joined s (take n t) _ _ _ w w2)) (omega arith) (rose_later _ _ _ f r)
+puts_append s t a b c (whole o p w f) (idle o2 p2 w2 f2) = absurd (cc)
+puts_append s t a b c (cut n o p h w f r) (whole o2 p2 w2 f2) = absurd (cc)
+puts_append s t a b c (cut n o p h w f r) (cut m o2 p2 h2 w2 f2 r2) = absurd (cc)
+puts_append s t a b c (cut n o p h w f r) (idle o2 p2 w2 f2) =
+    cut n o p2 (grind (arith, common_steps)) (same_text _ _ _ _ (front_of_first n s t h) (w2 ∙ w)) (omega arith) (rose_before _ _ _ r (sym f2))
+puts_append s t a b c (idle o p w f) (whole o2 p2 w2 f2) = absurd (cc)
+puts_append s t a b c (idle o p w f) (cut n o2 p2 h w2 f2 r) = absurd (cc)
+puts_append s t a b c (idle o p w f) (idle o2 p2 w2 f2) = idle o p2 (w2 ∙ w) (f2 ∙ f)
+
+append_nothing : (a : Option Text) → a ≡ option_map (λ w. w ++ []) a
+append_nothing None = refl
+append_nothing (Some w) = ap Some (grind (arith, common_steps))
+
+-- the same but for the last token
+like_put : (a b : State) (k : Bool) → a.failed ≡ k → b.failed ≡ a.failed → b.written ≡ a.written → b.faults ≡ a.faults → Puts [] a b
+like_put a b true e h w f = idle e (h ∙ e) w f
+like_put a b false e h w f = whole e (h ∙ e) (w ∙ append_nothing a.written) (omega arith)
+
+puts_like : (a b : State) → b.failed ≡ a.failed → b.written ≡ a.written → b.faults ≡ a.faults → Puts [] a b
+puts_like a b h w f = like_put a b a.failed refl h w f
+
+pub puts_nothing : (a : State) → Puts [] a a
+puts_nothing a = puts_like a a refl refl refl
+
+text_behind-append : (names : List Text) (l : Option Tok) (xs ys : List Tok) → text_behind names l xs ++ text_behind names (last_of l xs) ys ≡ text_behind names l (xs ++ ys)
+text_behind-append names l [] ys = refl
+text_behind-append names l (x ∷ xs) ys =
+    append_assoc (gap l x) (spelling names x ++ text_behind names (Some x) xs) _
+    ∙ ap (λ t. gap l x ++ t) (append_assoc (spelling names x) (text_behind names (Some x) xs) _ ∙ ap (λ t. spelling names x ++ t) (text_behind-append names (Some x) xs ys))
+
+last_of-append : (l : Option Tok) (xs ys : List Tok) → last_of (last_of l xs) ys ≡ last_of l (xs ++ ys)
+last_of-append l [] ys = refl
+last_of-append l (x ∷ xs) ys = last_of-append (Some x) xs ys
+
+-- the same text
+pub puts_same : (s t : Text) (a b : State) → s ≡ t → Puts s a b → Puts t a b
+puts_same s t a b e p = let P : Text → Type 0 = λ u. Puts u a b in subst P e p
+
+-- some tokens and then more
+pub prints_append : (names : List Text) (xs ys : List Tok) (a b c : State) → Prints names xs a b → Prints names ys b c → Prints names (xs ++ ys) a c
+prints_append names xs ys a b c p q = record {
+  last = q.last ∙ ap (λ l. last_of l ys) p.last ∙ last_of-append a.last xs ys;
+  text = puts_same _ _ a c (ap (λ l. text_behind names a.last xs ++ text_behind names l ys) p.last ∙ text_behind-append names a.last xs ys)
+      (puts_append (text_behind names a.last xs) (text_behind names b.last ys) a b c p.text q.text);
+}
+
+-- a token and then more
+pub prints_more : (names : List Text) (x : Tok) (ys : List Tok) (a b c : State) → Prints names (x ∷ []) a b → Prints names ys b c → Prints names (x ∷ ys) a c
+prints_more names x ys a b c p q = prints_append names (x ∷ []) ys a b c p q
+
+pub prints_nothing : (names : List Text) (a : State) → Prints names [] a a
+prints_nothing names a = record { last = refl; text = puts_nothing a }
+
+-- the same tokens
+pub prints_same : (names : List Text) (xs ys : List Tok) (a b : State) → xs ≡ ys → Prints names xs a b → Prints names ys a b
+prints_same names xs ys a b e p = let P : List Tok → Type 0 = λ ts. Prints names ts a b in subst P e p
+
+-- what separates a token from the last one, and its text
+pub said : (names : List Text) (t : Tok) (a b c d : State) → Puts (gap a.last t) a b → Puts (spelling names t) b c → d.last ≡ Some t → d.failed ≡ c.failed → d.written ≡ c.written → d.faults ≡ c.faults → Prints names (t ∷ []) a d
+said names t a b c d p q l h w f = record {
+  last = l;
+  text = puts_append (gap a.last t) (spelling names t ++ []) a b d p
+      (puts_append (spelling names t) [] b c d q (puts_like c d h w f));
+}
+
+-- what a text that was put says of the end
+
+pub put_whole : (t : Text) (a b : State) → Puts t a b → b.failed ≡ false → b.written ≡ option_map (λ w. w ++ t) a.written
+put_whole t a b (whole o p w f) h = w
+put_whole t a b (cut n o p l w f r) h = absurd (cc)
+put_whole t a b (idle o p w f) h = absurd (cc)
+
+pub put_front : (t : Text) (a b : State) → Puts t a b → a.failed ≡ false → b.failed ≡ true → (n : ℕ) × (n ≤ length t) × (b.written ≡ option_map (λ w. w ++ take n t) a.written)
+put_front t a b (whole o p w f) g h = absurd (cc)
+put_front t a b (cut n o p l w f r) g h = (n, l, w)
+put_front t a b (idle o p w f) g h = absurd (cc)
+
+pub put_rose : (t : Text) (a b : State) → Puts t a b → a.failed ≡ false → b.failed ≡ true → Rose a.faults b.faults
+put_rose t a b (whole o p w f) g h = absurd (cc)
+put_rose t a b (cut n o p l w f r) g h = r
+put_rose t a b (idle o p w f) g h = absurd (cc)
+
+pub put_faults : (t : Text) (a b : State) → Puts t a b → a.faults ≤ b.faults
+put_faults t a b (whole o p w f) = f
+put_faults t a b (cut n o p l w f r) = f
+put_faults t a b (idle o p w f) = omega arith

@@ -1,0 +1,14 @@
+use Rattle.std.proofs.Common.{drop, map, [], ◌∷◌}
+use Rattle.pool_syntax.specs.declared.token.Tok.TheVariants.{Name, Sign}
+use Rattle.pool_syntax.specs.declared.token.Sign.TheVariants as sign
+use Rattle.pool_printer.specs.Canonical.{separated_by}
+use Rattle.pool_printer.specs.Saying.{state, from_place}
+use Rattle.pool_printer.proofs.Places.{Rests}
+use Rattle.pool_printer.proofs.statements.list.Given as goal
+
+abbrev pub invariant-loop-i : goal.invariant-loop-i
+invariant-loop-i g l =
+    let written = g.K.Sink.written in
+    let faults = g.K.Sink.faults in
+    Rests l.names (separated_by (Sign sign.Comma) (map (λ n. Name n.name ∷ []) l.list)) (state l.initial.progress (written l.initial.sink) (faults l.initial.sink))
+    (from_place (Sign sign.Comma) l.i (map (λ n. Name n.name ∷ []) (drop l.i l.list))) (state l.progress (written l.sink) (faults l.sink))

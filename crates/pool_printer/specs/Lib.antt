@@ -1,0 +1,9 @@
+pub mod Renumbered
+pub mod Spelling
+pub mod Canonical
+pub mod Known
+pub mod Saying
+pub mod Parts
+pub mod ReadBack
+pub mod Renamed
+pub mod SameProgram

@@ -1,0 +1,188 @@
+//! The tokens of expressions.
+ghost use Rattle.std.specs.Prelude.{◌≡◌, true};
+ghost use Rattle.pool_syntax.specs.TreeOf.{expression_of, expressions_of};
+ghost use Rattle.pool_printer.specs.Canonical.{argument_tokens, bare_tokens, call_tokens, expression_tokens, left_need, level, operator_level, operator_token, right_need, separated_by, truth_token};
+ghost use Rattle.pool_printer.specs.Known.{are_known};
+ghost use Rattle.pool_printer.specs.Saying.{Prints, state};
+ghost use Rattle.pool_syntax.specs.declared.token.Tok.TheVariants.{Sign as SignToken};
+
+use crate::saying::{Progress, say, say_all, separate};
+use pool_outside::Sink;
+use pool_syntax::{Expr, Keyword, NameId, Names, Op, Sign, Tok};
+
+/// The need of a place that takes every expression.
+pub const ANY: u8 = 1;
+
+const PREFIX: u8 = 6;
+
+/// The level of a send, and the need of its destination.
+pub const SEND: u8 = 7;
+
+fn truth_token(value: bool) -> Tok
+    ensures { result ≡ truth_token value }
+{
+    if value {
+        Tok::Word(Keyword::True)
+    } else {
+        Tok::Word(Keyword::False)
+    }
+}
+
+fn operator_token(op: Op) -> Tok
+    ensures { result ≡ operator_token op }
+{
+    match op {
+        Op::Add => Tok::Sign(Sign::Plus),
+        Op::Sub => Tok::Sign(Sign::Minus),
+        Op::Mul => Tok::Sign(Sign::Star),
+        Op::Div => Tok::Sign(Sign::Slash),
+        Op::Rem => Tok::Sign(Sign::Percent),
+        Op::Neg => Tok::Sign(Sign::Minus),
+        Op::Less => Tok::Sign(Sign::Less),
+        Op::LessEq => Tok::Sign(Sign::LessEq),
+        Op::More => Tok::Sign(Sign::More),
+        Op::MoreEq => Tok::Sign(Sign::MoreEq),
+        Op::Same => Tok::Sign(Sign::Equal),
+        Op::Differs => Tok::Sign(Sign::Differs),
+        Op::And => Tok::Word(Keyword::And),
+        Op::Or => Tok::Word(Keyword::Or),
+        Op::Not => Tok::Word(Keyword::Not),
+    }
+}
+
+fn operator_level(op: Op) -> u8
+    ensures { result ≡ operator_level op }
+{
+    match op {
+        Op::Or => 1,
+        Op::And => 2,
+        Op::Same | Op::Differs | Op::Less | Op::LessEq | Op::More | Op::MoreEq => 3,
+        Op::Add | Op::Sub => 4,
+        Op::Mul | Op::Div | Op::Rem => 5,
+        Op::Neg | Op::Not => PREFIX,
+    }
+}
+
+/// What a left operand needs: repeated operators group to the left, but comparisons do not.
+fn left_need(op: Op) -> u8
+    ensures { result ≡ left_need op }
+{
+    match operator_level(op) {
+        3 => 4,
+        level => level,
+    }
+}
+
+fn right_need(op: Op) -> u8
+    ensures { result ≡ right_need op }
+{
+    match operator_level(op) {
+        level if level < u8::MAX => level + 1,
+        _ => u8::MAX,
+    }
+}
+
+fn level(expr: &Expr) -> u8
+    ensures { result ≡ level (expression_of expr.now) }
+{
+    match expr {
+        Expr::Binary { op, .. } => operator_level(*op),
+        Expr::Unary { .. } => PREFIX,
+        Expr::Send { .. } => SEND,
+        _ => 8,
+    }
+}
+
+/// Writes an expression in a place that needs a level: in parentheses where its own is lower.
+#[cycle(expressions)]
+pub fn expression<K: Sink>(
+    names: &Names,
+    sink: &mut K,
+    progress: &mut Progress,
+    need: u8,
+    expr: &Expr,
+)
+    requires { are_known names.now (expression_tokens need (expression_of expr.now)) ≡ true }
+    ensures { Prints names.now (expression_tokens need (expression_of expr.now)) (state progress.old (K.written sink.old) (K.faults sink.old)) (state progress.new (K.written sink.new) (K.faults sink.new)) }
+{
+    if need <= level(expr) {
+        bare(names, sink, progress, expr);
+    } else {
+        say(names, sink, progress, Tok::Sign(Sign::LeftParen));
+        bare(names, sink, progress, expr);
+        say(names, sink, progress, Tok::Sign(Sign::RightParen));
+    }
+}
+
+/// Writes an expression without parentheses around it.
+#[cycle(expressions)]
+fn bare<K: Sink>(names: &Names, sink: &mut K, progress: &mut Progress, expr: &Expr)
+    requires { are_known names.now (bare_tokens (expression_of expr.now)) ≡ true }
+    ensures { Prints names.now (bare_tokens (expression_of expr.now)) (state progress.old (K.written sink.old) (K.faults sink.old)) (state progress.new (K.written sink.new) (K.faults sink.new)) }
+{
+    match expr {
+        Expr::Int { value, .. } => say(names, sink, progress, Tok::Int(*value)),
+        Expr::Bool { value, .. } => say(names, sink, progress, truth_token(*value)),
+        Expr::Nil { .. } => say(names, sink, progress, Tok::Word(Keyword::Nil)),
+        Expr::Me { .. } => say(names, sink, progress, Tok::Word(Keyword::SelfWord)),
+        Expr::Var { name, .. } => say(names, sink, progress, Tok::Name(*name)),
+        Expr::New { class, .. } => {
+            say(names, sink, progress, Tok::Word(Keyword::New));
+            say(names, sink, progress, Tok::Name(*class));
+        }
+        Expr::Unary { op, arg, .. } => {
+            say(names, sink, progress, operator_token(*op));
+            expression(names, sink, progress, PREFIX, arg);
+        }
+        Expr::Binary {
+            op,
+            left,
+            right,
+            ..
+        } => {
+            expression(names, sink, progress, left_need(*op), left);
+            say(names, sink, progress, operator_token(*op));
+            expression(names, sink, progress, right_need(*op), right);
+        }
+        Expr::Call { method, args, .. } => call(names, sink, progress, *method, args.items()),
+        Expr::Send {
+            to,
+            method,
+            args,
+            ..
+        } => {
+            expression(names, sink, progress, SEND, to);
+            say(names, sink, progress, Tok::Sign(Sign::Bang));
+            call(names, sink, progress, *method, args.items());
+        }
+    }
+}
+
+/// Writes a method's name and the arguments.
+#[cycle(expressions)]
+pub fn call<K: Sink>(
+    names: &Names,
+    sink: &mut K,
+    progress: &mut Progress,
+    method: NameId,
+    args: &[Expr],
+)
+    requires { are_known names.now (call_tokens method.0 (expressions_of args.now)) ≡ true }
+    ensures { Prints names.now (call_tokens method.0 (expressions_of args.now)) (state progress.old (K.written sink.old) (K.faults sink.old)) (state progress.new (K.written sink.new) (K.faults sink.new)) }
+{
+    say(names, sink, progress, Tok::Name(method));
+    say(names, sink, progress, Tok::Sign(Sign::LeftParen));
+    arguments(names, sink, progress, args);
+    say(names, sink, progress, Tok::Sign(Sign::RightParen));
+}
+
+#[cycle(expressions)]
+fn arguments<K: Sink>(names: &Names, sink: &mut K, progress: &mut Progress, args: &[Expr])
+    requires { are_known names.now (separated_by (SignToken Sign.Comma) (argument_tokens (expressions_of args.now))) ≡ true }
+    ensures { Prints names.now (separated_by (SignToken Sign.Comma) (argument_tokens (expressions_of args.now))) (state progress.old (K.written sink.old) (K.faults sink.old)) (state progress.new (K.written sink.new) (K.faults sink.new)) }
+{
+    for (i, arg) in args.iter().enumerate() {
+        separate(names, sink, progress, Sign::Comma, i);
+        expression(names, sink, progress, ANY, arg);
+    }
+}

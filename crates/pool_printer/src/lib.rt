@@ -1,0 +1,14 @@
+//! The canonical text of a program, written piece by piece to a sink.
+#![tactic(auto)]
+
+mod declarations;
+mod expressions;
+pub mod laws;
+mod program;
+mod saying;
+mod spelling;
+mod statements;
+#[cfg(test)]
+mod tests;
+
+pub use program::print;

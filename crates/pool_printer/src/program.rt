@@ -1,0 +1,32 @@
+//! The text of a program.
+ghost use Rattle.std.specs.Prelude.{◌≡◌, ◌≤◌, ◌++◌, ℕ, length, take, option_map, true, OnOk, OnErr};
+ghost use Rattle.pool_outside.specs.Outside.{Rose};
+ghost use Rattle.pool_syntax.specs.Spelled.{is_spelled};
+ghost use Rattle.pool_syntax.specs.TreeOf.{program_of};
+ghost use Rattle.pool_printer.specs.Canonical.{canonical};
+
+use crate::declarations::classes;
+use crate::saying::{Progress, put};
+use pool_outside::{Sink, WriteFault};
+use pool_syntax::{Names, Program};
+
+/// Writes the canonical text of the program. After a failed write nothing more is written. Takes no memory.
+pub fn print<K: Sink>(program: &Program, names: &Names, sink: &mut K) -> Result<(), WriteFault>
+    requires spelled { is_spelled names.now (program_of program.now) ≡ true }
+    ensures whole { OnOk result (K.written sink.new ≡ option_map (λ w. w ++ canonical names.now (program_of program.now)) (K.written sink.old)) }
+    ensures front { OnErr result ((n : ℕ) × (n ≤ length (canonical names.now (program_of program.now))) × (K.written sink.new ≡ option_map (λ w. w ++ take n (canonical names.now (program_of program.now))) (K.written sink.old))) }
+    ensures failed { OnErr result (Rose (K.faults sink.old) (K.faults sink.new)) }
+    ensures faults_stay_or_rise { K.faults sink.old ≤ K.faults sink.new }
+{
+    let mut progress = Progress {
+        last: None,
+        failed: false,
+    };
+    classes(names, sink, &mut progress, program.classes.items());
+    put(sink, &mut progress, b"\n");
+    if progress.failed {
+        Err(WriteFault)
+    } else {
+        Ok(())
+    }
+}

@@ -1,0 +1,24 @@
+-- The start of a program, in the code's parts.
+use Rattle.std.proofs.Common.{◌≡◌, refl, ap, ap₂, sym, ◌∙◌, ℕ, suc, ◌-◌, List, [], ◌∷◌, length, map, slice_get, Option, Some, None, arith}
+use Rattle.std.specs.Ordering.{nat_cmp}
+use Rattle.std.specs.FinMap.{put}
+use Rattle.pool_syntax.specs.declared.tree.ClassDecl.{ClassDecl}
+use Rattle.pool_syntax.specs.TreeOf.{class_tree}
+use Rattle.pool_syntax.specs.Terms.{ProgramTree, ClassTree}
+use Rattle.pool_semantics.specs.Action.{Object}
+use Rattle.pool_semantics.specs.Configuration.{Message, Configuration}
+use Rattle.pool_semantics.specs.Tables.{Pair}
+use Rattle.pool_semantics.specs.Transition.{last_class, start, new_object}
+
+last_is : (cs : List ClassDecl) (k : ClassDecl) → slice_get cs (length cs - 1) ≡ Some k → last_class (map class_tree cs) ≡ Some (class_tree k)
+last_is [] k h = absurd (grind arith)
+last_is (b ∷ []) k h = grind (arith, h)
+last_is (b ∷ d ∷ cs) k h =
+    let e : suc (suc (length cs)) - 1 ≡ suc (length cs) = omega arith in
+    let g : suc (length cs) - 1 ≡ length cs = omega arith in
+    let j : slice_get (d ∷ cs) (length (d ∷ cs) - 1) ≡ Some k = rw g (rw e at h) in
+    last_is (d ∷ cs) k j
+
+pub started : (cs : List ClassDecl) (k : ClassDecl) (n : ℕ) (x : Object) (os : List (ℕ × Object)) (ms : List (Pair × List Message)) → slice_get cs (length cs - 1) ≡ Some k → x ≡ new_object (class_tree k) → os ≡ put nat_cmp n x [] → ms ≡ []
+    → start (map class_tree cs) n ≡ Some (record { objects = os; messages = ms })
+started cs k n x os ms h e o m = rw (last_is cs k h, o, e, m) refl

@@ -1,0 +1,35 @@
+use Rattle.std.proofs.Common.{◌≡◌, ◌∙◌, ap, sym, [], map, length, ◌-◌, slice_get, Some, arith}
+use Rattle.std.proofs.lemmas.Grind.{common_steps}
+use Rattle.std.proofs.Math.Logic.{∥∥₁_map}
+use Rattle.std.specs.Ordering.{nat_cmp}
+use Rattle.std.specs.FinMap.{put}
+use Rattle.pool_syntax.specs.TreeOf.{program_of}
+use Rattle.pool_semantics.specs.Configuration.{Configuration}
+use Rattle.pool_semantics.specs.Things.{thing_object, things}
+use Rattle.pool_semantics.specs.Mails.{posts}
+use Rattle.pool_semantics.proofs.Grammatical.{grammatical_written}
+use Rattle.pool_semantics.proofs.RootClass.{started}
+use Rattle.pool_semantics.proofs.TypedFacts.{start_is_sound}
+use Rattle.pool_semantics.proofs.plain.Plain.make.Goals as goal
+
+pub returns-clause-start : goal.returns-clause-start
+returns-clause-start c =
+    let cs = c.args.program.now.program.now.classes in
+    let h : slice_get cs (length cs - 1) ≡ Some c.in-Some.class.now = grind (arith, common_steps) in
+    let none : c.new-objects.result.entries ≡ [] = grind (arith, common_steps) in
+    let quiet : c.new.result.entries ≡ [] = grind (arith, common_steps) in
+    let st = started cs c.in-Some.class.now c.args.root (thing_object c.in_ok-thing.thing) (things c.add.new.objects.entries) (posts c.new.result.entries) h c.in_ok-thing.ensures
+    (c.in_ok-add.ensures ∙ ap (λ es. put nat_cmp c.args.root (thing_object c.in_ok-thing.thing) (things es)) none) (ap posts quiet) in
+    st
+
+pub invariant_of-result : goal.invariant_of-result
+invariant_of-result c =
+    let cs = c.args.program.now.program.now.classes in
+    let h : slice_get cs (length cs - 1) ≡ Some c.in-Some.class.now = grind (arith, common_steps) in
+    let none : c.new-objects.result.entries ≡ [] = grind (arith, common_steps) in
+    let quiet : c.new.result.entries ≡ [] = grind (arith, common_steps) in
+    let st = started cs c.in-Some.class.now c.args.root (thing_object c.in_ok-thing.thing) (things c.add.new.objects.entries) (posts c.new.result.entries) h c.in_ok-thing.ensures
+    (c.in_ok-add.ensures ∙ ap (λ es. put nat_cmp c.args.root (thing_object c.in_ok-thing.thing) (things es)) none) (ap posts quiet) in
+    let p = program_of c.args.program.now.program.now in
+    let d : Configuration = record { objects = things c.add.new.objects.entries; messages = posts c.new.result.entries } in
+    record { typed = ∥∥₁_map c.args.program.now.grammatical (λ g _. start_is_sound p c.args.root d c.args.program.now.typed (grammatical_written p g) st) }

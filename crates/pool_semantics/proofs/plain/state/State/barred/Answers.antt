@@ -1,0 +1,33 @@
+use Rattle.std.proofs.Common.{◌≡◌, ◌∙◌, ap, sym, List, map, Some, None}
+use Rattle.std.specs.Option.{option_copied}
+use Rattle.std.specs.Map.{lookup}
+use Rattle.std.specs.BTreeMap.{is_at}
+use Rattle.std.specs.declared.collections.VecDeque.{VecDeque}
+use Rattle.pool_semantics.specs.declared.plain.mail.Mail.{Mail}
+use Rattle.pool_semantics.specs.Tables.{Pair, pair_cmp}
+use Rattle.pool_semantics.specs.Mails.{message_of}
+use Rattle.pool_semantics.specs.Configuration.{Message}
+use Rattle.pool_semantics.specs.Transition.{has_message}
+use Rattle.pool_semantics.proofs.Posting.{list_found, list_missing}
+use Rattle.pool_semantics.proofs.plain.state.State.barred.Goals as goal
+
+pub returns-in-None : goal.returns-in-None
+returns-in-None c =
+    let es = c.args.self.now.messages.entries in
+    let k : Pair = (c.args.sender, c.args.receiver) in
+    let h : lookup (is_at (pair_cmp k)) es ≡ None = sym c.get.ensures.value ∙ ap option_copied c.in-None.is in
+    sym (ap (has_message c.args.names.now) (list_missing (λ q. map message_of q.items) k es h))
+
+pub returns-in-None-first_named : goal.returns-in-None-first_named
+returns-in-None-first_named c =
+    let es = c.args.self.now.messages.entries in
+    let k : Pair = (c.args.sender, c.args.receiver) in
+    let h : lookup (is_at (pair_cmp k)) es ≡ Some c.in-Some.queue.now = sym c.get.ensures.value ∙ ap option_copied c.in-Some.is in
+    sym (ap (has_message c.args.names.now) (list_found (λ q. map message_of q.items) k es c.in-Some.queue.now h) ∙ c.in-None-first_named.ensures.none)
+
+pub returns-in-Some-first_named : goal.returns-in-Some-first_named
+returns-in-Some-first_named c =
+    let es = c.args.self.now.messages.entries in
+    let k : Pair = (c.args.sender, c.args.receiver) in
+    let h : lookup (is_at (pair_cmp k)) es ≡ Some c.in-Some.queue.now = sym c.get.ensures.value ∙ ap option_copied c.in-Some.is in
+    sym (ap (has_message c.args.names.now) (list_found (λ q. map message_of q.items) k es c.in-Some.queue.now h) ∙ c.in-Some-first_named.ensures.here)

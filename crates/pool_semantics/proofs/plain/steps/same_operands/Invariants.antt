@@ -1,0 +1,10 @@
+use Rattle.std.proofs.Common.{◌≡◌, ◌-◌, length}
+use Rattle.pool_semantics.specs.Transition.{are_same}
+use Rattle.pool_semantics.specs.Reduced.{values}
+use Rattle.pool_semantics.proofs.plain.steps.same_operands.Given as goal
+
+abbrev pub invariant-loop-operand : goal.invariant-loop-operand
+invariant-loop-operand l = are_same (values l.operands) l.args ≡ are_same (values l.initial.operands) l.initial.args
+
+abbrev pub decreases-loop-operand : goal.decreases-loop-operand
+decreases-loop-operand l = length l.operands

@@ -1,0 +1,9 @@
+use Rattle.std.proofs.Common.{◌≡◌, ◌-◌, length}
+use Rattle.pool_semantics.specs.Transition.{are_same}
+use Rattle.pool_semantics.proofs.plain.steps.same_values.Given as goal
+
+abbrev pub invariant-loop-value : goal.invariant-loop-value
+invariant-loop-value l = are_same l.values l.args ≡ are_same l.initial.values l.initial.args
+
+abbrev pub decreases-loop-value : goal.decreases-loop-value
+decreases-loop-value l = length l.values

@@ -1,0 +1,19 @@
+-- What the code's messages stand for.
+use Rattle.std.specs.Prelude.{List, map}
+use Rattle.std.specs.declared.collections.VecDeque.{VecDeque}
+use Rattle.std.specs.Global.{Global}
+use Rattle.pool_semantics.specs.Tables.{Pair}
+use Rattle.pool_semantics.specs.declared.plain.mail.Mail.{Mail}
+use Rattle.pool_semantics.specs.Configuration.{Message}
+
+-- a message
+abbrev pub message_of : Mail → Message
+message_of m = record { method = m.method.0; args = m.args }
+
+-- the messages of a queue
+abbrev pub queued : VecDeque Mail Global → List Message
+queued q = map message_of q.items
+
+-- the messages of all pairs
+abbrev pub posts : List (Pair × VecDeque Mail Global) → List (Pair × List Message)
+posts es = map (λ e. (e.0, queued e.1)) es

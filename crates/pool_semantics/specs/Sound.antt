@@ -1,0 +1,12 @@
+-- What a Plain keeps of its configuration.
+use Rattle.std.specs.Prelude.{◌≡◌, [], IsTrue}
+use Rattle.pool_syntax.specs.Terms.{ProgramTree}
+use Rattle.pool_syntax.specs.Typing.{faults}
+use Rattle.pool_semantics.specs.Configuration.{Configuration}
+use Rattle.pool_semantics.specs.WellFormed.{is_written, WellTyped}
+
+-- a well-typed configuration of a program without faults
+pub record Sound (p : ProgramTree) (c : Configuration) : Type 0 where
+  pub faultless : faults p ≡ []
+  pub written : IsTrue (is_written p)
+  pub typed : WellTyped p c

@@ -1,0 +1,101 @@
+//! Asynchronous messages.
+ghost use Rattle.std.specs.Prelude.{◌≡◌, ◌<◌, [], ◌∷◌, ◌++◌, OnOk, Some, None, IfSome, IfNone, length, map, slice_index_or, true, false};
+ghost use Rattle.std.specs.List.{remove};
+ghost use Rattle.std.specs.FinMap.{put};
+ghost use Rattle.pool_semantics.specs.Tables.{pair_cmp, list_at, put_list};
+ghost use Rattle.std.specs.BTreeMap.{get};
+ghost use Rattle.std.specs.declared.collections.VecDeque.{VecDeque};
+ghost use Rattle.std.specs.Global.{Global};
+ghost use Rattle.pool_semantics.specs.Transition.{has_message, first_message, without_first};
+ghost use Rattle.pool_semantics.specs.declared.plain.mail.Mail.{Mail};
+ghost use Rattle.pool_semantics.specs.Mails.{message_of, posts};
+
+use crate::plain::offers::names_method;
+use pool_syntax::{Args, NameId, Named};
+use std::alloc::{AllocError, Global};
+use std::collections::{BTreeMap, VecDeque};
+
+/// An asynchronous message that was not yet taken.
+#[derive(Clone, Copy)]
+pub struct Mail {
+    pub method: NameId,
+    pub args: Args,
+}
+
+/// The place of the earliest message on one of these methods.
+#[tactic(auto, using(crate::proofs::Mailing::named_first, crate::proofs::Mailing::named_rest, crate::proofs::Mailing::named_here, crate::proofs::Mailing::named_none, crate::proofs::Mailing::first_none))]
+pub fn first_named(queue: &VecDeque<Mail>, names: &[Named]) -> Option<usize>
+    ensures range { IfSome result (λ i. i < length queue.now.items) }
+    ensures here { IfSome result (λ i. has_message names.now (map message_of queue.now.items) ≡ true) }
+    ensures first { IfSome result (λ i. (d : Mail) → first_message names.now (map message_of queue.now.items) ≡ Some (message_of (slice_index_or queue.now.items i d))) }
+    ensures rest { IfSome result (λ i. without_first names.now (map message_of queue.now.items) ≡ map message_of (remove queue.now.items i)) }
+    ensures none { IfNone result (has_message names.now (map message_of queue.now.items) ≡ false) }
+    ensures no_first { IfNone result (first_message names.now (map message_of queue.now.items) ≡ None) }
+{
+    let mut at = 0;
+    while at < queue.len() {
+        if names_method(names, queue[at].method.0) {
+            return Some(at);
+        }
+        at += 1;
+    }
+    None
+}
+
+/// Puts a message last in the queue of its pair.
+pub fn post(
+    alloc: Global,
+    messages: &mut BTreeMap<(u32, u32), VecDeque<Mail>>,
+    sender: u32,
+    receiver: u32,
+    mail: Mail,
+) -> Result<(), AllocError>
+    ensures { OnOk result (posts messages.new.entries ≡ put pair_cmp (sender, receiver) (list_at pair_cmp (sender, receiver) (posts messages.old.entries) ++ message_of mail ∷ []) (posts messages.old.entries)) }
+{
+    match messages.get_mut(&(sender, receiver)) {
+        Some(queue) => {
+            queue.push_back(mail)?;
+            Ok(())
+        }
+        None => {
+            let mut queue = VecDeque::new(alloc);
+            queue.push_back(mail)?;
+            messages.insert((sender, receiver), queue)?;
+            Ok(())
+        }
+    }
+}
+
+/// Takes the message at this place out; whether none is left.
+fn drop_at(queue: &mut VecDeque<Mail>, at: usize) -> bool
+    requires { at < length queue.old.items }
+    ensures items { queue.new.items ≡ remove queue.old.items at }
+    ensures none { result ≡ true → queue.new.items ≡ [] }
+    ensures some { result ≡ false → queue.new.items ≡ [] → ⊥ }
+{
+    match queue.remove(at) {
+        None => unreachable!(),
+        Some(_) => queue.len() == 0,
+    }
+}
+
+/// Takes the message at this place out of the queue of its pair. An empty queue goes.
+pub fn unpost(
+    messages: &mut BTreeMap<(u32, u32), VecDeque<Mail>>,
+    sender: u32,
+    receiver: u32,
+    at: usize,
+)
+    requires { (q : VecDeque Mail Global) → get pair_cmp messages.old (sender, receiver) ≡ Some q → at < length q.items }
+    ensures { (q : VecDeque Mail Global) → get pair_cmp messages.old (sender, receiver) ≡ Some q → posts messages.new.entries ≡ put_list pair_cmp (sender, receiver) (map message_of (remove q.items at)) (posts messages.old.entries) }
+{
+    match messages.get_mut(&(sender, receiver)) {
+        None => return,
+        Some(queue) => {
+            if !drop_at(queue, at) {
+                return;
+            }
+        }
+    }
+    let _ = messages.remove(&(sender, receiver));
+}

@@ -1,0 +1,218 @@
+//! Objects and messages, and the transitions by their labels.
+ghost use Rattle.std.specs.Prelude.{◌≡◌, Some, None, IfOk, IfSome, IfNone, true, false};
+ghost use Rattle.pool_syntax.specs.TreeOf.{program_of};
+ghost use Rattle.pool_semantics.specs.declared.plain.thing.Thing.{Thing};
+ghost use Rattle.pool_semantics.specs.Transition.{transition, running, error_number};
+ghost use Rattle.pool_semantics.specs.Shown.{shown_at};
+ghost use Rattle.pool_semantics.specs.Plains.{Doing, Stepped, configuration, returns_act, waits_act};
+
+use crate::plain::act::Act;
+use crate::plain::change::Change;
+use crate::plain::lookup::find_class;
+use crate::plain::mail::Mail;
+use crate::plain::objects::{add, update};
+use crate::plain::operators::{same, same_error, same_item};
+use crate::plain::redex::Redex;
+use crate::plain::thing::Thing;
+use pool_syntax::{Error, Item, Label, NameId, Program, Value};
+use std::alloc::{AllocError, Global};
+use std::collections::{BTreeMap, VecDeque};
+
+/// A configuration.
+#[derive(Drop)]
+pub struct State<'a> {
+    pub alloc: Global,
+    pub program: &'a Program,
+    pub objects: BTreeMap<u32, Thing<'a>>,
+    pub messages: BTreeMap<(u32, u32), VecDeque<Mail>>,
+}
+
+impl<'a> Act<'a> {
+    /// Whether it returns this value to the caller.
+    fn returns(&self, caller: u32, value: Value) -> bool
+        ensures { result ≡ returns_act self.now caller value }
+    {
+        match *self {
+            Act::Return {
+                caller: to,
+                value: returned,
+            } => to == caller && same(returned, value),
+            _ => false,
+        }
+    }
+
+    /// Whether it waits for the receiver.
+    fn waits_for(&self, receiver: u32) -> bool
+        ensures { result ≡ waits_act self.now receiver }
+    {
+        match *self {
+            Act::Waits { on, .. } => on == receiver,
+            _ => false,
+        }
+    }
+}
+
+impl<'a> State<'a> {
+    /// What an object does next, if it is there and has no fault.
+    pub fn acting(&self, object: u32) -> Option<(&Thing<'a>, Act<'a>)>
+        ensures some { IfSome result (λ r. Doing (program_of self.now.program.now) self.now.objects object r.0.now r.1) }
+        ensures none { IfNone result (running (configuration self.now) object ≡ None) }
+    {
+        match self.objects.get(&object) {
+            None => None,
+            Some(thing) => match thing.fault {
+                Some(_) => None,
+                None => Some((thing, thing.act(self.program, object))),
+            },
+        }
+    }
+
+    /// Makes the local transition of an object; whether it has one.
+    pub fn local(&mut self, object: u32) -> Result<bool, AllocError>
+        ensures program { self.new.program ≡ self.old.program }
+        ensures step { IfOk result (λ b. Stepped b (transition (program_of self.old.program.now) (configuration self.old) (Label.Local object)) self.old self.new) }
+    {
+        match self.acting(object) {
+            None => Ok(false),
+            Some((_, act)) => match act {
+                Act::Local(change) => {
+                    update(self.alloc, &mut self.objects, object, &change)?;
+                    Ok(true)
+                }
+                _ => Ok(false),
+            },
+        }
+    }
+
+    /// Makes a new object under this name; whether that is what the object does next.
+    pub fn new(&mut self, object: u32, name: u32, class: NameId) -> Result<bool, AllocError>
+        ensures program { self.new.program ≡ self.old.program }
+        ensures step { IfOk result (λ b. Stepped b (transition (program_of self.old.program.now) (configuration self.old) (Label.New object name class)) self.old self.new) }
+    {
+        match self.acting(object) {
+            None => Ok(false),
+            Some((_, act)) => match act {
+                Act::New(made) => {
+                    if made.0 != class.0 {
+                        return Ok(false);
+                    }
+                    if self.objects.contains_key(&name) {
+                        return Ok(false);
+                    }
+                    match find_class(self.program, class.0) {
+                        None => Ok(false),
+                        Some(declared) => {
+                            let change = Change::Becomes(Value::Ref(name));
+                            update(self.alloc, &mut self.objects, object, &change)?;
+                            let thing = Thing::make(self.alloc, declared)?;
+                            add(&mut self.objects, name, thing)?;
+                            Ok(true)
+                        }
+                    }
+                }
+                _ => Ok(false),
+            },
+        }
+    }
+
+    pub fn write(&mut self, object: u32, item: Item) -> Result<bool, AllocError>
+        ensures program { self.new.program ≡ self.old.program }
+        ensures step { IfOk result (λ b. Stepped b (transition (program_of self.old.program.now) (configuration self.old) (Label.Write object item)) self.old self.new) }
+    {
+        match self.acting(object) {
+            None => Ok(false),
+            Some((_, act)) => match act {
+                Act::Write(written) => {
+                    if !same_item(written, item) {
+                        return Ok(false);
+                    }
+                    update(self.alloc, &mut self.objects, object, &Change::Done)?;
+                    Ok(true)
+                }
+                _ => Ok(false),
+            },
+        }
+    }
+
+    pub fn fault(&mut self, object: u32, error: Error) -> Result<bool, AllocError>
+        ensures program { self.new.program ≡ self.old.program }
+        ensures step { IfOk result (λ b. Stepped b (transition (program_of self.old.program.now) (configuration self.old) (Label.Fault object error)) self.old self.new) }
+    {
+        match self.acting(object) {
+            None => Ok(false),
+            Some((_, act)) => match act {
+                Act::Fault(met) => {
+                    if !same_error(met, error) {
+                        return Ok(false);
+                    }
+                    update(self.alloc, &mut self.objects, object, &Change::Fault(error))?;
+                    Ok(true)
+                }
+                _ => Ok(false),
+            },
+        }
+    }
+
+    pub fn pick(&mut self, object: u32, alt: u32) -> Result<bool, AllocError>
+        ensures program { self.new.program ≡ self.old.program }
+        ensures step { IfOk result (λ b. Stepped b (transition (program_of self.old.program.now) (configuration self.old) (Label.Pick object alt)) self.old self.new) }
+    {
+        match self.acting(object) {
+            None => Ok(false),
+            Some((thing, act)) => match act {
+                Act::Select => match thing.work.plain_alt(alt) {
+                    None => Ok(false),
+                    Some(work) => {
+                        update(self.alloc, &mut self.objects, object, &Change::Branch(work))?;
+                        Ok(true)
+                    }
+                },
+                _ => Ok(false),
+            },
+        }
+    }
+
+    pub fn give_back(
+        &mut self,
+        receiver: u32,
+        caller: u32,
+        value: Value,
+    ) -> Result<bool, AllocError>
+        ensures program { self.new.program ≡ self.old.program }
+        ensures step { IfOk result (λ b. Stepped b (transition (program_of self.old.program.now) (configuration self.old) (Label.Return receiver caller value)) self.old self.new) }
+    {
+        let Some((_, act)) = self.acting(receiver) else {
+            return Ok(false);
+        };
+        if !act.returns(caller, value) {
+            return Ok(false);
+        }
+        let Some((_, waits)) = self.acting(caller) else {
+            return Ok(false);
+        };
+        if !waits.waits_for(receiver) {
+            return Ok(false);
+        }
+        update(self.alloc, &mut self.objects, receiver, &Change::End)?;
+        update(
+            self.alloc,
+            &mut self.objects,
+            caller,
+            &Change::Becomes(value),
+        )?;
+        Ok(true)
+    }
+
+    /// What an object shows; nothing where it is stuck, or has more than 8 arguments for another object.
+    pub fn shown(&self, object: u32) -> Option<Redex>
+        ensures { result ≡ shown_at (program_of self.now.program.now) (configuration self.now) object }
+    {
+        if !self.objects.contains_key(&object) {
+            return Some(Redex::NoObject);
+        }
+        match self.acting(object) {
+            None => Some(Redex::Faulted),
+            Some((thing, act)) => thing.work.show(&act),
+        }
+    }
+}

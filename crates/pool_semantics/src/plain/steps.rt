@@ -1,0 +1,278 @@
+//! The transitions of two objects, and of messages.
+ghost use Rattle.std.specs.Prelude.{◌≡◌, Some, None, ◌==◌, ◌&&◌, IfOk};
+ghost use Rattle.pool_syntax.specs.TreeOf.{program_of};
+ghost use Rattle.pool_semantics.specs.Transition.{transition, has_message, are_same};
+ghost use Rattle.pool_semantics.specs.Configuration.{messages_of};
+ghost use Rattle.pool_semantics.specs.Reduced.{values};
+ghost use Rattle.pool_semantics.specs.Acts.{now_args};
+ghost use Rattle.pool_semantics.specs.Plains.{Stepped, configuration, calls_act, posts_act};
+
+use crate::plain::act::Act;
+use crate::plain::change::Change;
+use crate::plain::lookup::find_method;
+use crate::plain::mail::{Mail, first_named, post, unpost};
+use crate::plain::objects::update;
+use crate::plain::operators::same;
+use crate::plain::parts::{Now, Operand, Ready, Task, Work};
+use crate::plain::state::State;
+use pool_syntax::{Args, Label, NameId, Named, Value};
+use std::alloc::AllocError;
+
+/// Whether these operands have these values.
+fn same_operands(operands: &[Operand], args: &[Value]) -> bool
+    ensures { result ≡ are_same (values operands.now) args.now }
+{
+    let mut operands = operands;
+    let mut args = args;
+    while let Some((operand, more)) = operands.split_first() {
+        match args.split_first() {
+            None => return false,
+            Some((arg, others)) => {
+                if !same(operand.value, *arg) {
+                    return false;
+                }
+                args = others;
+            }
+        }
+        operands = more;
+    }
+    args.is_empty()
+}
+
+/// Whether these values are the same, one by one.
+fn same_values(values: &[Value], args: &[Value]) -> bool
+    ensures { result ≡ are_same values.now args.now }
+{
+    let mut values = values;
+    let mut args = args;
+    while let Some((value, more)) = values.split_first() {
+        match args.split_first() {
+            None => return false,
+            Some((arg, others)) => {
+                if !same(*value, *arg) {
+                    return false;
+                }
+                args = others;
+            }
+        }
+        values = more;
+    }
+    args.is_empty()
+}
+
+/// Whether it is the message on this method with these arguments.
+fn is_mail(mail: &Mail, method: NameId, args: &[Value]) -> bool
+    ensures { result ≡ (mail.now.method.0 == method.0 && are_same mail.now.args args.now) }
+{
+    mail.method.0 == method.0 && same_values(mail.args.values(), args)
+}
+
+impl<'a> Work<'a> {
+    /// Whether the arguments of the redex are these.
+    pub fn has_args(&self, args: &[Value]) -> bool
+        ensures { result ≡ are_same (now_args self.now.next) args.now }
+    {
+        match &self.next {
+            Now::Expression { redex, .. } => match redex {
+                Ready::Call { args: operands, .. } => same_operands(operands.as_slice(), args),
+                Ready::Send { args: operands, .. } => same_operands(operands.as_slice(), args),
+                _ => same_operands(&[], args),
+            },
+            Now::Statement { task, .. } => match task {
+                Task::Async { args: operands, .. } => same_operands(operands.as_slice(), args),
+                _ => same_operands(&[], args),
+            },
+            _ => same_operands(&[], args),
+        }
+    }
+}
+
+impl<'a> Act<'a> {
+    /// Whether it calls this method of the receiver, where its arguments are the same.
+    fn calls(&self, receiver: u32, method: NameId, same_args: bool) -> bool
+        ensures { result ≡ calls_act self.now receiver method.0 same_args }
+    {
+        match *self {
+            Act::Send { to, method: called } => to == receiver && called.0 == method.0 && same_args,
+            _ => false,
+        }
+    }
+
+    /// Whether it sends the receiver a message on this method, where its arguments are the same.
+    fn posts(&self, receiver: u32, method: NameId, same_args: bool) -> bool
+        ensures { result ≡ posts_act self.now receiver method.0 same_args }
+    {
+        match *self {
+            Act::Async { to, method: called } => to == receiver
+                && called.0 == method.0
+                && same_args,
+            _ => false,
+        }
+    }
+}
+
+impl<'a> State<'a> {
+    /// Whether a message from the sender to the receiver is on one of these methods.
+    fn barred(&self, sender: u32, receiver: u32, names: &[Named]) -> bool
+        ensures { result ≡ has_message names.now (messages_of (configuration self.now) sender receiver) }
+    {
+        match self.messages.get(&(sender, receiver)) {
+            None => false,
+            Some(queue) => match first_named(queue, names) {
+                None => false,
+                Some(_) => true,
+            },
+        }
+    }
+
+    pub fn answer(
+        &mut self,
+        receiver: u32,
+        caller: u32,
+        method: NameId,
+        args: Args,
+    ) -> Result<bool, AllocError>
+        ensures program { self.new.program ≡ self.old.program }
+        ensures step { IfOk result (λ b. Stepped b (transition (program_of self.old.program.now) (configuration self.old) (Label.Answer receiver caller method args)) self.old self.new) }
+    {
+        let Some((asking, sends)) = self.acting(caller) else {
+            return Ok(false);
+        };
+        if !sends.calls(receiver, method, asking.work.has_args(args.values())) {
+            return Ok(false);
+        }
+        let Some((serving, act)) = self.acting(receiver) else {
+            return Ok(false);
+        };
+        let Some(offer) = serving.work.offer(&act, method.0) else {
+            return Ok(false);
+        };
+        if self.barred(caller, receiver, offer.names) {
+            return Ok(false);
+        }
+        let Some(found) = find_method(self.program, serving.class, method.0, args.values().len())
+        else {
+            return Ok(false);
+        };
+        let serve = Change::Serve {
+            method: found,
+            caller: Some(caller),
+            args,
+            after: offer.after,
+        };
+        update(
+            self.alloc,
+            &mut self.objects,
+            caller,
+            &Change::Wait { receiver, method },
+        )?;
+        update(self.alloc, &mut self.objects, receiver, &serve)?;
+        Ok(true)
+    }
+
+    pub fn send(
+        &mut self,
+        object: u32,
+        receiver: u32,
+        method: NameId,
+        args: Args,
+    ) -> Result<bool, AllocError>
+        ensures program { self.new.program ≡ self.old.program }
+        ensures step { IfOk result (λ b. Stepped b (transition (program_of self.old.program.now) (configuration self.old) (Label.Send object receiver method args)) self.old self.new) }
+    {
+        let Some((posting, act)) = self.acting(object) else {
+            return Ok(false);
+        };
+        if !act.posts(receiver, method, posting.work.has_args(args.values())) {
+            return Ok(false);
+        }
+        if !self.objects.contains_key(&receiver) {
+            return Ok(false);
+        }
+        update(self.alloc, &mut self.objects, object, &Change::Done)?;
+        let mail = Mail { method, args };
+        post(self.alloc, &mut self.messages, object, receiver, mail)?;
+        Ok(true)
+    }
+
+    pub fn take(
+        &mut self,
+        receiver: u32,
+        sender: u32,
+        method: NameId,
+        args: Args,
+    ) -> Result<bool, AllocError>
+        ensures program { self.new.program ≡ self.old.program }
+        ensures step { IfOk result (λ b. Stepped b (transition (program_of self.old.program.now) (configuration self.old) (Label.Take receiver sender method args)) self.old self.new) }
+    {
+        let Some((serving, act)) = self.acting(receiver) else {
+            return Ok(false);
+        };
+        let Some(offer) = serving.work.offer(&act, method.0) else {
+            return Ok(false);
+        };
+        let Some(queue) = self.messages.get(&(sender, receiver)) else {
+            return Ok(false);
+        };
+        let Some(at) = first_named(queue, offer.names) else {
+            return Ok(false);
+        };
+        if !is_mail(&queue[at], method, args.values()) {
+            return Ok(false);
+        }
+        let Some(found) = find_method(self.program, serving.class, method.0, args.values().len())
+        else {
+            return Ok(false);
+        };
+        let serve = Change::Serve {
+            method: found,
+            caller: None,
+            args,
+            after: offer.after,
+        };
+        update(self.alloc, &mut self.objects, receiver, &serve)?;
+        unpost(&mut self.messages, sender, receiver, at);
+        Ok(true)
+    }
+
+    /// Makes the label's transition; whether it is possible.
+    pub fn step(&mut self, label: &Label) -> Result<bool, AllocError>
+        ensures program { self.new.program ≡ self.old.program }
+        ensures step { IfOk result (λ b. Stepped b (transition (program_of self.old.program.now) (configuration self.old) label.now) self.old self.new) }
+    {
+        match *label {
+            Label::Local { object } => self.local(object),
+            Label::New {
+                object,
+                name,
+                class,
+            } => self.new(object, name, class),
+            Label::Answer {
+                receiver,
+                caller,
+                method,
+                args,
+            } => self.answer(receiver, caller, method, args),
+            Label::Return {
+                receiver,
+                caller,
+                value,
+            } => self.give_back(receiver, caller, value),
+            Label::Send {
+                object,
+                receiver,
+                method,
+                args,
+            } => self.send(object, receiver, method, args),
+            Label::Take {
+                receiver,
+                sender,
+                method,
+                args,
+            } => self.take(receiver, sender, method, args),
+            Label::Write { object, item } => self.write(object, item),
+            Label::Pick { object, alt } => self.pick(object, alt),
+            Label::Fault { object, error } => self.fault(object, error),
+        }
+    }
+}

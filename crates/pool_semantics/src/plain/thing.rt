@@ -1,0 +1,93 @@
+//! One object: its class, its variables, what it has still to do, and its fault.
+ghost use Rattle.std.specs.Prelude.{◌≡◌, OnOk, IfOk};
+ghost use Rattle.pool_syntax.specs.TreeOf.{program_of, class_tree};
+ghost use Rattle.pool_semantics.specs.Action.{action};
+ghost use Rattle.pool_semantics.specs.Transition.{new_object};
+ghost use Rattle.pool_semantics.specs.Acts.{acted, changed, now_args, now_names, now_choices, Fits, Suits};
+ghost use Rattle.pool_semantics.specs.Things.{thing_object};
+
+use crate::plain::act::Act;
+use crate::plain::change::Change;
+use crate::plain::enter::{advance, before};
+use crate::plain::parts::{Binding, Work};
+use crate::plain::work::{nil_store, set};
+use pool_syntax::{ClassDecl, Error, Program};
+use std::alloc::{AllocError, Global};
+
+#[derive(Drop)]
+pub struct Thing<'a> {
+    pub class: u32,
+    pub vars: Vec<Binding>,
+    pub work: Work<'a>,
+    pub fault: Option<Error>,
+}
+
+impl<'a> Thing<'a> {
+    /// A new object of this class.
+    #[tactic(auto, using(crate::proofs::Plugged::append_nothing))]
+    pub fn make(alloc: Global, class: &'a ClassDecl) -> Result<Thing<'a>, AllocError>
+        ensures { IfOk result (λ t. thing_object t ≡ new_object (class_tree class.now)) }
+    {
+        let vars = nil_store(alloc, class.vars.items())?;
+        let rest = before(class.body.items(), Vec::new(alloc))?;
+        let next = advance(alloc, rest, None)?;
+        let work = Work {
+            calls: Vec::new(alloc),
+            next,
+        };
+        Ok(Thing {
+            class: class.name.name.0,
+            vars,
+            work,
+            fault: None,
+        })
+    }
+
+    /// What the object of this name does next, if it has no fault.
+    pub fn act(&self, program: &'a Program, name: u32) -> Act<'a>
+        ensures gives { action (program_of program.now) name (thing_object self.now) ≡ acted (thing_object self.now) (now_args self.now.work.next) (now_names self.now.work.next) (now_choices self.now.work.next) result }
+        ensures suits { Suits self.now.work.calls.items self.now.work.next result }
+    {
+        self.work
+            .act(program, name, self.class, self.vars.as_slice())
+    }
+
+    /// Makes a change that is one of what comes next.
+    pub fn change(&mut self, alloc: Global, change: &Change<'a>) -> Result<(), AllocError>
+        requires { Fits self.old.work.calls.items self.old.work.next change.now }
+        ensures { OnOk result (thing_object self.new ≡ changed (thing_object self.old) (now_args self.old.work.next) change.now) }
+    {
+        match *change {
+            Change::Becomes(value) => self.work.give(alloc, value),
+            Change::Done => self.work.finish(alloc),
+            Change::SetTemp { name, value } => self.work.assign(alloc, name, value),
+            Change::SetVariable { name, value } => {
+                set(&mut self.vars, name, value);
+                self.work.assign(alloc, name, value)
+            }
+            Change::Branch(statements) => self.work.branch(alloc, statements),
+            Change::Repeat { cond, body } => self.work.repeat(alloc, cond, body),
+            Change::Unfold { cond, body } => self.work.unfold(alloc, cond, body),
+            Change::Call(method) => self.work.call(alloc, method),
+            Change::Leave(_) | Change::End => self.work.leave(alloc),
+            Change::Wait { receiver, method } => {
+                self.work.wait(receiver, method);
+                Ok(())
+            }
+            Change::Serve {
+                method,
+                caller,
+                args,
+                after,
+            } => {
+                self.work
+                    .serve(alloc, method, caller, args.values(), after)?;
+                Ok(())
+            }
+            Change::Fault(error) => {
+                self.fault = Some(error);
+                Ok(())
+            }
+        }
+    }
+}
