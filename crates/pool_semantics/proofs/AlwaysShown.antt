@@ -1,8 +1,8 @@
 -- In a typed configuration each object shows something.
-use Rattle.std.proofs.Common.{◌≡◌, refl, ap, sym, ◌∙◌, ◌≤◌, ◌-◌, ◌==◌, ℕ, List, [], length, Option, Some, None, Bool, true, false, arith, eq-eqb}
+use Rattle.std.proofs.Common.{◌≡◌, refl, ◌≤◌, ◌-◌, ℕ, List, length, Option, Some, None, true, false, arith, eq-eqb}
 use Rattle.pool_syntax.specs.declared.words.Value.{Value}
 use Rattle.pool_syntax.specs.declared.words.Error.{Error}
-use Rattle.pool_syntax.specs.Terms.{ProgramTree, MethodTree}
+use Rattle.pool_syntax.specs.Terms.{ProgramTree}
 use Rattle.pool_semantics.specs.Action as A
 use Rattle.pool_semantics.specs.Action.{Object, Action, action, method_of}
 use Rattle.pool_semantics.specs.Configuration.{Configuration, object_of}

@@ -1,12 +1,11 @@
 -- Changes of the work.
-use Rattle.std.proofs.Common.{◌≡◌, refl, ap, ap₂, sym, ◌∙◌, ℕ, zero, suc, ◌-◌, ◌+◌, ◌<◌, List, [], ◌∷◌, ◌++◌, length, take, drop, slice_get, slice_set, slice_index_or, Option, Some, None, true, false, arith}
+use Rattle.std.proofs.Common.{◌≡◌, refl, ap, ap₂, ◌∙◌, ℕ, zero, suc, ◌-◌, ◌<◌, List, [], ◌∷◌, ◌++◌, length, take, drop, slice_get, slice_set, slice_index_or, Some, None, true, false, arith}
 use Rattle.pool_syntax.specs.declared.words.Value.{Value}
 use Rattle.pool_syntax.specs.declared.words.Value.TheVariants as V
-use Rattle.pool_syntax.specs.TreeOf.{expression_of, statements_of}
+use Rattle.pool_syntax.specs.TreeOf.{expression_of}
 use Rattle.pool_syntax.specs.Terms as T
 use Rattle.pool_syntax.specs.Terms.{Store, Expression, Statement, Statements, append}
-use Rattle.pool_semantics.specs.Reducible.{Part, AsExpression, AsStatements, as_statements, as_expression, set_value, fill_statements}
-use Rattle.pool_semantics.specs.declared.plain.parts.Operand.{Operand}
+use Rattle.pool_semantics.specs.Reducible.{AsExpression, AsStatements, set_value, fill_statements}
 use Rattle.pool_semantics.specs.declared.plain.parts.Place.{Place}
 use Rattle.pool_semantics.specs.declared.plain.parts.Ready.{Ready}
 use Rattle.pool_semantics.specs.declared.plain.parts.Slot.{Slot}
@@ -14,16 +13,13 @@ use Rattle.pool_semantics.specs.declared.plain.parts.Task.{Task}
 use Rattle.pool_semantics.specs.declared.plain.parts.Activation.{Activation}
 use Rattle.pool_semantics.specs.declared.plain.parts.Now.{Now}
 use Rattle.pool_semantics.specs.declared.plain.parts.Now.TheVariants as N
-use Rattle.pool_semantics.specs.Changes.{after_left, keeps_temps, rest_of, is_end, is_call, next_assigns, end_value, end_part, left_part, last_part}
+use Rattle.pool_semantics.specs.Changes.{after_left, keeps_temps, rest_of, is_end, next_assigns, end_value, end_part, left_part}
 use Rattle.pool_semantics.specs.Parts.{content, operand, nested, ready, task, slotted, left, Content, Running, Valued, Over, inside, around, wrapped, layers, bottom}
-use Rattle.pool_semantics.specs.Reduced.{assigns, is_plain, refilled_content}
+use Rattle.pool_semantics.specs.Reduced.{assigns, refilled_content}
 use Rattle.pool_semantics.proofs.Acting.{last_split, none_last}
-use Rattle.pool_semantics.specs.declared.plain.parts.Segment.{Segment}
 use Rattle.pool_semantics.specs.declared.plain.parts.Outer.TheVariants as O
-use Rattle.pool_semantics.specs.declared.plain.parts.Ready.TheVariants as Y
 use Rattle.pool_semantics.specs.declared.plain.parts.Task.TheVariants as K
 use Rattle.pool_semantics.specs.Action.{literal}
-use Rattle.pool_semantics.specs.Parts.{operands}
 use Rattle.pool_semantics.proofs.Layers.{plain_around, fill_term, fill_slotted, fill_nested, fill_ready, fill_task, open_nested, open_ready, plain_slotted, layers_more}
 
 -- an expression takes the place of the redex

@@ -1,5 +1,5 @@
 -- The number of methods under way in a term of the stepper's form.
-use Rattle.std.proofs.Common.{◌≡◌, refl, ap, ap₂, sym, ◌∙◌, ℕ, suc, ◌+◌, List, [], ◌∷◌, ◌++◌, length, length-append, arith}
+use Rattle.std.proofs.Common.{◌≡◌, refl, ap, ap₂, ◌∙◌, ℕ, suc, ◌+◌, List, [], ◌∷◌, ◌++◌, length, arith}
 use Rattle.pool_syntax.specs.declared.tree.Expr.{Expr, Int, Bool, Nil, Me, Var, New, Unary', Binary', Call', Send', Row_of-Expr, end_of-Expr, more_of-Expr}
 use Rattle.pool_syntax.specs.declared.tree.Stmt as S
 use Rattle.pool_syntax.specs.declared.tree.Stmt.{Stmt, Row_of-Alt, end_of-Alt, more_of-Alt}
@@ -7,26 +7,19 @@ use Rattle.pool_syntax.specs.declared.tree.Alt.{Alt}
 use Rattle.pool_syntax.specs.TreeOf.{expression_of, expression_row, expressions_of, statement_of, statements_of, alternative_row}
 use Rattle.pool_syntax.specs.Terms as T
 use Rattle.pool_syntax.specs.Terms.{Store, Expression, Expressions, Statements, Alternatives, append}
-use Rattle.pool_semantics.specs.UnderWay.{Activity, Own, Serving, in_expression, in_expressions, in_statement, in_statements, in_guards, frames_of}
+use Rattle.pool_semantics.specs.UnderWay.{Activity, Serving, in_expression, in_expressions, in_statement, in_statements, in_guards, frames_of}
 use Rattle.pool_semantics.specs.declared.plain.parts.Operand.{Operand}
 use Rattle.pool_semantics.specs.declared.plain.parts.Guarded.{Guarded}
 use Rattle.pool_semantics.specs.declared.plain.parts.Place.{Place}
 use Rattle.pool_semantics.specs.declared.plain.parts.Place.TheVariants as P
-use Rattle.pool_semantics.specs.declared.plain.parts.Ready.{Ready}
-use Rattle.pool_semantics.specs.declared.plain.parts.Ready.TheVariants as Y
 use Rattle.pool_semantics.specs.declared.plain.parts.Slot.{Slot}
 use Rattle.pool_semantics.specs.declared.plain.parts.Slot.TheVariants as L
-use Rattle.pool_semantics.specs.declared.plain.parts.Task.{Task}
-use Rattle.pool_semantics.specs.declared.plain.parts.Task.TheVariants as K
 use Rattle.pool_semantics.specs.declared.plain.parts.Segment.{Segment}
 use Rattle.pool_semantics.specs.declared.plain.parts.Segment.TheVariants as G
-use Rattle.pool_semantics.specs.declared.plain.parts.Now.{Now}
-use Rattle.pool_semantics.specs.declared.plain.parts.Now.TheVariants as N
 use Rattle.pool_semantics.specs.declared.plain.parts.Outer.{Outer}
 use Rattle.pool_semantics.specs.declared.plain.parts.Outer.TheVariants as O
 use Rattle.pool_semantics.specs.declared.plain.parts.Activation.{Activation}
-use Rattle.pool_semantics.specs.declared.plain.parts.Work.{Work}
-use Rattle.pool_semantics.specs.Parts.{operand, operands, guarded, alternatives, placed, nested, ready, task, segment, left, slotted, Content, Running, Valued, Over, content, inside, around, wrapped, layers, bottom, term_of, loop_of}
+use Rattle.pool_semantics.specs.Parts.{operands, guarded, alternatives, placed, nested, segment, left, slotted, Content, Running, Valued, Over, inside, around, layers, bottom}
 
 -- nothing is under way in the text of a program
 mutual

@@ -1,7 +1,7 @@
 -- The transitions, from what objects do next.
-use Rattle.std.proofs.Common.{◌≡◌, refl, ap, ap₂, sym, ◌∙◌, ℕ, List, [], ◌∷◌, ◌++◌, map, Option, Some, None, is_none, is_some, not, length, Bool, true, false, ◌==◌, ◌&&◌, arith}
+use Rattle.std.proofs.Common.{◌≡◌, refl, ap, ap₂, sym, ◌∙◌, ℕ, List, [], ◌∷◌, ◌++◌, Option, Some, None, is_none, is_some, not, length, Bool, true, false, ◌==◌, ◌&&◌, arith}
 use Rattle.std.specs.Ordering.{nat_cmp}
-use Rattle.std.specs.FinMap.{find, put}
+use Rattle.std.specs.FinMap.{find}
 use Rattle.std.specs.BTreeMap.{BTreeMap, get}
 use Rattle.std.specs.Option.{option_map}
 use Rattle.pool_syntax.specs.declared.words.Error.{Error}
@@ -10,7 +10,6 @@ use Rattle.pool_syntax.specs.declared.words.NameId.{NameId}
 use Rattle.pool_syntax.specs.declared.words.Item.{Item}
 use Rattle.pool_syntax.specs.declared.words.Value.{Value}
 use Rattle.pool_syntax.specs.declared.words.Value.TheVariants as V
-use Rattle.pool_semantics.specs.Values.{is_same}
 use Rattle.pool_syntax.specs.Classes.{class_of}
 use Rattle.pool_syntax.specs.Terms.{Statements, MethodTree, ClassTree}
 use Rattle.pool_semantics.specs.Reducible.{Choice, AsStatements, AsExpression}
@@ -25,7 +24,7 @@ use Rattle.pool_semantics.specs.Action.{Object, action, method_of}
 use Rattle.pool_semantics.specs.Tables.{Pair}
 use Rattle.pool_semantics.specs.Configuration.{Message, Configuration, object_of, put_object, messages_of, put_messages}
 use Rattle.pool_semantics.specs.Transition.{◌>>=◌, ◌>>◌, require, transition, running, without_fault, local_step, makes, writes, fails, returns, waits_on, calls, posts, offer, has_message, first_message, without_first, are_same, serving, picked, refilled, is_same_item, error_number, new_object}
-use Rattle.pool_semantics.specs.Acts.{acted, changed, now_args, now_names, now_choices, Suits, Fits, is_local}
+use Rattle.pool_semantics.specs.Acts.{acted, changed, now_args, now_names, now_choices, is_local}
 use Rattle.pool_semantics.specs.Things.{thing_object, things}
 use Rattle.pool_syntax.specs.Terms as T
 use Rattle.pool_syntax.specs.declared.tree.Named.{Named}

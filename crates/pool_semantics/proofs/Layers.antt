@@ -1,9 +1,9 @@
 -- The redex of a term in the stepper's form, and the term with another part in its place.
-use Rattle.std.proofs.Common.{◌≡◌, refl, ap, ap₂, sym, ◌∙◌, ℕ, List, [], ◌∷◌, ◌++◌, Option, true, false, arith}
+use Rattle.std.proofs.Common.{◌≡◌, refl, ap, ◌∙◌, ℕ, List, [], ◌∷◌, ◌++◌, Option, true, false, arith}
 use Rattle.pool_syntax.specs.TreeOf.{expression_of, expressions_of, statements_of}
 use Rattle.pool_syntax.specs.Terms as T
 use Rattle.pool_syntax.specs.Terms.{Store, Expression, Expressions, Statement, Statements, Alternatives, append}
-use Rattle.pool_semantics.specs.Reducible.{Choice, Reducible, Found, Evaluated, At, Part, and_then, is_value, are_values, guards_are_values, as_expression, as_statements, assigned, fill_expression, fill_expressions, fill_statement, fill_statements, fill_guards, expression_redex, expressions_redex, statement_redex, statements_redex, guards_redex}
+use Rattle.pool_semantics.specs.Reducible.{Reducible, Evaluated, At, Part, is_value, are_values, guards_are_values, as_expression, as_statements, assigned, fill_expression, fill_expressions, fill_statement, fill_statements, fill_guards, expression_redex, expressions_redex, statement_redex, statements_redex, guards_redex}
 use Rattle.pool_semantics.specs.declared.plain.parts.Operand.{Operand}
 use Rattle.pool_semantics.specs.declared.plain.parts.Guarded.{Guarded}
 use Rattle.pool_semantics.specs.declared.plain.parts.Place.{Place}

@@ -1,21 +1,17 @@
 -- A well-typed configuration from the mere fact that it is one: each object, method and test in it is found again.
-use Rattle.std.proofs.Common.{◌≡◌, refl, sym, ap, ap₂, ◌∙◌, subst, IsTrue, ℕ, ◌==◌, List, [], ◌∷◌, length, Option, Some, None, Bool, true, false, ◌&&◌, All, arith}
+use Rattle.std.proofs.Common.{◌≡◌, refl, sym, ap, ap₂, subst, IsTrue, ℕ, ◌==◌, List, [], ◌∷◌, length, Option, Some, None, Bool, true, false, ◌&&◌, arith}
 use Rattle.std.proofs.Math.Logic.{∥∥₁_elim, ∥∥₁_map}
 use denote.Struct.Props.{props}
-use Rattle.std.specs.FinMap.{is_sorted}
-use Rattle.std.specs.Ordering.{nat_cmp}
 use Rattle.pool_syntax.specs.declared.words.Error.{Error}
 use Rattle.pool_syntax.specs.Terms.{ProgramTree, MethodTree}
-use Rattle.pool_syntax.specs.Typing.{statements_faults, vars_of_class}
-use Rattle.pool_syntax.specs.Classes.{class_of}
+use Rattle.pool_syntax.specs.Typing.{statements_faults}
 use Rattle.pool_semantics.specs.Action as A
 use Rattle.pool_semantics.specs.Action.{Object, Action, action, method_of}
-use Rattle.pool_semantics.specs.Tables.{pair_cmp, no_entry_empty}
-use Rattle.pool_semantics.specs.Configuration.{Message, Configuration, object_of, messages_of}
+use Rattle.pool_semantics.specs.Configuration.{Message, Configuration, object_of}
 use Rattle.pool_semantics.specs.Transition.{fails}
 use Rattle.pool_semantics.specs.Typed.{scope, all_fit, IsMessageFor, Typed}
 use Rattle.pool_semantics.specs.UnderWay.{serves}
-use Rattle.pool_semantics.specs.WellFormed.{are_well_formed_statements, WellTyped}
+use Rattle.pool_semantics.specs.WellFormed.{WellTyped}
 use Rattle.pool_semantics.proofs.Backwards.{same_error, same_some}
 use Rattle.pool_semantics.proofs.Tests.{first, second, equal, equals}
 

@@ -1,5 +1,5 @@
 -- Contexts, the redex inside them, and another part in its place.
-use Rattle.std.proofs.Common.{◌≡◌, refl, ap, sym, ◌∙◌, ℕ, List, [], ◌∷◌, ◌++◌, length, arith}
+use Rattle.std.proofs.Common.{◌≡◌, refl, ap, sym, ◌∙◌, List, [], ◌∷◌, ◌++◌, length, arith}
 use Rattle.pool_syntax.specs.declared.tree.Stmt.{Stmt}
 use Rattle.pool_syntax.specs.Terms as T
 use Rattle.pool_syntax.specs.Terms.{Expression, Expressions}
@@ -9,7 +9,7 @@ use Rattle.pool_syntax.specs.TreeOf.{statements_of}
 use Rattle.pool_syntax.specs.Terms.{Statements, Alternatives, append}
 use Rattle.pool_semantics.specs.declared.plain.parts.Guarded.{Guarded}
 use Rattle.pool_semantics.specs.declared.plain.parts.Segment.{Segment}
-use Rattle.pool_semantics.specs.Parts.{operand, operands, placed, nested, ready, guarded, segment, left}
+use Rattle.pool_semantics.specs.Parts.{operand, operands, placed, nested, guarded, segment, left}
 
 -- one more evaluated argument
 pub operands_more : (vs : List Operand) (v : Operand) (es : Expressions) → operands (vs ++ v ∷ []) es ≡ operands vs (T.Arg (operand v) es)

@@ -1,7 +1,7 @@
 -- Messages that come and go.
-use Rattle.std.proofs.Common.{◌≡◌, refl, ap, ap₂, sym, ◌∙◌, ℕ, List, [], ◌∷◌, ◌++◌, map, Some, None}
+use Rattle.std.proofs.Common.{◌≡◌, refl, ap, sym, ◌∙◌, ℕ, List, [], ◌∷◌, ◌++◌, map, Some, None}
 use Rattle.std.specs.Map.{lookup, set_value, remove_entry, keys_of}
-use Rattle.std.specs.BTreeMap.{BTreeMap, is_at, insert_entry, IsOrdered, get}
+use Rattle.std.specs.BTreeMap.{is_at, insert_entry}
 use Rattle.std.specs.FinMap.{put}
 use Rattle.std.specs.declared.collections.VecDeque.{VecDeque}
 use Rattle.std.specs.Global.{Global}

@@ -1,5 +1,5 @@
 -- A lone object that is not ready has no transition.
-use Rattle.std.proofs.Common.{◌≡◌, refl, ℕ, zero, suc, List, [], ◌∷◌, Option, Some, None, Bool, true, false, ◌⊎◌, inl, inr, ◌&&◌, is_none, slice_get, arith}
+use Rattle.std.proofs.Common.{◌≡◌, refl, ℕ, zero, suc, List, [], ◌∷◌, Option, Some, None, Bool, true, false, slice_get}
 use Rattle.std.specs.Ordering.{nat_cmp}
 use Rattle.std.specs.declared.cmp.Ordering.{Ordering}
 use Rattle.std.specs.declared.cmp.Ordering.TheVariants.{Less, Equal, Greater}
@@ -9,11 +9,11 @@ use Rattle.pool_syntax.specs.declared.words.Error.{Error}
 use Rattle.pool_syntax.specs.declared.words.Item.{Item}
 use Rattle.pool_syntax.specs.declared.words.Label.{Label}
 use Rattle.pool_syntax.specs.declared.words.Label.TheVariants as L
-use Rattle.pool_syntax.specs.Terms.{Statements, ProgramTree}
+use Rattle.pool_syntax.specs.Terms.{ProgramTree}
 use Rattle.pool_semantics.specs.Reducible.{Choice}
 use Rattle.pool_semantics.specs.Action as A
 use Rattle.pool_semantics.specs.Action.{Object, Action, action}
-use Rattle.pool_semantics.specs.Transition.{◌>>=◌, transition, offer, running, local_step, makes, calls, posts, returns, waits_on, writes, fails, picked, plain_choice}
+use Rattle.pool_semantics.specs.Transition.{◌>>=◌, transition, offer, running, local_step, makes, calls, posts, returns, writes, fails, picked, plain_choice}
 use Rattle.pool_semantics.specs.Ready.{is_ready, is_open_plain}
 use Rattle.pool_semantics.specs.Alone.{alone}
 

@@ -1,12 +1,11 @@
 -- The start of a program, in the code's parts.
-use Rattle.std.proofs.Common.{◌≡◌, refl, ap, ap₂, sym, ◌∙◌, ℕ, suc, ◌-◌, List, [], ◌∷◌, length, map, slice_get, Option, Some, None, arith}
+use Rattle.std.proofs.Common.{◌≡◌, refl, ℕ, suc, ◌-◌, List, [], ◌∷◌, length, map, slice_get, Some, arith}
 use Rattle.std.specs.Ordering.{nat_cmp}
 use Rattle.std.specs.FinMap.{put}
 use Rattle.pool_syntax.specs.declared.tree.ClassDecl.{ClassDecl}
 use Rattle.pool_syntax.specs.TreeOf.{class_tree}
-use Rattle.pool_syntax.specs.Terms.{ProgramTree, ClassTree}
 use Rattle.pool_semantics.specs.Action.{Object}
-use Rattle.pool_semantics.specs.Configuration.{Message, Configuration}
+use Rattle.pool_semantics.specs.Configuration.{Message}
 use Rattle.pool_semantics.specs.Tables.{Pair}
 use Rattle.pool_semantics.specs.Transition.{last_class, start, new_object}
 

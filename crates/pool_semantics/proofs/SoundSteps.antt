@@ -1,5 +1,5 @@
 -- A step keeps what a Plain keeps of its configuration.
-use Rattle.std.proofs.Common.{◌≡◌, sym, ap, ℕ, Some, Bool, true, false}
+use Rattle.std.proofs.Common.{◌≡◌, ap, ℕ, Some, Bool, true, false}
 use Rattle.std.proofs.Math.Logic.{∥∥₁_elim, ∥∥₁_map}
 use Rattle.pool_syntax.specs.declared.words.Label.{Label}
 use Rattle.pool_syntax.specs.Terms.{ProgramTree}

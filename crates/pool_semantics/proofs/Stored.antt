@@ -1,6 +1,6 @@
 -- The code's maps and those of the definitions.
-use Rattle.std.proofs.Common.{◌≡◌, refl, ap, sym, ◌∙◌, ℕ, List, [], ◌∷◌, map, Option, Some, None, true, false, arith}
-use Rattle.std.specs.Ordering.{nat_cmp, is_eq}
+use Rattle.std.proofs.Common.{◌≡◌, refl, ap, sym, ◌∙◌, ℕ, List, [], ◌∷◌, Some, arith}
+use Rattle.std.specs.Ordering.{nat_cmp}
 use Rattle.std.specs.declared.cmp.Ordering.{Ordering}
 use Rattle.std.specs.declared.cmp.Ordering.TheVariants.{Less, Equal, Greater}
 use Rattle.std.specs.Cmp.{nat_cmp_total}
@@ -12,7 +12,6 @@ use Rattle.std.specs.Option.{option_map}
 use Rattle.std.proofs.lemmas.Map.{lookup-none}
 use Rattle.std.proofs.lemmas.Map.Entries.{none_below_head}
 use Rattle.pool_semantics.specs.declared.plain.thing.Thing.{Thing}
-use Rattle.pool_semantics.specs.Action.{Object}
 use Rattle.pool_semantics.specs.Things.{thing_object, things}
 
 pub things_lookup : (k : ℕ) (es : List (ℕ × Thing)) → find nat_cmp k (things es) ≡ option_map thing_object (lookup (is_at (nat_cmp k)) es)

@@ -1,9 +1,9 @@
 -- The weight of an argument.
-use Rattle.std.proofs.Common.{◌≡◌, ℕ, ◌+◌, ◌<◌, ◌≤◌, List, [], ◌∷◌, arith}
+use Rattle.std.proofs.Common.{◌≤◌, List, [], ◌∷◌, arith}
 use Rattle.pool_syntax.specs.Terms as T
 use Rattle.pool_syntax.specs.Terms.{Expression, Expressions}
 use Rattle.pool_semantics.specs.declared.plain.parts.Operand.{Operand}
-use Rattle.pool_semantics.specs.Parts.{operand, operands}
+use Rattle.pool_semantics.specs.Parts.{operands}
 use Rattle.pool_semantics.specs.Weights.{weight, weights}
 
 -- an argument weighs no more than all

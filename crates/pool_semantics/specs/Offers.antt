@@ -1,5 +1,5 @@
 -- What an answer or a select offers, in the code's parts.
-use Rattle.std.specs.Prelude.{ℕ, List, Option, Some, None, Bool, false, ◌&&◌}
+use Rattle.std.specs.Prelude.{ℕ, List, Option, Some, None}
 use denote.Bor.{Bor}
 use Rattle.pool_syntax.specs.declared.tree.Stmt.{Stmt}
 use Rattle.pool_syntax.specs.declared.tree.Named.{Named}

@@ -1,7 +1,6 @@
 -- What the plain stepper's contexts stand for.
-use Rattle.std.specs.Prelude.{◌≡◌, ℕ, ◌<◌, List, [], ◌∷◌, Option, Some, None, false}
+use Rattle.std.specs.Prelude.{◌≡◌, ℕ, ◌<◌, List, [], ◌∷◌, false}
 use Rattle.pool_syntax.specs.declared.words.Value.TheVariants as V
-use Rattle.pool_syntax.specs.declared.tree.Expr.{Expr}
 use Rattle.pool_syntax.specs.declared.tree.Alt.{Alt}
 use Rattle.pool_syntax.specs.TreeOf.{expression_of, expressions_of, statements_of}
 use Rattle.pool_syntax.specs.Terms as T

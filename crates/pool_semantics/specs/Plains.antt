@@ -1,9 +1,8 @@
 -- What the plain stepper stands for.
-use Rattle.std.specs.Prelude.{◌≡◌, ℕ, List, map, Option, Some, None, Bool, true, false, ◌==◌, ◌&&◌}
+use Rattle.std.specs.Prelude.{◌≡◌, ℕ, map, Option, Some, None, Bool, true, false, ◌==◌, ◌&&◌}
 use Rattle.std.specs.Ordering.{nat_cmp}
 use Rattle.std.specs.BTreeMap.{BTreeMap, get}
 use Rattle.pool_syntax.specs.Terms.{ProgramTree}
-use Rattle.pool_syntax.specs.TreeOf.{program_of}
 use Rattle.pool_semantics.specs.declared.plain.thing.Thing.{Thing}
 use Rattle.pool_semantics.specs.declared.plain.act.Act.{Act}
 use Rattle.pool_syntax.specs.declared.words.Value.{Value}

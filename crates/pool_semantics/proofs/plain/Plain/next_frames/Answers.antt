@@ -1,4 +1,4 @@
-use Rattle.std.proofs.Common.{◌≡◌, ◌∙◌, ap, refl, sym, Some, None}
+use Rattle.std.proofs.Common.{◌∙◌, ap, refl, sym, Some}
 use Rattle.pool_syntax.specs.TreeOf.{program_of}
 use Rattle.pool_semantics.specs.Acts.{changed, now_args}
 use Rattle.pool_semantics.specs.Things.{thing_object}

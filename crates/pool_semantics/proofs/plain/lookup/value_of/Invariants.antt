@@ -1,4 +1,4 @@
-use Rattle.std.proofs.Common.{◌≡◌, length, map}
+use Rattle.std.proofs.Common.{◌≡◌, length}
 use Rattle.pool_semantics.specs.Action.{value_of}
 use Rattle.pool_semantics.proofs.plain.lookup.value_of.Given as goal
 

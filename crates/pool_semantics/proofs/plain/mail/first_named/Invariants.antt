@@ -1,4 +1,4 @@
-use Rattle.std.proofs.Common.{◌≡◌, ◌-◌, length}
+use Rattle.std.proofs.Common.{◌-◌, length}
 use Rattle.pool_semantics.proofs.Mailing.{NoneBefore}
 use Rattle.pool_semantics.proofs.plain.mail.first_named.Given as goal
 

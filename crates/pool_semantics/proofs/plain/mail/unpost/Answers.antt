@@ -1,7 +1,6 @@
-use Rattle.std.proofs.Common.{◌≡◌, ◌∙◌, ap, sym, ◌∷◌, [], ◌<◌, length, Some, None, arith}
+use Rattle.std.proofs.Common.{◌≡◌, ◌∙◌, ap, sym, Some}
 use Rattle.std.specs.Option.{option_copied_mut}
 use Rattle.std.specs.Map.{lookup, remove_entry}
-use Rattle.std.specs.List.{remove}
 use Rattle.std.specs.BTreeMap.{is_at}
 use Rattle.pool_semantics.specs.Tables.{Pair, pair_cmp}
 use Rattle.pool_semantics.specs.Mails.{posts}

@@ -1,4 +1,4 @@
-use Rattle.std.proofs.Common.{◌≡◌, ◌-◌, length}
+use Rattle.std.proofs.Common.{◌≡◌, length}
 use Rattle.pool_semantics.specs.Transition.{are_same}
 use Rattle.pool_semantics.proofs.plain.steps.same_values.Given as goal
 

@@ -1,6 +1,5 @@
 use Rattle.std.proofs.Common.{◌≡◌, ◌∙◌, ap, ◌-◌, length, slice_get, Some, arith}
 use Rattle.std.proofs.lemmas.Grind.{common_steps}
-use Rattle.pool_syntax.specs.declared.words.Value.TheVariants as V
 use Rattle.pool_syntax.specs.TreeOf.{program_of}
 use Rattle.pool_semantics.specs.Parts.{operand, Valued, Over, layers, bottom}
 use Rattle.pool_semantics.specs.Acts.{object_with}

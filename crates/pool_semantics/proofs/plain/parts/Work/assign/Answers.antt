@@ -1,4 +1,4 @@
-use Rattle.std.proofs.Common.{◌≡◌, ◌∙◌, refl, sym, ◌∷◌, [], ◌++◌, arith}
+use Rattle.std.proofs.Common.{refl, arith}
 use Rattle.std.proofs.lemmas.Grind.{common_steps}
 use Rattle.pool_semantics.proofs.Changing.{assigned_inside}
 use Rattle.pool_semantics.proofs.plain.parts.Work.assign.Goals as goal

@@ -1,4 +1,4 @@
-use Rattle.std.proofs.Common.{◌≡◌, ◌∙◌, ap, sym, refl, ℕ, ◌+◌, ◌-◌, length}
+use Rattle.std.proofs.Common.{◌≡◌, ◌∙◌, ap, sym, refl, ◌+◌, ◌-◌, length}
 use Rattle.pool_semantics.proofs.FrameCounts.{after, frames_after, less_after, same_after}
 use Rattle.pool_semantics.proofs.plain.parts.Work.frames_after.Goals as goal
 

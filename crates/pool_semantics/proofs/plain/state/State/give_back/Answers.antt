@@ -1,4 +1,4 @@
-use Rattle.std.proofs.Common.{◌≡◌, ◌∙◌, ap, refl, sym, Some, true, false}
+use Rattle.std.proofs.Common.{◌∙◌, ap, refl, sym, Some}
 use Rattle.std.specs.Ordering.{nat_cmp}
 use Rattle.std.specs.FinMap.{put}
 use Rattle.pool_syntax.specs.TreeOf.{program_of}

@@ -1,7 +1,7 @@
-use Rattle.std.proofs.Common.{◌≡◌, ◌∙◌, ap, refl, sym, map, Some, None, arith}
+use Rattle.std.proofs.Common.{◌∙◌, ap, refl, sym, Some}
 use Rattle.pool_syntax.specs.TreeOf.{program_of}
 use Rattle.pool_semantics.specs.Plains.{configuration}
-use Rattle.pool_semantics.proofs.Labels.{with_objects, local_made, local_refused}
+use Rattle.pool_semantics.proofs.Labels.{local_made, local_refused}
 use Rattle.pool_semantics.proofs.plain.state.State.local.Goals as goal
 
 pub returns-in_ok-update-in-Local-clause-step : goal.returns-in_ok-update-in-Local-clause-step

@@ -1,6 +1,5 @@
-use Rattle.std.proofs.Common.{◌≡◌, ◌∙◌, ap, ap₂, refl, sym, map, Some, None, true, false, ◌==◌, is_some, arith}
+use Rattle.std.proofs.Common.{◌≡◌, ◌∙◌, ap, ap₂, refl, sym, Some, true, false, ◌==◌, is_some, arith}
 use Rattle.pool_syntax.specs.TreeOf.{program_of}
-use Rattle.std.proofs.lemmas.Grind.{common_steps}
 use Rattle.std.specs.Ordering.{nat_cmp}
 use Rattle.std.specs.BTreeMap.{get}
 use Rattle.std.specs.FinMap.{put}
@@ -8,7 +7,7 @@ use Rattle.pool_semantics.specs.Looked.{class_seen}
 use Rattle.pool_syntax.specs.Classes.{class_of}
 use Rattle.pool_syntax.specs.TreeOf.{class_tree}
 use Rattle.pool_semantics.specs.Plains.{configuration}
-use Rattle.pool_semantics.proofs.Labels.{new_made, new_other, new_used, new_unknown, new_refused}
+use Rattle.pool_semantics.proofs.Labels.{new_made, new_other, new_used, new_refused}
 use Rattle.pool_semantics.proofs.plain.state.State.new.Goals as goal
 
 pub returns-in_default-clause-step : goal.returns-in_default-clause-step

@@ -1,4 +1,4 @@
-use Rattle.std.proofs.Common.{◌≡◌, ◌∙◌, ap, refl, sym, map, Some, None, true, false, arith}
+use Rattle.std.proofs.Common.{◌∙◌, ap, refl, sym, Some}
 use Rattle.pool_syntax.specs.TreeOf.{program_of, statements_of}
 use Rattle.pool_semantics.specs.Offers.{work_seen}
 use Rattle.pool_semantics.specs.Plains.{configuration}

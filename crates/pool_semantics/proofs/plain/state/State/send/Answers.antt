@@ -1,11 +1,10 @@
-use Rattle.std.proofs.Common.{◌≡◌, ◌∙◌, ap, ap₂, refl, sym, ◌++◌, ◌∷◌, [], is_some, Some, None, true, false}
+use Rattle.std.proofs.Common.{◌≡◌, ◌∙◌, ap, ap₂, refl, sym, is_some, Some, true, false}
 use Rattle.std.specs.Ordering.{nat_cmp}
 use Rattle.std.specs.BTreeMap.{get}
 use Rattle.pool_syntax.specs.TreeOf.{program_of}
 use Rattle.pool_semantics.specs.Tables.{Pair, pair_cmp, list_at}
 use Rattle.pool_semantics.specs.Transition.{are_same}
 use Rattle.pool_semantics.specs.Acts.{now_args}
-use Rattle.pool_semantics.specs.Mails.{posts, message_of}
 use Rattle.pool_semantics.specs.Plains.{configuration, posts_act}
 use Rattle.pool_semantics.proofs.Posting.{put_last}
 use Rattle.pool_semantics.proofs.Labels.{send_refused, send_nowhere, send_made}

@@ -1,5 +1,4 @@
-use Rattle.std.proofs.Common.{◌≡◌, ◌∙◌, ap, refl, sym, map, Some, None, true, false, arith}
-use Rattle.std.proofs.lemmas.Grind.{common_steps}
+use Rattle.std.proofs.Common.{◌∙◌, ap, refl, sym, Some}
 use Rattle.pool_syntax.specs.TreeOf.{program_of}
 use Rattle.pool_semantics.specs.Plains.{configuration}
 use Rattle.pool_semantics.proofs.Labels.{write_made, write_other, write_refused}

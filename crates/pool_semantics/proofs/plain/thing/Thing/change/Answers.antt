@@ -1,4 +1,4 @@
-use Rattle.std.proofs.Common.{◌≡◌, ap}
+use Rattle.std.proofs.Common.{ap}
 use Rattle.pool_semantics.specs.Acts.{object_with}
 use Rattle.pool_semantics.proofs.plain.thing.Thing.change.Goals as goal
 
