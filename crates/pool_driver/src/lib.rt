@@ -14,6 +14,7 @@ mod form;
 mod front_rows;
 mod inputs;
 mod kept;
+pub mod laws;
 mod placement;
 mod program;
 mod run;
