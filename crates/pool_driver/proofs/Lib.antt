@@ -5,6 +5,7 @@ pub mod ServedLaws
 pub mod ServedRows
 pub mod TurnLaws
 pub mod RecordLaws
+mod RecordRows
 pub mod StopLaws
 pub mod SpelledTokens
 pub mod EndLaws
