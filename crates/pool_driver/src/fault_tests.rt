@@ -48,7 +48,7 @@ fn spread(alloc: Global, row: &str) -> Result<String, AllocError> {
 }
 
 /// The bytes of a row's text.
-fn bytes_of(alloc: Global, row: &str) -> Result<Vec<u8>, AllocError> {
+pub fn bytes_of(alloc: Global, row: &str) -> Result<Vec<u8>, AllocError> {
     let text = spread(alloc, row)?;
     let mut bytes = Vec::new(alloc);
     for byte in text.as_bytes() {

@@ -16,6 +16,10 @@ mod inputs;
 mod kept;
 pub mod laws;
 mod placement;
+#[cfg(test)]
+mod print_rows;
+#[cfg(test)]
+mod print_tests;
 mod program;
 mod run;
 #[cfg(test)]

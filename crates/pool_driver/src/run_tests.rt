@@ -45,10 +45,10 @@ fn holds(alloc: Global, row: &str) -> Result<bool, AllocError> {
 
 #[test]
 fn records_are_those_of_the_rows(rt: HostRuntime) -> Result<(), Fail> {
-    let mut rows = 0;
+    let mut rows = 0_usize;
     for row in RUNS.lines() {
         assert!(rt; holds(rt.alloc(), row)?, "{row}");
-        rows += 1;
+        rows = rows.saturating_add(1);
     }
     assert_eq!(rt; rows, 27);
     Ok(())

@@ -16,7 +16,7 @@ pub struct Outcome {
     pub err: Vec<u8>,
 }
 
-fn named(alloc: Global, name: &str, text: &[u8]) -> Result<NamedText, AllocError> {
+pub fn named(alloc: Global, name: &str, text: &[u8]) -> Result<NamedText, AllocError> {
     Ok(NamedText {
         name: String::from_str(alloc, name)?,
         text: Vec::from_slice(alloc, text)?,
