@@ -1,8 +1,10 @@
-// Files and sinks of the system, over std. No contract tells what they hold.
-ghost use Rattle.std.specs.Prelude.{◌≡◌, ℕ, ◌+◌, ◌-◌, ◌^◌, ◌<◌, ◌≤◌, None, true, false, length, is_some};
+// Files and sinks of the system, over std. No contract tells what they hold; the bytes that std gives and takes are passed on
+// as they are.
+ghost use Rattle.std.specs.Prelude.{◌≡◌, ℕ, ◌+◌, ◌-◌, ◌^◌, ◌<◌, ◌≤◌, None, true, false, length, take, is_some, option_map, unwrap_or, IfOk, OnErr};
+ghost use Rattle.std.specs.Io.KnownBytes.{Appends, Consumes, IsAtEnd, Keeps};
 ghost use Rattle.pool_outside.specs.Outside.{Rose};
 ghost use Rattle.pool_outside.specs.Memory.{counted};
-ghost use Rattle.pool_outside.specs.Edge.{Counts};
+ghost use Rattle.pool_outside.specs.Edge.{Counts, Passed};
 
 use crate::outside::{Failed, Files, Sink};
 use std::io::{Read, Write};
@@ -23,13 +25,13 @@ pub struct StdFiles<R: rt::Files + Drop> {
 impl<R: rt::Files + Drop> Model for StdFiles<R> {
     ghost Value = { Counts };
 
-    ghost view = { λ f. record { opens = f.opens; given = f.given; faults = f.faults; live = is_some f.file } };
+    ghost view = { λ f. record { opens = f.opens; given = f.given; faults = f.faults; live = is_some f.file; left = unwrap_or (option_map (λ file. R.File.remaining file) f.file) None } };
 }
 
 impl<R: rt::Files + Drop> StdFiles<R> {
     /// The files that this runtime reaches.
     pub fn make(rt: R) -> StdFiles<R>
-        ensures { result ≡ record { opens = 0; given = 0; faults = 0; live = false } }
+        ensures { result ≡ record { opens = 0; given = 0; faults = 0; live = false; left = None } }
     {
         StdFiles {
             rt,
@@ -41,7 +43,7 @@ impl<R: rt::Files + Drop> StdFiles<R> {
     }
 
     fn fail(&mut self)
-        ensures fields { self.new ≡ record self.old { faults = counted self.old.faults 1; live = false } }
+        ensures fields { self.new ≡ record self.old { faults = counted self.old.faults 1; live = false; left = None } }
         ensures rose { Rose self.old.faults self.new.faults }
         ensures stay_or_rise { self.old.faults ≤ self.new.faults }
     {
@@ -80,7 +82,20 @@ impl<R: rt::Files + Drop> Files for StdFiles<R> {
         }
     }
 
-    fn read(&mut self, into: &mut [u8]) -> Result<usize, Failed> {
+    /// Gives the file's next bytes, and 0 at its end alone.
+    fn read(&mut self, into: &mut [u8]) -> Result<usize, Failed>
+        requires live { self.old.live ≡ true }
+        requires room { 0 < length into.old }
+        ensures passed { IfOk result (λ n. 0 < n → Consumes self.old.left self.new.left (take n into.new)) }
+        ensures at_end { IfOk result (λ n. n ≡ 0 → IsAtEnd self.old.left) }
+        ensures fits { IfOk result (λ n. n ≤ length into.old) }
+        ensures counted { IfOk result (λ n. self.new.given ≡ counted self.old.given n) }
+        ensures ended { IfOk result (λ n. n ≡ 0 → self.new.live ≡ false) }
+        ensures goes_on { IfOk result (λ n. 0 < n → self.new.live ≡ true) }
+        ensures failed { OnErr result (Rose self.old.faults self.new.faults × (self.new.live ≡ false) × (self.new.given ≡ self.old.given)) }
+        ensures faults_stay_or_rise { self.old.faults ≤ self.new.faults }
+        ensures same_opens { self.new.opens ≡ self.old.opens }
+    {
         let outcome = match &mut self.file {
             Some(file) => file.read(into),
             None => unreachable!(),
@@ -110,15 +125,15 @@ pub struct StdSink<W: Write + Drop> {
 }
 
 impl<W: Write + Drop> Model for StdSink<W> {
-    ghost Value = { ℕ };
+    ghost Value = { Passed };
 
-    ghost view = { λ s. s.faults };
+    ghost view = { λ s. record { held = W.contents s.writer; faults = s.faults } };
 }
 
 impl<W: Write + Drop> StdSink<W> {
     /// A sink that hands its bytes to the writer.
     pub fn make(writer: W) -> StdSink<W>
-        ensures { result ≡ 0 }
+        ensures { result ≡ record { held = W.contents writer; faults = 0 } }
     {
         StdSink { writer, faults: 0 }
     }
@@ -127,9 +142,17 @@ impl<W: Write + Drop> StdSink<W> {
 impl<W: Write + Drop> Sink for StdSink<W> {
     ghost written = { λ s. None };
 
-    ghost faults = { λ s. s };
+    ghost faults = { λ s. s.faults };
 
-    fn write(&mut self, piece: &[u8]) -> Result<usize, Failed> {
+    /// The writer takes the same bytes: a front of the piece, or none where the write failed.
+    fn write(&mut self, piece: &[u8]) -> Result<usize, Failed>
+        requires some { 0 < length piece.now }
+        ensures passed { IfOk result (λ n. Appends self.old.held self.new.held (take n piece.now)) }
+        ensures kept { OnErr result (Keeps self.old.held self.new.held) }
+        ensures takes { IfOk result (λ n. (1 ≤ n) × (n ≤ length piece.now)) }
+        ensures failed { OnErr result (Rose self.old.faults self.new.faults) }
+        ensures faults_stay_or_rise { self.old.faults ≤ self.new.faults }
+    {
         match self.writer.write(piece) {
             Ok(count) if count > 0 => Ok(count),
             _ => {
