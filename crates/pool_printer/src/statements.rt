@@ -1,5 +1,7 @@
 //! The tokens of statements.
-ghost use Rattle.std.specs.Prelude.{◌≡◌, true};
+ghost use Rattle.std.specs.Prelude.{◌≡◌, ◌∷◌, true};
+ghost use Rattle.pool_syntax.specs.declared.token.Keyword.TheVariants.{Answer};
+ghost use Rattle.pool_syntax.specs.declared.token.Tok.TheVariants.{Word};
 ghost use Rattle.pool_syntax.specs.TreeOf.{statement_of, statements_of};
 ghost use Rattle.pool_printer.specs.Canonical.{alternatives_tokens, answer_tokens, else_tokens, names_tokens, statement_tokens, statements_tokens};
 ghost use Rattle.pool_printer.specs.Known.{are_known};
@@ -24,6 +26,15 @@ fn list<K: Sink>(names: &Names, sink: &mut K, progress: &mut Progress, list: &[N
     say(names, sink, progress, Tok::Sign(Sign::RightParen));
 }
 
+/// Writes `answer` and its names.
+fn answer_to<K: Sink>(names: &Names, sink: &mut K, progress: &mut Progress, listed: &[Named])
+    requires { are_known names.now (names_tokens listed.now) ≡ true }
+    ensures { Prints names.now (Word Answer ∷ names_tokens listed.now) (state progress.old (K.written sink.old) (K.faults sink.old)) (state progress.new (K.written sink.new) (K.faults sink.new)) }
+{
+    say(names, sink, progress, Tok::Word(Keyword::Answer));
+    list(names, sink, progress, listed);
+}
+
 /// Writes the answer list of an alternative, if it has one.
 fn answer<K: Sink>(
     names: &Names,
@@ -35,8 +46,7 @@ fn answer<K: Sink>(
     ensures { Prints names.now (answer_tokens answer.now) (state progress.old (K.written sink.old) (K.faults sink.old)) (state progress.new (K.written sink.new) (K.faults sink.new)) }
 {
     if let Some(answer) = answer {
-        say(names, sink, progress, Tok::Word(Keyword::Answer));
-        list(names, sink, progress, answer.items());
+        answer_to(names, sink, progress, answer.items());
     }
 }
 
@@ -81,10 +91,7 @@ fn statement<K: Sink>(names: &Names, sink: &mut K, progress: &mut Progress, stmt
             statements(names, sink, progress, body.items());
             say(names, sink, progress, Tok::Word(Keyword::Od));
         }
-        Stmt::Answer { names: list_of } => {
-            say(names, sink, progress, Tok::Word(Keyword::Answer));
-            list(names, sink, progress, list_of.items());
-        }
+        Stmt::Answer { names: listed } => answer_to(names, sink, progress, listed.items()),
         Stmt::Select { alts } => {
             say(names, sink, progress, Tok::Word(Keyword::Select));
             alternatives(names, sink, progress, alts.items());

@@ -1,7 +1,7 @@
 //! The way to the redex of an expression.
 ghost use Rattle.std.specs.Prelude.{◌≡◌, [], ◌∷◌, ◌++◌, ◌+◌, IfOk, IfSome, IfNone, false};
 ghost use Rattle.pool_syntax.specs.TreeOf.{expression_of, expressions_of};
-ghost use Rattle.pool_syntax.specs.Terms.{Arg, NoArgs, Infix, Call, Send};
+ghost use Rattle.pool_syntax.specs.Terms.{Arg, NoArgs, Prefix, Infix, Call, Send};
 ghost use Rattle.pool_semantics.specs.Reducible.{is_value};
 ghost use Rattle.pool_semantics.specs.Parts.{operand, operands, nested, stepped, ready, IsOpen, IsBelow};
 ghost use Rattle.pool_semantics.specs.Weights.{weight, weights};
@@ -152,6 +152,70 @@ pub fn into_right<'a>(
     Ok(Step::Into(right))
 }
 
+/// Goes on in the operand of a prefix operator.
+#[tactic(auto, using(crate::proofs::Plugged::nested_more))]
+fn into_operand<'a>(
+    op: Op,
+    arg: &'a Expr,
+    pos: u32,
+    places: &mut Vec<Place<'a>>,
+) -> Result<Step<'a>, AllocError>
+    ensures same { IfOk result (λ s. nested places.new.items (stepped s) ≡ nested places.old.items (Prefix op (expression_of arg.now) pos)) }
+    ensures open { IfOk result IsOpen }
+    ensures below { IfOk result (IsBelow (weight (Prefix op (expression_of arg.now) pos))) }
+{
+    if let Some(value) = literal(arg) {
+        return Ok(Step::Found(Ready::Prefix {
+            op,
+            arg: value,
+            pos,
+        }));
+    }
+    places.push(Place::Prefix { op, pos })?;
+    Ok(Step::Into(arg))
+}
+
+/// Goes on in the operands of an infix operator.
+#[tactic(auto, using(crate::proofs::Plugged::nested_more))]
+fn into_left<'a>(
+    op: Op,
+    left: &'a Expr,
+    right: &'a Expr,
+    pos: u32,
+    places: &mut Vec<Place<'a>>,
+) -> Result<Step<'a>, AllocError>
+    ensures same { IfOk result (λ s. nested places.new.items (stepped s) ≡ nested places.old.items (Infix op (expression_of left.now) (expression_of right.now) pos)) }
+    ensures open { IfOk result IsOpen }
+    ensures below { IfOk result (IsBelow (weight (Infix op (expression_of left.now) (expression_of right.now) pos))) }
+{
+    if let Some(value) = literal(left) {
+        return into_right(op, value, right, pos, places);
+    }
+    places.push(Place::Left { op, right, pos })?;
+    Ok(Step::Into(left))
+}
+
+/// Goes on in the destination of a send, and then in its arguments.
+#[tactic(auto, using(crate::proofs::Plugged::nested_more))]
+fn into_destination<'a>(
+    alloc: Global,
+    to: &'a Expr,
+    method: NameId,
+    args: &'a [Expr],
+    pos: u32,
+    places: &mut Vec<Place<'a>>,
+) -> Result<Step<'a>, AllocError>
+    ensures same { IfOk result (λ s. nested places.new.items (stepped s) ≡ nested places.old.items (Send (expression_of to.now) method.0 (expressions_of args.now) pos)) }
+    ensures open { IfOk result IsOpen }
+    ensures below { IfOk result (IsBelow (weight (Send (expression_of to.now) method.0 (expressions_of args.now) pos))) }
+{
+    if let Some(value) = literal(to) {
+        return into_send(value, method, Vec::new(alloc), args, pos, places);
+    }
+    places.push(Place::Destination { method, args, pos })?;
+    Ok(Step::Into(to))
+}
+
 /// One step on the way to the redex of an expression that is no literal.
 #[tactic(auto, using(crate::proofs::Plugged::nested_more, crate::proofs::Views::call_is, crate::proofs::Views::send_is))]
 fn into<'a>(
@@ -174,33 +238,13 @@ fn into<'a>(
             class: *class,
             pos: *pos,
         })),
-        Expr::Unary { op, arg, pos } => {
-            if let Some(value) = literal(arg) {
-                return Ok(Step::Found(Ready::Prefix {
-                    op: *op,
-                    arg: value,
-                    pos: *pos,
-                }));
-            }
-            places.push(Place::Prefix { op: *op, pos: *pos })?;
-            Ok(Step::Into(arg))
-        }
+        Expr::Unary { op, arg, pos } => into_operand(*op, arg, *pos, places),
         Expr::Binary {
             op,
             left,
             right,
             pos,
-        } => {
-            if let Some(value) = literal(left) {
-                return into_right(*op, value, right, *pos, places);
-            }
-            places.push(Place::Left {
-                op: *op,
-                right,
-                pos: *pos,
-            })?;
-            Ok(Step::Into(left))
-        }
+        } => into_left(*op, left, right, *pos, places),
         Expr::Call { method, args, pos } => into_call(
             *method,
             Vec::new(alloc),
@@ -213,17 +257,7 @@ fn into<'a>(
             method,
             args,
             pos,
-        } => {
-            if let Some(value) = literal(to) {
-                return into_send(value, *method, Vec::new(alloc), args.items(), *pos, places);
-            }
-            places.push(Place::Destination {
-                method: *method,
-                args: args.items(),
-                pos: *pos,
-            })?;
-            Ok(Step::Into(to))
-        }
+        } => into_destination(alloc, to, *method, args.items(), *pos, places),
         Expr::Int { .. } | Expr::Bool { .. } | Expr::Nil { .. } => unreachable!(),
     }
 }

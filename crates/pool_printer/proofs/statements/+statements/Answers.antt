@@ -131,7 +131,7 @@ statement-returns-in-While g t c =
 
 pub statement-returns-in-Answer : goal.statement-returns-in-Answer
 statement-returns-in-Answer g t c =
-    prints_same _ _ _ _ _ (ap (λ ns. Word word.Answer ∷ names_tokens ns) c.items-in-Answer.ensures ∙ ap tokens_of (sym c.in-Answer.is)) (prints_more _ _ _ _ _ _ c.say-in-Answer.ensures c.list.ensures)
+    prints_same _ _ _ _ _ (ap (λ ns. Word word.Answer ∷ names_tokens ns) c.items-in-Answer.ensures ∙ ap tokens_of (sym c.in-Answer.is)) c.answer_to.ensures
 
 pub statement-returns-in-Select : goal.statement-returns-in-Select
 statement-returns-in-Select g t c =

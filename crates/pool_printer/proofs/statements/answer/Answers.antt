@@ -2,9 +2,9 @@ use Rattle.std.proofs.Common.{ap, sym, ◌∙◌, ◌∷◌}
 use Rattle.pool_syntax.specs.declared.token.Tok.TheVariants.{Word}
 use Rattle.pool_syntax.specs.declared.token.Keyword.TheVariants as word
 use Rattle.pool_printer.specs.Canonical.{answer_tokens, names_tokens}
-use Rattle.pool_printer.proofs.Putting.{prints_more, prints_same}
+use Rattle.pool_printer.proofs.Putting.{prints_same}
 use Rattle.pool_printer.proofs.statements.answer.Goals as goal
 
 pub returns-in-Some : goal.returns-in-Some
 returns-in-Some g c =
-    prints_same _ _ _ _ _ (ap (λ ns. Word word.Answer ∷ names_tokens ns) c.items.ensures ∙ ap answer_tokens (sym c.in-Some.is)) (prints_more _ _ _ _ _ _ c.say.ensures c.list.ensures)
+    prints_same _ _ _ _ _ (ap (λ ns. Word word.Answer ∷ names_tokens ns) c.items.ensures ∙ ap answer_tokens (sym c.in-Some.is)) c.answer_to.ensures
