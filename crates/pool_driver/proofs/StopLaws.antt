@@ -3,6 +3,7 @@ use Rattle.std.proofs.Common.{◌≡◌, ◌≢◌, ◌≤◌, ◌+◌, ◌∙�
 use Rattle.pool_syntax.specs.Tokens.{Text}
 use Rattle.pool_syntax.specs.declared.tree.Program.{Program}
 use Rattle.pool_syntax.specs.TreeOf.{program_of}
+use Rattle.pool_syntax.specs.Terms.{ProgramTree}
 use Rattle.pool_syntax.specs.Typing.{faults}
 use Rattle.pool_driver.specs.Served.{is_served}
 use Rattle.pool_driver.specs.declared.fault.Input.{Input}
@@ -15,13 +16,13 @@ use Rattle.pool_driver.specs.declared.inputs.Stop.{Stop}
 use Rattle.pool_driver.specs.declared.inputs.Stop.TheVariants as S
 use Rattle.pool_driver.specs.Commands.{Request, record_of, print_of}
 use Rattle.pool_driver.specs.Stops.{stop_of}
-use Rattle.pool_driver.specs.Programs.{IsFaultOfText}
+use Rattle.pool_driver.specs.Programs.{IsFaultOfText, IsFaultOfClasses, IsFaultOfProgram}
 use Rattle.pool_driver.specs.Outcomes.{Told, IsReadAs, HasFault, Stops, faulty, IsRefused, AcceptsBefore, most_bytes, name_of, number_of}
 
 -- what is a fault of a text stops each request that reads it as a program
 pub text_fault : (r : Request) (s : Text) (f : Fault) → IsFaultOfText s f → HasFault r I.Program s f
 text_fault (record_of names) s f h = inl h
-text_fault (print_of name) s f h = h
+text_fault (print_of name) s f h = inl h
 
 -- a refused program stops the call at the program, for its fault
 pub refusal_stops : (told : Told) (name s : Text) (given : ℕ) (q : Request) (r : Refusal) (i : Input) (f : Fault) → IsReadAs told name s → ((g : Fault) → r ≡ R.Because g → HasFault q I.Program s g)
@@ -69,3 +70,11 @@ checked_classes a b e h = subst (λ (p : Program). faults (program_of p) ≡ [])
 
 pub checked_form : (a b : Program) → a ≡ b → is_served (program_of a) ≡ true → is_served (program_of b) ≡ true
 checked_form a b e h = subst (λ (p : Program). is_served (program_of p) ≡ true) e h
+
+-- a class fault is a reason not to run a program
+pub class_fault : (p : ProgramTree) (f : Fault) → IsFaultOfClasses p f → IsFaultOfProgram p f
+class_fault p F.TooLong h = h
+class_fault p F.NotYet h = absurd h
+class_fault p (F.Lex g) h = h
+class_fault p (F.Syntax g) h = h
+class_fault p (F.Class g) h = h

@@ -14,7 +14,8 @@ use Rattle.pool_driver.specs.declared.fault.Fault.{Fault}
 use Rattle.pool_driver.specs.declared.fault.Fault.TheVariants as F
 use Rattle.pool_driver.specs.declared.schedule.Turns.{Turns}
 use Rattle.pool_driver.specs.Commands.{FileNames, Request, record_of, print_of, program_name}
-use Rattle.pool_driver.specs.Programs.{IsParsed, IsTextOf, IsProgramText, IsFaultOfText, IsFaultOfProgram}
+use Rattle.pool_syntax.specs.Typing.{faults}
+use Rattle.pool_driver.specs.Programs.{IsParsed, IsTextOf, IsTypedText, IsProgramText, IsFaultOfText, IsFaultOfClasses, IsFaultOfProgram}
 use Rattle.pool_driver.specs.Placements.{is_one_node}
 use Rattle.pool_driver.specs.Schedules.{schedule_of}
 use Rattle.pool_driver.specs.Records as R
@@ -87,7 +88,7 @@ abbrev pub HasFault : Request → Input → Text → Fault → Type 0
 HasFault (record_of names) I.Program s f = IsFaultOfText s f ⊎ ((p : ProgramTree) × IsTextOf s p × IsFaultOfProgram p f)
 HasFault (record_of names) I.Placement s f = (f ≡ F.NotYet) × (is_one_node s ≡ false)
 HasFault (record_of names) I.Schedule s f = (f ≡ F.NotYet) × (schedule_of s ≡ None)
-HasFault (print_of name) I.Program s f = IsFaultOfText s f
+HasFault (print_of name) I.Program s f = IsFaultOfText s f ⊎ ((p : ProgramTree) × IsTextOf s p × IsFaultOfClasses p f)
 HasFault (print_of name) _ s f = ⊥
 
 -- The input of this name stops the call for a fault: more than the limit was given of it, or its text has the fault.
@@ -118,13 +119,14 @@ pub record IsRecordOf (told : Told) (names : FileNames) (text : Text) (status : 
   pub ended : status ≡ status_of (R.record_of program turns.quantum turns.turns).lines
   pub run : IsRunFrom program first (R.record_of program turns.quantum turns.turns)
 
--- the canonical text of the program that was read
+-- the canonical text of the program that was read, which has no class faults
 pub record IsPrintOf (told : Told) (name : Text) (text : Text) : Type 0 where
   pub source : Text
   pub names : List Text
   pub program : ProgramTree
   pub read : IsReadAs told name source
   pub parsed : IsParsed source names program
+  pub typed : faults program ≡ []
   pub printed : text ≡ canonical names program
 
 -- what is asked for: its text, and the status with which it is written
@@ -161,9 +163,9 @@ IsAcceptedPlacement told = (s : Text) × (told ≡ Some s) × (length s ≤ most
 abbrev pub IsAcceptedSchedule : Option Text → Turns → Type 0
 IsAcceptedSchedule told turns = (s : Text) × (told ≡ Some s) × (length s ≤ most_bytes) × (schedule_of s ≡ Some turns)
 
--- a text that is told has a program
+-- a text that is told has a program without class faults
 abbrev pub IsAcceptedText : Option Text → Type 0
-IsAcceptedText told = (s : Text) × (p : ProgramTree) × (told ≡ Some s) × (length s ≤ most_bytes) × IsTextOf s p
+IsAcceptedText told = (s : Text) × (p : ProgramTree) × (told ≡ Some s) × (length s ≤ most_bytes) × IsTypedText s p
 
 -- the texts that are told under the three names are accepted, as this program and this schedule
 pub record IsAcceptedAsTold (told : Told) (names : FileNames) (p : ProgramTree) (turns : Turns) : Type 0 where

@@ -29,6 +29,10 @@ IsParsed s names p = (ts : List Token) × HasTokens s names ts × HasProgram (to
 abbrev pub IsTextOf : Text → ProgramTree → Type 0
 IsTextOf s p = (names : List Text) × IsParsed s names p
 
+-- the text has the program, and it has no class faults
+abbrev pub IsTypedText : Text → ProgramTree → Type 0
+IsTypedText s p = IsTextOf s p × (faults p ≡ [])
+
 -- the text is a program without class faults, of the form that is run
 abbrev pub IsProgramText : Text → ProgramTree → Type 0
 IsProgramText s p = IsTextOf s p × (faults p ≡ []) × (is_served p ≡ true)
@@ -45,8 +49,12 @@ IsFaultOfText s (F.Lex f) = IsFirstFault s f
 IsFaultOfText s (F.Syntax f) = (names : List Text) × (ts : List Token) × HasTokens s names ts × IsSyntaxFault (toks ts) f
 IsFaultOfText s _ = ⊥
 
--- the text has a program that is not run, for this fault
+-- the program's least class fault
+abbrev pub IsFaultOfClasses : ProgramTree → Fault → Type 0
+IsFaultOfClasses p (F.Class f) = IsLeastFault (faults p) (pair_of f)
+IsFaultOfClasses p _ = ⊥
+
+-- the program is not run, for this fault
 abbrev pub IsFaultOfProgram : ProgramTree → Fault → Type 0
-IsFaultOfProgram p (F.Class f) = IsLeastFault (faults p) (pair_of f)
 IsFaultOfProgram p F.NotYet = (faults p ≡ []) × (is_served p ≡ false)
-IsFaultOfProgram p _ = ⊥
+IsFaultOfProgram p f = IsFaultOfClasses p f

@@ -1,10 +1,11 @@
-//! What is told of a program: its first fault, `NotYet` where it has none and is not of the form that is run, or nothing.
+//! What is told of a program: its first fault, by `record` and by `print`; `NotYet` where it has none and is not of the form that is run, by `record` alone.
 use crate::Status;
 use crate::fault_rows::{
     ABSENCES, CALLS, DECLARATIONS, LIMITS, NESTING, OPERATORS, PHRASES, SORTS, TOKENS,
 };
 use crate::front_rows::FRONTS;
-use crate::tests::calm;
+use crate::print_tests::printed;
+use crate::tests::{Outcome, calm};
 use pool_lexer::tokens;
 use pool_parser::{SyntaxFault, parse};
 use std::alloc::{AllocError, Global};
@@ -61,16 +62,32 @@ pub fn bytes_of(alloc: Global, row: &str) -> Result<Vec<u8>, AllocError> {
     Ok(bytes)
 }
 
+fn is_accepted(outcome: &Outcome) -> bool {
+    matches!(outcome.status, Status::Done | Status::ScheduleOver)
+        && outcome.err.is_empty()
+        && !outcome.out.is_empty()
+}
+
+fn is_refused(outcome: &Outcome, line: &[u8]) -> bool {
+    outcome.status == Status::Refused && outcome.out.is_empty() && outcome.err.as_slice() == line
+}
+
 /// Whether this is told of the program, or that it is accepted. No turn of it is made.
-fn is_told(alloc: Global, program: &[u8], told: &str) -> Result<bool, AllocError> {
-    let outcome = calm(alloc, program, b"quantum 1\n")?;
-    if told == "accepted" {
-        let ran = matches!(outcome.status, Status::Done | Status::ScheduleOver);
-        return Ok(ran && outcome.err.is_empty());
-    }
+pub fn is_told(alloc: Global, program: &[u8], told: &str) -> Result<bool, AllocError> {
+    let recorded = calm(alloc, program, b"quantum 1\n")?;
+    let printed = printed(alloc, program)?;
     let line = format!(in alloc; "pool: program: {told}\n")?;
-    let refused = outcome.status == Status::Refused && outcome.out.is_empty();
-    Ok(refused && outcome.err.as_slice() == line.as_bytes())
+    let by_record = if told == "accepted" {
+        is_accepted(&recorded)
+    } else {
+        is_refused(&recorded, line.as_bytes())
+    };
+    let by_print = if told == "accepted" || told == "NotYet" {
+        is_accepted(&printed)
+    } else {
+        is_refused(&printed, line.as_bytes())
+    };
+    Ok(by_record && by_print)
 }
 
 fn is_right(alloc: Global, row: &str) -> Result<bool, AllocError> {

@@ -1,12 +1,13 @@
 //! Reads the inputs in their order, judges each before the next is opened, and makes the record.
-ghost use Rattle.std.specs.Prelude.{◌≡◌, ◌≢◌, ◌<◌, ◌+◌, ◌-◌, ◌^◌, ◌≤◌, List, length, IsTrue, IsOk, IfOk, Err, Some, true};
+ghost use Rattle.std.specs.Prelude.{◌≡◌, ◌≢◌, ◌<◌, ◌+◌, ◌-◌, ◌^◌, ◌≤◌, List, [], length, IsTrue, IsOk, IfOk, Err, Some, true};
 ghost use Rattle.pool_outside.specs.Outside.{Rose};
 ghost use Rattle.pool_syntax.specs.Tokens.{Text};
 ghost use Rattle.pool_syntax.specs.TreeOf.{program_of};
-ghost use Rattle.pool_driver.specs.Commands.{FileNames as Names, Request, names_of, record_of};
+ghost use Rattle.pool_driver.specs.Commands.{FileNames as Names, Request, names_of, print_of, record_of};
 ghost use Rattle.pool_driver.specs.Stops.{stop_of};
 ghost use Rattle.pool_driver.specs.Placements.{is_one_node};
-ghost use Rattle.pool_driver.specs.Programs.{IsParsed};
+ghost use Rattle.pool_driver.specs.Programs.{IsParsed, IsTextOf};
+ghost use Rattle.pool_syntax.specs.Typing.{faults};
 ghost use Rattle.pool_driver.specs.Schedules.{schedule_of};
 ghost use Rattle.pool_driver.specs.Outcomes.{AcceptsBefore, IsAcceptedAsTold, IsAcceptedPlacement, IsAcceptedSchedule, IsAcceptedText, IsReadAs, IsRecordOf, IsRefused, MayOpen, Stops, most_bytes, number_of};
 ghost use Rattle.pool_driver.specs.declared.fault.Fault.{Fault as AnyFault};
@@ -18,7 +19,7 @@ ghost use Rattle.pool_syntax.specs.Terms.{ProgramTree};
 use crate::command::Files as FileNames;
 use crate::fault::{Fault, Input};
 use crate::placement::is_placement_of_one;
-use crate::program::{Parsed, Refusal, judge, read_program};
+use crate::program::{Parsed, Refusal, judge, judge_classes, read_program};
 use crate::run::{Recorded, record};
 use crate::schedule::{Turns, schedule};
 use pool_outside::{Files, ReadFault, read_whole};
@@ -141,7 +142,8 @@ pub fn read_parsed<F: Files>(alloc: Global, files: &mut F, name: &str) -> Result
     ensures unread { (i : AnyInput) → result ≡ Err (Stop.Unread i) → (i ≡ Input.Program) × Rose (F.faults files.old) (F.faults files.new) }
     ensures same { (s : Text) (names : List Text) (p : ProgramTree) → F.told files.old name.now ≡ Some s → length s ≤ most_bytes → IsParsed s names p
         → IfOk result (λ q. program_of q.program ≡ p) }
-    ensures accepted { IsAcceptedText (F.told files.old name.now) → (i : AnyInput) (f : AnyFault) → result ≢ Err (Stop.Refused i f) }
+    ensures accepted { (s : Text) (p : ProgramTree) → F.told files.old name.now ≡ Some s → length s ≤ most_bytes → IsTextOf s p
+        → (i : AnyInput) (f : AnyFault) → result ≢ Err (Stop.Refused i f) }
     ensures opened_once { F.opens files.new ≡ F.opens files.old + 1 }
     ensures faults_stay_or_rise { F.faults files.old ≤ F.faults files.new }
     ensures same_texts { F.told files.new ≡ F.told files.old }
@@ -152,6 +154,30 @@ pub fn read_parsed<F: Files>(alloc: Global, files: &mut F, name: &str) -> Result
         Ok(parsed) => Ok(parsed),
         Err(refusal) => Err(stop_at_program(refusal)),
     }
+}
+
+/// Reads a program whose classes have no fault.
+pub fn read_typed<F: Files>(alloc: Global, files: &mut F, name: &str) -> Result<Parsed, Stop>
+    requires allowed { IsTrue (F.may files.old (F.opens files.old) name.now) }
+    requires countable { F.opens files.old < 2 ^ 64 - 1 }
+    ensures read { IfOk result (λ p. (s : Text) × IsReadAs (F.told files.old) name.now s × IsParsed s p.names (program_of p.program)) }
+    ensures typed { IfOk result (λ p. faults (program_of p.program) ≡ []) }
+    ensures spelled { IfOk result (λ p. is_spelled p.names (program_of p.program) ≡ true) }
+    ensures refused { (i : AnyInput) (f : AnyFault) → result ≡ Err (Stop.Refused i f) → (i ≡ Input.Program)
+        × Stops (F.told files.old) name.now (F.given files.new) (print_of name.now) Input.Program f }
+    ensures unread { (i : AnyInput) → result ≡ Err (Stop.Unread i) → (i ≡ Input.Program) × Rose (F.faults files.old) (F.faults files.new) }
+    ensures accepted { IsAcceptedText (F.told files.old name.now) → (i : AnyInput) (f : AnyFault) → result ≢ Err (Stop.Refused i f) }
+    ensures opened_once { F.opens files.new ≡ F.opens files.old + 1 }
+    ensures faults_stay_or_rise { F.faults files.old ≤ F.faults files.new }
+{
+    let parsed = match read_parsed(alloc, files, name) {
+        Ok(parsed) => parsed,
+        Err(stop) => return Err(stop),
+    };
+    if let Err(refusal) = judge_classes(alloc, &parsed) {
+        return Err(stop_at_program(refusal));
+    }
+    Ok(parsed)
 }
 
 /// Reads the program, the placement and the schedule, each judged before the next is opened, and makes the record.

@@ -1,21 +1,23 @@
 //! The canonical texts that are printed.
-use crate::fault_tests::bytes_of;
+use crate::fault_tests::{bytes_of, is_told};
+use crate::pool;
 use crate::print_rows::{EXPRESSIONS, PROGRAMS, STATEMENTS, TOO_DEEP};
+use crate::program::read_program;
 use crate::tests::{Outcome, named};
-use crate::{Status, pool};
 use pool_outside::{MemFiles, MemSink};
+use pool_printer::print;
 use std::alloc::{AllocError, Global};
 use std::test::Fail;
 
 /// `print P` over this text.
-fn printed(alloc: Global, program: &[u8]) -> Result<Outcome, AllocError> {
+pub fn printed(alloc: Global, program: &[u8]) -> Result<Outcome, AllocError> {
     let words = vec![in alloc;
         String::from_str(alloc, "print")?,
         String::from_str(alloc, "P")?,
     ]?;
     let texts = vec![in alloc; named(alloc, "P", program)?]?;
     let mut files = MemFiles::make(texts, Vec::new(alloc));
-    let mut out = MemSink::make(alloc, 4096, 10, Vec::new(alloc))?;
+    let mut out = MemSink::make(alloc, 65536, 1000, Vec::new(alloc))?;
     let mut err = MemSink::make(alloc, 200, 10, Vec::new(alloc))?;
     let status = pool(alloc, &words, &mut files, &mut out, &mut err);
     Ok(Outcome {
@@ -23,6 +25,21 @@ fn printed(alloc: Global, program: &[u8]) -> Result<Outcome, AllocError> {
         out: out.written().to_vec(alloc)?,
         err: err.written().to_vec(alloc)?,
     })
+}
+
+/// The canonical text of the text's program, if it has one. Whether the classes fit is not asked.
+fn canonical(alloc: Global, text: &[u8]) -> Result<Option<Vec<u8>>, AllocError> {
+    if text.len() > 1048576 {
+        return Ok(None);
+    }
+    let Ok(parsed) = read_program(alloc, text) else {
+        return Ok(None);
+    };
+    let mut out = MemSink::make(alloc, 4096, 10, Vec::new(alloc))?;
+    match print(&parsed.program, &parsed.names, &mut out) {
+        Ok(()) => Ok(Some(out.written().to_vec(alloc)?)),
+        Err(_) => Ok(None),
+    }
 }
 
 /// The text that a frame is with this part in place of its `$`.
@@ -33,8 +50,10 @@ fn framed(alloc: Global, frame: &str, part: &str) -> Result<Vec<u8>, AllocError>
 }
 
 fn is_printed_as(alloc: Global, text: &[u8], wanted: &[u8]) -> Result<bool, AllocError> {
-    let outcome = printed(alloc, text)?;
-    Ok(outcome.status == Status::Done && outcome.err.is_empty() && outcome.out.as_slice() == wanted)
+    Ok(match canonical(alloc, text)? {
+        Some(printed) => printed.as_slice() == wanted,
+        None => false,
+    })
 }
 
 /// Whether a row's text is printed as its canonical text, and that one as itself; the frames are of the one and of the other.
@@ -55,13 +74,10 @@ fn is_too_deep_again(alloc: Global, row: &str) -> Result<bool, AllocError> {
     let Some((text, canonical)) = texts.split_once(" | ") else {
         return Ok(false);
     };
-    let first = printed(alloc, &framed(alloc, "class A body $ end", text)?)?;
+    let text = framed(alloc, "class A body $ end", text)?;
     let canonical = framed(alloc, "class A~body $ end~", canonical)?;
-    let as_wanted = first.status == Status::Done && first.out.as_slice() == canonical.as_slice();
-    let again = printed(alloc, &first.out)?;
-    let line = format!(in alloc; "pool: program: TooDeep at token {token}\n")?;
-    let refused = again.status == Status::Refused && again.out.is_empty();
-    Ok(as_wanted && refused && again.err.as_slice() == line.as_bytes())
+    let told = format!(in alloc; "TooDeep at token {token}")?;
+    Ok(is_printed_as(alloc, &text, &canonical)? && is_told(alloc, &canonical, &told)?)
 }
 
 #[test]

@@ -1,5 +1,5 @@
 //! Reads a program and judges it: its tokens, its grammar, its classes, its form.
-ghost use Rattle.std.specs.Prelude.{◌≡◌, ◌≢◌, ◌≤◌, List, length, true, [], IfOk, MatchResult, Err};
+ghost use Rattle.std.specs.Prelude.{◌≡◌, ◌≢◌, ◌≤◌, List, length, true, [], IfOk, MatchResult, IsOk, Err};
 ghost use Rattle.pool_syntax.specs.Terms.{ProgramTree};
 ghost use Rattle.pool_syntax.specs.Tokens.{Text};
 ghost use Rattle.pool_syntax.specs.TreeOf.{program_of};
@@ -7,7 +7,7 @@ ghost use Rattle.pool_syntax.specs.Spelled.{IsGrammatical, is_spelled};
 ghost use Rattle.pool_syntax.specs.Typing.{faults};
 ghost use Rattle.pool_driver.specs.Served.{is_served};
 ghost use Rattle.pool_driver.specs.Stops.{refusal_of_grammar, refusal_of_tokens};
-ghost use Rattle.pool_driver.specs.Programs.{IsFaultOfProgram, IsFaultOfText, IsParsed};
+ghost use Rattle.pool_driver.specs.Programs.{IsFaultOfClasses, IsFaultOfProgram, IsFaultOfText, IsParsed};
 ghost use Rattle.pool_driver.specs.declared.fault.Fault.{Fault as AnyFault};
 
 use crate::fault::Fault;
@@ -75,6 +75,22 @@ pub fn read_program(alloc: Global, bytes: &[u8]) -> Result<Parsed, Refusal>
     }
 }
 
+/// Judges the classes of a program that was read.
+pub fn judge_classes<'a>(alloc: Global, parsed: &'a Parsed) -> Result<Checked<'a>, Refusal>
+    requires grammatical { IsGrammatical (program_of parsed.now.program) }
+    requires spelled { is_spelled parsed.now.names (program_of parsed.now.program) ≡ true }
+    ensures same { IfOk result (λ c. c.program.now ≡ parsed.now.program) }
+    ensures typed { IsOk result → faults (program_of parsed.now.program) ≡ [] }
+    ensures only { faults (program_of parsed.now.program) ≡ [] → (f : AnyFault) → result ≢ Err (Refusal.Because f) }
+    ensures refused { (f : AnyFault) → result ≡ Err (Refusal.Because f) → IsFaultOfClasses (program_of parsed.now.program) f }
+{
+    match check(alloc, &parsed.program, &parsed.names) {
+        Ok(checked) => Ok(checked),
+        Err(ClassFault::Memory) => Err(Refusal::Memory),
+        Err(fault) => Err(Refusal::Because(Fault::Class(fault))),
+    }
+}
+
 /// Judges a program that was read: its classes, and then its form.
 pub fn judge<'a>(alloc: Global, parsed: &'a Parsed) -> Result<Checked<'a>, Refusal>
     requires grammatical { IsGrammatical (program_of parsed.now.program) }
@@ -84,10 +100,9 @@ pub fn judge<'a>(alloc: Global, parsed: &'a Parsed) -> Result<Checked<'a>, Refus
     ensures only { faults (program_of parsed.now.program) ≡ [] → is_served (program_of parsed.now.program) ≡ true → (f : AnyFault) → result ≢ Err (Refusal.Because f) }
     ensures refused { (f : AnyFault) → result ≡ Err (Refusal.Because f) → IsFaultOfProgram (program_of parsed.now.program) f }
 {
-    let checked = match check(alloc, &parsed.program, &parsed.names) {
+    let checked = match judge_classes(alloc, parsed) {
         Ok(checked) => checked,
-        Err(ClassFault::Memory) => return Err(Refusal::Memory),
-        Err(fault) => return Err(Refusal::Because(Fault::Class(fault))),
+        Err(refusal) => return Err(refusal),
     };
     if serves(&parsed.program) {
         Ok(checked)

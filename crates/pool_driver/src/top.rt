@@ -12,7 +12,7 @@ ghost use Rattle.pool_driver.specs.declared.fault.Input.{Input};
 
 use crate::command::{Command, Files as FileNames, read_words};
 use crate::fault::{line_of_refusal, line_of_unread};
-use crate::inputs::{Stop, read_parsed, record_inputs};
+use crate::inputs::{Stop, read_typed, record_inputs};
 use crate::status::Status;
 use pool_outside::{Files, Sink, write_all_of};
 use pool_printer::print;
@@ -107,7 +107,7 @@ fn write_canonical<F: Files, K: Sink, E: Sink>(
     ensures complete { IsServable (F.told files.old) (print_of name.now) → ¬ (Rose (F.faults files.old) (F.faults files.new))
         → ¬ (Rose (K.faults out.old) (K.faults out.new)) → IsWhole result ⊎ (result ≡ Status.Memory) }
 {
-    match read_parsed(alloc, files, name) {
+    match read_typed(alloc, files, name) {
         Ok(parsed) => match print(&parsed.program, &parsed.names, out) {
             Ok(()) => Status::Done,
             Err(_) => Status::WriteFault,

@@ -13,11 +13,11 @@ returns-clause-refused g c r i f e =
     (λ h w. text_fault r c.in_ok-text.text.items h (subst (λ (s : List ℕ). IsFaultOfText s h) c.deref.ensures.value (c.in-Err.ensures.refused h (ap Err w)))) is
 
 pub returns-clause-accepted : goal.returns-clause-accepted
-returns-clause-accepted g c h i f e =
+returns-clause-accepted g c s p told short parsed i f e =
     let is : stop_of c.in-Err.refusal ≡ S.Refused i f = cc in
-    let text = c.deref.ensures.value ∙ told_text (g.F.Files.told c.args.files.now) c.args.name.now c.in_ok-text.text.items h.0 h.2 h.3 c.in_ok-text.ensures.read in
-    let parsed = subst (λ (s : List ℕ). IsParsed s h.4.0 h.1) (sym text) h.4.1 in
-    memory_stops_not c.in-Err.refusal i f (c.in-Err.ensures.only h.4.0 h.1 parsed) is
+    let text = c.deref.ensures.value ∙ told_text (g.F.Files.told c.args.files.now) c.args.name.now c.in_ok-text.text.items s told short c.in_ok-text.ensures.read in
+    let read = subst (λ (z : List ℕ). IsParsed z parsed.0 p) (sym text) parsed.1 in
+    memory_stops_not c.in-Err.refusal i f (c.in-Err.ensures.only parsed.0 p read) is
 
 pub returns-in-Ok-clause-same : goal.returns-in-Ok-clause-same
 returns-in-Ok-clause-same g c s names p told short parsed =

@@ -113,7 +113,7 @@ pub returns-in-Err-clause-accepted : goal.returns-in-Err-clause-accepted
 returns-in-Err-clause-accepted g c p turns h i f e =
     let stop : c.in-Err.stop ≡ S.Refused i f = cc in
     let a = h.program in
-    c.in-Err.ensures.accepted (a.0, p, a.1, a.2, a.3.0) i f (ap Err stop)
+    c.in-Err.ensures.accepted a.0 p a.1 a.2 a.3.0 i f (ap Err stop)
 
 pub returns-in-Err-judge-clause-accepted : goal.returns-in-Err-judge-clause-accepted
 returns-in-Err-judge-clause-accepted g c p turns h i f e =
