@@ -666,3 +666,142 @@ Limit at token 197 | class A body select[64: when true then] when 1 < 2 then end
 TypeDiffers at token 197 | class A body select[64: when true then] when 1 then end end
 UnknownVariable at token 197 | class A body select[64: when true then] when x then end end
 NotYet | class A body select[64: when true then] write 1 + 1; select when true then end end end"##;
+
+/// What operators and results are, and what is hidden.
+pub const PLACES: &str = r##"-- What operators need on their other sides.
+TypeDiffers at token 4 | class A body write true + 1 end
+TypeDiffers at token 6 | class A body write 1 - true end
+TypeDiffers at token 6 | class A body write 1 * self end
+TypeDiffers at token 4 | class A body write true / 1 end
+TypeDiffers at token 4 | class A body write self % 2 end
+TypeDiffers at token 6 | class A body write 1 < false end
+TypeDiffers at token 4 | class A body write self <= 1 end
+TypeDiffers at token 6 | class A body write 1 > true end
+TypeDiffers at token 4 | class A body write true >= 1 end
+TypeDiffers at token 6 | class A body write true and 1 end
+TypeDiffers at token 4 | class A body write 1 or true end
+TypeDiffers at token 5 | class A body write - self end
+TypeDiffers at token 5 | class A body write not self end
+TypeDiffers at token 4 | class A body write true + false end
+-- The two sides of an equality, where one has no value of its own.
+NoResult at token 10 | class A method m() begin end body write m() == m() end
+NoResult at token 10 | class A method m() begin end body write m() != true end
+UnknownVariable at token 4 | class A body write x == true end
+UnknownVariable at token 6 | class A body write true == x end
+UnknownMethod at token 8 | class A body write 1 != self ! m() end
+TypeDiffers at token 10 | class A body write (1 == 2) != 3 end
+TypeDiffers at token 10 | class A var b : B body write b == self end class B body end
+UnknownClass at token 30 | class A method k() begin write m() == n(); write n() != m() end method m() : B begin result 1 end method n() : C begin result true end body end
+-- A call and a send have the sort of their result.
+TypeDiffers at token 19 | class A var x : Int method m() : Bool begin result true end body x := m() end
+TypeDiffers at token 21 | class A var x : Bool method m() : Int begin result 1 end body x := self ! m() end
+TypeDiffers at token 21 | class A var x : A method m() : B begin result nil end body x := self ! m() end class B body end
+TypeDiffers at token 23 | class A var x : B method m() : A begin result self end body x := m() ! m() end class B body end
+TypeDiffers at token 14 | class A method m() : Int begin result 1 end body if m() then fi end
+TypeDiffers at token 16 | class A method m() : Int begin result 1 end body while self ! m() do od end
+TypeDiffers at token 19 | class A method m(p : Int) : Bool begin result true end body write m(m(1)) end
+NotYet | class A var x : Int var y : Bool var z : A method m() : Int begin result 1 end method n() : Bool begin result true end method o() : A begin result self end body x := m(); y := n(); z := o(); x := self ! m(); y := z ! n(); z := o() ! o() end
+UnknownMethod at token 17 | class A method m() : B begin result nil end body m() ! m() end class B method n() begin end body end
+NotYet | class A method m() : B begin result nil end body m() ! n(); self ! m() !! n() end class B method n() begin end body end
+-- A method's value.
+TypeDiffers at token 11 | class A method m() : A begin result new B end body end class B body end
+TypeDiffers at token 13 | class A method m(p : Bool) : Int begin result p end body end
+UnknownVariable at token 10 | class A method m() : Int begin result x end body end
+UnknownMethod at token 10 | class A method m() : Int begin result n() end body end
+ArgumentCount at token 10 | class A method m() : Bool begin result n(1) end method n() : Int begin result 1 end body end
+accepted | class A method m(p : A) : A local q : A begin q := p result q end method n() : Bool begin result m(nil) == self end body end
+-- A class that no one makes.
+UnknownMethod at token 9 | class A method m() begin self ! n() end body end class M body end
+AnswerName at token 9 | class A method m() begin answer(n) end body end class M method n() begin end body end
+AnswerName at token 18 | class A method m() begin end body end class M body select when true answer(m) then end end
+Limit at token 37 | class A method m(p : Int[7:, v$ : Int], q : Int) begin end body end class M body end
+UnknownClass at token 9 | class A method m() local p : B begin end body end class M body end
+-- What is hidden has no say.
+NotYet | class A var x : Int method m(x : A) begin x ! m(nil) end body x := 1 end
+UnknownMethod at token 16 | class A var x : B method m(x : A) begin x ! k() end method n() begin x ! k() end body end class B method k() begin end body end
+TypeDiffers at token 17 | class A var x : Bool method m(x : Int) : Bool begin result x end body end
+accepted | class A var x : Bool method m(x : Int) : Int begin result x end body x := m(1) == 1 end
+UnknownClass at token 11 | class A var x : Int method m(x : B) begin x := true; x ! k() end body x := 1 end"##;
+
+/// Several faults on one token, and operands held.
+pub const HELD: &str =
+    r##"-- Of faults on one token the least number is told, also at a destination.
+ArgumentCount at token 14 | class A method m() : Int begin result 1 end body write m(1) ! m() end
+ArgumentCount at token 9 | class A method m() begin end body m(1) ! m() end
+ArgumentCount at token 16 | class A method m() : Int begin result 1 end body write true == m(1) end
+ArgumentCount at token 206 | class A method m() : Bool begin result true end body write [64:1 + (]m(1)[64:)] end
+UnknownClass at token 197 | class A body write [64:1 + (]new B ! m()[64:)] end
+UnknownVariable at token 196 | class A body write [64:1 + (]x ! m()[64:)] end
+UnknownMethod at token 196 | class A body write [64:1 + (]m() ! n()[64:)] end
+ArgumentCount at token 206 | class A method m() : A begin result self end body write [64:1 + (]m(1) ! m()[64:)] end
+TypeDiffers at token 202 | class A method m() begin end body write [64:1 + (]1 ! m()[64:)] end
+NoResult at token 202 | class A method m() begin end body write [64:1 + (]m() ! m()[64:)] end
+Limit at token 196 | class A body write [64:1 + (]self ! n()[64:)] end
+Limit at token 196 | class A body write [64:nil == (]self[64:)] end
+UnknownClass at token 198 | class A body select[64: when true then] when new B then end end
+UnknownMethod at token 197 | class A body select[64: when true then] when n() then end end
+NoResult at token 203 | class A method m() begin end body select[64: when true then] when m() then end end
+-- Arguments of an own call that stands as a statement.
+accepted | class A method m(p : Int, q : Int) begin end body m([63:1 + (]1[63:)], [62:1 + (]1[62:)]) end
+Limit at token 210 | class A method m(p : Int, q : Int) begin end body m([64:1 + (]1[64:)], 1) end
+Limit at token 209 | class A method m(p : Int, q : Int) begin end body m(1, [63:1 + (]1[63:)]) end
+-- Arguments of a send, which the destination and the arguments before them stand before.
+NotYet | class A method m(p : Int, q : Int) begin end body self ! m([62:1 + (]1[62:)], [61:1 + (]1[61:)]) end
+Limit at token 209 | class A method m(p : Int, q : Int) begin end body self ! m([63:1 + (]1[63:)], 1) end
+Limit at token 208 | class A method m(p : Int, q : Int) begin end body self ! m(1, [62:1 + (]1[62:)]) end
+NotYet | class A method m(p : Int, q : Int) begin end body self !! m([62:1 + (]1[62:)], [61:1 + (]1[61:)]) end
+Limit at token 209 | class A method m(p : Int, q : Int) begin end body self !! m([63:1 + (]1[63:)], 1) end
+Limit at token 208 | class A method m(p : Int, q : Int) begin end body self !! m(1, [62:1 + (]1[62:)]) end
+NotYet | class A method m(p : Int, q : Int) : Int begin result p end body write 1 + self ! m(1, [30:self ! m(1, ]1[30:)]) end
+Limit at token 213 | class A method m(p : Int, q : Int) : Int begin result p end body write [32:self ! m(1, ]1[32:)] end
+NotYet | class A method m(a : Int, b : Int, c : Int, d : Int, e : Int, f : Int, g : Int, h : Int) : Int begin result a end body write [7:self ! m(1, 2, 3, 4, 5, 6, 7, ]m(1, 2, 3, 4, 5, 6, 7, 8)[7:)] end
+Limit at token 189 | class A method m(a : Int, b : Int, c : Int, d : Int, e : Int, f : Int, g : Int, h : Int) : Int begin result a end body write [8:self ! m(1, 2, 3, 4, 5, 6, 7, ]8[8:)] end
+-- Destinations hold what their send holds.
+NotYet | class A method m(p : Int, q : A) : A begin result q end body [63:m(1, ]self[63:)] ! m(1, nil) end
+Limit at token 276 | class A method m(p : Int, q : A) : A begin result q end body [64:m(1, ]self[64:)] ! m(1, nil) end
+NotYet | class A method m() : A begin result self end body write [63:nil == (]self ! m() ! m() ! m()[63:)] end
+Limit at token 206 | class A method m() : A begin result self end body write [64:nil == (]self ! m() ! m()[64:)] end
+Limit at token 210 | class A method m(p : Int) : A begin result self end body write [63:nil == (]self ! m(1)[63:)] end
+NotYet | class A method m(p : Int) : A begin result self end body write [62:nil == (]self ! m(1)[62:)] end
+-- Guards: the 64th holds 63 operands, the 65th 64.
+NotYet | class A method m() : Bool begin result true end body select[63: when true then] when self ! m() then end end
+Limit at token 207 | class A method m() : Bool begin result true end body select[64: when true then] when self ! m() then end end
+Limit at token 211 | class A method m(p : Int) : Bool begin result true end body select[63: when true then] when self ! m(1) then end end
+NotYet | class A method m(p : Int) : Bool begin result true end body select[63: when true then] when m(1) then end end
+Limit at token 215 | class A method m(p : Int, q : Int) : Bool begin result true end body select[63: when true then] when m(1, 2) then end end
+NotYet | class A body select[63: when true then] when not true then end end
+Limit at token 197 | class A body select[64: when true then] when not true then end end
+NotYet | class A method m() begin end body select[64: when true answer(m) then write 1 + 1] end end"##;
+
+/// The texts of the section on class faults in `docs/LANGUAGE.md`, and the shortest text of each fault.
+pub const LANGUAGE: &str = r##"-- The shortest text of each fault.
+ClassTwice at token 5 | class A body end class A body end
+UnknownClass at token 5 | class A var x : B body end
+VariableTwice at token 5 | class A var x, x : Int body end
+MethodTwice at token 9 | class A method m() begin end method m() begin end body end
+LocalTwice at token 9 | class A method m(p : Int, p : Int) begin end body end
+UnknownVariable at token 3 | class A body x := 1 end
+UnknownMethod at token 17 | class S body end class Main var s : S var n : Int body s ! go(); n := true end
+ArgumentCount at token 9 | class A method m() begin end body m(1) end
+TypeDiffers at token 4 | class A body if 1 then fi end
+NoResult at token 10 | class A method m() begin end body write m() end
+AnswerName at token 5 | class A body answer(m) end
+Limit at token 37 | class A method m(a : Int, b : Int, c : Int, d : Int, e : Int, f : Int, g : Int, h : Int, i : Int) begin end body end
+-- The texts of the page on the language.
+ClassTwice at token 12 | class Cell~var Cell : Int~body Cell := 1 end~class Cell~body end~class Main~body new Cell end
+UnknownClass at token 28 | class Main~method total() : Int begin result price(2) + price(3) end~method price(n : Int) : Money begin result n end~body write total() end
+UnknownClass at token 10 | class Main~var n : Int~body n := new Counter; n := true end
+VariableTwice at token 9 | class Counter~var count, step : Int~var count : Bool~body count := 1; step := 1 end
+MethodTwice at token 21 | class Counter~var count : Int~method add(n : Int) begin count := count + n end~method add() begin add(1) end~body count := 0; answer(add) end
+LocalTwice at token 18 | class Main~method gcd(a : Int, b : Int) : Int local r, b : Int~begin if b == 0 then r := a else r := gcd(b, a % b) fi result r end~body write gcd(252, 105) end
+UnknownVariable at token 39 | class Main~var sum : Int~method add(n : Int) local next : Int begin next := sum + n; sum := next end~body sum := 0; add(2); write next + 1 end
+UnknownMethod at token 17 | class S body end~class Main~var s : S~var n : Int~body s ! go(); n := true end
+ArgumentCount at token 53 | class Main~method power(b : Int, n : Int) : Int local r : Int~begin r := 1; while n > 0 do r := r * b; n := n - 1 od result r end~body write power(2, 5) + power(2); write power(true, 2, 3) end
+ArgumentCount at token 15 | class Main~method greet(n : Int) begin write n end~body write greet() end
+TypeDiffers at token 18 | class Main~var n : Int~var done : Bool~body n := 3; done := n - 1; while n do n := n - 1 od end
+TypeDiffers at token 16 | class Main~var n : Int~body n := 3; if n == (n > 2) then write n fi end
+TypeDiffers at token 30 | class Main~var n : Int~method twice(k : Int) : Int begin result k + k end~body n := twice(4); write n ! twice(true) end
+NoResult at token 34 | class Main~var total : Int~method add(n : Int) begin total := total + n end~body total := 0; add(1); total := total + add(2) end
+AnswerName at token 40 | class Store~method put(n : Int) begin write n end~body answer(put) end~class Main~var s : Store~body s := new Store; s !! put(1); answer(put) end
+AnswerName at token 43 | class Cell~var value : Int~method put(n : Int) begin value := n end~method get() : Int begin result value end~body answer(put); while true do answer(get, put, get) od end
+Limit at token 37 | class Main~method mean(a : Int, b : Int, c : Int, d : Int, e : Int, f : Int, g : Int, h : Int, i : Int) : Int~begin result (a + b + c + d + e + f + g + h + i) / 9 end~body write mean(1, 2, 3, 4, 5, 6, 7, 8, 9) end"##;

@@ -1,7 +1,8 @@
 //! What is told of a program: its first fault, by `record` and by `print`; `NotYet` where it has none and is not of the form that is run, by `record` alone.
 use crate::Status;
 use crate::fault_rows::{
-    ABSENCES, CALLS, DECLARATIONS, LIMITS, NESTING, OPERATORS, PHRASES, SORTS, TOKENS,
+    ABSENCES, CALLS, DECLARATIONS, HELD, LANGUAGE, LIMITS, NESTING, OPERATORS, PHRASES, PLACES,
+    SORTS, TOKENS,
 };
 use crate::front_rows::FRONTS;
 use crate::print_tests::printed;
@@ -178,6 +179,9 @@ fn first_faults_are_told(rt: HostRuntime) -> Result<(), Fail> {
         SORTS,
         ABSENCES,
         LIMITS,
+        PLACES,
+        HELD,
+        LANGUAGE,
     ] {
         assert_eq!(rt; first_wrong(rt.alloc(), rows)?, None);
     }

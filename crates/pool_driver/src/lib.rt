@@ -17,6 +17,10 @@ mod kept;
 pub mod laws;
 mod placement;
 #[cfg(test)]
+mod plain_rows;
+#[cfg(test)]
+mod plain_tests;
+#[cfg(test)]
 mod print_rows;
 #[cfg(test)]
 mod print_tests;
