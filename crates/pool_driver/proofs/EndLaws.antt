@@ -1,5 +1,5 @@
 -- How a call ends, by its status.
-use Rattle.std.proofs.Common.{◌≡◌, ◌≢◌, ◌∙◌, ◌⊎◌, inl, inr, ◌+◌, ◌||◌, Bool, true, false, List, [], ◌∷◌, Option, Some, None, if◌then◌else◌, refl, sym, ap, subst, ℕ}
+use Rattle.std.proofs.Common.{◌≡◌, ◌≢◌, ◌∙◌, ◌⊎◌, inl, inr, ◌+◌, ◌||◌, Bool, true, false, List, [], ◌∷◌, Option, Some, refl, sym, subst}
 use Rattle.pool_syntax.specs.Tokens.{Text}
 use Rattle.pool_syntax.specs.declared.words.End.{End}
 use Rattle.pool_syntax.specs.declared.words.End.TheVariants as F
@@ -8,7 +8,6 @@ use Rattle.pool_syntax.specs.declared.words.Line.TheVariants as L
 use Rattle.pool_driver.specs.declared.status.Status.{Status}
 use Rattle.pool_driver.specs.declared.status.Status.TheVariants as S
 use Rattle.pool_driver.specs.declared.fault.Input.{Input}
-use Rattle.pool_driver.specs.declared.fault.Input.TheVariants as I
 use Rattle.pool_driver.specs.declared.fault.Fault.{Fault}
 use Rattle.pool_driver.specs.declared.inputs.Stop.{Stop}
 use Rattle.pool_driver.specs.declared.inputs.Stop.TheVariants as T

@@ -1,7 +1,6 @@
 -- A record goes on line by line, and shows a run.
-use Rattle.std.proofs.Common.{◌≡◌, ◌≢◌, refl, sym, ap, subst, ◌∙◌, ℕ, zero, suc, ◌+◌, ◌-◌, ◌<◌, ◌≤◌, List, [], ◌∷◌, ◌++◌, Option, Some, None, Bool, true, false, not, ◌||◌, IsTrue, replicate, is_some, append_assoc, append-nil, arith}
+use Rattle.std.proofs.Common.{◌≡◌, refl, sym, ap, subst, ◌∙◌, ℕ, zero, suc, ◌+◌, ◌-◌, ◌<◌, ◌≤◌, List, [], ◌∷◌, ◌++◌, Option, Some, None, Bool, true, false, ◌||◌, IsTrue, replicate, append_assoc, append-nil, arith}
 use Rattle.pool_syntax.specs.declared.words.Error.{Error}
-use Rattle.pool_syntax.specs.declared.words.Item.TheVariants as I
 use Rattle.pool_syntax.specs.declared.words.Label.{Label}
 use Rattle.pool_syntax.specs.declared.words.Label.TheVariants as L
 use Rattle.pool_syntax.specs.declared.words.What.{What}
@@ -19,9 +18,9 @@ use Rattle.pool_syntax.specs.Spelled.{IsGrammatical}
 use Rattle.pool_semantics.specs.Action as A
 use Rattle.pool_semantics.specs.Action.{Object, Action, action}
 use Rattle.pool_semantics.specs.Configuration.{Configuration, object_of}
-use Rattle.pool_semantics.specs.Transition.{◌>>=◌, transition, run, start}
+use Rattle.pool_semantics.specs.Transition.{transition, run, start}
 use Rattle.pool_semantics.specs.Typed.{GoesWrong}
-use Rattle.pool_semantics.specs.WellFormed.{is_written, WellTyped}
+use Rattle.pool_semantics.specs.WellFormed.{is_written}
 use Rattle.pool_semantics.specs.Ready.{is_ready}
 use Rattle.pool_semantics.proofs.Quiet.{no_transition}
 use Rattle.pool_semantics.proofs.Runs.{joined}
@@ -30,7 +29,7 @@ use Rattle.pool_semantics.proofs.Kept.{run_kept}
 use Rattle.pool_semantics.proofs.GoingOn.{not_wrong}
 use Rattle.pool_semantics.proofs.Grammatical.{grammatical_written}
 use Rattle.pool_driver.specs.Served.{are_small, is_served, IsServedAction}
-use Rattle.pool_driver.specs.Turn.{local_steps, step_count, Turn, shows, full, nothing, one_step, many_steps, turn_by, turn_of, turn}
+use Rattle.pool_driver.specs.Turn.{local_steps, step_count, Turn, shows, full, nothing, one_step, many_steps, turn_by, turn}
 use Rattle.pool_driver.specs.Records.{is_quiet, Record, with_line, ends, after_turn, record_from, record_at, record_of, labels_of, labels, is_quiet_end, ends_quiet, shows_fault, ended, status_after, status_of, IsRunFrom}
 use Rattle.pool_driver.specs.RecordText.{line_text, record_text}
 use Rattle.pool_driver.specs.Asked.{IsLone, IsTurn}

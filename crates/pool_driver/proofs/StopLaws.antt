@@ -1,5 +1,5 @@
 -- Why a call stops at an input.
-use Rattle.std.proofs.Common.{◌≡◌, ◌≢◌, ◌≤◌, ◌+◌, ◌∙◌, Bool, true, IsTrue, List, [], Some, IfSome, length, inl, refl, sym, ap, subst, ℕ}
+use Rattle.std.proofs.Common.{◌≡◌, ◌≢◌, ◌≤◌, ◌+◌, ◌∙◌, Bool, true, IsTrue, [], Some, IfSome, length, inl, refl, sym, ap, subst, ℕ}
 use Rattle.pool_syntax.specs.Tokens.{Text}
 use Rattle.pool_syntax.specs.declared.tree.Program.{Program}
 use Rattle.pool_syntax.specs.TreeOf.{program_of}
@@ -12,7 +12,6 @@ use Rattle.pool_driver.specs.declared.fault.Fault.{Fault}
 use Rattle.pool_driver.specs.declared.fault.Fault.TheVariants as F
 use Rattle.pool_driver.specs.declared.program.Refusal.{Refusal}
 use Rattle.pool_driver.specs.declared.program.Refusal.TheVariants as R
-use Rattle.pool_driver.specs.declared.inputs.Stop.{Stop}
 use Rattle.pool_driver.specs.declared.inputs.Stop.TheVariants as S
 use Rattle.pool_driver.specs.Commands.{Request, record_of, print_of}
 use Rattle.pool_driver.specs.Stops.{stop_of}

@@ -1,5 +1,5 @@
 -- A turn: the greatest number of local transitions, and what a turn makes of a shown redex.
-use Rattle.std.proofs.Common.{◌≡◌, ◌≢◌, refl, sym, ap, subst, ◌∙◌, ℕ, zero, suc, ◌+◌, ◌-◌, ◌<◌, ◌≤◌, ◌==◌, ℤ, pos, negsuc, List, [], ◌∷◌, ◌++◌, Option, Some, None, Bool, true, false, not, ◌||◌, replicate, is_some, is_none, nat_le, nat_lt, if◌then◌else◌, arith}
+use Rattle.std.proofs.Common.{◌≡◌, ◌≢◌, refl, sym, ap, subst, ◌∙◌, ℕ, zero, suc, ◌+◌, ◌<◌, ◌≤◌, ◌==◌, ℤ, pos, negsuc, [], ◌∷◌, ◌++◌, Option, Some, None, Bool, true, false, replicate, is_some, nat_le, nat_lt, if◌then◌else◌, arith}
 use Rattle.std.proofs.lemmas.Bool.Decides.{nat_tests}
 use Rattle.pool_syntax.specs.declared.words.Value.{Value}
 use Rattle.pool_syntax.specs.declared.words.Value.TheVariants as V
@@ -8,27 +8,22 @@ use Rattle.pool_syntax.specs.declared.words.Item.{Item}
 use Rattle.pool_syntax.specs.declared.words.Item.TheVariants as I
 use Rattle.pool_syntax.specs.declared.words.Label.{Label}
 use Rattle.pool_syntax.specs.declared.words.Label.TheVariants as L
-use Rattle.pool_syntax.specs.declared.words.What.{What}
 use Rattle.pool_syntax.specs.declared.words.What.TheVariants as W
-use Rattle.pool_syntax.specs.declared.words.Event.{Event}
-use Rattle.pool_syntax.specs.declared.words.Line.TheVariants as R
 use Rattle.pool_syntax.specs.Terms.{ProgramTree, Statements, Store}
 use Rattle.pool_semantics.specs.declared.plain.redex.Redex.{Redex}
 use Rattle.pool_semantics.specs.declared.plain.redex.Redex.TheVariants as X
 use Rattle.pool_semantics.specs.Values.{is_same, is_same_int, is_same_bool}
 use Rattle.pool_semantics.specs.Action as A
 use Rattle.pool_semantics.specs.Action.{Object, Action, action}
-use Rattle.pool_semantics.specs.UnderWay.{frames_of}
-use Rattle.pool_semantics.specs.Configuration.{Configuration, object_of}
+use Rattle.pool_semantics.specs.Configuration.{Configuration}
 use Rattle.pool_semantics.specs.Transition.{◌>>=◌, transition, run, is_same_item, error_number}
-use Rattle.pool_semantics.specs.Shown.{Shows, shown_at}
-use Rattle.pool_semantics.specs.PlainOf.{frames_at, frames_next}
+use Rattle.pool_semantics.specs.Shown.{Shows}
 use Rattle.pool_semantics.proofs.Runs.{joined}
 use Rattle.pool_driver.specs.declared.run.Asked.{Asked}
 use Rattle.pool_driver.specs.declared.run.Asked.TheVariants as Q
 use Rattle.pool_driver.specs.Served.{are_small, is_served, IsServedAction}
-use Rattle.pool_driver.specs.Turn.{frame_limit, frame_count, within_limit, local_step, local_steps, greatest, step_count, Turn, shows, full, nothing, one_step, many_steps, turn_by, turn_of, turn}
-use Rattle.pool_driver.specs.Records.{is_quiet, labels_of}
+use Rattle.pool_driver.specs.Turn.{frame_limit, frame_count, within_limit, local_step, local_steps, greatest, step_count, shows, one_step, many_steps, turn}
+use Rattle.pool_driver.specs.Records.{is_quiet}
 use Rattle.pool_driver.specs.Asked.{asked_by, IsLone}
 use Rattle.pool_driver.proofs.ServedLaws.{served_action, served_local, served_write, served_fault}
 

@@ -1,5 +1,5 @@
 -- The words of a command.
-use Rattle.std.specs.Prelude.{ℕ, List, [], ◌∷◌, ◌&&◌, Option, Some, None, Bool, true, false, not, if◌then◌else◌, bytes_eq, codes, nat_eq, map, string_bytes, String}
+use Rattle.std.specs.Prelude.{List, [], ◌∷◌, ◌&&◌, Option, Some, None, Bool, false, not, if◌then◌else◌, bytes_eq, codes, nat_eq, map, string_bytes, String}
 use Rattle.pool_syntax.specs.Tokens.{Text}
 use Rattle.pool_driver.specs.declared.command.Files.{Files}
 use Rattle.pool_driver.specs.declared.command.Command.{Command}

@@ -1,5 +1,5 @@
 -- The lines of a placement or a schedule that are not passed over, as words.
-use Rattle.std.specs.Prelude.{ℕ, ◌≤◌, List, [], ◌∷◌, map, filter, Option, Some, None, Bool, true, false, not, nat_eq, nat_le, ◌&&◌}
+use Rattle.std.specs.Prelude.{ℕ, List, [], ◌∷◌, map, filter, Option, Some, None, Bool, true, false, not, nat_eq, nat_le, ◌&&◌}
 use Rattle.pool_syntax.specs.Tokens.{Text}
 use Rattle.pool_lexer.specs.Lines.{lines, words, decimal_of}
 use Rattle.pool_lexer.specs.declared.places.Decimal.{Decimal}

@@ -1,9 +1,7 @@
 -- How a call of `pool` ends: what each status says of the words, of the texts that were told, and of the bytes that were written.
-use Rattle.std.specs.Prelude.{◌≡◌, ◌≢◌, ℕ, ◌+◌, ◌<◌, ◌≤◌, List, [], ◌∷◌, ◌++◌, map, length, take, Option, Some, None, option_map, Bool, true, false, IsTrue, IfSome, ◌⊎◌}
-use Rattle.pool_outside.specs.Outside.{Rose}
+use Rattle.std.specs.Prelude.{◌≡◌, ℕ, ◌+◌, ◌<◌, ◌≤◌, List, [], ◌++◌, length, take, Option, Some, None, option_map, Bool, true, false, IsTrue, IfSome, ◌⊎◌}
 use Rattle.pool_syntax.specs.Tokens.{Text}
 use Rattle.pool_syntax.specs.Terms.{ProgramTree}
-use Rattle.pool_semantics.specs.Action.{Object}
 use Rattle.pool_semantics.specs.Configuration.{Configuration}
 use Rattle.pool_semantics.specs.Transition.{start}
 use Rattle.pool_driver.specs.declared.status.Status.{Status}

@@ -1,5 +1,5 @@
 -- The placement of all classes on one node.
-use Rattle.std.specs.Prelude.{List, [], ◌∷◌, Option, Some, None, Bool, true, false, ◌&&◌, is_some, bytes_eq, codes}
+use Rattle.std.specs.Prelude.{List, [], ◌∷◌, Bool, false, ◌&&◌, is_some, bytes_eq, codes}
 use Rattle.pool_syntax.specs.Tokens.{Text}
 use Rattle.pool_driver.specs.Kept.{kept_lines, number_within}
 

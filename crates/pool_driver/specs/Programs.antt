@@ -2,7 +2,6 @@
 use Rattle.std.specs.Prelude.{◌≡◌, ◌+◌, List, [], true, false}
 use Rattle.pool_syntax.specs.declared.token.Tok.{Tok}
 use Rattle.pool_syntax.specs.declared.token.Token.{Token}
-use Rattle.pool_syntax.specs.declared.token.LexFault.{LexFault}
 use Rattle.pool_syntax.specs.Tokens.{Text, HasTokens, IsFirstFault}
 use Rattle.pool_syntax.specs.Terms.{ProgramTree}
 use Rattle.pool_syntax.specs.Rules.{program}
@@ -14,7 +13,6 @@ use Rattle.pool_lexer.specs.Ended.{toks}
 use Rattle.pool_parser.specs.Programs.{HasProgram, IsShallowBelow}
 use Rattle.pool_parser.specs.declared.fault.SyntaxFault.{SyntaxFault}
 use Rattle.pool_parser.specs.declared.fault.SyntaxFault.TheVariants as Syntax
-use Rattle.class_check.specs.declared.fault.ClassFault.{ClassFault}
 use Rattle.class_check.specs.Least.{IsLeastFault}
 use Rattle.class_check.specs.PairOf.{pair_of}
 use Rattle.pool_driver.specs.Served.{is_served}

@@ -10,7 +10,6 @@ use Rattle.pool_syntax.specs.declared.words.Error.{Error}
 use Rattle.pool_syntax.specs.declared.words.Error.TheVariants as error
 use Rattle.pool_syntax.specs.declared.words.FullKind.{FullKind}
 use Rattle.pool_syntax.specs.declared.words.FullKind.TheVariants as full
-use Rattle.pool_syntax.specs.declared.words.Label.{Label}
 use Rattle.pool_syntax.specs.declared.words.Label.TheVariants as L
 use Rattle.pool_syntax.specs.declared.words.What.{What}
 use Rattle.pool_syntax.specs.declared.words.What.TheVariants as W

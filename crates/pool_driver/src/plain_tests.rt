@@ -229,44 +229,52 @@ fn refuses(plain: &mut Plain, label: Option<Label>, wanted: Option<Redex>) -> bo
     }
 }
 
-/// Whether the stepper does what the row says.
-fn is_done(alloc: Global, plain: &mut Plain, names: &Names, row: &str) -> Result<bool, AllocError> {
-    if let Some((label, wanted)) = row.split_once(" -> ") {
+/// Whether the stepper does what the step says.
+fn is_done(
+    alloc: Global,
+    plain: &mut Plain,
+    names: &Names,
+    step: &str,
+) -> Result<bool, AllocError> {
+    if let Some((label, wanted)) = step.split_once(" -> ") {
         let label = label_of(names, &words_of(alloc, label)?);
         let wanted = redex_of(names, &words_of(alloc, wanted)?);
         return Ok(refuses(plain, label, wanted));
     }
-    if let Some((object, wanted)) = row.split_once(" ? ") {
+    if let Some((object, wanted)) = step.split_once(" ? ") {
         let wanted = redex_of(names, &words_of(alloc, wanted)?);
         return Ok(match number(object) {
             Some(object) => Some(plain.redex(object)) == wanted,
             None => false,
         });
     }
-    Ok(makes(plain, names, &words_of(alloc, row)?))
+    Ok(makes(plain, names, &words_of(alloc, step)?))
 }
 
-/// The first of the rows that tells of something else than is done.
-fn first_wrong_row(
+/// The first of the steps that is not done.
+fn first_wrong_step(
     alloc: Global,
     plain: &mut Plain,
     names: &Names,
-    rows: &'static str,
+    steps: &'static str,
 ) -> Result<Option<&'static str>, AllocError> {
-    for row in rows.lines() {
-        if !is_done(alloc, plain, names, row)? {
-            return Ok(Some(row));
+    for step in steps.lines() {
+        if !is_done(alloc, plain, names, step)? {
+            return Ok(Some(step));
         }
     }
     Ok(None)
 }
 
-/// The first wrong row of a run; the run itself where it does not begin.
+/// The first step of a run that is not done; the run itself where it does not begin.
 fn first_wrong(alloc: Global, run: &'static str) -> Result<Option<&'static str>, AllocError> {
     let Some((text, rest)) = run.split_once("\nroot ") else {
         return Ok(Some(run));
     };
-    let Some((root, rows)) = rest.split_once('\n') else {
+    let Some((root, steps)) = rest.split_once('\n') else {
+        return Ok(Some(run));
+    };
+    let Some(root) = number(root) else {
         return Ok(Some(run));
     };
     if text.len() > 10000 {
@@ -278,14 +286,11 @@ fn first_wrong(alloc: Global, run: &'static str) -> Result<Option<&'static str>,
     let Ok(checked) = check(alloc, &parsed.program, &parsed.names) else {
         return Ok(Some(run));
     };
-    let Some(root) = number(root) else {
-        return Ok(Some(run));
-    };
     let mut plain = Plain::make(alloc, &checked, root)?;
-    first_wrong_row(alloc, &mut plain, &parsed.names, rows)
+    first_wrong_step(alloc, &mut plain, &parsed.names, steps)
 }
 
-/// The first wrong row of these runs.
+/// The first wrong step of these runs.
 fn first_wrong_of(alloc: Global, runs: &'static str) -> Result<Option<&'static str>, AllocError> {
     for run in runs.split("\n\n") {
         let wrong = first_wrong(alloc, run)?;

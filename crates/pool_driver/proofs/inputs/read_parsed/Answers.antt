@@ -1,5 +1,4 @@
 use Rattle.std.proofs.Common.{◌≡◌, ◌∙◌, ℕ, List, sym, ap, subst, Err}
-use Rattle.pool_driver.specs.declared.inputs.Stop.{Stop}
 use Rattle.pool_driver.specs.declared.inputs.Stop.TheVariants as S
 use Rattle.pool_driver.specs.Programs.{IsParsed, IsFaultOfText}
 use Rattle.pool_driver.specs.Stops.{stop_of}

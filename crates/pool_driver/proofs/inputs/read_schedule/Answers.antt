@@ -1,4 +1,4 @@
-use Rattle.std.proofs.Common.{◌≡◌, ◌∙◌, sym, None}
+use Rattle.std.proofs.Common.{◌≡◌, None}
 use Rattle.pool_driver.specs.declared.fault.Input.TheVariants as I
 use Rattle.pool_driver.specs.declared.fault.Fault.TheVariants as F
 use Rattle.pool_driver.specs.Schedules.{schedule_of}

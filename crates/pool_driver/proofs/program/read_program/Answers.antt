@@ -1,4 +1,4 @@
-use Rattle.std.proofs.Common.{◌≡◌, ◌∙◌, List, sym, ap, subst}
+use Rattle.std.proofs.Common.{◌∙◌, List, sym, ap, subst}
 use Rattle.pool_syntax.specs.declared.token.Token.{Token}
 use Rattle.pool_parser.specs.Programs.{HasProgram}
 use Rattle.pool_driver.proofs.SpelledTokens.{are_spelled}

@@ -1,9 +1,5 @@
-use Rattle.std.proofs.Common.{◌≡◌, ◌∙◌, sym, subst, ap, refl, false, Some, arith}
-use Rattle.pool_syntax.specs.Terms.{ProgramTree}
+use Rattle.std.proofs.Common.{◌∙◌, sym, arith}
 use Rattle.pool_semantics.specs.PlainOf.{configuration_of, program_tree}
-use Rattle.pool_semantics.specs.Transition.{transition}
-use Rattle.pool_syntax.specs.declared.words.Label.TheVariants as L
-use Rattle.pool_driver.specs.Turn.{local_step}
 use Rattle.pool_driver.proofs.TurnLaws.{stops_here, goes_to_the_quantum, step_taken}
 use Rattle.pool_driver.proofs.run.make_steps.Goals as goal
 

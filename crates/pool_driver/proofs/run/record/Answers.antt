@@ -1,4 +1,4 @@
-use Rattle.std.proofs.Common.{◌≡◌, ◌∙◌, ◌++◌, ◌+◌, ℕ, List, ap, sym, subst, arith}
+use Rattle.std.proofs.Common.{◌≡◌, ◌∙◌, ◌++◌, ◌+◌, ℕ, List, ap, sym, arith}
 use Rattle.pool_syntax.specs.declared.words.Event.TheVariants as E
 use Rattle.pool_syntax.specs.declared.words.FullKind.TheVariants as K
 use Rattle.pool_syntax.specs.declared.words.End.TheVariants as F

@@ -1,4 +1,4 @@
-use Rattle.std.proofs.Common.{◌≡◌, ◌+◌, ◌-◌, ◌≤◌, ℕ, Some, length, drop}
+use Rattle.std.proofs.Common.{◌≡◌, ◌+◌, ◌-◌, ◌≤◌, Some, length, drop}
 use Rattle.pool_driver.specs.Kept.{kept_lines}
 use Rattle.pool_driver.specs.Schedules.{all_turns, few_turns, then_some}
 use Rattle.pool_driver.proofs.schedule.turns_from.Given as goal

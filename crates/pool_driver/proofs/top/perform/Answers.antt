@@ -1,4 +1,4 @@
-use Rattle.std.proofs.Common.{◌≡◌, ap, sym, subst}
+use Rattle.std.proofs.Common.{ap, sym, subst}
 use Rattle.pool_driver.specs.Commands.{Request, request}
 use Rattle.pool_driver.specs.Outcomes.{IsServable}
 use Rattle.pool_driver.proofs.EndLaws.{ends_as}

@@ -1,4 +1,4 @@
-use Rattle.std.proofs.Common.{◌≡◌, ◌∙◌, refl, sym, subst}
+use Rattle.std.proofs.Common.{◌∙◌, refl, sym, subst}
 use Rattle.pool_outside.specs.Outside.{Rose}
 use Rattle.pool_driver.specs.declared.inputs.Stop.{Stop}
 use Rattle.pool_driver.specs.declared.inputs.Stop.TheVariants as T

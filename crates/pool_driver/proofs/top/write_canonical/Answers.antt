@@ -1,5 +1,4 @@
-use Rattle.std.proofs.Common.{◌≡◌, ◌∙◌, ◌+◌, ap, sym, subst, refl, Err}
-use Rattle.pool_outside.specs.Outside.{Rose}
+use Rattle.std.proofs.Common.{◌∙◌, ◌+◌, ap, sym, subst, refl, Err}
 use Rattle.pool_syntax.specs.TreeOf.{program_of}
 use Rattle.pool_printer.specs.Canonical.{canonical}
 use Rattle.pool_driver.specs.declared.fault.Input.{Input}

@@ -1,4 +1,4 @@
-use Rattle.std.proofs.Common.{◌≡◌, ap, inl, inr, refl, Err}
+use Rattle.std.proofs.Common.{ap, inl, inr, refl, Err}
 use Rattle.pool_outside.specs.Outside.{Rose}
 use Rattle.pool_driver.specs.Commands.{names_of, record_of}
 use Rattle.pool_driver.proofs.EndLaws.{output_whole, text_said, text_whole, stop_ends, stop_is_memory}
