@@ -1,5 +1,5 @@
--- A program of the grammar is written: nothing is under way in it, and each operator has its number of operands.
-use Rattle.std.proofs.Common.{◌≡◌, refl, IsTrue, ℕ, ◌+◌, List, [], ◌∷◌, ◌++◌, Some, false, ◌&&◌, arith}
+-- A program of the grammar is written: nothing is under way in it, and each operator has its number of operands. It has a class.
+use Rattle.std.proofs.Common.{◌≡◌, ◌≢◌, refl, IsTrue, ℕ, ◌+◌, List, [], ◌∷◌, ◌++◌, Some, false, ◌&&◌, arith}
 use Rattle.pool_syntax.specs.declared.token.Tok.{Tok}
 use Rattle.pool_syntax.specs.declared.words.Op.{Op}
 use Rattle.pool_syntax.specs.Terms as T
@@ -31,8 +31,8 @@ PlainAlternatives alts = IsTrue (are_source_alternatives alts) × ((i : ℕ) →
 
 -- what is derived of a phrase; a phrase that goes on with what stands before it is written where that is
 abbrev Written : (p : Phrase) → Tree p → Type 0
-Written r.program ks = IsTrue (is_written ks)
-Written (r.more_classes before) ks = IsTrue (is_written before) → IsTrue (is_written ks)
+Written r.program ks = IsTrue (is_written ks) × (ks ≢ [])
+Written (r.more_classes before) ks = IsTrue (is_written before) × (before ≢ []) → IsTrue (is_written ks) × (ks ≢ [])
 Written r.class k = IsTrue (is_written (k ∷ []))
 Written (r.more_methods before) ms = IsTrue (are_written before) → IsTrue (are_written ms)
 Written r.method m = IsTrue (are_written (m ∷ []))
@@ -89,6 +89,10 @@ classes_last : (ks : List ClassTree) (k : ClassTree) → IsTrue (is_written ks) 
 classes_last [] k w v = v
 classes_last (l ∷ ks) k w v = b.both _ _ (b.first _ (is_written ks) w) (classes_last ks k (b.second _ (is_written ks) w) v)
 
+some_last : (ks : List ClassTree) (k : ClassTree) → ks ++ k ∷ [] ≢ []
+some_last [] k e = cc
+some_last (l ∷ ks) k e = cc
+
 methods_last : (ms : List MethodTree) (m : MethodTree) → IsTrue (are_written ms) → IsTrue (are_written (m ∷ []))
     → IsTrue (are_written (ms ++ m ∷ []))
 methods_last [] m w v = v
@@ -135,8 +139,8 @@ plain_send e m es p w v = (b.both _ _ w.0 v.0, λ h. b.both _ _ (w.1 h) (v.1 (h 
 
 rule_written : (p : Phrase) → RuleWritten p (rule p)
 unfolding rule
-rule_written r.program = λ k w ks f n u. f w
-rule_written (r.more_classes ks) = ((λ k w all f v. f (classes_last ks k v w)), (λ v. v))
+rule_written r.program = λ k w ks f n u. f (w, some_last [] k)
+rule_written (r.more_classes ks) = ((λ k w all f v. f (classes_last ks k v.0 w, some_last ks k)), (λ v. v))
 rule_written r.class = λ n u m v vs x ms f i y ss w j z. b.both _ _ (b.both _ _ (b.both _ _ w.0 w.1) (f refl)) refl
 rule_written (r.more_methods ms) = ((λ m w all f v. f (methods_last ms m v w)), (λ v. v))
 rule_written r.method = (
@@ -233,4 +237,7 @@ derived ts p a i j x (first d) w = derived ts p _ i j x d w.0
 derived ts p a i j x (second d) w = derived ts p _ i j x d w.1
 
 pub grammatical_written : (p : ProgramTree) → IsGrammatical p → IsTrue (is_written p)
-grammatical_written p g = derived g.0 r.program _ _ _ p g.2 (rule_written r.program)
+grammatical_written p g = (derived g.0 r.program _ _ _ p g.2 (rule_written r.program)).0
+
+pub has_a_class : (p : ProgramTree) → IsGrammatical p → p ≢ []
+has_a_class p g = (derived g.0 r.program _ _ _ p g.2 (rule_written r.program)).1

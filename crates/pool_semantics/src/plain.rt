@@ -84,7 +84,7 @@ impl<'a> Plain<'a> {
         ensures fresh { IfOk result (λ s. is_spent s ≡ false) }
     {
         let Some(class) = program.program.classes.items().last() else {
-            return Err(AllocError);
+            unreachable!();
         };
         let thing = Thing::make(alloc, class)?;
         let mut objects = BTreeMap::new(alloc);
@@ -102,6 +102,7 @@ impl<'a> Plain<'a> {
 
     /// What the object of this name does next.
     pub fn redex(&self, object: u32) -> Redex
+        ensures told { (r : Redex) → Shows (program_tree self.now) (configuration_of self.now) object r → result ≡ r }
         ensures shown { is_spent self.now ≡ false → Shows (program_tree self.now) (configuration_of self.now) object result }
 
         // No object goes wrong.

@@ -1,16 +1,22 @@
-use Rattle.std.proofs.Common.{◌≡◌, ◌∙◌, ap, [], length, ◌-◌, slice_get, Some, arith}
+use Rattle.std.proofs.Common.{◌≡◌, ◌∙◌, ap, [], length, map, ◌-◌, slice_get, Some, None, arith}
 use Rattle.std.proofs.lemmas.Grind.{common_steps}
-use Rattle.std.proofs.Math.Logic.{∥∥₁_map}
+use Rattle.std.proofs.Math.Logic.{∥∥₁_elim, ∥∥₁_map}
 use Rattle.std.specs.Ordering.{nat_cmp}
 use Rattle.std.specs.FinMap.{put}
-use Rattle.pool_syntax.specs.TreeOf.{program_of}
+use Rattle.pool_syntax.specs.TreeOf.{class_tree, program_of}
 use Rattle.pool_semantics.specs.Configuration.{Configuration}
 use Rattle.pool_semantics.specs.Things.{thing_object, things}
 use Rattle.pool_semantics.specs.Mails.{posts}
-use Rattle.pool_semantics.proofs.Grammatical.{grammatical_written}
-use Rattle.pool_semantics.proofs.RootClass.{started}
+use Rattle.pool_semantics.proofs.Grammatical.{grammatical_written, has_a_class}
+use Rattle.pool_semantics.proofs.RootClass.{none_last, started}
 use Rattle.pool_semantics.proofs.TypedFacts.{start_is_sound}
 use Rattle.pool_semantics.proofs.plain.Plain.make.Goals as goal
+
+pub unreachable-requires : goal.unreachable-requires
+unreachable-requires c =
+    let cs = c.args.program.now.program.now.classes in
+    let h : slice_get cs (length cs - 1) ≡ None = grind (arith, common_steps) in
+    ∥∥₁_elim c.args.program.now.grammatical (λ x y. absurd x) (λ g. has_a_class (program_of c.args.program.now.program.now) g (ap (map class_tree) (none_last cs h)))
 
 pub returns-clause-start : goal.returns-clause-start
 returns-clause-start c =
