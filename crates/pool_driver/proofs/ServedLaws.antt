@@ -8,7 +8,7 @@ use Rattle.pool_syntax.specs.declared.words.Error.{Error}
 use Rattle.pool_syntax.specs.declared.words.Label.TheVariants as L
 use Rattle.pool_syntax.specs.Terms.{Store, Expression, Literal, Frame, If, While, Statements, Done, Then, MethodTree, ProgramTree, append}
 use Rattle.pool_syntax.specs.Classes.{named_method}
-use Rattle.pool_semantics.specs.Values.{Outcome, Gives, Fails, WrongSort, prefix_value, infix_value}
+use Rattle.pool_syntax.specs.Values.{Outcome, Gives, Fails, WrongSort, prefix_value, infix_value}
 use Rattle.pool_semantics.specs.Reducible as R
 use Rattle.pool_semantics.specs.Reducible.{Reducible, Found, Evaluated, At, and_then, Part, AsExpression, AsStatements, as_expression, as_statements, is_value, are_values, is_done, fill_expression, fill_expressions, fill_statement, fill_statements, expression_redex, expressions_redex, statement_redex, statements_redex}
 use Rattle.pool_semantics.specs.Action as A

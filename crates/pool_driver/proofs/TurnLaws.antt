@@ -12,7 +12,7 @@ use Rattle.pool_syntax.specs.declared.words.What.TheVariants as W
 use Rattle.pool_syntax.specs.Terms.{ProgramTree, Statements, Store}
 use Rattle.pool_semantics.specs.declared.plain.redex.Redex.{Redex}
 use Rattle.pool_semantics.specs.declared.plain.redex.Redex.TheVariants as X
-use Rattle.pool_semantics.specs.Values.{is_same, is_same_int, is_same_bool}
+use Rattle.pool_syntax.specs.Values.{is_same, is_same_int, is_same_bool}
 use Rattle.pool_semantics.specs.Action as A
 use Rattle.pool_semantics.specs.Action.{Object, Action, action}
 use Rattle.pool_semantics.specs.Configuration.{Configuration}

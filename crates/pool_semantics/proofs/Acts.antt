@@ -12,11 +12,11 @@ use Rattle.pool_syntax.specs.Terms as T
 use Rattle.pool_syntax.specs.Terms.{Store, Expression, Statements, MethodTree, ClassTree, ProgramTree, append}
 use Rattle.pool_syntax.specs.Classes.{class_of, named_method}
 use Rattle.pool_syntax.specs.Typing.{Sort, IntSort, BoolSort, ClassSort, NilSort, BrokenSort, is_open, is_same_sort, methods_of, methods_of_class, params_of, sent_method, var_of, kind_sort, own_sort, inside, Scope, value_sort, object_sort, is_dangling, send_sort, vars_of_class, faults, op_sort, name_sort}
-use Rattle.pool_semantics.specs.Values.{Outcome, Gives, Fails, WrongSort, prefix_value, infix_value}
+use Rattle.pool_syntax.specs.Values.{Outcome, Gives, Fails, WrongSort, prefix_value, infix_value, is_nil, not_bool, is_true}
 use Rattle.pool_semantics.specs.Reducible as R
 use Rattle.pool_semantics.specs.Reducible.{Choice, Reducible, Found, Evaluated, At, Part, AsExpression, AsStatements, fill_statements, statements_redex}
 use Rattle.pool_semantics.specs.Action as A
-use Rattle.pool_semantics.specs.Action.{Object, Action, action, redex_action, found_action, method_of, method_in, with_count, temps_of, value_of, on_assignment, on_branch, on_select, is_nil, not_bool, is_true, literal, becomes, becomes_value, on_outcome, read}
+use Rattle.pool_semantics.specs.Action.{Object, Action, action, redex_action, found_action, method_of, method_in, with_count, temps_of, value_of, on_assignment, on_branch, on_select, literal, becomes, becomes_value, on_outcome, read}
 use Rattle.pool_semantics.specs.WellFormed.{has_room, is_written}
 use Rattle.pool_semantics.specs.UnderWay.{Activity, Own, Serving, in_statements, served_for, serves}
 use Rattle.pool_semantics.proofs.TypedTerm.{Holds, Nothing, Methods, Waits, has_methods, takes, fits_need, is_destination, TypedExpression, TypedStatements}

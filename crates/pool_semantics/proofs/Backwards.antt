@@ -6,7 +6,7 @@ use Rattle.pool_syntax.specs.declared.words.Value.{Value}
 use Rattle.pool_syntax.specs.declared.words.Value.TheVariants as V
 use Rattle.pool_semantics.specs.Action.{Object}
 use Rattle.pool_semantics.specs.Configuration.{Configuration, object_of}
-use Rattle.pool_semantics.specs.Values.{is_same, is_same_int, is_same_bool}
+use Rattle.pool_syntax.specs.Values.{is_same, is_same_int, is_same_bool}
 use Rattle.pool_semantics.specs.Transition.{◌>>=◌, ◌>>◌, require, running, without_fault, are_same, error_number}
 use Rattle.pool_semantics.proofs.Tests.{first, second, equal}
 

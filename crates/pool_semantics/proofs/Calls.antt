@@ -8,7 +8,7 @@ use Rattle.pool_syntax.specs.Terms as T
 use Rattle.pool_syntax.specs.Terms.{MethodTree, ProgramTree}
 use Rattle.pool_syntax.specs.Classes.{named_method}
 use Rattle.pool_syntax.specs.Typing.{faults, value_sort, object_sort, send_sort, methods_of}
-use Rattle.pool_semantics.specs.Values.{is_same}
+use Rattle.pool_syntax.specs.Values.{is_same}
 use Rattle.pool_semantics.specs.Reducible.{AsExpression}
 use Rattle.pool_semantics.specs.Action as A
 use Rattle.pool_semantics.specs.Action.{Object, Action, action, method_of}

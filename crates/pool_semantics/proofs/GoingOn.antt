@@ -13,7 +13,7 @@ use Rattle.pool_syntax.specs.declared.words.Label.TheVariants as L
 use Rattle.pool_syntax.specs.Terms.{ProgramTree, ClassTree}
 use Rattle.pool_syntax.specs.Classes.{class_of}
 use Rattle.pool_syntax.specs.Typing.{faults}
-use Rattle.pool_semantics.specs.Values.{is_same, is_same_int}
+use Rattle.pool_syntax.specs.Values.{is_same, is_same_int}
 use Rattle.pool_semantics.specs.Action as A
 use Rattle.pool_semantics.specs.Action.{Object, Action, action, method_of}
 use Rattle.pool_semantics.specs.Configuration.{Configuration, object_of, put_object, messages_of, put_messages}

@@ -10,7 +10,8 @@ use Rattle.pool_syntax.specs.Terms as T
 use Rattle.pool_syntax.specs.Terms.{Store, Statements, MethodTree, ProgramTree}
 use Rattle.pool_syntax.specs.Typing.{Sort, IntSort, BoolSort, ClassSort, NilSort, NoSort, BrokenSort, Scope, faults, kind_sort, value_sort, is_open, is_same_sort, inside}
 use Rattle.pool_semantics.specs.Action as A
-use Rattle.pool_semantics.specs.Action.{Object, Action, action, method_of, temps_of, is_true}
+use Rattle.pool_syntax.specs.Values.{is_true}
+use Rattle.pool_semantics.specs.Action.{Object, Action, action, method_of, temps_of}
 use Rattle.pool_semantics.specs.Reducible.{Choice}
 use Rattle.pool_semantics.specs.Tables.{pair_cmp, put_list}
 use Rattle.pool_semantics.specs.Configuration.{Message, Configuration, object_of, put_object, messages_of, put_messages}

@@ -6,7 +6,8 @@ use Rattle.pool_syntax.specs.declared.words.Label.TheVariants as L
 use Rattle.pool_syntax.specs.Terms.{Store, Statements, ProgramTree}
 use Rattle.pool_syntax.specs.Typing.{Scope, faults}
 use Rattle.pool_semantics.specs.Action as A
-use Rattle.pool_semantics.specs.Action.{Object, Action, action, is_true}
+use Rattle.pool_syntax.specs.Values.{is_true}
+use Rattle.pool_semantics.specs.Action.{Object, Action, action}
 use Rattle.pool_semantics.specs.Reducible.{Choice, AsStatements}
 use Rattle.pool_semantics.specs.Tables.{Pair}
 use Rattle.pool_semantics.specs.Configuration.{Message, Configuration, object_of, put_object, messages_of}

@@ -11,7 +11,7 @@ use Rattle.pool_syntax.specs.declared.tree.Var.{Var}
 use Rattle.pool_syntax.specs.Terms as T
 use Rattle.pool_syntax.specs.Classes.{class_of, named_method}
 use Rattle.pool_syntax.specs.Terms.{Store, Expression, Statements, MethodTree, ClassTree, ProgramTree, append}
-use Rattle.pool_semantics.specs.Values.{Outcome, Gives, Fails, WrongSort, prefix_value, infix_value}
+use Rattle.pool_syntax.specs.Values.{Outcome, Gives, Fails, WrongSort, prefix_value, infix_value, is_nil, not_bool, is_true}
 use Rattle.pool_semantics.specs.Reducible as R
 use Rattle.pool_semantics.specs.Reducible.{Choice, Reducible, Found, Evaluated, At, Part, AsExpression, AsStatements, set_value, fill_statements, statements_redex}
 
@@ -121,25 +121,6 @@ on_branch x (V.Bool true) these those = becomes x (AsStatements these)
 on_branch x (V.Bool false) these those = becomes x (AsStatements those)
 on_branch x V.Nil these those = Fault NilOperand
 on_branch x _ these those = Stuck
-
--- whether a value is nil
-abbrev pub is_nil : Value → Bool
-is_nil V.Nil = true
-is_nil _ = false
-
--- whether a value is a truth value
-abbrev pub is_bool : Value → Bool
-is_bool (V.Bool b) = true
-is_bool _ = false
-
--- whether a value is no truth value
-abbrev pub not_bool : Value → Bool
-not_bool v = not (is_bool v)
-
--- whether a value is true
-abbrev pub is_true : Value → Bool
-is_true (V.Bool b) = b
-is_true _ = false
 
 -- a select by the values of its guards
 abbrev pub on_select : List Choice → Action

@@ -1,4 +1,3 @@
-pub mod Values
 pub mod Reducible
 pub mod Action
 pub mod Tables

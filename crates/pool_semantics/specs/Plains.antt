@@ -7,7 +7,7 @@ use Rattle.pool_semantics.specs.declared.plain.thing.Thing.{Thing}
 use Rattle.pool_semantics.specs.declared.plain.act.Act.{Act}
 use Rattle.pool_syntax.specs.declared.words.Value.{Value}
 use Rattle.pool_semantics.specs.declared.plain.act.Act.TheVariants as C
-use Rattle.pool_semantics.specs.Values.{is_same}
+use Rattle.pool_syntax.specs.Values.{is_same}
 use Rattle.pool_semantics.specs.declared.plain.state.State.{State}
 use Rattle.pool_semantics.specs.Action.{action}
 use Rattle.pool_semantics.specs.Configuration.{Configuration}

@@ -12,11 +12,11 @@ use Rattle.pool_syntax.specs.declared.words.Label.TheVariants as L
 use Rattle.pool_syntax.specs.declared.tree.Named.{Named}
 use Rattle.pool_syntax.specs.Terms as T
 use Rattle.pool_syntax.specs.Terms.{Expression, Statements, MethodTree, ClassTree, ProgramTree, append}
-use Rattle.pool_semantics.specs.Values.{is_same}
+use Rattle.pool_syntax.specs.Values.{is_same, is_true}
 use Rattle.pool_semantics.specs.Reducible.{Choice, Part, AsExpression, AsStatements, fill_statements}
 use Rattle.pool_semantics.specs.Action as A
 use Rattle.pool_syntax.specs.Classes.{class_of}
-use Rattle.pool_semantics.specs.Action.{Object, Action, method_of, nil_store, temps_of, literal, is_true, action}
+use Rattle.pool_semantics.specs.Action.{Object, Action, method_of, nil_store, temps_of, literal, action}
 use Rattle.pool_semantics.specs.Configuration.{Message, Configuration, object_of, put_object, messages_of, put_messages}
 
 infixl 1 ◌>>=◌

@@ -1,5 +1,6 @@
 //! What an answer or a select offers.
 ghost use Rattle.std.specs.Prelude.{◌≡◌, [], ◌∷◌, Option, Some, None};
+ghost use Rattle.pool_syntax.specs.Values.{is_true};
 ghost use Rattle.pool_semantics.specs.Action as A;
 ghost use Rattle.pool_semantics.specs.Transition.{names_method, picked, plain_choice, select_offer};
 ghost use Rattle.pool_semantics.specs.Reduced.{choice, choices};
@@ -25,7 +26,7 @@ pub fn names_method(names: &[Named], method: u32) -> bool
 }
 
 fn is_open(guarded: &Guarded<'_>) -> bool
-    ensures { result ≡ A.is_true guarded.now.guard.value }
+    ensures { result ≡ is_true guarded.now.guard.value }
 {
     matches!(guarded.guard.value, Value::Bool(true))
 }

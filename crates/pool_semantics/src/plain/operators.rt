@@ -1,6 +1,6 @@
 //! Operators on values, and equality.
 ghost use Rattle.std.specs.Prelude.{◌≡◌, ◌==◌, IsTrue, IfSome, IfNone};
-ghost use Rattle.pool_semantics.specs.Values.{infix_value, prefix_value, is_same, Gives, Fails};
+ghost use Rattle.pool_syntax.specs.Values.{infix_value, prefix_value, is_same, Gives, Fails};
 ghost use Rattle.pool_semantics.specs.Operated.{is_logical, outcome_of};
 ghost use Rattle.pool_semantics.specs.Transition.{is_same_item, error_number};
 
