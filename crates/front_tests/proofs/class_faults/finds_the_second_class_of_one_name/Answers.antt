@@ -9,7 +9,7 @@ use Rattle.pool_syntax.specs.Derives.{Derives, nothing, token, inner, first, sec
 use Rattle.pool_syntax.specs.Spelled.{IsGrammatical}
 use Rattle.pool_syntax.specs.Terms.{ClassTree, Done}
 use Rattle.pool_syntax.specs.TreeOf.{class_tree}
-use Rattle.class_check.proofs.tests.finds_the_second_class_of_one_name.Goals as goal
+use Rattle.front_tests.proofs.class_faults.finds_the_second_class_of_one_name.Goals as goal
 
 -- a class without variables, methods and statements
 abbrev empty_class : NameId → ℕ → ClassTree

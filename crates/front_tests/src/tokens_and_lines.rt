@@ -1,5 +1,5 @@
 //! Texts whose tokens, faults, lines, words and numbers were written down by hand.
-use crate::{Decimal, LineAt, WordAt, decimal, next_line, next_word, tokens};
+use pool_lexer::{Decimal, LineAt, WordAt, decimal, next_line, next_word, tokens};
 use pool_syntax::{Keyword, LexFault, NameId, Sign, Tok, Token};
 
 fn token(at: u32, tok: Tok) -> Token {

@@ -1,4 +1,5 @@
-use crate::{
+//! Files and sinks in memory and over the system, with failing calls.
+use pool_outside::{
     CalmFiles, CalmSink, MemFiles, MemSink, NamedText, ReadFault, StdFiles, StdSink, WriteFault,
     read_whole, write_all_of,
 };

@@ -1,8 +1,9 @@
+//! Class faults of trees.
 ghost use Rattle.std.specs.Prelude.{◌≡◌, []};
 ghost use Rattle.pool_syntax.specs.TreeOf.{class_tree};
 ghost use Rattle.pool_syntax.specs.Terms.{Done};
 
-use crate::{ClassFault, check};
+use class_check::{ClassFault, check};
 use pool_syntax::{ClassDecl, List, NameId, Named, Names, Program};
 use std::alloc::Global;
 

@@ -1,9 +1,10 @@
+//! Canonical texts of trees.
 ghost use Rattle.std.specs.Prelude.{◌≡◌, []};
 ghost use Rattle.pool_syntax.specs.TreeOf.{class_tree};
 ghost use Rattle.pool_syntax.specs.Terms.{Done};
 
-use crate::print;
 use pool_outside::MemSink;
+use pool_printer::print;
 use pool_syntax::{ClassDecl, List, NameId, Named, Names, Program};
 use std::alloc::Global;
 use std::test::Fail;
