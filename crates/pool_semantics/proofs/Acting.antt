@@ -3,10 +3,10 @@ use Rattle.std.proofs.Common.{◌≡◌, refl, ap, ℕ, suc, ◌-◌, List, [], 
 use Rattle.pool_syntax.specs.declared.words.Value.TheVariants as V
 use Rattle.pool_syntax.specs.Terms as T
 use Rattle.pool_syntax.specs.Terms.{Store, Statements, ProgramTree}
-use Rattle.pool_semantics.specs.Reducible as R
-use Rattle.pool_semantics.specs.Reducible.{Reducible, Evaluated, At, expression_redex, statements_redex}
-use Rattle.pool_semantics.specs.Action as A
-use Rattle.pool_semantics.specs.Action.{Object, Action, action, redex_action}
+use Rattle.pool_relation.specs.Reducible as R
+use Rattle.pool_relation.specs.Reducible.{Reducible, Evaluated, At, expression_redex, statements_redex}
+use Rattle.pool_relation.specs.Action as A
+use Rattle.pool_relation.specs.Action.{Object, Action, action, redex_action}
 use Rattle.pool_semantics.specs.declared.plain.parts.Operand.{Operand}
 use Rattle.pool_semantics.specs.declared.plain.parts.Place.{Place}
 use Rattle.pool_semantics.specs.declared.plain.parts.Ready.{Ready}

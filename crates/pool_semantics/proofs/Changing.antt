@@ -5,7 +5,7 @@ use Rattle.pool_syntax.specs.declared.words.Value.TheVariants as V
 use Rattle.pool_syntax.specs.TreeOf.{expression_of}
 use Rattle.pool_syntax.specs.Terms as T
 use Rattle.pool_syntax.specs.Terms.{Store, Expression, Statement, Statements, append}
-use Rattle.pool_semantics.specs.Reducible.{AsExpression, AsStatements, set_value, fill_statements}
+use Rattle.pool_relation.specs.Reducible.{AsExpression, AsStatements, set_value, fill_statements}
 use Rattle.pool_semantics.specs.declared.plain.parts.Place.{Place}
 use Rattle.pool_semantics.specs.declared.plain.parts.Ready.{Ready}
 use Rattle.pool_semantics.specs.declared.plain.parts.Slot.{Slot}
@@ -19,7 +19,7 @@ use Rattle.pool_semantics.specs.Reduced.{assigns, refilled_content}
 use Rattle.pool_semantics.proofs.Acting.{last_split, none_last}
 use Rattle.pool_semantics.specs.declared.plain.parts.Outer.TheVariants as O
 use Rattle.pool_semantics.specs.declared.plain.parts.Task.TheVariants as K
-use Rattle.pool_semantics.specs.Action.{literal}
+use Rattle.pool_relation.specs.Action.{literal}
 use Rattle.pool_semantics.proofs.Layers.{plain_around, fill_term, fill_slotted, fill_nested, fill_ready, fill_task, open_nested, open_ready, plain_slotted, layers_more}
 
 -- an expression takes the place of the redex

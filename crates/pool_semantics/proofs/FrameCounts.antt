@@ -8,12 +8,12 @@ use Rattle.pool_syntax.specs.declared.words.Label.TheVariants as L
 use Rattle.pool_syntax.specs.TreeOf.{expression_of, statements_of}
 use Rattle.pool_syntax.specs.Terms as T
 use Rattle.pool_syntax.specs.Terms.{Store, Expression, Statements, ProgramTree, append}
-use Rattle.pool_semantics.specs.Reducible.{Part, AsExpression, AsStatements, set_value, fill_statements}
-use Rattle.pool_semantics.specs.Action.{Object, literal}
-use Rattle.pool_semantics.specs.Configuration.{Configuration, object_of, put_object}
-use Rattle.pool_semantics.specs.Transition.{◌>>=◌, transition, running}
+use Rattle.pool_relation.specs.Reducible.{Part, AsExpression, AsStatements, set_value, fill_statements}
+use Rattle.pool_relation.specs.Action.{Object, literal}
+use Rattle.pool_relation.specs.Configuration.{Configuration, object_of, put_object}
+use Rattle.pool_relation.specs.Transition.{◌>>=◌, transition, running}
 use Rattle.pool_semantics.specs.PlainOf.{frames_in, frames_at, frames_next}
-use Rattle.pool_semantics.specs.UnderWay.{in_expression, in_statements, frames_of}
+use Rattle.pool_relation.specs.UnderWay.{in_expression, in_statements, frames_of}
 use Rattle.pool_semantics.specs.declared.plain.parts.Now.{Now}
 use Rattle.pool_semantics.specs.declared.plain.parts.Now.TheVariants as N
 use Rattle.pool_semantics.specs.declared.plain.parts.Outer.{Outer}

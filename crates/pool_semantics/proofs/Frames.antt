@@ -7,7 +7,7 @@ use Rattle.pool_syntax.specs.declared.tree.Alt.{Alt}
 use Rattle.pool_syntax.specs.TreeOf.{expression_of, expression_row, expressions_of, statement_of, statements_of, alternative_row}
 use Rattle.pool_syntax.specs.Terms as T
 use Rattle.pool_syntax.specs.Terms.{Store, Expression, Expressions, Statements, Alternatives, append}
-use Rattle.pool_semantics.specs.UnderWay.{Activity, Serving, in_expression, in_expressions, in_statement, in_statements, in_guards, frames_of}
+use Rattle.pool_relation.specs.UnderWay.{Activity, Serving, in_expression, in_expressions, in_statement, in_statements, in_guards, frames_of}
 use Rattle.pool_semantics.specs.declared.plain.parts.Operand.{Operand}
 use Rattle.pool_semantics.specs.declared.plain.parts.Guarded.{Guarded}
 use Rattle.pool_semantics.specs.declared.plain.parts.Place.{Place}

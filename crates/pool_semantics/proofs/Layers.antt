@@ -3,7 +3,7 @@ use Rattle.std.proofs.Common.{◌≡◌, refl, ap, ◌∙◌, ℕ, List, [], ◌
 use Rattle.pool_syntax.specs.TreeOf.{expression_of, expressions_of, statements_of}
 use Rattle.pool_syntax.specs.Terms as T
 use Rattle.pool_syntax.specs.Terms.{Store, Expression, Expressions, Statement, Statements, Alternatives, append}
-use Rattle.pool_semantics.specs.Reducible.{Reducible, Evaluated, At, Part, is_value, are_values, guards_are_values, as_expression, as_statements, assigned, fill_expression, fill_expressions, fill_statement, fill_statements, fill_guards, expression_redex, expressions_redex, statement_redex, statements_redex, guards_redex}
+use Rattle.pool_relation.specs.Reducible.{Reducible, Evaluated, At, Part, is_value, are_values, guards_are_values, as_expression, as_statements, assigned, fill_expression, fill_expressions, fill_statement, fill_statements, fill_guards, expression_redex, expressions_redex, statement_redex, statements_redex, guards_redex}
 use Rattle.pool_semantics.specs.declared.plain.parts.Operand.{Operand}
 use Rattle.pool_semantics.specs.declared.plain.parts.Guarded.{Guarded}
 use Rattle.pool_semantics.specs.declared.plain.parts.Place.{Place}

@@ -4,7 +4,7 @@ use Rattle.std.specs.List.{list_any}
 use Rattle.pool_semantics.specs.declared.plain.parts.Operand.{Operand}
 use Rattle.pool_semantics.specs.declared.plain.parts.Guarded.{Guarded}
 use Rattle.pool_syntax.specs.declared.tree.Var.{Var}
-use Rattle.pool_semantics.specs.Action.{is_nil, not_bool, is_true, bind, nil_store}
+use Rattle.pool_relation.specs.Action.{is_nil, not_bool, is_true, bind, nil_store}
 use Rattle.pool_semantics.specs.Reduced.{values, choices}
 
 pub length_values : (vs : List Operand) → length (values vs) ≡ length vs

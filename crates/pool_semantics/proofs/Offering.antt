@@ -1,7 +1,7 @@
 -- Alternatives by their numbers, and the first that takes a call.
 use Rattle.std.proofs.Common.{◌≡◌, refl, ℕ, zero, suc, ◌-◌, ◌<◌, ◌≤◌, List, [], ◌∷◌, length, slice_get, slice_index_or, Some, None, arith}
-use Rattle.pool_semantics.specs.Action as A
-use Rattle.pool_semantics.specs.Transition.{picked, plain_choice}
+use Rattle.pool_relation.specs.Action as A
+use Rattle.pool_relation.specs.Transition.{picked, plain_choice}
 use Rattle.pool_semantics.specs.declared.plain.parts.Guarded.{Guarded}
 use Rattle.pool_semantics.specs.Reduced.{choice, choices}
 

@@ -6,10 +6,10 @@ use Rattle.pool_syntax.specs.declared.tree.Named.{Named}
 use Rattle.pool_syntax.specs.TreeOf.{expression_of, statements_of, method_tree}
 use Rattle.pool_syntax.specs.Terms as T
 use Rattle.pool_syntax.specs.Terms.{Store, Statements, append}
-use Rattle.pool_semantics.specs.Reducible.{Choice, AsStatements, AsExpression, set_value, fill_statements}
-use Rattle.pool_semantics.specs.Action as A
-use Rattle.pool_semantics.specs.Action.{Object, Action, literal, temps_of}
-use Rattle.pool_semantics.specs.Transition.{refilled, given, serving}
+use Rattle.pool_relation.specs.Reducible.{Choice, AsStatements, AsExpression, set_value, fill_statements}
+use Rattle.pool_relation.specs.Action as A
+use Rattle.pool_relation.specs.Action.{Object, Action, literal, temps_of}
+use Rattle.pool_relation.specs.Transition.{refilled, given, serving}
 use Rattle.pool_semantics.specs.declared.plain.act.Act.{Act}
 use Rattle.pool_semantics.specs.declared.plain.act.Act.TheVariants as C
 use Rattle.pool_semantics.specs.declared.plain.change.Change.{Change}

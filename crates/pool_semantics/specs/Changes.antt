@@ -13,8 +13,8 @@ use Rattle.pool_semantics.specs.declared.plain.parts.Ready.TheVariants as Y
 use Rattle.pool_semantics.specs.declared.plain.parts.Outer.{Outer}
 use Rattle.pool_semantics.specs.declared.plain.parts.Outer.TheVariants as O
 use Rattle.pool_semantics.specs.declared.plain.parts.Activation.{Activation}
-use Rattle.pool_semantics.specs.Reducible.{Part, AsExpression, AsStatements}
-use Rattle.pool_semantics.specs.Action.{literal}
+use Rattle.pool_relation.specs.Reducible.{Part, AsExpression, AsStatements}
+use Rattle.pool_relation.specs.Action.{literal}
 use Rattle.pool_semantics.specs.Parts.{Content, Running, task, slotted, nested, left}
 use Rattle.pool_semantics.specs.Reduced.{assigns}
 

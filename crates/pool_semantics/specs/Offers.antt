@@ -5,9 +5,9 @@ use Rattle.pool_syntax.specs.declared.tree.Stmt.{Stmt}
 use Rattle.pool_syntax.specs.declared.tree.Named.{Named}
 use Rattle.pool_syntax.specs.TreeOf.{statements_of}
 use Rattle.pool_syntax.specs.Terms.{Statements}
-use Rattle.pool_semantics.specs.Reducible.{Choice}
-use Rattle.pool_semantics.specs.Action as A
-use Rattle.pool_semantics.specs.Transition as X
+use Rattle.pool_relation.specs.Reducible.{Choice}
+use Rattle.pool_relation.specs.Action as A
+use Rattle.pool_relation.specs.Transition as X
 use Rattle.pool_semantics.specs.declared.plain.act.Act.{Act}
 use Rattle.pool_semantics.specs.declared.plain.act.Act.TheVariants as C
 use Rattle.pool_semantics.specs.declared.plain.offers.Offer.{Offer}

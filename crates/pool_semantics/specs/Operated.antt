@@ -4,7 +4,7 @@ use Rattle.pool_syntax.specs.declared.words.Op.{Op}
 use Rattle.pool_syntax.specs.declared.words.Op.TheVariants as O
 use Rattle.pool_semantics.specs.declared.plain.operators.Answer.{Answer}
 use Rattle.pool_semantics.specs.declared.plain.operators.Answer.TheVariants as A
-use Rattle.pool_semantics.specs.Values.{Outcome, Gives, Fails, WrongSort}
+use Rattle.pool_relation.specs.Values.{Outcome, Gives, Fails, WrongSort}
 
 -- the answer of an operator
 abbrev pub outcome_of : Answer → Outcome

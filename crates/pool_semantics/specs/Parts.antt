@@ -25,7 +25,7 @@ use Rattle.pool_semantics.specs.declared.plain.parts.Activation.{Activation}
 use Rattle.pool_semantics.specs.declared.plain.parts.Work.{Work}
 use Rattle.pool_semantics.specs.declared.plain.seek.Step.{Step}
 use Rattle.pool_semantics.specs.declared.plain.seek.Step.TheVariants as S
-use Rattle.pool_semantics.specs.Reducible.{is_value}
+use Rattle.pool_relation.specs.Reducible.{is_value}
 use Rattle.pool_semantics.specs.Weights.{weight}
 
 -- an evaluated value

@@ -7,10 +7,10 @@ use Rattle.pool_semantics.specs.declared.plain.thing.Thing.{Thing}
 use Rattle.pool_semantics.specs.declared.plain.act.Act.{Act}
 use Rattle.pool_syntax.specs.declared.words.Value.{Value}
 use Rattle.pool_semantics.specs.declared.plain.act.Act.TheVariants as C
-use Rattle.pool_semantics.specs.Values.{is_same}
+use Rattle.pool_relation.specs.Values.{is_same}
 use Rattle.pool_semantics.specs.declared.plain.state.State.{State}
-use Rattle.pool_semantics.specs.Action.{action}
-use Rattle.pool_semantics.specs.Configuration.{Configuration}
+use Rattle.pool_relation.specs.Action.{action}
+use Rattle.pool_relation.specs.Configuration.{Configuration}
 use Rattle.pool_semantics.specs.Acts.{acted, now_args, now_names, now_choices, Suits}
 use Rattle.pool_semantics.specs.Mails.{message_of}
 use Rattle.pool_semantics.specs.Things.{thing_object, things}

@@ -5,8 +5,8 @@ use Rattle.pool_syntax.specs.declared.words.Item.TheVariants as I
 use Rattle.pool_syntax.specs.TreeOf.{expression_of, statements_of}
 use Rattle.pool_syntax.specs.Terms as T
 use Rattle.pool_syntax.specs.Terms.{Store, Expression, Statement, Statements, append}
-use Rattle.pool_semantics.specs.Reducible as R
-use Rattle.pool_semantics.specs.Reducible.{Choice, Reducible, Found, Evaluated, At, Part, is_value, fill_expression, fill_statements, expression_redex, statements_redex}
+use Rattle.pool_relation.specs.Reducible as R
+use Rattle.pool_relation.specs.Reducible.{Choice, Reducible, Found, Evaluated, At, Part, is_value, fill_expression, fill_statements, expression_redex, statements_redex}
 use Rattle.pool_semantics.specs.declared.plain.parts.Operand.{Operand}
 use Rattle.pool_semantics.specs.declared.plain.parts.Guarded.{Guarded}
 use Rattle.pool_semantics.specs.declared.plain.parts.Ready.{Ready}

@@ -2,8 +2,8 @@
 use Rattle.std.specs.Prelude.{◌≡◌, [], IsTrue}
 use Rattle.pool_syntax.specs.Terms.{ProgramTree}
 use Rattle.pool_syntax.specs.Typing.{faults}
-use Rattle.pool_semantics.specs.Configuration.{Configuration}
-use Rattle.pool_semantics.specs.WellFormed.{is_written, WellTyped}
+use Rattle.pool_relation.specs.Configuration.{Configuration}
+use Rattle.pool_relation.specs.WellFormed.{is_written, WellTyped}
 
 -- a well-typed configuration of a program without faults
 pub record Sound (p : ProgramTree) (c : Configuration) : Type 0 where

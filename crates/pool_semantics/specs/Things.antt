@@ -1,7 +1,7 @@
 -- What the stepper's objects stand for.
 use Rattle.std.specs.Prelude.{ℕ, List, map}
 use Rattle.pool_semantics.specs.declared.plain.thing.Thing.{Thing}
-use Rattle.pool_semantics.specs.Action.{Object}
+use Rattle.pool_relation.specs.Action.{Object}
 use Rattle.pool_semantics.specs.Parts.{term_of}
 use Rattle.pool_semantics.specs.Acts.{object_with}
 

@@ -69,12 +69,12 @@ fn asked(label: &Label) -> u32
 
 impl<'a> Plain<'a> {
     ghost use Rattle.std.specs.Prelude.{Some, None, Err, IfOk, OnOk, true};
-    ghost use Rattle.pool_semantics.specs.Action.{Object, action};
-    ghost use Rattle.pool_semantics.specs.Configuration.{object_of};
+    ghost use Rattle.pool_relation.specs.Action.{Object, action};
+    ghost use Rattle.pool_relation.specs.Configuration.{object_of};
     ghost use Rattle.pool_semantics.specs.PlainOf.{configuration_of, program_tree, is_spent, frames_next};
-    ghost use Rattle.pool_semantics.specs.Typed.{GoesWrong};
-    ghost use Rattle.pool_semantics.specs.WellFormed.{WellTyped};
-    ghost use Rattle.pool_semantics.specs.Transition.{transition, start};
+    ghost use Rattle.pool_relation.specs.Typed.{GoesWrong};
+    ghost use Rattle.pool_relation.specs.WellFormed.{WellTyped};
+    ghost use Rattle.pool_relation.specs.Transition.{transition, start};
     ghost use Rattle.pool_semantics.specs.Shown.{Shows};
 
     /// One object of the last class of the text, under this name.

@@ -3,8 +3,8 @@ ghost use Rattle.std.specs.Prelude.{◌≡◌, [], ◌∷◌, Option, Some, None
 ghost use Rattle.std.specs.List.{list_any};
 ghost use Rattle.pool_syntax.specs.TreeOf.{program_of};
 ghost use Rattle.pool_syntax.specs.Terms.{Statements, Store, ProgramTree};
-ghost use Rattle.pool_semantics.specs.Reducible.{Finish, Leave};
-ghost use Rattle.pool_semantics.specs.Action.{Object, action, redex_action, on_outcome, on_select, on_assignment, is_nil, not_bool, is_true};
+ghost use Rattle.pool_relation.specs.Reducible.{Finish, Leave};
+ghost use Rattle.pool_relation.specs.Action.{Object, action, redex_action, on_outcome, on_select, on_assignment, is_nil, not_bool, is_true};
 ghost use Rattle.pool_semantics.specs.Shown.{shown};
 ghost use Rattle.pool_semantics.specs.Parts.{term_of, task as statement};
 ghost use Rattle.pool_semantics.specs.Reduced.{assigns, reduced, task_redex, end_redex, choices, temps_at};

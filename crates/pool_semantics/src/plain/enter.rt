@@ -2,7 +2,7 @@
 ghost use Rattle.std.specs.Prelude.{◌≡◌, [], ◌∷◌, ◌++◌, IfOk, IfSome, IfNone, false};
 ghost use Rattle.pool_syntax.specs.TreeOf.{expression_of, expressions_of, statement_of, statements_of};
 ghost use Rattle.pool_syntax.specs.Terms as T;
-ghost use Rattle.pool_semantics.specs.Reducible.{is_value};
+ghost use Rattle.pool_relation.specs.Reducible.{is_value};
 ghost use Rattle.pool_semantics.specs.Parts.{operand, operands, placed, nested, stepped, ready, guarded, alternatives, slotted, left, content, inside, bottom, Running, IsOpen};
 ghost use Rattle.pool_syntax.specs.Terms.{append};
 

@@ -1,7 +1,7 @@
 //! The number of methods under way after a change.
 ghost use Rattle.std.specs.Prelude.{◌≡◌, IsTrue};
-ghost use Rattle.pool_semantics.specs.Action.{Object};
-ghost use Rattle.pool_semantics.specs.UnderWay.{frames_of};
+ghost use Rattle.pool_relation.specs.Action.{Object};
+ghost use Rattle.pool_relation.specs.UnderWay.{frames_of};
 ghost use Rattle.pool_semantics.specs.Parts.{term_of};
 ghost use Rattle.pool_semantics.specs.Acts.{changed, now_args, Fits, is_local};
 

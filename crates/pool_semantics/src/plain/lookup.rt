@@ -2,8 +2,8 @@
 ghost use Rattle.std.specs.Prelude.{◌≡◌, length, is_some, if◌then◌else◌};
 ghost use Rattle.pool_syntax.specs.TreeOf.{program_of, class_tree, method_tree};
 ghost use Rattle.pool_syntax.specs.Classes.{class_of, named_method};
-ghost use Rattle.pool_semantics.specs.Action.{value_of, method_of};
-ghost use Rattle.pool_semantics.specs.Reducible.{set_value};
+ghost use Rattle.pool_relation.specs.Action.{value_of, method_of};
+ghost use Rattle.pool_relation.specs.Reducible.{set_value};
 ghost use Rattle.pool_semantics.specs.Looked.{class_seen, method_seen, methods_of};
 
 use crate::plain::parts::Binding;

@@ -1,7 +1,7 @@
 //! What an answer or a select offers.
 ghost use Rattle.std.specs.Prelude.{◌≡◌, [], ◌∷◌, Option, Some, None};
-ghost use Rattle.pool_semantics.specs.Action as A;
-ghost use Rattle.pool_semantics.specs.Transition.{names_method, picked, plain_choice, select_offer};
+ghost use Rattle.pool_relation.specs.Action as A;
+ghost use Rattle.pool_relation.specs.Transition.{names_method, picked, plain_choice, select_offer};
 ghost use Rattle.pool_semantics.specs.Reduced.{choice, choices};
 ghost use Rattle.pool_semantics.specs.Acts.{now_names, now_choices};
 ghost use Rattle.pool_semantics.specs.Offers.{offered, work_seen, offer_act};

@@ -1,8 +1,8 @@
 //! Operators on values, and equality.
 ghost use Rattle.std.specs.Prelude.{◌≡◌, ◌==◌, IsTrue, IfSome, IfNone};
-ghost use Rattle.pool_semantics.specs.Values.{infix_value, prefix_value, is_same, Gives, Fails};
+ghost use Rattle.pool_relation.specs.Values.{infix_value, prefix_value, is_same, Gives, Fails};
 ghost use Rattle.pool_semantics.specs.Operated.{is_logical, outcome_of};
-ghost use Rattle.pool_semantics.specs.Transition.{is_same_item, error_number};
+ghost use Rattle.pool_relation.specs.Transition.{is_same_item, error_number};
 
 use pool_syntax::{Error, Item, Op, Value};
 

@@ -2,7 +2,7 @@
 ghost use Rattle.std.specs.Prelude.{◌≡◌, [], ◌∷◌, ◌++◌, ◌+◌, IfOk, IfSome, IfNone, false};
 ghost use Rattle.pool_syntax.specs.TreeOf.{expression_of, expressions_of};
 ghost use Rattle.pool_syntax.specs.Terms.{Arg, NoArgs, Prefix, Infix, Call, Send};
-ghost use Rattle.pool_semantics.specs.Reducible.{is_value};
+ghost use Rattle.pool_relation.specs.Reducible.{is_value};
 ghost use Rattle.pool_semantics.specs.Parts.{operand, operands, nested, stepped, ready, IsOpen, IsBelow};
 ghost use Rattle.pool_semantics.specs.Weights.{weight, weights};
 

@@ -1,8 +1,8 @@
 //! One object: its class, its variables, what it has still to do, and its fault.
 ghost use Rattle.std.specs.Prelude.{◌≡◌, OnOk, IfOk};
 ghost use Rattle.pool_syntax.specs.TreeOf.{program_of, class_tree};
-ghost use Rattle.pool_semantics.specs.Action.{action};
-ghost use Rattle.pool_semantics.specs.Transition.{new_object};
+ghost use Rattle.pool_relation.specs.Action.{action};
+ghost use Rattle.pool_relation.specs.Transition.{new_object};
 ghost use Rattle.pool_semantics.specs.Acts.{acted, changed, now_args, now_names, now_choices, Fits, Suits};
 ghost use Rattle.pool_semantics.specs.Things.{thing_object};
 

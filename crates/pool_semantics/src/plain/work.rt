@@ -3,8 +3,8 @@ ghost use Rattle.std.specs.Prelude.{◌≡◌, [], ◌∷◌, ◌++◌, Some, On
 ghost use Rattle.pool_syntax.specs.TreeOf.{expression_of, statements_of, method_tree};
 ghost use Rattle.pool_syntax.specs.Terms as T;
 ghost use Rattle.pool_syntax.specs.Terms.{append};
-ghost use Rattle.pool_semantics.specs.Reducible.{AsExpression, AsStatements, set_value, fill_statements};
-ghost use Rattle.pool_semantics.specs.Action.{literal, bind, nil_store, temps_of};
+ghost use Rattle.pool_relation.specs.Reducible.{AsExpression, AsStatements, set_value, fill_statements};
+ghost use Rattle.pool_relation.specs.Action.{literal, bind, nil_store, temps_of};
 ghost use Rattle.pool_semantics.specs.Parts.{left, around, layers, bottom, Running, loop_of, term_of};
 ghost use Rattle.pool_semantics.specs.Reduced.{values};
 ghost use Rattle.pool_semantics.specs.Acts.{now_args};

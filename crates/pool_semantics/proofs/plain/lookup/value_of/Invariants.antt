@@ -1,5 +1,5 @@
 use Rattle.std.proofs.Common.{◌≡◌, length}
-use Rattle.pool_semantics.specs.Action.{value_of}
+use Rattle.pool_relation.specs.Action.{value_of}
 use Rattle.pool_semantics.proofs.plain.lookup.value_of.Given as goal
 
 abbrev pub invariant-loop-first : goal.invariant-loop-first

@@ -1,5 +1,5 @@
 use Rattle.std.proofs.Common.{◌≡◌, drop}
-use Rattle.pool_semantics.specs.Transition.{select_offer}
+use Rattle.pool_relation.specs.Transition.{select_offer}
 use Rattle.pool_semantics.specs.Reduced.{choices}
 use Rattle.pool_semantics.proofs.plain.offers.select_offer.Given as goal
 

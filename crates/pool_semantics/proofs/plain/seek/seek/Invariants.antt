@@ -1,6 +1,6 @@
 use Rattle.std.proofs.Common.{◌≡◌, false}
 use Rattle.pool_syntax.specs.TreeOf.{expression_of}
-use Rattle.pool_semantics.specs.Reducible.{is_value}
+use Rattle.pool_relation.specs.Reducible.{is_value}
 use Rattle.pool_semantics.specs.Parts.{nested}
 use Rattle.pool_semantics.specs.Weights.{weight}
 use Rattle.pool_semantics.proofs.plain.seek.seek.Given as goal

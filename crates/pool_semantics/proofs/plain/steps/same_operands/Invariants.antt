@@ -1,5 +1,5 @@
 use Rattle.std.proofs.Common.{◌≡◌, length}
-use Rattle.pool_semantics.specs.Transition.{are_same}
+use Rattle.pool_relation.specs.Transition.{are_same}
 use Rattle.pool_semantics.specs.Reduced.{values}
 use Rattle.pool_semantics.proofs.plain.steps.same_operands.Given as goal
 

@@ -1,5 +1,5 @@
 use Rattle.std.proofs.Common.{◌≡◌, ◌++◌, length}
-use Rattle.pool_semantics.specs.Action.{nil_store}
+use Rattle.pool_relation.specs.Action.{nil_store}
 use Rattle.pool_semantics.proofs.plain.work.add_locals.Given as goal
 
 abbrev pub invariant-loop-first : goal.invariant-loop-first

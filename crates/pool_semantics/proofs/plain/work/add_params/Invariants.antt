@@ -1,5 +1,5 @@
 use Rattle.std.proofs.Common.{◌≡◌, ◌++◌, length}
-use Rattle.pool_semantics.specs.Action.{bind}
+use Rattle.pool_relation.specs.Action.{bind}
 use Rattle.pool_semantics.proofs.plain.work.add_params.Given as goal
 
 abbrev pub invariant-loop-param : goal.invariant-loop-param

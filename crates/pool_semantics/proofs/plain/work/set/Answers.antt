@@ -1,6 +1,6 @@
 use Rattle.std.proofs.Common.{◌≡◌, ◌∙◌, sym, ap, ◌<◌, length, slice_index_or, arith}
 use Rattle.std.proofs.lemmas.Grind.{common_steps}
-use Rattle.pool_semantics.specs.Reducible.{set_value}
+use Rattle.pool_relation.specs.Reducible.{set_value}
 use Rattle.pool_semantics.proofs.Changing.{set_at}
 use Rattle.pool_semantics.proofs.plain.work.set.Goals as goal
 

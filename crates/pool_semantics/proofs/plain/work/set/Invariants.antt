@@ -1,5 +1,5 @@
 use Rattle.std.proofs.Common.{◌≡◌, ◌-◌, ◌++◌, take, drop, length}
-use Rattle.pool_semantics.specs.Reducible.{set_value}
+use Rattle.pool_relation.specs.Reducible.{set_value}
 use Rattle.pool_semantics.proofs.plain.work.set.Given as goal
 
 abbrev pub invariant-loop-at : goal.invariant-loop-at

@@ -2,10 +2,10 @@ use Rattle.std.proofs.Common.{◌≡◌, ◌∙◌, ap, refl, sym, length, Some,
 use Rattle.std.specs.Ordering.{nat_cmp}
 use Rattle.std.specs.FinMap.{put}
 use Rattle.pool_syntax.specs.TreeOf.{program_of, method_tree, statements_of}
-use Rattle.pool_semantics.specs.Action.{method_of}
-use Rattle.pool_semantics.specs.Transition as X
-use Rattle.pool_semantics.specs.Transition.{are_same, has_message}
-use Rattle.pool_semantics.specs.Configuration.{messages_of}
+use Rattle.pool_relation.specs.Action.{method_of}
+use Rattle.pool_relation.specs.Transition as X
+use Rattle.pool_relation.specs.Transition.{are_same, has_message}
+use Rattle.pool_relation.specs.Configuration.{messages_of}
 use Rattle.pool_semantics.specs.Acts.{now_args, now_names, now_choices}
 use Rattle.pool_semantics.specs.Things.{thing_object}
 use Rattle.pool_semantics.specs.Looked.{method_seen}

@@ -2,8 +2,8 @@ use Rattle.std.proofs.Common.{◌≡◌, ◌∙◌, ap, ap₂, refl, sym, is_som
 use Rattle.std.specs.Ordering.{nat_cmp}
 use Rattle.std.specs.BTreeMap.{get}
 use Rattle.pool_syntax.specs.TreeOf.{program_of}
-use Rattle.pool_semantics.specs.Tables.{Pair, pair_cmp, list_at}
-use Rattle.pool_semantics.specs.Transition.{are_same}
+use Rattle.pool_relation.specs.Tables.{Pair, pair_cmp, list_at}
+use Rattle.pool_relation.specs.Transition.{are_same}
 use Rattle.pool_semantics.specs.Acts.{now_args}
 use Rattle.pool_semantics.specs.Plains.{configuration, posts_act}
 use Rattle.pool_semantics.proofs.Posting.{put_last}

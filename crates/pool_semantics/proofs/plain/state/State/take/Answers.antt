@@ -2,11 +2,11 @@ use Rattle.std.proofs.Common.{◌≡◌, ◌∙◌, ap, ap₂, refl, sym, [], ma
 use Rattle.std.specs.Option.{option_copied}
 use Rattle.std.specs.List.{remove}
 use Rattle.pool_syntax.specs.TreeOf.{program_of, method_tree, statements_of}
-use Rattle.pool_semantics.specs.Action.{method_of}
-use Rattle.pool_semantics.specs.Tables.{Pair, pair_cmp, put_list}
-use Rattle.pool_semantics.specs.Transition as X
-use Rattle.pool_semantics.specs.Transition.{are_same, first_message, without_first}
-use Rattle.pool_semantics.specs.Configuration.{Message, messages_of}
+use Rattle.pool_relation.specs.Action.{method_of}
+use Rattle.pool_relation.specs.Tables.{Pair, pair_cmp, put_list}
+use Rattle.pool_relation.specs.Transition as X
+use Rattle.pool_relation.specs.Transition.{are_same, first_message, without_first}
+use Rattle.pool_relation.specs.Configuration.{Message, messages_of}
 use Rattle.pool_semantics.specs.Acts.{now_names, now_choices}
 use Rattle.pool_semantics.specs.Things.{thing_object}
 use Rattle.pool_semantics.specs.Looked.{method_seen}

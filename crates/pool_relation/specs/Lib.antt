@@ -1,0 +1,12 @@
+pub mod Values
+pub mod Reducible
+pub mod Action
+pub mod Tables
+pub mod Configuration
+pub mod Transition
+pub mod UnderWay
+pub mod Typed
+pub mod WellFormed
+pub mod Progress
+pub mod Ready
+pub mod Alone
