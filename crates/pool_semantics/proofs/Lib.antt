@@ -1,13 +1,5 @@
-pub mod Plugged
-pub mod Layers
-pub mod Weights
-pub mod Views
-pub mod Lengths
-pub mod Acting
-pub mod Changing
 pub mod Stored
 pub mod Labels
-pub mod Offering
 pub mod Mailing
 pub mod Posting
 pub mod Queued
@@ -15,5 +7,4 @@ pub mod TypedFacts
 pub mod AlwaysShown
 pub mod RootClass
 pub mod SoundSteps
-pub mod Frames
-pub mod FrameCounts
+pub mod NextFrames

@@ -1,12 +1,3 @@
-pub mod Weights
-pub mod Parts
-pub mod Reduced
-pub mod Operated
-pub mod Looked
-pub mod Changes
-pub mod Acts
-pub mod Things
-pub mod Offers
 pub mod Mails
 pub mod Plains
 pub mod Shown

@@ -1,20 +1,10 @@
 //! The plain stepper: it makes the transitions of the relation, one label at a time.
-mod act;
-mod change;
-mod enter;
-mod frames;
-mod lookup;
+mod items;
 mod mail;
 mod objects;
-mod offers;
-mod operators;
-mod parts;
 mod redex;
-mod seek;
 mod state;
 mod steps;
-mod thing;
-mod work;
 
 ghost use Rattle.std.specs.Prelude.{◌≡◌, false};
 ghost use Rattle.pool_syntax.specs.TreeOf.{program_of};
@@ -22,12 +12,13 @@ ghost use Rattle.pool_semantics.specs.Plains.{configuration};
 ghost use Rattle.pool_semantics.specs.Sound.{Sound};
 ghost use Rattle.pool_semantics.specs.Asked.{asked_of};
 
-use crate::plain::act::Act;
 use crate::plain::objects::add;
 pub use crate::plain::redex::Redex;
 use crate::plain::state::State;
-use crate::plain::thing::Thing;
 use class_check::Checked;
+use plain_object::act::Act;
+use plain_object::frames::frames_after;
+use plain_object::thing::Thing;
 use pool_syntax::Label;
 use std::alloc::{AllocError, Global};
 use std::collections::BTreeMap;
@@ -122,7 +113,7 @@ impl<'a> Plain<'a> {
         match self.state.acting(object) {
             None => None,
             Some((thing, act)) => match act {
-                Act::Local(change) => Some(thing.work.frames_after(&change)),
+                Act::Local(change) => Some(frames_after(&thing.work, &change)),
                 _ => None,
             },
         }

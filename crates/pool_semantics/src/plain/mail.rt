@@ -10,7 +10,7 @@ ghost use Rattle.pool_relation.specs.Transition.{has_message, first_message, wit
 ghost use Rattle.pool_semantics.specs.declared.plain.mail.Mail.{Mail};
 ghost use Rattle.pool_semantics.specs.Mails.{message_of, posts};
 
-use crate::plain::offers::names_method;
+use plain_object::offers::names_method;
 use pool_syntax::{Args, NameId, Named};
 use std::alloc::{AllocError, Global};
 use std::collections::{BTreeMap, VecDeque};

@@ -5,7 +5,7 @@ use Rattle.std.specs.Ordering.{nat_cmp}
 use Rattle.std.specs.FinMap.{put}
 use Rattle.pool_syntax.specs.TreeOf.{class_tree, program_of}
 use Rattle.pool_relation.specs.Configuration.{Configuration}
-use Rattle.pool_semantics.specs.Things.{thing_object, things}
+use Rattle.plain_object.specs.Things.{thing_object, things}
 use Rattle.pool_semantics.specs.Mails.{posts}
 use Rattle.pool_relation.proofs.Grammatical.{grammatical_written, has_a_class}
 use Rattle.pool_semantics.proofs.RootClass.{none_last, started}
