@@ -20,7 +20,7 @@ use Rattle.pool_relation.specs.Action.{Object, Action, action}
 use Rattle.pool_relation.specs.Configuration.{Configuration, object_of}
 use Rattle.pool_relation.specs.Transition.{transition, run, start}
 use Rattle.pool_relation.specs.Typed.{GoesWrong}
-use Rattle.pool_relation.specs.WellFormed.{is_written}
+use Rattle.pool_relation.specs.Written.{is_written}
 use Rattle.pool_relation.specs.Ready.{is_ready}
 use Rattle.pool_relation.proofs.Quiet.{no_transition}
 use Rattle.pool_relation.proofs.Runs.{joined}

@@ -17,7 +17,8 @@ use Rattle.pool_relation.specs.Reducible as R
 use Rattle.pool_relation.specs.Reducible.{Choice, Reducible, Found, Evaluated, At, Part, AsExpression, AsStatements, fill_statements, statements_redex}
 use Rattle.pool_relation.specs.Action as A
 use Rattle.pool_relation.specs.Action.{Object, Action, action, redex_action, found_action, method_of, method_in, with_count, temps_of, value_of, on_assignment, on_branch, on_select, is_nil, not_bool, is_true, literal, becomes, becomes_value, on_outcome, read}
-use Rattle.pool_relation.specs.WellFormed.{has_room, is_written}
+use Rattle.pool_relation.specs.Written.{is_written}
+use Rattle.pool_relation.specs.Typed.{has_room}
 use Rattle.pool_relation.specs.UnderWay.{Activity, Own, Serving, in_statements, served_for, serves}
 use Rattle.pool_relation.proofs.TypedTerm.{Holds, Nothing, Methods, Waits, has_methods, takes, fits_need, is_destination, TypedExpression, TypedStatements}
 use Rattle.pool_relation.proofs.Sorts.{MayBecome, Stays, Opens}

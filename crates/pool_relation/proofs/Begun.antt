@@ -7,8 +7,8 @@ use Rattle.pool_syntax.specs.Classes.{class_of, named_method}
 use Rattle.pool_syntax.specs.Typing.{Scope, sort_of, class_scope, faults, own_method, temps_of_method, inside}
 use Rattle.pool_relation.specs.Reducible.{is_done}
 use Rattle.pool_relation.specs.Action.{bind, nil_store, temps_of, with_count, method_in, method_of}
-use Rattle.pool_relation.specs.Typed.{is_store_of}
-use Rattle.pool_relation.specs.WellFormed.{has_room, is_written}
+use Rattle.pool_relation.specs.Typed.{is_store_of, has_room}
+use Rattle.pool_relation.specs.Written.{is_value_for, is_written}
 use Rattle.pool_relation.proofs.Tests.{equal, equals, both}
 use Rattle.pool_relation.proofs.TypedTerm.{Nothing, Methods, past, gives, TypedExpression, TypedStatement, TypedStatements}
 use Rattle.pool_relation.proofs.Weaker.{nothing_below, expression_weaker, statements_weaker}
@@ -44,6 +44,7 @@ pub record Begins (p : ProgramTree) (c : ℕ) (f : ℕ → Option ℕ) (m : ℕ)
   pub body : TypedStatements Nothing (inside (running_scope p c f) m) t.body
   pub value : TypedExpression Nothing (inside (running_scope p c f) m) 0 t.value
   pub gives_it : IsTrue (gives p (own_method (running_scope p c f) m) (sort_of (inside (running_scope p c f) m) t.value))
+  pub valued : IsTrue (is_value_for t.outcome t.value)
 
 counted_method : (n : ℕ) (o : Option MethodTree) (t : MethodTree) → with_count n o ≡ Some t → (o ≡ Some t) × (length t.params ≡ n)
 counted_method n None t h = absurd (grind (arith, h))
@@ -78,6 +79,7 @@ method_begins p c f m n t h w e =
         body = subst (λ (g : Scope). TypedStatements Nothing g t.body) s b;
         value = subst (λ (g : Scope). TypedExpression Nothing g 0 t.value) s v;
         gives_it = subst (λ (o : Option MethodTree). IsTrue (gives p o (sort_of (inside (running_scope p c f) m) t.value))) (sym own) (subst (λ (g : Scope). IsTrue (gives p (Some t) (sort_of g t.value))) s z);
+        valued = r.0.valued;
       },
       a.3,
     )
@@ -124,6 +126,7 @@ call_begun p c f ts h m t args b e d r =
       statements_weaker Nothing Methods i t.body (nothing_below Methods) b.body,
       expression_weaker Nothing (past (is_done t.body) Methods) i 0 t.value (nothing_below _) b.value,
       b.gives_it,
+      rw b.is b.valued,
     ) in
     subst (λ (n : ℕ). TypedExpression Methods (at (running_scope p c f) ts) h (Frame n (temps_of t args) t.body t.value)) (sym b.named) whole
 
@@ -140,5 +143,6 @@ serve_begun p c f ts m t caller args b e d =
       statements_weaker Nothing Methods i t.body (nothing_below Methods) b.body,
       expression_weaker Nothing (past (is_done t.body) Methods) i 0 t.value (nothing_below _) b.value,
       b.gives_it,
+      rw b.is b.valued,
     ) in
     subst (λ (n : ℕ). TypedStatement Methods (at (running_scope p c f) ts) (Serve n caller (temps_of t args) t.body t.value)) (sym b.named) whole

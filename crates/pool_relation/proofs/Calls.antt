@@ -16,7 +16,7 @@ use Rattle.pool_relation.specs.Configuration.{Configuration, object_of, put_obje
 use Rattle.pool_relation.specs.Transition.{running, calls, returns, waits_on, are_same, has_message, Offer, offer, done, given, refilled, serving, transition}
 use Rattle.pool_relation.specs.UnderWay.{Serving, served_for, serves}
 use Rattle.pool_relation.specs.Typed.{class_at}
-use Rattle.pool_relation.specs.WellFormed.{is_written}
+use Rattle.pool_relation.specs.Written.{is_written}
 use Rattle.pool_relation.proofs.Tests.{first, second, equal, equals, decide, differ}
 use Rattle.pool_relation.proofs.TypedTerm.{Nothing, Methods, TypedStatements}
 use Rattle.pool_relation.proofs.Sorts.{MayBecome}

@@ -1,13 +1,12 @@
 -- What a program without faults has: known kinds, and typed bodies and methods.
-use Rattle.std.proofs.Common.{◌≡◌, refl, sym, ap, ◌∙◌, subst, IsTrue, ℕ, List, [], ◌∷◌, ◌++◌, Option, Some, None, Bool, true, false, ◌==◌, arith}
+use Rattle.std.proofs.Common.{◌≡◌, refl, sym, ap, ◌∙◌, subst, IsTrue, ℕ, List, [], ◌∷◌, ◌++◌, Option, Some, None, Bool, true, false, ◌==◌, ◌&&◌, arith}
 use Rattle.pool_syntax.specs.declared.tree.Kind.{Kind}
 use Rattle.pool_syntax.specs.declared.tree.Kind.TheVariants as K
 use Rattle.pool_syntax.specs.declared.tree.Var.{Var}
 use Rattle.pool_syntax.specs.Terms.{MethodTree, ClassTree, ProgramTree}
 use Rattle.pool_syntax.specs.Classes.{class_of, named_method}
 use Rattle.pool_syntax.specs.Typing.{Scope, kind_sort, sort_of, vars_faults, kind_faults, outcome_faults, method_tree_faults, methods_faults, class_scope, classes_faults, faults}
-use Rattle.pool_relation.specs.Typed.{are_source_statements, is_source}
-use Rattle.pool_relation.specs.WellFormed.{are_well_formed_statements, is_well_formed, are_written, is_written}
+use Rattle.pool_relation.specs.Written.{are_source_statements, is_source, is_value_for, are_written, is_written}
 use Rattle.pool_relation.proofs.Tests.{first, second, equal, true_not}
 use Rattle.pool_relation.proofs.TypedTerm.{Nothing, is_broken, gives, TypedExpression, TypedStatements}
 use Rattle.pool_relation.proofs.Faults.{none2, none3, none4, no_fault_if, gives_of_none}
@@ -44,11 +43,11 @@ pub record CheckedMethod (g : Scope) (m : MethodTree) : Type 0 where
   pub body : TypedStatements Nothing (at g (m.params ++ m.locals)) m.body
   pub value : TypedExpression Nothing (at g (m.params ++ m.locals)) 0 m.value
   pub gives_it : IsTrue (gives g.program (Some m) (sort_of (at g (m.params ++ m.locals)) m.value))
+  pub valued : IsTrue (is_value_for m.outcome m.value)
 
 method_checked : (g : Scope) (m : MethodTree) → method_tree_faults g m ≡ [] → IsTrue (are_source_statements m.body)
-    → IsTrue (are_well_formed_statements m.body) → IsTrue (is_source m.value) → IsTrue (is_well_formed 0 m.value)
-    → CheckedMethod g m
-method_checked g m h s w t v =
+    → IsTrue (is_source m.value) → IsTrue (is_value_for m.outcome m.value) → CheckedMethod g m
+method_checked g m h s t v =
     let a = none2 h in
     let b = none2 a.1 in
     let c = none2 b.1 in
@@ -59,9 +58,10 @@ method_checked g m h s w t v =
       params = front_known g.program m.params m.locals known;
       locals = back_known g.program m.params m.locals known;
       outcome = outcome_known g.program m.outcome m.outcome_pos d.0;
-      body = statements_written (at g (m.params ++ m.locals)) m.body e.0 s w;
-      value = expression_written (at g (m.params ++ m.locals)) 0 m.value e.1 t v;
+      body = statements_written (at g (m.params ++ m.locals)) m.body e.0 s;
+      value = expression_written (at g (m.params ++ m.locals)) 0 m.value e.1 t;
       gives_it = gives_of_none (at g (m.params ++ m.locals)) (Some m) m.value e.2;
+      valued = v;
     }
 
 methods_checked : (g : Scope) (before : List ℕ) (ms : List MethodTree) (n : ℕ) (m : MethodTree)
@@ -70,11 +70,10 @@ methods_checked : (g : Scope) (before : List ℕ) (ms : List MethodTree) (n : �
 methods_checked g before [] n m h w e = absurd (grind (arith, e))
 methods_checked g before (k ∷ ms) n m h w e =
     let a = none4 h in
-    let w4 = first _ (are_written ms) w in
-    let w3 = first _ (is_well_formed 0 k.value) w4 in
-    let w2 = first _ (is_source k.value) w3 in
+    let w3 = first _ (are_written ms) w in
+    let w2 = first _ (is_value_for k.outcome k.value) w3 in
     by (k.name.name.0 == n) refl
-    (method_checked g k a.2 (first (are_source_statements k.body) (are_well_formed_statements k.body) w2) (second (are_source_statements k.body) (are_well_formed_statements k.body) w2) (second _ (is_source k.value) w3) (second _ (is_well_formed 0 k.value) w4))
+    (method_checked g k a.2 (first (are_source_statements k.body) (is_source k.value) w2) (second (are_source_statements k.body) (is_source k.value) w2) (second (are_source_statements k.body && is_source k.value) (is_value_for k.outcome k.value) w3))
     (methods_checked g (k.name.name.0 ∷ before) ms n m a.3 (second _ (are_written ms) w))
   where
     by : (b : Bool) → (k.name.name.0 == n) ≡ b → CheckedMethod g k
@@ -97,12 +96,11 @@ classes_checked p before [] c k h w e = absurd (grind (arith, e))
 classes_checked p before (l ∷ ks) c k h w e =
     let a = none4 h in
     let b = none3 a.3 in
-    let w3 = first _ (is_written ks) w in
-    let w2 = first _ (are_written l.methods) w3 in
+    let w2 = first _ (is_written ks) w in
     let this : CheckedClass p l = record {
       vars = vars_known p 3 [] l.vars a.2;
-      methods = λ n m i. methods_checked (class_scope p l) [] l.methods n m b.1 (second _ (are_written l.methods) w3) i;
-      body = statements_written (class_scope p l) l.body (none2 b.2).0 (first (are_source_statements l.body) (are_well_formed_statements l.body) w2) (second (are_source_statements l.body) (are_well_formed_statements l.body) w2);
+      methods = λ n m i. methods_checked (class_scope p l) [] l.methods n m b.1 (second (are_source_statements l.body) (are_written l.methods) w2) i;
+      body = statements_written (class_scope p l) l.body (none2 b.2).0 (first (are_source_statements l.body) (are_written l.methods) w2);
     } in
     by (l.name.name.0 == c) refl this (classes_checked p (l.name.name.0 ∷ before) ks c k (none2 b.2).1 (second _ (is_written ks) w))
   where

@@ -19,8 +19,8 @@ use Rattle.pool_relation.specs.Action.{Object, Action, action, method_of}
 use Rattle.pool_relation.specs.Configuration.{Configuration, object_of, put_object, messages_of, put_messages}
 use Rattle.pool_relation.specs.Transition.{running, are_same, is_same_item, error_number, done, given, new_object}
 use Rattle.pool_relation.specs.UnderWay.{Serving, served_for, serves}
-use Rattle.pool_relation.specs.Typed.{class_at, CanTake, GoesWrong}
-use Rattle.pool_relation.specs.WellFormed.{is_written, WellTyped}
+use Rattle.pool_relation.specs.Typed.{class_at, CanTake, GoesWrong, Typed}
+use Rattle.pool_relation.specs.Written.{is_written}
 use Rattle.pool_relation.specs.Progress.{HasOwnTransition, IsCommunication}
 use Rattle.pool_relation.proofs.Tests.{equals, both}
 use Rattle.pool_relation.proofs.Fine.{CanReceive, Fine}
@@ -95,7 +95,7 @@ module _ (p : ProgramTree) (none : faults p ≡ []) (written : IsTrue (is_writte
       let w = g.serving.served k o s.0 s.1 x e l in
       (w.0, s.0, w.1, w.2)
 
-  pub not_wrong : (c : Configuration) (o : ℕ) (x : Object) → WellTyped p c → object_of c o ≡ Some x → ¬ (GoesWrong p c o (action p o x))
+  pub not_wrong : (c : Configuration) (o : ℕ) (x : Object) → Typed p c → object_of c o ≡ Some x → ¬ (GoesWrong p c o (action p o x))
   not_wrong c o x w e = by (action p o x) refl (fine_at p none written c o x g e)
     where
       g : Good p c
@@ -115,7 +115,7 @@ module _ (p : ProgramTree) (none : faults p ≡ []) (written : IsTrue (is_writte
       by (A.Select cs) i f h = h
       by (A.Waits b m) i f h = h
 
-  pub goes_on_or_meets : (c : Configuration) (o : ℕ) (x : Object) → WellTyped p c → object_of c o ≡ Some x → x.fault ≡ None
+  pub goes_on_or_meets : (c : Configuration) (o : ℕ) (x : Object) → Typed p c → object_of c o ≡ Some x → x.fault ≡ None
       → action p o x ≢ A.Finished
       → (HasOwnTransition p c o) ⊎ IsCommunication (action p o x)
   goes_on_or_meets c o x w e n more = by (action p o x) refl (fine_at p none written c o x g e)
@@ -137,7 +137,7 @@ module _ (p : ProgramTree) (none : faults p ≡ []) (written : IsTrue (is_writte
         where
           at_rest : (r : Option Error) → y.fault ≡ r → y.fault ≡ None
           at_rest None j = j
-          at_rest (Some r) j = let both : A.Waits o m ≡ A.Fault r = sym a ∙ w.typed.fault k y r i j in absurd (grind (arith, both))
+          at_rest (Some r) j = let both : A.Waits o m ≡ A.Fault r = sym a ∙ w.fault k y r i j in absurd (grind (arith, both))
 
       makes_one : (k : ℕ) (class : ClassTree) → class_of p k ≡ Some class → action p o x ≡ A.New k → HasOwnTransition p c o
       makes_one k class known i =

@@ -1,4 +1,4 @@
--- A well-typed configuration by the one test of typed terms.
+-- A typed configuration by the one test of typed terms.
 use Rattle.std.proofs.Common.{◌≡◌, refl, IsTrue, ℕ, List, [], ◌∷◌, Option, Some, is_some, All}
 use Rattle.std.specs.Ordering.{nat_cmp}
 use Rattle.std.specs.FinMap.{is_sorted}
@@ -12,7 +12,6 @@ use Rattle.pool_relation.specs.Tables.{pair_cmp, no_entry_empty}
 use Rattle.pool_relation.specs.Configuration.{Message, Configuration, object_of, messages_of}
 use Rattle.pool_relation.specs.UnderWay.{serves}
 use Rattle.pool_relation.specs.Typed.{class_at, scope, IsMessageFor, Typed}
-use Rattle.pool_relation.specs.WellFormed.{WellTyped}
 use Rattle.pool_relation.proofs.TypedTerm.{Waits}
 use Rattle.pool_relation.proofs.FromTyped.{statements_from}
 use Rattle.pool_relation.proofs.ToTyped.{statements_to}
@@ -54,17 +53,14 @@ pub record Good (p : ProgramTree) (c : Configuration) : Type 0 where
   pub messages : (s r : ℕ) → MessagesFit p c s r (messages_of c s r)
   pub serving : Served p c
 
-pub good_of : (p : ProgramTree) (c : Configuration) → WellTyped p c → Good p c
-good_of p c w = record {
+pub good_of : (p : ProgramTree) (c : Configuration) → Typed p c → Good p c
+good_of p c t = record {
   order = record { objects = t.in_order.0; messages = t.in_order.1; no_empty = t.no_empty };
   objects = record { class = t.class; fine = object; fault = t.fault };
   messages = t.messages;
   serving = record { waits = t.waits; served = t.served };
 }
   where
-    t : Typed p c
-    t = w.typed
-
     known : (o : ℕ) (x : Object) → object_of c o ≡ Some x → (b m : ℕ) (u : Store)
         → statements_redex [] x.term ≡ At (Waiting b m) u → IsTrue (is_some (classes c b))
     known o x e b m u q = let a : action p o x ≡ A.Waits b m = rw q refl in let y = t.waits o b m x e a in rw y.1 refl
@@ -72,22 +68,19 @@ good_of p c w = record {
     object : (o : ℕ) (x : Object) → object_of c o ≡ Some x → FineObject p (classes c) x
     object o x e = record {
       vars = t.vars o x e;
-      term = statements_from (scope p c x.class) [] [] x.term (t.term o x e) (t.sound o x e) (w.formed o x e) (known o x e);
+      term = statements_from (scope p c x.class) [] [] x.term (t.term o x e) (t.sound o x e) (known o x e);
     }
 
-pub of_good : (p : ProgramTree) (c : Configuration) → Good p c → WellTyped p c
+pub of_good : (p : ProgramTree) (c : Configuration) → Good p c → Typed p c
 of_good p c w = record {
-  typed = record {
-    in_order = (w.order.objects, w.order.messages);
-    no_empty = w.order.no_empty;
-    class = w.objects.class;
-    vars = λ o x e. (w.objects.fine o x e).vars;
-    term = λ o x e. (statements_to Waits (scope p c x.class) [] x.term (w.objects.fine o x e).term).0;
-    sound = λ o x e. (statements_to Waits (scope p c x.class) [] x.term (w.objects.fine o x e).term).1;
-    fault = w.objects.fault;
-    messages = w.messages;
-    waits = w.serving.waits;
-    served = w.serving.served;
-  };
-  formed = λ o x e. (statements_to Waits (scope p c x.class) [] x.term (w.objects.fine o x e).term).2;
+  in_order = (w.order.objects, w.order.messages);
+  no_empty = w.order.no_empty;
+  class = w.objects.class;
+  vars = λ o x e. (w.objects.fine o x e).vars;
+  term = λ o x e. (statements_to Waits (scope p c x.class) [] x.term (w.objects.fine o x e).term).0;
+  sound = λ o x e. (statements_to Waits (scope p c x.class) [] x.term (w.objects.fine o x e).term).1;
+  fault = w.objects.fault;
+  messages = w.messages;
+  waits = w.serving.waits;
+  served = w.serving.served;
 }

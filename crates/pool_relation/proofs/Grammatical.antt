@@ -1,5 +1,5 @@
--- A program of the grammar is written: nothing is under way in it, and each operator has its number of operands. It has a class.
-use Rattle.std.proofs.Common.{◌≡◌, ◌≢◌, refl, IsTrue, ℕ, ◌+◌, List, [], ◌∷◌, ◌++◌, Some, false, ◌&&◌, arith}
+-- A program of the grammar is written, and has a class.
+use Rattle.std.proofs.Common.{◌≡◌, ◌≢◌, refl, IsTrue, ℕ, List, [], ◌∷◌, ◌++◌, Some, false, ◌&&◌, arith}
 use Rattle.pool_syntax.specs.declared.token.Tok.{Tok}
 use Rattle.pool_syntax.specs.declared.words.Op.{Op}
 use Rattle.pool_syntax.specs.Terms as T
@@ -9,25 +9,24 @@ use Rattle.pool_syntax.specs.Rules.{Group, disjunction, conjunction, addition, m
 use Rattle.pool_syntax.specs.Grammar.{rule, operator_of, arg_last, then_last, alt_last}
 use Rattle.pool_syntax.specs.Derives.{IsToken, Derives, nothing, token, inner, first, second}
 use Rattle.pool_syntax.specs.Spelled.{IsGrammatical}
-use Rattle.pool_relation.specs.Typed.{is_source, are_source, is_source_statement, are_source_statements, are_source_alternatives}
-use Rattle.pool_relation.specs.WellFormed.{is_prefix, is_well_formed, are_well_formed, is_well_formed_statement, are_well_formed_statements, are_well_formed_alternatives, are_written, is_written}
+use Rattle.pool_relation.specs.Written.{is_source, are_source, is_source_statement, are_source_statements, are_source_alternatives, is_prefix, are_written, is_written}
 use Rattle.pool_relation.proofs.Tests as b
 
 -- parts as they are written
 abbrev Plain : Expression → Type 0
-Plain e = IsTrue (is_source e) × ((h : ℕ) → IsTrue (is_well_formed h e))
+Plain e = IsTrue (is_source e)
 
 abbrev PlainArguments : Expressions → Type 0
-PlainArguments es = IsTrue (are_source es) × ((h : ℕ) → IsTrue (are_well_formed h es))
+PlainArguments es = IsTrue (are_source es)
 
 abbrev PlainStatement : Statement → Type 0
-PlainStatement s = IsTrue (is_source_statement s) × IsTrue (is_well_formed_statement s)
+PlainStatement s = IsTrue (is_source_statement s)
 
 abbrev PlainStatements : Statements → Type 0
-PlainStatements ss = IsTrue (are_source_statements ss) × IsTrue (are_well_formed_statements ss)
+PlainStatements ss = IsTrue (are_source_statements ss)
 
 abbrev PlainAlternatives : Alternatives → Type 0
-PlainAlternatives alts = IsTrue (are_source_alternatives alts) × ((i : ℕ) → IsTrue (are_well_formed_alternatives i alts))
+PlainAlternatives alts = IsTrue (are_source_alternatives alts)
 
 -- what is derived of a phrase; a phrase that goes on with what stands before it is written where that is
 abbrev Written : (p : Phrase) → Tree p → Type 0
@@ -98,77 +97,58 @@ methods_last : (ms : List MethodTree) (m : MethodTree) → IsTrue (are_written m
 methods_last [] m w v = v
 methods_last (n ∷ ms) m w v = b.both _ _ (b.first _ (are_written ms) w) (methods_last ms m (b.second _ (are_written ms) w) v)
 
-source_last : (es : Expressions) (e : Expression) → IsTrue (are_source es) → IsTrue (is_source e) → IsTrue (are_source (arg_last es e))
-source_last NoArgs e w v = b.both _ _ v refl
-source_last (Arg x xs) e w v = b.both _ _ (b.first _ (are_source xs) w) (source_last xs e (b.second (is_source x) _ w) v)
-
-formed_last : (h : ℕ) (es : Expressions) (e : Expression) → IsTrue (are_well_formed h es)
-    → ((i : ℕ) → IsTrue (is_well_formed i e)) → IsTrue (are_well_formed h (arg_last es e))
-formed_last h NoArgs e w v = b.both _ _ (v h) refl
-formed_last h (Arg x xs) e w v = b.both _ _ (b.first _ (are_well_formed (h + 1) xs) w) (formed_last (h + 1) xs e (b.second (is_well_formed h x) _ w) v)
-
 arguments_last : (es : Expressions) (e : Expression) → PlainArguments es → Plain e → PlainArguments (arg_last es e)
-arguments_last es e w v = (source_last es e w.0 v.0, λ h. formed_last h es e (w.1 h) v.1)
+arguments_last NoArgs e w v = b.both _ _ v refl
+arguments_last (Arg x xs) e w v = b.both _ _ (b.first _ (are_source xs) w) (arguments_last xs e (b.second (is_source x) _ w) v)
 
 statements_last : (ss : Statements) (s : Statement) → PlainStatements ss → PlainStatement s → PlainStatements (then_last ss s)
-statements_last Done s w v = (b.both _ _ v.0 refl, b.both _ _ v.1 refl)
-statements_last (Then t ss) s w v =
-    let rest = statements_last ss s (b.second (is_source_statement t) _ w.0, b.second (is_well_formed_statement t) _ w.1) v in
-    (b.both _ _ (b.first _ (are_source_statements ss) w.0) rest.0, b.both _ _ (b.first _ (are_well_formed_statements ss) w.1) rest.1)
-
-alternatives_source : (alts : Alternatives) (a : r.OneAlternative) → IsTrue (are_source_alternatives alts)
-    → Plain a.0 × PlainStatements a.2 → IsTrue (are_source_alternatives (alt_last alts a))
-alternatives_source NoAlts a w v = b.both _ _ (b.both _ _ v.0.0 v.1.0) refl
-alternatives_source (Alt g ns ss alts) a w v = b.both _ _ (b.first _ (are_source_alternatives alts) w) (alternatives_source alts a (b.second (is_source g && are_source_statements ss) _ w) v)
-
-alternatives_formed : (i : ℕ) (alts : Alternatives) (a : r.OneAlternative) → IsTrue (are_well_formed_alternatives i alts)
-    → Plain a.0 × PlainStatements a.2 → IsTrue (are_well_formed_alternatives i (alt_last alts a))
-alternatives_formed i NoAlts a w v = b.both _ _ (b.both _ _ (v.0.1 i) v.1.1) refl
-alternatives_formed i (Alt g ns ss alts) a w v =
-    b.both _ _ (b.first _ (are_well_formed_alternatives (i + 1) alts) w) (alternatives_formed (i + 1) alts a (b.second (is_well_formed i g && are_well_formed_statements ss) _ w) v)
+statements_last Done s w v = b.both _ _ v refl
+statements_last (Then t ss) s w v = b.both _ _ (b.first _ (are_source_statements ss) w) (statements_last ss s (b.second (is_source_statement t) _ w) v)
 
 alternatives_last : (alts : Alternatives) (a : r.OneAlternative) → PlainAlternatives alts → Plain a.0 × PlainStatements a.2
     → PlainAlternatives (alt_last alts a)
-alternatives_last alts a w v = (alternatives_source alts a w.0 v, λ i. alternatives_formed i alts a (w.1 i) v)
+alternatives_last NoAlts a w v = b.both _ _ (b.both _ _ v.0 v.1) refl
+alternatives_last (Alt g ns ss alts) a w v =
+    b.both _ _ (b.first _ (are_source_alternatives alts) w) (alternatives_last alts a (b.second (is_source g && are_source_statements ss) _ w) v)
 
 plain_infix : (op : Op) (l m : Expression) (p : ℕ) → is_prefix op ≡ false → Plain l → Plain m → Plain (T.Infix op l m p)
-plain_infix op l m p i w v = (b.both _ _ w.0 v.0, λ h. b.both _ _ (b.both _ _ (rw i refl) (w.1 h)) (v.1 (h + 1)))
+plain_infix op l m p i w v = b.both _ _ (b.both _ _ (rw i refl) w) v
 
 plain_send : (e : Expression) (m : ℕ) (es : Expressions) (p : ℕ) → Plain e → PlainArguments es → Plain (T.Send e m es p)
-plain_send e m es p w v = (b.both _ _ w.0 v.0, λ h. b.both _ _ (w.1 h) (v.1 (h + 1)))
+plain_send e m es p w v = b.both _ _ w v
 
 rule_written : (p : Phrase) → RuleWritten p (rule p)
 unfolding rule
 rule_written r.program = λ k w ks f n u. f (w, some_last [] k)
 rule_written (r.more_classes ks) = ((λ k w all f v. f (classes_last ks k v.0 w, some_last ks k)), (λ v. v))
-rule_written r.class = λ n u m v vs x ms f i y ss w j z. b.both _ _ (b.both _ _ (b.both _ _ w.0 w.1) (f refl)) refl
+rule_written r.class = λ n u m v vs x ms f i y ss w j z. b.both _ _ (b.both _ _ w (f refl)) refl
 rule_written (r.more_methods ms) = ((λ m w all f v. f (methods_last ms m v w)), (λ v. v))
 rule_written r.method = (
-  (λ i u n v ps x ls y j z ss w k t. b.both _ _ (b.both _ _ (b.both _ _ (b.both _ _ w.0 w.1) refl) refl) refl),
-  (λ i u n v ps x j y k z ls t l a ss w m c e d q f. b.both _ _ (b.both _ _ (b.both _ _ (b.both _ _ w.0 w.1) d.0) (d.1 0)) refl),
+  (λ i u n v ps x ls y j z ss w k t. b.both _ _ (b.both _ _ (b.both _ _ w refl) refl) refl),
+  (λ i u n v ps x j y k z ls t l a ss w m c e d q f. b.both _ _ (b.both _ _ (b.both _ _ w d) refl) refl),
 )
-rule_written r.stmts = ((λ s w ss f. f (b.both _ _ w.0 refl, b.both _ _ w.1 refl)), (refl, refl))
+rule_written r.stmts = ((λ s w ss f. f (b.both _ _ w refl)), refl)
 rule_written (r.more_stmts ss) = ((λ i u s w all f v. f (statements_last ss s v w)), (λ v. v))
 rule_written r.stmt = (
-  (λ n a i u e w. (w.0, w.1 0)),
+  (λ n a i u e w. w),
   (
-    (λ i u e w. (w.0, w.1 0)),
+    (λ i u e w. w),
     (
-      (λ i u t v. (refl, refl)),
+      (λ i u t v. refl),
       (
         (λ i u e w j v these x. (
-          (λ k y those z l a. (b.both _ _ (b.both _ _ w.0 x.0) z.0, b.both _ _ (b.both _ _ (w.1 0) x.1) z.1)),
-          (λ k y. (b.both _ _ (b.both _ _ w.0 x.0) refl, b.both _ _ (b.both _ _ (w.1 0) x.1) refl)),
+          (λ k y those z l a. b.both _ _ (b.both _ _ w x) z),
+          (λ k y. b.both _ _ (b.both _ _ w x) refl),
         )),
         (
-          (λ i u e w j v ss x k y. (b.both _ _ w.0 x.0, b.both _ _ (w.1 0) x.1)),
+          (λ i u e w j v ss x k y. b.both _ _ w x),
           (
-            (λ i u ns v. (refl, refl)),
+            (λ i u ns v. refl),
             (
-              (λ i u a w all f j v. let x = f (alternatives_last NoAlts a (refl, λ h. refl) w) in (x.0, x.1 0)),
+              (λ i u a w all f j v. f (alternatives_last NoAlts a refl w)),
               (
-                (λ e w i u n v es x. (b.both _ _ w.0 x.0, b.both _ _ (w.1 0) (x.1 1))),
-                (λ e w. (w.0, w.1 0)),
+                (λ e w i u n v es x. b.both _ _ w x),
+                (λ e w. w),
               ),
             ),
           ),
@@ -178,9 +158,9 @@ rule_written r.stmt = (
   ),
 )
 rule_written r.invoke = (
-  (λ n u es w. (w.0, w.1)),
+  (λ n u es w. w),
   (
-    (λ i u n v. (refl, λ h. refl)),
+    (λ i u n v. refl),
     (λ e w i u n v es x. plain_send e n.name.0 es n.pos w x),
   ),
 )
@@ -188,24 +168,24 @@ rule_written r.alt = λ i u g w. ((λ j v ns x k y ss z. (w, z)), (λ j v ss z. 
 rule_written (r.more_alts before) = ((λ a w all f v. f (alternatives_last before a v w)), (λ v. v))
 rule_written (r.expression (group g)) = λ l w e f. f w
 rule_written (r.expression comparison) = λ l w. ((λ o i m v. plain_infix o.0 l m o.1 i w v), w)
-rule_written (r.expression factor) = ((λ o i e w. (w.0, λ h. b.both _ _ i (w.1 h))), (λ e w. w))
+rule_written (r.expression factor) = ((λ o i e w. b.both _ _ i w), (λ e w. w))
 rule_written (r.expression postfix) = λ e w all f. f w
 rule_written (r.expression primary) = (
-  (λ n u. (refl, λ h. refl)),
+  (λ n u. refl),
   (
-    (λ i u. (refl, λ h. refl)),
+    (λ i u. refl),
     (
-      (λ i u. (refl, λ h. refl)),
+      (λ i u. refl),
       (
-        (λ i u. (refl, λ h. refl)),
+        (λ i u. refl),
         (
-          (λ i u. (refl, λ h. refl)),
+          (λ i u. refl),
           (
-            (λ n u. (refl, λ h. refl)),
+            (λ n u. refl),
             (
-              (λ n u es w. (w.0, w.1)),
+              (λ n u es w. w),
               (
-                (λ i u n v. (refl, λ h. refl)),
+                (λ i u n v. refl),
                 (λ i u e w j v. w),
               ),
             ),
@@ -217,7 +197,7 @@ rule_written (r.expression primary) = (
 )
 rule_written (r.more_operands g l) = ((λ o i m v e f w. f (plain_infix o.0 l m o.1 i w v)), (λ w. w))
 rule_written (r.more_sends e) = ((λ i u n v es x all f w. f (plain_send e n.name.0 es n.pos w x)), (λ w. w))
-rule_written r.args = λ i u. ((λ e w es f j v. f (b.both _ _ w.0 refl, λ h. b.both _ _ (w.1 h) refl)), (λ j v. (refl, λ h. refl)))
+rule_written r.args = λ i u. ((λ e w es f j v. f (b.both _ _ w refl)), (λ j v. refl))
 rule_written (r.more_args es) = ((λ i u e w all f v. f (arguments_last es e v w)), (λ v. v))
 rule_written (r.more_vars vs) = ((λ a u b v c w d x e y. tt), tt)
 rule_written r.names = λ n u ns v. tt

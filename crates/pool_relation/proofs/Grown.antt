@@ -105,6 +105,7 @@ mutual
     statements_grown k (inside g m) f ss w t.3,
     expression_grown (past (is_done ss) k) (inside g m) f 0 e w t.4,
     rw (sort_grown (past (is_done ss) k) (inside g m) f 0 e w t.4) t.5,
+    t.6,
   )
   expression_grown k g f h (Wait b m) w t = (t.0, t.1, rw (object_kept g.object_class f b w t.2) t.2)
 
@@ -150,6 +151,7 @@ mutual
     statements_grown k (inside g m) f ss w t.2,
     expression_grown (past (is_done ss) k) (inside g m) f 0 e w t.3,
     rw (sort_grown (past (is_done ss) k) (inside g m) f 0 e w t.3) t.4,
+    t.5,
   )
 
   pub statements_grown : (k : Holds) (g : Scope) (f : ℕ → Option ℕ) (ss : Statements) → Grows g.object_class f

@@ -6,7 +6,8 @@ use Rattle.pool_syntax.specs.Terms.{ProgramTree}
 use Rattle.pool_syntax.specs.Typing.{faults}
 use Rattle.pool_relation.specs.Configuration.{Configuration}
 use Rattle.pool_relation.specs.Transition.{transition, run}
-use Rattle.pool_relation.specs.WellFormed.{is_written, WellTyped}
+use Rattle.pool_relation.specs.Written.{is_written}
+use Rattle.pool_relation.specs.Typed.{Typed}
 use Rattle.pool_relation.proofs.Good.{Good, good_of, of_good}
 use Rattle.pool_relation.proofs.Backwards.{same_some, given_by}
 use Rattle.pool_relation.proofs.OneObject.{local_kept, write_kept, fault_kept, pick_kept}
@@ -27,12 +28,12 @@ good_kept p c d (L.Pick o i) none written g e = pick_kept p none written c d o i
 good_kept p c d (L.Fault o error) none written g e = fault_kept p none written c d o error g e
 
 pub well_typed_kept : (p : ProgramTree) (c d : Configuration) (l : Label) → faults p ≡ [] → IsTrue (is_written p)
-    → WellTyped p c → transition p c l ≡ Some d → WellTyped p d
+    → Typed p c → transition p c l ≡ Some d → Typed p d
 well_typed_kept p c d l none written w e = of_good p d (good_kept p c d l none written (good_of p c w) e)
 
 -- and so does a run
-pub run_kept : (p : ProgramTree) (c d : Configuration) (ls : List Label) → faults p ≡ [] → IsTrue (is_written p) → WellTyped p c
-    → run p c ls ≡ Some d → WellTyped p d
-run_kept p c d [] none written w e = subst (WellTyped p) (same_some e) w
+pub run_kept : (p : ProgramTree) (c d : Configuration) (ls : List Label) → faults p ≡ [] → IsTrue (is_written p) → Typed p c
+    → run p c ls ≡ Some d → Typed p d
+run_kept p c d [] none written w e = subst (Typed p) (same_some e) w
 run_kept p c d (l ∷ ls) none written w e =
     let a = given_by (transition p c l) _ d e in run_kept p a.0 d ls none written (well_typed_kept p c a.0 l none written w a.1) a.2

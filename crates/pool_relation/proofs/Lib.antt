@@ -1,4 +1,5 @@
 mod Rows
+mod TypedRows
 pub mod Runs
 pub mod Quiet
 pub mod Searched
@@ -37,7 +38,6 @@ pub mod Started
 pub mod GoingOn
 pub mod Kept
 pub mod Grammatical
-mod NotEnough
 mod Meets
 pub mod Grown
 pub mod Merely

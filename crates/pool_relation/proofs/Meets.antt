@@ -2,12 +2,13 @@
 use Rattle.std.proofs.Common.{◌≡◌, refl, Some, IsTrue}
 use Rattle.pool_relation.specs.Configuration.{Configuration}
 use Rattle.pool_relation.specs.Transition.{start}
-use Rattle.pool_relation.specs.WellFormed.{is_written, WellTyped}
+use Rattle.pool_relation.specs.Written.{is_written}
+use Rattle.pool_relation.specs.Typed.{Typed}
 use Rattle.pool_relation.proofs.Rows.{program}
 use Rattle.pool_relation.proofs.Started.{start_well_typed}
 
 written : IsTrue (is_written program)
 written = refl
 
-start_typed : (c : Configuration) → start program 0 ≡ Some c → WellTyped program c
+start_typed : (c : Configuration) → start program 0 ≡ Some c → Typed program c
 start_typed c e = start_well_typed program refl written 0 c e

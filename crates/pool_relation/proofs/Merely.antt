@@ -1,4 +1,4 @@
--- A well-typed configuration from the mere fact that it is one: each object, method and test in it is found again.
+-- A typed configuration from the mere fact that it is one: each object, method and test in it is found again.
 use Rattle.std.proofs.Common.{◌≡◌, refl, sym, ap, ap₂, subst, IsTrue, ℕ, ◌==◌, List, [], ◌∷◌, length, Option, Some, None, Bool, true, false, ◌&&◌, arith}
 use Rattle.std.proofs.Math.Logic.{∥∥₁_elim, ∥∥₁_map}
 use denote.Struct.Props.{props}
@@ -11,7 +11,6 @@ use Rattle.pool_relation.specs.Configuration.{Message, Configuration, object_of}
 use Rattle.pool_relation.specs.Transition.{fails}
 use Rattle.pool_relation.specs.Typed.{scope, all_fit, IsMessageFor, Typed}
 use Rattle.pool_relation.specs.UnderWay.{serves}
-use Rattle.pool_relation.specs.WellFormed.{WellTyped}
 use Rattle.pool_relation.proofs.Backwards.{same_error, same_some}
 use Rattle.pool_relation.proofs.Tests.{first, second, equal, equals}
 
@@ -63,7 +62,7 @@ message_for : (p : ProgramTree) (c : Configuration) (y : Object) (m : Message) �
 message_for p c y m =
     found (λ (k : MethodTree). IsTrue (all_fit (scope p c y.class) m.args k.params)) (method_of p y.class m.method (length m.args)) (λ k t. truth _ t)
 
-typed : (p : ProgramTree) (c : Configuration) → ∥ Typed p c ∥₁ → Typed p c
+pub typed : (p : ProgramTree) (c : Configuration) → ∥ Typed p c ∥₁ → Typed p c
 typed p c m = record {
   in_order = both_true _ _ (∥∥₁_map m (λ t. t.in_order));
   no_empty = truth _ (∥∥₁_map m (λ t. t.no_empty));
@@ -75,10 +74,4 @@ typed p c m = record {
   messages = λ s r k d l. found (λ (y : Object). IsMessageFor p c y _) (object_of c r) (λ y t. message_for p c y _ t) (∥∥₁_map m (λ t. t.messages s r k d l));
   waits = λ o b n x i j. found (λ (y : Object). serves o y.term ≡ n ∷ []) (object_of c b) (λ y t. names _ _ t) (∥∥₁_map m (λ t. t.waits o b n x i j));
   served = λ o b n ns y i j. found (λ (x : Object). action p o x ≡ A.Waits b n) (object_of c o) (λ x t. waiting _ b n t) (∥∥₁_map m (λ t. t.served o b n ns y i j));
-}
-
-pub well_typed : (p : ProgramTree) (c : Configuration) → ∥ WellTyped p c ∥₁ → WellTyped p c
-well_typed p c m = record {
-  typed = typed p c (∥∥₁_map m (λ t. t.typed));
-  formed = λ o x i. truth _ (∥∥₁_map m (λ t. t.formed o x i));
 }

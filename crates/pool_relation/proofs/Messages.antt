@@ -17,7 +17,7 @@ use Rattle.pool_relation.specs.Configuration.{Message, Configuration, object_of,
 use Rattle.pool_relation.specs.Transition.{running, posts, are_same, done, serving, transition, Offer, offer, select_offer, answered, names_method, first_message, without_first}
 use Rattle.pool_relation.specs.UnderWay.{Activity, Serving, in_statements, in_expression, served_for, serves}
 use Rattle.pool_relation.specs.Typed.{class_at, scope, fits, all_fit, IsMessageFor}
-use Rattle.pool_relation.specs.WellFormed.{is_written}
+use Rattle.pool_relation.specs.Written.{is_written}
 use Rattle.pool_relation.proofs.Tests.{first, second, both, equal}
 use Rattle.pool_relation.proofs.TypedTerm.{Nothing, Methods, has_no_sort, fits_need, TypedStatements}
 use Rattle.pool_relation.proofs.Declared.{AllKnown, fits_var, fits_parts}

@@ -12,7 +12,7 @@ use Rattle.pool_relation.specs.Configuration.{Configuration, object_of, put_obje
 use Rattle.pool_relation.specs.Transition.{running, makes, given, new_object, transition}
 use Rattle.pool_relation.specs.UnderWay.{serves}
 use Rattle.pool_relation.specs.Typed.{class_at, is_store_of}
-use Rattle.pool_relation.specs.WellFormed.{is_written}
+use Rattle.pool_relation.specs.Written.{is_written}
 use Rattle.pool_relation.proofs.Tests.{first, second, equal}
 use Rattle.pool_relation.proofs.TypedTerm.{Nothing, Methods, Waits, TypedStatements}
 use Rattle.pool_relation.proofs.Weaker.{nothing_below, statements_weaker}

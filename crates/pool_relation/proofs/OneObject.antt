@@ -13,7 +13,7 @@ use Rattle.pool_relation.specs.Configuration.{Message, Configuration, object_of,
 use Rattle.pool_relation.specs.Transition.{running, local_step, writes, fails, picked, plain_choice, done, refilled, transition}
 use Rattle.pool_relation.specs.UnderWay.{serves}
 use Rattle.pool_relation.specs.Typed.{class_at}
-use Rattle.pool_relation.specs.WellFormed.{is_written}
+use Rattle.pool_relation.specs.Written.{is_written}
 use Rattle.pool_relation.proofs.TypedTerm.{Nothing, Methods, Waits, TypedStatements}
 use Rattle.pool_relation.proofs.Weaker.{Below, nothing_below, statements_weaker}
 use Rattle.pool_relation.proofs.Spot.{at, TypedChoices}

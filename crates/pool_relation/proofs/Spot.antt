@@ -8,8 +8,8 @@ use Rattle.pool_syntax.specs.Classes.{class_of}
 use Rattle.pool_syntax.specs.Typing.{Sort, BoolSort, ClassSort, Scope, kind_sort, name_sort, value_sort, object_sort, is_dangling, op_sort, operand_sort, sort_of, own_sort, send_sort, is_broken_name, own_method, params_of, sent_method, names_faults, answer_faults, size}
 use Rattle.pool_relation.specs.Reducible.{Choice, Reducible, OwnName, Read, Make, Unary, Binary, Invoke, Request, Leave, Waiting, Set, Print, Drop, Post, Branch, Loop, Accept, Choose, Finish, Part, AsExpression, AsStatements, fill_expression, fill_expressions, fill_statement, fill_statements, fill_guards, At, expression_redex, expressions_redex, statement_redex, statements_redex, guards_redex}
 use Rattle.pool_relation.specs.Action.{literal}
-use Rattle.pool_relation.specs.Typed.{is_store_of}
-use Rattle.pool_relation.specs.WellFormed.{is_prefix, has_room}
+use Rattle.pool_relation.specs.Typed.{is_store_of, has_room}
+use Rattle.pool_relation.specs.Written.{is_prefix}
 use Rattle.pool_relation.proofs.TypedTerm.{Holds, Nothing, fits_need, fit_operands, takes, is_destination, TypedExpression, TypedArguments, TypedStatements, TypedAlternatives}
 use Rattle.pool_relation.proofs.Sorts.{MayBecome}
 

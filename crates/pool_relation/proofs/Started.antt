@@ -14,7 +14,8 @@ use Rattle.pool_relation.specs.Action.{Object, action}
 use Rattle.pool_relation.specs.Configuration.{Configuration, object_of}
 use Rattle.pool_relation.specs.Transition.{new_object, last_class, start}
 use Rattle.pool_relation.specs.UnderWay.{serves}
-use Rattle.pool_relation.specs.WellFormed.{is_written, WellTyped}
+use Rattle.pool_relation.specs.Written.{is_written}
+use Rattle.pool_relation.specs.Typed.{Typed}
 use Rattle.pool_relation.proofs.Tests.{equals}
 use Rattle.pool_relation.proofs.TypedTerm.{Nothing, Methods, TypedStatements}
 use Rattle.pool_relation.proofs.Faults.{none2, no_fault_if}
@@ -99,7 +100,7 @@ module _ (p : ProgramTree) (none : faults p ≡ []) (written : IsTrue (is_writte
           let it : [] ≡ m ∷ ms = sym none_served ∙ ap (λ x. serves o x.term) (one_found n (new_object k) b y i).1 ∙ s in
           absurd (grind (arith, it))
 
-  pub start_well_typed : (n : ℕ) (c : Configuration) → start p n ≡ Some c → WellTyped p c
+  pub start_well_typed : (n : ℕ) (c : Configuration) → start p n ≡ Some c → Typed p c
   start_well_typed n c e =
       let k = given_by (last_class p) _ c e in
       let is : record { objects = (n, new_object k.0) ∷ []; messages = [] } ≡ c = cc in

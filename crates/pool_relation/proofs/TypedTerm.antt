@@ -8,8 +8,8 @@ use Rattle.pool_syntax.specs.Terms.{Expression, Literal, Me, Variable, Create, P
 use Rattle.pool_syntax.specs.Classes.{class_of, named_method}
 use Rattle.pool_syntax.specs.Typing.{Sort, BoolSort, ClassSort, NilSort, NoSort, BrokenSort, Scope, kind_sort, name_sort, is_dangling, operand_sort, sort_of, is_same_sort, is_open, is_broken_name, is_comparable, params_of, size, sent_method, methods_of, own_method, temps_of_method, inside, names_faults, answer_faults}
 use Rattle.pool_relation.specs.Reducible.{is_value, is_done}
-use Rattle.pool_relation.specs.Typed.{is_store_of}
-use Rattle.pool_relation.specs.WellFormed.{is_prefix, has_room}
+use Rattle.pool_relation.specs.Typed.{is_store_of, has_room, is_value_of}
+use Rattle.pool_relation.specs.Written.{is_prefix}
 
 -- what may be under way in a part: nothing, methods, or a wait too
 pub data Holds : Type 0 where
@@ -88,7 +88,7 @@ abbrev mutual
   TypedExpression k g h (Frame m t ss e) =
       IsTrue (has_methods k) × IsTrue (has_room h) × IsTrue (is_store_of g (temps_of_method (own_method g m)) t)
       × TypedStatements k (inside g m) ss × TypedExpression (past (is_done ss) k) (inside g m) 0 e
-      × IsTrue (gives g.program (own_method g m) (sort_of (inside g m) e))
+      × IsTrue (gives g.program (own_method g m) (sort_of (inside g m) e)) × IsTrue (is_value_of (own_method g m) e)
   TypedExpression k g h (Wait b m) = IsTrue (has_waits k) × IsTrue (has_room h) × IsTrue (is_some (g.object_class b))
 
   pub TypedArguments : Holds → Scope → ℕ → List Var → Expressions → Type 0
@@ -118,6 +118,7 @@ abbrev mutual
   TypedStatement k g (Serve m c t ss e) =
       IsTrue (has_methods k) × IsTrue (is_store_of g (temps_of_method (own_method g m)) t) × TypedStatements k (inside g m) ss
       × TypedExpression (past (is_done ss) k) (inside g m) 0 e × IsTrue (gives g.program (own_method g m) (sort_of (inside g m) e))
+      × IsTrue (is_value_of (own_method g m) e)
 
   pub TypedStatements : Holds → Scope → Statements → Type 0
   TypedStatements k g Done = Unit {0}

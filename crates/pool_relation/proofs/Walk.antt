@@ -7,8 +7,7 @@ use Rattle.pool_syntax.specs.declared.tree.Var.{Var}
 use Rattle.pool_syntax.specs.Terms.{Store, Expression, Prefix, Infix, Call, Send, Expressions, NoArgs, Arg, Statement, Statements, Alternatives, NoAlts, Alt}
 use Rattle.pool_syntax.specs.Typing.{Sort, Scope, value_sort, is_dangling, op_sort, sort_of, own_sort, send_sort, own_method, params_of, sent_method, size}
 use Rattle.pool_relation.specs.Reducible.{Choice, Reducible, Evaluated, At, and_then, Unary, Binary, Invoke, Request, Part, is_value, as_expression, as_statements, fill_expression, expression_redex, expressions_redex, guards_redex}
-use Rattle.pool_relation.specs.Typed.{is_store_of}
-use Rattle.pool_relation.specs.WellFormed.{has_room}
+use Rattle.pool_relation.specs.Typed.{is_store_of, has_room}
 use Rattle.pool_relation.proofs.TypedTerm.{Holds, Nothing, Waits, past, TypedExpression, TypedArguments, TypedStatements, TypedAlternatives}
 use Rattle.pool_relation.proofs.Searched.{split, split_last, split_more, passed, literal_is, not_value, not_values, arguments_are}
 use Rattle.pool_relation.proofs.Sorts.{MayBecome, Stays, need_kept, sort_kept, operands_left, operands_right, destination_kept, send_kept, arguments_kept}

@@ -1,12 +1,14 @@
 -- The redex of a typed term, part by part.
-use Rattle.std.proofs.Common.{◌≡◌, refl, IsTrue, ℕ, List, Option, true, false, ◌⊎◌, inl, inr}
+use Rattle.std.proofs.Common.{◌≡◌, refl, IsTrue, ℕ, List, Option, Some, None, true, false, ◌⊎◌, inl, inr, arith}
 use Rattle.pool_syntax.specs.declared.words.Value.{Value}
 use Rattle.pool_syntax.specs.declared.words.Item.TheVariants as I
-use Rattle.pool_syntax.specs.Terms.{Store, Expression, Frame, Expressions, Assign, Write, Do, Async, If, Select, Serve, Statements, Done, Alternatives}
+use Rattle.pool_syntax.specs.declared.tree.Kind.{Kind}
+use Rattle.pool_syntax.specs.Terms.{Store, Expression, Literal, Frame, Expressions, Assign, Write, Do, Async, If, Select, Serve, Statements, Done, Alternatives, MethodTree}
 use Rattle.pool_syntax.specs.Typing.{Scope, value_sort, sort_of, inside, own_method, params_of, sent_method, size}
 use Rattle.pool_relation.specs.Reducible.{Choice, Reducible, Evaluated, At, and_then, Leave, Set, Print, Drop, Post, Branch, Choose, Finish, Part, AsExpression, AsStatements, is_value, is_done, fill_expression, fill_statements, expression_redex, expressions_redex, statements_redex, guards_redex}
 use Rattle.pool_relation.specs.Action.{literal}
-use Rattle.pool_relation.specs.Typed.{is_store_of}
+use Rattle.pool_relation.specs.Written.{is_nil_value, is_value_for}
+use Rattle.pool_relation.specs.Typed.{is_store_of, is_value_of}
 use Rattle.pool_relation.proofs.TypedTerm.{Holds, Nothing, Waits, has_methods, past, TypedExpression, TypedArguments, TypedStatement}
 use Rattle.pool_relation.proofs.Searched.{split, split_last, not_value, not_values, not_guards, arguments_are, guards_are, done_is, not_done}
 use Rattle.pool_relation.proofs.Sorts.{Stays, need_kept, sort_kept, destination_kept, arguments_kept, gives_kept}
@@ -14,6 +16,19 @@ use Rattle.pool_relation.proofs.Weaker.{nothing_below, expression_weaker, argume
 use Rattle.pool_relation.proofs.Declared.{Known, temps_known, assigned_fits, gives_known}
 use Rattle.pool_relation.proofs.Spot.{Spot, wider, NewExpression, NewStatement, NewStatements, AtExpression, AtArguments, AtStatement, AtStatements, AtAlternatives}
 use Rattle.pool_relation.proofs.Walk.{literal_typed, arguments_fit, choices_fit, here, placed_statements}
+
+-- a method whose value is not yet evaluated has a result
+value_of_kept : (m : Option MethodTree) (e e' : Expression) → is_value e ≡ false → IsTrue (is_value_of m e) → IsTrue (is_value_of m e')
+value_of_kept None e e' v h = absurd (grind (arith, h))
+value_of_kept (Some m) e e' v h = by m.outcome h
+  where
+    not_nil : (e : Expression) → is_value e ≡ false → IsTrue (is_nil_value e) → ⊥
+    not_nil (Literal a p) i j = grind (arith, i)
+    not_nil _ i j = grind (arith, j)
+
+    by : (k : Option Kind) → IsTrue (is_value_for k e) → IsTrue (is_value_for k e')
+    by None i = absurd (not_nil e v i)
+    by (Some k) i = refl
 
 -- a spot in a method under way
 outer : {j : Holds} {g : Scope} {r : Reducible} {u : Store} {A : Part → Type 0} (m : ℕ) → Spot j (inside g m) r u A → Spot j g r u A
@@ -29,12 +44,12 @@ module _ (j : Holds) (methods : IsTrue (has_methods j)) where
       new_body x v n =
           let rest : TypedExpression Nothing (inside g m) 0 e = rw v at d.4 in
           let temps = temps_known g.program (own_method g m) (known.methods m) in
-          rw v ((methods, d.1, assigned_fits (inside g m) ss w temps d.3 d.2, n, expression_weaker Nothing (past (is_done (fill_statements ss x)) j) (inside g m) 0 e (nothing_below _) rest, d.5), Stays refl)
+          rw v ((methods, d.1, assigned_fits (inside g m) ss w temps d.3 d.2, n, expression_weaker Nothing (past (is_done (fill_statements ss x)) j) (inside g m) 0 e (nothing_below _) rest, d.5, d.6), Stays refl)
 
       new_value : (x : Part) → ss ≡ Done → is_value e ≡ false → NewExpression j (inside g m) 0 e x
           → NewExpression j g h (Frame m w ss e) x
       new_value x is v n =
-          rw (is, v) ((methods, d.1, d.2, tt, n.0, gives_kept g.program (own_method g m) _ _ n.1 d.5), Stays refl)
+          rw (is, v) ((methods, d.1, d.2, tt, n.0, gives_kept g.program (own_method g m) _ _ n.1 d.5, value_of_kept (own_method g m) e (fill_expression e x) v d.6), Stays refl)
 
       left : (x : Part) (v : Value) → ss ≡ Done → expression_redex w e ≡ Evaluated v → x ≡ AsExpression (literal v)
           → NewExpression j g h (Frame m w ss e) x
@@ -64,11 +79,11 @@ module _ (j : Holds) (methods : IsTrue (has_methods j)) where
       new_body x v n =
           let rest : TypedExpression Nothing (inside g m) 0 e = rw v at d.3 in
           let temps = temps_known g.program (own_method g m) (known.methods m) in
-          rw v ((methods, assigned_fits (inside g m) ss w temps d.2 d.1, n, expression_weaker Nothing (past (is_done (fill_statements ss x)) j) (inside g m) 0 e (nothing_below _) rest, d.4), tt)
+          rw v ((methods, assigned_fits (inside g m) ss w temps d.2 d.1, n, expression_weaker Nothing (past (is_done (fill_statements ss x)) j) (inside g m) 0 e (nothing_below _) rest, d.4, d.5), tt)
 
       new_value : (x : Part) → ss ≡ Done → is_value e ≡ false → NewExpression j (inside g m) 0 e x → NewStatement j g (Serve m c w ss e) x
       new_value x is v n =
-          rw (is, v) ((methods, d.1, tt, n.0, gives_kept g.program (own_method g m) _ _ n.1 d.4), tt)
+          rw (is, v) ((methods, d.1, tt, n.0, gives_kept g.program (own_method g m) _ _ n.1 d.4, value_of_kept (own_method g m) e (fill_expression e x) v d.5), tt)
 
       left : (x : Part) → ss ≡ Done → is_value e ≡ true → x ≡ AsStatements Done → NewStatement j g (Serve m c w ss e) x
       left x is v a = rw (is, v, a) tt

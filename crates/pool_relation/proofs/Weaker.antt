@@ -51,6 +51,7 @@ mutual
     statements_weaker j k (inside g m) ss w t.3,
     expression_weaker (past (is_done ss) j) (past (is_done ss) k) (inside g m) 0 e (past_below (is_done ss) j k w) t.4,
     t.5,
+    t.6,
   )
   expression_weaker j k g h (Wait b m) w t = (w.waits t.0, t.1, t.2)
 
@@ -88,6 +89,7 @@ mutual
     statements_weaker j k (inside g m) ss w t.2,
     expression_weaker (past (is_done ss) j) (past (is_done ss) k) (inside g m) 0 e (past_below (is_done ss) j k w) t.3,
     t.4,
+    t.5,
   )
 
   pub statements_weaker : (j k : Holds) (g : Scope) (ss : Statements) → Below j k → TypedStatements j g ss → TypedStatements k g ss

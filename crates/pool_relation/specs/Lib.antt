@@ -5,8 +5,8 @@ pub mod Tables
 pub mod Configuration
 pub mod Transition
 pub mod UnderWay
+pub mod Written
 pub mod Typed
-pub mod WellFormed
 pub mod Progress
 pub mod Ready
 pub mod Alone

@@ -1,5 +1,5 @@
 -- Typed configurations, and what it is for an object to go wrong.
-use Rattle.std.specs.Prelude.{◌≡◌, ℕ, ◌==◌, List, [], ◌∷◌, length, Option, Some, None, is_some, Bool, true, false, not, ◌&&◌, ◌||◌, if◌then◌else◌, All, IsTrue}
+use Rattle.std.specs.Prelude.{◌≡◌, ℕ, ◌+◌, ◌==◌, List, [], ◌∷◌, length, Option, Some, None, is_some, nat_le, Bool, true, false, not, ◌&&◌, ◌||◌, if◌then◌else◌, All, IsTrue}
 use Rattle.std.specs.FinMap.{is_sorted}
 use Rattle.std.specs.Ordering.{nat_cmp}
 use Rattle.pool_syntax.specs.declared.words.Value.{Value}
@@ -13,6 +13,7 @@ use Rattle.pool_relation.specs.Action.{Object, Action, action, method_of}
 use Rattle.pool_relation.specs.Tables.{pair_cmp, no_entry_empty}
 use Rattle.pool_relation.specs.Configuration.{Message, Configuration, object_of, messages_of}
 use Rattle.pool_relation.specs.UnderWay.{serves}
+use Rattle.pool_relation.specs.Written.{is_prefix, is_source, are_source, are_source_statements, are_source_alternatives, is_value_for}
 use Rattle.pool_syntax.specs.Typing.{Scope, kind_sort, value_sort, is_dangling, is_same_sort, is_open, vars_of_class, statements_faults, own_method, temps_of_method}
 
 -- the class of an object
@@ -35,84 +36,58 @@ is_store_of g [] [] = true
 is_store_of g (v ∷ vs) (b ∷ bs) = v.name.0 == b.0 && fits g b.1 v && is_store_of g vs bs
 is_store_of g _ _ = false
 
--- a part without a method under way or a wait
+-- whether an expression can begin where so many operands are held
+abbrev pub has_room : ℕ → Bool
+has_room held = not (nat_le 64 held)
+
+-- whether this can be the value of the method; one without result has nil
+abbrev pub is_value_of : Option MethodTree → Expression → Bool
+is_value_of None e = false
+is_value_of (Some m) e = is_value_for m.outcome e
+
+-- a part before which so many operands are held, in which each method under way and each wait is the redex or holds it and stands
+-- where an expression can begin, a method under way has fitting temps and a value for it, and each operator has its number of operands
 abbrev mutual
-  pub is_source : Expression → Bool
-  is_source (Literal v p) = true
-  is_source (Me p) = true
-  is_source (Variable x p) = true
-  is_source (Create c p) = true
-  is_source (Prefix op e p) = is_source e
-  is_source (Infix op l r p) = is_source l && is_source r
-  is_source (Call m es p) = are_source es
-  is_source (Send e m es p) = is_source e && are_source es
-  is_source (Frame m t ss e) = false
-  is_source (Wait b m) = false
+  pub is_sound : Scope → ℕ → Expression → Bool
+  is_sound g h (Literal v p) = true
+  is_sound g h (Me p) = true
+  is_sound g h (Variable x p) = true
+  is_sound g h (Create c p) = true
+  is_sound g h (Prefix op e p) = is_prefix op && is_sound g h e
+  is_sound g h (Infix op l r p) = not (is_prefix op) && (if is_value l then is_sound g (h + 1) r else is_sound g h l && is_source r)
+  is_sound g h (Call m es p) = are_sound g h es
+  is_sound g h (Send e m es p) = if is_value e then are_sound g (h + 1) es else is_sound g h e && are_source es
+  is_sound g h (Frame m t ss e) =
+      has_room h && is_store_of g (temps_of_method (own_method g m)) t && is_value_of (own_method g m) e
+      && (if is_done ss then is_sound g 0 e else are_sound_statements g ss && is_source e)
+  is_sound g h (Wait b m) = has_room h
 
-  pub are_source : Expressions → Bool
-  are_source NoArgs = true
-  are_source (Arg e es) = is_source e && are_source es
-
-  pub is_source_statement : Statement → Bool
-  is_source_statement (Assign x p e) = is_source e
-  is_source_statement (Write e) = is_source e
-  is_source_statement (WriteText s) = true
-  is_source_statement (Do e) = is_source e
-  is_source_statement (Async e m p es) = is_source e && are_source es
-  is_source_statement (If e these those) = is_source e && are_source_statements these && are_source_statements those
-  is_source_statement (While e ss) = is_source e && are_source_statements ss
-  is_source_statement (Answer names) = true
-  is_source_statement (Select alts) = are_source_alternatives alts
-  is_source_statement (Serve m k t ss e) = false
-
-  pub are_source_statements : Statements → Bool
-  are_source_statements Done = true
-  are_source_statements (Then s ss) = is_source_statement s && are_source_statements ss
-
-  pub are_source_alternatives : Alternatives → Bool
-  are_source_alternatives NoAlts = true
-  are_source_alternatives (Alt e names ss alts) = is_source e && are_source_statements ss && are_source_alternatives alts
-
--- a part in which each method under way, and each wait, is the redex or holds it, and has fitting temps
-abbrev mutual
-  pub is_sound : Scope → Expression → Bool
-  is_sound g (Literal v p) = true
-  is_sound g (Me p) = true
-  is_sound g (Variable x p) = true
-  is_sound g (Create c p) = true
-  is_sound g (Prefix op e p) = is_sound g e
-  is_sound g (Infix op l r p) = if is_value l then is_sound g r else is_sound g l && is_source r
-  is_sound g (Call m es p) = are_sound g es
-  is_sound g (Send e m es p) = if is_value e then are_sound g es else is_sound g e && are_source es
-  is_sound g (Frame m t ss e) =
-      is_store_of g (temps_of_method (own_method g m)) t && (if is_done ss then is_sound g e else are_sound_statements g ss && is_source e)
-  is_sound g (Wait b m) = true
-
-  pub are_sound : Scope → Expressions → Bool
-  are_sound g NoArgs = true
-  are_sound g (Arg e es) = if is_value e then are_sound g es else is_sound g e && are_source es
+  pub are_sound : Scope → ℕ → Expressions → Bool
+  are_sound g h NoArgs = true
+  are_sound g h (Arg e es) = if is_value e then are_sound g (h + 1) es else is_sound g h e && are_source es
 
   pub is_sound_statement : Scope → Statement → Bool
-  is_sound_statement g (Assign x p e) = is_sound g e
-  is_sound_statement g (Write e) = is_sound g e
+  is_sound_statement g (Assign x p e) = is_sound g 0 e
+  is_sound_statement g (Write e) = is_sound g 0 e
   is_sound_statement g (WriteText s) = true
-  is_sound_statement g (Do e) = is_sound g e
-  is_sound_statement g (Async e m p es) = if is_value e then are_sound g es else is_sound g e && are_source es
-  is_sound_statement g (If e these those) = is_sound g e && are_source_statements these && are_source_statements those
+  is_sound_statement g (Do e) = is_sound g 0 e
+  is_sound_statement g (Async e m p es) = if is_value e then are_sound g 1 es else is_sound g 0 e && are_source es
+  is_sound_statement g (If e these those) = is_sound g 0 e && are_source_statements these && are_source_statements those
   is_sound_statement g (While e ss) = is_source e && are_source_statements ss
   is_sound_statement g (Answer names) = true
-  is_sound_statement g (Select alts) = are_sound_alternatives g alts
+  is_sound_statement g (Select alts) = are_sound_alternatives g 0 alts
   is_sound_statement g (Serve m k t ss e) =
-      is_store_of g (temps_of_method (own_method g m)) t && (if is_done ss then is_sound g e else are_sound_statements g ss && is_source e)
+      is_store_of g (temps_of_method (own_method g m)) t && is_value_of (own_method g m) e
+      && (if is_done ss then is_sound g 0 e else are_sound_statements g ss && is_source e)
 
   pub are_sound_statements : Scope → Statements → Bool
   are_sound_statements g Done = true
   are_sound_statements g (Then s ss) = is_sound_statement g s && are_source_statements ss
 
-  pub are_sound_alternatives : Scope → Alternatives → Bool
-  are_sound_alternatives g NoAlts = true
-  are_sound_alternatives g (Alt e names ss alts) =
-      are_source_statements ss && (if is_value e then are_sound_alternatives g alts else is_sound g e && are_source_alternatives alts)
+  pub are_sound_alternatives : Scope → ℕ → Alternatives → Bool
+  are_sound_alternatives g i NoAlts = true
+  are_sound_alternatives g i (Alt e names ss alts) =
+      are_source_statements ss && (if is_value e then are_sound_alternatives g (i + 1) alts else is_sound g i e && are_source_alternatives alts)
 
 -- whether values fit the parameters, one by one
 abbrev pub all_fit : Scope → List Value → List Var → Bool
@@ -125,7 +100,8 @@ abbrev pub IsMessageFor : ProgramTree → Configuration → Object → Message �
 IsMessageFor p c y m =
     (method : MethodTree) × (method_of p y.class m.method (length m.args) ≡ Some method) × IsTrue (all_fit (scope p c y.class) m.args method.params)
 
--- a configuration in which all is typed
+-- a typed configuration: its maps are in order; each object has the variables of its class, with fitting values, and a term that has no
+-- faults and is sound; an object with a fault is at it; each message fits a method of its receiver; each wait is served exactly once
 pub record Typed (p : ProgramTree) (c : Configuration) : Type 0 where
   pub in_order : IsTrue (is_sorted nat_cmp c.objects) × IsTrue (is_sorted pair_cmp c.messages)
   pub no_empty : IsTrue (no_entry_empty c.messages)

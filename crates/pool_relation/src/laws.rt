@@ -10,8 +10,8 @@ ghost use Rattle.pool_relation.specs.Configuration.{Configuration, object_of};
 ghost use Rattle.pool_relation.specs.Ready.{is_ready};
 ghost use Rattle.pool_relation.specs.Alone.{alone};
 ghost use Rattle.pool_relation.specs.Transition.{transition, run, start};
-ghost use Rattle.pool_relation.specs.Typed.{GoesWrong};
-ghost use Rattle.pool_relation.specs.WellFormed.{is_written, WellTyped};
+ghost use Rattle.pool_relation.specs.Typed.{GoesWrong, Typed};
+ghost use Rattle.pool_relation.specs.Written.{is_written};
 ghost use Rattle.pool_relation.specs.Progress.{HasOwnTransition, IsCommunication};
 
 /// A label that is possible determines the configuration after it.
@@ -30,35 +30,35 @@ pub fn not_ready_has_no_transition()
     ensures { (p : ProgramTree) (root : ℕ) (x : Object) (l : Label) → (x.fault ≡ None → is_ready (action p root x) ≡ false) → transition p (alone root x) l ≡ None }
 {}
 
-/// A program of the grammar is written: nothing is under way in its text, and each operator has its number of operands.
+/// A program of the grammar is written: nothing is under way in its text, each operator has its number of operands, and a method without result has the value nil.
 pub fn grammatical_is_written()
     ensures { (p : ProgramTree) → IsGrammatical p → IsTrue (is_written p) }
 {}
 
-/// A program with a class starts, and where it has no faults, in a well-typed configuration.
+/// A program with a class starts, and where it has no faults, in a typed configuration.
 pub fn start_is_typed()
     ensures typed { (p : ProgramTree) (n : ℕ) (c : Configuration) → faults p ≡ [] → IsTrue (is_written p)
-        → start p n ≡ Some c → WellTyped p c }
+        → start p n ≡ Some c → Typed p c }
     ensures starts { (p : ProgramTree) (n : ℕ) → p ≢ [] → start p n ≢ None }
 {}
 
-/// Each transition of a program without faults keeps a well-typed configuration so, and so does a run.
+/// Each transition of a program without faults keeps a typed configuration so, and so does a run.
 pub fn typed_is_kept()
     ensures by_transition { (p : ProgramTree) (c d : Configuration) (l : Label) → faults p ≡ [] → IsTrue (is_written p)
-        → WellTyped p c → transition p c l ≡ Some d → WellTyped p d }
+        → Typed p c → transition p c l ≡ Some d → Typed p d }
     ensures by_run { (p : ProgramTree) (c d : Configuration) (ls : List Label) → faults p ≡ [] → IsTrue (is_written p)
-        → WellTyped p c → run p c ls ≡ Some d → WellTyped p d }
+        → Typed p c → run p c ls ≡ Some d → Typed p d }
 {}
 
-/// In a well-typed configuration no object goes wrong.
+/// In a typed configuration no object goes wrong.
 pub fn nobody_goes_wrong()
     ensures { (p : ProgramTree) (c : Configuration) (o : ℕ) (x : Object) → faults p ≡ [] → IsTrue (is_written p)
-        → WellTyped p c → object_of c o ≡ Some x → ¬ (GoesWrong p c o (action p o x)) }
+        → Typed p c → object_of c o ≡ Some x → ¬ (GoesWrong p c o (action p o x)) }
 {}
 
-/// In a well-typed configuration an object that has met no error and is not finished has a transition of its own, or is where it meets another object.
+/// In a typed configuration an object that has met no error and is not finished has a transition of its own, or is where it meets another object.
 pub fn an_object_can_go_on_or_is_at_a_communication()
     ensures { (p : ProgramTree) (c : Configuration) (o : ℕ) (x : Object) → faults p ≡ [] → IsTrue (is_written p)
-        → WellTyped p c → object_of c o ≡ Some x → x.fault ≡ None → action p o x ≢ A.Finished
+        → Typed p c → object_of c o ≡ Some x → x.fault ≡ None → action p o x ≢ A.Finished
         → HasOwnTransition p c o ⊎ IsCommunication (action p o x) }
 {}

@@ -9,7 +9,7 @@ use Rattle.pool_relation.specs.Action.{Object, action, method_of, method_in, wit
 use Rattle.pool_relation.specs.Configuration.{Configuration, object_of}
 use Rattle.pool_relation.specs.Transition.{transition, start}
 use Rattle.pool_relation.specs.Typed.{GoesWrong}
-use Rattle.pool_relation.specs.WellFormed.{is_written}
+use Rattle.pool_relation.specs.Written.{is_written}
 use Rattle.pool_semantics.specs.Sound.{Sound}
 use Rattle.pool_relation.proofs.Faults.{none2}
 use Rattle.pool_relation.proofs.GoingOn.{not_wrong}

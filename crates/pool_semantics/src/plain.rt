@@ -63,8 +63,7 @@ impl<'a> Plain<'a> {
     ghost use Rattle.pool_relation.specs.Action.{Object, action};
     ghost use Rattle.pool_relation.specs.Configuration.{object_of};
     ghost use Rattle.pool_semantics.specs.PlainOf.{configuration_of, program_tree, is_spent, frames_next};
-    ghost use Rattle.pool_relation.specs.Typed.{GoesWrong};
-    ghost use Rattle.pool_relation.specs.WellFormed.{WellTyped};
+    ghost use Rattle.pool_relation.specs.Typed.{GoesWrong, Typed};
     ghost use Rattle.pool_relation.specs.Transition.{transition, start};
     ghost use Rattle.pool_semantics.specs.Shown.{Shows};
 
@@ -128,7 +127,7 @@ impl<'a> Plain<'a> {
             × Shows (program_tree self.old) (configuration_of self.old) (asked_of label.now) r }
         ensures program { program_tree self.new ≡ program_tree self.old }
         ensures memory { result ≡ Err Refuse.Memory → is_spent self.new ≡ true }
-        ensures typed { is_spent self.new ≡ false → WellTyped (program_tree self.new) (configuration_of self.new) }
+        ensures typed { is_spent self.new ≡ false → Typed (program_tree self.new) (configuration_of self.new) }
         ensures going_on { (result ≡ Err Refuse.Memory → ⊥) → (is_spent self.old ≡ false) × (is_spent self.new ≡ false) }
     {
         if self.spent {
