@@ -25,7 +25,7 @@ pub fn names_method(names: &[Named], method: u32) -> bool
 }
 
 fn is_open(guarded: &Guarded<'_>) -> bool
-    ensures { result ≡ A.is_true guarded.now.guard.value }
+    ensures { result ≡ is_true guarded.now.guard.value }
 {
     matches!(guarded.guard.value, Value::Bool(true))
 }

@@ -122,25 +122,6 @@ on_branch x (V.Bool false) these those = becomes x (AsStatements those)
 on_branch x V.Nil these those = Fault NilOperand
 on_branch x _ these those = Stuck
 
--- whether a value is nil
-abbrev pub is_nil : Value → Bool
-is_nil V.Nil = true
-is_nil _ = false
-
--- whether a value is a truth value
-abbrev pub is_bool : Value → Bool
-is_bool (V.Bool b) = true
-is_bool _ = false
-
--- whether a value is no truth value
-abbrev pub not_bool : Value → Bool
-not_bool v = not (is_bool v)
-
--- whether a value is true
-abbrev pub is_true : Value → Bool
-is_true (V.Bool b) = b
-is_true _ = false
-
 -- a select by the values of its guards
 abbrev pub on_select : List Choice → Action
 on_select cs =

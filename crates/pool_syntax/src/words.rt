@@ -32,6 +32,15 @@ pub enum Value {
     Nil,
 }
 
+/// Whom a method that is under way serves: nobody, since the object called it itself; the caller of this name, whose request has this number; or the sender of an
+/// asynchronous message, who waits for nothing.
+#[derive(Clone, Copy)]
+pub enum Serves {
+    Own,
+    Caller { name: u32, number: u32 },
+    Sender,
+}
+
 #[derive(Clone, Copy, Debug, PartialEq, Eq)]
 pub enum Error {
     NilDestination,

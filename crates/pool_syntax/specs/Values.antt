@@ -1,4 +1,4 @@
--- Operators on values.
+-- Values, and what operators make of them.
 use Rattle.std.specs.Prelude.{zero, suc, ◌-◌, ◌^◌, ◌==◌, ℤ, pos, negsuc, ◌+ℤ◌, ◌-ℤ◌, ◌*ℤ◌, neg_ℤ, int_lt, int_le, int_div, int_rem, Bool, true, false, not, ◌&&◌, ◌||◌, if◌then◌else◌}
 use Rattle.pool_syntax.specs.declared.words.Value.{Value}
 use Rattle.pool_syntax.specs.declared.words.Value.TheVariants as V
@@ -105,3 +105,22 @@ abbrev pub prefix_value : Op → Value → Outcome
 prefix_value Neg = negated
 prefix_value Not = denied
 prefix_value _ = λ v. WrongSort
+
+-- whether a value is nil
+abbrev pub is_nil : Value → Bool
+is_nil V.Nil = true
+is_nil _ = false
+
+-- whether a value is a truth value
+abbrev pub is_bool : Value → Bool
+is_bool (V.Bool b) = true
+is_bool _ = false
+
+-- whether a value is no truth value
+abbrev pub not_bool : Value → Bool
+not_bool v = not (is_bool v)
+
+-- whether a value is true
+abbrev pub is_true : Value → Bool
+is_true (V.Bool b) = b
+is_true _ = false
