@@ -7,7 +7,7 @@ use Rattle.pool_syntax.specs.TreeOf.{expression_of, statements_of, method_tree}
 use Rattle.pool_syntax.specs.Terms as T
 use Rattle.pool_syntax.specs.Terms.{Store, Statements, append}
 use Rattle.pool_relation.specs.Reducible.{Choice, AsStatements, AsExpression, set_value, fill_statements}
-use Rattle.pool_relation.specs.Values.{is_same}
+use Rattle.pool_syntax.specs.Values.{is_same}
 use Rattle.pool_relation.specs.Action as A
 use Rattle.pool_relation.specs.Action.{Object, Action, literal, temps_of}
 use Rattle.pool_relation.specs.Transition.{refilled, given, serving}

@@ -1,6 +1,6 @@
 //! The arguments of the redex.
 ghost use Rattle.std.specs.Prelude.{◌≡◌};
-ghost use Rattle.pool_relation.specs.Transition.{are_same};
+ghost use Rattle.mesh_semantics.specs.Same.{are_same};
 ghost use Rattle.term_stack.specs.Reduced.{values};
 ghost use Rattle.term_stack.specs.Arguments.{now_args};
 

@@ -9,7 +9,8 @@ use Rattle.pool_relation.specs.Action as A
 use Rattle.pool_relation.specs.Action.{Object, Action, action}
 use Rattle.pool_relation.specs.UnderWay.{frames_of}
 use Rattle.pool_relation.specs.Configuration.{Configuration, object_of}
-use Rattle.pool_relation.specs.Transition.{◌>>=◌, transition}
+use Rattle.mesh_semantics.specs.Partial.{◌>>=◌}
+use Rattle.pool_relation.specs.Transition.{transition}
 
 -- the most frames of a node
 abbrev pub frame_limit : ℕ

@@ -12,11 +12,11 @@ use Rattle.pool_syntax.specs.Terms as T
 use Rattle.pool_syntax.specs.Terms.{Store, Expression, Statements, MethodTree, ClassTree, ProgramTree, append}
 use Rattle.pool_syntax.specs.Classes.{class_of, named_method}
 use Rattle.pool_syntax.specs.Typing.{Sort, IntSort, BoolSort, ClassSort, NilSort, BrokenSort, is_open, is_same_sort, methods_of, methods_of_class, params_of, sent_method, var_of, kind_sort, own_sort, inside, Scope, value_sort, object_sort, is_dangling, send_sort, vars_of_class, faults, op_sort, name_sort}
-use Rattle.pool_relation.specs.Values.{Outcome, Gives, Fails, WrongSort, prefix_value, infix_value}
+use Rattle.pool_syntax.specs.Values.{Outcome, Gives, Fails, WrongSort, prefix_value, infix_value, is_nil, not_bool, is_true}
 use Rattle.pool_relation.specs.Reducible as R
 use Rattle.pool_relation.specs.Reducible.{Choice, Reducible, Found, Evaluated, At, Part, AsExpression, AsStatements, fill_statements, statements_redex}
 use Rattle.pool_relation.specs.Action as A
-use Rattle.pool_relation.specs.Action.{Object, Action, action, redex_action, found_action, method_of, method_in, with_count, temps_of, value_of, on_assignment, on_branch, on_select, is_nil, not_bool, is_true, literal, becomes, becomes_value, on_outcome, read}
+use Rattle.pool_relation.specs.Action.{Object, Action, action, redex_action, found_action, method_of, method_in, with_count, temps_of, value_of, on_assignment, on_branch, on_select, literal, becomes, becomes_value, on_outcome, read}
 use Rattle.pool_relation.specs.Written.{is_written}
 use Rattle.pool_relation.specs.Typed.{has_room}
 use Rattle.pool_relation.specs.UnderWay.{Activity, Own, Serving, in_statements, served_for, serves}
@@ -25,7 +25,7 @@ use Rattle.pool_relation.proofs.Sorts.{MayBecome, Stays, Opens}
 use Rattle.pool_relation.proofs.Grown.{Grows, statements_grown}
 use Rattle.pool_relation.proofs.Begun.{running_scope, method_begins, call_begun}
 use Rattle.pool_relation.proofs.Declared.{Known, set_fits, Valued, Has, Lacks, valued, fits_parts}
-use Rattle.pool_relation.proofs.Tests.{equal, true_not}
+use Rattle.mesh_semantics.proofs.Laws.{equal, true_not}
 use Rattle.pool_relation.proofs.Spot.{at, FitValues, TypedChoices, AnExpression, Suits, Spot, NewStatements}
 use Rattle.pool_relation.proofs.AsWait.{statements_wait}
 use Rattle.pool_relation.proofs.Weaker.{nothing_below, expression_weaker, statements_weaker, append_typed}

@@ -9,7 +9,7 @@ use Rattle.pool_relation.specs.Reducible.{is_done}
 use Rattle.pool_relation.specs.Action.{bind, nil_store, temps_of, with_count, method_in, method_of}
 use Rattle.pool_relation.specs.Typed.{is_store_of, has_room}
 use Rattle.pool_relation.specs.Written.{is_value_for, is_written}
-use Rattle.pool_relation.proofs.Tests.{equal, equals, both}
+use Rattle.mesh_semantics.proofs.Laws.{equal, equals, both}
 use Rattle.pool_relation.proofs.TypedTerm.{Nothing, Methods, past, gives, TypedExpression, TypedStatement, TypedStatements}
 use Rattle.pool_relation.proofs.Weaker.{nothing_below, expression_weaker, statements_weaker}
 use Rattle.pool_relation.proofs.Grown.{Grows, grown, expression_grown, statements_grown, sort_grown}

@@ -8,16 +8,17 @@ use Rattle.pool_syntax.specs.Terms as T
 use Rattle.pool_syntax.specs.Terms.{MethodTree, ProgramTree}
 use Rattle.pool_syntax.specs.Classes.{named_method}
 use Rattle.pool_syntax.specs.Typing.{faults, value_sort, object_sort, send_sort, methods_of}
-use Rattle.pool_relation.specs.Values.{is_same}
+use Rattle.pool_syntax.specs.Values.{is_same}
 use Rattle.pool_relation.specs.Reducible.{AsExpression}
 use Rattle.pool_relation.specs.Action as A
 use Rattle.pool_relation.specs.Action.{Object, Action, action, method_of}
 use Rattle.pool_relation.specs.Configuration.{Configuration, object_of, put_object, messages_of}
-use Rattle.pool_relation.specs.Transition.{running, calls, returns, waits_on, are_same, has_message, Offer, offer, done, given, refilled, serving, transition}
+use Rattle.pool_relation.specs.Transition.{running, calls, returns, waits_on, has_message, Offer, offer, done, given, refilled, serving, transition}
+use Rattle.mesh_semantics.specs.Same.{are_same}
 use Rattle.pool_relation.specs.UnderWay.{Serving, served_for, serves}
 use Rattle.pool_relation.specs.Typed.{class_at}
 use Rattle.pool_relation.specs.Written.{is_written}
-use Rattle.pool_relation.proofs.Tests.{first, second, equal, equals, decide, differ}
+use Rattle.mesh_semantics.proofs.Laws.{first, second, equal, equals, decide, differ, same_some, given_by, required, same_value, same_values}
 use Rattle.pool_relation.proofs.TypedTerm.{Nothing, Methods, TypedStatements}
 use Rattle.pool_relation.proofs.Sorts.{MayBecome}
 use Rattle.pool_relation.proofs.Declared.{gives_known}
@@ -28,7 +29,7 @@ use Rattle.pool_relation.proofs.Maps.{objects_in_order}
 use Rattle.pool_relation.proofs.Good.{classes, Good}
 use Rattle.pool_relation.proofs.Moves.{Moves, objects_kept, messages_kept}
 use Rattle.pool_relation.proofs.TwoPuts.{Lookup, Added, Replaced, AsBefore, look_up, two_moves}
-use Rattle.pool_relation.proofs.Backwards.{same_some, given_by, required, running_is, same_value, same_values}
+use Rattle.pool_relation.proofs.Running.{running_is}
 use Rattle.pool_relation.proofs.NextWaits.{is_waits, does_not_wait}
 use Rattle.pool_relation.proofs.OneObject.{fine_at, stepped, no_fault}
 use Rattle.pool_relation.proofs.Messages.{offers, serving_fine}

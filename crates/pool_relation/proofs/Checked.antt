@@ -7,7 +7,7 @@ use Rattle.pool_syntax.specs.Terms.{MethodTree, ClassTree, ProgramTree}
 use Rattle.pool_syntax.specs.Classes.{class_of, named_method}
 use Rattle.pool_syntax.specs.Typing.{Scope, kind_sort, sort_of, vars_faults, kind_faults, outcome_faults, method_tree_faults, methods_faults, class_scope, classes_faults, faults}
 use Rattle.pool_relation.specs.Written.{are_source_statements, is_source, is_value_for, are_written, is_written}
-use Rattle.pool_relation.proofs.Tests.{first, second, equal, true_not}
+use Rattle.mesh_semantics.proofs.Laws.{first, second, equal, true_not}
 use Rattle.pool_relation.proofs.TypedTerm.{Nothing, is_broken, gives, TypedExpression, TypedStatements}
 use Rattle.pool_relation.proofs.Faults.{none2, none3, none4, no_fault_if, gives_of_none}
 use Rattle.pool_relation.proofs.Written.{expression_written, statements_written}

@@ -10,7 +10,7 @@ use Rattle.pool_relation.specs.Reducible.{set_value, assigned}
 use Rattle.pool_relation.specs.Action.{value_of}
 use Rattle.pool_relation.specs.Typed.{fits, is_store_of}
 use Rattle.pool_relation.proofs.TypedTerm.{Waits, is_broken, fits_need, gives, fits_outcome, TypedStatements}
-use Rattle.pool_relation.proofs.Tests.{first, second, equal, not_true}
+use Rattle.mesh_semantics.proofs.Laws.{first, second, equal, not_true}
 use Rattle.pool_relation.proofs.Sorts.{MayBecome, HadNone, fits_known}
 
 -- each variable's kind is Int, Bool or a class of the program

@@ -6,7 +6,7 @@ use Rattle.pool_syntax.specs.declared.tree.Kind.{Kind}
 use Rattle.pool_syntax.specs.Terms.{Expression, MethodTree}
 use Rattle.pool_syntax.specs.Typing.{Sort, IntSort, BoolSort, ClassSort, NilSort, NoSort, BrokenSort, Scope, kind_sort, operand_sort, sort_of, fault_if, no_result, misfit, needs, needs_alike, needs_operands, limit, method_faults, destination_faults, value_needs, position, counted, is_comparable}
 use Rattle.pool_relation.specs.Typed.{has_room}
-use Rattle.pool_relation.proofs.Tests.{not_true, true_not}
+use Rattle.mesh_semantics.proofs.Laws.{not_true, true_not}
 use Rattle.pool_relation.proofs.TypedTerm.{has_no_sort, fits_need, fit_operands, takes, is_destination, gives, fits_outcome}
 
 -- both lists are empty

@@ -7,7 +7,7 @@ use Rattle.pool_syntax.specs.Typing.{Scope, sort_of, position, inside, own_metho
 use Rattle.pool_relation.specs.Reducible.{Found, Evaluated, At, Waiting, is_value, is_done, expression_redex, expressions_redex, statement_redex, statements_redex, guards_redex}
 use Rattle.pool_relation.specs.Written.{is_source, are_source, are_source_statements, are_source_alternatives, is_prefix}
 use Rattle.pool_relation.specs.Typed.{is_store_of, is_sound, are_sound, is_sound_statement, are_sound_statements, are_sound_alternatives, has_room, is_value_of}
-use Rattle.pool_relation.proofs.Tests.{first, second, not_true, true_not}
+use Rattle.mesh_semantics.proofs.Laws.{first, second, not_true, true_not}
 use Rattle.pool_relation.proofs.TypedTerm.{Holds, Nothing, Waits, past, TypedExpression, TypedArguments, TypedStatement, TypedStatements, TypedAlternatives}
 use Rattle.pool_relation.proofs.Searched.{value_found}
 use Rattle.pool_relation.proofs.Spot.{at}

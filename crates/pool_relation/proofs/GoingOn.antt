@@ -13,19 +13,19 @@ use Rattle.pool_syntax.specs.declared.words.Label.TheVariants as L
 use Rattle.pool_syntax.specs.Terms.{ProgramTree, ClassTree}
 use Rattle.pool_syntax.specs.Classes.{class_of}
 use Rattle.pool_syntax.specs.Typing.{faults}
-use Rattle.pool_relation.specs.Values.{is_same, is_same_int}
+use Rattle.pool_syntax.specs.Values.{is_same, is_same_int}
 use Rattle.pool_relation.specs.Action as A
 use Rattle.pool_relation.specs.Action.{Object, Action, action, method_of}
 use Rattle.pool_relation.specs.Configuration.{Configuration, object_of, put_object, messages_of, put_messages}
-use Rattle.pool_relation.specs.Transition.{running, are_same, is_same_item, error_number, done, given, new_object}
+use Rattle.pool_relation.specs.Transition.{running, done, given, new_object}
+use Rattle.mesh_semantics.specs.Same.{are_same, is_same_item, error_number}
 use Rattle.pool_relation.specs.UnderWay.{Serving, served_for, serves}
 use Rattle.pool_relation.specs.Typed.{class_at, CanTake, GoesWrong, Typed}
 use Rattle.pool_relation.specs.Written.{is_written}
 use Rattle.pool_relation.specs.Progress.{HasOwnTransition, IsCommunication}
-use Rattle.pool_relation.proofs.Tests.{equals, both}
+use Rattle.mesh_semantics.proofs.Laws.{equals, both, there_is}
 use Rattle.pool_relation.proofs.Fine.{CanReceive, Fine}
 use Rattle.pool_relation.proofs.Good.{classes, Good, good_of}
-use Rattle.pool_relation.proofs.Backwards.{there_is}
 use Rattle.pool_relation.proofs.OneObject.{fine_at}
 
 same_int_itself : (z : ℤ) → is_same_int z z ≡ true

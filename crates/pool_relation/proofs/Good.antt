@@ -8,8 +8,9 @@ use Rattle.pool_syntax.specs.Classes.{class_of}
 use Rattle.pool_relation.specs.Reducible.{At, Waiting, statements_redex}
 use Rattle.pool_relation.specs.Action as A
 use Rattle.pool_relation.specs.Action.{Object, action}
-use Rattle.pool_relation.specs.Tables.{pair_cmp, no_entry_empty}
-use Rattle.pool_relation.specs.Configuration.{Message, Configuration, object_of, messages_of}
+use Rattle.mesh_semantics.specs.Tables.{pair_cmp, no_entry_empty}
+use Rattle.mesh_semantics.specs.Message.{Message}
+use Rattle.pool_relation.specs.Configuration.{Configuration, object_of, messages_of}
 use Rattle.pool_relation.specs.UnderWay.{serves}
 use Rattle.pool_relation.specs.Typed.{class_at, scope, IsMessageFor, Typed}
 use Rattle.pool_relation.proofs.TypedTerm.{Waits}

@@ -10,7 +10,7 @@ use Rattle.pool_syntax.specs.Grammar.{rule, operator_of, arg_last, then_last, al
 use Rattle.pool_syntax.specs.Derives.{IsToken, Derives, nothing, token, inner, first, second}
 use Rattle.pool_syntax.specs.Spelled.{IsGrammatical}
 use Rattle.pool_relation.specs.Written.{is_source, are_source, is_source_statement, are_source_statements, are_source_alternatives, is_prefix, are_written, is_written}
-use Rattle.pool_relation.proofs.Tests as b
+use Rattle.mesh_semantics.proofs.Laws as b
 
 -- parts as they are written
 abbrev Plain : Expression → Type 0

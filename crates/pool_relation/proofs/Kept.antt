@@ -9,7 +9,7 @@ use Rattle.pool_relation.specs.Transition.{transition, run}
 use Rattle.pool_relation.specs.Written.{is_written}
 use Rattle.pool_relation.specs.Typed.{Typed}
 use Rattle.pool_relation.proofs.Good.{Good, good_of, of_good}
-use Rattle.pool_relation.proofs.Backwards.{same_some, given_by}
+use Rattle.mesh_semantics.proofs.Laws.{same_some, given_by}
 use Rattle.pool_relation.proofs.OneObject.{local_kept, write_kept, fault_kept, pick_kept}
 use Rattle.pool_relation.proofs.Messages.{send_kept, take_kept}
 use Rattle.pool_relation.proofs.NewObject.{new_kept}

@@ -12,7 +12,6 @@ pub mod Walk
 pub mod WalkStatements
 pub mod Spots
 pub mod Faults
-pub mod Tests
 pub mod Written
 pub mod FromTyped
 pub mod ToTyped
@@ -27,7 +26,7 @@ pub mod Acts
 pub mod Maps
 pub mod Good
 pub mod Moves
-pub mod Backwards
+pub mod Running
 pub mod NextWaits
 pub mod OneObject
 pub mod Messages

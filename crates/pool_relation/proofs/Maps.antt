@@ -1,5 +1,5 @@
 -- Objects and messages of a configuration after one was put.
-use Rattle.std.proofs.Common.{◌≡◌, refl, sym, ap, ◌∙◌, subst, IsTrue, T, ℕ, List, [], ◌∷◌, Some, None, Bool, true, false, not, ◌≢◌, cond, arith}
+use Rattle.std.proofs.Common.{◌≡◌, refl, sym, ap, ◌∙◌, subst, IsTrue, ℕ, List, [], ◌∷◌, Some, None, Bool, true, false, not, ◌≢◌, cond, arith}
 use Rattle.std.specs.Option.{unwrap_or}
 use Rattle.std.specs.Ordering.{nat_cmp, eq_by_cmp, is_eq, ordering_then}
 use Rattle.std.specs.declared.cmp.Ordering.{Ordering}
@@ -8,16 +8,10 @@ use Rattle.std.specs.Cmp.{IsTotalOrder, nat_cmp_total, on_total, then_total, tie
 use Rattle.std.specs.FinMap.Entries.{find, put, where_key, is_sorted, by_order, find-put, is_sorted-put, find-where_key, is_sorted-where_key}
 use Rattle.std.specs.FinMap.{nat_cmp-IsAntisymmetric}
 use Rattle.pool_relation.specs.Action.{Object}
-use Rattle.pool_relation.specs.Tables.{Pair, pair_cmp, has_some, no_entry_empty}
-use Rattle.pool_relation.specs.Configuration.{Message, Configuration, object_of, put_object, messages_of, put_messages}
-use Rattle.pool_relation.proofs.Tests.{first, second, both}
-
-pub T_true : (b : Bool) → T b → b ≡ true
-T_true true t = refl
-T_true false t = absurd t
-
-pub true_T : (b : Bool) → b ≡ true → T b
-true_T b e = subst T (sym e) tt
+use Rattle.mesh_semantics.specs.Tables.{Pair, pair_cmp, has_some, no_entry_empty}
+use Rattle.mesh_semantics.specs.Message.{Message}
+use Rattle.pool_relation.specs.Configuration.{Configuration, object_of, put_object, messages_of, put_messages}
+use Rattle.mesh_semantics.proofs.Laws.{first, second, both, T_true, true_T}
 
 -- the object of each name after one was put: the new one, or as before
 pub data Put (c : Configuration) (o : ℕ) (y : Object) (q : ℕ) : Type 0 where

@@ -7,12 +7,12 @@ use Rattle.pool_syntax.specs.Terms.{ProgramTree, MethodTree}
 use Rattle.pool_syntax.specs.Typing.{statements_faults}
 use Rattle.pool_relation.specs.Action as A
 use Rattle.pool_relation.specs.Action.{Object, Action, action, method_of}
-use Rattle.pool_relation.specs.Configuration.{Message, Configuration, object_of}
+use Rattle.mesh_semantics.specs.Message.{Message}
+use Rattle.pool_relation.specs.Configuration.{Configuration, object_of}
 use Rattle.pool_relation.specs.Transition.{fails}
 use Rattle.pool_relation.specs.Typed.{scope, all_fit, IsMessageFor, Typed}
 use Rattle.pool_relation.specs.UnderWay.{serves}
-use Rattle.pool_relation.proofs.Backwards.{same_error, same_some}
-use Rattle.pool_relation.proofs.Tests.{first, second, equal, equals}
+use Rattle.mesh_semantics.proofs.Laws.{same_error, same_some, first, second, equal, equals}
 
 -- a test
 truth : (b : Bool) → ∥ IsTrue b ∥₁ → IsTrue b

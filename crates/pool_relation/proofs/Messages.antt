@@ -10,15 +10,18 @@ use Rattle.pool_syntax.specs.Terms as T
 use Rattle.pool_syntax.specs.Terms.{Store, Statements, MethodTree, ProgramTree}
 use Rattle.pool_syntax.specs.Typing.{Sort, IntSort, BoolSort, ClassSort, NilSort, NoSort, BrokenSort, Scope, faults, kind_sort, value_sort, is_open, is_same_sort, inside}
 use Rattle.pool_relation.specs.Action as A
-use Rattle.pool_relation.specs.Action.{Object, Action, action, method_of, temps_of, is_true}
+use Rattle.pool_relation.specs.Action.{Object, Action, action, method_of, temps_of}
+use Rattle.pool_syntax.specs.Values.{is_true}
 use Rattle.pool_relation.specs.Reducible.{Choice}
-use Rattle.pool_relation.specs.Tables.{pair_cmp, put_list}
-use Rattle.pool_relation.specs.Configuration.{Message, Configuration, object_of, put_object, messages_of, put_messages}
-use Rattle.pool_relation.specs.Transition.{running, posts, are_same, done, serving, transition, Offer, offer, select_offer, answered, names_method, first_message, without_first}
+use Rattle.mesh_semantics.specs.Tables.{pair_cmp, put_list}
+use Rattle.mesh_semantics.specs.Message.{Message}
+use Rattle.pool_relation.specs.Configuration.{Configuration, object_of, put_object, messages_of, put_messages}
+use Rattle.pool_relation.specs.Transition.{running, posts, done, serving, transition, Offer, offer, select_offer, answered, names_method, first_message, without_first}
+use Rattle.mesh_semantics.specs.Same.{are_same}
 use Rattle.pool_relation.specs.UnderWay.{Activity, Serving, in_statements, in_expression, served_for, serves}
 use Rattle.pool_relation.specs.Typed.{class_at, scope, fits, all_fit, IsMessageFor}
 use Rattle.pool_relation.specs.Written.{is_written}
-use Rattle.pool_relation.proofs.Tests.{first, second, both, equal}
+use Rattle.mesh_semantics.proofs.Laws.{first, second, both, equal, same_some, there_is, given_by, required, same_values}
 use Rattle.pool_relation.proofs.TypedTerm.{Nothing, Methods, has_no_sort, fits_need, TypedStatements}
 use Rattle.pool_relation.proofs.Declared.{AllKnown, fits_var, fits_parts}
 use Rattle.pool_relation.proofs.Begun.{method_begins, serve_begun}
@@ -27,7 +30,7 @@ use Rattle.pool_relation.proofs.Busy.{statements_idle, expression_idle}
 use Rattle.pool_relation.proofs.Fine.{place, CanReceive, TakesStatements, Fine}
 use Rattle.pool_relation.proofs.Maps.{objects_in_order, messages_in_order, no_empty_messages, PutMessages, NewMessages, OldMessages, put_messages_cases}
 use Rattle.pool_relation.proofs.Good.{classes, FitsAt, MessagesFit, Good}
-use Rattle.pool_relation.proofs.Backwards.{same_some, there_is, given_by, required, running_is, same_values}
+use Rattle.pool_relation.proofs.Running.{running_is}
 use Rattle.pool_relation.proofs.NextWaits.{is_waits, does_not_wait}
 use Rattle.pool_relation.proofs.OneObject.{fine_at, one_step, stepped, no_fault}
 

@@ -8,12 +8,12 @@ use Rattle.pool_syntax.specs.Classes.{class_of}
 use Rattle.pool_syntax.specs.Typing.{Scope, vars_of_class}
 use Rattle.pool_relation.specs.Action as A
 use Rattle.pool_relation.specs.Action.{Object, action, method_of}
-use Rattle.pool_relation.specs.Tables.{Pair}
-use Rattle.pool_relation.specs.Configuration.{Message, Configuration, object_of, put_object}
+use Rattle.mesh_semantics.specs.Tables.{Pair}
+use Rattle.mesh_semantics.specs.Message.{Message}
+use Rattle.pool_relation.specs.Configuration.{Configuration, object_of, put_object}
 use Rattle.pool_relation.specs.UnderWay.{serves}
 use Rattle.pool_relation.specs.Typed.{class_at, scope, fits, all_fit}
-use Rattle.pool_relation.proofs.Backwards.{same_some}
-use Rattle.pool_relation.proofs.Tests.{first, second, both}
+use Rattle.mesh_semantics.proofs.Laws.{same_some, first, second, both}
 use Rattle.pool_relation.proofs.TypedTerm.{Waits}
 use Rattle.pool_relation.proofs.Grown.{Grows, grown, fits_grown, store_grown, statements_grown}
 use Rattle.pool_relation.proofs.Fine.{place, FineObject}

@@ -13,7 +13,7 @@ use Rattle.pool_relation.specs.Transition.{running, makes, given, new_object, tr
 use Rattle.pool_relation.specs.UnderWay.{serves}
 use Rattle.pool_relation.specs.Typed.{class_at, is_store_of}
 use Rattle.pool_relation.specs.Written.{is_written}
-use Rattle.pool_relation.proofs.Tests.{first, second, equal}
+use Rattle.mesh_semantics.proofs.Laws.{first, second, equal, same_some, given_by, required}
 use Rattle.pool_relation.proofs.TypedTerm.{Nothing, Methods, Waits, TypedStatements}
 use Rattle.pool_relation.proofs.Weaker.{nothing_below, statements_weaker}
 use Rattle.pool_relation.proofs.Grown.{Grows}
@@ -25,7 +25,7 @@ use Rattle.pool_relation.proofs.Maps.{objects_in_order}
 use Rattle.pool_relation.proofs.Good.{classes, Good}
 use Rattle.pool_relation.proofs.TwoPuts.{Lookup, Added, Replaced, AsBefore, look_up}
 use Rattle.pool_relation.proofs.Moves.{Anew, Moves, forward_grows, fine_grown, objects_kept, messages_kept, Calm, serving_kept}
-use Rattle.pool_relation.proofs.Backwards.{same_some, given_by, required, running_is}
+use Rattle.pool_relation.proofs.Running.{running_is}
 use Rattle.pool_relation.proofs.NextWaits.{is_waits, does_not_wait}
 use Rattle.pool_relation.proofs.OneObject.{fine_at, stepped, no_fault}
 

@@ -6,11 +6,11 @@ use Rattle.pool_syntax.specs.declared.words.Value.{Value}
 use Rattle.pool_syntax.specs.declared.words.Value.TheVariants as V
 use Rattle.pool_syntax.specs.Terms.{Store, Statements, MethodTree, ProgramTree}
 use Rattle.pool_syntax.specs.Classes.{class_of}
-use Rattle.pool_relation.specs.Values.{Outcome, Gives, Fails, WrongSort, prefix_value, infix_value}
+use Rattle.pool_syntax.specs.Values.{Outcome, Gives, Fails, WrongSort, prefix_value, infix_value, is_nil, not_bool, is_true}
 use Rattle.pool_relation.specs.Reducible as R
 use Rattle.pool_relation.specs.Reducible.{Choice, Reducible, Found, Evaluated, At, Waiting, statements_redex}
 use Rattle.pool_relation.specs.Action as A
-use Rattle.pool_relation.specs.Action.{Object, Action, action, redex_action, found_action, on_outcome, read, on_call, on_assignment, on_branch, on_select, on_finish, value_of, method_of, is_nil, not_bool, is_true}
+use Rattle.pool_relation.specs.Action.{Object, Action, action, redex_action, found_action, on_outcome, read, on_call, on_assignment, on_branch, on_select, on_finish, value_of, method_of}
 use Rattle.pool_relation.proofs.TypedTerm.{Methods, TypedStatements}
 use Rattle.pool_relation.proofs.NoWait.{statements_no_wait}
 use Rattle.pool_relation.proofs.Fine.{place}

@@ -6,10 +6,12 @@ use Rattle.pool_syntax.specs.declared.words.Label.TheVariants as L
 use Rattle.pool_syntax.specs.Terms.{Store, Statements, ProgramTree}
 use Rattle.pool_syntax.specs.Typing.{Scope, faults}
 use Rattle.pool_relation.specs.Action as A
-use Rattle.pool_relation.specs.Action.{Object, Action, action, is_true}
+use Rattle.pool_relation.specs.Action.{Object, Action, action}
+use Rattle.pool_syntax.specs.Values.{is_true}
 use Rattle.pool_relation.specs.Reducible.{Choice, AsStatements}
-use Rattle.pool_relation.specs.Tables.{Pair}
-use Rattle.pool_relation.specs.Configuration.{Message, Configuration, object_of, put_object, messages_of}
+use Rattle.mesh_semantics.specs.Tables.{Pair}
+use Rattle.mesh_semantics.specs.Message.{Message}
+use Rattle.pool_relation.specs.Configuration.{Configuration, object_of, put_object, messages_of}
 use Rattle.pool_relation.specs.Transition.{running, local_step, writes, fails, picked, plain_choice, done, refilled, transition}
 use Rattle.pool_relation.specs.UnderWay.{serves}
 use Rattle.pool_relation.specs.Typed.{class_at}
@@ -23,7 +25,8 @@ use Rattle.pool_relation.proofs.Busy.{statements_idle}
 use Rattle.pool_relation.proofs.Maps.{objects_in_order}
 use Rattle.pool_relation.proofs.Good.{classes, MessagesFit, InOrder, Good}
 use Rattle.pool_relation.proofs.Moves.{objects_kept, messages_kept, serving_kept, after_put, put_moves, put_calm}
-use Rattle.pool_relation.proofs.Backwards.{given_by, required, running_is, same_error}
+use Rattle.mesh_semantics.proofs.Laws.{given_by, required, same_error}
+use Rattle.pool_relation.proofs.Running.{running_is}
 use Rattle.pool_relation.proofs.NextWaits.{is_waits, does_not_wait}
 
 pub methods_below : Below Methods Waits

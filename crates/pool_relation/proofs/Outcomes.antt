@@ -6,9 +6,9 @@ use Rattle.pool_syntax.specs.declared.words.Op.{Op}
 use Rattle.pool_syntax.specs.declared.words.Op.TheVariants as O
 use Rattle.pool_syntax.specs.declared.words.Error.TheVariants as E
 use Rattle.pool_syntax.specs.Typing.{Sort, IntSort, BoolSort, Scope, value_sort, is_dangling, op_sort, operand_sort}
-use Rattle.pool_relation.specs.Values.{Outcome, Gives, Fails, WrongSort, is_in_range, number, truth, quotient, remainder, on_ints, on_bools, negated, denied, infix_value, prefix_value}
+use Rattle.pool_syntax.specs.Values.{Outcome, Gives, Fails, WrongSort, is_in_range, number, truth, quotient, remainder, on_ints, on_bools, negated, denied, infix_value, prefix_value}
 use Rattle.pool_relation.specs.Written.{is_prefix}
-use Rattle.pool_relation.proofs.Tests.{first, second}
+use Rattle.mesh_semantics.proofs.Laws.{first, second}
 use Rattle.pool_relation.proofs.TypedTerm.{fits_need, fit_operands, has_no_sort}
 
 -- an outcome of this sort, or a language error

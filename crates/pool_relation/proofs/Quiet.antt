@@ -13,7 +13,8 @@ use Rattle.pool_syntax.specs.Terms.{ProgramTree}
 use Rattle.pool_relation.specs.Reducible.{Choice}
 use Rattle.pool_relation.specs.Action as A
 use Rattle.pool_relation.specs.Action.{Object, Action, action}
-use Rattle.pool_relation.specs.Transition.{◌>>=◌, transition, offer, running, local_step, makes, calls, posts, returns, writes, fails, picked, plain_choice}
+use Rattle.mesh_semantics.specs.Partial.{◌>>=◌}
+use Rattle.pool_relation.specs.Transition.{transition, offer, running, local_step, makes, calls, posts, returns, writes, fails, picked, plain_choice}
 use Rattle.pool_relation.specs.Ready.{is_ready, is_open_plain}
 use Rattle.pool_relation.specs.Alone.{alone}
 

@@ -17,7 +17,8 @@ use Rattle.pool_syntax.specs.Typing.{faults}
 use Rattle.pool_relation.specs.Action as A
 use Rattle.pool_relation.specs.Action.{Object, Action, action}
 use Rattle.pool_relation.specs.Configuration.{Configuration, object_of}
-use Rattle.pool_relation.specs.Transition.{◌>>=◌, run, start}
+use Rattle.mesh_semantics.specs.Partial.{◌>>=◌}
+use Rattle.pool_relation.specs.Transition.{run, start}
 
 abbrev name : ℕ → NameId
 name n = record { 0 = n }

@@ -3,7 +3,8 @@ use Rattle.std.proofs.Common.{◌≡◌, refl, sym, ◌∙◌, List, [], ◌∷�
 use Rattle.pool_syntax.specs.declared.words.Label.{Label}
 use Rattle.pool_syntax.specs.Terms.{ProgramTree}
 use Rattle.pool_relation.specs.Configuration.{Configuration}
-use Rattle.pool_relation.specs.Transition.{◌>>=◌, transition, run}
+use Rattle.mesh_semantics.specs.Partial.{◌>>=◌}
+use Rattle.pool_relation.specs.Transition.{transition, run}
 
 -- goes on from what is there
 bound : {A B : Type 0} (o : Option A) (next next' : A → Option B) → ((a : A) → next a ≡ next' a) → (o >>= next) ≡ (o >>= next')

@@ -16,13 +16,12 @@ use Rattle.pool_relation.specs.Transition.{new_object, last_class, start}
 use Rattle.pool_relation.specs.UnderWay.{serves}
 use Rattle.pool_relation.specs.Written.{is_written}
 use Rattle.pool_relation.specs.Typed.{Typed}
-use Rattle.pool_relation.proofs.Tests.{equals}
+use Rattle.mesh_semantics.proofs.Laws.{equals, same_some, given_by}
 use Rattle.pool_relation.proofs.TypedTerm.{Nothing, Methods, TypedStatements}
 use Rattle.pool_relation.proofs.Faults.{none2, no_fault_if}
 use Rattle.pool_relation.proofs.Busy.{statements_idle}
 use Rattle.pool_relation.proofs.Fine.{place, FineObject}
 use Rattle.pool_relation.proofs.Good.{classes, FitsAt, Good, of_good}
-use Rattle.pool_relation.proofs.Backwards.{same_some, given_by}
 use Rattle.pool_relation.proofs.NextWaits.{does_not_wait}
 use Rattle.pool_relation.proofs.OneObject.{no_fault}
 use Rattle.pool_relation.proofs.NewObject.{new_fine}

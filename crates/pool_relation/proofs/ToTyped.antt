@@ -6,7 +6,7 @@ use Rattle.pool_syntax.specs.Typing.{Scope, sort_of, position, inside, own_metho
 use Rattle.pool_relation.specs.Reducible.{is_value, is_done}
 use Rattle.pool_relation.specs.Written.{is_source, are_source, is_source_statement, are_source_statements, are_source_alternatives}
 use Rattle.pool_relation.specs.Typed.{is_sound, are_sound, is_sound_statement, are_sound_statements, are_sound_alternatives}
-use Rattle.pool_relation.proofs.Tests.{both}
+use Rattle.mesh_semantics.proofs.Laws.{both}
 use Rattle.pool_relation.proofs.TypedTerm.{Holds, Nothing, past, TypedExpression, TypedArguments, TypedStatement, TypedStatements, TypedAlternatives}
 use Rattle.pool_relation.proofs.Weaker.{past_below_all, expression_weaker, arguments_weaker, alternatives_weaker}
 use Rattle.pool_relation.proofs.Spot.{at}

@@ -11,7 +11,7 @@ use Rattle.pool_relation.proofs.Fine.{FineObject}
 use Rattle.pool_relation.proofs.Maps.{Put, New, Old, put_cases}
 use Rattle.pool_relation.proofs.Good.{classes}
 use Rattle.pool_relation.proofs.Moves.{Anew, Moves, forward_grows, fine_grown}
-use Rattle.pool_relation.proofs.Backwards.{same_some}
+use Rattle.mesh_semantics.proofs.Laws.{same_some}
 
 -- each name after two objects were put
 pub data Lookup (c : Configuration) (o : ℕ) (y : Object) (n : ℕ) (z : Object) (q : ℕ) : Type 0 where

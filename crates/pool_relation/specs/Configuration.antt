@@ -2,14 +2,9 @@
 use Rattle.std.specs.Prelude.{ℕ, List, Option}
 use Rattle.std.specs.Ordering.{nat_cmp}
 use Rattle.std.specs.FinMap.{find, put}
-use Rattle.pool_syntax.specs.declared.words.Value.{Value}
 use Rattle.pool_relation.specs.Action.{Object}
-use Rattle.pool_relation.specs.Tables.{Pair, pair_cmp, list_at, put_list}
-
--- an asynchronous message
-pub record Message : Type 0 where
-  pub method : ℕ
-  pub args : List Value
+use Rattle.mesh_semantics.specs.Message.{Message}
+use Rattle.mesh_semantics.specs.Tables.{Pair, pair_cmp, list_at, put_list}
 
 -- a pair without messages has no entry
 pub record Configuration : Type 0 where

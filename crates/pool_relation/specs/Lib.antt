@@ -1,7 +1,5 @@
-pub mod Values
 pub mod Reducible
 pub mod Action
-pub mod Tables
 pub mod Configuration
 pub mod Transition
 pub mod UnderWay

@@ -1,60 +1,24 @@
 -- The transition relation: a label, where it is possible, determines the configuration after it.
-use Rattle.std.specs.Prelude.{ℕ, zero, suc, ◌==◌, List, [], ◌∷◌, ◌++◌, length, Option, Some, None, is_some, is_none, Bool, true, false, not, ◌&&◌, ◌||◌, if◌then◌else◌, slice_get}
+use Rattle.std.specs.Prelude.{ℕ, zero, suc, ◌==◌, List, [], ◌∷◌, ◌++◌, length, Option, Some, None, is_some, is_none, Bool, false, not, ◌&&◌, ◌||◌, if◌then◌else◌, slice_get}
 use Rattle.std.specs.List.{list_any}
 use Rattle.pool_syntax.specs.declared.words.Value.{Value}
 use Rattle.pool_syntax.specs.declared.words.Value.TheVariants as V
 use Rattle.pool_syntax.specs.declared.words.Item.{Item}
-use Rattle.pool_syntax.specs.declared.words.Item.TheVariants as I
 use Rattle.pool_syntax.specs.declared.words.Error.{Error}
-use Rattle.pool_syntax.specs.declared.words.Error.TheVariants as E
 use Rattle.pool_syntax.specs.declared.words.Label.{Label}
 use Rattle.pool_syntax.specs.declared.words.Label.TheVariants as L
 use Rattle.pool_syntax.specs.declared.tree.Named.{Named}
 use Rattle.pool_syntax.specs.Terms as T
 use Rattle.pool_syntax.specs.Terms.{Expression, Statements, MethodTree, ClassTree, ProgramTree, append}
-use Rattle.pool_relation.specs.Values.{is_same}
+use Rattle.pool_syntax.specs.Values.{is_same, is_true}
 use Rattle.pool_relation.specs.Reducible.{Choice, Part, AsExpression, AsStatements, fill_statements}
 use Rattle.pool_relation.specs.Action as A
 use Rattle.pool_syntax.specs.Classes.{class_of}
-use Rattle.pool_relation.specs.Action.{Object, Action, method_of, nil_store, temps_of, literal, is_true, action}
-use Rattle.pool_relation.specs.Configuration.{Message, Configuration, object_of, put_object, messages_of, put_messages}
-
-infixl 1 ◌>>=◌
--- goes on with the value, if there is one
-abbrev pub ◌>>=◌ : {A B : Type 0} → Option A → (A → Option B) → Option B
-None >>= next = None
-Some a >>= next = next a
-
-infixl 1 ◌>>◌
--- goes on, if there is a value
-abbrev pub ◌>>◌ : {A B : Type 0} → Option A → Option B → Option B
-None >> next = None
-Some a >> next = next
-
--- goes on only where the test holds
-abbrev pub require : Bool → Option (Unit {0})
-require true = Some tt
-require false = None
-
--- whether two lists of values are equal
-abbrev pub are_same : List Value → List Value → Bool
-are_same [] [] = true
-are_same (v ∷ vs) (w ∷ ws) = is_same v w && are_same vs ws
-are_same _ _ = false
-
--- whether two written items are equal
-abbrev pub is_same_item : Item → Item → Bool
-is_same_item (I.Value v) (I.Value w) = is_same v w
-is_same_item (I.Text s) (I.Text t) = s.0 == t.0
-is_same_item _ _ = false
-
--- errors in their order
-abbrev pub error_number : Error → ℕ
-error_number E.NilDestination = 0
-error_number E.NilOperand = 1
-error_number E.Overflow = 2
-error_number E.ZeroDivisor = 3
-error_number E.NoOpenGuard = 4
+use Rattle.pool_relation.specs.Action.{Object, Action, method_of, nil_store, temps_of, literal, action}
+use Rattle.mesh_semantics.specs.Message.{Message}
+use Rattle.mesh_semantics.specs.Partial.{◌>>=◌, ◌>>◌, require}
+use Rattle.mesh_semantics.specs.Same.{are_same, is_same_item, error_number}
+use Rattle.pool_relation.specs.Configuration.{Configuration, object_of, put_object, messages_of, put_messages}
 
 -- an object that is there and has no fault
 abbrev pub without_fault : Object → Option Error → Option Object

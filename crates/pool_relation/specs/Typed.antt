@@ -10,8 +10,9 @@ use Rattle.pool_relation.specs.Reducible.{is_value, is_done}
 use Rattle.pool_relation.specs.Action as A
 use Rattle.pool_syntax.specs.Classes.{class_of}
 use Rattle.pool_relation.specs.Action.{Object, Action, action, method_of}
-use Rattle.pool_relation.specs.Tables.{pair_cmp, no_entry_empty}
-use Rattle.pool_relation.specs.Configuration.{Message, Configuration, object_of, messages_of}
+use Rattle.mesh_semantics.specs.Tables.{pair_cmp, no_entry_empty}
+use Rattle.mesh_semantics.specs.Message.{Message}
+use Rattle.pool_relation.specs.Configuration.{Configuration, object_of, messages_of}
 use Rattle.pool_relation.specs.UnderWay.{serves}
 use Rattle.pool_relation.specs.Written.{is_prefix, is_source, are_source, are_source_statements, are_source_alternatives, is_value_for}
 use Rattle.pool_syntax.specs.Typing.{Scope, kind_sort, value_sort, is_dangling, is_same_sort, is_open, vars_of_class, statements_faults, own_method, temps_of_method}

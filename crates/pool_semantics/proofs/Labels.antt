@@ -21,9 +21,12 @@ use Rattle.plain_object.specs.declared.act.Act.{Act}
 use Rattle.plain_object.specs.declared.act.Act.TheVariants as C
 use Rattle.plain_object.specs.declared.change.Change.TheVariants as H
 use Rattle.pool_relation.specs.Action.{Object, action, method_of}
-use Rattle.pool_relation.specs.Tables.{Pair}
-use Rattle.pool_relation.specs.Configuration.{Message, Configuration, object_of, put_object, messages_of, put_messages}
-use Rattle.pool_relation.specs.Transition.{◌>>=◌, ◌>>◌, require, transition, running, without_fault, local_step, makes, writes, fails, returns, waits_on, calls, posts, offer, has_message, first_message, without_first, are_same, serving, picked, refilled, is_same_item, error_number, new_object}
+use Rattle.mesh_semantics.specs.Tables.{Pair}
+use Rattle.mesh_semantics.specs.Message.{Message}
+use Rattle.pool_relation.specs.Configuration.{Configuration, object_of, put_object, messages_of, put_messages}
+use Rattle.mesh_semantics.specs.Partial.{◌>>=◌, ◌>>◌, require}
+use Rattle.pool_relation.specs.Transition.{transition, running, without_fault, local_step, makes, writes, fails, returns, waits_on, calls, posts, offer, has_message, first_message, without_first, serving, picked, refilled, new_object}
+use Rattle.mesh_semantics.specs.Same.{are_same, is_same_item, error_number}
 use Rattle.plain_object.specs.Acts.{acted, changed, is_local}
 use Rattle.term_stack.specs.Arguments.{now_args, now_names, now_choices}
 use Rattle.plain_object.specs.Things.{thing_object, things}

@@ -7,7 +7,8 @@ use Rattle.pool_syntax.specs.declared.words.Label.TheVariants as L
 use Rattle.pool_syntax.specs.Terms.{ProgramTree}
 use Rattle.pool_relation.specs.Action.{Object}
 use Rattle.pool_relation.specs.Configuration.{Configuration, object_of, put_object}
-use Rattle.pool_relation.specs.Transition.{◌>>=◌, transition, running}
+use Rattle.mesh_semantics.specs.Partial.{◌>>=◌}
+use Rattle.pool_relation.specs.Transition.{transition, running}
 use Rattle.pool_relation.specs.UnderWay.{frames_of}
 use Rattle.pool_semantics.specs.PlainOf.{frames_in, frames_at, frames_next}
 

@@ -15,7 +15,7 @@ use Rattle.pool_relation.proofs.Faults.{none2}
 use Rattle.pool_relation.proofs.GoingOn.{not_wrong}
 use Rattle.pool_relation.proofs.Kept.{well_typed_kept}
 use Rattle.pool_relation.proofs.Started.{start_well_typed}
-use Rattle.pool_relation.proofs.Tests.{equal}
+use Rattle.mesh_semantics.proofs.Laws.{equal}
 
 -- the start of a checked program
 pub start_is_sound : (p : ProgramTree) (n : ℕ) (c : Configuration) → faults p ≡ [] → IsTrue (is_written p) → start p n ≡ Some c → Sound p c

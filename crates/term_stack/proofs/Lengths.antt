@@ -4,7 +4,8 @@ use Rattle.std.specs.List.{list_any}
 use Rattle.term_stack.specs.declared.parts.Operand.{Operand}
 use Rattle.term_stack.specs.declared.parts.Guarded.{Guarded}
 use Rattle.pool_syntax.specs.declared.tree.Var.{Var}
-use Rattle.pool_relation.specs.Action.{is_nil, not_bool, is_true, bind, nil_store}
+use Rattle.pool_syntax.specs.Values.{is_nil, not_bool, is_true}
+use Rattle.pool_relation.specs.Action.{bind, nil_store}
 use Rattle.term_stack.specs.Reduced.{values, choices}
 
 pub length_values : (vs : List Operand) → length (values vs) ≡ length vs

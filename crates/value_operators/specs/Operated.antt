@@ -4,7 +4,7 @@ use Rattle.pool_syntax.specs.declared.words.Op.{Op}
 use Rattle.pool_syntax.specs.declared.words.Op.TheVariants as O
 use Rattle.value_operators.specs.declared.operators.Answer.{Answer}
 use Rattle.value_operators.specs.declared.operators.Answer.TheVariants as A
-use Rattle.pool_relation.specs.Values.{Outcome, Gives, Fails, WrongSort}
+use Rattle.pool_syntax.specs.Values.{Outcome, Gives, Fails, WrongSort}
 
 -- the answer of an operator
 abbrev pub outcome_of : Answer → Outcome

@@ -1,6 +1,6 @@
 //! Operators on values, and equality.
 ghost use Rattle.std.specs.Prelude.{◌≡◌, IsTrue, IfSome, IfNone};
-ghost use Rattle.pool_relation.specs.Values.{infix_value, prefix_value, is_same, Gives, Fails};
+ghost use Rattle.pool_syntax.specs.Values.{infix_value, prefix_value, is_same, Gives, Fails};
 ghost use Rattle.value_operators.specs.Operated.{is_logical, outcome_of};
 
 use pool_syntax::{Error, Op, Value};

@@ -1,6 +1,6 @@
 //! Equality of written items and of errors.
 ghost use Rattle.std.specs.Prelude.{◌≡◌, ◌==◌};
-ghost use Rattle.pool_relation.specs.Transition.{is_same_item, error_number};
+ghost use Rattle.mesh_semantics.specs.Same.{is_same_item, error_number};
 
 use pool_syntax::{Error, Item};
 use value_operators::operators::same;

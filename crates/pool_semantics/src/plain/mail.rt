@@ -2,7 +2,7 @@
 ghost use Rattle.std.specs.Prelude.{◌≡◌, ◌<◌, [], ◌∷◌, ◌++◌, OnOk, Some, None, IfSome, IfNone, length, map, slice_index_or, true, false};
 ghost use Rattle.std.specs.List.{remove};
 ghost use Rattle.std.specs.FinMap.{put};
-ghost use Rattle.pool_relation.specs.Tables.{pair_cmp, list_at, put_list};
+ghost use Rattle.mesh_semantics.specs.Tables.{pair_cmp, list_at, put_list};
 ghost use Rattle.std.specs.BTreeMap.{get};
 ghost use Rattle.std.specs.declared.collections.VecDeque.{VecDeque};
 ghost use Rattle.std.specs.Global.{Global};

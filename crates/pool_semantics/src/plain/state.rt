@@ -2,7 +2,8 @@
 ghost use Rattle.std.specs.Prelude.{◌≡◌, Some, None, IfOk, IfSome, IfNone, true, false};
 ghost use Rattle.pool_syntax.specs.TreeOf.{program_of};
 ghost use Rattle.plain_object.specs.declared.thing.Thing.{Thing};
-ghost use Rattle.pool_relation.specs.Transition.{transition, running, error_number};
+ghost use Rattle.pool_relation.specs.Transition.{transition, running};
+ghost use Rattle.mesh_semantics.specs.Same.{error_number};
 ghost use Rattle.pool_semantics.specs.Shown.{shown_at};
 ghost use Rattle.pool_semantics.specs.Plains.{Doing, Stepped, configuration};
 

@@ -1,7 +1,8 @@
 //! The transitions of two objects, and of messages.
 ghost use Rattle.std.specs.Prelude.{◌≡◌, Some, None, ◌==◌, ◌&&◌, IfOk};
 ghost use Rattle.pool_syntax.specs.TreeOf.{program_of};
-ghost use Rattle.pool_relation.specs.Transition.{transition, has_message, are_same};
+ghost use Rattle.pool_relation.specs.Transition.{transition, has_message};
+ghost use Rattle.mesh_semantics.specs.Same.{are_same};
 ghost use Rattle.pool_relation.specs.Configuration.{messages_of};
 ghost use Rattle.pool_semantics.specs.Plains.{Stepped, configuration};
 

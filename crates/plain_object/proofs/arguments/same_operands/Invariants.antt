@@ -1,5 +1,5 @@
 use Rattle.std.proofs.Common.{◌≡◌, length}
-use Rattle.pool_relation.specs.Transition.{are_same}
+use Rattle.mesh_semantics.specs.Same.{are_same}
 use Rattle.term_stack.specs.Reduced.{values}
 use Rattle.plain_object.proofs.arguments.same_operands.Given as goal
 

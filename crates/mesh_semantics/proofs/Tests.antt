@@ -1,5 +1,5 @@
 -- The parts of tests joined by `&&`.
-use Rattle.std.proofs.Common.{ℕ, ◌==◌, ◌≢◌, ◌⊎◌, inl, inr, IsTrue, Bool, true, false, not, ◌≡◌, refl, ◌&&◌, arith}
+use Rattle.std.proofs.Common.{T, sym, subst, ℕ, ◌==◌, ◌≢◌, ◌⊎◌, inl, inr, IsTrue, Bool, true, false, not, ◌≡◌, refl, ◌&&◌, arith}
 
 pub first : (a b : Bool) → IsTrue (a && b) → IsTrue a
 first true b h = refl
@@ -38,3 +38,10 @@ differ a b n = by (a == b) refl
     by : (c : Bool) → (a == b) ≡ c → (a == b) ≡ false
     by true e = absurd (n (equal a b e))
     by false e = e
+
+pub T_true : (b : Bool) → T b → b ≡ true
+T_true true t = refl
+T_true false t = absurd t
+
+pub true_T : (b : Bool) → b ≡ true → T b
+true_T b e = subst T (sym e) tt

@@ -1,14 +1,13 @@
--- What a possible transition passed through, and what its tests say.
-use Rattle.std.proofs.Common.{◌≡◌, refl, sym, ap, ◌∙◌, IsTrue, ℕ, ℤ, pos, negsuc, List, [], ◌∷◌, Option, Some, None, is_some, Bool, true, false, ◌==◌, arith}
+-- What a chain of steps that gives a value passed through, and what the tests of equality say.
+use Rattle.std.proofs.Common.{◌≡◌, refl, sym, ap, IsTrue, ℤ, pos, negsuc, List, [], ◌∷◌, Option, Some, None, is_some, Bool, true, false, ◌==◌, arith}
 use Rattle.pool_syntax.specs.declared.words.Error.{Error}
 use Rattle.pool_syntax.specs.declared.words.Error.TheVariants as E
 use Rattle.pool_syntax.specs.declared.words.Value.{Value}
 use Rattle.pool_syntax.specs.declared.words.Value.TheVariants as V
-use Rattle.pool_relation.specs.Action.{Object}
-use Rattle.pool_relation.specs.Configuration.{Configuration, object_of}
-use Rattle.pool_relation.specs.Values.{is_same, is_same_int, is_same_bool}
-use Rattle.pool_relation.specs.Transition.{◌>>=◌, ◌>>◌, require, running, without_fault, are_same, error_number}
-use Rattle.pool_relation.proofs.Tests.{first, second, equal}
+use Rattle.pool_syntax.specs.Values.{is_same, is_same_int, is_same_bool}
+use Rattle.mesh_semantics.specs.Partial.{◌>>=◌, ◌>>◌, require}
+use Rattle.mesh_semantics.specs.Same.{are_same, error_number}
+use Rattle.mesh_semantics.proofs.Tests.{first, second, equal}
 
 pub same_some : {X : Type 0} {x y : X} → Some x ≡ Some y → x ≡ y
 same_some e = cc
@@ -26,14 +25,6 @@ given_by (Some x) next b e = (x, refl, e)
 pub required : {B : Type 0} (t : Bool) (next : Option B) (b : B) → (require t >> next) ≡ Some b → IsTrue t × (next ≡ Some b)
 required true next b e = (refl, e)
 required false next b e = absurd (grind (arith, e))
-
-pub running_is : (c : Configuration) (o : ℕ) (x : Object) → running c o ≡ Some x → (object_of c o ≡ Some x) × (x.fault ≡ None)
-running_is c o x e = let a = given_by (object_of c o) _ x e in by a.0 a.0.fault refl a.1 a.2
-  where
-    by : (y : Object) (f : Option Error) → y.fault ≡ f → object_of c o ≡ Some y → without_fault y f ≡ Some x
-        → (object_of c o ≡ Some x) × (x.fault ≡ None)
-    by y None i h g = let same : y ≡ x = cc in (h ∙ ap Some same, ap (λ z. z.fault) (sym same) ∙ i)
-    by y (Some r) i h g = absurd (grind (arith, g))
 
 same_int : (x y : ℤ) → is_same_int x y ≡ true → x ≡ y
 same_int (pos a) (pos b) h = ap pos (equal a b h)

@@ -1,0 +1,4 @@
+pub mod Tables
+pub mod Message
+pub mod Partial
+pub mod Same

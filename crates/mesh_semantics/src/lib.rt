@@ -1,0 +1,2 @@
+//! Placed machines of POOL, defined over any language of objects.
+#![tactic(auto)]
