@@ -18,7 +18,7 @@ use Rattle.mesh_semantics.specs.Config.{Config, object_of, put_object}
 use Rattle.mesh_semantics.specs.Moves.{running}
 use Rattle.mesh_semantics.specs.Paths.{total, on_link, without_first}
 use Rattle.mesh_semantics.specs.Delay.{Packet, Arrival, node_of, slot_of}
-use Rattle.mesh_semantics.specs.Act.{objects_at, frames_at, first_of}
+use Rattle.mesh_semantics.specs.Act.{object_count, frame_count, first_of}
 use Rattle.mesh_semantics.specs.Sound.{Each, IsThere, IsPlaced}
 use Rattle.mesh_semantics.proofs.Maps.{find_put_same, find_put_other, total_put}
 use Rattle.mesh_semantics.proofs.Lists.{heads}
@@ -131,22 +131,22 @@ module _ {S : Type 0} (g : Language S) where
 
   -- counts
 
-  pub count_put : (c : Config S) (o : ℕ) (x y : S) (n : ℕ) → IsTrue (is_sorted nat_cmp c.objects) → object_of c o ≡ Some x → objects_at (put_object c o y) n ≡ objects_at c n
+  pub count_put : (c : Config S) (o : ℕ) (x y : S) (n : ℕ) → IsTrue (is_sorted nat_cmp c.objects) → object_of c o ≡ Some x → object_count (put_object c o y) n ≡ object_count c n
   count_put c o x y n s f = total_put (λ e. if node_of e.0 == n then 1 else 0) o x y c.objects s f refl
 
   pub frames_put : (c : Config S) (o : ℕ) (x y : S) (n : ℕ) → IsTrue (is_sorted nat_cmp c.objects) → object_of c o ≡ Some x → g.frames y ≡ g.frames x
-      → frames_at g (put_object c o y) n ≡ frames_at g c n
+      → frame_count g (put_object c o y) n ≡ frame_count g c n
   frames_put c o x y n s f e =
       total_put (λ z. if node_of z.0 == n then 1 + g.frames z.1 else 0) o x y c.objects s f (ap (λ k. if node_of o == n then 1 + k else 0) e)
 
   pub frames_elsewhere : (c : Config S) (o : ℕ) (x y : S) (n : ℕ) → IsTrue (is_sorted nat_cmp c.objects) → object_of c o ≡ Some x → n ≢ node_of o
-      → frames_at g (put_object c o y) n ≡ frames_at g c n
+      → frame_count g (put_object c o y) n ≡ frame_count g c n
   frames_elsewhere c o x y n s f e =
       total_put (λ z. if node_of z.0 == n then 1 + g.frames z.1 else 0) o x y c.objects s f
       (let d = differ (node_of o) n (λ i. e (sym i)) in ap (λ b. if b then 1 + g.frames y else 0) d ∙ sym (ap (λ b. if b then 1 + g.frames x else 0) d))
 
   pub names_put : (l : Placement) (c : Config S) (o : ℕ) (x y : S) → IsTrue (is_sorted nat_cmp c.objects) → object_of c o ≡ Some x
-      → ((q : ℕ) → IsThere c q → (node_of q < l.width * l.height) × (slot_of q < objects_at c (node_of q)))
-      → (q : ℕ) → IsThere (put_object c o y) q → (node_of q < l.width * l.height) × (slot_of q < objects_at (put_object c o y) (node_of q))
+      → ((q : ℕ) → IsThere c q → (node_of q < l.width * l.height) × (slot_of q < object_count c (node_of q)))
+      → (q : ℕ) → IsThere (put_object c o y) q → (node_of q < l.width * l.height) × (slot_of q < object_count (put_object c o y) (node_of q))
   names_put l c o x y s f h q t =
       let r = h q (put_there c o x y q f t) in (r.0, subst (λ n. slot_of q < n) (sym (count_put c o x y (node_of q) s f)) r.1)

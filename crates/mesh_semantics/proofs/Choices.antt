@@ -13,8 +13,8 @@ use Rattle.mesh_semantics.specs.Language.{Language}
 use Rattle.mesh_semantics.specs.Config.{Config, object_of, put_object}
 use Rattle.mesh_semantics.specs.Moves.{move, moves, running, offered, numbered}
 use Rattle.mesh_semantics.specs.Delay.{Arrival, Delay, arrived_at}
-use Rattle.mesh_semantics.specs.Act.{first_arrival, is_possible, accept_turn, chosen_turn, choice_turn, local_steps, within_frames, frames_at, greatest, step_count, local_turn}
-use Rattle.mesh_semantics.specs.Sound.{Consistent, IsWithin, Sound}
+use Rattle.mesh_semantics.specs.Act.{first_arrival, is_possible, accept_turn, chosen_turn, choice_turn, local_steps, within_frames, frame_count, greatest, step_count, local_turn}
+use Rattle.mesh_semantics.specs.Sound.{Consistent, IsWithin, IsSound}
 use Rattle.mesh_semantics.specs.Fit.{Fit}
 use Rattle.mesh_semantics.specs.Lawful.{Lawful}
 use Rattle.mesh_semantics.proofs.Final.{has_arrived, answer_possible}
@@ -61,7 +61,7 @@ chosen g c d o i (a ∷ alts) h = by (is_possible (arrived_at d o) a) refl (chos
         }
 
 module _ {S : Type 0} (g : Language S) (W : Config S → Type 0) (law : Lawful g W) (l : Placement) (fit : Fit l) where
-  pub choice_kept : (c : Config S) (d : Delay) (n o : ℕ) (x : S) (alts : List Alternative) → Sound g W l c d → Acting g W law l fit.ways c d n o x → g.kind o x ≡ K.Select alts
+  pub choice_kept : (c : Config S) (d : Delay) (n o : ℕ) (x : S) (alts : List Alternative) → IsSound g W l c d → Acting g W law l fit.ways c d n o x → g.kind o x ≡ K.Select alts
       → list_any (is_possible (arrived_at d o)) alts ≡ true → Nearly g W law l fit.ways n c (choice_turn g c d o 1 alts)
   choice_kept c d n o x alts s a is h = subst (Nearly g W law l fit.ways n c) (sym k.turn) (by k.alternative.names refl)
     where
@@ -107,7 +107,7 @@ module _ {S : Type 0} (g : Language S) (W : Config S → Type 0) (law : Lawful g
       let a = given_by (move g c lab) (λ q. moves g q (replicate k lab)) e h in
       let r = one_more a.0 e f lab k a.2 i in rw a.1 r
 
-  steps : (c : Config S) (d : Delay) (n o : ℕ) (x : S) → Sound g W l c d → Acting g W law l fit.ways c d n o x → (k : ℕ) (e : Config S) → local_steps g l n o k c ≡ Some e → Steps c d n o k e
+  steps : (c : Config S) (d : Delay) (n o : ℕ) (x : S) → IsSound g W l c d → Acting g W law l fit.ways c d n o x → (k : ℕ) (e : Config S) → local_steps g l n o k c ≡ Some e → Steps c d n o k e
   steps c d n o x s a zero e h = let same : c ≡ e = same_some h in
       subst (λ (z : Config S). Steps c d n o zero z) same (record { leads = refl; state = s.state; there = (x, a.found); beside = λ m i. s.limits m })
   steps c d n o x s a (suc k) e h =
@@ -116,9 +116,9 @@ module _ {S : Type 0} (g : Language S) (W : Config S → Type 0) (law : Lawful g
       on b.0 f.0 (steps c d n o x s a k b.0 b.1) f.1 (inside f.0 e f.2)
     where
       inside : (f e : Config S) → within_frames g l n f ≡ Some e → f ≡ e
-      inside f e i = by (nat_le (frames_at g f n) l.frames) refl
+      inside f e i = by (nat_le (frame_count g f n) l.frames) refl
         where
-          by : (t : Bool) → nat_le (frames_at g f n) l.frames ≡ t → f ≡ e
+          by : (t : Bool) → nat_le (frame_count g f n) l.frames ≡ t → f ≡ e
           by true j = same_some (rw j at i)
           by false j = absurd (let q = rw j at i in cc)
 
@@ -145,7 +145,7 @@ module _ {S : Type 0} (g : Language S) (W : Config S → Type 0) (law : Lawful g
       by true i r = let same : suc q ≡ suc k = rw i at h in subst (λ z. test z ≡ true) same i
       by false i r = r (rw i at h)
 
-  pub local_kept : (c : Config S) (d : Delay) (n o q : ℕ) (x : S) → Sound g W l c d → Acting g W law l fit.ways c d n o x
+  pub local_kept : (c : Config S) (d : Delay) (n o q : ℕ) (x : S) → IsSound g W l c d → Acting g W law l fit.ways c d n o x
       → Nearly g W law l fit.ways n c (local_turn n o d (step_count g l q n o c) (local_steps g l n o (step_count g l q n o c) c))
   local_kept c d n o q x s a = by (step_count g l q n o c) refl
     where

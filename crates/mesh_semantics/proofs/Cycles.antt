@@ -1,4 +1,4 @@
--- A chase gives a cycle, and finds each that is not too long.
+-- The listed cycles are the cycles: a chase gives one, and finds each that is not too long; and none is longer than there are objects.
 use Rattle.std.proofs.Common.{◌≡◌, ◌≢◌, ◌⊎◌, inl, inr, refl, sym, ap, subst, ◌∙◌, ℕ, zero, suc, ◌<◌, ◌≤◌, ◌==◌, List, [], ◌∷◌, length, Option, Some, None, Bool, true, false, if◌then◌else◌, nat_lt, arith}
 use Rattle.std.specs.Prelude.{filter_map}
 use Rattle.std.specs.Ordering.{nat_cmp}
@@ -12,7 +12,7 @@ use Rattle.mesh_semantics.specs.Language.{Language}
 use Rattle.mesh_semantics.specs.Config.{Config, object_of}
 use Rattle.mesh_semantics.specs.Delay.{Delay}
 use Rattle.mesh_semantics.specs.Ways.{In, Once}
-use Rattle.mesh_semantics.specs.Standing.{standing, called_in, called_by, Closes, Contained, Cycle, chase, cycles}
+use Rattle.mesh_semantics.specs.Standing.{standing, called_in, called_by, Closes, IsCycle, Contained, chase, cycles}
 
 module _ (calls : ℕ → Option ℕ) (first : ℕ) where
   -- what is chased from o begins with o
@@ -140,8 +140,8 @@ module _ {S : Type 0} (g : Language S) (c : Config S) (d : Delay) where
       by None k m = rw k m
       by (Some ms) k m = rw k (inr m)
 
-  -- each cycle is there
-  pub each_cycle : (o : ℕ) (ns : List ℕ) → Closes (called_by g c d) o (o ∷ ns) → Contained (o ∷ ns) (cycles g c d)
+  -- each cycle is listed
+  each_cycle : (o : ℕ) (ns : List ℕ) → Closes (called_by g c d) o (o ∷ ns) → Contained (o ∷ ns) (cycles g c d)
   each_cycle o ns p =
       let few = no_more (o ∷ ns) (names c.objects) (distinct (called_by g c d) o o ns p) (all_there o o ns p) in
       let e = count_names c.objects in
@@ -164,11 +164,17 @@ module _ {S : Type 0} (g : Language S) (c : Config S) (d : Delay) where
           on (inl s) = let r = chased (called_by g c d) e.0 n e.0 ns (k ∙ ap Some s) in (e.0, r.0, r.1)
           on (inr j) = m j
 
-  pub only_cycles : (ns : List ℕ) → Contained ns (cycles g c d) → (o : ℕ) × Begun (called_by g c d) o o ns × Closes (called_by g c d) o ns
+  only_cycles : (ns : List ℕ) → Contained ns (cycles g c d) → (o : ℕ) × Begun (called_by g c d) o o ns × Closes (called_by g c d) o ns
   only_cycles ns i = no_other (length c.objects) ns c.objects i
 
-  pub is_cycle : (ns : List ℕ) → Contained ns (cycles g c d) → Cycle (called_by g c d) ns
+  pub every_cycle : (ns : List ℕ) → IsCycle (called_by g c d) ns → Contained ns (cycles g c d)
+  every_cycle [] z = absurd z
+  every_cycle (o ∷ ns) z = each_cycle o ns z.1
+
+  pub is_cycle : (ns : List ℕ) → Contained ns (cycles g c d) → IsCycle (called_by g c d) ns
   is_cycle ns i = let r = only_cycles ns i in on r.0 r.1 r.2
     where
-      on : (o : ℕ) → Begun (called_by g c d) o o ns → Closes (called_by g c d) o ns → Cycle (called_by g c d) ns
-      on o (Is rest e) z = record { least = o; others = rest; is = e; closes = z }
+      on : (o : ℕ) → Begun (called_by g c d) o o ns → Closes (called_by g c d) o ns → IsCycle (called_by g c d) ns
+      on o (Is rest e) z =
+          let k : Closes (called_by g c d) o (o ∷ rest) = subst (Closes (called_by g c d) o) e z in
+          subst (IsCycle (called_by g c d)) (sym e) (distinct (called_by g c d) o o rest k, k)

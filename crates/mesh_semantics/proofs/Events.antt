@@ -11,8 +11,8 @@ use Rattle.pool_syntax.specs.declared.words.Event.{Event}
 use Rattle.pool_syntax.specs.declared.words.Event.TheVariants as Ev
 use Rattle.pool_syntax.specs.declared.words.Label.{Label}
 use Rattle.pool_syntax.specs.declared.words.Line.TheVariants as R
-use Rattle.pool_syntax.specs.declared.words.What.{What}
-use Rattle.pool_syntax.specs.declared.words.What.TheVariants as W'
+use Rattle.pool_syntax.specs.declared.words.Line.{Line}
+use Rattle.pool_syntax.specs.declared.words.End.TheVariants as E
 use Rattle.pool_syntax.specs.declared.words.Placement.{Placement}
 use Rattle.mesh_semantics.proofs.Tests.{first, second, equal}
 use Rattle.mesh_semantics.proofs.Chains.{same_some, given_by}
@@ -23,11 +23,11 @@ use Rattle.mesh_semantics.specs.Config.{Config, object_of}
 use Rattle.mesh_semantics.specs.Moves.{move, moves}
 use Rattle.mesh_semantics.specs.Delay.{Delay, Holding, node_of, arrived_at, held, stepped_last}
 use Rattle.mesh_semantics.specs.Act.{Acted, Acts, Full, Nothing, act, node_turn, turn_of, ready_at, first_of, is_above, is_ready, can_step, object_turn, is_quiet}
-use Rattle.mesh_semantics.specs.Sound.{Sound}
+use Rattle.mesh_semantics.specs.Sound.{IsSound}
 use Rattle.mesh_semantics.specs.Fit.{Fit}
 use Rattle.mesh_semantics.specs.Lawful.{Lawful}
-use Rattle.mesh_semantics.specs.Kept.{shown, After}
-use Rattle.mesh_semantics.specs.Record.{Record, with_line, after, record_from, labels_of, labels, ends_quiet}
+use Rattle.mesh_semantics.specs.Kept.{After, ShowsRun}
+use Rattle.mesh_semantics.specs.Record.{EndsOnce, shown, after, record_from, labels_of, labels, ends_quiet}
 use Rattle.mesh_semantics.proofs.Final.{no_transition}
 use Rattle.mesh_semantics.proofs.Maps.{tied, untied}
 use Rattle.mesh_semantics.proofs.Turns.{Nearly, within_after, Acting, write_turn, fault_turn, call_posted}
@@ -89,7 +89,7 @@ module _ {S : Type 0} (g : Language S) where
       let r = moves_append a.0 e xs ys a.2 in rw a.1 r
 
 module _ {S : Type 0} (g : Language S) (W : Config S → Type 0) (law : Lawful g W) (l : Placement) (fit : Fit l) where
-  sound_last : (c : Config S) (d : Delay) (n o : ℕ) → Sound g W l c d → Sound g W l c (stepped_last n o d)
+  sound_last : (c : Config S) (d : Delay) (n o : ℕ) → IsSound g W l c d → IsSound g W l c (stepped_last n o d)
   sound_last c d n o s = record {
     state = record { typed = s.state.typed; names = s.state.names; owned = s.state.owned; packets = s.state.packets; arrivals = s.state.arrivals; lists = s.state.lists; order = s.state.order };
     limits = s.limits;
@@ -100,7 +100,7 @@ module _ {S : Type 0} (g : Language S) (W : Config S → Type 0) (law : Lawful g
     acting : Acting g W law l fit.ways c (stepped_last n e.0 d) n e.0 e.1
     can : can_step (arrived_at d e.0) (g.kind e.0 e.1) ≡ true
 
-  ready : (c : Config S) (d : Delay) (n : ℕ) (e : ℕ × S) → Sound g W l c d → Member e (ready_at g c d n) → Stepping c d n e
+  ready : (c : Config S) (d : Delay) (n : ℕ) (e : ℕ × S) → IsSound g W l c d → Member e (ready_at g c d n) → Stepping c d n e
   ready c d n e s m =
       let a = filter_member (λ e. node_of e.0 == n && is_ready g d e.0 e.1) c.objects e m in
       let at = equal (node_of e.0) n (first (node_of e.0 == n) (is_ready g d e.0 e.1) a.0) in
@@ -111,7 +111,7 @@ module _ {S : Type 0} (g : Language S) (W : Config S → Type 0) (law : Lawful g
       by None (Some x) i j found at h = absurd (let q = rw (i, j) at h in cc)
       by (Some t) f i j found at h = absurd (let q = rw i at h in cc)
 
-  turn_is : (c : Config S) (d : Delay) (n : ℕ) (e : ℕ × S) → Sound g W l c d → turn_of g c d n ≡ Some e → Stepping c d n e
+  turn_is : (c : Config S) (d : Delay) (n : ℕ) (e : ℕ × S) → IsSound g W l c d → turn_of g c d n ≡ Some e → Stepping c d n e
   turn_is c d n e s h = by (first_of (filter (λ e. is_above (find nat_cmp n d.last) e.0) (ready_at g c d n))) refl
     where
       by : (z : Option (ℕ × S)) → first_of (filter (λ e. is_above (find nat_cmp n d.last) e.0) (ready_at g c d n)) ≡ z → Stepping c d n e
@@ -121,14 +121,14 @@ module _ {S : Type 0} (g : Language S) (W : Config S → Type 0) (law : Lawful g
           let m = filter_member (λ e. is_above (find nat_cmp n d.last) e.0) (ready_at g c d n) f (first_member _ f i) in
           subst (Stepping c d n) same (ready c d n f s m.1)
 
-  turn_kept : (c : Config S) (d : Delay) (n q : ℕ) (e : ℕ × S) → Sound g W l c d → Stepping c d n e
+  turn_kept : (c : Config S) (d : Delay) (n q : ℕ) (e : ℕ × S) → IsSound g W l c d → Stepping c d n e
       → Nearly g W law l fit.ways n c (object_turn g l q c (stepped_last n e.0 d) n e.0 (g.kind e.0 e.1))
   turn_kept c d n q e s t = by (g.kind e.0 e.1) refl t.can
     where
       f : Delay
       f = stepped_last n e.0 d
 
-      u : Sound g W l c (stepped_last n e.0 d)
+      u : IsSound g W l c (stepped_last n e.0 d)
       u = sound_last c d n e.0 s
 
       by : (k : Kind) → g.kind e.0 e.1 ≡ k → can_step (arrived_at d e.0) k ≡ true → Nearly g W law l fit.ways n c (object_turn g l q c (stepped_last n e.0 d) n e.0 k)
@@ -145,7 +145,7 @@ module _ {S : Type 0} (g : Language S) (W : Config S → Type 0) (law : Lawful g
       by K.Stuck i h = absurd (let z : false ≡ true = h in cc)
 
   -- every event
-  pub act_kept : (c : Config S) (d : Delay) (q : ℕ) (e : Event) → Sound g W l c d → After g W l c (act g l q c d e)
+  pub act_kept : (c : Config S) (d : Delay) (q : ℕ) (e : Event) → IsSound g W l c d → After g W l c (act g l q c d e)
   act_kept c d q (Ev.Link a b) s = link_kept g W law l fit c d a b s
   act_kept c d q (Ev.Turn n) s = by (turn_of g c d n) refl
     where
@@ -153,38 +153,36 @@ module _ {S : Type 0} (g : Language S) (W : Config S → Type 0) (law : Lawful g
       by None i = (refl, s)
       by (Some e) i = within_after g W law l fit.ways n c (object_turn g l q c (stepped_last n e.0 d) n e.0 (g.kind e.0 e.1)) (turn_kept c d n q e s (turn_is c d n e s i))
 
-  -- a record
-  pub record Shows (c : Config S) (r : Record S) : Type 0 where
-    pub leads : moves g c (labels r.lines) ≡ Some r.last
-    pub sound : Sound g W l r.last r.delay
-    pub rests : ends_quiet r.lines ≡ true → (lab : Label) → move g r.last lab ≡ None
+  -- no event is without an answer
+  pub act_answers : (c : Config S) (d : Delay) (q : ℕ) (e : Event) → IsSound g W l c d → act g l q c d e ≢ Nothing
+  act_answers c d q e s h = subst (After g W l c) h (act_kept c d q e s)
 
-  pub record_shows : (q : ℕ) (es : List Event) (c : Config S) (d : Delay) (done : ℕ) → Sound g W l c d → Shows c (record_from g l q c d done es)
+  ended : (c : Config S) (d : Delay) (z : Line) → IsSound g W l c d → (EndsOnce (z ∷ [])) → labels_of z ≡ [] → (ends_quiet (z ∷ []) ≡ true → (lab : Label) → move g c lab ≡ None)
+      → ShowsRun g W l c (record { lines = z ∷ []; last = c; delay = d })
+  ended c d z s o n f = record { lines = o; leads = rw n refl; sound = s; rests = f }
+
+  -- a record
+  pub record_shows : (q : ℕ) (es : List Event) (c : Config S) (d : Delay) (done : ℕ) → IsSound g W l c d → ShowsRun g W l c (record_from g l q c d done es)
   record_shows q [] c d done s = by (is_quiet g c d) refl
     where
-      by : (b : Bool) → is_quiet g c d ≡ b → Shows c (record_from g l q c d done [])
-      by true i = rw (i, record_from) (record { leads = refl; sound = s; rests = λ t lab. no_transition g W l c d s i lab })
-      by false i = rw (i, record_from) (record { leads = refl; sound = s; rests = λ t lab. absurd (let z : false ≡ true = t in cc) })
+      by : (b : Bool) → is_quiet g c d ≡ b → ShowsRun g W l c (record_from g l q c d done [])
+      by true i = rw (i, record_from) (ended c d (R.End (E.Quiet done)) s tt refl (λ t lab. no_transition g W l c d s i lab))
+      by false i = rw (i, record_from) (ended c d (R.End (E.Schedule done)) s tt refl (λ t lab. absurd (let z : false ≡ true = t in cc)))
   record_shows q (e ∷ es) c d done s = by (is_quiet g c d) refl (λ c' d' k. record_shows q es c' d' (done + 1) k)
     where
-      line : What → Record S → Record S
-      line w r = with_line (R.Event (done + 1) e w) r
-
-      shown_is : (w : What) → labels_of (R.Event (done + 1) e w) ≡ shown w
-      shown_is (W'.Step lab times) = refl
-      shown_is _ = refl
-
-      on : (x : Acted S) → act g l q c d e ≡ x → After g W l c x → ((c' : Config S) (d' : Delay) → Sound g W l c' d' → Shows c' (record_from g l q c' d' (done + 1) es))
-          → is_quiet g c d ≡ false → Shows c (after e done c d (λ c' d'. record_from g l q c' d' (done + 1) es) x)
-      on (Acts w c' d') i h rest f =
+      on : (x : Acted S) → After g W l c x → ((c' : Config S) (d' : Delay) → IsSound g W l c' d' → ShowsRun g W l c' (record_from g l q c' d' (done + 1) es))
+          → ShowsRun g W l c (after e done c d (λ c' d'. record_from g l q c' d' (done + 1) es) x)
+      on (Acts w c' d') h rest =
           let r = rest c' d' h.1 in record {
-            leads = moves_append g c c' (labels_of (R.Event (done + 1) e w)) (labels (record_from g l q c' d' (done + 1) es).lines) (ap (moves g c) (shown_is w) ∙ h.0) ∙ r.leads;
+            lines = r.lines;
+            leads = moves_append g c c' (shown w) (labels (record_from g l q c' d' (done + 1) es).lines) h.0 ∙ r.leads;
             sound = r.sound;
             rests = r.rests;
           }
-      on (Full k n) i h rest f = record { leads = refl; sound = s; rests = λ t lab. absurd (let z : false ≡ true = t in cc) }
-      on Nothing i h rest f = absurd h
+      on (Full k n) h rest = ended c d (R.End (E.Full k n done)) s tt refl (λ t lab. absurd (let z : false ≡ true = t in cc))
+      on Nothing h rest = absurd h
 
-      by : (b : Bool) → is_quiet g c d ≡ b → ((c' : Config S) (d' : Delay) → Sound g W l c' d' → Shows c' (record_from g l q c' d' (done + 1) es)) → Shows c (record_from g l q c d done (e ∷ es))
-      by true i rest = rw (i, record_from) (record { leads = refl; sound = s; rests = λ t lab. no_transition g W l c d s i lab })
-      by false i rest = rw (i, record_from) (on (act g l q c d e) refl (act_kept c d q e s) rest i)
+      by : (b : Bool) → is_quiet g c d ≡ b → ((c' : Config S) (d' : Delay) → IsSound g W l c' d' → ShowsRun g W l c' (record_from g l q c' d' (done + 1) es))
+          → ShowsRun g W l c (record_from g l q c d done (e ∷ es))
+      by true i rest = rw (i, record_from) (ended c d (R.End (E.Quiet done)) s tt refl (λ t lab. no_transition g W l c d s i lab))
+      by false i rest = rw (i, record_from) (on (act g l q c d e) (act_kept c d q e s) rest)

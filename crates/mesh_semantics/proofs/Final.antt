@@ -26,7 +26,7 @@ use Rattle.mesh_semantics.specs.Paths.{under, along, path}
 use Rattle.mesh_semantics.specs.Delay as D
 use Rattle.mesh_semantics.specs.Delay.{Packet, Arrival, Holding, Delay, node_of, arrived_at, held}
 use Rattle.mesh_semantics.specs.Act.{first_arrival, is_possible, can_step, is_ready, is_quiet}
-use Rattle.mesh_semantics.specs.Sound.{Sent, Called, sent_of, called_of, entries, call_by, Owns, OwnedAt, letters_in, letter, notes, Sound}
+use Rattle.mesh_semantics.specs.Sound.{Sent, Called, sent_of, called_of, entries, call_by, Owns, OwnedAt, letters_in, letter, notes, IsSound}
 
 -- what cannot be done with what has arrived
 
@@ -179,7 +179,7 @@ data Rest {S : Type 0} (g : Language S) (d : Delay) (o : ℕ) (x : S) : Type 0 w
   Away : (b m : ℕ) (args : List Value) → g.kind o x ≡ K.Send b m args → called_of o d.arrived ≡ Called b (call_by o m args) ∷ [] → Rest g d o x
   Still : can_step (arrived_at d o) (g.kind o x) ≡ false → Rest g d o x
 
-module _ {S : Type 0} (g : Language S) (W : Config S → Type 0) (l : Placement) (c : Config S) (d : Delay) (sound : Sound g W l c d) (quiet : is_quiet g c d ≡ true) where
+module _ {S : Type 0} (g : Language S) (W : Config S → Type 0) (l : Placement) (c : Config S) (d : Delay) (sound : IsSound g W l c d) (quiet : is_quiet g c d ≡ true) where
   no_links : d.links ≡ []
   no_links = by d.links refl
     where

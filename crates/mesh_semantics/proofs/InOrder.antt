@@ -8,7 +8,8 @@ use Rattle.mesh_semantics.specs.Paths.{next, path, is_link, on_link, put_last, m
 use Rattle.mesh_semantics.specs.Act.{first_of}
 use Rattle.mesh_semantics.specs.Sound.{Each, Has}
 use Rattle.mesh_semantics.specs.Ways.{Ways}
-use Rattle.mesh_semantics.specs.Traffic.{Load, Traffic, Change, Enter, Move, goes_on, moved_on, happens, traffic, no_traffic, of_pair, between, Inside, IsPrefix}
+use Rattle.mesh_semantics.specs.Traffic.{Load, Change, Enter, Move, traffic, no_traffic, of_pair, between, Inside, IsPrefix}
+use Rattle.mesh_semantics.proofs.FlatTraffic.{Flat, goes_on, moved_on, happens, flat, no_flat, all_alike}
 use Rattle.mesh_semantics.proofs.Final.{none_along}
 use Rattle.mesh_semantics.proofs.Along.{Apart, IsLast, Follows, put_nothing, move_nothing, entered, left, gone_on, apart, Where, End, Before, where_is, second_there, Begins, begins}
 use Rattle.mesh_semantics.proofs.Basics.{each_append, each_without, each_head}
@@ -35,11 +36,11 @@ module _ {X : Type 0} (l : Placement) (w : Ways l) where
     to : e.1.to < l.width * l.height
     on : Has (path l e.1.from e.1.to) e.0
 
-  record Kept (t : Traffic X) : Type 0 where
+  record Kept (t : Flat X) : Type 0 where
     lies : Each Lies t.links
     order : (a b : ℕ) → a < l.width * l.height → b < l.width * l.height → between a b t.left ++ along (of_pair a b) t.links (path l a b) ≡ between a b t.entered
 
-  enter_kept : (t : Traffic X) (c d : ℕ) (v : X) → Kept t → c < l.width * l.height → d < l.width * l.height → Kept (happens l t (Enter c d v))
+  enter_kept : (t : Flat X) (c d : ℕ) (v : X) → Kept t → c < l.width * l.height → d < l.width * l.height → Kept (happens l t (Enter c d v))
   enter_kept t c d v k p q = by (c == d) refl
     where
       x : Load X
@@ -74,7 +75,7 @@ module _ {X : Type 0} (l : Placement) (w : Ways l) where
               ∙ ap (λ ys. ys ++ of_pair a b (record { from = c; to = d; value = v })) (k.order a b i j)
               ∙ sym (flat_map-append (of_pair a b) t.entered (record { from = c; to = d; value = v } ∷ []) ∙ ap (λ ys. between a b t.entered ++ ys) (append-nil (of_pair a b (record { from = c; to = d; value = v }))))
 
-  move_kept : (t : Traffic X) (m : Pair) → Kept t → Kept (happens l t (Move m))
+  move_kept : (t : Flat X) (m : Pair) → Kept t → Kept (happens l t (Move m))
   move_kept t m k = by (first_of (on_link t.links m)) refl
     where
       by : (f : Option (Load X)) → first_of (on_link t.links m) ≡ f → Kept (moved_on l t m f)
@@ -128,13 +129,20 @@ module _ {X : Type 0} (l : Placement) (w : Ways l) where
                   let after : Follows (path l a b) m (m.1, next l m.1 x.to) = subst (λ q. Follows (path l q b) m (m.1, next l m.1 x.to)) f (subst (λ q. Follows (path l x.from q) m (m.1, next l m.1 x.to)) g (follows place)) in
                   ap (λ ys. between a b t.left ++ ys) (gone_on (of_pair a b) t.links m (m.1, next l m.1 x.to) x (path l a b) (steps l w a b i j) after h) ∙ k.order a b i j
 
-  all_kept : (t : Traffic X) (es : List (Change X)) → Kept t → Inside l es → Kept (traffic l t es)
+  all_kept : (t : Flat X) (es : List (Change X)) → Kept t → Inside l es → Kept (flat l t es)
   all_kept t [] k i = k
   all_kept t (Enter a b v ∷ es) k i = all_kept (happens l t (Enter a b v)) es (enter_kept t a b v k i.0 i.1) i.2
   all_kept t (Move m ∷ es) k i = all_kept (happens l t (Move m)) es (move_kept t m k) i
 
+  in_flat_order : (es : List (Change X)) → Inside l es → (a b : ℕ) → a < l.width * l.height → b < l.width * l.height
+      → IsPrefix (between a b (flat l no_flat es).left) (between a b (flat l no_flat es).entered)
+  in_flat_order es i a b p q =
+      let k = all_kept no_flat es (record { lies = tt; order = λ a b i j. none_along (of_pair a b) (path l a b) }) i in
+      (along (of_pair a b) (flat l no_flat es).links (path l a b), k.order a b p q)
+
   pub in_order : (es : List (Change X)) → Inside l es → (a b : ℕ) → a < l.width * l.height → b < l.width * l.height
       → IsPrefix (between a b (traffic l no_traffic es).left) (between a b (traffic l no_traffic es).entered)
   in_order es i a b p q =
-      let k = all_kept no_traffic es (record { lies = tt; order = λ a b i j. none_along (of_pair a b) (path l a b) }) i in
-      (along (of_pair a b) (traffic l no_traffic es).links (path l a b), k.order a b p q)
+      let k = all_alike l es no_traffic no_flat (record { links = λ j. refl; entered = refl; left = refl }) in
+      let r = in_flat_order es i a b p q in
+      (r.0, ap (λ xs. between a b xs ++ r.0) k.left ∙ r.1 ∙ ap (between a b) (sym k.entered))

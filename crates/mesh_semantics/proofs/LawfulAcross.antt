@@ -1,18 +1,15 @@
 -- A language that does what a lawful one does is lawful, where what is kept is that it corresponds to a configuration of the first.
-use Rattle.std.proofs.Common.{◌≡◌, ◌≢◌, inl, inr, refl, sym, ap, ap₂, subst, ◌∙◌, IsTrue, ℕ, ◌==◌, List, [], ◌∷◌, Option, Some, None, Bool, true, false}
+use Rattle.std.proofs.Common.{◌≡◌, ◌≢◌, inl, inr, refl, sym, ap, subst, ◌∙◌, IsTrue, ℕ, List, [], ◌∷◌, Option, Some, None, Bool, true, false}
 use Rattle.std.specs.Prelude.{◌&&◌, ◌||◌}
 use Rattle.std.specs.Ordering.{nat_cmp, is_lt}
-use Rattle.std.specs.FinMap.{find, is_sorted}
+use Rattle.std.specs.FinMap.{is_sorted}
 use Rattle.std.specs.FinMap.Entries.{below_all}
 use Rattle.pool_syntax.specs.declared.words.Value.{Value}
 use Rattle.pool_syntax.specs.declared.words.Value.TheVariants as V
 use Rattle.pool_syntax.specs.declared.words.Error.{Error}
 use Rattle.pool_syntax.specs.declared.words.Label.{Label}
 use Rattle.pool_syntax.specs.declared.words.Label.TheVariants as L
-use Rattle.mesh_semantics.specs.Message.{Message}
-use Rattle.mesh_semantics.specs.Same.{are_same}
 use Rattle.mesh_semantics.proofs.Tests.{equals, both}
-use Rattle.mesh_semantics.proofs.Chains.{same_some}
 use Rattle.mesh_semantics.specs.Kind as K
 use Rattle.mesh_semantics.specs.Kind.{Kind, makes, calls, posts, returns, waits_on, alternatives}
 use Rattle.mesh_semantics.specs.Language.{Language}
@@ -20,16 +17,12 @@ use Rattle.mesh_semantics.specs.Config.{Config, object_of, put_object, messages_
 use Rattle.mesh_semantics.specs.Moves.{move, running, offered, first_message}
 use Rattle.mesh_semantics.specs.Sound.{is_wait}
 use Rattle.mesh_semantics.specs.Lawful.{Lawful, CanServe}
-use Rattle.mesh_semantics.specs.Simulates.{Both, IsCalled, Simulates, Zipped, Related}
+use Rattle.mesh_semantics.specs.Simulates.{Both, IsCalled, Simulates, Zipped, Related, Corresponds}
 use Rattle.mesh_semantics.proofs.Maps.{find_put_same}
 use Rattle.mesh_semantics.proofs.Basics.{value_itself, values_itself}
 use Rattle.mesh_semantics.proofs.Simulated.{found, messages_same, move_same}
 
 module _ {S T : Type 0} (g : Language S) (h : Language T) (W : Config S → Type 0) (R : ℕ → S → T → Type 0) (law : Lawful g W) (sim : Simulates g h W R) where
-  -- it corresponds to a configuration of the first language in which W holds
-  abbrev pub Corresponds : Config T → Type 0
-  Corresponds e = (c : Config S) × W c × Related R c e
-
   below : (k : ℕ) (es : List (ℕ × S)) (fs : List (ℕ × T)) → Zipped R es fs → IsTrue (below_all nat_cmp k es) → IsTrue (below_all nat_cmp k fs)
   below k [] [] z t = t
   below k [] (f ∷ fs) z t = absurd z
@@ -108,7 +101,7 @@ module _ {S T : Type 0} (g : Language S) (h : Language T) (W : Config S → Type
           some y (g.serving b x n m caller args) s.0 (h.serving b y n m caller args) s.1
           (sim.serving c b x y n m names caller args w (runs c b x w i (no_fault n names (g.kind b x) off)) r off called)
 
-  has_wait : (e : Config T) (b : ℕ) (y : T) (k : ℕ) (v : Value) → Corresponds e → object_of e b ≡ Some y → h.kind b y ≡ K.Return k v
+  has_wait : (e : Config T) (b : ℕ) (y : T) (k : ℕ) (v : Value) → Corresponds W R e → object_of e b ≡ Some y → h.kind b y ≡ K.Return k v
       → (x : T) × (m : ℕ) × (object_of e k ≡ Some x) × (h.kind k x ≡ K.Waits b m)
   has_wait e b y k v (c, w, z) i j =
       let t = twin c e b y z i in
@@ -123,7 +116,7 @@ module _ {S T : Type 0} (g : Language S) (h : Language T) (W : Config S → Type
     ap is_wait (sym (sim.kinds o x' y' s)) ∙ t.2,
   )
 
-  given_name : (e : Config T) (o : ℕ) (y : T) (k n : ℕ) → Corresponds e → object_of e o ≡ Some y → h.kind o y ≡ K.New k → object_of e n ≡ None
+  given_name : (e : Config T) (o : ℕ) (y : T) (k n : ℕ) → Corresponds W R e → object_of e o ≡ Some y → h.kind o y ≡ K.New k → object_of e n ≡ None
       → (h.frames (h.given y (V.Ref n)) ≡ h.frames y) × (h.fault (h.given y (V.Ref n)) ≡ h.fault y) × (is_wait (h.kind o (h.given y (V.Ref n))) ≡ false)
   given_name e o y k n (c, w, z) i j free =
       let t = twin c e o y z i in
@@ -132,7 +125,7 @@ module _ {S T : Type 0} (g : Language S) (h : Language T) (W : Config S → Type
       same_after o t.0 (g.given t.0 (V.Ref n)) y (h.given y (V.Ref n)) t.2
       (sim.named c o t.0 y k n w (runs c o t.0 w t.1 (λ f u. let a = sym q ∙ u in cc)) f t.2 (rw (q, equals k) refl)) (law.given_name c o t.0 k n w t.1 q f)
 
-  given_back : (e : Config T) (b o m : ℕ) (u y : T) (v : Value) → Corresponds e → object_of e b ≡ Some u → h.kind b u ≡ K.Return o v → object_of e o ≡ Some y → h.kind o y ≡ K.Waits b m
+  given_back : (e : Config T) (b o m : ℕ) (u y : T) (v : Value) → Corresponds W R e → object_of e b ≡ Some u → h.kind b u ≡ K.Return o v → object_of e o ≡ Some y → h.kind o y ≡ K.Waits b m
       → (h.frames (h.given y v) ≡ h.frames y) × (h.fault (h.given y v) ≡ h.fault y) × (is_wait (h.kind o (h.given y v)) ≡ false)
   given_back e b o m u y v (c, w, z) i j i' j' =
       let s = twin c e b u z i in
@@ -148,17 +141,17 @@ module _ {S T : Type 0} (g : Language S) (h : Language T) (W : Config S → Type
       (rw (q, equals o, value_itself v) refl) (rw (q', equals b) refl))
       (law.given_back c b o m s.0 t.0 v w s.1 q t.1 q')
 
-  kept : (e f : Config T) (lab : Label) → Corresponds e → move h e lab ≡ Some f → Corresponds f
+  kept : (e f : Config T) (lab : Label) → Corresponds W R e → move h e lab ≡ Some f → Corresponds W R f
   kept e f lab (c, w, z) i = by (move g c lab) refl (subst (λ b. Both (Related R) (move g c lab) b) i (move_same g h W R sim law.kept c e w z lab))
     where
-      by : (a : Option (Config S)) → move g c lab ≡ a → Both (Related R) (move g c lab) (Some f) → Corresponds f
+      by : (a : Option (Config S)) → move g c lab ≡ a → Both (Related R) (move g c lab) (Some f) → Corresponds W R f
       by None j r = absurd (rw j at r)
       by (Some d) j r = (d, law.kept c d lab w j, rw j at r)
 
   called_by : (c : Config S) (e : Config T) (o b m : ℕ) (args : List Value) (x : S) → object_of c o ≡ Some x → (calls (g.kind o x) b m args || posts (g.kind o x) b m args) ≡ true → IsCalled g c b m args
   called_by c e o b m args x i t = inl (o, x, i, t)
 
-  pub lawful_across : Lawful h Corresponds
+  pub lawful_across : Lawful h (Corresponds W R)
   lawful_across = record {
     sorted = λ e (c, w, z). sorted c.objects e.objects z.objects (law.sorted c w);
     kept = kept;

@@ -22,6 +22,7 @@ pub mod Started
 pub mod Idle
 pub mod Meshes
 pub mod Fitting
+pub mod FlatTraffic
 pub mod InOrder
 pub mod Cycles
 pub mod Simulated
@@ -29,3 +30,4 @@ pub mod SameActs
 pub mod Across
 pub mod LawfulAcross
 pub mod SameRecords
+pub mod SameStandings

@@ -1,5 +1,5 @@
 -- Maps after one entry was put or taken out.
-use Rattle.std.proofs.Common.{◌≡◌, ◌≢◌, refl, sym, ap, subst, ◌∙◌, IsTrue, ℕ, ◌+◌, List, [], ◌∷◌, Some, None, true, false, not, ◌&&◌, cond, arith}
+use Rattle.std.proofs.Common.{◌≡◌, ◌≢◌, refl, sym, ap, subst, ◌∙◌, IsTrue, ℕ, ◌+◌, List, [], ◌∷◌, ◌++◌, Some, None, true, false, not, ◌&&◌, cond, arith}
 use Rattle.mesh_semantics.specs.Paths.{total}
 use Rattle.std.specs.Option.{unwrap_or}
 use Rattle.std.specs.Ordering.{nat_cmp, eq_by_cmp, is_lt, is_eq, ordering_then}
@@ -8,7 +8,7 @@ use Rattle.std.specs.declared.cmp.Ordering.TheVariants.{Less, Equal, Greater}
 use Rattle.std.specs.Cmp.{IsTotalOrder, nat_cmp_total, on_total, then_total, tied_itself, alike_right}
 use Rattle.std.specs.FinMap.Entries.{find, put, is_sorted, below_all, find-put, find-where_key}
 use Rattle.std.specs.FinMap.{nat_cmp-IsAntisymmetric}
-use Rattle.mesh_semantics.specs.Tables.{Pair, pair_cmp, without}
+use Rattle.mesh_semantics.specs.Tables.{Pair, pair_cmp, without, list_at, put_list, push_list}
 use Rattle.mesh_semantics.specs.Message.{Message}
 use Rattle.mesh_semantics.specs.Config.{Config, messages_of, put_messages}
 use Rattle.mesh_semantics.proofs.Tests.{first, second, both}
@@ -96,25 +96,41 @@ pair_total = then_total (on_total (λ (p : Pair). p.0) nat_cmp_total) (on_total 
 tied_pair : (p : Pair) → eq_by_cmp pair_cmp p p ≡ true
 tied_pair p = ap is_eq (tied_itself pair_total p)
 
-untied_pair : (s r s' r' : ℕ) → ((s' ≡ s) → (r' ≡ r) → ⊥) → eq_by_cmp pair_cmp (s', r') (s, r) ≡ false
-untied_pair s r s' r' n = by (nat_cmp s' s) refl
+untied_pair : (k j : Pair) → j ≢ k → eq_by_cmp pair_cmp j k ≡ false
+untied_pair k j n = by (nat_cmp j.0 k.0) refl
   where
-    by : (a : Ordering) → nat_cmp s' s ≡ a → is_eq (ordering_then (nat_cmp s' s) (nat_cmp r' r)) ≡ false
+    by : (a : Ordering) → nat_cmp j.0 k.0 ≡ a → is_eq (ordering_then (nat_cmp j.0 k.0) (nat_cmp j.1 k.1)) ≡ false
     by Less i = rw i refl
     by Greater i = rw i refl
-    by Equal i = rw i (untied r' r (n (nat_cmp-IsAntisymmetric s' s i)))
+    by Equal i = rw i (untied j.1 k.1 (λ e. n (λ t. (nat_cmp-IsAntisymmetric j.0 k.0 i t, e t))))
+
+-- a table of lists after one list was put, or a value last in one
+module _ {X : Type 0} where
+  pub put_list_same : (k : Pair) (xs : List X) (es : List (Pair × List X)) → list_at pair_cmp k (put_list pair_cmp k xs es) ≡ xs
+  put_list_same k [] es =
+      ap (λ z. unwrap_or z []) (find-where_key pair_cmp (λ x. not (eq_by_cmp pair_cmp k x)) k (λ x e. ap (λ o. not (is_eq o)) (sym (alike_right pair_total k x k e))) es
+      ∙ ap (λ b. cond (not b) (find pair_cmp k es) None) (tied_pair k))
+  put_list_same k (x ∷ xs) es =
+      ap (λ z. unwrap_or z []) (find-put pair_cmp pair_total k k (x ∷ xs) es ∙ ap (λ b. cond b (Some (x ∷ xs)) (find pair_cmp k es)) (tied_pair k))
+
+  pub put_list_other : (k : Pair) (xs : List X) (es : List (Pair × List X)) (j : Pair) → j ≢ k → list_at pair_cmp j (put_list pair_cmp k xs es) ≡ list_at pair_cmp j es
+  put_list_other k [] es j n =
+      ap (λ z. unwrap_or z []) (find-where_key pair_cmp (λ x. not (eq_by_cmp pair_cmp k x)) j (λ x e. ap (λ o. not (is_eq o)) (sym (alike_right pair_total j x k e))) es
+      ∙ ap (λ b. cond (not b) (find pair_cmp j es) None) (untied_pair j k (λ e. n (sym e))))
+  put_list_other k (x ∷ xs) es j n =
+      ap (λ z. unwrap_or z []) (find-put pair_cmp pair_total j k (x ∷ xs) es ∙ ap (λ b. cond b (Some (x ∷ xs)) (find pair_cmp j es)) (untied_pair k j n))
+
+  pub push_list_same : (k : Pair) (x : X) (es : List (Pair × List X)) → list_at pair_cmp k (push_list pair_cmp k x es) ≡ list_at pair_cmp k es ++ x ∷ []
+  push_list_same k x es =
+      ap (λ z. unwrap_or z []) (find-put pair_cmp pair_total k k (list_at pair_cmp k es ++ x ∷ []) es ∙ ap (λ b. cond b (Some (list_at pair_cmp k es ++ x ∷ [])) (find pair_cmp k es)) (tied_pair k))
+
+  pub push_list_other : (k : Pair) (x : X) (es : List (Pair × List X)) (j : Pair) → j ≢ k → list_at pair_cmp j (push_list pair_cmp k x es) ≡ list_at pair_cmp j es
+  push_list_other k x es j n =
+      ap (λ z. unwrap_or z []) (find-put pair_cmp pair_total j k (list_at pair_cmp k es ++ x ∷ []) es ∙ ap (λ b. cond b (Some (list_at pair_cmp k es ++ x ∷ [])) (find pair_cmp j es)) (untied_pair k j n))
 
 module _ {S : Type 0} (c : Config S) where
   pub messages_same : (s r : ℕ) (ms : List Message) → messages_of (put_messages c s r ms) s r ≡ ms
-  messages_same s r [] =
-      ap (λ z. unwrap_or z []) (find-where_key pair_cmp (λ x. not (eq_by_cmp pair_cmp (s, r) x)) (s, r) (λ x e. ap (λ o. not (is_eq o)) (sym (alike_right pair_total (s, r) x (s, r) e))) c.messages
-      ∙ ap (λ b. cond (not b) (find pair_cmp (s, r) c.messages) None) (tied_pair (s, r)))
-  messages_same s r (m ∷ ms) =
-      ap (λ z. unwrap_or z []) (find-put pair_cmp pair_total (s, r) (s, r) (m ∷ ms) c.messages ∙ ap (λ b. cond b (Some (m ∷ ms)) (find pair_cmp (s, r) c.messages)) (tied_pair (s, r)))
+  messages_same s r ms = put_list_same (s, r) ms c.messages
 
   pub messages_other : (s r : ℕ) (ms : List Message) (s' r' : ℕ) → ((s' ≡ s) → (r' ≡ r) → ⊥) → messages_of (put_messages c s r ms) s' r' ≡ messages_of c s' r'
-  messages_other s r [] s' r' n =
-      ap (λ z. unwrap_or z []) (find-where_key pair_cmp (λ x. not (eq_by_cmp pair_cmp (s, r) x)) (s', r') (λ x e. ap (λ o. not (is_eq o)) (sym (alike_right pair_total (s', r') x (s, r) e))) c.messages
-      ∙ ap (λ b. cond (not b) (find pair_cmp (s', r') c.messages) None) (untied_pair s' r' s r (λ i j. n (sym i) (sym j))))
-  messages_other s r (m ∷ ms) s' r' n =
-      ap (λ z. unwrap_or z []) (find-put pair_cmp pair_total (s', r') (s, r) (m ∷ ms) c.messages ∙ ap (λ b. cond b (Some (m ∷ ms)) (find pair_cmp (s', r') c.messages)) (untied_pair s r s' r' n))
+  messages_other s r ms s' r' n = put_list_other (s, r) ms c.messages (s', r') (λ e. n (ap (λ (q : Pair). q.0) e) (ap (λ (q : Pair). q.1) e))

@@ -3,27 +3,33 @@ use Rattle.std.proofs.Common.{◌≡◌, ◌≢◌, ◌⊎◌, inl, inr, refl, a
 use Rattle.std.proofs.lemmas.Nat.{div-add-mod', mod_below, mod-mul-add, div-mul-add, div_below}
 use Rattle.pool_syntax.specs.declared.words.Placement.{Placement}
 use Rattle.mesh_semantics.proofs.Tests.{equal, equals}
-use Rattle.mesh_semantics.specs.Paths.{toward, walk}
+use Rattle.mesh_semantics.specs.Paths.{toward, walk, Adjacent, AreNeighbours}
 use Rattle.mesh_semantics.specs.Ways.{Leads, In, Once, ends_of, Ways}
-
-gap : ℕ → ℕ → ℕ
-gap x y = (x - y) + (y - x)
 
 -- how many steps it is from a to b
 distance : ℕ → ℕ → ℕ → ℕ
 distance w a b = ((a % w - b % w) + (b % w - a % w)) + ((a / w - b / w) + (b / w - a / w))
 
--- a step from a goes to this column and row
-nearer : (w a b c q r : ℕ) → c ≡ q * w + r → r < w → ((r - b % w) + (b % w - r)) + ((q - b / w) + (b / w - q)) + 1 ≡ distance w a b → distance w c b + 1 ≡ distance w a b
-unfolding distance
-nearer w a b c q r e h k =
-    let column : c % w ≡ r = ap (λ n. n % w) e ∙ mod-mul-add q w r h in
-    let row : c / w ≡ q = ap (λ n. n / w) e ∙ div-mul-add q w r h in
-    rw (column, row) k
+-- c is one nearer to b than a is, and beside a
+record Step (w a b c : ℕ) : Type 0 where
+  one_nearer : distance w c b + 1 ≡ distance w a b
+  beside : AreNeighbours w a c
 
-one_nearer : (w a b : ℕ) → 0 < w → a ≢ b → distance w (toward w a b) b + 1 ≡ distance w a b
+-- what goes to this row and column
+step : (w a b c q r : ℕ) → c ≡ q * w + r → r < w → ((r - b % w) + (b % w - r)) + ((q - b / w) + (b / w - q)) + 1 ≡ distance w a b
+    → ((a / w ≡ q) × Adjacent (a % w) r) ⊎ ((a % w ≡ r) × Adjacent (a / w) q) → Step w a b c
 unfolding distance
-one_nearer w a b p n = by (a % w == b % w) (nat_lt a b) (nat_lt (a % w) (b % w)) refl refl refl
+step w a b c q r e h k j = record { one_nearer = rw (column, row) k; beside = rw (column, row) j }
+  where
+    column : c % w ≡ r
+    column = ap (λ n. n % w) e ∙ mod-mul-add q w r h
+
+    row : c / w ≡ q
+    row = ap (λ n. n / w) e ∙ div-mul-add q w r h
+
+one_step : (w a b : ℕ) → 0 < w → a ≢ b → Step w a b (toward w a b)
+unfolding distance
+one_step w a b p n = by (a % w == b % w) (nat_lt a b) (nat_lt (a % w) (b % w)) refl refl refl
   where
     at : a / w * w + a % w ≡ a
     at = div-add-mod' a w
@@ -54,28 +60,28 @@ one_nearer w a b p n = by (a % w == b % w) (nat_lt a b) (nat_lt (a % w) (b % w))
             times : (y x : ℕ) → y ≤ x → y * w ≤ x * w
             times y x k = grind (arith, k)
 
-    by : (t u v : Bool) → (a % w == b % w) ≡ t → nat_lt a b ≡ u → nat_lt (a % w) (b % w) ≡ v → distance w (toward w a b) b + 1 ≡ distance w a b
+    by : (t u v : Bool) → (a % w == b % w) ≡ t → nat_lt a b ≡ u → nat_lt (a % w) (b % w) ≡ v → Step w a b (toward w a b)
     by true true v i j k =
         let s = equal (a % w) (b % w) i in
         let rows : a / w < b / w = below (a / w) (b / w) (a % w) (let l = less a b j in omega (arith, at, bt, l, s)) in
         let c : a + w ≡ (a / w + 1) * w + a % w = omega (arith, at) in
-        rw (i, j) (nearer w a b (a + w) (a / w + 1) (a % w) c ra (omega (arith, rows, s)))
+        rw (i, j) (step w a b (a + w) (a / w + 1) (a % w) c ra (omega (arith, rows, s)) (inr (refl, inl refl)))
     by true false v i j k =
         let s = equal (a % w) (b % w) i in
         let rows : b / w < a / w = below (b / w) (a / w) (a % w) (let l = not_less a b j in let m : a ≢ b = n in omega (arith, at, bt, l, m, s)) in
         let c : a - w ≡ (a / w - 1) * w + a % w = minus (a / w) rows at in
-        rw (i, j) (nearer w a b (a - w) (a / w - 1) (a % w) c ra (omega (arith, rows, s)))
+        rw (i, j) (step w a b (a - w) (a / w - 1) (a % w) c ra (omega (arith, rows, s)) (inr (refl, inr (omega (arith, rows)))))
       where
         minus : (q : ℕ) → b / w < q → q * w + a % w ≡ a → a - w ≡ (q - 1) * w + a % w
         minus zero h e = absurd (omega (arith, h))
         minus (suc q) h e = let z : suc q - 1 ≡ q = omega arith in rw z (omega (arith, e))
     by false u true i j k =
         let l = less (a % w) (b % w) k in
-        rw (i, k) (nearer w a b (a + 1) (a / w) (a % w + 1) (omega (arith, at)) (omega (arith, l, rb)) (omega (arith, l)))
+        rw (i, k) (step w a b (a + 1) (a / w) (a % w + 1) (omega (arith, at)) (omega (arith, l, rb)) (omega (arith, l)) (inl (refl, inl refl)))
     by false u false i j k =
         let l = not_less (a % w) (b % w) k in
         let m : a % w ≢ b % w = λ e. absurd (let q : (a % w == b % w) ≡ true = rw e (equals (b % w)) in grind (arith, i, q)) in
-        rw (i, k) (nearer w a b (a - 1) (a / w) (a % w - 1) (omega (arith, at, l, m)) (omega (arith, ra)) (omega (arith, l, m)))
+        rw (i, k) (step w a b (a - 1) (a / w) (a % w - 1) (omega (arith, at, l, m)) (omega (arith, ra)) (omega (arith, l, m)) (inl (refl, inr (omega (arith, l, m)))))
 
 apart : (a b : ℕ) → (a == b) ≡ false → a ≢ b
 apart a b h e = absurd (let q : (a == b) ≡ true = rw e (equals b) in grind (arith, h, q))
@@ -86,7 +92,7 @@ module _ (w b : ℕ) (p : 0 < w) where
     where
       by : (t : Bool) → (a == b) ≡ t → a ≡ b
       by true e = equal a b e
-      by false e = absurd (let q = one_nearer w a b p (apart a b e) in omega (arith, q, h))
+      by false e = absurd (let q = (one_step w a b p (apart a b e)).one_nearer in omega (arith, q, h))
 
   comes : (n a : ℕ) → distance w a b ≤ n → Leads (toward w) b a (walk (toward w) n a b)
   comes zero a h = none_left a (omega (arith, h))
@@ -94,7 +100,7 @@ module _ (w b : ℕ) (p : 0 < w) where
     where
       by : (t : Bool) → (a == b) ≡ t → (distance w (toward w a b) b ≤ n → Leads (toward w) b (toward w a b) (walk (toward w) n (toward w a b) b)) → Leads (toward w) b a (walk (toward w) (suc n) a b)
       by true e k = rw e (equal a b e)
-      by false e k = let q = one_nearer w a b p (apart a b e) in rw e (apart a b e, refl, refl, k (omega (arith, q, h)))
+      by false e k = let q = (one_step w a b p (apart a b e)).one_nearer in rw e (apart a b e, refl, refl, k (omega (arith, q, h)))
 
   -- every later node is nearer
   later : (n a m : ℕ) → In m (ends_of (walk (toward w) n a b)) → distance w m b < distance w a b
@@ -106,8 +112,8 @@ module _ (w b : ℕ) (p : 0 < w) where
       by false e k = on (rw e at h)
         where
           on : (toward w a b ≡ m) ⊎ In m (ends_of (walk (toward w) n (toward w a b) b)) → distance w m b < distance w a b
-          on (inl s) = let q = one_nearer w a b p (apart a b e) in subst (λ z. distance w z b < distance w a b) s (omega (arith, q))
-          on (inr i) = let q = one_nearer w a b p (apart a b e) in let r = k i in omega (arith, q, r)
+          on (inl s) = let q = (one_step w a b p (apart a b e)).one_nearer in subst (λ z. distance w z b < distance w a b) s (omega (arith, q))
+          on (inr i) = let q = (one_step w a b p (apart a b e)).one_nearer in let r = k i in omega (arith, q, r)
 
   once : (n a : ℕ) → Once (a ∷ ends_of (walk (toward w) n a b))
   once zero a = (λ h. h, tt)
@@ -186,5 +192,5 @@ pub ways : (l : Placement) → 0 < l.width → Ways l
 ways l p = record {
   leads = λ a b i j. comes l.width b p (l.width * l.height) a (near l.width l.height a b p i j);
   once = λ a b i j. once l.width b p (l.width * l.height) a;
-  inside = λ a b i j n. step_inside l.width l.height a b p i j n;
+  link = λ a b i j n. record { from = i; to = step_inside l.width l.height a b p i j n; beside = (one_step l.width a b p n).beside };
 }

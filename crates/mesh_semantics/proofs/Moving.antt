@@ -13,9 +13,9 @@ use Rattle.mesh_semantics.specs.Language.{Language}
 use Rattle.mesh_semantics.specs.Config.{Config, object_of}
 use Rattle.mesh_semantics.specs.Paths.{next, path, is_link, on_link, move_head}
 use Rattle.mesh_semantics.specs.Delay as D
-use Rattle.mesh_semantics.specs.Delay.{Packet, Arrival, Holding, Delay, node_of, post, arrive, held, hold, free, cells_at}
+use Rattle.mesh_semantics.specs.Delay.{Packet, Arrival, Holding, Delay, node_of, post, arrive, held, hold, free, cell_count}
 use Rattle.mesh_semantics.specs.Act.{id, Acts, first_of, next_name, goal_node, received, passed, link_move}
-use Rattle.mesh_semantics.specs.Sound.{Each, Entry, Sent, Called, entries, owns, call_by, Owns, OwnedAt, letter, letters, notes, CallsLast, sender_of, OnPath, Has, IsThere, IsPlaced, Consistent, IsWithin, Sound}
+use Rattle.mesh_semantics.specs.Sound.{Each, Entry, Sent, Called, entries, owns, call_by, Owns, OwnedAt, letter, letters, notes, CallsLast, sender_of, OnPath, Has, IsThere, IsPlaced, Consistent, IsWithin, IsSound}
 use Rattle.mesh_semantics.specs.Fit.{Fit}
 use Rattle.mesh_semantics.specs.Lawful.{Lawful}
 use Rattle.mesh_semantics.specs.Kept.{After}
@@ -31,7 +31,7 @@ use Rattle.mesh_semantics.proofs.Meetings.{few, made, made_beside}
 use Rattle.mesh_semantics.proofs.Sends.{holds}
 
 module _ {S : Type 0} (g : Language S) (W : Config S → Type 0) (law : Lawful g W) (l : Placement) (fit : Fit l) where
-  module _ (c : Config S) (d : Delay) (s : Sound g W l c d) (a b : ℕ) (x : Packet) (head : first_of (on_link d.links (a, b)) ≡ Some x) where
+  module _ (c : Config S) (d : Delay) (s : IsSound g W l c d) (a b : ℕ) (x : Packet) (head : first_of (on_link d.links (a, b)) ≡ Some x) where
     is : IsPlaced l c ((a, b), x)
     is = each_head (IsPlaced l c) (a, b) d.links x head s.state.packets
 
@@ -41,11 +41,11 @@ module _ {S : Type 0} (g : Language S) (W : Config S → Type 0) (law : Lawful g
     inside : (q : ℕ) → IsThere c q → node_of q < l.width * l.height
     inside q t = (s.state.names q t).0
 
-    cells_moved : (m : ℕ) → cells_at (moved (a, b) d) m ≤ cells_at d m
+    cells_moved : (m : ℕ) → cell_count (moved (a, b) d) m ≤ cell_count d m
     cells_moved m = let r = total_less (λ e. if e.0.0 == m then 1 else 0) (λ e. is_link a b e.0) d.links in omega (arith, r)
 
     -- the limits of the other nodes, where no cell of theirs is taken
-    beside : (e : Delay) (m : ℕ) → cells_at e m ≡ cells_at (moved (a, b) d) m → IsWithin g l c e m
+    beside : (e : Delay) (m : ℕ) → cell_count e m ≡ cell_count (moved (a, b) d) m → IsWithin g l c e m
     beside e m h = let r = s.limits m in let z = cells_moved m in (r.0, r.1, (let t = r.2 in omega (arith, h, z, t)))
 
     -- the packet is all that its owner has
@@ -99,7 +99,7 @@ module _ {S : Type 0} (g : Language S) (W : Config S → Type 0) (law : Lawful g
         names = s.state.names;
         owned = λ q. owned q (owns q x) refl;
         packets = each_append (IsPlaced l c) (move_head (a, b) d.links) ((b, next l b (goal_node x)), x) packets_left
-            (record { sender = is.sender; goal = is.goal; link = (is.link.1, fit.ways.inside b (goal_node x) is.link.1 is.goal n); way = (n, refl); on_path = next_on n is.on_path });
+            (record { sender = is.sender; goal = is.goal; link = (fit.ways.link b (goal_node x) is.link.to is.goal n); way = (n, refl); on_path = next_on n is.on_path });
         arrivals = s.state.arrivals;
         lists = λ p q. s.state.lists p q ∙ sym (ap notes (same p q));
         order = λ p q. subst CallsLast (sym (same p q)) (s.state.order p q);
@@ -134,7 +134,7 @@ module _ {S : Type 0} (g : Language S) (W : Config S → Type 0) (law : Lawful g
         )
 
   -- a packet at its goal
-  module _ (c : Config S) (d : Delay) (s : Sound g W l c d) (a b : ℕ) where
+  module _ (c : Config S) (d : Delay) (s : IsSound g W l c d) (a b : ℕ) where
     pub created_kept : (o name : ℕ) → first_of (on_link d.links (a, b)) ≡ Some (D.Created o name) → Nearly g W law l fit.ways b c (received g l c (moved (a, b) d) b (D.Created o name))
     created_kept o name h = let r = freed c d s a b (D.Created o name) h o (equals o) (λ q i. differ o q (λ e. i (sym e))) (λ p q. refl) in (refl, r.0, r.1)
 
@@ -248,7 +248,7 @@ module _ {S : Type 0} (g : Language S) (W : Config S → Type 0) (law : Lawful g
             let new : Packet = D.Created o (next_name c b) in
             let gv = law.given_name c o placed.sender.0 k (next_name c b) s.state.typed placed.sender.1 kind (next_free g l c d b (shape_of g l W c d s.state) (few g W law l fit c d b s)) in
             let p = posts_silent l fit.ways c (moved (a, b) d) (packets_left c d s a b (D.Create o b k) h) s.state.arrivals (λ p q. subst CallsLast (sym (silent p q)) (s.state.order p q)) b o entry.1 placed.sender new (equals o)
-            (λ q j. differ o q (λ e. j (sym e))) (record { sender = placed.sender; goal = (s.state.names o placed.sender).0; link = (inside, fit.ways.inside b (node_of o) inside (s.state.names o placed.sender).0 far); way = (far, refl); on_path = tt }) (λ p q. refl) in
+            (λ q j. differ o q (λ e. j (sym e))) (record { sender = placed.sender; goal = (s.state.names o placed.sender).0; link = (fit.ways.link b (node_of o) inside (s.state.names o placed.sender).0 far); way = (far, refl); on_path = tt }) (λ p q. refl) in
             let e : Delay = hold o (D.Due v) (post l b (node_of o) new (moved (a, b) d)) in
             let h1 = holds g W law l fit c (moved (a, b) d) (post l b (node_of o) new (moved (a, b) d)) b o (Sent new) (D.Due v) p in
             let shifts : Shifts g l c d e o = record {
@@ -287,7 +287,7 @@ module _ {S : Type 0} (g : Language S) (W : Config S → Type 0) (law : Lawful g
             elim u.1 as (λ u. ⊥) [ inl e ↦ cc | inr e ↦ let z = e.2 in cc ])
 
   -- a move of a link's head
-  pub link_kept : (c : Config S) (d : Delay) (a b : ℕ) → Sound g W l c d → After g W l c (link_move g l c d a b (first_of (on_link d.links (a, b))))
+  pub link_kept : (c : Config S) (d : Delay) (a b : ℕ) → IsSound g W l c d → After g W l c (link_move g l c d a b (first_of (on_link d.links (a, b))))
   link_kept c d a b s = by (first_of (on_link d.links (a, b))) refl
     where
       by : (f : Option Packet) → first_of (on_link d.links (a, b)) ≡ f → After g W l c (link_move g l c d a b f)

@@ -7,7 +7,7 @@ use Rattle.mesh_semantics.proofs.Tests.{equals, differ}
 use Rattle.mesh_semantics.specs.Config.{Config}
 use Rattle.mesh_semantics.specs.Paths.{next, path, total, under, on_link, along}
 use Rattle.mesh_semantics.specs.Delay as D
-use Rattle.mesh_semantics.specs.Delay.{Packet, Arrival, Holding, Delay, node_of, post, arrived_at, arrive, cells_at}
+use Rattle.mesh_semantics.specs.Delay.{Packet, Arrival, Holding, Delay, node_of, post, arrived_at, arrive, cell_count}
 use Rattle.mesh_semantics.specs.Act.{goal_node}
 use Rattle.mesh_semantics.specs.Sound.{Each, Entry, Sent, Called, owns, sent_of, called_of, entries, call_by, Letter, letters_in, letter_if, letter, letters, notes, CallsLast, Has, IsThere, IsPlaced}
 use Rattle.mesh_semantics.specs.Ways.{Ways}
@@ -107,13 +107,13 @@ pub total_append : {E : Type 0} (f : E → ℕ) (xs : List E) (y : E) → total 
 total_append f [] y = omega arith
 total_append f (x ∷ xs) y = ap (λ n. f x + n) (total_append f xs y) ∙ (omega arith)
 
-pub cells_post : (l : Placement) (from goal : ℕ) (x : Packet) (d : Delay) (m : ℕ) → m ≢ from → cells_at (post l from goal x d) m ≡ cells_at d m
+pub cells_post : (l : Placement) (from goal : ℕ) (x : Packet) (d : Delay) (m : ℕ) → m ≢ from → cell_count (post l from goal x d) m ≡ cell_count d m
 cells_post l from goal x d m n =
     let i = total_append (λ e. if e.0.0 == m then 1 else 0) d.links ((from, next l from goal), x) in
     let z : (if from == m then 1 else 0) ≡ 0 = rw (differ from m (λ e. n (sym e))) refl in
     ap (λ k. total (λ e. if node_of e.0 == m then 1 else 0) d.arrived + k) (i ∙ ap (λ k. total (λ e. if e.0.0 == m then 1 else 0) d.links + k) z ∙ (omega arith))
 
-pub cells_arrive : (o : ℕ) (a : Arrival) (d : Delay) (m : ℕ) → m ≢ node_of o → cells_at (arrive o a d) m ≡ cells_at d m
+pub cells_arrive : (o : ℕ) (a : Arrival) (d : Delay) (m : ℕ) → m ≢ node_of o → cell_count (arrive o a d) m ≡ cell_count d m
 cells_arrive o a d m n =
     let i = total_append (λ e. if node_of e.0 == m then 1 else 0) d.arrived (o, a) in
     let z : (if node_of o == m then 1 else 0) ≡ 0 = rw (differ (node_of o) m (λ e. n (sym e))) refl in
@@ -128,7 +128,7 @@ pub record Posts {S : Type 0} (l : Placement) (c : Config S) (d e : Delay) (n o 
   pub arrivals : Each (λ a. IsThere c a.1.sender) e.arrived
   pub lists : (s r : ℕ) → notes (letters l e s r) ≡ notes (letters l d s r)
   pub order : (s r : ℕ) → CallsLast (letters l e s r)
-  pub cells : (m : ℕ) → m ≢ n → cells_at e m ≡ cells_at d m
+  pub cells : (m : ℕ) → m ≢ n → cell_count e m ≡ cell_count d m
 
 module _ {S : Type 0} (l : Placement) (w : Ways l) (c : Config S) (d : Delay) (packets : Each (IsPlaced l c) d.links) (arrivals : Each (λ a. IsThere c a.1.sender) d.arrived)
     (order : (s r : ℕ) → CallsLast (letters l d s r)) (n o : ℕ) (own : entries d o ≡ []) (there : IsThere c o) where
@@ -164,7 +164,7 @@ module _ {S : Type 0} (l : Placement) (w : Ways l) (c : Config S) (d : Delay) (p
   pub posts_request : (b m : ℕ) (args : List Value) → n ≡ node_of o → n < l.width * l.height → node_of b < l.width * l.height → n ≢ node_of b
       → Posts l c d (post l n (node_of b) (D.Request o b m args) d) n o (Sent (D.Request o b m args))
   posts_request b m args at p q far = whole (D.Request o b m args) (equals o) (λ z k. differ o z (λ e. k (sym e)))
-      (record { sender = there; goal = q; link = (p, w.inside n (node_of b) p q far); way = (far, refl); on_path = on })
+      (record { sender = there; goal = q; link = (w.link n (node_of b) p q far); way = (far, refl); on_path = on })
       (λ s r. letters_post l w d s r n (D.Request o b m args) p q far (λ e. at ∙ ap node_of (sym e)))
       (λ s r. call_quiet (o == s && b == r) m args)
     where

@@ -21,8 +21,8 @@ use Rattle.mesh_semantics.specs.Config.{Config}
 use Rattle.mesh_semantics.specs.Moves.{move}
 use Rattle.mesh_semantics.specs.Paths.{total, on_link, move_head}
 use Rattle.mesh_semantics.specs.Delay as D
-use Rattle.mesh_semantics.specs.Delay.{Packet, Arrival, Delay, node_of, post, arrived_at, take_arrival, held, hold, free, count_made, stepped_last, cells_at}
-use Rattle.mesh_semantics.specs.Act.{id, objects_at, frames_at, is_possible, can_step, is_ready, ready_at, first_of, first_arrival, or_else, is_above, turn_of, Acted, Acts, Full, Nothing, within, shows, labelled, within_frames, local_steps, greatest, step_count, local_turn, class_place, goal_by, goal_of, next_name, create_turn, sent, accept_turn, chosen_turn, choice_turn, object_turn, node_turn, received, goal_node, passed, link_move, act, is_quiet}
+use Rattle.mesh_semantics.specs.Delay.{Packet, Arrival, Delay, node_of, post, arrived_at, take_arrival, held, hold, free, count_made, stepped_last, cell_count}
+use Rattle.mesh_semantics.specs.Act.{id, object_count, frame_count, is_possible, can_step, is_ready, ready_at, first_of, first_arrival, or_else, is_above, turn_of, Acted, Acts, Full, Nothing, within, shows, labelled, within_frames, local_steps, greatest, step_count, local_turn, class_place, goal_by, goal_of, next_name, create_turn, sent, accept_turn, chosen_turn, choice_turn, object_turn, node_turn, received, goal_node, passed, link_move, act, is_quiet}
 use Rattle.pool_syntax.specs.declared.words.Line.TheVariants as R'
 use Rattle.pool_syntax.specs.declared.words.End.TheVariants as E'
 use Rattle.mesh_semantics.specs.Record.{after, record_from}
@@ -38,10 +38,10 @@ module _ {S T : Type 0} (g : Language S) (h : Language T) (W : Config S → Type
   totals p q k (e ∷ es) [] z = absurd z
   totals p q k (e ∷ es) (f ∷ fs) z = ap₂ ◌+◌ (k e.0 e.1 f.1 z.1 ∙ ap (λ n. q (n, f.1)) z.0) (totals p q k es fs z.2)
 
-  pub objects_same : (c : Config S) (e : Config T) (n : ℕ) → Related R c e → objects_at c n ≡ objects_at e n
+  pub objects_same : (c : Config S) (e : Config T) (n : ℕ) → Related R c e → object_count c n ≡ object_count e n
   objects_same c e n z = totals (λ e. if node_of e.0 == n then 1 else 0) (λ e. if node_of e.0 == n then 1 else 0) (λ o x y r. refl) c.objects e.objects z.objects
 
-  pub frames_same : (c : Config S) (e : Config T) (n : ℕ) → Related R c e → frames_at g c n ≡ frames_at h e n
+  pub frames_same : (c : Config S) (e : Config T) (n : ℕ) → Related R c e → frame_count g c n ≡ frame_count h e n
   frames_same c e n z = totals (λ e. if node_of e.0 == n then 1 + g.frames e.1 else 0) (λ e. if node_of e.0 == n then 1 + h.frames e.1 else 0)
       (λ o x y r. ap (λ k. if node_of o == n then 1 + k else 0) (sim.frames o x y r)) c.objects e.objects z.objects
 
@@ -92,7 +92,7 @@ module _ {S T : Type 0} (g : Language S) (h : Language T) (W : Config S → Type
   shown_same lab k d (Some c) (Some e) r = (refl, r, refl)
 
   within_same : (l : Placement) (n : ℕ) (a : Acted S) (b : Acted T) → SameAct R a b → SameAct R (within g l n a) (within h l n b)
-  within_same l n (Acts w c d) (Acts v e f) (i, z, j) = rw (objects_same c e n z, frames_same c e n z, j) (by (nat_lt l.objects (objects_at e n)) (nat_lt l.frames (frames_at h e n)) (nat_lt l.cells (cells_at f n)))
+  within_same l n (Acts w c d) (Acts v e f) (i, z, j) = rw (objects_same c e n z, frames_same c e n z, j) (by (nat_lt l.objects (object_count e n)) (nat_lt l.frames (frame_count h e n)) (nat_lt l.cells (cell_count f n)))
     where
       by : (t u s : Bool) → SameAct R (if t then Full F.Heap n else (if u then Full F.Frames n else (if s then Full F.Cells n else Acts w c f))) (if t then Full F.Heap n else (if u then Full F.Frames n else (if s then Full F.Cells n else Acts v e f)))
       by true u s = (refl, refl)
@@ -122,9 +122,9 @@ module _ {S T : Type 0} (g : Language S) (h : Language T) (W : Config S → Type
       step c' e' w' z' None None i r = Ended refl refl
       step c' e' w' z' None (Some e2) i r = absurd r
       step c' e' w' z' (Some c2) None i r = absurd r
-      step c' e' w' z' (Some c2) (Some e2) i r = at (nat_le (frames_at h e2 n) l.frames) refl
+      step c' e' w' z' (Some c2) (Some e2) i r = at (nat_le (frame_count h e2 n) l.frames) refl
         where
-          at : (t : Bool) → nat_le (frames_at h e2 n) l.frames ≡ t → Locals (within_frames g l n c2) (within_frames h l n e2)
+          at : (t : Bool) → nat_le (frame_count h e2 n) l.frames ≡ t → Locals (within_frames g l n c2) (within_frames h l n e2)
           at true j = let f = frames_same c2 e2 n r in At c2 e2 (rw (f, j) refl) (rw j refl) (kept c' c2 (L.Local o) w' i) r
           at false j = let f = frames_same c2 e2 n r in Ended (rw (f, j) refl) (rw j refl)
 

@@ -15,9 +15,9 @@ use Rattle.mesh_semantics.specs.Config.{Config, object_of, put_object, messages_
 use Rattle.mesh_semantics.specs.Moves.{move}
 use Rattle.mesh_semantics.specs.Paths.{next, path}
 use Rattle.mesh_semantics.specs.Delay as D
-use Rattle.mesh_semantics.specs.Delay.{Packet, Arrival, Holding, Delay, node_of, slot_of, post, arrive, is_for, take_arrival, arrived_at, held, hold, free, cells_at}
+use Rattle.mesh_semantics.specs.Delay.{Packet, Arrival, Holding, Delay, node_of, slot_of, post, arrive, is_for, take_arrival, arrived_at, held, hold, free, cell_count}
 use Rattle.mesh_semantics.specs.Act.{id, labelled, send_turn, return_turn}
-use Rattle.mesh_semantics.specs.Sound.{Each, Entry, Sent, entries, is_wait, Owns, OwnedAt, letter_if, letters, notes, CallsLast, Has, IsThere, IsPlaced, Consistent, IsWithin, Sound}
+use Rattle.mesh_semantics.specs.Sound.{Each, Entry, Sent, entries, is_wait, Owns, OwnedAt, letter_if, letters, notes, CallsLast, Has, IsThere, IsPlaced, Consistent, IsWithin, IsSound}
 use Rattle.mesh_semantics.specs.Fit.{Fit}
 use Rattle.mesh_semantics.specs.Lawful.{Lawful}
 use Rattle.mesh_semantics.proofs.Maps.{find_put_same, find_put_other, find_without_same, find_without_other, messages_same, messages_other}
@@ -37,7 +37,7 @@ module _ {S : Type 0} (g : Language S) (W : Config S → Type 0) (law : Lawful g
     packets : Each (IsPlaced l c) e.links
     arrivals : Each (λ a. IsThere c a.1.sender) e.arrived
     letters : (s r : ℕ) → letters l e s r ≡ letters l d s r ++ letter_if (o == s && b == r) false m args
-    cells : (z : ℕ) → z ≢ n → cells_at e z ≡ cells_at d z
+    cells : (z : ℕ) → z ≢ n → cell_count e z ≡ cell_count d z
 
   -- the list of the pair has one message more, and every other list is as it was
   note_sent : (c : Config S) (o b m : ℕ) (args : List Value) (s r : ℕ) (t : Bool) → (o == s && b == r) ≡ t
@@ -53,7 +53,7 @@ module _ {S : Type 0} (g : Language S) (W : Config S → Type 0) (law : Lawful g
       let k : (o == s && b == r) ≡ true = both (o == s) (b == r) (rw i (equals o)) (rw j (equals b)) in grind (arith, e, k)))
       ∙ sym (append-nil (messages_of c s r))
 
-  mailed : (c : Config S) (d e : Delay) (n o : ℕ) (x : S) (b m : ℕ) (args : List Value) → Sound g W l c d → Acting g W law l fit.ways c d n o x → g.kind o x ≡ K.Async b m args
+  mailed : (c : Config S) (d e : Delay) (n o : ℕ) (x : S) (b m : ℕ) (args : List Value) → IsSound g W l c d → Acting g W law l fit.ways c d n o x → g.kind o x ≡ K.Async b m args
       → Mails c d e n o b m args → Nearly g W law l fit.ways n c (labelled g c (L.Send o b (id m) args) e)
   mailed c d e n o x b m args s a is h =
       let can = law.can_send c o x b m args s.state.typed a.found is in
@@ -89,7 +89,7 @@ module _ {S : Type 0} (g : Language S) (W : Config S → Type 0) (law : Lawful g
       ordered r q false i = subst CallsLast (sym (append-nil (letters l d r q))) (s.state.order r q)
 
   -- a turn that sends a message, here or by a packet
-  pub send_kept : (c : Config S) (d : Delay) (n o : ℕ) (x : S) (b m : ℕ) (args : List Value) → Sound g W l c d → Acting g W law l fit.ways c d n o x → g.kind o x ≡ K.Async b m args
+  pub send_kept : (c : Config S) (d : Delay) (n o : ℕ) (x : S) (b m : ℕ) (args : List Value) → IsSound g W l c d → Acting g W law l fit.ways c d n o x → g.kind o x ≡ K.Async b m args
       → Nearly g W law l fit.ways n c (send_turn g l c d n o b m args)
   send_kept c d n o x b m args s a is = by (node_of b == n) refl
     where
@@ -123,7 +123,7 @@ module _ {S : Type 0} (g : Language S) (W : Config S → Type 0) (law : Lawful g
           rw i (mailed c d (post l n (node_of b) z d) n o x b m args s a is (record {
             holding = refl;
             same = λ q. post_other l d n (node_of b) z q refl;
-            packets = each_append (IsPlaced l c) d.links ((n, next l n (node_of b)), z) s.state.packets (record { sender = (x, a.found); goal = inside; link = (here, fit.ways.inside n (node_of b) here inside far); way = (far, refl); on_path = on far });
+            packets = each_append (IsPlaced l c) d.links ((n, next l n (node_of b)), z) s.state.packets (record { sender = (x, a.found); goal = inside; link = (fit.ways.link n (node_of b) here inside far); way = (far, refl); on_path = on far });
             arrivals = s.state.arrivals;
             letters = λ r q. letters_post l fit.ways d r q n z here inside far (λ f. sym a.at ∙ ap node_of (sym f));
             cells = λ k j. cells_post l n (node_of b) z d k j;
@@ -159,7 +159,7 @@ module _ {S : Type 0} (g : Language S) (W : Config S → Type 0) (law : Lawful g
       by (Some e) i = absurd (n e (law.fault_kind c k z e s f i))
 
   -- a turn that gives a value back, here or by a packet
-  pub return_kept : (c : Config S) (d : Delay) (n o : ℕ) (x : S) (k : ℕ) (v : Value) → Sound g W l c d → Acting g W law l fit.ways c d n o x → g.kind o x ≡ K.Return k v
+  pub return_kept : (c : Config S) (d : Delay) (n o : ℕ) (x : S) (k : ℕ) (v : Value) → IsSound g W l c d → Acting g W law l fit.ways c d n o x → g.kind o x ≡ K.Return k v
       → Nearly g W law l fit.ways n c (return_turn g l c d n o k v)
   return_kept c d n o x k v s a is = by (law.has_wait c o x k v s.state.typed a.found is)
     where
@@ -202,14 +202,14 @@ module _ {S : Type 0} (g : Language S) (W : Config S → Type 0) (law : Lawful g
           given : (g.frames (g.given z v) ≡ g.frames z) × (g.fault (g.given z v) ≡ g.fault z) × (is_wait (g.kind k (g.given z v)) ≡ false)
           given = law.given_back c o k m x z v s.state.typed a.found is f wait
 
-          beside : (e : Delay) → ((i : ℕ) → i ≢ n → cells_at e i ≡ cells_at d i) → (i : ℕ) → i ≢ n → IsWithin g l (put_object (put_object c o (g.returned x)) k (g.given z v)) e i
+          beside : (e : Delay) → ((i : ℕ) → i ≢ n → cell_count e i ≡ cell_count d i) → (i : ℕ) → i ≢ n → IsWithin g l (put_object (put_object c o (g.returned x)) k (g.given z v)) e i
           beside e cells i j = (
             subst (λ q. q ≤ l.objects) (sym (count_put g (put_object c o (g.returned x)) k z (g.given z v) i (sorted_put c o (g.returned x) sorted) still ∙ count_put g c o x (g.returned x) i sorted a.found)) (s.limits i).0,
             subst (λ q. q ≤ l.frames) (sym (frames_put g (put_object c o (g.returned x)) k z (g.given z v) i (sorted_put c o (g.returned x) sorted) still given.0 ∙ frames_elsewhere g c o x (g.returned x) i sorted a.found (λ q. j (q ∙ a.at)))) (s.limits i).1,
             subst (λ q. q ≤ l.cells) (sym (cells i j)) (s.limits i).2,
           )
 
-          finish : (e : Delay) → Shifts g l (put_object c o (g.returned x)) d e k → OwnedAt g k (Some (g.given z v)) (held e k) (entries e k) → ((i : ℕ) → i ≢ n → cells_at e i ≡ cells_at d i)
+          finish : (e : Delay) → Shifts g l (put_object c o (g.returned x)) d e k → OwnedAt g k (Some (g.given z v)) (held e k) (entries e k) → ((i : ℕ) → i ≢ n → cell_count e i ≡ cell_count d i)
               → Nearly g W law l fit.ways n c (labelled g c (L.Return o k v) e)
           finish e h own cells = one_label g W law l fit.ways n c (L.Return o k v) (put_object (put_object c o (g.returned x)) k (g.given z v)) e go
               (of_shape g l W (put_object (put_object c o (g.returned x)) k (g.given z v)) e
@@ -231,7 +231,7 @@ module _ {S : Type 0} (g : Language S) (W : Config S → Type 0) (law : Lawful g
               let there : IsThere (put_object c o (g.returned x)) k = (z, still) in
               let here : n < l.width * l.height = subst (λ m. m < l.width * l.height) a.at (s.state.names o (x, a.found)).0 in
               let p = posts_silent l fit.ways (put_object c o (g.returned x)) d shape.packets shape.arrivals shape.order n k none there (D.Result k v) (equals k)
-              (λ q j. differ k q (λ u. j (sym u))) (record { sender = there; goal = (s.state.names k (z, f)).0; link = (here, fit.ways.inside n (node_of k) here (s.state.names k (z, f)).0 far); way = (far, refl); on_path = tt }) (λ p q. refl) in
+              (λ q j. differ k q (λ u. j (sym u))) (record { sender = there; goal = (s.state.names k (z, f)).0; link = (fit.ways.link n (node_of k) here (s.state.names k (z, f)).0 far); way = (far, refl); on_path = tt }) (λ p q. refl) in
               rw i (finish (hold k (D.Due v) (post l n (node_of k) (D.Result k v) d))
               (holds (put_object c o (g.returned x)) d (post l n (node_of k) (D.Result k v) d) n k (Sent (D.Result k v)) (D.Due v) p)
               (rw (find_put_same k (D.Due v) d.holding, p.own) ((given.2, inl refl), λ e j. absurd (let q = sym (given.1 ∙ sane) ∙ j in cc)))

@@ -10,7 +10,7 @@ use Rattle.mesh_semantics.proofs.Tests.{T_true, true_T}
 use Rattle.mesh_semantics.specs.Language.{Language}
 use Rattle.mesh_semantics.specs.Config.{Config, object_of, put_object}
 use Rattle.mesh_semantics.specs.Delay.{Delay, node_of, slot_of, held}
-use Rattle.mesh_semantics.specs.Act.{objects_at, frames_at, next_name}
+use Rattle.mesh_semantics.specs.Act.{object_count, frame_count, next_name}
 use Rattle.mesh_semantics.specs.Sound.{Each, entries, OwnedAt, letters, notes, CallsLast, IsThere, IsPlaced, Consistent}
 use Rattle.mesh_semantics.proofs.Maps.{find_put_same, find_put_other, total_put_new}
 use Rattle.mesh_semantics.proofs.Basics.{there_put, placed_grow, arrivals_grow, names_put}
@@ -82,20 +82,20 @@ module _ {S : Type 0} (g : Language S) (l : Placement) where
   pub slot_next : (n k : ℕ) → k < 65536 → slot_of (n * 65536 + k) ≡ k
   slot_next n k h = omega arith
 
-  pub next_free : (c : Config S) (d : Delay) (n : ℕ) → Consistent g Any l c d → objects_at c n < 65536 → object_of c (next_name c n) ≡ None
+  pub next_free : (c : Config S) (d : Delay) (n : ℕ) → Consistent g Any l c d → object_count c n < 65536 → object_of c (next_name c n) ≡ None
   next_free c d n s h = by (object_of c (next_name c n)) refl
     where
       by : (z : Option S) → object_of c (next_name c n) ≡ z → z ≡ None
       by None e = refl
       by (Some x) e = absurd (
           let r = s.names (next_name c n) (x, e) in
-          let i : slot_of (next_name c n) ≡ objects_at c n = slot_next n (objects_at c n) h in
-          let j : node_of (next_name c n) ≡ n = node_next n (objects_at c n) h in
-          let k : slot_of (next_name c n) < objects_at c n = subst (λ m. slot_of (next_name c n) < objects_at c m) j r.1 in
+          let i : slot_of (next_name c n) ≡ object_count c n = slot_next n (object_count c n) h in
+          let j : node_of (next_name c n) ≡ n = node_next n (object_count c n) h in
+          let k : slot_of (next_name c n) < object_count c n = subst (λ m. slot_of (next_name c n) < object_count c m) j r.1 in
           omega (arith, i, k))
 
   -- a new object at the next name of a node
-  pub add : (c : Config S) (d : Delay) (n : ℕ) (y : S) → Consistent g Any l c d → objects_at c n < 65536 → n < l.width * l.height
+  pub add : (c : Config S) (d : Delay) (n : ℕ) (y : S) → Consistent g Any l c d → object_count c n < 65536 → n < l.width * l.height
       → Consistent g Any l (put_object c (next_name c n) y) d
   add c d n y s h inside = record {
     typed = tt;
@@ -113,19 +113,19 @@ module _ {S : Type 0} (g : Language S) (l : Placement) where
       free : object_of c (next_name c n) ≡ None
       free = next_free c d n s h
 
-      counted : (m : ℕ) → objects_at (put_object c (next_name c n) y) m ≡ (if node_of (next_name c n) == m then 1 else 0) + objects_at c m
+      counted : (m : ℕ) → object_count (put_object c (next_name c n) y) m ≡ (if node_of (next_name c n) == m then 1 else 0) + object_count c m
       counted m = total_put_new (λ e. if node_of e.0 == m then 1 else 0) (next_name c n) y c.objects free
 
-      grown : (m : ℕ) → objects_at c m ≤ objects_at (put_object c (next_name c n) y) m
+      grown : (m : ℕ) → object_count c m ≤ object_count (put_object c (next_name c n) y) m
       grown m = let i = counted m in omega (arith, i)
 
       name : (q : ℕ) → IsThere (put_object c (next_name c n) y) q → (q ≡ next_name c n) ⊎ (q ≢ next_name c n)
-          → (node_of q < l.width * l.height) × (slot_of q < objects_at (put_object c (next_name c n) y) (node_of q))
+          → (node_of q < l.width * l.height) × (slot_of q < object_count (put_object c (next_name c n) y) (node_of q))
       name q t (inl e) =
-          let at : node_of q ≡ n = ap node_of e ∙ node_next n (objects_at c n) h in
-          let slot : slot_of q ≡ objects_at c n = ap slot_of e ∙ slot_next n (objects_at c n) h in
-          let one : objects_at (put_object c (next_name c n) y) n ≡ 1 + objects_at c n = counted n ∙ ap (λ b. (if b then 1 else 0) + objects_at c n) (ap (λ m. m == n) (node_next n (objects_at c n) h) ∙ equals n) in
-          (subst (λ m. m < l.width * l.height) (sym at) inside, subst (λ m. slot_of q < objects_at (put_object c (next_name c n) y) m) (sym at) (omega (arith, slot, one)))
+          let at : node_of q ≡ n = ap node_of e ∙ node_next n (object_count c n) h in
+          let slot : slot_of q ≡ object_count c n = ap slot_of e ∙ slot_next n (object_count c n) h in
+          let one : object_count (put_object c (next_name c n) y) n ≡ 1 + object_count c n = counted n ∙ ap (λ b. (if b then 1 else 0) + object_count c n) (ap (λ m. m == n) (node_next n (object_count c n) h) ∙ equals n) in
+          (subst (λ m. m < l.width * l.height) (sym at) inside, subst (λ m. slot_of q < object_count (put_object c (next_name c n) y) m) (sym at) (omega (arith, slot, one)))
       name q t (inr e) =
           let r = s.names q (t.0, sym (find_put_other q (next_name c n) y c.objects e) ∙ t.1) in
           let m = grown (node_of q) in (r.0, omega (arith, r.1, m))
@@ -139,10 +139,10 @@ module _ {S : Type 0} (g : Language S) (l : Placement) where
       at q (inr i) = rw (find_put_other q (next_name c n) y c.objects i) (s.owned q)
 
   -- and the counts of the other nodes
-  pub counts_beside : (c : Config S) (n : ℕ) (y : S) (m : ℕ) → objects_at c n < 65536 → object_of c (next_name c n) ≡ None → m ≢ n
-      → (objects_at (put_object c (next_name c n) y) m ≡ objects_at c m) × (frames_at g (put_object c (next_name c n) y) m ≡ frames_at g c m)
+  pub counts_beside : (c : Config S) (n : ℕ) (y : S) (m : ℕ) → object_count c n < 65536 → object_of c (next_name c n) ≡ None → m ≢ n
+      → (object_count (put_object c (next_name c n) y) m ≡ object_count c m) × (frame_count g (put_object c (next_name c n) y) m ≡ frame_count g c m)
   counts_beside c n y m h f i =
-      let z : (node_of (next_name c n) == m) ≡ false = differ (node_of (next_name c n)) m (λ e. i (sym e ∙ node_next n (objects_at c n) h)) in (
-        total_put_new (λ e. if node_of e.0 == m then 1 else 0) (next_name c n) y c.objects f ∙ ap (λ b. (if b then 1 else 0) + objects_at c m) z ∙ (omega arith),
-        total_put_new (λ e. if node_of e.0 == m then 1 + g.frames e.1 else 0) (next_name c n) y c.objects f ∙ ap (λ b. (if b then 1 + g.frames y else 0) + frames_at g c m) z ∙ (omega arith),
+      let z : (node_of (next_name c n) == m) ≡ false = differ (node_of (next_name c n)) m (λ e. i (sym e ∙ node_next n (object_count c n) h)) in (
+        total_put_new (λ e. if node_of e.0 == m then 1 else 0) (next_name c n) y c.objects f ∙ ap (λ b. (if b then 1 else 0) + object_count c m) z ∙ (omega arith),
+        total_put_new (λ e. if node_of e.0 == m then 1 + g.frames e.1 else 0) (next_name c n) y c.objects f ∙ ap (λ b. (if b then 1 + g.frames y else 0) + frame_count g c m) z ∙ (omega arith),
       )

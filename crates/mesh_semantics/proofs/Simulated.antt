@@ -12,13 +12,12 @@ use Rattle.mesh_semantics.specs.Message.{Message}
 use Rattle.mesh_semantics.specs.Partial.{◌>>=◌, ◌>>◌, require}
 use Rattle.mesh_semantics.specs.Same.{are_same}
 use Rattle.mesh_semantics.proofs.Tests.{first, second}
-use Rattle.mesh_semantics.proofs.Chains.{same_some}
 use Rattle.mesh_semantics.specs.Kind as K
 use Rattle.mesh_semantics.specs.Kind.{Kind, Alternative, is_local, makes, calls, posts, returns, waits_on, writes, fails, alternatives}
 use Rattle.mesh_semantics.specs.Language.{Language}
 use Rattle.mesh_semantics.specs.Config.{Config, object_of, put_object, messages_of, put_messages}
 use Rattle.mesh_semantics.specs.Moves.{move, running, offered, numbered, can_pick, has_message, first_message, without_message}
-use Rattle.mesh_semantics.specs.Simulates.{Both, IsCalled, Simulates, Zipped, Related}
+use Rattle.mesh_semantics.specs.Simulates.{Both, Simulates, Zipped, Related}
 use Rattle.mesh_semantics.proofs.Maps.{find_put_same}
 
 module _ {S T : Type 0} (R : ℕ → S → T → Type 0) where

@@ -16,9 +16,9 @@ use Rattle.mesh_semantics.specs.Config.{Config, object_of, put_object, messages_
 use Rattle.mesh_semantics.specs.Moves.{move, offered, has_message, first_message, without_message}
 use Rattle.mesh_semantics.specs.Paths.{path, total, along}
 use Rattle.mesh_semantics.specs.Delay as D
-use Rattle.mesh_semantics.specs.Delay.{Packet, Arrival, Holding, Delay, node_of, is_for, take_arrival, arrived_at, held, free, cells_at}
+use Rattle.mesh_semantics.specs.Delay.{Packet, Arrival, Holding, Delay, node_of, is_for, take_arrival, arrived_at, held, free, cell_count}
 use Rattle.mesh_semantics.specs.Act.{id, labelled, first_arrival}
-use Rattle.mesh_semantics.specs.Sound.{Each, Sent, Called, entries, call_by, Owns, OwnedAt, letters_in, letter, letters, notes, CallsLast, IsThere, Consistent, IsWithin, Sound}
+use Rattle.mesh_semantics.specs.Sound.{Each, Sent, Called, entries, call_by, Owns, OwnedAt, letters_in, letter, letters, notes, CallsLast, IsThere, Consistent, IsWithin, IsSound}
 use Rattle.mesh_semantics.specs.Fit.{Fit}
 use Rattle.mesh_semantics.specs.Lawful.{Lawful, CanServe}
 use Rattle.mesh_semantics.proofs.Final.{has_arrived}
@@ -54,7 +54,7 @@ module _ {S : Type 0} (g : Language S) (W : Config S → Type 0) (law : Lawful g
       let r = can.2 j names caller (ap (λ k. offered 1 (alternatives k) m) kind ∙ off) in
       (r.0, ap (λ y. g.serving o y j m caller args) (sym same) ∙ r.1)
 
-  module _ (c : Config S) (d : Delay) (n o : ℕ) (x : S) (s : Sound g W l c d) (acts : Acting g W law l fit.ways c d n o x)
+  module _ (c : Config S) (d : Delay) (n o : ℕ) (x : S) (s : IsSound g W l c d) (acts : Acting g W law l fit.ways c d n o x)
       (alts : List Alternative) (is : g.kind o x ≡ K.Select alts) (names : List ℕ) (a : Arrival) (is_first : first_arrival names (arrived_at d o) ≡ Some a) where
     nothing : entries d o ≡ []
     nothing = owns_nothing g W law l fit.ways c d o x s.state acts.found acts.free
@@ -77,7 +77,7 @@ module _ {S : Type 0} (g : Language S) (W : Config S → Type 0) (law : Lawful g
         (subst CallsLast (sym (letters_at q)) (still_last names q (along (letter q o) d.links (path l (node_of q) (node_of o))) (arrived_at d o) (s.state.order q o)))
     ordered q r (inr i) = subst CallsLast (sym (letters_else q r i)) (s.state.order q r)
 
-    cells_taken : (i : ℕ) → i ≢ n → cells_at (take_arrival o names d) i ≡ cells_at d i
+    cells_taken : (i : ℕ) → i ≢ n → cell_count (take_arrival o names d) i ≡ cell_count d i
     cells_taken i j = ap (λ k. k + total (λ e. if e.0.0 == i then 1 else 0) d.links)
         (total_without (λ e. if node_of e.0 == i then 1 else 0) (is_for o names) d.arrived (λ e t.
         let at : node_of e.0 ≡ n = ap node_of (equal e.0 o (first (e.0 == o) (has_name names e.1.method) t)) ∙ acts.at in

@@ -15,12 +15,13 @@ use Rattle.mesh_semantics.specs.Language.{Language}
 use Rattle.mesh_semantics.specs.Config.{Config, object_of, put_object}
 use Rattle.mesh_semantics.specs.Moves.{move, moves, numbered, can_pick}
 use Rattle.mesh_semantics.specs.Delay as D
-use Rattle.mesh_semantics.specs.Delay.{Packet, Arrival, Holding, Delay, node_of, slot_of, post, arrive, held, hold, free, count_made, stepped_last, cells_at}
-use Rattle.mesh_semantics.specs.Act.{Acted, Acts, Full, Nothing, within, shows, labelled, objects_at, frames_at, call_turn}
-use Rattle.mesh_semantics.specs.Sound.{Entry, Sent, Called, entries, call_by, Owns, OwnedAt, IsThere, Consistent, IsWithin, Sound}
+use Rattle.mesh_semantics.specs.Delay.{Packet, Arrival, Holding, Delay, node_of, slot_of, post, arrive, held, hold, free, count_made, stepped_last, cell_count}
+use Rattle.mesh_semantics.specs.Act.{Acted, Acts, Full, Nothing, within, shows, labelled, object_count, frame_count, call_turn}
+use Rattle.mesh_semantics.specs.Sound.{Entry, Sent, Called, entries, call_by, Owns, OwnedAt, IsThere, Consistent, IsWithin, IsSound}
 use Rattle.mesh_semantics.specs.Ways.{Ways}
 use Rattle.mesh_semantics.specs.Lawful.{Lawful}
-use Rattle.mesh_semantics.specs.Kept.{shown, After}
+use Rattle.mesh_semantics.specs.Kept.{After}
+use Rattle.mesh_semantics.specs.Record.{shown}
 use Rattle.mesh_semantics.proofs.Maps.{find_put_same, find_put_other}
 use Rattle.mesh_semantics.proofs.Basics.{item_itself, error_itself, there_put, runs, placed_grow, arrivals_grow, count_put, frames_elsewhere, names_put}
 use Rattle.mesh_semantics.proofs.Posting.{Posts, posts_request, posts_call}
@@ -38,14 +39,14 @@ module _ {S : Type 0} (g : Language S) (W : Config S → Type 0) (law : Lawful g
   pub within_after : (n : ℕ) (c : Config S) (a : Acted S) → Nearly n c a → After g W l c (within g l n a)
   within_after n c Nothing h = h
   within_after n c (Full kind m) h = tt
-  within_after n c (Acts what e f) h = by (nat_lt l.objects (objects_at e n)) (nat_lt l.frames (frames_at g e n)) (nat_lt l.cells (cells_at f n)) refl refl refl
+  within_after n c (Acts what e f) h = by (nat_lt l.objects (object_count e n)) (nat_lt l.frames (frame_count g e n)) (nat_lt l.cells (cell_count f n)) refl refl refl
     where
-      at : (nat_lt l.objects (objects_at e n) ≡ false) → (nat_lt l.frames (frames_at g e n) ≡ false) → (nat_lt l.cells (cells_at f n) ≡ false)
+      at : (nat_lt l.objects (object_count e n) ≡ false) → (nat_lt l.frames (frame_count g e n) ≡ false) → (nat_lt l.cells (cell_count f n) ≡ false)
           → (m : ℕ) → (m ≡ n) ⊎ (m ≢ n) → IsWithin g l e f m
       at i j k m (inl s) = subst (IsWithin g l e f) (sym s) (not_over _ _ i, not_over _ _ j, not_over _ _ k)
       at i j k m (inr s) = h.2 m s
 
-      by : (t u v : Bool) → nat_lt l.objects (objects_at e n) ≡ t → nat_lt l.frames (frames_at g e n) ≡ u → nat_lt l.cells (cells_at f n) ≡ v
+      by : (t u v : Bool) → nat_lt l.objects (object_count e n) ≡ t → nat_lt l.frames (frame_count g e n) ≡ u → nat_lt l.cells (cell_count f n) ≡ v
           → After g W l c (within g l n (Acts what e f))
       by true u v i j k = rw i tt
       by false true v i j k = rw (i, j) tt
@@ -99,26 +100,26 @@ module _ {S : Type 0} (g : Language S) (W : Config S → Type 0) (law : Lawful g
   one_label n c lab e f h s b = subst (λ z. Nearly n c (shows lab 1 f z)) (sym h) (rw h refl, s, b)
 
   -- a label that changes the acting object alone
-  pub own_label : (c : Config S) (d : Delay) (n o : ℕ) (x y : S) (lab : Label) → Sound g W l c d → Acting c d n o x → move g c lab ≡ Some (put_object c o y)
+  pub own_label : (c : Config S) (d : Delay) (n o : ℕ) (x y : S) (lab : Label) → IsSound g W l c d → Acting c d n o x → move g c lab ≡ Some (put_object c o y)
       → Nearly n c (labelled g c lab d)
   own_label c d n o x y lab s a h =
       one_label n c lab (put_object c o y) d h (own_change c d o x y s.state a.found a.free (law.kept c (put_object c o y) lab s.state.typed h))
       (λ m z. own_elsewhere c d o x y (law.sorted c s.state.typed) a.found m (λ i. z (i ∙ a.at)) (s.limits m))
 
-  pub write_turn : (c : Config S) (d : Delay) (n o : ℕ) (x : S) (item : Item) → Sound g W l c d → Acting c d n o x → g.kind o x ≡ K.Write item
+  pub write_turn : (c : Config S) (d : Delay) (n o : ℕ) (x : S) (item : Item) → IsSound g W l c d → Acting c d n o x → g.kind o x ≡ K.Write item
       → Nearly n c (labelled g c (L.Write o item) d)
   write_turn c d n o x item s a k = own_label c d n o x (g.done x) (L.Write o item) s a (rw (runs g c o x a.found a.sane, k, item_itself item) refl)
 
-  pub fault_turn : (c : Config S) (d : Delay) (n o : ℕ) (x : S) (e : Error) → Sound g W l c d → Acting c d n o x → g.kind o x ≡ K.Fault e
+  pub fault_turn : (c : Config S) (d : Delay) (n o : ℕ) (x : S) (e : Error) → IsSound g W l c d → Acting c d n o x → g.kind o x ≡ K.Fault e
       → Nearly n c (labelled g c (L.Fault o e) d)
   fault_turn c d n o x e s a k = own_label c d n o x (g.faulted x e) (L.Fault o e) s a (rw (runs g c o x a.found a.sane, k, error_itself e) refl)
 
-  pub pick_turn : (c : Config S) (d : Delay) (n o : ℕ) (x : S) (alts : List Alternative) (i : ℕ) → Sound g W l c d → Acting c d n o x → g.kind o x ≡ K.Select alts
+  pub pick_turn : (c : Config S) (d : Delay) (n o : ℕ) (x : S) (alts : List Alternative) (i : ℕ) → IsSound g W l c d → Acting c d n o x → g.kind o x ≡ K.Select alts
       → can_pick (numbered alts i) ≡ true → Nearly n c (labelled g c (L.Pick o i) d)
   pick_turn c d n o x alts i s a k h = own_label c d n o x (g.picked o x i) (L.Pick o i) s a (rw (runs g c o x a.found a.sane, k, h) refl)
 
   -- an entry has come on its way, and its owner is posted
-  pub posted : (c : Config S) (d e : Delay) (n o : ℕ) (x : S) (entry : Entry) → Sound g W l c d → Acting c d n o x → Posts l c d e n o entry
+  pub posted : (c : Config S) (d e : Delay) (n o : ℕ) (x : S) (entry : Entry) → IsSound g W l c d → Acting c d n o x → Posts l c d e n o entry
       → Owns o (Some D.Posted) (g.kind o x) (entry ∷ []) → Consistent g W l c (hold o D.Posted e) × ((m : ℕ) → m ≢ n → IsWithin g l c (hold o D.Posted e) m)
   posted c d e n o x entry s a p own = (
     record {
@@ -140,7 +141,7 @@ module _ {S : Type 0} (g : Language S) (W : Config S → Type 0) (law : Lawful g
       at q (inl i) = subst (λ n. OwnedAt g n (object_of c n) (held (hold o D.Posted e) n) (entries e n)) (sym i) mine
       at q (inr i) = rw (find_put_other q o D.Posted e.holding i, p.others q i, p.holding) (s.state.owned q)
 
-  pub call_posted : (c : Config S) (d : Delay) (n o : ℕ) (x : S) (b m : ℕ) (args : List Value) → Sound g W l c d → Acting c d n o x → g.kind o x ≡ K.Send b m args
+  pub call_posted : (c : Config S) (d : Delay) (n o : ℕ) (x : S) (b m : ℕ) (args : List Value) → IsSound g W l c d → Acting c d n o x → g.kind o x ≡ K.Send b m args
       → Nearly n c (call_turn l c d n o b m args)
   call_posted c d n o x b m args s a k = by (node_of b == n) refl
     where

@@ -25,19 +25,19 @@ use Rattle.mesh_semantics.specs.Config.{Config}
 use Rattle.mesh_semantics.specs.Moves.{move}
 use Rattle.mesh_semantics.specs.Paths.{total, on_link, move_head}
 use Rattle.mesh_semantics.specs.Delay as D
-use Rattle.mesh_semantics.specs.Delay.{Packet, Arrival, Delay, node_of, slot_of, post, arrived_at, arrive, take_arrival, held, hold, free, made_by, count_made, stepped_last, cells_at}
+use Rattle.mesh_semantics.specs.Delay.{Packet, Arrival, Delay, node_of, slot_of, post, arrived_at, arrive, take_arrival, held, hold, free, made_by, count_made, stepped_last, cell_count}
 
 -- a number as a name
 abbrev pub id : ℕ → NameId
 id n = record { 0 = n }
 
 -- the number of a node's objects
-abbrev pub objects_at : {S : Type 0} → Config S → ℕ → ℕ
-objects_at c n = total (λ e. if node_of e.0 == n then 1 else 0) c.objects
+abbrev pub object_count : {S : Type 0} → Config S → ℕ → ℕ
+object_count c n = total (λ e. if node_of e.0 == n then 1 else 0) c.objects
 
 -- the frames in use at a node: one for each object, and one for each method under way in it
-abbrev pub frames_at : {S : Type 0} → Language S → Config S → ℕ → ℕ
-frames_at g c n = total (λ e. if node_of e.0 == n then 1 + g.frames e.1 else 0) c.objects
+abbrev pub frame_count : {S : Type 0} → Language S → Config S → ℕ → ℕ
+frame_count g c n = total (λ e. if node_of e.0 == n then 1 + g.frames e.1 else 0) c.objects
 
 -- the first arrived message on these methods
 abbrev pub first_arrival : List ℕ → List Arrival → Option Arrival
@@ -92,9 +92,9 @@ pub data Acted (S : Type 0) : Type 0 where
 -- the step, unless a count of the node is then past its limit
 abbrev pub within : {S : Type 0} → Language S → Placement → ℕ → Acted S → Acted S
 within g l n (Acts w c d) =
-    if nat_lt l.objects (objects_at c n) then Full F.Heap n
-    else (if nat_lt l.frames (frames_at g c n) then Full F.Frames n
-    else (if nat_lt l.cells (cells_at d n) then Full F.Cells n else Acts w c d))
+    if nat_lt l.objects (object_count c n) then Full F.Heap n
+    else (if nat_lt l.frames (frame_count g c n) then Full F.Frames n
+    else (if nat_lt l.cells (cell_count d n) then Full F.Cells n else Acts w c d))
 within g l n (Full k m) = Full k m
 within g l n Nothing = Nothing
 
@@ -109,7 +109,7 @@ labelled g c label d = shows label 1 d (move g c label)
 
 -- the configuration, where the node's frames are within the limit
 abbrev pub within_frames : {S : Type 0} → Language S → Placement → ℕ → Config S → Option (Config S)
-within_frames g l n c = if nat_le (frames_at g c n) l.frames then Some c else None
+within_frames g l n c = if nat_le (frame_count g c n) l.frames then Some c else None
 
 -- the configuration after so many local transitions of o that follow one another, none past the limit of frames
 abbrev pub local_steps : {S : Type 0} → Language S → Placement → ℕ → ℕ → ℕ → Config S → Option (Config S)
@@ -147,7 +147,7 @@ goal_of g l d n c = goal_by l d n c (slice_get l.places (class_place g.classes c
 
 -- the next name of a node
 abbrev pub next_name : {S : Type 0} → Config S → ℕ → ℕ
-next_name c n = n * 65536 + objects_at c n
+next_name c n = n * 65536 + object_count c n
 
 -- a turn that makes an object, here or by a packet
 abbrev pub create_turn : {S : Type 0} → Language S → Placement → Config S → Delay → ℕ → ℕ → ℕ → ℕ → Acted S

@@ -101,5 +101,5 @@ abbrev pub stepped_last : ℕ → ℕ → Delay → Delay
 stepped_last n o d = record d { last = put nat_cmp n (slot_of o) d.last }
 
 -- the cells in use at a node: the messages arrived at its objects, and the packets on links that leave it
-abbrev pub cells_at : Delay → ℕ → ℕ
-cells_at d n = total (λ e. if node_of e.0 == n then 1 else 0) d.arrived + total (λ e. if e.0.0 == n then 1 else 0) d.links
+abbrev pub cell_count : Delay → ℕ → ℕ
+cell_count d n = total (λ e. if node_of e.0 == n then 1 else 0) d.arrived + total (λ e. if e.0.0 == n then 1 else 0) d.links

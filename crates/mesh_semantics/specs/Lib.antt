@@ -19,3 +19,4 @@ pub mod Kept
 pub mod Lawful
 pub mod Simulates
 pub mod Traffic
+pub mod Given

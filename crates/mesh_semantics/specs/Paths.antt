@@ -1,10 +1,23 @@
--- Paths of links through the mesh, and lists of what is on links. What is proved of them elsewhere uses two facts alone:
--- a path ends at its goal and has no node twice; and of what goes between two nodes the order is kept.
-use Rattle.std.specs.Prelude.{ℕ, zero, suc, ◌+◌, ◌-◌, ◌*◌, ◌%◌, ◌==◌, List, [], ◌∷◌, ◌++◌, Bool, ◌&&◌, if◌then◌else◌, nat_lt, flat_map}
+-- The nodes and links of a mesh, the path of a packet through it, and what is on links. Node k stands in column k mod width and row k div width.
+use Rattle.std.specs.Prelude.{◌≡◌, ◌⊎◌, ℕ, zero, suc, ◌+◌, ◌-◌, ◌*◌, ◌/◌, ◌%◌, ◌<◌, ◌==◌, List, [], ◌∷◌, ◌++◌, Bool, ◌&&◌, if◌then◌else◌, nat_lt, flat_map}
 use Rattle.pool_syntax.specs.declared.words.Placement.{Placement}
 use Rattle.mesh_semantics.specs.Tables.{Pair}
 
--- the next node on the way from one node to another one in a mesh of this width: first along x, then along y
+-- two numbers, one of which follows the other
+abbrev pub Adjacent : ℕ → ℕ → Type 0
+Adjacent x y = (x + 1 ≡ y) ⊎ (y + 1 ≡ x)
+
+-- two nodes beside each other in a mesh of this width: in one row and adjacent columns, or in one column and adjacent rows
+abbrev pub AreNeighbours : ℕ → ℕ → ℕ → Type 0
+AreNeighbours w a b = ((a / w ≡ b / w) × Adjacent (a % w) (b % w)) ⊎ ((a % w ≡ b % w) × Adjacent (a / w) (b / w))
+
+-- a link of the mesh goes from a node to a neighbour
+pub record IsLink (l : Placement) (k : Pair) : Type 0 where
+  pub from : k.0 < l.width * l.height
+  pub to : k.1 < l.width * l.height
+  pub beside : AreNeighbours l.width k.0 k.1
+
+-- the next node on the way from one node to another one in a mesh of this width: first along the row, then along the column
 abbrev pub toward : ℕ → ℕ → ℕ → ℕ
 toward w a b = if a % w == b % w then (if nat_lt a b then a + w else a - w) else (if nat_lt (a % w) (b % w) then a + 1 else a - 1)
 

@@ -1,4 +1,4 @@
--- Two languages whose objects correspond: what one does the other does, and what they become corresponds again.
+-- Two languages whose objects correspond: what one does the other does, and what they become corresponds again. And what then agrees.
 use Rattle.std.specs.Prelude.{◌≡◌, ◌⊎◌, ℕ, ◌==◌, ◌&&◌, ◌||◌, List, [], ◌∷◌, Option, Some, None, true}
 use Rattle.pool_syntax.specs.declared.words.Value.{Value}
 use Rattle.pool_syntax.specs.declared.words.Error.{Error}
@@ -11,6 +11,7 @@ use Rattle.mesh_semantics.specs.Language.{Language}
 use Rattle.mesh_semantics.specs.Config.{Config, object_of, messages_of}
 use Rattle.mesh_semantics.specs.Moves.{running, offered, numbered, can_pick, first_message}
 use Rattle.mesh_semantics.specs.Act.{Acted, Acts, Full, Nothing}
+use Rattle.mesh_semantics.specs.Record.{Record}
 
 -- both are there and correspond, or neither is there
 abbrev pub Both : {A B : Type 0} → (A → B → Type 0) → Option A → Option B → Type 0
@@ -27,6 +28,7 @@ IsCalled {S} g c b m args =
 -- W is what is kept of configurations of the first language
 pub record Simulates {S T : Type 0} (g : Language S) (h : Language T) (W : Config S → Type 0) (R : ℕ → S → T → Type 0) : Type 0 where
   pub classes : g.classes ≡ h.classes
+  pub class : (o : ℕ) (x : S) (y : T) → R o x y → g.class x ≡ h.class y
   pub root : (o : ℕ) → Both (R o) g.root h.root
   pub kinds : (o : ℕ) (x : S) (y : T) → R o x y → g.kind o x ≡ h.kind o y
   pub faults : (o : ℕ) (x : S) (y : T) → R o x y → g.fault x ≡ h.fault y
@@ -57,9 +59,19 @@ pub record Related {S T : Type 0} (R : ℕ → S → T → Type 0) (c : Config S
   pub objects : Zipped R c.objects e.objects
   pub messages : c.messages ≡ e.messages
 
+-- a configuration of the second language that corresponds to a kept one of the first
+abbrev pub Corresponds : {S T : Type 0} → (Config S → Type 0) → (ℕ → S → T → Type 0) → Config T → Type 0
+Corresponds {S} W R e = (c : Config S) × W c × Related R c e
+
 -- the same line or the same limit, and what is after it corresponds
 abbrev pub SameAct : {S T : Type 0} → (ℕ → S → T → Type 0) → Acted S → Acted T → Type 0
 SameAct R (Acts w c d) (Acts v e f) = (w ≡ v) × Related R c e × (d ≡ f)
 SameAct R (Full k n) (Full j m) = (k ≡ j) × (n ≡ m)
 SameAct R Nothing Nothing = Unit {0}
 SameAct R _ _ = ⊥
+
+-- the same lines, the same delay at the end, and last configurations that correspond
+pub record SameRecord {S T : Type 0} (R : ℕ → S → T → Type 0) (a : Record S) (b : Record T) : Type 0 where
+  pub lines : a.lines ≡ b.lines
+  pub last : Related R a.last b.last
+  pub delay : a.delay ≡ b.delay

@@ -10,10 +10,10 @@ use Rattle.mesh_semantics.specs.Kind as K
 use Rattle.mesh_semantics.specs.Kind.{Kind, waits_on}
 use Rattle.mesh_semantics.specs.Language.{Language}
 use Rattle.mesh_semantics.specs.Config.{Config, object_of, messages_of}
-use Rattle.mesh_semantics.specs.Paths.{next, path, along}
+use Rattle.mesh_semantics.specs.Paths.{next, path, along, IsLink}
 use Rattle.mesh_semantics.specs.Delay as D
-use Rattle.mesh_semantics.specs.Delay.{Packet, Arrival, Holding, Delay, node_of, slot_of, arrived_at, held, cells_at}
-use Rattle.mesh_semantics.specs.Act.{objects_at, frames_at, goal_node}
+use Rattle.mesh_semantics.specs.Delay.{Packet, Arrival, Holding, Delay, node_of, slot_of, arrived_at, held, cell_count}
+use Rattle.mesh_semantics.specs.Act.{object_count, frame_count, goal_node}
 
 -- each element has the property
 abbrev pub Each : {X : Type 0} → (X → Type 0) → List X → Type 0
@@ -123,11 +123,11 @@ OnPath l k _ = Unit {0}
 abbrev pub IsThere : {S : Type 0} → Config S → ℕ → Type 0
 IsThere {S} c o = (x : S) × (object_of c o ≡ Some x)
 
--- a packet stands where it may, on a link between nodes of the mesh
+-- a packet stands where it may: it has a sender, and is on a link of the mesh that is the next one on the way to its goal, a node of the mesh
 pub record IsPlaced {S : Type 0} (l : Placement) (c : Config S) (e : Pair × Packet) : Type 0 where
   pub sender : IsThere c (sender_of e.1)
   pub goal : goal_node e.1 < l.width * l.height
-  pub link : (e.0.0 < l.width * l.height) × (e.0.1 < l.width * l.height)
+  pub link : IsLink l e.0
   pub way : (e.0.0 ≢ goal_node e.1) × (e.0.1 ≡ next l e.0.0 (goal_node e.1))
   pub on_path : OnPath l e.0 e.1
 
@@ -140,7 +140,7 @@ OwnedAt g o (Some x) t es = Owns o t (g.kind o x) es × ((e : Error) → g.fault
 pub record Consistent {S : Type 0} (g : Language S) (W : Config S → Type 0) (l : Placement) (c : Config S) (d : Delay) : Type 0 where
   pub typed : W c
   -- the names of a node are its first, without a gap
-  pub names : (o : ℕ) → IsThere c o → (node_of o < l.width * l.height) × (slot_of o < objects_at c (node_of o))
+  pub names : (o : ℕ) → IsThere c o → (node_of o < l.width * l.height) × (slot_of o < object_count c (node_of o))
   pub owned : (o : ℕ) → OwnedAt g o (object_of c o) (held d o) (entries d o)
   pub packets : Each (IsPlaced l c) d.links
   pub arrivals : Each (λ e. IsThere c e.1.sender) d.arrived
@@ -149,8 +149,8 @@ pub record Consistent {S : Type 0} (g : Language S) (W : Config S → Type 0) (l
 
 -- what is used of a node is within its limits
 abbrev pub IsWithin : {S : Type 0} → Language S → Placement → Config S → Delay → ℕ → Type 0
-IsWithin g l c d n = (objects_at c n ≤ l.objects) × (frames_at g c n ≤ l.frames) × (cells_at d n ≤ l.cells)
+IsWithin g l c d n = (object_count c n ≤ l.objects) × (frame_count g c n ≤ l.frames) × (cell_count d n ≤ l.cells)
 
-pub record Sound {S : Type 0} (g : Language S) (W : Config S → Type 0) (l : Placement) (c : Config S) (d : Delay) : Type 0 where
+pub record IsSound {S : Type 0} (g : Language S) (W : Config S → Type 0) (l : Placement) (c : Config S) (d : Delay) : Type 0 where
   pub state : Consistent g W l c d
   pub limits : (n : ℕ) → IsWithin g l c d n

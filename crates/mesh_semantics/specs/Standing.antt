@@ -1,4 +1,4 @@
--- Where each object stands, and the cycles of calls.
+-- Where each object stands, and the cycles of objects that each call the next.
 use Rattle.std.specs.Prelude.{◌≡◌, ◌⊎◌, ℕ, zero, suc, ◌<◌, ◌==◌, List, [], ◌∷◌, length, Option, Some, None, if◌then◌else◌, nat_lt, filter_map}
 use Rattle.pool_syntax.specs.declared.words.Error.{Error}
 use Rattle.mesh_semantics.specs.Tables.{Pair}
@@ -10,6 +10,7 @@ use Rattle.mesh_semantics.specs.Config.{Config, object_of}
 use Rattle.mesh_semantics.specs.Delay as D
 use Rattle.mesh_semantics.specs.Delay.{Packet, Holding, Delay, held, arrived_at}
 use Rattle.mesh_semantics.specs.Act.{can_step}
+use Rattle.mesh_semantics.specs.Ways.{Once}
 
 pub data Standing : Type 0 where
   Ready : Standing
@@ -60,7 +61,12 @@ Closes calls first [] = ⊥
 Closes calls first (o ∷ []) = calls o ≡ Some first
 Closes calls first (o ∷ b ∷ ns) = (calls o ≡ Some b) × (first < b) × Closes calls first (b ∷ ns)
 
--- such names, at most so many of them, if there are
+-- a cycle of calls: distinct names, the least first, that each call the next, where the last calls the first
+abbrev pub IsCycle : (ℕ → Option ℕ) → List ℕ → Type 0
+IsCycle calls [] = ⊥
+IsCycle calls (o ∷ ns) = Once (o ∷ ns) × Closes calls o (o ∷ ns)
+
+-- such names that close, at most so many of them, if there are
 abbrev pub chase : (ℕ → Option ℕ) → ℕ → ℕ → ℕ → Option (List ℕ)
 chase calls zero first o = None
 chase calls (suc n) first o = calls o >>= λ b. if b == first then Some (o ∷ []) else (if nat_lt first b then (chase calls n first b >>= λ ns. Some (o ∷ ns)) else None)
@@ -73,10 +79,3 @@ cycles g c d = filter_map (λ e. chase (called_by g c d) (length c.objects) e.0 
 abbrev pub Contained : List ℕ → List (List ℕ) → Type 0
 Contained ns [] = ⊥
 Contained ns (ms ∷ rest) = (ms ≡ ns) ⊎ Contained ns rest
-
--- the least name of a cycle, from which it is listed, and the others
-pub record Cycle (calls : ℕ → Option ℕ) (ns : List ℕ) : Type 0 where
-  pub least : ℕ
-  pub others : List ℕ
-  pub is : ns ≡ least ∷ others
-  pub closes : Closes calls least ns

@@ -1,9 +1,8 @@
--- What goes over the links of a mesh: values enter at the first link of a path and move along it.
-use Rattle.std.specs.Prelude.{◌≡◌, ℕ, ◌*◌, ◌<◌, ◌==◌, List, [], ◌∷◌, ◌++◌, Option, Some, None, ◌&&◌, if◌then◌else◌, flat_map}
+-- What goes over the links of a mesh, whatever it is: values enter at the first link of a path and move along it, each link a queue.
+use Rattle.std.specs.Prelude.{◌≡◌, ℕ, ◌*◌, ◌<◌, ◌==◌, List, [], ◌∷◌, ◌++◌, ◌&&◌, if◌then◌else◌, flat_map}
 use Rattle.pool_syntax.specs.declared.words.Placement.{Placement}
-use Rattle.mesh_semantics.specs.Tables.{Pair}
-use Rattle.mesh_semantics.specs.Paths.{next, on_link, put_last, move_head}
-use Rattle.mesh_semantics.specs.Act.{first_of}
+use Rattle.mesh_semantics.specs.Tables.{Pair, pair_cmp, list_at, put_list, push_list}
+use Rattle.mesh_semantics.specs.Paths.{next}
 
 -- a value on its way between two nodes
 pub record Load (X : Type 0) : Type 0 where
@@ -11,31 +10,30 @@ pub record Load (X : Type 0) : Type 0 where
   pub to : ℕ
   pub value : X
 
--- the loads on links, those that entered, and those that left at their goals
+-- one list for each link, the head first; an empty one has no entry; the loads that entered, and those that left at their goals
 pub record Traffic (X : Type 0) : Type 0 where
-  pub links : List (Pair × Load X)
+  pub links : List (Pair × List (Load X))
   pub entered : List (Load X)
   pub left : List (Load X)
 
+-- a value enters at its first node, or a link hands out its head
 pub data Change (X : Type 0) : Type 0 where
   Enter : (from to : ℕ) (value : X) → Change X
   Move : (link : Pair) → Change X
 
--- a load that has left a link leaves at its goal, and else goes last on its next link
-abbrev pub goes_on : {X : Type 0} → Placement → Traffic X → Pair → Load X → Traffic X
-goes_on l t k x =
-    if x.to == k.1 then record t { links = move_head k t.links; left = t.left ++ x ∷ [] }
-    else record t { links = put_last (k.1, next l k.1 x.to) x (move_head k t.links) }
+-- the head of a link leaves at its goal, and else goes last on its next link
+abbrev pub moved_on : {X : Type 0} → Placement → Traffic X → Pair → List (Load X) → Traffic X
+moved_on l t k [] = t
+moved_on l t k (x ∷ rest) =
+    if x.to == k.1 then record t { links = put_list pair_cmp k rest t.links; left = t.left ++ x ∷ [] }
+    else record t { links = push_list pair_cmp (k.1, next l k.1 x.to) x (put_list pair_cmp k rest t.links) }
 
-abbrev pub moved_on : {X : Type 0} → Placement → Traffic X → Pair → Option (Load X) → Traffic X
-moved_on l t k None = t
-moved_on l t k (Some x) = goes_on l t k x
-
+-- what is for the node where it enters is on no link
 abbrev pub happens : {X : Type 0} → Placement → Traffic X → Change X → Traffic X
 happens l t (Enter a b v) =
     if a == b then t
-    else record t { links = put_last (a, next l a b) (record { from = a; to = b; value = v }) t.links; entered = t.entered ++ record { from = a; to = b; value = v } ∷ [] }
-happens l t (Move k) = moved_on l t k (first_of (on_link t.links k))
+    else record t { links = push_list pair_cmp (a, next l a b) (record { from = a; to = b; value = v }) t.links; entered = t.entered ++ record { from = a; to = b; value = v } ∷ [] }
+happens l t (Move k) = moved_on l t k (list_at pair_cmp k t.links)
 
 abbrev pub traffic : {X : Type 0} → Placement → Traffic X → List (Change X) → Traffic X
 traffic l t [] = t

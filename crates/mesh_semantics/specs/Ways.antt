@@ -1,8 +1,8 @@
--- The two facts on paths on which all else stands.
+-- The facts on paths on which all else stands: where a path leads, and that it has no node twice.
 use Rattle.std.specs.Prelude.{◌≡◌, ◌≢◌, ◌⊎◌, ℕ, ◌*◌, ◌<◌, List, [], ◌∷◌}
 use Rattle.pool_syntax.specs.declared.words.Placement.{Placement}
 use Rattle.mesh_semantics.specs.Tables.{Pair}
-use Rattle.mesh_semantics.specs.Paths.{next, path}
+use Rattle.mesh_semantics.specs.Paths.{next, path, IsLink}
 
 -- links that lead from a to b by these steps, each step made only before b
 abbrev pub Leads : (ℕ → ℕ → ℕ) → ℕ → ℕ → List Pair → Type 0
@@ -24,8 +24,8 @@ abbrev pub ends_of : List Pair → List ℕ
 ends_of [] = []
 ends_of (k ∷ ks) = k.1 ∷ ends_of ks
 
--- each path of a mesh ends at its goal and has no node twice, and a step on the way to a node of the mesh is to a node of the mesh
+-- each path of a mesh ends at its goal and has no node twice, and each step on the way to a node of the mesh is over a link of the mesh
 pub record Ways (l : Placement) : Type 0 where
   pub leads : (a b : ℕ) → a < l.width * l.height → b < l.width * l.height → Leads (next l) b a (path l a b)
   pub once : (a b : ℕ) → a < l.width * l.height → b < l.width * l.height → Once (a ∷ ends_of (path l a b))
-  pub inside : (a b : ℕ) → a < l.width * l.height → b < l.width * l.height → a ≢ b → next l a b < l.width * l.height
+  pub link : (a b : ℕ) → a < l.width * l.height → b < l.width * l.height → a ≢ b → IsLink l (a, next l a b)
