@@ -10,22 +10,21 @@ use Rattle.pool_syntax.specs.declared.tree.Named.{Named}
 use Rattle.pool_syntax.specs.Terms as T
 use Rattle.pool_syntax.specs.Terms.{Statements, MethodTree, ProgramTree}
 use Rattle.pool_syntax.specs.Classes.{class_of}
-use Rattle.pool_semantics.specs.Reducible.{Choice, AsExpression, AsStatements}
-use Rattle.pool_semantics.specs.Action as A
-use Rattle.pool_semantics.specs.Action.{Object, Action, action, is_true, method_of}
-use Rattle.pool_semantics.specs.Configuration as C
-use Rattle.pool_semantics.specs.Configuration.{Message, Configuration}
-use Rattle.pool_semantics.specs.Transition as X
-use Rattle.pool_semantics.specs.Transition.{◌>>=◌, ◌>>◌, require, Offer, transition, offer, names_method, refilled, local_step}
+use Rattle.pool_relation.specs.Reducible.{Choice, AsExpression, AsStatements}
+use Rattle.pool_relation.specs.Action as A
+use Rattle.pool_syntax.specs.Values.{is_true}
+use Rattle.pool_relation.specs.Action.{Object, Action, action, method_of}
+use Rattle.pool_relation.specs.Configuration as C
+use Rattle.mesh_semantics.specs.Message.{Message}
+use Rattle.pool_relation.specs.Configuration.{Configuration}
+use Rattle.pool_relation.specs.Transition as X
+use Rattle.mesh_semantics.specs.Same.{are_same}
+use Rattle.mesh_semantics.specs.Partial.{◌>>=◌, ◌>>◌, require}
+use Rattle.pool_relation.specs.Transition.{Offer, transition, offer, names_method, refilled, local_step}
 use Rattle.mesh_semantics.specs.Kind.{is_local, makes, calls, posts, returns, waits_on, writes, fails, has_name, answered, answers, alternatives, is_plain}
 use Rattle.mesh_semantics.specs.Config.{Config, object_of, put_object, messages_of, put_messages}
 use Rattle.mesh_semantics.specs.Moves.{move, running, offered, numbered, can_pick, has_message, first_message, without_message}
-use Rattle.mesh_semantics.specs.Terms.{numbers, names_of, alternatives_of, kind_of, after_local, work_at, work_of, terms, plain}
-
--- as a configuration of terms, if there is one
-abbrev pub as_plain : Option (Config Object) → Option Configuration
-as_plain None = None
-as_plain (Some c) = Some (plain c)
+use Rattle.placed_terms.specs.Terms.{numbers, names_of, alternatives_of, kind_of, after_local, work_at, work_of, terms, plain, as_plain}
 
 running_is : (p : ProgramTree) (c : Config Object) (o : ℕ) → running (terms p) c o ≡ X.running (plain c) o
 running_is p c o = refl
@@ -231,28 +230,28 @@ module _ (p : ProgramTree) (c : Config Object) where
           ∙ then_plain (method_of p y.class m.0 (length args)) (λ method. Some (put_object (put_object c o (refilled x (AsExpression (T.Wait b m.0)))) b (X.serving y method (Some o) args (work_of (action p b y) i))))
           ∙ ap (λ w. method_of p y.class m.0 (length args) >>= λ method. Some (C.put_object (C.put_object (plain c) o (refilled x (AsExpression (T.Wait b m.0)))) b (X.serving y method (Some o) args w))) h))
   move_is (L.Take b s m args) = gone b
-      (λ y. offered 1 (alternatives (kind_of (action p b y))) m.0 >>= λ v. first_message v.1 (messages_of c s b) >>= λ first. require (first.method == m.0 && X.are_same first.args args)
+      (λ y. offered 1 (alternatives (kind_of (action p b y))) m.0 >>= λ v. first_message v.1 (messages_of c s b) >>= λ first. require (first.method == m.0 && are_same first.args args)
       >> ((method_of p y.class m.0 (length args) >>= λ method. Some (X.serving y method None args (work_of (action p b y) v.0))) >>= λ z. Some (put_messages (put_object c b z) s b (without_message v.1 (messages_of c s b)))))
-      (λ y. offer (action p b y) m.0 >>= λ v. X.first_message v.names (messages_of c s b) >>= λ first. require (first.method == m.0 && X.are_same first.args args)
+      (λ y. offer (action p b y) m.0 >>= λ v. X.first_message v.names (messages_of c s b) >>= λ first. require (first.method == m.0 && are_same first.args args)
       >> (method_of p y.class m.0 (length args) >>= λ method. Some (C.put_messages (C.put_object (plain c) b (X.serving y method None args v.work)) s b (X.without_first v.names (messages_of c s b)))))
       (λ y. by y (offering (action p b y) m.0))
     where
       by : (y : Object) → Offering (action p b y) m.0
-          → as_plain (offered 1 (alternatives (kind_of (action p b y))) m.0 >>= λ v. first_message v.1 (messages_of c s b) >>= λ first. require (first.method == m.0 && X.are_same first.args args)
+          → as_plain (offered 1 (alternatives (kind_of (action p b y))) m.0 >>= λ v. first_message v.1 (messages_of c s b) >>= λ first. require (first.method == m.0 && are_same first.args args)
           >> ((method_of p y.class m.0 (length args) >>= λ method. Some (X.serving y method None args (work_of (action p b y) v.0))) >>= λ z. Some (put_messages (put_object c b z) s b (without_message v.1 (messages_of c s b)))))
-          ≡ (offer (action p b y) m.0 >>= λ v. X.first_message v.names (messages_of c s b) >>= λ first. require (first.method == m.0 && X.are_same first.args args)
+          ≡ (offer (action p b y) m.0 >>= λ v. X.first_message v.names (messages_of c s b) >>= λ first. require (first.method == m.0 && are_same first.args args)
           >> (method_of p y.class m.0 (length args) >>= λ method. Some (C.put_messages (C.put_object (plain c) b (X.serving y method None args v.work)) s b (X.without_first v.names (messages_of c s b)))))
       by y (Nothing e f) = rw (e, f) refl
       by y (Something i v e f h) = rw (e, f, first_is v.names (messages_of c s b)) (at (X.first_message v.names (messages_of c s b)))
         where
           at : (z : Option Message)
-              → as_plain (z >>= λ first. require (first.method == m.0 && X.are_same first.args args)
+              → as_plain (z >>= λ first. require (first.method == m.0 && are_same first.args args)
               >> ((method_of p y.class m.0 (length args) >>= λ method. Some (X.serving y method None args (work_of (action p b y) i))) >>= λ z. Some (put_messages (put_object c b z) s b (without_message (numbers v.names) (messages_of c s b)))))
-              ≡ (z >>= λ first. require (first.method == m.0 && X.are_same first.args args)
+              ≡ (z >>= λ first. require (first.method == m.0 && are_same first.args args)
               >> (method_of p y.class m.0 (length args) >>= λ method. Some (C.put_messages (C.put_object (plain c) b (X.serving y method None args v.work)) s b (X.without_first v.names (messages_of c s b)))))
           at None = refl
-          at (Some first) = required_plain (first.method == m.0 && X.are_same first.args args) _
-              ∙ ap (λ z. require (first.method == m.0 && X.are_same first.args args) >> z)
+          at (Some first) = required_plain (first.method == m.0 && are_same first.args args) _
+              ∙ ap (λ z. require (first.method == m.0 && are_same first.args args) >> z)
               (ap as_plain (join (method_of p y.class m.0 (length args)) (λ method. X.serving y method None args (work_of (action p b y) i)) (λ z. Some (put_messages (put_object c b z) s b (without_message (numbers v.names) (messages_of c s b)))))
               ∙ then_plain (method_of p y.class m.0 (length args)) (λ method. Some (put_messages (put_object c b (X.serving y method None args (work_of (action p b y) i))) s b (without_message (numbers v.names) (messages_of c s b))))
               ∙ ap₂ (λ w ms. method_of p y.class m.0 (length args) >>= λ method. Some (C.put_messages (C.put_object (plain c) b (X.serving y method None args w)) s b ms)) h (without_is v.names (messages_of c s b)))

@@ -11,35 +11,38 @@ use Rattle.pool_syntax.specs.Terms as T
 use Rattle.pool_syntax.specs.Terms.{Store, Expression, Statements, MethodTree, ProgramTree}
 use Rattle.pool_syntax.specs.Classes.{class_of}
 use Rattle.pool_syntax.specs.Typing.{Scope, faults}
-use Rattle.pool_semantics.specs.Reducible as R
-use Rattle.pool_semantics.specs.Reducible.{Choice, Reducible, Found, Evaluated, At, AsExpression, AsStatements, statements_redex, set_value}
-use Rattle.pool_semantics.specs.Action as A
-use Rattle.pool_semantics.specs.Action.{Object, Action, action, redex_action, literal, method_of, value_of, is_nil, not_bool, is_true}
-use Rattle.pool_semantics.specs.Configuration.{Message}
-use Rattle.pool_semantics.specs.UnderWay.{Activity, Serving, in_expression, in_statements, served_for, serves, frames_of}
-use Rattle.pool_semantics.specs.Typed.{class_at}
-use Rattle.pool_semantics.specs.WellFormed.{is_written, WellTyped}
-use Rattle.pool_semantics.specs.Transition as X
-use Rattle.pool_semantics.specs.Transition.{◌>>=◌, transition, refilled, running}
-use Rattle.pool_semantics.proofs.Tests.{equals, decide, differ}
-use Rattle.pool_semantics.proofs.Backwards.{same_some}
-use Rattle.pool_semantics.proofs.Busy.{Ends, is_statement, statements_busy}
-use Rattle.pool_semantics.proofs.Fine.{place, Fine, FineObject}
-use Rattle.pool_semantics.proofs.Good.{FitsAt, classes, good_of}
-use Rattle.pool_semantics.proofs.NextWaits.{does_not_wait}
-use Rattle.pool_semantics.proofs.OneObject.{fine_at}
-use Rattle.pool_semantics.proofs.Kept.{well_typed_kept}
+use Rattle.pool_relation.specs.Reducible as R
+use Rattle.pool_relation.specs.Reducible.{Choice, Reducible, Found, Evaluated, At, AsExpression, AsStatements, statements_redex, set_value}
+use Rattle.pool_relation.specs.Action as A
+use Rattle.pool_syntax.specs.Values.{is_nil, not_bool, is_true}
+use Rattle.pool_relation.specs.Action.{Object, Action, action, redex_action, literal, method_of, value_of}
+use Rattle.mesh_semantics.specs.Message.{Message}
+use Rattle.pool_relation.specs.UnderWay.{Activity, Serving, in_expression, in_statements, served_for, serves, frames_of}
+use Rattle.pool_relation.specs.Typed.{class_at}
+use Rattle.pool_relation.specs.Written.{is_written}
+use Rattle.pool_relation.specs.Typed.{Typed}
+use Rattle.pool_relation.specs.Transition as X
+use Rattle.mesh_semantics.specs.Partial.{◌>>=◌}
+use Rattle.pool_relation.specs.Transition.{transition, refilled, running}
+use Rattle.mesh_semantics.proofs.Laws.{equals, decide, differ}
+use Rattle.mesh_semantics.proofs.Laws.{same_some}
+use Rattle.pool_relation.proofs.Busy.{Ends, is_statement, statements_busy}
+use Rattle.pool_relation.proofs.Fine.{place, Fine, FineObject}
+use Rattle.pool_relation.proofs.Good.{FitsAt, classes, good_of}
+use Rattle.pool_relation.proofs.NextWaits.{does_not_wait}
+use Rattle.pool_relation.proofs.OneObject.{fine_at}
+use Rattle.pool_relation.proofs.Kept.{well_typed_kept}
 use Rattle.mesh_semantics.specs.Kind as K
 use Rattle.mesh_semantics.specs.Kind.{Kind}
 use Rattle.mesh_semantics.specs.Config.{Config, object_of, put_object, messages_of}
 use Rattle.mesh_semantics.specs.Moves.{first_message}
 use Rattle.mesh_semantics.specs.Sound.{is_wait}
 use Rattle.mesh_semantics.specs.Lawful.{Lawful, CanServe}
-use Rattle.mesh_semantics.specs.Terms.{kind_of, work_of, terms, plain}
+use Rattle.placed_terms.specs.Terms.{kind_of, work_of, terms, plain, as_plain}
 use Rattle.mesh_semantics.proofs.Maps.{find_put_same, find_put_other}
 use Rattle.mesh_semantics.proofs.Owned.{no_part, one_part}
 use Rattle.mesh_semantics.proofs.Basics.{value_itself}
-use Rattle.mesh_semantics.proofs.Instance.{as_plain, move_is}
+use Rattle.placed_terms.proofs.Instance.{move_is}
 
 -- an action from its kind
 pub new_is : (a : Action) (k : ℕ) → kind_of a ≡ K.New k → a ≡ A.New k
@@ -110,7 +113,7 @@ at_meeting p o x u g (R.Finish (Some k) v) now h e = absurd (let z : false ≡ t
 module _ (p : ProgramTree) (none : faults p ≡ []) (written : IsTrue (is_written p)) where
   -- what is kept of a configuration of terms
   abbrev pub W : Config Object → Type 0
-  W c = WellTyped p (plain c)
+  W c = Typed p (plain c)
 
   fine : (c : Config Object) (o : ℕ) (x : Object) → W c → object_of c o ≡ Some x → Fine p (classes (plain c)) x (action p o x)
   fine c o x w h = fine_at p none written (plain c) o x (good_of p (plain c) w) h
@@ -190,7 +193,7 @@ module _ (p : ProgramTree) (none : faults p ≡ []) (written : IsTrue (is_writte
       let r = returning c b y k v w h i in
       let n = some_more (served_for k r.1) r.0 in
       let s : serves k y.term ≡ n.0 ∷ n.1 = r.3 k ∙ ap (λ z. served_for k r.1 ++ z) (serves_it r.0 k) ∙ n.2 in
-      let t = w.typed.served k b n.0 n.1 y h s in (t.0, n.0, t.1, ap kind_of t.2)
+      let t = w.served k b n.0 n.1 y h s in (t.0, n.0, t.1, ap kind_of t.2)
 
   given_name : (c : Config Object) (o : ℕ) (x : Object) (k n : ℕ) → W c → object_of c o ≡ Some x → kind_of (action p o x) ≡ K.New k → object_of c n ≡ None
       → (frames_of (X.given x (V.Ref n)).term ≡ frames_of x.term) × ((X.given x (V.Ref n)).fault ≡ x.fault) × (is_wait (kind_of (action p o (X.given x (V.Ref n)))) ≡ false)
@@ -234,7 +237,7 @@ module _ (p : ProgramTree) (none : faults p ≡ []) (written : IsTrue (is_writte
         where
           by : (t : Option Error) → z.fault ≡ t → t ≡ None
           by None j = refl
-          by (Some e) j = absurd (n e (w.typed.fault q z e h j))
+          by (Some e) j = absurd (n e (w.fault q z e h j))
 
       d : Config Object
       d = put_object (put_object c b (X.done y)) o (X.given x v)
@@ -242,7 +245,7 @@ module _ (p : ProgramTree) (none : faults p ≡ []) (written : IsTrue (is_writte
       go : transition p (plain c) (L.Return b o v) ≡ Some (plain (put_object (put_object c b (X.done y)) o (X.given x v)))
       go = rw (hy, no_fault b y hy (λ e j. let z = sym back ∙ j in cc), hx, no_fault o x hx (λ e j. let z = sym wait ∙ j in cc), back, wait, equals o, value_itself v, equals b) refl
 
-      after : WellTyped p (plain (put_object (put_object c b (X.done y)) o (X.given x v)))
+      after : Typed p (plain (put_object (put_object c b (X.done y)) o (X.given x v)))
       after = well_typed_kept p (plain c) (plain (put_object (put_object c b (X.done y)) o (X.given x v))) (L.Return b o v) none written w go
 
       at_o : object_of (put_object (put_object c b (X.done y)) o (X.given x v)) o ≡ Some (X.given x v)
@@ -253,19 +256,19 @@ module _ (p : ProgramTree) (none : faults p ≡ []) (written : IsTrue (is_writte
 
       -- before it was given back, this was all that was served for o
       all : served_for o r.1 ≡ []
-      all = let u = w.typed.waits o b m x hx wait in
+      all = let u = w.waits o b m x hx wait in
           let same : u.0 ≡ y = same_some (sym u.1 ∙ hy) in
           let one : served_for o r.1 ++ r.0 ∷ [] ≡ m ∷ [] = ap (λ z. served_for o r.1 ++ z) (sym (serves_it r.0 o)) ∙ sym (r.3 o) ∙ ap (λ (z : Object). serves o z.term) (sym same) ∙ u.2 in
           (no_part (served_for o r.1) [] (one_part (served_for o r.1) [] r.0 m one).1).0
 
       still : (b' m' : ℕ) → action p o (X.given x v) ≢ A.Waits b' m'
-      still b' m' e = let t = after.typed.waits o b' m' (X.given x v) at_o e in by t.0 t.1 t.2 (decide b' o) (decide b' b)
+      still b' m' e = let t = after.waits o b' m' (X.given x v) at_o e in by t.0 t.1 t.2 (decide b' o) (decide b' b)
         where
           by : (z : Object) → object_of (put_object (put_object c b (X.done y)) o (X.given x v)) b' ≡ Some z → serves o z.term ≡ m' ∷ [] → (b' ≡ o) ⊎ (b' ≢ o) → (b' ≡ b) ⊎ (b' ≢ b) → ⊥
           by z f s (inl i) k =
               let same : z ≡ X.given x v = same_some (sym f ∙ ap (object_of (put_object (put_object c b (X.done y)) o (X.given x v))) i ∙ at_o) in
               let before : serves o x.term ≡ m' ∷ [] = sym (ap (served_for o) (under_way_kept c o x (literal v) w hx (rw wait refl) refl)) ∙ ap (λ (q : Object). serves o q.term) (sym same) ∙ s in
-              let t = w.typed.served o o m' [] x hx before in
+              let t = w.served o o m' [] x hx before in
               let q : A.Waits b m ≡ A.Waits o m' = sym wait ∙ ap (action p o) (same_some (sym hx ∙ t.1)) ∙ t.2 in
               apart (let u : b ≡ o = cc in u)
           by z f s (inr i) (inl k) =
@@ -273,19 +276,19 @@ module _ (p : ProgramTree) (none : faults p ≡ []) (written : IsTrue (is_writte
               let nothing : m' ∷ [] ≡ [] = sym s ∙ ap (λ (q : Object). serves o q.term) same ∙ r.4 o ∙ all in cc
           by z f s (inr i) (inr k) =
               let old : object_of c b' ≡ Some z = sym (find_put_other b' o (X.given x v) (put_object c b (X.done y)).objects i ∙ find_put_other b' b (X.done y) c.objects k) ∙ f in
-              let t = w.typed.served o b' m' [] z old s in
+              let t = w.served o b' m' [] z old s in
               let q : A.Waits b m ≡ A.Waits b' m' = sym wait ∙ ap (action p o) (same_some (sym hx ∙ t.1)) ∙ t.2 in
               k (let u : b ≡ b' = cc in sym u)
 
-  pub lawful : Lawful (terms p) (λ c. WellTyped p (plain c))
+  pub lawful : Lawful (terms p) (λ c. Typed p (plain c))
   lawful = record {
-    sorted = λ c w. w.typed.in_order.0;
+    sorted = λ c w. w.in_order.0;
     kept = λ c d lab w e. well_typed_kept p (plain c) (plain d) lab none written w (sym (move_is p c lab) ∙ ap as_plain e);
-    fault_kind = λ c o x e w h f. ap kind_of (w.typed.fault o x e h f);
+    fault_kind = λ c o x e w h f. ap kind_of (w.fault o x e h f);
     can_make = λ c o x k w h i. made_of (class_of p k) X.new_object (subst (Fine p (classes (plain c)) x) (new_is (action p o x) k i) (fine c o x w h)).0;
     can_call = λ c o x b m args w h i. let r = subst (Fine p (classes (plain c)) x) (send_is (action p o x) b m args i) (fine c o x w h) in served_by c b m args (r.0.0, r.0.1, r.0.2, r.0.3);
     can_send = λ c o x b m args w h i. let r = subst (Fine p (classes (plain c)) x) (async_is (action p o x) b m args i) (fine c o x w h) in served_by c b m args (r.0.0, r.0.1, r.0.2, r.0.3);
-    can_take = λ c names s r f w h. let z = earliest (FitsAt p (plain c) r) names (messages_of c s r) f (w.typed.messages s r) h in
+    can_take = λ c names s r f w h. let z = earliest (FitsAt p (plain c) r) names (messages_of c s r) f (w.messages s r) h in
         served_by c r f.method f.args (z.0.class, z.2.0, ap class_at z.1, z.2.1);
     has_wait = has_wait;
     given_name = given_name;

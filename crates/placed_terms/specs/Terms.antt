@@ -4,13 +4,15 @@ use Rattle.pool_syntax.specs.declared.tree.Named.{Named}
 use Rattle.pool_syntax.specs.Terms as T
 use Rattle.pool_syntax.specs.Terms.{Statements, MethodTree, ClassTree, ProgramTree}
 use Rattle.pool_syntax.specs.Classes.{class_of}
-use Rattle.pool_semantics.specs.Reducible.{Choice, AsExpression, AsStatements}
-use Rattle.pool_semantics.specs.Action as A
-use Rattle.pool_semantics.specs.Action.{Object, Action, action, is_true, method_of}
-use Rattle.pool_semantics.specs.UnderWay.{Activity, Own, Serving, in_statements, frames_of}
-use Rattle.pool_semantics.specs.Configuration.{Configuration}
-use Rattle.pool_semantics.specs.Transition as X
-use Rattle.pool_semantics.specs.Transition.{◌>>=◌, refilled, new_object}
+use Rattle.pool_relation.specs.Reducible.{Choice, AsExpression, AsStatements}
+use Rattle.pool_relation.specs.Action as A
+use Rattle.pool_syntax.specs.Values.{is_true}
+use Rattle.pool_relation.specs.Action.{Object, Action, action, method_of}
+use Rattle.pool_relation.specs.UnderWay.{Activity, Own, Serving, in_statements, frames_of}
+use Rattle.pool_relation.specs.Configuration.{Configuration}
+use Rattle.pool_relation.specs.Transition as X
+use Rattle.mesh_semantics.specs.Partial.{◌>>=◌}
+use Rattle.pool_relation.specs.Transition.{refilled, new_object}
 use Rattle.mesh_semantics.specs.Kind as K
 use Rattle.mesh_semantics.specs.Kind.{Kind, Alternative}
 use Rattle.mesh_semantics.specs.Language.{Language}
@@ -90,3 +92,8 @@ terms p = record {
 -- a configuration of terms
 abbrev pub plain : Config Object → Configuration
 plain c = record { objects = c.objects; messages = c.messages }
+
+-- one of terms, if there is one
+abbrev pub as_plain : Option (Config Object) → Option Configuration
+as_plain None = None
+as_plain (Some c) = Some (plain c)
