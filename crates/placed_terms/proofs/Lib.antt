@@ -1,0 +1,4 @@
+pub mod Instance
+pub mod LawfulTerms
+pub mod RootClass
+pub mod RunsFrom
