@@ -1,0 +1,4 @@
+pub mod Blocks
+pub mod Grants
+pub mod Sharing
+pub mod Steps
