@@ -56,8 +56,8 @@ allocate_spec 𝓤 𝓛 𝓜 𝓡 wired X W L K g dict drops met met_drop =
     use1 𝓛 (later (raw (Answered Z 𝓛 𝓜.mem 𝓡.returns handle τ v) ⊛ ‵ (flft κ q))) (Takes-gives Z 𝓛 𝓜.mem 𝓡.returns κ q at_p handle (n * s) al τ v) $ await ! tt $ split ! $
     let Out : RattleType = Tuple (place_row R ∷ region_row R ∷ deed_row R A g ∷ []) in let Answer : RattleType = Res.the_row Out Refusal.the_row in
     let end : (r : Answer.Denot) (w : Val) → IfOk r (λ t. (t.1.grid ≡ (s, t.0.ptr)) × (t.1.slots ≡ replicate n None) × (t.2.at ≡ t.0.ptr) × (t.2.len ≡ n) × (t.2.alloc ≡ handle))
-        → Sq 𝓛 (‵ (Answer.own_val r (w ∷ [])) ∷ ‵ (flft κ q) ∷ (‵ (flft κs.1.0 qs.1.0) ⊛ ‵ (flft κs.1.1.0 qs.1.1.0) ⊛ ‵ ftrue) ∷ []) (prop (Walk.post y w)) = λ r w given.
-        move ! (1 ∷ 2 ∷ []) $ join ! $ suffices ! _ (ends_at 𝓛 T stayed c y w r (tt, (tt, tt)) (tt, (tt, tt))) $ says ! given $ frame ! $ nothing ! $ nothing ! $ join ! $ nothing ! $ join ! $ done ! in
+    → Sq 𝓛 (‵ (Answer.own_val r (w ∷ [])) ∷ ‵ (flft κ q) ∷ (‵ (flft κs.1.0 qs.1.0) ⊛ ‵ (flft κs.1.1.0 qs.1.1.0) ⊛ ‵ ftrue) ∷ []) (prop (Walk.post y w)) = λ r w given.
+    move ! (1 ∷ 2 ∷ []) $ join ! $ suffices ! _ (ends_at 𝓛 T stayed c y w r (tt, (tt, tt)) (tt, (tt, tt))) $ says ! given $ frame ! $ nothing ! $ nothing ! $ join ! $ nothing ! $ join ! $ done ! in
     answers Z ! 𝓜.mem 𝓡.returns handle τ v
     (λ b o e.
     let p : Ptr = block_ptr b o in let base : Place X.Denot = record { ptr = p } in let word : Val = vstruct (vcons (vptr b o) vnil) in

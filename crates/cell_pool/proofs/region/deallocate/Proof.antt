@@ -27,8 +27,16 @@ deallocate_spec 𝓤 𝓛 𝓜 𝓡 wired X W L K g dict drops met met_drop =
     let P = place_row R in let R' = region_row R in let D = deed_row R A g in let function = inst_fn (args X Z) code.function in
     let T' = f.ended X W g dict drops in let stayed : Stays T'.signature.params T'.kept = (stay_dropped _ yes, (stay_dropped _ no, (stay_dropped _ yes, (stay_dropped _ no, (stay_dropped _ no, tt))))) in
     let c = f.clauses X W g dict drops 𝓛 𝓜.mem 𝓡.returns in let Walk = walk_of 𝓛 T' stayed c in let 𝓣 = tables 𝓤 𝓛.H 𝓜 𝓡 𝓡.env in
-    proved 𝓛 T' stayed c 𝓜 𝓡 (Goes-dropped 𝓛 3 (RefOf (0 ∷ []) tt (plain (λ _. A)) (λ _. tt)) yes (λ κs x w. refl), (Goes-dropped 𝓛 3 (plain (λ _. P)) no (λ κs x w. refl), (Goes-dropped 𝓛 3 (plain (λ _. usize)) yes (λ κs x w. refl),
-    (Goes-blank 𝓛 3 (plain (λ _. R')) no (λ κs x w. tt), (Goes-blank 𝓛 3 (plain (λ _. D)) no (λ κs x w. tt), tt)))))
+    proved 𝓛 T' stayed c 𝓜 𝓡 (
+      Goes-dropped 𝓛 3 (RefOf (0 ∷ []) tt (plain (λ _. A)) (λ _. tt)) yes (λ κs x w. refl),
+      (
+        Goes-dropped 𝓛 3 (plain (λ _. P)) no (λ κs x w. refl),
+        (
+          Goes-dropped 𝓛 3 (plain (λ _. usize)) yes (λ κs x w. refl),
+          (Goes-blank 𝓛 3 (plain (λ _. R')) no (λ κs x w. tt), (Goes-blank 𝓛 3 (plain (λ _. D)) no (λ κs x w. tt), tt)),
+        ),
+      ),
+    )
     (f.Key.name (args X Z)) function (code.unfolded 𝓤 𝓛.H 𝓜 𝓡 wired (X, (W, tt)) dict drops)
     (λ κs. (shr_vals, (λ p. place.lowered R LR p ∷ [], (uint_vals w64, (λ r. owner.lowered R LR r ∷ [], (λ d. right.lowered R A g LR LA d ∷ [], tt))))))
     (λ κs. (shr_Tells (named 0) κs.0 A, ((place.lowers R LR).val_is, (uint_Tells w64, ((owner.lowers R LR).val_is, ((right.lowers R A g LR LA).val_is, tt)))))) (λ κs qs bounds a _ are.
