@@ -47,16 +47,16 @@ run = record_of (terms program) placement 5 schedule
 
 a_full_heap_by_a_packet : run.lines ≡
     lines (
-      (Turn 0, W.PostCreate (at 0 0) (id C) 1)
-      ∷ (Link 0 1, step (L.New (at 0 0) (at 1 0) (id C)))
-      ∷ (Link 1 0, W.Created (at 0 0) (at 1 0))
-      ∷ (Turn 0, local (at 0 0) 1)
-      ∷ (Turn 0, W.PostCreate (at 0 0) (id C) 1)
-      ∷ (Link 0 1, step (L.New (at 0 0) (at 1 1) (id C)))
-      ∷ (Link 1 0, W.Created (at 0 0) (at 1 1))
-      ∷ (Turn 0, local (at 0 0) 1)
-      ∷ (Turn 0, W.PostCreate (at 0 0) (id C) 1)
-      ∷ []
+    (Turn 0, W.PostCreate (at 0 0) (id C) 1)
+    ∷ (Link 0 1, step (L.New (at 0 0) (at 1 0) (id C)))
+    ∷ (Link 1 0, W.Created (at 0 0) (at 1 0))
+    ∷ (Turn 0, local (at 0 0) 1)
+    ∷ (Turn 0, W.PostCreate (at 0 0) (id C) 1)
+    ∷ (Link 0 1, step (L.New (at 0 0) (at 1 1) (id C)))
+    ∷ (Link 1 0, W.Created (at 0 0) (at 1 1))
+    ∷ (Turn 0, local (at 0 0) 1)
+    ∷ (Turn 0, W.PostCreate (at 0 0) (id C) 1)
+    ∷ []
     ) (Full Heap 1 9)
 a_full_heap_by_a_packet = refl
 

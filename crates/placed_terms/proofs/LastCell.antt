@@ -67,10 +67,10 @@ the_last_free_cell_is_taken = refl
 
 one_cell_more_is_enough : (record_of (terms program) (placement 2) 5 schedule).lines ≡
     lines (
-      to_the_note
-      ++ (Turn 1, step (L.Return (at 1 0) (at 0 0) (int 5)))
-      ∷ (Link 1 0, W.Result (at 0 0) (int 5))
-      ∷ (Turn 0, written (at 0 0) 5)
-      ∷ []
+    to_the_note
+    ++ (Turn 1, step (L.Return (at 1 0) (at 0 0) (int 5)))
+    ∷ (Link 1 0, W.Result (at 0 0) (int 5))
+    ∷ (Turn 0, written (at 0 0) 5)
+    ∷ []
     ) (Quiet 12)
 one_cell_more_is_enough = refl

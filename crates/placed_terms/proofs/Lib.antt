@@ -3,8 +3,10 @@ pub mod LawfulTerms
 pub mod RootClass
 pub mod RunsFrom
 pub mod Words
-mod TwoNodes
+pub mod TwoNodes
+mod UnsoundStates
 mod LastCell
 mod FullHeap
 mod OutOfTheMiddle
 mod RingOfCalls
+pub mod FourNodes

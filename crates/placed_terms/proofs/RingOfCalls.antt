@@ -4,7 +4,6 @@
 -- class Main var a, b, c : Peer body a := new Peer; b := new Peer; c := new Peer; a !! set(b); b !! set(c); c !! set(a) end
 use Rattle.std.proofs.Common.{◌≡◌, refl, ℕ, List, [], ◌∷◌, None}
 use Rattle.std.specs.Prelude.{map}
-use Rattle.pool_syntax.specs.declared.words.Event.{Event}
 use Rattle.pool_syntax.specs.declared.words.End.{End}
 use Rattle.pool_syntax.specs.declared.words.End.TheVariants.{Quiet}
 use Rattle.pool_syntax.specs.declared.words.Line.{Line}
@@ -48,14 +47,14 @@ c = 8
 abbrev program : ProgramTree
 program =
     class Peer (var next (object_of_class Peer) ∷ []) (
-      method setting (var p (object_of_class Peer) ∷ []) [] None (block (set next (it p) ∷ [])) nothing
-      ∷ method hit [] [] None (block []) nothing
-      ∷ []
+    method setting (var p (object_of_class Peer) ∷ []) [] None (block (set next (it p) ∷ [])) nothing
+    ∷ method hit [] [] None (block []) nothing
+    ∷ []
     ) (block (Answer (names (setting ∷ [])) ∷ Do (call (it next) hit []) ∷ []))
     ∷ class Main (var a (object_of_class Peer) ∷ var b (object_of_class Peer) ∷ var c (object_of_class Peer) ∷ []) [] (block (
-      set a (new Peer) ∷ set b (new Peer) ∷ set c (new Peer)
-      ∷ send (it a) setting (it b ∷ []) ∷ send (it b) setting (it c ∷ []) ∷ send (it c) setting (it a ∷ [])
-      ∷ []
+    set a (new Peer) ∷ set b (new Peer) ∷ set c (new Peer)
+    ∷ send (it a) setting (it b ∷ []) ∷ send (it b) setting (it c ∷ []) ∷ send (it c) setting (it a ∷ [])
+    ∷ []
     ))
     ∷ []
 
