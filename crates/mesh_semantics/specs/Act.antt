@@ -1,4 +1,5 @@
--- What one event does to a configuration and its delay.
+-- The counts of a node, which objects are ready, whose turn it is, what one event does to a configuration and its delay, and when all is quiet.
+-- One event is one turn of a node, or one move of the head of a link; nothing else happens at once.
 use Rattle.std.specs.Prelude.{ℕ, zero, suc, ◌+◌, ◌*◌, ◌%◌, ◌==◌, List, [], ◌∷◌, filter, Option, Some, None, is_some, is_none, Bool, true, false, not, ◌&&◌, ◌||◌, if◌then◌else◌, nat_le, nat_lt, slice_get}
 use Rattle.std.specs.List.{list_any}
 use Rattle.std.specs.Ordering.{nat_cmp}

@@ -1,4 +1,5 @@
--- Objects of a language and the asynchronous messages between them. Both maps are lists of entries whose keys rise.
+-- A configuration of any language: its objects by name, and the asynchronous messages of each pair of names that were not yet taken. Both maps
+-- are lists of entries whose keys rise.
 use Rattle.std.specs.Prelude.{ℕ, List, Option}
 use Rattle.std.specs.Ordering.{nat_cmp}
 use Rattle.std.specs.FinMap.{find, put}

@@ -1,4 +1,5 @@
--- What a machine of nodes adds to a configuration: packets on links, arrived messages, and what each object waits for.
+-- The delay: what a machine of nodes adds to a configuration. It has the packets on links, the arrived messages, and what each object waits for,
+-- and no request numbers. The node of a name is the name div 65536, its slot the name mod 65536.
 use Rattle.std.specs.Prelude.{ℕ, ◌+◌, ◌/◌, ◌%◌, ◌==◌, List, [], ◌∷◌, ◌++◌, Option, Bool, ◌&&◌, if◌then◌else◌}
 use Rattle.std.specs.Option.{unwrap_or}
 use Rattle.std.specs.Ordering.{nat_cmp}

@@ -1,4 +1,5 @@
--- The transition relation over objects of any language: a label, where it is possible, determines the configuration after it.
+-- The transition relation over objects of any language, and its runs. It knows no node, packet or delay. A label, where it is possible, determines
+-- the configuration after it.
 use Rattle.std.specs.Prelude.{ℕ, zero, suc, ◌+◌, ◌==◌, List, [], ◌∷◌, ◌++◌, Option, Some, None, is_some, is_none, Bool, false, not, ◌&&◌, ◌||◌, if◌then◌else◌, slice_get}
 use Rattle.pool_syntax.specs.declared.words.Value.TheVariants as V
 use Rattle.pool_syntax.specs.declared.words.Error.{Error}

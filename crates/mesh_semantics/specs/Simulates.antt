@@ -25,25 +25,32 @@ IsCalled {S} g c b m args =
     ((o : ℕ) × (x : S) × (object_of c o ≡ Some x) × ((calls (g.kind o x) b m args || posts (g.kind o x) b m args) ≡ true))
     ⊎ ((s : ℕ) × (names : List ℕ) × (f : Message) × (first_message names (messages_of c s b) ≡ Some f) × ((f.method == m && are_same f.args args) ≡ true))
 
--- W is what is kept of configurations of the first language
+-- The second language h does what g does, where R says which objects of a name correspond, and W is what is kept of configurations of g.
 pub record Simulates {S T : Type 0} (g : Language S) (h : Language T) (W : Config S → Type 0) (R : ℕ → S → T → Type 0) : Type 0 where
   pub classes : g.classes ≡ h.classes
   pub class : (o : ℕ) (x : S) (y : T) → R o x y → g.class x ≡ h.class y
+  -- new objects correspond
   pub root : (o : ℕ) → Both (R o) g.root h.root
+  -- those that correspond do the same next, have met the same error, and have as many methods under way
   pub kinds : (o : ℕ) (x : S) (y : T) → R o x y → g.kind o x ≡ h.kind o y
   pub faults : (o : ℕ) (x : S) (y : T) → R o x y → g.fault x ≡ h.fault y
   pub frames : (o : ℕ) (x : S) (y : T) → R o x y → g.frames x ≡ h.frames y
   pub made : (o k : ℕ) → Both (R o) (g.made k) (h.made k)
+  -- and what they become corresponds again: after a local transition
   pub stepped : (c : Config S) (o : ℕ) (x : S) (y : T) → W c → running g c o ≡ Some x → R o x y → is_local (g.kind o x) ≡ true → R o (g.stepped o x) (h.stepped o y)
+  -- given the name of a new object
   pub named : (c : Config S) (o : ℕ) (x : S) (y : T) (k n : ℕ) → W c → running g c o ≡ Some x → object_of c n ≡ None → R o x y → makes (g.kind o x) k ≡ true
       → R o (g.given x (V.Ref n)) (h.given y (V.Ref n))
-  -- d is what is after the return
+  -- given the value of a call, where d is what is after the return
   pub given : (c d : Config S) (b o : ℕ) (u x : S) (y : T) (v : Value) → W c → W d → running g c b ≡ Some u → running g c o ≡ Some x → object_of d o ≡ Some (g.given x v)
       → R o x y → returns (g.kind b u) o v ≡ true → waits_on (g.kind o x) b ≡ true → R o (g.given x v) (h.given y v)
+  -- while its call is served
   pub waiting : (c : Config S) (o : ℕ) (x : S) (y : T) (b m : ℕ) (args : List Value) → W c → running g c o ≡ Some x → R o x y → calls (g.kind o x) b m args ≡ true → R o (g.waiting x b m) (h.waiting y b m)
+  -- after a send, a write, a return
   pub sent : (c : Config S) (o : ℕ) (x : S) (y : T) (b m : ℕ) (args : List Value) → W c → running g c o ≡ Some x → R o x y → posts (g.kind o x) b m args ≡ true → R o (g.done x) (h.done y)
   pub wrote : (c : Config S) (o : ℕ) (x : S) (y : T) (item : Item) → W c → running g c o ≡ Some x → R o x y → writes (g.kind o x) item ≡ true → R o (g.done x) (h.done y)
   pub returned : (c : Config S) (o : ℕ) (x : S) (y : T) (k : ℕ) (v : Value) → W c → running g c o ≡ Some x → R o x y → returns (g.kind o x) k v ≡ true → R o (g.returned x) (h.returned y)
+  -- as an alternative is chosen, as a method begins to be served, and after an error
   pub picked : (c : Config S) (o : ℕ) (x : S) (y : T) (i : ℕ) → W c → running g c o ≡ Some x → R o x y → can_pick (numbered (alternatives (g.kind o x)) i) ≡ true → R o (g.picked o x i) (h.picked o y i)
   pub serving : (c : Config S) (o : ℕ) (x : S) (y : T) (i m : ℕ) (names : List ℕ) (caller : Option ℕ) (args : List Value) → W c → running g c o ≡ Some x → R o x y
       → offered 1 (alternatives (g.kind o x)) m ≡ Some (i, names) → IsCalled g c o m args → Both (R o) (g.serving o x i m caller args) (h.serving o y i m caller args)

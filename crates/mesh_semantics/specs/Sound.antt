@@ -1,4 +1,5 @@
--- What a placed machine keeps of its configuration and its delay.
+-- Sound: what a placed machine keeps of its configuration and its delay. What is on the way for an object is exactly what it waits for, the
+-- messages of each pair are on their way in the order in which they were sent, and each node is within its limits.
 use Rattle.std.specs.Prelude.{◌≡◌, ◌≢◌, ◌⊎◌, ℕ, ◌*◌, ◌<◌, ◌≤◌, ◌==◌, List, [], ◌∷◌, ◌++◌, Option, Some, None, Bool, true, false, ◌&&◌, if◌then◌else◌}
 use Rattle.pool_syntax.specs.declared.words.Value.{Value}
 use Rattle.pool_syntax.specs.declared.words.Value.TheVariants as V
