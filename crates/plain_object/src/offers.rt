@@ -1,5 +1,6 @@
 //! What an answer or a select offers.
 ghost use Rattle.std.specs.Prelude.{◌≡◌, [], ◌∷◌, Option, Some, None};
+ghost use Rattle.pool_syntax.specs.Values.{is_true};
 ghost use Rattle.pool_relation.specs.Action as A;
 ghost use Rattle.pool_relation.specs.Transition.{names_method, picked, plain_choice, select_offer};
 ghost use Rattle.term_stack.specs.Reduced.{choice, choices};
