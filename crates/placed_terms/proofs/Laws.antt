@@ -2,4 +2,4 @@
 pub use Rattle.placed_terms.proofs.Instance.{move_is}
 pub use Rattle.placed_terms.proofs.LawfulTerms.{lawful}
 pub use Rattle.placed_terms.proofs.Writing.{write_keeps_frames}
-pub use Rattle.placed_terms.proofs.RunsFrom.{start_is_sound, event_keeps, runs_from}
+pub use Rattle.placed_terms.proofs.RunsFrom.{starts_plain, start_is_sound, event_keeps, runs_from}
