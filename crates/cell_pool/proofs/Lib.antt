@@ -1,5 +1,7 @@
 pub mod Blocks
+pub mod Firsts
 pub mod Grants
+pub mod Laws
 pub mod Links
 pub mod Moves
 pub mod Pools
