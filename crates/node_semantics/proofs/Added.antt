@@ -19,7 +19,7 @@ use Rattle.mesh_semantics.proofs.Maps.{find_put_same, find_put_other}
 use Rattle.node_semantics.specs.Node.{NodeState, set_at, name_at, made_here, add_slot, fresh_slot, count_one}
 use Rattle.node_semantics.specs.Machine.{Machine}
 use Rattle.node_semantics.specs.Requests.{Requests}
-use Rattle.node_semantics.specs.Stands.{slot_at, request_of, request_in, Free, AtName, HasSlot, AreNumbersOf, Counts, Stands}
+use Rattle.node_semantics.specs.StandsFor.{slot_at, request_of, request_in, Free, AtName, HasSlot, AreNumbersOf, CountsMade, MachineStandsFor}
 use Rattle.mesh_semantics.specs.Act.{class_place}
 use Rattle.node_semantics.proofs.Places.{class_at, same_place, as_long}
 use Rattle.node_semantics.proofs.Slots.{set_same, set_other, set_length, last_there, front_there, whole_name, name_node, name_slot, at_node, elsewhere, before, after}
@@ -29,12 +29,12 @@ use Rattle.node_semantics.proofs.Links.{tied_pair, untied_pair, pair_total}
 use Rattle.node_semantics.proofs.Assembled.{assemble}
 use Rattle.node_semantics.proofs.Changes.{aside_stands}
 
-module _ {S : Type 0} (g : Language S) (l : Placement) (m : Machine S) (c : Config S) (d : Delay) (st : Stands g l m c d) (n : ℕ) (x : NodeState S) (node : slice_get m.nodes n ≡ Some x) where
-  pub last_stands : (i : ℕ) → Stands g l (record { nodes = set_at m.nodes n (record x { last = Some i }); links = m.links }) c (record d { last = put nat_cmp n i d.last })
+module _ {S : Type 0} (g : Language S) (l : Placement) (m : Machine S) (c : Config S) (d : Delay) (st : MachineStandsFor g l m c d) (n : ℕ) (x : NodeState S) (node : slice_get m.nodes n ≡ Some x) where
+  pub last_stands : (i : ℕ) → MachineStandsFor g l (record { nodes = set_at m.nodes n (record x { last = Some i }); links = m.links }) c (record d { last = put nat_cmp n i d.last })
   last_stands i = aside_stands g l m c d st n x node (record x { last = Some i }) (put nat_cmp n i d.last) d.made refl
       (sym (find_put_same n i d.last)) (λ b e. find_put_other b n i d.last e) (st.made n x node) (λ b k e. refl)
 
-  pub count_stands : (k : ℕ) → In k g.classes → Stands g l (record { nodes = set_at m.nodes n (count_one g k x); links = m.links }) c (count_made n k d)
+  pub count_stands : (k : ℕ) → In k g.classes → MachineStandsFor g l (record { nodes = set_at m.nodes n (count_one g k x); links = m.links }) c (count_made n k d)
   count_stands k class = aside_stands g l m c d st n x node (count_one g k x) d.last (count_made n k d).made refl
       (st.last n x node) (λ b e. refl) own others
     where
@@ -60,7 +60,7 @@ module _ {S : Type 0} (g : Language S) (l : Placement) (m : Machine S) (c : Conf
               ∙ sym (ap (λ z. unwrap_or z 0) (looked n j
                   ∙ ap (λ b. cond b (Some (made_by d n k + 1)) (find pair_cmp (n, j) d.made)) (untied_pair (n, j) (n, k) (λ z. e (ap (λ (p : Pair). p.1) z)))))
 
-      own : Counts g (count_one g k x) (count_made n k d) n
+      own : CountsMade g (count_one g k x) (count_made n k d) n
       own = (set_length x.made (class_place g.classes k) (made_here g x k + 1) ∙ (st.made n x node).0, own_count)
 
       others : (b j : ℕ) → b ≢ n → made_by (count_made n k d) b j ≡ made_by d b j
@@ -112,7 +112,7 @@ module _ {S : Type 0} (g : Language S) (l : Placement) (m : Machine S) (c : Conf
             ∙ sym (before m m' n x x' node refl q i)
 
     pub add_stands : (y : S) → ((b : ℕ) (z : S) → object_of c b ≡ Some z → In next_of (g.callers z) → ⊥) → entries d next_of ≡ [] → g.callers y ≡ []
-        → Stands g l (record { nodes = set_at m.nodes n (add_slot x y); links = m.links }) (put_object c next_of y) d
+        → MachineStandsFor g l (record { nodes = set_at m.nodes n (add_slot x y); links = m.links }) (put_object c next_of y) d
     add_stands y unserved none alone = assemble g l m c d st n x node x' m.links c' d few (st.last n x node) (λ b e. refl) (st.made n x node) (λ b k e. refl)
         (λ q. spots q (decide q next_of)) st.links st.in_order
         (λ z. link_kept g m m' (But next_of) keep (list_at pair_cmp z m.links) (on_link d.links z) (st.links z) (r.on_links z) grow (st.on_links z))
@@ -158,7 +158,7 @@ module _ {S : Type 0} (g : Language S) (l : Placement) (m : Machine S) (c : Conf
 
         mine : Spot g m' next_of (slot_at m' next_of) (object_of c' next_of) (held d next_of) (arrived_at d next_of)
         mine = spot_same g m' next_of {s = Some (fresh_slot y)} {x = Some y} {h = None} {b = []} here (find_put_same next_of y c.objects) is_new.free is_new.box (
-            record { state = Free refl refl; letters = refl },
+            record { state = Free refl refl; mailbox = refl },
             tt,
             subst (AreNumbersOf m' []) (sym alone) tt,
         )

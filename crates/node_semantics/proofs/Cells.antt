@@ -15,9 +15,9 @@ use Rattle.mesh_semantics.specs.Paths.{total, under}
 use Rattle.mesh_semantics.specs.Delay.{Arrival, node_of, slot_of}
 use Rattle.mesh_semantics.specs.Paths.{is_link, on_link}
 use Rattle.mesh_semantics.specs.Delay.{Packet}
-use Rattle.node_semantics.specs.Node.{name_at, Slot, Letter, Numbered, messages, letters_at}
+use Rattle.node_semantics.specs.Node.{name_at, Slot, NumberedArrival, NumberedPacket, arrivals, message_count}
 use Rattle.node_semantics.specs.Machine.{leaving}
-use Rattle.node_semantics.specs.Stands.{packets}
+use Rattle.node_semantics.specs.StandsFor.{packets}
 use Rattle.node_semantics.proofs.Posted.{decide_link}
 use Rattle.node_semantics.proofs.Slots.{whole_name, name_node}
 
@@ -88,34 +88,34 @@ module _ {X : Type 0} (n : ℕ) where
           let y = one_out e es 0 j (λ z a b w. absurd (let c : (node_of e.0 == n) ≡ true = rw (ap node_of w ∙ name_node n z (omega (arith, b, f))) (equals n) in cc)) in
           rw (i, k, y) (omega arith)
 
-length_messages : (ls : List Letter) → length (messages ls) ≡ length ls
+length_messages : (ls : List NumberedArrival) → length (arrivals ls) ≡ length ls
 length_messages [] = refl
 length_messages (a ∷ ls) = ap suc (length_messages ls)
 
 counted_letters : {S : Type 0} (n : ℕ) (es : List (ℕ × Arrival)) (i : ℕ) (ss : List (Slot S))
-    → ((j : ℕ) (s : Slot S) → slice_get ss j ≡ Some s → messages s.letters ≡ under (λ r. r == name_at n (i + j)) es) → counted n i (length ss) es ≡ letters_at ss
+    → ((j : ℕ) (s : Slot S) → slice_get ss j ≡ Some s → arrivals s.mailbox ≡ under (λ r. r == name_at n (i + j)) es) → counted n i (length ss) es ≡ message_count ss
 counted_letters n es i [] f = refl
 counted_letters {S} n es i (s ∷ ss) f =
-    let a : length (under (λ r. r == name_at n i) es) ≡ length s.letters = subst (λ k. length (under (λ r. r == name_at n k) es) ≡ length s.letters) (omega arith) (sym (ap length (f 0 s refl)) ∙ length_messages s.letters) in
-    let b : counted n (i + 1) (length ss) es ≡ letters_at ss =
-        counted_letters n es (i + 1) ss (λ j z e. let k : i + (j + 1) ≡ i + 1 + j = omega arith in subst (λ w. messages z.letters ≡ under (λ r. r == name_at n w) es) k (f (j + 1) z (subst (λ w. slice_get (s ∷ ss) w ≡ Some z) (suc_is j) e))) in
-    let c = sum_by-cons (λ (y : Slot S). length y.letters) s ss in
+    let a : length (under (λ r. r == name_at n i) es) ≡ length s.mailbox = subst (λ k. length (under (λ r. r == name_at n k) es) ≡ length s.mailbox) (omega arith) (sym (ap length (f 0 s refl)) ∙ length_messages s.mailbox) in
+    let b : counted n (i + 1) (length ss) es ≡ message_count ss =
+        counted_letters n es (i + 1) ss (λ j z e. let k : i + (j + 1) ≡ i + 1 + j = omega arith in subst (λ w. arrivals z.mailbox ≡ under (λ r. r == name_at n w) es) k (f (j + 1) z (subst (λ w. slice_get (s ∷ ss) w ≡ Some z) (suc_is j) e))) in
+    let c = sum_by-cons (λ (y : Slot S). length y.mailbox) s ss in
     ap₂ (λ x y. x + y) a b ∙ sym c
   where
     suc_is : (j : ℕ) → suc j ≡ j + 1
     suc_is j = omega arith
 
--- the letters in the slots of a node are what has arrived at its objects
+-- the mailbox in the slots of a node are what has arrived at its objects
 pub letters_count : {S : Type 0} (n : ℕ) (es : List (ℕ × Arrival)) (ss : List (Slot S)) → length ss ≤ 65536
-    → ((j : ℕ) (s : Slot S) → slice_get ss j ≡ Some s → messages s.letters ≡ under (λ r. r == name_at n j) es)
+    → ((j : ℕ) (s : Slot S) → slice_get ss j ≡ Some s → arrivals s.mailbox ≡ under (λ r. r == name_at n j) es)
     → ((q : ℕ) → node_of q ≡ n → length ss ≤ slot_of q → under (λ r. r == q) es ≡ [])
-    → letters_at ss ≡ total (λ e. if node_of e.0 == n then 1 else 0) es
+    → message_count ss ≡ total (λ e. if node_of e.0 == n then 1 else 0) es
 letters_count {S} n es ss f g out =
-    sym (counted_is n es (length ss) f out ∙ counted_letters n es 0 ss (λ j s e. let k : 0 + j ≡ j = omega arith in subst (λ w. messages s.letters ≡ under (λ r. r == name_at n w) es) (sym k) (g j s e)))
+    sym (counted_is n es (length ss) f out ∙ counted_letters n es 0 ss (λ j s e. let k : 0 + j ≡ j = omega arith in subst (λ w. arrivals s.mailbox ≡ under (λ r. r == name_at n w) es) (sym k) (g j s e)))
 
 -- the packets on links that leave a node, by links and in one list
 
-length_packets : (es : List Numbered) → length (packets es) ≡ length es
+length_packets : (es : List NumberedPacket) → length (packets es) ≡ length es
 length_packets [] = refl
 length_packets (e ∷ es) = ap suc (length_packets es)
 
@@ -215,7 +215,7 @@ pub nothing_on : (es : List (Pair × Packet)) → ((k : Pair) → on_link es k �
 nothing_on [] h = refl
 nothing_on (e ∷ es) h = absurd (let y : on_link (e ∷ es) e.0 ≡ [] = h e.0 in let z : e.1 ∷ on_link es e.0 ≡ [] = rw (link_itself e.0) at y in cc)
 
-pub leaving_count : (n : ℕ) (links : List (Pair × List Numbered)) (es : List (Pair × Packet)) → IsTrue (is_sorted pair_cmp links)
+pub leaving_count : (n : ℕ) (links : List (Pair × List NumberedPacket)) (es : List (Pair × Packet)) → IsTrue (is_sorted pair_cmp links)
     → ((k : Pair) → packets (list_at pair_cmp k links) ≡ on_link es k) → leaving links n ≡ total (λ e. if e.0.0 == n then 1 else 0) es
 leaving_count n [] es o h = let z = nothing_on es (λ k. sym (h k)) in rw z refl
 leaving_count n (e ∷ links) es o h =
@@ -224,7 +224,7 @@ leaving_count n (e ∷ links) es o h =
     let rest = leaving_count n links (not_on e.0 es) (second (below_all pair_cmp e.0 links) (is_sorted pair_cmp links) o) (λ j. at j (decide_link j e.0) below) in
     let a : length e.1 ≡ length (on_link es e.0) =
         sym (length_packets e.1) ∙ ap length (ap (λ z. packets (unwrap_or z [])) (sym (find_first e.0 e.1 links)) ∙ h e.0) in
-    sum_by-cons (λ (z : Pair × List Numbered). if z.0.0 == n then length z.1 else 0) e links
+    sum_by-cons (λ (z : Pair × List NumberedPacket). if z.0.0 == n then length z.1 else 0) e links
     ∙ ap₂ (λ x y. (if e.0.0 == n then x else 0) + y) a rest ∙ sym (parts n e.0 es)
   where
     at : (j : Pair) → (j ≡ e.0) ⊎ (j ≢ e.0) → IsTrue (below_all pair_cmp e.0 links) → packets (list_at pair_cmp j links) ≡ on_link (not_on e.0 es) j

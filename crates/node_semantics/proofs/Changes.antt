@@ -12,9 +12,9 @@ use Rattle.mesh_semantics.specs.Paths.{under, on_link, put_last, move_head}
 use Rattle.mesh_semantics.specs.Delay.{Arrival, Holding, Delay, node_of, slot_of, arrived_at, held, made_by}
 use Rattle.mesh_semantics.specs.Sound.{Each}
 use Rattle.mesh_semantics.proofs.Maps.{find_put_same, find_put_other}
-use Rattle.node_semantics.specs.Node.{Slot, Numbered, NodeState, set_at}
+use Rattle.node_semantics.specs.Node.{Slot, NumberedPacket, NodeState, set_at}
 use Rattle.node_semantics.specs.Machine.{Machine}
-use Rattle.node_semantics.specs.Stands.{slot_at, request_of, HasSlot, Fits, Stands, Counts}
+use Rattle.node_semantics.specs.StandsFor.{slot_at, request_of, HasSlot, PacketFits, MachineStandsFor, CountsMade}
 use Rattle.node_semantics.proofs.Slots.{set_set, set_length, elsewhere, before, after, changed_here, changed_there}
 use Rattle.mesh_semantics.proofs.Basics.{each_map}
 use Rattle.node_semantics.proofs.References.{Same, same_slot, fits_kept}
@@ -25,18 +25,18 @@ use Rattle.node_semantics.proofs.Assembled.{assemble}
 
 module _ {S : Type 0} (g : Language S) (l : Placement) where
   -- two changes of one node are one
-  pub chain : (m : Machine S) (n : ℕ) (x y : NodeState S) (links : List (Pair × List Numbered)) (c : Config S) (d : Delay)
-      → Stands g l (record { nodes = set_at (set_at m.nodes n x) n y; links = links }) c d → Stands g l (record { nodes = set_at m.nodes n y; links = links }) c d
-  chain m n x y links c d h = subst (λ ns. Stands g l (record { nodes = ns; links = links }) c d) (set_set m.nodes n x y) h
+  pub chain : (m : Machine S) (n : ℕ) (x y : NodeState S) (links : List (Pair × List NumberedPacket)) (c : Config S) (d : Delay)
+      → MachineStandsFor g l (record { nodes = set_at (set_at m.nodes n x) n y; links = links }) c d → MachineStandsFor g l (record { nodes = set_at m.nodes n y; links = links }) c d
+  chain m n x y links c d h = subst (λ ns. MachineStandsFor g l (record { nodes = ns; links = links }) c d) (set_set m.nodes n x y) h
 
   -- what is known of packets does not look at links
-  relinked : (m : Machine S) (links : List (Pair × List Numbered)) (es : List Numbered) → Each (Fits m) es → Each (Fits (record m { links = links })) es
+  relinked : (m : Machine S) (links : List (Pair × List NumberedPacket)) (es : List NumberedPacket) → Each (PacketFits m) es → Each (PacketFits (record m { links = links })) es
   relinked m links es h = each_map _ _ (λ e f. fits_kept m (record m { links = links }) e (λ q i. record { request = refl; goal = refl }) (λ q z. z) f) es h
 
-  module _ (m : Machine S) (c : Config S) (d : Delay) (st : Stands g l m c d) where
+  module _ (m : Machine S) (c : Config S) (d : Delay) (st : MachineStandsFor g l m c d) where
     -- a packet is put last on a link
-    pub post_stands : (k : Pair) (e : Numbered) → Fits m e
-        → Stands g l (record m { links = push_list pair_cmp k e m.links }) c (record d { links = put_last k e.packet d.links })
+    pub post_stands : (k : Pair) (e : NumberedPacket) → PacketFits m e
+        → MachineStandsFor g l (record m { links = push_list pair_cmp k e m.links }) c (record d { links = put_last k e.packet d.links })
     post_stands k e h = record {
       nodes = st.nodes;
       few = st.few;
@@ -46,17 +46,17 @@ module _ {S : Type 0} (g : Language S) (l : Placement) where
       last = st.last;
       made = st.made;
       distinct = st.distinct;
-      on_links = λ j. relinked m (push_list pair_cmp k e m.links) _ (posted_each m.links d.links st.links k e (Fits m) st.on_links h j);
-      in_letters = st.in_letters;
+      on_links = λ j. relinked m (push_list pair_cmp k e m.links) _ (posted_each m.links d.links st.links k e (PacketFits m) st.on_links h j);
+      in_mailboxes = st.in_mailboxes;
       in_callers = st.in_callers;
     }
 
     -- the head leaves a link
-    module _ (k : Pair) (e : Numbered) (rest : List Numbered) (head : list_at pair_cmp k m.links ≡ e ∷ rest) where
-      pub head_fits : Fits m e
-      head_fits = (moved_each m.links d.links st.links k e rest head (Fits m) st.on_links).0
+    module _ (k : Pair) (e : NumberedPacket) (rest : List NumberedPacket) (head : list_at pair_cmp k m.links ≡ e ∷ rest) where
+      pub head_fits : PacketFits m e
+      head_fits = (moved_each m.links d.links st.links k e rest head (PacketFits m) st.on_links).0
 
-      pub head_stands : Stands g l (record m { links = put_list pair_cmp k rest m.links }) c (record d { links = move_head k d.links })
+      pub head_stands : MachineStandsFor g l (record m { links = put_list pair_cmp k rest m.links }) c (record d { links = move_head k d.links })
       head_stands = record {
         nodes = st.nodes;
         few = st.few;
@@ -66,14 +66,14 @@ module _ {S : Type 0} (g : Language S) (l : Placement) where
         last = st.last;
         made = st.made;
         distinct = st.distinct;
-        on_links = λ j. relinked m (put_list pair_cmp k rest m.links) _ ((moved_each m.links d.links st.links k e rest head (Fits m) st.on_links).1 j);
-        in_letters = st.in_letters;
+        on_links = λ j. relinked m (put_list pair_cmp k rest m.links) _ ((moved_each m.links d.links st.links k e rest head (PacketFits m) st.on_links).1 j);
+        in_mailboxes = st.in_mailboxes;
         in_callers = st.in_callers;
       }
 
     -- an object changes and with it what it waits for; its slot stays
     pub object_stands : (o : ℕ) (y : S) (h : List (ℕ × Holding)) → ((q : ℕ) → q ≢ o → find nat_cmp q h ≡ held d q)
-        → Spot g m o (slot_at m o) (Some y) (find nat_cmp o h) (arrived_at d o) → Stands g l m (put_object c o y) (record d { holding = h })
+        → Spot g m o (slot_at m o) (Some y) (find nat_cmp o h) (arrived_at d o) → MachineStandsFor g l m (put_object c o y) (record d { holding = h })
     object_stands o y h others mine = record {
       nodes = st.nodes;
       few = st.few;
@@ -84,7 +84,7 @@ module _ {S : Type 0} (g : Language S) (l : Placement) where
       made = st.made;
       distinct = st.distinct;
       on_links = st.on_links;
-      in_letters = st.in_letters;
+      in_mailboxes = st.in_mailboxes;
       in_callers = λ q. (spots q (decide q o)).2;
     }
       where
@@ -99,8 +99,8 @@ module _ {S : Type 0} (g : Language S) (l : Placement) where
       -- something of a node changes that is not in its slots
       pub aside_stands : (x' : NodeState S) (last' : List (ℕ × ℕ)) (made' : List (Pair × ℕ)) → x'.slots ≡ x.slots
           → (x'.last ≡ find nat_cmp n last') → ((b : ℕ) → b ≢ n → find nat_cmp b last' ≡ find nat_cmp b d.last)
-          → Counts g x' (record d { made = made' }) n → ((b k : ℕ) → b ≢ n → made_by (record d { made = made' }) b k ≡ made_by d b k)
-          → Stands g l (record { nodes = set_at m.nodes n x'; links = m.links }) c (record d { last = last'; made = made' })
+          → CountsMade g x' (record d { made = made' }) n → ((b k : ℕ) → b ≢ n → made_by (record d { made = made' }) b k ≡ made_by d b k)
+          → MachineStandsFor g l (record { nodes = set_at m.nodes n x'; links = m.links }) c (record d { last = last'; made = made' })
       aside_stands x' last' made' e last last_else made made_else =
           assemble g l m c d st n x node x' m.links c d' (subst (λ z. length z ≤ 65536) (sym e) (st.few n x node)) last last_else made made_else
           (λ q. spot_same g m' q (slots q) refl refl refl (spot_kept g m m' Any keep q (slot_at m q) (object_of c q) (held d q) (arrived_at d q) (r.in_boxes q) (λ y a i j. tt) (spot g l m c d st q)))
@@ -169,7 +169,7 @@ module _ {S : Type 0} (g : Language S) (l : Placement) where
             → (K : ℕ → Type 0) → ((q : ℕ) → K q → Same m mₛ q) → Refers g K c' d
             → Spot g mₛ o (Some s') (object_of c' o) (find nat_cmp o h) (under (λ r. r == o) box)
             → ((a b k : ℕ) → node_of a ≡ node_of b → request_of mₛ a ≡ Some k → request_of mₛ b ≡ Some k → a ≡ b)
-            → Stands g l mₛ c' (record d { holding = h; arrived = box })
+            → MachineStandsFor g l mₛ c' (record d { holding = h; arrived = box })
         slot_stands c' h box objects holdings boxes K keep r mine distinct =
             assemble g l m c d st n x node xₛ m.links c' d' (subst (λ z. z ≤ 65536) (sym (set_length x.slots (slot_of o) s')) (st.few n x node))
             (st.last n x node) (λ b e. refl) (st.made n x node) (λ b k e. refl) (λ q. spots q (decide q o)) st.links st.in_order

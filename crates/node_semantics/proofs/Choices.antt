@@ -26,9 +26,9 @@ use Rattle.mesh_semantics.proofs.Maps.{find_without_same, find_without_other}
 use Rattle.mesh_semantics.proofs.Basics.{values_itself, runs}
 use Rattle.mesh_semantics.proofs.Owned.{taken_own, taken_some, is_call_of}
 use Rattle.mesh_semantics.proofs.Taken.{none_before, earliest}
-use Rattle.node_semantics.specs.Node.{Slot, Letter, NodeState, set_at, name_at, messages, is_on, first_letter, serve_act, chosen_act, choice_act}
+use Rattle.node_semantics.specs.Node.{Slot, NumberedArrival, NodeState, set_at, name_at, arrivals, is_on, first_on, serve_act, chosen_act, choice_act}
 use Rattle.node_semantics.specs.Machine.{Machine}
-use Rattle.node_semantics.specs.Stands.{request_of, StandsAt, Served, Posted, IsNumberOf, AreNumbersOf, caller_of, Stands}
+use Rattle.node_semantics.specs.StandsFor.{request_of, SlotStandsFor, Served, Posted, IsNumberOf, AreNumbersOf, caller_of, MachineStandsFor}
 use Rattle.node_semantics.proofs.References.{Same, same_slot}
 use Rattle.node_semantics.proofs.Spots.{Spot, Found, found, Any, served_kept}
 use Rattle.node_semantics.proofs.Changes.{chain, object_stands}
@@ -36,30 +36,30 @@ use Rattle.node_semantics.proofs.Steps.{take_stands}
 use Rattle.node_semantics.proofs.Turning.{Row, Turning, x₁, d₁, spot_here, pick_row}
 use Rattle.node_semantics.proofs.Posts.{stands₁, node₁, aside_same, own_o, slot_o, messages_stand}
 
--- letters and the messages in them
+-- mailbox and the messages in them
 
-first_same : (names : List ℕ) (ls : List Letter) (f : Letter) → first_letter names ls ≡ Some f → first_arrival names (messages ls) ≡ Some f.message
+first_same : (names : List ℕ) (ls : List NumberedArrival) (f : NumberedArrival) → first_on names ls ≡ Some f → first_arrival names (arrivals ls) ≡ Some f.message
 first_same names [] f h = absurd (cc)
 first_same names (a ∷ ls) f h = by (has_name names a.message.method) refl (first_same names ls f)
   where
-    by : (b : Bool) → has_name names a.message.method ≡ b → (first_letter names ls ≡ Some f → first_arrival names (messages ls) ≡ Some f.message)
-        → first_arrival names (messages (a ∷ ls)) ≡ Some f.message
-    by true i k = let e : a ≡ f = same_some (rw i at h) in rw i (ap (λ (z : Letter). Some z.message) e)
+    by : (b : Bool) → has_name names a.message.method ≡ b → (first_on names ls ≡ Some f → first_arrival names (arrivals ls) ≡ Some f.message)
+        → first_arrival names (arrivals (a ∷ ls)) ≡ Some f.message
+    by true i k = let e : a ≡ f = same_some (rw i at h) in rw i (ap (λ (z : NumberedArrival). Some z.message) e)
     by false i k = rw i (k (rw i at h))
 
-none_same : (names : List ℕ) (ls : List Letter) → first_letter names ls ≡ None → first_arrival names (messages ls) ≡ None
+none_same : (names : List ℕ) (ls : List NumberedArrival) → first_on names ls ≡ None → first_arrival names (arrivals ls) ≡ None
 none_same names [] h = refl
 none_same names (a ∷ ls) h = by (has_name names a.message.method) refl (none_same names ls)
   where
-    by : (b : Bool) → has_name names a.message.method ≡ b → (first_letter names ls ≡ None → first_arrival names (messages ls) ≡ None) → first_arrival names (messages (a ∷ ls)) ≡ None
+    by : (b : Bool) → has_name names a.message.method ≡ b → (first_on names ls ≡ None → first_arrival names (arrivals ls) ≡ None) → first_arrival names (arrivals (a ∷ ls)) ≡ None
     by true i k = absurd (let e : Some a ≡ None = rw i at h in cc)
     by false i k = rw i (k (rw i at h))
 
-first_each : (P : Letter → Type 0) (names : List ℕ) (ls : List Letter) (f : Letter) → first_letter names ls ≡ Some f → Each P ls → P f
+first_each : (P : NumberedArrival → Type 0) (names : List ℕ) (ls : List NumberedArrival) (f : NumberedArrival) → first_on names ls ≡ Some f → Each P ls → P f
 first_each P names [] f h e = absurd (cc)
 first_each P names (a ∷ ls) f h e = by (has_name names a.message.method) refl (first_each P names ls f)
   where
-    by : (b : Bool) → has_name names a.message.method ≡ b → (first_letter names ls ≡ Some f → Each P ls → P f) → P f
+    by : (b : Bool) → has_name names a.message.method ≡ b → (first_on names ls ≡ Some f → Each P ls → P f) → P f
     by true i k = let z : a ≡ f = same_some (rw i at h) in subst P z e.0
     by false i k = k (rw i at h) e.1
 
@@ -117,32 +117,32 @@ module _ {S : Type 0} (g : Language S) (W : Config S → Type 0) (l : Placement)
   keep : (q : ℕ) → Any q → Same m m₁ q
   keep q z = same_slot m m₁ q (aside_same g W l m c d n i x s t x' refl m.links q)
 
-  box_is : messages s.letters ≡ arrived_at d o
-  box_is = (spot_here g W l m c d n i x s t).0.letters
+  box_is : arrivals s.mailbox ≡ arrived_at d o
+  box_is = (spot_here g W l m c d n i x s t).0.mailbox
 
-  module _ (alts : List Alternative) (kind : g.kind o s.state ≡ K.Select alts) (names : List ℕ) (j : ℕ) (f : Letter) (is_first : first_letter names s.letters ≡ Some f)
+  module _ (alts : List Alternative) (kind : g.kind o s.state ≡ K.Select alts) (names : List ℕ) (j : ℕ) (f : NumberedArrival) (is_first : first_on names s.mailbox ≡ Some f)
       (offers : offered 1 alts f.message.method ≡ Some (j, names)) where
     abbrev a : Arrival
     a = f.message
 
     first_is : first_arrival names (arrived_at d o) ≡ Some a
-    first_is = subst (λ b. first_arrival names b ≡ Some a) box_is (first_same names s.letters f is_first)
+    first_is = subst (λ b. first_arrival names b ≡ Some a) box_is (first_same names s.mailbox f is_first)
 
     number : IsNumberOf m f.number (caller_of a)
-    number = first_each (λ e. IsNumberOf m e.number (caller_of e.message)) names s.letters f is_first (spot_here g W l m c d n i x s t).1
+    number = first_each (λ e. IsNumberOf m e.number (caller_of e.message)) names s.mailbox f is_first (spot_here g W l m c d n i x s t).1
 
     -- the slot after its letter was taken
-    module _ (c₁ : Config S) (h : List (ℕ × Holding)) (base : Stands g l m₁ c₁ (record d' { holding = h })) (still : find nat_cmp o h ≡ None) (y : S) (ks : List ℕ)
+    module _ (c₁ : Config S) (h : List (ℕ × Holding)) (base : MachineStandsFor g l m₁ c₁ (record d' { holding = h })) (still : find nat_cmp o h ≡ None) (y : S) (ks : List ℕ)
         (fit : AreNumbersOf m₁ ks (g.callers y)) where
       abbrev taking : Slot S
-      taking = record s { state = y; callers = ks; letters = without_first (is_on names) s.letters }
+      taking = record s { state = y; callers = ks; mailbox = without_first (is_on names) s.mailbox }
 
       abbrev x₂ : NodeState S
       x₂ = record x' { slots = set_at x'.slots i taking }
 
-      taken : Stands g l (record { nodes = set_at m.nodes n x₂; links = m.links }) (put_object c₁ o y) (record d' { holding = h; arrived = without_first (is_for o names) d.arrived })
+      taken : MachineStandsFor g l (record { nodes = set_at m.nodes n x₂; links = m.links }) (put_object c₁ o y) (record d' { holding = h; arrived = without_first (is_for o names) d.arrived })
       taken = chain g l m n x' x₂ m.links (put_object c₁ o y) _
-          (subst (λ k. Stands g l (record { nodes = set_at (set_at m.nodes n x') n (record x' { slots = set_at x'.slots k taking }); links = m.links }) (put_object c₁ o y)
+          (subst (λ k. MachineStandsFor g l (record { nodes = set_at (set_at m.nodes n x') n (record x' { slots = set_at x'.slots k taking }); links = m.links }) (put_object c₁ o y)
               (record d' { holding = h; arrived = without_first (is_for o names) d.arrived })) (slot_o g W l m c d n i x s t)
           (take_stands g l m₁ c₁ (record d' { holding = h }) base n x' (node₁ g W l m c d n i x s t) o (own_o g W l m c d n i x s t) s
               (aside_same g W l m c d n i x s t x' refl m.links o ∙ t.here) names y ks t.idle still fit))
@@ -178,7 +178,7 @@ module _ {S : Type 0} (g : Language S) (W : Config S → Type 0) (l : Placement)
       state : S
       object : object_of c a.sender ≡ Some state
       held : held d a.sender ≡ Some D.Posted
-      asks : g.kind a.sender state ≡ K.Send o a.method a.args
+      posts_request : g.kind a.sender state ≡ K.Send o a.method a.args
 
     caller : a.is_call ≡ true → Caller
     caller e = by (object_of c a.sender) (held d a.sender) refl refl (t.sound.state.owned a.sender)
@@ -206,7 +206,7 @@ module _ {S : Type 0} (g : Language S) (W : Config S → Type 0) (l : Placement)
               state = y;
               object = i;
               held = h;
-              asks = r ∙ (λ w. K.Send (to w) ((arrival w).method) ((arrival w).args));
+              posts_request = r ∙ (λ w. K.Send (to w) ((arrival w).method) ((arrival w).args));
             }
         posted y i h z r u = absurd u
 
@@ -239,10 +239,10 @@ module _ {S : Type 0} (g : Language S) (W : Config S → Type 0) (l : Placement)
           where
             by : (y : Option Error) → g.fault q.state ≡ y → g.fault q.state ≡ None
             by None u = u
-            by (Some y) u = absurd (let v : K.Send o a.method a.args ≡ K.Fault y = sym q.asks ∙ t.law.fault_kind c a.sender q.state y typed q.object u in cc)
+            by (Some y) u = absurd (let v : K.Send o a.method a.args ≡ K.Fault y = sym q.posts_request ∙ t.law.fault_kind c a.sender q.state y typed q.object u in cc)
 
         can : (y : S) × (g.serving o s.state j a.method (Some a.sender) a.args ≡ Some y)
-        can = let y = t.law.can_call c a.sender q.state o a.method a.args typed q.object q.asks in
+        can = let y = t.law.can_call c a.sender q.state o a.method a.args typed q.object q.posts_request in
             let same : y.0 ≡ s.state = same_some (sym y.1 ∙ t.there) in
             subst (λ w. (z : S) × (g.serving o w j a.method (Some a.sender) a.args ≡ Some z)) same (y.2 j names (Some a.sender) (rw (ap (λ z. alternatives (g.kind o z)) same ∙ ap alternatives kind) offers))
 
@@ -257,27 +257,27 @@ module _ {S : Type 0} (g : Language S) (W : Config S → Type 0) (l : Placement)
         c₂ = put_object c₁ o can.0
 
         moved : move g c (L.Answer o a.sender (id a.method) a.args) ≡ Some c₂
-        moved = rw (runs g c a.sender q.state q.object sane, runs g c o s.state t.there t.sane, q.asks, equals o, equals a.method, values_itself a.args, kind, offers, none, can.1) refl
+        moved = rw (runs g c a.sender q.state q.object sane, runs g c o s.state t.there t.sane, q.posts_request, equals o, equals a.method, values_itself a.args, kind, offers, none, can.1) refl
 
         f₁ : Found g l m₁ c d' (stands₁ g W l m c d n i x s t) a.sender q.state
         f₁ = found g l m₁ c d' (stands₁ g W l m c d n i x s t) a.sender q.state q.object
 
-        served : StandsAt g a.sender f₁.slot (g.waiting q.state o a.method) None
+        served : SlotStandsFor g a.sender f₁.slot (g.waiting q.state o a.method) None
         served = by (held d a.sender) refl f₁.stands.state
           where
-            by : (h : Option Holding) → held d a.sender ≡ h → StandsAt g a.sender f₁.slot q.state h → StandsAt g a.sender f₁.slot (g.waiting q.state o a.method) None
+            by : (h : Option Holding) → held d a.sender ≡ h → SlotStandsFor g a.sender f₁.slot q.state h → SlotStandsFor g a.sender f₁.slot (g.waiting q.state o a.method) None
             by None u v = absurd (let w : None ≡ Some D.Posted = sym u ∙ q.held in cc)
             by (Some (D.Due y)) u v = absurd (let w : Some (D.Due y) ≡ Some D.Posted = sym u ∙ q.held in cc)
-            by (Some D.Posted) u (Posted v w) = Served o a.method a.args v (ap (g.kind a.sender) w ∙ q.asks) (ap (λ y. g.waiting y o a.method) w)
+            by (Some D.Posted) u (Posted v w) = Served o a.method a.args v (ap (g.kind a.sender) w ∙ q.posts_request) (ap (λ y. g.waiting y o a.method) w)
 
-        waits : Stands g l m₁ c₁ (record d' { holding = without nat_cmp a.sender d.holding })
+        waits : MachineStandsFor g l m₁ c₁ (record d' { holding = without nat_cmp a.sender d.holding })
         waits = object_stands g l m₁ c d' (stands₁ g W l m c d n i x s t) a.sender (g.waiting q.state o a.method) (without nat_cmp a.sender d.holding)
             (λ b u. find_without_other b a.sender d.holding u) (
             subst (λ y. Spot g m₁ a.sender y (Some (g.waiting q.state o a.method)) (find nat_cmp a.sender (without nat_cmp a.sender d.holding)) (arrived_at d' a.sender)) (sym f₁.here) (
             subst (λ h. Spot g m₁ a.sender (Some f₁.slot) (Some (g.waiting q.state o a.method)) h (arrived_at d' a.sender)) (sym (find_without_same a.sender d.holding)) (
-                record { state = served; letters = f₁.stands.letters },
-                f₁.letters,
-                subst (AreNumbersOf m₁ f₁.slot.callers) (sym (t.req.waiting_callers a.sender q.state o a.method a.args q.asks)) f₁.callers,
+                record { state = served; mailbox = f₁.stands.mailbox },
+                f₁.mailbox,
+                subst (AreNumbersOf m₁ f₁.slot.callers) (sym (t.req.waiting_callers a.sender q.state o a.method a.args q.posts_request)) f₁.callers,
             )))
 
         fit : AreNumbersOf m₁ (z ∷ s.callers) (g.callers can.0)
@@ -299,22 +299,22 @@ module _ {S : Type 0} (g : Language S) (W : Config S → Type 0) (l : Placement)
   module _ (alts : List Alternative) (kind : g.kind o s.state ≡ K.Select alts) where
     chosen_row : (j : ℕ) (b : Alternative) → numbered alts j ≡ Some b → is_possible (arrived_at d o) b ≡ true
         → ((k : ℕ) → HasArrived (arrived_at d o) k → answers b k ≡ true → offered 1 alts k ≡ Some (j, answered b.names))
-        → Row g W l m n (chosen_act g n x' i s j b.names (first_letter (answered b.names) s.letters)) (chosen_turn g c d' o j b.names)
+        → Row g W l m n (chosen_act g n x' i s j b.names (first_on (answered b.names) s.mailbox)) (chosen_turn g c d' o j b.names)
     chosen_row j b at possible offers = by b.names refl
       where
         open_is : b.is_open ≡ true
         open_is = first b.is_open (is_none b.names || is_some (first_arrival (answered b.names) (arrived_at d o))) possible
 
-        by : (names : Option (List ℕ)) → b.names ≡ names → Row g W l m n (chosen_act g n x' i s j names (first_letter (answered names) s.letters)) (chosen_turn g c d' o j names)
+        by : (names : Option (List ℕ)) → b.names ≡ names → Row g W l m n (chosen_act g n x' i s j names (first_on (answered names) s.mailbox)) (chosen_turn g c d' o j names)
         by None e = pick_row g W l m c d n i x s t alts j kind (rw at (rw (open_is, e) refl))
-        by (Some names) e = on (first_letter names s.letters) refl
+        by (Some names) e = on (first_on names s.mailbox) refl
           where
-            on : (f : Option Letter) → first_letter names s.letters ≡ f → Row g W l m n (chosen_act g n x' i s j (Some names) f) (accept_turn g c d' o names (first_arrival names (arrived_at d o)))
+            on : (f : Option NumberedArrival) → first_on names s.mailbox ≡ f → Row g W l m n (chosen_act g n x' i s j (Some names) f) (accept_turn g c d' o names (first_arrival names (arrived_at d o)))
             on None h = absurd (
-                let u : first_arrival names (arrived_at d o) ≡ None = subst (λ z. first_arrival names z ≡ None) box_is (none_same names s.letters h) in
+                let u : first_arrival names (arrived_at d o) ≡ None = subst (λ z. first_arrival names z ≡ None) box_is (none_same names s.mailbox h) in
                 let v : (b.is_open && false) ≡ true = rw (e, u) at possible in let w = second b.is_open false v in cc)
             on (Some f) h =
-                let u : first_arrival names (arrived_at d o) ≡ Some f.message = subst (λ z. first_arrival names z ≡ Some f.message) box_is (first_same names s.letters f h) in
+                let u : first_arrival names (arrived_at d o) ≡ Some f.message = subst (λ z. first_arrival names z ≡ Some f.message) box_is (first_same names s.mailbox f h) in
                 let v = arrived_first names (arrived_at d o) f.message u in
                 let w : offered 1 alts f.message.method ≡ Some (j, names) = offers f.message.method v.1 (rw (open_is, e) v.0) ∙ ap (λ z. Some (j, answered z)) e in
                 rw u (letter_row alts kind names j f h w)
@@ -328,7 +328,7 @@ module _ {S : Type 0} (g : Language S) (W : Config S → Type 0) (l : Placement)
         here : numbered alts j ≡ Some b
         here = let e : j + 0 ≡ j = omega arith in subst (λ z. numbered alts z ≡ Some b) e (at 0)
 
-        mine : is_possible (messages s.letters) b ≡ is_possible (arrived_at d o) b
+        mine : is_possible (arrivals s.mailbox) b ≡ is_possible (arrived_at d o) b
         mine = ap (λ z. is_possible z b) box_is
 
         by : (p : Bool) → is_possible (arrived_at d o) b ≡ p

@@ -14,10 +14,10 @@ use Rattle.mesh_semantics.specs.Delay.{Delay, node_of, held, stepped_last}
 use Rattle.mesh_semantics.specs.Act.{act, node_turn, object_turn, turn_of, can_step, is_possible}
 use Rattle.mesh_semantics.specs.Sound.{IsSound}
 use Rattle.mesh_semantics.specs.Lawful.{Lawful}
-use Rattle.node_semantics.specs.Node.{Slot, NodeState, name_at, can_go, messages, slot_act, slot_in_turn, turn_of_slot}
+use Rattle.node_semantics.specs.Node.{Slot, NodeState, name_at, can_go, arrivals, slot_act, slot_in_turn, turn_of_slot}
 use Rattle.node_semantics.specs.Machine.{Machine, machine_act, turn_in, after_node, leaving}
 use Rattle.node_semantics.specs.Requests.{Requests}
-use Rattle.node_semantics.specs.Stands.{slot_at, request_of, Stands}
+use Rattle.node_semantics.specs.StandsFor.{slot_at, request_of, MachineStandsFor}
 use Rattle.node_semantics.specs.Agrees.{Agrees, IsOfMesh, IsFresh}
 use Rattle.node_semantics.proofs.Limits.{Chosen, NoOne, One, chosen, within_row}
 use Rattle.node_semantics.proofs.Turning.{Row, Turning, spot_here, write_row, fault_row}
@@ -33,7 +33,7 @@ none_is None h = refl
 none_is (Some x) h = absurd (cc)
 
 module _ {S : Type 0} (g : Language S) (W : Config S → Type 0) (law : Lawful g W) (req : Requests g W) (l : Placement) (few : l.objects < 65536)
-    (m : Machine S) (c : Config S) (d : Delay) (sound : IsSound g W l c d) (st : Stands g l m c d) where
+    (m : Machine S) (c : Config S) (d : Delay) (sound : IsSound g W l c d) (st : MachineStandsFor g l m c d) where
   module _ (q fresh n : ℕ) (x : NodeState S) (node : slice_get m.nodes n ≡ Some x) (is_fresh : (o : ℕ) → node_of o ≡ n → request_of m o ≢ Some fresh) where
     module _ (i : ℕ) (s : Slot S) (small : i < 65536) (here : slot_at m (name_at n i) ≡ Some s) (there : object_of c (name_at n i) ≡ Some s.state)
         (free : held d (name_at n i) ≡ None) (go : can_go g n (i, s) ≡ true) where
@@ -41,10 +41,10 @@ module _ {S : Type 0} (g : Language S) (W : Config S → Type 0) (law : Lawful g
       o = name_at n i
 
       begins : (is_none s.request && is_none (g.fault s.state)) ≡ true
-      begins = first (is_none s.request && is_none (g.fault s.state)) (can_step (messages s.letters) (g.kind (name_at n i) s.state)) go
+      begins = first (is_none s.request && is_none (g.fault s.state)) (can_step (arrivals s.mailbox) (g.kind (name_at n i) s.state)) go
 
-      steps : can_step (messages s.letters) (g.kind (name_at n i) s.state) ≡ true
-      steps = second (is_none s.request && is_none (g.fault s.state)) (can_step (messages s.letters) (g.kind (name_at n i) s.state)) go
+      steps : can_step (arrivals s.mailbox) (g.kind (name_at n i) s.state) ≡ true
+      steps = second (is_none s.request && is_none (g.fault s.state)) (can_step (arrivals s.mailbox) (g.kind (name_at n i) s.state)) go
 
       t : Turning g W l m c d n i x s
       t = record {
@@ -61,8 +61,8 @@ module _ {S : Type 0} (g : Language S) (W : Config S → Type 0) (law : Lawful g
         sane = none_is (g.fault s.state) (second (is_none s.request) (is_none (g.fault s.state)) begins);
       }
 
-      stuck : (k : Kind) → g.kind o s.state ≡ k → can_step (messages s.letters) k ≡ false → ⊥
-      stuck k e f = let z : can_step (messages s.letters) k ≡ true = subst (λ w. can_step (messages s.letters) w ≡ true) e steps in cc
+      stuck : (k : Kind) → g.kind o s.state ≡ k → can_step (arrivals s.mailbox) k ≡ false → ⊥
+      stuck k e f = let z : can_step (arrivals s.mailbox) k ≡ true = subst (λ w. can_step (arrivals s.mailbox) w ≡ true) e steps in cc
 
       row : (k : Kind) → g.kind o s.state ≡ k → Row g W l m n (slot_act g l q n fresh (record x { last = Some i }) i s k) (object_turn g l q c (stepped_last n o d) n o k)
       row K.Local e = local_row g W l m c d n i x s t q
@@ -70,8 +70,8 @@ module _ {S : Type 0} (g : Language S) (W : Config S → Type 0) (law : Lawful g
       row (K.Send b k args) e = call_row g W l m c d n i x s t b k args e fresh is_fresh
       row (K.Async b k args) e = send_row g W l m c d n i x s t b k args e
       row (K.Select alts) e = select_row g W l m c d n i x s t alts e (
-          let z : can_step (messages s.letters) (K.Select alts) ≡ true = subst (λ w. can_step (messages s.letters) w ≡ true) e steps in
-          subst (λ w. list_any (is_possible w) alts ≡ true) (spot_here g W l m c d n i x s t).0.letters z)
+          let z : can_step (arrivals s.mailbox) (K.Select alts) ≡ true = subst (λ w. can_step (arrivals s.mailbox) w ≡ true) e steps in
+          subst (λ w. list_any (is_possible w) alts ≡ true) (spot_here g W l m c d n i x s t).0.mailbox z)
       row (K.Return k v) e = return_row g W l m c d n i x s t k v e
       row (K.Write item) e = write_row g W l m c d n i x s t item e
       row (K.Fault f) e = fault_row g W l m c d n i x s t f e

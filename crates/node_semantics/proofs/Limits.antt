@@ -17,10 +17,10 @@ use Rattle.mesh_semantics.specs.Act as A
 use Rattle.mesh_semantics.specs.Act.{Acted, within, object_count, frame_count, goal_node, is_ready, ready_at, turn_of, can_step, first_of, or_else}
 use Rattle.mesh_semantics.specs.Lawful.{Lawful}
 use Rattle.node_semantics.specs.Node as N
-use Rattle.node_semantics.specs.Node.{Slot, Numbered, Letter, NodeState, NodeActed, name_at, set_at, messages, frames_in, letters_at, one_if, within_node, can_go, ready_slots, slot_in_turn, placed}
+use Rattle.node_semantics.specs.Node.{Slot, NumberedPacket, NumberedArrival, NodeState, NodeActed, name_at, set_at, arrivals, frames_in, message_count, one_if, within_node, can_go, ready_slots, slot_in_turn, placed}
 use Rattle.node_semantics.specs.Machine.{Machine, leaving, post_packet, after_node}
 use Rattle.node_semantics.specs.Requests.{Requests}
-use Rattle.node_semantics.specs.Stands.{slot_at, StandsAt, Free, Served, Posted, Due, IsOut, Stands}
+use Rattle.node_semantics.specs.StandsFor.{slot_at, SlotStandsFor, Free, Served, Posted, Due, IsOut, MachineStandsFor}
 use Rattle.node_semantics.specs.Agrees.{Agrees}
 use Rattle.node_semantics.proofs.Slots.{set_same, name_slot}
 use Rattle.node_semantics.proofs.Links.{pushed_sorted}
@@ -35,8 +35,8 @@ total_last f [] y = omega arith
 total_last f (x ∷ xs) y = ap (λ n. f x + n) (total_last f xs y) ∙ (omega arith)
 
 module _ {S : Type 0} (g : Language S) (W : Config S → Type 0) (law : Lawful g W) (req : Requests g W) (l : Placement) where
-  module _ (m : Machine S) (c : Config S) (d : Delay) (st : Stands g l m c d) (n : ℕ) (x : NodeState S) (node : slice_get m.nodes n ≡ Some x) where
-    pub leaves : (p : Option Numbered) → leaving (post_packet l n p m.links) n ≡ leaving m.links n + one_if p
+  module _ (m : Machine S) (c : Config S) (d : Delay) (st : MachineStandsFor g l m c d) (n : ℕ) (x : NodeState S) (node : slice_get m.nodes n ≡ Some x) where
+    pub leaves : (p : Option NumberedPacket) → leaving (post_packet l n p m.links) n ≡ leaving m.links n + one_if p
     leaves None = omega arith
     leaves (Some e) =
         let key : Pair = (n, next l n (goal_node e.packet)) in
@@ -46,10 +46,10 @@ module _ {S : Type 0} (g : Language S) (W : Config S → Type 0) (law : Lawful g
         let z : (if n == n then 1 else 0) ≡ 1 = rw (equals n) refl in
         a ∙ total_last (λ e. if e.0.0 == n then 1 else 0) d.links ((n, next l n (goal_node e.packet)), e.packet) ∙ ap₂ (λ i j. i + j) (sym b) z
 
-    within_acts : (w : What) (p : Option Numbered) (y : NodeState S) (c' : Config S) (d' : Delay) → W c'
-        → Stands g l (record { nodes = set_at m.nodes n y; links = post_packet l n p m.links }) c' d'
+    within_acts : (w : What) (p : Option NumberedPacket) (y : NodeState S) (c' : Config S) (d' : Delay) → W c'
+        → MachineStandsFor g l (record { nodes = set_at m.nodes n y; links = post_packet l n p m.links }) c' d'
         → Agrees g l (after_node l n m (within_node g l (leaving m.links n) (N.Acts w p y))) (within g l n (A.Acts w c' d'))
-    within_acts w p y c' d' k h = by (nat_lt l.objects (length y.slots)) (nat_lt l.frames (frames_in g y.slots)) (nat_lt l.cells (letters_at y.slots + leaving m.links n + one_if p)) refl refl refl
+    within_acts w p y c' d' k h = by (nat_lt l.objects (length y.slots)) (nat_lt l.frames (frames_in g y.slots)) (nat_lt l.cells (message_count y.slots + leaving m.links n + one_if p)) refl refl refl
       where
         m' : Machine S
         m' = record { nodes = set_at m.nodes n y; links = post_packet l n p m.links }
@@ -63,11 +63,11 @@ module _ {S : Type 0} (g : Language S) (W : Config S → Type 0) (law : Lawful g
         frames : frame_count g c' n ≡ frames_in g y.slots
         frames = sym (frames_count g W law req l m' c' d' h k n y node')
 
-        cells : cell_count d' n ≡ letters_at y.slots + leaving m.links n + one_if p
+        cells : cell_count d' n ≡ message_count y.slots + leaving m.links n + one_if p
         cells = let a = leaves p in let b = cells_count g W law req l m' c' d' h k n y node' in omega (arith, a, b)
 
         by : (t u v : Bool) → nat_lt l.objects (length y.slots) ≡ t → nat_lt l.frames (frames_in g y.slots) ≡ u
-            → nat_lt l.cells (letters_at y.slots + leaving m.links n + one_if p) ≡ v
+            → nat_lt l.cells (message_count y.slots + leaving m.links n + one_if p) ≡ v
             → Agrees g l (after_node l n m (within_node g l (leaving m.links n) (N.Acts w p y))) (within g l n (A.Acts w c' d'))
         by true u v i j z = rw (objects, i) (refl, refl)
         by false true v i j z = rw (objects, i, frames, j) (refl, refl)
@@ -90,8 +90,8 @@ module _ {S : Type 0} (g : Language S) (W : Config S → Type 0) (law : Lawful g
       abbrev R : ℕ → Slot S → S → Type 0
       R = Here g W law req l m c d st w n x node
 
-      ready_alike : (j : ℕ) (s : Slot S) (y : S) (h : Option Holding) → held d (name_at n j) ≡ h → messages s.letters ≡ arrived_at d (name_at n j)
-          → StandsAt g (name_at n j) s y h → is_ready g d (name_at n j) y ≡ can_go g n (j, s)
+      ready_alike : (j : ℕ) (s : Slot S) (y : S) (h : Option Holding) → held d (name_at n j) ≡ h → arrivals s.mailbox ≡ arrived_at d (name_at n j)
+          → SlotStandsFor g (name_at n j) s y h → is_ready g d (name_at n j) y ≡ can_go g n (j, s)
       ready_alike j s y None e b (Free r i) = rw (e, r, i, b) refl
       ready_alike j s y None e b (Served k i args r a z) = 
           let kind : g.kind (name_at n j) y ≡ K.Waits k i = ap (g.kind (name_at n j)) (sym z) ∙ req.waiting_kind (name_at n j) s.state k i args a in
@@ -123,9 +123,9 @@ module _ {S : Type 0} (g : Language S) (W : Config S → Type 0) (law : Lawful g
           go = f (j, s) h
 
           asks_nothing : is_none s.request ≡ true
-          asks_nothing = first (is_none s.request) (is_none (g.fault s.state)) (first (is_none s.request && is_none (g.fault s.state)) (can_step (messages s.letters) (g.kind (name_at n j) s.state)) go)
+          asks_nothing = first (is_none s.request) (is_none (g.fault s.state)) (first (is_none s.request && is_none (g.fault s.state)) (can_step (arrivals s.mailbox) (g.kind (name_at n j) s.state)) go)
 
-          by : (z : Option Holding) → held d (name_at n j) ≡ z → StandsAt g (name_at n j) s y z → Chosen (Some (name_at n j, y)) (Some (j, s))
+          by : (z : Option Holding) → held d (name_at n j) ≡ z → SlotStandsFor g (name_at n j) s y z → Chosen (Some (name_at n j, y)) (Some (j, s))
           by None e (Free u v) = subst (λ (k : S). Chosen (Some (name_at n j, k)) (Some (j, s))) v (One j s small r.slot (r.object ∙ ap Some (sym v)) e go)
           by None e (Served b k args u v i) = absurd (nothing_out s.request asks_nothing u)
           by (Some z) e (Posted u v) = absurd (nothing_out s.request asks_nothing u)
@@ -138,15 +138,15 @@ module _ {S : Type 0} (g : Language S) (W : Config S → Type 0) (law : Lawful g
       or_one (Some a) b (Some u) v (One j s i k p q r) h = One j s i k p q r
 
       alike : (j : ℕ) (s : Slot S) (y : S) → R (name_at n j) s y → is_ready g d (name_at n j) y ≡ can_go g n (j, s)
-      alike j s y r = ready_alike j s y (held d (name_at n j)) refl r.stands.letters r.stands.state
+      alike j s y r = ready_alike j s y (held d (name_at n j)) refl r.stands.mailbox r.stands.state
 
       fits : 0 + length x.slots ≤ 65536
       fits = let f = st.few n x node in omega (arith, f)
 
-      same_above : (j : ℕ) → j < 65536 → A.is_above (find nat_cmp n d.last) (name_at n j) ≡ N.is_above x.last j
+      same_above : (j : ℕ) → j < 65536 → A.is_above (find nat_cmp n d.last) (name_at n j) ≡ N.comes_after x.last j
       same_above j small = ap (λ z. A.is_above z (name_at n j)) (sym (st.last n x node)) ∙ by x.last
         where
-          by : (z : Option ℕ) → A.is_above z (name_at n j) ≡ N.is_above z j
+          by : (z : Option ℕ) → A.is_above z (name_at n j) ≡ N.comes_after z j
           by None = refl
           by (Some k) = ap (nat_lt k) (name_slot n j small)
 
@@ -161,7 +161,7 @@ module _ {S : Type 0} (g : Language S) (W : Config S → Type 0) (law : Lawful g
       above e = A.is_above (find nat_cmp n d.last) e.0
 
       abbrev above' : ℕ × Slot S → Bool
-      above' e = N.is_above x.last e.0
+      above' e = N.comes_after x.last e.0
 
       next_ready : Chosen (first_of (filter above (ready_at g c d n))) (first_of (filter above' (ready_slots g n x)))
       next_ready = choose (λ e. can_go g n e && above' e) (λ e h. first (can_go g n e) (above' e) h) _ _

@@ -15,11 +15,11 @@ use Rattle.mesh_semantics.specs.Act as A
 use Rattle.mesh_semantics.specs.Act.{Acted, act, within, passed, link_move, goal_node, first_of, object_count, frame_count}
 use Rattle.mesh_semantics.specs.Sound.{IsSound}
 use Rattle.mesh_semantics.specs.Lawful.{Lawful}
-use Rattle.node_semantics.specs.Node.{Numbered, NodeState, letters_at}
+use Rattle.node_semantics.specs.Node.{NumberedPacket, NodeState, message_count}
 use Rattle.node_semantics.specs.Machine as M
 use Rattle.node_semantics.specs.Machine.{Machine, MachineActed, machine_act, move_in, come, leaving, post_packet}
 use Rattle.node_semantics.specs.Requests.{Requests}
-use Rattle.node_semantics.specs.Stands.{Fits, packets, Stands}
+use Rattle.node_semantics.specs.StandsFor.{PacketFits, packets, MachineStandsFor}
 use Rattle.node_semantics.specs.Agrees.{Agrees}
 use Rattle.node_semantics.proofs.References.{fits_kept}
 use Rattle.node_semantics.proofs.Posted.{is_head}
@@ -38,7 +38,7 @@ not_below : (a b : ℕ) → a ≤ b → nat_lt b a ≡ false
 not_below a b h = grind (arith, h)
 
 module _ {S : Type 0} (g : Language S) (W : Config S → Type 0) (law : Lawful g W) (req : Requests g W) (l : Placement) (few : l.objects < 65536)
-    (m : Machine S) (c : Config S) (d : Delay) (sound : IsSound g W l c d) (st : Stands g l m c d) (a b : ℕ) (inside : b < l.width * l.height) where
+    (m : Machine S) (c : Config S) (d : Delay) (sound : IsSound g W l c d) (st : MachineStandsFor g l m c d) (a b : ℕ) (inside : b < l.width * l.height) where
   abbrev k : Pair
   k = (a, b)
 
@@ -46,17 +46,17 @@ module _ {S : Type 0} (g : Language S) (W : Config S → Type 0) (law : Lawful g
   node = there_at m.nodes b (subst (λ z. b < z) (sym st.nodes) inside)
 
   -- the head of a link
-  module _ (e : Numbered) (rest : List Numbered) (head : list_at pair_cmp (a, b) m.links ≡ e ∷ rest) where
+  module _ (e : NumberedPacket) (rest : List NumberedPacket) (head : list_at pair_cmp (a, b) m.links ≡ e ∷ rest) where
     abbrev m₁ : Machine S
     m₁ = record m { links = put_list pair_cmp (a, b) rest m.links }
 
     abbrev d₁ : Delay
     d₁ = record d { links = move_head (a, b) d.links }
 
-    st₁ : Stands g l m₁ c d₁
+    st₁ : MachineStandsFor g l m₁ c d₁
     st₁ = head_stands g l m c d st (a, b) e rest head
 
-    fit : Fits m₁ e
+    fit : PacketFits m₁ e
     fit = fits_kept m m₁ e (λ q i. record { request = refl; goal = refl }) (λ q z. z) (head_fits g l m c d st (a, b) e rest head)
 
     first : first_of (on_link d.links (a, b)) ≡ Some e.packet
@@ -70,17 +70,17 @@ module _ {S : Type 0} (g : Language S) (W : Config S → Type 0) (law : Lawful g
       abbrev d₂ : Delay
       d₂ = post l b (goal_node e.packet) e.packet d₁
 
-      st₂ : Stands g l (record m₁ { links = post_packet l b (Some e) m₁.links }) c d₂
+      st₂ : MachineStandsFor g l (record m₁ { links = post_packet l b (Some e) m₁.links }) c d₂
       st₂ = post_stands g l m₁ c d₁ st₁ (b, next l b (goal_node e.packet)) e fit
 
-      cells : cell_count d₂ b ≡ letters_at x.slots + leaving m₁.links b + 1
+      cells : cell_count d₂ b ≡ message_count x.slots + leaving m₁.links b + 1
       cells =
           let u = cells_count g W law req l (record m₁ { links = post_packet l b (Some e) m₁.links }) c d₂ st₂ sound.state.typed b x is in
           let v = leaves g W law req l m₁ c d₁ st₁ b x is (Some e) in omega (arith, u, v)
 
-      pass : Agrees g l (if nat_lt l.cells (letters_at x.slots + leaving m₁.links b + 1) then M.Full F.Cells b else M.Acts Wt.Pass (record m₁ { links = post_packet l b (Some e) m₁.links }))
+      pass : Agrees g l (if nat_lt l.cells (message_count x.slots + leaving m₁.links b + 1) then M.Full F.Cells b else M.Acts Wt.Pass (record m₁ { links = post_packet l b (Some e) m₁.links }))
           (within g l b (A.Acts Wt.Pass c d₂))
-      pass = by (nat_lt l.cells (letters_at x.slots + leaving m₁.links b + 1)) refl
+      pass = by (nat_lt l.cells (message_count x.slots + leaving m₁.links b + 1)) refl
         where
           i : nat_lt l.objects (object_count c b) ≡ false
           i = not_below (object_count c b) l.objects (sound.limits b).0
@@ -88,8 +88,8 @@ module _ {S : Type 0} (g : Language S) (W : Config S → Type 0) (law : Lawful g
           j : nat_lt l.frames (frame_count g c b) ≡ false
           j = not_below (frame_count g c b) l.frames (sound.limits b).1
 
-          by : (t : Bool) → nat_lt l.cells (letters_at x.slots + leaving m₁.links b + 1) ≡ t
-              → Agrees g l (if nat_lt l.cells (letters_at x.slots + leaving m₁.links b + 1) then M.Full F.Cells b else M.Acts Wt.Pass (record m₁ { links = post_packet l b (Some e) m₁.links }))
+          by : (t : Bool) → nat_lt l.cells (message_count x.slots + leaving m₁.links b + 1) ≡ t
+              → Agrees g l (if nat_lt l.cells (message_count x.slots + leaving m₁.links b + 1) then M.Full F.Cells b else M.Acts Wt.Pass (record m₁ { links = post_packet l b (Some e) m₁.links }))
                 (within g l b (A.Acts Wt.Pass c d₂))
           by true z = rw (i, j, cells, z) (refl, refl)
           by false z = rw (i, j, cells, z) (refl, st₂)
@@ -105,7 +105,7 @@ module _ {S : Type 0} (g : Language S) (W : Config S → Type 0) (law : Lawful g
   pub link_agrees : (q fresh : ℕ) → Agrees g l (machine_act g l q fresh m (Ev.Link a b)) (act g l q c d (Ev.Link a b))
   link_agrees q fresh = by (list_at pair_cmp (a, b) m.links) refl
     where
-      by : (es : List Numbered) → list_at pair_cmp (a, b) m.links ≡ es → Agrees g l (move_in g l m a b es) (link_move g l c d a b (first_of (on_link d.links (a, b))))
+      by : (es : List NumberedPacket) → list_at pair_cmp (a, b) m.links ≡ es → Agrees g l (move_in g l m a b es) (link_move g l c d a b (first_of (on_link d.links (a, b))))
       by [] h =
           let z : on_link d.links (a, b) ≡ [] = sym (st.links (a, b)) ∙ ap packets h in
           subst (λ p. Agrees g l (M.Acts Wt.Idle m) (link_move g l c d a b (first_of p))) (sym z) (refl, st)

@@ -10,7 +10,7 @@ use Rattle.mesh_semantics.specs.Delay.{slot_of}
 use Rattle.node_semantics.specs.Node.{Slot, NodeState}
 use Rattle.node_semantics.specs.Machine as M
 use Rattle.node_semantics.specs.Machine.{Machine, MachineActed, machine_act, machine_start, is_machine_quiet}
-use Rattle.node_semantics.specs.Stands.{slot_in, request_in}
+use Rattle.node_semantics.specs.StandsFor.{slot_in, request_in}
 use Rattle.node_semantics.specs.Agrees.{IsFresh}
 use Rattle.node_semantics.specs.Written.{Then, UnlessQuiet, AreFresh, AreFreshAt, FreshAlong}
 

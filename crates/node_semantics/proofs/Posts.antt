@@ -24,9 +24,9 @@ use Rattle.mesh_semantics.specs.Lawful.{CanServe}
 use Rattle.mesh_semantics.specs.Ways.{In}
 use Rattle.mesh_semantics.proofs.Maps.{find_put_same, find_put_other}
 use Rattle.mesh_semantics.proofs.Basics.{values_itself, runs}
-use Rattle.node_semantics.specs.Node.{Slot, Numbered, Letter, NodeState, set_at, name_at, put_state, put_request, put_letter, put_letter_in, message_act}
+use Rattle.node_semantics.specs.Node.{Slot, NumberedPacket, NumberedArrival, NodeState, set_at, name_at, put_state, put_request, deliver, deliver_in, message_act}
 use Rattle.node_semantics.specs.Machine.{Machine}
-use Rattle.node_semantics.specs.Stands.{slot_at, request_of, request_in, goal_of, goal_in, Free, HasSlot, IsNumberOf, AreNumbersOf, caller_of, Stands}
+use Rattle.node_semantics.specs.StandsFor.{slot_at, request_of, request_in, kept_goal_of, kept_goal_in, Free, HasSlot, IsNumberOf, AreNumbersOf, caller_of, MachineStandsFor}
 use Rattle.node_semantics.proofs.Slots.{set_same, name_slot, at_node, before, after, elsewhere, changed_here, changed_there}
 use Rattle.node_semantics.proofs.References.{Same, no_caller}
 use Rattle.node_semantics.proofs.Spots.{Spot, spot, found, Refers, refers_any, Any, box_kept, served_kept, spot_same}
@@ -37,7 +37,7 @@ use Rattle.node_semantics.proofs.Turning.{Row, Turning, x₁, d₁, own, own_sta
 
 module _ {S : Type 0} (g : Language S) (l : Placement) where
   -- what is stood for does not look at asynchronous messages
-  pub messages_stand : (m : Machine S) (c : Config S) (d : Delay) (s r : ℕ) (ms : List Message) → Stands g l m c d → Stands g l m (put_messages c s r ms) d
+  pub messages_stand : (m : Machine S) (c : Config S) (d : Delay) (s r : ℕ) (ms : List Message) → MachineStandsFor g l m c d → MachineStandsFor g l m (put_messages c s r ms) d
   messages_stand m c d s r ms st = record {
     nodes = st.nodes;
     few = st.few;
@@ -48,26 +48,26 @@ module _ {S : Type 0} (g : Language S) (l : Placement) where
     made = st.made;
     distinct = st.distinct;
     on_links = st.on_links;
-    in_letters = st.in_letters;
+    in_mailboxes = st.in_mailboxes;
     in_callers = st.in_callers;
   }
 
   -- a letter comes to an object of the node, as the node puts it
-  pub put_letter_stands : (m : Machine S) (c : Config S) (d : Delay) → Stands g l m c d → (n : ℕ) (x : NodeState S) → slice_get m.nodes n ≡ Some x
-      → (b : ℕ) → node_of b ≡ n → HasSlot m b → (a : Letter) → IsNumberOf m a.number (caller_of a.message)
-      → Stands g l (record { nodes = set_at m.nodes n (put_letter b a x); links = m.links }) c (arrive b a.message d)
+  pub put_letter_stands : (m : Machine S) (c : Config S) (d : Delay) → MachineStandsFor g l m c d → (n : ℕ) (x : NodeState S) → slice_get m.nodes n ≡ Some x
+      → (b : ℕ) → node_of b ≡ n → HasSlot m b → (a : NumberedArrival) → IsNumberOf m a.number (caller_of a.message)
+      → MachineStandsFor g l (record { nodes = set_at m.nodes n (deliver b a x); links = m.links }) c (arrive b a.message d)
   put_letter_stands m c d st n x node b own h a number =
-      subst (λ z. Stands g l (record { nodes = set_at m.nodes n z; links = m.links }) c (arrive b a.message d)) (sym is)
+      subst (λ z. MachineStandsFor g l (record { nodes = set_at m.nodes n z; links = m.links }) c (arrive b a.message d)) (sym is)
       (letter_stands g l m c d st n x node b own h.0 h.1 a number)
     where
-      is : put_letter b a x ≡ record x { slots = set_at x.slots (slot_of b) (record (h.0) { letters = h.0.letters ++ a ∷ [] }) }
-      is = ap (put_letter_in (slot_of b) a x) (sym (at_node m n x node b own) ∙ h.1)
+      is : deliver b a x ≡ record x { slots = set_at x.slots (slot_of b) (record (h.0) { mailbox = h.0.mailbox ++ a ∷ [] }) }
+      is = ap (deliver_in (slot_of b) a x) (sym (at_node m n x node b own) ∙ h.1)
 
   -- the object of a slot becomes y and serves the same callers
-  pub state_stands : (m : Machine S) (c : Config S) (d : Delay) (st : Stands g l m c d) (n : ℕ) (x : NodeState S) → slice_get m.nodes n ≡ Some x
+  pub state_stands : (m : Machine S) (c : Config S) (d : Delay) (st : MachineStandsFor g l m c d) (n : ℕ) (x : NodeState S) → slice_get m.nodes n ≡ Some x
       → (o : ℕ) → node_of o ≡ n → (s : Slot S) → slot_at m o ≡ Some s → held d o ≡ None → s.request ≡ None
       → object_of c o ≡ Some s.state → (y : S) → g.callers y ≡ g.callers s.state
-      → Stands g l (record { nodes = set_at m.nodes n (record x { slots = set_at x.slots (slot_of o) (record s { state = y }) }); links = m.links }) (put_object c o y) d
+      → MachineStandsFor g l (record { nodes = set_at m.nodes n (record x { slots = set_at x.slots (slot_of o) (record s { state = y }) }); links = m.links }) (put_object c o y) d
   state_stands m c d st n x node o own s here free idle there y k =
       slot_stands g l m c d st n x node o own s s' here (put_object c o y) d.holding d.arrived (λ q e. find_put_other q o y c.objects e) (λ q e. refl) (λ q e. refl)
       Any keep any mine (still_distinct g l m c d st n x node o own s s' here (λ q z e. sym (keep q tt).request ∙ e))
@@ -89,8 +89,8 @@ module _ {S : Type 0} (g : Language S) (l : Placement) where
 
       mine : Spot g m' o (Some s') (object_of (put_object c o y) o) (held d o) (arrived_at d o)
       mine = spot_same g m' o {s = Some s'} {x = Some y} {h = None} {b = arrived_at d o} refl (find_put_same o y c.objects) free refl (
-          record { state = Free idle refl; letters = p.0.letters },
-          box_kept g m m' Any keep s (arrived_at d o) p.0.letters (any.in_boxes o) p.1,
+          record { state = Free idle refl; mailbox = p.0.mailbox },
+          box_kept g m m' Any keep s (arrived_at d o) p.0.mailbox (any.in_boxes o) p.1,
           subst (AreNumbersOf m' s.callers) (sym k) (served_kept g m m' Any keep s.callers (g.callers s.state) (λ q z. tt) p.2),
       )
 
@@ -114,14 +114,14 @@ module _ {S : Type 0} (g : Language S) (W : Config S → Type 0) (l : Placement)
   pub slot_o : slot_of o ≡ i
   slot_o = name_slot n i t.small
 
-  pub stands₁ : Stands g l m₁ c d'
-  stands₁ = subst (λ j. Stands g l m₁ c (record d { last = put nat_cmp n j d.last })) (sym slot_o) (last_stands g l m c d t.st n x t.node i)
+  pub stands₁ : MachineStandsFor g l m₁ c d'
+  stands₁ = subst (λ j. MachineStandsFor g l m₁ c (record d { last = put nat_cmp n j d.last })) (sym slot_o) (last_stands g l m c d t.st n x t.node i)
 
   pub node₁ : slice_get m₁.nodes n ≡ Some x'
   node₁ = set_same m.nodes n x x' t.node
 
   -- changes beside the slots
-  module _ (y : NodeState S) (same : y.slots ≡ x.slots) (links : List (Pair × List Numbered)) where
+  module _ (y : NodeState S) (same : y.slots ≡ x.slots) (links : List (Pair × List NumberedPacket)) where
     pub aside_same : (q : ℕ) → slot_at (record { nodes = set_at m.nodes n y; links = links }) q ≡ slot_at m q
     aside_same q = by (decide (node_of q) n)
       where
@@ -139,7 +139,7 @@ module _ {S : Type 0} (g : Language S) (W : Config S → Type 0) (l : Placement)
   unserved e = no_caller g W t.req c t.sound.state.typed o s.state t.there e
 
   -- the request of the object is out
-  module _ (y : NodeState S) (same : y.slots ≡ x.slots) (e : Delay) (base : Stands g l (record { nodes = set_at m.nodes n y; links = m.links }) c e)
+  module _ (y : NodeState S) (same : y.slots ≡ x.slots) (e : Delay) (base : MachineStandsFor g l (record { nodes = set_at m.nodes n y; links = m.links }) c e)
       (free : held e o ≡ None) (none : entries e o ≡ []) (not_wait : is_wait (g.kind o s.state) ≡ false)
       (fresh goal : ℕ) (is_fresh : (q : ℕ) → node_of q ≡ n → request_of m q ≢ Some fresh) where
     mᵦ : Machine S
@@ -154,9 +154,9 @@ module _ {S : Type 0} (g : Language S) (W : Config S → Type 0) (l : Placement)
     abbrev pub asked : Machine S
     asked = record { nodes = set_at m.nodes n (put_request y i s fresh goal); links = m.links }
 
-    pub asked_stands : Stands g l asked c (hold o D.Posted e)
+    pub asked_stands : MachineStandsFor g l asked c (hold o D.Posted e)
     asked_stands = chain g l m n y (put_request y i s fresh goal) m.links c (hold o D.Posted e)
-        (subst (λ j. Stands g l (record { nodes = set_at (set_at m.nodes n y) n (record y { slots = set_at y.slots j (record s { request = Some fresh; goal = goal }) }); links = m.links }) c (hold o D.Posted e)) slot_o
+        (subst (λ j. MachineStandsFor g l (record { nodes = set_at (set_at m.nodes n y) n (record y { slots = set_at y.slots j (record s { request = Some fresh; goal = goal }) }); links = m.links }) c (hold o D.Posted e)) slot_o
         (ask_stands g l (record { nodes = set_at m.nodes n y; links = m.links }) c e base n y (set_same m.nodes n x y t.node) o own_o s here t.there free none (unserved not_wait) fresh goal still_fresh))
 
     abbrev asking : Slot S
@@ -181,8 +181,8 @@ module _ {S : Type 0} (g : Language S) (W : Config S → Type 0) (l : Placement)
     pub asked_number : request_of asked o ≡ Some fresh
     asked_number = ap request_in at_o
 
-    pub asked_goal : goal_of asked o ≡ Some goal
-    asked_goal = ap goal_in at_o
+    pub asked_goal : kept_goal_of asked o ≡ Some goal
+    asked_goal = ap kept_goal_in at_o
 
   pub has_slot : (b : ℕ) (z : S) → object_of c b ≡ Some z → HasSlot m b
   has_slot b z h = let f = found g l m c d t.st b z h in (f.slot, f.here)
@@ -198,13 +198,13 @@ module _ {S : Type 0} (g : Language S) (W : Config S → Type 0) (l : Placement)
     abbrev callee_packet : Packet
     callee_packet = D.Request o b k args
 
-    abbrev callee_letter : Letter
+    abbrev callee_letter : NumberedArrival
     callee_letter = record { number = Some fresh; message = record { sender = o; is_call = true; method = k; args = args } }
 
     abbrev mₚ : Machine S
     mₚ = asked x' refl d' stands₁ t.free nothing no_wait fresh s.goal is_fresh
 
-    posted : Stands g l mₚ c (hold o D.Posted d')
+    posted : MachineStandsFor g l mₚ c (hold o D.Posted d')
     posted = asked_stands x' refl d' stands₁ t.free nothing no_wait fresh s.goal is_fresh
 
     number : IsNumberOf mₚ (Some fresh) (Some o)
@@ -216,7 +216,7 @@ module _ {S : Type 0} (g : Language S) (W : Config S → Type 0) (l : Placement)
     call_by : (z : Bool) → (node_of b == n) ≡ z
         → Row g W l m n (message_act n (Wt.PostCall o b (id k) args) (put_request x' i s fresh s.goal) b callee_letter callee_packet) (call_turn l c d' n o b k args)
     call_by true z = rw z (refl, t.sound.state.typed,
-        chain g l m n (put_request x' i s fresh s.goal) (put_letter b callee_letter (put_request x' i s fresh s.goal)) m.links c _
+        chain g l m n (put_request x' i s fresh s.goal) (deliver b callee_letter (put_request x' i s fresh s.goal)) m.links c _
         (put_letter_stands g l mₚ c (hold o D.Posted d') posted n (put_request x' i s fresh s.goal) (set_same m.nodes n x (put_request x' i s fresh s.goal) t.node) b
             (equal (node_of b) n z) callee callee_letter number))
     call_by false z = rw z (refl, t.sound.state.typed,
@@ -233,7 +233,7 @@ module _ {S : Type 0} (g : Language S) (W : Config S → Type 0) (l : Placement)
     abbrev note_packet : Packet
     note_packet = D.Async o b k args
 
-    abbrev note_letter : Letter
+    abbrev note_letter : NumberedArrival
     note_letter = record { number = None; message = record { sender = o; is_call = false; method = k; args = args } }
 
     abbrev xₙ : NodeState S
@@ -245,7 +245,7 @@ module _ {S : Type 0} (g : Language S) (W : Config S → Type 0) (l : Placement)
     abbrev cₙ : Config S
     cₙ = put_messages (put_object c o (g.done s.state)) o b (messages_of c o b ++ record { method = k; args = args } ∷ [])
 
-    done : Stands g l mₙ cₙ d'
+    done : MachineStandsFor g l mₙ cₙ d'
     done = messages_stand g l mₙ (put_object c o (g.done s.state)) d' o b _
         (own_stands g W l m c d n i x s t (g.done s.state) (t.req.done_callers c o s.state t.sound.state.typed t.there (rw kind refl)))
 
@@ -268,7 +268,7 @@ module _ {S : Type 0} (g : Language S) (W : Config S → Type 0) (l : Placement)
     send_by : (z : Bool) → (node_of b == n) ≡ z
         → Row g W l m n (message_act n (Wt.Step (L.Send o b (id k) args) 1) xₙ b note_letter note_packet) (send_turn g l c d' n o b k args)
     send_by true z = rw (z, moved) (refl, t.law.kept c cₙ (L.Send o b (id k) args) t.sound.state.typed moved,
-        chain g l m n xₙ (put_letter b note_letter xₙ) m.links cₙ _
+        chain g l m n xₙ (deliver b note_letter xₙ) m.links cₙ _
         (put_letter_stands g l mₙ cₙ d' done n xₙ (set_same m.nodes n x xₙ t.node) b (equal (node_of b) n z) receiver note_letter refl))
     send_by false z = rw (z, moved) (refl, t.law.kept c cₙ (L.Send o b (id k) args) t.sound.state.typed moved,
         post_stands g l mₙ cₙ d' done (n, next l n (node_of b)) (record { number = None; packet = note_packet }) (record { number = refl; names = receiver }))

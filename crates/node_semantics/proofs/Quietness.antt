@@ -18,10 +18,10 @@ use Rattle.mesh_semantics.specs.Delay.{Packet, Delay, node_of}
 use Rattle.mesh_semantics.specs.Act.{is_quiet, is_ready, ready_at, first_of}
 use Rattle.mesh_semantics.specs.Lawful.{Lawful}
 use Rattle.mesh_semantics.specs.Sound.{Consistent}
-use Rattle.node_semantics.specs.Node.{Slot, Numbered, NodeState, ready_slots}
+use Rattle.node_semantics.specs.Node.{Slot, NumberedPacket, NodeState, ready_slots}
 use Rattle.node_semantics.specs.Machine.{Machine, any_ready, is_machine_quiet}
 use Rattle.node_semantics.specs.Requests.{Requests}
-use Rattle.node_semantics.specs.Stands.{packets, Stands}
+use Rattle.node_semantics.specs.StandsFor.{packets, MachineStandsFor}
 use Rattle.node_semantics.proofs.Posted.{decide_link}
 use Rattle.node_semantics.proofs.Cells.{find_first, find_next, find_none, nothing_on}
 use Rattle.node_semantics.proofs.Limits as Lim
@@ -36,7 +36,7 @@ same_bool false false f h = refl
 
 -- links
 
-all_empty : (es : List (Pair × List Numbered)) → IsTrue (is_sorted pair_cmp es) → ((k : Pair) → list_at pair_cmp k es ≡ []) → list_any (λ e. has_some e.1) es ≡ false
+all_empty : (es : List (Pair × List NumberedPacket)) → IsTrue (is_sorted pair_cmp es) → ((k : Pair) → list_at pair_cmp k es ≡ []) → list_any (λ e. has_some e.1) es ≡ false
 all_empty [] o h = refl
 all_empty (e ∷ es) o h =
     let below = first (below_all pair_cmp e.0 es) (is_sorted pair_cmp es) o in
@@ -48,11 +48,11 @@ all_empty (e ∷ es) o h =
     at k (inl i) b = ap (λ z. list_at pair_cmp z es) i ∙ ap (λ z. unwrap_or z []) (find_none e.0 es b)
     at k (inr i) b = ap (λ z. unwrap_or z []) (sym (find_next k e.0 e.1 es i)) ∙ h k
 
-none_some : (xs : List Numbered) → has_some xs ≡ false → xs ≡ []
+none_some : (xs : List NumberedPacket) → has_some xs ≡ false → xs ≡ []
 none_some [] h = refl
 none_some (x ∷ xs) h = absurd (cc)
 
-each_empty : (es : List (Pair × List Numbered)) → list_any (λ e. has_some e.1) es ≡ false → (k : Pair) → list_at pair_cmp k es ≡ []
+each_empty : (es : List (Pair × List NumberedPacket)) → list_any (λ e. has_some e.1) es ≡ false → (k : Pair) → list_at pair_cmp k es ≡ []
 each_empty [] h k = refl
 each_empty (e ∷ es) h k = by (pair_cmp k e.0) refl (each_empty es right k)
   where
@@ -67,7 +67,7 @@ each_empty (e ∷ es) h k = by (pair_cmp k e.0) refl (each_empty es right k)
     by Less i z = ap (λ w. unwrap_or (cond (is_eq w) (Some e.1) (find pair_cmp k es)) []) i ∙ z
     by Greater i z = ap (λ w. unwrap_or (cond (is_eq w) (Some e.1) (find pair_cmp k es)) []) i ∙ z
 
-no_packets : (xs : List Numbered) → packets xs ≡ [] → xs ≡ []
+no_packets : (xs : List NumberedPacket) → packets xs ≡ [] → xs ≡ []
 no_packets [] h = refl
 no_packets (x ∷ xs) h = absurd (cc)
 
@@ -75,7 +75,7 @@ some_there : {X : Type 0} (xs : List X) → list_any (λ x. true) xs ≡ false �
 some_there [] h = refl
 some_there (x ∷ xs) h = absurd (cc)
 
-links_same : (links : List (Pair × List Numbered)) (ls : List (Pair × Packet)) → IsTrue (is_sorted pair_cmp links) → ((k : Pair) → packets (list_at pair_cmp k links) ≡ on_link ls k)
+links_same : (links : List (Pair × List NumberedPacket)) (ls : List (Pair × Packet)) → IsTrue (is_sorted pair_cmp links) → ((k : Pair) → packets (list_at pair_cmp k links) ≡ on_link ls k)
     → list_any (λ e. has_some e.1) links ≡ list_any (λ e. true) ls
 links_same links ls o h = by (list_any (λ e. has_some e.1) links) (list_any (λ e. true) ls) refl refl
   where
@@ -169,7 +169,7 @@ module _ {S : Type 0} (g : Language S) where
       by false k = k
 
 module _ {S : Type 0} (g : Language S) (W : Config S → Type 0) (law : Lawful g W) (req : Requests g W) (l : Placement) (m : Machine S) (c : Config S) (d : Delay)
-    (state : Consistent g W l c d) (st : Stands g l m c d) where
+    (state : Consistent g W l c d) (st : MachineStandsFor g l m c d) where
   here : (n : ℕ) (x : NodeState S) → slice_get m.nodes n ≡ Some x
       → is_some (first_of (ready_slots g n x)) ≡ list_any (λ e. node_of e.0 == n && is_ready g d e.0 e.1) c.objects
   here n x node =

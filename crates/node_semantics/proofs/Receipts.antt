@@ -27,10 +27,10 @@ use Rattle.mesh_semantics.specs.Ways.{In}
 use Rattle.mesh_semantics.proofs.Maps.{find_put_same, find_put_other}
 use Rattle.mesh_semantics.proofs.Basics.{runs, each_head}
 use Rattle.mesh_semantics.proofs.Owned.{moved_own, moved_some, no_part}
-use Rattle.node_semantics.specs.Node.{Slot, Numbered, NodeState, set_at, name_at, settled, settle_number, created_for, receipt, add_slot}
+use Rattle.node_semantics.specs.Node.{Slot, NumberedPacket, NodeState, set_at, name_at, settled, settle_number, created_for, receipt, add_slot}
 use Rattle.node_semantics.specs.Machine.{Machine}
 use Rattle.node_semantics.specs.Requests.{Requests}
-use Rattle.node_semantics.specs.Stands.{slot_at, request_of, request_in, StandsAt, Free, Served, Posted, Due, AtName, caller_of, Fits, IsNumberOf, AreNumbersOf, Stands}
+use Rattle.node_semantics.specs.StandsFor.{slot_at, request_of, request_in, SlotStandsFor, Free, Served, Posted, Due, AtName, caller_of, PacketFits, IsNumberOf, AreNumbersOf, MachineStandsFor}
 use Rattle.node_semantics.specs.Receives.{IsAwaited, Meets}
 use Rattle.node_semantics.proofs.Slots.{at_node, name_node, name_slot}
 use Rattle.node_semantics.proofs.References.{no_caller, none_called, of_messages}
@@ -164,13 +164,13 @@ module _ {S : Type 0} (g : Language S) (W : Config S → Type 0) (l : Placement)
       by (Some y) (Some (D.Due u)) i j z = due y u i j z.0.0 z.0.1 is
 
   -- the machine after the head has left its link
-  module _ (law : Lawful g W) (req : Requests g W) (few : l.objects < 65536) (m₁ : Machine S) (st₁ : Stands g l m₁ c d₁) (b : ℕ) (x : NodeState S) (node : slice_get m₁.nodes b ≡ Some x) where
+  module _ (law : Lawful g W) (req : Requests g W) (few : l.objects < 65536) (m₁ : Machine S) (st₁ : MachineStandsFor g l m₁ c d₁) (b : ℕ) (x : NodeState S) (node : slice_get m₁.nodes b ≡ Some x) where
     typed : W c
     typed = sound.state.typed
 
     -- a value comes to its owner
     value_stands : (o : ℕ) (v : Value) (z : ℕ) → node_of o ≡ b → request_of m₁ o ≡ Some z → Awaiting o v
-        → Stands g l (record { nodes = set_at m₁.nodes b (record x { slots = settled g z v x.slots }); links = m₁.links }) c (free o d₁)
+        → MachineStandsFor g l (record { nodes = set_at m₁.nodes b (record x { slots = settled g z v x.slots }); links = m₁.links }) c (free o d₁)
     value_stands o v z own r a = by (held d o) refl f.stands.state
       where
         f : Found g l m₁ c d₁ st₁ o a.state
@@ -189,12 +189,12 @@ module _ {S : Type 0} (g : Language S) (W : Config S → Type 0) (l : Placement)
         set : settled g z v x.slots ≡ set_at x.slots (slot_of o) (given_to g z v f.slot)
         set = settled_is g z v x.slots (slot_of o) f.slot (sym (at_node m₁ b x node o own) ∙ f.here) number one
 
-        finish : g.given f.slot.state v ≡ a.state → Stands g l (record { nodes = set_at m₁.nodes b (record x { slots = settled g z v x.slots }); links = m₁.links }) c (free o d₁)
-        finish h = subst (λ ss. Stands g l (record { nodes = set_at m₁.nodes b (record x { slots = ss }); links = m₁.links }) c (free o d₁)) (sym set)
+        finish : g.given f.slot.state v ≡ a.state → MachineStandsFor g l (record { nodes = set_at m₁.nodes b (record x { slots = settled g z v x.slots }); links = m₁.links }) c (free o d₁)
+        finish h = subst (λ ss. MachineStandsFor g l (record { nodes = set_at m₁.nodes b (record x { slots = ss }); links = m₁.links }) c (free o d₁)) (sym set)
             (settle_stands g l m₁ c d₁ st₁ b x node o own f.slot f.here z v (a.object ∙ ap Some (sym h)) a.none (no_caller g W req c typed o a.state a.object a.no_wait))
 
-        by : (h : Option Holding) → held d o ≡ h → StandsAt g o f.slot a.state h
-            → Stands g l (record { nodes = set_at m₁.nodes b (record x { slots = settled g z v x.slots }); links = m₁.links }) c (free o d₁)
+        by : (h : Option Holding) → held d o ≡ h → SlotStandsFor g o f.slot a.state h
+            → MachineStandsFor g l (record { nodes = set_at m₁.nodes b (record x { slots = settled g z v x.slots }); links = m₁.links }) c (free o d₁)
         by None i k = absurd (let q : None ≡ Some (D.Due v) = sym i ∙ a.held in cc)
         by (Some D.Posted) i k = absurd (let q : Some D.Posted ≡ Some (D.Due v) = sym i ∙ a.held in cc)
         by (Some (D.Due u)) i (Due w q r s) =
@@ -247,20 +247,20 @@ module _ {S : Type 0} (g : Language S) (W : Config S → Type 0) (l : Placement)
       callers : g.callers (g.given a.state v) ≡ g.callers a.state
       callers = req.given_callers o a.state v (rw a.kind refl)
 
-      due : StandsAt g o f.slot (g.given a.state v) (Some (D.Due v))
+      due : SlotStandsFor g o f.slot (g.given a.state v) (Some (D.Due v))
       due = by (held d o) refl f.stands.state
         where
-          by : (h : Option Holding) → held d o ≡ h → StandsAt g o f.slot a.state h → StandsAt g o f.slot (g.given a.state v) (Some (D.Due v))
+          by : (h : Option Holding) → held d o ≡ h → SlotStandsFor g o f.slot a.state h → SlotStandsFor g o f.slot (g.given a.state v) (Some (D.Due v))
           by None i z = absurd (let q : None ≡ Some D.Posted = sym i ∙ a.held in cc)
           by (Some (D.Due u)) i z = absurd (let q : Some (D.Due u) ≡ Some D.Posted = sym i ∙ a.held in cc)
           by (Some D.Posted) i (Posted r s) = Due v r (rw (s, a.kind) refl) (ap (λ y. g.given y v) s)
 
-      maker : Stands g l m₁ c₁ d₂
+      maker : MachineStandsFor g l m₁ c₁ d₂
       maker = object_stands g l m₁ c d₁ st₁ o (g.given a.state v) (put nat_cmp o (D.Due v) d₁.holding) (λ q e. find_put_other q o (D.Due v) d₁.holding e) (
           subst (λ s. Spot g m₁ o s (Some (g.given a.state v)) (find nat_cmp o (put nat_cmp o (D.Due v) d₁.holding)) (arrived_at d₁ o)) (sym f.here) (
           subst (λ h. Spot g m₁ o (Some f.slot) (Some (g.given a.state v)) h (arrived_at d₁ o)) (sym (find_put_same o (D.Due v) d₁.holding)) (
-              record { state = due; letters = f.stands.letters },
-              f.letters,
+              record { state = due; mailbox = f.stands.mailbox },
+              f.mailbox,
               subst (AreNumbersOf m₁ f.slot.callers) (sym callers) f.callers,
           )))
 
@@ -288,7 +288,7 @@ module _ {S : Type 0} (g : Language S) (W : Config S → Type 0) (l : Placement)
       abbrev m₂ : Machine S
       m₂ = record { nodes = set_at m₁.nodes b (add_slot x made.0); links = m₁.links }
 
-      added : Stands g l m₂ c₂ d₂
+      added : MachineStandsFor g l m₂ c₂ d₂
       added = add_stands g l m₁ c₁ d₂ maker b x node W req small made.0 nobody owns_none (req.made_callers class made.0 made.1)
 
       apart : o ≢ new
@@ -297,7 +297,7 @@ module _ {S : Type 0} (g : Language S) (W : Config S → Type 0) (l : Placement)
       kept : request_of m₂ o ≡ request_of m₁ o
       kept = ap request_in (add_there g l m₁ c₁ d₂ maker b x node W req small made.0 o apart)
 
-      abbrev reply : Numbered
+      abbrev reply : NumberedPacket
       reply = record { number = num; packet = D.Created o new }
 
       made_row : Row g W l m₁ b (created_for b x num o class (g.made class)) (received g l c d₁ b (D.Create o b class))
@@ -312,17 +312,17 @@ module _ {S : Type 0} (g : Language S) (W : Config S → Type 0) (l : Placement)
           moved = ap (λ z. move g c (L.New o z (id class))) new_is ∙ moved'
 
     -- a packet at its goal
-    pub receipt_row : (num : Option ℕ) (p : Packet) → Fits m₁ (record { number = num; packet = p }) → first_of (on_link d.links k) ≡ Some p → goal_node p ≡ b
+    pub receipt_row : (num : Option ℕ) (p : Packet) → PacketFits m₁ (record { number = num; packet = p }) → first_of (on_link d.links k) ≡ Some p → goal_node p ≡ b
         → Row g W l m₁ b (receipt g b x num p) (received g l c d₁ b p)
     receipt_row num (D.Create o goal class) fit head at = made_row num o goal class fit.number (creator o goal class head)
     receipt_row num (D.Created o name) fit head at =
         let r : request_of m₁ o ≡ Some fit.number.0.0 = fit.number.1 ∙ fit.number.0.1 in
         let h = value_stands o (V.Ref name) fit.number.0.0 at r (awaiting (D.Created o name) o (V.Ref name) (inr (name, refl, refl)) (equals o) head) in
-        (refl, typed, subst (λ z. Stands g l (record { nodes = set_at m₁.nodes b (settle_number g (V.Ref name) z x); links = m₁.links }) c (free o d₁)) (sym fit.number.0.1) h)
+        (refl, typed, subst (λ z. MachineStandsFor g l (record { nodes = set_at m₁.nodes b (settle_number g (V.Ref name) z x); links = m₁.links }) c (free o d₁)) (sym fit.number.0.1) h)
     receipt_row num (D.Result o v) fit head at =
         let r : request_of m₁ o ≡ Some fit.number.0.0 = fit.number.1 ∙ fit.number.0.1 in
         let h = value_stands o v fit.number.0.0 at r (awaiting (D.Result o v) o v (inl refl) (equals o) head) in
-        (refl, typed, subst (λ z. Stands g l (record { nodes = set_at m₁.nodes b (settle_number g v z x); links = m₁.links }) c (free o d₁)) (sym fit.number.0.1) h)
+        (refl, typed, subst (λ z. MachineStandsFor g l (record { nodes = set_at m₁.nodes b (settle_number g v z x); links = m₁.links }) c (free o d₁)) (sym fit.number.0.1) h)
     receipt_row num (D.Request o r k args) fit head at =
         (refl, typed, put_letter_stands g l m₁ c d₁ st₁ b x node r at fit.names (record { number = num; message = record { sender = o; is_call = true; method = k; args = args } }) fit.number)
     receipt_row num (D.Async o r k args) fit head at =
@@ -330,14 +330,14 @@ module _ {S : Type 0} (g : Language S) (W : Config S → Type 0) (l : Placement)
 
     -- what the packet meets that the node is given
 
-    callers_same : (q : ℕ) (s : Slot S) (y : S) (h : Option Holding) → StandsAt g q s y h → g.callers y ≡ g.callers s.state
+    callers_same : (q : ℕ) (s : Slot S) (y : S) (h : Option Holding) → SlotStandsFor g q s y h → g.callers y ≡ g.callers s.state
     callers_same q s y None (Free u v) = ap g.callers (sym v)
     callers_same q s y None (Served a i args u v w) = ap g.callers (sym w) ∙ req.waiting_callers q s.state a i args v
     callers_same q s y (Some _) (Posted u v) = ap g.callers (sym v)
     callers_same q s y (Some _) (Due v u i w) = ap g.callers (sym w) ∙ req.given_callers q s.state v i
 
     record Unheard (o : ℕ) (s : Slot S) : Type 0 where
-      letters : Each (λ a. caller_of a.message ≢ Some o) s.letters
+      mailbox : Each (λ a. caller_of a.message ≢ Some o) s.mailbox
       callers : In o (g.callers s.state) → ⊥
 
     awaited : (num : Option ℕ) (o : ℕ) (v : Value) → node_of o ≡ b → IsNumberOf m₁ num (Some o) → Awaiting o v → IsAwaited g x num o
@@ -347,7 +347,7 @@ module _ {S : Type 0} (g : Language S) (W : Config S → Type 0) (l : Placement)
       out = number.0.0;
       number_is = number.0.1;
       request = sym (ap request_in f.here) ∙ number.1 ∙ number.0.1;
-      no_letter = λ i s e. (slot i s e).letters;
+      no_call = λ i s e. (slot i s e).mailbox;
       no_caller = λ i s e z. (slot i s e).callers z;
     }
       where
@@ -372,7 +372,7 @@ module _ {S : Type 0} (g : Language S) (W : Config S → Type 0) (l : Placement)
             by : (y : Option S) → object_of c q ≡ y → AtName g q (Some s) y (held d₁ q) (arrived_at d₁ q) → Unheard o s
             by None h z = absurd z
             by (Some y) h z = record {
-              letters = of_messages (λ w. caller_of w ≢ Some o) s.letters (subst (Each (λ w. caller_of w ≢ Some o)) (sym z.letters) (none_called o q d.arrived none));
+              mailbox = of_messages (λ w. caller_of w ≢ Some o) s.mailbox (subst (Each (λ w. caller_of w ≢ Some o)) (sym z.mailbox) (none_called o q d.arrived none));
               callers = λ w. no_caller g W req c typed o a.state a.object a.no_wait q y h (subst (In o) (sym (callers_same q s y (held d₁ q) z.state)) w);
             }
 
@@ -384,7 +384,7 @@ module _ {S : Type 0} (g : Language S) (W : Config S → Type 0) (l : Placement)
         none zero a z e key h = h
         none (suc steps) a z e key h = let t : (a == z) ≡ true = rw e (equals z) in rw t at h
 
-    pub meets : (num : Option ℕ) (p : Packet) → Fits m₁ (record { number = num; packet = p }) → first_of (on_link d.links k) ≡ Some p → goal_node p ≡ b → Meets g b x num p
+    pub meets : (num : Option ℕ) (p : Packet) → PacketFits m₁ (record { number = num; packet = p }) → first_of (on_link d.links k) ≡ Some p → goal_node p ≡ b → Meets g b x num p
     meets num (D.Create o goal class) fit head at =
         let a = creator o goal class head in
         let y = law.can_make c o a.state class typed a.object a.kind in

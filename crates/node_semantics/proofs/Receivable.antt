@@ -23,8 +23,8 @@ use Rattle.mesh_semantics.proofs.Owned.{moved_own, moved_some}
 use Rattle.node_semantics.specs.Node.{NodeState}
 use Rattle.node_semantics.specs.Machine.{Machine}
 use Rattle.node_semantics.specs.Requests.{Requests}
-use Rattle.node_semantics.specs.Stands.{StandsAt, Due, AtName, HasSlot, Fits, Stands}
-use Rattle.node_semantics.specs.Receives.{IsPlacedAt, names_in, names_of, IsReceivable, Names}
+use Rattle.node_semantics.specs.StandsFor.{SlotStandsFor, Due, AtName, HasSlot, PacketFits, MachineStandsFor}
+use Rattle.node_semantics.specs.Receives.{HasObject, names_in, names_of, IsReceivable, KnownNames}
 use Rattle.node_semantics.proofs.Slots.{at_node}
 use Rattle.node_semantics.proofs.Spots.{Found, found}
 use Rattle.node_semantics.proofs.Receipts.{d₁, sent_same, Awaiting, awaiting, meets}
@@ -61,7 +61,7 @@ module _ (P : Message → Type 0) where
       by true z f = ((λ e. absurd (let w : true ≡ false = sym z ∙ e in cc)), f (rw z at h))
       by false z f = let w : P x.message × Each P (notes xs) = rw z at h in ((λ e. w.0), f w.1)
 
-module _ {S : Type 0} (g : Language S) (W : Config S → Type 0) (l : Placement) (c : Config S) (d : Delay) (sound : IsSound g W l c d) (k : Pair) (names : Names g W) where
+module _ {S : Type 0} (g : Language S) (W : Config S → Type 0) (l : Placement) (c : Config S) (d : Delay) (sound : IsSound g W l c d) (k : Pair) (names : KnownNames g W) where
   abbrev dₘ : Delay
   dₘ = d₁ g W l c d sound k
 
@@ -111,7 +111,7 @@ module _ {S : Type 0} (g : Language S) (W : Config S → Type 0) (l : Placement)
       let i : Each (Noted (λ f. Known f.args)) (record { is_call = false; message = record { method = m; args = args } } ∷ []) = rw (equals s, equals r) at h in
       i.0 refl
 
-  module _ (law : Lawful g W) (req : Requests g W) (few : l.objects < 65536) (m₁ : Machine S) (st₁ : Stands g l m₁ c dₘ) (b : ℕ) (x : NodeState S) (node : slice_get m₁.nodes b ≡ Some x) where
+  module _ (law : Lawful g W) (req : Requests g W) (few : l.objects < 65536) (m₁ : Machine S) (st₁ : MachineStandsFor g l m₁ c dₘ) (b : ℕ) (x : NodeState S) (node : slice_get m₁.nodes b ≡ Some x) where
     slot_there : (o : ℕ) → HasSlot m₁ o → IsThere c o
     slot_there o h = by (object_of c o) refl (subst (λ z. AtName g o z (object_of c o) (held dₘ o) (arrived_at dₘ o)) h.1 (st₁.named o))
       where
@@ -119,7 +119,7 @@ module _ {S : Type 0} (g : Language S) (W : Config S → Type 0) (l : Placement)
         by None e z = absurd z
         by (Some y) e z = (y, e)
 
-    placed : (o : ℕ) → IsThere c o → node_of o ≡ b → IsPlacedAt x o
+    placed : (o : ℕ) → IsThere c o → node_of o ≡ b → HasObject x o
     placed o h own = let f = found g l m₁ c dₘ st₁ o h.0 h.1 in (f.slot, sym (at_node m₁ b x node o own) ∙ f.here)
 
     value_known : (o : ℕ) (v : Value) → Awaiting g W l c d sound k o v → Known (v ∷ [])
@@ -128,7 +128,7 @@ module _ {S : Type 0} (g : Language S) (W : Config S → Type 0) (l : Placement)
         f : Found g l m₁ c dₘ st₁ o a.state
         f = found g l m₁ c dₘ st₁ o a.state a.object
 
-        by : (h : Option Holding) → held d o ≡ h → StandsAt g o f.slot a.state h → Known (v ∷ [])
+        by : (h : Option Holding) → held d o ≡ h → SlotStandsFor g o f.slot a.state h → Known (v ∷ [])
         by None i z = absurd (let q : None ≡ Some (D.Due v) = sym i ∙ a.held in cc)
         by (Some D.Posted) i z = absurd (let q : Some D.Posted ≡ Some (D.Due v) = sym i ∙ a.held in cc)
         by (Some (D.Due u)) i (Due w q r s) =
@@ -136,7 +136,7 @@ module _ {S : Type 0} (g : Language S) (W : Config S → Type 0) (l : Placement)
             let same : u ≡ v = cc in
             subst (λ y. Known (y ∷ [])) same (names.given_names c o a.state f.slot.state u sound.state.typed a.object r s)
 
-    known : (num : Option ℕ) (p : Packet) → Fits m₁ (record { number = num; packet = p }) → first_of (on_link d.links k) ≡ Some p → IsPlaced l c (k, p) → Each (IsThere c) (names_of p)
+    known : (num : Option ℕ) (p : Packet) → PacketFits m₁ (record { number = num; packet = p }) → first_of (on_link d.links k) ≡ Some p → IsPlaced l c (k, p) → Each (IsThere c) (names_of p)
     known num (D.Create o goal class) fit head is = (is.sender, tt)
     known num (D.Created o name) fit head is =
         (is.sender, value_known o (V.Ref name) (awaiting g W l c d sound k (D.Created o name) o (V.Ref name) (inr (name, refl, refl)) (equals o) head))
@@ -144,11 +144,11 @@ module _ {S : Type 0} (g : Language S) (W : Config S → Type 0) (l : Placement)
     known num (D.Result o v) fit head is = (is.sender, value_known o v (awaiting g W l c d sound k (D.Result o v) o v (inl refl) (equals o) head))
     known num (D.Async o r m args) fit head is = (is.sender, (slot_there r fit.names, note_known o r m args head is.on_path))
 
-    all_placed : (os : List ℕ) → Each (IsThere c) os → Each (λ o. node_of o ≡ b → IsPlacedAt x o) os
+    all_placed : (os : List ℕ) → Each (IsThere c) os → Each (λ o. node_of o ≡ b → HasObject x o) os
     all_placed [] h = tt
     all_placed (o ∷ os) h = ((λ e. placed o h.0 e), all_placed os h.1)
 
-    pub is_receivable : (num : Option ℕ) (p : Packet) → Fits m₁ (record { number = num; packet = p }) → first_of (on_link d.links k) ≡ Some p → goal_node p ≡ b → IsReceivable g b x num p
+    pub is_receivable : (num : Option ℕ) (p : Packet) → PacketFits m₁ (record { number = num; packet = p }) → first_of (on_link d.links k) ≡ Some p → goal_node p ≡ b → IsReceivable g b x num p
     is_receivable num p fit head at =
         (all_placed (names_of p) (known num p fit head (each_head (IsPlaced l c) k d.links p head sound.state.packets)),
         meets g W l c d sound k law req few m₁ st₁ b x node num p fit head at)

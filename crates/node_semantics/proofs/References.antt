@@ -13,10 +13,10 @@ use Rattle.mesh_semantics.specs.Delay.{Packet, Arrival, Holding, Delay, arrived_
 use Rattle.mesh_semantics.specs.Sound.{Each, Sent, owns, sent_of, called_of, is_wait}
 use Rattle.mesh_semantics.specs.Ways.{In}
 use Rattle.mesh_semantics.proofs.Owned.{is_call_of}
-use Rattle.node_semantics.specs.Node.{Slot, Numbered, Letter, messages}
+use Rattle.node_semantics.specs.Node.{Slot, NumberedPacket, NumberedArrival, arrivals}
 use Rattle.node_semantics.specs.Machine.{Machine}
 use Rattle.node_semantics.specs.Requests.{Requests}
-use Rattle.node_semantics.specs.Stands.{slot_at, request_of, goal_of, request_in, goal_in, IsNumberOf, AreNumbersOf, caller_of, owner_of, HasSlot, Knows, Fits, packets}
+use Rattle.node_semantics.specs.StandsFor.{slot_at, request_of, kept_goal_of, request_in, kept_goal_in, IsNumberOf, AreNumbersOf, caller_of, owner_of, HasSlot, Knows, PacketFits, packets}
 
 -- Each element has a property that follows from two.
 pub each_both : {X : Type 0} (P Q R : X → Type 0) → ((x : X) → P x → Q x → R x) → (xs : List X) → Each P xs → Each Q xs → Each R xs
@@ -28,10 +28,10 @@ module _ {S : Type 0} (m m' : Machine S) where
   -- what is kept of the requests of an object
   pub record Same (q : ℕ) : Type 0 where
     pub request : request_of m' q ≡ request_of m q
-    pub goal : goal_of m' q ≡ goal_of m q
+    pub goal : kept_goal_of m' q ≡ kept_goal_of m q
 
   pub same_slot : (q : ℕ) → slot_at m' q ≡ slot_at m q → Same q
-  same_slot q e = record { request = ap request_in e; goal = ap goal_in e }
+  same_slot q e = record { request = ap request_in e; goal = ap kept_goal_in e }
 
   pub number_kept : (number owner : Option ℕ) → ((q : ℕ) → owner ≡ Some q → request_of m' q ≡ request_of m q)
       → IsNumberOf m number owner → IsNumberOf m' number owner
@@ -44,22 +44,22 @@ module _ {S : Type 0} (m m' : Machine S) where
   callers_kept [] (o ∷ os) f h = absurd h
   callers_kept (k ∷ ks) [] f h = absurd h
 
-  pub knows_kept : (p : Packet) → ((q : ℕ) → owner_of p ≡ Some q → goal_of m' q ≡ goal_of m q) → ((q : ℕ) → HasSlot m q → HasSlot m' q) → Knows m p → Knows m' p
+  pub knows_kept : (p : Packet) → ((q : ℕ) → owner_of p ≡ Some q → kept_goal_of m' q ≡ kept_goal_of m q) → ((q : ℕ) → HasSlot m q → HasSlot m' q) → Knows m p → Knows m' p
   knows_kept (D.Create o goal class) f grow h = f o refl ∙ h
   knows_kept (D.Created o name) f grow h = tt
   knows_kept (D.Request o r k args) f grow h = grow r h
   knows_kept (D.Result o v) f grow h = tt
   knows_kept (D.Async s r k args) f grow h = grow r h
 
-  pub fits_kept : (e : Numbered) → ((q : ℕ) → owner_of e.packet ≡ Some q → Same q) → ((q : ℕ) → HasSlot m q → HasSlot m' q) → Fits m e → Fits m' e
+  pub fits_kept : (e : NumberedPacket) → ((q : ℕ) → owner_of e.packet ≡ Some q → Same q) → ((q : ℕ) → HasSlot m q → HasSlot m' q) → PacketFits m e → PacketFits m' e
   fits_kept e f grow h = record {
     number = number_kept e.number (owner_of e.packet) (λ q i. (f q i).request) h.number;
     names = knows_kept e.packet (λ q i. (f q i).goal) grow h.names;
   }
 
-  pub letters_kept : (s : Slot S) → Each (λ e. (q : ℕ) → caller_of e.message ≡ Some q → request_of m' q ≡ request_of m q) s.letters
-      → Each (λ e. IsNumberOf m e.number (caller_of e.message)) s.letters → Each (λ e. IsNumberOf m' e.number (caller_of e.message)) s.letters
-  letters_kept s h k = each_both _ _ _ (λ e f i. number_kept e.number (caller_of e.message) f i) s.letters h k
+  pub letters_kept : (s : Slot S) → Each (λ e. (q : ℕ) → caller_of e.message ≡ Some q → request_of m' q ≡ request_of m q) s.mailbox
+      → Each (λ e. IsNumberOf m e.number (caller_of e.message)) s.mailbox → Each (λ e. IsNumberOf m' e.number (caller_of e.message)) s.mailbox
+  letters_kept s h k = each_both _ _ _ (λ e f i. number_kept e.number (caller_of e.message) f i) s.mailbox h k
 
 -- Who owns nothing is referred to nowhere.
 
@@ -101,11 +101,11 @@ none_called q r (e ∷ es) h = by (is_call_of q e.1) (e.0 == r) refl refl (none_
     by false false i j k = rw j (k (rw i at h))
 
 -- the same of what the machine has for them
-pub of_packets : (P : Packet → Type 0) (es : List Numbered) → Each P (packets es) → Each (λ e. P e.packet) es
+pub of_packets : (P : Packet → Type 0) (es : List NumberedPacket) → Each P (packets es) → Each (λ e. P e.packet) es
 of_packets P [] h = tt
 of_packets P (e ∷ es) h = (h.0, of_packets P es h.1)
 
-pub of_messages : (P : Arrival → Type 0) (es : List Letter) → Each P (messages es) → Each (λ e. P e.message) es
+pub of_messages : (P : Arrival → Type 0) (es : List NumberedArrival) → Each P (arrivals es) → Each (λ e. P e.message) es
 of_messages P [] h = tt
 of_messages P (e ∷ es) h = (h.0, of_messages P es h.1)
 

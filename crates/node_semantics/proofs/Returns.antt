@@ -24,9 +24,9 @@ use Rattle.mesh_semantics.specs.Sound.{Each, Owns, OwnedAt, entries}
 use Rattle.mesh_semantics.specs.Ways.{In}
 use Rattle.mesh_semantics.proofs.Maps.{find_put_same, find_put_other, find_without_same, find_without_other}
 use Rattle.mesh_semantics.proofs.Basics.{value_itself, runs}
-use Rattle.node_semantics.specs.Node.{Slot, Numbered, NodeState, set_at, name_at, messages, settled, give_back, return_act}
+use Rattle.node_semantics.specs.Node.{Slot, NumberedPacket, NodeState, set_at, name_at, arrivals, settled, give_back, return_act}
 use Rattle.node_semantics.specs.Machine.{Machine}
-use Rattle.node_semantics.specs.Stands.{slot_at, request_of, request_in, StandsAt, Free, Served, Due, HasSlot, Fits, IsNumberOf, AreNumbersOf, caller_of, Stands}
+use Rattle.node_semantics.specs.StandsFor.{slot_at, request_of, request_in, SlotStandsFor, Free, Served, Due, HasSlot, PacketFits, IsNumberOf, AreNumbersOf, caller_of, MachineStandsFor}
 use Rattle.node_semantics.proofs.Slots.{set_same, set_set, set_length, name_node, name_slot, at_node, changed_here, changed_there}
 use Rattle.node_semantics.proofs.References.{Same, same_slot, no_caller}
 use Rattle.node_semantics.proofs.Spots.{Spot, spot, Found, found, Refers, refers_any, refers_but, Any, But, spot_kept, spot_same, link_kept, box_kept, served_kept}
@@ -57,8 +57,8 @@ module _ {S : Type 0} (g : Language S) (W : Config S → Type 0) (l : Placement)
     kind : g.kind k state ≡ K.Waits o method
     posted : g.kind k slot.state ≡ K.Send b method args
     waits : g.waiting slot.state b method ≡ state
-    letters : messages slot.letters ≡ arrived_at d k
-    letters_fit : Each (λ e. IsNumberOf m e.number (caller_of e.message)) slot.letters
+    mailbox : arrivals slot.mailbox ≡ arrived_at d k
+    letters_fit : Each (λ e. IsNumberOf m e.number (caller_of e.message)) slot.mailbox
     callers_fit : AreNumbersOf m slot.callers (g.callers state)
 
   module _ (k : ℕ) (v : Value) (kind : g.kind o s.state ≡ K.Return k v) where
@@ -88,7 +88,7 @@ module _ {S : Type 0} (g : Language S) (W : Config S → Type 0) (l : Placement)
         sane None i = i
         sane (Some e) i = absurd (let z : K.Waits o w.1 ≡ K.Fault e = sym w.3 ∙ t.law.fault_kind c k w.0 e typed w.2 i in cc)
 
-        by : (h : Option Holding) → held d k ≡ h → StandsAt g k f.slot w.0 h → Waiter k number
+        by : (h : Option Holding) → held d k ≡ h → SlotStandsFor g k f.slot w.0 h → Waiter k number
         by (Some D.Posted) e z = absurd (let q : Owns k (Some D.Posted) (K.Waits o w.1) (entries d k) = rw w.3 at (owned (Some D.Posted) e).0 in q)
         by (Some (D.Due u)) e z = absurd (let q : Owns k (Some (D.Due u)) (K.Waits o w.1) (entries d k) = rw w.3 at (owned (Some (D.Due u)) e).0 in cc)
         by None e (Free a b) = absurd (let q : None ≡ Some number = sym a ∙ number_is in cc)
@@ -110,8 +110,8 @@ module _ {S : Type 0} (g : Language S) (W : Config S → Type 0) (l : Placement)
               kind = w.3;
               posted = subst (λ z. g.kind k f.slot.state ≡ K.Send b z args) same u;
               waits = subst (λ z. g.waiting f.slot.state b z ≡ w.0) same q;
-              letters = f.stands.letters;
-              letters_fit = f.letters;
+              mailbox = f.stands.mailbox;
+              letters_fit = f.mailbox;
               callers_fit = f.callers;
             }
 
@@ -242,8 +242,8 @@ module _ {S : Type 0} (g : Language S) (W : Config S → Type 0) (l : Placement)
 
         spot_k : Spot g m₂ k (slot_at m₂ k) (object_of c' k) (held d' k) (arrived_at d' k)
         spot_k = spot_same g m₂ k {s = Some (given_to g number v w.slot)} {x = Some (g.given w.state v)} {h = None} {b = arrived_at d k} now_k at_k (find_without_same k d.holding) refl (
-            record { state = Free refl given_is; letters = w.letters },
-            box_kept g m m₂ (But k) keep w.slot (arrived_at d k) w.letters (refers.in_boxes k) w.letters_fit,
+            record { state = Free refl given_is; mailbox = w.mailbox },
+            box_kept g m m₂ (But k) keep w.slot (arrived_at d k) w.mailbox (refers.in_boxes k) w.letters_fit,
             callers_k,
         )
 
@@ -253,8 +253,8 @@ module _ {S : Type 0} (g : Language S) (W : Config S → Type 0) (l : Placement)
         spot_o : Spot g m₂ o (slot_at m₂ o) (object_of c' o) (held d' o) (arrived_at d' o)
         spot_o = spot_same g m₂ o {s = Some s₁} {x = Some (g.returned s.state)} {h = None} {b = arrived_at d o}
             (now_q o apart ∙ slot_o) at_o (find_without_other o k d.holding apart ∙ t.free) refl (
-            record { state = Free t.idle refl; letters = mine.0.letters },
-            box_kept g m m₂ (But k) keep s (arrived_at d o) mine.0.letters (refers.in_boxes o) mine.1,
+            record { state = Free t.idle refl; mailbox = mine.0.mailbox },
+            box_kept g m m₂ (But k) keep s (arrived_at d o) mine.0.mailbox (refers.in_boxes o) mine.1,
             served_kept g m m₂ (But k) keep ks (g.callers (g.returned s.state)) (λ q e. refers.in_callers o (g.returned s.state) q at_o e) behind,
         )
 
@@ -268,7 +268,7 @@ module _ {S : Type 0} (g : Language S) (W : Config S → Type 0) (l : Placement)
                 (spot_kept g m m₂ (But k) keep q (slot_at m q) (object_of c q) (held d q) (arrived_at d q) (refers.in_boxes q)
                 (λ y b f j. refers.in_callers q y b (at_other q z e ∙ f) j) (spot g l m c d t.st q))
 
-        near_stands : Stands g l m₂ c' d'
+        near_stands : MachineStandsFor g l m₂ c' d'
         near_stands = assemble g l m c d t.st n x t.node x₂ m.links c' d'
             (subst (λ z. z ≤ 65536) (sym (ap length set ∙ set_length xₘ.slots (slot_of k) (given_to g number v w.slot))) (few g W l m c d n i x s t s₁ xₘ refl m.links))
             (last_is g W l m c d n i x s t) (last_else g W l m c d n i x s t)
@@ -285,13 +285,13 @@ module _ {S : Type 0} (g : Language S) (W : Config S → Type 0) (l : Placement)
 
       -- the caller is on another node
       module _ (far : node_of k ≢ n) where
-        abbrev e : Numbered
+        abbrev e : NumberedPacket
         e = record { number = Some number; packet = D.Result k v }
 
         abbrev key : Pair
         key = (n, next l n (node_of k))
 
-        abbrev links' : List (Pair × List Numbered)
+        abbrev links' : List (Pair × List NumberedPacket)
         links' = push_list pair_cmp key e m.links
 
         abbrev m₃ : Machine S
@@ -318,8 +318,8 @@ module _ {S : Type 0} (g : Language S) (W : Config S → Type 0) (l : Placement)
         far_k : Spot g m₃ k (slot_at m₃ k) (object_of c' k) (held e' k) (arrived_at e' k)
         far_k = spot_same g m₃ k {s = Some w.slot} {x = Some (g.given w.state v)} {h = Some (D.Due v)} {b = arrived_at d k}
             (slot_q' k apart' ∙ w.here) at_k (find_put_same k (D.Due v) d.holding) refl (
-            record { state = Due v (number, w.number_is) (rw w.posted refl) given_is; letters = w.letters },
-            box_kept g m m₃ Any keep' w.slot (arrived_at d k) w.letters (any.in_boxes k) w.letters_fit,
+            record { state = Due v (number, w.number_is) (rw w.posted refl) given_is; mailbox = w.mailbox },
+            box_kept g m m₃ Any keep' w.slot (arrived_at d k) w.mailbox (any.in_boxes k) w.letters_fit,
             served_kept g m m₃ Any keep' w.slot.callers (g.callers (g.given w.state v)) (λ q z. tt) (subst (AreNumbersOf m w.slot.callers) callers_are w.callers_fit),
         )
 
@@ -329,8 +329,8 @@ module _ {S : Type 0} (g : Language S) (W : Config S → Type 0) (l : Placement)
         far_o : Spot g m₃ o (slot_at m₃ o) (object_of c' o) (held e' o) (arrived_at e' o)
         far_o = spot_same g m₃ o {s = Some s₁} {x = Some (g.returned s.state)} {h = None} {b = arrived_at d o}
             slot_o' at_o (find_put_other o k (D.Due v) d.holding apart ∙ t.free) refl (
-            record { state = Free t.idle refl; letters = mine'.0.letters },
-            box_kept g m m₃ Any keep' s (arrived_at d o) mine'.0.letters (any.in_boxes o) mine'.1,
+            record { state = Free t.idle refl; mailbox = mine'.0.mailbox },
+            box_kept g m m₃ Any keep' s (arrived_at d o) mine'.0.mailbox (any.in_boxes o) mine'.1,
             served_kept g m m₃ Any keep' ks (g.callers (g.returned s.state)) (λ q z. tt) behind,
         )
 
@@ -343,20 +343,20 @@ module _ {S : Type 0} (g : Language S) (W : Config S → Type 0) (l : Placement)
             by (inr z) (inr y) = spot_same g m₃ q (slot_q' q y) (at_other q y z) (find_put_other q k (D.Due v) d.holding z) refl
                 (spot_kept g m m₃ Any keep' q (slot_at m q) (object_of c q) (held d q) (arrived_at d q) (any.in_boxes q) (λ f b a j. tt) (spot g l m c d t.st q))
 
-        result_fits : Fits m₃ e
+        result_fits : PacketFits m₃ e
         result_fits = record { number = ((number, refl), (keep' k tt).request ∙ r); names = tt }
 
-        old_fit : (z : Pair) → Each (Fits m₃) (list_at pair_cmp z m.links)
+        old_fit : (z : Pair) → Each (PacketFits m₃) (list_at pair_cmp z m.links)
         old_fit z = link_kept g m m₃ Any keep' (list_at pair_cmp z m.links) (on_link d.links z) (t.st.links z) (any.on_links z)
             (has_slots g W l m c d n i x s t s₁ xₘ refl links') (t.st.on_links z)
 
-        far_stands : Stands g l m₃ c' e'
+        far_stands : MachineStandsFor g l m₃ c' e'
         far_stands = assemble g l m c d t.st n x t.node xₘ links' c' e'
             (few g W l m c d n i x s t s₁ xₘ refl links')
             (last_is g W l m c d n i x s t) (last_else g W l m c d n i x s t)
             (t.st.made n x t.node) (λ b z f. refl) far_spots
             (posted_links m.links d.links t.st.links key e) (pushed_sorted m.links key e t.st.in_order)
-            (posted_each m.links d.links t.st.links key e (Fits m₃) old_fit result_fits)
+            (posted_each m.links d.links t.st.links key e (PacketFits m₃) old_fit result_fits)
             (fewer g l m c d t.st n x t.node xₘ links' c' e' (λ q z f. sym (keep' q tt).request ∙ f))
 
       -- the turn, wherever the caller is

@@ -20,7 +20,7 @@ use Rattle.mesh_semantics.proofs.Events.{act_kept}
 use Rattle.node_semantics.specs.Machine as M
 use Rattle.node_semantics.specs.Machine.{Machine, MachineActed, machine_act, machine_start, is_machine_quiet}
 use Rattle.node_semantics.specs.Requests.{Requests}
-use Rattle.node_semantics.specs.Stands.{Stands}
+use Rattle.node_semantics.specs.StandsFor.{MachineStandsFor}
 use Rattle.node_semantics.specs.Agrees.{Agrees, StartAgrees, IsOfMesh, IsFresh}
 use Rattle.node_semantics.specs.Written.{goes_on, lines_from, lines_at, machine_lines, Then, UnlessQuiet, AreFresh, AreFreshAt, FreshAlong}
 use Rattle.node_semantics.proofs.Events.{event_agrees}
@@ -44,7 +44,7 @@ module _ {S : Type 0} (g : Language S) (W : Config S → Type 0) (law : Lawful g
   before c d done P xs r h false true e p = absurd (cc)
 
   lines_agree : (es : List Event) (numbers : List ℕ) → Each (IsOfMesh l) es → (m : Machine S) (c : Config S) (d : Delay) (done : ℕ) → AreFresh g l q m es numbers
-      → IsSound g W l c d → Stands g l m c d → lines_from g l q m done es numbers ≡ (record_from g l q c d done es).lines
+      → IsSound g W l c d → MachineStandsFor g l m c d → lines_from g l q m done es numbers ≡ (record_from g l q c d done es).lines
   lines_agree [] numbers inside m c d done fresh s st = at_end c d done (is_machine_quiet g m) (is_quiet g c d) (quiet_agrees g W law req l m c d s.state st)
   lines_agree (e ∷ es) [] inside m c d done fresh s st = absurd fresh
   lines_agree (e ∷ es) (k ∷ numbers) inside m c d done fresh s st =
@@ -54,7 +54,7 @@ module _ {S : Type 0} (g : Language S) (W : Config S → Type 0) (law : Lawful g
       (is_machine_quiet g m) (is_quiet g c d) (quiet_agrees g W law req l m c d s.state st) fresh
     where
       on : (a : MachineActed S) (b : Acted S) → Agrees g l a b → After g W l c b → Then (λ m'. AreFresh g l q m' es numbers) a
-          → ((m' : Machine S) (c' : Config S) (d' : Delay) → AreFresh g l q m' es numbers → IsSound g W l c' d' → Stands g l m' c' d'
+          → ((m' : Machine S) (c' : Config S) (d' : Delay) → AreFresh g l q m' es numbers → IsSound g W l c' d' → MachineStandsFor g l m' c' d'
               → lines_from g l q m' (done + 1) es numbers ≡ (record_from g l q c' d' (done + 1) es).lines)
           → goes_on e done (λ m'. lines_from g l q m' (done + 1) es numbers) a ≡ (after e done c d (λ c' d'. record_from g l q c' d' (done + 1) es) b).lines
       on (M.Acts w m') (A.Acts v c' d') h a f rest = ap₂ (λ (x : What) (ls : List Line). R.Event (done + 1) e x ∷ ls) h.0 (rest m' c' d' f a.1 h.1)

@@ -1,11 +1,11 @@
--- Names and slots: what a change of one slot leaves.
+-- KnownNames and slots: what a change of one slot leaves.
 use Rattle.std.proofs.Common.{◌≡◌, ◌≢◌, ◌⊎◌, inl, inr, refl, sym, ap, ap₂, ◌∙◌, ℕ, zero, suc, ◌<◌, List, [], ◌∷◌, ◌++◌, length, Some, arith}
 use Rattle.std.specs.Prelude.{slice_get}
 use Rattle.mesh_semantics.proofs.Laws.{decide}
 use Rattle.mesh_semantics.specs.Delay.{node_of, slot_of}
 use Rattle.node_semantics.specs.Node.{Slot, NodeState, set_at, name_at}
 use Rattle.node_semantics.specs.Machine.{Machine}
-use Rattle.node_semantics.specs.Stands.{slot_in, slot_at}
+use Rattle.node_semantics.specs.StandsFor.{slot_in, slot_at}
 
 pub whole_name : (o : ℕ) → name_at (node_of o) (slot_of o) ≡ o
 whole_name o = omega arith

@@ -10,9 +10,9 @@ use Rattle.mesh_semantics.specs.Sound.{Each, entries, sent_of, called_of}
 use Rattle.mesh_semantics.specs.Ways.{In}
 use Rattle.mesh_semantics.proofs.Owned.{no_part}
 use Rattle.mesh_semantics.proofs.Basics.{each_map}
-use Rattle.node_semantics.specs.Node.{Slot, Numbered, messages}
+use Rattle.node_semantics.specs.Node.{Slot, NumberedPacket, arrivals}
 use Rattle.node_semantics.specs.Machine.{Machine}
-use Rattle.node_semantics.specs.Stands.{slot_at, Standing, AtName, IsNumberOf, AreNumbersOf, caller_of, owner_of, HasSlot, Fits, packets, LettersFit, CallersFit, Stands}
+use Rattle.node_semantics.specs.StandsFor.{slot_at, Occupied, AtName, IsNumberOf, AreNumbersOf, caller_of, owner_of, HasSlot, PacketFits, packets, MailboxFits, CallersFit, MachineStandsFor}
 use Rattle.node_semantics.proofs.References.{Same, callers_kept, fits_kept, letters_kept, none_sent, none_called, of_packets, of_messages, each_both}
 
 -- all that refers to a request refers to one of these objects
@@ -51,18 +51,18 @@ refers_but g c d o h f =
 
 -- what stands at a name, with the numbers that it refers to
 abbrev pub Spot : {S : Type 0} → Language S → Machine S → ℕ → Option (Slot S) → Option S → Option Holding → List Arrival → Type 0
-Spot g m q s x h box = AtName g q s x h box × LettersFit m s × CallersFit g m s x
+Spot g m q s x h box = AtName g q s x h box × MailboxFits m s × CallersFit g m s x
 
-module _ {S : Type 0} (g : Language S) (l : Placement) (m : Machine S) (c : Config S) (d : Delay) (st : Stands g l m c d) where
+module _ {S : Type 0} (g : Language S) (l : Placement) (m : Machine S) (c : Config S) (d : Delay) (st : MachineStandsFor g l m c d) where
   pub spot : (q : ℕ) → Spot g m q (slot_at m q) (object_of c q) (held d q) (arrived_at d q)
-  spot q = (st.named q, st.in_letters q, st.in_callers q)
+  spot q = (st.named q, st.in_mailboxes q, st.in_callers q)
 
   -- an object is in its slot
   pub record Found (o : ℕ) (x : S) : Type 0 where
     pub slot : Slot S
     pub here : slot_at m o ≡ Some slot
-    pub stands : Standing g o slot x (held d o) (arrived_at d o)
-    pub letters : Each (λ e. IsNumberOf m e.number (caller_of e.message)) slot.letters
+    pub stands : Occupied g o slot x (held d o) (arrived_at d o)
+    pub mailbox : Each (λ e. IsNumberOf m e.number (caller_of e.message)) slot.mailbox
     pub callers : AreNumbersOf m slot.callers (g.callers x)
 
   pub found : (o : ℕ) (x : S) → object_of c o ≡ Some x → Found o x
@@ -70,21 +70,21 @@ module _ {S : Type 0} (g : Language S) (l : Placement) (m : Machine S) (c : Conf
     where
       by : (z : Option (Slot S)) → slot_at m o ≡ z → Spot g m o z (Some x) (held d o) (arrived_at d o) → Found o x
       by None i k = absurd k.0
-      by (Some s) i k = record { slot = s; here = i; stands = k.0; letters = k.1; callers = k.2 }
+      by (Some s) i k = record { slot = s; here = i; stands = k.0; mailbox = k.1; callers = k.2 }
 
 module _ {S : Type 0} (g : Language S) (m m' : Machine S) (K : ℕ → Type 0) (keep : (q : ℕ) → K q → Same m m' q) where
-  -- the letters of a slot
-  pub box_kept : (s : Slot S) (box : List Arrival) → messages s.letters ≡ box → Each (λ a. (q : ℕ) → caller_of a ≡ Some q → K q) box
-      → Each (λ e. IsNumberOf m e.number (caller_of e.message)) s.letters → Each (λ e. IsNumberOf m' e.number (caller_of e.message)) s.letters
+  -- the mailbox of a slot
+  pub box_kept : (s : Slot S) (box : List Arrival) → arrivals s.mailbox ≡ box → Each (λ a. (q : ℕ) → caller_of a ≡ Some q → K q) box
+      → Each (λ e. IsNumberOf m e.number (caller_of e.message)) s.mailbox → Each (λ e. IsNumberOf m' e.number (caller_of e.message)) s.mailbox
   box_kept s box i h k =
-      let r = of_messages (λ a. (q : ℕ) → caller_of a ≡ Some q → K q) s.letters (subst (Each (λ a. (q : ℕ) → caller_of a ≡ Some q → K q)) (sym i) h) in
-      letters_kept m m' s (each_map _ _ (λ e f q j. (keep q (f q j)).request) s.letters r) k
+      let r = of_messages (λ a. (q : ℕ) → caller_of a ≡ Some q → K q) s.mailbox (subst (Each (λ a. (q : ℕ) → caller_of a ≡ Some q → K q)) (sym i) h) in
+      letters_kept m m' s (each_map _ _ (λ e f q j. (keep q (f q j)).request) s.mailbox r) k
 
   pub served_kept : (ks os : List ℕ) → ((q : ℕ) → In q os → K q) → AreNumbersOf m ks os → AreNumbersOf m' ks os
   served_kept ks os f h = callers_kept m m' ks os (λ q i. (keep q (f q i)).request) h
 
-  pub link_kept : (es : List Numbered) (ps : List Packet) → packets es ≡ ps → Each (λ p. (q : ℕ) → owner_of p ≡ Some q → K q) ps
-      → ((q : ℕ) → HasSlot m q → HasSlot m' q) → Each (Fits m) es → Each (Fits m') es
+  pub link_kept : (es : List NumberedPacket) (ps : List Packet) → packets es ≡ ps → Each (λ p. (q : ℕ) → owner_of p ≡ Some q → K q) ps
+      → ((q : ℕ) → HasSlot m q → HasSlot m' q) → Each (PacketFits m) es → Each (PacketFits m') es
   link_kept es ps i h grow k =
       let r = of_packets (λ p. (q : ℕ) → owner_of p ≡ Some q → K q) es (subst (Each (λ p. (q : ℕ) → owner_of p ≡ Some q → K q)) (sym i) h) in
       each_both _ _ _ (λ e f j. fits_kept m m' e (λ q z. keep q (f q z)) grow j) es r k
@@ -97,8 +97,8 @@ module _ {S : Type 0} (g : Language S) (m m' : Machine S) (K : ℕ → Type 0) (
   spot_kept q None (Some x) h box e f k = absurd k.0
   spot_kept q (Some s) None h box e f k = absurd k.0
   spot_kept q (Some s) (Some x) h box e f k =
-      let n : Standing g q s x h box = k.0 in
-      (n, box_kept s box n.letters e k.1, served_kept s.callers (g.callers x) (λ o i. f x o refl i) k.2)
+      let n : Occupied g q s x h box = k.0 in
+      (n, box_kept s box n.mailbox e k.1, served_kept s.callers (g.callers x) (λ o i. f x o refl i) k.2)
 
 -- the same where the slot, the object and the rest are told in other words
 pub spot_same : {S : Type 0} (g : Language S) (m : Machine S) (q : ℕ) {s s' : Option (Slot S)} {x x' : Option S} {h h' : Option Holding} {b b' : List Arrival}

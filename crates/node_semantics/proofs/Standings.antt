@@ -20,12 +20,12 @@ use Rattle.mesh_semantics.specs.Standing.{created_at, goal_in, standing_of, stan
 use Rattle.mesh_semantics.specs.Lawful.{Lawful}
 use Rattle.mesh_semantics.proofs.Owned.{no_part}
 use Rattle.mesh_semantics.proofs.Basics.{each_map}
-use Rattle.node_semantics.specs.Node.{Slot, Numbered, messages}
+use Rattle.node_semantics.specs.Node.{Slot, NumberedPacket, arrivals}
 use Rattle.node_semantics.specs.Machine.{Machine}
-use Rattle.node_semantics.specs.Requests.{Requests, asks}
-use Rattle.node_semantics.specs.Stands as St
-use Rattle.node_semantics.specs.Stands.{slot_at, StandsAt, Free, Served, Posted, Due, packets, goal_of, Knows, Fits, Stands}
-use Rattle.node_semantics.specs.Standings.{standing_by, slot_standing, IsRequest, SaysOf}
+use Rattle.node_semantics.specs.Requests.{Requests, posts_request}
+use Rattle.node_semantics.specs.StandsFor as St
+use Rattle.node_semantics.specs.StandsFor.{slot_at, SlotStandsFor, Free, Served, Posted, Due, packets, kept_goal_of, Knows, PacketFits, MachineStandsFor}
+use Rattle.node_semantics.specs.Standings.{slot_standing_by, slot_standing, IsRequest, SaysOf}
 use Rattle.node_semantics.proofs.Spots.{found}
 use Rattle.node_semantics.proofs.Receipts.{sent_same}
 
@@ -45,7 +45,7 @@ module _ (P : Packet → Type 0) where
           by true z = let y : Each P (on_link (e ∷ ls) k) = h k in let w : Each P (e.1 ∷ on_link ls k) = rw z at y in w.1
           by false z = let y : Each P (on_link (e ∷ ls) k) = h k in rw z at y
 
-  of_packets : (m : List Numbered) → Each (λ e. P e.packet) m → Each P (packets m)
+  of_packets : (m : List NumberedPacket) → Each (λ e. P e.packet) m → Each P (packets m)
   of_packets [] h = tt
   of_packets (e ∷ es) h = (h.0, of_packets es h.1)
 
@@ -93,8 +93,8 @@ module _ (o : ℕ) where
           (rw (e, created_at) r.0, r.1)
 
 module _ {S : Type 0} (g : Language S) (W : Config S → Type 0) (law : Lawful g W) (req : Requests g W) (l : Placement) (m : Machine S) (c : Config S) (d : Delay)
-    (sound : IsSound g W l c d) (st : Stands g l m c d) (o : ℕ) (x : S) (there : object_of c o ≡ Some x) (s : Slot S) (here : slot_at m o ≡ Some s)
-    (letters : messages s.letters ≡ arrived_at d o) where
+    (sound : IsSound g W l c d) (st : MachineStandsFor g l m c d) (o : ℕ) (x : S) (there : object_of c o ≡ Some x) (s : Slot S) (here : slot_at m o ≡ Some s)
+    (mailbox : arrivals s.mailbox ≡ arrived_at d o) where
   owned : OwnedAt g o (Some x) (held d o) (entries d o)
   owned = subst (λ z. OwnedAt g o z (held d o) (entries d o)) there (sound.state.owned o)
 
@@ -102,7 +102,7 @@ module _ {S : Type 0} (g : Language S) (W : Config S → Type 0) (law : Lawful g
   either true = refl
   either false = refl
 
-  free_says : (k : Kind) → SaysOf (standing_by None None (arrived_at d o) s.goal k) (standing_of d o None None k)
+  free_says : (k : Kind) → SaysOf (slot_standing_by None None (arrived_at d o) s.goal k) (standing_of d o None None k)
   free_says K.Finished = refl
   free_says K.Local = refl
   free_says (K.Fault e) = refl
@@ -115,7 +115,7 @@ module _ {S : Type 0} (g : Language S) (W : Config S → Type 0) (law : Lawful g
   free_says (K.Waits b i) = refl
   free_says K.Stuck = refl
 
-  due_says : (number : ℕ) (f : Option Error) (box : List Arrival) (k : Kind) → asks k ≡ true → IsRequest (standing_by (Some number) f box s.goal k)
+  due_says : (number : ℕ) (f : Option Error) (box : List Arrival) (k : Kind) → posts_request k ≡ true → IsRequest (slot_standing_by (Some number) f box s.goal k)
   due_says number f box (K.New class) h = tt
   due_says number f box (K.Send b i args) h = tt
   due_says number f box K.Finished h = absurd (cc)
@@ -130,13 +130,13 @@ module _ {S : Type 0} (g : Language S) (W : Config S → Type 0) (law : Lawful g
 
   all_known : Each (λ e. Knows m e.1) d.links
   all_known = on_each (Knows m) d.links (λ k. subst (Each (Knows m)) (st.links k)
-      (of_packets (Knows m) (list_at pair_cmp k m.links) (each_map (Fits m) (λ e. Knows m e.packet) (λ e f. f.names) (list_at pair_cmp k m.links) (st.on_links k))))
+      (of_packets (Knows m) (list_at pair_cmp k m.links) (each_map (PacketFits m) (λ e. Knows m e.packet) (λ e f. f.names) (list_at pair_cmp k m.links) (st.on_links k))))
 
   posted_says : (number : ℕ) (f : Option Error) (box : List Arrival) (k : Kind) → Owns o (Some D.Posted) k (entries d o)
-      → SaysOf (standing_by (Some number) f box s.goal k) (standing_of d o None (Some D.Posted) k)
+      → SaysOf (slot_standing_by (Some number) f box s.goal k) (standing_of d o None (Some D.Posted) k)
   posted_says number f box (K.New class) h =
       let r = goal_found o (Knows m) h.0 class d.links all_known (sent_alone o (D.Create o h.0 class) (sent_of o d.links) d.arrived h.2) in
-      let kept : Some s.goal ≡ Some h.0 = sym (ap St.goal_in here) ∙ r.1 in
+      let kept : Some s.goal ≡ Some h.0 = sym (ap St.kept_goal_in here) ∙ r.1 in
       ap (T.Creates class) (same_some kept ∙ sym r.0)
   posted_says number f box (K.Send b i args) h = refl
   posted_says number f box K.Finished h = absurd h
@@ -149,11 +149,11 @@ module _ {S : Type 0} (g : Language S) (W : Config S → Type 0) (law : Lawful g
   posted_says number f box (K.Waits b i) h = absurd h
   posted_says number f box K.Stuck h = absurd h
 
-  says : (h : Option Holding) → held d o ≡ h → StandsAt g o s x h → (f : Option Error) → g.fault x ≡ f → SaysOf (slot_standing g o s) (standing_of d o f h (g.kind o x))
+  says : (h : Option Holding) → held d o ≡ h → SlotStandsFor g o s x h → (f : Option Error) → g.fault x ≡ f → SaysOf (slot_standing g o s) (standing_of d o f h (g.kind o x))
   says None i (Free u v) (Some e) z = rw (u, ap g.fault v ∙ z) refl
   says None i (Free u v) None z = rw (u, ap g.fault v ∙ z) (
-      subst (λ box. SaysOf (standing_by None None box s.goal (g.kind o s.state)) (standing_of d o None None (g.kind o x))) (sym letters)
-      (subst (λ k. SaysOf (standing_by None None (arrived_at d o) s.goal k) (standing_of d o None None (g.kind o x))) (sym (ap (g.kind o) v)) (free_says (g.kind o x))))
+      subst (λ box. SaysOf (slot_standing_by None None box s.goal (g.kind o s.state)) (standing_of d o None None (g.kind o x))) (sym mailbox)
+      (subst (λ k. SaysOf (slot_standing_by None None (arrived_at d o) s.goal k) (standing_of d o None None (g.kind o x))) (sym (ap (g.kind o) v)) (free_says (g.kind o x))))
   says None i (Served b k args out u w) (Some e) z = absurd (
       let a : g.kind o x ≡ K.Fault e = law.fault_kind c o x e sound.state.typed there z in
       let b' : g.kind o x ≡ K.Waits b k = ap (g.kind o) (sym w) ∙ req.waiting_kind o s.state b k args u in cc)
@@ -161,15 +161,15 @@ module _ {S : Type 0} (g : Language S) (W : Config S → Type 0) (law : Lawful g
       let a : g.kind o x ≡ K.Waits b k = ap (g.kind o) (sym w) ∙ req.waiting_kind o s.state b k args u in rw (out.1, u, a) refl
   says (Some h) i y (Some e) z = absurd (let a : Some h ≡ None = sym i ∙ owned.1 e z in cc)
   says (Some D.Posted) i (Posted out v) None z =
-      rw (out.1, ap (g.kind o) v) (posted_says out.0 (g.fault s.state) (messages s.letters) (g.kind o x)
+      rw (out.1, ap (g.kind o) v) (posted_says out.0 (g.fault s.state) (arrivals s.mailbox) (g.kind o x)
           (subst (λ t. Owns o t (g.kind o x) (entries d o)) i owned.0))
-  says (Some (D.Due v)) i (Due w out a r) None z = rw out.1 (due_says out.0 (g.fault s.state) (messages s.letters) (g.kind o s.state) a)
+  says (Some (D.Due v)) i (Due w out a r) None z = rw out.1 (due_says out.0 (g.fault s.state) (arrivals s.mailbox) (g.kind o s.state) a)
 
 -- for each object of what the machine stands for
 pub node_says : {S : Type 0} (g : Language S) (W : Config S → Type 0) → Lawful g W → Requests g W → (l : Placement) (m : Machine S) (c : Config S) (d : Delay)
-    → IsSound g W l c d → Stands g l m c d → (o : ℕ) (x : S) → object_of c o ≡ Some x → (s : Slot S) → slot_at m o ≡ Some s → SaysOf (slot_standing g o s) (standing g d o x)
+    → IsSound g W l c d → MachineStandsFor g l m c d → (o : ℕ) (x : S) → object_of c o ≡ Some x → (s : Slot S) → slot_at m o ≡ Some s → SaysOf (slot_standing g o s) (standing g d o x)
 node_says {S} g W law req l m c d sound st o x there s here =
     let f = found g l m c d st o x there in
     let same : f.slot ≡ s = same_some (sym f.here ∙ here) in
     subst (λ (z : Slot S). SaysOf (slot_standing g o z) (standing g d o x)) same
-    (says g W law req l m c d sound st o x there f.slot f.here f.stands.letters (held d o) refl f.stands.state (g.fault x) refl)
+    (says g W law req l m c d sound st o x there f.slot f.here f.stands.mailbox (held d o) refl f.stands.state (g.fault x) refl)

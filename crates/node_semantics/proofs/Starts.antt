@@ -15,7 +15,7 @@ use Rattle.node_semantics.specs.Node.{NodeState, name_at, set_at, fresh_slot}
 use Rattle.node_semantics.specs.Machine.{Machine, empty_node, machine_start, start_with}
 use Rattle.node_semantics.specs.Agrees.{StartAgrees}
 use Rattle.node_semantics.specs.Requests.{Requests}
-use Rattle.node_semantics.specs.Stands.{slot_at, slot_in, request_of, request_in, Counts, Stands}
+use Rattle.node_semantics.specs.StandsFor.{slot_at, slot_in, request_of, request_in, CountsMade, MachineStandsFor}
 use Rattle.node_semantics.proofs.Added.{add_stands}
 use Rattle.mesh_semantics.specs.Act.{class_place}
 use Rattle.node_semantics.proofs.Places.{zeros}
@@ -50,7 +50,7 @@ module _ {S : Type 0} (g : Language S) (W : Config S → Type 0) (req : Requests
       by (inl e) = ap (λ z. slot_in z (slot_of q)) e
       by (inr e) = ap (λ z. slot_in z (slot_of q)) e
 
-  empty : Stands g l m₀ c₀ no_delay
+  empty : MachineStandsFor g l m₀ c₀ no_delay
   empty = record {
     nodes = length-replicate (l.width * l.height) (empty_node g);
     few = λ n x h. let e : (empty_node g) ≡ x = copy_is (l.width * l.height) (empty_node g) x n h in subst (λ (z : NodeState S). length z.slots ≤ 65536) e (omega arith);
@@ -58,21 +58,21 @@ module _ {S : Type 0} (g : Language S) (W : Config S → Type 0) (req : Requests
     links = λ k. refl;
     in_order = refl;
     last = λ n x h. let e : (empty_node g) ≡ x = copy_is (l.width * l.height) (empty_node g) x n h in subst (λ (z : NodeState S). z.last ≡ None) e refl;
-    made = λ n x h. let e : (empty_node g) ≡ x = copy_is (l.width * l.height) (empty_node g) x n h in subst (λ (z : NodeState S). Counts g z no_delay n) e (length-replicate (length g.classes) 0, (λ k i. zeros (length g.classes) (class_place g.classes k)));
+    made = λ n x h. let e : (empty_node g) ≡ x = copy_is (l.width * l.height) (empty_node g) x n h in subst (λ (z : NodeState S). CountsMade g z no_delay n) e (length-replicate (length g.classes) 0, (λ k i. zeros (length g.classes) (class_place g.classes k)));
     distinct = λ a b k e i j. absurd (let z : request_of m₀ a ≡ None = ap request_in (nowhere a) in cc);
     on_links = λ k. tt;
-    in_letters = λ o. rw (nowhere o) tt;
+    in_mailboxes = λ o. rw (nowhere o) tt;
     in_callers = λ o. rw (nowhere o) tt;
   }
 
   alone : (k : ℕ) (y : S) → k < l.width * l.height → g.callers y ≡ []
-      → Stands g l (record { nodes = set_at m₀.nodes k (record (empty_node g) { slots = fresh_slot y ∷ [] }); links = [] }) (record { objects = (k * 65536, y) ∷ []; messages = [] }) no_delay
+      → MachineStandsFor g l (record { nodes = set_at m₀.nodes k (record (empty_node g) { slots = fresh_slot y ∷ [] }); links = [] }) (record { objects = (k * 65536, y) ∷ []; messages = [] }) no_delay
   alone k y inside none =
       let x = there_at m₀.nodes k (subst (λ z. k < z) (sym (length-replicate (l.width * l.height) (empty_node g))) inside) in
       let e : (empty_node g) ≡ x.0 = copy_is (l.width * l.height) (empty_node g) x.0 k x.1 in
       let node : slice_get m₀.nodes k ≡ Some (empty_node g) = x.1 ∙ ap Some (sym e) in
       let name : name_at k 0 ≡ k * 65536 = omega arith in
-      subst (λ z. Stands g l (record { nodes = set_at m₀.nodes k (record (empty_node g) { slots = fresh_slot y ∷ [] }); links = [] }) (record { objects = (z, y) ∷ []; messages = [] }) no_delay) name
+      subst (λ z. MachineStandsFor g l (record { nodes = set_at m₀.nodes k (record (empty_node g) { slots = fresh_slot y ∷ [] }); links = [] }) (record { objects = (z, y) ∷ []; messages = [] }) no_delay) name
       (add_stands g l m₀ c₀ no_delay empty k (empty_node g) node W req (omega arith) y (λ b z h i. absurd (cc)) refl none)
 
   root_at : (k : ℕ) → node_of (k * 65536) ≡ k
@@ -90,5 +90,5 @@ module _ {S : Type 0} (g : Language S) (W : Config S → Type 0) (req : Requests
       by : (y : Option S) → g.root ≡ y → StartAgrees g l (start_with g l (node_of (root_name l)) y) (with_root (root_name l) y)
       by None e = tt
       by (Some y) e =
-          subst (λ z. Stands g l (record { nodes = set_at m₀.nodes z (record (empty_node g) { slots = fresh_slot y ∷ [] }); links = [] }) (record { objects = (root_name l, y) ∷ []; messages = [] }) no_delay)
+          subst (λ z. MachineStandsFor g l (record { nodes = set_at m₀.nodes z (record (empty_node g) { slots = fresh_slot y ∷ [] }); links = [] }) (record { objects = (root_name l, y) ∷ []; messages = [] }) no_delay)
           (sym (root_at (root_node (last_place l.places)))) (alone (root_node (last_place l.places)) y (root (last_place l.places) refl) (req.root_callers y e))

@@ -25,10 +25,10 @@ use Rattle.mesh_semantics.specs.Lawful.{Lawful}
 use Rattle.mesh_semantics.proofs.Maps.{find_put_same, find_put_other}
 use Rattle.mesh_semantics.proofs.Basics.{item_itself, error_itself, runs}
 use Rattle.node_semantics.specs.Node as N
-use Rattle.node_semantics.specs.Node.{Slot, Numbered, Letter, NodeState, NodeActed, set_at, name_at, put_state, messages}
+use Rattle.node_semantics.specs.Node.{Slot, NumberedPacket, NumberedArrival, NodeState, NodeActed, set_at, name_at, put_state, arrivals}
 use Rattle.node_semantics.specs.Machine.{Machine, post_packet}
 use Rattle.node_semantics.specs.Requests.{Requests}
-use Rattle.node_semantics.specs.Stands.{slot_at, Free, HasSlot, Fits, AreNumbersOf, Stands}
+use Rattle.node_semantics.specs.StandsFor.{slot_at, Free, HasSlot, PacketFits, AreNumbersOf, MachineStandsFor}
 use Rattle.node_semantics.proofs.Slots.{set_length, name_node, name_slot, changed_here, changed_there}
 use Rattle.node_semantics.proofs.References.{Same, same_slot}
 use Rattle.node_semantics.proofs.Spots.{Spot, spot, Refers, refers_any, Any, spot_kept, spot_same, link_kept, box_kept, served_kept}
@@ -36,7 +36,7 @@ use Rattle.node_semantics.proofs.Assembled.{assemble, fewer}
 
 -- a node and a configuration show the same, and the machine then stands for what is after it
 abbrev pub Row : {S : Type 0} → Language S → (Config S → Type 0) → Placement → Machine S → ℕ → NodeActed S → Acted S → Type 0
-Row g W l m n (N.Acts w p y) (A.Acts v c d) = (w ≡ v) × W c × Stands g l (record { nodes = set_at m.nodes n y; links = post_packet l n p m.links }) c d
+Row g W l m n (N.Acts w p y) (A.Acts v c d) = (w ≡ v) × W c × MachineStandsFor g l (record { nodes = set_at m.nodes n y; links = post_packet l n p m.links }) c d
 Row g W l m n (N.Acts w p y) (A.Full j b) = ⊥
 Row g W l m n (N.Acts w p y) A.Nothing = ⊥
 Row g W l m n (N.Full k) (A.Acts v c d) = ⊥
@@ -50,7 +50,7 @@ pub record Turning {S : Type 0} (g : Language S) (W : Config S → Type 0) (l : 
   pub law : Lawful g W
   pub req : Requests g W
   pub sound : IsSound g W l c d
-  pub st : Stands g l m c d
+  pub st : MachineStandsFor g l m c d
   pub node : slice_get m.nodes n ≡ Some x
   pub small : i < 65536
   pub here : slot_at m (name_at n i) ≡ Some s
@@ -84,7 +84,7 @@ module _ {S : Type 0} (g : Language S) (W : Config S → Type 0) (l : Placement)
   spot_here = spot_same g m o (sym t.here) (sym t.there) (sym t.free) refl (spot g l m c d t.st o)
 
   -- a change of this slot
-  module _ (s' : Slot S) (x' : NodeState S) (set : x'.slots ≡ set_at x.slots i s') (links' : List (Pair × List Numbered)) where
+  module _ (s' : Slot S) (x' : NodeState S) (set : x'.slots ≡ set_at x.slots i s') (links' : List (Pair × List NumberedPacket)) where
     abbrev pub m' : Machine S
     m' = record { nodes = set_at m.nodes n x'; links = links' }
 
@@ -119,7 +119,7 @@ module _ {S : Type 0} (g : Language S) (W : Config S → Type 0) (l : Placement)
         by (inr z) = same_slot m m' q (slot_there q z)
 
   -- the object becomes y and serves the same callers
-  pub own_stands : (y : S) → g.callers y ≡ g.callers s.state → Stands g l (record { nodes = set_at m.nodes n (put_state x₁ i s y); links = m.links }) (put_object c o y) d₁
+  pub own_stands : (y : S) → g.callers y ≡ g.callers s.state → MachineStandsFor g l (record { nodes = set_at m.nodes n (put_state x₁ i s y); links = m.links }) (put_object c o y) d₁
   own_stands y k = assemble g l m c d t.st n x t.node x' m.links c' d₁ (few s' x' refl m.links) last_is last_else
       (t.st.made n x t.node) (λ b z e. refl) (λ q. at q (decide q o)) t.st.links t.st.in_order on_links
       (fewer g l m c d t.st n x t.node x' m.links c' d₁ (λ q z e. sym (same q).request ∙ e))
@@ -145,13 +145,13 @@ module _ {S : Type 0} (g : Language S) (W : Config S → Type 0) (l : Placement)
       r : Refers g Any c d
       r = refers_any g c d
 
-      on_links : (z : Pair) → Each (Fits m₂) (list_at pair_cmp z m.links)
+      on_links : (z : Pair) → Each (PacketFits m₂) (list_at pair_cmp z m.links)
       on_links z = link_kept g m m₂ Any keep (list_at pair_cmp z m.links) (on_link d.links z) (t.st.links z) (r.on_links z) (has_slots s' x' refl m.links) (t.st.on_links z)
 
       mine : Spot g m₂ o (slot_at m₂ o) (object_of c' o) (held d₁ o) (arrived_at d₁ o)
       mine = spot_same g m₂ o {s = Some s'} {x = Some y} {h = None} {b = arrived_at d o} (slot_here s' x' refl m.links) (find_put_same o y c.objects) t.free refl (
-          record { state = Free t.idle refl; letters = spot_here.0.letters },
-          box_kept g m m₂ Any keep s (arrived_at d o) spot_here.0.letters (r.in_boxes o) spot_here.1,
+          record { state = Free t.idle refl; mailbox = spot_here.0.mailbox },
+          box_kept g m m₂ Any keep s (arrived_at d o) spot_here.0.mailbox (r.in_boxes o) spot_here.1,
           subst (AreNumbersOf m₂ s.callers) (sym k) (served_kept g m m₂ Any keep s.callers (g.callers s.state) (λ q z. tt) spot_here.2),
       )
 

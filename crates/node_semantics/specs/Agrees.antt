@@ -10,10 +10,10 @@ use Rattle.mesh_semantics.specs.Act as A
 use Rattle.mesh_semantics.specs.Act.{Acted}
 use Rattle.node_semantics.specs.Machine as M
 use Rattle.node_semantics.specs.Machine.{Machine, MachineActed}
-use Rattle.node_semantics.specs.Stands.{Stands, request_of}
+use Rattle.node_semantics.specs.StandsFor.{MachineStandsFor, request_of}
 
 abbrev pub Agrees : {S : Type 0} → Language S → Placement → MachineActed S → Acted S → Type 0
-Agrees g l (M.Acts w m) (A.Acts v c d) = (w ≡ v) × Stands g l m c d
+Agrees g l (M.Acts w m) (A.Acts v c d) = (w ≡ v) × MachineStandsFor g l m c d
 Agrees g l (M.Acts w m) (A.Full k n) = ⊥
 Agrees g l (M.Acts w m) A.Nothing = ⊥
 Agrees g l (M.Full j b) (A.Acts v c d) = ⊥
@@ -32,7 +32,7 @@ IsFresh m fresh (Ev.Turn n) = (o : ℕ) → node_of o ≡ n → request_of m o �
 IsFresh m fresh (Ev.Link a b) = Unit {0}
 
 abbrev pub StartAgrees : {S : Type 0} → Language S → Placement → Option (Machine S) → Option (Config S) → Type 0
-StartAgrees g l (Some m) (Some c) = Stands g l m c no_delay
+StartAgrees g l (Some m) (Some c) = MachineStandsFor g l m c no_delay
 StartAgrees g l None None = Unit {0}
 StartAgrees g l (Some m) None = ⊥
 StartAgrees g l None (Some c) = ⊥

@@ -15,12 +15,12 @@ use Rattle.mesh_semantics.specs.Act.{first_of, goal_node}
 use Rattle.mesh_semantics.specs.Record.{root_name}
 use Rattle.mesh_semantics.specs.Delay.{node_of}
 use Rattle.node_semantics.specs.Node as N
-use Rattle.node_semantics.specs.Node.{Numbered, NodeState, NodeActed, set_at, letters_at, node_turn, node_receipt, fresh_slot, ready_slots}
+use Rattle.node_semantics.specs.Node.{NumberedPacket, NodeState, NodeActed, set_at, message_count, turn_act, receipt_act, fresh_slot, ready_slots}
 
 pub record Machine (S : Type 0) : Type 0 where
   pub nodes : List (NodeState S)
   -- by the ends of a link, the head first; a link without packets has no entry
-  pub links : List (Pair × List Numbered)
+  pub links : List (Pair × List NumberedPacket)
 
 pub data MachineActed (S : Type 0) : Type 0 where
   Acts : (what : What) (machine : Machine S) → MachineActed S
@@ -32,7 +32,7 @@ abbrev pub leaving : {X : Type 0} → List (Pair × List X) → ℕ → ℕ
 leaving links n = sum_by (λ e. if e.0.0 == n then length e.1 else 0) links
 
 -- a packet that left a node goes last on its first link
-abbrev pub post_packet : Placement → ℕ → Option Numbered → List (Pair × List Numbered) → List (Pair × List Numbered)
+abbrev pub post_packet : Placement → ℕ → Option NumberedPacket → List (Pair × List NumberedPacket) → List (Pair × List NumberedPacket)
 post_packet l n None links = links
 post_packet l n (Some x) links = push_list pair_cmp (n, next l n (goal_node x.packet)) x links
 
@@ -45,17 +45,17 @@ after_node l n m N.Nothing = Nothing
 
 abbrev pub turn_in : {S : Type 0} → Language S → Placement → ℕ → ℕ → Machine S → ℕ → Option (NodeState S) → MachineActed S
 turn_in g l q fresh m n None = Nothing
-turn_in g l q fresh m n (Some x) = after_node l n m (node_turn g l q n (leaving m.links n) fresh x)
+turn_in g l q fresh m n (Some x) = after_node l n m (turn_act g l q n (leaving m.links n) fresh x)
 
 -- the head of a link comes to the node b
-abbrev pub come : {S : Type 0} → Language S → Placement → Machine S → ℕ → Numbered → Option (NodeState S) → MachineActed S
+abbrev pub come : {S : Type 0} → Language S → Placement → Machine S → ℕ → NumberedPacket → Option (NodeState S) → MachineActed S
 come g l m b e None = Nothing
 come g l m b e (Some x) =
-    if goal_node e.packet == b then after_node l b m (node_receipt g l b (leaving m.links b) e x)
-    else (if nat_lt l.cells (letters_at x.slots + leaving m.links b + 1) then Full F.Cells b
+    if goal_node e.packet == b then after_node l b m (receipt_act g l b (leaving m.links b) e x)
+    else (if nat_lt l.cells (message_count x.slots + leaving m.links b + 1) then Full F.Cells b
     else Acts W.Pass (record m { links = post_packet l b (Some e) m.links }))
 
-abbrev pub move_in : {S : Type 0} → Language S → Placement → Machine S → ℕ → ℕ → List Numbered → MachineActed S
+abbrev pub move_in : {S : Type 0} → Language S → Placement → Machine S → ℕ → ℕ → List NumberedPacket → MachineActed S
 move_in g l m a b [] = Acts W.Idle m
 move_in g l m a b (e ∷ rest) = come g l (record m { links = put_list pair_cmp (a, b) rest m.links }) b e (slice_get m.nodes b)
 

@@ -21,12 +21,12 @@ use Rattle.mesh_semantics.specs.Delay.{Packet, Arrival, node_of, slot_of}
 use Rattle.mesh_semantics.specs.Act.{id, first_of, or_else, is_possible, can_step, greatest, class_place}
 
 -- a packet with the number of the request that it belongs to; that of an asynchronous message has none
-pub record Numbered : Type 0 where
+pub record NumberedPacket : Type 0 where
   pub number : Option ℕ
   pub packet : Packet
 
 -- a message that has arrived, with the number of its call
-pub record Letter : Type 0 where
+pub record NumberedArrival : Type 0 where
   pub number : Option ℕ
   pub message : Arrival
 
@@ -41,7 +41,7 @@ pub record Slot (S : Type 0) : Type 0 where
   -- the node to which its last create went
   pub goal : ℕ
   -- what has arrived for it and was not taken, the earliest first
-  pub letters : List Letter
+  pub mailbox : List NumberedArrival
 
 pub record NodeState (S : Type 0) : Type 0 where
   pub slots : List (Slot S)
@@ -53,7 +53,7 @@ pub record NodeState (S : Type 0) : Type 0 where
 -- what a turn or a receipt does: a line with the packet that leaves and the node after it, or a limit that it would pass
 pub data NodeActed (S : Type 0) : Type 0 where
   Idle : NodeActed S
-  Acts : (what : What) (packet : Option Numbered) (node : NodeState S) → NodeActed S
+  Acts : (what : What) (packet : Option NumberedPacket) (node : NodeState S) → NodeActed S
   Full : (kind : FullKind) → NodeActed S
   Nothing : NodeActed S
 
@@ -73,50 +73,50 @@ abbrev pub name_at : ℕ → ℕ → ℕ
 name_at n i = n * 65536 + i
 
 abbrev pub fresh_slot : {S : Type 0} → S → Slot S
-fresh_slot x = record { state = x; request = None; callers = []; goal = 0; letters = [] }
+fresh_slot x = record { state = x; request = None; callers = []; goal = 0; mailbox = [] }
 
 -- gives a slot this state
 abbrev pub put_state : {S : Type 0} → NodeState S → ℕ → Slot S → S → NodeState S
 put_state x i s y = record x { slots = set_at x.slots i (record s { state = y }) }
 
--- the messages of letters
-abbrev pub messages : List Letter → List Arrival
-messages [] = []
-messages (a ∷ rest) = a.message ∷ messages rest
+-- the messages of mailbox
+abbrev pub arrivals : List NumberedArrival → List Arrival
+arrivals [] = []
+arrivals (a ∷ rest) = a.message ∷ arrivals rest
 
 -- whether a letter is on one of these methods
-abbrev pub is_on : List ℕ → Letter → Bool
+abbrev pub is_on : List ℕ → NumberedArrival → Bool
 is_on names a = has_name names a.message.method
 
-abbrev pub first_letter : List ℕ → List Letter → Option Letter
-first_letter names [] = None
-first_letter names (a ∷ rest) = if is_on names a then Some a else first_letter names rest
+abbrev pub first_on : List ℕ → List NumberedArrival → Option NumberedArrival
+first_on names [] = None
+first_on names (a ∷ rest) = if is_on names a then Some a else first_on names rest
 
 -- whether the object of a slot can step
 abbrev pub can_go : {S : Type 0} → Language S → ℕ → ℕ × Slot S → Bool
 can_go g n e =
-    is_none e.1.request && is_none (g.fault e.1.state) && can_step (messages e.1.letters) (g.kind (name_at n e.0) e.1.state)
+    is_none e.1.request && is_none (g.fault e.1.state) && can_step (arrivals e.1.mailbox) (g.kind (name_at n e.0) e.1.state)
 
-abbrev pub is_above : Option ℕ → ℕ → Bool
-is_above None i = true
-is_above (Some last) i = nat_lt last i
+abbrev pub comes_after : Option ℕ → ℕ → Bool
+comes_after None i = true
+comes_after (Some last) i = nat_lt last i
 
 abbrev pub ready_slots : {S : Type 0} → Language S → ℕ → NodeState S → List (ℕ × Slot S)
 ready_slots g n x = filter (can_go g n) (placed 0 x.slots)
 
 -- the slot whose turn it is: the ready one of least number above the last, else of least number
 abbrev pub slot_in_turn : {S : Type 0} → Language S → ℕ → NodeState S → Option (ℕ × Slot S)
-slot_in_turn g n x = or_else (first_of (filter (λ e. is_above x.last e.0) (ready_slots g n x))) (first_of (ready_slots g n x))
+slot_in_turn g n x = or_else (first_of (filter (λ e. comes_after x.last e.0) (ready_slots g n x))) (first_of (ready_slots g n x))
 
 -- frames in use: one for each object, and one for each method under way in it
 abbrev pub frames_in : {S : Type 0} → Language S → List (Slot S) → ℕ
 frames_in g slots = sum_by (λ s. 1 + g.frames s.state) slots
 
--- letters that have arrived at the objects of a node
-abbrev pub letters_at : {S : Type 0} → List (Slot S) → ℕ
-letters_at slots = sum_by (λ s. length s.letters) slots
+-- mailbox that have arrived at the objects of a node
+abbrev pub message_count : {S : Type 0} → List (Slot S) → ℕ
+message_count slots = sum_by (λ s. length s.mailbox) slots
 
-abbrev pub one_if : Option Numbered → ℕ
+abbrev pub one_if : Option NumberedPacket → ℕ
 one_if None = 0
 one_if (Some x) = 1
 
@@ -125,7 +125,7 @@ abbrev pub within_node : {S : Type 0} → Language S → Placement → ℕ → N
 within_node g l leaving (Acts w packet x) =
     if nat_lt l.objects (length x.slots) then Full F.Heap
     else (if nat_lt l.frames (frames_in g x.slots) then Full F.Frames
-    else (if nat_lt l.cells (letters_at x.slots + leaving + one_if packet) then Full F.Cells else Acts w packet x))
+    else (if nat_lt l.cells (message_count x.slots + leaving + one_if packet) then Full F.Cells else Acts w packet x))
 within_node g l leaving Idle = Idle
 within_node g l leaving (Full k) = Full k
 within_node g l leaving Nothing = Nothing
@@ -166,12 +166,12 @@ abbrev pub put_request : {S : Type 0} → NodeState S → ℕ → Slot S → ℕ
 put_request x i s number goal = record x { slots = set_at x.slots i (record s { request = Some number; goal = goal }) }
 
 -- puts a letter last at its receiver's slot
-abbrev pub put_letter_in : {S : Type 0} → ℕ → Letter → NodeState S → Option (Slot S) → NodeState S
-put_letter_in i a x None = x
-put_letter_in i a x (Some s) = record x { slots = set_at x.slots i (record s { letters = s.letters ++ a ∷ [] }) }
+abbrev pub deliver_in : {S : Type 0} → ℕ → NumberedArrival → NodeState S → Option (Slot S) → NodeState S
+deliver_in i a x None = x
+deliver_in i a x (Some s) = record x { slots = set_at x.slots i (record s { mailbox = s.mailbox ++ a ∷ [] }) }
 
-abbrev pub put_letter : {S : Type 0} → ℕ → Letter → NodeState S → NodeState S
-put_letter o a x = put_letter_in (slot_of o) a x (slice_get x.slots (slot_of o))
+abbrev pub deliver : {S : Type 0} → ℕ → NumberedArrival → NodeState S → NodeState S
+deliver o a x = deliver_in (slot_of o) a x (slice_get x.slots (slot_of o))
 
 -- the node of the next object of a class, by its place, where so many were made
 abbrev pub goal_for : Placement → ℕ → ℕ → Option Place → ℕ
@@ -199,15 +199,15 @@ create_act g n fresh x i s class goal =
       (put_request (count_one g class x) i s fresh goal)
 
 -- a message to an object, here or by a packet
-abbrev pub message_act : {S : Type 0} → ℕ → What → NodeState S → ℕ → Letter → Packet → NodeActed S
+abbrev pub message_act : {S : Type 0} → ℕ → What → NodeState S → ℕ → NumberedArrival → Packet → NodeActed S
 message_act n w x b letter packet =
-    if node_of b == n then Acts w None (put_letter b letter x) else Acts w (Some (record { number = letter.number; packet = packet })) x
+    if node_of b == n then Acts w None (deliver b letter x) else Acts w (Some (record { number = letter.number; packet = packet })) x
 
 -- what an alternative does after a letter was taken for it
 abbrev pub taken_act : {S : Type 0} → What → NodeState S → List ℕ → List ℕ → ℕ → Slot S → Option S → NodeActed S
 taken_act w x names callers i s None = Nothing
 taken_act w x names callers i s (Some y) =
-    Acts w None (record x { slots = set_at x.slots i (record s { state = y; callers = callers; letters = without_first (is_on names) s.letters }) })
+    Acts w None (record x { slots = set_at x.slots i (record s { state = y; callers = callers; mailbox = without_first (is_on names) s.mailbox }) })
 
 -- the object serves the method of a message; the number of its call, if it is one, is kept with the method
 abbrev pub serve_act : {S : Type 0} → Language S → ℕ → NodeState S → ℕ → Slot S → ℕ → List ℕ → Option ℕ → Arrival → NodeActed S
@@ -219,7 +219,7 @@ serve_act g n x i s alt names (Some k) m =
     (g.serving (name_at n i) s.state alt m.method (Some m.sender) m.args)
 
 -- an alternative that is possible: it is picked, or the first letter on its methods is taken
-abbrev pub chosen_act : {S : Type 0} → Language S → ℕ → NodeState S → ℕ → Slot S → ℕ → Option (List ℕ) → Option Letter → NodeActed S
+abbrev pub chosen_act : {S : Type 0} → Language S → ℕ → NodeState S → ℕ → Slot S → ℕ → Option (List ℕ) → Option NumberedArrival → NodeActed S
 chosen_act g n x i s alt None a =
     Acts (W.Step (L.Pick (name_at n i) alt) 1) None (put_state x i s (g.picked (name_at n i) s.state alt))
 chosen_act g n x i s alt (Some names) None = Nothing
@@ -229,8 +229,8 @@ chosen_act g n x i s alt (Some names) (Some a) = serve_act g n x i s alt names a
 abbrev pub choice_act : {S : Type 0} → Language S → ℕ → NodeState S → ℕ → Slot S → ℕ → List Alternative → NodeActed S
 choice_act g n x i s alt [] = Nothing
 choice_act g n x i s alt (a ∷ alts) =
-    if is_possible (messages s.letters) a
-    then chosen_act g n x i s alt a.names (first_letter (answered a.names) s.letters)
+    if is_possible (arrivals s.mailbox) a
+    then chosen_act g n x i s alt a.names (first_on (answered a.names) s.mailbox)
     else choice_act g n x i s (alt + 1) alts
 
 -- whether the request of this number is the slot's
@@ -280,8 +280,8 @@ turn_of_slot g l q n leaving fresh x (Some e) =
     within_node g l leaving (slot_act g l q n fresh (record x { last = Some e.0 }) e.0 e.1 (g.kind (name_at n e.0) e.1.state))
 
 -- a turn of node n, with so many packets on the links that leave it
-abbrev pub node_turn : {S : Type 0} → Language S → Placement → ℕ → ℕ → ℕ → ℕ → NodeState S → NodeActed S
-node_turn g l q n leaving fresh x = turn_of_slot g l q n leaving fresh x (slot_in_turn g n x)
+abbrev pub turn_act : {S : Type 0} → Language S → Placement → ℕ → ℕ → ℕ → ℕ → NodeState S → NodeActed S
+turn_act g l q n leaving fresh x = turn_of_slot g l q n leaving fresh x (slot_in_turn g n x)
 
 -- the slot of the request of this number
 abbrev pub settle_number : {S : Type 0} → Language S → Value → Option ℕ → NodeState S → NodeState S
@@ -300,10 +300,10 @@ abbrev pub receipt : {S : Type 0} → Language S → ℕ → NodeState S → Opt
 receipt g n x number (D.Create o goal class) = created_for n x number o class (g.made class)
 receipt g n x number (D.Created o name) = Acts (W.Created o name) None (settle_number g (V.Ref name) number x)
 receipt g n x number (D.Request o r m args) =
-    Acts (W.Arrive o r (id m)) None (put_letter r (record { number = number; message = record { sender = o; is_call = true; method = m; args = args } }) x)
+    Acts (W.Arrive o r (id m)) None (deliver r (record { number = number; message = record { sender = o; is_call = true; method = m; args = args } }) x)
 receipt g n x number (D.Result o v) = Acts (W.Result o v) None (settle_number g v number x)
 receipt g n x number (D.Async o r m args) =
-    Acts (W.Arrive o r (id m)) None (put_letter r (record { number = None; message = record { sender = o; is_call = false; method = m; args = args } }) x)
+    Acts (W.Arrive o r (id m)) None (deliver r (record { number = None; message = record { sender = o; is_call = false; method = m; args = args } }) x)
 
-abbrev pub node_receipt : {S : Type 0} → Language S → Placement → ℕ → ℕ → Numbered → NodeState S → NodeActed S
-node_receipt g l n leaving e x = within_node g l leaving (receipt g n x e.number e.packet)
+abbrev pub receipt_act : {S : Type 0} → Language S → Placement → ℕ → ℕ → NumberedPacket → NodeState S → NodeActed S
+receipt_act g l n leaving e x = within_node g l leaving (receipt g n x e.number e.packet)

@@ -8,20 +8,20 @@ use Rattle.mesh_semantics.specs.Delay.{Arrival}
 use Rattle.mesh_semantics.specs.Act.{can_step}
 use Rattle.mesh_semantics.specs.Standing as T
 use Rattle.mesh_semantics.specs.Standing.{Standing}
-use Rattle.node_semantics.specs.Node.{Slot, messages}
+use Rattle.node_semantics.specs.Node.{Slot, arrivals}
 
 -- while its request is out it calls or creates, at the node that is kept
-abbrev pub standing_by : Option ℕ → Option Error → List Arrival → ℕ → Kind → Standing
-standing_by (Some number) f box goal (K.Send b m args) = T.Calls b m
-standing_by (Some number) f box goal (K.New class) = T.Creates class goal
-standing_by (Some number) f box goal _ = T.Awaits
-standing_by None (Some e) box goal k = T.Faulted e
-standing_by None None box goal (K.Waits b m) = T.Calls b m
-standing_by None None box goal K.Finished = T.Finished
-standing_by None None box goal k = if can_step box k then T.Ready else T.Awaits
+abbrev pub slot_standing_by : Option ℕ → Option Error → List Arrival → ℕ → Kind → Standing
+slot_standing_by (Some number) f box goal (K.Send b m args) = T.Calls b m
+slot_standing_by (Some number) f box goal (K.New class) = T.Creates class goal
+slot_standing_by (Some number) f box goal _ = T.Awaits
+slot_standing_by None (Some e) box goal k = T.Faulted e
+slot_standing_by None None box goal (K.Waits b m) = T.Calls b m
+slot_standing_by None None box goal K.Finished = T.Finished
+slot_standing_by None None box goal k = if can_step box k then T.Ready else T.Awaits
 
 abbrev pub slot_standing : {S : Type 0} → Language S → ℕ → Slot S → Standing
-slot_standing g o s = standing_by s.request (g.fault s.state) (messages s.letters) s.goal (g.kind o s.state)
+slot_standing g o s = slot_standing_by s.request (g.fault s.state) (arrivals s.mailbox) s.goal (g.kind o s.state)
 
 abbrev pub IsRequest : Standing → Type 0
 IsRequest (T.Calls b m) = Unit {0}
