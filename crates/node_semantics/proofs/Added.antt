@@ -58,7 +58,7 @@ module _ {S : Type 0} (g : Language S) (l : Placement) (m : Machine S) (c : Conf
           by (inr e) =
               ap (λ z. unwrap_or z 0) (set_other x.made (class_place g.classes k) (class_place g.classes j) (made_here g x k + 1) (λ f. e (same_place g.classes j k i class f))) ∙ (st.made n x node).1 j i
               ∙ sym (ap (λ z. unwrap_or z 0) (looked n j
-                  ∙ ap (λ b. cond b (Some (made_by d n k + 1)) (find pair_cmp (n, j) d.made)) (untied_pair (n, j) (n, k) (λ z. e (ap (λ (p : Pair). p.1) z)))))
+              ∙ ap (λ b. cond b (Some (made_by d n k + 1)) (find pair_cmp (n, j) d.made)) (untied_pair (n, j) (n, k) (λ z. e (ap (λ (p : Pair). p.1) z)))))
 
       own : CountsMade g (count_one g k x) (count_made n k d) n
       own = (set_length x.made (class_place g.classes k) (made_here g x k + 1) ∙ (st.made n x node).0, own_count)
@@ -158,9 +158,9 @@ module _ {S : Type 0} (g : Language S) (l : Placement) (m : Machine S) (c : Conf
 
         mine : Spot g m' next_of (slot_at m' next_of) (object_of c' next_of) (held d next_of) (arrived_at d next_of)
         mine = spot_same g m' next_of {s = Some (fresh_slot y)} {x = Some y} {h = None} {b = []} here (find_put_same next_of y c.objects) is_new.free is_new.box (
-            record { state = Free refl refl; mailbox = refl },
-            tt,
-            subst (AreNumbersOf m' []) (sym alone) tt,
+          record { state = Free refl refl; mailbox = refl },
+          tt,
+          subst (AreNumbersOf m' []) (sym alone) tt,
         )
 
         spots : (q : ℕ) → (q ≡ next_of) ⊎ (q ≢ next_of) → Spot g m' q (slot_at m' q) (object_of c' q) (held d q) (arrived_at d q)

@@ -1,5 +1,5 @@
 -- A node of a machine that stands for something always answers.
-use Rattle.std.proofs.Common.{◌≡◌, ◌≢◌, refl, subst, ℕ, ◌<◌, ◌*◌, Option, Some, Bool, true, false}
+use Rattle.std.proofs.Common.{◌≡◌, ◌≢◌, refl, subst, ℕ, ◌<◌, ◌*◌, Option, Some, None, Bool, true, false}
 use Rattle.std.specs.Prelude.{slice_get, nat_lt, length, ◌+◌, if◌then◌else◌}
 use Rattle.pool_syntax.specs.declared.words.Event.TheVariants as Ev
 use Rattle.pool_syntax.specs.declared.words.Placement.{Placement}
@@ -16,7 +16,7 @@ use Rattle.mesh_semantics.specs.Paths.{on_link, move_head}
 use Rattle.pool_syntax.specs.declared.words.FullKind.{FullKind}
 use Rattle.pool_syntax.specs.declared.words.FullKind.TheVariants as F
 use Rattle.node_semantics.specs.Node as N
-use Rattle.node_semantics.specs.Node.{NumberedPacket, NodeState, NodeActed, turn_act, receipt_act, receipt, within_node, message_count, frames_in, one_if}
+use Rattle.node_semantics.specs.Node.{NumberedPacket, NodeState, NodeActed, turn_act, receipt_act, receipt, created_for, within_node, message_count, frames_in, one_if}
 use Rattle.node_semantics.specs.Machine.{Machine, after_node, turn_in, leaving}
 use Rattle.node_semantics.specs.Requests.{Requests}
 use Rattle.node_semantics.specs.StandsFor.{MachineStandsFor, PacketFits, request_of}
@@ -63,9 +63,13 @@ module _ {S : Type 0} (g : Language S) where
       (limited (nat_lt l.cells (message_count x.slots + z + one_if p)) F.Cells (N.Acts w p x) h)) e
 
   -- an object can be made of each class
-  module _ (makes : (k : ℕ) → In k g.classes → (y : S) × (g.made k ≡ Some y)) where
+  module _ (makes : (k : ℕ) → In k g.classes → g.made k ≢ None) where
     meets_answers : (n : ℕ) (x : NodeState S) (num : Option ℕ) (p : Packet) → Meets g n x num p → receipt g n x num p ≢ N.Nothing
-    meets_answers n x num (D.Create o goal class) h = let y = makes class h.2 in rw y.1 (λ e. cc)
+    meets_answers n x num (D.Create o goal class) h = by (g.made class) (makes class h.2)
+      where
+        by : (y : Option S) → y ≢ None → created_for n x num o class y ≢ N.Nothing
+        by None f e = f refl
+        by (Some y) f e = cc
     meets_answers n x num (D.Created o name) h = λ e. cc
     meets_answers n x num (D.Request o r m args) h = λ e. cc
     meets_answers n x num (D.Result o v) h = λ e. cc

@@ -98,7 +98,7 @@ counted_letters n es i [] f = refl
 counted_letters {S} n es i (s ∷ ss) f =
     let a : length (under (λ r. r == name_at n i) es) ≡ length s.mailbox = subst (λ k. length (under (λ r. r == name_at n k) es) ≡ length s.mailbox) (omega arith) (sym (ap length (f 0 s refl)) ∙ length_messages s.mailbox) in
     let b : counted n (i + 1) (length ss) es ≡ message_count ss =
-        counted_letters n es (i + 1) ss (λ j z e. let k : i + (j + 1) ≡ i + 1 + j = omega arith in subst (λ w. arrivals z.mailbox ≡ under (λ r. r == name_at n w) es) k (f (j + 1) z (subst (λ w. slice_get (s ∷ ss) w ≡ Some z) (suc_is j) e))) in
+    counted_letters n es (i + 1) ss (λ j z e. let k : i + (j + 1) ≡ i + 1 + j = omega arith in subst (λ w. arrivals z.mailbox ≡ under (λ r. r == name_at n w) es) k (f (j + 1) z (subst (λ w. slice_get (s ∷ ss) w ≡ Some z) (suc_is j) e))) in
     let c = sum_by-cons (λ (y : Slot S). length y.mailbox) s ss in
     ap₂ (λ x y. x + y) a b ∙ sym c
   where
@@ -223,7 +223,7 @@ leaving_count n (e ∷ links) es o h =
     let below = first (below_all pair_cmp e.0 links) (is_sorted pair_cmp links) o in
     let rest = leaving_count n links (not_on e.0 es) (second (below_all pair_cmp e.0 links) (is_sorted pair_cmp links) o) (λ j. at j (decide_link j e.0) below) in
     let a : length e.1 ≡ length (on_link es e.0) =
-        sym (length_packets e.1) ∙ ap length (ap (λ z. packets (unwrap_or z [])) (sym (find_first e.0 e.1 links)) ∙ h e.0) in
+    sym (length_packets e.1) ∙ ap length (ap (λ z. packets (unwrap_or z [])) (sym (find_first e.0 e.1 links)) ∙ h e.0) in
     sum_by-cons (λ (z : Pair × List NumberedPacket). if z.0.0 == n then length z.1 else 0) e links
     ∙ ap₂ (λ x y. (if e.0.0 == n then x else 0) + y) a rest ∙ sym (parts n e.0 es)
   where

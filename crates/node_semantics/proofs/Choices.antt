@@ -143,14 +143,17 @@ module _ {S : Type 0} (g : Language S) (W : Config S → Type 0) (l : Placement)
       taken : MachineStandsFor g l (record { nodes = set_at m.nodes n x₂; links = m.links }) (put_object c₁ o y) (record d' { holding = h; arrived = without_first (is_for o names) d.arrived })
       taken = chain g l m n x' x₂ m.links (put_object c₁ o y) _
           (subst (λ k. MachineStandsFor g l (record { nodes = set_at (set_at m.nodes n x') n (record x' { slots = set_at x'.slots k taking }); links = m.links }) (put_object c₁ o y)
-              (record d' { holding = h; arrived = without_first (is_for o names) d.arrived })) (slot_o g W l m c d n i x s t)
+          (record d' { holding = h; arrived = without_first (is_for o names) d.arrived })) (slot_o g W l m c d n i x s t)
           (take_stands g l m₁ c₁ (record d' { holding = h }) base n x' (node₁ g W l m c d n i x s t) o (own_o g W l m c d n i x s t) s
-              (aside_same g W l m c d n i x s t x' refl m.links o ∙ t.here) names y ks t.idle still fit))
+          (aside_same g W l m c d n i x s t x' refl m.links o ∙ t.here) names y ks t.idle still fit))
 
     -- a message that nobody waits for
     take_row : a.is_call ≡ false → Row g W l m n (serve_act g n x' i s j names None a) (labelled g c (L.Take o a.sender (id a.method) a.args) (take_arrival o names d'))
-    take_row e = rw (can.1, moved) (refl, t.law.kept c c₂ (L.Take o a.sender (id a.method) a.args) typed moved,
-        messages_stand g l _ (put_object c o can.0) _ a.sender o _ (taken c d.holding (stands₁ g W l m c d n i x s t) t.free can.0 s.callers fit))
+    take_row e = rw (can.1, moved) (
+      refl,
+      t.law.kept c c₂ (L.Take o a.sender (id a.method) a.args) typed moved,
+      messages_stand g l _ (put_object c o can.0) _ a.sender o _ (taken c d.holding (stands₁ g W l m c d n i x s t) t.free can.0 s.callers fit),
+    )
       where
         rests : first_message names (messages_of c a.sender o) ≡ Some (record { method = a.method; args = a.args })
         rests = let r = earliest names a.sender (along (letter a.sender o) d.links (path l (node_of a.sender) (node_of o))) (arrived_at d o) a first_is e refl in
@@ -222,8 +225,11 @@ module _ {S : Type 0} (g : Language S) (W : Config S → Type 0) (l : Placement)
 
     answer_row : a.is_call ≡ true → (z : ℕ) → request_of m a.sender ≡ Some z
         → Row g W l m n (serve_act g n x' i s j names (Some z) a) (labelled g c (L.Answer o a.sender (id a.method) a.args) (free a.sender (take_arrival o names d')))
-    answer_row e z r = rw (can.1, moved) (refl, t.law.kept c c₂ (L.Answer o a.sender (id a.method) a.args) typed moved,
-        taken c₁ (without nat_cmp k d.holding) waits (find_without_other o k d.holding apart ∙ t.free) can.0 (z ∷ s.callers) fit)
+    answer_row e z r = rw (can.1, moved) (
+      refl,
+      t.law.kept c c₂ (L.Answer o a.sender (id a.method) a.args) typed moved,
+      taken c₁ (without nat_cmp k d.holding) waits (find_without_other o k d.holding apart ∙ t.free) can.0 (z ∷ s.callers) fit,
+    )
       where
         k : ℕ
         k = a.sender
@@ -275,15 +281,15 @@ module _ {S : Type 0} (g : Language S) (W : Config S → Type 0) (l : Placement)
             (λ b u. find_without_other b a.sender d.holding u) (
             subst (λ y. Spot g m₁ a.sender y (Some (g.waiting q.state o a.method)) (find nat_cmp a.sender (without nat_cmp a.sender d.holding)) (arrived_at d' a.sender)) (sym f₁.here) (
             subst (λ h. Spot g m₁ a.sender (Some f₁.slot) (Some (g.waiting q.state o a.method)) h (arrived_at d' a.sender)) (sym (find_without_same a.sender d.holding)) (
-                record { state = served; mailbox = f₁.stands.mailbox },
-                f₁.mailbox,
-                subst (AreNumbersOf m₁ f₁.slot.callers) (sym (t.req.waiting_callers a.sender q.state o a.method a.args q.posts_request)) f₁.callers,
+              record { state = served; mailbox = f₁.stands.mailbox },
+              f₁.mailbox,
+              subst (AreNumbersOf m₁ f₁.slot.callers) (sym (t.req.waiting_callers a.sender q.state o a.method a.args q.posts_request)) f₁.callers,
             )))
 
         fit : AreNumbersOf m₁ (z ∷ s.callers) (g.callers can.0)
         fit = subst (AreNumbersOf m₁ (z ∷ s.callers)) (sym (t.req.serving_callers c o s.state alts j a.method (Some a.sender) a.args can.0 typed t.there kind can.1)) (
-            (keep a.sender tt).request ∙ r,
-            served_kept g m m₁ Any keep s.callers (g.callers s.state) (λ b u. tt) (spot_here g W l m c d n i x s t).2,
+          (keep a.sender tt).request ∙ r,
+          served_kept g m m₁ Any keep s.callers (g.callers s.state) (λ b u. tt) (spot_here g W l m c d n i x s t).2,
         )
 
     letter_row : Row g W l m n (serve_act g n x' i s j names f.number a) (accept_turn g c d' o names (Some a))
@@ -333,7 +339,7 @@ module _ {S : Type 0} (g : Language S) (W : Config S → Type 0) (l : Placement)
 
         by : (p : Bool) → is_possible (arrived_at d o) b ≡ p
             → (((k : ℕ) → numbered alts (j + 1 + k) ≡ slice_get rest k) → ((k : ℕ) → HasArrived (arrived_at d o) k → offered 1 alts k ≡ offered (j + 1) rest k)
-                → list_any (is_possible (arrived_at d o)) rest ≡ true → Row g W l m n (choice_act g n x' i s (j + 1) rest) (choice_turn g c d' o (j + 1) rest))
+            → list_any (is_possible (arrived_at d o)) rest ≡ true → Row g W l m n (choice_act g n x' i s (j + 1) rest) (choice_turn g c d' o (j + 1) rest))
             → Row g W l m n (choice_act g n x' i s j (b ∷ rest)) (choice_turn g c d' o j (b ∷ rest))
         by true p k = rw (mine, p) (chosen_row j b here p (λ z h u. offers z h ∙ rw u refl))
         by false p k = rw (mine, p) (k

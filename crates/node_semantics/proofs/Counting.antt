@@ -32,8 +32,8 @@ module _ {Y : Type 0} where
   each_below : (k : ℕ) (es : List (ℕ × Y)) → IsTrue (below_all nat_cmp k es) → Each (λ e. k < e.0) es
   each_below k [] h = tt
   each_below k (e ∷ es) h = (
-      let z = first (is_lt (nat_cmp k e.0)) (below_all nat_cmp k es) h in under (nat_cmp k e.0) refl z,
-      each_below k es (second (is_lt (nat_cmp k e.0)) (below_all nat_cmp k es) h),
+    let z = first (is_lt (nat_cmp k e.0)) (below_all nat_cmp k es) h in under (nat_cmp k e.0) refl z,
+    each_below k es (second (is_lt (nat_cmp k e.0)) (below_all nat_cmp k es) h),
   )
     where
       under : (r : Ordering) → nat_cmp k e.0 ≡ r → is_lt (nat_cmp k e.0) ≡ true → k < e.0

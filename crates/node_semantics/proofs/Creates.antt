@@ -131,7 +131,7 @@ module _ {S : Type 0} (g : Language S) (W : Config S → Type 0) (l : Placement)
     maker = chain g l m n y y₁ m.links c₁ e
         (subst (λ j. MachineStandsFor g l (record { nodes = set_at (set_at m.nodes n y) n (record y { slots = set_at y.slots j (record s { state = z₁ }) }); links = m.links }) c₁ e) (slot_o g W l m c d n i x s t)
         (state_stands g l mᵧ c e base n y nodeᵧ o (own_o g W l m c d n i x s t) s (aside_same g W l m c d n i x s t y refl m.links o ∙ t.here) t.free t.idle t.there z₁
-            (t.req.given_callers o s.state (V.Ref new) (rw kind refl))))
+        (t.req.given_callers o s.state (V.Ref new) (rw kind refl))))
 
     moved : move g c (L.New o (next_name c n) (id class)) ≡ Some (put_object c₁ new made.0)
     moved = rw (new_is, runs g c o s.state t.there t.sane, kind, equals class, unused, made.1) refl
@@ -159,15 +159,15 @@ module _ {S : Type 0} (g : Language S) (W : Config S → Type 0) (l : Placement)
     added = chain g l m n y₁ (add_slot y₁ made.0) m.links (put_object c₁ new made.0) e
         (subst (λ k. MachineStandsFor g l (record { nodes = set_at (set_at m.nodes n y₁) n (add_slot y₁ made.0); links = m.links }) (put_object c₁ (name_at n k) made.0) e) same_length
         (add_stands g l m₂ c₁ e maker n y₁ (set_same m.nodes n x y₁ t.node) W t.req (subst (λ k. k < 65536) (sym same_length) small) made.0
-            (subst (λ k. (b : ℕ) (z : S) → object_of c₁ b ≡ Some z → In (name_at n k) (g.callers z) → ⊥) (sym same_length) nobody)
-            (subst (λ k. entries d (name_at n k) ≡ []) (sym same_length) owns_none)
-            (t.req.made_callers class made.0 made.1)))
+        (subst (λ k. (b : ℕ) (z : S) → object_of c₁ b ≡ Some z → In (name_at n k) (g.callers z) → ⊥) (sym same_length) nobody)
+        (subst (λ k. entries d (name_at n k) ≡ []) (sym same_length) owns_none)
+        (t.req.made_callers class made.0 made.1)))
 
     pub near_row : Row g W l m n (made_own g n y i s class (g.made class)) (labelled g c (L.New o (next_name c n) (id class)) e)
     near_row = subst (λ z. Row g W l m n (made_own g n y i s class (g.made class)) (shows (L.New o (next_name c n) (id class)) 1 e z)) (sym moved) (rw made.1 (
-        ap (λ k. Wt.Step (L.New o k (id class)) 1) (sym new_is),
-        t.law.kept c (put_object c₁ new made.0) (L.New o (next_name c n) (id class)) typed moved,
-        added,
+      ap (λ k. Wt.Step (L.New o k (id class)) 1) (sym new_is),
+      t.law.kept c (put_object c₁ new made.0) (L.New o (next_name c n) (id class)) typed moved,
+      added,
     ))
 
     pub create_row : (fresh goal : ℕ) → ((q : ℕ) → node_of q ≡ n → request_of m q ≢ Some fresh)

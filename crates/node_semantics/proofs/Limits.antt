@@ -41,7 +41,7 @@ module _ {S : Type 0} (g : Language S) (W : Config S → Type 0) (law : Lawful g
     leaves (Some e) =
         let key : Pair = (n, next l n (goal_node e.packet)) in
         let a = leaving_count n (push_list pair_cmp (n, next l n (goal_node e.packet)) e m.links) (put_last (n, next l n (goal_node e.packet)) e.packet d.links)
-            (pushed_sorted m.links (n, next l n (goal_node e.packet)) e st.in_order) (posted_links m.links d.links st.links (n, next l n (goal_node e.packet)) e) in
+        (pushed_sorted m.links (n, next l n (goal_node e.packet)) e st.in_order) (posted_links m.links d.links st.links (n, next l n (goal_node e.packet)) e) in
         let b = leaving_count n m.links d.links st.in_order st.links in
         let z : (if n == n then 1 else 0) ≡ 1 = rw (equals n) refl in
         a ∙ total_last (λ e. if e.0.0 == n then 1 else 0) d.links ((n, next l n (goal_node e.packet)), e.packet) ∙ ap₂ (λ i j. i + j) (sym b) z
@@ -93,7 +93,7 @@ module _ {S : Type 0} (g : Language S) (W : Config S → Type 0) (law : Lawful g
       ready_alike : (j : ℕ) (s : Slot S) (y : S) (h : Option Holding) → held d (name_at n j) ≡ h → arrivals s.mailbox ≡ arrived_at d (name_at n j)
           → SlotStandsFor g (name_at n j) s y h → is_ready g d (name_at n j) y ≡ can_go g n (j, s)
       ready_alike j s y None e b (Free r i) = rw (e, r, i, b) refl
-      ready_alike j s y None e b (Served k i args r a z) = 
+      ready_alike j s y None e b (Served k i args r a z) =
           let kind : g.kind (name_at n j) y ≡ K.Waits k i = ap (g.kind (name_at n j)) (sym z) ∙ req.waiting_kind (name_at n j) s.state k i args a in
           rw (e, r.1, kind) (by (is_none (g.fault y)))
         where
@@ -168,7 +168,7 @@ module _ {S : Type 0} (g : Language S) (W : Config S → Type 0) (law : Lawful g
           (subst (λ (p : List (ℕ × S) × List (ℕ × Slot S)). Picks R n (λ e. can_go g n e && above' e) (first_of p.0) (first_of p.1))
           (λ t. (sym (ap (filter above) ready_is ∙ filter_and (λ e. is_ready g d e.0 e.1) above (filter (at R n) c.objects)) t, sym (filter_and (can_go g n) above' (placed 0 x.slots)) t))
           (picks R n (λ e. is_ready g d e.0 e.1 && above e) (λ e. can_go g n e && above' e)
-              (λ j s y small r. ap₂ ◌&&◌ (alike j s y r) (same_above j small)) 0 (filter (at R n) c.objects) x.slots fits (here g W law req l m c d st w n x node)))
+          (λ j s y small r. ap₂ ◌&&◌ (alike j s y r) (same_above j small)) 0 (filter (at R n) c.objects) x.slots fits (here g W law req l m c d st w n x node)))
 
       pub chosen : Chosen (turn_of g c d n) (slot_in_turn g n x)
       chosen = or_one _ _ _ _ next_ready any_ready

@@ -109,7 +109,7 @@ module _ {S : Type 0} (g : Language S) (W : Config S → Type 0) (l : Placement)
   -- one transition more, on both sides
   further : (k : ℕ) (y : S) (e : Config S) → Reached k y e
       → Went (suc k) (if is_none (g.fault y) && is_local (g.kind o y) && nat_le (g.frames (g.stepped o y)) room then Some (g.stepped o y) else None)
-        (move g e (L.Local o) >>= within_frames g l n)
+      (move g e (L.Local o) >>= within_frames g l n)
   further k y e r = by_fault (g.fault y) refl
     where
       y' : S
@@ -177,7 +177,7 @@ module _ {S : Type 0} (g : Language S) (W : Config S → Type 0) (l : Placement)
     where
       by : (a : Option S) (b : Option (Config S)) → Went k a b
           → Went (suc k) (a >>= λ z. if is_none (g.fault z) && is_local (g.kind o z) && nat_le (g.frames (g.stepped o z)) room then Some (g.stepped o z) else None)
-            (b >>= λ e. move g e (L.Local o) >>= within_frames g l n)
+          (b >>= λ e. move g e (L.Local o) >>= within_frames g l n)
       by None None Nowhere = Nowhere
       by (Some y) (Some e) (To y' e' r) = further k y' e' r
       by None (Some e) h = elim h [ ]

@@ -90,7 +90,7 @@ module _ {S : Type 0} (g : Language S) (W : Config S → Type 0) (law : Lawful g
 
           by : (t : Bool) → nat_lt l.cells (message_count x.slots + leaving m₁.links b + 1) ≡ t
               → Agrees g l (if nat_lt l.cells (message_count x.slots + leaving m₁.links b + 1) then M.Full F.Cells b else M.Acts Wt.Pass (record m₁ { links = post_packet l b (Some e) m₁.links }))
-                (within g l b (A.Acts Wt.Pass c d₂))
+              (within g l b (A.Acts Wt.Pass c d₂))
           by true z = rw (i, j, cells, z) (refl, refl)
           by false z = rw (i, j, cells, z) (refl, st₂)
 

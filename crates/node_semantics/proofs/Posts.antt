@@ -89,9 +89,9 @@ module _ {S : Type 0} (g : Language S) (l : Placement) where
 
       mine : Spot g m' o (Some s') (object_of (put_object c o y) o) (held d o) (arrived_at d o)
       mine = spot_same g m' o {s = Some s'} {x = Some y} {h = None} {b = arrived_at d o} refl (find_put_same o y c.objects) free refl (
-          record { state = Free idle refl; mailbox = p.0.mailbox },
-          box_kept g m m' Any keep s (arrived_at d o) p.0.mailbox (any.in_boxes o) p.1,
-          subst (AreNumbersOf m' s.callers) (sym k) (served_kept g m m' Any keep s.callers (g.callers s.state) (λ q z. tt) p.2),
+        record { state = Free idle refl; mailbox = p.0.mailbox },
+        box_kept g m m' Any keep s (arrived_at d o) p.0.mailbox (any.in_boxes o) p.1,
+        subst (AreNumbersOf m' s.callers) (sym k) (served_kept g m m' Any keep s.callers (g.callers s.state) (λ q z. tt) p.2),
       )
 
 module _ {S : Type 0} (g : Language S) (W : Config S → Type 0) (l : Placement) (m : Machine S) (c : Config S) (d : Delay) (n i : ℕ) (x : NodeState S) (s : Slot S)
@@ -215,12 +215,18 @@ module _ {S : Type 0} (g : Language S) (W : Config S → Type 0) (l : Placement)
 
     call_by : (z : Bool) → (node_of b == n) ≡ z
         → Row g W l m n (message_act n (Wt.PostCall o b (id k) args) (put_request x' i s fresh s.goal) b callee_letter callee_packet) (call_turn l c d' n o b k args)
-    call_by true z = rw z (refl, t.sound.state.typed,
-        chain g l m n (put_request x' i s fresh s.goal) (deliver b callee_letter (put_request x' i s fresh s.goal)) m.links c _
-        (put_letter_stands g l mₚ c (hold o D.Posted d') posted n (put_request x' i s fresh s.goal) (set_same m.nodes n x (put_request x' i s fresh s.goal) t.node) b
-            (equal (node_of b) n z) callee callee_letter number))
-    call_by false z = rw z (refl, t.sound.state.typed,
-        post_stands g l mₚ c (hold o D.Posted d') posted (n, next l n (node_of b)) (record { number = Some fresh; packet = callee_packet }) (record { number = number; names = callee }))
+    call_by true z = rw z (
+      refl,
+      t.sound.state.typed,
+      chain g l m n (put_request x' i s fresh s.goal) (deliver b callee_letter (put_request x' i s fresh s.goal)) m.links c _
+          (put_letter_stands g l mₚ c (hold o D.Posted d') posted n (put_request x' i s fresh s.goal) (set_same m.nodes n x (put_request x' i s fresh s.goal) t.node) b
+          (equal (node_of b) n z) callee callee_letter number),
+    )
+    call_by false z = rw z (
+      refl,
+      t.sound.state.typed,
+      post_stands g l mₚ c (hold o D.Posted d') posted (n, next l n (node_of b)) (record { number = Some fresh; packet = callee_packet }) (record { number = number; names = callee }),
+    )
 
     pub call_row : Row g W l m n (message_act n (Wt.PostCall o b (id k) args) (put_request x' i s fresh s.goal) b callee_letter callee_packet) (call_turn l c d' n o b k args)
     call_row = call_by (node_of b == n) refl
@@ -267,11 +273,17 @@ module _ {S : Type 0} (g : Language S) (W : Config S → Type 0) (l : Placement)
 
     send_by : (z : Bool) → (node_of b == n) ≡ z
         → Row g W l m n (message_act n (Wt.Step (L.Send o b (id k) args) 1) xₙ b note_letter note_packet) (send_turn g l c d' n o b k args)
-    send_by true z = rw (z, moved) (refl, t.law.kept c cₙ (L.Send o b (id k) args) t.sound.state.typed moved,
-        chain g l m n xₙ (deliver b note_letter xₙ) m.links cₙ _
-        (put_letter_stands g l mₙ cₙ d' done n xₙ (set_same m.nodes n x xₙ t.node) b (equal (node_of b) n z) receiver note_letter refl))
-    send_by false z = rw (z, moved) (refl, t.law.kept c cₙ (L.Send o b (id k) args) t.sound.state.typed moved,
-        post_stands g l mₙ cₙ d' done (n, next l n (node_of b)) (record { number = None; packet = note_packet }) (record { number = refl; names = receiver }))
+    send_by true z = rw (z, moved) (
+      refl,
+      t.law.kept c cₙ (L.Send o b (id k) args) t.sound.state.typed moved,
+      chain g l m n xₙ (deliver b note_letter xₙ) m.links cₙ _
+          (put_letter_stands g l mₙ cₙ d' done n xₙ (set_same m.nodes n x xₙ t.node) b (equal (node_of b) n z) receiver note_letter refl),
+    )
+    send_by false z = rw (z, moved) (
+      refl,
+      t.law.kept c cₙ (L.Send o b (id k) args) t.sound.state.typed moved,
+      post_stands g l mₙ cₙ d' done (n, next l n (node_of b)) (record { number = None; packet = note_packet }) (record { number = refl; names = receiver }),
+    )
 
     pub send_row : Row g W l m n (message_act n (Wt.Step (L.Send o b (id k) args) 1) xₙ b note_letter note_packet) (send_turn g l c d' n o b k args)
     send_row = send_by (node_of b == n) refl

@@ -259,9 +259,9 @@ module _ {S : Type 0} (g : Language S) (W : Config S → Type 0) (l : Placement)
       maker = object_stands g l m₁ c d₁ st₁ o (g.given a.state v) (put nat_cmp o (D.Due v) d₁.holding) (λ q e. find_put_other q o (D.Due v) d₁.holding e) (
           subst (λ s. Spot g m₁ o s (Some (g.given a.state v)) (find nat_cmp o (put nat_cmp o (D.Due v) d₁.holding)) (arrived_at d₁ o)) (sym f.here) (
           subst (λ h. Spot g m₁ o (Some f.slot) (Some (g.given a.state v)) h (arrived_at d₁ o)) (sym (find_put_same o (D.Due v) d₁.holding)) (
-              record { state = due; mailbox = f.stands.mailbox },
-              f.mailbox,
-              subst (AreNumbersOf m₁ f.slot.callers) (sym callers) f.callers,
+            record { state = due; mailbox = f.stands.mailbox },
+            f.mailbox,
+            subst (AreNumbersOf m₁ f.slot.callers) (sym callers) f.callers,
           )))
 
       old : (q : ℕ) (z : S) → object_of c q ≡ Some z → In new (g.callers z) → ⊥
@@ -302,7 +302,7 @@ module _ {S : Type 0} (g : Language S) (W : Config S → Type 0) (l : Placement)
 
       made_row : Row g W l m₁ b (created_for b x num o class (g.made class)) (received g l c d₁ b (D.Create o b class))
       made_row = subst (λ z. Row g W l m₁ b (created_for b x num o class (g.made class)) (shows (L.New o (next_name c b) (id class)) 1
-              (hold o (D.Due (V.Ref (next_name c b))) (post l b (node_of o) (D.Created o (next_name c b)) d₁)) z)) (sym moved)
+          (hold o (D.Due (V.Ref (next_name c b))) (post l b (node_of o) (D.Created o (next_name c b)) d₁)) z)) (sym moved)
           (rw (made.1, new_is) (refl, law.kept c c₂ (L.New o new (id class)) typed moved', post_stands g l m₂ c₂ d₂ added (b, next l b (node_of o)) reply (record { number = (number.0, kept ∙ number.1); names = tt })))
         where
           moved' : move g c (L.New o new (id class)) ≡ Some c₂

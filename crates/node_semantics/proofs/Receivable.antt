@@ -4,7 +4,7 @@ use Rattle.std.specs.Prelude.{slice_get, flat_map}
 use Rattle.pool_syntax.specs.declared.words.Value.{Value}
 use Rattle.pool_syntax.specs.declared.words.Value.TheVariants as V
 use Rattle.pool_syntax.specs.declared.words.Placement.{Placement}
-use Rattle.mesh_semantics.specs.Tables.{Pair}
+use Rattle.mesh_semantics.specs.Tables.{Pair, pair_cmp, list_at, put_list}
 use Rattle.mesh_semantics.specs.Message.{Message}
 use Rattle.mesh_semantics.proofs.Laws.{equals}
 use Rattle.mesh_semantics.proofs.Laws.{same_some}
@@ -20,12 +20,15 @@ use Rattle.mesh_semantics.specs.Sound.{Each, IsPlaced, IsThere, Has, Entry, Sent
 use Rattle.mesh_semantics.specs.Lawful.{Lawful}
 use Rattle.mesh_semantics.proofs.Basics.{each_head}
 use Rattle.mesh_semantics.proofs.Owned.{moved_own, moved_some}
-use Rattle.node_semantics.specs.Node.{NodeState}
+use Rattle.node_semantics.specs.Node.{NodeState, NumberedPacket}
 use Rattle.node_semantics.specs.Machine.{Machine}
 use Rattle.node_semantics.specs.Requests.{Requests}
 use Rattle.node_semantics.specs.StandsFor.{SlotStandsFor, Due, AtName, HasSlot, PacketFits, MachineStandsFor}
 use Rattle.node_semantics.specs.Receives.{HasObject, names_in, names_of, IsReceivable, KnownNames}
 use Rattle.node_semantics.proofs.Slots.{at_node}
+use Rattle.node_semantics.proofs.References.{fits_kept}
+use Rattle.node_semantics.proofs.Posted.{is_head}
+use Rattle.node_semantics.proofs.Changes.{head_fits, head_stands}
 use Rattle.node_semantics.proofs.Spots.{Found, found}
 use Rattle.node_semantics.proofs.Receipts.{d₁, sent_same, Awaiting, awaiting, meets}
 
@@ -149,6 +152,20 @@ module _ {S : Type 0} (g : Language S) (W : Config S → Type 0) (l : Placement)
     all_placed (o ∷ os) h = ((λ e. placed o h.0 e), all_placed os h.1)
 
     pub is_receivable : (num : Option ℕ) (p : Packet) → PacketFits m₁ (record { number = num; packet = p }) → first_of (on_link d.links k) ≡ Some p → goal_node p ≡ b → IsReceivable g b x num p
-    is_receivable num p fit head at =
-        (all_placed (names_of p) (known num p fit head (each_head (IsPlaced l c) k d.links p head sound.state.packets)),
-        meets g W l c d sound k law req few m₁ st₁ b x node num p fit head at)
+    is_receivable num p fit head at = (
+      all_placed (names_of p) (known num p fit head (each_head (IsPlaced l c) k d.links p head sound.state.packets)),
+      meets g W l c d sound k law req few m₁ st₁ b x node num p fit head at,
+    )
+
+-- the head of a link of the machine, at its goal
+pub head_is_receivable : {S : Type 0} (g : Language S) (W : Config S → Type 0) → Lawful g W → Requests g W → KnownNames g W → (l : Placement) → l.objects < 65536
+    → (m : Machine S) (c : Config S) (d : Delay) → IsSound g W l c d → MachineStandsFor g l m c d
+    → (a b : ℕ) (e : NumberedPacket) (rest : List NumberedPacket) → list_at pair_cmp (a, b) m.links ≡ e ∷ rest → goal_node e.packet ≡ b
+    → (x : NodeState S) → slice_get m.nodes b ≡ Some x → IsReceivable g b x e.number e.packet
+head_is_receivable {S} g W law req names l few m c d sound st a b e rest head at x node =
+    is_receivable g W l c d sound (a, b) names law req few m₁ (head_stands g l m c d st (a, b) e rest head) b x node e.number e.packet
+    (fits_kept m m₁ e (λ q i. record { request = refl; goal = refl }) (λ q z. z) (head_fits g l m c d st (a, b) e rest head))
+    (is_head m.links d.links st.links (a, b) e rest head) at
+  where
+    m₁ : Machine S
+    m₁ = record m { links = put_list pair_cmp (a, b) rest m.links }

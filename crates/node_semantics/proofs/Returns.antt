@@ -242,9 +242,9 @@ module _ {S : Type 0} (g : Language S) (W : Config S → Type 0) (l : Placement)
 
         spot_k : Spot g m₂ k (slot_at m₂ k) (object_of c' k) (held d' k) (arrived_at d' k)
         spot_k = spot_same g m₂ k {s = Some (given_to g number v w.slot)} {x = Some (g.given w.state v)} {h = None} {b = arrived_at d k} now_k at_k (find_without_same k d.holding) refl (
-            record { state = Free refl given_is; mailbox = w.mailbox },
-            box_kept g m m₂ (But k) keep w.slot (arrived_at d k) w.mailbox (refers.in_boxes k) w.letters_fit,
-            callers_k,
+          record { state = Free refl given_is; mailbox = w.mailbox },
+          box_kept g m m₂ (But k) keep w.slot (arrived_at d k) w.mailbox (refers.in_boxes k) w.letters_fit,
+          callers_k,
         )
 
         mine : Spot g m o (Some s) (Some s.state) None (arrived_at d o)
@@ -253,10 +253,10 @@ module _ {S : Type 0} (g : Language S) (W : Config S → Type 0) (l : Placement)
         spot_o : Spot g m₂ o (slot_at m₂ o) (object_of c' o) (held d' o) (arrived_at d' o)
         spot_o = spot_same g m₂ o {s = Some s₁} {x = Some (g.returned s.state)} {h = None} {b = arrived_at d o}
             (now_q o apart ∙ slot_o) at_o (find_without_other o k d.holding apart ∙ t.free) refl (
-            record { state = Free t.idle refl; mailbox = mine.0.mailbox },
-            box_kept g m m₂ (But k) keep s (arrived_at d o) mine.0.mailbox (refers.in_boxes o) mine.1,
-            served_kept g m m₂ (But k) keep ks (g.callers (g.returned s.state)) (λ q e. refers.in_callers o (g.returned s.state) q at_o e) behind,
-        )
+              record { state = Free t.idle refl; mailbox = mine.0.mailbox },
+              box_kept g m m₂ (But k) keep s (arrived_at d o) mine.0.mailbox (refers.in_boxes o) mine.1,
+              served_kept g m m₂ (But k) keep ks (g.callers (g.returned s.state)) (λ q e. refers.in_callers o (g.returned s.state) q at_o e) behind,
+            )
 
         spots : (q : ℕ) → Spot g m₂ q (slot_at m₂ q) (object_of c' q) (held d' q) (arrived_at d' q)
         spots q = by (decide q k) (decide q o)
@@ -318,10 +318,10 @@ module _ {S : Type 0} (g : Language S) (W : Config S → Type 0) (l : Placement)
         far_k : Spot g m₃ k (slot_at m₃ k) (object_of c' k) (held e' k) (arrived_at e' k)
         far_k = spot_same g m₃ k {s = Some w.slot} {x = Some (g.given w.state v)} {h = Some (D.Due v)} {b = arrived_at d k}
             (slot_q' k apart' ∙ w.here) at_k (find_put_same k (D.Due v) d.holding) refl (
-            record { state = Due v (number, w.number_is) (rw w.posted refl) given_is; mailbox = w.mailbox },
-            box_kept g m m₃ Any keep' w.slot (arrived_at d k) w.mailbox (any.in_boxes k) w.letters_fit,
-            served_kept g m m₃ Any keep' w.slot.callers (g.callers (g.given w.state v)) (λ q z. tt) (subst (AreNumbersOf m w.slot.callers) callers_are w.callers_fit),
-        )
+              record { state = Due v (number, w.number_is) (rw w.posted refl) given_is; mailbox = w.mailbox },
+              box_kept g m m₃ Any keep' w.slot (arrived_at d k) w.mailbox (any.in_boxes k) w.letters_fit,
+              served_kept g m m₃ Any keep' w.slot.callers (g.callers (g.given w.state v)) (λ q z. tt) (subst (AreNumbersOf m w.slot.callers) callers_are w.callers_fit),
+            )
 
         mine' : Spot g m o (Some s) (Some s.state) None (arrived_at d o)
         mine' = spot_here g W l m c d n i x s t
@@ -329,10 +329,10 @@ module _ {S : Type 0} (g : Language S) (W : Config S → Type 0) (l : Placement)
         far_o : Spot g m₃ o (slot_at m₃ o) (object_of c' o) (held e' o) (arrived_at e' o)
         far_o = spot_same g m₃ o {s = Some s₁} {x = Some (g.returned s.state)} {h = None} {b = arrived_at d o}
             slot_o' at_o (find_put_other o k (D.Due v) d.holding apart ∙ t.free) refl (
-            record { state = Free t.idle refl; mailbox = mine'.0.mailbox },
-            box_kept g m m₃ Any keep' s (arrived_at d o) mine'.0.mailbox (any.in_boxes o) mine'.1,
-            served_kept g m m₃ Any keep' ks (g.callers (g.returned s.state)) (λ q z. tt) behind,
-        )
+              record { state = Free t.idle refl; mailbox = mine'.0.mailbox },
+              box_kept g m m₃ Any keep' s (arrived_at d o) mine'.0.mailbox (any.in_boxes o) mine'.1,
+              served_kept g m m₃ Any keep' ks (g.callers (g.returned s.state)) (λ q z. tt) behind,
+            )
 
         far_spots : (q : ℕ) → Spot g m₃ q (slot_at m₃ q) (object_of c' q) (held e' q) (arrived_at e' q)
         far_spots q = by (decide q k) (decide q o)
@@ -362,7 +362,7 @@ module _ {S : Type 0} (g : Language S) (W : Config S → Type 0) (l : Placement)
       -- the turn, wherever the caller is
       back : (y : Bool) → (node_of k == n) ≡ y
           → Row g W l m n (give_back g n number (Wt.Step (L.Return o k v) 1) k v xₘ)
-            (shows (L.Return o k v) 1 (if node_of k == n then free k (d₁ g W l m c d n i x s t) else hold k (D.Due v) (post l n (node_of k) (D.Result k v) (d₁ g W l m c d n i x s t))) (move g c (L.Return o k v)))
+          (shows (L.Return o k v) 1 (if node_of k == n then free k (d₁ g W l m c d n i x s t) else hold k (D.Due v) (post l n (node_of k) (D.Result k v) (d₁ g W l m c d n i x s t))) (move g c (L.Return o k v)))
       back true z = rw (z, moved) (refl, typed', near_stands (equal (node_of k) n z))
       back false z = rw (z, moved) (refl, typed', far_stands (λ y. absurd (let a : (node_of k == n) ≡ true = rw y (equals n) in let b : true ≡ false = sym a ∙ z in cc)))
 

@@ -50,12 +50,12 @@ module _ {S : Type 0} (g : Language S) (W : Config S → Type 0) (law : Lawful g
   lines_agree (e ∷ es) (k ∷ numbers) inside m c d done fresh s st =
       before c d done (IsFresh m k e × Then (λ m'. AreFresh g l q m' es numbers) (machine_act g l q k m e)) _ _
       (λ f. on (machine_act g l q k m e) (act g l q c d e) (event_agrees g W law req l fit.objects m c d s st q k e inside.0 f.0) (act_kept g W law l fit c d q e s) f.1
-          (λ m' c' d' f' s' st'. lines_agree es numbers inside.1 m' c' d' (done + 1) f' s' st'))
+      (λ m' c' d' f' s' st'. lines_agree es numbers inside.1 m' c' d' (done + 1) f' s' st'))
       (is_machine_quiet g m) (is_quiet g c d) (quiet_agrees g W law req l m c d s.state st) fresh
     where
       on : (a : MachineActed S) (b : Acted S) → Agrees g l a b → After g W l c b → Then (λ m'. AreFresh g l q m' es numbers) a
           → ((m' : Machine S) (c' : Config S) (d' : Delay) → AreFresh g l q m' es numbers → IsSound g W l c' d' → MachineStandsFor g l m' c' d'
-              → lines_from g l q m' (done + 1) es numbers ≡ (record_from g l q c' d' (done + 1) es).lines)
+          → lines_from g l q m' (done + 1) es numbers ≡ (record_from g l q c' d' (done + 1) es).lines)
           → goes_on e done (λ m'. lines_from g l q m' (done + 1) es numbers) a ≡ (after e done c d (λ c' d'. record_from g l q c' d' (done + 1) es) b).lines
       on (M.Acts w m') (A.Acts v c' d') h a f rest = ap₂ (λ (x : What) (ls : List Line). R.Event (done + 1) e x ∷ ls) h.0 (rest m' c' d' f a.1 h.1)
       on (M.Full i n) (A.Full j b) h a f rest = ap₂ (λ x y. R.End (E.Full x y done) ∷ []) h.0 h.1

@@ -162,7 +162,7 @@ module _ {S : Type 0} (g : Language S) (W : Config S → Type 0) (law : Lawful g
   says (Some h) i y (Some e) z = absurd (let a : Some h ≡ None = sym i ∙ owned.1 e z in cc)
   says (Some D.Posted) i (Posted out v) None z =
       rw (out.1, ap (g.kind o) v) (posted_says out.0 (g.fault s.state) (arrivals s.mailbox) (g.kind o x)
-          (subst (λ t. Owns o t (g.kind o x) (entries d o)) i owned.0))
+      (subst (λ t. Owns o t (g.kind o x) (entries d o)) i owned.0))
   says (Some (D.Due v)) i (Due w out a r) None z = rw out.1 (due_says out.0 (g.fault s.state) (arrivals s.mailbox) (g.kind o s.state) a)
 
 -- for each object of what the machine stands for

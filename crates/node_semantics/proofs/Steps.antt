@@ -91,10 +91,10 @@ module _ {S : Type 0} (g : Language S) (l : Placement) where
 
         mine : Spot g mₐ o (Some asking) (object_of c o) (find nat_cmp o (put nat_cmp o D.Posted d.holding)) (arrived_at d o)
         mine = spot_same g mₐ o {s = Some asking} {x = Some s.state} {h = Some D.Posted} {b = arrived_at d o} refl there (find_put_same o D.Posted d.holding) refl (
-            record { state = Posted (fresh, refl) refl; mailbox = p.stands.mailbox },
-            box_kept g m mₐ (But o) keep s (arrived_at d o) p.stands.mailbox (r.in_boxes o) p.mailbox,
-            served_kept g m mₐ (But o) keep s.callers (g.callers s.state) (λ q e. r.in_callers o s.state q there e)
-            (subst (λ z. AreNumbersOf m s.callers (g.callers z)) same p.callers),
+          record { state = Posted (fresh, refl) refl; mailbox = p.stands.mailbox },
+          box_kept g m mₐ (But o) keep s (arrived_at d o) p.stands.mailbox (r.in_boxes o) p.mailbox,
+          served_kept g m mₐ (But o) keep s.callers (g.callers s.state) (λ q e. r.in_callers o s.state q there e)
+              (subst (λ z. AreNumbersOf m s.callers (g.callers z)) same p.callers),
         )
 
         now_o : request_of mₐ o ≡ Some fresh
@@ -147,13 +147,13 @@ module _ {S : Type 0} (g : Language S) (l : Placement) where
 
         letter_mine : Spot g mₗ o (Some with_letter) (object_of c o) (held d o) (under (λ z. z == o) (d.arrived ++ (o, a.message) ∷ []))
         letter_mine = spot_same g mₗ o {s = Some with_letter} {x = Some q.object} {h = held d o} {b = arrived_at d o ++ a.message ∷ []} refl q.there refl box_here (
-            record {
-              state = stands_as o s with_letter q.object (held d o) refl refl q.stands.state;
-              mailbox = messages_append s.mailbox a ∙ ap (λ (ms : List Arrival). ms ++ a.message ∷ []) q.stands.mailbox;
-            },
-            each_append _ s.mailbox a (box_kept g m mₗ Any keepₗ s (arrived_at d o) q.stands.mailbox (any.in_boxes o) q.mailbox)
-            (number_kept m mₗ a.number (caller_of a.message) (λ b e. (keepₗ b tt).request) number),
-            served_kept g m mₗ Any keepₗ s.callers (g.callers q.object) (λ b e. tt) q.callers,
+          record {
+            state = stands_as o s with_letter q.object (held d o) refl refl q.stands.state;
+            mailbox = messages_append s.mailbox a ∙ ap (λ (ms : List Arrival). ms ++ a.message ∷ []) q.stands.mailbox;
+          },
+          each_append _ s.mailbox a (box_kept g m mₗ Any keepₗ s (arrived_at d o) q.stands.mailbox (any.in_boxes o) q.mailbox)
+              (number_kept m mₗ a.number (caller_of a.message) (λ b e. (keepₗ b tt).request) number),
+          served_kept g m mₗ Any keepₗ s.callers (g.callers q.object) (λ b e. tt) q.callers,
         )
 
         pub letter_stands : MachineStandsFor g l (mₛ g l m c d st n x node o own s with_letter here) c (record d { arrived = d.arrived ++ (o, a.message) ∷ [] })
@@ -181,10 +181,10 @@ module _ {S : Type 0} (g : Language S) (l : Placement) where
         taken_mine : Spot g mₜ o (Some taking) (object_of (put_object c o y) o) (held d o) (under (λ z. z == o) (without_first (is_for o names) d.arrived))
         taken_mine = spot_same g mₜ o {s = Some taking} {x = Some y} {h = None} {b = without_first (λ a. has_name names a.method) (arrived_at d o)}
             refl (find_put_same o y c.objects) free (under_taken names o d.arrived) (
-            record { state = Free idle refl; mailbox = messages_without names s.mailbox ∙ ap (without_first (λ a. has_name names a.method)) pₜ.stands.mailbox },
-            each_without _ (is_on names) s.mailbox (box_kept g m mₜ Any keepₜ s (arrived_at d o) pₜ.stands.mailbox (anyₜ.in_boxes o) pₜ.mailbox),
-            served_kept g m mₜ Any keepₜ ks (g.callers y) (λ b e. tt) fit,
-        )
+              record { state = Free idle refl; mailbox = messages_without names s.mailbox ∙ ap (without_first (λ a. has_name names a.method)) pₜ.stands.mailbox },
+              each_without _ (is_on names) s.mailbox (box_kept g m mₜ Any keepₜ s (arrived_at d o) pₜ.stands.mailbox (anyₜ.in_boxes o) pₜ.mailbox),
+              served_kept g m mₜ Any keepₜ ks (g.callers y) (λ b e. tt) fit,
+            )
 
         pub take_stands : MachineStandsFor g l (mₛ g l m c d st n x node o own s taking here) (put_object c o y) (record d { arrived = without_first (is_for o names) d.arrived })
         take_stands = slot_stands g l m c d st n x node o own s taking here (put_object c o y) d.holding (without_first (is_for o names) d.arrived)
@@ -211,10 +211,10 @@ module _ {S : Type 0} (g : Language S) (l : Placement) where
 
         settled_mine : Spot g mₓ o (Some settling) (object_of c o) (find nat_cmp o (without nat_cmp o d.holding)) (arrived_at d o)
         settled_mine = spot_same g mₓ o {s = Some settling} {x = Some (g.given s.state v)} {h = None} {b = arrived_at d o} refl there (find_without_same o d.holding) refl (
-            record { state = Free refl refl; mailbox = pₓ.stands.mailbox },
-            box_kept g m mₓ (But o) keepₓ s (arrived_at d o) pₓ.stands.mailbox (rₓ.in_boxes o) pₓ.mailbox,
-            served_kept g m mₓ (But o) keepₓ s.callers (g.callers (g.given s.state v)) (λ b e. rₓ.in_callers o (g.given s.state v) b there e)
-            (subst (λ z. AreNumbersOf m s.callers (g.callers z)) (same_some (sym pₓ.there ∙ there)) pₓ.callers),
+          record { state = Free refl refl; mailbox = pₓ.stands.mailbox },
+          box_kept g m mₓ (But o) keepₓ s (arrived_at d o) pₓ.stands.mailbox (rₓ.in_boxes o) pₓ.mailbox,
+          served_kept g m mₓ (But o) keepₓ s.callers (g.callers (g.given s.state v)) (λ b e. rₓ.in_callers o (g.given s.state v) b there e)
+              (subst (λ z. AreNumbersOf m s.callers (g.callers z)) (same_some (sym pₓ.there ∙ there)) pₓ.callers),
         )
 
         pub settle_stands : MachineStandsFor g l (mₛ g l m c d st n x node o own s settling here) c (record d { holding = without nat_cmp o d.holding })

@@ -150,9 +150,9 @@ module _ {S : Type 0} (g : Language S) (W : Config S → Type 0) (l : Placement)
 
       mine : Spot g m₂ o (slot_at m₂ o) (object_of c' o) (held d₁ o) (arrived_at d₁ o)
       mine = spot_same g m₂ o {s = Some s'} {x = Some y} {h = None} {b = arrived_at d o} (slot_here s' x' refl m.links) (find_put_same o y c.objects) t.free refl (
-          record { state = Free t.idle refl; mailbox = spot_here.0.mailbox },
-          box_kept g m m₂ Any keep s (arrived_at d o) spot_here.0.mailbox (r.in_boxes o) spot_here.1,
-          subst (AreNumbersOf m₂ s.callers) (sym k) (served_kept g m m₂ Any keep s.callers (g.callers s.state) (λ q z. tt) spot_here.2),
+        record { state = Free t.idle refl; mailbox = spot_here.0.mailbox },
+        box_kept g m m₂ Any keep s (arrived_at d o) spot_here.0.mailbox (r.in_boxes o) spot_here.1,
+        subst (AreNumbersOf m₂ s.callers) (sym k) (served_kept g m m₂ Any keep s.callers (g.callers s.state) (λ q z. tt) spot_here.2),
       )
 
       at : (q : ℕ) → (q ≡ o) ⊎ (q ≢ o) → Spot g m₂ q (slot_at m₂ q) (object_of c' q) (held d₁ q) (arrived_at d₁ q)

@@ -196,7 +196,7 @@ abbrev pub create_act : {S : Type 0} → Language S → ℕ → ℕ → NodeStat
 create_act g n fresh x i s class goal =
     if goal == n then made_own g n (count_one g class x) i s class (g.made class)
     else Acts (W.PostCreate (name_at n i) (id class) goal) (Some (record { number = Some fresh; packet = D.Create (name_at n i) goal class }))
-      (put_request (count_one g class x) i s fresh goal)
+    (put_request (count_one g class x) i s fresh goal)
 
 -- a message to an object, here or by a packet
 abbrev pub message_act : {S : Type 0} → ℕ → What → NodeState S → ℕ → NumberedArrival → Packet → NodeActed S
@@ -263,7 +263,7 @@ slot_act g l q n fresh x i s K.Local =
     local_act n (name_at n i) x i s (steps_of g l q n x i s) (local_state g (name_at n i) (room_for g l x i s) (steps_of g l q n x i s) s.state)
 slot_act g l q n fresh x i s (K.New class) = create_act g n fresh x i s class (goal_here g l x n class)
 slot_act g l q n fresh x i s (K.Send b m args) =
-    message_act n (W.PostCall (name_at n i) b (id m)  args) (put_request x i s fresh s.goal) b
+    message_act n (W.PostCall (name_at n i) b (id m) args) (put_request x i s fresh s.goal) b
     (record { number = Some fresh; message = record { sender = name_at n i; is_call = true; method = m; args = args } }) (D.Request (name_at n i) b m args)
 slot_act g l q n fresh x i s (K.Async b m args) =
     message_act n (W.Step (L.Send (name_at n i) b (id m) args) 1) (put_state x i s (g.done s.state)) b

@@ -135,4 +135,3 @@ pub record MachineStandsFor {S : Type 0} (g : Language S) (l : Placement) (m : M
   pub on_links : (k : Pair) → Each (PacketFits m) (list_at pair_cmp k m.links)
   pub in_mailboxes : (o : ℕ) → MailboxFits m (slot_at m o)
   pub in_callers : (o : ℕ) → CallersFit g m (slot_at m o) (object_of c o)
-
