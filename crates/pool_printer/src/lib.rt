@@ -8,7 +8,5 @@ mod program;
 mod saying;
 mod spelling;
 mod statements;
-#[cfg(test)]
-mod tests;
 
 pub use program::print;
