@@ -1,5 +1,5 @@
 use Rattle.pool_relation.proofs.Runs.{joined, none_joined}
-use Rattle.pool_relation.proofs.runs_join.Goals as goal
+use Rattle.pool_relation.proofs.theorems.runs_join.Goals as goal
 
 pub returns-clause-joined : goal.returns-clause-joined
 returns-clause-joined c = joined

@@ -1,5 +1,5 @@
 use Rattle.pool_relation.proofs.preservation.EachTransition.{typed_kept, run_kept}
-use Rattle.pool_relation.proofs.typed_is_kept.Goals as goal
+use Rattle.pool_relation.proofs.theorems.typed_is_kept.Goals as goal
 
 pub returns-clause-by_transition : goal.returns-clause-by_transition
 returns-clause-by_transition c = typed_kept
