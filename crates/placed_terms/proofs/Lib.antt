@@ -2,6 +2,8 @@ pub mod Instance
 pub mod LawfulTerms
 pub mod RootClass
 pub mod RunsFrom
+pub mod Writing
+pub mod Laws
 pub mod Words
 pub mod TwoNodes
 mod UnsoundStates

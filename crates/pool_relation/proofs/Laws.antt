@@ -29,5 +29,7 @@ pub use Rattle.pool_relation.proofs.typing.Grown.{Grows}
 pub use Rattle.pool_relation.proofs.typing.Begun.{running_scope}
 pub use Rattle.pool_relation.proofs.typing.Faults.{none2, none3, none4, no_fault_if}
 pub use Rattle.pool_relation.proofs.redex.TypedRedex.{at, FitValues, TypedChoices}
+-- the search for the redex: where it ends, and what has none
+pub use Rattle.pool_relation.proofs.redex.RedexSearch.{passed, literal_is, not_value, value_found, not_values, not_guards, done_is, not_done, arguments_are, guards_are}
 -- what is under way in a term, and what its redex ends
 pub use Rattle.pool_relation.proofs.redex.Activities.{Ends, is_statement, statements_activities, statements_idle}
