@@ -55,7 +55,7 @@ module _ {S : Type 0} (g : Language S) where
   limited false k r h e = h e
 
   -- a limit is an answer
-  within_answers : (l : Placement) (z : ℕ) (r : NodeActed S) → r ≢ N.Nothing → within_node g l z r ≢ N.Nothing
+  pub within_answers : (l : Placement) (z : ℕ) (r : NodeActed S) → r ≢ N.Nothing → within_node g l z r ≢ N.Nothing
   within_answers l z N.Nothing h e = h refl
   within_answers l z N.Idle h e = cc
   within_answers l z (N.Full k) h e = cc

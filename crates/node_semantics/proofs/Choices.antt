@@ -47,7 +47,7 @@ first_same names (a ∷ ls) f h = by (has_name names a.message.method) refl (fir
     by true i k = let e : a ≡ f = same_some (rw i at h) in rw i (ap (λ (z : NumberedArrival). Some z.message) e)
     by false i k = rw i (k (rw i at h))
 
-none_same : (names : List ℕ) (ls : List NumberedArrival) → first_on names ls ≡ None → first_arrival names (arrivals ls) ≡ None
+pub none_same : (names : List ℕ) (ls : List NumberedArrival) → first_on names ls ≡ None → first_arrival names (arrivals ls) ≡ None
 none_same names [] h = refl
 none_same names (a ∷ ls) h = by (has_name names a.message.method) refl (none_same names ls)
   where

@@ -24,7 +24,10 @@ pub mod Moves
 pub mod Choices
 pub mod Events
 pub mod Standings
+pub mod LinkTests
+pub mod MachineStandings
 pub mod Answering
+pub mod Turns
 pub mod Starts
 pub mod Quietness
 pub mod Numbers

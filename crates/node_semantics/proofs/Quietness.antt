@@ -1,16 +1,15 @@
 -- A machine is quiet where what it stands for is.
-use Rattle.std.proofs.Common.{◌≡◌, ◌≢◌, ◌⊎◌, inl, inr, refl, sym, ap, ap₂, subst, ◌∙◌, IsTrue, ℕ, zero, suc, ◌+◌, ◌<◌, ◌==◌, List, [], ◌∷◌, Option, Some, None, is_some, Bool, true, false, not, ◌&&◌, ◌||◌, cond, arith}
+use Rattle.std.proofs.Common.{◌≡◌, refl, sym, ap, ap₂, subst, ◌∙◌, IsTrue, ℕ, zero, suc, ◌+◌, ◌<◌, ◌==◌, List, [], ◌∷◌, Option, Some, None, is_some, Bool, true, false, not, ◌&&◌, ◌||◌, arith}
 use Rattle.std.specs.Prelude.{slice_get, filter}
 use Rattle.std.specs.List.{list_any}
-use Rattle.std.specs.Option.{unwrap_or}
-use Rattle.std.specs.Ordering.{nat_cmp, is_eq}
+use Rattle.std.specs.Ordering.{nat_cmp}
 use Rattle.std.specs.declared.cmp.Ordering.{Ordering}
 use Rattle.std.specs.declared.cmp.Ordering.TheVariants.{Less, Equal, Greater}
 use Rattle.std.specs.FinMap.{find}
-use Rattle.std.specs.FinMap.Entries.{is_sorted, below_all}
+use Rattle.std.specs.FinMap.Entries.{is_sorted}
 use Rattle.pool_syntax.specs.declared.words.Placement.{Placement}
 use Rattle.mesh_semantics.specs.Tables.{Pair, pair_cmp, list_at, has_some}
-use Rattle.mesh_semantics.proofs.Laws.{equals, first, second}
+use Rattle.mesh_semantics.proofs.Laws.{equals, second}
 use Rattle.mesh_semantics.specs.Language.{Language}
 use Rattle.mesh_semantics.specs.Config.{Config}
 use Rattle.mesh_semantics.specs.Paths.{on_link}
@@ -22,8 +21,8 @@ use Rattle.node_semantics.specs.Node.{Slot, NumberedPacket, NodeState, ready_slo
 use Rattle.node_semantics.specs.Machine.{Machine, any_ready, is_machine_quiet}
 use Rattle.node_semantics.specs.Requests.{Requests}
 use Rattle.node_semantics.specs.StandsFor.{packets, MachineStandsFor}
-use Rattle.node_semantics.proofs.Posted.{decide_link}
-use Rattle.node_semantics.proofs.Cells.{find_first, find_next, find_none, nothing_on}
+use Rattle.node_semantics.proofs.Cells.{nothing_on}
+use Rattle.node_semantics.proofs.LinkTests.{all_fail, each_fails}
 use Rattle.node_semantics.proofs.Limits as Lim
 use Rattle.node_semantics.proofs.Limits.{Chosen, NoOne, One}
 use Rattle.node_semantics.proofs.Moves.{there_at}
@@ -36,36 +35,9 @@ same_bool false false f h = refl
 
 -- links
 
-all_empty : (es : List (Pair × List NumberedPacket)) → IsTrue (is_sorted pair_cmp es) → ((k : Pair) → list_at pair_cmp k es ≡ []) → list_any (λ e. has_some e.1) es ≡ false
-all_empty [] o h = refl
-all_empty (e ∷ es) o h =
-    let below = first (below_all pair_cmp e.0 es) (is_sorted pair_cmp es) o in
-    let here : e.1 ≡ [] = ap (λ z. unwrap_or z []) (sym (find_first e.0 e.1 es)) ∙ h e.0 in
-    let rest = all_empty es (second (below_all pair_cmp e.0 es) (is_sorted pair_cmp es) o) (λ k. at k (decide_link k e.0) below) in
-    ap₂ (λ a b. a || b) (ap has_some here) rest
-  where
-    at : (k : Pair) → (k ≡ e.0) ⊎ (k ≢ e.0) → IsTrue (below_all pair_cmp e.0 es) → list_at pair_cmp k es ≡ []
-    at k (inl i) b = ap (λ z. list_at pair_cmp z es) i ∙ ap (λ z. unwrap_or z []) (find_none e.0 es b)
-    at k (inr i) b = ap (λ z. unwrap_or z []) (sym (find_next k e.0 e.1 es i)) ∙ h k
-
 none_some : (xs : List NumberedPacket) → has_some xs ≡ false → xs ≡ []
 none_some [] h = refl
 none_some (x ∷ xs) h = absurd (cc)
-
-each_empty : (es : List (Pair × List NumberedPacket)) → list_any (λ e. has_some e.1) es ≡ false → (k : Pair) → list_at pair_cmp k es ≡ []
-each_empty [] h k = refl
-each_empty (e ∷ es) h k = by (pair_cmp k e.0) refl (each_empty es right k)
-  where
-    left : has_some e.1 ≡ false
-    left = grind (arith, h)
-
-    right : list_any (λ z. has_some z.1) es ≡ false
-    right = grind (arith, h)
-
-    by : (r : Ordering) → pair_cmp k e.0 ≡ r → list_at pair_cmp k es ≡ [] → list_at pair_cmp k (e ∷ es) ≡ []
-    by Equal i z = ap (λ w. unwrap_or (cond (is_eq w) (Some e.1) (find pair_cmp k es)) []) i ∙ none_some e.1 left
-    by Less i z = ap (λ w. unwrap_or (cond (is_eq w) (Some e.1) (find pair_cmp k es)) []) i ∙ z
-    by Greater i z = ap (λ w. unwrap_or (cond (is_eq w) (Some e.1) (find pair_cmp k es)) []) i ∙ z
 
 no_packets : (xs : List NumberedPacket) → packets xs ≡ [] → xs ≡ []
 no_packets [] h = refl
@@ -84,9 +56,9 @@ links_same links ls o h = by (list_any (λ e. has_some e.1) links) (list_any (λ
     by false false i j = i ∙ sym j
     by true false i j = absurd (
         let e = some_there ls j in
-        let z = all_empty links o (λ k. no_packets (list_at pair_cmp k links) (h k ∙ ap (λ w. on_link w k) e)) in cc)
+        let z = all_fail has_some refl links o (λ k. ap has_some (no_packets (list_at pair_cmp k links) (h k ∙ ap (λ w. on_link w k) e))) in cc)
     by false true i j = absurd (
-        let e = nothing_on ls (λ k. sym (h k) ∙ ap packets (each_empty links i k)) in
+        let e = nothing_on ls (λ k. sym (h k) ∙ ap packets (none_some (list_at pair_cmp k links) (each_fails has_some refl links i k))) in
         let z : list_any (λ (x : Pair × Packet). true) ls ≡ false = ap (list_any (λ x. true)) e in cc)
 
 -- objects that can step

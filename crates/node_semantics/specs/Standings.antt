@@ -1,14 +1,19 @@
--- Where the object of a slot stands, as its node knows it.
-use Rattle.std.specs.Prelude.{◌≡◌, ℕ, List, Option, Some, None, if◌then◌else◌}
+-- Where an object stands: as the node of its slot knows it, and as the machine knows it, which sees the links too.
+use Rattle.std.specs.Prelude.{◌≡◌, ℕ, ◌==◌, List, Option, Some, None, Bool, false, if◌then◌else◌}
+use Rattle.std.specs.List.{list_any}
 use Rattle.pool_syntax.specs.declared.words.Error.{Error}
 use Rattle.mesh_semantics.specs.Kind as K
 use Rattle.mesh_semantics.specs.Kind.{Kind}
 use Rattle.mesh_semantics.specs.Language.{Language}
-use Rattle.mesh_semantics.specs.Delay.{Arrival}
+use Rattle.mesh_semantics.specs.Tables.{Pair}
+use Rattle.mesh_semantics.specs.Delay as D
+use Rattle.mesh_semantics.specs.Delay.{Packet, Arrival}
 use Rattle.mesh_semantics.specs.Act.{can_step}
 use Rattle.mesh_semantics.specs.Standing as T
 use Rattle.mesh_semantics.specs.Standing.{Standing}
-use Rattle.node_semantics.specs.Node.{Slot, arrivals}
+use Rattle.node_semantics.specs.Node.{Slot, NumberedPacket, arrivals}
+use Rattle.node_semantics.specs.Machine.{Machine}
+use Rattle.node_semantics.specs.StandsFor.{slot_at}
 
 -- while its request is out it calls or creates, at the node that is kept
 abbrev pub slot_standing_by : Option ℕ → Option Error → List Arrival → ℕ → Kind → Standing
@@ -32,3 +37,21 @@ IsRequest _ = ⊥
 abbrev pub SaysOf : Standing → Standing → Type 0
 SaysOf s T.Due = IsRequest s
 SaysOf s t = s ≡ t
+
+-- whether the packet brings the object its value
+abbrev pub brings : ℕ → Packet → Bool
+brings o (D.Created k name) = k == o
+brings o (D.Result k v) = k == o
+brings o _ = false
+
+-- whether its value is on a link
+abbrev pub is_on_way : ℕ → List (Pair × List NumberedPacket) → Bool
+is_on_way o links = list_any (λ e. list_any (λ p. brings o p.packet) e.1) links
+
+abbrev pub standing_in : {S : Type 0} → Language S → Machine S → ℕ → Option (Slot S) → Option Standing
+standing_in g m o None = None
+standing_in g m o (Some s) = Some (if is_on_way o m.links then T.Due else slot_standing g o s)
+
+-- due while the value is on a link, and else what its node says; nothing of a name without object
+abbrev pub machine_standing : {S : Type 0} → Language S → Machine S → ℕ → Option Standing
+machine_standing g m o = standing_in g m o (slot_at m o)

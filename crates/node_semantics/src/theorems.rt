@@ -1,14 +1,14 @@
 //! Laws of machines of nodes, over the definitions alone: each is the contract of a function that does nothing. They hold of any language of objects whose states are
 //! the type parameter `S`. What is kept of a configuration is a property: a contract ranges over it as over what a function gives, from the type parameter `K`.
-ghost use Rattle.std.specs.Prelude.{◌≡◌, ◌≢◌, ℕ, List, ◌∷◌, None, Some, slice_get};
+ghost use Rattle.std.specs.Prelude.{◌≡◌, ◌≢◌, ◌+◌, ℕ, List, ◌∷◌, None, Some, length, slice_get};
 ghost use Rattle.pool_syntax.specs.declared.words.Event.{Event};
 ghost use Rattle.pool_syntax.specs.declared.words.Placement.{Placement};
 ghost use Rattle.mesh_semantics.specs.Tables.{pair_cmp, list_at};
 ghost use Rattle.mesh_semantics.specs.Language.{Language};
 ghost use Rattle.mesh_semantics.specs.Config.{Config, object_of};
 ghost use Rattle.mesh_semantics.specs.Ways.{In};
-ghost use Rattle.mesh_semantics.specs.Delay.{Delay, no_delay};
-ghost use Rattle.mesh_semantics.specs.Act.{act, goal_node, is_quiet};
+ghost use Rattle.mesh_semantics.specs.Delay.{Delay, cell_count, no_delay};
+ghost use Rattle.mesh_semantics.specs.Act.{act, frame_count, goal_node, is_quiet, object_count};
 ghost use Rattle.mesh_semantics.specs.Record.{record_of, start};
 ghost use Rattle.mesh_semantics.specs.Standing.{standing};
 ghost use Rattle.mesh_semantics.specs.Sound.{Each, IsSound};
@@ -16,14 +16,15 @@ ghost use Rattle.mesh_semantics.specs.FitFor.{FitFor};
 ghost use Rattle.mesh_semantics.specs.Lawful.{Lawful};
 ghost use Rattle.mesh_semantics.specs.Given.{IsGiven};
 ghost use Rattle.node_semantics.specs.Node as N;
-ghost use Rattle.node_semantics.specs.Node.{NodeState, NumberedPacket, Slot, receipt_act};
-ghost use Rattle.node_semantics.specs.Machine.{Machine, is_machine_quiet, machine_act, machine_start};
+ghost use Rattle.node_semantics.specs.Node.{NodeState, NumberedPacket, Slot, frames_in, message_count, receipt_act, turn_act};
+ghost use Rattle.node_semantics.specs.Machine.{Machine, is_machine_quiet, leaving, machine_act, machine_start};
 ghost use Rattle.node_semantics.specs.Requests.{Requests};
 ghost use Rattle.node_semantics.specs.StandsFor.{MachineStandsFor, slot_at};
 ghost use Rattle.node_semantics.specs.Agrees.{Agrees, IsFresh, IsOfMesh, StartAgrees};
 ghost use Rattle.node_semantics.specs.Written.{FreshAlong, machine_lines};
 ghost use Rattle.node_semantics.specs.Receives.{IsReceivable, KnownNames};
-ghost use Rattle.node_semantics.specs.Standings.{SaysOf, slot_standing};
+ghost use Rattle.node_semantics.specs.Turns.{CanTurn};
+ghost use Rattle.node_semantics.specs.Standings.{SaysOf, machine_standing, slot_standing};
 
 /// At its start a machine stands for the start, with nothing on the way; there is a start for both or for neither.
 pub fn a_machine_starts_as_what_it_stands_for<S, K>()
@@ -70,9 +71,34 @@ pub fn a_node_answers_a_receivable_packet<S>()
         → IsReceivable g n x e.number e.packet → receipt_act g l n leaving e x ≢ N.Nothing }
 {}
 
+/// A turn of any node by itself always answers, where its objects can do what they are at.
+pub fn a_node_answers_its_turn<S>()
+    ensures { (g : Language S) (l : Placement) (q leaving n fresh : ℕ) (x : NodeState S) → CanTurn g n x → turn_act g l q n leaving fresh x ≢ N.Nothing }
+{}
+
+/// The objects, frames and cells of a node are counted as those of what its machine stands for.
+pub fn a_node_counts_what_it_stands_for<S, K>()
+    ensures objects { (g : Language S) (kept : K → Config S) (l : Placement) (m : Machine S) (c : Config S) (d : Delay) (n : ℕ) (x : NodeState S)
+        → Lawful g (IsGiven kept) → Requests g (IsGiven kept) → IsGiven kept c → MachineStandsFor g l m c d → slice_get m.nodes n ≡ Some x → length x.slots ≡ object_count c n }
+    ensures frames { (g : Language S) (kept : K → Config S) (l : Placement) (m : Machine S) (c : Config S) (d : Delay) (n : ℕ) (x : NodeState S)
+        → Lawful g (IsGiven kept) → Requests g (IsGiven kept) → IsGiven kept c → MachineStandsFor g l m c d → slice_get m.nodes n ≡ Some x → frames_in g x.slots ≡ frame_count g c n }
+    ensures cells { (g : Language S) (kept : K → Config S) (l : Placement) (m : Machine S) (c : Config S) (d : Delay) (n : ℕ) (x : NodeState S)
+        → Lawful g (IsGiven kept) → Requests g (IsGiven kept) → IsGiven kept c → MachineStandsFor g l m c d → slice_get m.nodes n ≡ Some x
+        → message_count x.slots + leaving m.links n ≡ cell_count d n }
+{}
+
 /// What a node says of a slot is where the object of that name stands, with a call or a create in place of due.
 pub fn a_node_says_where_an_object_stands<S, K>()
     ensures { (g : Language S) (kept : K → Config S) (l : Placement) (m : Machine S) (c : Config S) (d : Delay) (o : ℕ) (x : S) (s : Slot S)
         → Lawful g (IsGiven kept) → Requests g (IsGiven kept) → IsSound g (IsGiven kept) l c d → MachineStandsFor g l m c d
         → object_of c o ≡ Some x → slot_at m o ≡ Some s → SaysOf (slot_standing g o s) (standing g d o x) }
+{}
+
+/// What a machine says of a name is where the object of that name stands, and it says nothing exactly of the other names.
+pub fn a_machine_says_where_an_object_stands<S, K>()
+    ensures there { (g : Language S) (kept : K → Config S) (l : Placement) (m : Machine S) (c : Config S) (d : Delay) (o : ℕ) (x : S)
+        → Lawful g (IsGiven kept) → Requests g (IsGiven kept) → IsSound g (IsGiven kept) l c d → MachineStandsFor g l m c d
+        → object_of c o ≡ Some x → machine_standing g m o ≡ Some (standing g d o x) }
+    ensures absent { (g : Language S) (l : Placement) (m : Machine S) (c : Config S) (d : Delay) (o : ℕ) → MachineStandsFor g l m c d
+        → object_of c o ≡ None → machine_standing g m o ≡ None }
 {}
