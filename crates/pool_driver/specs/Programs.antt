@@ -37,7 +37,7 @@ IsProgramText s p = IsTextOf s p × (faults p ≡ []) × (is_served p ≡ true)
 
 -- the first fault of tokens that have no program
 abbrev pub IsSyntaxFault : List Tok → SyntaxFault → Type 0
-IsSyntaxFault ts (Syntax.Unexpected t) = IsFirstUnexpected ts t × IsShallowBelow ts t
+IsSyntaxFault ts (Syntax.Unexpected t) = IsFirstUnexpected ts t × IsShallowBelow ts t × ((p : ProgramTree) → HasProgram ts p → ⊥)
 IsSyntaxFault ts (Syntax.TooDeep t) = IsFirstTooDeep ts t × Begins ts program (rule program) 0 (t + 1)
 IsSyntaxFault ts Syntax.Memory = ⊥
 

@@ -17,7 +17,7 @@ use Rattle.pool_lexer.proofs.Fronts.{white_run}
 use Rattle.pool_lexer.proofs.Kept.{kept_there, texts_after-cons}
 use Rattle.pool_lexer.proofs.Longest.{longest_run}
 use Rattle.pool_printer.specs.Canonical.{breaks_after, breaks_before, gap, text_behind, program_tokens}
-use Rattle.pool_printer.specs.ReadBack.{number_in, are_in_range, IsReadBack}
+use Rattle.pool_printer.specs.ReadBack.{number_in, IsReadBack}
 use Rattle.pool_printer.specs.Renumbered.{token_by}
 use Rattle.pool_printer.specs.Spelling.{spelling}
 use Rattle.pool_printer.proofs.SpelledTokens.{spelled_tokens}
@@ -164,11 +164,11 @@ all_texts : (names other : List Text) (ts : List Tok) → AllByRecursion (Lexes 
 all_texts names other [] h kept = tt
 all_texts names other (t ∷ ts) h kept = (h.0.text other kept.0, behind_texts names other t ts h.1 kept.1)
 
--- The canonical text of a spelled program, whose integers are below 2 ^ 63, is read back.
-pub canonical_tokens : (names : List Text) (p : ProgramTree) → is_spelled names p ≡ true → are_in_range (program_tokens p) ≡ true → (other : List Text) × (ts : List Token) × IsReadBack names p other ts
-canonical_tokens names p h r =
+-- The canonical text of a spelled program is read back.
+pub canonical_tokens : (names : List Text) (p : ProgramTree) → is_spelled names p ≡ true → (other : List Text) × (ts : List Token) × IsReadBack names p other ts
+canonical_tokens names p h =
     let ts = program_tokens p in
-    let lex = tokens_lex names ts (spelled_tokens names p h) r in
+    let lex = tokens_lex names ts (spelled_tokens names p h) in
     let ws = all_pieces names ts in
     let other = texts_after [] ws in (
       other,

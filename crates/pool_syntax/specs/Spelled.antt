@@ -30,9 +30,9 @@ is_name names n = text_passes is_name_text (slice_get names n)
 abbrev pub is_string_number : List Text → ℕ → Bool
 is_string_number names n = text_passes is_string_text (slice_get names n)
 
--- a value that a literal can have: no negative integer, and no object's name
+-- a value that a literal can have: no integer below 0 or from 2 ^ 63 on, and no object's name
 abbrev pub is_literal : Value → Bool
-is_literal (value.Int (pos z)) = true
+is_literal (value.Int (pos z)) = nat_le z 9223372036854775807
 is_literal (value.Int (negsuc z)) = false
 is_literal (value.Bool b) = true
 is_literal (value.Ref n) = false
@@ -107,7 +107,7 @@ are_spelled_methods names (m ∷ ms) =
     is_name names m.name.name.0 && are_variables names m.params && are_variables names m.locals && is_outcome names m.outcome
     && are_spelled_statements names m.body && is_spelled_expression names m.value && are_spelled_methods names ms
 
--- each name is a name, each string the inside of a string, and no integer is negative; every number is a place of the table
+-- each name is a name, each string the inside of a string, and each integer from 0 and below 2 ^ 63; every number is a place of the table
 abbrev pub is_spelled : List Text → ProgramTree → Bool
 is_spelled names [] = true
 is_spelled names (k ∷ ks) =
