@@ -5,8 +5,6 @@ mod calls;
 mod edge;
 mod memory;
 mod outside;
-#[cfg(test)]
-mod tests;
 
 pub use calls::{ReadFault, WriteFault, read_whole, write_all_of};
 pub use edge::{StdFiles, StdSink};
