@@ -11,8 +11,6 @@ mod program;
 mod scope;
 mod sort;
 mod statements;
-#[cfg(test)]
-mod tests;
 
 pub use fault::ClassFault;
 pub use program::{Checked, check};

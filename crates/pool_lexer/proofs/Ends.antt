@@ -32,11 +32,11 @@ ended_from names at (w ∷ ws) = elim (cases_Option (token_of names w)) [
 ]
 
 -- every number is a place
-all_more : (P : Tok → Type 0) (t : Tok) (ts : List Tok) → P t → All P ts → All P (t ∷ ts)
+pub all_more : (P : Tok → Type 0) (t : Tok) (ts : List Tok) → P t → All P ts → All P (t ∷ ts)
 all_more P t ts here others zero d h = here
 all_more P t ts here others (suc k) d h = others k d (omega arith)
 
-all_none : (P : Tok → Type 0) → All P []
+pub all_none : (P : Tok → Type 0) → All P []
 all_none P k d h = absurd (omega arith)
 
 placed_from : (seen : List Text) (at : ℕ) (ws : List Text) → All (IsPlaced (length (texts_after seen ws))) (toks (tokens_from (texts_after seen ws) at ws))

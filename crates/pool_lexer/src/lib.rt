@@ -8,8 +8,6 @@ mod places;
 mod scan;
 mod spelling;
 mod table;
-#[cfg(test)]
-mod tests;
 mod token;
 
 pub use lexer::tokens;

@@ -8,9 +8,7 @@ use Rattle.pool_syntax.specs.Spelled.{is_name, is_string_number, is_name_text, i
 use Rattle.pool_syntax.specs.declared.words.NameId.{NameId}
 use Rattle.pool_syntax.specs.declared.token.Tok.{Tok}
 use Rattle.pool_syntax.specs.declared.token.Tok.TheVariants as tok
-use Rattle.pool_lexer.proofs.Kept.{cases_Option}
-use Rattle.pool_lexer.proofs.Listed.{listed_is}
-use Rattle.pool_lexer.proofs.WordTokens.{name_kept}
+use Rattle.pool_lexer.proofs.Laws.{cases_Option, listed_is, name_kept}
 use Rattle.pool_printer.specs.ReadBack.{number_in}
 use Rattle.pool_printer.specs.Renumbered.{token_by}
 use Rattle.pool_printer.specs.Spelling.{spelling, text_at, text_or_none}

@@ -6,9 +6,6 @@ mod expressions;
 pub mod laws;
 mod program;
 mod saying;
-mod spelling;
 mod statements;
-#[cfg(test)]
-mod tests;
 
 pub use program::print;

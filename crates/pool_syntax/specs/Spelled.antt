@@ -1,6 +1,7 @@
 -- Programs whose names, strings and integers can be written as tokens: what the tokens of a text always give.
-use Rattle.std.specs.Prelude.{ℕ, ◌≤◌, pos, negsuc, List, [], ◌∷◌, length, slice_get, Option, Some, None, Bool, true, false, not, ◌&&◌, nat_le}
+use Rattle.std.specs.Prelude.{ℕ, ◌≤◌, pos, negsuc, List, [], ◌∷◌, length, slice_get, Option, Some, None, Bool, true, false, not, ◌&&◌, nat_le, All, IsTrue}
 use Rattle.pool_syntax.specs.declared.token.Tok.{Tok}
+use Rattle.pool_syntax.specs.declared.token.Tok.TheVariants as tok
 use Rattle.pool_syntax.specs.declared.words.Value.{Value}
 use Rattle.pool_syntax.specs.declared.words.Value.TheVariants as value
 use Rattle.pool_syntax.specs.declared.tree.Kind.{Kind}
@@ -37,6 +38,18 @@ is_literal (value.Int (negsuc z)) = false
 is_literal (value.Bool b) = true
 is_literal (value.Ref n) = false
 is_literal value.Nil = true
+
+-- a token whose name, string or integer is that of a spelled program
+abbrev pub IsSpelledToken : List Text → Tok → Type 0
+IsSpelledToken names (tok.Name n) = IsTrue (is_name names n.0)
+IsSpelledToken names (tok.Str n) = IsTrue (is_string_number names n.0)
+IsSpelledToken names (tok.Int z) = IsTrue (is_literal (value.Int z))
+IsSpelledToken names (tok.Word k) = Unit {0}
+IsSpelledToken names (tok.Sign s) = Unit {0}
+IsSpelledToken names tok.End = Unit {0}
+
+abbrev pub AreSpelled : List Text → List Tok → Type 0
+AreSpelled names ts = All (IsSpelledToken names) ts
 
 abbrev pub is_kind : List Text → Kind → Bool
 is_kind names kind.Int = true
