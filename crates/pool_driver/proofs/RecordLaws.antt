@@ -15,19 +15,19 @@ use Rattle.pool_syntax.specs.declared.words.Line.TheVariants as R
 use Rattle.pool_syntax.specs.Terms.{ProgramTree}
 use Rattle.pool_syntax.specs.Typing.{faults}
 use Rattle.pool_syntax.specs.Spelled.{IsGrammatical}
-use Rattle.pool_semantics.specs.Action as A
-use Rattle.pool_semantics.specs.Action.{Object, Action, action}
-use Rattle.pool_semantics.specs.Configuration.{Configuration, object_of}
-use Rattle.pool_semantics.specs.Transition.{transition, run, start}
-use Rattle.pool_semantics.specs.Typed.{GoesWrong}
-use Rattle.pool_semantics.specs.WellFormed.{is_written}
-use Rattle.pool_semantics.specs.Ready.{is_ready}
-use Rattle.pool_semantics.proofs.Quiet.{no_transition}
-use Rattle.pool_semantics.proofs.Runs.{joined}
-use Rattle.pool_semantics.proofs.Started.{start_well_typed}
-use Rattle.pool_semantics.proofs.Kept.{run_kept}
-use Rattle.pool_semantics.proofs.GoingOn.{not_wrong}
-use Rattle.pool_semantics.proofs.Grammatical.{grammatical_written}
+use Rattle.pool_relation.specs.Action as A
+use Rattle.pool_relation.specs.Action.{Object, Action, action}
+use Rattle.pool_relation.specs.Configuration.{Configuration, object_of}
+use Rattle.pool_relation.specs.Transition.{transition, run, start}
+use Rattle.pool_relation.specs.Typed.{GoesWrong}
+use Rattle.pool_relation.specs.Written.{is_written}
+use Rattle.pool_relation.specs.Ready.{is_ready}
+use Rattle.pool_relation.proofs.Quiet.{no_transition}
+use Rattle.pool_relation.proofs.Runs.{joined}
+use Rattle.pool_relation.proofs.Started.{start_well_typed}
+use Rattle.pool_relation.proofs.Kept.{run_kept}
+use Rattle.pool_relation.proofs.GoingOn.{not_wrong}
+use Rattle.pool_relation.proofs.Grammatical.{grammatical_written}
 use Rattle.pool_driver.specs.Served.{are_small, is_served, IsServedAction}
 use Rattle.pool_driver.specs.Turn.{local_steps, step_count, Turn, shows, full, nothing, one_step, many_steps, turn_by, turn}
 use Rattle.pool_driver.specs.Records.{is_quiet, Record, with_line, ends, after_turn, record_from, record_at, record_of, labels_of, labels, is_quiet_end, ends_quiet, shows_fault, ended, status_after, status_of, IsRunFrom}

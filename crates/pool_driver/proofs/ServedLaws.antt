@@ -9,13 +9,14 @@ use Rattle.pool_syntax.specs.declared.words.Label.TheVariants as L
 use Rattle.pool_syntax.specs.Terms.{Store, Expression, Literal, Frame, If, While, Statements, Done, Then, MethodTree, ProgramTree, append}
 use Rattle.pool_syntax.specs.Classes.{named_method}
 use Rattle.pool_syntax.specs.Values.{Outcome, Gives, Fails, WrongSort, prefix_value, infix_value}
-use Rattle.pool_semantics.specs.Reducible as R
-use Rattle.pool_semantics.specs.Reducible.{Reducible, Found, Evaluated, At, and_then, Part, AsExpression, AsStatements, as_expression, as_statements, is_value, are_values, is_done, fill_expression, fill_expressions, fill_statement, fill_statements, expression_redex, expressions_redex, statement_redex, statements_redex}
-use Rattle.pool_semantics.specs.Action as A
-use Rattle.pool_semantics.specs.Action.{Object, Action, with_count, method_in, method_of, value_of, becomes, on_outcome, read, on_call, on_assignment, on_branch, redex_action, found_action, action}
-use Rattle.pool_semantics.specs.Configuration.{Configuration, put_object}
-use Rattle.pool_semantics.specs.Transition.{◌>>=◌, ◌>>◌, require, transition, running, local_step, writes, fails, start, new_object, done}
-use Rattle.pool_semantics.specs.Alone.{alone}
+use Rattle.pool_relation.specs.Reducible as R
+use Rattle.pool_relation.specs.Reducible.{Reducible, Found, Evaluated, At, and_then, Part, AsExpression, AsStatements, as_expression, as_statements, is_value, are_values, is_done, fill_expression, fill_expressions, fill_statement, fill_statements, expression_redex, expressions_redex, statement_redex, statements_redex}
+use Rattle.pool_relation.specs.Action as A
+use Rattle.pool_relation.specs.Action.{Object, Action, with_count, method_in, method_of, value_of, becomes, on_outcome, read, on_call, on_assignment, on_branch, redex_action, found_action, action}
+use Rattle.pool_relation.specs.Configuration.{Configuration, put_object}
+use Rattle.mesh_semantics.specs.Partial.{◌>>=◌, ◌>>◌, require}
+use Rattle.pool_relation.specs.Transition.{transition, running, local_step, writes, fails, start, new_object, done}
+use Rattle.pool_relation.specs.Alone.{alone}
 use Rattle.pool_driver.specs.Served.{is_small_expression, are_small, is_small_method, are_small_methods, is_served, IsServedAction}
 use Rattle.pool_driver.proofs.ServedTerms.{both, first, second, is_small_part, is_small_redex, is_small_found, small_append, small_filled_statements, small_statements_redex}
 

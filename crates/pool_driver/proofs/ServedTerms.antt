@@ -2,8 +2,8 @@
 use Rattle.std.proofs.Common.{◌≡◌, refl, Bool, true, false, ◌&&◌, if◌then◌else◌}
 use Rattle.pool_syntax.specs.declared.words.Item.TheVariants as I
 use Rattle.pool_syntax.specs.Terms.{Store, Expression, Literal, Me, Variable, Create, Prefix, Infix, Call, Send, Frame, Wait, Expressions, NoArgs, Arg, Statement, Assign, Write, WriteText, Do, Async, If, While, Answer, Select, Serve, Statements, Done, Then, append}
-use Rattle.pool_semantics.specs.Reducible as R
-use Rattle.pool_semantics.specs.Reducible.{Reducible, Found, Evaluated, At, and_then, Part, AsExpression, AsStatements, as_expression, as_statements, is_value, are_values, is_done, fill_expression, fill_expressions, fill_statement, fill_statements, expression_redex, expressions_redex, statement_redex, statements_redex}
+use Rattle.pool_relation.specs.Reducible as R
+use Rattle.pool_relation.specs.Reducible.{Reducible, Found, Evaluated, At, and_then, Part, AsExpression, AsStatements, as_expression, as_statements, is_value, are_values, is_done, fill_expression, fill_expressions, fill_statement, fill_statements, expression_redex, expressions_redex, statement_redex, statements_redex}
 use Rattle.pool_driver.specs.Served.{is_small_expression, are_small_expressions, is_small_statement, are_small}
 
 pub both : {a b : Bool} → a ≡ true → b ≡ true → (a && b) ≡ true

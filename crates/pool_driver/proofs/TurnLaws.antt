@@ -13,12 +13,14 @@ use Rattle.pool_syntax.specs.Terms.{ProgramTree, Statements, Store}
 use Rattle.pool_semantics.specs.declared.plain.redex.Redex.{Redex}
 use Rattle.pool_semantics.specs.declared.plain.redex.Redex.TheVariants as X
 use Rattle.pool_syntax.specs.Values.{is_same, is_same_int, is_same_bool}
-use Rattle.pool_semantics.specs.Action as A
-use Rattle.pool_semantics.specs.Action.{Object, Action, action}
-use Rattle.pool_semantics.specs.Configuration.{Configuration}
-use Rattle.pool_semantics.specs.Transition.{◌>>=◌, transition, run, is_same_item, error_number}
+use Rattle.pool_relation.specs.Action as A
+use Rattle.pool_relation.specs.Action.{Object, Action, action}
+use Rattle.pool_relation.specs.Configuration.{Configuration}
+use Rattle.mesh_semantics.specs.Partial.{◌>>=◌}
+use Rattle.pool_relation.specs.Transition.{transition, run}
+use Rattle.mesh_semantics.specs.Same.{is_same_item, error_number}
 use Rattle.pool_semantics.specs.Shown.{Shows}
-use Rattle.pool_semantics.proofs.Runs.{joined}
+use Rattle.pool_relation.proofs.Runs.{joined}
 use Rattle.pool_driver.specs.declared.run.Asked.{Asked}
 use Rattle.pool_driver.specs.declared.run.Asked.TheVariants as Q
 use Rattle.pool_driver.specs.Served.{are_small, is_served, IsServedAction}

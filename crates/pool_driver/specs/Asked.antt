@@ -4,8 +4,8 @@ use Rattle.pool_syntax.specs.declared.words.Label.TheVariants as L
 use Rattle.pool_syntax.specs.Terms.{ProgramTree}
 use Rattle.pool_semantics.specs.declared.plain.redex.Redex.{Redex}
 use Rattle.pool_semantics.specs.declared.plain.redex.Redex.TheVariants as R
-use Rattle.pool_semantics.specs.Configuration.{Configuration}
-use Rattle.pool_semantics.specs.Action.{Object}
+use Rattle.pool_relation.specs.Configuration.{Configuration}
+use Rattle.pool_relation.specs.Action.{Object}
 use Rattle.pool_driver.specs.declared.run.Asked.{Asked}
 use Rattle.pool_driver.specs.declared.run.Asked.TheVariants as A
 use Rattle.pool_driver.specs.declared.run.Turned.{Turned}

@@ -13,11 +13,11 @@ use Rattle.pool_syntax.specs.declared.words.End.TheVariants as F
 use Rattle.pool_syntax.specs.declared.words.Line.{Line}
 use Rattle.pool_syntax.specs.declared.words.Line.TheVariants as R
 use Rattle.pool_syntax.specs.Terms.{ProgramTree}
-use Rattle.pool_semantics.specs.Action.{Object, action}
-use Rattle.pool_semantics.specs.Configuration.{Configuration, object_of}
-use Rattle.pool_semantics.specs.Transition.{transition, run, start}
-use Rattle.pool_semantics.specs.Typed.{GoesWrong}
-use Rattle.pool_semantics.specs.Ready.{is_ready}
+use Rattle.pool_relation.specs.Action.{Object, action}
+use Rattle.pool_relation.specs.Configuration.{Configuration, object_of}
+use Rattle.pool_relation.specs.Transition.{transition, run, start}
+use Rattle.pool_relation.specs.Typed.{GoesWrong}
+use Rattle.pool_relation.specs.Ready.{is_ready}
 use Rattle.pool_driver.specs.Turn.{Turn, shows, full, nothing, turn}
 use Rattle.pool_driver.specs.declared.status.Status.{Status}
 use Rattle.pool_driver.specs.declared.status.Status.TheVariants as S

@@ -5,11 +5,12 @@ use Rattle.pool_syntax.specs.declared.words.Label.TheVariants as L
 use Rattle.pool_syntax.specs.declared.words.What.{What}
 use Rattle.pool_syntax.specs.declared.words.What.TheVariants as W
 use Rattle.pool_syntax.specs.Terms.{ProgramTree}
-use Rattle.pool_semantics.specs.Action as A
-use Rattle.pool_semantics.specs.Action.{Object, Action, action}
-use Rattle.pool_semantics.specs.UnderWay.{frames_of}
-use Rattle.pool_semantics.specs.Configuration.{Configuration, object_of}
-use Rattle.pool_semantics.specs.Transition.{◌>>=◌, transition}
+use Rattle.pool_relation.specs.Action as A
+use Rattle.pool_relation.specs.Action.{Object, Action, action}
+use Rattle.pool_relation.specs.UnderWay.{frames_of}
+use Rattle.pool_relation.specs.Configuration.{Configuration, object_of}
+use Rattle.mesh_semantics.specs.Partial.{◌>>=◌}
+use Rattle.pool_relation.specs.Transition.{transition}
 
 -- the most frames of a node
 abbrev pub frame_limit : ℕ

@@ -2,7 +2,7 @@
 ghost use Rattle.std.specs.Prelude.{◌≡◌, ◌≢◌, ◌≤◌, ◌++◌, ◌||◌, Some, None, true, false, is_some, IfOk, OnOk};
 ghost use Rattle.pool_syntax.specs.TreeOf.{program_of};
 ghost use Rattle.pool_semantics.specs.PlainOf.{configuration_of, is_spent, program_tree};
-ghost use Rattle.pool_semantics.specs.Transition.{transition};
+ghost use Rattle.pool_relation.specs.Transition.{transition};
 ghost use Rattle.pool_driver.specs.Asked.{IsLone, IsTurn, asked_by};
 ghost use Rattle.pool_driver.specs.Records.{ended, is_quiet, record_of, shows_fault, status_of};
 ghost use Rattle.pool_driver.specs.RecordText.{line_text, record_text};

@@ -3,10 +3,10 @@ use Rattle.std.proofs.Common.{◌≡◌, refl, ◌≤◌, ◌-◌, ℕ, List, le
 use Rattle.pool_syntax.specs.declared.words.Value.{Value}
 use Rattle.pool_syntax.specs.declared.words.Error.{Error}
 use Rattle.pool_syntax.specs.Terms.{ProgramTree}
-use Rattle.pool_semantics.specs.Action as A
-use Rattle.pool_semantics.specs.Action.{Object, Action, action, method_of}
-use Rattle.pool_semantics.specs.Configuration.{Configuration, object_of}
-use Rattle.pool_semantics.specs.Typed.{CanTake, GoesWrong}
+use Rattle.pool_relation.specs.Action as A
+use Rattle.pool_relation.specs.Action.{Object, Action, action, method_of}
+use Rattle.pool_relation.specs.Configuration.{Configuration, object_of}
+use Rattle.pool_relation.specs.Typed.{CanTake, GoesWrong}
 use Rattle.pool_semantics.specs.Sound.{Sound}
 use Rattle.pool_semantics.specs.Shown.{are_few, shown, shown_of, shown_if, shown_at}
 use Rattle.pool_semantics.proofs.TypedFacts.{nobody_goes_wrong, few_parameters}

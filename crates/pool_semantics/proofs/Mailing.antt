@@ -2,7 +2,7 @@
 use Rattle.std.proofs.Common.{◌≡◌, refl, ap, ℕ, zero, suc, ◌<◌, List, [], ◌∷◌, length, map, slice_index_or, Some, None, true, false, arith}
 use Rattle.std.specs.List.{remove}
 use Rattle.pool_syntax.specs.declared.tree.Named.{Named}
-use Rattle.pool_semantics.specs.Transition.{names_method, has_message, first_message, without_first}
+use Rattle.pool_relation.specs.Transition.{names_method, has_message, first_message, without_first}
 use Rattle.pool_semantics.specs.declared.plain.mail.Mail.{Mail}
 use Rattle.pool_semantics.specs.Mails.{message_of}
 

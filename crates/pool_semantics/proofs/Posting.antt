@@ -15,8 +15,7 @@ use Rattle.std.specs.List.Sorted.{IsStrictlySortedBy}
 use Rattle.std.specs.List.{AllByRecursion}
 use Rattle.std.proofs.lemmas.Map.{lookup-none}
 use Rattle.std.proofs.lemmas.Map.Entries.{none_below_head}
-use Rattle.pool_semantics.specs.Tables.{without, put_list}
-use Rattle.pool_semantics.specs.Tables.{Pair, pair_cmp, list_at}
+use Rattle.mesh_semantics.specs.Tables.{without, put_list, Pair, pair_cmp, list_at}
 
 pub pairs_lookup : {X Y : Type 0} (f : X → Y) (k : Pair) (es : List (Pair × X)) → find pair_cmp k (map (λ e. (e.0, f e.1)) es) ≡ option_map f (lookup (is_at (pair_cmp k)) es)
 pairs_lookup f k [] = refl

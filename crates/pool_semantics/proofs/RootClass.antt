@@ -5,10 +5,10 @@ use Rattle.std.specs.Ordering.{nat_cmp}
 use Rattle.std.specs.FinMap.{put}
 use Rattle.pool_syntax.specs.declared.tree.ClassDecl.{ClassDecl}
 use Rattle.pool_syntax.specs.TreeOf.{class_tree}
-use Rattle.pool_semantics.specs.Action.{Object}
-use Rattle.pool_semantics.specs.Configuration.{Message}
-use Rattle.pool_semantics.specs.Tables.{Pair}
-use Rattle.pool_semantics.specs.Transition.{last_class, start, new_object}
+use Rattle.pool_relation.specs.Action.{Object}
+use Rattle.mesh_semantics.specs.Message.{Message}
+use Rattle.mesh_semantics.specs.Tables.{Pair}
+use Rattle.pool_relation.specs.Transition.{last_class, start, new_object}
 
 last_is : (cs : List ClassDecl) (k : ClassDecl) → slice_get cs (length cs - 1) ≡ Some k → last_class (map class_tree cs) ≡ Some (class_tree k)
 last_is [] k h = absurd (grind arith)

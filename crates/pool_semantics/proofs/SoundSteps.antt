@@ -4,15 +4,14 @@ use Rattle.std.proofs.Math.Logic.{∥∥₁_elim, ∥∥₁_map}
 use Rattle.pool_syntax.specs.declared.words.Label.{Label}
 use Rattle.pool_syntax.specs.Terms.{ProgramTree}
 use Rattle.pool_syntax.specs.TreeOf.{program_of}
-use Rattle.pool_semantics.specs.Action.{Object, action}
-use Rattle.pool_semantics.specs.Configuration.{Configuration, object_of}
+use Rattle.pool_relation.specs.Action.{Object, action}
+use Rattle.pool_relation.specs.Configuration.{Configuration, object_of}
 use Rattle.pool_semantics.specs.declared.plain.state.State.{State}
-use Rattle.pool_semantics.specs.Transition.{transition}
+use Rattle.pool_relation.specs.Transition.{transition}
 use Rattle.pool_semantics.specs.Plains.{Stepped, configuration}
 use Rattle.pool_semantics.specs.Sound.{Sound}
-use Rattle.pool_semantics.specs.Typed.{GoesWrong}
-use Rattle.pool_semantics.specs.WellFormed.{WellTyped}
-use Rattle.pool_semantics.proofs.Merely.{well_typed}
+use Rattle.pool_relation.specs.Typed.{GoesWrong, Typed}
+use Rattle.pool_relation.proofs.Merely.{typed}
 use Rattle.pool_semantics.proofs.TypedFacts.{nobody_goes_wrong, sound_is_kept}
 
 pub sound_after : (b : Bool) (l : Label) (s t : State) → Stepped b (transition (program_of s.program.now) (configuration s) l) s t → Sound (program_of s.program.now) (configuration s) → Sound (program_of t.program.now) (configuration t)
@@ -22,8 +21,8 @@ sound_after true l s t z f =
 sound_after false l s t z f = rw z.1 f
 
 -- what a Plain that is not spent keeps
-pub typed_now : (b : Bool) (p : ProgramTree) (c : Configuration) → ∥ (b ≡ false → Sound p c) ∥₁ → b ≡ false → WellTyped p c
-typed_now b p c k h = well_typed p c (∥∥₁_map k (λ f. (f h).typed))
+pub typed_now : (b : Bool) (p : ProgramTree) (c : Configuration) → ∥ (b ≡ false → Sound p c) ∥₁ → b ≡ false → Typed p c
+typed_now b p c k h = typed p c (∥∥₁_map k (λ f. (f h).typed))
 
 pub right_now : (b : Bool) (p : ProgramTree) (c : Configuration) (o : ℕ) (x : Object) → ∥ (b ≡ false → Sound p c) ∥₁ → b ≡ false
     → object_of c o ≡ Some x → ¬ (GoesWrong p c o (action p o x))

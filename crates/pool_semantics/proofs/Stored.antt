@@ -11,8 +11,8 @@ use Rattle.std.specs.List.Sorted.{IsStrictlySortedBy}
 use Rattle.std.specs.Option.{option_map}
 use Rattle.std.proofs.lemmas.Map.{lookup-none}
 use Rattle.std.proofs.lemmas.Map.Entries.{none_below_head}
-use Rattle.pool_semantics.specs.declared.plain.thing.Thing.{Thing}
-use Rattle.pool_semantics.specs.Things.{thing_object, things}
+use Rattle.plain_object.specs.declared.thing.Thing.{Thing}
+use Rattle.plain_object.specs.Things.{thing_object, things}
 
 pub things_lookup : (k : ℕ) (es : List (ℕ × Thing)) → find nat_cmp k (things es) ≡ option_map thing_object (lookup (is_at (nat_cmp k)) es)
 things_lookup k [] = refl

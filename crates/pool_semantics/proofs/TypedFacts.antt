@@ -5,17 +5,17 @@ use Rattle.pool_syntax.specs.declared.words.Label.{Label}
 use Rattle.pool_syntax.specs.Terms.{ProgramTree, ClassTree, MethodTree}
 use Rattle.pool_syntax.specs.Classes.{class_of, named_method}
 use Rattle.pool_syntax.specs.Typing.{Scope, faults, classes_faults, class_scope, methods_faults, method_tree_faults, statements_faults, vars_faults, fault_if, contains, too_many}
-use Rattle.pool_semantics.specs.Action.{Object, action, method_of, method_in, with_count}
-use Rattle.pool_semantics.specs.Configuration.{Configuration, object_of}
-use Rattle.pool_semantics.specs.Transition.{transition, start}
-use Rattle.pool_semantics.specs.Typed.{GoesWrong}
-use Rattle.pool_semantics.specs.WellFormed.{is_written}
+use Rattle.pool_relation.specs.Action.{Object, action, method_of, method_in, with_count}
+use Rattle.pool_relation.specs.Configuration.{Configuration, object_of}
+use Rattle.pool_relation.specs.Transition.{transition, start}
+use Rattle.pool_relation.specs.Typed.{GoesWrong}
+use Rattle.pool_relation.specs.Written.{is_written}
 use Rattle.pool_semantics.specs.Sound.{Sound}
-use Rattle.pool_semantics.proofs.Faults.{none2}
-use Rattle.pool_semantics.proofs.GoingOn.{not_wrong}
-use Rattle.pool_semantics.proofs.Kept.{well_typed_kept}
-use Rattle.pool_semantics.proofs.Started.{start_well_typed}
-use Rattle.pool_semantics.proofs.Tests.{equal}
+use Rattle.pool_relation.proofs.Faults.{none2}
+use Rattle.pool_relation.proofs.GoingOn.{not_wrong}
+use Rattle.pool_relation.proofs.Kept.{well_typed_kept}
+use Rattle.pool_relation.proofs.Started.{start_well_typed}
+use Rattle.mesh_semantics.proofs.Laws.{equal}
 
 -- the start of a checked program
 pub start_is_sound : (p : ProgramTree) (n : ℕ) (c : Configuration) → faults p ≡ [] → IsTrue (is_written p) → start p n ≡ Some c → Sound p c

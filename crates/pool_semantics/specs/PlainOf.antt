@@ -3,10 +3,11 @@ use Rattle.std.specs.Prelude.{ℕ, Option, Some, None, Bool}
 use Rattle.pool_syntax.specs.declared.words.Label.TheVariants as L
 use Rattle.pool_syntax.specs.Terms.{ProgramTree}
 use Rattle.pool_syntax.specs.TreeOf.{program_of}
-use Rattle.pool_semantics.specs.Action.{Object}
-use Rattle.pool_semantics.specs.Configuration.{Configuration, object_of}
-use Rattle.pool_semantics.specs.Transition.{◌>>=◌, transition}
-use Rattle.pool_semantics.specs.UnderWay.{frames_of}
+use Rattle.pool_relation.specs.Action.{Object}
+use Rattle.pool_relation.specs.Configuration.{Configuration, object_of}
+use Rattle.mesh_semantics.specs.Partial.{◌>>=◌}
+use Rattle.pool_relation.specs.Transition.{transition}
+use Rattle.pool_relation.specs.UnderWay.{frames_of}
 use Rattle.pool_semantics.specs.Plains.{configuration}
 use Rattle.pool_semantics.specs.declared.plain.Plain.{Plain}
 

@@ -3,9 +3,9 @@ use Rattle.std.specs.Prelude.{◌≡◌, ℕ, ◌-◌, ◌==◌, List, length, O
 use Rattle.pool_syntax.specs.declared.words.Value.{Value}
 use Rattle.pool_syntax.specs.declared.words.Error.{Error}
 use Rattle.pool_syntax.specs.Terms.{ProgramTree}
-use Rattle.pool_semantics.specs.Action as A
-use Rattle.pool_semantics.specs.Action.{Object, Action, action}
-use Rattle.pool_semantics.specs.Configuration.{Configuration, object_of}
+use Rattle.pool_relation.specs.Action as A
+use Rattle.pool_relation.specs.Action.{Object, Action, action}
+use Rattle.pool_relation.specs.Configuration.{Configuration, object_of}
 use Rattle.pool_semantics.specs.declared.plain.redex.Redex.{Redex}
 use Rattle.pool_semantics.specs.declared.plain.redex.Redex.TheVariants as R
 

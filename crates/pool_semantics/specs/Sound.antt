@@ -2,11 +2,12 @@
 use Rattle.std.specs.Prelude.{◌≡◌, [], IsTrue}
 use Rattle.pool_syntax.specs.Terms.{ProgramTree}
 use Rattle.pool_syntax.specs.Typing.{faults}
-use Rattle.pool_semantics.specs.Configuration.{Configuration}
-use Rattle.pool_semantics.specs.WellFormed.{is_written, WellTyped}
+use Rattle.pool_relation.specs.Configuration.{Configuration}
+use Rattle.pool_relation.specs.Written.{is_written}
+use Rattle.pool_relation.specs.Typed.{Typed}
 
--- a well-typed configuration of a program without faults
+-- a typed configuration of a program without faults
 pub record Sound (p : ProgramTree) (c : Configuration) : Type 0 where
   pub faultless : faults p ≡ []
   pub written : IsTrue (is_written p)
-  pub typed : WellTyped p c
+  pub typed : Typed p c

@@ -1,7 +1,6 @@
-//! The transition relation of POOL over unplaced objects, its laws, and a plain stepper of its terms.
+//! A plain stepper of POOL's transition relation over unplaced objects.
 #![tactic(auto)]
 
-pub mod laws;
 mod plain;
 
 pub use plain::{Plain, Redex, Refuse};

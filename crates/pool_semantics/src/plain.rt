@@ -1,20 +1,10 @@
 //! The plain stepper: it makes the transitions of the relation, one label at a time.
-mod act;
-mod change;
-mod enter;
-mod frames;
-mod lookup;
+mod items;
 mod mail;
 mod objects;
-mod offers;
-mod operators;
-mod parts;
 mod redex;
-mod seek;
 mod state;
 mod steps;
-mod thing;
-mod work;
 
 ghost use Rattle.std.specs.Prelude.{◌≡◌, false};
 ghost use Rattle.pool_syntax.specs.TreeOf.{program_of};
@@ -22,12 +12,13 @@ ghost use Rattle.pool_semantics.specs.Plains.{configuration};
 ghost use Rattle.pool_semantics.specs.Sound.{Sound};
 ghost use Rattle.pool_semantics.specs.Asked.{asked_of};
 
-use crate::plain::act::Act;
 use crate::plain::objects::add;
 pub use crate::plain::redex::Redex;
 use crate::plain::state::State;
-use crate::plain::thing::Thing;
 use class_check::Checked;
+use plain_object::act::Act;
+use plain_object::frames::frames_after;
+use plain_object::thing::Thing;
 use pool_syntax::Label;
 use std::alloc::{AllocError, Global};
 use std::collections::BTreeMap;
@@ -69,12 +60,11 @@ fn asked(label: &Label) -> u32
 
 impl<'a> Plain<'a> {
     ghost use Rattle.std.specs.Prelude.{Some, None, Err, IfOk, OnOk, true};
-    ghost use Rattle.pool_semantics.specs.Action.{Object, action};
-    ghost use Rattle.pool_semantics.specs.Configuration.{object_of};
+    ghost use Rattle.pool_relation.specs.Action.{Object, action};
+    ghost use Rattle.pool_relation.specs.Configuration.{object_of};
     ghost use Rattle.pool_semantics.specs.PlainOf.{configuration_of, program_tree, is_spent, frames_next};
-    ghost use Rattle.pool_semantics.specs.Typed.{GoesWrong};
-    ghost use Rattle.pool_semantics.specs.WellFormed.{WellTyped};
-    ghost use Rattle.pool_semantics.specs.Transition.{transition, start};
+    ghost use Rattle.pool_relation.specs.Typed.{GoesWrong, Typed};
+    ghost use Rattle.pool_relation.specs.Transition.{transition, start};
     ghost use Rattle.pool_semantics.specs.Shown.{Shows};
 
     /// One object of the last class of the text, under this name.
@@ -122,7 +112,7 @@ impl<'a> Plain<'a> {
         match self.state.acting(object) {
             None => None,
             Some((thing, act)) => match act {
-                Act::Local(change) => Some(thing.work.frames_after(&change)),
+                Act::Local(change) => Some(frames_after(&thing.work, &change)),
                 _ => None,
             },
         }
@@ -137,7 +127,7 @@ impl<'a> Plain<'a> {
             × Shows (program_tree self.old) (configuration_of self.old) (asked_of label.now) r }
         ensures program { program_tree self.new ≡ program_tree self.old }
         ensures memory { result ≡ Err Refuse.Memory → is_spent self.new ≡ true }
-        ensures typed { is_spent self.new ≡ false → WellTyped (program_tree self.new) (configuration_of self.new) }
+        ensures typed { is_spent self.new ≡ false → Typed (program_tree self.new) (configuration_of self.new) }
         ensures going_on { (result ≡ Err Refuse.Memory → ⊥) → (is_spent self.old ≡ false) × (is_spent self.new ≡ false) }
     {
         if self.spent {

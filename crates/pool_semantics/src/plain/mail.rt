@@ -2,15 +2,15 @@
 ghost use Rattle.std.specs.Prelude.{◌≡◌, ◌<◌, [], ◌∷◌, ◌++◌, OnOk, Some, None, IfSome, IfNone, length, map, slice_index_or, true, false};
 ghost use Rattle.std.specs.List.{remove};
 ghost use Rattle.std.specs.FinMap.{put};
-ghost use Rattle.pool_semantics.specs.Tables.{pair_cmp, list_at, put_list};
+ghost use Rattle.mesh_semantics.specs.Tables.{pair_cmp, list_at, put_list};
 ghost use Rattle.std.specs.BTreeMap.{get};
 ghost use Rattle.std.specs.declared.collections.VecDeque.{VecDeque};
 ghost use Rattle.std.specs.Global.{Global};
-ghost use Rattle.pool_semantics.specs.Transition.{has_message, first_message, without_first};
+ghost use Rattle.pool_relation.specs.Transition.{has_message, first_message, without_first};
 ghost use Rattle.pool_semantics.specs.declared.plain.mail.Mail.{Mail};
 ghost use Rattle.pool_semantics.specs.Mails.{message_of, posts};
 
-use crate::plain::offers::names_method;
+use plain_object::offers::names_method;
 use pool_syntax::{Args, NameId, Named};
 use std::alloc::{AllocError, Global};
 use std::collections::{BTreeMap, VecDeque};

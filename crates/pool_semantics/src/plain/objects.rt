@@ -3,12 +3,13 @@ ghost use Rattle.std.specs.Prelude.{◌≡◌, ℕ, Some, None, OnOk, IfSome, If
 ghost use Rattle.std.specs.Ordering.{nat_cmp};
 ghost use Rattle.std.specs.FinMap.{find, put};
 ghost use Rattle.std.specs.BTreeMap.{get};
-ghost use Rattle.pool_semantics.specs.declared.plain.thing.Thing.{Thing};
-ghost use Rattle.pool_semantics.specs.Acts.{changed, now_args, Fits};
-ghost use Rattle.pool_semantics.specs.Things.{thing_object, things};
+ghost use Rattle.plain_object.specs.declared.thing.Thing.{Thing};
+ghost use Rattle.plain_object.specs.Acts.{changed, Fits};
+ghost use Rattle.term_stack.specs.Arguments.{now_args};
+ghost use Rattle.plain_object.specs.Things.{thing_object, things};
 
-use crate::plain::change::Change;
-use crate::plain::thing::Thing;
+use plain_object::change::Change;
+use plain_object::thing::Thing;
 use std::alloc::{AllocError, Global};
 use std::collections::BTreeMap;
 

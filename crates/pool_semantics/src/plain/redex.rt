@@ -1,11 +1,14 @@
 //! What an object does next, as callers see it.
 ghost use Rattle.std.specs.Prelude.{◌≡◌, IfSome, IfNone, true, false};
-ghost use Rattle.pool_semantics.specs.Reduced.{values};
-ghost use Rattle.pool_semantics.specs.Acts.{now_args};
-ghost use Rattle.pool_semantics.specs.Shown.{are_few};
+ghost use Rattle.term_stack.specs.Reduced.{values};
+ghost use Rattle.term_stack.specs.Arguments.{now_args, now_names, now_choices};
+ghost use Rattle.pool_relation.specs.Action.{Object};
+ghost use Rattle.plain_object.specs.Acts.{acted};
+ghost use Rattle.pool_semantics.specs.Shown.{are_few, shown};
 
-use crate::plain::parts::{Now, Operand, Ready, Task, Work};
+use plain_object::act::Act;
 use pool_syntax::{Args, Error, Item, NameId, Value};
+use term_stack::parts::{Now, Operand, Ready, Task, Work};
 
 /// What an object does next.
 #[derive(Clone, Copy, Debug, PartialEq, Eq)]
@@ -26,7 +29,7 @@ pub enum Redex {
 }
 
 /// The values of at most 8 operands.
-#[tactic(auto, using(crate::proofs::Lengths::length_values))]
+#[tactic(auto, using(term_stack::proofs::Lengths::length_values))]
 fn few(operands: &[Operand]) -> Option<Args>
     ensures some { IfSome result (λ a. a ≡ values operands.now) }
     ensures few { IfSome result (λ _. are_few (values operands.now) ≡ true) }
@@ -44,24 +47,48 @@ fn few(operands: &[Operand]) -> Option<Args>
     Some(args)
 }
 
-impl<'a> Work<'a> {
-    /// The arguments of the redex, if they are at most 8.
-    pub fn few_args(&self) -> Option<Args>
-        ensures some { IfSome result (λ a. a ≡ now_args self.now.next) }
-        ensures few { IfSome result (λ _. are_few (now_args self.now.next) ≡ true) }
-        ensures many { IfNone result (are_few (now_args self.now.next) ≡ false) }
-    {
-        match &self.next {
-            Now::Expression { redex, .. } => match redex {
-                Ready::Call { args, .. } => few(args.as_slice()),
-                Ready::Send { args, .. } => few(args.as_slice()),
-                _ => few(&[]),
-            },
-            Now::Statement { task, .. } => match task {
-                Task::Async { args, .. } => few(args.as_slice()),
-                _ => few(&[]),
-            },
+/// The arguments of the redex, if they are at most 8.
+fn few_args(work: &Work<'_>) -> Option<Args>
+    ensures some { IfSome result (λ a. a ≡ now_args work.now.next) }
+    ensures few { IfSome result (λ _. are_few (now_args work.now.next) ≡ true) }
+    ensures many { IfNone result (are_few (now_args work.now.next) ≡ false) }
+{
+    match &work.next {
+        Now::Expression { redex, .. } => match redex {
+            Ready::Call { args, .. } => few(args.as_slice()),
+            Ready::Send { args, .. } => few(args.as_slice()),
             _ => few(&[]),
-        }
+        },
+        Now::Statement { task, .. } => match task {
+            Task::Async { args, .. } => few(args.as_slice()),
+            _ => few(&[]),
+        },
+        _ => few(&[]),
+    }
+}
+
+/// What is shown of this act.
+pub fn show(work: &Work<'_>, act: &Act<'_>) -> Option<Redex>
+    ensures { (x : Object) → result ≡ shown (acted x (now_args work.now.next) (now_names work.now.next) (now_choices work.now.next) act.now) }
+{
+    match *act {
+        Act::Finished => Some(Redex::Finished),
+        Act::Local(_) => Some(Redex::Local),
+        Act::Fault(error) => Some(Redex::Fault { error }),
+        Act::New(class) => Some(Redex::New { class }),
+        Act::Send { to, method } => match few_args(work) {
+            None => None,
+            Some(args) => Some(Redex::Send { to, method, args }),
+        },
+        Act::Async { to, method } => match few_args(work) {
+            None => None,
+            Some(args) => Some(Redex::Async { to, method, args }),
+        },
+        Act::Write(item) => Some(Redex::Write { item }),
+        Act::Answer => Some(Redex::Answer),
+        Act::Select => Some(Redex::Select),
+        Act::Return { value, .. } => Some(Redex::Return { value }),
+        Act::Waits { on, .. } => Some(Redex::Waits { on }),
+        Act::Stuck => None,
     }
 }

@@ -1,19 +1,21 @@
 //! Objects and messages, and the transitions by their labels.
 ghost use Rattle.std.specs.Prelude.{◌≡◌, Some, None, IfOk, IfSome, IfNone, true, false};
 ghost use Rattle.pool_syntax.specs.TreeOf.{program_of};
-ghost use Rattle.pool_semantics.specs.declared.plain.thing.Thing.{Thing};
-ghost use Rattle.pool_semantics.specs.Transition.{transition, running, error_number};
+ghost use Rattle.plain_object.specs.declared.thing.Thing.{Thing};
+ghost use Rattle.pool_relation.specs.Transition.{transition, running};
+ghost use Rattle.mesh_semantics.specs.Same.{error_number};
 ghost use Rattle.pool_semantics.specs.Shown.{shown_at};
-ghost use Rattle.pool_semantics.specs.Plains.{Doing, Stepped, configuration, returns_act, waits_act};
+ghost use Rattle.pool_semantics.specs.Plains.{Doing, Stepped, configuration};
 
-use crate::plain::act::Act;
-use crate::plain::change::Change;
-use crate::plain::lookup::find_class;
+use crate::plain::items::{same_error, same_item};
 use crate::plain::mail::Mail;
 use crate::plain::objects::{add, update};
-use crate::plain::operators::{same, same_error, same_item};
-use crate::plain::redex::Redex;
-use crate::plain::thing::Thing;
+use crate::plain::redex::{Redex, show};
+use plain_object::act::Act;
+use plain_object::change::Change;
+use plain_object::lookup::find_class;
+use plain_object::offers::plain_alt;
+use plain_object::thing::Thing;
 use pool_syntax::{Error, Item, Label, NameId, Program, Value};
 use std::alloc::{AllocError, Global};
 use std::collections::{BTreeMap, VecDeque};
@@ -25,31 +27,6 @@ pub struct State<'a> {
     pub program: &'a Program,
     pub objects: BTreeMap<u32, Thing<'a>>,
     pub messages: BTreeMap<(u32, u32), VecDeque<Mail>>,
-}
-
-impl<'a> Act<'a> {
-    /// Whether it returns this value to the caller.
-    fn returns(&self, caller: u32, value: Value) -> bool
-        ensures { result ≡ returns_act self.now caller value }
-    {
-        match *self {
-            Act::Return {
-                caller: to,
-                value: returned,
-            } => to == caller && same(returned, value),
-            _ => false,
-        }
-    }
-
-    /// Whether it waits for the receiver.
-    fn waits_for(&self, receiver: u32) -> bool
-        ensures { result ≡ waits_act self.now receiver }
-    {
-        match *self {
-            Act::Waits { on, .. } => on == receiver,
-            _ => false,
-        }
-    }
 }
 
 impl<'a> State<'a> {
@@ -160,7 +137,7 @@ impl<'a> State<'a> {
         match self.acting(object) {
             None => Ok(false),
             Some((thing, act)) => match act {
-                Act::Select => match thing.work.plain_alt(alt) {
+                Act::Select => match plain_alt(&thing.work, alt) {
                     None => Ok(false),
                     Some(work) => {
                         update(self.alloc, &mut self.objects, object, &Change::Branch(work))?;
@@ -212,7 +189,7 @@ impl<'a> State<'a> {
         }
         match self.acting(object) {
             None => Some(Redex::Faulted),
-            Some((thing, act)) => thing.work.show(&act),
+            Some((thing, act)) => show(&thing.work, &act),
         }
     }
 }

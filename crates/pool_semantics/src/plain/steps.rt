@@ -1,43 +1,21 @@
 //! The transitions of two objects, and of messages.
 ghost use Rattle.std.specs.Prelude.{◌≡◌, Some, None, ◌==◌, ◌&&◌, IfOk};
 ghost use Rattle.pool_syntax.specs.TreeOf.{program_of};
-ghost use Rattle.pool_semantics.specs.Transition.{transition, has_message, are_same};
-ghost use Rattle.pool_semantics.specs.Configuration.{messages_of};
-ghost use Rattle.pool_semantics.specs.Reduced.{values};
-ghost use Rattle.pool_semantics.specs.Acts.{now_args};
-ghost use Rattle.pool_semantics.specs.Plains.{Stepped, configuration, calls_act, posts_act};
+ghost use Rattle.pool_relation.specs.Transition.{transition, has_message};
+ghost use Rattle.mesh_semantics.specs.Same.{are_same};
+ghost use Rattle.pool_relation.specs.Configuration.{messages_of};
+ghost use Rattle.pool_semantics.specs.Plains.{Stepped, configuration};
 
-use crate::plain::act::Act;
-use crate::plain::change::Change;
-use crate::plain::lookup::find_method;
 use crate::plain::mail::{Mail, first_named, post, unpost};
 use crate::plain::objects::update;
-use crate::plain::operators::same;
-use crate::plain::parts::{Now, Operand, Ready, Task, Work};
 use crate::plain::state::State;
+use plain_object::arguments::has_args;
+use plain_object::change::Change;
+use plain_object::lookup::find_method;
+use plain_object::offers::offer_to;
 use pool_syntax::{Args, Label, NameId, Named, Value};
 use std::alloc::AllocError;
-
-/// Whether these operands have these values.
-fn same_operands(operands: &[Operand], args: &[Value]) -> bool
-    ensures { result ≡ are_same (values operands.now) args.now }
-{
-    let mut operands = operands;
-    let mut args = args;
-    while let Some((operand, more)) = operands.split_first() {
-        match args.split_first() {
-            None => return false,
-            Some((arg, others)) => {
-                if !same(operand.value, *arg) {
-                    return false;
-                }
-                args = others;
-            }
-        }
-        operands = more;
-    }
-    args.is_empty()
-}
+use value_operators::operators::same;
 
 /// Whether these values are the same, one by one.
 fn same_values(values: &[Value], args: &[Value]) -> bool
@@ -67,50 +45,6 @@ fn is_mail(mail: &Mail, method: NameId, args: &[Value]) -> bool
     mail.method.0 == method.0 && same_values(mail.args.values(), args)
 }
 
-impl<'a> Work<'a> {
-    /// Whether the arguments of the redex are these.
-    pub fn has_args(&self, args: &[Value]) -> bool
-        ensures { result ≡ are_same (now_args self.now.next) args.now }
-    {
-        match &self.next {
-            Now::Expression { redex, .. } => match redex {
-                Ready::Call { args: operands, .. } => same_operands(operands.as_slice(), args),
-                Ready::Send { args: operands, .. } => same_operands(operands.as_slice(), args),
-                _ => same_operands(&[], args),
-            },
-            Now::Statement { task, .. } => match task {
-                Task::Async { args: operands, .. } => same_operands(operands.as_slice(), args),
-                _ => same_operands(&[], args),
-            },
-            _ => same_operands(&[], args),
-        }
-    }
-}
-
-impl<'a> Act<'a> {
-    /// Whether it calls this method of the receiver, where its arguments are the same.
-    fn calls(&self, receiver: u32, method: NameId, same_args: bool) -> bool
-        ensures { result ≡ calls_act self.now receiver method.0 same_args }
-    {
-        match *self {
-            Act::Send { to, method: called } => to == receiver && called.0 == method.0 && same_args,
-            _ => false,
-        }
-    }
-
-    /// Whether it sends the receiver a message on this method, where its arguments are the same.
-    fn posts(&self, receiver: u32, method: NameId, same_args: bool) -> bool
-        ensures { result ≡ posts_act self.now receiver method.0 same_args }
-    {
-        match *self {
-            Act::Async { to, method: called } => to == receiver
-                && called.0 == method.0
-                && same_args,
-            _ => false,
-        }
-    }
-}
-
 impl<'a> State<'a> {
     /// Whether a message from the sender to the receiver is on one of these methods.
     fn barred(&self, sender: u32, receiver: u32, names: &[Named]) -> bool
@@ -138,13 +72,13 @@ impl<'a> State<'a> {
         let Some((asking, sends)) = self.acting(caller) else {
             return Ok(false);
         };
-        if !sends.calls(receiver, method, asking.work.has_args(args.values())) {
+        if !sends.calls(receiver, method, has_args(&asking.work, args.values())) {
             return Ok(false);
         }
         let Some((serving, act)) = self.acting(receiver) else {
             return Ok(false);
         };
-        let Some(offer) = serving.work.offer(&act, method.0) else {
+        let Some(offer) = offer_to(&serving.work, &act, method.0) else {
             return Ok(false);
         };
         if self.barred(caller, receiver, offer.names) {
@@ -183,7 +117,7 @@ impl<'a> State<'a> {
         let Some((posting, act)) = self.acting(object) else {
             return Ok(false);
         };
-        if !act.posts(receiver, method, posting.work.has_args(args.values())) {
+        if !act.posts(receiver, method, has_args(&posting.work, args.values())) {
             return Ok(false);
         }
         if !self.objects.contains_key(&receiver) {
@@ -208,7 +142,7 @@ impl<'a> State<'a> {
         let Some((serving, act)) = self.acting(receiver) else {
             return Ok(false);
         };
-        let Some(offer) = serving.work.offer(&act, method.0) else {
+        let Some(offer) = offer_to(&serving.work, &act, method.0) else {
             return Ok(false);
         };
         let Some(queue) = self.messages.get(&(sender, receiver)) else {

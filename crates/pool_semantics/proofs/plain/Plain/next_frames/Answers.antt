@@ -1,9 +1,10 @@
 use Rattle.std.proofs.Common.{◌∙◌, ap, refl, sym, Some}
 use Rattle.pool_syntax.specs.TreeOf.{program_of}
-use Rattle.pool_semantics.specs.Acts.{changed, now_args}
-use Rattle.pool_semantics.specs.Things.{thing_object}
+use Rattle.plain_object.specs.Acts.{changed}
+use Rattle.term_stack.specs.Arguments.{now_args}
+use Rattle.plain_object.specs.Things.{thing_object}
 use Rattle.pool_semantics.specs.Plains.{configuration}
-use Rattle.pool_semantics.proofs.FrameCounts.{idle, none_next, some_next}
+use Rattle.pool_semantics.proofs.NextFrames.{idle, none_next, some_next}
 use Rattle.pool_semantics.proofs.Labels.{local_made, local_refused}
 use Rattle.pool_semantics.proofs.plain.Plain.next_frames.Goals as goal
 

@@ -3,7 +3,7 @@ use Rattle.pool_syntax.specs.TreeOf.{program_of}
 use Rattle.std.specs.Ordering.{nat_cmp}
 use Rattle.std.specs.BTreeMap.{get}
 use Rattle.std.specs.FinMap.{put}
-use Rattle.pool_semantics.specs.Looked.{class_seen}
+use Rattle.plain_object.specs.Looked.{class_seen}
 use Rattle.pool_syntax.specs.Classes.{class_of}
 use Rattle.pool_syntax.specs.TreeOf.{class_tree}
 use Rattle.pool_semantics.specs.Plains.{configuration}

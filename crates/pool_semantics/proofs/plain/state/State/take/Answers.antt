@@ -2,28 +2,30 @@ use Rattle.std.proofs.Common.{◌≡◌, ◌∙◌, ap, ap₂, refl, sym, [], ma
 use Rattle.std.specs.Option.{option_copied}
 use Rattle.std.specs.List.{remove}
 use Rattle.pool_syntax.specs.TreeOf.{program_of, method_tree, statements_of}
-use Rattle.pool_semantics.specs.Action.{method_of}
-use Rattle.pool_semantics.specs.Tables.{Pair, pair_cmp, put_list}
-use Rattle.pool_semantics.specs.Transition as X
-use Rattle.pool_semantics.specs.Transition.{are_same, first_message, without_first}
-use Rattle.pool_semantics.specs.Configuration.{Message, messages_of}
-use Rattle.pool_semantics.specs.Acts.{now_names, now_choices}
-use Rattle.pool_semantics.specs.Things.{thing_object}
-use Rattle.pool_semantics.specs.Looked.{method_seen}
+use Rattle.pool_relation.specs.Action.{method_of}
+use Rattle.mesh_semantics.specs.Tables.{Pair, pair_cmp, put_list}
+use Rattle.pool_relation.specs.Transition as X
+use Rattle.mesh_semantics.specs.Same.{are_same}
+use Rattle.pool_relation.specs.Transition.{first_message, without_first}
+use Rattle.mesh_semantics.specs.Message.{Message}
+use Rattle.pool_relation.specs.Configuration.{messages_of}
+use Rattle.term_stack.specs.Arguments.{now_names, now_choices}
+use Rattle.plain_object.specs.Things.{thing_object}
+use Rattle.plain_object.specs.Looked.{method_seen}
 use Rattle.pool_semantics.specs.Mails.{queued, message_of}
-use Rattle.pool_semantics.specs.Offers.{offered, offer_act}
+use Rattle.plain_object.specs.Offers.{offered, offer_act}
 use Rattle.pool_semantics.specs.Plains.{configuration}
 use Rattle.pool_semantics.proofs.Posting.{list_found, list_missing}
 use Rattle.pool_semantics.proofs.Labels.{take_is, taken_none, taken_no_first, taken_other, taken_unknown, taken_some}
 use Rattle.pool_semantics.proofs.plain.state.State.take.Goals as goal
 
-pub returns-in_default-offer-clause-step : goal.returns-in_default-offer-clause-step
-returns-in_default-offer-clause-step c =
+pub returns-in_default-offer_to-clause-step : goal.returns-in_default-offer_to-clause-step
+returns-in_default-offer_to-clause-step c =
     let s = c.args.self.now in
     let p = program_of s.program.now in
     let y = c.in-Some.serving.now in
     let k : Pair = (c.args.sender, c.args.receiver) in
-    let w : offer_act c.in-Some.act (now_names y.work.next) (now_choices y.work.next) c.args.method.0 ≡ None = sym c.offer.ensures ∙ ap offered c.in_default-offer.is in
+    let w : offer_act c.in-Some.act (now_names y.work.next) (now_choices y.work.next) c.args.method.0 ≡ None = sym c.offer_to.ensures ∙ ap offered c.in_default-offer_to.is in
     (take_is p s.objects (configuration s).messages c.args.receiver c.args.sender c.args.method c.args.args y c.in-Some.act c.in-Some.ensures.some ∙ taken_none p (configuration s) c.args.receiver c.args.sender c.args.method c.args.args (thing_object y) _ w, refl)
 
 pub returns-in_default-get-clause-step : goal.returns-in_default-get-clause-step
@@ -32,8 +34,8 @@ returns-in_default-get-clause-step c =
     let p = program_of s.program.now in
     let y = c.in-Some.serving.now in
     let k : Pair = (c.args.sender, c.args.receiver) in
-    let v : X.Offer = record { names = c.in-Some-offer.offer.names.now; work = statements_of c.in-Some-offer.offer.after.now } in
-    let w : offer_act c.in-Some.act (now_names y.work.next) (now_choices y.work.next) c.args.method.0 ≡ Some v = sym c.offer.ensures ∙ ap offered c.in-Some-offer.is in
+    let v : X.Offer = record { names = c.in-Some-offer_to.offer.names.now; work = statements_of c.in-Some-offer_to.offer.after.now } in
+    let w : offer_act c.in-Some.act (now_names y.work.next) (now_choices y.work.next) c.args.method.0 ≡ Some v = sym c.offer_to.ensures ∙ ap offered c.in-Some-offer_to.is in
     let l : messages_of (configuration s) c.args.sender c.args.receiver ≡ [] = list_missing queued k s.messages.entries (sym c.get.ensures.value ∙ ap option_copied c.in_default-get.is) in
     (take_is p s.objects (configuration s).messages c.args.receiver c.args.sender c.args.method c.args.args y c.in-Some.act c.in-Some.ensures.some ∙ taken_no_first p (configuration s) c.args.receiver c.args.sender c.args.method c.args.args (thing_object y) _ v w (ap (first_message v.names) l), refl)
 
@@ -43,8 +45,8 @@ returns-in_default-first_named-clause-step c =
     let p = program_of s.program.now in
     let y = c.in-Some.serving.now in
     let k : Pair = (c.args.sender, c.args.receiver) in
-    let v : X.Offer = record { names = c.in-Some-offer.offer.names.now; work = statements_of c.in-Some-offer.offer.after.now } in
-    let w : offer_act c.in-Some.act (now_names y.work.next) (now_choices y.work.next) c.args.method.0 ≡ Some v = sym c.offer.ensures ∙ ap offered c.in-Some-offer.is in
+    let v : X.Offer = record { names = c.in-Some-offer_to.offer.names.now; work = statements_of c.in-Some-offer_to.offer.after.now } in
+    let w : offer_act c.in-Some.act (now_names y.work.next) (now_choices y.work.next) c.args.method.0 ≡ Some v = sym c.offer_to.ensures ∙ ap offered c.in-Some-offer_to.is in
     let q = c.in-Some-get.queue.now in
     let l : messages_of (configuration s) c.args.sender c.args.receiver ≡ queued q = list_found queued k s.messages.entries q (sym c.get.ensures.value ∙ ap option_copied c.in-Some-get.is) in
     (take_is p s.objects (configuration s).messages c.args.receiver c.args.sender c.args.method c.args.args y c.in-Some.act c.in-Some.ensures.some ∙ taken_no_first p (configuration s) c.args.receiver c.args.sender c.args.method c.args.args (thing_object y) _ v w (ap (first_message v.names) l ∙ c.in_default-first_named.ensures.no_first), refl)
@@ -55,8 +57,8 @@ returns-then-not-is_mail-clause-step c =
     let p = program_of s.program.now in
     let y = c.in-Some.serving.now in
     let k : Pair = (c.args.sender, c.args.receiver) in
-    let v : X.Offer = record { names = c.in-Some-offer.offer.names.now; work = statements_of c.in-Some-offer.offer.after.now } in
-    let w : offer_act c.in-Some.act (now_names y.work.next) (now_choices y.work.next) c.args.method.0 ≡ Some v = sym c.offer.ensures ∙ ap offered c.in-Some-offer.is in
+    let v : X.Offer = record { names = c.in-Some-offer_to.offer.names.now; work = statements_of c.in-Some-offer_to.offer.after.now } in
+    let w : offer_act c.in-Some.act (now_names y.work.next) (now_choices y.work.next) c.args.method.0 ≡ Some v = sym c.offer_to.ensures ∙ ap offered c.in-Some-offer_to.is in
     let q = c.in-Some-get.queue.now in
     let l : messages_of (configuration s) c.args.sender c.args.receiver ≡ queued q = list_found queued k s.messages.entries q (sym c.get.ensures.value ∙ ap option_copied c.in-Some-get.is) in
     let f : Message = message_of c.index.result.now in
@@ -71,8 +73,8 @@ returns-in_default-find_method-clause-step c =
     let p = program_of s.program.now in
     let y = c.in-Some.serving.now in
     let k : Pair = (c.args.sender, c.args.receiver) in
-    let v : X.Offer = record { names = c.in-Some-offer.offer.names.now; work = statements_of c.in-Some-offer.offer.after.now } in
-    let w : offer_act c.in-Some.act (now_names y.work.next) (now_choices y.work.next) c.args.method.0 ≡ Some v = sym c.offer.ensures ∙ ap offered c.in-Some-offer.is in
+    let v : X.Offer = record { names = c.in-Some-offer_to.offer.names.now; work = statements_of c.in-Some-offer_to.offer.after.now } in
+    let w : offer_act c.in-Some.act (now_names y.work.next) (now_choices y.work.next) c.args.method.0 ≡ Some v = sym c.offer_to.ensures ∙ ap offered c.in-Some-offer_to.is in
     let q = c.in-Some-get.queue.now in
     let l : messages_of (configuration s) c.args.sender c.args.receiver ≡ queued q = list_found queued k s.messages.entries q (sym c.get.ensures.value ∙ ap option_copied c.in-Some-get.is) in
     let f : Message = message_of c.index.result.now in
@@ -88,8 +90,8 @@ returns-clause-step c =
     let p = program_of s.program.now in
     let y = c.in-Some.serving.now in
     let k : Pair = (c.args.sender, c.args.receiver) in
-    let v : X.Offer = record { names = c.in-Some-offer.offer.names.now; work = statements_of c.in-Some-offer.offer.after.now } in
-    let w : offer_act c.in-Some.act (now_names y.work.next) (now_choices y.work.next) c.args.method.0 ≡ Some v = sym c.offer.ensures ∙ ap offered c.in-Some-offer.is in
+    let v : X.Offer = record { names = c.in-Some-offer_to.offer.names.now; work = statements_of c.in-Some-offer_to.offer.after.now } in
+    let w : offer_act c.in-Some.act (now_names y.work.next) (now_choices y.work.next) c.args.method.0 ≡ Some v = sym c.offer_to.ensures ∙ ap offered c.in-Some-offer_to.is in
     let q = c.in-Some-get.queue.now in
     let l : messages_of (configuration s) c.args.sender c.args.receiver ≡ queued q = list_found queued k s.messages.entries q (sym c.get.ensures.value ∙ ap option_copied c.in-Some-get.is) in
     let f : Message = message_of c.index.result.now in

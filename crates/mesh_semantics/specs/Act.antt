@@ -1,0 +1,250 @@
+-- The counts of a node, which objects are ready, whose turn it is, what one event does to a configuration and its delay, and when all is quiet.
+-- One event is one turn of a node, or one move of the head of a link; nothing else happens at once.
+-- Throughout, g is a language, l a placement, q the most local transitions of a turn, c a configuration with its delay d, n a node, and o the name of the object whose turn it is.
+use Rattle.std.specs.Prelude.{ℕ, zero, suc, ◌+◌, ◌*◌, ◌%◌, ◌==◌, List, [], ◌∷◌, filter, Option, Some, None, is_some, is_none, Bool, true, false, not, ◌&&◌, ◌||◌, if◌then◌else◌, nat_le, nat_lt, slice_get}
+use Rattle.std.specs.List.{list_any}
+use Rattle.std.specs.Ordering.{nat_cmp}
+use Rattle.std.specs.FinMap.{find}
+use Rattle.pool_syntax.specs.declared.words.Value.{Value}
+use Rattle.pool_syntax.specs.declared.words.Value.TheVariants as V
+use Rattle.pool_syntax.specs.declared.words.NameId.{NameId}
+use Rattle.pool_syntax.specs.declared.words.Label.{Label}
+use Rattle.pool_syntax.specs.declared.words.Label.TheVariants as L
+use Rattle.pool_syntax.specs.declared.words.What.{What}
+use Rattle.pool_syntax.specs.declared.words.What.TheVariants as W
+use Rattle.pool_syntax.specs.declared.words.Event.{Event}
+use Rattle.pool_syntax.specs.declared.words.Event.TheVariants as Ev
+use Rattle.pool_syntax.specs.declared.words.FullKind.{FullKind}
+use Rattle.pool_syntax.specs.declared.words.FullKind.TheVariants as F
+use Rattle.pool_syntax.specs.declared.words.Place.{Place}
+use Rattle.pool_syntax.specs.declared.words.Place.TheVariants as Pl
+use Rattle.pool_syntax.specs.declared.words.Placement.{Placement}
+use Rattle.mesh_semantics.specs.Partial.{◌>>=◌}
+use Rattle.mesh_semantics.specs.Kind as K
+use Rattle.mesh_semantics.specs.Kind.{Kind, Alternative, has_name, answered}
+use Rattle.mesh_semantics.specs.Language.{Language}
+use Rattle.mesh_semantics.specs.Config.{Config}
+use Rattle.mesh_semantics.specs.Moves.{move}
+use Rattle.mesh_semantics.specs.Paths.{total, on_link, move_head}
+use Rattle.mesh_semantics.specs.Delay as D
+use Rattle.mesh_semantics.specs.Delay.{Packet, Arrival, Delay, node_of, slot_of, post, arrived_at, arrive, take_arrival, held, hold, free, made_by, count_made, stepped_last, cell_count}
+
+-- a number as a name
+abbrev pub id : ℕ → NameId
+id n = record { 0 = n }
+
+-- the number of a node's objects
+abbrev pub object_count : {S : Type 0} → Config S → ℕ → ℕ
+object_count c n = total (λ e. if node_of e.0 == n then 1 else 0) c.objects
+
+-- the frames in use at a node: one for each object, and one for each method under way in it
+abbrev pub frame_count : {S : Type 0} → Language S → Config S → ℕ → ℕ
+frame_count g c n = total (λ e. if node_of e.0 == n then 1 + g.frames e.1 else 0) c.objects
+
+-- the first arrived message on these methods
+abbrev pub first_arrival : List ℕ → List Arrival → Option Arrival
+first_arrival names [] = None
+first_arrival names (a ∷ rest) = if has_name names a.method then Some a else first_arrival names rest
+
+-- an open alternative that is plain, or for which a message has arrived
+abbrev pub is_possible : List Arrival → Alternative → Bool
+is_possible box a = a.is_open && (is_none a.names || is_some (first_arrival (answered a.names) box))
+
+-- whether the step can be made with what has arrived
+abbrev pub can_step : List Arrival → Kind → Bool
+can_step box K.Finished = false
+can_step box (K.Waits b m) = false
+can_step box K.Stuck = false
+can_step box (K.Select alts) = list_any (is_possible box) alts
+can_step box _ = true
+
+-- whether the object can step
+abbrev pub is_ready : {S : Type 0} → Language S → Delay → ℕ → S → Bool
+is_ready g d o x = is_none (held d o) && is_none (g.fault x) && can_step (arrived_at d o) (g.kind o x)
+
+-- the ready objects of a node, by rising slot
+abbrev pub ready_at : {S : Type 0} → Language S → Config S → Delay → ℕ → List (ℕ × S)
+ready_at g c d n = filter (λ e. node_of e.0 == n && is_ready g d e.0 e.1) c.objects
+
+-- the first, if there is one
+abbrev pub first_of : {X : Type 0} → List X → Option X
+first_of [] = None
+first_of (x ∷ xs) = Some x
+
+-- the one, or else the other
+abbrev pub or_else : {X : Type 0} → Option X → Option X → Option X
+or_else None y = y
+or_else (Some x) y = Some x
+
+-- whether a name is above the last slot
+abbrev pub is_above : Option ℕ → ℕ → Bool
+is_above None o = true
+is_above (Some last) o = nat_lt last (slot_of o)
+
+-- the object whose turn it is at the node: the ready one of least slot above the last, else of least slot
+abbrev pub turn_of : {S : Type 0} → Language S → Config S → Delay → ℕ → Option (ℕ × S)
+turn_of g c d n = or_else (first_of (filter (λ e. is_above (find nat_cmp n d.last) e.0) (ready_at g c d n))) (first_of (ready_at g c d n))
+
+-- what an event does: its line with what is after it, or the limit that it would pass, or nothing that it could do
+pub data Acted (S : Type 0) : Type 0 where
+  Acts : (what : What) (c : Config S) (d : Delay) → Acted S
+  Full : (kind : FullKind) (node : ℕ) → Acted S
+  Nothing : Acted S
+
+-- the step, unless a count of the node is then past its limit
+abbrev pub within : {S : Type 0} → Language S → Placement → ℕ → Acted S → Acted S
+within g l n (Acts w c d) =
+    if nat_lt l.objects (object_count c n) then Full F.Heap n
+    else (if nat_lt l.frames (frame_count g c n) then Full F.Frames n
+    else (if nat_lt l.cells (cell_count d n) then Full F.Cells n else Acts w c d))
+within g l n (Full k m) = Full k m
+within g l n Nothing = Nothing
+
+-- a step that makes a transition
+abbrev pub shows : {S : Type 0} → Label → ℕ → Delay → Option (Config S) → Acted S
+shows label times d None = Nothing
+shows label times d (Some c) = Acts (W.Step label times) c d
+
+-- a step that makes the transition of a label
+abbrev pub labelled : {S : Type 0} → Language S → Config S → Label → Delay → Acted S
+labelled g c label d = shows label 1 d (move g c label)
+
+-- the configuration, where the node's frames are within the limit
+abbrev pub within_frames : {S : Type 0} → Language S → Placement → ℕ → Config S → Option (Config S)
+within_frames g l n c = if nat_le (frame_count g c n) l.frames then Some c else None
+
+-- the configuration after so many local transitions of o that follow one another, none past the limit of frames
+abbrev pub local_steps : {S : Type 0} → Language S → Placement → ℕ → ℕ → ℕ → Config S → Option (Config S)
+local_steps g l n o zero c = Some c
+local_steps g l n o (suc k) c = local_steps g l n o k c >>= λ e. move g e (L.Local o) >>= within_frames g l n
+
+-- the greatest number from 1 up to n for which the test holds, or 0
+abbrev pub greatest : (ℕ → Bool) → ℕ → ℕ
+greatest test zero = 0
+greatest test (suc n) = if test (suc n) then suc n else greatest test n
+
+-- how many local transitions a turn makes
+abbrev pub step_count : {S : Type 0} → Language S → Placement → ℕ → ℕ → ℕ → Config S → ℕ
+step_count g l q n o c = greatest (λ k. is_some (local_steps g l n o k c)) q
+
+-- a turn of so many local transitions; with none made the frames are full
+abbrev pub local_turn : {S : Type 0} → ℕ → ℕ → Delay → ℕ → Option (Config S) → Acted S
+local_turn n o d zero c = Full F.Frames n
+local_turn n o d (suc k) c = shows (L.Local o) (suc k) d c
+
+-- the place of a class among these, or their number
+abbrev pub class_place : List ℕ → ℕ → ℕ
+class_place [] c = 0
+class_place (k ∷ ks) c = if k == c then 0 else suc (class_place ks c)
+
+-- the node where an object of node n makes one of this class
+abbrev pub goal_by : Placement → Delay → ℕ → ℕ → Option Place → ℕ
+goal_by l d n c None = n
+goal_by l d n c (Some (Pl.At k)) = k
+goal_by l d n c (Some Pl.Same) = n
+goal_by l d n c (Some Pl.Spread) = (n + made_by d n c) % (l.width * l.height)
+
+abbrev pub goal_of : {S : Type 0} → Language S → Placement → Delay → ℕ → ℕ → ℕ
+goal_of g l d n c = goal_by l d n c (slice_get l.places (class_place g.classes c))
+
+-- the next name of a node
+abbrev pub next_name : {S : Type 0} → Config S → ℕ → ℕ
+next_name c n = n * 65536 + object_count c n
+
+-- a turn that makes an object, here or by a packet
+abbrev pub create_turn : {S : Type 0} → Language S → Placement → Config S → Delay → ℕ → ℕ → ℕ → ℕ → Acted S
+create_turn g l c d n o class goal =
+    if goal == n then labelled g c (L.New o (next_name c n) (id class)) (count_made n class d)
+    else Acts (W.PostCreate o (id class) goal) c (hold o D.Posted (post l n goal (D.Create o goal class) (count_made n class d)))
+
+-- a message goes to its receiver, here or by a packet
+abbrev pub sent : Placement → ℕ → ℕ → ℕ → Bool → ℕ → List Value → Packet → Delay → Delay
+sent l n o b is_call m args packet d =
+    if node_of b == n then arrive b (record { sender = o; is_call = is_call; method = m; args = args }) d
+    else post l n (node_of b) packet d
+
+-- a turn that posts a call
+abbrev pub call_turn : {S : Type 0} → Placement → Config S → Delay → ℕ → ℕ → ℕ → ℕ → List Value → Acted S
+call_turn l c d n o b m args = Acts (W.PostCall o b (id m) args) c (hold o D.Posted (sent l n o b true m args (D.Request o b m args) d))
+
+-- a turn that sends a message
+abbrev pub send_turn : {S : Type 0} → Language S → Placement → Config S → Delay → ℕ → ℕ → ℕ → ℕ → List Value → Acted S
+send_turn g l c d n o b m args = labelled g c (L.Send o b (id m) args) (sent l n o b false m args (D.Async o b m args) d)
+
+-- a turn that gives a value back, here or by a packet
+abbrev pub return_turn : {S : Type 0} → Language S → Placement → Config S → Delay → ℕ → ℕ → ℕ → Value → Acted S
+return_turn g l c d n o k v =
+    labelled g c (L.Return o k v) (if node_of k == n then free k d else hold k (D.Due v) (post l n (node_of k) (D.Result k v) d))
+
+-- the object o takes the first arrived message on these methods
+abbrev pub accept_turn : {S : Type 0} → Language S → Config S → Delay → ℕ → List ℕ → Option Arrival → Acted S
+accept_turn g c d o names None = Nothing
+accept_turn g c d o names (Some a) =
+    if a.is_call then labelled g c (L.Answer o a.sender (id a.method) a.args) (free a.sender (take_arrival o names d))
+    else labelled g c (L.Take o a.sender (id a.method) a.args) (take_arrival o names d)
+
+-- an alternative that is possible: it is picked, or the first arrived message on its methods is taken
+abbrev pub chosen_turn : {S : Type 0} → Language S → Config S → Delay → ℕ → ℕ → Option (List ℕ) → Acted S
+chosen_turn g c d o i None = labelled g c (L.Pick o i) d
+chosen_turn g c d o i (Some names) = accept_turn g c d o names (first_arrival names (arrived_at d o))
+
+-- the first possible alternative, where the first of the list has the number i
+abbrev pub choice_turn : {S : Type 0} → Language S → Config S → Delay → ℕ → ℕ → List Alternative → Acted S
+choice_turn g c d o i [] = Nothing
+choice_turn g c d o i (a ∷ alts) =
+    if is_possible (arrived_at d o) a then chosen_turn g c d o i a.names else choice_turn g c d o (i + 1) alts
+
+-- a turn of the object o of node n, by what it does next
+abbrev pub object_turn : {S : Type 0} → Language S → Placement → ℕ → Config S → Delay → ℕ → ℕ → Kind → Acted S
+object_turn g l q c d n o K.Local = local_turn n o d (step_count g l q n o c) (local_steps g l n o (step_count g l q n o c) c)
+object_turn g l q c d n o (K.New class) = create_turn g l c d n o class (goal_of g l d n class)
+object_turn g l q c d n o (K.Send b m args) = call_turn l c d n o b m args
+object_turn g l q c d n o (K.Async b m args) = send_turn g l c d n o b m args
+object_turn g l q c d n o (K.Select alts) = choice_turn g c d o 1 alts
+object_turn g l q c d n o (K.Return k v) = return_turn g l c d n o k v
+object_turn g l q c d n o (K.Write item) = labelled g c (L.Write o item) d
+object_turn g l q c d n o (K.Fault e) = labelled g c (L.Fault o e) d
+object_turn g l q c d n o _ = Nothing
+
+-- a turn of a node, in which this object steps
+abbrev pub node_turn : {S : Type 0} → Language S → Placement → ℕ → Config S → Delay → ℕ → Option (ℕ × S) → Acted S
+node_turn g l q c d n None = Acts W.Idle c d
+node_turn g l q c d n (Some e) = within g l n (object_turn g l q c (stepped_last n e.0 d) n e.0 (g.kind e.0 e.1))
+
+-- a packet at its goal, the node b, after it has left its link
+abbrev pub received : {S : Type 0} → Language S → Placement → Config S → Delay → ℕ → Packet → Acted S
+received g l c d b (D.Create o goal class) =
+    labelled g c (L.New o (next_name c b) (id class))
+    (hold o (D.Due (V.Ref (next_name c b))) (post l b (node_of o) (D.Created o (next_name c b)) d))
+received g l c d b (D.Created o name) = Acts (W.Created o name) c (free o d)
+received g l c d b (D.Request o r m args) =
+    Acts (W.Arrive o r (id m)) c (arrive r (record { sender = o; is_call = true; method = m; args = args }) d)
+received g l c d b (D.Result o v) = Acts (W.Result o v) c (free o d)
+received g l c d b (D.Async o r m args) =
+    Acts (W.Arrive o r (id m)) c (arrive r (record { sender = o; is_call = false; method = m; args = args }) d)
+
+-- the node to which a packet goes
+abbrev pub goal_node : Packet → ℕ
+goal_node (D.Create o goal class) = goal
+goal_node (D.Created o name) = node_of o
+goal_node (D.Request o r m args) = node_of r
+goal_node (D.Result o v) = node_of o
+goal_node (D.Async o r m args) = node_of r
+
+-- a packet that has left its link, at the node b
+abbrev pub passed : {S : Type 0} → Language S → Placement → Config S → Delay → ℕ → Packet → Acted S
+passed g l c d b x = if goal_node x == b then received g l c d b x else Acts W.Pass c (post l b (goal_node x) x d)
+
+-- a move of a link's head
+abbrev pub link_move : {S : Type 0} → Language S → Placement → Config S → Delay → ℕ → ℕ → Option Packet → Acted S
+link_move g l c d a b None = Acts W.Idle c d
+link_move g l c d a b (Some x) = within g l b (passed g l c (record d { links = move_head (a, b) d.links }) b x)
+
+-- what an event does, with at most q local transitions in a turn
+abbrev pub act : {S : Type 0} → Language S → Placement → ℕ → Config S → Delay → Event → Acted S
+act g l q c d (Ev.Turn n) = node_turn g l q c d n (turn_of g c d n)
+act g l q c d (Ev.Link a b) = link_move g l c d a b (first_of (on_link d.links (a, b)))
+
+-- every link is empty and no object is ready
+abbrev pub is_quiet : {S : Type 0} → Language S → Config S → Delay → Bool
+is_quiet g c d = not (list_any (λ e. true) d.links) && not (list_any (λ e. is_ready g d e.0 e.1) c.objects)

@@ -1,0 +1,106 @@
+-- The delay: what a machine of nodes adds to a configuration. It has the packets on links, the arrived messages, and what each object waits for,
+-- and no request numbers. The node of a name is the name div 65536, its slot the name mod 65536.
+use Rattle.std.specs.Prelude.{ℕ, ◌+◌, ◌/◌, ◌%◌, ◌==◌, List, [], ◌∷◌, ◌++◌, Option, Bool, ◌&&◌, if◌then◌else◌}
+use Rattle.std.specs.Option.{unwrap_or}
+use Rattle.std.specs.Ordering.{nat_cmp}
+use Rattle.std.specs.FinMap.{find, put}
+use Rattle.pool_syntax.specs.declared.words.Value.{Value}
+use Rattle.pool_syntax.specs.declared.words.Placement.{Placement}
+use Rattle.mesh_semantics.specs.Tables.{Pair, pair_cmp, without}
+use Rattle.mesh_semantics.specs.Kind.{has_name}
+use Rattle.mesh_semantics.specs.Paths.{next, total, under, without_first, put_last}
+
+-- what travels on links
+pub data Packet : Type 0 where
+  Create : (creator goal class : ℕ) → Packet
+  Created : (creator name : ℕ) → Packet
+  Request : (caller receiver method : ℕ) (args : List Value) → Packet
+  Result : (caller : ℕ) (value : Value) → Packet
+  Async : (sender receiver method : ℕ) (args : List Value) → Packet
+
+-- a message that has reached its receiver's node
+pub record Arrival : Type 0 where
+  pub sender : ℕ
+  pub is_call : Bool
+  pub method : ℕ
+  pub args : List Value
+
+-- what an object that is not free waits for
+pub data Holding : Type 0 where
+  -- its Create or its call is on the way, or its call has arrived
+  Posted : Holding
+  -- its value is on the way
+  Due : (value : Value) → Holding
+
+-- what the machine adds to a configuration
+pub record Delay : Type 0 where
+  -- each packet with its link; of those on one link the head is the first
+  pub links : List (Pair × Packet)
+  -- each arrived message with its receiver, in the order of arrival
+  pub arrived : List (ℕ × Arrival)
+  -- of the objects that are not free
+  pub holding : List (ℕ × Holding)
+  -- by the node, the slot that stepped last
+  pub last : List (ℕ × ℕ)
+  -- by the node and the class, how many objects the node's own have made
+  pub made : List (Pair × ℕ)
+
+-- the delay at the start
+abbrev pub no_delay : Delay
+no_delay = record { links = []; arrived = []; holding = []; last = []; made = [] }
+
+-- the node of a name
+abbrev pub node_of : ℕ → ℕ
+node_of name = name / 65536
+
+-- the slot of a name
+abbrev pub slot_of : ℕ → ℕ
+slot_of name = name % 65536
+
+-- puts a packet last on the first link to its goal
+abbrev pub post : Placement → ℕ → ℕ → Packet → Delay → Delay
+post l from goal x d = record d { links = put_last (from, next l from goal) x d.links }
+
+-- the messages that have arrived at an object, the earliest first
+abbrev pub arrived_at : Delay → ℕ → List Arrival
+arrived_at d o = under (λ r. r == o) d.arrived
+
+-- puts a message last at its receiver
+abbrev pub arrive : ℕ → Arrival → Delay → Delay
+arrive o x d = record d { arrived = d.arrived ++ (o, x) ∷ [] }
+
+-- an arrived message of this object, on one of these methods
+abbrev pub is_for : ℕ → List ℕ → ℕ × Arrival → Bool
+is_for o names e = e.0 == o && has_name names e.1.method
+
+-- takes the first arrived message on these methods
+abbrev pub take_arrival : ℕ → List ℕ → Delay → Delay
+take_arrival o names d = record d { arrived = without_first (is_for o names) d.arrived }
+
+-- what an object waits for, if it is not free
+abbrev pub held : Delay → ℕ → Option Holding
+held d o = find nat_cmp o d.holding
+
+-- gives an object this state
+abbrev pub hold : ℕ → Holding → Delay → Delay
+hold o s d = record d { holding = put nat_cmp o s d.holding }
+
+-- makes an object free
+abbrev pub free : ℕ → Delay → Delay
+free o d = record d { holding = without nat_cmp o d.holding }
+
+-- how many objects of the class the node's objects have made
+abbrev pub made_by : Delay → ℕ → ℕ → ℕ
+made_by d n c = unwrap_or (find pair_cmp (n, c) d.made) 0
+
+-- counts one more
+abbrev pub count_made : ℕ → ℕ → Delay → Delay
+count_made n c d = record d { made = put pair_cmp (n, c) (made_by d n c + 1) d.made }
+
+-- the object has stepped last at its node
+abbrev pub stepped_last : ℕ → ℕ → Delay → Delay
+stepped_last n o d = record d { last = put nat_cmp n (slot_of o) d.last }
+
+-- the cells in use at a node: the messages arrived at its objects, and the packets on links that leave it
+abbrev pub cell_count : Delay → ℕ → ℕ
+cell_count d n = total (λ e. if node_of e.0 == n then 1 else 0) d.arrived + total (λ e. if e.0.0 == n then 1 else 0) d.links

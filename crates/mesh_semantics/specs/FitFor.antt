@@ -1,0 +1,15 @@
+-- What is asked of a placement for a program, in whatever language its objects are written.
+use Rattle.std.specs.Prelude.{◌≡◌, ℕ, ◌*◌, ◌<◌, ◌≤◌, length, Some, slice_get}
+use Rattle.pool_syntax.specs.declared.words.Place.TheVariants as Pl
+use Rattle.pool_syntax.specs.declared.words.Placement.{Placement}
+use Rattle.mesh_semantics.specs.Language.{Language}
+
+pub record FitFor {S : Type 0} (g : Language S) (l : Placement) : Type 0 where
+  -- the mesh has a node
+  pub nodes : 0 < l.width * l.height
+  -- a node has room for an object, and a slot of any of its objects has 16 bits
+  pub objects : (1 ≤ l.objects) × (l.objects < 65536)
+  pub frames : 1 ≤ l.frames
+  -- one place for each class, and where it is a node it is one of the mesh
+  pub count : length l.places ≡ length g.classes
+  pub places : (i k : ℕ) → slice_get l.places i ≡ Some (Pl.At k) → k < l.width * l.height

@@ -1,0 +1,81 @@
+-- Where each object stands, and the cycles of objects that each call the next.
+use Rattle.std.specs.Prelude.{◌≡◌, ◌⊎◌, ℕ, zero, suc, ◌<◌, ◌==◌, List, [], ◌∷◌, length, Option, Some, None, if◌then◌else◌, nat_lt, filter_map}
+use Rattle.pool_syntax.specs.declared.words.Error.{Error}
+use Rattle.mesh_semantics.specs.Tables.{Pair}
+use Rattle.mesh_semantics.specs.Partial.{◌>>=◌}
+use Rattle.mesh_semantics.specs.Kind as K
+use Rattle.mesh_semantics.specs.Kind.{Kind}
+use Rattle.mesh_semantics.specs.Language.{Language}
+use Rattle.mesh_semantics.specs.Config.{Config, object_of}
+use Rattle.mesh_semantics.specs.Delay as D
+use Rattle.mesh_semantics.specs.Delay.{Packet, Holding, Delay, held, arrived_at}
+use Rattle.mesh_semantics.specs.Act.{can_step}
+use Rattle.mesh_semantics.specs.Ways.{Once}
+
+pub data Standing : Type 0 where
+  Ready : Standing
+  Finished : Standing
+  Faulted : (error : Error) → Standing
+  Calls : (receiver method : ℕ) → Standing
+  Creates : (class node : ℕ) → Standing
+  Due : Standing
+  Awaits : Standing
+
+-- the goal of an object's Create
+abbrev pub goal_in : ℕ → Packet → Option ℕ
+goal_in o (D.Create c goal class) = if c == o then Some goal else None
+goal_in o _ = None
+
+abbrev pub created_at : ℕ → List (Pair × Packet) → ℕ
+created_at o [] = 0
+created_at o (e ∷ es) = elim (goal_in o e.1) as (λ z. ℕ) [ None ↦ created_at o es | Some goal ↦ goal ]
+
+abbrev pub standing_by : Delay → ℕ → Option Holding → Kind → Standing
+standing_by d o (Some (D.Due v)) k = Due
+standing_by d o (Some D.Posted) (K.Send b m args) = Calls b m
+standing_by d o t (K.Waits b m) = Calls b m
+standing_by d o (Some D.Posted) (K.New class) = Creates class (created_at o d.links)
+standing_by d o t K.Finished = Finished
+standing_by d o None k = if can_step (arrived_at d o) k then Ready else Awaits
+standing_by d o (Some D.Posted) k = Awaits
+
+abbrev pub standing_of : Delay → ℕ → Option Error → Option Holding → Kind → Standing
+standing_of d o (Some e) t k = Faulted e
+standing_of d o None t k = standing_by d o t k
+
+-- the first that applies: faulted, due, calls, creates, finished, ready, awaits
+abbrev pub standing : {S : Type 0} → Language S → Delay → ℕ → S → Standing
+standing g d o x = standing_of d o (g.fault x) (held d o) (g.kind o x)
+
+-- the object that it calls
+abbrev pub called_in : Standing → Option ℕ
+called_in (Calls b m) = Some b
+called_in _ = None
+
+abbrev pub called_by : {S : Type 0} → Language S → Config S → Delay → ℕ → Option ℕ
+called_by g c d o = object_of c o >>= λ x. called_in (standing g d o x)
+
+-- names from o on, each above the first, that each call the next, where the last calls the first
+abbrev pub Closes : (ℕ → Option ℕ) → ℕ → List ℕ → Type 0
+Closes calls first [] = ⊥
+Closes calls first (o ∷ []) = calls o ≡ Some first
+Closes calls first (o ∷ b ∷ ns) = (calls o ≡ Some b) × (first < b) × Closes calls first (b ∷ ns)
+
+-- a cycle of calls: distinct names, the least first, that each call the next, where the last calls the first
+abbrev pub IsCycle : (ℕ → Option ℕ) → List ℕ → Type 0
+IsCycle calls [] = ⊥
+IsCycle calls (o ∷ ns) = Once (o ∷ ns) × Closes calls o (o ∷ ns)
+
+-- such names that close, at most so many of them, if there are
+abbrev pub chase : (ℕ → Option ℕ) → ℕ → ℕ → ℕ → Option (List ℕ)
+chase calls zero first o = None
+chase calls (suc n) first o = calls o >>= λ b. if b == first then Some (o ∷ []) else (if nat_lt first b then (chase calls n first b >>= λ ns. Some (o ∷ ns)) else None)
+
+-- the cycles, each from its least name on, in rising order of that name
+abbrev pub cycles : {S : Type 0} → Language S → Config S → Delay → List (List ℕ)
+cycles g c d = filter_map (λ e. chase (called_by g c d) (length c.objects) e.0 e.0) c.objects
+
+-- a list of names is in the list
+abbrev pub Contained : List ℕ → List (List ℕ) → Type 0
+Contained ns [] = ⊥
+Contained ns (ms ∷ rest) = (ms ≡ ns) ⊎ Contained ns rest

@@ -1,0 +1,4 @@
+//! Placed machines of POOL, defined over any language of objects.
+#![tactic(auto)]
+
+pub mod theorems;

@@ -1,0 +1,118 @@
+//! Laws of placed machines, over the definitions alone: each is the contract of a function that does nothing. They hold of any language of objects, whose states
+//! are the type parameters `S` and `T`. What is kept of a configuration is a property, and how objects of two languages correspond a relation: a contract ranges over
+//! these as over what a function gives, from the type parameters `K` and `M`.
+ghost use Rattle.std.specs.Prelude.{◌≡◌, ◌≢◌, ◌<◌, ◌*◌, ℕ, List, [], Some, None, true};
+ghost use Rattle.pool_syntax.specs.declared.words.Label.{Label};
+ghost use Rattle.pool_syntax.specs.declared.words.Event.{Event};
+ghost use Rattle.pool_syntax.specs.declared.words.Event.TheVariants as Ev;
+ghost use Rattle.pool_syntax.specs.declared.words.What.TheVariants as W;
+ghost use Rattle.pool_syntax.specs.declared.words.Placement.{Placement};
+ghost use Rattle.mesh_semantics.specs.Language.{Language};
+ghost use Rattle.mesh_semantics.specs.Config.{Config};
+ghost use Rattle.mesh_semantics.specs.Moves.{move};
+ghost use Rattle.mesh_semantics.specs.Paths.{on_link};
+ghost use Rattle.mesh_semantics.specs.Ways.{Ways};
+ghost use Rattle.mesh_semantics.specs.Traffic.{Change, Inside, IsPrefix, between, traffic, no_traffic, Traffic};
+ghost use Rattle.mesh_semantics.specs.Delay.{Delay, no_delay};
+ghost use Rattle.mesh_semantics.specs.Act.{Acts, Nothing, act, is_quiet, ready_at};
+ghost use Rattle.mesh_semantics.specs.Record.{record_from, start};
+ghost use Rattle.mesh_semantics.specs.Standing.{IsCycle, Contained, called_by, cycles, standing};
+ghost use Rattle.mesh_semantics.specs.Sound.{IsSound};
+ghost use Rattle.mesh_semantics.specs.FitFor.{FitFor};
+ghost use Rattle.mesh_semantics.specs.Lawful.{Lawful};
+ghost use Rattle.mesh_semantics.specs.Kept.{After, ShowsRun};
+ghost use Rattle.mesh_semantics.specs.Simulates.{Simulates, Related, Corresponds, SameAct, SameRecord};
+ghost use Rattle.mesh_semantics.specs.Given.{IsGiven, AreGiven};
+
+/// Each path of a mesh ends at its goal and has no node twice, and each of its steps is over a link of the mesh.
+pub fn paths_end_without_a_node_twice()
+    ensures { (l : Placement) → 0 < l.width → Ways l }
+{}
+
+/// Of each pair of nodes what has left the links is a prefix of what entered, in order, whatever enters and whichever links hand out their heads.
+pub fn order_is_kept_between_two_nodes<X>()
+    ensures { (l : Placement) (es : List (Change X)) (a b : ℕ) → Ways l → Inside l es → a < l.width * l.height → b < l.width * l.height
+        → IsPrefix (between a b (traffic l no_traffic es).left) (between a b (traffic l no_traffic es).entered) }
+{}
+
+/// A configuration of one object that a lawful language starts with is sound, with nothing on the way.
+pub fn the_start_is_sound<S, K>()
+    ensures { (g : Language S) (kept : K → Config S) (l : Placement) (x : S) (c : Config S) → FitFor g l → g.root ≡ Some x → g.frames x ≡ 0
+        → start g l ≡ Some c → IsGiven kept c → IsSound g (IsGiven kept) l c no_delay }
+{}
+
+/// From a sound configuration the labels of an event's line lead to the configuration after it, which is sound with its delay. A line without labels leaves the
+/// configuration as it is.
+pub fn each_event_keeps_sound<S, K>()
+    ensures { (g : Language S) (kept : K → Config S) (l : Placement) (q : ℕ) (c : Config S) (d : Delay) (e : Event) → Lawful g (IsGiven kept) → FitFor g l
+        → IsSound g (IsGiven kept) l c d → After g (IsGiven kept) l c (act g l q c d e) }
+{}
+
+/// Each event of a sound configuration answers a line or a limit.
+pub fn each_event_answers<S, K>()
+    ensures { (g : Language S) (kept : K → Config S) (l : Placement) (q : ℕ) (c : Config S) (d : Delay) (e : Event) → Lawful g (IsGiven kept) → FitFor g l
+        → IsSound g (IsGiven kept) l c d → act g l q c d e ≢ Nothing }
+{}
+
+/// A sound configuration in which all is quiet has no transition.
+pub fn quiet_has_no_transition<S, K>()
+    ensures { (g : Language S) (kept : K → Config S) (l : Placement) (c : Config S) (d : Delay) (lab : Label) → IsSound g (IsGiven kept) l c d
+        → is_quiet g c d ≡ true → move g c lab ≡ None }
+{}
+
+/// A record from a sound configuration has event lines and then one end line. Its labels lead to its last configuration, which is sound with its delay; and where it
+/// ends quiet no label is possible.
+pub fn records_show_runs<S, K>()
+    ensures { (g : Language S) (kept : K → Config S) (l : Placement) (q : ℕ) (c : Config S) (d : Delay) (done : ℕ) (es : List Event) → Lawful g (IsGiven kept) → FitFor g l
+        → IsSound g (IsGiven kept) l c d → ShowsRun g (IsGiven kept) l c (record_from g l q c d done es) }
+{}
+
+/// An idle line changes nothing: no object of a node is ready at its idle turn, and nothing is on a link at its idle move. Where that is so, the line is idle.
+pub fn idle_is_nothing<S>()
+    ensures turn { (g : Language S) (l : Placement) (q : ℕ) (c e : Config S) (d f : Delay) (n : ℕ) → act g l q c d (Ev.Turn n) ≡ Acts W.Idle e f
+        → (ready_at g c d n ≡ []) × (e ≡ c) × (f ≡ d) }
+    ensures link { (g : Language S) (l : Placement) (q : ℕ) (c e : Config S) (d f : Delay) (a b : ℕ) → act g l q c d (Ev.Link a b) ≡ Acts W.Idle e f
+        → (on_link d.links (a, b) ≡ []) × (e ≡ c) × (f ≡ d) }
+    ensures idle_turn { (g : Language S) (l : Placement) (q : ℕ) (c : Config S) (d : Delay) (n : ℕ) → ready_at g c d n ≡ [] → act g l q c d (Ev.Turn n) ≡ Acts W.Idle c d }
+    ensures idle_link { (g : Language S) (l : Placement) (q : ℕ) (c : Config S) (d : Delay) (a b : ℕ) → on_link d.links (a, b) ≡ []
+        → act g l q c d (Ev.Link a b) ≡ Acts W.Idle c d }
+{}
+
+/// The listed cycles are the cycles of calls: each is listed, and no other.
+pub fn cycles_are_all_and_no_other<S>()
+    ensures all { (g : Language S) (c : Config S) (d : Delay) (ns : List ℕ) → IsCycle (called_by g c d) ns → Contained ns (cycles g c d) }
+    ensures no_other { (g : Language S) (c : Config S) (d : Delay) (ns : List ℕ) → Contained ns (cycles g c d) → IsCycle (called_by g c d) ns }
+{}
+
+/// Where the objects of two languages correspond, an event has the same line or the same limit in both, and what is after it corresponds; and both are quiet or neither.
+pub fn acts_agree<S, T, K, M>()
+    ensures acts { (g : Language S) (h : Language T) (kept : K → Config S) (same : M → ℕ × S × T) (l : Placement) (q : ℕ) (c : Config S) (e : Config T) (d : Delay) (ev : Event)
+        → Lawful g (IsGiven kept) → Simulates g h (IsGiven kept) (AreGiven same) → IsGiven kept c → Related (AreGiven same) c e
+        → SameAct (AreGiven same) (act g l q c d ev) (act h l q e d ev) }
+    ensures quiet { (g : Language S) (h : Language T) (kept : K → Config S) (same : M → ℕ × S × T) (c : Config S) (e : Config T) (d : Delay)
+        → Lawful g (IsGiven kept) → Simulates g h (IsGiven kept) (AreGiven same) → Related (AreGiven same) c e → is_quiet g c d ≡ is_quiet h e d }
+{}
+
+/// Where the objects of two languages correspond, their records have the same lines and the same delay at the end, and their last configurations correspond.
+pub fn records_agree<S, T, K, M>()
+    ensures { (g : Language S) (h : Language T) (kept : K → Config S) (same : M → ℕ × S × T) (l : Placement) (q : ℕ) (c : Config S) (e : Config T) (d : Delay) (done : ℕ)
+        (es : List Event) → Lawful g (IsGiven kept) → Simulates g h (IsGiven kept) (AreGiven same) → FitFor g l → IsSound g (IsGiven kept) l c d
+        → Related (AreGiven same) c e → SameRecord (AreGiven same) (record_from g l q c d done es) (record_from h l q e d done es) }
+{}
+
+/// A language whose objects correspond to those of a lawful one is lawful, and a configuration that corresponds to a sound one is sound with the same delay.
+pub fn laws_go_across<S, T, K, M>()
+    ensures lawful { (g : Language S) (h : Language T) (kept : K → Config S) (same : M → ℕ × S × T) → Lawful g (IsGiven kept)
+        → Simulates g h (IsGiven kept) (AreGiven same) → Lawful h (Corresponds (IsGiven kept) (AreGiven same)) }
+    ensures sound { (g : Language S) (h : Language T) (kept : K → Config S) (same : M → ℕ × S × T) (l : Placement) (c : Config S) (e : Config T) (d : Delay)
+        → Lawful g (IsGiven kept) → Simulates g h (IsGiven kept) (AreGiven same) → IsSound g (IsGiven kept) l c d → Related (AreGiven same) c e
+        → IsSound h (Corresponds (IsGiven kept) (AreGiven same)) l e d }
+{}
+
+/// Objects that correspond stand alike, and corresponding configurations have the same cycles of calls.
+pub fn standings_agree<S, T, K, M>()
+    ensures standings { (g : Language S) (h : Language T) (kept : K → Config S) (same : M → ℕ × S × T) (d : Delay) (o : ℕ) (x : S) (y : T)
+        → Simulates g h (IsGiven kept) (AreGiven same) → AreGiven same o x y → (g.class x ≡ h.class y) × (standing g d o x ≡ standing h d o y) }
+    ensures cycles { (g : Language S) (h : Language T) (kept : K → Config S) (same : M → ℕ × S × T) (c : Config S) (e : Config T) (d : Delay)
+        → Simulates g h (IsGiven kept) (AreGiven same) → Related (AreGiven same) c e → cycles g c d ≡ cycles h e d }
+{}

@@ -1,0 +1,34 @@
+-- Where the object of a slot stands, as its node knows it.
+use Rattle.std.specs.Prelude.{◌≡◌, ℕ, List, Option, Some, None, if◌then◌else◌}
+use Rattle.pool_syntax.specs.declared.words.Error.{Error}
+use Rattle.mesh_semantics.specs.Kind as K
+use Rattle.mesh_semantics.specs.Kind.{Kind}
+use Rattle.mesh_semantics.specs.Language.{Language}
+use Rattle.mesh_semantics.specs.Delay.{Arrival}
+use Rattle.mesh_semantics.specs.Act.{can_step}
+use Rattle.mesh_semantics.specs.Standing as T
+use Rattle.mesh_semantics.specs.Standing.{Standing}
+use Rattle.node_semantics.specs.Node.{Slot, arrivals}
+
+-- while its request is out it calls or creates, at the node that is kept
+abbrev pub slot_standing_by : Option ℕ → Option Error → List Arrival → ℕ → Kind → Standing
+slot_standing_by (Some number) f box goal (K.Send b m args) = T.Calls b m
+slot_standing_by (Some number) f box goal (K.New class) = T.Creates class goal
+slot_standing_by (Some number) f box goal _ = T.Awaits
+slot_standing_by None (Some e) box goal k = T.Faulted e
+slot_standing_by None None box goal (K.Waits b m) = T.Calls b m
+slot_standing_by None None box goal K.Finished = T.Finished
+slot_standing_by None None box goal k = if can_step box k then T.Ready else T.Awaits
+
+abbrev pub slot_standing : {S : Type 0} → Language S → ℕ → Slot S → Standing
+slot_standing g o s = slot_standing_by s.request (g.fault s.state) (arrivals s.mailbox) s.goal (g.kind o s.state)
+
+abbrev pub IsRequest : Standing → Type 0
+IsRequest (T.Calls b m) = Unit {0}
+IsRequest (T.Creates class node) = Unit {0}
+IsRequest _ = ⊥
+
+-- what a node says of an object is where it stands, with a call or a create in place of due
+abbrev pub SaysOf : Standing → Standing → Type 0
+SaysOf s T.Due = IsRequest s
+SaysOf s t = s ≡ t

@@ -1,0 +1,4 @@
+pub mod Looked
+pub mod Acts
+pub mod Things
+pub mod Offers

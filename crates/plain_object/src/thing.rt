@@ -1,0 +1,87 @@
+//! One object: its class, its variables, what it has still to do, and its fault.
+ghost use Rattle.std.specs.Prelude.{◌≡◌, OnOk, IfOk};
+ghost use Rattle.pool_syntax.specs.TreeOf.{program_of, class_tree};
+ghost use Rattle.pool_relation.specs.Action.{action};
+ghost use Rattle.pool_relation.specs.Transition.{new_object};
+ghost use Rattle.plain_object.specs.Acts.{acted, changed, Fits, Suits};
+ghost use Rattle.term_stack.specs.Arguments.{now_args, now_names, now_choices};
+ghost use Rattle.plain_object.specs.Things.{thing_object};
+
+use crate::act::{Act, next_act};
+use crate::change::Change;
+use pool_syntax::{ClassDecl, Error, Program};
+use std::alloc::{AllocError, Global};
+use term_stack::parts::{Binding, Work};
+use term_stack::work::{nil_store, set};
+
+/// One object.
+#[derive(Drop)]
+pub struct Thing<'a> {
+    pub class: u32,
+    pub vars: Vec<Binding>,
+    pub work: Work<'a>,
+    pub fault: Option<Error>,
+}
+
+impl<'a> Thing<'a> {
+    /// A new object of this class.
+    pub fn make(alloc: Global, class: &'a ClassDecl) -> Result<Thing<'a>, AllocError>
+        ensures { IfOk result (λ t. thing_object t ≡ new_object (class_tree class.now)) }
+    {
+        let vars = nil_store(alloc, class.vars.items())?;
+        let work = Work::make(alloc, class.body.items())?;
+        Ok(Thing {
+            class: class.name.name.0,
+            vars,
+            work,
+            fault: None,
+        })
+    }
+
+    /// What the object of this name does next, if it has no fault.
+    pub fn act(&self, program: &'a Program, name: u32) -> Act<'a>
+        ensures gives { action (program_of program.now) name (thing_object self.now) ≡ acted (thing_object self.now) (now_args self.now.work.next) (now_names self.now.work.next) (now_choices self.now.work.next) result }
+        ensures suits { Suits self.now.work.calls.items self.now.work.next result }
+    {
+        next_act(&self.work, program, name, self.class, self.vars.as_slice())
+    }
+
+    /// Makes a change that is one of what comes next.
+    pub fn change(&mut self, alloc: Global, change: &Change<'a>) -> Result<(), AllocError>
+        requires { Fits self.old.work.calls.items self.old.work.next change.now }
+        ensures { OnOk result (thing_object self.new ≡ changed (thing_object self.old) (now_args self.old.work.next) change.now) }
+    {
+        match *change {
+            Change::Becomes(value) => self.work.give(alloc, value),
+            Change::Done => self.work.finish(alloc),
+            Change::SetTemp { name, value } => self.work.assign(alloc, name, value),
+            Change::SetVariable { name, value } => {
+                set(&mut self.vars, name, value);
+                self.work.assign(alloc, name, value)
+            }
+            Change::Branch(statements) => self.work.branch(alloc, statements),
+            Change::Repeat { cond, body } => self.work.repeat(alloc, cond, body),
+            Change::Unfold { cond, body } => self.work.unfold(alloc, cond, body),
+            Change::Call(method) => self.work.call(alloc, method),
+            Change::Leave(_) | Change::End => self.work.leave(alloc),
+            Change::Wait { receiver, method } => {
+                self.work.wait(receiver, method);
+                Ok(())
+            }
+            Change::Serve {
+                method,
+                caller,
+                args,
+                after,
+            } => {
+                self.work
+                    .serve(alloc, method, caller, args.values(), after)?;
+                Ok(())
+            }
+            Change::Fault(error) => {
+                self.fault = Some(error);
+                Ok(())
+            }
+        }
+    }
+}

@@ -1,0 +1,42 @@
+mod Rows
+mod TypedRows
+pub mod Runs
+pub mod Quiet
+pub mod Searched
+pub mod TypedTerm
+pub mod Weaker
+pub mod Sorts
+pub mod Declared
+pub mod Spot
+pub mod Walk
+pub mod WalkStatements
+pub mod Spots
+pub mod Faults
+pub mod Written
+pub mod FromTyped
+pub mod ToTyped
+pub mod NoWait
+pub mod AsWait
+pub mod Busy
+pub mod Checked
+pub mod Begun
+pub mod Outcomes
+pub mod Fine
+pub mod Acts
+pub mod Maps
+pub mod Good
+pub mod Moves
+pub mod Running
+pub mod NextWaits
+pub mod OneObject
+pub mod Messages
+pub mod TwoPuts
+pub mod NewObject
+pub mod Calls
+pub mod Started
+pub mod GoingOn
+pub mod Kept
+pub mod Grammatical
+mod Meets
+pub mod Grown
+pub mod Merely

@@ -1,0 +1,166 @@
+-- What an object does next.
+use Rattle.std.specs.Prelude.{ℕ, ◌==◌, List, [], ◌∷◌, ◌++◌, length, Option, Some, None, is_some, true, false, if◌then◌else◌}
+use Rattle.std.specs.List.{list_any}
+use Rattle.pool_syntax.specs.declared.words.Value.{Value}
+use Rattle.pool_syntax.specs.declared.words.Value.TheVariants as V
+use Rattle.pool_syntax.specs.declared.words.Item.{Item}
+use Rattle.pool_syntax.specs.declared.words.Error.{Error}
+use Rattle.pool_syntax.specs.declared.words.Error.TheVariants.{NilDestination, NilOperand, NoOpenGuard}
+use Rattle.pool_syntax.specs.declared.tree.Named.{Named}
+use Rattle.pool_syntax.specs.declared.tree.Var.{Var}
+use Rattle.pool_syntax.specs.Terms as T
+use Rattle.pool_syntax.specs.Classes.{class_of, named_method}
+use Rattle.pool_syntax.specs.Terms.{Store, Expression, Statements, MethodTree, ClassTree, ProgramTree, append}
+use Rattle.pool_syntax.specs.Values.{Outcome, Gives, Fails, WrongSort, prefix_value, infix_value, is_nil, not_bool, is_true}
+use Rattle.pool_relation.specs.Reducible as R
+use Rattle.pool_relation.specs.Reducible.{Choice, Reducible, Found, Evaluated, At, Part, AsExpression, AsStatements, set_value, fill_statements, statements_redex}
+
+-- an object: its class, its variables, what it has still to do
+pub record Object : Type 0 where
+  pub class : ℕ
+  pub vars : Store
+  pub term : Statements
+  -- the language error that was met, if one was
+  pub fault : Option Error
+
+-- what an object does next
+pub data Action : Type 0 where
+  Finished : Action
+  -- a transition of this object alone, with its term and variables afterwards
+  Local : (term : Statements) (vars : Store) → Action
+  Fault : (error : Error) → Action
+  New : (class : ℕ) → Action
+  Send : (receiver method : ℕ) (args : List Value) → Action
+  Async : (receiver method : ℕ) (args : List Value) → Action
+  Write : (item : Item) → Action
+  Answer : (names : List Named) → Action
+  Select : (choices : List Choice) → Action
+  Return : (caller : ℕ) (value : Value) → Action
+  Waits : (receiver method : ℕ) → Action
+  -- a value of a wrong sort, or a name that is not declared
+  Stuck : Action
+
+-- the value of a variable
+abbrev pub value_of : Store → ℕ → Option Value
+value_of [] x = None
+value_of (b ∷ bs) x = if b.0 == x then Some b.1 else value_of bs x
+
+-- the method, if it has n parameters
+abbrev pub with_count : ℕ → Option MethodTree → Option MethodTree
+with_count n None = None
+with_count n (Some m) = if length m.params == n then Some m else None
+
+-- the method of this name and number of parameters in a class
+abbrev pub method_in : Option ClassTree → ℕ → ℕ → Option MethodTree
+method_in None m n = None
+method_in (Some k) m n = with_count n (named_method k.methods m)
+
+-- the method of this name in the class, where it has n parameters
+abbrev pub method_of : ProgramTree → ℕ → ℕ → ℕ → Option MethodTree
+method_of p c m n = method_in (class_of p c) m n
+
+-- variables that are all nil
+abbrev pub nil_store : List Var → Store
+nil_store [] = []
+nil_store (v ∷ vs) = (v.name.0, V.Nil) ∷ nil_store vs
+
+-- parameters with their values
+abbrev pub bind : List Var → List Value → Store
+bind [] values = []
+bind (v ∷ vs) [] = nil_store (v ∷ vs)
+bind (v ∷ vs) (x ∷ xs) = (v.name.0, x) ∷ bind vs xs
+
+-- the parameters of a method with their values, and its locals
+abbrev pub temps_of : MethodTree → List Value → Store
+temps_of m args = bind m.params args ++ nil_store m.locals
+
+-- a value as an expression
+abbrev pub literal : Value → Expression
+literal v = T.Literal v 0
+
+-- a local transition in which this part takes the place of the redex
+abbrev pub becomes : Object → Part → Action
+becomes x part = Local (fill_statements x.term part) x.vars
+
+-- a local transition in which a value takes the place of the redex
+abbrev pub becomes_value : Object → Value → Action
+becomes_value x v = becomes x (AsExpression (literal v))
+
+-- an operator's outcome
+abbrev pub on_outcome : Object → Outcome → Action
+on_outcome x (Gives v) = becomes_value x v
+on_outcome x (Fails e) = Fault e
+on_outcome x WrongSort = Stuck
+
+-- a variable's value: that of the temp, else that of the object's variable
+abbrev pub read : Object → Option Value → Option Value → Action
+read x (Some v) own = becomes_value x v
+read x None (Some v) = becomes_value x v
+read x None None = Stuck
+
+-- an own call: the method under way takes the place of the redex
+abbrev pub on_call : Object → List Value → Option MethodTree → Action
+on_call x args None = Stuck
+on_call x args (Some m) = becomes x (AsExpression (T.Frame m.name.name.0 (temps_of m args) m.body m.value))
+
+-- a send to the object of this value
+abbrev pub on_object : Value → (ℕ → Action) → Action
+on_object (V.Ref b) go = go b
+on_object V.Nil go = Fault NilDestination
+on_object _ go = Stuck
+
+-- a temp of the nearest method hides a variable of the object
+abbrev pub on_assignment : Object → Store → ℕ → Value → Action
+on_assignment x t n v =
+    if is_some (value_of t n) then becomes x (AsStatements T.Done)
+    else (if is_some (value_of x.vars n) then Local (fill_statements x.term (AsStatements T.Done)) (set_value x.vars n v) else Stuck)
+
+-- a choice by a condition
+abbrev pub on_branch : Object → Value → Statements → Statements → Action
+on_branch x (V.Bool true) these those = becomes x (AsStatements these)
+on_branch x (V.Bool false) these those = becomes x (AsStatements those)
+on_branch x V.Nil these those = Fault NilOperand
+on_branch x _ these those = Stuck
+
+-- a select by the values of its guards
+abbrev pub on_select : List Choice → Action
+on_select cs =
+    if list_any (λ c. is_nil c.guard) cs then Fault NilOperand
+    else (if list_any (λ c. not_bool c.guard) cs then Stuck
+    else (if list_any (λ c. is_true c.guard) cs then Select cs else Fault NoOpenGuard))
+
+-- the end of a served method
+abbrev pub on_finish : Object → Option ℕ → Value → Action
+on_finish x None v = becomes x (AsStatements T.Done)
+on_finish x (Some k) v = Return k v
+
+-- what the object of the name o does at a redex whose nearest method has the temps t
+abbrev pub redex_action : ProgramTree → ℕ → Object → Store → Reducible → Action
+redex_action p o x t R.OwnName = becomes_value x (V.Ref o)
+redex_action p o x t (R.Read n) = read x (value_of t n) (value_of x.vars n)
+redex_action p o x t (R.Make c) = if is_some (class_of p c) then New c else Stuck
+redex_action p o x t (R.Unary op v) = on_outcome x (prefix_value op v)
+redex_action p o x t (R.Binary op v w) = on_outcome x (infix_value op v w)
+redex_action p o x t (R.Invoke m args) = on_call x args (method_of p x.class m (length args))
+redex_action p o x t (R.Request v m args) = on_object v (λ b. Send b m args)
+redex_action p o x t (R.Leave v) = becomes_value x v
+redex_action p o x t (R.Waiting b m) = Waits b m
+redex_action p o x t (R.Set n v) = on_assignment x t n v
+redex_action p o x t (R.Print item) = Write item
+redex_action p o x t (R.Drop v) = becomes x (AsStatements T.Done)
+redex_action p o x t (R.Post v m args) = on_object v (λ b. Async b m args)
+redex_action p o x t (R.Branch v these those) = on_branch x v these those
+redex_action p o x t (R.Loop e ss) =
+    becomes x (AsStatements (T.Then (T.If e (append ss (T.Then (T.While e ss) T.Done)) T.Done) T.Done))
+redex_action p o x t (R.Accept names) = Answer names
+redex_action p o x t (R.Choose choices) = on_select choices
+redex_action p o x t (R.Finish caller v) = on_finish x caller v
+
+-- what the object does at what was found
+abbrev pub found_action : ProgramTree → ℕ → Object → Found (Unit {0}) → Action
+found_action p o x (Evaluated done) = Finished
+found_action p o x (At r t) = redex_action p o x t r
+
+-- what the object of the name o does next
+abbrev pub action : ProgramTree → ℕ → Object → Action
+action p o x = found_action p o x (statements_redex [] x.term)

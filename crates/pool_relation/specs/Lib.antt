@@ -1,0 +1,10 @@
+pub mod Reducible
+pub mod Action
+pub mod Configuration
+pub mod Transition
+pub mod UnderWay
+pub mod Written
+pub mod Typed
+pub mod Progress
+pub mod Ready
+pub mod Alone

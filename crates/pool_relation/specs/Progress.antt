@@ -1,0 +1,33 @@
+-- What it is for an object to be able to go on by itself, or to be where it meets another.
+use Rattle.std.specs.Prelude.{◌≡◌, ℕ, Some}
+use Rattle.pool_syntax.specs.declared.words.Label.{Label}
+use Rattle.pool_syntax.specs.declared.words.Label.TheVariants as L
+use Rattle.pool_syntax.specs.Terms.{ProgramTree}
+use Rattle.pool_relation.specs.Action as A
+use Rattle.pool_relation.specs.Action.{Action}
+use Rattle.pool_relation.specs.Configuration.{Configuration}
+use Rattle.pool_relation.specs.Transition.{transition}
+
+-- the object that makes the transition
+abbrev pub agent : Label → ℕ
+agent (L.Local o) = o
+agent (L.New o n k) = o
+agent (L.Answer b o m args) = b
+agent (L.Return b o v) = b
+agent (L.Send o b m args) = o
+agent (L.Take b s m args) = b
+agent (L.Write o item) = o
+agent (L.Pick o i) = o
+agent (L.Fault o e) = o
+
+-- the object can make a transition
+abbrev pub HasOwnTransition : ProgramTree → Configuration → ℕ → Type 0
+HasOwnTransition p c o = (l : Label) × (agent l ≡ o) × (d : Configuration) × (transition p c l ≡ Some d)
+
+-- an action for which another object or a message is needed
+abbrev pub IsCommunication : Action → Type 0
+IsCommunication (A.Send b m args) = Unit {0}
+IsCommunication (A.Waits b m) = Unit {0}
+IsCommunication (A.Answer names) = Unit {0}
+IsCommunication (A.Select choices) = Unit {0}
+IsCommunication _ = ⊥

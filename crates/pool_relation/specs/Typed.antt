@@ -1,0 +1,129 @@
+-- Typed configurations, and what it is for an object to go wrong.
+use Rattle.std.specs.Prelude.{◌≡◌, ℕ, ◌+◌, ◌==◌, List, [], ◌∷◌, length, Option, Some, None, is_some, nat_le, Bool, true, false, not, ◌&&◌, ◌||◌, if◌then◌else◌, All, IsTrue}
+use Rattle.std.specs.FinMap.{is_sorted}
+use Rattle.std.specs.Ordering.{nat_cmp}
+use Rattle.pool_syntax.specs.declared.words.Value.{Value}
+use Rattle.pool_syntax.specs.declared.words.Error.{Error}
+use Rattle.pool_syntax.specs.declared.tree.Var.{Var}
+use Rattle.pool_syntax.specs.Terms.{Store, Expression, Literal, Me, Variable, Create, Prefix, Infix, Call, Send, Frame, Wait, Expressions, NoArgs, Arg, Statement, Assign, Write, WriteText, Do, Async, If, While, Answer, Select, Serve, Statements, Done, Then, Alternatives, NoAlts, Alt, MethodTree, ProgramTree}
+use Rattle.pool_relation.specs.Reducible.{is_value, is_done}
+use Rattle.pool_relation.specs.Action as A
+use Rattle.pool_syntax.specs.Classes.{class_of}
+use Rattle.pool_relation.specs.Action.{Object, Action, action, method_of}
+use Rattle.mesh_semantics.specs.Tables.{pair_cmp, no_entry_empty}
+use Rattle.mesh_semantics.specs.Message.{Message}
+use Rattle.pool_relation.specs.Configuration.{Configuration, object_of, messages_of}
+use Rattle.pool_relation.specs.UnderWay.{serves}
+use Rattle.pool_relation.specs.Written.{is_prefix, is_source, are_source, are_source_statements, are_source_alternatives, is_value_for}
+use Rattle.pool_syntax.specs.Typing.{Scope, kind_sort, value_sort, is_dangling, is_same_sort, is_open, vars_of_class, statements_faults, own_method, temps_of_method}
+
+-- the class of an object
+abbrev pub class_at : Option Object → Option ℕ
+class_at None = None
+class_at (Some x) = Some x.class
+
+-- where the term of an object of this class stands
+abbrev pub scope : ProgramTree → Configuration → ℕ → Scope
+scope p c k = record { program = p; class = k; own = class_of p k; temps = []; object_class = λ n. class_at (object_of c n); under_way = true }
+
+-- nil fits every kind, and the name of an object its class
+abbrev pub fits : Scope → Value → Var → Bool
+fits g v var =
+    not (is_dangling g v) && (is_open (value_sort g v) || is_same_sort (value_sort g v) (kind_sort g.program var.kind))
+
+-- these variables, in their order, with values that fit
+abbrev pub is_store_of : Scope → List Var → Store → Bool
+is_store_of g [] [] = true
+is_store_of g (v ∷ vs) (b ∷ bs) = v.name.0 == b.0 && fits g b.1 v && is_store_of g vs bs
+is_store_of g _ _ = false
+
+-- whether an expression can begin where so many operands are held
+abbrev pub has_room : ℕ → Bool
+has_room held = not (nat_le 64 held)
+
+-- whether this can be the value of the method; one without result has nil
+abbrev pub is_value_of : Option MethodTree → Expression → Bool
+is_value_of None e = false
+is_value_of (Some m) e = is_value_for m.outcome e
+
+-- a part before which so many operands are held, in which each method under way and each wait is the redex or holds it and stands
+-- where an expression can begin, a method under way has fitting temps and a value for it, and each operator has its number of operands
+abbrev mutual
+  pub is_sound : Scope → ℕ → Expression → Bool
+  is_sound g h (Literal v p) = true
+  is_sound g h (Me p) = true
+  is_sound g h (Variable x p) = true
+  is_sound g h (Create c p) = true
+  is_sound g h (Prefix op e p) = is_prefix op && is_sound g h e
+  is_sound g h (Infix op l r p) = not (is_prefix op) && (if is_value l then is_sound g (h + 1) r else is_sound g h l && is_source r)
+  is_sound g h (Call m es p) = are_sound g h es
+  is_sound g h (Send e m es p) = if is_value e then are_sound g (h + 1) es else is_sound g h e && are_source es
+  is_sound g h (Frame m t ss e) =
+      has_room h && is_store_of g (temps_of_method (own_method g m)) t && is_value_of (own_method g m) e
+      && (if is_done ss then is_sound g 0 e else are_sound_statements g ss && is_source e)
+  is_sound g h (Wait b m) = has_room h
+
+  pub are_sound : Scope → ℕ → Expressions → Bool
+  are_sound g h NoArgs = true
+  are_sound g h (Arg e es) = if is_value e then are_sound g (h + 1) es else is_sound g h e && are_source es
+
+  pub is_sound_statement : Scope → Statement → Bool
+  is_sound_statement g (Assign x p e) = is_sound g 0 e
+  is_sound_statement g (Write e) = is_sound g 0 e
+  is_sound_statement g (WriteText s) = true
+  is_sound_statement g (Do e) = is_sound g 0 e
+  is_sound_statement g (Async e m p es) = if is_value e then are_sound g 1 es else is_sound g 0 e && are_source es
+  is_sound_statement g (If e these those) = is_sound g 0 e && are_source_statements these && are_source_statements those
+  is_sound_statement g (While e ss) = is_source e && are_source_statements ss
+  is_sound_statement g (Answer names) = true
+  is_sound_statement g (Select alts) = are_sound_alternatives g 0 alts
+  is_sound_statement g (Serve m k t ss e) =
+      is_store_of g (temps_of_method (own_method g m)) t && is_value_of (own_method g m) e
+      && (if is_done ss then is_sound g 0 e else are_sound_statements g ss && is_source e)
+
+  pub are_sound_statements : Scope → Statements → Bool
+  are_sound_statements g Done = true
+  are_sound_statements g (Then s ss) = is_sound_statement g s && are_source_statements ss
+
+  pub are_sound_alternatives : Scope → ℕ → Alternatives → Bool
+  are_sound_alternatives g i NoAlts = true
+  are_sound_alternatives g i (Alt e names ss alts) =
+      are_source_statements ss && (if is_value e then are_sound_alternatives g (i + 1) alts else is_sound g i e && are_source_alternatives alts)
+
+-- whether values fit the parameters, one by one
+abbrev pub all_fit : Scope → List Value → List Var → Bool
+all_fit g [] [] = true
+all_fit g (v ∷ vs) (x ∷ xs) = fits g v x && all_fit g vs xs
+all_fit g _ _ = false
+
+-- the object has a method of its own for the message, and the arguments fit
+abbrev pub IsMessageFor : ProgramTree → Configuration → Object → Message → Type 0
+IsMessageFor p c y m =
+    (method : MethodTree) × (method_of p y.class m.method (length m.args) ≡ Some method) × IsTrue (all_fit (scope p c y.class) m.args method.params)
+
+-- a typed configuration: its maps are in order; each object has the variables of its class, with fitting values, and a term that has no
+-- faults and is sound; an object with a fault is at it; each message fits a method of its receiver; each wait is served exactly once
+pub record Typed (p : ProgramTree) (c : Configuration) : Type 0 where
+  pub in_order : IsTrue (is_sorted nat_cmp c.objects) × IsTrue (is_sorted pair_cmp c.messages)
+  pub no_empty : IsTrue (no_entry_empty c.messages)
+  pub class : (o : ℕ) (x : Object) → object_of c o ≡ Some x → IsTrue (is_some (class_of p x.class))
+  pub vars : (o : ℕ) (x : Object) → object_of c o ≡ Some x → IsTrue (is_store_of (scope p c x.class) (vars_of_class (class_of p x.class)) x.vars)
+  pub term : (o : ℕ) (x : Object) → object_of c o ≡ Some x → statements_faults (scope p c x.class) x.term ≡ []
+  pub sound : (o : ℕ) (x : Object) → object_of c o ≡ Some x → IsTrue (are_sound_statements (scope p c x.class) x.term)
+  pub fault : (o : ℕ) (x : Object) (e : Error) → object_of c o ≡ Some x → x.fault ≡ Some e → action p o x ≡ A.Fault e
+  pub messages : (s r : ℕ) → All (λ m. (y : Object) × (object_of c r ≡ Some y) × IsMessageFor p c y m) (messages_of c s r)
+  -- a wait is served exactly once, and a method under way for a caller has its wait
+  pub waits : (o b m : ℕ) (x : Object) → object_of c o ≡ Some x → action p o x ≡ A.Waits b m → (y : Object) × (object_of c b ≡ Some y) × (serves o y.term ≡ m ∷ [])
+  pub served : (o b m : ℕ) (ms : List ℕ) (y : Object) → object_of c b ≡ Some y → serves o y.term ≡ m ∷ ms → (x : Object) × (object_of c o ≡ Some x) × (action p o x ≡ A.Waits b m)
+
+-- the object b has the method with n parameters
+abbrev pub CanTake : ProgramTree → Configuration → ℕ → ℕ → ℕ → Type 0
+CanTake p c b m n = (y : Object) × (k : MethodTree) × (object_of c b ≡ Some y) × (method_of p y.class m n ≡ Some k)
+
+-- what an object does that goes wrong
+abbrev pub GoesWrong : ProgramTree → Configuration → ℕ → Action → Type 0
+GoesWrong p c o A.Stuck = Unit {0}
+GoesWrong p c o (A.Send b m args) = ¬ (CanTake p c b m (length args))
+GoesWrong p c o (A.Async b m args) = ¬ (CanTake p c b m (length args))
+GoesWrong p c o (A.Return k v) = ¬ ((x : Object) × (m : ℕ) × (object_of c k ≡ Some x) × (action p k x ≡ A.Waits o m))
+GoesWrong p c o _ = ⊥

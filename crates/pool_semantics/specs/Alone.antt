@@ -1,8 +1,0 @@
--- A configuration of one object.
-use Rattle.std.specs.Prelude.{ℕ, [], ◌∷◌}
-use Rattle.pool_semantics.specs.Action.{Object}
-use Rattle.pool_semantics.specs.Configuration.{Configuration}
-
--- one object, and no messages
-abbrev pub alone : ℕ → Object → Configuration
-alone root x = record { objects = (root, x) ∷ []; messages = [] }

@@ -1,0 +1,31 @@
+//! Equality of written items and of errors.
+ghost use Rattle.std.specs.Prelude.{◌≡◌, ◌==◌};
+ghost use Rattle.mesh_semantics.specs.Same.{is_same_item, error_number};
+
+use pool_syntax::{Error, Item};
+use value_operators::operators::same;
+
+/// Whether two written items are the same.
+pub fn same_item(left: Item, right: Item) -> bool
+    ensures { result ≡ is_same_item left right }
+{
+    match (left, right) {
+        (Item::Value(v), Item::Value(w)) => same(v, w),
+        (Item::Text(s), Item::Text(t)) => s.0 == t.0,
+        _ => false,
+    }
+}
+
+/// Whether two errors are the same.
+pub fn same_error(left: Error, right: Error) -> bool
+    ensures { result ≡ (error_number left == error_number right) }
+{
+    matches!(
+        (left, right),
+        (Error::NilDestination, Error::NilDestination)
+            | (Error::NilOperand, Error::NilOperand)
+            | (Error::Overflow, Error::Overflow)
+            | (Error::ZeroDivisor, Error::ZeroDivisor)
+            | (Error::NoOpenGuard, Error::NoOpenGuard)
+    )
+}

@@ -1,0 +1,93 @@
+-- What comes next, by its kind.
+use Rattle.std.specs.Prelude.{ℕ, ◌-◌, List, length, slice_get, Option, Some, None, Bool, true, false, not}
+use Rattle.pool_syntax.specs.declared.words.Value.TheVariants as V
+use Rattle.pool_syntax.specs.declared.words.Value.{Value}
+use Rattle.pool_syntax.specs.Terms as T
+use Rattle.pool_syntax.specs.Terms.{Statements}
+use Rattle.term_stack.specs.declared.parts.Task.{Task}
+use Rattle.term_stack.specs.declared.parts.Task.TheVariants as K
+use Rattle.term_stack.specs.declared.parts.Now.{Now}
+use Rattle.term_stack.specs.declared.parts.Now.TheVariants as N
+use Rattle.term_stack.specs.declared.parts.Ready.{Ready}
+use Rattle.term_stack.specs.declared.parts.Ready.TheVariants as Y
+use Rattle.term_stack.specs.declared.parts.Outer.{Outer}
+use Rattle.term_stack.specs.declared.parts.Outer.TheVariants as O
+use Rattle.term_stack.specs.declared.parts.Activation.{Activation}
+use Rattle.pool_relation.specs.Reducible.{Part, AsExpression, AsStatements}
+use Rattle.pool_relation.specs.Action.{literal}
+use Rattle.term_stack.specs.Parts.{Content, Running, task, slotted, nested, left}
+use Rattle.term_stack.specs.Reduced.{assigns}
+
+-- whether an expression comes next
+abbrev pub is_expression : Now → Bool
+is_expression (N.Expression r ks s gs) = true
+is_expression _ = false
+
+-- whether a statement comes next
+abbrev pub is_statement : Now → Bool
+is_statement (N.Statement k gs) = true
+is_statement _ = false
+
+-- whether the end of a method or of a body comes next
+abbrev pub is_end : Now → Bool
+is_end (N.Value v) = true
+is_end N.Over = true
+is_end _ = false
+
+-- the variable and the value of an assignment
+abbrev pub assigning : Task → Option (ℕ × Value)
+assigning (K.Assign n v) = Some (n.name.0, v.value)
+assigning _ = None
+
+-- what follows the statement that comes next
+abbrev pub rest_of : Now → Statements
+rest_of (N.Statement k gs) = left gs.items
+rest_of _ = T.Done
+
+-- whether a statement comes next that is no assignment
+abbrev pub keeps_temps : Now → Bool
+keeps_temps (N.Statement k gs) = not (assigns (task k))
+keeps_temps _ = false
+
+-- the variable and the value of an assignment that comes next
+abbrev pub next_assigns : Now → Option (ℕ × Value)
+next_assigns (N.Statement k gs) = assigning k
+next_assigns _ = None
+
+-- whether it is an own call
+abbrev pub is_call_ready : Ready → Bool
+is_call_ready (Y.Call m vs p) = true
+is_call_ready _ = false
+
+-- whether an own call comes next
+abbrev pub is_call : Now → Bool
+is_call (N.Expression r ks s gs) = is_call_ready r
+is_call _ = false
+
+-- the value of a method at its end
+abbrev pub end_value : Now → Value
+end_value (N.Value v) = v.value
+end_value _ = V.Nil
+
+-- what takes the place of a method that is left
+abbrev pub left_part : Outer → Value → Part
+left_part (O.Expression ks s gs) v = AsExpression (literal v)
+left_part (O.Statement k gs) v = AsStatements T.Done
+
+abbrev pub last_part : Option Activation → Value → Part
+last_part None v = AsStatements T.Done
+last_part (Some a) v = left_part a.outer v
+
+-- what takes the place of the innermost method at its end, or of the value in a body
+abbrev pub end_part : List Activation → Now → Part
+end_part calls n = last_part (slice_get calls (length calls - 1)) (end_value n)
+
+-- what is left where a method was left
+abbrev pub after_left : Outer → Value → Content
+after_left (O.Expression ks s gs) v = slotted s (left gs.items) (nested ks.items (literal v))
+after_left (O.Statement k gs) v = Running (left gs.items)
+
+-- the expression that comes next
+abbrev pub next_ready : Now → Option Ready
+next_ready (N.Expression r ks s gs) = Some r
+next_ready _ = None

@@ -1,0 +1,5 @@
+pub mod Weights
+pub mod Parts
+pub mod Reduced
+pub mod Arguments
+pub mod Changes

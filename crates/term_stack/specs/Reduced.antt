@@ -1,0 +1,91 @@
+-- The redex that the stepper's parts stand for, and the content with another part in its place.
+use Rattle.std.specs.Prelude.{◌≡◌, List, [], ◌∷◌, Bool, true, false, not}
+use Rattle.pool_syntax.specs.declared.words.Value.{Value}
+use Rattle.pool_syntax.specs.declared.words.Item.TheVariants as I
+use Rattle.pool_syntax.specs.TreeOf.{expression_of, statements_of}
+use Rattle.pool_syntax.specs.Terms as T
+use Rattle.pool_syntax.specs.Terms.{Store, Expression, Statement, Statements, append}
+use Rattle.pool_relation.specs.Reducible as R
+use Rattle.pool_relation.specs.Reducible.{Choice, Reducible, Found, Evaluated, At, Part, is_value, fill_expression, fill_statements, expression_redex, statements_redex}
+use Rattle.term_stack.specs.declared.parts.Operand.{Operand}
+use Rattle.term_stack.specs.declared.parts.Guarded.{Guarded}
+use Rattle.term_stack.specs.declared.parts.Ready.{Ready}
+use Rattle.term_stack.specs.declared.parts.Ready.TheVariants as Y
+use Rattle.term_stack.specs.declared.parts.Task.{Task}
+use Rattle.term_stack.specs.declared.parts.Task.TheVariants as K
+use Rattle.term_stack.specs.declared.parts.Outer.{Outer}
+use Rattle.term_stack.specs.declared.parts.Outer.TheVariants as O
+use Rattle.term_stack.specs.declared.parts.Activation.{Activation}
+use Rattle.term_stack.specs.Parts.{Content, Running, Valued, Over, loop_of}
+
+-- the values of operands
+abbrev pub values : List Operand → List Value
+values [] = []
+values (v ∷ vs) = v.value ∷ values vs
+
+-- an alternative with its evaluated guard
+abbrev pub choice : Guarded → Choice
+choice g = record { guard = g.guard.value; answer = g.alt.now.answer; work = statements_of g.alt.now.work }
+
+-- the evaluated guards of alternatives
+abbrev pub choices : List Guarded → List Choice
+choices [] = []
+choices (g ∷ gs) = choice g ∷ choices gs
+
+-- the redex that an expression is
+abbrev pub reduced : Ready → Reducible
+reduced (Y.Me p) = R.OwnName
+reduced (Y.Variable x p) = R.Read x.0
+reduced (Y.Create c p) = R.Make c.0
+reduced (Y.Prefix op v p) = R.Unary op v.value
+reduced (Y.Infix op v w p) = R.Binary op v.value w.value
+reduced (Y.Call m vs p) = R.Invoke m.0 (values vs.items)
+reduced (Y.Send to m vs p) = R.Request to.value m.0 (values vs.items)
+reduced (Y.Wait b m) = R.Waiting b m.0
+
+-- the redex that a statement is
+abbrev pub task_redex : Task → Reducible
+task_redex (K.Assign n v) = R.Set n.name.0 v.value
+task_redex (K.Write v) = R.Print (I.Value v.value)
+task_redex (K.WriteText s) = R.Print (I.Text s)
+task_redex (K.Do v) = R.Drop v.value
+task_redex (K.Async to m vs) = R.Post to.value m.name.0 (values vs.items)
+task_redex (K.If v these those) = R.Branch v.value (statements_of these.now) (statements_of those.now)
+task_redex (K.Loop v k body) = R.Branch v.value (append (statements_of body.now) (loop_of (expression_of k.now) (statements_of body.now))) T.Done
+task_redex (K.While k body) = R.Loop (expression_of k.now) (statements_of body.now)
+task_redex (K.Answer names) = R.Accept names.now
+task_redex (K.Select gs) = R.Choose (choices gs.items)
+
+-- the redex of a content under the temps t is r, with the temps u
+abbrev pub Finds : Store → Content → Reducible → Store → Type 0
+Finds t (Running ss) r u = statements_redex t ss ≡ At r u
+Finds t (Valued e) r u = expression_redex t e ≡ At r u
+Finds t Over r u = ⊥
+
+-- the temps at hand inside these methods under way
+abbrev pub temps_at : Store → List Activation → Store
+temps_at t [] = t
+temps_at t (a ∷ more) = temps_at a.temps.items more
+
+-- whether an assignment of a value comes next
+abbrev pub assigns : Statement → Bool
+assigns (T.Assign x p (T.Literal v q)) = true
+assigns _ = false
+
+-- whether a content has a redex whose replacement changes no temps
+abbrev pub is_plain : Content → Bool
+is_plain (Running T.Done) = false
+is_plain (Running (T.Then s ss)) = not (assigns s)
+is_plain (Valued e) = not (is_value e)
+is_plain Over = false
+
+-- a content with another part in the place of its redex
+abbrev pub refilled_content : Content → Part → Content
+refilled_content (Running ss) x = Running (fill_statements ss x)
+refilled_content (Valued e) x = Valued (fill_expression e x)
+refilled_content Over x = Over
+
+-- the redex at the end of a method
+abbrev pub end_redex : Outer → Value → Reducible
+end_redex (O.Expression ks s gs) v = R.Leave v
+end_redex (O.Statement k gs) v = R.Finish k v

@@ -1,0 +1,375 @@
+//! What comes next: the way from a statement, or from a value in its place, to the next redex.
+ghost use Rattle.std.specs.Prelude.{◌≡◌, [], ◌∷◌, ◌++◌, IfOk, IfSome, IfNone, false};
+ghost use Rattle.pool_syntax.specs.TreeOf.{expression_of, expressions_of, statement_of, statements_of};
+ghost use Rattle.pool_syntax.specs.Terms as T;
+ghost use Rattle.pool_relation.specs.Reducible.{is_value};
+ghost use Rattle.term_stack.specs.Parts.{operand, operands, placed, nested, stepped, ready, guarded, alternatives, slotted, left, content, inside, bottom, Running, IsOpen};
+ghost use Rattle.pool_syntax.specs.Terms.{append};
+
+use crate::parts::{Guarded, Now, Operand, Place, Ready, Segment, Slot, Task};
+use crate::seek::{Step, evaluate, into_call, into_right, into_send, literal, seek};
+use pool_syntax::{Alt, Expr, Named, Stmt};
+use std::alloc::{AllocError, Global};
+
+/// Goes on from a value in this place.
+#[tactic(auto, using(crate::proofs::Plugged::nested_more, crate::proofs::Plugged::operands_more))]
+fn resume<'a>(
+    alloc: Global,
+    value: Operand,
+    place: Place<'a>,
+    places: &mut Vec<Place<'a>>,
+) -> Result<Step<'a>, AllocError>
+    ensures same { IfOk result (λ s. nested places.new.items (stepped s) ≡ nested places.old.items (placed place.entry (operand value))) }
+    ensures open { IfOk result IsOpen }
+{
+    match place {
+        Place::Prefix { op, pos } => Ok(Step::Found(Ready::Prefix {
+            op,
+            arg: value,
+            pos,
+        })),
+        Place::Left { op, right, pos } => into_right(op, value, right, pos, places),
+        Place::Right { op, left, pos } => Ok(Step::Found(Ready::Infix {
+            op,
+            left,
+            right: value,
+            pos,
+        })),
+        Place::CallArgument {
+            method,
+            done,
+            rest,
+            pos,
+        } => {
+            let mut done = done;
+            done.push(value)?;
+            into_call(method, done, rest, pos, places)
+        }
+        Place::Destination { method, args, pos } => into_send(
+            value,
+            method,
+            Vec::new(alloc),
+            args,
+            pos,
+            places,
+        ),
+        Place::SendArgument {
+            to,
+            method,
+            done,
+            rest,
+            pos,
+        } => {
+            let mut done = done;
+            done.push(value)?;
+            into_send(to, method, done, rest, pos, places)
+        }
+    }
+}
+
+/// The redex of a step.
+fn find<'a>(alloc: Global, step: Step<'a>, places: &mut Vec<Place<'a>>) -> Result<Ready, AllocError>
+    requires { IsOpen step }
+    ensures { IfOk result (λ r. nested places.new.items (ready r) ≡ nested places.old.items (stepped step.entry)) }
+{
+    match step {
+        Step::Found(redex) => Ok(redex),
+        Step::Into(expr) => seek(alloc, expr, places),
+    }
+}
+
+/// Goes on in an expression that is no literal.
+fn begin<'a>(
+    alloc: Global,
+    expr: &'a Expr,
+    slot: Slot<'a>,
+    rest: Vec<Segment<'a>>,
+) -> Result<Now<'a>, AllocError>
+    requires { is_value (expression_of expr.now) ≡ false }
+    ensures { IfOk result (λ n. content n ≡ slotted slot.entry (left rest.entry.items) (expression_of expr.now)) }
+{
+    let mut places = Vec::new(alloc);
+    let redex = seek(alloc, expr, &mut places)?;
+    Ok(Now::Expression {
+        redex,
+        places,
+        slot,
+        rest,
+    })
+}
+
+/// Goes on in the arguments of an asynchronous send.
+fn into_async<'a>(
+    alloc: Global,
+    to: Operand,
+    method: Named,
+    done: Vec<Operand>,
+    args: &'a [Expr],
+    rest: Vec<Segment<'a>>,
+) -> Result<Now<'a>, AllocError>
+    ensures { IfOk result (λ n. content n ≡ Running (T.Then (T.Async (operand to) method.name.0 method.pos (operands done.items (expressions_of args.now))) (left rest.entry.items))) }
+{
+    let mut done = done;
+    match evaluate(args, &mut done)? {
+        None => Ok(Now::Statement {
+            task: Task::Async {
+                to,
+                method,
+                args: done,
+            },
+            rest,
+        }),
+        Some((expr, others)) => {
+            let slot = Slot::Argument {
+                to,
+                method,
+                done,
+                rest: others,
+            };
+            begin(alloc, expr, slot, rest)
+        }
+    }
+}
+
+/// Evaluates the guards at the front that are literals: the first alternative whose guard is none, and those after it.
+#[tactic(auto, using(crate::proofs::Plugged::guarded_more))]
+fn guards<'a>(
+    alts: &'a [Alt],
+    done: &mut Vec<Guarded<'a>>,
+) -> Result<Option<(&'a Alt, &'a [Alt])>, AllocError>
+    ensures some { IfOk result (λ r. IfSome r (λ s. guarded done.new.items (T.Alt (expression_of s.0.now.guard) s.0.now.answer (statements_of s.0.now.work) (alternatives s.1.now)) ≡ guarded done.old.items (alternatives alts.now))) }
+    ensures open { IfOk result (λ r. IfSome r (λ s. is_value (expression_of s.0.now.guard) ≡ false)) }
+    ensures all { IfOk result (λ r. IfNone r (guarded done.new.items T.NoAlts ≡ guarded done.old.items (alternatives alts.now))) }
+{
+    let mut rest = alts;
+    while let Some((alt, others)) = rest.split_first() {
+        match literal(&alt.guard) {
+            Some(guard) => done.push(Guarded { guard, alt })?,
+            None => return Ok(Some((alt, others))),
+        }
+        rest = others;
+    }
+    Ok(None)
+}
+
+/// Goes on in the guards of a select.
+fn into_select<'a>(
+    alloc: Global,
+    done: Vec<Guarded<'a>>,
+    alts: &'a [Alt],
+    rest: Vec<Segment<'a>>,
+) -> Result<Now<'a>, AllocError>
+    ensures { IfOk result (λ n. content n ≡ Running (T.Then (T.Select (guarded done.entry.items (alternatives alts.now))) (left rest.entry.items))) }
+{
+    let mut done = done;
+    match guards(alts, &mut done)? {
+        None => Ok(Now::Statement {
+            task: Task::Select { guards: done },
+            rest,
+        }),
+        Some((at, others)) => {
+            let slot = Slot::Guard {
+                done,
+                at,
+                rest: others,
+            };
+            begin(alloc, &at.guard, slot, rest)
+        }
+    }
+}
+
+/// Goes on from a value in this slot.
+#[tactic(auto, using(crate::proofs::Plugged::operands_more, crate::proofs::Plugged::guarded_more))]
+fn arrive<'a>(
+    alloc: Global,
+    value: Operand,
+    slot: Slot<'a>,
+    rest: Vec<Segment<'a>>,
+) -> Result<Now<'a>, AllocError>
+    ensures { IfOk result (λ n. content n ≡ slotted slot.entry (left rest.entry.items) (operand value)) }
+{
+    let task = match slot {
+        Slot::Assign { target } => Task::Assign { target, value },
+        Slot::Write => Task::Write { value },
+        Slot::Do => Task::Do { value },
+        Slot::Destination { method, args } => return into_async(
+            alloc,
+            value,
+            method,
+            Vec::new(alloc),
+            args,
+            rest,
+        ),
+        Slot::Argument {
+            to,
+            method,
+            done,
+            rest: args,
+        } => {
+            let mut done = done;
+            done.push(value)?;
+            return into_async(alloc, to, method, done, args, rest);
+        }
+        Slot::If { yes, no } => Task::If {
+            cond: value,
+            yes,
+            no,
+        },
+        Slot::Loop { cond, body } => Task::Loop { value, cond, body },
+        Slot::Guard {
+            done,
+            at,
+            rest: alts,
+        } => {
+            let mut done = done;
+            done.push(Guarded {
+                guard: value,
+                alt: at,
+            })?;
+            return into_select(alloc, done, alts, rest);
+        }
+        Slot::Value => return Ok(Now::Value { value }),
+    };
+    Ok(Now::Statement { task, rest })
+}
+
+/// Goes on from a value in the innermost of these places.
+#[tactic(auto, using(crate::proofs::Plugged::nested_more))]
+pub fn settle<'a>(
+    alloc: Global,
+    value: Operand,
+    places: Vec<Place<'a>>,
+    slot: Slot<'a>,
+    rest: Vec<Segment<'a>>,
+) -> Result<Now<'a>, AllocError>
+    ensures { IfOk result (λ n. content n ≡ slotted slot.entry (left rest.entry.items) (nested places.entry.items (operand value))) }
+{
+    let mut places = places;
+    match places.pop() {
+        None => arrive(alloc, value, slot, rest),
+        Some(place) => {
+            let step = resume(alloc, value, place, &mut places)?;
+            let redex = find(alloc, step, &mut places)?;
+            Ok(Now::Expression {
+                redex,
+                places,
+                slot,
+                rest,
+            })
+        }
+    }
+}
+
+/// Goes on in an expression in this slot.
+pub fn enter<'a>(
+    alloc: Global,
+    expr: &'a Expr,
+    slot: Slot<'a>,
+    rest: Vec<Segment<'a>>,
+) -> Result<Now<'a>, AllocError>
+    ensures { IfOk result (λ n. content n ≡ slotted slot.entry (left rest.entry.items) (expression_of expr.now)) }
+{
+    match literal(expr) {
+        Some(value) => arrive(alloc, value, slot, rest),
+        None => begin(alloc, expr, slot, rest),
+    }
+}
+
+/// Goes on in a statement.
+fn enter_statement<'a>(
+    alloc: Global,
+    stmt: &'a Stmt,
+    rest: Vec<Segment<'a>>,
+) -> Result<Now<'a>, AllocError>
+    ensures { IfOk result (λ n. content n ≡ Running (T.Then (statement_of stmt.now) (left rest.entry.items))) }
+{
+    match stmt {
+        Stmt::Assign { target, value } => enter(
+            alloc,
+            value,
+            Slot::Assign { target: *target },
+            rest,
+        ),
+        Stmt::Write { value } => enter(alloc, value, Slot::Write, rest),
+        Stmt::WriteText { text } => Ok(Now::Statement {
+            task: Task::WriteText { text: *text },
+            rest,
+        }),
+        Stmt::Do { value } => enter(alloc, value, Slot::Do, rest),
+        Stmt::Async { to, method, args } => {
+            let slot = Slot::Destination {
+                method: *method,
+                args: args.items(),
+            };
+            enter(alloc, to, slot, rest)
+        }
+        Stmt::If { cond, yes, no } => {
+            let slot = Slot::If {
+                yes: yes.items(),
+                no: no.items(),
+            };
+            enter(alloc, cond, slot, rest)
+        }
+        Stmt::While { cond, body } => {
+            let task = Task::While {
+                cond,
+                body: body.items(),
+            };
+            Ok(Now::Statement { task, rest })
+        }
+        Stmt::Answer { names } => {
+            let task = Task::Answer {
+                names: names.items(),
+            };
+            Ok(Now::Statement { task, rest })
+        }
+        Stmt::Select { alts } => into_select(alloc, Vec::new(alloc), alts.items(), rest),
+    }
+}
+
+/// What follows, with these statements before it.
+#[tactic(auto, using(crate::proofs::Plugged::left_more, crate::proofs::Plugged::nothing_left))]
+pub fn before<'a>(
+    statements: &'a [Stmt],
+    rest: Vec<Segment<'a>>,
+) -> Result<Vec<Segment<'a>>, AllocError>
+    ensures { IfOk result (λ r. left r.items ≡ append (statements_of statements.now) (left rest.entry.items)) }
+{
+    if statements.is_empty() {
+        return Ok(rest);
+    }
+    let mut rest = rest;
+    rest.push(Segment::Rest(statements))?;
+    Ok(rest)
+}
+
+/// Goes on with what follows: the statements of the last segment, and at the end the value of the method, if it is in one.
+#[tactic(auto, using(crate::proofs::Plugged::left_more, crate::proofs::Plugged::nothing_left))]
+pub fn advance<'a>(
+    alloc: Global,
+    rest: Vec<Segment<'a>>,
+    value: Option<&'a Expr>,
+) -> Result<Now<'a>, AllocError>
+    ensures method { IfOk result (λ n. IfSome value.entry (λ e. inside (expression_of e.now) (content n) ≡ inside (expression_of e.now) (Running (left rest.entry.items)))) }
+    ensures body { IfOk result (λ n. IfNone value.entry (bottom (content n) ≡ left rest.entry.items)) }
+{
+    let mut rest = rest;
+    while let Some(segment) = rest.pop() {
+        match segment {
+            Segment::Again { cond, body } => {
+                let task = Task::While { cond, body };
+                return Ok(Now::Statement { task, rest });
+            }
+            Segment::Rest(statements) => {
+                if let Some((first, others)) = statements.split_first() {
+                    let rest = before(others, rest)?;
+                    return enter_statement(alloc, first, rest);
+                }
+            }
+        }
+    }
+    match value {
+        None => Ok(Now::Over),
+        Some(expr) => enter(alloc, expr, Slot::Value, rest),
+    }
+}

@@ -1,0 +1,4 @@
+//! The operators on values, and their equality.
+#![tactic(auto)]
+
+pub mod operators;
