@@ -9,8 +9,8 @@ use Rattle.pool_syntax.specs.Grammar.{rule}
 use Rattle.pool_syntax.specs.Derives.{Begins, IsFirstUnexpected}
 use Rattle.pool_syntax.specs.Nesting.{IsFirstTooDeep}
 use Rattle.pool_syntax.specs.Typing.{faults}
-use Rattle.pool_lexer.specs.Ended.{toks}
-use Rattle.pool_parser.specs.Programs.{HasProgram, IsShallowBelow}
+use Rattle.pool_syntax.specs.Programs.{toks, HasProgram, IsShallowBelow}
+pub use Rattle.pool_syntax.specs.Programs.{IsParsed, IsTextOf, IsTypedText}
 use Rattle.pool_parser.specs.declared.fault.SyntaxFault.{SyntaxFault}
 use Rattle.pool_parser.specs.declared.fault.SyntaxFault.TheVariants as Syntax
 use Rattle.class_check.specs.Least.{IsLeastFault}
@@ -18,18 +18,6 @@ use Rattle.class_check.specs.PairOf.{pair_of}
 use Rattle.pool_driver.specs.Served.{is_served}
 use Rattle.pool_driver.specs.declared.fault.Fault.{Fault}
 use Rattle.pool_driver.specs.declared.fault.Fault.TheVariants as F
-
--- the text has the program, and this table of its names and strings
-abbrev pub IsParsed : Text → List Text → ProgramTree → Type 0
-IsParsed s names p = (ts : List Token) × HasTokens s names ts × HasProgram (toks ts) p
-
--- the text has the program
-abbrev pub IsTextOf : Text → ProgramTree → Type 0
-IsTextOf s p = (names : List Text) × IsParsed s names p
-
--- the text has the program, and it has no class faults
-abbrev pub IsTypedText : Text → ProgramTree → Type 0
-IsTypedText s p = IsTextOf s p × (faults p ≡ [])
 
 -- the text is a program without class faults, of the form that is run
 abbrev pub IsProgramText : Text → ProgramTree → Type 0

@@ -4,11 +4,9 @@ ghost use Rattle.pool_syntax.specs.declared.token.Token.{Token as OneToken};
 ghost use Rattle.pool_syntax.specs.Spelled.{IsGrammatical, is_spelled};
 ghost use Rattle.pool_syntax.specs.Terms.{ProgramTree};
 ghost use Rattle.pool_syntax.specs.Tokens.{Text};
-ghost use Rattle.pool_lexer.specs.Ended.{toks};
-ghost use Rattle.pool_parser.specs.Programs.{IsShallowBelow};
+ghost use Rattle.pool_syntax.specs.Programs.{IsParsed, IsShallowBelow, toks};
 ghost use Rattle.pool_printer.specs.Canonical.{canonical};
 ghost use Rattle.pool_printer.specs.SameProgram.{IsSameProgram};
-ghost use Rattle.pool_driver.specs.Programs.{IsParsed};
 
 /// A canonical text in which no token stands deeper than 200 is read as a program that is the same but for positions and numbering.
 pub fn canonical_text_is_read_back()

@@ -5,7 +5,8 @@ use Rattle.pool_syntax.specs.Tokens.{Text, longest, IsPieces, HasTokens, texts_a
 use Rattle.pool_syntax.specs.declared.token.Tok.{Tok}
 use Rattle.pool_syntax.specs.declared.token.Tok.TheVariants as tok
 use Rattle.pool_syntax.specs.declared.token.Token.{Token}
-use Rattle.pool_lexer.specs.Ended.{toks, EndsInEnd, IsPlaced}
+use Rattle.pool_syntax.specs.Programs.{toks}
+use Rattle.pool_lexer.specs.Ended.{EndsInEnd, IsPlaced}
 use Rattle.pool_lexer.specs.Reading.{with_kept}
 use Rattle.pool_lexer.proofs.Kept.{cases_Option, texts_after-cons, token_placed, token_not_end}
 

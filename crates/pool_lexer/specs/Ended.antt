@@ -2,7 +2,6 @@
 use Rattle.std.specs.Prelude.{◌≡◌, ℕ, ◌+◌, ◌<◌, ◌↔◌, List, length, slice_get, Some}
 use Rattle.pool_syntax.specs.declared.token.Tok.{Tok}
 use Rattle.pool_syntax.specs.declared.token.Tok.TheVariants as tok
-pub use Rattle.pool_syntax.specs.Programs.{toks}
 
 -- There is a last token, and a token is End exactly where it is the last.
 abbrev pub EndsInEnd : List Tok → Type 0

@@ -5,7 +5,6 @@ use Rattle.pool_syntax.specs.Rules.{program}
 use Rattle.pool_syntax.specs.Grammar.{rule}
 use Rattle.pool_syntax.specs.Derives.{Begins, IsFirstUnexpected}
 use Rattle.pool_syntax.specs.Nesting.{IsFirstTooDeep}
-use Rattle.pool_parser.specs.Programs.{IsShallowBelow}
 use Rattle.pool_parser.specs.declared.fault.SyntaxFault.{SyntaxFault}
 use Rattle.pool_parser.specs.declared.fault.SyntaxFault.TheVariants as Syntax
 use Rattle.pool_driver.specs.declared.fault.Fault.{Fault}
@@ -13,15 +12,13 @@ use Rattle.pool_driver.specs.declared.fault.Fault.TheVariants as F
 use Rattle.pool_driver.specs.declared.program.Refusal.TheVariants as R
 use Rattle.pool_driver.specs.Programs.{IsFaultOfText}
 use Rattle.pool_syntax.specs.declared.token.Token.{Token}
-use Rattle.pool_parser.specs.Programs.{HasProgram}
-use Rattle.pool_driver.proofs.SpelledTokens.{are_spelled}
-use Rattle.pool_lexer.specs.Ended.{toks}
+use Rattle.pool_syntax.specs.Programs.{HasProgram, IsShallowBelow, toks}
 use Rattle.pool_driver.specs.Stops.{refusal_of_tokens, refusal_of_grammar}
 use Rattle.pool_driver.proofs.program.read_program.Goals as goal
 
 pub returns-in-Ok-parse-clause-spelled : goal.returns-in-Ok-parse-clause-spelled
 returns-in-Ok-parse-clause-spelled c =
-    c.in-Ok-parse.ensures.spelled (are_spelled c.args.bytes.now c.in-Ok.tokens.names c.in-Ok.tokens.list c.in-Ok.ensures.ok)
+    c.in-Ok-parse.ensures.spelled c.in-Ok.ensures.spelled
 
 pub returns-in-Err-clause-only : goal.returns-in-Err-clause-only
 returns-in-Err-clause-only c names p h = c.lex_refusal.ensures ∙ ap refusal_of_tokens (c.in-Err.ensures.only names h.0 h.1)
