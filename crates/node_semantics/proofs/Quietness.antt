@@ -21,8 +21,7 @@ use Rattle.node_semantics.specs.Node.{Slot, NumberedPacket, NodeState, ready_slo
 use Rattle.node_semantics.specs.Machine.{Machine, any_ready, is_machine_quiet}
 use Rattle.node_semantics.specs.Requests.{Requests}
 use Rattle.node_semantics.specs.StandsFor.{packets, MachineStandsFor}
-use Rattle.node_semantics.proofs.Cells.{nothing_on}
-use Rattle.node_semantics.proofs.LinkTests.{all_fail, each_fails}
+use Rattle.node_semantics.proofs.LinkTests.{any_on_links}
 use Rattle.node_semantics.proofs.Limits as Lim
 use Rattle.node_semantics.proofs.Limits.{Chosen, NoOne, One}
 use Rattle.node_semantics.proofs.Moves.{there_at}
@@ -35,31 +34,17 @@ same_bool false false f h = refl
 
 -- links
 
-none_some : (xs : List NumberedPacket) → has_some xs ≡ false → xs ≡ []
-none_some [] h = refl
-none_some (x ∷ xs) h = absurd (cc)
+some_any : (xs : List NumberedPacket) → has_some xs ≡ list_any (λ p. true) xs
+some_any [] = refl
+some_any (x ∷ xs) = refl
 
-no_packets : (xs : List NumberedPacket) → packets xs ≡ [] → xs ≡ []
-no_packets [] h = refl
-no_packets (x ∷ xs) h = absurd (cc)
-
-some_there : {X : Type 0} (xs : List X) → list_any (λ x. true) xs ≡ false → xs ≡ []
-some_there [] h = refl
-some_there (x ∷ xs) h = absurd (cc)
+links_any : (es : List (Pair × List NumberedPacket)) → list_any (λ e. has_some e.1) es ≡ list_any (λ e. list_any (λ p. true) e.1) es
+links_any [] = refl
+links_any (e ∷ es) = ap₂ (λ a b. a || b) (some_any e.1) (links_any es)
 
 links_same : (links : List (Pair × List NumberedPacket)) (ls : List (Pair × Packet)) → IsTrue (is_sorted pair_cmp links) → ((k : Pair) → packets (list_at pair_cmp k links) ≡ on_link ls k)
     → list_any (λ e. has_some e.1) links ≡ list_any (λ e. true) ls
-links_same links ls o h = by (list_any (λ e. has_some e.1) links) (list_any (λ e. true) ls) refl refl
-  where
-    by : (a b : Bool) → list_any (λ e. has_some e.1) links ≡ a → list_any (λ e. true) ls ≡ b → list_any (λ e. has_some e.1) links ≡ list_any (λ e. true) ls
-    by true true i j = i ∙ sym j
-    by false false i j = i ∙ sym j
-    by true false i j = absurd (
-        let e = some_there ls j in
-        let z = all_fail has_some refl links o (λ k. ap has_some (no_packets (list_at pair_cmp k links) (h k ∙ ap (λ w. on_link w k) e))) in cc)
-    by false true i j = absurd (
-        let e = nothing_on ls (λ k. sym (h k) ∙ ap packets (none_some (list_at pair_cmp k links) (each_fails has_some refl links i k))) in
-        let z : list_any (λ (x : Pair × Packet). true) ls ≡ false = ap (list_any (λ x. true)) e in cc)
+links_same links ls o h = links_any links ∙ any_on_links (λ p. true) links ls o h
 
 -- objects that can step
 
