@@ -1,3 +1,21 @@
--- The lemmas that other crates cite.
+-- The lemmas that other crates cite: on tests and chains of steps, on maps after a change, and the laws of placed machines over any language of objects and any property
+-- that is kept.
 pub use Rattle.mesh_semantics.proofs.Tests.{first, second, both, equal, equals, not_true, true_not, decide, differ, T_true, true_T}
 pub use Rattle.mesh_semantics.proofs.Chains.{same_some, there_is, given_by, required, same_value, same_values, same_error}
+pub use Rattle.mesh_semantics.proofs.Basics.{value_itself, values_itself, item_itself, error_itself}
+pub use Rattle.mesh_semantics.proofs.Maps.{find_put_same, find_put_other, find_without_same, find_without_other, put_list_same, put_list_other, push_list_same, push_list_other}
+pub use Rattle.mesh_semantics.proofs.Owned.{no_part, one_part}
+pub use Rattle.mesh_semantics.proofs.Meshes.{ways}
+pub use Rattle.mesh_semantics.proofs.Fitting.{fit_of}
+pub use Rattle.mesh_semantics.proofs.InOrder.{in_order}
+pub use Rattle.mesh_semantics.proofs.Started.{placed_start_sound}
+pub use Rattle.mesh_semantics.proofs.Events.{act_kept, act_answers, record_shows}
+pub use Rattle.mesh_semantics.proofs.Final.{no_transition}
+pub use Rattle.mesh_semantics.proofs.Idle.{idle_turn, idle_link, turn_idles, link_idles}
+pub use Rattle.mesh_semantics.proofs.Cycles.{every_cycle, is_cycle}
+pub use Rattle.mesh_semantics.proofs.Simulated.{move_same}
+pub use Rattle.mesh_semantics.proofs.SameActs.{act_same, quiet_same}
+pub use Rattle.mesh_semantics.proofs.SameRecords.{records_agree}
+pub use Rattle.mesh_semantics.proofs.SameStandings.{standing_same, cycles_same}
+pub use Rattle.mesh_semantics.proofs.LawfulAcross.{lawful_across}
+pub use Rattle.mesh_semantics.proofs.Across.{sound_across}

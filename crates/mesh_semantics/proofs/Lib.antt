@@ -1,6 +1,5 @@
 pub mod Tests
 pub mod Chains
-pub mod Laws
 pub mod Lists
 pub mod Maps
 pub mod Along
@@ -31,3 +30,4 @@ pub mod Across
 pub mod LawfulAcross
 pub mod SameRecords
 pub mod SameStandings
+pub mod Laws

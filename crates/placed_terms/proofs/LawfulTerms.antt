@@ -24,8 +24,7 @@ use Rattle.pool_relation.specs.Typed.{Typed}
 use Rattle.pool_relation.specs.Transition as X
 use Rattle.mesh_semantics.specs.Partial.{◌>>=◌}
 use Rattle.pool_relation.specs.Transition.{transition, refilled, running}
-use Rattle.mesh_semantics.proofs.Laws.{equals, decide, differ}
-use Rattle.mesh_semantics.proofs.Laws.{same_some}
+use Rattle.mesh_semantics.proofs.Laws.{equals, decide, differ, same_some, find_put_same, find_put_other, no_part, one_part, value_itself}
 use Rattle.pool_relation.proofs.Busy.{Ends, is_statement, statements_busy}
 use Rattle.pool_relation.proofs.Fine.{place, Fine, FineObject}
 use Rattle.pool_relation.proofs.Good.{FitsAt, classes, good_of}
@@ -39,9 +38,6 @@ use Rattle.mesh_semantics.specs.Moves.{first_message}
 use Rattle.mesh_semantics.specs.Sound.{is_wait}
 use Rattle.mesh_semantics.specs.Lawful.{Lawful, CanServe}
 use Rattle.placed_terms.specs.Terms.{kind_of, work_of, terms, plain, as_plain}
-use Rattle.mesh_semantics.proofs.Maps.{find_put_same, find_put_other}
-use Rattle.mesh_semantics.proofs.Owned.{no_part, one_part}
-use Rattle.mesh_semantics.proofs.Basics.{value_itself}
 use Rattle.placed_terms.proofs.Instance.{move_is}
 
 -- an action from its kind

@@ -2,6 +2,8 @@ pub mod Instance
 pub mod LawfulTerms
 pub mod RootClass
 pub mod RunsFrom
+pub mod Writing
+pub mod Laws
 pub mod Words
 pub mod TwoNodes
 mod UnsoundStates
@@ -10,3 +12,4 @@ mod FullHeap
 mod OutOfTheMiddle
 mod RingOfCalls
 pub mod FourNodes
+mod DrawnRuns

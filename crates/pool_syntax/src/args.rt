@@ -1,4 +1,4 @@
-ghost use Rattle.std.specs.Prelude.{◌≡◌, [], ◌∷◌, ◌++◌, ◌<◌, length};
+ghost use Rattle.std.specs.Prelude.{◌≡◌, [], ◌∷◌, ◌++◌, ◌<◌, ◌≤◌, length};
 
 use crate::words::Value;
 use std::marker::Model;
@@ -48,5 +48,13 @@ impl Args {
         ensures { result.now ≡ self.now }
     {
         &self.values[..self.count]
+    }
+
+    /// The number of values.
+    pub fn len(&self) -> usize
+        ensures count { result ≡ length self.now }
+        ensures few { result ≤ 8 }
+    {
+        self.count
     }
 }

@@ -1,5 +1,5 @@
 use Rattle.placed_terms.specs.Terms.{terms}
-use Rattle.mesh_semantics.proofs.Cycles.{every_cycle, is_cycle}
+use Rattle.mesh_semantics.proofs.Laws.{every_cycle, is_cycle}
 use Rattle.placed_terms.proofs.theorems.cycles_are_all_and_no_other.Goals as goal
 
 pub returns-clause-all : goal.returns-clause-all

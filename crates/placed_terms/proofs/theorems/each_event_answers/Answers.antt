@@ -1,7 +1,6 @@
 use Rattle.placed_terms.specs.Terms.{terms}
 use Rattle.placed_terms.specs.RunOf.{TypedTerms}
-use Rattle.mesh_semantics.proofs.Events.{act_answers}
-use Rattle.mesh_semantics.proofs.Fitting.{fit_of}
+use Rattle.mesh_semantics.proofs.Laws.{act_answers, fit_of}
 use Rattle.placed_terms.proofs.LawfulTerms.{lawful}
 use Rattle.placed_terms.proofs.theorems.each_event_answers.Goals as goal
 

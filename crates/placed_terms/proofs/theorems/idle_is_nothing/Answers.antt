@@ -1,5 +1,5 @@
 use Rattle.placed_terms.specs.Terms.{terms}
-use Rattle.mesh_semantics.proofs.Idle.{idle_turn, idle_link, turn_idles, link_idles}
+use Rattle.mesh_semantics.proofs.Laws.{idle_turn, idle_link, turn_idles, link_idles}
 use Rattle.placed_terms.proofs.theorems.idle_is_nothing.Goals as goal
 
 pub returns-clause-turn : goal.returns-clause-turn

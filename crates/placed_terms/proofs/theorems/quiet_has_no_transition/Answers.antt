@@ -1,7 +1,7 @@
 use Rattle.std.proofs.Common.{sym, ap, ◌∙◌}
 use Rattle.placed_terms.specs.Terms.{terms, as_plain}
 use Rattle.placed_terms.specs.RunOf.{TypedTerms}
-use Rattle.mesh_semantics.proofs.Final.{no_transition}
+use Rattle.mesh_semantics.proofs.Laws.{no_transition}
 use Rattle.placed_terms.proofs.Instance.{move_is}
 use Rattle.placed_terms.proofs.theorems.quiet_has_no_transition.Goals as goal
 

@@ -1,0 +1,23 @@
+-- The transitions that a line shows.
+use Rattle.std.specs.Prelude.{Option, Some, None}
+use Rattle.pool_syntax.specs.declared.words.What.{What}
+use Rattle.pool_syntax.specs.declared.words.What.TheVariants as W
+use Rattle.pool_syntax.specs.declared.words.Line.{Line}
+use Rattle.pool_syntax.specs.declared.words.Line.TheVariants as R
+use Rattle.run_record.specs.declared.steps.Steps.{Steps}
+
+-- None where a packet leaves, goes on or arrives, where an object hears of another or of its result, and where nothing was ready
+abbrev pub steps_of_what : What → Option Steps
+steps_of_what (W.Step label times) = Some (record { label = label; times = times })
+steps_of_what (W.PostCreate o c n) = None
+steps_of_what (W.PostCall o p m args) = None
+steps_of_what (W.Arrive o p m) = None
+steps_of_what (W.Created o p) = None
+steps_of_what (W.Result o v) = None
+steps_of_what W.Pass = None
+steps_of_what W.Idle = None
+
+-- None at the end line
+abbrev pub steps_of : Line → Option Steps
+steps_of (R.Event number event what) = steps_of_what what
+steps_of (R.End end) = None
