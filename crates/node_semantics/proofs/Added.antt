@@ -8,14 +8,13 @@ use Rattle.std.specs.FinMap.Entries.{find-put}
 use Rattle.std.proofs.lemmas.Option.{slice_get_past}
 use Rattle.pool_syntax.specs.declared.words.Placement.{Placement}
 use Rattle.mesh_semantics.specs.Tables.{Pair, pair_cmp, list_at}
-use Rattle.mesh_semantics.proofs.Laws.{decide}
+use Rattle.mesh_semantics.proofs.Laws.{decide, find_put_same, find_put_other}
 use Rattle.mesh_semantics.specs.Language.{Language}
 use Rattle.mesh_semantics.specs.Config.{Config, object_of, put_object}
 use Rattle.mesh_semantics.specs.Paths.{on_link}
 use Rattle.mesh_semantics.specs.Delay.{Delay, node_of, slot_of, arrived_at, held, made_by, count_made}
 use Rattle.mesh_semantics.specs.Sound.{entries}
 use Rattle.mesh_semantics.specs.Ways.{In}
-use Rattle.mesh_semantics.proofs.Maps.{find_put_same, find_put_other}
 use Rattle.node_semantics.specs.Node.{NodeState, set_at, name_at, made_here, add_slot, fresh_slot, count_one}
 use Rattle.node_semantics.specs.Machine.{Machine}
 use Rattle.node_semantics.specs.Requests.{Requests}

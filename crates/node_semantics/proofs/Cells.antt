@@ -1,4 +1,4 @@
--- Letters that have arrived, and packets on links, counted in two ways.
+-- The messages in mailboxes and the packets on links, counted by slots and links and by what the delay has.
 use Rattle.std.proofs.Common.{◌≡◌, ◌≢◌, ◌⊎◌, inl, inr, refl, sym, ap, ap₂, subst, ◌∙◌, IsTrue, ℕ, zero, suc, ◌+◌, ◌<◌, ◌≤◌, ◌==◌, List, [], ◌∷◌, length, Some, None, Bool, true, false, cond, if◌then◌else◌, arith}
 use Rattle.std.specs.Prelude.{slice_get}
 use Rattle.std.specs.Option.{unwrap_or}
@@ -105,7 +105,7 @@ counted_letters {S} n es i (s ∷ ss) f =
     suc_is : (j : ℕ) → suc j ≡ j + 1
     suc_is j = omega arith
 
--- the mailbox in the slots of a node are what has arrived at its objects
+-- the mailboxes of a node have what has arrived at its objects
 pub letters_count : {S : Type 0} (n : ℕ) (es : List (ℕ × Arrival)) (ss : List (Slot S)) → length ss ≤ 65536
     → ((j : ℕ) (s : Slot S) → slice_get ss j ≡ Some s → arrivals s.mailbox ≡ under (λ r. r == name_at n j) es)
     → ((q : ℕ) → node_of q ≡ n → length ss ≤ slot_of q → under (λ r. r == q) es ≡ [])

@@ -5,18 +5,16 @@ use Rattle.std.specs.Ordering.{nat_cmp}
 use Rattle.std.specs.FinMap.{find}
 use Rattle.pool_syntax.specs.declared.words.Placement.{Placement}
 use Rattle.mesh_semantics.specs.Tables.{Pair, pair_cmp, list_at, put_list, push_list}
-use Rattle.mesh_semantics.proofs.Laws.{decide}
+use Rattle.mesh_semantics.proofs.Laws.{decide, find_put_same, find_put_other, each_map}
 use Rattle.mesh_semantics.specs.Language.{Language}
 use Rattle.mesh_semantics.specs.Config.{Config, object_of, put_object}
 use Rattle.mesh_semantics.specs.Paths.{under, on_link, put_last, move_head}
 use Rattle.mesh_semantics.specs.Delay.{Arrival, Holding, Delay, node_of, slot_of, arrived_at, held, made_by}
 use Rattle.mesh_semantics.specs.Sound.{Each}
-use Rattle.mesh_semantics.proofs.Maps.{find_put_same, find_put_other}
 use Rattle.node_semantics.specs.Node.{Slot, NumberedPacket, NodeState, set_at}
 use Rattle.node_semantics.specs.Machine.{Machine}
 use Rattle.node_semantics.specs.StandsFor.{slot_at, request_of, HasSlot, PacketFits, MachineStandsFor, CountsMade}
 use Rattle.node_semantics.proofs.Slots.{set_set, set_length, elsewhere, before, after, changed_here, changed_there}
-use Rattle.mesh_semantics.proofs.Basics.{each_map}
 use Rattle.node_semantics.proofs.References.{Same, same_slot, fits_kept}
 use Rattle.node_semantics.proofs.Spots.{Spot, spot, Refers, refers_any, Any, But, spot_kept, spot_same, link_kept}
 use Rattle.node_semantics.proofs.Links.{pushed_sorted, listed_sorted}

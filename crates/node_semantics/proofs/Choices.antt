@@ -9,8 +9,7 @@ use Rattle.pool_syntax.specs.declared.words.Error.{Error}
 use Rattle.pool_syntax.specs.declared.words.Label.TheVariants as L
 use Rattle.pool_syntax.specs.declared.words.Placement.{Placement}
 use Rattle.mesh_semantics.specs.Tables.{without}
-use Rattle.mesh_semantics.proofs.Laws.{equals, first, second}
-use Rattle.mesh_semantics.proofs.Laws.{same_some}
+use Rattle.mesh_semantics.proofs.Laws.{equals, first, second, same_some, find_without_same, find_without_other, values_itself, runs, taken_own, taken_some, is_call_of, none_before, earliest}
 use Rattle.mesh_semantics.specs.Kind as K
 use Rattle.mesh_semantics.specs.Kind.{Kind, Alternative, has_name, answered, answers, is_plain, alternatives}
 use Rattle.mesh_semantics.specs.Language.{Language}
@@ -22,10 +21,6 @@ use Rattle.mesh_semantics.specs.Delay.{Packet, Arrival, Holding, Delay, node_of,
 use Rattle.mesh_semantics.specs.Act.{id, labelled, first_arrival, is_possible, chosen_turn, choice_turn, accept_turn}
 use Rattle.mesh_semantics.specs.Sound.{Each, Entry, Sent, Called, call_by, Owns, OwnedAt, entries, letter}
 use Rattle.mesh_semantics.specs.Lawful.{CanServe}
-use Rattle.mesh_semantics.proofs.Maps.{find_without_same, find_without_other}
-use Rattle.mesh_semantics.proofs.Basics.{values_itself, runs}
-use Rattle.mesh_semantics.proofs.Owned.{taken_own, taken_some, is_call_of}
-use Rattle.mesh_semantics.proofs.Taken.{none_before, earliest}
 use Rattle.node_semantics.specs.Node.{Slot, NumberedArrival, NodeState, set_at, name_at, arrivals, is_on, first_on, serve_act, chosen_act, choice_act}
 use Rattle.node_semantics.specs.Machine.{Machine}
 use Rattle.node_semantics.specs.StandsFor.{request_of, SlotStandsFor, Served, Posted, IsNumberOf, AreNumbersOf, caller_of, MachineStandsFor}
@@ -36,7 +31,7 @@ use Rattle.node_semantics.proofs.Steps.{take_stands}
 use Rattle.node_semantics.proofs.Turning.{Row, Turning, x₁, d₁, spot_here, pick_row}
 use Rattle.node_semantics.proofs.Posts.{stands₁, node₁, aside_same, own_o, slot_o, messages_stand}
 
--- mailbox and the messages in them
+-- a mailbox and the messages in it
 
 first_same : (names : List ℕ) (ls : List NumberedArrival) (f : NumberedArrival) → first_on names ls ≡ Some f → first_arrival names (arrivals ls) ≡ Some f.message
 first_same names [] f h = absurd (cc)

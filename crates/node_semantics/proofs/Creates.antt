@@ -7,8 +7,7 @@ use Rattle.pool_syntax.specs.declared.words.What.TheVariants as Wt
 use Rattle.pool_syntax.specs.declared.words.Place.{Place}
 use Rattle.pool_syntax.specs.declared.words.Place.TheVariants as Pl
 use Rattle.pool_syntax.specs.declared.words.Placement.{Placement}
-use Rattle.mesh_semantics.proofs.Laws.{decide, equals}
-use Rattle.mesh_semantics.proofs.Laws.{same_some}
+use Rattle.mesh_semantics.proofs.Laws.{decide, equals, same_some, find_put_same, find_put_other, runs}
 use Rattle.mesh_semantics.specs.Kind as K
 use Rattle.mesh_semantics.specs.Kind.{Kind}
 use Rattle.mesh_semantics.specs.Language.{Language}
@@ -20,8 +19,6 @@ use Rattle.mesh_semantics.specs.Delay.{Packet, Holding, Delay, node_of, slot_of,
 use Rattle.mesh_semantics.specs.Act as A
 use Rattle.mesh_semantics.specs.Act.{Acted, id, labelled, shows, create_turn, next_name, object_count, goal_by, goal_of, class_place}
 use Rattle.mesh_semantics.specs.Sound.{OwnedAt, entries, is_wait}
-use Rattle.mesh_semantics.proofs.Maps.{find_put_same, find_put_other}
-use Rattle.mesh_semantics.proofs.Basics.{runs}
 use Rattle.node_semantics.specs.Node as N
 use Rattle.node_semantics.specs.Node.{Slot, NumberedPacket, NodeState, NodeActed, set_at, name_at, put_state, put_request, create_act, made_own, made_here, add_slot, count_one, fresh_slot, goal_for, goal_here}
 use Rattle.node_semantics.specs.Machine.{Machine}

@@ -32,3 +32,4 @@ pub mod Starts
 pub mod Quietness
 pub mod Numbers
 pub mod SameLines
+pub mod Laws

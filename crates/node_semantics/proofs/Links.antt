@@ -9,7 +9,7 @@ use Rattle.std.specs.Cmp.{IsTotalOrder, nat_cmp_total, on_total, then_total, tie
 use Rattle.std.specs.FinMap.Entries.{find, put, is_sorted, find-put, find-where_key, is_sorted-put, is_sorted-where_key}
 use Rattle.std.specs.FinMap.{nat_cmp-IsAntisymmetric}
 use Rattle.mesh_semantics.specs.Tables.{Pair, pair_cmp, list_at, put_list, push_list, without}
-use Rattle.mesh_semantics.proofs.Maps.{untied}
+use Rattle.mesh_semantics.proofs.Laws.{untied}
 
 T_true : (b : Bool) → T b → b ≡ true
 T_true true t = refl

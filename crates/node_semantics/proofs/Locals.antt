@@ -10,7 +10,7 @@ use Rattle.pool_syntax.specs.declared.words.Error.{Error}
 use Rattle.pool_syntax.specs.declared.words.Label.TheVariants as L
 use Rattle.pool_syntax.specs.declared.words.Placement.{Placement}
 use Rattle.mesh_semantics.specs.Partial.{◌>>=◌}
-use Rattle.mesh_semantics.proofs.Laws.{same_some}
+use Rattle.mesh_semantics.proofs.Laws.{same_some, find_put_same}
 use Rattle.mesh_semantics.specs.Kind as K
 use Rattle.mesh_semantics.specs.Kind.{Kind, is_local}
 use Rattle.mesh_semantics.specs.Language.{Language}
@@ -18,7 +18,6 @@ use Rattle.mesh_semantics.specs.Config.{Config, object_of, put_object}
 use Rattle.mesh_semantics.specs.Moves.{move}
 use Rattle.mesh_semantics.specs.Delay.{Delay}
 use Rattle.mesh_semantics.specs.Act.{greatest, local_steps, local_turn, step_count, within_frames, frame_count}
-use Rattle.mesh_semantics.proofs.Maps.{find_put_same}
 use Rattle.node_semantics.specs.Node.{Slot, NodeState, set_at, name_at, put_state, local_state, local_act, steps_of, room_for, frames_in}
 use Rattle.node_semantics.specs.Machine.{Machine}
 use Rattle.node_semantics.proofs.Slots.{set_same, at_node, name_node, name_slot}

@@ -2,8 +2,7 @@
 use Rattle.std.proofs.Common.{◌≡◌, ◌⊎◌, inl, inr, refl, sym, ap, ◌∙◌, ℕ, zero, suc, List, [], ◌∷◌, length, replicate, Some, Bool, true, false}
 use Rattle.std.specs.Prelude.{slice_get, ◌==◌}
 use Rattle.std.specs.Option.{unwrap_or}
-use Rattle.mesh_semantics.proofs.Laws.{same_some}
-use Rattle.mesh_semantics.proofs.Laws.{equal, equals}
+use Rattle.mesh_semantics.proofs.Laws.{same_some, equal, equals}
 use Rattle.mesh_semantics.specs.Ways.{In}
 use Rattle.mesh_semantics.specs.Act.{class_place}
 

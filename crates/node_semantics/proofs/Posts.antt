@@ -9,7 +9,7 @@ use Rattle.pool_syntax.specs.declared.words.What.TheVariants as Wt
 use Rattle.pool_syntax.specs.declared.words.Placement.{Placement}
 use Rattle.mesh_semantics.specs.Tables.{Pair}
 use Rattle.mesh_semantics.specs.Message.{Message}
-use Rattle.mesh_semantics.proofs.Laws.{decide, equal, equals}
+use Rattle.mesh_semantics.proofs.Laws.{decide, equal, equals, find_put_same, find_put_other, values_itself, runs}
 use Rattle.mesh_semantics.specs.Kind as K
 use Rattle.mesh_semantics.specs.Kind.{Kind, posts}
 use Rattle.mesh_semantics.specs.Language.{Language}
@@ -22,8 +22,6 @@ use Rattle.mesh_semantics.specs.Act.{id, call_turn, send_turn}
 use Rattle.mesh_semantics.specs.Sound.{OwnedAt, entries, is_wait}
 use Rattle.mesh_semantics.specs.Lawful.{CanServe}
 use Rattle.mesh_semantics.specs.Ways.{In}
-use Rattle.mesh_semantics.proofs.Maps.{find_put_same, find_put_other}
-use Rattle.mesh_semantics.proofs.Basics.{values_itself, runs}
 use Rattle.node_semantics.specs.Node.{Slot, NumberedPacket, NumberedArrival, NodeState, set_at, name_at, put_state, put_request, deliver, deliver_in, message_act}
 use Rattle.node_semantics.specs.Machine.{Machine}
 use Rattle.node_semantics.specs.StandsFor.{slot_at, request_of, request_in, kept_goal_of, kept_goal_in, Free, HasSlot, IsNumberOf, AreNumbersOf, caller_of, MachineStandsFor}

@@ -10,8 +10,7 @@ use Rattle.pool_syntax.specs.declared.words.Error.{Error}
 use Rattle.pool_syntax.specs.declared.words.Label.TheVariants as L
 use Rattle.pool_syntax.specs.declared.words.Placement.{Placement}
 use Rattle.mesh_semantics.specs.Tables.{Pair}
-use Rattle.mesh_semantics.proofs.Laws.{decide, equals}
-use Rattle.mesh_semantics.proofs.Laws.{same_some}
+use Rattle.mesh_semantics.proofs.Laws.{decide, equals, same_some, find_put_same, find_put_other, runs, each_head, moved_own, moved_some, no_part}
 use Rattle.mesh_semantics.specs.Kind as K
 use Rattle.mesh_semantics.specs.Kind.{Kind}
 use Rattle.mesh_semantics.specs.Language.{Language}
@@ -24,9 +23,6 @@ use Rattle.mesh_semantics.specs.Act.{id, shows, received, next_name, object_coun
 use Rattle.mesh_semantics.specs.Sound.{Each, IsPlaced, Has, Entry, Sent, owns, sent_of, called_of, Owns, OwnedAt, entries, IsSound, is_wait}
 use Rattle.mesh_semantics.specs.Lawful.{Lawful}
 use Rattle.mesh_semantics.specs.Ways.{In}
-use Rattle.mesh_semantics.proofs.Maps.{find_put_same, find_put_other}
-use Rattle.mesh_semantics.proofs.Basics.{runs, each_head}
-use Rattle.mesh_semantics.proofs.Owned.{moved_own, moved_some, no_part}
 use Rattle.node_semantics.specs.Node.{Slot, NumberedPacket, NodeState, set_at, name_at, settled, settle_number, created_for, receipt, add_slot}
 use Rattle.node_semantics.specs.Machine.{Machine}
 use Rattle.node_semantics.specs.Requests.{Requests}

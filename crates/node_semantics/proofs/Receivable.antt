@@ -6,8 +6,7 @@ use Rattle.pool_syntax.specs.declared.words.Value.TheVariants as V
 use Rattle.pool_syntax.specs.declared.words.Placement.{Placement}
 use Rattle.mesh_semantics.specs.Tables.{Pair, pair_cmp, list_at, put_list}
 use Rattle.mesh_semantics.specs.Message.{Message}
-use Rattle.mesh_semantics.proofs.Laws.{equals}
-use Rattle.mesh_semantics.proofs.Laws.{same_some}
+use Rattle.mesh_semantics.proofs.Laws.{equals, same_some, each_head, moved_own, moved_some}
 use Rattle.mesh_semantics.specs.Kind as K
 use Rattle.mesh_semantics.specs.Kind.{Kind}
 use Rattle.mesh_semantics.specs.Language.{Language}
@@ -18,8 +17,6 @@ use Rattle.mesh_semantics.specs.Delay.{Packet, Arrival, Holding, Delay, node_of,
 use Rattle.mesh_semantics.specs.Act.{first_of, goal_node}
 use Rattle.mesh_semantics.specs.Sound.{Each, IsPlaced, IsThere, Has, Entry, Sent, Letter, notes, letter, letters, letters_in, Owns, OwnedAt, entries, IsSound}
 use Rattle.mesh_semantics.specs.Lawful.{Lawful}
-use Rattle.mesh_semantics.proofs.Basics.{each_head}
-use Rattle.mesh_semantics.proofs.Owned.{moved_own, moved_some}
 use Rattle.node_semantics.specs.Node.{NodeState, NumberedPacket}
 use Rattle.node_semantics.specs.Machine.{Machine}
 use Rattle.node_semantics.specs.Requests.{Requests}

@@ -1,8 +1,7 @@
 -- Numbers that stand for a request: what a change leaves of them.
 use Rattle.std.proofs.Common.{◌≡◌, ◌≢◌, inl, inr, refl, sym, ap, ◌∙◌, ℕ, ◌==◌, List, [], ◌∷◌, Option, Some, None, Bool, true, false}
 use Rattle.mesh_semantics.specs.Tables.{Pair}
-use Rattle.mesh_semantics.proofs.Laws.{equals}
-use Rattle.mesh_semantics.proofs.Laws.{same_some}
+use Rattle.mesh_semantics.proofs.Laws.{equals, same_some, is_call_of}
 use Rattle.mesh_semantics.specs.Kind as K
 use Rattle.mesh_semantics.specs.Kind.{Kind}
 use Rattle.mesh_semantics.specs.Language.{Language}
@@ -12,7 +11,6 @@ use Rattle.mesh_semantics.specs.Delay as D
 use Rattle.mesh_semantics.specs.Delay.{Packet, Arrival, Holding, Delay, arrived_at, held}
 use Rattle.mesh_semantics.specs.Sound.{Each, Sent, owns, sent_of, called_of, is_wait}
 use Rattle.mesh_semantics.specs.Ways.{In}
-use Rattle.mesh_semantics.proofs.Owned.{is_call_of}
 use Rattle.node_semantics.specs.Node.{Slot, NumberedPacket, NumberedArrival, arrivals}
 use Rattle.node_semantics.specs.Machine.{Machine}
 use Rattle.node_semantics.specs.Requests.{Requests}

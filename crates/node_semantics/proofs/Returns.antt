@@ -9,8 +9,7 @@ use Rattle.pool_syntax.specs.declared.words.Label.TheVariants as L
 use Rattle.pool_syntax.specs.declared.words.What.TheVariants as Wt
 use Rattle.pool_syntax.specs.declared.words.Placement.{Placement}
 use Rattle.mesh_semantics.specs.Tables.{Pair, pair_cmp, list_at, push_list}
-use Rattle.mesh_semantics.proofs.Laws.{decide, equal, equals}
-use Rattle.mesh_semantics.proofs.Laws.{same_some}
+use Rattle.mesh_semantics.proofs.Laws.{decide, equal, equals, same_some, find_put_same, find_put_other, find_without_same, find_without_other, value_itself, runs}
 use Rattle.mesh_semantics.specs.Kind as K
 use Rattle.mesh_semantics.specs.Kind.{Kind, Alternative, returns, waits_on}
 use Rattle.mesh_semantics.specs.Language.{Language}
@@ -22,8 +21,6 @@ use Rattle.mesh_semantics.specs.Delay.{Packet, Arrival, Holding, Delay, node_of,
 use Rattle.mesh_semantics.specs.Act.{shows, return_turn}
 use Rattle.mesh_semantics.specs.Sound.{Each, Owns, OwnedAt, entries}
 use Rattle.mesh_semantics.specs.Ways.{In}
-use Rattle.mesh_semantics.proofs.Maps.{find_put_same, find_put_other, find_without_same, find_without_other}
-use Rattle.mesh_semantics.proofs.Basics.{value_itself, runs}
 use Rattle.node_semantics.specs.Node.{Slot, NumberedPacket, NodeState, set_at, name_at, arrivals, settled, give_back, return_act}
 use Rattle.node_semantics.specs.Machine.{Machine}
 use Rattle.node_semantics.specs.StandsFor.{slot_at, request_of, request_in, SlotStandsFor, Free, Served, Due, HasSlot, PacketFits, IsNumberOf, AreNumbersOf, caller_of, MachineStandsFor}

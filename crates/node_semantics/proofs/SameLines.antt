@@ -16,7 +16,7 @@ use Rattle.mesh_semantics.specs.Sound.{Each, IsSound}
 use Rattle.mesh_semantics.specs.Lawful.{Lawful}
 use Rattle.mesh_semantics.specs.Fit.{Fit}
 use Rattle.mesh_semantics.specs.Kept.{After}
-use Rattle.mesh_semantics.proofs.Events.{act_kept}
+use Rattle.mesh_semantics.proofs.Laws.{act_kept}
 use Rattle.node_semantics.specs.Machine as M
 use Rattle.node_semantics.specs.Machine.{Machine, MachineActed, machine_act, machine_start, is_machine_quiet}
 use Rattle.node_semantics.specs.Requests.{Requests}

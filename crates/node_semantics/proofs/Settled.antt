@@ -2,8 +2,7 @@
 use Rattle.std.proofs.Common.{◌≡◌, refl, ap, ℕ, zero, suc, List, [], ◌∷◌, Option, Some, None, Bool, true, false, arith}
 use Rattle.std.specs.Prelude.{slice_get}
 use Rattle.pool_syntax.specs.declared.words.Value.{Value}
-use Rattle.mesh_semantics.proofs.Laws.{equal, equals}
-use Rattle.mesh_semantics.proofs.Laws.{same_some}
+use Rattle.mesh_semantics.proofs.Laws.{equal, equals, same_some}
 use Rattle.mesh_semantics.specs.Language.{Language}
 use Rattle.node_semantics.specs.Node.{Slot, set_at, has_number, settled}
 

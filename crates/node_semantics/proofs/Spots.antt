@@ -8,8 +8,7 @@ use Rattle.mesh_semantics.specs.Delay.{Packet, Arrival, Holding, Delay, arrived_
 use Rattle.pool_syntax.specs.declared.words.Placement.{Placement}
 use Rattle.mesh_semantics.specs.Sound.{Each, entries, sent_of, called_of}
 use Rattle.mesh_semantics.specs.Ways.{In}
-use Rattle.mesh_semantics.proofs.Owned.{no_part}
-use Rattle.mesh_semantics.proofs.Basics.{each_map}
+use Rattle.mesh_semantics.proofs.Laws.{no_part, each_map}
 use Rattle.node_semantics.specs.Node.{Slot, NumberedPacket, arrivals}
 use Rattle.node_semantics.specs.Machine.{Machine}
 use Rattle.node_semantics.specs.StandsFor.{slot_at, Occupied, AtName, IsNumberOf, AreNumbersOf, caller_of, owner_of, HasSlot, PacketFits, packets, MailboxFits, CallersFit, MachineStandsFor}

@@ -6,8 +6,7 @@ use Rattle.std.specs.FinMap.{find, put}
 use Rattle.pool_syntax.specs.declared.words.Value.{Value}
 use Rattle.pool_syntax.specs.declared.words.Placement.{Placement}
 use Rattle.mesh_semantics.specs.Tables.{without}
-use Rattle.mesh_semantics.proofs.Laws.{decide, equals, differ}
-use Rattle.mesh_semantics.proofs.Laws.{same_some}
+use Rattle.mesh_semantics.proofs.Laws.{decide, equals, differ, same_some, find_put_same, find_put_other, find_without_same, find_without_other, under-append, under_taken, under_other, each_append, each_without}
 use Rattle.mesh_semantics.specs.Kind.{has_name}
 use Rattle.mesh_semantics.specs.Language.{Language}
 use Rattle.mesh_semantics.specs.Config.{Config, object_of, put_object}
@@ -16,10 +15,6 @@ use Rattle.mesh_semantics.specs.Delay as D
 use Rattle.mesh_semantics.specs.Delay.{Packet, Arrival, Holding, Delay, node_of, slot_of, arrived_at, held, made_by, count_made, is_for}
 use Rattle.mesh_semantics.specs.Sound.{Each, entries}
 use Rattle.mesh_semantics.specs.Ways.{In}
-use Rattle.mesh_semantics.proofs.Maps.{find_put_same, find_put_other, find_without_same, find_without_other}
-use Rattle.mesh_semantics.proofs.Lists.{under-append}
-use Rattle.mesh_semantics.proofs.Taken.{under_taken, under_other}
-use Rattle.mesh_semantics.proofs.Basics.{each_append, each_without}
 use Rattle.node_semantics.specs.Node.{Slot, NumberedArrival, NodeState, arrivals, is_on}
 use Rattle.node_semantics.specs.Machine.{Machine}
 use Rattle.node_semantics.specs.Requests.{posts_request}

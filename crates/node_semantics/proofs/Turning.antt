@@ -10,7 +10,7 @@ use Rattle.pool_syntax.specs.declared.words.Label.TheVariants as L
 use Rattle.pool_syntax.specs.declared.words.What.TheVariants as Wt
 use Rattle.pool_syntax.specs.declared.words.Placement.{Placement}
 use Rattle.mesh_semantics.specs.Tables.{Pair, pair_cmp, list_at}
-use Rattle.mesh_semantics.proofs.Laws.{decide}
+use Rattle.mesh_semantics.proofs.Laws.{decide, find_put_same, find_put_other, item_itself, error_itself, runs}
 use Rattle.mesh_semantics.specs.Kind as K
 use Rattle.mesh_semantics.specs.Kind.{Kind, Alternative}
 use Rattle.mesh_semantics.specs.Language.{Language}
@@ -22,8 +22,6 @@ use Rattle.mesh_semantics.specs.Act as A
 use Rattle.mesh_semantics.specs.Act.{Acted, labelled, shows}
 use Rattle.mesh_semantics.specs.Sound.{Each, IsSound}
 use Rattle.mesh_semantics.specs.Lawful.{Lawful}
-use Rattle.mesh_semantics.proofs.Maps.{find_put_same, find_put_other}
-use Rattle.mesh_semantics.proofs.Basics.{item_itself, error_itself, runs}
 use Rattle.node_semantics.specs.Node as N
 use Rattle.node_semantics.specs.Node.{Slot, NumberedPacket, NumberedArrival, NodeState, NodeActed, set_at, name_at, put_state, arrivals}
 use Rattle.node_semantics.specs.Machine.{Machine, post_packet}
