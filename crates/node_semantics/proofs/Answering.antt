@@ -16,7 +16,7 @@ use Rattle.mesh_semantics.specs.Paths.{on_link, move_head}
 use Rattle.pool_syntax.specs.declared.words.FullKind.{FullKind}
 use Rattle.pool_syntax.specs.declared.words.FullKind.TheVariants as F
 use Rattle.node_semantics.specs.Node as N
-use Rattle.node_semantics.specs.Node.{NumberedPacket, NodeState, NodeActed, turn_act, receipt_act, receipt, created_for, within_node, message_count, frames_in, one_if}
+use Rattle.node_semantics.specs.Node.{NumberedPacket, NodeState, NodeActed, turn_act, receipt_act, receipt, created_for, within_node, message_count, frames_in, packet_count}
 use Rattle.node_semantics.specs.Machine.{Machine, after_node, turn_in, leaving}
 use Rattle.node_semantics.specs.Requests.{Requests}
 use Rattle.node_semantics.specs.StandsFor.{MachineStandsFor, PacketFits, request_of}
@@ -60,7 +60,7 @@ module _ {S : Type 0} (g : Language S) where
   within_answers l z N.Idle h e = cc
   within_answers l z (N.Full k) h e = cc
   within_answers l z (N.Acts w p x) h e = limited (nat_lt l.objects (length x.slots)) F.Heap _ (limited (nat_lt l.frames (frames_in g x.slots)) F.Frames _
-      (limited (nat_lt l.cells (message_count x.slots + z + one_if p)) F.Cells (N.Acts w p x) h)) e
+      (limited (nat_lt l.cells (message_count x.slots + z + packet_count p)) F.Cells (N.Acts w p x) h)) e
 
   -- an object can be made of each class
   module _ (makes : (k : ℕ) → In k g.classes → g.made k ≢ None) where

@@ -6,6 +6,7 @@ pub use Rattle.node_semantics.proofs.Events.{event_agrees}
 pub use Rattle.node_semantics.proofs.Quietness.{quiet_agrees}
 pub use Rattle.node_semantics.proofs.SameLines.{same_lines}
 pub use Rattle.node_semantics.proofs.Numbers.{numbers_exist}
+pub use Rattle.node_semantics.proofs.Outstanding.{outstanding}
 pub use Rattle.node_semantics.proofs.Receivable.{head_is_receivable}
 pub use Rattle.node_semantics.proofs.Answering.{receive_answers}
 pub use Rattle.node_semantics.proofs.Turns.{turn_answers_alone}

@@ -32,4 +32,5 @@ pub mod Starts
 pub mod Quietness
 pub mod Numbers
 pub mod SameLines
+pub mod Outstanding
 pub mod Laws

@@ -17,7 +17,7 @@ use Rattle.mesh_semantics.specs.Act as A
 use Rattle.mesh_semantics.specs.Act.{Acted, within, object_count, frame_count, goal_node, is_ready, ready_at, turn_of, can_step, first_of, or_else}
 use Rattle.mesh_semantics.specs.Lawful.{Lawful}
 use Rattle.node_semantics.specs.Node as N
-use Rattle.node_semantics.specs.Node.{Slot, NumberedPacket, NumberedArrival, NodeState, NodeActed, name_at, set_at, arrivals, frames_in, message_count, one_if, within_node, can_go, ready_slots, slot_in_turn, placed}
+use Rattle.node_semantics.specs.Node.{Slot, NumberedPacket, NumberedArrival, NodeState, NodeActed, name_at, set_at, arrivals, frames_in, message_count, packet_count, within_node, can_go, ready_slots, slot_in_turn, placed}
 use Rattle.node_semantics.specs.Machine.{Machine, leaving, post_packet, after_node}
 use Rattle.node_semantics.specs.Requests.{Requests}
 use Rattle.node_semantics.specs.StandsFor.{slot_at, SlotStandsFor, Free, Served, Posted, Due, IsOut, MachineStandsFor}
@@ -36,7 +36,7 @@ total_last f (x ∷ xs) y = ap (λ n. f x + n) (total_last f xs y) ∙ (omega ar
 
 module _ {S : Type 0} (g : Language S) (W : Config S → Type 0) (law : Lawful g W) (req : Requests g W) (l : Placement) where
   module _ (m : Machine S) (c : Config S) (d : Delay) (st : MachineStandsFor g l m c d) (n : ℕ) (x : NodeState S) (node : slice_get m.nodes n ≡ Some x) where
-    pub leaves : (p : Option NumberedPacket) → leaving (post_packet l n p m.links) n ≡ leaving m.links n + one_if p
+    pub leaves : (p : Option NumberedPacket) → leaving (post_packet l n p m.links) n ≡ leaving m.links n + packet_count p
     leaves None = omega arith
     leaves (Some e) =
         let key : Pair = (n, next l n (goal_node e.packet)) in
@@ -49,7 +49,7 @@ module _ {S : Type 0} (g : Language S) (W : Config S → Type 0) (law : Lawful g
     within_acts : (w : What) (p : Option NumberedPacket) (y : NodeState S) (c' : Config S) (d' : Delay) → W c'
         → MachineStandsFor g l (record { nodes = set_at m.nodes n y; links = post_packet l n p m.links }) c' d'
         → Agrees g l (after_node l n m (within_node g l (leaving m.links n) (N.Acts w p y))) (within g l n (A.Acts w c' d'))
-    within_acts w p y c' d' k h = by (nat_lt l.objects (length y.slots)) (nat_lt l.frames (frames_in g y.slots)) (nat_lt l.cells (message_count y.slots + leaving m.links n + one_if p)) refl refl refl
+    within_acts w p y c' d' k h = by (nat_lt l.objects (length y.slots)) (nat_lt l.frames (frames_in g y.slots)) (nat_lt l.cells (message_count y.slots + leaving m.links n + packet_count p)) refl refl refl
       where
         m' : Machine S
         m' = record { nodes = set_at m.nodes n y; links = post_packet l n p m.links }
@@ -63,11 +63,11 @@ module _ {S : Type 0} (g : Language S) (W : Config S → Type 0) (law : Lawful g
         frames : frame_count g c' n ≡ frames_in g y.slots
         frames = sym (frames_count g W law req l m' c' d' h k n y node')
 
-        cells : cell_count d' n ≡ message_count y.slots + leaving m.links n + one_if p
+        cells : cell_count d' n ≡ message_count y.slots + leaving m.links n + packet_count p
         cells = let a = leaves p in let b = cells_count g W law req l m' c' d' h k n y node' in omega (arith, a, b)
 
         by : (t u v : Bool) → nat_lt l.objects (length y.slots) ≡ t → nat_lt l.frames (frames_in g y.slots) ≡ u
-            → nat_lt l.cells (message_count y.slots + leaving m.links n + one_if p) ≡ v
+            → nat_lt l.cells (message_count y.slots + leaving m.links n + packet_count p) ≡ v
             → Agrees g l (after_node l n m (within_node g l (leaving m.links n) (N.Acts w p y))) (within g l n (A.Acts w c' d'))
         by true u v i j z = rw (objects, i) (refl, refl)
         by false true v i j z = rw (objects, i, frames, j) (refl, refl)

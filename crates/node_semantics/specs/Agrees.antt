@@ -1,4 +1,4 @@
--- That a machine answers an event as what it stands for does, and stands for what is after it.
+-- That a machine answers an event as what it stands for does, and stands for what is after it; and what is asked of an event and its number.
 use Rattle.std.specs.Prelude.{◌≡◌, ◌≢◌, ◌<◌, ◌*◌, ℕ, Option, Some, None}
 use Rattle.pool_syntax.specs.declared.words.Event.{Event}
 use Rattle.pool_syntax.specs.declared.words.Event.TheVariants as Ev
@@ -12,6 +12,7 @@ use Rattle.node_semantics.specs.Machine as M
 use Rattle.node_semantics.specs.Machine.{Machine, MachineActed}
 use Rattle.node_semantics.specs.StandsFor.{MachineStandsFor, request_of}
 
+-- the same line, and the machine then stands for what is after it; or the same limit
 abbrev pub Agrees : {S : Type 0} → Language S → Placement → MachineActed S → Acted S → Type 0
 Agrees g l (M.Acts w m) (A.Acts v c d) = (w ≡ v) × MachineStandsFor g l m c d
 Agrees g l (M.Acts w m) (A.Full k n) = ⊥
@@ -31,6 +32,7 @@ abbrev pub IsFresh : {S : Type 0} → Machine S → ℕ → Event → Type 0
 IsFresh m fresh (Ev.Turn n) = (o : ℕ) → node_of o ≡ n → request_of m o ≢ Some fresh
 IsFresh m fresh (Ev.Link a b) = Unit {0}
 
+-- the machine stands for the start, or there is neither
 abbrev pub StartAgrees : {S : Type 0} → Language S → Placement → Option (Machine S) → Option (Config S) → Type 0
 StartAgrees g l (Some m) (Some c) = MachineStandsFor g l m c no_delay
 StartAgrees g l None None = Unit {0}

@@ -20,6 +20,7 @@ ghost use Rattle.node_semantics.specs.Node.{NodeState, NumberedPacket, Slot, fra
 ghost use Rattle.node_semantics.specs.Machine.{Machine, is_machine_quiet, leaving, machine_act, machine_start};
 ghost use Rattle.node_semantics.specs.Requests.{Requests};
 ghost use Rattle.node_semantics.specs.StandsFor.{MachineStandsFor, slot_at};
+ghost use Rattle.node_semantics.specs.Outstanding.{AreServed, Outstanding};
 ghost use Rattle.node_semantics.specs.Agrees.{Agrees, IsFresh, IsOfMesh, StartAgrees};
 ghost use Rattle.node_semantics.specs.Written.{FreshAlong, machine_lines};
 ghost use Rattle.node_semantics.specs.Receives.{IsReceivable, KnownNames};
@@ -55,6 +56,12 @@ pub fn a_machine_writes_the_record<S, K>()
 /// For each schedule there are such numbers.
 pub fn there_are_fresh_numbers<S>()
     ensures { (g : Language S) (l : Placement) (q : ℕ) (es : List Event) → (numbers : List ℕ) × FreshAlong g l q es numbers }
+{}
+
+/// A number that is out at a node is that of one object, and these objects are exactly those that are posted, at a wait, or due, if whom an object waits for serves it.
+pub fn numbers_that_are_out_name_waiting_objects<S, K>()
+    ensures { (g : Language S) (kept : K → Config S) (l : Placement) (m : Machine S) (c : Config S) (d : Delay) (n : ℕ)
+        → Requests g (IsGiven kept) → AreServed g (IsGiven kept) → IsGiven kept c → MachineStandsFor g l m c d → Outstanding g m c d n }
 {}
 
 /// A packet that comes off a link at its goal is one that its node may be given.
