@@ -7,7 +7,7 @@ use Rattle.std.specs.declared.cmp.Ordering.TheVariants.{Less, Equal, Greater}
 use Rattle.std.specs.FinMap.{find}
 use Rattle.std.specs.FinMap.Entries.{is_sorted, below_all}
 use Rattle.std.proofs.lemmas.List.Sums.{sum_by-cons}
-use Rattle.mesh_semantics.proofs.Laws.{decide, equal, equals, first, second}
+use Rattle.mesh_semantics.proofs.Laws.{decide, equal, equals, first, second, each_map}
 use Rattle.mesh_semantics.specs.Paths.{total}
 use Rattle.mesh_semantics.specs.Delay.{node_of, slot_of}
 use Rattle.mesh_semantics.specs.Act.{first_of}
@@ -18,10 +18,10 @@ use Rattle.node_semantics.proofs.Slots.{whole_name, name_node, name_slot}
 -- what is looked up in a map
 
 module _ {Y : Type 0} where
-  find_head : (q : ℕ) (y : Y) (es : List (ℕ × Y)) → find nat_cmp q ((q, y) ∷ es) ≡ Some y
+  pub find_head : (q : ℕ) (y : Y) (es : List (ℕ × Y)) → find nat_cmp q ((q, y) ∷ es) ≡ Some y
   find_head q y es = let e : nat_cmp q q ≡ Equal = grind arith in rw e refl
 
-  find_skip : (q : ℕ) (e : ℕ × Y) (es : List (ℕ × Y)) → q ≢ e.0 → find nat_cmp q (e ∷ es) ≡ find nat_cmp q es
+  pub find_skip : (q : ℕ) (e : ℕ × Y) (es : List (ℕ × Y)) → q ≢ e.0 → find nat_cmp q (e ∷ es) ≡ find nat_cmp q es
   find_skip q e es n = by (nat_cmp q e.0) refl
     where
       by : (r : Ordering) → nat_cmp q e.0 ≡ r → find nat_cmp q (e ∷ es) ≡ find nat_cmp q es
@@ -29,7 +29,7 @@ module _ {Y : Type 0} where
       by Greater i = rw i refl
       by Equal i = absurd (let z : q ≡ e.0 = grind (arith, i) in n z)
 
-  each_below : (k : ℕ) (es : List (ℕ × Y)) → IsTrue (below_all nat_cmp k es) → Each (λ e. k < e.0) es
+  pub each_below : (k : ℕ) (es : List (ℕ × Y)) → IsTrue (below_all nat_cmp k es) → Each (λ e. k < e.0) es
   each_below k [] h = tt
   each_below k (e ∷ es) h = (
     let z = first (is_lt (nat_cmp k e.0)) (below_all nat_cmp k es) h in under (nat_cmp k e.0) refl z,
@@ -44,10 +44,6 @@ module _ {Y : Type 0} where
   find_absent : (q : ℕ) (es : List (ℕ × Y)) → Each (λ e. q < e.0) es → find nat_cmp q es ≡ None
   find_absent q [] h = refl
   find_absent q (e ∷ es) h = find_skip q e es (λ z. absurd (let a = h.0 in omega (arith, a, z))) ∙ find_absent q es h.1
-
-each_lower : {Y : Type 0} (P Q : Y → Type 0) → ((x : Y) → P x → Q x) → (xs : List Y) → Each P xs → Each Q xs
-each_lower P Q f [] h = tt
-each_lower P Q f (x ∷ xs) h = (f x h.0, each_lower P Q f xs h.1)
 
 module _ {X Y : Type 0} (R : ℕ → X → Y → Type 0) where
   -- at a name there are both or neither
@@ -92,7 +88,7 @@ module _ {X Y : Type 0} (R : ℕ → X → Y → Type 0) where
             → ((q : ℕ) → node_of q ≡ n → i ≤ slot_of q → Meets q (slice_get ss (slot_of q - i)) (find nat_cmp q es)) → Rows i (filter at es) ss
 
         higher : node_of e.0 ≡ n → slot_of e.0 ≡ i → Each (λ z. node_of z.0 ≡ n → i + 1 ≤ slot_of z.0) es
-        higher a b = each_lower (λ z. e.0 < z.0) (λ z. node_of z.0 ≡ n → i + 1 ≤ slot_of z.0) (λ z h k. omega (arith, h, k, a, b)) es above
+        higher a b = each_map (λ z. e.0 < z.0) (λ z. node_of z.0 ≡ n → i + 1 ≤ slot_of z.0) (λ z h k. omega (arith, h, k, a, b)) es above
 
         next : (s : X) (zs : List X) → ss ≡ s ∷ zs → node_of e.0 ≡ n → slot_of e.0 ≡ i → (q : ℕ) → node_of q ≡ n → i + 1 ≤ slot_of q
             → Meets q (slice_get zs (slot_of q - (i + 1))) (find nat_cmp q es)
@@ -124,7 +120,7 @@ module _ {X Y : Type 0} (R : ℕ → X → Y → Type 0) where
             let small : i < 65536 = omega (arith, f, c) in
             let q : slot_of (name_at n i) ≡ i = name_slot n i small in
             let v : name_at n i < e.0 = let y = whole_name e.0 in omega (arith, a, b, u, y) in
-            let none : find nat_cmp (name_at n i) (e ∷ es) ≡ None = find_absent (name_at n i) (e ∷ es) (v, each_lower (λ z. e.0 < z.0) (λ z. name_at n i < z.0) (λ z h. omega (arith, h, v)) es above) in
+            let none : find nat_cmp (name_at n i) (e ∷ es) ≡ None = find_absent (name_at n i) (e ∷ es) (v, each_map (λ z. e.0 < z.0) (λ z. name_at n i < z.0) (λ z h. omega (arith, h, v)) es above) in
             let k : slot_of (name_at n i) - i ≡ 0 = omega (arith, q) in
             let w = look (name_at n i) (name_node n i small) (omega (arith, q)) in
             subst (λ (p : List X × ℕ × Option Y). Meets (name_at n i) (slice_get p.0 p.1) p.2) (λ t. (j t, k t, none t)) w

@@ -5,6 +5,7 @@ pub use Rattle.node_semantics.proofs.Starts.{start_agrees}
 pub use Rattle.node_semantics.proofs.Events.{event_agrees}
 pub use Rattle.node_semantics.proofs.Quietness.{quiet_agrees}
 pub use Rattle.node_semantics.proofs.SameLines.{same_lines}
+pub use Rattle.node_semantics.proofs.Faults.{class_kept, fault_kept, any_fault}
 pub use Rattle.node_semantics.proofs.Numbers.{numbers_exist}
 pub use Rattle.node_semantics.proofs.Outstanding.{outstanding}
 pub use Rattle.node_semantics.proofs.Receivable.{head_is_receivable}

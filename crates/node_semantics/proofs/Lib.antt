@@ -33,4 +33,5 @@ pub mod Quietness
 pub mod Numbers
 pub mod SameLines
 pub mod Outstanding
+pub mod Faults
 pub mod Laws

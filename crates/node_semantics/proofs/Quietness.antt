@@ -27,7 +27,7 @@ use Rattle.node_semantics.proofs.Limits.{Chosen, NoOne, One}
 use Rattle.node_semantics.proofs.Moves.{there_at}
 
 -- Booleans that imply each other
-same_bool : (a b : Bool) → (a ≡ true → b ≡ true) → (b ≡ true → a ≡ true) → a ≡ b
+pub same_bool : (a b : Bool) → (a ≡ true → b ≡ true) → (b ≡ true → a ≡ true) → a ≡ b
 same_bool true b f h = sym (f refl)
 same_bool false true f h = h refl
 same_bool false false f h = refl
@@ -56,7 +56,7 @@ first_some t (x ∷ xs) = by (t x) refl (first_some t xs)
     by true i k = rw i refl
     by false i k = rw i k
 
-one_of : {X : Type 0} (t : X → Bool) (xs : List X) → list_any t xs ≡ true → (i : ℕ) × (x : X) × (slice_get xs i ≡ Some x) × (t x ≡ true)
+pub one_of : {X : Type 0} (t : X → Bool) (xs : List X) → list_any t xs ≡ true → (i : ℕ) × (x : X) × (slice_get xs i ≡ Some x) × (t x ≡ true)
 one_of t [] h = absurd (cc)
 one_of {X} t (x ∷ xs) h = by (t x) refl (one_of t xs)
   where
@@ -64,7 +64,7 @@ one_of {X} t (x ∷ xs) h = by (t x) refl (one_of t xs)
     by true i k = (zero, x, refl, i)
     by false i k = let z = k (rw i at h) in (suc z.0, z.1, z.2, z.3)
 
-of_one : {X : Type 0} (t : X → Bool) (xs : List X) (i : ℕ) (x : X) → slice_get xs i ≡ Some x → t x ≡ true → list_any t xs ≡ true
+pub of_one : {X : Type 0} (t : X → Bool) (xs : List X) (i : ℕ) (x : X) → slice_get xs i ≡ Some x → t x ≡ true → list_any t xs ≡ true
 of_one t [] i x h e = absurd (cc)
 of_one t (y ∷ xs) zero x h e = let z : y ≡ x = cc in rw (z, e) refl
 of_one t (y ∷ xs) (suc i) x h e = by (t y) (of_one t xs i x h e)
@@ -73,7 +73,7 @@ of_one t (y ∷ xs) (suc i) x h e = by (t y) (of_one t xs i x h e)
     by true r = refl
     by false r = r
 
-key_there : {X : Type 0} (es : List (ℕ × X)) (i : ℕ) (e : ℕ × X) → slice_get es i ≡ Some e → (x : X) × (find nat_cmp e.0 es ≡ Some x)
+pub key_there : {X : Type 0} (es : List (ℕ × X)) (i : ℕ) (e : ℕ × X) → slice_get es i ≡ Some e → (x : X) × (find nat_cmp e.0 es ≡ Some x)
 key_there [] i e h = absurd (cc)
 key_there {X} (y ∷ es) zero e h = by (nat_cmp e.0 y.0) refl
   where

@@ -75,6 +75,10 @@ any_ready g n (x ∷ xs) = is_some (first_of (ready_slots g n x)) || any_ready g
 abbrev pub is_machine_quiet : {S : Type 0} → Language S → Machine S → Bool
 is_machine_quiet g m = not (list_any (λ e. has_some e.1) m.links) && not (any_ready g 0 m.nodes)
 
+-- an object has met an error
+abbrev pub any_faulted : {S : Type 0} → Language S → Machine S → Bool
+any_faulted g m = list_any (λ x. list_any (λ s. is_some (g.fault s.state)) x.slots) m.nodes
+
 -- a node without objects: a count for each class
 abbrev pub empty_node : {S : Type 0} → Language S → NodeState S
 empty_node g = record { slots = []; last = None; made = replicate (length g.classes) 0 }

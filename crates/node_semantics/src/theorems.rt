@@ -1,6 +1,7 @@
 //! Laws of machines of nodes, over the definitions alone: each is the contract of a function that does nothing. They hold of any language of objects whose states are
 //! the type parameter `S`. What is kept of a configuration is a property: a contract ranges over it as over what a function gives, from the type parameter `K`.
-ghost use Rattle.std.specs.Prelude.{◌≡◌, ◌≢◌, ◌+◌, ℕ, List, ◌∷◌, None, Some, length, slice_get};
+ghost use Rattle.std.specs.Prelude.{◌≡◌, ◌≢◌, ◌+◌, ℕ, List, ◌∷◌, None, Some, is_some, length, slice_get};
+ghost use Rattle.std.specs.List.{list_any};
 ghost use Rattle.pool_syntax.specs.declared.words.Event.{Event};
 ghost use Rattle.pool_syntax.specs.declared.words.Placement.{Placement};
 ghost use Rattle.mesh_semantics.specs.Tables.{pair_cmp, list_at};
@@ -17,8 +18,8 @@ ghost use Rattle.mesh_semantics.specs.Lawful.{Lawful};
 ghost use Rattle.mesh_semantics.specs.Given.{IsGiven};
 ghost use Rattle.node_semantics.specs.Node as N;
 ghost use Rattle.node_semantics.specs.Node.{NodeState, NumberedPacket, Slot, frames_in, message_count, receipt_act, turn_act};
-ghost use Rattle.node_semantics.specs.Machine.{Machine, is_machine_quiet, leaving, machine_act, machine_start};
-ghost use Rattle.node_semantics.specs.Requests.{Requests};
+ghost use Rattle.node_semantics.specs.Machine.{Machine, any_faulted, is_machine_quiet, leaving, machine_act, machine_start};
+ghost use Rattle.node_semantics.specs.Requests.{KeepsClassAndFault, Requests};
 ghost use Rattle.node_semantics.specs.StandsFor.{MachineStandsFor, slot_at};
 ghost use Rattle.node_semantics.specs.Outstanding.{AreServed, Outstanding};
 ghost use Rattle.node_semantics.specs.Agrees.{Agrees, IsFresh, IsOfMesh, StartAgrees};
@@ -108,4 +109,14 @@ pub fn a_machine_says_where_an_object_stands<S, K>()
         → object_of c o ≡ Some x → machine_standing g m o ≡ Some (standing g d o x) }
     ensures absent { (g : Language S) (l : Placement) (m : Machine S) (c : Config S) (d : Delay) (o : ℕ) → MachineStandsFor g l m c d
         → object_of c o ≡ None → machine_standing g m o ≡ None }
+{}
+
+/// An object's slot has its class and its fault; and an object of the machine has a fault exactly where one of what it stands for has.
+pub fn a_machine_keeps_class_and_fault<S, K>()
+    ensures class { (g : Language S) (l : Placement) (m : Machine S) (c : Config S) (d : Delay) (o : ℕ) (x : S) (s : Slot S) → KeepsClassAndFault g → MachineStandsFor g l m c d
+        → object_of c o ≡ Some x → slot_at m o ≡ Some s → g.class s.state ≡ g.class x }
+    ensures fault { (g : Language S) (l : Placement) (m : Machine S) (c : Config S) (d : Delay) (o : ℕ) (x : S) (s : Slot S) → KeepsClassAndFault g → MachineStandsFor g l m c d
+        → object_of c o ≡ Some x → slot_at m o ≡ Some s → g.fault s.state ≡ g.fault x }
+    ensures any { (g : Language S) (kept : K → Config S) (l : Placement) (m : Machine S) (c : Config S) (d : Delay) → Lawful g (IsGiven kept) → KeepsClassAndFault g
+        → IsGiven kept c → MachineStandsFor g l m c d → any_faulted g m ≡ list_any (λ e. is_some (g.fault e.1)) c.objects }
 {}
