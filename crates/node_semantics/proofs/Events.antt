@@ -10,14 +10,14 @@ use Rattle.mesh_semantics.specs.Kind as K
 use Rattle.mesh_semantics.specs.Kind.{Kind, Alternative}
 use Rattle.mesh_semantics.specs.Language.{Language}
 use Rattle.mesh_semantics.specs.Config.{Config, object_of}
-use Rattle.mesh_semantics.specs.Delay.{Delay, node_of, held, stepped_last}
+use Rattle.mesh_semantics.specs.Delay.{Delay, node_of, slot_of, held, stepped_last}
 use Rattle.mesh_semantics.specs.Act.{act, node_turn, object_turn, turn_of, can_step, is_possible}
 use Rattle.mesh_semantics.specs.Sound.{IsSound}
 use Rattle.mesh_semantics.specs.Lawful.{Lawful}
 use Rattle.node_semantics.specs.Node.{Slot, NodeState, name_at, can_go, arrivals, slot_act, slot_in_turn, turn_of_slot}
 use Rattle.node_semantics.specs.Machine.{Machine, machine_act, turn_in, after_node, leaving}
 use Rattle.node_semantics.specs.Requests.{Requests}
-use Rattle.node_semantics.specs.StandsFor.{slot_at, request_of, MachineStandsFor}
+use Rattle.node_semantics.specs.StandsFor.{slot_at, slot_in, request_in, request_of, MachineStandsFor}
 use Rattle.node_semantics.specs.Agrees.{Agrees, IsOfMesh, IsFresh}
 use Rattle.node_semantics.proofs.Limits.{Chosen, NoOne, One, chosen, within_row}
 use Rattle.node_semantics.proofs.Turning.{Row, Turning, spot_here, write_row, fault_row}
@@ -31,6 +31,18 @@ use Rattle.node_semantics.proofs.Moves.{there_at, link_agrees}
 none_is : {X : Type 0} (o : Option X) → is_none o ≡ true → o ≡ None
 none_is None h = refl
 none_is (Some x) h = absurd (cc)
+
+-- a number that is not out at a node is of no object of it
+unused : {S : Type 0} (m : Machine S) (n fresh : ℕ) → IsFresh m fresh (Ev.Turn n) → (o : ℕ) → node_of o ≡ n → request_of m o ≢ Some fresh
+unused {S} m n fresh is_fresh o own = by (slice_get m.nodes (node_of o)) refl
+  where
+    on : (x : NodeState S) → slice_get m.nodes n ≡ Some x → (s : Option (Slot S)) → slice_get x.slots (slot_of o) ≡ s → request_in s ≢ Some fresh
+    on x e None i h = cc
+    on x e (Some s) i h = is_fresh x e (slot_of o) s i h
+
+    by : (z : Option (NodeState S)) → slice_get m.nodes (node_of o) ≡ z → request_in (slot_in z (slot_of o)) ≢ Some fresh
+    by None e h = cc
+    by (Some x) e h = on x (subst (λ z. slice_get m.nodes z ≡ Some x) own e) (slice_get x.slots (slot_of o)) refl h
 
 module _ {S : Type 0} (g : Language S) (W : Config S → Type 0) (law : Lawful g W) (req : Requests g W) (l : Placement) (few : l.objects < 65536)
     (m : Machine S) (c : Config S) (d : Delay) (sound : IsSound g W l c d) (st : MachineStandsFor g l m c d) where
@@ -95,5 +107,5 @@ module _ {S : Type 0} (g : Language S) (W : Config S → Type 0) (law : Lawful g
       (turned q fresh n x.0 x.1 is_fresh (turn_of g c d n) (slot_in_turn g n x.0) (chosen g W law req l m c d st n x.0 x.1 sound.state.typed))
 
   pub event_agrees : (q fresh : ℕ) (e : Event) → IsOfMesh l e → IsFresh m fresh e → Agrees g l (machine_act g l q fresh m e) (act g l q c d e)
-  event_agrees q fresh (Ev.Turn n) inside is_fresh = turn_agrees q fresh n inside is_fresh
+  event_agrees q fresh (Ev.Turn n) inside is_fresh = turn_agrees q fresh n inside (unused m n fresh is_fresh)
   event_agrees q fresh (Ev.Link a b) inside is_fresh = link_agrees g W law req l few m c d sound st a b inside.1 q fresh

@@ -1,16 +1,14 @@
 -- There are numbers for the events of each schedule.
-use Rattle.std.proofs.Common.{◌≡◌, ◌≢◌, refl, ap, subst, ◌∙◌, ℕ, zero, suc, ◌+◌, ◌<◌, List, [], ◌∷◌, Option, Some, None, Bool, true, false, arith}
+use Rattle.std.proofs.Common.{◌≡◌, ap, ◌∙◌, ℕ, zero, suc, ◌+◌, ◌<◌, List, [], ◌∷◌, Option, Some, None, Bool, true, false, arith}
 use Rattle.std.specs.Prelude.{slice_get}
 use Rattle.pool_syntax.specs.declared.words.Event.{Event}
 use Rattle.pool_syntax.specs.declared.words.Event.TheVariants as Ev
 use Rattle.pool_syntax.specs.declared.words.Placement.{Placement}
 use Rattle.mesh_semantics.proofs.Laws.{same_some}
 use Rattle.mesh_semantics.specs.Language.{Language}
-use Rattle.mesh_semantics.specs.Delay.{slot_of}
 use Rattle.node_semantics.specs.Node.{Slot, NodeState}
 use Rattle.node_semantics.specs.Machine as M
 use Rattle.node_semantics.specs.Machine.{Machine, MachineActed, machine_act, machine_start, is_machine_quiet}
-use Rattle.node_semantics.specs.StandsFor.{slot_in, request_in}
 use Rattle.node_semantics.specs.Agrees.{IsFresh}
 use Rattle.node_semantics.specs.Written.{Then, UnlessQuiet, AreFresh, AreFreshAt, FreshAlong}
 
@@ -37,22 +35,15 @@ module _ {S : Type 0} where
   node_bound None = 0
   node_bound (Some x) = bound x.slots
 
-  not_out : (y : Option (NodeState S)) (i : ℕ) → request_in (slot_in y i) ≢ Some (node_bound y)
-  not_out None i h = cc
-  not_out (Some x) i h = by (slice_get x.slots i) refl h
-    where
-      by : (s : Option (Slot S)) → slice_get x.slots i ≡ s → request_in s ≡ Some (bound x.slots) → ⊥
-      by None e k = cc
-      by (Some s) e k = let r = below x.slots i s (bound x.slots) e k in omega (arith, r)
-
   abbrev number : Machine S → Event → ℕ
   number m (Ev.Turn n) = node_bound (slice_get m.nodes n)
   number m (Ev.Link a b) = 0
 
   -- there is always a number that is not out
   is_fresh : (m : Machine S) (e : Event) → IsFresh m (number m e) e
-  is_fresh m (Ev.Turn n) = λ o own h. not_out (slice_get m.nodes n) (slot_of o)
-      (subst (λ z. request_in (slot_in (slice_get m.nodes z) (slot_of o)) ≡ Some (node_bound (slice_get m.nodes n))) own h)
+  is_fresh m (Ev.Turn n) = λ x node i s here h.
+      let a : s.request ≡ Some (bound x.slots) = h ∙ ap (λ z. Some (node_bound z)) node in
+      let b = below x.slots i s (bound x.slots) here a in omega (arith, b)
   is_fresh m (Ev.Link a b) = tt
 
   module _ (g : Language S) (l : Placement) (q : ℕ) where
