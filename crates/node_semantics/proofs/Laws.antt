@@ -10,6 +10,6 @@ pub use Rattle.node_semantics.proofs.Numbers.{numbers_exist}
 pub use Rattle.node_semantics.proofs.Outstanding.{outstanding}
 pub use Rattle.node_semantics.proofs.Receivable.{head_is_receivable}
 pub use Rattle.node_semantics.proofs.Answering.{receive_answers}
-pub use Rattle.node_semantics.proofs.Turns.{turn_answers_alone}
+pub use Rattle.node_semantics.proofs.Turns.{turn_steps, turn_idles}
 pub use Rattle.node_semantics.proofs.Standings.{node_says}
 pub use Rattle.node_semantics.proofs.MachineStandings.{object_stands, nothing_stands}

@@ -61,6 +61,13 @@ pub data NodeActed (S : Type 0) : Type 0 where
   Full : (kind : FullKind) → NodeActed S
   Nothing : NodeActed S
 
+-- a line or a limit
+abbrev pub IsStep : {S : Type 0} → NodeActed S → Type 0
+IsStep (Acts w packet x) = Unit {0}
+IsStep (Full kind) = Unit {0}
+IsStep Idle = ⊥
+IsStep Nothing = ⊥
+
 -- the list with another value at this place
 abbrev pub set_at : {X : Type 0} → List X → ℕ → X → List X
 set_at [] i y = []

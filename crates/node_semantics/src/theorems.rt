@@ -1,6 +1,6 @@
 //! Laws of machines of nodes, over the definitions alone: each is the contract of a function that does nothing. They hold of any language of objects whose states are
 //! the type parameter `S`. What is kept of a configuration is a property: a contract ranges over it as over what a function gives, from the type parameter `K`.
-ghost use Rattle.std.specs.Prelude.{◌≡◌, ◌≢◌, ◌+◌, ℕ, List, ◌∷◌, None, Some, is_some, length, slice_get};
+ghost use Rattle.std.specs.Prelude.{◌≡◌, ◌≢◌, ◌+◌, ℕ, List, [], ◌∷◌, None, Some, is_some, length, slice_get};
 ghost use Rattle.std.specs.List.{list_any};
 ghost use Rattle.pool_syntax.specs.declared.words.Event.{Event};
 ghost use Rattle.pool_syntax.specs.declared.words.Placement.{Placement};
@@ -17,7 +17,7 @@ ghost use Rattle.mesh_semantics.specs.FitFor.{FitFor};
 ghost use Rattle.mesh_semantics.specs.Lawful.{Lawful};
 ghost use Rattle.mesh_semantics.specs.Given.{IsGiven};
 ghost use Rattle.node_semantics.specs.Node as N;
-ghost use Rattle.node_semantics.specs.Node.{NodeState, NumberedPacket, Slot, frames_in, message_count, receipt_act, turn_act};
+ghost use Rattle.node_semantics.specs.Node.{IsStep, NodeState, NumberedPacket, Slot, frames_in, message_count, ready_slots, receipt_act, turn_act};
 ghost use Rattle.node_semantics.specs.Machine.{Machine, any_faulted, is_machine_quiet, leaving, machine_act, machine_start};
 ghost use Rattle.node_semantics.specs.Requests.{KeepsClassAndFault, Requests};
 ghost use Rattle.node_semantics.specs.StandsFor.{MachineStandsFor, slot_at};
@@ -73,15 +73,16 @@ pub fn a_packet_off_a_link_is_receivable<S, K>()
         → IsReceivable g b x e.number e.packet }
 {}
 
-/// A node that is given a packet that it may be given always answers, if an object can be made of each class.
+/// Any node that is given a packet that it may be given answers a line or a limit, if an object can be made of each class.
 pub fn a_node_answers_a_receivable_packet<S>()
     ensures { (g : Language S) (l : Placement) (leaving n : ℕ) (x : NodeState S) (e : NumberedPacket) → ((k : ℕ) → In k g.classes → g.made k ≢ None)
-        → IsReceivable g n x e.number e.packet → receipt_act g l n leaving e x ≢ N.Nothing }
+        → IsReceivable g n x e.number e.packet → IsStep (receipt_act g l n leaving e x) }
 {}
 
-/// A turn of any node by itself always answers, where its objects can do what they are at.
+/// A turn of any node is idle where none of its objects can step, and else it answers a line or a limit, if its objects can do what they are at.
 pub fn a_node_answers_its_turn<S>()
-    ensures { (g : Language S) (l : Placement) (q leaving n fresh : ℕ) (x : NodeState S) → CanTurn g n x → turn_act g l q n leaving fresh x ≢ N.Nothing }
+    ensures idle { (g : Language S) (l : Placement) (q leaving n fresh : ℕ) (x : NodeState S) → ready_slots g n x ≡ [] → turn_act g l q n leaving fresh x ≡ N.Idle }
+    ensures step { (g : Language S) (l : Placement) (q leaving n fresh : ℕ) (x : NodeState S) → CanTurn g n x → ready_slots g n x ≢ [] → IsStep (turn_act g l q n leaving fresh x) }
 {}
 
 /// The objects, frames and cells of a node are counted as those of what its machine stands for.
