@@ -14,8 +14,8 @@ use Rattle.mesh_semantics.specs.Paths.{on_link, is_link}
 use Rattle.mesh_semantics.specs.Delay.{Packet}
 use Rattle.node_semantics.specs.Node.{NumberedPacket}
 use Rattle.node_semantics.specs.StandsFor.{packets}
-use Rattle.node_semantics.proofs.Posted.{decide_link}
-use Rattle.node_semantics.proofs.Cells.{find_first, find_next, find_none}
+use Rattle.node_semantics.proofs.PostedLinks.{decide_link}
+use Rattle.node_semantics.proofs.CellCounts.{find_first, find_next, find_none}
 
 neither : (a b : Bool) → (a || b) ≡ false → (a ≡ false) × (b ≡ false)
 neither true b h = absurd (cc)

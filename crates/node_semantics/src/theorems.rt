@@ -25,7 +25,7 @@ ghost use Rattle.node_semantics.specs.Outstanding.{AreServed, Outstanding};
 ghost use Rattle.node_semantics.specs.Agrees.{Agrees, IsFresh, IsOfMesh, StartAgrees};
 ghost use Rattle.node_semantics.specs.Written.{FreshAlong, machine_lines};
 ghost use Rattle.node_semantics.specs.Receives.{IsReceivable, KnownNames};
-ghost use Rattle.node_semantics.specs.Turns.{CanTurn};
+ghost use Rattle.node_semantics.specs.CanTurn.{CanTurn};
 ghost use Rattle.node_semantics.specs.Standings.{SaysOf, machine_standing, slot_standing};
 
 /// At its start a machine stands for the start, with nothing on the way; there is a start for both or for neither.

@@ -1,4 +1,4 @@
-use Rattle.node_semantics.proofs.Faults.{class_kept, fault_kept, any_fault}
+use Rattle.node_semantics.proofs.ClassAndFault.{class_kept, fault_kept, any_fault}
 use Rattle.node_semantics.proofs.theorems.a_machine_keeps_class_and_fault.Goals as goal
 
 pub returns-clause-class : goal.returns-clause-class

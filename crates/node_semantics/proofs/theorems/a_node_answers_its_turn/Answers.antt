@@ -1,4 +1,4 @@
-use Rattle.node_semantics.proofs.Turns.{turn_steps, turn_idles}
+use Rattle.node_semantics.proofs.TurnsAnswer.{turn_steps, turn_idles}
 use Rattle.node_semantics.proofs.theorems.a_node_answers_its_turn.Goals as goal
 
 pub returns-clause-idle : goal.returns-clause-idle

@@ -22,13 +22,13 @@ use Rattle.node_semantics.specs.Machine.{Machine, leaving, post_packet, after_no
 use Rattle.node_semantics.specs.Requests.{Requests}
 use Rattle.node_semantics.specs.StandsFor.{slot_at, SlotStandsFor, Free, Served, Posted, Due, IsOut, MachineStandsFor}
 use Rattle.node_semantics.specs.Agrees.{Agrees}
-use Rattle.node_semantics.proofs.Slots.{set_same, name_slot}
-use Rattle.node_semantics.proofs.Links.{pushed_sorted}
-use Rattle.node_semantics.proofs.Posted.{posted_links}
-use Rattle.node_semantics.proofs.Counting.{Picks, Neither, Both, picks, filter_and, at}
-use Rattle.node_semantics.proofs.Cells.{leaving_count}
-use Rattle.node_semantics.proofs.Totals.{Here, here, objects_count, frames_count, cells_count}
-use Rattle.node_semantics.proofs.Turning.{Row}
+use Rattle.node_semantics.proofs.NamesAndSlots.{set_same, name_slot}
+use Rattle.node_semantics.proofs.LinkMaps.{pushed_sorted}
+use Rattle.node_semantics.proofs.PostedLinks.{posted_links}
+use Rattle.node_semantics.proofs.SlotsOfObjects.{Picks, Neither, Both, picks, filter_and, at}
+use Rattle.node_semantics.proofs.CellCounts.{leaving_count}
+use Rattle.node_semantics.proofs.NodeCounts.{Here, here, objects_count, frames_count, cells_count}
+use Rattle.node_semantics.proofs.OneObjectTurns.{Row}
 
 total_last : {E : Type 0} (f : E → ℕ) (xs : List E) (y : E) → total f (xs ++ y ∷ []) ≡ total f xs + f y
 total_last f [] y = omega arith

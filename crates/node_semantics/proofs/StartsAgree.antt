@@ -16,10 +16,10 @@ use Rattle.node_semantics.specs.Machine.{Machine, empty_node, machine_start, sta
 use Rattle.node_semantics.specs.Agrees.{StartAgrees}
 use Rattle.node_semantics.specs.Requests.{Requests}
 use Rattle.node_semantics.specs.StandsFor.{slot_at, slot_in, request_of, request_in, CountsMade, MachineStandsFor}
-use Rattle.node_semantics.proofs.Added.{add_stands}
+use Rattle.node_semantics.proofs.AddedObject.{add_stands}
 use Rattle.mesh_semantics.specs.Act.{class_place}
-use Rattle.node_semantics.proofs.Places.{zeros}
-use Rattle.node_semantics.proofs.Moves.{there_at}
+use Rattle.node_semantics.proofs.ClassPlaces.{zeros}
+use Rattle.node_semantics.proofs.LinkMovesAgree.{there_at}
 
 copy_is : {X : Type 0} (n : ℕ) (x y : X) (i : ℕ) → slice_get (replicate n x) i ≡ Some y → x ≡ y
 copy_is zero x y i h = absurd (cc)

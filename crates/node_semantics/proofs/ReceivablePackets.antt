@@ -22,12 +22,12 @@ use Rattle.node_semantics.specs.Machine.{Machine}
 use Rattle.node_semantics.specs.Requests.{Requests}
 use Rattle.node_semantics.specs.StandsFor.{SlotStandsFor, Due, AtName, HasSlot, PacketFits, MachineStandsFor}
 use Rattle.node_semantics.specs.Receives.{HasObject, names_in, names_of, IsReceivable, KnownNames}
-use Rattle.node_semantics.proofs.Slots.{at_node}
-use Rattle.node_semantics.proofs.References.{fits_kept}
-use Rattle.node_semantics.proofs.Posted.{is_head}
-use Rattle.node_semantics.proofs.Changes.{head_fits, head_stands}
-use Rattle.node_semantics.proofs.Spots.{Found, found}
-use Rattle.node_semantics.proofs.Receipts.{d₁, sent_same, Awaiting, awaiting, meets}
+use Rattle.node_semantics.proofs.NamesAndSlots.{at_node}
+use Rattle.node_semantics.proofs.KeptNumbers.{fits_kept}
+use Rattle.node_semantics.proofs.PostedLinks.{is_head}
+use Rattle.node_semantics.proofs.SmallChanges.{head_fits, head_stands}
+use Rattle.node_semantics.proofs.NamesAfterChange.{Found, found}
+use Rattle.node_semantics.proofs.ReceiptsAgree.{d₁, sent_same, Awaiting, awaiting, meets}
 
 module _ {X : Type 0} (Q : X → Type 0) where
   front : (xs ys : List X) → Each Q (xs ++ ys) → Each Q xs

@@ -14,7 +14,7 @@ use Rattle.node_semantics.specs.Machine.{Machine}
 use Rattle.node_semantics.specs.Requests.{Requests}
 use Rattle.node_semantics.specs.StandsFor.{slot_at, request_in, request_of, IsOut, SlotStandsFor, Free, Served, Posted, Due, AtName, AreNumbersOf, MachineStandsFor}
 use Rattle.node_semantics.specs.Outstanding.{IsWaiting, AreServed, Outstanding}
-use Rattle.node_semantics.proofs.Spots.{Found, found}
+use Rattle.node_semantics.proofs.NamesAfterChange.{Found, found}
 
 wait_of : (k : Kind) → is_wait k ≡ true → (b : ℕ) × (m : ℕ) × (k ≡ K.Waits b m)
 wait_of (K.Waits b m) h = (b, m, refl)

@@ -8,7 +8,7 @@ use Rattle.mesh_semantics.specs.Act.{first_of}
 use Rattle.mesh_semantics.specs.Sound.{Each}
 use Rattle.node_semantics.specs.Node.{NumberedPacket}
 use Rattle.node_semantics.specs.StandsFor.{packets}
-use Rattle.node_semantics.proofs.Links.{pushed_here, pushed_there, listed_here, listed_there}
+use Rattle.node_semantics.proofs.LinkMaps.{pushed_here, pushed_there, listed_here, listed_there}
 
 -- two links are one, or not
 pub decide_link : (j k : Pair) → (j ≡ k) ⊎ (j ≢ k)

@@ -23,8 +23,8 @@ use Rattle.node_semantics.specs.Requests.{Requests, posts_request}
 use Rattle.node_semantics.specs.StandsFor as St
 use Rattle.node_semantics.specs.StandsFor.{slot_at, SlotStandsFor, Free, Served, Posted, Due, packets, kept_goal_of, Knows, PacketFits, MachineStandsFor}
 use Rattle.node_semantics.specs.Standings.{slot_standing_by, slot_standing, IsRequest, SaysOf}
-use Rattle.node_semantics.proofs.Spots.{found}
-use Rattle.node_semantics.proofs.Receipts.{sent_same}
+use Rattle.node_semantics.proofs.NamesAfterChange.{found}
+use Rattle.node_semantics.proofs.ReceiptsAgree.{sent_same}
 
 -- what holds of all on each link holds of all
 module _ (P : Packet → Type 0) where

@@ -14,9 +14,9 @@ use Rattle.mesh_semantics.specs.Act.{first_arrival, first_of, or_else, is_possib
 use Rattle.mesh_semantics.specs.Sound.{Each}
 use Rattle.node_semantics.specs.Node as N
 use Rattle.node_semantics.specs.Node.{IsStep, NumberedPacket, NumberedArrival, Slot, NodeState, NodeActed, name_at, placed, arrivals, first_on, can_go, comes_after, ready_slots, slot_in_turn, local_state, local_act, room_for, steps_of, made_own, create_act, goal_here, count_one, message_act, taken_act, serve_act, chosen_act, choice_act, give_back, return_act, slot_act, turn_of_slot, turn_act, put_request, put_state}
-use Rattle.node_semantics.specs.Turns.{CanAct, CanTurn}
-use Rattle.node_semantics.proofs.Answering.{within_answers}
-use Rattle.node_semantics.proofs.Choices.{none_same}
+use Rattle.node_semantics.specs.CanTurn.{CanAct, CanTurn}
+use Rattle.node_semantics.proofs.ReceiptsAnswer.{within_answers}
+use Rattle.node_semantics.proofs.SelectTurns.{none_same}
 
 -- what holds of each place holds of all that is placed
 each_placed : {X : Type 0} (P : ℕ × X → Type 0) (i : ℕ) (xs : List X) → ((j : ℕ) (x : X) → slice_get xs j ≡ Some x → P (i + j, x)) → Each P (placed i xs)

@@ -12,7 +12,7 @@ use Rattle.mesh_semantics.proofs.Laws.{no_part, each_map}
 use Rattle.node_semantics.specs.Node.{Slot, NumberedPacket, arrivals}
 use Rattle.node_semantics.specs.Machine.{Machine}
 use Rattle.node_semantics.specs.StandsFor.{slot_at, Occupied, AtName, IsNumberOf, AreNumbersOf, caller_of, owner_of, HasSlot, PacketFits, packets, MailboxFits, CallersFit, MachineStandsFor}
-use Rattle.node_semantics.proofs.References.{Same, callers_kept, fits_kept, letters_kept, none_sent, none_called, of_packets, of_messages, each_both}
+use Rattle.node_semantics.proofs.KeptNumbers.{Same, callers_kept, fits_kept, letters_kept, none_sent, none_called, of_packets, of_messages, each_both}
 
 -- all that refers to a request refers to one of these objects
 pub record Refers {S : Type 0} (g : Language S) (K : ℕ → Type 0) (c : Config S) (d : Delay) : Type 0 where

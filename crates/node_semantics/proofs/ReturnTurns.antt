@@ -24,14 +24,14 @@ use Rattle.mesh_semantics.specs.Ways.{In}
 use Rattle.node_semantics.specs.Node.{Slot, NumberedPacket, NodeState, set_at, name_at, arrivals, settled, give_back, return_act}
 use Rattle.node_semantics.specs.Machine.{Machine}
 use Rattle.node_semantics.specs.StandsFor.{slot_at, request_of, request_in, SlotStandsFor, Free, Served, Due, HasSlot, PacketFits, IsNumberOf, AreNumbersOf, caller_of, MachineStandsFor}
-use Rattle.node_semantics.proofs.Slots.{set_same, set_set, set_length, name_node, name_slot, at_node, changed_here, changed_there}
-use Rattle.node_semantics.proofs.References.{Same, same_slot, no_caller}
-use Rattle.node_semantics.proofs.Spots.{Spot, spot, Found, found, Refers, refers_any, refers_but, Any, But, spot_kept, spot_same, link_kept, box_kept, served_kept}
-use Rattle.node_semantics.proofs.Links.{pushed_sorted}
-use Rattle.node_semantics.proofs.Posted.{posted_links, posted_each}
-use Rattle.node_semantics.proofs.Settled.{settled_is, given_to}
-use Rattle.node_semantics.proofs.Assembled.{assemble, fewer}
-use Rattle.node_semantics.proofs.Turning.{Row, Turning, x₁, d₁, last_is, last_else, spot_here, slot_here, slot_there, has_slots, requests_same, few}
+use Rattle.node_semantics.proofs.NamesAndSlots.{set_same, set_set, set_length, name_node, name_slot, at_node, changed_here, changed_there}
+use Rattle.node_semantics.proofs.KeptNumbers.{Same, same_slot, no_caller}
+use Rattle.node_semantics.proofs.NamesAfterChange.{Spot, spot, Found, found, Refers, refers_any, refers_but, Any, But, spot_kept, spot_same, link_kept, box_kept, served_kept}
+use Rattle.node_semantics.proofs.LinkMaps.{pushed_sorted}
+use Rattle.node_semantics.proofs.PostedLinks.{posted_links, posted_each}
+use Rattle.node_semantics.proofs.SettledNumber.{settled_is, given_to}
+use Rattle.node_semantics.proofs.StandsForParts.{assemble, fewer}
+use Rattle.node_semantics.proofs.OneObjectTurns.{Row, Turning, x₁, d₁, last_is, last_else, spot_here, slot_here, slot_there, has_slots, requests_same, few}
 
 module _ {S : Type 0} (g : Language S) (W : Config S → Type 0) (l : Placement) (m : Machine S) (c : Config S) (d : Delay) (n i : ℕ) (x : NodeState S) (s : Slot S)
     (t : Turning g W l m c d n i x s) where

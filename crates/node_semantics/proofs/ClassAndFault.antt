@@ -18,10 +18,10 @@ use Rattle.node_semantics.specs.Node.{Slot, NodeState, name_at}
 use Rattle.node_semantics.specs.Machine.{Machine, any_faulted}
 use Rattle.node_semantics.specs.Requests.{KeepsClassAndFault}
 use Rattle.node_semantics.specs.StandsFor.{slot_at, slot_in, SlotStandsFor, Free, Served, Posted, Due, AtName, MachineStandsFor}
-use Rattle.node_semantics.proofs.Slots.{at_node, name_node, name_slot}
-use Rattle.node_semantics.proofs.Spots.{Found, found}
-use Rattle.node_semantics.proofs.Counting.{find_head, find_skip, each_below}
-use Rattle.node_semantics.proofs.Quietness.{same_bool, one_of, of_one}
+use Rattle.node_semantics.proofs.NamesAndSlots.{at_node, name_node, name_slot}
+use Rattle.node_semantics.proofs.NamesAfterChange.{Found, found}
+use Rattle.node_semantics.proofs.SlotsOfObjects.{find_head, find_skip, each_below}
+use Rattle.node_semantics.proofs.QuietAgrees.{same_bool, one_of, of_one}
 
 module _ {Y : Type 0} where
   below_place : (k : ℕ) (es : List (ℕ × Y)) (i : ℕ) (e : ℕ × Y) → Each (λ z. k < z.0) es → slice_get es i ≡ Some e → k < e.0

@@ -27,10 +27,10 @@ use Rattle.node_semantics.specs.Node.{Slot, NumberedPacket, NumberedArrival, Nod
 use Rattle.node_semantics.specs.Machine.{Machine, post_packet}
 use Rattle.node_semantics.specs.Requests.{Requests}
 use Rattle.node_semantics.specs.StandsFor.{slot_at, Free, HasSlot, PacketFits, AreNumbersOf, MachineStandsFor}
-use Rattle.node_semantics.proofs.Slots.{set_length, name_node, name_slot, changed_here, changed_there}
-use Rattle.node_semantics.proofs.References.{Same, same_slot}
-use Rattle.node_semantics.proofs.Spots.{Spot, spot, Refers, refers_any, Any, spot_kept, spot_same, link_kept, box_kept, served_kept}
-use Rattle.node_semantics.proofs.Assembled.{assemble, fewer}
+use Rattle.node_semantics.proofs.NamesAndSlots.{set_length, name_node, name_slot, changed_here, changed_there}
+use Rattle.node_semantics.proofs.KeptNumbers.{Same, same_slot}
+use Rattle.node_semantics.proofs.NamesAfterChange.{Spot, spot, Refers, refers_any, Any, spot_kept, spot_same, link_kept, box_kept, served_kept}
+use Rattle.node_semantics.proofs.StandsForParts.{assemble, fewer}
 
 -- a node and a configuration show the same, and the machine then stands for what is after it
 abbrev pub Row : {S : Type 0} → Language S → (Config S → Type 0) → Placement → Machine S → ℕ → NodeActed S → Acted S → Type 0

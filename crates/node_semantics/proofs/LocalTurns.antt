@@ -20,9 +20,9 @@ use Rattle.mesh_semantics.specs.Delay.{Delay}
 use Rattle.mesh_semantics.specs.Act.{greatest, local_steps, local_turn, step_count, within_frames, frame_count}
 use Rattle.node_semantics.specs.Node.{Slot, NodeState, set_at, name_at, put_state, local_state, local_act, steps_of, room_for, frames_in}
 use Rattle.node_semantics.specs.Machine.{Machine}
-use Rattle.node_semantics.proofs.Slots.{set_same, at_node, name_node, name_slot}
-use Rattle.node_semantics.proofs.Totals.{frames_count}
-use Rattle.node_semantics.proofs.Turning.{Row, Turning, x₁, d₁, own_stands}
+use Rattle.node_semantics.proofs.NamesAndSlots.{set_same, at_node, name_node, name_slot}
+use Rattle.node_semantics.proofs.NodeCounts.{frames_count}
+use Rattle.node_semantics.proofs.OneObjectTurns.{Row, Turning, x₁, d₁, own_stands}
 
 -- an entry that is put twice
 put_put : {X : Type 0} (o : ℕ) (y z : X) (es : List (ℕ × X)) → put nat_cmp o z (put nat_cmp o y es) ≡ put nat_cmp o z es

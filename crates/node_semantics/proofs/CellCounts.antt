@@ -18,8 +18,8 @@ use Rattle.mesh_semantics.specs.Delay.{Packet}
 use Rattle.node_semantics.specs.Node.{name_at, Slot, NumberedArrival, NumberedPacket, arrivals, message_count}
 use Rattle.node_semantics.specs.Machine.{leaving}
 use Rattle.node_semantics.specs.StandsFor.{packets}
-use Rattle.node_semantics.proofs.Posted.{decide_link}
-use Rattle.node_semantics.proofs.Slots.{whole_name, name_node}
+use Rattle.node_semantics.proofs.PostedLinks.{decide_link}
+use Rattle.node_semantics.proofs.NamesAndSlots.{whole_name, name_node}
 
 apart : (n a b : ℕ) → a ≢ b → name_at n a ≢ name_at n b
 apart n a b h e = h (omega (arith, e))

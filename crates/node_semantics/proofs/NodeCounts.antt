@@ -17,9 +17,9 @@ use Rattle.node_semantics.specs.Node.{Slot, NodeState, name_at, arrivals, frames
 use Rattle.node_semantics.specs.Machine.{Machine, leaving}
 use Rattle.node_semantics.specs.Requests.{Requests}
 use Rattle.node_semantics.specs.StandsFor.{slot_at, Occupied, SlotStandsFor, Free, Served, Posted, Due, AtName, MachineStandsFor}
-use Rattle.node_semantics.proofs.Slots.{at_node, name_node, name_slot}
-use Rattle.node_semantics.proofs.Counting.{Rows, rows, rows_count, Meets, at}
-use Rattle.node_semantics.proofs.Cells.{letters_count, leaving_count}
+use Rattle.node_semantics.proofs.NamesAndSlots.{at_node, name_node, name_slot}
+use Rattle.node_semantics.proofs.SlotsOfObjects.{Rows, rows, rows_count, Meets, at}
+use Rattle.node_semantics.proofs.CellCounts.{letters_count, leaving_count}
 
 ones : {X : Type 0} (xs : List X) → length xs ≡ sum_by (λ x. 1) xs
 ones [] = refl

@@ -22,9 +22,9 @@ use Rattle.node_semantics.specs.Machine.{Machine, any_ready, is_machine_quiet}
 use Rattle.node_semantics.specs.Requests.{Requests}
 use Rattle.node_semantics.specs.StandsFor.{packets, MachineStandsFor}
 use Rattle.node_semantics.proofs.LinkTests.{any_on_links}
-use Rattle.node_semantics.proofs.Limits as Lim
-use Rattle.node_semantics.proofs.Limits.{Chosen, NoOne, One}
-use Rattle.node_semantics.proofs.Moves.{there_at}
+use Rattle.node_semantics.proofs.LimitsAndTurn as Lim
+use Rattle.node_semantics.proofs.LimitsAndTurn.{Chosen, NoOne, One}
+use Rattle.node_semantics.proofs.LinkMovesAgree.{there_at}
 
 -- Booleans that imply each other
 pub same_bool : (a b : Bool) → (a ≡ true → b ≡ true) → (b ≡ true → a ≡ true) → a ≡ b

@@ -19,10 +19,10 @@ use Rattle.node_semantics.specs.Node.{Slot, NumberedArrival, NodeState, arrivals
 use Rattle.node_semantics.specs.Machine.{Machine}
 use Rattle.node_semantics.specs.Requests.{posts_request}
 use Rattle.node_semantics.specs.StandsFor.{slot_at, request_of, request_in, Occupied, SlotStandsFor, Free, Served, Posted, Due, IsNumberOf, AreNumbersOf, caller_of, MachineStandsFor}
-use Rattle.node_semantics.proofs.References.{Same, number_kept}
-use Rattle.node_semantics.proofs.Spots.{Spot, spot, Refers, refers_any, refers_but, Any, But, spot_same, box_kept, served_kept}
-use Rattle.node_semantics.proofs.Settled.{given_to}
-use Rattle.node_semantics.proofs.Changes.{slot_stands, slot_here, slot_keeps, others_keep, still_distinct, mₛ}
+use Rattle.node_semantics.proofs.KeptNumbers.{Same, number_kept}
+use Rattle.node_semantics.proofs.NamesAfterChange.{Spot, spot, Refers, refers_any, refers_but, Any, But, spot_same, box_kept, served_kept}
+use Rattle.node_semantics.proofs.SettledNumber.{given_to}
+use Rattle.node_semantics.proofs.SmallChanges.{slot_stands, slot_here, slot_keeps, others_keep, still_distinct, mₛ}
 
 messages_append : (es : List NumberedArrival) (e : NumberedArrival) → arrivals (es ++ e ∷ []) ≡ arrivals es ++ e.message ∷ []
 messages_append [] e = refl

@@ -19,14 +19,14 @@ use Rattle.node_semantics.specs.Machine.{Machine, machine_act, turn_in, after_no
 use Rattle.node_semantics.specs.Requests.{Requests}
 use Rattle.node_semantics.specs.StandsFor.{slot_at, slot_in, request_in, request_of, MachineStandsFor}
 use Rattle.node_semantics.specs.Agrees.{Agrees, IsOfMesh, IsFresh}
-use Rattle.node_semantics.proofs.Limits.{Chosen, NoOne, One, chosen, within_row}
-use Rattle.node_semantics.proofs.Turning.{Row, Turning, spot_here, write_row, fault_row}
-use Rattle.node_semantics.proofs.Returns.{return_row}
-use Rattle.node_semantics.proofs.Posts.{call_row, send_row}
-use Rattle.node_semantics.proofs.Creates.{new_row}
-use Rattle.node_semantics.proofs.Locals.{local_row}
-use Rattle.node_semantics.proofs.Choices.{select_row}
-use Rattle.node_semantics.proofs.Moves.{there_at, link_agrees}
+use Rattle.node_semantics.proofs.LimitsAndTurn.{Chosen, NoOne, One, chosen, within_row}
+use Rattle.node_semantics.proofs.OneObjectTurns.{Row, Turning, spot_here, write_row, fault_row}
+use Rattle.node_semantics.proofs.ReturnTurns.{return_row}
+use Rattle.node_semantics.proofs.PostTurns.{call_row, send_row}
+use Rattle.node_semantics.proofs.CreateTurns.{new_row}
+use Rattle.node_semantics.proofs.LocalTurns.{local_row}
+use Rattle.node_semantics.proofs.SelectTurns.{select_row}
+use Rattle.node_semantics.proofs.LinkMovesAgree.{there_at, link_agrees}
 
 none_is : {X : Type 0} (o : Option X) → is_none o ≡ true → o ≡ None
 none_is None h = refl

@@ -23,13 +23,13 @@ use Rattle.node_semantics.specs.Node as N
 use Rattle.node_semantics.specs.Node.{Slot, NumberedPacket, NodeState, NodeActed, set_at, name_at, put_state, put_request, create_act, made_own, made_here, add_slot, count_one, fresh_slot, goal_for, goal_here}
 use Rattle.node_semantics.specs.Machine.{Machine}
 use Rattle.node_semantics.specs.StandsFor.{request_of, PacketFits, MachineStandsFor}
-use Rattle.node_semantics.proofs.Slots.{set_same, set_length}
-use Rattle.node_semantics.proofs.Changes.{chain, post_stands}
+use Rattle.node_semantics.proofs.NamesAndSlots.{set_same, set_length}
+use Rattle.node_semantics.proofs.SmallChanges.{chain, post_stands}
 use Rattle.mesh_semantics.specs.Ways.{In}
-use Rattle.node_semantics.proofs.Added.{count_stands, add_stands, is_new, no_object}
-use Rattle.node_semantics.proofs.Turning.{Row, Turning, x₁, d₁}
-use Rattle.node_semantics.proofs.Posts.{state_stands, stands₁, aside_same, nothing, asked_stands, asked_number, asked_goal, own_o, slot_o}
-use Rattle.node_semantics.proofs.Totals.{objects_count}
+use Rattle.node_semantics.proofs.AddedObject.{count_stands, add_stands, is_new, no_object}
+use Rattle.node_semantics.proofs.OneObjectTurns.{Row, Turning, x₁, d₁}
+use Rattle.node_semantics.proofs.PostTurns.{state_stands, stands₁, aside_same, nothing, asked_stands, asked_number, asked_goal, own_o, slot_o}
+use Rattle.node_semantics.proofs.NodeCounts.{objects_count}
 
 -- the same goal, where as many were made
 pub same_goal : (l : Placement) (d : Delay) (n made class : ℕ) (p : Option Place) → made ≡ made_by d n class → goal_for l n made p ≡ goal_by l d n class p

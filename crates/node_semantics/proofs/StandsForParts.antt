@@ -15,8 +15,8 @@ use Rattle.mesh_semantics.specs.Sound.{Each}
 use Rattle.node_semantics.specs.Node.{NumberedPacket, NodeState, set_at}
 use Rattle.node_semantics.specs.Machine.{Machine}
 use Rattle.node_semantics.specs.StandsFor.{slot_at, request_of, PacketFits, packets, MachineStandsFor, CountsMade}
-use Rattle.node_semantics.proofs.Slots.{set_same, set_other, set_length}
-use Rattle.node_semantics.proofs.Spots.{Spot}
+use Rattle.node_semantics.proofs.NamesAndSlots.{set_same, set_other, set_length}
+use Rattle.node_semantics.proofs.NamesAfterChange.{Spot}
 
 module _ {S : Type 0} (g : Language S) (l : Placement) (m : Machine S) (c : Config S) (d : Delay) (st : MachineStandsFor g l m c d) (n : ℕ) (x : NodeState S) (node : slice_get m.nodes n ≡ Some x) where
   -- what holds of each node holds still, if it does of the one that is changed

@@ -24,12 +24,12 @@ use Rattle.mesh_semantics.specs.Lawful.{CanServe}
 use Rattle.node_semantics.specs.Node.{Slot, NumberedArrival, NodeState, set_at, name_at, arrivals, is_on, first_on, serve_act, chosen_act, choice_act}
 use Rattle.node_semantics.specs.Machine.{Machine}
 use Rattle.node_semantics.specs.StandsFor.{request_of, SlotStandsFor, Served, Posted, IsNumberOf, AreNumbersOf, caller_of, MachineStandsFor}
-use Rattle.node_semantics.proofs.References.{Same, same_slot}
-use Rattle.node_semantics.proofs.Spots.{Spot, Found, found, Any, served_kept}
-use Rattle.node_semantics.proofs.Changes.{chain, object_stands}
-use Rattle.node_semantics.proofs.Steps.{take_stands}
-use Rattle.node_semantics.proofs.Turning.{Row, Turning, x₁, d₁, spot_here, pick_row}
-use Rattle.node_semantics.proofs.Posts.{stands₁, node₁, aside_same, own_o, slot_o, messages_stand}
+use Rattle.node_semantics.proofs.KeptNumbers.{Same, same_slot}
+use Rattle.node_semantics.proofs.NamesAfterChange.{Spot, Found, found, Any, served_kept}
+use Rattle.node_semantics.proofs.SmallChanges.{chain, object_stands}
+use Rattle.node_semantics.proofs.NamedChanges.{take_stands}
+use Rattle.node_semantics.proofs.OneObjectTurns.{Row, Turning, x₁, d₁, spot_here, pick_row}
+use Rattle.node_semantics.proofs.PostTurns.{stands₁, node₁, aside_same, own_o, slot_o, messages_stand}
 
 -- a mailbox and the messages in it
 

@@ -28,16 +28,16 @@ use Rattle.node_semantics.specs.Machine.{Machine}
 use Rattle.node_semantics.specs.Requests.{Requests}
 use Rattle.node_semantics.specs.StandsFor.{slot_at, request_of, request_in, SlotStandsFor, Free, Served, Posted, Due, AtName, caller_of, PacketFits, IsNumberOf, AreNumbersOf, MachineStandsFor}
 use Rattle.node_semantics.specs.Receives.{IsAwaited, Meets}
-use Rattle.node_semantics.proofs.Slots.{at_node, name_node, name_slot}
-use Rattle.node_semantics.proofs.References.{no_caller, none_called, of_messages}
-use Rattle.node_semantics.proofs.Spots.{Spot, Found, found}
-use Rattle.node_semantics.proofs.Settled.{settled_is, given_to}
-use Rattle.node_semantics.proofs.Changes.{post_stands, object_stands}
-use Rattle.node_semantics.proofs.Steps.{settle_stands}
-use Rattle.node_semantics.proofs.Added.{add_stands, add_there, is_new, no_object}
-use Rattle.node_semantics.proofs.Posts.{put_letter_stands}
-use Rattle.node_semantics.proofs.Totals.{objects_count}
-use Rattle.node_semantics.proofs.Turning.{Row}
+use Rattle.node_semantics.proofs.NamesAndSlots.{at_node, name_node, name_slot}
+use Rattle.node_semantics.proofs.KeptNumbers.{no_caller, none_called, of_messages}
+use Rattle.node_semantics.proofs.NamesAfterChange.{Spot, Found, found}
+use Rattle.node_semantics.proofs.SettledNumber.{settled_is, given_to}
+use Rattle.node_semantics.proofs.SmallChanges.{post_stands, object_stands}
+use Rattle.node_semantics.proofs.NamedChanges.{settle_stands}
+use Rattle.node_semantics.proofs.AddedObject.{add_stands, add_there, is_new, no_object}
+use Rattle.node_semantics.proofs.PostTurns.{put_letter_stands}
+use Rattle.node_semantics.proofs.NodeCounts.{objects_count}
+use Rattle.node_semantics.proofs.OneObjectTurns.{Row}
 
 -- a sent entry is its packet's
 pub sent_same : (p q : Packet) → Sent p ≡ Sent q → p ≡ q

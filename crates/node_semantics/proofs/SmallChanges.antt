@@ -14,12 +14,12 @@ use Rattle.mesh_semantics.specs.Sound.{Each}
 use Rattle.node_semantics.specs.Node.{Slot, NumberedPacket, NodeState, set_at}
 use Rattle.node_semantics.specs.Machine.{Machine}
 use Rattle.node_semantics.specs.StandsFor.{slot_at, request_of, HasSlot, PacketFits, MachineStandsFor, CountsMade}
-use Rattle.node_semantics.proofs.Slots.{set_set, set_length, elsewhere, before, after, changed_here, changed_there}
-use Rattle.node_semantics.proofs.References.{Same, same_slot, fits_kept}
-use Rattle.node_semantics.proofs.Spots.{Spot, spot, Refers, refers_any, Any, But, spot_kept, spot_same, link_kept}
-use Rattle.node_semantics.proofs.Links.{pushed_sorted, listed_sorted}
-use Rattle.node_semantics.proofs.Posted.{posted_links, posted_each, moved_links, moved_each}
-use Rattle.node_semantics.proofs.Assembled.{assemble}
+use Rattle.node_semantics.proofs.NamesAndSlots.{set_set, set_length, elsewhere, before, after, changed_here, changed_there}
+use Rattle.node_semantics.proofs.KeptNumbers.{Same, same_slot, fits_kept}
+use Rattle.node_semantics.proofs.NamesAfterChange.{Spot, spot, Refers, refers_any, Any, But, spot_kept, spot_same, link_kept}
+use Rattle.node_semantics.proofs.LinkMaps.{pushed_sorted, listed_sorted}
+use Rattle.node_semantics.proofs.PostedLinks.{posted_links, posted_each, moved_links, moved_each}
+use Rattle.node_semantics.proofs.StandsForParts.{assemble}
 
 module _ {S : Type 0} (g : Language S) (l : Placement) where
   -- two changes of one node are one

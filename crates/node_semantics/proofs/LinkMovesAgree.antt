@@ -21,12 +21,12 @@ use Rattle.node_semantics.specs.Machine.{Machine, MachineActed, machine_act, mov
 use Rattle.node_semantics.specs.Requests.{Requests}
 use Rattle.node_semantics.specs.StandsFor.{PacketFits, packets, MachineStandsFor}
 use Rattle.node_semantics.specs.Agrees.{Agrees}
-use Rattle.node_semantics.proofs.References.{fits_kept}
-use Rattle.node_semantics.proofs.Posted.{is_head}
-use Rattle.node_semantics.proofs.Changes.{head_fits, head_stands, post_stands}
-use Rattle.node_semantics.proofs.Totals.{cells_count}
-use Rattle.node_semantics.proofs.Limits.{leaves, within_row}
-use Rattle.node_semantics.proofs.Receipts.{receipt_row}
+use Rattle.node_semantics.proofs.KeptNumbers.{fits_kept}
+use Rattle.node_semantics.proofs.PostedLinks.{is_head}
+use Rattle.node_semantics.proofs.SmallChanges.{head_fits, head_stands, post_stands}
+use Rattle.node_semantics.proofs.NodeCounts.{cells_count}
+use Rattle.node_semantics.proofs.LimitsAndTurn.{leaves, within_row}
+use Rattle.node_semantics.proofs.ReceiptsAgree.{receipt_row}
 
 -- what is below a list's length is in it
 pub there_at : {X : Type 0} (xs : List X) (i : ℕ) → i < length xs → (x : X) × (slice_get xs i ≡ Some x)

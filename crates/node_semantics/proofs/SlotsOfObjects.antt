@@ -13,7 +13,7 @@ use Rattle.mesh_semantics.specs.Delay.{node_of, slot_of}
 use Rattle.mesh_semantics.specs.Act.{first_of}
 use Rattle.mesh_semantics.specs.Sound.{Each}
 use Rattle.node_semantics.specs.Node.{name_at, placed}
-use Rattle.node_semantics.proofs.Slots.{whole_name, name_node, name_slot}
+use Rattle.node_semantics.proofs.NamesAndSlots.{whole_name, name_node, name_slot}
 
 -- what is looked up in a map
 

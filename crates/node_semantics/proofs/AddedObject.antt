@@ -20,13 +20,13 @@ use Rattle.node_semantics.specs.Machine.{Machine}
 use Rattle.node_semantics.specs.Requests.{Requests}
 use Rattle.node_semantics.specs.StandsFor.{slot_at, request_of, request_in, Free, AtName, HasSlot, AreNumbersOf, CountsMade, MachineStandsFor}
 use Rattle.mesh_semantics.specs.Act.{class_place}
-use Rattle.node_semantics.proofs.Places.{class_at, same_place, as_long}
-use Rattle.node_semantics.proofs.Slots.{set_same, set_other, set_length, last_there, front_there, whole_name, name_node, name_slot, at_node, elsewhere, before, after}
-use Rattle.node_semantics.proofs.References.{Same, same_slot}
-use Rattle.node_semantics.proofs.Spots.{Spot, spot, Refers, refers_but, But, spot_kept, spot_same, link_kept}
-use Rattle.node_semantics.proofs.Links.{tied_pair, untied_pair, pair_total}
-use Rattle.node_semantics.proofs.Assembled.{assemble}
-use Rattle.node_semantics.proofs.Changes.{aside_stands}
+use Rattle.node_semantics.proofs.ClassPlaces.{class_at, same_place, as_long}
+use Rattle.node_semantics.proofs.NamesAndSlots.{set_same, set_other, set_length, last_there, front_there, whole_name, name_node, name_slot, at_node, elsewhere, before, after}
+use Rattle.node_semantics.proofs.KeptNumbers.{Same, same_slot}
+use Rattle.node_semantics.proofs.NamesAfterChange.{Spot, spot, Refers, refers_but, But, spot_kept, spot_same, link_kept}
+use Rattle.node_semantics.proofs.LinkMaps.{tied_pair, untied_pair, pair_total}
+use Rattle.node_semantics.proofs.StandsForParts.{assemble}
+use Rattle.node_semantics.proofs.SmallChanges.{aside_stands}
 
 module _ {S : Type 0} (g : Language S) (l : Placement) (m : Machine S) (c : Config S) (d : Delay) (st : MachineStandsFor g l m c d) (n : ℕ) (x : NodeState S) (node : slice_get m.nodes n ≡ Some x) where
   pub last_stands : (i : ℕ) → MachineStandsFor g l (record { nodes = set_at m.nodes n (record x { last = Some i }); links = m.links }) c (record d { last = put nat_cmp n i d.last })

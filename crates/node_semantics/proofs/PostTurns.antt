@@ -25,13 +25,13 @@ use Rattle.mesh_semantics.specs.Ways.{In}
 use Rattle.node_semantics.specs.Node.{Slot, NumberedPacket, NumberedArrival, NodeState, set_at, name_at, put_state, put_request, deliver, deliver_in, message_act}
 use Rattle.node_semantics.specs.Machine.{Machine}
 use Rattle.node_semantics.specs.StandsFor.{slot_at, request_of, request_in, kept_goal_of, kept_goal_in, Free, HasSlot, IsNumberOf, AreNumbersOf, caller_of, MachineStandsFor}
-use Rattle.node_semantics.proofs.Slots.{set_same, name_slot, at_node, before, after, elsewhere, changed_here, changed_there}
-use Rattle.node_semantics.proofs.References.{Same, no_caller}
-use Rattle.node_semantics.proofs.Spots.{Spot, spot, found, Refers, refers_any, Any, box_kept, served_kept, spot_same}
-use Rattle.node_semantics.proofs.Changes.{chain, post_stands, slot_keeps, slot_stands, still_distinct, mₛ}
-use Rattle.node_semantics.proofs.Steps.{ask_stands, letter_stands}
-use Rattle.node_semantics.proofs.Added.{last_stands}
-use Rattle.node_semantics.proofs.Turning.{Row, Turning, x₁, d₁, own, own_stands}
+use Rattle.node_semantics.proofs.NamesAndSlots.{set_same, name_slot, at_node, before, after, elsewhere, changed_here, changed_there}
+use Rattle.node_semantics.proofs.KeptNumbers.{Same, no_caller}
+use Rattle.node_semantics.proofs.NamesAfterChange.{Spot, spot, found, Refers, refers_any, Any, box_kept, served_kept, spot_same}
+use Rattle.node_semantics.proofs.SmallChanges.{chain, post_stands, slot_keeps, slot_stands, still_distinct, mₛ}
+use Rattle.node_semantics.proofs.NamedChanges.{ask_stands, letter_stands}
+use Rattle.node_semantics.proofs.AddedObject.{last_stands}
+use Rattle.node_semantics.proofs.OneObjectTurns.{Row, Turning, x₁, d₁, own, own_stands}
 
 module _ {S : Type 0} (g : Language S) (l : Placement) where
   -- what is stood for does not look at asynchronous messages
