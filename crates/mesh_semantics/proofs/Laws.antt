@@ -1,10 +1,12 @@
--- The lemmas that other crates cite: on tests and chains of steps, on maps after a change, and the laws of placed machines over any language of objects and any property
--- that is kept.
+-- The lemmas that other crates cite: on tests and chains of steps, on lists, maps and links after a change, on what an object owns, and the laws of placed machines over any
+-- language of objects and any property that is kept.
 pub use Rattle.mesh_semantics.proofs.Tests.{first, second, both, equal, equals, not_true, true_not, decide, differ, T_true, true_T}
 pub use Rattle.mesh_semantics.proofs.Chains.{same_some, there_is, given_by, required, same_value, same_values, same_error}
-pub use Rattle.mesh_semantics.proofs.Basics.{value_itself, values_itself, item_itself, error_itself}
-pub use Rattle.mesh_semantics.proofs.Maps.{find_put_same, find_put_other, find_without_same, find_without_other, put_list_same, put_list_other, push_list_same, push_list_other}
-pub use Rattle.mesh_semantics.proofs.Owned.{no_part, one_part}
+pub use Rattle.mesh_semantics.proofs.Basics.{value_itself, values_itself, item_itself, error_itself, runs, each_map, each_append, each_without, each_head}
+pub use Rattle.mesh_semantics.proofs.Maps.{untied, find_put_same, find_put_other, find_without_same, find_without_other, put_list_same, put_list_other, push_list_same, push_list_other}
+pub use Rattle.mesh_semantics.proofs.Owned.{no_part, one_part, is_call_of, moved_own, moved_some, taken_own, taken_some}
+pub use Rattle.mesh_semantics.proofs.Lists.{under-append, on_put_same, on_put_other, on_moved_same, on_moved_other}
+pub use Rattle.mesh_semantics.proofs.Taken.{under_taken, under_other, none_before, earliest}
 pub use Rattle.mesh_semantics.proofs.Meshes.{ways}
 pub use Rattle.mesh_semantics.proofs.Fitting.{fit_of}
 pub use Rattle.mesh_semantics.proofs.InOrder.{in_order}

@@ -14,16 +14,16 @@ use Rattle.mesh_semantics.specs.Paths.{on_link, is_link}
 use Rattle.mesh_semantics.specs.Delay.{Packet}
 use Rattle.node_semantics.specs.Node.{NumberedPacket}
 use Rattle.node_semantics.specs.StandsFor.{packets}
-use Rattle.node_semantics.proofs.Posted.{decide_link}
-use Rattle.node_semantics.proofs.Cells.{find_first, find_next, find_none}
+use Rattle.node_semantics.proofs.PostedLinks.{decide_link}
+use Rattle.node_semantics.proofs.CellCounts.{find_first, find_next, find_none}
 
-pub neither : (a b : Bool) → (a || b) ≡ false → (a ≡ false) × (b ≡ false)
+neither : (a b : Bool) → (a || b) ≡ false → (a ≡ false) × (b ≡ false)
 neither true b h = absurd (cc)
 neither false b h = (refl, h)
 
 -- a test of the lists of links that the empty list does not pass
 module _ (t : List NumberedPacket → Bool) (empty : t [] ≡ false) where
-  pub all_fail : (es : List (Pair × List NumberedPacket)) → IsTrue (is_sorted pair_cmp es) → ((k : Pair) → t (list_at pair_cmp k es) ≡ false) → list_any (λ e. t e.1) es ≡ false
+  all_fail : (es : List (Pair × List NumberedPacket)) → IsTrue (is_sorted pair_cmp es) → ((k : Pair) → t (list_at pair_cmp k es) ≡ false) → list_any (λ e. t e.1) es ≡ false
   all_fail [] o h = refl
   all_fail (e ∷ es) o h =
       let below = first (below_all pair_cmp e.0 es) (is_sorted pair_cmp es) o in
@@ -34,7 +34,7 @@ module _ (t : List NumberedPacket → Bool) (empty : t [] ≡ false) where
       at k (inl i) b = ap (λ z. t (list_at pair_cmp z es)) i ∙ ap (λ z. t (unwrap_or z [])) (find_none e.0 es b) ∙ empty
       at k (inr i) b = ap (λ z. t (unwrap_or z [])) (sym (find_next k e.0 e.1 es i)) ∙ h k
 
-  pub each_fails : (es : List (Pair × List NumberedPacket)) → list_any (λ e. t e.1) es ≡ false → (k : Pair) → t (list_at pair_cmp k es) ≡ false
+  each_fails : (es : List (Pair × List NumberedPacket)) → list_any (λ e. t e.1) es ≡ false → (k : Pair) → t (list_at pair_cmp k es) ≡ false
   each_fails [] h k = empty
   each_fails (e ∷ es) h k = by (pair_cmp k e.0) refl (each_fails es parts.1 k)
     where

@@ -23,8 +23,8 @@ use Rattle.node_semantics.specs.Requests.{Requests}
 use Rattle.node_semantics.specs.StandsFor.{slot_at, AtName, MachineStandsFor}
 use Rattle.node_semantics.specs.Standings.{slot_standing, SaysOf, brings, is_on_way, standing_in, machine_standing}
 use Rattle.node_semantics.proofs.LinkTests.{any_on_links}
-use Rattle.node_semantics.proofs.Spots.{Found, found}
-use Rattle.node_semantics.proofs.Standings.{node_says}
+use Rattle.node_semantics.proofs.NamesAfterChange.{Found, found}
+use Rattle.node_semantics.proofs.NodeStandings.{node_says}
 
 abbrev is_due : Option Holding → Bool
 is_due (Some (D.Due v)) = true

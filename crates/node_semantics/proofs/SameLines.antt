@@ -16,16 +16,16 @@ use Rattle.mesh_semantics.specs.Sound.{Each, IsSound}
 use Rattle.mesh_semantics.specs.Lawful.{Lawful}
 use Rattle.mesh_semantics.specs.Fit.{Fit}
 use Rattle.mesh_semantics.specs.Kept.{After}
-use Rattle.mesh_semantics.proofs.Events.{act_kept}
+use Rattle.mesh_semantics.proofs.Laws.{act_kept}
 use Rattle.node_semantics.specs.Machine as M
 use Rattle.node_semantics.specs.Machine.{Machine, MachineActed, machine_act, machine_start, is_machine_quiet}
 use Rattle.node_semantics.specs.Requests.{Requests}
 use Rattle.node_semantics.specs.StandsFor.{MachineStandsFor}
 use Rattle.node_semantics.specs.Agrees.{Agrees, StartAgrees, IsOfMesh, IsFresh}
 use Rattle.node_semantics.specs.Written.{goes_on, lines_from, lines_at, machine_lines, Then, UnlessQuiet, AreFresh, AreFreshAt, FreshAlong}
-use Rattle.node_semantics.proofs.Events.{event_agrees}
-use Rattle.node_semantics.proofs.Quietness.{quiet_agrees}
-use Rattle.node_semantics.proofs.Starts.{start_agrees}
+use Rattle.node_semantics.proofs.EventsAgree.{event_agrees}
+use Rattle.node_semantics.proofs.QuietAgrees.{quiet_agrees}
+use Rattle.node_semantics.proofs.StartsAgree.{start_agrees}
 
 module _ {S : Type 0} (g : Language S) (W : Config S → Type 0) (law : Lawful g W) (req : Requests g W) (l : Placement) (fit : Fit l) (q : ℕ) where
   at_end : (c : Config S) (d : Delay) (done : ℕ) (a b : Bool) → a ≡ b

@@ -1,4 +1,4 @@
--- A machine of nodes: what one event does to it.
+-- A machine of nodes: its nodes, the links with the numbered packets on them, what one event does to it, when it is quiet, and how it starts.
 use Rattle.std.specs.Prelude.{ℕ, ◌+◌, ◌*◌, ◌==◌, List, [], ◌∷◌, length, sum_by, Option, Some, None, is_some, Bool, false, not, ◌&&◌, ◌||◌, if◌then◌else◌, nat_lt, slice_get, replicate}
 use Rattle.pool_syntax.specs.declared.words.What.{What}
 use Rattle.pool_syntax.specs.declared.words.What.TheVariants as W
@@ -27,7 +27,7 @@ pub data MachineActed (S : Type 0) : Type 0 where
   Full : (kind : FullKind) (node : ℕ) → MachineActed S
   Nothing : MachineActed S
 
--- the packets on the links that leave a node
+-- the number of packets on the links that leave a node
 abbrev pub leaving : {X : Type 0} → List (Pair × List X) → ℕ → ℕ
 leaving links n = sum_by (λ e. if e.0.0 == n then length e.1 else 0) links
 
@@ -36,18 +36,19 @@ abbrev pub post_packet : Placement → ℕ → Option NumberedPacket → List (P
 post_packet l n None links = links
 post_packet l n (Some x) links = push_list pair_cmp (n, next l n (goal_node x.packet)) x links
 
--- the machine after what one of its nodes did
+-- the machine after what one of its nodes did; a limit that would be passed leaves it as it is
 abbrev pub after_node : {S : Type 0} → Placement → ℕ → Machine S → NodeActed S → MachineActed S
 after_node l n m N.Idle = Acts W.Idle m
 after_node l n m (N.Acts w packet x) = Acts w (record { nodes = set_at m.nodes n x; links = post_packet l n packet m.links })
 after_node l n m (N.Full k) = Full k n
 after_node l n m N.Nothing = Nothing
 
+-- a turn of one of its nodes
 abbrev pub turn_in : {S : Type 0} → Language S → Placement → ℕ → ℕ → Machine S → ℕ → Option (NodeState S) → MachineActed S
 turn_in g l q fresh m n None = Nothing
 turn_in g l q fresh m n (Some x) = after_node l n m (turn_act g l q n (leaving m.links n) fresh x)
 
--- the head of a link comes to the node b
+-- the head of a link comes to the node b, and has left the link: at its goal it is received, and else it goes last on its next link
 abbrev pub come : {S : Type 0} → Language S → Placement → Machine S → ℕ → NumberedPacket → Option (NodeState S) → MachineActed S
 come g l m b e None = Nothing
 come g l m b e (Some x) =
@@ -55,11 +56,12 @@ come g l m b e (Some x) =
     else (if nat_lt l.cells (message_count x.slots + leaving m.links b + 1) then Full F.Cells b
     else Acts W.Pass (record m { links = post_packet l b (Some e) m.links }))
 
+-- a move of the head of a link, on which these packets are
 abbrev pub move_in : {S : Type 0} → Language S → Placement → Machine S → ℕ → ℕ → List NumberedPacket → MachineActed S
 move_in g l m a b [] = Acts W.Idle m
 move_in g l m a b (e ∷ rest) = come g l (record m { links = put_list pair_cmp (a, b) rest m.links }) b e (slice_get m.nodes b)
 
--- what an event does; a request that is posted in it has the fresh number
+-- what an event does: one turn of a node, or one move of the head of a link; a request that is posted in it has the fresh number
 abbrev pub machine_act : {S : Type 0} → Language S → Placement → ℕ → ℕ → Machine S → Event → MachineActed S
 machine_act g l q fresh m (Ev.Turn n) = turn_in g l q fresh m n (slice_get m.nodes n)
 machine_act g l q fresh m (Ev.Link a b) = move_in g l m a b (list_at pair_cmp (a, b) m.links)
@@ -73,15 +75,20 @@ any_ready g n (x ∷ xs) = is_some (first_of (ready_slots g n x)) || any_ready g
 abbrev pub is_machine_quiet : {S : Type 0} → Language S → Machine S → Bool
 is_machine_quiet g m = not (list_any (λ e. has_some e.1) m.links) && not (any_ready g 0 m.nodes)
 
+-- an object has met an error
+abbrev pub any_faulted : {S : Type 0} → Language S → Machine S → Bool
+any_faulted g m = list_any (λ x. list_any (λ s. is_some (g.fault s.state)) x.slots) m.nodes
+
 -- a node without objects: a count for each class
 abbrev pub empty_node : {S : Type 0} → Language S → NodeState S
 empty_node g = record { slots = []; last = None; made = replicate (length g.classes) 0 }
 
--- the start: the root alone, in slot 0 of its node
+-- the root alone, in slot 0 of its node; it counts as made by no one
 abbrev pub start_with : {S : Type 0} → Language S → Placement → ℕ → Option S → Option (Machine S)
 start_with g l n None = None
 start_with g l n (Some y) =
     Some (record { nodes = set_at (replicate (l.width * l.height) (empty_node g)) n (record (empty_node g) { slots = fresh_slot y ∷ [] }); links = [] })
 
+-- the start, if there is a class
 abbrev pub machine_start : {S : Type 0} → Language S → Placement → Option (Machine S)
 machine_start g l = start_with g l (node_of (root_name l)) g.root

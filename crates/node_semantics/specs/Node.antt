@@ -1,4 +1,8 @@
--- One node of a machine: its objects as they stand there, the messages that have arrived, and the request numbers that are out.
+-- One node of a machine, and what it does by itself: a turn, or the receipt of a packet at its goal. A node has its objects, each in a slot, the messages that have arrived
+-- for them, and the number of each request that is out. A request is a new object on another node or a call; it has its number until its value has come. What changes outside
+-- the node goes into one packet. Until then the object stands in its slot as it stood when it posted the request, whatever has become of the request.
+-- Throughout, g is a language, l a placement, q the most local transitions of a turn, n the node with its state x, fresh the number that a request of this turn gets,
+-- i the number of a slot and s what is in it, and leaving the number of packets on the links that leave the node.
 use Rattle.std.specs.Prelude.{ℕ, zero, suc, ◌+◌, ◌-◌, ◌*◌, ◌%◌, ◌==◌, List, [], ◌∷◌, ◌++◌, length, sum_by, filter, Option, Some, None, is_some, is_none, Bool, true, false, ◌&&◌, if◌then◌else◌, nat_le, nat_lt, slice_get}
 use Rattle.std.specs.Option.{unwrap_or}
 use Rattle.pool_syntax.specs.declared.words.Value.{Value}
@@ -20,27 +24,27 @@ use Rattle.mesh_semantics.specs.Delay as D
 use Rattle.mesh_semantics.specs.Delay.{Packet, Arrival, node_of, slot_of}
 use Rattle.mesh_semantics.specs.Act.{id, first_of, or_else, is_possible, can_step, greatest, class_place}
 
--- a packet with the number of the request that it belongs to; that of an asynchronous message has none
+-- a packet with the number of the request that it belongs to; an asynchronous message belongs to none
 pub record NumberedPacket : Type 0 where
   pub number : Option ℕ
   pub packet : Packet
 
--- a message that has arrived, with the number of its call
+-- a message that has arrived, with the number of the request if it is a call
 pub record NumberedArrival : Type 0 where
   pub number : Option ℕ
   pub message : Arrival
 
 -- an object as it stands at its node
 pub record Slot (S : Type 0) : Type 0 where
-  -- as it stood when it posted its request, if one is out
+  -- the state of the object; if a request of it is out, the state in which it posted it
   pub state : S
-  -- the number of its request, until its value has come
+  -- the number of its request that is out
   pub request : Option ℕ
-  -- the request numbers of the callers that it serves, the innermost first
+  -- for each caller that it serves the number of the call, the innermost first
   pub callers : List ℕ
-  -- the node to which its last create went
+  -- the node to which the last request for a new object went
   pub goal : ℕ
-  -- what has arrived for it and was not taken, the earliest first
+  -- the messages that have arrived for it and were not taken, the earliest first
   pub mailbox : List NumberedArrival
 
 pub record NodeState (S : Type 0) : Type 0 where
@@ -57,6 +61,13 @@ pub data NodeActed (S : Type 0) : Type 0 where
   Full : (kind : FullKind) → NodeActed S
   Nothing : NodeActed S
 
+-- a line or a limit
+abbrev pub IsStep : {S : Type 0} → NodeActed S → Type 0
+IsStep (Acts w packet x) = Unit {0}
+IsStep (Full kind) = Unit {0}
+IsStep Idle = ⊥
+IsStep Nothing = ⊥
+
 -- the list with another value at this place
 abbrev pub set_at : {X : Type 0} → List X → ℕ → X → List X
 set_at [] i y = []
@@ -72,6 +83,7 @@ placed i (x ∷ xs) = (i, x) ∷ placed (i + 1) xs
 abbrev pub name_at : ℕ → ℕ → ℕ
 name_at n i = n * 65536 + i
 
+-- the slot of a new object
 abbrev pub fresh_slot : {S : Type 0} → S → Slot S
 fresh_slot x = record { state = x; request = None; callers = []; goal = 0; mailbox = [] }
 
@@ -79,15 +91,16 @@ fresh_slot x = record { state = x; request = None; callers = []; goal = 0; mailb
 abbrev pub put_state : {S : Type 0} → NodeState S → ℕ → Slot S → S → NodeState S
 put_state x i s y = record x { slots = set_at x.slots i (record s { state = y }) }
 
--- the messages of mailbox
+-- the messages of a mailbox, without their numbers
 abbrev pub arrivals : List NumberedArrival → List Arrival
 arrivals [] = []
 arrivals (a ∷ rest) = a.message ∷ arrivals rest
 
--- whether a letter is on one of these methods
+-- whether a message is on one of these methods
 abbrev pub is_on : List ℕ → NumberedArrival → Bool
 is_on names a = has_name names a.message.method
 
+-- the first message of a mailbox on these methods
 abbrev pub first_on : List ℕ → List NumberedArrival → Option NumberedArrival
 first_on names [] = None
 first_on names (a ∷ rest) = if is_on names a then Some a else first_on names rest
@@ -97,10 +110,12 @@ abbrev pub can_go : {S : Type 0} → Language S → ℕ → ℕ × Slot S → Bo
 can_go g n e =
     is_none e.1.request && is_none (g.fault e.1.state) && can_step (arrivals e.1.mailbox) (g.kind (name_at n e.0) e.1.state)
 
+-- whether a slot is above the one that stepped last
 abbrev pub comes_after : Option ℕ → ℕ → Bool
 comes_after None i = true
 comes_after (Some last) i = nat_lt last i
 
+-- the slots whose objects can step, by rising number
 abbrev pub ready_slots : {S : Type 0} → Language S → ℕ → NodeState S → List (ℕ × Slot S)
 ready_slots g n x = filter (can_go g n) (placed 0 x.slots)
 
@@ -112,31 +127,32 @@ slot_in_turn g n x = or_else (first_of (filter (λ e. comes_after x.last e.0) (r
 abbrev pub frames_in : {S : Type 0} → Language S → List (Slot S) → ℕ
 frames_in g slots = sum_by (λ s. 1 + g.frames s.state) slots
 
--- mailbox that have arrived at the objects of a node
+-- the messages that have arrived at the objects of a node and were not taken
 abbrev pub message_count : {S : Type 0} → List (Slot S) → ℕ
 message_count slots = sum_by (λ s. length s.mailbox) slots
 
-abbrev pub one_if : Option NumberedPacket → ℕ
-one_if None = 0
-one_if (Some x) = 1
+-- one where a packet leaves
+abbrev pub packet_count : Option NumberedPacket → ℕ
+packet_count None = 0
+packet_count (Some x) = 1
 
--- the step, unless a count of the node is then past its limit; so many packets are on the links that leave it
+-- the step, unless a count of the node would then be past its limit: objects, frames, cells, the first of these
 abbrev pub within_node : {S : Type 0} → Language S → Placement → ℕ → NodeActed S → NodeActed S
 within_node g l leaving (Acts w packet x) =
     if nat_lt l.objects (length x.slots) then Full F.Heap
     else (if nat_lt l.frames (frames_in g x.slots) then Full F.Frames
-    else (if nat_lt l.cells (message_count x.slots + leaving + one_if packet) then Full F.Cells else Acts w packet x))
+    else (if nat_lt l.cells (message_count x.slots + leaving + packet_count packet) then Full F.Cells else Acts w packet x))
 within_node g l leaving Idle = Idle
 within_node g l leaving (Full k) = Full k
 within_node g l leaving Nothing = Nothing
 
--- the state after so many local transitions, if as many follow one another, none past so many frames for this object
+-- the state after so many local transitions, if as many follow one another and after none of them more methods are under way than there is room for
 abbrev pub local_state : {S : Type 0} → Language S → ℕ → ℕ → ℕ → S → Option S
 local_state g o room zero y = Some y
 local_state g o room (suc k) y = local_state g o room k y >>= λ z.
     if is_none (g.fault z) && is_local (g.kind o z) && nat_le (g.frames (g.stepped o z)) room then Some (g.stepped o z) else None
 
--- how many methods may be under way in the object of this slot
+-- how many methods may be under way in the object of this slot: the frames of the node but for those of the others and the object's own one
 abbrev pub room_for : {S : Type 0} → Language S → Placement → NodeState S → ℕ → Slot S → ℕ
 room_for g l x i s = l.frames + g.frames s.state - frames_in g x.slots
 
@@ -154,26 +170,28 @@ local_act n o x i s (suc k) (Some y) = Acts (W.Step (L.Local o) (suc k)) None (p
 abbrev pub add_slot : {S : Type 0} → NodeState S → S → NodeState S
 add_slot x y = record x { slots = x.slots ++ fresh_slot y ∷ [] }
 
--- counts one more object made by an object of this node
+-- how many objects of a class were made by objects of this node
 abbrev pub made_here : {S : Type 0} → Language S → NodeState S → ℕ → ℕ
 made_here g x c = unwrap_or (slice_get x.made (class_place g.classes c)) 0
 
+-- one more of the class was made
 abbrev pub count_one : {S : Type 0} → Language S → ℕ → NodeState S → NodeState S
 count_one g c x = record x { made = set_at x.made (class_place g.classes c) (made_here g x c + 1) }
 
--- the object waits for the answer to the request of this number
+-- the object posts a request with this number; its state stays
 abbrev pub put_request : {S : Type 0} → NodeState S → ℕ → Slot S → ℕ → ℕ → NodeState S
 put_request x i s number goal = record x { slots = set_at x.slots i (record s { request = Some number; goal = goal }) }
 
--- puts a letter last at its receiver's slot
+-- puts a message last in the mailbox of its receiver's slot
 abbrev pub deliver_in : {S : Type 0} → ℕ → NumberedArrival → NodeState S → Option (Slot S) → NodeState S
 deliver_in i a x None = x
 deliver_in i a x (Some s) = record x { slots = set_at x.slots i (record s { mailbox = s.mailbox ++ a ∷ [] }) }
 
+-- the same for the receiver of this name
 abbrev pub deliver : {S : Type 0} → ℕ → NumberedArrival → NodeState S → NodeState S
 deliver o a x = deliver_in (slot_of o) a x (slice_get x.slots (slot_of o))
 
--- the node of the next object of a class, by its place, where so many were made
+-- the node of the next object of a class that has this place, where so many were made before
 abbrev pub goal_for : Placement → ℕ → ℕ → Option Place → ℕ
 goal_for l n made None = n
 goal_for l n made (Some (Pl.At k)) = k
@@ -184,32 +202,32 @@ goal_for l n made (Some Pl.Spread) = (n + made) % (l.width * l.height)
 abbrev pub goal_here : {S : Type 0} → Language S → Placement → NodeState S → ℕ → ℕ → ℕ
 goal_here g l x n c = goal_for l n (made_here g x c) (slice_get l.places (class_place g.classes c))
 
--- an object made on the own node: the maker has its name
+-- an object is made on the own node, in the next slot, and its maker has its name at once
 abbrev pub made_own : {S : Type 0} → Language S → ℕ → NodeState S → ℕ → Slot S → ℕ → Option S → NodeActed S
 made_own g n x i s class None = Nothing
 made_own g n x i s class (Some y) =
     Acts (W.Step (L.New (name_at n i) (name_at n (length x.slots)) (id class)) 1) None
     (add_slot (put_state x i s (g.given s.state (V.Ref (name_at n (length x.slots))))) y)
 
--- an object is made, here or by a packet
+-- an object is made here, or a packet leaves for its node
 abbrev pub create_act : {S : Type 0} → Language S → ℕ → ℕ → NodeState S → ℕ → Slot S → ℕ → ℕ → NodeActed S
 create_act g n fresh x i s class goal =
     if goal == n then made_own g n (count_one g class x) i s class (g.made class)
     else Acts (W.PostCreate (name_at n i) (id class) goal) (Some (record { number = Some fresh; packet = D.Create (name_at n i) goal class }))
     (put_request (count_one g class x) i s fresh goal)
 
--- a message to an object, here or by a packet
+-- a message arrives here at once, or leaves in a packet
 abbrev pub message_act : {S : Type 0} → ℕ → What → NodeState S → ℕ → NumberedArrival → Packet → NodeActed S
 message_act n w x b letter packet =
     if node_of b == n then Acts w None (deliver b letter x) else Acts w (Some (record { number = letter.number; packet = packet })) x
 
--- what an alternative does after a letter was taken for it
+-- the object has taken the first message on these methods and serves it
 abbrev pub taken_act : {S : Type 0} → What → NodeState S → List ℕ → List ℕ → ℕ → Slot S → Option S → NodeActed S
 taken_act w x names callers i s None = Nothing
 taken_act w x names callers i s (Some y) =
     Acts w None (record x { slots = set_at x.slots i (record s { state = y; callers = callers; mailbox = without_first (is_on names) s.mailbox }) })
 
--- the object serves the method of a message; the number of its call, if it is one, is kept with the method
+-- the object takes a message: a call, whose number is kept while it is served, or an asynchronous message
 abbrev pub serve_act : {S : Type 0} → Language S → ℕ → NodeState S → ℕ → Slot S → ℕ → List ℕ → Option ℕ → Arrival → NodeActed S
 serve_act g n x i s alt names None m =
     taken_act (W.Step (L.Take (name_at n i) m.sender (id m.method) m.args) 1) x names s.callers i s
@@ -218,7 +236,7 @@ serve_act g n x i s alt names (Some k) m =
     taken_act (W.Step (L.Answer (name_at n i) m.sender (id m.method) m.args) 1) x names (k ∷ s.callers) i s
     (g.serving (name_at n i) s.state alt m.method (Some m.sender) m.args)
 
--- an alternative that is possible: it is picked, or the first letter on its methods is taken
+-- an alternative that is possible: it is picked, or the first message on its methods is taken
 abbrev pub chosen_act : {S : Type 0} → Language S → ℕ → NodeState S → ℕ → Slot S → ℕ → Option (List ℕ) → Option NumberedArrival → NodeActed S
 chosen_act g n x i s alt None a =
     Acts (W.Step (L.Pick (name_at n i) alt) 1) None (put_state x i s (g.picked (name_at n i) s.state alt))
@@ -238,26 +256,26 @@ abbrev pub has_number : Option ℕ → ℕ → Bool
 has_number None number = false
 has_number (Some k) number = k == number
 
--- the value of the request has come to the slot that it is out for
+-- the value of a request has come: the slot whose request has the number is given it, and the number is free
 abbrev pub settled : {S : Type 0} → Language S → ℕ → Value → List (Slot S) → List (Slot S)
 settled g number v [] = []
 settled g number v (s ∷ ss) =
     if has_number s.request number then record s { state = g.given s.state v; request = None } ∷ ss else s ∷ settled g number v ss
 
--- a value goes to a caller, here or by a packet
+-- a caller on this node has its value at once, and for another one the value leaves in a packet
 abbrev pub give_back : {S : Type 0} → Language S → ℕ → ℕ → What → ℕ → Value → NodeState S → NodeActed S
 give_back g n number w k v x =
     if node_of k == n then Acts w None (record x { slots = settled g number v x.slots })
     else Acts w (Some (record { number = Some number; packet = D.Result k v })) x
 
--- a served method ends: the innermost caller has this number
+-- a served call ends; the innermost number is that of its caller
 abbrev pub return_act : {S : Type 0} → Language S → ℕ → NodeState S → ℕ → Slot S → ℕ → Value → List ℕ → NodeActed S
 return_act g n x i s k v [] = Nothing
 return_act g n x i s k v (number ∷ callers) =
     give_back g n number (W.Step (L.Return (name_at n i) k v) 1) k v
     (record x { slots = set_at x.slots i (record s { state = g.returned s.state; callers = callers }) })
 
--- a turn of the object of a slot, by what it does next; a request has the fresh number
+-- a turn of the object of a slot, by what it does next
 abbrev pub slot_act : {S : Type 0} → Language S → Placement → ℕ → ℕ → ℕ → NodeState S → ℕ → Slot S → Kind → NodeActed S
 slot_act g l q n fresh x i s K.Local =
     local_act n (name_at n i) x i s (steps_of g l q n x i s) (local_state g (name_at n i) (room_for g l x i s) (steps_of g l q n x i s) s.state)
@@ -274,28 +292,29 @@ slot_act g l q n fresh x i s (K.Write item) = Acts (W.Step (L.Write (name_at n i
 slot_act g l q n fresh x i s (K.Fault e) = Acts (W.Step (L.Fault (name_at n i) e) 1) None (put_state x i s (g.faulted s.state e))
 slot_act g l q n fresh x i s _ = Nothing
 
+-- a turn in which the object of this slot steps, if there is one
 abbrev pub turn_of_slot : {S : Type 0} → Language S → Placement → ℕ → ℕ → ℕ → ℕ → NodeState S → Option (ℕ × Slot S) → NodeActed S
 turn_of_slot g l q n leaving fresh x None = Idle
 turn_of_slot g l q n leaving fresh x (Some e) =
     within_node g l leaving (slot_act g l q n fresh (record x { last = Some e.0 }) e.0 e.1 (g.kind (name_at n e.0) e.1.state))
 
--- a turn of node n, with so many packets on the links that leave it
+-- a turn of the node: idle exactly where no object of it can step
 abbrev pub turn_act : {S : Type 0} → Language S → Placement → ℕ → ℕ → ℕ → ℕ → NodeState S → NodeActed S
 turn_act g l q n leaving fresh x = turn_of_slot g l q n leaving fresh x (slot_in_turn g n x)
 
--- the slot of the request of this number
+-- the value of a numbered packet has come
 abbrev pub settle_number : {S : Type 0} → Language S → Value → Option ℕ → NodeState S → NodeState S
 settle_number g v None x = x
 settle_number g v (Some number) x = record x { slots = settled g number v x.slots }
 
--- an object is made for a creator on another node
+-- an object is made for a creator on another node, to which its name leaves in a packet
 abbrev pub created_for : {S : Type 0} → ℕ → NodeState S → Option ℕ → ℕ → ℕ → Option S → NodeActed S
 created_for n x number o class None = Nothing
 created_for n x number o class (Some y) =
     Acts (W.Step (L.New o (name_at n (length x.slots)) (id class)) 1)
     (Some (record { number = number; packet = D.Created o (name_at n (length x.slots)) })) (add_slot x y)
 
--- a packet at its goal, the node n
+-- a packet at its goal, before the limits are asked
 abbrev pub receipt : {S : Type 0} → Language S → ℕ → NodeState S → Option ℕ → Packet → NodeActed S
 receipt g n x number (D.Create o goal class) = created_for n x number o class (g.made class)
 receipt g n x number (D.Created o name) = Acts (W.Created o name) None (settle_number g (V.Ref name) number x)
@@ -305,5 +324,6 @@ receipt g n x number (D.Result o v) = Acts (W.Result o v) None (settle_number g 
 receipt g n x number (D.Async o r m args) =
     Acts (W.Arrive o r (id m)) None (deliver r (record { number = None; message = record { sender = o; is_call = false; method = m; args = args } }) x)
 
+-- the receipt of a packet at its goal
 abbrev pub receipt_act : {S : Type 0} → Language S → Placement → ℕ → ℕ → NumberedPacket → NodeState S → NodeActed S
 receipt_act g l n leaving e x = within_node g l leaving (receipt g n x e.number e.packet)

@@ -1,4 +1,5 @@
--- What a packet meets that comes to a node at its goal.
+-- What a node may be given: each name of the node in the packet is of an object that is there, and the packet is one that its number and the node know. And what is asked of a
+-- language so that what comes off a link is so.
 use Rattle.std.specs.Prelude.{◌≡◌, ◌≢◌, ℕ, List, [], ◌∷◌, Option, Some, true, slice_get}
 use Rattle.pool_syntax.specs.declared.words.Value.{Value}
 use Rattle.pool_syntax.specs.declared.words.Value.TheVariants as V
@@ -13,11 +14,11 @@ use Rattle.node_semantics.specs.Node.{Slot, NodeState}
 use Rattle.node_semantics.specs.Requests.{posts_request}
 use Rattle.node_semantics.specs.StandsFor.{caller_of}
 
--- an object of the node has the slot
+-- the node has an object of this name
 abbrev pub HasObject : {S : Type 0} → NodeState S → ℕ → Type 0
 HasObject {S} x o = (s : Slot S) × (slice_get x.slots (slot_of o) ≡ Some s)
 
--- the number is out for the slot of o, and no letter and no served call of the node is of o
+-- the number is out for the slot of o, and o is the caller of no arrived call and of no served method of the node
 pub record IsAwaited {S : Type 0} (g : Language S) (x : NodeState S) (number : Option ℕ) (o : ℕ) : Type 0 where
   pub slot : Slot S
   pub there : slice_get x.slots (slot_of o) ≡ Some slot
@@ -45,7 +46,7 @@ names_of (D.Async o r m args) = o ∷ r ∷ names_in args
 abbrev pub HasNames : {S : Type 0} → ℕ → NodeState S → Packet → Type 0
 HasNames n x p = Each (λ o. node_of o ≡ n → HasObject x o) (names_of p)
 
--- what else it meets
+-- what else holds of it: the node is its goal; a create is of a class that is there; a create and a call are from another node; a value is awaited
 abbrev pub Meets : {S : Type 0} → Language S → ℕ → NodeState S → Option ℕ → Packet → Type 0
 Meets g n x number (D.Create o goal class) = (goal ≡ n) × (node_of o ≢ n) × In class g.classes
 Meets g n x number (D.Created o name) = (node_of o ≡ n) × IsAwaited g x number o

@@ -1,4 +1,6 @@
--- What a machine stands for: a configuration with its delay, in which there are no request numbers.
+-- What a machine stands for: a configuration with its delay, in which there are no request numbers. Each object is in its slot, the mailboxes, links, last slots and counts
+-- are those of the delay, and each number that is kept anywhere is the one that is out for the object whose request it is.
+-- Throughout, g is a language, m a machine, c a configuration with its delay d, o the name of an object, s its slot, x its state in c, and h what it waits for in d.
 use Rattle.std.specs.Prelude.{◌≡◌, ◌≤◌, ◌*◌, IsTrue, ℕ, List, [], ◌∷◌, length, Option, Some, None, true, slice_get, if◌then◌else◌}
 use Rattle.std.specs.Ordering.{nat_cmp}
 use Rattle.std.specs.FinMap.{find}
@@ -26,11 +28,12 @@ slot_in (Some x) i = slice_get x.slots i
 abbrev pub slot_at : {S : Type 0} → Machine S → ℕ → Option (Slot S)
 slot_at m o = slot_in (slice_get m.nodes (node_of o)) (slot_of o)
 
--- the request number of an object, and the node to which its last create went
+-- the number of an object's request that is out
 abbrev pub request_in : {S : Type 0} → Option (Slot S) → Option ℕ
 request_in None = None
 request_in (Some s) = s.request
 
+-- the node to which its last request for a new object went
 abbrev pub kept_goal_in : {S : Type 0} → Option (Slot S) → Option ℕ
 kept_goal_in None = None
 kept_goal_in (Some s) = Some s.goal
@@ -44,14 +47,15 @@ kept_goal_of m o = kept_goal_in (slot_at m o)
 abbrev pub IsOut : Option ℕ → Type 0
 IsOut number = (k : ℕ) × (number ≡ Some k)
 
--- How a slot stands for an object o in the state x. While its request is out it stands as it did when it posted it: where its call is
--- being served the object is at the wait, and where its value is on the way it has the value already.
+-- How a slot stands for an object in the state x. While its request is out the slot has the state in which it posted it: of a call that is served x is at the wait, and of
+-- a value that is on the way x has the value already.
 pub data SlotStandsFor {S : Type 0} (g : Language S) (o : ℕ) (s : Slot S) (x : S) : Option Holding → Type 0 where
   Free : s.request ≡ None → s.state ≡ x → SlotStandsFor g o s x None
   Served : (b m : ℕ) (args : List Value) → IsOut s.request → g.kind o s.state ≡ K.Send b m args → g.waiting s.state b m ≡ x → SlotStandsFor g o s x None
   Posted : IsOut s.request → s.state ≡ x → SlotStandsFor g o s x (Some D.Posted)
   Due : (v : Value) → IsOut s.request → posts_request (g.kind o s.state) ≡ true → g.given s.state v ≡ x → SlotStandsFor g o s x (Some (D.Due v))
 
+-- the slot stands for the object, and its mailbox has what has arrived
 pub record Occupied {S : Type 0} (g : Language S) (o : ℕ) (s : Slot S) (x : S) (h : Option Holding) (box : List Arrival) : Type 0 where
   pub state : SlotStandsFor g o s x h
   pub mailbox : arrivals s.mailbox ≡ box
@@ -94,7 +98,7 @@ AreNumbersOf m (k ∷ ks) [] = ⊥
 abbrev pub HasSlot : {S : Type 0} → Machine S → ℕ → Type 0
 HasSlot {S} m o = (s : Slot S) × (slot_at m o ≡ Some s)
 
--- what is in a packet of names: a receiver is there, and the node of a create is the one that is kept for its creator
+-- what a packet says of names: a receiver is there, and the node of a create is the one that is kept for its creator
 abbrev pub Knows : {S : Type 0} → Machine S → Packet → Type 0
 Knows m (D.Create o goal class) = kept_goal_of m o ≡ Some goal
 Knows m (D.Created o name) = Unit {0}
@@ -102,15 +106,17 @@ Knows m (D.Request o r k args) = HasSlot m r
 Knows m (D.Result o v) = Unit {0}
 Knows m (D.Async s r k args) = HasSlot m r
 
+-- a packet has the number of its owner's request
 pub record PacketFits {S : Type 0} (m : Machine S) (e : NumberedPacket) : Type 0 where
   pub number : IsNumberOf m e.number (owner_of e.packet)
   pub names : Knows m e.packet
 
--- the mailbox of a slot have the numbers of their calls
+-- the calls in a mailbox have the numbers of their callers' requests, and asynchronous messages have none
 abbrev pub MailboxFits : {S : Type 0} → Machine S → Option (Slot S) → Type 0
 MailboxFits m None = Unit {0}
 MailboxFits m (Some s) = Each (λ e. IsNumberOf m e.number (caller_of e.message)) s.mailbox
 
+-- the numbers that a slot keeps are those of the callers that its object serves
 abbrev pub CallersFit : {S : Type 0} → Language S → Machine S → Option (Slot S) → Option S → Type 0
 CallersFit g m (Some s) (Some x) = AreNumbersOf m s.callers (g.callers x)
 CallersFit g m None x = Unit {0}
@@ -120,7 +126,7 @@ CallersFit g m (Some s) None = Unit {0}
 abbrev pub CountsMade : {S : Type 0} → Language S → NodeState S → Delay → ℕ → Type 0
 CountsMade g x d n = (length x.made ≡ length g.classes) × ((k : ℕ) → In k g.classes → made_here g x k ≡ made_by d n k)
 
--- what the machine of these nodes stands for
+-- the machine stands for the configuration and the delay
 pub record MachineStandsFor {S : Type 0} (g : Language S) (l : Placement) (m : Machine S) (c : Config S) (d : Delay) : Type 0 where
   pub nodes : length m.nodes ≡ l.width * l.height
   -- each slot has a name

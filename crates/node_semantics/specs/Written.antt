@@ -1,4 +1,4 @@
--- The lines that a machine writes over a schedule.
+-- The lines that a machine writes over a schedule, where the requests of its events have the numbers of a list; and that these numbers are fresh along its run.
 use Rattle.std.specs.Prelude.{ℕ, ◌+◌, List, [], ◌∷◌, Option, Some, None, Bool, true, false}
 use Rattle.pool_syntax.specs.declared.words.Event.{Event}
 use Rattle.pool_syntax.specs.declared.words.End.TheVariants as E

@@ -1,6 +1,7 @@
 //! Laws of machines of nodes, over the definitions alone: each is the contract of a function that does nothing. They hold of any language of objects whose states are
 //! the type parameter `S`. What is kept of a configuration is a property: a contract ranges over it as over what a function gives, from the type parameter `K`.
-ghost use Rattle.std.specs.Prelude.{◌≡◌, ◌≢◌, ◌+◌, ℕ, List, ◌∷◌, None, Some, length, slice_get};
+ghost use Rattle.std.specs.Prelude.{◌≡◌, ◌≢◌, ◌+◌, ℕ, List, [], ◌∷◌, None, Some, is_some, length, slice_get};
+ghost use Rattle.std.specs.List.{list_any};
 ghost use Rattle.pool_syntax.specs.declared.words.Event.{Event};
 ghost use Rattle.pool_syntax.specs.declared.words.Placement.{Placement};
 ghost use Rattle.mesh_semantics.specs.Tables.{pair_cmp, list_at};
@@ -16,14 +17,15 @@ ghost use Rattle.mesh_semantics.specs.FitFor.{FitFor};
 ghost use Rattle.mesh_semantics.specs.Lawful.{Lawful};
 ghost use Rattle.mesh_semantics.specs.Given.{IsGiven};
 ghost use Rattle.node_semantics.specs.Node as N;
-ghost use Rattle.node_semantics.specs.Node.{NodeState, NumberedPacket, Slot, frames_in, message_count, receipt_act, turn_act};
-ghost use Rattle.node_semantics.specs.Machine.{Machine, is_machine_quiet, leaving, machine_act, machine_start};
-ghost use Rattle.node_semantics.specs.Requests.{Requests};
+ghost use Rattle.node_semantics.specs.Node.{IsStep, NodeState, NumberedPacket, Slot, frames_in, message_count, ready_slots, receipt_act, turn_act};
+ghost use Rattle.node_semantics.specs.Machine.{Machine, any_faulted, is_machine_quiet, leaving, machine_act, machine_start};
+ghost use Rattle.node_semantics.specs.Requests.{KeepsClassAndFault, Requests};
 ghost use Rattle.node_semantics.specs.StandsFor.{MachineStandsFor, slot_at};
+ghost use Rattle.node_semantics.specs.Outstanding.{AreServed, Outstanding};
 ghost use Rattle.node_semantics.specs.Agrees.{Agrees, IsFresh, IsOfMesh, StartAgrees};
 ghost use Rattle.node_semantics.specs.Written.{FreshAlong, machine_lines};
 ghost use Rattle.node_semantics.specs.Receives.{IsReceivable, KnownNames};
-ghost use Rattle.node_semantics.specs.Turns.{CanTurn};
+ghost use Rattle.node_semantics.specs.CanTurn.{CanTurn};
 ghost use Rattle.node_semantics.specs.Standings.{SaysOf, machine_standing, slot_standing};
 
 /// At its start a machine stands for the start, with nothing on the way; there is a start for both or for neither.
@@ -57,6 +59,12 @@ pub fn there_are_fresh_numbers<S>()
     ensures { (g : Language S) (l : Placement) (q : ℕ) (es : List Event) → (numbers : List ℕ) × FreshAlong g l q es numbers }
 {}
 
+/// A number that is out at a node is that of one object, and these objects are exactly those that are posted, at a wait, or due, if whom an object waits for serves it.
+pub fn numbers_that_are_out_name_waiting_objects<S, K>()
+    ensures { (g : Language S) (kept : K → Config S) (l : Placement) (m : Machine S) (c : Config S) (d : Delay) (n : ℕ)
+        → Requests g (IsGiven kept) → AreServed g (IsGiven kept) → IsGiven kept c → MachineStandsFor g l m c d → Outstanding g m c d n }
+{}
+
 /// A packet that comes off a link at its goal is one that its node may be given.
 pub fn a_packet_off_a_link_is_receivable<S, K>()
     ensures { (g : Language S) (kept : K → Config S) (l : Placement) (m : Machine S) (c : Config S) (d : Delay) (a b : ℕ) (e : NumberedPacket) (rest : List NumberedPacket)
@@ -65,15 +73,16 @@ pub fn a_packet_off_a_link_is_receivable<S, K>()
         → IsReceivable g b x e.number e.packet }
 {}
 
-/// A node that is given a packet that it may be given always answers, if an object can be made of each class.
+/// Any node that is given a packet that it may be given answers a line or a limit, if an object can be made of each class.
 pub fn a_node_answers_a_receivable_packet<S>()
     ensures { (g : Language S) (l : Placement) (leaving n : ℕ) (x : NodeState S) (e : NumberedPacket) → ((k : ℕ) → In k g.classes → g.made k ≢ None)
-        → IsReceivable g n x e.number e.packet → receipt_act g l n leaving e x ≢ N.Nothing }
+        → IsReceivable g n x e.number e.packet → IsStep (receipt_act g l n leaving e x) }
 {}
 
-/// A turn of any node by itself always answers, where its objects can do what they are at.
+/// A turn of any node is idle where none of its objects can step, and else it answers a line or a limit, if its objects can do what they are at.
 pub fn a_node_answers_its_turn<S>()
-    ensures { (g : Language S) (l : Placement) (q leaving n fresh : ℕ) (x : NodeState S) → CanTurn g n x → turn_act g l q n leaving fresh x ≢ N.Nothing }
+    ensures idle { (g : Language S) (l : Placement) (q leaving n fresh : ℕ) (x : NodeState S) → ready_slots g n x ≡ [] → turn_act g l q n leaving fresh x ≡ N.Idle }
+    ensures step { (g : Language S) (l : Placement) (q leaving n fresh : ℕ) (x : NodeState S) → CanTurn g n x → ready_slots g n x ≢ [] → IsStep (turn_act g l q n leaving fresh x) }
 {}
 
 /// The objects, frames and cells of a node are counted as those of what its machine stands for.
@@ -101,4 +110,14 @@ pub fn a_machine_says_where_an_object_stands<S, K>()
         → object_of c o ≡ Some x → machine_standing g m o ≡ Some (standing g d o x) }
     ensures absent { (g : Language S) (l : Placement) (m : Machine S) (c : Config S) (d : Delay) (o : ℕ) → MachineStandsFor g l m c d
         → object_of c o ≡ None → machine_standing g m o ≡ None }
+{}
+
+/// An object's slot has its class and its fault; and an object of the machine has a fault exactly where one of what it stands for has.
+pub fn a_machine_keeps_class_and_fault<S, K>()
+    ensures class { (g : Language S) (l : Placement) (m : Machine S) (c : Config S) (d : Delay) (o : ℕ) (x : S) (s : Slot S) → KeepsClassAndFault g → MachineStandsFor g l m c d
+        → object_of c o ≡ Some x → slot_at m o ≡ Some s → g.class s.state ≡ g.class x }
+    ensures fault { (g : Language S) (l : Placement) (m : Machine S) (c : Config S) (d : Delay) (o : ℕ) (x : S) (s : Slot S) → KeepsClassAndFault g → MachineStandsFor g l m c d
+        → object_of c o ≡ Some x → slot_at m o ≡ Some s → g.fault s.state ≡ g.fault x }
+    ensures any { (g : Language S) (kept : K → Config S) (l : Placement) (m : Machine S) (c : Config S) (d : Delay) → Lawful g (IsGiven kept) → KeepsClassAndFault g
+        → IsGiven kept c → MachineStandsFor g l m c d → any_faulted g m ≡ list_any (λ e. is_some (g.fault e.1)) c.objects }
 {}

@@ -12,4 +12,6 @@ mod FullHeap
 mod OutOfTheMiddle
 mod RingOfCalls
 pub mod FourNodes
+pub mod MachineRuns
+mod RequestRows
 mod DrawnRuns

@@ -1,6 +1,6 @@
 use Rattle.mesh_semantics.specs.Given.{IsGiven}
-use Rattle.mesh_semantics.proofs.Fitting.{fit_of}
-use Rattle.node_semantics.proofs.Events.{event_agrees}
+use Rattle.mesh_semantics.proofs.Laws.{fit_of}
+use Rattle.node_semantics.proofs.EventsAgree.{event_agrees}
 use Rattle.node_semantics.proofs.theorems.a_machine_does_what_it_stands_for.Goals as goal
 
 pub returns : goal.returns

@@ -1,5 +1,5 @@
 use Rattle.mesh_semantics.specs.Given.{IsGiven}
-use Rattle.node_semantics.proofs.Quietness.{quiet_agrees}
+use Rattle.node_semantics.proofs.QuietAgrees.{quiet_agrees}
 use Rattle.node_semantics.proofs.theorems.a_machine_is_quiet_as_what_it_stands_for.Goals as goal
 
 pub returns : goal.returns

@@ -1,5 +1,5 @@
 use Rattle.mesh_semantics.specs.Given.{IsGiven}
-use Rattle.mesh_semantics.proofs.Fitting.{fit_of}
+use Rattle.mesh_semantics.proofs.Laws.{fit_of}
 use Rattle.node_semantics.proofs.SameLines.{same_lines}
 use Rattle.node_semantics.proofs.theorems.a_machine_writes_the_record.Goals as goal
 

@@ -1,4 +1,4 @@
-use Rattle.node_semantics.proofs.Answering.{receive_answers}
+use Rattle.node_semantics.proofs.ReceiptsAnswer.{receive_answers}
 use Rattle.node_semantics.proofs.theorems.a_node_answers_a_receivable_packet.Goals as goal
 
 pub returns : goal.returns

@@ -1,5 +1,5 @@
 use Rattle.mesh_semantics.specs.Given.{IsGiven}
-use Rattle.node_semantics.proofs.Totals.{objects_count, frames_count, cells_count}
+use Rattle.node_semantics.proofs.NodeCounts.{objects_count, frames_count, cells_count}
 use Rattle.node_semantics.proofs.theorems.a_node_counts_what_it_stands_for.Goals as goal
 
 pub returns-clause-objects : goal.returns-clause-objects

@@ -1,5 +1,5 @@
 use Rattle.mesh_semantics.specs.Given.{IsGiven}
-use Rattle.node_semantics.proofs.Standings.{node_says}
+use Rattle.node_semantics.proofs.NodeStandings.{node_says}
 use Rattle.node_semantics.proofs.theorems.a_node_says_where_an_object_stands.Goals as goal
 
 pub returns : goal.returns

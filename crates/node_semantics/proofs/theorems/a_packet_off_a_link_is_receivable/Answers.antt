@@ -1,6 +1,6 @@
 use Rattle.mesh_semantics.specs.Given.{IsGiven}
-use Rattle.mesh_semantics.proofs.Fitting.{fit_of}
-use Rattle.node_semantics.proofs.Receivable.{head_is_receivable}
+use Rattle.mesh_semantics.proofs.Laws.{fit_of}
+use Rattle.node_semantics.proofs.ReceivablePackets.{head_is_receivable}
 use Rattle.node_semantics.proofs.theorems.a_packet_off_a_link_is_receivable.Goals as goal
 
 pub returns : goal.returns

@@ -1,4 +1,4 @@
-use Rattle.node_semantics.proofs.Numbers.{numbers_exist}
+use Rattle.node_semantics.proofs.FreshNumbers.{numbers_exist}
 use Rattle.node_semantics.proofs.theorems.there_are_fresh_numbers.Goals as goal
 
 pub returns : goal.returns

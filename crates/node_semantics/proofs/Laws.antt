@@ -1,0 +1,15 @@
+-- The lemmas that other crates cite: on names and slots, and the laws of machines of nodes over any language of objects and any property that is kept.
+pub use Rattle.node_semantics.proofs.NamesAndSlots.{whole_name, name_node, name_slot, slot_below, set_same, set_other, set_length, set_set, at_node}
+pub use Rattle.node_semantics.proofs.NodeCounts.{objects_count, frames_count, cells_count}
+pub use Rattle.node_semantics.proofs.StartsAgree.{start_agrees}
+pub use Rattle.node_semantics.proofs.EventsAgree.{event_agrees}
+pub use Rattle.node_semantics.proofs.QuietAgrees.{quiet_agrees}
+pub use Rattle.node_semantics.proofs.SameLines.{same_lines}
+pub use Rattle.node_semantics.proofs.ClassAndFault.{class_kept, fault_kept, any_fault}
+pub use Rattle.node_semantics.proofs.FreshNumbers.{numbers_exist}
+pub use Rattle.node_semantics.proofs.NumbersOut.{outstanding}
+pub use Rattle.node_semantics.proofs.ReceivablePackets.{head_is_receivable}
+pub use Rattle.node_semantics.proofs.ReceiptsAnswer.{receive_answers}
+pub use Rattle.node_semantics.proofs.TurnsAnswer.{turn_steps, turn_idles}
+pub use Rattle.node_semantics.proofs.NodeStandings.{node_says}
+pub use Rattle.node_semantics.proofs.MachineStandings.{object_stands, nothing_stands}
