@@ -3,7 +3,6 @@ use Rattle.std.proofs.Common.{◌≡◌, refl, sym, ap, ◌∙◌, subst, IsTrue
 use Rattle.std.specs.Prelude.{slice_get, map, not, if◌then◌else◌}
 use Rattle.std.specs.List.{list_any}
 use Rattle.std.proofs.lemmas.Option.{slice_get_cases}
-use Rattle.pool_syntax.specs.declared.words.NameId.{NameId}
 use Rattle.pool_syntax.specs.declared.words.Value.TheVariants as V
 use Rattle.pool_syntax.specs.declared.words.Op.{Op}
 use Rattle.pool_syntax.specs.declared.words.Op.TheVariants as O
@@ -14,10 +13,10 @@ use Rattle.pool_syntax.specs.Tokens.{Text}
 use Rattle.pool_syntax.specs.Terms as T
 use Rattle.pool_syntax.specs.Terms.{Expression, Expressions, Statement, Statements, Alternatives, MethodTree, ClassTree, ProgramTree}
 use Rattle.pool_syntax.specs.Classes.{class_of, named_method}
-use Rattle.pool_syntax.specs.Spelled.{text_passes, is_name, is_string_number, are_names, are_answer_names, is_spelled_expression, are_spelled_expressions, is_spelled_statement, are_spelled_statements, are_spelled_alternatives}
-use Rattle.pool_syntax.specs.Typing.{Sort, IntSort, BoolSort, ClassSort, NilSort, NoSort, BrokenSort, BoolSort as BoolNeed, Scope, kind_sort, outcome_sort, method_sort, var_sort, op_sort, sort_of, var_of, vars_of_class, methods_of, methods_of_class, own_method, params_of, sent_method, size, contains, is_broken_name, is_dangling, fault_if, limit, needs, needs_any, needs_operands, operand_sort, position, name_sort, method_faults, destination_faults, names_faults, answer_faults, expression_faults, arguments_faults, statement_faults, statements_faults, alternatives_faults}
-use Rattle.pool_relation.proofs.TypedTerm.{is_broken}
-use Rattle.pool_relation.proofs.Declared.{AllKnown, OutcomeKnown, MethodKnown, Known}
+use Rattle.pool_syntax.specs.Spelled.{text_passes, is_name, are_answer_names, is_spelled_expression, are_spelled_expressions, is_spelled_statement, are_spelled_statements, are_spelled_alternatives}
+use Rattle.pool_syntax.specs.Typing.{Sort, IntSort, BoolSort, ClassSort, NilSort, NoSort, BrokenSort, Scope, kind_sort, outcome_sort, method_sort, var_sort, op_sort, sort_of, var_of, vars_of_class, methods_of, methods_of_class, own_method, params_of, size, contains, is_broken_name, fault_if, limit, needs, needs_any, position, method_faults, destination_faults, names_faults, answer_faults, expression_faults, arguments_faults, statement_faults, statements_faults, alternatives_faults}
+use Rattle.pool_relation.proofs.Laws.{is_broken}
+use Rattle.pool_relation.proofs.Laws.{AllKnown, OutcomeKnown, MethodKnown, Known}
 use Rattle.object_code.specs.declared.unit.Instr.{Instr}
 use Rattle.object_code.specs.declared.unit.Instr.TheVariants as I
 use Rattle.object_code.specs.declared.unit.AltCode.{AltCode}

@@ -1,28 +1,25 @@
 -- The code of a program without class faults is proper.
-use Rattle.std.proofs.Common.{◌≡◌, ◌≢◌, refl, sym, ap, ◌∙◌, subst, IsTrue, ℕ, zero, suc, ◌+◌, ◌==◌, ◌<◌, ◌≤◌, ◌^◌, List, [], ◌∷◌, ◌++◌, length, Option, Some, None, Bool, true, false, ◌&&◌, ◌⊎◌, inl, inr, ⊎_elim, arith, length-append}
-use Rattle.std.specs.Prelude.{slice_get, map, if◌then◌else◌}
+use Rattle.std.proofs.Common.{◌≡◌, ◌≢◌, refl, sym, ap, ◌∙◌, subst, IsTrue, ℕ, zero, suc, ◌+◌, ◌==◌, ◌<◌, ◌≤◌, ◌^◌, List, [], ◌∷◌, ◌++◌, length, Option, Some, None, Bool, true, false, arith, length-append}
+use Rattle.std.specs.Prelude.{slice_get, map}
 use Rattle.pool_syntax.specs.declared.tree.Var.{Var}
-use Rattle.pool_syntax.specs.Tokens.{Text}
-use Rattle.pool_syntax.specs.Terms.{Expression, Statements, MethodTree, ClassTree, ProgramTree}
+use Rattle.pool_syntax.specs.Terms.{MethodTree, ClassTree, ProgramTree}
 use Rattle.pool_syntax.specs.Classes.{class_of, named_method}
 use Rattle.pool_syntax.specs.Spelled.{is_name, is_outcome, are_variables, is_spelled_expression, are_spelled_statements, are_spelled_methods, is_spelled}
-use Rattle.pool_syntax.specs.Typing.{Scope, contains, fault_if, vars_faults, too_many, methods_of_class, outcome_faults, method_tree_faults, methods_faults, statements_faults, expression_faults, class_scope, classes_faults, faults}
+use Rattle.pool_syntax.specs.Typing.{Scope, fault_if, vars_faults, methods_of_class, method_tree_faults, methods_faults, statements_faults, class_scope, classes_faults, faults}
 use Rattle.mesh_semantics.proofs.Laws.{first, second}
 use Rattle.pool_relation.specs.Written.{is_source, are_source_statements, is_value_for, are_written, is_written}
-use Rattle.pool_relation.proofs.Checked.{vars_known, methods_checked, class_known}
-use Rattle.pool_relation.proofs.Declared.{AllKnown, MethodKnown, Known}
-use Rattle.pool_relation.proofs.Faults.{none2, none3, none4}
-use Rattle.object_code.specs.declared.unit.Instr.{Instr}
+use Rattle.pool_relation.proofs.Laws.{vars_known, methods_checked, class_known}
+use Rattle.pool_relation.proofs.Laws.{AllKnown, MethodKnown, Known}
+use Rattle.pool_relation.proofs.Laws.{classes_few as few_classes}
 use Rattle.object_code.specs.declared.unit.Instr.TheVariants as I
 use Rattle.object_code.specs.declared.unit.MethodCode.{MethodCode}
 use Rattle.object_code.specs.declared.unit.ClassCode.{ClassCode}
 use Rattle.object_code.specs.declared.unit.Unit.{Unit as Code}
-use Rattle.object_code.specs.Proper.{Exists, IsProperCode, IsProperClass, IsProper}
+use Rattle.object_code.specs.Proper.{IsProperCode, IsProperClass, IsProper}
 use Rattle.pool_compile.specs.Code.{Numbering, names_of, statements_code, expression_code, method_instrs, body_instrs, method_code_of, class_code, code}
 use Rattle.pool_compile.specs.Small.{AreShortMethods, IsShortClass, AreShort}
-use Rattle.pool_compile.proofs.Counted.{two, three, counted_statements}
-use Rattle.pool_compile.proofs.Existing.{Fits, AllFit, fit_append, fit_at, exists_of, text_there, Ground, expression_fits, statements_fit}
-use Rattle.pool_compile.proofs.Heights.{Fine, AllFine}
+use Rattle.pool_compile.proofs.Counted.{counted_statements}
+use Rattle.pool_compile.proofs.Existing.{AllFit, fit_append, fit_at, exists_of, text_there, Ground, expression_fits, statements_fit}
 use Rattle.pool_compile.proofs.Limits.{class_parts, method_parts, method_within, no_more}
 use Rattle.pool_compile.proofs.ProperLaws.{fine_here, body_fine, method_fine, body_proper, method_proper}
 
@@ -34,31 +31,13 @@ length_map : {A B : Type 0} (f : A → B) (xs : List A) → length (map f xs) �
 length_map f [] = refl
 length_map f (x ∷ xs) = ap suc (length_map f xs)
 
--- a method without faults has at most 8 parameters
-few_params : (g : Scope) (before : List ℕ) (ms : List MethodTree) (m : ℕ) (mt : MethodTree) → methods_faults g before ms ≡ [] → named_method ms m ≡ Some mt → length mt.params ≤ 8
-few_params g before [] m mt h e = absurd (grind (arith, e))
-few_params g before (k ∷ ms) m mt h e =
-    let a = method_parts g before k ms h in
-    by (k.name.name.0 == m) refl (no_more 8 k.params a.params) (few_params g (k.name.name.0 ∷ before) ms m mt a.rest)
+-- a method of a class has at most 8 parameters
+few_of_class : (p : ProgramTree) (c m : ℕ) (mt : MethodTree) → faults p ≡ [] → named_method (methods_of_class (class_of p c)) m ≡ Some mt → length mt.params ≤ 8
+few_of_class p c m mt h e = by (class_of p c) refl e
   where
-    by : (b : Bool) → (k.name.name.0 == m) ≡ b → length k.params ≤ 8 → (named_method ms m ≡ Some mt → length mt.params ≤ 8) → length mt.params ≤ 8
-    by true q le more =
-        let is : Some k ≡ Some mt = rw q at e in
-        let same : k ≡ mt = cc in
-        subst (λ x. length x.params ≤ 8) same le
-    by false q le more = more (rw q at e)
-
-few_of_class : (p : ProgramTree) (before : List ℕ) (ks : List ClassTree) (c m : ℕ) (mt : MethodTree) → classes_faults p before ks ≡ []
-    → named_method (methods_of_class (class_of ks c)) m ≡ Some mt → length mt.params ≤ 8
-few_of_class p before [] c m mt h e = absurd (grind (arith, e))
-few_of_class p before (k ∷ ks) c m mt h e =
-    let a = class_parts p before k ks h in
-    by (k.name.name.0 == c) refl (few_params (class_scope p k) [] k.methods m mt a.methods) (few_of_class p (k.name.name.0 ∷ before) ks c m mt a.rest)
-  where
-    by : (b : Bool) → (k.name.name.0 == c) ≡ b → (named_method k.methods m ≡ Some mt → length mt.params ≤ 8)
-        → (named_method (methods_of_class (class_of ks c)) m ≡ Some mt → length mt.params ≤ 8) → length mt.params ≤ 8
-    by true q this more = this (rw q at e)
-    by false q this more = more (rw q at e)
+    by : (o : Option ClassTree) → class_of p c ≡ o → named_method (methods_of_class o) m ≡ Some mt → length mt.params ≤ 8
+    by None i f = absurd (grind (arith, f))
+    by (Some k) i f = few_classes p [] p c m k mt h i f
 
 -- the kinds of a class without faults are known
 class_kinds : (p : ProgramTree) (k : ClassTree) → vars_faults p 3 [] k.vars ≡ [] → methods_faults (class_scope p k) [] k.methods ≡ [] → IsTrue (are_written k.methods) → Known p (Some k)
@@ -79,7 +58,7 @@ module _ (p : ProgramTree) (u : Code) (same : u.classes ≡ code p) (h : faults 
       temps = known;
       all = λ c. class_known p c h w;
       written = refl;
-      few = λ c m mt e. few_of_class p [] p c m mt h e;
+      few = λ c m mt e. few_of_class p c m mt h e;
     }
 
     -- the code of a body
