@@ -16,15 +16,15 @@ use Rattle.pool_compile.specs.Code.{name, names_of, class_code}
 use Rattle.pool_compile.proofs.Methods.{code_found}
 use Rattle.pool_compile.proofs.Heights.{is_counted, are_counted, is_counted_statement, are_counted_statements, are_counted_guards, are_counted_works}
 
-nil_left : (a b : List Fault) → a ++ b ≡ [] → a ≡ []
+pub nil_left : (a b : List Fault) → a ++ b ≡ [] → a ≡ []
 nil_left [] b h = refl
 nil_left (x ∷ a) b h = absurd (grind (arith, h))
 
-nil_right : (a b : List Fault) → a ++ b ≡ [] → b ≡ []
+pub nil_right : (a b : List Fault) → a ++ b ≡ [] → b ≡ []
 nil_right [] b h = h
 nil_right (x ∷ a) b h = absurd (grind (arith, h))
 
-no_fault : (b : Bool) (at n : ℕ) → fault_if b at n ≡ [] → b ≡ false
+pub no_fault : (b : Bool) (at n : ℕ) → fault_if b at n ≡ [] → b ≡ false
 no_fault true at n h = absurd (grind (arith, h))
 no_fault false at n h = refl
 
@@ -34,13 +34,13 @@ room_of h at rest f = ap not (no_fault (nat_le 64 h) at 12 (nil_left (limit h at
 room_alone : (h at : ℕ) → limit h at ≡ [] → has_room h ≡ true
 room_alone h at f = ap not (no_fault (nat_le 64 h) at 12 f)
 
-three : (a b d : Bool) → (a && b && d) ≡ true → (a ≡ true) × (b ≡ true) × (d ≡ true)
+pub three : (a b d : Bool) → (a && b && d) ≡ true → (a ≡ true) × (b ≡ true) × (d ≡ true)
 three true true true h = (refl, refl, refl)
 three true true false h = absurd (grind (arith, h))
 three true false d h = absurd (grind (arith, h))
 three false b d h = absurd (grind (arith, h))
 
-two : (a b : Bool) → (a && b) ≡ true → (a ≡ true) × (b ≡ true)
+pub two : (a b : Bool) → (a && b) ≡ true → (a ≡ true) × (b ≡ true)
 two true true h = (refl, refl)
 two true false h = absurd (grind (arith, h))
 two false b h = absurd (grind (arith, h))

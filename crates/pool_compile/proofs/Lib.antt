@@ -26,3 +26,5 @@ pub mod Heights
 pub mod ProperLaws
 pub mod Counted
 pub mod Limits
+pub mod Existing
+pub mod ProgramProper

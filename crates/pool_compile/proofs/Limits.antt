@@ -1,21 +1,21 @@
 -- A program without class faults is small.
-use Rattle.std.proofs.Common.{◌≡◌, refl, IsTrue, ℕ, zero, suc, ◌+◌, ◌-◌, ◌≤◌, ◌==◌, List, [], ◌∷◌, ◌++◌, length, Option, Some, true, arith}
+use Rattle.std.proofs.Common.{◌≡◌, ◌≢◌, refl, IsTrue, ℕ, zero, suc, ◌+◌, ◌-◌, ◌≤◌, ◌==◌, List, [], ◌∷◌, ◌++◌, length, Option, Some, true, arith}
 use Rattle.std.proofs.Math.Logic.{∥∥₁_elim}
 use denote.Struct.Props.{props}
 use Rattle.pool_syntax.specs.declared.tree.Var.{Var}
 use Rattle.pool_syntax.specs.Spelled.{IsGrammatical}
 use Rattle.pool_syntax.specs.Terms as T
 use Rattle.pool_syntax.specs.Terms.{Expression, Expressions, Statement, Statements, Alternatives, MethodTree, ClassTree, ProgramTree}
-use Rattle.pool_syntax.specs.Typing.{Scope, contains, fault_if, vars_faults, too_many, methods_faults, method_tree_faults, classes_faults, class_scope, faults}
+use Rattle.pool_syntax.specs.Typing.{Scope, expression_faults, statements_faults, contains, fault_if, vars_faults, too_many, methods_faults, method_tree_faults, classes_faults, class_scope, faults}
 use Rattle.mesh_semantics.proofs.Laws.{first, second}
 use Rattle.pool_relation.specs.Typed.{has_room}
 use Rattle.pool_relation.specs.Written.{is_source, are_source_statements, is_value_for, are_written, is_written}
-use Rattle.pool_relation.proofs.Faults.{none2, none3, none4}
-use Rattle.pool_relation.proofs.Grammatical.{grammatical_written}
+use Rattle.pool_relation.proofs.Laws.{none2, none4}
+use Rattle.pool_relation.proofs.Laws.{grammatical_written, has_a_class}
 use Rattle.object_code.specs.declared.unit.ClassCode.{ClassCode}
 use Rattle.pool_compile.specs.Code.{more, expression_words, expressions_words, guards_words, statement_words, statements_words, works_words, class_code}
 use Rattle.pool_compile.specs.Small.{AreSmallMethods, IsSmall}
-use Rattle.pool_compile.proofs.Counted.{counted, counted_statements}
+use Rattle.pool_compile.proofs.Counted.{counted, counted_statements, nil_left, nil_right}
 use Rattle.pool_compile.proofs.Greater.{more_within}
 use Rattle.pool_compile.proofs.Heights.{is_counted, are_counted, is_counted_statement, are_counted_statements, are_counted_guards, are_counted_works, first_room, room}
 
@@ -98,51 +98,91 @@ no_more zero (v ∷ vs) h = absurd (grind (arith, h))
 no_more (suc n) (v ∷ vs) h = let r = no_more n vs h in omega (arith, r)
 
 -- what a method without faults has
-pub record MethodFine (kt : ClassTree) (m : MethodTree) : Type 0 where
+pub record MethodFine (kt : ClassTree) (g : Scope) (m : MethodTree) : Type 0 where
+  pub names : vars_faults g.program 5 [] (m.params ++ m.locals) ≡ []
+  pub statements : statements_faults (record g { temps = m.params ++ m.locals }) m.body ≡ []
+  pub expression : expression_faults (record g { temps = m.params ++ m.locals }) 0 m.value ≡ []
   pub params : length m.params ≤ 8
   pub temps : length (m.params ++ m.locals) ≤ 32
   pub body : are_counted_statements (Some (class_code kt)) m.body ≡ true
   pub value : is_counted (Some (class_code kt)) 0 m.value ≡ true
 
-pub method_fine : (kt : ClassTree) (g : Scope) (m : MethodTree) → g.own ≡ Some kt → method_tree_faults g m ≡ [] → IsTrue (are_source_statements m.body) → IsTrue (is_source m.value)
-    → MethodFine kt m
-method_fine kt g m own h s t =
+pub method_within : (kt : ClassTree) (g : Scope) (m : MethodTree) → g.own ≡ Some kt → method_tree_faults g m ≡ [] → IsTrue (are_source_statements m.body) → IsTrue (is_source m.value)
+    → MethodFine kt g m
+method_within kt g m own h s t =
     let a = none4 h in
     let b = none2 a.3 in
     let c = none2 b.1 in
     let inner : Scope = record g { temps = m.params ++ m.locals } in
     record {
+      names = a.0;
+      statements = c.0;
+      expression = (none2 c.1).0;
       params = no_more 8 m.params a.1;
       temps = no_more 32 (m.params ++ m.locals) a.2;
       body = counted_statements kt inner own m.body s c.0;
       value = counted kt inner own 0 m.value t (none2 c.1).0;
     }
 
+-- the faults of methods, part by part
+pub record MethodParts (g : Scope) (before : List ℕ) (m : MethodTree) (ms : List MethodTree) : Type 0 where
+  pub many : fault_if (length before == 64) m.name.pos 12 ≡ []
+  pub params : too_many 8 m.params ≡ []
+  pub method : method_tree_faults g m ≡ []
+  pub rest : methods_faults g (m.name.name.0 ∷ before) ms ≡ []
+
+pub method_parts : (g : Scope) (before : List ℕ) (m : MethodTree) (ms : List MethodTree) → methods_faults g before (m ∷ ms) ≡ [] → MethodParts g before m ms
+method_parts g before m ms h =
+    let a = none4 {xs = fault_if (contains before m.name.name.0) m.name.pos 4} {ys = fault_if (length before == 64) m.name.pos 12} {zs = method_tree_faults g m} h in
+    let b = nil_left (too_many 8 m.params) _ (nil_right (vars_faults g.program 5 [] (m.params ++ m.locals)) _ a.2) in
+    record { many = a.1; params = b; method = a.2; rest = a.3 }
+
+-- the faults of classes, part by part
+pub record ClassParts (p : ProgramTree) (before : List ℕ) (k : ClassTree) (ks : List ClassTree) : Type 0 where
+  pub many : fault_if (length before == 256) k.name.pos 12 ≡ []
+  pub vars : vars_faults p 3 [] k.vars ≡ []
+  pub few_vars : too_many 64 k.vars ≡ []
+  pub methods : methods_faults (class_scope p k) [] k.methods ≡ []
+  pub body : statements_faults (class_scope p k) k.body ≡ []
+  pub rest : classes_faults p (k.name.name.0 ∷ before) ks ≡ []
+
+pub class_parts : (p : ProgramTree) (before : List ℕ) (k : ClassTree) (ks : List ClassTree) → classes_faults p before (k ∷ ks) ≡ [] → ClassParts p before k ks
+class_parts p before k ks h =
+    let a = none4 {xs = fault_if (contains before k.name.name.0) k.name.pos 1} {ys = fault_if (length before == 256) k.name.pos 12} {zs = vars_faults p 3 [] k.vars} h in
+    let b = nil_right (too_many 64 k.vars) _ a.3 in
+    let d = nil_right (methods_faults (class_scope p k) [] k.methods) _ b in
+    record {
+      many = a.1;
+      vars = a.2;
+      few_vars = nil_left (too_many 64 k.vars) _ a.3;
+      methods = nil_left (methods_faults (class_scope p k) [] k.methods) _ b;
+      body = nil_left (statements_faults (class_scope p k) k.body) _ d;
+      rest = nil_right (statements_faults (class_scope p k) k.body) _ d;
+    }
+
 methods_small : (kt : ClassTree) (g : Scope) (before : List ℕ) (ms : List MethodTree) → g.own ≡ Some kt → methods_faults g before ms ≡ [] → IsTrue (are_written ms) → AreSmallMethods ms
 methods_small kt g before [] own h w = tt {0}
 methods_small kt g before (m ∷ ms) own h w =
-    let a = none4 h in
+    let a = method_parts g before m ms h in
     let w3 = first _ (are_written ms) w in
     let w2 = first _ (is_value_for m.outcome m.value) w3 in
-    let f = method_fine kt g m own a.2 (first (are_source_statements m.body) (is_source m.value) w2) (second (are_source_statements m.body) (is_source m.value) w2) in (
+    let f = method_within kt g m own a.method (first (are_source_statements m.body) (is_source m.value) w2) (second (are_source_statements m.body) (is_source m.value) w2) in (
       (f.temps, more_within (statements_words m.body) (expression_words m.value) 64 (statements_few (Some (class_code kt)) m.body f.body) (one (Some (class_code kt)) m.value f.value)),
-      methods_small kt g (m.name.name.0 ∷ before) ms own a.3 (second _ (are_written ms) w),
+      methods_small kt g (m.name.name.0 ∷ before) ms own a.rest (second _ (are_written ms) w),
     )
 
 classes_small : (p : ProgramTree) (before : List ℕ) (ks : List ClassTree) → classes_faults p before ks ≡ [] → IsTrue (is_written ks) → IsSmall ks
 classes_small p before [] h w = tt {0}
 classes_small p before (k ∷ ks) h w =
-    let a = none4 {xs = fault_if (contains before k.name.name.0) k.name.pos 1} {ys = fault_if (length before == 256) k.name.pos 12} {zs = vars_faults p 3 [] k.vars} h in
-    let b = none3 a.3 in
-    let d = none2 b.2 in
+    let f = class_parts p before k ks h in
     let w3 = first _ (is_written ks) w in
     let w2 = first (are_source_statements k.body) (are_written k.methods) w3 in (
       (
-        no_more 64 k.vars b.0,
-        statements_few (Some (class_code k)) k.body (counted_statements k (class_scope p k) refl k.body w2 d.0),
-        methods_small k (class_scope p k) [] k.methods refl b.1 (second (are_source_statements k.body) (are_written k.methods) w3),
+        no_more 64 k.vars f.few_vars,
+        statements_few (Some (class_code k)) k.body (counted_statements k (class_scope p k) refl k.body w2 f.body),
+        methods_small k (class_scope p k) [] k.methods refl f.methods (second (are_source_statements k.body) (are_written k.methods) w3),
       ),
-      classes_small p (k.name.name.0 ∷ before) ks d.1 (second _ (is_written ks) w),
+      classes_small p (k.name.name.0 ∷ before) ks f.rest (second _ (is_written ks) w),
     )
 
 pub program_small : (p : ProgramTree) → faults p ≡ [] → IsTrue (is_written p) → IsSmall p
@@ -151,3 +191,6 @@ program_small p h w = classes_small p [] p h w
 -- a program of the grammar is written
 pub written : (p : ProgramTree) → ∥ IsGrammatical p ∥₁ → IsTrue (is_written p)
 written p m = ∥∥₁_elim m (hlevel props) (λ g. grammatical_written p g)
+
+pub some_class : (p : ProgramTree) → ∥ IsGrammatical p ∥₁ → p ≢ []
+some_class p m e = ∥∥₁_elim m (λ x y. absurd x) (λ g. has_a_class p g e)

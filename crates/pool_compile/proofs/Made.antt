@@ -20,7 +20,7 @@ use Rattle.pool_compile.proofs.Rests.{comes_to_rest}
 use Rattle.pool_compile.proofs.Stores.{nil_keys, nil_values}
 
 -- the code of the class that a name finds
-abbrev FoundClass : ProgramTree → ℕ → ℕ → ClassTree → Type 0
+abbrev pub FoundClass : ProgramTree → ℕ → ℕ → ClassTree → Type 0
 FoundClass p n c kt =
     (j : ℕ) × (class_from n (code p) (name c) ≡ Some (n + j)) × (slice_get (code p) j ≡ Some (class_code kt)) × (kt.name.name.0 ≡ c)
 
@@ -35,7 +35,7 @@ found_by false k ks n c kt e more h =
     let z : suc n + m.0 ≡ n + suc m.0 = omega arith in
     (suc m.0, rw e (m.1 ∙ ap Some z), m.2, m.3)
 
-class_found : (p : ProgramTree) (n c : ℕ) (kt : ClassTree) → class_of p c ≡ Some kt → FoundClass p n c kt
+pub class_found : (p : ProgramTree) (n c : ℕ) (kt : ClassTree) → class_of p c ≡ Some kt → FoundClass p n c kt
 class_found [] n c kt h = absurd (grind (arith, h))
 class_found (k ∷ ks) n c kt h = found_by (k.name.name.0 == c) k ks n c kt refl (class_found ks (suc n) c kt) h
 

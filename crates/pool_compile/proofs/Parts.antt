@@ -1,5 +1,5 @@
 -- A class, a method and their parts.
-use Rattle.std.proofs.Common.{◌≡◌, refl, ap, ◌∙◌, ℕ, zero, suc, ◌<◌, List, [], ◌∷◌, length, get_or, map, arith}
+use Rattle.std.proofs.Common.{◌≡◌, refl, ap, ◌∙◌, ℕ, zero, suc, ◌<◌, ◌^◌, List, [], ◌∷◌, ◌++◌, length, get_or, map, arith}
 use Rattle.pool_syntax.specs.declared.tree.Var.{Var}
 use Rattle.pool_syntax.specs.declared.tree.Method.{Method}
 use Rattle.pool_syntax.specs.declared.tree.ClassDecl.{ClassDecl}
@@ -8,7 +8,7 @@ use Rattle.object_code.specs.declared.unit.Instr.{Instr}
 use Rattle.object_code.specs.declared.unit.MethodCode.{MethodCode}
 use Rattle.object_code.specs.declared.unit.ClassCode.{ClassCode}
 use Rattle.pool_compile.specs.Code.{body_instrs, class_code, method_code_of, names_of, statements_words}
-use Rattle.pool_compile.specs.Small.{AreSmallMethods, IsSmall, IsSmallClass, IsSmallMethod}
+use Rattle.pool_compile.specs.Small.{AreShort, AreShortMethods, IsShortClass, AreSmallMethods, IsSmall, IsSmallClass, IsSmallMethod}
 
 pub small_method : (ms : List Method) (i : ℕ) (d : Method) → i < length ms → AreSmallMethods (map method_tree ms) → IsSmallMethod (method_tree (get_or ms i d))
 small_method [] i d h s = absurd (omega arith)
@@ -35,3 +35,11 @@ class_is k names n w ms c e f g h i =
     let body : c ≡ body_instrs (record { temps = []; vars = names_of k.vars }) (statements_of k.body) =
     i ∙ ap (λ l. body_instrs (record { temps = []; vars = l }) (statements_of k.body)) e in
     cc
+
+pub short_method : (ms : List MethodCode) (m : MethodCode) → AreShortMethods ms → length m.code < 2 ^ 32 → AreShortMethods (ms ++ m ∷ [])
+short_method [] m s h = (h, tt {0})
+short_method (x ∷ ms) m s h = (s.0, short_method ms m s.1 h)
+
+pub short_class : (ks : List ClassCode) (k : ClassCode) → AreShort ks → IsShortClass k → AreShort (ks ++ k ∷ [])
+short_class [] k s h = (h, tt {0})
+short_class (x ∷ ks) k s h = (s.0, short_class ks k s.1 h)

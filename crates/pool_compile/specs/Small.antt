@@ -1,6 +1,8 @@
--- Programs whose counts are within the limits of the language.
-use Rattle.std.specs.Prelude.{◌≤◌, ◌++◌, List, [], ◌∷◌, length}
+-- Programs whose counts are within the limits of the language, and code whose places are below 2^32.
+use Rattle.std.specs.Prelude.{◌≤◌, ◌<◌, ◌^◌, ◌++◌, List, [], ◌∷◌, length}
 use Rattle.pool_syntax.specs.Terms.{MethodTree, ClassTree, ProgramTree}
+use Rattle.object_code.specs.declared.unit.MethodCode.{MethodCode}
+use Rattle.object_code.specs.declared.unit.ClassCode.{ClassCode}
 use Rattle.pool_compile.specs.Code.{expression_words, more, statements_words}
 
 abbrev pub IsSmallMethod : MethodTree → Type 0
@@ -16,3 +18,14 @@ IsSmallClass k = (length k.vars ≤ 64) × (statements_words k.body ≤ 64) × A
 abbrev pub IsSmall : ProgramTree → Type 0
 IsSmall [] = Unit {0}
 IsSmall (k ∷ ks) = IsSmallClass k × IsSmall ks
+
+abbrev pub AreShortMethods : List MethodCode → Type 0
+AreShortMethods [] = Unit {0}
+AreShortMethods (m ∷ ms) = (length m.code < 2 ^ 32) × AreShortMethods ms
+
+abbrev pub IsShortClass : ClassCode → Type 0
+IsShortClass k = (length k.body.code < 2 ^ 32) × AreShortMethods k.methods
+
+abbrev pub AreShort : List ClassCode → Type 0
+AreShort [] = Unit {0}
+AreShort (k ∷ ks) = IsShortClass k × AreShort ks

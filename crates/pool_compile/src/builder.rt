@@ -51,7 +51,8 @@ impl Builder {
 
     /// The instructions.
     pub fn done(self) -> List<Instr>
-        ensures { result ≡ self.code }
+        ensures code { result ≡ self.code }
+        ensures short { length result < 2 ^ 32 }
     {
         self.code
     }

@@ -1,9 +1,10 @@
 //! The code of methods, bodies, classes and the program.
 ghost use Rattle.std.specs.Prelude.{◌≡◌, ◌≤◌, ◌<◌, ◌^◌, ◌++◌, [], ◌∷◌, length, map, IfOk};
 ghost use Rattle.pool_syntax.specs.TreeOf.{class_tree, expression_of, method_tree, program_of, statements_of};
+ghost use Rattle.object_code.specs.Proper.{IsProper};
 ghost use Rattle.pool_compile.specs.Code.{body_instrs, class_code, code, expression_words, method_code_of, method_instrs, more, names_of, statements_words};
 ghost use Rattle.pool_compile.specs.Numberings.{numbering};
-ghost use Rattle.pool_compile.specs.Small.{AreSmallMethods, IsSmall, IsSmallClass, IsSmallMethod};
+ghost use Rattle.pool_compile.specs.Small.{AreShort, AreShortMethods, AreSmallMethods, IsShortClass, IsSmall, IsSmallClass, IsSmallMethod};
 
 use crate::builder::Builder;
 use crate::expressions::emit;
@@ -42,7 +43,8 @@ fn method_code(
     numbers: &Numbers<'_>,
     method: &Method,
 ) -> Result<List<Instr>, AllocError>
-    ensures { IfOk result (λ code. code ≡ method_instrs (numbering numbers.now) (statements_of method.now.body) (expression_of method.now.value)) }
+    ensures code { IfOk result (λ code. code ≡ method_instrs (numbering numbers.now) (statements_of method.now.body) (expression_of method.now.value)) }
+    ensures short { IfOk result (λ code. length code < 2 ^ 32) }
 {
     let mut code = Builder::make(alloc);
     emit_statements(alloc, &mut code, numbers, method.body.items())?;
@@ -53,7 +55,8 @@ fn method_code(
 
 /// The instructions of a body: its statements, its end.
 fn body_code(alloc: Global, numbers: &Numbers<'_>, body: &[Stmt]) -> Result<List<Instr>, AllocError>
-    ensures { IfOk result (λ code. code ≡ body_instrs (numbering numbers.now) (statements_of body.now)) }
+    ensures code { IfOk result (λ code. code ≡ body_instrs (numbering numbers.now) (statements_of body.now)) }
+    ensures short { IfOk result (λ code. length code < 2 ^ 32) }
 {
     let mut code = Builder::make(alloc);
     emit_statements(alloc, &mut code, numbers, body)?;
@@ -64,7 +67,8 @@ fn body_code(alloc: Global, numbers: &Numbers<'_>, body: &[Stmt]) -> Result<List
 fn compile_method(alloc: Global, vars: &[u32], method: &Method) -> Result<MethodCode, AllocError>
     requires few { length vars.now < 2 ^ 32 }
     requires small { IsSmallMethod (method_tree method.now) }
-    ensures { IfOk result (λ m. m ≡ method_code_of vars.now (method_tree method.now)) }
+    ensures code { IfOk result (λ m. m ≡ method_code_of vars.now (method_tree method.now)) }
+    ensures short { IfOk result (λ m. length m.code < 2 ^ 32) }
 {
     let temps = temps_of(alloc, method)?;
     let words = more(
@@ -92,7 +96,8 @@ fn compile_methods(
 ) -> Result<List<MethodCode>, AllocError>
     requires few { length vars.now < 2 ^ 32 }
     requires small { AreSmallMethods (map method_tree methods.now) }
-    ensures { IfOk result (λ list. list ≡ map (method_code_of vars.now) (map method_tree methods.now)) }
+    ensures code { IfOk result (λ list. list ≡ map (method_code_of vars.now) (map method_tree methods.now)) }
+    ensures short { IfOk result (λ list. AreShortMethods list) }
 {
     let mut list = List::make(alloc);
     for method in methods {
@@ -106,7 +111,8 @@ fn compile_methods(
 
 fn compile_class(alloc: Global, class: &ClassDecl) -> Result<ClassCode, AllocError>
     requires small { IsSmallClass (class_tree class.now) }
-    ensures { IfOk result (λ k. k ≡ class_code (class_tree class.now)) }
+    ensures code { IfOk result (λ k. k ≡ class_code (class_tree class.now)) }
+    ensures short { IfOk result (λ k. IsShortClass k) }
 {
     let vars = vars_of(alloc, class.vars.items())?;
     let methods = compile_methods(alloc, &vars, class.methods.items())?;
@@ -127,7 +133,8 @@ fn compile_class(alloc: Global, class: &ClassDecl) -> Result<ClassCode, AllocErr
 
 fn compile_classes(alloc: Global, classes: &[ClassDecl]) -> Result<List<ClassCode>, AllocError>
     requires small { IsSmall (map class_tree classes.now) }
-    ensures { IfOk result (λ list. list ≡ code (map class_tree classes.now)) }
+    ensures code { IfOk result (λ list. list ≡ code (map class_tree classes.now)) }
+    ensures short { IfOk result (λ list. AreShort list) }
 {
     let mut list = List::make(alloc);
     for class in classes {
@@ -144,6 +151,7 @@ fn compile_classes(alloc: Global, classes: &[ClassDecl]) -> Result<List<ClassCod
 pub fn compile(alloc: Global, program: &Checked<'_>) -> Result<Unit, CompileFault>
     ensures names { IfOk result (λ unit. unit.names ≡ program.now.names.now) }
     ensures code { IfOk result (λ unit. unit.classes ≡ code (program_of program.now.program.now)) }
+    ensures proper { IfOk result (λ unit. IsProper unit) }
 {
     let names = program.names.copy()?;
     let classes = compile_classes(alloc, program.program.classes.items())?;

@@ -36,7 +36,7 @@ methods_few g before (k ∷ ms) m found h e =
         subst (λ (x : MethodTree). length x.params ≤ 8) same this
     by false i this rest = rest (rw i at e)
 
-classes_few : (p : ProgramTree) (before : List ℕ) (ks : List ClassTree) (c m : ℕ) (k : ClassTree) (found : MethodTree)
+pub classes_few : (p : ProgramTree) (before : List ℕ) (ks : List ClassTree) (c m : ℕ) (k : ClassTree) (found : MethodTree)
     → classes_faults p before ks ≡ [] → class_of ks c ≡ Some k → named_method k.methods m ≡ Some found → length found.params ≤ 8
 classes_few p before [] c m k found h e f = absurd (grind (arith, e))
 classes_few p before (l ∷ ks) c m k found h e f =

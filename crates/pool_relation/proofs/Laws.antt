@@ -6,7 +6,7 @@ pub use Rattle.pool_relation.proofs.Runs.{joined, none_joined}
 pub use Rattle.pool_relation.proofs.Quiet.{no_transition}
 -- programs of the grammar, and the configuration that a program starts in
 pub use Rattle.pool_relation.proofs.Grammatical.{grammatical_written, has_a_class}
-pub use Rattle.pool_relation.proofs.FewParameters.{few_parameters}
+pub use Rattle.pool_relation.proofs.FewParameters.{classes_few, few_parameters}
 pub use Rattle.pool_relation.proofs.Start.{start_typed, starts}
 -- preservation and progress
 pub use Rattle.pool_relation.proofs.preservation.EachTransition.{typed_kept, run_kept}
@@ -23,12 +23,15 @@ pub use Rattle.pool_relation.proofs.preservation.NewObject.{new_object_typed}
 pub use Rattle.pool_relation.proofs.preservation.Messages.{fit_values_of, offers, serving_typed}
 pub use Rattle.pool_relation.proofs.Running.{running_is}
 -- typed terms
-pub use Rattle.pool_relation.proofs.typing.TypedTerm.{Holds, Nothing, Methods, Waits, TypedExpression, TypedStatements}
+pub use Rattle.pool_relation.proofs.typing.TypedTerm.{is_broken, Holds, Nothing, Methods, Waits, TypedExpression, TypedStatements}
 pub use Rattle.pool_relation.proofs.typing.Weaker.{nothing_below, statements_weaker}
 pub use Rattle.pool_relation.proofs.typing.Grown.{Grows}
 pub use Rattle.pool_relation.proofs.typing.Begun.{running_scope}
 pub use Rattle.pool_relation.proofs.typing.Faults.{none2, none3, none4, no_fault_if}
 pub use Rattle.pool_relation.proofs.redex.TypedRedex.{at, FitValues, TypedChoices}
+-- classes and methods whose kinds are known
+pub use Rattle.pool_relation.proofs.typing.Declared.{AllKnown, OutcomeKnown, MethodKnown, Known}
+pub use Rattle.pool_relation.proofs.typing.Checked.{vars_known, methods_checked, class_known}
 -- the search for the redex: where it ends, and what has none
 pub use Rattle.pool_relation.proofs.redex.RedexSearch.{passed, literal_is, not_value, value_found, not_values, not_guards, done_is, not_done, arguments_are, guards_are}
 -- what is under way in a term, and what its redex ends

@@ -19,7 +19,7 @@ kind_known p K.Int n h = refl
 kind_known p K.Bool n h = refl
 kind_known p (K.Class c) n h = rw (true_not _ (no_fault_if _ _ _ h)) refl
 
-vars_known : (p : ProgramTree) (number : ℕ) (before : List ℕ) (vs : List Var) → vars_faults p number before vs ≡ [] → AllKnown p vs
+pub vars_known : (p : ProgramTree) (number : ℕ) (before : List ℕ) (vs : List Var) → vars_faults p number before vs ≡ [] → AllKnown p vs
 vars_known p number before [] h = tt
 vars_known p number before (v ∷ vs) h = let n = none3 h in (kind_known p v.kind v.kind_pos n.1, vars_known p number (v.name.0 ∷ before) vs n.2)
 
@@ -64,7 +64,7 @@ method_checked g m h s t v =
       valued = v;
     }
 
-methods_checked : (g : Scope) (before : List ℕ) (ms : List MethodTree) (n : ℕ) (m : MethodTree)
+pub methods_checked : (g : Scope) (before : List ℕ) (ms : List MethodTree) (n : ℕ) (m : MethodTree)
     → methods_faults g before ms ≡ [] → IsTrue (are_written ms) → named_method ms n ≡ Some m
     → CheckedMethod g m × (m.name.name.0 ≡ n)
 methods_checked g before [] n m h w e = absurd (grind (arith, e))

@@ -1,4 +1,4 @@
-use Rattle.std.proofs.Common.{drop, ◌+◌}
+use Rattle.std.proofs.Common.{drop}
 use Rattle.object_code.specs.Listing.{lines_text}
 use Rattle.object_code.specs.Written.{state}
 use Rattle.object_code.proofs.Writing.{Rests}

@@ -1,0 +1,193 @@
+-- The code of a program without class faults is proper.
+use Rattle.std.proofs.Common.{◌≡◌, ◌≢◌, refl, sym, ap, ◌∙◌, subst, IsTrue, ℕ, zero, suc, ◌+◌, ◌==◌, ◌<◌, ◌≤◌, ◌^◌, List, [], ◌∷◌, ◌++◌, length, Option, Some, None, Bool, true, false, arith, length-append}
+use Rattle.std.specs.Prelude.{slice_get, map}
+use Rattle.pool_syntax.specs.declared.tree.Var.{Var}
+use Rattle.pool_syntax.specs.Terms.{MethodTree, ClassTree, ProgramTree}
+use Rattle.pool_syntax.specs.Classes.{class_of, named_method}
+use Rattle.pool_syntax.specs.Spelled.{is_name, is_outcome, are_variables, is_spelled_expression, are_spelled_statements, are_spelled_methods, is_spelled}
+use Rattle.pool_syntax.specs.Typing.{Scope, fault_if, vars_faults, methods_of_class, method_tree_faults, methods_faults, statements_faults, class_scope, classes_faults, faults}
+use Rattle.mesh_semantics.proofs.Laws.{first, second}
+use Rattle.pool_relation.specs.Written.{is_source, are_source_statements, is_value_for, are_written, is_written}
+use Rattle.pool_relation.proofs.Laws.{vars_known, methods_checked, class_known}
+use Rattle.pool_relation.proofs.Laws.{AllKnown, MethodKnown, Known}
+use Rattle.pool_relation.proofs.Laws.{classes_few as few_classes}
+use Rattle.object_code.specs.declared.unit.Instr.TheVariants as I
+use Rattle.object_code.specs.declared.unit.MethodCode.{MethodCode}
+use Rattle.object_code.specs.declared.unit.ClassCode.{ClassCode}
+use Rattle.object_code.specs.declared.unit.Unit.{Unit as Code}
+use Rattle.object_code.specs.Proper.{IsProperCode, IsProperClass, IsProper}
+use Rattle.pool_compile.specs.Code.{Numbering, names_of, statements_code, expression_code, method_instrs, body_instrs, method_code_of, class_code, code}
+use Rattle.pool_compile.specs.Small.{AreShortMethods, IsShortClass, AreShort}
+use Rattle.pool_compile.proofs.Counted.{counted_statements}
+use Rattle.pool_compile.proofs.Existing.{AllFit, fit_append, fit_at, exists_of, text_there, Ground, expression_fits, statements_fit}
+use Rattle.pool_compile.proofs.Limits.{class_parts, method_parts, method_within, no_more}
+use Rattle.pool_compile.proofs.ProperLaws.{fine_here, body_fine, method_fine, body_proper, method_proper}
+
+-- a part of a list whose parts are functions of others
+at_map : {A B : Type 0} (f : A → B) (x : A) (xs : List A) (y : B) → slice_get (map f (x ∷ xs)) 0 ≡ Some y → f x ≡ y
+at_map f x xs y e = grind (arith, e)
+
+length_map : {A B : Type 0} (f : A → B) (xs : List A) → length (map f xs) ≡ length xs
+length_map f [] = refl
+length_map f (x ∷ xs) = ap suc (length_map f xs)
+
+-- a method of a class has at most 8 parameters
+few_of_class : (p : ProgramTree) (c m : ℕ) (mt : MethodTree) → faults p ≡ [] → named_method (methods_of_class (class_of p c)) m ≡ Some mt → length mt.params ≤ 8
+few_of_class p c m mt h e = by (class_of p c) refl e
+  where
+    by : (o : Option ClassTree) → class_of p c ≡ o → named_method (methods_of_class o) m ≡ Some mt → length mt.params ≤ 8
+    by None i f = absurd (grind (arith, f))
+    by (Some k) i f = few_classes p [] p c m k mt h i f
+
+-- the kinds of a class without faults are known
+class_kinds : (p : ProgramTree) (k : ClassTree) → vars_faults p 3 [] k.vars ≡ [] → methods_faults (class_scope p k) [] k.methods ≡ [] → IsTrue (are_written k.methods) → Known p (Some k)
+class_kinds p k v f w = record { vars = vars_known p 3 [] k.vars v; methods = λ m. by m (named_method k.methods m) refl }
+  where
+    by : (m : ℕ) (o : Option MethodTree) → named_method k.methods m ≡ o → MethodKnown p o
+    by m None e = tt {0}
+    by m (Some mt) e = let c = methods_checked (class_scope p k) [] k.methods m mt f w e in (c.0.params, c.0.locals, c.0.outcome)
+
+module _ (p : ProgramTree) (u : Code) (same : u.classes ≡ code p) (h : faults p ≡ []) (w : IsTrue (is_written p)) where
+  module _ (k : ClassTree) (kinds : Known p (Some k)) where
+    scope : List Var → Scope
+    scope temps = record (class_scope p k) { temps = temps }
+
+    ground : (temps : List Var) → AllKnown p temps → Ground (record (class_scope p k) { temps = temps })
+    ground temps known = record {
+      own = kinds;
+      temps = known;
+      all = λ c. class_known p c h w;
+      written = refl;
+      few = λ c m mt e. few_of_class p c m mt h e;
+    }
+
+    -- the code of a body
+    body_is_proper : are_spelled_statements u.names k.body ≡ true → statements_faults (class_scope p k) k.body ≡ [] → IsTrue (are_source_statements k.body)
+        → length (class_code k).body.code < 2 ^ 32 → IsProperCode u (Some (class_code k)) 0 (class_code k).body.code × ((at : ℕ) → slice_get (class_code k).body.code at ≢ Some I.Ret)
+    body_is_proper s f t short =
+        let num : Numbering = record { temps = []; vars = names_of k.vars } in
+        let c = body_instrs num k.body in
+        let kc = Some (class_code k) in
+        let counted = counted_statements k (class_scope p k) refl k.body t f in
+        let fit : AllFit ⊥ u kc 0 c =
+        fit_append ⊥ u kc 0 (statements_code num 0 k.body) (I.Halt ∷ []) (statements_fit u.names (class_scope p k) (ground [] (tt {0})) u k ⊥ same refl refl k.body 0 s f) (tt {0}, tt {0}) in (
+          body_proper u kc num k.body counted (omega (arith, short)) (λ at i e. exists_of ⊥ u kc 0 c at i (fine_here kc c at i (body_fine kc num k.body counted) e) (fit_at ⊥ u kc 0 c at i fit e)),
+          λ at e. fit_at ⊥ u kc 0 c at I.Ret fit e,
+        )
+
+    method_is_proper : (m : MethodTree) → are_spelled_statements u.names m.body ≡ true → is_spelled_expression u.names m.value ≡ true → method_tree_faults (class_scope p k) m ≡ []
+        → IsTrue (are_source_statements m.body) → IsTrue (is_source m.value) → length (method_code_of (names_of k.vars) m).code < 2 ^ 32
+        → IsProperCode u (Some (class_code k)) (length (m.params ++ m.locals)) (method_code_of (names_of k.vars) m).code
+    method_is_proper m s v f t i short =
+        let temps = m.params ++ m.locals in
+        let g = record (class_scope p k) { temps = temps } in
+        let num : Numbering = record { temps = names_of temps; vars = names_of k.vars } in
+        let c = method_instrs num m.body m.value in
+        let kc = Some (class_code k) in
+        let fine = method_within k (class_scope p k) m refl f t i in
+        let q = ground temps (vars_known p 5 [] temps fine.names) in
+        let n = length temps in
+        let fit : AllFit (Unit {0}) u kc n c =
+        fit_append (Unit {0}) u kc n (statements_code num 0 m.body) (expression_code num m.value ++ I.Ret ∷ []) (statements_fit u.names g q u k (Unit {0}) same refl refl m.body 0 s fine.statements)
+        (fit_append (Unit {0}) u kc n (expression_code num m.value) (I.Ret ∷ []) (expression_fits u.names g q u k (Unit {0}) same refl refl m.value 0 v fine.expression) (tt {0}, tt {0})) in
+        method_proper u kc num n m.body m.value fine.body fine.value (omega (arith, short))
+        (λ at x e. exists_of (Unit {0}) u kc n c at x (fine_here kc c at x (method_fine kc num m.body m.value fine.body fine.value) e) (fit_at (Unit {0}) u kc n c at x fit e))
+
+    abbrev ProperMethod : MethodCode → Type 0
+    ProperMethod m = (m.name.0 < length u.names) × (m.params ≤ 8) × (m.temps ≤ 32) × (m.params ≤ m.temps) × IsProperCode u (Some (class_code k)) m.temps m.code
+
+    methods_proper : (before : List ℕ) (ms : List MethodTree) → methods_faults (class_scope p k) before ms ≡ [] → IsTrue (are_written ms) → are_spelled_methods u.names ms ≡ true
+        → AreShortMethods (map (method_code_of (names_of k.vars)) ms) → (j : ℕ) (m : MethodCode) → slice_get (map (method_code_of (names_of k.vars)) ms) j ≡ Some m → ProperMethod m
+    methods_proper before [] f r s short j m e = absurd (grind (arith, e))
+    methods_proper before (x ∷ ms) f r s short zero m e =
+        let a = method_parts (class_scope p k) before x ms f in
+        let r3 = first _ (are_written ms) r in
+        let r2 = first _ (is_value_for x.outcome x.value) r3 in
+        let body = first (are_source_statements x.body) (is_source x.value) r2 in
+        let value = second (are_source_statements x.body) (is_source x.value) r2 in
+        let s1 = first _ (are_spelled_methods u.names ms) s in
+        let s2 = first _ (is_spelled_expression u.names x.value) s1 in
+        let s3 = first _ (are_spelled_statements u.names x.body) s2 in
+        let s4 = first _ (is_outcome u.names x.outcome) s3 in
+        let s5 = first _ (are_variables u.names x.locals) s4 in
+        let s6 = first (is_name u.names x.name.name.0) (are_variables u.names x.params) s5 in
+        let fine = method_within k (class_scope p k) x refl a.method body value in
+        subst ProperMethod (at_map (method_code_of (names_of k.vars)) x ms m e) (
+          text_there _ u.names x.name.name.0 s6,
+          fine.params,
+          fine.temps,
+          omega (arith, length-append x.params x.locals),
+          method_is_proper x (second _ (are_spelled_statements u.names x.body) s2) (second _ (is_spelled_expression u.names x.value) s1) a.method body value short.0,
+        )
+    methods_proper before (x ∷ ms) f r s short (suc j) m e =
+        methods_proper (x.name.name.0 ∷ before) ms (method_parts (class_scope p k) before x ms f).rest (second _ (are_written ms) r) (second _ (are_spelled_methods u.names ms) s) short.1 j m e
+
+    methods_few : (before : List ℕ) (ms : List MethodTree) → methods_faults (class_scope p k) before ms ≡ [] → length before ≤ 64 → length before + length ms ≤ 64
+    methods_few before [] f le = omega (arith, le)
+    methods_few before (x ∷ ms) f le =
+        let a = method_parts (class_scope p k) before x ms f in
+        by (length before == 64) refl a.many (λ lt. methods_few (x.name.name.0 ∷ before) ms a.rest (omega (arith, lt)))
+      where
+        by : (b : Bool) → (length before == 64) ≡ b → fault_if b x.name.pos 12 ≡ [] → (length before < 64 → suc (length before) + length ms ≤ 64) → length before + suc (length ms) ≤ 64
+        by true q f more = absurd (grind (arith, f))
+        by false q f more =
+            let ne : length before < 64 = grind (arith, q, le) in
+            let m = more ne in
+            omega (arith, m)
+
+  class_proper : (k : ClassTree) (before : List ℕ) (ks : List ClassTree) → classes_faults p before (k ∷ ks) ≡ [] → IsTrue (is_written (k ∷ ks)) → is_spelled u.names (k ∷ ks) ≡ true
+      → IsShortClass (class_code k) → IsProperClass u (class_code k)
+  class_proper k before ks f r s short =
+      let a = class_parts p before k ks f in
+      let r3 = first _ (is_written ks) r in
+      let body = first (are_source_statements k.body) (are_written k.methods) r3 in
+      let methods = second (are_source_statements k.body) (are_written k.methods) r3 in
+      let s1 = first _ (is_spelled u.names ks) s in
+      let s2 = first _ (are_spelled_statements u.names k.body) s1 in
+      let s3 = first _ (are_spelled_methods u.names k.methods) s2 in
+      let s4 = first (is_name u.names k.name.name.0) (are_variables u.names k.vars) s3 in
+      let kinds = class_kinds p k a.vars a.methods methods in
+      let made = body_is_proper k kinds (second _ (are_spelled_statements u.names k.body) s1) a.body body short.0 in
+      let few = methods_few k kinds [] k.methods a.methods (omega arith) in
+      record {
+        name = text_there _ u.names k.name.name.0 s4;
+        limits = (no_more 64 k.vars a.few_vars, omega (arith, few, length_map (method_code_of (names_of k.vars)) k.methods));
+        body = made.0;
+        no_ret = made.1;
+        methods = methods_proper k kinds [] k.methods a.methods methods (second _ (are_spelled_methods u.names k.methods) s2) short.1;
+      }
+
+  classes_proper : (before : List ℕ) (ks : List ClassTree) → classes_faults p before ks ≡ [] → IsTrue (is_written ks) → is_spelled u.names ks ≡ true → AreShort (code ks)
+      → (j : ℕ) (k : ClassCode) → slice_get (code ks) j ≡ Some k → IsProperClass u k
+  classes_proper before [] f r s short j k e = absurd (grind (arith, e))
+  classes_proper before (x ∷ ks) f r s short zero k e = subst (IsProperClass u) (at_map class_code x ks k e) (class_proper x before ks f r s short.0)
+  classes_proper before (x ∷ ks) f r s short (suc j) k e =
+      let a = class_parts p before x ks f in
+      classes_proper (x.name.name.0 ∷ before) ks a.rest (second _ (is_written ks) r) (second _ (is_spelled u.names ks) s) short.1 j k e
+
+  classes_few : (before : List ℕ) (ks : List ClassTree) → classes_faults p before ks ≡ [] → length before ≤ 256 → length before + length ks ≤ 256
+  classes_few before [] f le = omega (arith, le)
+  classes_few before (x ∷ ks) f le =
+      let a = class_parts p before x ks f in
+      by (length before == 256) refl a.many (λ lt. classes_few (x.name.name.0 ∷ before) ks a.rest (omega (arith, lt)))
+    where
+      by : (b : Bool) → (length before == 256) ≡ b → fault_if b x.name.pos 12 ≡ [] → (length before < 256 → suc (length before) + length ks ≤ 256) → length before + suc (length ks) ≤ 256
+      by true q f more = absurd (grind (arith, f))
+      by false q f more =
+          let ne : length before < 256 = grind (arith, q, le) in
+          let m = more ne in
+          omega (arith, m)
+
+  pub program_proper : p ≢ [] → is_spelled u.names p ≡ true → AreShort u.classes → IsProper u
+  program_proper some s short =
+      let n : length u.classes ≡ length p = ap length same ∙ length_map class_code p in
+      let few = classes_few [] p h (omega arith) in
+      let more : 0 < length p = by p some in
+      record {
+        classes = (omega (arith, n, more), omega (arith, n, few));
+        each = λ j k e. classes_proper [] p h w s (subst AreShort same short) j k (ap (λ l. slice_get l j) (sym same) ∙ e);
+      }
+    where
+      by : (ks : ProgramTree) → ks ≢ [] → 0 < length ks
+      by [] n = absurd (n refl)
+      by (x ∷ ks) n = omega arith
