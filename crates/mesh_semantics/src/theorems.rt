@@ -35,7 +35,7 @@ pub fn order_is_kept_between_two_nodes<X>()
         → IsPrefix (between a b (traffic l no_traffic es).left) (between a b (traffic l no_traffic es).entered) }
 {}
 
-/// A configuration of one object that a lawful language starts with is sound, with nothing on the way.
+/// The start is sound, with nothing on its way: one object, in which no method is under way, on a node of the mesh.
 pub fn the_start_is_sound<S, K>()
     ensures { (g : Language S) (kept : K → Config S) (l : Placement) (x : S) (c : Config S) → FitFor g l → g.root ≡ Some x → g.frames x ≡ 0
         → start g l ≡ Some c → IsGiven kept c → IsSound g (IsGiven kept) l c no_delay }
