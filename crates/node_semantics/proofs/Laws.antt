@@ -13,3 +13,4 @@ pub use Rattle.node_semantics.proofs.ReceiptsAnswer.{receive_answers}
 pub use Rattle.node_semantics.proofs.TurnsAnswer.{turn_steps, turn_idles}
 pub use Rattle.node_semantics.proofs.NodeStandings.{node_says}
 pub use Rattle.node_semantics.proofs.MachineStandings.{object_stands, nothing_stands}
+pub use Rattle.node_semantics.proofs.SaysMore.{requests_within, names_within, served_within}

@@ -34,4 +34,5 @@ pub mod FreshNumbers
 pub mod SameLines
 pub mod NumbersOut
 pub mod ClassAndFault
+pub mod SaysMore
 pub mod Laws
