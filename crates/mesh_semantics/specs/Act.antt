@@ -1,5 +1,6 @@
 -- The counts of a node, which objects are ready, whose turn it is, what one event does to a configuration and its delay, and when all is quiet.
 -- One event is one turn of a node, or one move of the head of a link; nothing else happens at once.
+-- Throughout, g is a language, l a placement, q the most local transitions of a turn, c a configuration with its delay d, n a node, and o the name of the object whose turn it is.
 use Rattle.std.specs.Prelude.{ℕ, zero, suc, ◌+◌, ◌*◌, ◌%◌, ◌==◌, List, [], ◌∷◌, filter, Option, Some, None, is_some, is_none, Bool, true, false, not, ◌&&◌, ◌||◌, if◌then◌else◌, nat_le, nat_lt, slice_get}
 use Rattle.std.specs.List.{list_any}
 use Rattle.std.specs.Ordering.{nat_cmp}

@@ -12,3 +12,4 @@ mod FullHeap
 mod OutOfTheMiddle
 mod RingOfCalls
 pub mod FourNodes
+mod DrawnRuns

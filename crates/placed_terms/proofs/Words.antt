@@ -1,5 +1,5 @@
 -- Short words for the programs, placements, schedules and lines of worked runs. Positions, which no run reads, are 0.
-use Rattle.std.proofs.Common.{ℕ, zero, suc, pos, List, [], ◌∷◌, ◌+◌, ◌*◌, Option}
+use Rattle.std.proofs.Common.{ℕ, zero, suc, pos, List, [], ◌∷◌, ◌+◌, ◌*◌, Option, true, false}
 use Rattle.pool_syntax.specs.declared.words.Op.{Op}
 use Rattle.pool_syntax.specs.declared.words.Value.{Value}
 use Rattle.pool_syntax.specs.declared.words.Value.TheVariants as V
@@ -62,8 +62,20 @@ number n = T.Literal (V.Int (pos n)) 0
 abbrev pub nothing : Expression
 nothing = T.Literal V.Nil 0
 
+abbrev pub yes : Expression
+yes = T.Literal (V.Bool true) 0
+
+abbrev pub no : Expression
+no = T.Literal (V.Bool false) 0
+
+abbrev pub me : Expression
+me = T.Me 0
+
 abbrev pub new : ℕ → Expression
 new k = T.Create k 0
+
+abbrev pub prefix_of : Op → Expression → Expression
+prefix_of op a = T.Prefix op a 0
 
 abbrev pub infix_of : Op → Expression → Expression → Expression
 infix_of op a b = T.Infix op a b 0
@@ -73,6 +85,9 @@ set x e = T.Assign x 0 e
 
 abbrev pub call : Expression → ℕ → List Expression → Expression
 call e m es = T.Send e m (args es) 0
+
+abbrev pub own : ℕ → List Expression → Expression
+own m es = T.Call m (args es) 0
 
 abbrev pub send : Expression → ℕ → List Expression → Statement
 send e m es = T.Async e m 0 (args es)
@@ -108,6 +123,11 @@ local o k = W.Step (L.Local o) k
 
 abbrev pub written : ℕ → ℕ → What
 written o n = W.Step (L.Write o (I.Value (V.Int (pos n)))) 1
+
+-- the events of lines
+abbrev pub events : List (Event × What) → List Event
+events [] = []
+events (x ∷ xs) = x.0 ∷ events xs
 
 -- event lines numbered from a number on, and an end line
 abbrev pub numbered : ℕ → List (Event × What) → End → List Line

@@ -1,0 +1,309 @@
+-- One node of a machine: its objects as they stand there, the messages that have arrived, and the request numbers that are out.
+use Rattle.std.specs.Prelude.{ℕ, zero, suc, ◌+◌, ◌-◌, ◌*◌, ◌%◌, ◌==◌, List, [], ◌∷◌, ◌++◌, length, sum_by, filter, Option, Some, None, is_some, is_none, Bool, true, false, ◌&&◌, if◌then◌else◌, nat_le, nat_lt, slice_get}
+use Rattle.std.specs.Option.{unwrap_or}
+use Rattle.pool_syntax.specs.declared.words.Value.{Value}
+use Rattle.pool_syntax.specs.declared.words.Value.TheVariants as V
+use Rattle.pool_syntax.specs.declared.words.Label.TheVariants as L
+use Rattle.pool_syntax.specs.declared.words.What.{What}
+use Rattle.pool_syntax.specs.declared.words.What.TheVariants as W
+use Rattle.pool_syntax.specs.declared.words.FullKind.{FullKind}
+use Rattle.pool_syntax.specs.declared.words.FullKind.TheVariants as F
+use Rattle.pool_syntax.specs.declared.words.Place.{Place}
+use Rattle.pool_syntax.specs.declared.words.Place.TheVariants as Pl
+use Rattle.pool_syntax.specs.declared.words.Placement.{Placement}
+use Rattle.mesh_semantics.specs.Partial.{◌>>=◌}
+use Rattle.mesh_semantics.specs.Kind as K
+use Rattle.mesh_semantics.specs.Kind.{Kind, Alternative, answered, has_name, is_local}
+use Rattle.mesh_semantics.specs.Language.{Language}
+use Rattle.mesh_semantics.specs.Paths.{without_first}
+use Rattle.mesh_semantics.specs.Delay as D
+use Rattle.mesh_semantics.specs.Delay.{Packet, Arrival, node_of, slot_of}
+use Rattle.mesh_semantics.specs.Act.{id, first_of, or_else, is_possible, can_step, greatest, class_place}
+
+-- a packet with the number of the request that it belongs to; that of an asynchronous message has none
+pub record NumberedPacket : Type 0 where
+  pub number : Option ℕ
+  pub packet : Packet
+
+-- a message that has arrived, with the number of its call
+pub record NumberedArrival : Type 0 where
+  pub number : Option ℕ
+  pub message : Arrival
+
+-- an object as it stands at its node
+pub record Slot (S : Type 0) : Type 0 where
+  -- as it stood when it posted its request, if one is out
+  pub state : S
+  -- the number of its request, until its value has come
+  pub request : Option ℕ
+  -- the request numbers of the callers that it serves, the innermost first
+  pub callers : List ℕ
+  -- the node to which its last create went
+  pub goal : ℕ
+  -- what has arrived for it and was not taken, the earliest first
+  pub mailbox : List NumberedArrival
+
+pub record NodeState (S : Type 0) : Type 0 where
+  pub slots : List (Slot S)
+  -- the slot that stepped last
+  pub last : Option ℕ
+  -- how many objects of each class, by its place, were made by objects of this node
+  pub made : List ℕ
+
+-- what a turn or a receipt does: a line with the packet that leaves and the node after it, or a limit that it would pass
+pub data NodeActed (S : Type 0) : Type 0 where
+  Idle : NodeActed S
+  Acts : (what : What) (packet : Option NumberedPacket) (node : NodeState S) → NodeActed S
+  Full : (kind : FullKind) → NodeActed S
+  Nothing : NodeActed S
+
+-- the list with another value at this place
+abbrev pub set_at : {X : Type 0} → List X → ℕ → X → List X
+set_at [] i y = []
+set_at (x ∷ xs) zero y = y ∷ xs
+set_at (x ∷ xs) (suc i) y = x ∷ set_at xs i y
+
+-- the values with their places, from i on
+abbrev pub placed : {X : Type 0} → ℕ → List X → List (ℕ × X)
+placed i [] = []
+placed i (x ∷ xs) = (i, x) ∷ placed (i + 1) xs
+
+-- the name of a slot
+abbrev pub name_at : ℕ → ℕ → ℕ
+name_at n i = n * 65536 + i
+
+abbrev pub fresh_slot : {S : Type 0} → S → Slot S
+fresh_slot x = record { state = x; request = None; callers = []; goal = 0; mailbox = [] }
+
+-- gives a slot this state
+abbrev pub put_state : {S : Type 0} → NodeState S → ℕ → Slot S → S → NodeState S
+put_state x i s y = record x { slots = set_at x.slots i (record s { state = y }) }
+
+-- the messages of mailbox
+abbrev pub arrivals : List NumberedArrival → List Arrival
+arrivals [] = []
+arrivals (a ∷ rest) = a.message ∷ arrivals rest
+
+-- whether a letter is on one of these methods
+abbrev pub is_on : List ℕ → NumberedArrival → Bool
+is_on names a = has_name names a.message.method
+
+abbrev pub first_on : List ℕ → List NumberedArrival → Option NumberedArrival
+first_on names [] = None
+first_on names (a ∷ rest) = if is_on names a then Some a else first_on names rest
+
+-- whether the object of a slot can step
+abbrev pub can_go : {S : Type 0} → Language S → ℕ → ℕ × Slot S → Bool
+can_go g n e =
+    is_none e.1.request && is_none (g.fault e.1.state) && can_step (arrivals e.1.mailbox) (g.kind (name_at n e.0) e.1.state)
+
+abbrev pub comes_after : Option ℕ → ℕ → Bool
+comes_after None i = true
+comes_after (Some last) i = nat_lt last i
+
+abbrev pub ready_slots : {S : Type 0} → Language S → ℕ → NodeState S → List (ℕ × Slot S)
+ready_slots g n x = filter (can_go g n) (placed 0 x.slots)
+
+-- the slot whose turn it is: the ready one of least number above the last, else of least number
+abbrev pub slot_in_turn : {S : Type 0} → Language S → ℕ → NodeState S → Option (ℕ × Slot S)
+slot_in_turn g n x = or_else (first_of (filter (λ e. comes_after x.last e.0) (ready_slots g n x))) (first_of (ready_slots g n x))
+
+-- frames in use: one for each object, and one for each method under way in it
+abbrev pub frames_in : {S : Type 0} → Language S → List (Slot S) → ℕ
+frames_in g slots = sum_by (λ s. 1 + g.frames s.state) slots
+
+-- mailbox that have arrived at the objects of a node
+abbrev pub message_count : {S : Type 0} → List (Slot S) → ℕ
+message_count slots = sum_by (λ s. length s.mailbox) slots
+
+abbrev pub one_if : Option NumberedPacket → ℕ
+one_if None = 0
+one_if (Some x) = 1
+
+-- the step, unless a count of the node is then past its limit; so many packets are on the links that leave it
+abbrev pub within_node : {S : Type 0} → Language S → Placement → ℕ → NodeActed S → NodeActed S
+within_node g l leaving (Acts w packet x) =
+    if nat_lt l.objects (length x.slots) then Full F.Heap
+    else (if nat_lt l.frames (frames_in g x.slots) then Full F.Frames
+    else (if nat_lt l.cells (message_count x.slots + leaving + one_if packet) then Full F.Cells else Acts w packet x))
+within_node g l leaving Idle = Idle
+within_node g l leaving (Full k) = Full k
+within_node g l leaving Nothing = Nothing
+
+-- the state after so many local transitions, if as many follow one another, none past so many frames for this object
+abbrev pub local_state : {S : Type 0} → Language S → ℕ → ℕ → ℕ → S → Option S
+local_state g o room zero y = Some y
+local_state g o room (suc k) y = local_state g o room k y >>= λ z.
+    if is_none (g.fault z) && is_local (g.kind o z) && nat_le (g.frames (g.stepped o z)) room then Some (g.stepped o z) else None
+
+-- how many methods may be under way in the object of this slot
+abbrev pub room_for : {S : Type 0} → Language S → Placement → NodeState S → ℕ → Slot S → ℕ
+room_for g l x i s = l.frames + g.frames s.state - frames_in g x.slots
+
+-- how many local transitions a turn of this slot makes
+abbrev pub steps_of : {S : Type 0} → Language S → Placement → ℕ → ℕ → NodeState S → ℕ → Slot S → ℕ
+steps_of g l q n x i s = greatest (λ k. is_some (local_state g (name_at n i) (room_for g l x i s) k s.state)) q
+
+-- a turn of local transitions; with none made the frames are full
+abbrev pub local_act : {S : Type 0} → ℕ → ℕ → NodeState S → ℕ → Slot S → ℕ → Option S → NodeActed S
+local_act n o x i s zero y = Full F.Frames
+local_act n o x i s (suc k) None = Nothing
+local_act n o x i s (suc k) (Some y) = Acts (W.Step (L.Local o) (suc k)) None (put_state x i s y)
+
+-- adds an object; its slot is the number of those before it
+abbrev pub add_slot : {S : Type 0} → NodeState S → S → NodeState S
+add_slot x y = record x { slots = x.slots ++ fresh_slot y ∷ [] }
+
+-- counts one more object made by an object of this node
+abbrev pub made_here : {S : Type 0} → Language S → NodeState S → ℕ → ℕ
+made_here g x c = unwrap_or (slice_get x.made (class_place g.classes c)) 0
+
+abbrev pub count_one : {S : Type 0} → Language S → ℕ → NodeState S → NodeState S
+count_one g c x = record x { made = set_at x.made (class_place g.classes c) (made_here g x c + 1) }
+
+-- the object waits for the answer to the request of this number
+abbrev pub put_request : {S : Type 0} → NodeState S → ℕ → Slot S → ℕ → ℕ → NodeState S
+put_request x i s number goal = record x { slots = set_at x.slots i (record s { request = Some number; goal = goal }) }
+
+-- puts a letter last at its receiver's slot
+abbrev pub deliver_in : {S : Type 0} → ℕ → NumberedArrival → NodeState S → Option (Slot S) → NodeState S
+deliver_in i a x None = x
+deliver_in i a x (Some s) = record x { slots = set_at x.slots i (record s { mailbox = s.mailbox ++ a ∷ [] }) }
+
+abbrev pub deliver : {S : Type 0} → ℕ → NumberedArrival → NodeState S → NodeState S
+deliver o a x = deliver_in (slot_of o) a x (slice_get x.slots (slot_of o))
+
+-- the node of the next object of a class, by its place, where so many were made
+abbrev pub goal_for : Placement → ℕ → ℕ → Option Place → ℕ
+goal_for l n made None = n
+goal_for l n made (Some (Pl.At k)) = k
+goal_for l n made (Some Pl.Same) = n
+goal_for l n made (Some Pl.Spread) = (n + made) % (l.width * l.height)
+
+-- the node where an object of node n makes one of this class
+abbrev pub goal_here : {S : Type 0} → Language S → Placement → NodeState S → ℕ → ℕ → ℕ
+goal_here g l x n c = goal_for l n (made_here g x c) (slice_get l.places (class_place g.classes c))
+
+-- an object made on the own node: the maker has its name
+abbrev pub made_own : {S : Type 0} → Language S → ℕ → NodeState S → ℕ → Slot S → ℕ → Option S → NodeActed S
+made_own g n x i s class None = Nothing
+made_own g n x i s class (Some y) =
+    Acts (W.Step (L.New (name_at n i) (name_at n (length x.slots)) (id class)) 1) None
+    (add_slot (put_state x i s (g.given s.state (V.Ref (name_at n (length x.slots))))) y)
+
+-- an object is made, here or by a packet
+abbrev pub create_act : {S : Type 0} → Language S → ℕ → ℕ → NodeState S → ℕ → Slot S → ℕ → ℕ → NodeActed S
+create_act g n fresh x i s class goal =
+    if goal == n then made_own g n (count_one g class x) i s class (g.made class)
+    else Acts (W.PostCreate (name_at n i) (id class) goal) (Some (record { number = Some fresh; packet = D.Create (name_at n i) goal class }))
+    (put_request (count_one g class x) i s fresh goal)
+
+-- a message to an object, here or by a packet
+abbrev pub message_act : {S : Type 0} → ℕ → What → NodeState S → ℕ → NumberedArrival → Packet → NodeActed S
+message_act n w x b letter packet =
+    if node_of b == n then Acts w None (deliver b letter x) else Acts w (Some (record { number = letter.number; packet = packet })) x
+
+-- what an alternative does after a letter was taken for it
+abbrev pub taken_act : {S : Type 0} → What → NodeState S → List ℕ → List ℕ → ℕ → Slot S → Option S → NodeActed S
+taken_act w x names callers i s None = Nothing
+taken_act w x names callers i s (Some y) =
+    Acts w None (record x { slots = set_at x.slots i (record s { state = y; callers = callers; mailbox = without_first (is_on names) s.mailbox }) })
+
+-- the object serves the method of a message; the number of its call, if it is one, is kept with the method
+abbrev pub serve_act : {S : Type 0} → Language S → ℕ → NodeState S → ℕ → Slot S → ℕ → List ℕ → Option ℕ → Arrival → NodeActed S
+serve_act g n x i s alt names None m =
+    taken_act (W.Step (L.Take (name_at n i) m.sender (id m.method) m.args) 1) x names s.callers i s
+    (g.serving (name_at n i) s.state alt m.method None m.args)
+serve_act g n x i s alt names (Some k) m =
+    taken_act (W.Step (L.Answer (name_at n i) m.sender (id m.method) m.args) 1) x names (k ∷ s.callers) i s
+    (g.serving (name_at n i) s.state alt m.method (Some m.sender) m.args)
+
+-- an alternative that is possible: it is picked, or the first letter on its methods is taken
+abbrev pub chosen_act : {S : Type 0} → Language S → ℕ → NodeState S → ℕ → Slot S → ℕ → Option (List ℕ) → Option NumberedArrival → NodeActed S
+chosen_act g n x i s alt None a =
+    Acts (W.Step (L.Pick (name_at n i) alt) 1) None (put_state x i s (g.picked (name_at n i) s.state alt))
+chosen_act g n x i s alt (Some names) None = Nothing
+chosen_act g n x i s alt (Some names) (Some a) = serve_act g n x i s alt names a.number a.message
+
+-- the first possible alternative, where the first of the list has this number
+abbrev pub choice_act : {S : Type 0} → Language S → ℕ → NodeState S → ℕ → Slot S → ℕ → List Alternative → NodeActed S
+choice_act g n x i s alt [] = Nothing
+choice_act g n x i s alt (a ∷ alts) =
+    if is_possible (arrivals s.mailbox) a
+    then chosen_act g n x i s alt a.names (first_on (answered a.names) s.mailbox)
+    else choice_act g n x i s (alt + 1) alts
+
+-- whether the request of this number is the slot's
+abbrev pub has_number : Option ℕ → ℕ → Bool
+has_number None number = false
+has_number (Some k) number = k == number
+
+-- the value of the request has come to the slot that it is out for
+abbrev pub settled : {S : Type 0} → Language S → ℕ → Value → List (Slot S) → List (Slot S)
+settled g number v [] = []
+settled g number v (s ∷ ss) =
+    if has_number s.request number then record s { state = g.given s.state v; request = None } ∷ ss else s ∷ settled g number v ss
+
+-- a value goes to a caller, here or by a packet
+abbrev pub give_back : {S : Type 0} → Language S → ℕ → ℕ → What → ℕ → Value → NodeState S → NodeActed S
+give_back g n number w k v x =
+    if node_of k == n then Acts w None (record x { slots = settled g number v x.slots })
+    else Acts w (Some (record { number = Some number; packet = D.Result k v })) x
+
+-- a served method ends: the innermost caller has this number
+abbrev pub return_act : {S : Type 0} → Language S → ℕ → NodeState S → ℕ → Slot S → ℕ → Value → List ℕ → NodeActed S
+return_act g n x i s k v [] = Nothing
+return_act g n x i s k v (number ∷ callers) =
+    give_back g n number (W.Step (L.Return (name_at n i) k v) 1) k v
+    (record x { slots = set_at x.slots i (record s { state = g.returned s.state; callers = callers }) })
+
+-- a turn of the object of a slot, by what it does next; a request has the fresh number
+abbrev pub slot_act : {S : Type 0} → Language S → Placement → ℕ → ℕ → ℕ → NodeState S → ℕ → Slot S → Kind → NodeActed S
+slot_act g l q n fresh x i s K.Local =
+    local_act n (name_at n i) x i s (steps_of g l q n x i s) (local_state g (name_at n i) (room_for g l x i s) (steps_of g l q n x i s) s.state)
+slot_act g l q n fresh x i s (K.New class) = create_act g n fresh x i s class (goal_here g l x n class)
+slot_act g l q n fresh x i s (K.Send b m args) =
+    message_act n (W.PostCall (name_at n i) b (id m) args) (put_request x i s fresh s.goal) b
+    (record { number = Some fresh; message = record { sender = name_at n i; is_call = true; method = m; args = args } }) (D.Request (name_at n i) b m args)
+slot_act g l q n fresh x i s (K.Async b m args) =
+    message_act n (W.Step (L.Send (name_at n i) b (id m) args) 1) (put_state x i s (g.done s.state)) b
+    (record { number = None; message = record { sender = name_at n i; is_call = false; method = m; args = args } }) (D.Async (name_at n i) b m args)
+slot_act g l q n fresh x i s (K.Select alts) = choice_act g n x i s 1 alts
+slot_act g l q n fresh x i s (K.Return k v) = return_act g n x i s k v s.callers
+slot_act g l q n fresh x i s (K.Write item) = Acts (W.Step (L.Write (name_at n i) item) 1) None (put_state x i s (g.done s.state))
+slot_act g l q n fresh x i s (K.Fault e) = Acts (W.Step (L.Fault (name_at n i) e) 1) None (put_state x i s (g.faulted s.state e))
+slot_act g l q n fresh x i s _ = Nothing
+
+abbrev pub turn_of_slot : {S : Type 0} → Language S → Placement → ℕ → ℕ → ℕ → ℕ → NodeState S → Option (ℕ × Slot S) → NodeActed S
+turn_of_slot g l q n leaving fresh x None = Idle
+turn_of_slot g l q n leaving fresh x (Some e) =
+    within_node g l leaving (slot_act g l q n fresh (record x { last = Some e.0 }) e.0 e.1 (g.kind (name_at n e.0) e.1.state))
+
+-- a turn of node n, with so many packets on the links that leave it
+abbrev pub turn_act : {S : Type 0} → Language S → Placement → ℕ → ℕ → ℕ → ℕ → NodeState S → NodeActed S
+turn_act g l q n leaving fresh x = turn_of_slot g l q n leaving fresh x (slot_in_turn g n x)
+
+-- the slot of the request of this number
+abbrev pub settle_number : {S : Type 0} → Language S → Value → Option ℕ → NodeState S → NodeState S
+settle_number g v None x = x
+settle_number g v (Some number) x = record x { slots = settled g number v x.slots }
+
+-- an object is made for a creator on another node
+abbrev pub created_for : {S : Type 0} → ℕ → NodeState S → Option ℕ → ℕ → ℕ → Option S → NodeActed S
+created_for n x number o class None = Nothing
+created_for n x number o class (Some y) =
+    Acts (W.Step (L.New o (name_at n (length x.slots)) (id class)) 1)
+    (Some (record { number = number; packet = D.Created o (name_at n (length x.slots)) })) (add_slot x y)
+
+-- a packet at its goal, the node n
+abbrev pub receipt : {S : Type 0} → Language S → ℕ → NodeState S → Option ℕ → Packet → NodeActed S
+receipt g n x number (D.Create o goal class) = created_for n x number o class (g.made class)
+receipt g n x number (D.Created o name) = Acts (W.Created o name) None (settle_number g (V.Ref name) number x)
+receipt g n x number (D.Request o r m args) =
+    Acts (W.Arrive o r (id m)) None (deliver r (record { number = number; message = record { sender = o; is_call = true; method = m; args = args } }) x)
+receipt g n x number (D.Result o v) = Acts (W.Result o v) None (settle_number g v number x)
+receipt g n x number (D.Async o r m args) =
+    Acts (W.Arrive o r (id m)) None (deliver r (record { number = None; message = record { sender = o; is_call = false; method = m; args = args } }) x)
+
+abbrev pub receipt_act : {S : Type 0} → Language S → Placement → ℕ → ℕ → NumberedPacket → NodeState S → NodeActed S
+receipt_act g l n leaving e x = within_node g l leaving (receipt g n x e.number e.packet)

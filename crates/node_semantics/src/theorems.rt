@@ -1,0 +1,104 @@
+//! Laws of machines of nodes, over the definitions alone: each is the contract of a function that does nothing. They hold of any language of objects whose states are
+//! the type parameter `S`. What is kept of a configuration is a property: a contract ranges over it as over what a function gives, from the type parameter `K`.
+ghost use Rattle.std.specs.Prelude.{◌≡◌, ◌≢◌, ◌+◌, ℕ, List, ◌∷◌, None, Some, length, slice_get};
+ghost use Rattle.pool_syntax.specs.declared.words.Event.{Event};
+ghost use Rattle.pool_syntax.specs.declared.words.Placement.{Placement};
+ghost use Rattle.mesh_semantics.specs.Tables.{pair_cmp, list_at};
+ghost use Rattle.mesh_semantics.specs.Language.{Language};
+ghost use Rattle.mesh_semantics.specs.Config.{Config, object_of};
+ghost use Rattle.mesh_semantics.specs.Ways.{In};
+ghost use Rattle.mesh_semantics.specs.Delay.{Delay, cell_count, no_delay};
+ghost use Rattle.mesh_semantics.specs.Act.{act, frame_count, goal_node, is_quiet, object_count};
+ghost use Rattle.mesh_semantics.specs.Record.{record_of, start};
+ghost use Rattle.mesh_semantics.specs.Standing.{standing};
+ghost use Rattle.mesh_semantics.specs.Sound.{Each, IsSound};
+ghost use Rattle.mesh_semantics.specs.FitFor.{FitFor};
+ghost use Rattle.mesh_semantics.specs.Lawful.{Lawful};
+ghost use Rattle.mesh_semantics.specs.Given.{IsGiven};
+ghost use Rattle.node_semantics.specs.Node as N;
+ghost use Rattle.node_semantics.specs.Node.{NodeState, NumberedPacket, Slot, frames_in, message_count, receipt_act, turn_act};
+ghost use Rattle.node_semantics.specs.Machine.{Machine, is_machine_quiet, leaving, machine_act, machine_start};
+ghost use Rattle.node_semantics.specs.Requests.{Requests};
+ghost use Rattle.node_semantics.specs.StandsFor.{MachineStandsFor, slot_at};
+ghost use Rattle.node_semantics.specs.Agrees.{Agrees, IsFresh, IsOfMesh, StartAgrees};
+ghost use Rattle.node_semantics.specs.Written.{FreshAlong, machine_lines};
+ghost use Rattle.node_semantics.specs.Receives.{IsReceivable, KnownNames};
+ghost use Rattle.node_semantics.specs.Turns.{CanTurn};
+ghost use Rattle.node_semantics.specs.Standings.{SaysOf, machine_standing, slot_standing};
+
+/// At its start a machine stands for the start, with nothing on the way; there is a start for both or for neither.
+pub fn a_machine_starts_as_what_it_stands_for<S, K>()
+    ensures { (g : Language S) (kept : K → Config S) (l : Placement) → FitFor g l → Requests g (IsGiven kept) → StartAgrees g l (machine_start g l) (start g l) }
+{}
+
+/// A machine answers an event as the sound configuration does that it stands for, with the same line or the same limit, and after a line it stands for what is after it.
+pub fn a_machine_does_what_it_stands_for<S, K>()
+    ensures { (g : Language S) (kept : K → Config S) (l : Placement) (q fresh : ℕ) (m : Machine S) (c : Config S) (d : Delay) (e : Event)
+        → Lawful g (IsGiven kept) → Requests g (IsGiven kept) → FitFor g l → IsSound g (IsGiven kept) l c d → MachineStandsFor g l m c d
+        → IsOfMesh l e → IsFresh m fresh e → Agrees g l (machine_act g l q fresh m e) (act g l q c d e) }
+{}
+
+/// A machine is quiet exactly where what it stands for is.
+pub fn a_machine_is_quiet_as_what_it_stands_for<S, K>()
+    ensures { (g : Language S) (kept : K → Config S) (l : Placement) (m : Machine S) (c : Config S) (d : Delay)
+        → Lawful g (IsGiven kept) → Requests g (IsGiven kept) → IsSound g (IsGiven kept) l c d → MachineStandsFor g l m c d → is_machine_quiet g m ≡ is_quiet g c d }
+{}
+
+/// Over a schedule a machine writes the lines of the record, whatever numbers its requests have, if the number of each event is not out at the node of the event at
+/// that moment.
+pub fn a_machine_writes_the_record<S, K>()
+    ensures { (g : Language S) (kept : K → Config S) (l : Placement) (q : ℕ) (es : List Event) (numbers : List ℕ)
+        → Lawful g (IsGiven kept) → Requests g (IsGiven kept) → FitFor g l → ((c : Config S) → start g l ≡ Some c → IsSound g (IsGiven kept) l c no_delay)
+        → Each (IsOfMesh l) es → FreshAlong g l q es numbers → machine_lines g l q es numbers ≡ (record_of g l q es).lines }
+{}
+
+/// For each schedule there are such numbers.
+pub fn there_are_fresh_numbers<S>()
+    ensures { (g : Language S) (l : Placement) (q : ℕ) (es : List Event) → (numbers : List ℕ) × FreshAlong g l q es numbers }
+{}
+
+/// A packet that comes off a link at its goal is one that its node may be given.
+pub fn a_packet_off_a_link_is_receivable<S, K>()
+    ensures { (g : Language S) (kept : K → Config S) (l : Placement) (m : Machine S) (c : Config S) (d : Delay) (a b : ℕ) (e : NumberedPacket) (rest : List NumberedPacket)
+        (x : NodeState S) → Lawful g (IsGiven kept) → Requests g (IsGiven kept) → KnownNames g (IsGiven kept) → FitFor g l → IsSound g (IsGiven kept) l c d
+        → MachineStandsFor g l m c d → list_at pair_cmp (a, b) m.links ≡ e ∷ rest → goal_node e.packet ≡ b → slice_get m.nodes b ≡ Some x
+        → IsReceivable g b x e.number e.packet }
+{}
+
+/// A node that is given a packet that it may be given always answers, if an object can be made of each class.
+pub fn a_node_answers_a_receivable_packet<S>()
+    ensures { (g : Language S) (l : Placement) (leaving n : ℕ) (x : NodeState S) (e : NumberedPacket) → ((k : ℕ) → In k g.classes → g.made k ≢ None)
+        → IsReceivable g n x e.number e.packet → receipt_act g l n leaving e x ≢ N.Nothing }
+{}
+
+/// A turn of any node by itself always answers, where its objects can do what they are at.
+pub fn a_node_answers_its_turn<S>()
+    ensures { (g : Language S) (l : Placement) (q leaving n fresh : ℕ) (x : NodeState S) → CanTurn g n x → turn_act g l q n leaving fresh x ≢ N.Nothing }
+{}
+
+/// The objects, frames and cells of a node are counted as those of what its machine stands for.
+pub fn a_node_counts_what_it_stands_for<S, K>()
+    ensures objects { (g : Language S) (kept : K → Config S) (l : Placement) (m : Machine S) (c : Config S) (d : Delay) (n : ℕ) (x : NodeState S)
+        → Lawful g (IsGiven kept) → Requests g (IsGiven kept) → IsGiven kept c → MachineStandsFor g l m c d → slice_get m.nodes n ≡ Some x → length x.slots ≡ object_count c n }
+    ensures frames { (g : Language S) (kept : K → Config S) (l : Placement) (m : Machine S) (c : Config S) (d : Delay) (n : ℕ) (x : NodeState S)
+        → Lawful g (IsGiven kept) → Requests g (IsGiven kept) → IsGiven kept c → MachineStandsFor g l m c d → slice_get m.nodes n ≡ Some x → frames_in g x.slots ≡ frame_count g c n }
+    ensures cells { (g : Language S) (kept : K → Config S) (l : Placement) (m : Machine S) (c : Config S) (d : Delay) (n : ℕ) (x : NodeState S)
+        → Lawful g (IsGiven kept) → Requests g (IsGiven kept) → IsGiven kept c → MachineStandsFor g l m c d → slice_get m.nodes n ≡ Some x
+        → message_count x.slots + leaving m.links n ≡ cell_count d n }
+{}
+
+/// What a node says of a slot is where the object of that name stands, with a call or a create in place of due.
+pub fn a_node_says_where_an_object_stands<S, K>()
+    ensures { (g : Language S) (kept : K → Config S) (l : Placement) (m : Machine S) (c : Config S) (d : Delay) (o : ℕ) (x : S) (s : Slot S)
+        → Lawful g (IsGiven kept) → Requests g (IsGiven kept) → IsSound g (IsGiven kept) l c d → MachineStandsFor g l m c d
+        → object_of c o ≡ Some x → slot_at m o ≡ Some s → SaysOf (slot_standing g o s) (standing g d o x) }
+{}
+
+/// What a machine says of a name is where the object of that name stands, and it says nothing exactly of the other names.
+pub fn a_machine_says_where_an_object_stands<S, K>()
+    ensures there { (g : Language S) (kept : K → Config S) (l : Placement) (m : Machine S) (c : Config S) (d : Delay) (o : ℕ) (x : S)
+        → Lawful g (IsGiven kept) → Requests g (IsGiven kept) → IsSound g (IsGiven kept) l c d → MachineStandsFor g l m c d
+        → object_of c o ≡ Some x → machine_standing g m o ≡ Some (standing g d o x) }
+    ensures absent { (g : Language S) (l : Placement) (m : Machine S) (c : Config S) (d : Delay) (o : ℕ) → MachineStandsFor g l m c d
+        → object_of c o ≡ None → machine_standing g m o ≡ None }
+{}

@@ -1,0 +1,2 @@
+-- What other crates may cite.
+pub use Rattle.schedule_reader.proofs.Stretching.{get_repeat, length_events, length_repeat}

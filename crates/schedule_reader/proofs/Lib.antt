@@ -1,0 +1,4 @@
+pub mod Laws
+mod Rows
+pub mod Rounds
+pub mod Stretching

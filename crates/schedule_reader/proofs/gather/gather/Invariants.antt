@@ -1,0 +1,25 @@
+use Rattle.std.proofs.Common.{◌≡◌, ◌+◌, ◌*◌, ◌-◌, ◌≤◌, ◌++◌, length, drop}
+use Rattle.pool_lexer.specs.Lines.{lines}
+use Rattle.input_lines.specs.Kept.{kept_from}
+use Rattle.schedule_reader.specs.Events.{events_of, total}
+use Rattle.schedule_reader.specs.Schedules.{entries_of, first_fault}
+use Rattle.schedule_reader.specs.Stretches.{AreEnds, stretched}
+use Rattle.schedule_reader.proofs.gather.gather.Given as goal
+
+-- what the lines so far and those that are left give together is what all give
+abbrev pub invariant-loop-found : goal.invariant-loop-found
+invariant-loop-found l =
+    let all = kept_from l.line (lines (drop l.from l.bytes)) in
+    let left = kept_from l.number (lines (drop l.at l.bytes)) in
+    record {
+      within : l.at ≤ length l.bytes;
+      few : l.number ≤ l.at + 1;
+      fault : first_fault l.width l.height all ≡ first_fault l.width l.height left;
+      counted : l.gathered.total + total l.width l.height (entries_of left) ≡ total l.width l.height (entries_of all);
+      small : l.gathered.total ≤ 8320000000 * l.at;
+      ends : l.gathered.total ≤ 2000000 → AreEnds l.round 0 l.gathered.stretches.items l.gathered.total;
+      events : l.gathered.total ≤ 2000000 → stretched l.round l.gathered.stretches.items ++ events_of l.width l.height (entries_of left) ≡ events_of l.width l.height (entries_of all);
+    }
+
+abbrev pub decreases-loop-found : goal.decreases-loop-found
+decreases-loop-found l = length l.bytes - l.at

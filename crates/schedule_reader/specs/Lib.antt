@@ -1,0 +1,5 @@
+pub mod Counts
+pub mod Entries
+pub mod Events
+pub mod Schedules
+pub mod Stretches

@@ -1,0 +1,37 @@
+//! Why a schedule is refused.
+ghost use Rattle.std.specs.Prelude.{◌≡◌};
+ghost use Rattle.schedule_reader.specs.declared.fault.ScheduleFault.TheVariants.{Memory};
+
+use std::alloc::AllocError;
+use thiserror::Error;
+
+/// Why a schedule is refused. Lines are numbered from 1; of several faults on the first line that has one, the first in this order is told.
+#[derive(Clone, Copy, Debug, PartialEq, Eq, Error)]
+pub enum ScheduleFault {
+    /// The line has none of the forms of a schedule's line, or the first line that is not passed over is no `quantum` line, or a later one is.
+    #[error("line {line} has no form of a schedule")]
+    BadLine { line: u32 },
+    /// A node of the line is not one of the mesh.
+    #[error("line {line} names a node that is not there")]
+    NoSuchNode { line: u32 },
+    /// The two nodes of the line are no neighbours.
+    #[error("line {line} names a link that is not there")]
+    NoSuchLink { line: u32 },
+    /// A quantum that is not from 1 to 10,000, or a count that is not from 1 to 2,000,000.
+    #[error("line {line} has a number out of its range")]
+    OutOfRange { line: u32 },
+    /// All lines together have this number of events, which is more than 2,000,000.
+    #[error("there are {count} events")]
+    TooManyEvents { count: u64 },
+    /// Out of memory.
+    #[error("out of memory")]
+    Memory,
+}
+
+impl From<AllocError> for ScheduleFault {
+    ghost from_gives = { λ _ e. e ≡ Memory };
+
+    fn from(_error: AllocError) -> ScheduleFault {
+        ScheduleFault::Memory
+    }
+}

@@ -1,0 +1,86 @@
+//! The entries of the lines behind the quantum.
+ghost use Rattle.std.specs.Prelude.{◌≡◌, ◌+◌, ◌*◌, ◌<◌, ◌≤◌, ◌++◌, [], ◌∷◌, length, drop, IfOk, IfErr, OnOk, None, Some};
+ghost use Rattle.std.specs.List.{repeat};
+ghost use Rattle.pool_lexer.specs.Lines.{lines};
+ghost use Rattle.input_lines.specs.Kept.{kept_from};
+ghost use Rattle.schedule_reader.specs.Events.{events_of, round_of, total};
+ghost use Rattle.schedule_reader.specs.Schedules.{IsTold, entries_of, first_fault};
+ghost use Rattle.schedule_reader.specs.Stretches.{AreEnds, part_events, stretched};
+
+use crate::entry::{MOST_EVENTS, judge};
+use crate::fault::ScheduleFault;
+use crate::stretch::{Counted, Stretch, part_len};
+use input_lines::next_kept;
+use pool_syntax::Event;
+use std::alloc::{AllocError, Global};
+
+/// The stretches so far, where they have at most 2,000,000 events, and the number of all events.
+#[derive(Drop)]
+pub struct Gathered {
+    pub stretches: Vec<Stretch>,
+    pub total: u64,
+}
+
+/// Counts what a line asks for, and keeps it where all events so far are at most 2,000,000.
+fn add(gathered: &mut Gathered, round: &[Event], line: Counted) -> Result<(), AllocError>
+    requires count { line.count ≤ 2000000 }
+    requires round { length round.now ≤ 4160 }
+    requires total { gathered.old.total ≤ 1000000000000000000 }
+    requires ends { gathered.old.total ≤ 2000000 → AreEnds round.now 0 gathered.old.stretches.items gathered.old.total }
+    ensures total { OnOk result (gathered.new.total ≡ gathered.old.total + line.count * length (part_events round.now line.part)) }
+    ensures ends { OnOk result (gathered.new.total ≤ 2000000 → AreEnds round.now 0 gathered.new.stretches.items gathered.new.total) }
+    ensures events { OnOk result (gathered.new.total ≤ 2000000 → stretched round.now gathered.new.stretches.items ≡ stretched round.now gathered.old.stretches.items ++ repeat line.count (part_events round.now line.part)) }
+{
+    gathered.total += u64::from(line.count) * part_len(round, line.part) as u64;
+    if gathered.total <= MOST_EVENTS {
+        gathered.stretches.push(Stretch {
+            count: line.count,
+            end: gathered.total as u32,
+            part: line.part,
+        })?;
+    }
+    Ok(())
+}
+
+/// All entries from a line on, or the fault of the first line that has one.
+pub fn gather(
+    alloc: Global,
+    bytes: &[u8],
+    from: usize,
+    line: u32,
+    width: u32,
+    height: u32,
+    round: &[Event],
+) -> Result<Gathered, ScheduleFault>
+    requires within { from ≤ length bytes.now }
+    requires small { length bytes.now ≤ 67108864 }
+    requires few { line ≤ from + 1 }
+    requires width { (1 ≤ width) × (width ≤ 8) }
+    requires height { (1 ≤ height) × (height ≤ 8) }
+    requires round { round.now ≡ round_of width height }
+    requires round_small { length round.now ≤ 4160 }
+    ensures faultless { OnOk result (first_fault width height (kept_from line (lines (drop from bytes.now))) ≡ None) }
+    ensures total { IfOk result (λ g. g.total ≡ total width height (entries_of (kept_from line (lines (drop from bytes.now))))) }
+    ensures ends { IfOk result (λ g. g.total ≤ 2000000 → AreEnds round.now 0 g.stretches.items g.total) }
+    ensures events { IfOk result (λ g. g.total ≤ 2000000 → stretched round.now g.stretches.items ≡ events_of width height (entries_of (kept_from line (lines (drop from bytes.now))))) }
+    ensures fault { IfErr result (λ f. IsTold f (first_fault width height (kept_from line (lines (drop from bytes.now))))) }
+{
+    let mut gathered = Gathered {
+        stretches: Vec::new(alloc),
+        total: 0,
+    };
+    let mut at = from;
+    let mut number = line;
+    while let Some(found) = next_kept(bytes, at, number) {
+        let counted = judge(
+            u64::from(width),
+            u64::from(height),
+            found.line,
+            &bytes[found.start..found.end],
+        )?;
+        add(&mut gathered, round, counted)?;
+        at = found.next;
+        number = found.line + 1;
+    }
+    Ok(gathered)
+}

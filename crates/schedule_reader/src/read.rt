@@ -1,0 +1,67 @@
+//! Reads a schedule.
+ghost use Rattle.std.specs.Prelude.{◌≡◌, ◌≤◌, length, IfOk, IfErr, Ok, Some, None};
+ghost use Rattle.pool_lexer.specs.Lines.{words};
+ghost use Rattle.schedule_reader.specs.Entries.{quantum_of};
+ghost use Rattle.schedule_reader.specs.Schedules.{IsTold, fault_in, quantum_fault, schedule_of};
+
+use crate::entry::{MOST_EVENTS, quantum_in};
+use crate::fault::ScheduleFault;
+use crate::gather::gather;
+use crate::round::round;
+use crate::schedule::Schedule;
+use input_lines::{count_lines, next_kept};
+use pool_syntax::Placement;
+use std::alloc::Global;
+
+/// The quantum of the first line that is kept, or that line's fault.
+fn first_quantum(line: u32, bytes: &[u8]) -> Result<u32, ScheduleFault>
+    ensures ok { IfOk result (λ q. (quantum_of (words bytes.now) ≡ Some q) × (1 ≤ q) × (q ≤ 10000)) }
+    ensures err { IfErr result (λ f. quantum_fault line (quantum_of (words bytes.now)) ≡ Some f) }
+{
+    match quantum_in(bytes) {
+        None => Err(ScheduleFault::BadLine { line }),
+        Some(quantum) if 1 <= quantum && quantum <= 10000 => Ok(quantum as u32),
+        Some(_) => Err(ScheduleFault::OutOfRange { line }),
+    }
+}
+
+/// The schedule of a text of at most 67,108,864 bytes, for a mesh as the placement has it; or the text's first fault.
+pub fn read_schedule(
+    alloc: Global,
+    bytes: &[u8],
+    placement: &Placement,
+) -> Result<Schedule, ScheduleFault>
+    requires small { length bytes.now ≤ 67108864 }
+    requires width { (1 ≤ placement.now.width) × (placement.now.width ≤ 8) }
+    requires height { (1 ≤ placement.now.height) × (placement.now.height ≤ 8) }
+    ensures ok { IfOk result (λ s. schedule_of placement.now.width placement.now.height bytes.now ≡ Ok s) }
+    ensures err { IfErr result (λ f. IsTold f (fault_in (schedule_of placement.now.width placement.now.height bytes.now))) }
+{
+    let Some(first) = next_kept(bytes, 0, 1) else {
+        return Err(ScheduleFault::BadLine {
+            line: count_lines(bytes) + 1,
+        });
+    };
+    let quantum = first_quantum(first.line, &bytes[first.start..first.end])?;
+    let round = round(alloc, placement.width, placement.height)?;
+    let gathered = gather(
+        alloc,
+        bytes,
+        first.next,
+        first.line + 1,
+        placement.width,
+        placement.height,
+        round.as_slice(),
+    )?;
+    if gathered.total > MOST_EVENTS {
+        return Err(ScheduleFault::TooManyEvents {
+            count: gathered.total,
+        });
+    }
+    Ok(Schedule {
+        quantum,
+        round,
+        stretches: gathered.stretches,
+        last: gathered.total as u32,
+    })
+}

@@ -1,0 +1,55 @@
+//! A schedule.
+ghost use Rattle.std.specs.Prelude.{◌≡◌, ◌<◌, length, Some, slice_get};
+
+use crate::stretch::{Stretch, event_at};
+use pool_syntax::Event;
+use std::marker::Model;
+
+/// A quantum and a list of events, which are kept as a line of the text has them: a `round` is not spelled out, nor is a count.
+#[derive(Drop)]
+pub struct Schedule {
+    pub(crate) quantum: u32,
+    pub(crate) round: Vec<Event>,
+    pub(crate) stretches: Vec<Stretch>,
+    pub(crate) last: u32,
+}
+
+impl Model for Schedule {
+    ghost use Rattle.schedule_reader.specs.Schedules.{Plan};
+    ghost use Rattle.schedule_reader.specs.Stretches.{AreEnds, stretched};
+
+    ghost Value = { Plan };
+
+    ghost view = { λ s. record { quantum = s.quantum; events = stretched s.round.items s.stretches.items } };
+
+    ghost invariant = { λ s. AreEnds s.round.items 0 s.stretches.items s.last };
+}
+
+impl Schedule {
+    /// The most local transitions of a turn, from 1 to 10,000.
+    pub fn quantum(&self) -> u32
+        ensures { result ≡ self.now.quantum }
+    {
+        self.quantum
+    }
+
+    /// The number of events, at most 2,000,000.
+    pub fn len(&self) -> u32
+        ensures { result ≡ length self.now.events }
+    {
+        self.last
+    }
+
+    /// The event of number `i`, from 0. Takes no memory, and time of the logarithm of the number of lines.
+    pub fn event(&self, i: u32) -> Event
+        requires { i < length self.now.events }
+        ensures { slice_get self.now.events i ≡ Some result }
+    {
+        event_at(
+            self.round.as_slice(),
+            self.stretches.as_slice(),
+            self.last,
+            i,
+        )
+    }
+}
