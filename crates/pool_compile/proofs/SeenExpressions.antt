@@ -10,7 +10,7 @@ use Rattle.pool_syntax.specs.Terms.{Store, Expression, Expressions, Statement, S
 use Rattle.pool_syntax.specs.Typing.{size}
 use Rattle.pool_relation.specs.Reducible as R
 use Rattle.pool_relation.specs.Reducible.{Choice, Reducible, Found, Evaluated, At, Part, AsExpression, AsStatements, as_expression, as_statements, set_value, assigned, fill_expression, fill_expressions, fill_statement, fill_statements, fill_guards, is_value, are_values, is_done}
-use Rattle.pool_relation.proofs.Searched.{not_value, not_values, arguments_are, passed}
+use Rattle.pool_relation.proofs.Laws.{not_value, not_values, arguments_are, passed}
 use Rattle.object_code.specs.declared.unit.Instr.{Instr}
 use Rattle.object_code.specs.declared.unit.Instr.TheVariants as I
 use Rattle.object_code.specs.declared.unit.ClassCode.{ClassCode}

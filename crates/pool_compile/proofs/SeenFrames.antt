@@ -7,7 +7,7 @@ use Rattle.pool_syntax.specs.Terms as T
 use Rattle.pool_syntax.specs.Terms.{Store, Expression, Expressions, Statement, Statements, Alternatives, append}
 use Rattle.pool_relation.specs.Reducible as R
 use Rattle.pool_relation.specs.Reducible.{Choice, Reducible, Found, Evaluated, At, and_then, Part, AsExpression, AsStatements, as_expression, as_statements, set_value, assigned, fill_expression, fill_expressions, fill_statement, fill_statements, fill_guards, is_value, are_values, is_done}
-use Rattle.pool_relation.proofs.Searched.{not_value, not_done}
+use Rattle.pool_relation.proofs.Laws.{not_value, not_done}
 use Rattle.object_code.specs.declared.unit.Instr.TheVariants as I
 use Rattle.pool_syntax.specs.declared.words.Serves.TheVariants as S
 use Rattle.object_code.specs.declared.unit.ClassCode.{ClassCode}
