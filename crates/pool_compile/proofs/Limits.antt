@@ -10,8 +10,7 @@ use Rattle.pool_syntax.specs.Typing.{Scope, expression_faults, statements_faults
 use Rattle.mesh_semantics.proofs.Laws.{first, second}
 use Rattle.pool_relation.specs.Typed.{has_room}
 use Rattle.pool_relation.specs.Written.{is_source, are_source_statements, is_value_for, are_written, is_written}
-use Rattle.pool_relation.proofs.Laws.{none2, none4}
-use Rattle.pool_relation.proofs.Laws.{grammatical_written, has_a_class}
+use Rattle.pool_relation.proofs.Laws.{none2, none4, grammatical_written, has_a_class}
 use Rattle.object_code.specs.declared.unit.ClassCode.{ClassCode}
 use Rattle.pool_compile.specs.Code.{more, expression_words, expressions_words, guards_words, statement_words, statements_words, works_words, class_code}
 use Rattle.pool_compile.specs.Small.{AreSmallMethods, IsSmall}

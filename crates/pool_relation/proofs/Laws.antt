@@ -35,4 +35,6 @@ pub use Rattle.pool_relation.proofs.typing.Checked.{vars_known, methods_checked,
 -- the search for the redex: where it ends, and what has none
 pub use Rattle.pool_relation.proofs.redex.RedexSearch.{passed, literal_is, not_value, value_found, not_values, not_guards, done_is, not_done, arguments_are, guards_are}
 -- what is under way in a term, and what its redex ends
-pub use Rattle.pool_relation.proofs.redex.Activities.{Ends, is_statement, statements_activities, statements_idle}
+pub use Rattle.pool_relation.proofs.redex.Idle.{statements_idle}
+pub use Rattle.pool_relation.proofs.redex.Activities.{Ends, is_statement}
+pub use Rattle.pool_relation.proofs.redex.TermActivities.{statements_activities}

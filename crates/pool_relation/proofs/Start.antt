@@ -19,7 +19,7 @@ use Rattle.pool_relation.specs.Typed.{Typed}
 use Rattle.mesh_semantics.proofs.Laws.{equals, same_some, given_by}
 use Rattle.pool_relation.proofs.typing.TypedTerm.{Nothing, Methods, TypedStatements}
 use Rattle.pool_relation.proofs.typing.Faults.{none2, no_fault_if}
-use Rattle.pool_relation.proofs.redex.Activities.{statements_idle}
+use Rattle.pool_relation.proofs.redex.Idle.{statements_idle}
 use Rattle.pool_relation.proofs.action.TypedAction.{place, TypedObject}
 use Rattle.pool_relation.proofs.Invariant.{classes, FitsAt, Invariant, typed_of}
 use Rattle.pool_relation.proofs.action.NextWaits.{does_not_wait}

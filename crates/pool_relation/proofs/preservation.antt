@@ -3,5 +3,6 @@ pub mod OneObject
 pub mod Messages
 pub mod LookupOfTwo
 pub mod NewObject
-pub mod Calls
+pub mod Answered
+pub mod Returned
 pub mod EachTransition

@@ -5,4 +5,7 @@ pub mod RedexOfStatement
 pub mod Replacement
 pub mod NoWait
 pub mod AsWait
+pub mod Idle
 pub mod Activities
+pub mod PartActivities
+pub mod TermActivities

@@ -1,4 +1,4 @@
--- Each transition keeps a well-typed configuration so.
+-- Each transition keeps a typed configuration so.
 use Rattle.std.proofs.Common.{◌≡◌, subst, Some, List, [], ◌∷◌, IsTrue}
 use Rattle.pool_syntax.specs.declared.words.Label.{Label}
 use Rattle.pool_syntax.specs.declared.words.Label.TheVariants as L
@@ -13,7 +13,8 @@ use Rattle.mesh_semantics.proofs.Laws.{same_some, given_by}
 use Rattle.pool_relation.proofs.preservation.OneObject.{local_kept, write_kept, fault_kept, pick_kept}
 use Rattle.pool_relation.proofs.preservation.Messages.{send_kept, take_kept}
 use Rattle.pool_relation.proofs.preservation.NewObject.{new_kept}
-use Rattle.pool_relation.proofs.preservation.Calls.{answer_kept, return_kept}
+use Rattle.pool_relation.proofs.preservation.Answered.{answer_kept}
+use Rattle.pool_relation.proofs.preservation.Returned.{return_kept}
 
 invariant_kept : (p : ProgramTree) (c d : Configuration) (l : Label) → faults p ≡ [] → IsTrue (is_written p) → Invariant p c
     → transition p c l ≡ Some d → Invariant p d

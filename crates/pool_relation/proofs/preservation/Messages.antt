@@ -1,4 +1,4 @@
--- An asynchronous message is sent, or taken: a well-typed configuration stays so.
+-- An asynchronous message is sent, or taken: a typed configuration stays so.
 use Rattle.std.proofs.Common.{◌≡◌, refl, sym, ap, ◌∙◌, subst, IsTrue, ℕ, List, [], ◌∷◌, ◌++◌, length, Option, Some, None, is_some, All, Bool, true, false, ◌&&◌, ◌||◌, ◌==◌, append-nil, if◌then◌else◌, arith}
 use Rattle.std.proofs.lemmas.List.Elements.{All-cons, All-nil, All-append, All-head, All-tail}
 use Rattle.pool_syntax.specs.declared.words.Value.{Value}
@@ -26,7 +26,7 @@ use Rattle.pool_relation.proofs.typing.TypedTerm.{Nothing, Methods, has_no_sort,
 use Rattle.pool_relation.proofs.typing.Declared.{AllKnown, fits_var, fits_parts}
 use Rattle.pool_relation.proofs.typing.Begun.{method_begins, serve_begun}
 use Rattle.pool_relation.proofs.redex.TypedRedex.{at, FitValues, TypedChoices}
-use Rattle.pool_relation.proofs.redex.Activities.{statements_idle, expression_idle}
+use Rattle.pool_relation.proofs.redex.Idle.{statements_idle, expression_idle}
 use Rattle.pool_relation.proofs.action.TypedAction.{place, CanReceive, TakesStatements, TypedAction}
 use Rattle.pool_relation.proofs.Lookup.{objects_in_order, messages_in_order, no_empty_messages, PutMessages, NewMessages, OldMessages, put_messages_cases}
 use Rattle.pool_relation.proofs.Invariant.{classes, FitsAt, MessagesFit, Invariant}

@@ -1,4 +1,4 @@
--- What of a well-typed configuration stays where objects are replaced and added.
+-- What of a typed configuration stays where objects are replaced and added.
 use Rattle.std.proofs.Common.{◌≡◌, refl, sym, ap, ◌∙◌, subst, IsTrue, ℕ, List, [], ◌∷◌, Option, Some, None, is_some, length, ◌⊎◌, inl, inr, arith}
 use Rattle.pool_syntax.specs.declared.words.Error.{Error}
 use Rattle.pool_syntax.specs.declared.words.Value.{Value}

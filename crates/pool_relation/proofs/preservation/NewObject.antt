@@ -1,4 +1,4 @@
--- An object is made: a well-typed configuration stays so.
+-- An object is made: a typed configuration stays so.
 use Rattle.std.proofs.Common.{◌≡◌, refl, sym, ap, ◌∙◌, subst, IsTrue, ℕ, [], Option, Some, None, is_some, is_none, ◌&&◌, ◌⊎◌, inl, inr, arith}
 use Rattle.pool_syntax.specs.declared.words.Value.TheVariants as V
 use Rattle.pool_syntax.specs.declared.words.NameId.{NameId}
@@ -19,7 +19,7 @@ use Rattle.pool_relation.proofs.typing.Weaker.{nothing_below, statements_weaker}
 use Rattle.pool_relation.proofs.typing.Grown.{Grows}
 use Rattle.pool_relation.proofs.typing.Checked.{class_checked}
 use Rattle.pool_relation.proofs.typing.Begun.{body_begun, new_store_fits}
-use Rattle.pool_relation.proofs.redex.Activities.{statements_idle}
+use Rattle.pool_relation.proofs.redex.Idle.{statements_idle}
 use Rattle.pool_relation.proofs.action.TypedAction.{place, Steps, TypedAction, TypedObject}
 use Rattle.pool_relation.proofs.Lookup.{objects_in_order}
 use Rattle.pool_relation.proofs.Invariant.{classes, Invariant}

@@ -1,4 +1,4 @@
--- Transitions of one object alone keep a well-typed configuration so.
+-- Transitions of one object alone keep a typed configuration so.
 use Rattle.std.proofs.Common.{◌≡◌, refl, sym, ap, ◌∙◌, subst, IsTrue, ℕ, suc, zero, List, [], ◌∷◌, Option, Some, None, is_none, false, ◌&&◌, slice_get, append-nil, arith}
 use Rattle.pool_syntax.specs.declared.words.Error.{Error}
 use Rattle.pool_syntax.specs.declared.words.Item.{Item}
@@ -21,7 +21,7 @@ use Rattle.pool_relation.proofs.typing.Weaker.{Below, nothing_below, statements_
 use Rattle.pool_relation.proofs.redex.TypedRedex.{at, TypedChoices}
 use Rattle.pool_relation.proofs.action.TypedAction.{place, VarsFit, Steps, TypedAction, TypedObject}
 use Rattle.pool_relation.proofs.action.NextAction.{action_typed}
-use Rattle.pool_relation.proofs.redex.Activities.{statements_idle}
+use Rattle.pool_relation.proofs.redex.Idle.{statements_idle}
 use Rattle.pool_relation.proofs.Lookup.{objects_in_order}
 use Rattle.pool_relation.proofs.Invariant.{classes, MessagesFit, InOrder, Invariant}
 use Rattle.pool_relation.proofs.preservation.Moves.{objects_kept, messages_kept, serving_kept, after_put, put_moves, put_calm}
