@@ -6,5 +6,6 @@ pub mod ServedRows
 pub mod TurnLaws
 pub mod RecordLaws
 mod RecordRows
-pub mod StopLaws
+pub mod ReadLaws
 pub mod EndLaws
+pub mod OutputLaws

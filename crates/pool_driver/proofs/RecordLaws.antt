@@ -1,6 +1,8 @@
 -- A record goes on line by line, and shows a run.
-use Rattle.std.proofs.Common.{◌≡◌, refl, sym, ap, subst, ◌∙◌, ℕ, zero, suc, ◌+◌, ◌-◌, ◌<◌, ◌≤◌, List, [], ◌∷◌, ◌++◌, Option, Some, None, Bool, true, false, ◌||◌, IsTrue, replicate, append_assoc, append-nil, arith}
+use Rattle.std.proofs.Common.{◌≡◌, ◌≢◌, is_some, refl, sym, ap, subst, ◌∙◌, ℕ, zero, suc, ◌+◌, ◌-◌, ◌<◌, ◌≤◌, List, [], ◌∷◌, ◌++◌, Option, Some, None, Bool, true, false, ◌||◌, IsTrue, replicate, append_assoc, append-nil, arith}
 use Rattle.pool_syntax.specs.declared.words.Error.{Error}
+use Rattle.pool_syntax.specs.Tokens.{Text}
+use Rattle.pool_syntax.specs.declared.words.Item.TheVariants as I
 use Rattle.pool_syntax.specs.declared.words.Label.{Label}
 use Rattle.pool_syntax.specs.declared.words.Label.TheVariants as L
 use Rattle.pool_syntax.specs.declared.words.What.{What}
@@ -25,17 +27,14 @@ use Rattle.pool_relation.specs.Ready.{is_ready}
 use Rattle.pool_relation.proofs.Laws.{no_transition, joined, start_typed, run_kept, not_wrong, grammatical_written}
 use Rattle.pool_driver.specs.Served.{are_small, is_served, IsServedAction}
 use Rattle.pool_driver.specs.Turn.{local_steps, step_count, Turn, shows, full, nothing, one_step, many_steps, turn_by, turn}
-use Rattle.pool_driver.specs.Records.{is_quiet, Record, with_line, ends, after_turn, record_from, record_at, record_of, labels_of, labels, is_quiet_end, ends_quiet, shows_fault, ended, status_after, status_of, IsRunFrom}
-use Rattle.pool_driver.specs.RecordText.{line_text, record_text}
+use Rattle.pool_driver.specs.Records.{is_quiet, Shown, Record, lines, event_line, with_event, ends, after_turn, record_from, record_at, record_of, labels_of, labels, is_quiet_end, shows_fault, ended, status_after, status_of, IsRunFrom}
+use Rattle.pool_driver.specs.RecordText.{is_own, line_text, record_text}
 use Rattle.pool_driver.specs.Asked.{IsLone, IsTurn}
 use Rattle.pool_driver.specs.declared.run.Turned.{Turned}
 use Rattle.pool_driver.specs.declared.run.Turned.TheVariants as T
-use Rattle.pool_driver.specs.Commands.{FileNames}
 use Rattle.pool_driver.specs.declared.status.Status.{Status}
-use Rattle.pool_driver.specs.declared.schedule.Turns.{Turns}
-use Rattle.pool_driver.specs.Outcomes.{Told, Accepts, IsRecordOf}
 use Rattle.pool_driver.proofs.ServedLaws.{served_action, served_start, served_write, served_fault}
-use Rattle.pool_driver.proofs.TurnLaws.{lone, steps_are_run, steps_leave_one}
+use Rattle.pool_driver.proofs.TurnLaws.{greatest_holds, lone, met, steps_are_run, steps_leave_one, written}
 
 -- one step of a record
 
@@ -105,35 +104,38 @@ module _ (p q : ProgramTree) (quantum : ℕ) (c : Configuration) (n turns : ℕ)
       ∙ turn_now p quantum c n (E.Turn 0) (turns_left (n + 1) turns) full (subst (λ (z : ProgramTree). is_quiet z c ≡ false) same h) (subst (λ (z : ProgramTree). turn z quantum c ≡ full) same t)
 
   pub more_here : (what : What) (d : Configuration) → n < turns → is_quiet q c ≡ false → turn q quantum c ≡ shows what d
-      → record_from p quantum c n (turns_left n turns) ≡ with_line (R.Event (n + 1) (E.Turn 0) what) (record_from p quantum d (n + 1) (turns_left (n + 1) turns))
+      → record_from p quantum c n (turns_left n turns) ≡ with_event (record { number = n + 1; event = E.Turn 0; what = what }) (record_from p quantum d (n + 1) (turns_left (n + 1) turns))
   more_here what d lt h t =
       ap (record_from p quantum c n) (one_left n turns lt)
       ∙ turn_now p quantum c n (E.Turn 0) (turns_left (n + 1) turns) (shows what d) (subst (λ (z : ProgramTree). is_quiet z c ≡ false) same h) (subst (λ (z : ProgramTree). turn z quantum c ≡ shows what d) same t)
 
 -- the last line
 
-pub text_ends : (r : Record) (e : End) (c : Configuration) (text whole : List ℕ) → r ≡ ends e c → text ++ record_text r.lines ≡ whole → text ++ line_text (R.End e) ≡ whole
-text_ends r e c text whole is h = ap (λ (z : List ℕ). text ++ z) (sym (append-nil (line_text (R.End e)))) ∙ sym (ap (λ (z : Record). text ++ record_text z.lines) is) ∙ h
+pub text_ends : (names : List Text) (r : Record) (e : End) (c : Configuration) (text whole : List ℕ) → r ≡ ends e c → text ++ record_text names (lines r) ≡ whole
+    → text ++ line_text names (R.End e) ≡ whole
+text_ends names r e c text whole is h =
+    ap (λ (z : List ℕ). text ++ z) (sym (append-nil (line_text names (R.End e)))) ∙ sym (ap (λ (z : Record). text ++ record_text names (lines z)) is) ∙ h
 
-pub status_ends : (r : Record) (e : End) (c : Configuration) (faulted : Bool) (whole : Status) → r ≡ ends e c → status_after faulted r.lines ≡ whole → ended faulted e ≡ whole
-status_ends r e c faulted whole is h = sym (ap (λ (z : Record). status_after faulted z.lines) is) ∙ h
+pub status_ends : (r : Record) (e : End) (c : Configuration) (faulted : Bool) (whole : Status) → r ≡ ends e c → status_after faulted r.events r.end ≡ whole → ended faulted e ≡ whole
+status_ends r e c faulted whole is h = sym (ap (λ (z : Record). status_after faulted z.events z.end) is) ∙ h
 
 -- one more line
 
-pub text_goes_on : (r rest : Record) (line : Line) (text more whole : List ℕ) → r ≡ with_line line rest → more ≡ text ++ line_text line
-    → text ++ record_text r.lines ≡ whole → more ++ record_text rest.lines ≡ whole
-text_goes_on r rest line text more whole is m h =
-    ap (λ (z : List ℕ). z ++ record_text rest.lines) m ∙ append_assoc text (line_text line) (record_text rest.lines) ∙ sym (ap (λ (z : Record). text ++ record_text z.lines) is) ∙ h
+pub text_goes_on : (names : List Text) (r rest : Record) (s : Shown) (text more whole : List ℕ) → r ≡ with_event s rest → more ≡ text ++ line_text names (event_line s)
+    → text ++ record_text names (lines r) ≡ whole → more ++ record_text names (lines rest) ≡ whole
+text_goes_on names r rest s text more whole is m h =
+    ap (λ (z : List ℕ). z ++ record_text names (lines rest)) m ∙ append_assoc text (line_text names (event_line s)) (record_text names (lines rest))
+    ∙ sym (ap (λ (z : Record). text ++ record_text names (lines z)) is) ∙ h
 
-pub status_goes_on : (r rest : Record) (number : ℕ) (e : Event) (what : What) (faulted : Bool) (whole : Status) → r ≡ with_line (R.Event number e what) rest
-    → status_after faulted r.lines ≡ whole → status_after (faulted || shows_fault what) rest.lines ≡ whole
-status_goes_on r rest number e what faulted whole is h = sym (ap (λ (z : Record). status_after faulted z.lines) is) ∙ h
+pub status_goes_on : (r rest : Record) (s : Shown) (faulted : Bool) (whole : Status) → r ≡ with_event s rest
+    → status_after faulted r.events r.end ≡ whole → status_after (faulted || shows_fault s.what) rest.events rest.end ≡ whole
+status_goes_on r rest s faulted whole is h = sym (ap (λ (z : Record). status_after faulted z.events z.end) is) ∙ h
 
 -- the lines of a record show a run
 
--- a turn's labels lead to the configuration after it, and it leaves one object
+-- a turn's labels lead to the configuration after it, it leaves one object, and it shows what concerns this object alone
 data MakesRun (p : ProgramTree) (c : Configuration) (what : What) (d : Configuration) : Type 0 where
-  makes_run : ((number : ℕ) (e : Event) → run p c (labels_of (R.Event number e what)) ≡ Some d) → IsLone d → MakesRun p c what d
+  makes_run : run p c (labels_of what) ≡ Some d → IsLone d → is_own what ≡ true → MakesRun p c what d
 
 turn_makes : (p : ProgramTree) (quantum : ℕ) (c d : Configuration) (what : What) → is_served p ≡ true → IsLone c → turn p quantum c ≡ shows what d → MakesRun p c what d
 turn_makes p quantum c d what s i h = by (action p 0 i.0) (served_action p 0 i.0 s i.2) (subst (λ (z : Configuration). turn p quantum z ≡ shows what d) i.1 h)
@@ -147,13 +149,13 @@ turn_makes p quantum c d what s i h = by (action p 0 i.0) (served_action p 0 i.0
     back : MakesRun p (lone x) what d → MakesRun p c what d
     back m = subst (λ (z : Configuration). MakesRun p z what d) (sym i.1) m
 
-    one : (l : Label) → ((k : Configuration) → transition p (lone x) l ≡ Some k → IsLone k) → (o : Option Configuration) → transition p (lone x) l ≡ o
-        → one_step l o ≡ shows what d → MakesRun p (lone x) what d
-    one l leaves None t g = absurd (cc)
-    one l leaves (Some k) t g =
+    one : (l : Label) → ((times : ℕ) → is_own (W.Step l times) ≡ true) → ((k : Configuration) → transition p (lone x) l ≡ Some k → IsLone k) → (o : Option Configuration)
+        → transition p (lone x) l ≡ o → one_step l o ≡ shows what d → MakesRun p (lone x) what d
+    one l own leaves None t g = absurd (cc)
+    one l own leaves (Some k) t g =
         let w : W.Step l 1 ≡ what = cc in
         let a : k ≡ d = cc in
-        subst (λ (y : What). MakesRun p (lone x) y d) w (subst (λ (y : Configuration). MakesRun p (lone x) (W.Step l 1) y) a (makes_run (λ number e. rw t refl) (leaves k t)))
+        subst (λ (y : What). MakesRun p (lone x) y d) w (subst (λ (y : Configuration). MakesRun p (lone x) (W.Step l 1) y) a (makes_run (rw t refl) (leaves k t) (own 1)))
 
     many : (n : ℕ) (o : Option Configuration) → local_steps p n (lone x) ≡ o → many_steps n o ≡ shows what d → MakesRun p (lone x) what d
     many zero o t g = absurd (cc)
@@ -162,12 +164,14 @@ turn_makes p quantum c d what s i h = by (action p 0 i.0) (served_action p 0 i.0
         let w : W.Step (L.Local 0) (suc n) ≡ what = cc in
         let a : k ≡ d = cc in
         subst (λ (y : What). MakesRun p (lone x) y d) w (subst (λ (y : Configuration). MakesRun p (lone x) (W.Step (L.Local 0) (suc n)) y) a
-        (makes_run (λ number e. steps_are_run p (lone x) k (suc n) t) (steps_leave_one p (lone x) k (suc n) s here t)))
+        (makes_run (steps_are_run p (lone x) k (suc n) t) (steps_leave_one p (lone x) k (suc n) s here t) refl))
 
     by : (a : Action) → IsServedAction a → turn_by p quantum (lone x) a ≡ shows what d → MakesRun p c what d
     by (A.Local term vars) v g = back (many (step_count p quantum (lone x)) (local_steps p (step_count p quantum (lone x)) (lone x)) refl g)
-    by (A.Write item) v g = back (one (L.Write 0 item) (λ k t. let u = served_write p x item k i.2 t in (u.0, u.1, u.2)) (transition p (lone x) (L.Write 0 item)) refl g)
-    by (A.Fault e) v g = back (one (L.Fault 0 e) (λ k t. let u = served_fault p x e k i.2 t in (u.0, u.1, u.2)) (transition p (lone x) (L.Fault 0 e)) refl g)
+    by (A.Write (I.Value v)) w g =
+        back (one (L.Write 0 (I.Value v)) (λ times. refl) (λ k t. let u = served_write p x (I.Value v) k i.2 t in (u.0, u.1, u.2)) (transition p (lone x) (L.Write 0 (I.Value v))) refl g)
+    by (A.Write (I.Text w)) v g = absurd v
+    by (A.Fault e) v g = back (one (L.Fault 0 e) (λ times. refl) (λ k t. let u = served_fault p x e k i.2 t in (u.0, u.1, u.2)) (transition p (lone x) (L.Fault 0 e)) refl g)
     by A.Finished v g = absurd (cc)
     by A.Stuck v g = absurd (cc)
     by (A.New k) v g = absurd v
@@ -178,13 +182,20 @@ turn_makes p quantum c d what s i h = by (action p 0 i.0) (served_action p 0 i.0
     by (A.Return k w) v g = absurd v
     by (A.Waits b m) v g = absurd v
 
--- the labels of a record's lines lead to its last configuration
+-- what a turn shows concerns one object alone
+pub shows_own : (p q : ProgramTree) (quantum : ℕ) (c d : Configuration) (what : What) → q ≡ p → is_served p ≡ true → IsLone c → turn q quantum c ≡ shows what d → is_own what ≡ true
+shows_own p q quantum c d what same s i h = by (turn_makes p quantum c d what s i (subst (λ (z : ProgramTree). turn z quantum c ≡ shows what d) same h))
+  where
+    by : MakesRun p c what d → is_own what ≡ true
+    by (makes_run t j own) = own
+
+-- the labels of a record's events lead to its last configuration
 abbrev Leads : ProgramTree → Configuration → Record → Type 0
-Leads p c r = run p c (labels r.lines) ≡ Some r.last
+Leads p c r = run p c (labels r.events) ≡ Some r.last
 
 -- where it ends quiet, no label is possible there
 abbrev Rests : ProgramTree → Record → Type 0
-Rests p r = ends_quiet r.lines ≡ true → (l : Label) → transition p r.last l ≡ None
+Rests p r = is_quiet_end r.end ≡ true → (l : Label) → transition p r.last l ≡ None
 
 abbrev ShowsRun : ProgramTree → Configuration → Record → Type 0
 ShowsRun p c r = Leads p c r × Rests p r
@@ -200,8 +211,40 @@ rests_now p c n (x, is, small) h q l = subst (λ (z : Configuration). transition
         by false r = refl
     idle (Some d) g k = absurd (let z : Some d ≡ None = sym g ∙ k in cc)
 
+-- an object that is ready has a turn: the transition of what it does next, or that the frames are full
+never_nothing : (p : ProgramTree) (quantum : ℕ) (c : Configuration) → is_served p ≡ true → IsLone c → is_quiet p c ≡ false → turn p quantum c ≡ nothing → ⊥
+never_nothing p quantum c s i h g = by i.0.fault refl (action p 0 i.0) refl (served_action p 0 i.0 s i.2) (subst (λ (z : Configuration). turn p quantum z ≡ nothing) i.1 g)
+  where
+    busy : is_quiet p (lone i.0) ≡ false
+    busy = subst (λ (z : Configuration). is_quiet p z ≡ false) i.1 h
+
+    one : (l : Label) (o : Option Configuration) → (o ≡ None → ⊥) → one_step l o ≡ nothing → ⊥
+    one l None some e = some refl
+    one l (Some d) some e = cc
+
+    many : (n : ℕ) (o : Option Configuration) → (n ≢ 0 → is_some o ≡ true) → many_steps n o ≡ nothing → ⊥
+    many zero o some e = cc
+    many (suc n) None some e = let z : false ≡ true = some (λ (k : suc n ≡ 0). omega arith) in cc
+    many (suc n) (Some d) some e = cc
+
+    by : (f : Option Error) → i.0.fault ≡ f → (a : Action) → action p 0 i.0 ≡ a → IsServedAction a → turn_by p quantum (lone i.0) a ≡ nothing → ⊥
+    by (Some e) f a t v k = let z : true ≡ false = rw f at busy in cc
+    by None f (A.Local term vars) t v k =
+        many (step_count p quantum (lone i.0)) (local_steps p (step_count p quantum (lone i.0)) (lone i.0)) (greatest_holds (λ n. is_some (local_steps p n (lone i.0))) quantum) k
+    by None f (A.Write item) t v k = one (L.Write 0 item) (transition p (lone i.0) (L.Write 0 item)) (written p i.0 item f t) k
+    by None f (A.Fault e) t v k = one (L.Fault 0 e) (transition p (lone i.0) (L.Fault 0 e)) (met p i.0 e f t) k
+    by None f A.Finished t v k = let z : true ≡ false = rw (f, t) at busy in cc
+    by None f A.Stuck t v k = let z : true ≡ false = rw (f, t) at busy in cc
+    by None f (A.New k) t v g = absurd v
+    by None f (A.Send b m args) t v g = absurd v
+    by None f (A.Async b m args) t v g = absurd v
+    by None f (A.Answer names) t v g = absurd v
+    by None f (A.Select choices) t v g = absurd v
+    by None f (A.Return k w) t v g = absurd v
+    by None f (A.Waits b m) t v g = absurd v
+
 -- a record that ends at once
-at_once : (p : ProgramTree) (c : Configuration) (e : End) → (is_quiet_end (R.End e) ≡ false) → ShowsRun p c (ends e c)
+at_once : (p : ProgramTree) (c : Configuration) (e : End) → (is_quiet_end e ≡ false) → ShowsRun p c (ends e c)
 at_once p c (F.Quiet n) h = absurd (cc)
 at_once p c (F.Schedule n) h = (refl, λ q l. absurd (let z : false ≡ true = q in cc))
 at_once p c (F.Full kind node n) h = (refl, λ q l. absurd (let z : false ≡ true = q in cc))
@@ -215,14 +258,14 @@ shows_run p quantum c n [] s i = by (is_quiet p c) refl
 shows_run p quantum c n (e ∷ es) s i = by (is_quiet p c) refl (turn p quantum c) refl (λ d j. shows_run p quantum d (n + 1) es s j)
   where
     more : (what : What) (d : Configuration) → MakesRun p c what d → ((d : Configuration) → IsLone d → ShowsRun p d (record_from p quantum d (n + 1) es))
-        → ShowsRun p c (with_line (R.Event (n + 1) e what) (record_from p quantum d (n + 1) es))
-    more what d (makes_run t j) rest =
-        (joined p c d (labels_of (R.Event (n + 1) e what)) (labels (record_from p quantum d (n + 1) es).lines) (t (n + 1) e) ∙ (rest d j).0, (rest d j).1)
+        → ShowsRun p c (with_event (record { number = n + 1; event = e; what = what }) (record_from p quantum d (n + 1) es))
+    more what d (makes_run t j own) rest =
+        (joined p c d (labels_of what) (labels (record_from p quantum d (n + 1) es).events) t ∙ (rest d j).0, (rest d j).1)
 
     by : (q : Bool) → is_quiet p c ≡ q → (t : Turn) → turn p quantum c ≡ t → ((d : Configuration) → IsLone d → ShowsRun p d (record_from p quantum d (n + 1) es))
         → ShowsRun p c (record_from p quantum c n (e ∷ es))
     by true h t g rest = subst (ShowsRun p c) (sym (quiet_now p quantum c n (e ∷ es) h)) (refl, rests_now p c n i h)
-    by false h nothing g rest = subst (ShowsRun p c) (sym (turn_now p quantum c n e es nothing h g)) (refl, λ q l. absurd (let z : false ≡ true = q in cc))
+    by false h nothing g rest = absurd (never_nothing p quantum c s i h g)
     by false h full g rest = subst (ShowsRun p c) (sym (turn_now p quantum c n e es full h g)) (at_once p c (F.Full K.Frames 0 n) refl)
     by false h (shows what d) g rest = subst (ShowsRun p c) (sym (turn_now p quantum c n e es (shows what d) h g)) (more what d (turn_makes p quantum c d what s i g) rest)
 
@@ -251,22 +294,7 @@ is_run p quantum turns s none g = (lone begins.0, begins.1, record { leads = sho
         subst (ShowsRun p (lone begins.0)) (sym (ap (λ (o : Option Configuration). record_at p quantum o (replicate turns (E.Turn 0))) begins.1))
         (shows_run p quantum (lone begins.0) 0 (replicate turns (E.Turn 0)) s (begins.0, refl, begins.2))
 
-    right : (before behind : List Label) (d : Configuration) (o : ℕ) (x : Object) → labels (record_of p quantum turns).lines ≡ before ++ behind
+    right : (before behind : List Label) (d : Configuration) (o : ℕ) (x : Object) → labels (record_of p quantum turns).events ≡ before ++ behind
         → run p (lone begins.0) before ≡ Some d → object_of d o ≡ Some x → ¬ (GoesWrong p d o (action p o x))
     right before behind d o x is r e =
         not_wrong p none written d o x (run_kept p (lone begins.0) d before none written (start_typed p none written 0 (lone begins.0) begins.1) r) e
-
-pub record_of_inputs : (told : Told) (names : FileNames) (p : ProgramTree) (turns : Turns) (text : List ℕ) (status : Status) → IsGrammatical p → Accepts told names p turns
-    → text ≡ record_text (record_of p turns.quantum turns.turns).lines → status ≡ status_of (record_of p turns.quantum turns.turns).lines → IsRecordOf told names text status
-record_of_inputs told names p turns text status g a w q =
-    let r = is_run p turns.quantum turns.turns a.0.2.2 a.0.2.1 g in
-    record {
-      program = p;
-      turns = turns;
-      accepted = a;
-      first = r.0;
-      starts = r.1;
-      written = w;
-      ended = q;
-      run = r.2;
-    }

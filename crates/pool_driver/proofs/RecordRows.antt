@@ -16,7 +16,7 @@ use Rattle.pool_syntax.specs.declared.tree.Named.{Named}
 use Rattle.pool_syntax.specs.declared.tree.Var.{Var}
 use Rattle.pool_syntax.specs.Terms.{Expression, Literal, Variable, Infix, Assign, Write, Statements, Done, Then, ProgramTree}
 use Rattle.pool_driver.specs.declared.status.Status.TheVariants as S
-use Rattle.pool_driver.specs.Records.{record_of, status_of}
+use Rattle.pool_driver.specs.Records.{lines, record_of, status_of}
 
 abbrev named : ℕ → Named
 named n = record { name = record { 0 = n }; pos = 0 }
@@ -42,24 +42,24 @@ turn number l times = R.Event number (E.Turn 0) (W.Step l times)
 abbrev write : ℕ → Label
 write n = L.Write 0 (I.Value (V.Int (pos n)))
 
-one_turn_of_three : (record_of sum 10 9).lines ≡ turn 1 (L.Local 0) 3 ∷ turn 2 (write 5) 1 ∷ R.End (F.Quiet 2) ∷ []
+one_turn_of_three : lines (record_of sum 10 9) ≡ turn 1 (L.Local 0) 3 ∷ turn 2 (write 5) 1 ∷ R.End (F.Quiet 2) ∷ []
 one_turn_of_three = refl
 
-three_turns_of_one : (record_of sum 1 9).lines ≡ turn 1 (L.Local 0) 1 ∷ turn 2 (L.Local 0) 1 ∷ turn 3 (L.Local 0) 1 ∷ turn 4 (write 5) 1 ∷ R.End (F.Quiet 4) ∷ []
+three_turns_of_one : lines (record_of sum 1 9) ≡ turn 1 (L.Local 0) 1 ∷ turn 2 (L.Local 0) 1 ∷ turn 3 (L.Local 0) 1 ∷ turn 4 (write 5) 1 ∷ R.End (F.Quiet 4) ∷ []
 three_turns_of_one = refl
 
-a_schedule_that_is_over : (record_of sum 1 2).lines ≡ turn 1 (L.Local 0) 1 ∷ turn 2 (L.Local 0) 1 ∷ R.End (F.Schedule 2) ∷ []
+a_schedule_that_is_over : lines (record_of sum 1 2) ≡ turn 1 (L.Local 0) 1 ∷ turn 2 (L.Local 0) 1 ∷ R.End (F.Schedule 2) ∷ []
 a_schedule_that_is_over = refl
 
 -- write 1 / 0
 abbrev by_zero : ProgramTree
 by_zero = only (Then (Write (Infix O.Div (int 1) (int 0) 0)) Done)
 
-a_language_error : (record_of by_zero 10 9).lines ≡ turn 1 (L.Fault 0 X.ZeroDivisor) 1 ∷ R.End (F.Quiet 1) ∷ []
+a_language_error : lines (record_of by_zero 10 9) ≡ turn 1 (L.Fault 0 X.ZeroDivisor) 1 ∷ R.End (F.Quiet 1) ∷ []
 a_language_error = refl
 
-its_status : status_of (record_of by_zero 10 9).lines ≡ S.DoneFaulted
+its_status : status_of (record_of by_zero 10 9) ≡ S.DoneFaulted
 its_status = refl
 
-an_empty_body : (record_of (only Done) 5 3).lines ≡ R.End (F.Quiet 0) ∷ []
+an_empty_body : lines (record_of (only Done) 5 3) ≡ R.End (F.Quiet 0) ∷ []
 an_empty_body = refl

@@ -52,6 +52,16 @@ pub greatest_last : (test : ℕ → Bool) (n : ℕ) → test n ≡ true → grea
 greatest_last test zero t = refl
 greatest_last test (suc n) t = rw t refl
 
+-- where it is not 0, the test holds for it
+pub greatest_holds : (test : ℕ → Bool) (n : ℕ) → greatest test n ≢ 0 → test (greatest test n) ≡ true
+greatest_holds test zero h = absurd (h refl)
+greatest_holds test (suc n) h = by (test (suc n)) refl h (greatest_holds test n)
+  where
+    by : (b : Bool) → test (suc n) ≡ b → (if b then suc n else greatest test n) ≢ 0 → (greatest test n ≢ 0 → test (greatest test n) ≡ true)
+        → test (if b then suc n else greatest test n) ≡ true
+    by true t h rest = t
+    by false t h rest = rest h
+
 -- local transitions that follow one another
 
 nowhere_past : (p : ProgramTree) (c : Configuration) (k j : ℕ) → local_steps p (suc k) c ≡ None → k < j → local_steps p j c ≡ None
@@ -162,6 +172,14 @@ same_item (I.Text s) = grind arith
 
 same_error : (e : Error) → (error_number e == error_number e) ≡ true
 same_error e = grind arith
+
+-- what an object writes, and the error that it meets, is a transition
+
+pub written : (p : ProgramTree) (x : Object) (item : Item) → x.fault ≡ None → action p 0 x ≡ A.Write item → transition p (lone x) (L.Write 0 item) ≡ None → ⊥
+written p x item f e n = let g : Some _ ≡ None = rw (f, e, same_item item) at n in cc
+
+pub met : (p : ProgramTree) (x : Object) (k : Error) → x.fault ≡ None → action p 0 x ≡ A.Fault k → transition p (lone x) (L.Fault 0 k) ≡ None → ⊥
+met p x k f e n = let g : Some _ ≡ None = rw (f, e, same_error k) at n in cc
 
 -- What a turn makes of a shown redex is the turn of the definition.
 

@@ -1,43 +1,135 @@
--- How the call for one request ends.
-use Rattle.std.specs.Prelude.{◌≡◌, ◌+◌, ℕ, Option, Some}
+-- How a call of `pool` ends: what came of its inputs, and what was written.
+use Rattle.std.specs.Prelude.{◌≡◌, ℕ, ◌+◌, ◌<◌, ◌≤◌, List, [], ◌∷◌, ◌++◌, length, take, Option, Some, None, option_map, Bool, true, false, IfSome}
+use Rattle.pool_outside.specs.Outside.{Rose}
 use Rattle.pool_syntax.specs.Tokens.{Text}
 use Rattle.pool_driver.specs.declared.status.Status.{Status}
 use Rattle.pool_driver.specs.declared.status.Status.TheVariants as S
 use Rattle.pool_driver.specs.declared.fault.Input.{Input}
 use Rattle.pool_driver.specs.declared.fault.Fault.{Fault}
+use Rattle.pool_driver.specs.declared.fault.Fault.TheVariants as F
 use Rattle.pool_driver.specs.Commands.{Request}
-use Rattle.pool_driver.specs.FaultText.{refusal_line, unread_line}
-use Rattle.pool_driver.specs.Outcomes.{Told, AcceptsBefore, IsFaultLine, IsOutputOf, IsRefused, Wrote, WroteFrontOf, number_of}
+use Rattle.pool_driver.specs.FaultText.{refusal_line, unread_line, usage_line}
+use Rattle.pool_driver.specs.Inputs.{Told, inputs, limit_of, IsReadAs, IsAccepted, HasFault, WereAccepted}
+use Rattle.pool_driver.specs.Outputs.{IsOutput}
 
--- what a call was given and did: the texts that are told, the bytes given since the last open, the counts of opens before and after,
--- whether a read failed, and for the output and the error sink what was written before and after, and whether a write failed
-pub record Call : Type 1 where
+-- the exit status of each
+abbrev pub code_of : Status → ℕ
+code_of S.Done = 0
+code_of S.DoneFaulted = 1
+code_of S.Refused = 2
+code_of S.ScheduleOver = 3
+code_of S.Full = 4
+code_of S.ReadFault = 5
+code_of S.WriteFault = 6
+code_of S.Memory = 7
+code_of S.Usage = 64
+
+-- What a call did with the files: the texts that are told; the number of opens before and after it; the bytes given since the last open, and whether its text
+-- goes on; the number of faults before and after it.
+pub record Reading : Type 0 where
   pub told : Told
-  pub given : ℕ
   pub opens : ℕ
   pub opened : ℕ
-  pub read_failed : Type 0
-  pub out_old : Option Text
-  pub out_new : Option Text
-  pub out_failed : Type 0
-  pub err_old : Option Text
-  pub err_new : Option Text
-  pub err_failed : Type 0
+  pub given : ℕ
+  pub live : Bool
+  pub faults : ℕ
+  pub failed : ℕ
 
--- nothing was written on the output, or on the error sink
-abbrev pub IsOutSame : Call → Type 0
-IsOutSame k = k.out_new ≡ k.out_old
+-- what a call did with a sink: the bytes that it holds before and after, where they are known, and the number of faults before and after
+pub record Writing : Type 0 where
+  pub before : Option Text
+  pub after : Option Text
+  pub faults : ℕ
+  pub failed : ℕ
 
-abbrev pub IsErrSame : Call → Type 0
-IsErrSame k = k.err_new ≡ k.err_old
+-- no read failed, and no write did
+abbrev pub AllRead : Reading → Type 0
+AllRead k = k.failed ≡ k.faults
 
-pub data Ends (k : Call) (r : Request) (status : Status) : Type 0 where
-  whole : (text : Text) → IsOutputOf k.told r text status → Wrote k.out_old k.out_new text → IsErrSame k → Ends k r status
-  cut : (planned : Status) (text : Text) → IsOutputOf k.told r text planned → status ≡ S.WriteFault → k.out_failed → WroteFrontOf k.out_old k.out_new text → IsErrSame k → Ends k r status
-  refused : (input : Input) (fault : Fault) → status ≡ S.Refused → IsRefused k.told r k.given input fault → k.opened ≡ k.opens + number_of input
-      → Wrote k.err_old k.err_new (refusal_line input fault) → IsOutSame k → Ends k r status
-  unread : (input : Input) → status ≡ S.ReadFault → AcceptsBefore k.told r input → k.read_failed → k.opened ≡ k.opens + number_of input
-      → Wrote k.err_old k.err_new (unread_line input) → IsOutSame k → Ends k r status
-  line_cut : (line : Text) → status ≡ S.WriteFault → IsFaultLine (Some r) k.told k.given k.opens k.opened k.read_failed line → k.err_failed
-      → WroteFrontOf k.err_old k.err_new line → IsOutSame k → Ends k r status
-  memory : status ≡ S.Memory → IsOutSame k → IsErrSame k → Ends k r status
+abbrev pub AllWrote : Writing → Type 0
+AllWrote k = k.failed ≡ k.faults
+
+-- what was read last was read to its end, and is this text
+abbrev pub WasRead : Reading → Input → Text → Text → Type 0
+WasRead k input name s = IsReadAs k.told input name s × (length s ≡ k.given) × (k.live ≡ false)
+
+-- The input stops the call for this fault: more bytes than its limit were given, and its text goes on; or it was read whole, and its text has the fault
+-- and is not accepted.
+pub data Stops (k : Reading) (input : Input) (name : Text) (Accepted : Text → Type 0) (Faulty : Text → Fault → Type 0) (fault : Fault) : Type 0 where
+  too_long : fault ≡ F.TooLong → limit_of input < k.given → k.live ≡ true → IfSome (k.told name) (λ s. k.given ≤ length s) → Stops k input name Accepted Faulty fault
+  faulty : (s : Text) → WasRead k input name s → Faulty s fault → (Accepted s → ⊥) → Stops k input name Accepted Faulty fault
+
+-- The inputs of the request up to this one were opened, each once and in their order; those before it were read, and are accepted.
+pub record Reaches (k : Reading) (r : Request) (input : Input) (name : Text) : Type 0 where
+  pub before : List (Input × Text)
+  pub behind : List (Input × Text)
+  pub texts : List Text
+  pub place : inputs r ≡ before ++ (input, name) ∷ behind
+  pub accepted : WereAccepted k.told r before texts
+  pub opened : k.opened ≡ k.opens + (length before + 1)
+
+-- the first input that is not accepted has this fault, and no read failed
+pub record IsRefused (k : Reading) (r : Request) (input : Input) (fault : Fault) : Type 0 where
+  pub name : Text
+  pub reached : Reaches k r input name
+  pub why : Stops k input name (IsAccepted r input) (HasFault r input) fault
+  pub calm : AllRead k
+
+-- a read of this input failed, and no more than its limit was given
+pub record IsUnread (k : Reading) (r : Request) (input : Input) : Type 0 where
+  pub name : Text
+  pub reached : Reaches k r input name
+  pub rose : Rose k.faults k.failed
+  pub within : k.given ≤ limit_of input
+
+-- the length of the last text
+abbrev pub last_length : List Text → ℕ
+last_length [] = 0
+last_length (s ∷ []) = length s
+last_length (s ∷ t ∷ ts) = last_length (t ∷ ts)
+
+-- All inputs of the request were opened, each once and in their order, and read to their ends; no read failed, each is accepted, and this is what is asked for.
+pub record IsMade (k : Reading) (r : Request) (text : Text) (status : Status) : Type 0 where
+  pub texts : List Text
+  pub accepted : WereAccepted k.told r (inputs r) texts
+  pub opened : k.opened ≡ k.opens + length (inputs r)
+  pub given : last_length texts ≡ k.given
+  pub ended : k.live ≡ false
+  pub calm : AllRead k
+  pub output : IsOutput r texts text status
+
+-- the words are no command, and nothing was opened
+pub record IsNoCommand (k : Reading) (words : Option Request) : Type 0 where
+  pub none : words ≡ None
+  pub opened : k.opened ≡ k.opens
+  pub calm : AllRead k
+
+-- A line for the error sink, and the status with which it is written.
+pub data Says (k : Reading) (words : Option Request) (line : Text) (status : Status) : Type 0 where
+  usage : IsNoCommand k words → line ≡ usage_line → status ≡ S.Usage → Says k words line status
+  refusal : (r : Request) (input : Input) (fault : Fault) → words ≡ Some r → IsRefused k r input fault → line ≡ refusal_line input fault → status ≡ S.Refused → Says k words line status
+  unread : (r : Request) (input : Input) → words ≡ Some r → IsUnread k r input → line ≡ unread_line input → status ≡ S.ReadFault → Says k words line status
+
+-- nothing was written, and no write failed
+abbrev pub IsIdle : Writing → Type 0
+IsIdle k = (k.after ≡ k.before) × AllWrote k
+
+-- the text was written whole behind what was there, and no write failed
+abbrev pub Wrote : Writing → Text → Type 0
+Wrote k s = (k.after ≡ option_map (λ w. w ++ s) k.before) × AllWrote k
+
+-- a front of the text was written, and then a write failed
+pub record WroteFront (k : Writing) (s : Text) : Type 0 where
+  pub count : ℕ
+  pub within : count ≤ length s
+  pub front : k.after ≡ option_map (λ w. w ++ take count s) k.before
+  pub rose : Rose k.faults k.failed
+
+-- How a call ends. What is asked for was written whole on the output; or a line on the error sink, and nothing on the output; or one of the two was cut off by a
+-- failed write; or memory ran out before anything was written.
+pub data Ends (words : Option Request) (files : Reading) (out err : Writing) (status : Status) : Type 0 where
+  whole : (r : Request) (text : Text) → words ≡ Some r → IsMade files r text status → Wrote out text → IsIdle err → Ends words files out err status
+  said : (line : Text) → Says files words line status → Wrote err line → IsIdle out → Ends words files out err status
+  cut : (r : Request) (text : Text) (planned : Status) → words ≡ Some r → IsMade files r text planned → WroteFront out text → IsIdle err → status ≡ S.WriteFault → Ends words files out err status
+  line_cut : (line : Text) (planned : Status) → Says files words line planned → WroteFront err line → IsIdle out → status ≡ S.WriteFault → Ends words files out err status
+  no_memory : (r : Request) → words ≡ Some r → IsIdle out → IsIdle err → status ≡ S.Memory → Ends words files out err status

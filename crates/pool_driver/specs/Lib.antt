@@ -9,7 +9,8 @@ pub mod Turn
 pub mod Records
 pub mod RecordText
 pub mod FaultText
-pub mod Outcomes
-pub mod Stops
+pub mod Inputs
+pub mod Outputs
 pub mod Ends
+pub mod Readers
 pub mod Asked

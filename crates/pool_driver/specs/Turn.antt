@@ -60,12 +60,20 @@ many_steps zero d = full
 many_steps (suc k) None = nothing
 many_steps (suc k) (Some d) = shows (W.Step (L.Local 0) (suc k)) d
 
--- the turn of an object that does this next
+-- The turn of an object that does this next, where nothing is shown but what concerns it alone: local transitions, what it writes, and a language error.
 abbrev pub turn_by : ProgramTree → ℕ → Configuration → Action → Turn
 turn_by p quantum c (A.Local term vars) = many_steps (step_count p quantum c) (local_steps p (step_count p quantum c) c)
 turn_by p quantum c (A.Write item) = one_step (L.Write 0 item) (transition p c (L.Write 0 item))
 turn_by p quantum c (A.Fault e) = one_step (L.Fault 0 e) (transition p c (L.Fault 0 e))
-turn_by p quantum c _ = nothing
+turn_by p quantum c A.Finished = nothing
+turn_by p quantum c (A.New k) = nothing
+turn_by p quantum c (A.Send b m args) = nothing
+turn_by p quantum c (A.Async b m args) = nothing
+turn_by p quantum c (A.Answer names) = nothing
+turn_by p quantum c (A.Select choices) = nothing
+turn_by p quantum c (A.Return k v) = nothing
+turn_by p quantum c (A.Waits b m) = nothing
+turn_by p quantum c A.Stuck = nothing
 
 abbrev pub turn_of : ProgramTree → ℕ → Configuration → Option Object → Turn
 turn_of p quantum c None = nothing

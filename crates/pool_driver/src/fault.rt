@@ -8,8 +8,8 @@ use pool_parser::SyntaxFault;
 use pool_syntax::LexFault;
 use std::alloc::{AllocError, Global};
 
-/// The inputs, in the order in which they are read.
-#[derive(Clone, Copy, Debug, PartialEq, Eq)]
+/// The inputs of commands.
+#[derive(Clone, Copy)]
 pub enum Input {
     Program,
     Placement,
@@ -17,7 +17,7 @@ pub enum Input {
 }
 
 /// Why an input was refused.
-#[derive(Clone, Copy, Debug, PartialEq, Eq)]
+#[derive(Clone, Copy)]
 pub enum Fault {
     /// It has more than 1,048,576 bytes.
     TooLong,
@@ -29,6 +29,17 @@ pub enum Fault {
     Syntax(SyntaxFault),
     /// The least class fault of a program.
     Class(ClassFault),
+}
+
+/// Why nothing is made of the inputs.
+#[derive(Clone, Copy)]
+pub enum Stop {
+    /// The input was refused.
+    Refused { input: Input, fault: Fault },
+    /// A read of the input failed.
+    Unread { input: Input },
+    /// Out of memory.
+    Memory,
 }
 
 fn push_place(text: &mut Vec<u8>, words: &[u8], place: u32) -> Result<(), AllocError>

@@ -1,29 +1,23 @@
 //! Reads a program and judges it: its tokens, its grammar, its classes, its form.
-ghost use Rattle.std.specs.Prelude.{◌≡◌, ◌≢◌, ◌≤◌, List, length, true, [], IfOk, MatchResult, IsOk, Err};
+ghost use Rattle.std.specs.Prelude.{◌≡◌, ◌≢◌, ◌≤◌, List, length, true, [], IfOk, MatchResult, IsOk, IsErr, Err};
 ghost use Rattle.pool_syntax.specs.Terms.{ProgramTree};
 ghost use Rattle.pool_syntax.specs.Tokens.{Text};
 ghost use Rattle.pool_syntax.specs.TreeOf.{program_of};
 ghost use Rattle.pool_syntax.specs.Spelled.{IsGrammatical, is_spelled};
 ghost use Rattle.pool_syntax.specs.Typing.{faults};
 ghost use Rattle.pool_driver.specs.Served.{is_served};
-ghost use Rattle.pool_driver.specs.Stops.{refusal_of_grammar, refusal_of_tokens};
+ghost use Rattle.pool_driver.specs.Readers.{stop_of_grammar, stop_of_tokens};
 ghost use Rattle.pool_driver.specs.Programs.{IsFaultOfClasses, IsFaultOfProgram, IsFaultOfText, IsParsed};
 ghost use Rattle.pool_driver.specs.declared.fault.Fault.{Fault as AnyFault};
+ghost use Rattle.pool_driver.specs.declared.fault.Input.{Input as AnyInput};
 
-use crate::fault::Fault;
+use crate::fault::{Fault, Input, Stop};
 use crate::form::serves;
 use class_check::{Checked, ClassFault, check};
 use pool_lexer::tokens;
 use pool_parser::{SyntaxFault, parse};
 use pool_syntax::{LexFault, Names, Program};
 use std::alloc::Global;
-
-/// Why a program is not run.
-#[derive(Clone, Copy, Debug, PartialEq, Eq)]
-pub enum Refusal {
-    Because(Fault),
-    Memory,
-}
 
 /// A program, and the texts of its names and strings.
 #[derive(Drop)]
@@ -32,81 +26,94 @@ pub struct Parsed {
     pub names: Names,
 }
 
-/// Why a text without tokens is not run.
-fn lex_refusal(fault: LexFault) -> Refusal
-    ensures { result ≡ refusal_of_tokens fault }
+/// A program that is refused.
+fn refuse(fault: Fault) -> Stop
+    ensures { result ≡ Stop.Refused Input.Program fault }
 {
-    match fault {
-        LexFault::Memory => Refusal::Memory,
-        _ => Refusal::Because(Fault::Lex(fault)),
+    Stop::Refused {
+        input: Input::Program,
+        fault,
     }
 }
 
-/// Why a text without a program is not run.
-fn syntax_refusal(fault: SyntaxFault) -> Refusal
-    ensures { result ≡ refusal_of_grammar fault }
+/// Why a text has no tokens.
+fn lex_stop(fault: LexFault) -> Stop
+    ensures { result ≡ stop_of_tokens fault }
 {
     match fault {
-        SyntaxFault::Memory => Refusal::Memory,
-        _ => Refusal::Because(Fault::Syntax(fault)),
+        LexFault::Memory => Stop::Memory,
+        _ => refuse(Fault::Lex(fault)),
+    }
+}
+
+/// Why a text has no program.
+fn syntax_stop(fault: SyntaxFault) -> Stop
+    ensures { result ≡ stop_of_grammar fault }
+{
+    match fault {
+        SyntaxFault::Memory => Stop::Memory,
+        _ => refuse(Fault::Syntax(fault)),
     }
 }
 
 /// The program that the text has.
-pub fn read_program(alloc: Global, bytes: &[u8]) -> Result<Parsed, Refusal>
+pub fn read_program(alloc: Global, bytes: &[u8]) -> Result<Parsed, Stop>
     requires { length bytes.now ≤ 1048576 }
     ensures ok { IfOk result (λ p. IsParsed bytes.now p.names (program_of p.program)) }
     ensures grammatical { IfOk result (λ p. IsGrammatical (program_of p.program)) }
     ensures spelled { IfOk result (λ p. is_spelled p.names (program_of p.program) ≡ true) }
-    ensures refused { (f : AnyFault) → result ≡ Err (Refusal.Because f) → IsFaultOfText bytes.now f }
+    ensures refused { (i : AnyInput) (f : AnyFault) → result ≡ Err (Stop.Refused i f) → (i ≡ Input.Program) × IsFaultOfText bytes.now f }
+    ensures no_read { (i : AnyInput) → result ≢ Err (Stop.Unread i) }
     ensures only { (names : List Text) (p : ProgramTree) → IsParsed bytes.now names p
-        → MatchResult result (λ q. (q.names ≡ names) × (program_of q.program ≡ p)) (λ r. r ≡ Refusal.Memory) }
+        → MatchResult result (λ q. (q.names ≡ names) × (program_of q.program ≡ p)) (λ r. r ≡ Stop.Memory) }
 {
     let tokens = match tokens(alloc, bytes) {
         Ok(tokens) => tokens,
-        Err(fault) => return Err(lex_refusal(fault)),
+        Err(fault) => return Err(lex_stop(fault)),
     };
     match parse(alloc, &tokens) {
         Ok(program) => Ok(Parsed {
             program,
             names: tokens.names,
         }),
-        Err(fault) => Err(syntax_refusal(fault)),
+        Err(fault) => Err(syntax_stop(fault)),
     }
 }
 
 /// Judges the classes of a program that was read.
-pub fn judge_classes<'a>(alloc: Global, parsed: &'a Parsed) -> Result<Checked<'a>, Refusal>
+pub fn judge_classes<'a>(alloc: Global, parsed: &'a Parsed) -> Result<Checked<'a>, Stop>
     requires grammatical { IsGrammatical (program_of parsed.now.program) }
     requires spelled { is_spelled parsed.now.names (program_of parsed.now.program) ≡ true }
-    ensures same { IfOk result (λ c. c.program.now ≡ parsed.now.program) }
+    ensures same { IfOk result (λ c. (c.program.now ≡ parsed.now.program) × (c.names.now ≡ parsed.now.names)) }
     ensures typed { IsOk result → faults (program_of parsed.now.program) ≡ [] }
-    ensures only { faults (program_of parsed.now.program) ≡ [] → (f : AnyFault) → result ≢ Err (Refusal.Because f) }
-    ensures refused { (f : AnyFault) → result ≡ Err (Refusal.Because f) → IsFaultOfClasses (program_of parsed.now.program) f }
+    ensures only { faults (program_of parsed.now.program) ≡ [] → IsErr result → result ≡ Err Stop.Memory }
+    ensures refused { (i : AnyInput) (f : AnyFault) → result ≡ Err (Stop.Refused i f) → (i ≡ Input.Program) × IsFaultOfClasses (program_of parsed.now.program) f }
+    ensures no_read { (i : AnyInput) → result ≢ Err (Stop.Unread i) }
 {
     match check(alloc, &parsed.program, &parsed.names) {
         Ok(checked) => Ok(checked),
-        Err(ClassFault::Memory) => Err(Refusal::Memory),
-        Err(fault) => Err(Refusal::Because(Fault::Class(fault))),
+        Err(ClassFault::Memory) => Err(Stop::Memory),
+        Err(fault) => Err(refuse(Fault::Class(fault))),
     }
 }
 
 /// Judges a program that was read: its classes, and then its form.
-pub fn judge<'a>(alloc: Global, parsed: &'a Parsed) -> Result<Checked<'a>, Refusal>
+pub fn judge<'a>(alloc: Global, parsed: &'a Parsed) -> Result<Checked<'a>, Stop>
     requires grammatical { IsGrammatical (program_of parsed.now.program) }
     requires spelled { is_spelled parsed.now.names (program_of parsed.now.program) ≡ true }
-    ensures same { IfOk result (λ c. c.program.now ≡ parsed.now.program) }
+    ensures same { IfOk result (λ c. (c.program.now ≡ parsed.now.program) × (c.names.now ≡ parsed.now.names)) }
     ensures form { IfOk result (λ c. is_served (program_of c.program.now) ≡ true) }
-    ensures only { faults (program_of parsed.now.program) ≡ [] → is_served (program_of parsed.now.program) ≡ true → (f : AnyFault) → result ≢ Err (Refusal.Because f) }
-    ensures refused { (f : AnyFault) → result ≡ Err (Refusal.Because f) → IsFaultOfProgram (program_of parsed.now.program) f }
+    ensures only { faults (program_of parsed.now.program) ≡ [] → is_served (program_of parsed.now.program) ≡ true → IsErr result → result ≡ Err Stop.Memory }
+    ensures refused { (i : AnyInput) (f : AnyFault) → result ≡ Err (Stop.Refused i f) → (i ≡ Input.Program) × IsFaultOfProgram (program_of parsed.now.program) f }
+    ensures no_read { (i : AnyInput) → result ≢ Err (Stop.Unread i) }
 {
     let checked = match judge_classes(alloc, parsed) {
         Ok(checked) => checked,
-        Err(refusal) => return Err(refusal),
+        Err(stop) => return Err(stop),
     };
     if serves(&parsed.program) {
         Ok(checked)
     } else {
-        Err(Refusal::Because(Fault::NotYet))
+        Err(refuse(Fault::NotYet))
     }
 }

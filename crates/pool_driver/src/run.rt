@@ -1,10 +1,11 @@
 //! The run of a program of one object over turns of node 0, as its record's text.
-ghost use Rattle.std.specs.Prelude.{◌≡◌, ◌≢◌, ◌≤◌, ◌++◌, ◌||◌, Some, None, true, false, is_some, IfOk, OnOk};
+ghost use Rattle.std.specs.Prelude.{◌≡◌, ◌≢◌, ◌≤◌, ◌++◌, ◌||◌, List as TextList, Some, None, true, false, is_some, IfOk, OnOk};
+ghost use Rattle.pool_syntax.specs.Tokens.{Text};
 ghost use Rattle.pool_syntax.specs.TreeOf.{program_of};
 ghost use Rattle.pool_semantics.specs.PlainOf.{configuration_of, is_spent, program_tree};
 ghost use Rattle.pool_relation.specs.Transition.{transition};
 ghost use Rattle.pool_driver.specs.Asked.{IsLone, IsTurn, asked_by};
-ghost use Rattle.pool_driver.specs.Records.{ended, is_quiet, record_of, shows_fault, status_of};
+ghost use Rattle.pool_driver.specs.Records.{ended, is_quiet, lines, record_of, shows_fault, status_of};
 ghost use Rattle.pool_driver.specs.RecordText.{line_text, record_text};
 ghost use Rattle.pool_driver.specs.Served.{is_served};
 ghost use Rattle.pool_driver.specs.Turn.{local_step, local_steps, step_count};
@@ -17,8 +18,8 @@ use pool_semantics::{Plain, Redex, Refuse};
 use pool_syntax::{End, Event, FullKind, Label, Line, What};
 use std::alloc::{AllocError, Global};
 
-/// The most methods that are under way in one object: a node has at most 1024 frames, of which the object takes one.
-const MOST_METHODS: usize = 1023;
+/// The most frames of a node, of which an object takes one, and each method under way in it one.
+const MOST_FRAMES: usize = 1024;
 
 /// A record's text, and the status with which it is written.
 #[derive(Drop)]
@@ -81,7 +82,7 @@ fn can_step(plain: &Plain) -> bool
     ensures { result ≡ is_some (local_step (program_tree plain.now) (configuration_of plain.now)) }
 {
     match plain.next_frames(0) {
-        Some(methods) => methods <= MOST_METHODS,
+        Some(methods) => methods < MOST_FRAMES,
         None => false,
     }
 }
@@ -163,7 +164,7 @@ fn fault_so_far(faulted: bool, what: &What) -> bool
 
 /// The record with its last line.
 fn finish(mut text: Vec<u8>, faulted: bool, end: End) -> Result<Recorded, AllocError>
-    ensures text { IfOk result (λ r. r.text.items ≡ text.items ++ line_text (Line.End end)) }
+    ensures text { (names : TextList Text) → IfOk result (λ r. r.text.items ≡ text.items ++ line_text names (Line.End end)) }
     ensures status { IfOk result (λ r. r.status ≡ ended faulted end) }
 {
     push_line(&mut text, &Line::End(end))?;
@@ -180,8 +181,8 @@ fn finish(mut text: Vec<u8>, faulted: bool, end: End) -> Result<Recorded, AllocE
 pub fn record(alloc: Global, program: &Checked, schedule: Turns) -> Result<Recorded, AllocError>
     requires form { is_served (program_of program.now.program.now) ≡ true }
     requires few { schedule.turns ≤ 2000000 }
-    ensures text { IfOk result (λ r. r.text.items ≡ record_text (record_of (program_of program.now.program.now) schedule.quantum schedule.turns).lines) }
-    ensures status { IfOk result (λ r. r.status ≡ status_of (record_of (program_of program.now.program.now) schedule.quantum schedule.turns).lines) }
+    ensures text { IfOk result (λ r. r.text.items ≡ record_text program.now.names.now (lines (record_of (program_of program.now.program.now) schedule.quantum schedule.turns))) }
+    ensures status { IfOk result (λ r. r.status ≡ status_of (record_of (program_of program.now.program.now) schedule.quantum schedule.turns)) }
 {
     let mut plain = Plain::make(alloc, program, 0)?;
     let mut text = Vec::new(alloc);

@@ -9,6 +9,9 @@ use crate::kept::{Few, few_words, next_kept, number};
 /// The most turns of a schedule.
 const MOST_TURNS: u64 = 2000000;
 
+/// The greatest quantum.
+const MOST_QUANTUM: u64 = 10000;
+
 /// The turns of a line.
 fn turns_in(line: &[u8]) -> Option<u64>
     ensures { result ≡ turns_of (words line.now) }
@@ -31,7 +34,11 @@ fn quantum_in(line: &[u8]) -> Option<u64>
     ensures { result ≡ quantum_of (words line.now) }
 {
     match few_words(line) {
-        Few::Two(quantum, count) if quantum == b"quantum".as_slice() => number(1, 10000, count),
+        Few::Two(quantum, count) if quantum == b"quantum".as_slice() => number(
+            1,
+            MOST_QUANTUM,
+            count,
+        ),
         _ => None,
     }
 }
@@ -54,7 +61,7 @@ fn turns_from(bytes: &[u8], from: usize) -> Option<u64>
 }
 
 /// A quantum, and the number of turns of node 0.
-#[derive(Clone, Copy, Debug, PartialEq, Eq)]
+#[derive(Clone, Copy)]
 pub struct Turns {
     pub quantum: u32,
     pub turns: u32,

@@ -1,6 +1,6 @@
 //! How a call ends.
 ghost use Rattle.std.specs.Prelude.{◌≡◌};
-ghost use Rattle.pool_driver.specs.Outcomes.{code_of};
+ghost use Rattle.pool_driver.specs.Ends.{code_of};
 
 /// How a call of `pool` ends.
 #[derive(Clone, Copy, Debug, PartialEq, Eq)]

@@ -1,11 +1,15 @@
 //! The text of a record's lines.
-ghost use Rattle.std.specs.Prelude.{◌≡◌, ◌++◌, OnOk, decimal};
+ghost use Rattle.std.specs.Prelude.{◌≡◌, ◌++◌, List as TextList, OnOk, decimal, true};
 ghost use Rattle.std.specs.Fmt.{signed_decimal};
-ghost use Rattle.pool_driver.specs.RecordText.{end_text, error_text, event_text, full_text, item_text, line_text, object_text, space, value_text, what_text};
+ghost use Rattle.pool_syntax.specs.Tokens.{Text};
+ghost use Rattle.pool_driver.specs.RecordText.{end_text, error_text, event_text, full_text, is_own, is_own_line, line_text, object_text, space, value_text, what_text};
 
 use itoa::Buffer;
 use pool_syntax::{End, Error, Event, FullKind, Item, Label, Line, Value, What};
 use std::alloc::AllocError;
+
+/// The names of a node: the node times this number, and the slot.
+const NAMES_OF_NODE: u32 = 65536;
 
 fn push_number(text: &mut Vec<u8>, number: u32) -> Result<(), AllocError>
     ensures { OnOk result (text.new.items ≡ text.old.items ++ decimal number) }
@@ -26,9 +30,9 @@ fn push_integer(text: &mut Vec<u8>, number: i64) -> Result<(), AllocError>
 fn push_object(text: &mut Vec<u8>, object: u32) -> Result<(), AllocError>
     ensures { OnOk result (text.new.items ≡ text.old.items ++ object_text object) }
 {
-    push_number(text, object / 65536)?;
+    push_number(text, object / NAMES_OF_NODE)?;
     text.extend_from_slice(b".")?;
-    push_number(text, object % 65536)?;
+    push_number(text, object % NAMES_OF_NODE)?;
     Ok(())
 }
 
@@ -43,15 +47,6 @@ fn push_value(text: &mut Vec<u8>, value: Value) -> Result<(), AllocError>
         Value::Nil => text.extend_from_slice(b"nil")?,
     }
     Ok(())
-}
-
-fn push_item(text: &mut Vec<u8>, item: Item) -> Result<(), AllocError>
-    ensures { OnOk result (text.new.items ≡ text.old.items ++ item_text item) }
-{
-    match item {
-        Item::Value(value) => push_value(text, value),
-        Item::Text(_) => Ok(()),
-    }
 }
 
 fn push_error(text: &mut Vec<u8>, error: Error) -> Result<(), AllocError>
@@ -75,8 +70,10 @@ fn push_about(text: &mut Vec<u8>, words: &[u8], object: u32) -> Result<(), Alloc
     text.extend_from_slice(b" ")
 }
 
+/// Puts what a program of one object shows.
 fn push_what(text: &mut Vec<u8>, what: What) -> Result<(), AllocError>
-    ensures { OnOk result (text.new.items ≡ text.old.items ++ what_text what) }
+    requires own { is_own what ≡ true }
+    ensures { (names : TextList Text) → OnOk result (text.new.items ≡ text.old.items ++ what_text names what) }
 {
     match what {
         What::Step {
@@ -87,11 +84,14 @@ fn push_what(text: &mut Vec<u8>, what: What) -> Result<(), AllocError>
             push_number(text, times)
         }
         What::Step {
-            label: Label::Write { object, item },
+            label: Label::Write {
+                object,
+                item: Item::Value(value),
+            },
             ..
         } => {
             push_about(text, b"write ", object)?;
-            push_item(text, item)
+            push_value(text, value)
         }
         What::Step {
             label: Label::Fault { object, error },
@@ -100,7 +100,7 @@ fn push_what(text: &mut Vec<u8>, what: What) -> Result<(), AllocError>
             push_about(text, b"fault ", object)?;
             push_error(text, error)
         }
-        _ => Ok(()),
+        _ => unreachable!(),
     }
 }
 
@@ -153,9 +153,10 @@ fn push_end(text: &mut Vec<u8>, end: End) -> Result<(), AllocError>
     }
 }
 
-/// Puts the line's text, with its line feed, behind a text.
+/// Puts the line's text, with its line feed, behind a text. A line of a program of one object has no name in it.
 pub fn push_line(text: &mut Vec<u8>, line: &Line) -> Result<(), AllocError>
-    ensures { OnOk result (text.new.items ≡ text.old.items ++ line_text line.now) }
+    requires own { is_own_line line.now ≡ true }
+    ensures { (names : TextList Text) → OnOk result (text.new.items ≡ text.old.items ++ line_text names line.now) }
 {
     match line {
         Line::Event {

@@ -1,29 +1,25 @@
-use Rattle.std.proofs.Common.{◌≡◌, ◌∙◌, Some, sym, subst}
-use Rattle.pool_driver.specs.Outcomes.{IsServable}
-use Rattle.pool_driver.specs.Commands.{Request, request, request_of, texts_of}
-use Rattle.pool_driver.proofs.EndLaws as laws
+use Rattle.std.proofs.Common.{sym, refl}
+use Rattle.pool_driver.specs.Commands.{request}
+use Rattle.pool_driver.proofs.EndLaws.{stop_completes, stop_ends, text_completes, text_ends, usage_ends}
 use Rattle.pool_driver.proofs.top.pool.Goals as goal
 
-pub returns-in-Some-clause-usage : goal.returns-in-Some-clause-usage
-returns-in-Some-clause-usage g c e = absurd (laws.not_usage _ (request_of (texts_of c.args.words.now)) (request c.in-Some.command) (sym c.in-Some.ensures) c.perform.result c.perform.ensures.ends e)
+pub returns-in-Ok-clause-ends : goal.returns-in-Ok-clause-ends
+returns-in-Ok-clause-ends g c =
+    text_ends _ _ _ _ (request c.in-Some.command) c.in-Ok.made c.write_output.result (sym c.in-Some.ensures) c.in-Ok.ensures.makes c.write_output.ensures (refl, refl)
 
-pub returns-in-Some-clause-refused : goal.returns-in-Some-clause-refused
-returns-in-Some-clause-refused g c e = laws.was_refused _ (request_of (texts_of c.args.words.now)) (request c.in-Some.command) (sym c.in-Some.ensures) c.perform.result c.perform.ensures.ends e
+pub returns-in-Ok-clause-complete : goal.returns-in-Ok-clause-complete
+returns-in-Ok-clause-complete g c r words served read out err =
+    text_completes _ _ _ (g.E.Sink.written c.args.err.now) (g.E.Sink.faults c.args.err.now) (request c.in-Some.command) c.in-Ok.made c.write_output.result (sym c.in-Some.ensures) c.in-Ok.ensures.makes
+    c.write_output.ensures r words served read out err
 
-pub returns-in-Some-clause-read_fault : goal.returns-in-Some-clause-read_fault
-returns-in-Some-clause-read_fault g c e = laws.was_unread _ (request_of (texts_of c.args.words.now)) (request c.in-Some.command) (sym c.in-Some.ensures) c.perform.result c.perform.ensures.ends e
+pub returns-in-Err-clause-ends : goal.returns-in-Err-clause-ends
+returns-in-Err-clause-ends g c =
+    stop_ends _ _ _ _ (request c.in-Some.command) c.in-Err.stop c.say_stop.result (sym c.in-Some.ensures) c.in-Err.ensures.makes c.say_stop.ensures (refl, refl)
 
-pub returns-in-Some-clause-write_fault : goal.returns-in-Some-clause-write_fault
-returns-in-Some-clause-write_fault g c e = laws.was_cut _ (request_of (texts_of c.args.words.now)) (request c.in-Some.command) (sym c.in-Some.ensures) c.perform.result c.perform.ensures.ends e
+pub returns-in-Err-clause-complete : goal.returns-in-Err-clause-complete
+returns-in-Err-clause-complete g c r words served read out err =
+    stop_completes _ _ _ (g.K.Sink.written c.args.out.now) (g.K.Sink.faults c.args.out.now) (request c.in-Some.command) c.in-Err.stop c.say_stop.result (sym c.in-Some.ensures) c.in-Err.ensures.makes
+    c.say_stop.ensures r words served read out err
 
-pub returns-in-Some-clause-memory : goal.returns-in-Some-clause-memory
-returns-in-Some-clause-memory g c e = laws.was_out_of_memory _ (request_of (texts_of c.args.words.now)) (request c.in-Some.command) (sym c.in-Some.ensures) c.perform.result c.perform.ensures.ends e
-
-pub returns-in-Some-clause-written : goal.returns-in-Some-clause-written
-returns-in-Some-clause-written g c e = laws.was_written _ (request_of (texts_of c.args.words.now)) (request c.in-Some.command) (sym c.in-Some.ensures) c.perform.result c.perform.ensures.ends e
-
-pub returns-in-Some-clause-complete : goal.returns-in-Some-clause-complete
-returns-in-Some-clause-complete g c r words served read out err =
-    let z : Some (request c.in-Some.command) ≡ Some r = c.in-Some.ensures ∙ words in
-    let same : r ≡ request c.in-Some.command = cc in
-    c.perform.ensures.complete (subst (λ (q : Request). IsServable (g.F.Files.told c.args.files.now) q) same served) read out
+pub returns-in-None-clause-ends : goal.returns-in-None-clause-ends
+returns-in-None-clause-ends g c = usage_ends _ _ _ _ c.say.result (sym c.in-None.ensures) refl refl c.say.ensures (refl, refl)

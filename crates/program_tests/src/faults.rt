@@ -1,12 +1,11 @@
 //! What is told of a program: its first fault, by `record` and by `print`; `NotYet` where it has none and is not of the form that is run, by `record` alone.
-use crate::Status;
+use crate::calls::{Outcome, calm, printed};
 use crate::fault_rows::{
     ABSENCES, CALLS, DECLARATIONS, HELD, LANGUAGE, LIMITS, NESTING, OPERATORS, PHRASES, PLACES,
     SORTS, TOKENS,
 };
 use crate::front_rows::FRONTS;
-use crate::print_tests::printed;
-use crate::tests::{Outcome, calm};
+use pool_driver::Status;
 use pool_lexer::tokens;
 use pool_parser::{SyntaxFault, parse};
 use std::alloc::{AllocError, Global};

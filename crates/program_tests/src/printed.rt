@@ -1,42 +1,26 @@
 //! The canonical texts that are printed.
-use crate::fault_tests::{bytes_of, is_told};
-use crate::pool;
+use crate::faults::{bytes_of, is_told};
 use crate::print_rows::{EXPRESSIONS, PROGRAMS, STATEMENTS, TOO_DEEP};
-use crate::program::read_program;
-use crate::tests::{Outcome, named};
-use pool_outside::{MemFiles, MemSink};
+use pool_lexer::tokens;
+use pool_outside::MemSink;
+use pool_parser::parse;
 use pool_printer::print;
 use std::alloc::{AllocError, Global};
 use std::test::Fail;
-
-/// `print P` over this text.
-pub fn printed(alloc: Global, program: &[u8]) -> Result<Outcome, AllocError> {
-    let words = vec![in alloc;
-        String::from_str(alloc, "print")?,
-        String::from_str(alloc, "P")?,
-    ]?;
-    let texts = vec![in alloc; named(alloc, "P", program)?]?;
-    let mut files = MemFiles::make(texts, Vec::new(alloc));
-    let mut out = MemSink::make(alloc, 65536, 1000, Vec::new(alloc))?;
-    let mut err = MemSink::make(alloc, 200, 10, Vec::new(alloc))?;
-    let status = pool(alloc, &words, &mut files, &mut out, &mut err);
-    Ok(Outcome {
-        status,
-        out: out.written().to_vec(alloc)?,
-        err: err.written().to_vec(alloc)?,
-    })
-}
 
 /// The canonical text of the text's program, if it has one. Whether the classes fit is not asked.
 fn canonical(alloc: Global, text: &[u8]) -> Result<Option<Vec<u8>>, AllocError> {
     if text.len() > 1048576 {
         return Ok(None);
     }
-    let Ok(parsed) = read_program(alloc, text) else {
+    let Ok(tokens) = tokens(alloc, text) else {
+        return Ok(None);
+    };
+    let Ok(program) = parse(alloc, &tokens) else {
         return Ok(None);
     };
     let mut out = MemSink::make(alloc, 4096, 10, Vec::new(alloc))?;
-    match print(&parsed.program, &parsed.names, &mut out) {
+    match print(&program, &tokens.names, &mut out) {
         Ok(()) => Ok(Some(out.written().to_vec(alloc)?)),
         Err(_) => Ok(None),
     }

@@ -1,7 +1,8 @@
 //! The plain stepper over rows of labels.
-use crate::plain_rows::{ALONE, CALLS, CREATION, FAULTS, MESSAGES, SELECTS};
-use crate::program::read_program;
+use crate::rows::{ALONE, CALLS, CREATION, FAULTS, MESSAGES, SELECTS};
 use class_check::check;
+use pool_lexer::tokens;
+use pool_parser::parse;
 use pool_semantics::{Plain, Redex, Refuse};
 use pool_syntax::{Args, Error, Item, Label, NameId, Names, Value};
 use std::alloc::{AllocError, Global};
@@ -280,14 +281,17 @@ fn first_wrong(alloc: Global, run: &'static str) -> Result<Option<&'static str>,
     if text.len() > 10000 {
         return Ok(Some(run));
     }
-    let Ok(parsed) = read_program(alloc, text.as_bytes()) else {
+    let Ok(tokens) = tokens(alloc, text.as_bytes()) else {
         return Ok(Some(run));
     };
-    let Ok(checked) = check(alloc, &parsed.program, &parsed.names) else {
+    let Ok(program) = parse(alloc, &tokens) else {
+        return Ok(Some(run));
+    };
+    let Ok(checked) = check(alloc, &program, &tokens.names) else {
         return Ok(Some(run));
     };
     let mut plain = Plain::make(alloc, &checked, root)?;
-    first_wrong_step(alloc, &mut plain, &parsed.names, steps)
+    first_wrong_step(alloc, &mut plain, &tokens.names, steps)
 }
 
 /// The first wrong step of these runs.

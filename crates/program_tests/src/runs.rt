@@ -1,21 +1,12 @@
 //! The records of programs that run.
+use crate::calls::{as_row, calm};
 use crate::run_rows::RUNS;
-use crate::tests::calm;
 use std::alloc::{AllocError, Global};
 use std::test::Fail;
 
 /// The schedule of a quantum and a number of turns.
 fn schedule(alloc: Global, quantum: &str, turns: &str) -> Result<String, AllocError> {
     format!(in alloc; "quantum {quantum}\nturn 0 {turns}\n")
-}
-
-/// A record as a row has it.
-fn as_row(alloc: Global, record: &[u8]) -> Result<Vec<u8>, AllocError> {
-    let mut row = Vec::new(alloc);
-    for byte in record {
-        row.push(if *byte == b'\n' { b';' } else { *byte })?;
-    }
-    Ok(row)
 }
 
 /// Whether a row's program makes the row's record, with the row's status; and a line that is no row.

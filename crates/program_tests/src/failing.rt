@@ -1,7 +1,6 @@
-//! What is answered where a call of the files fails, or a sink has no more room, in turn for each call and each room.
-use crate::tests::Outcome;
-use crate::{Status, pool};
-use pool_outside::{MemFiles, MemSink, NamedText};
+//! What is answered where a call of the files fails, or a write of a sink, in turn for each call and each room.
+use crate::calls::{Outcome, World, answer, world_of};
+use pool_driver::Status;
 use std::alloc::{AllocError, Global};
 use std::test::Fail;
 
@@ -11,39 +10,27 @@ const RECORD: &[u8] = b"1 turn 0 write 0.0 1\nend quiet 1\n";
 /// one that gives its end.
 const CALLS: u64 = 9;
 
-fn named(alloc: Global, name: &str, text: &[u8]) -> Result<NamedText, AllocError> {
-    Ok(NamedText {
-        name: String::from_str(alloc, name)?,
-        text: Vec::from_slice(alloc, text)?,
-    })
+/// Three inputs that are accepted.
+fn inputs(alloc: Global) -> Result<World, AllocError> {
+    world_of(
+        alloc,
+        b"class Main body write 1 end",
+        b"mesh 1 1",
+        b"quantum 5\nturn 0 3",
+    )
 }
 
 /// `record P L S` where this call on the files fails, and the output and the errors have so much room, of which a write
 /// takes seven bytes at most.
-fn answer(
+fn recorded(
     alloc: Global,
     failing: u64,
     out_room: usize,
     err_room: usize,
 ) -> Result<Outcome, AllocError> {
-    let mut words = Vec::new(alloc);
-    for word in ["record", "P", "L", "S"] {
-        words.push(String::from_str(alloc, word)?)?;
-    }
-    let texts = vec![in alloc;
-        named(alloc, "P", b"class Main body write 1 end")?,
-        named(alloc, "L", b"mesh 1 1")?,
-        named(alloc, "S", b"quantum 5\nturn 0 3")?,
-    ]?;
-    let mut files = MemFiles::make(texts, vec![in alloc; failing]?);
-    let mut out = MemSink::make(alloc, out_room, 7, Vec::new(alloc))?;
-    let mut err = MemSink::make(alloc, err_room, 7, Vec::new(alloc))?;
-    let status = pool(alloc, &words, &mut files, &mut out, &mut err);
-    Ok(Outcome {
-        status,
-        out: out.written().to_vec(alloc)?,
-        err: err.written().to_vec(alloc)?,
-    })
+    let mut inputs = inputs(alloc)?;
+    inputs.files.push(failing)?;
+    answer(alloc, "record P L S", inputs, (out_room, err_room), 6)
 }
 
 /// What is told where this call on the files fails.
@@ -60,7 +47,7 @@ fn each_failing_call_of_the_files_is_told(rt: HostRuntime) -> Result<(), Fail> {
     for call in 0..CALLS {
         let line = line_of(call);
         for room in 0..=line.len() {
-            let answer = answer(rt.alloc(), call, 100, room)?;
+            let answer = recorded(rt.alloc(), call, 100, room)?;
             let whole = room == line.len();
             assert_eq!(rt;
                 answer.status,
@@ -85,7 +72,7 @@ fn each_failing_call_of_the_files_is_told(rt: HostRuntime) -> Result<(), Fail> {
 #[test]
 fn each_room_takes_a_front_of_the_record(rt: HostRuntime) -> Result<(), Fail> {
     for room in 0..=RECORD.len() {
-        let answer = answer(rt.alloc(), CALLS, room, 0)?;
+        let answer = recorded(rt.alloc(), CALLS, room, 0)?;
         let whole = room == RECORD.len();
         assert_eq!(rt;
             answer.status,
@@ -97,6 +84,49 @@ fn each_room_takes_a_front_of_the_record(rt: HostRuntime) -> Result<(), Fail> {
             "room {room}"
         );
         assert_eq!(rt; answer.out.as_slice(), &RECORD[..room], "room {room}");
+    }
+    Ok(())
+}
+
+/// What was written before the write of this number, of at most ten bytes each.
+fn front(line: &[u8], write: usize) -> &[u8] {
+    if write < 10 {
+        &line[..(write * 10).min(line.len())]
+    } else {
+        line
+    }
+}
+
+/// A write that fails once, and would succeed if it were tried again.
+#[test]
+fn no_write_is_made_after_a_failed_one(rt: HostRuntime) -> Result<(), Fail> {
+    for write in 0..4 {
+        let mut inputs = inputs(rt.alloc())?;
+        inputs.out.push(write)?;
+        let answer = answer(rt.alloc(), "record P L S", inputs, (100, 100), 9)?;
+        assert_eq!(rt; answer.status, Status::WriteFault, "{write}");
+        assert_eq!(rt;
+            answer.out.as_slice(),
+            front(RECORD, write as usize),
+            "{write}"
+        );
+    }
+    Ok(())
+}
+
+#[test]
+fn no_line_is_begun_again_after_a_failed_write(rt: HostRuntime) -> Result<(), Fail> {
+    for write in 0..3 {
+        let mut inputs = inputs(rt.alloc())?;
+        inputs.files.push(4)?;
+        inputs.err.push(write)?;
+        let answer = answer(rt.alloc(), "record P L S", inputs, (100, 100), 9)?;
+        assert_eq!(rt; answer.status, Status::WriteFault, "{write}");
+        assert_eq!(rt;
+            answer.err.as_slice(),
+            front(line_of(4), write as usize),
+            "{write}"
+        );
     }
     Ok(())
 }

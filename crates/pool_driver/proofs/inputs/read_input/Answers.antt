@@ -1,0 +1,16 @@
+use Rattle.std.proofs.Common.{ap, Err, refl, sym}
+use Rattle.pool_driver.specs.declared.fault.Fault.TheVariants as F
+use Rattle.pool_driver.specs.Ends.{too_long}
+use Rattle.pool_driver.specs.Readers as R
+use Rattle.pool_driver.proofs.inputs.read_input.Goals as goal
+
+pub returns-in-Ok-clause-reads : goal.returns-in-Ok-clause-reads
+returns-in-Ok-clause-reads g c =
+    let h = c.in-Ok.ensures in
+    R.read c.in-Ok.text.items c.in-Ok.text refl ((h.whole, h.within), sym h.counted, h.ended) refl h.no_fault
+
+pub returns-in-Err-TooLong-clause-reads : goal.returns-in-Err-TooLong-clause-reads
+returns-in-Err-TooLong-clause-reads g c =
+    let h = c.in-Err-TooLong.ensures in
+    let is = ap Err c.in-Err-TooLong.field-0-is in
+    R.refused F.TooLong refl (too_long refl (h.too_long.0 is) (h.stops_there is) h.no_more_than_told) (h.no_fault_too_long is)
