@@ -9,14 +9,13 @@ use Rattle.pool_syntax.specs.declared.tree.Stmt.TheBlock.{hidden-the_row-Stmt-0,
 use Rattle.pool_syntax.specs.declared.tree.Stmt.TheVariants as built
 use Rattle.pool_syntax.specs.declared.tree.Alt.{Alt}
 use Rattle.pool_syntax.specs.Terms.{Call, Send, Arg, If, While, Select, Then, Alt as OneAlt}
-use Rattle.pool_syntax.specs.TreeOf.{expression_of, expression_row, expressions_of, statement_of, statement_row, statements_of, alternative_row}
-use Rattle.pool_printer.specs.Parts.{alternatives_of}
+use Rattle.pool_syntax.specs.TreeOf.{expression_of, expression_row, expressions_of, statement_of, statement_row, statements_of, alternative_row, alternatives_of}
 
 expression_row-items : (n : _) (r : Row_of-Expr n) → expression_row r ≡ expressions_of (items-the_row-Expr n r)
 expression_row-items _ end_of-Expr = refl
 expression_row-items _ (more_of-Expr e es) = ap (Arg (expression_of e)) (expression_row-items _ es)
 
-expression_row-all : (es : List Expr) → expression_row (hidden-the_row-Expr-0 es) ≡ expressions_of es
+pub expression_row-all : (es : List Expr) → expression_row (hidden-the_row-Expr-0 es) ≡ expressions_of es
 expression_row-all es = expression_row-items _ (hidden-the_row-Expr-0 es) ∙ ap expressions_of (items_hidden-the_row-Expr-0 es)
 
 pub call_tree : (m : NameId) (es : List Expr) (pos : ℕ) → expression_of (made.Call m es pos) ≡ Call m.0 (expressions_of es) pos
@@ -29,7 +28,7 @@ statement_row-items : (n : _) (r : Row_of-Stmt n) → statement_row r ≡ statem
 statement_row-items _ end_of-Stmt = refl
 statement_row-items _ (more_of-Stmt s ss) = ap (Then (statement_of s)) (statement_row-items _ ss)
 
-statement_row-all : (ss : List Stmt) → statement_row (hidden-the_row-Stmt-0 ss) ≡ statements_of ss
+pub statement_row-all : (ss : List Stmt) → statement_row (hidden-the_row-Stmt-0 ss) ≡ statements_of ss
 statement_row-all ss = statement_row-items _ (hidden-the_row-Stmt-0 ss) ∙ ap statements_of (items_hidden-the_row-Stmt-0 ss)
 
 pub if_tree : (e : Expr) (these those : List Stmt) → statement_of (built.If e these those) ≡ If (expression_of e) (statements_of these) (statements_of those)
