@@ -1,1 +1,3 @@
 pub mod Writing
+pub mod ProperKnown
+pub mod Laws

@@ -34,9 +34,9 @@ rose_before a b c (inr r) e = inr (omega arith)
 
 -- one text and then another
 pub then : (s t : Text) (a b c : State) → Writes s a b → Writes t b c → Writes (s ++ t) a c
-then s t a b c (whole o p w f) (whole o2 p2 w2 f2) = whole o p2 (joined s t _ _ _ w w2) (omega arith)
+then s t a b c (whole o p w f) (whole o2 p2 w2 f2) = whole o p2 (joined s t _ _ _ w w2) (f2 ∙ f)
 then s t a b c (whole o p w f) (cut n o2 p2 h w2 f2 r) =
-    cut (length s + n) o p2 (grind (arith, common_steps)) (same_text _ _ _ _ (front_of_second n s t) (joined s (take n t) _ _ _ w w2)) (omega arith) (rose_later _ _ _ f r)
+    cut (length s + n) o p2 (grind (arith, common_steps)) (same_text _ _ _ _ (front_of_second n s t) (joined s (take n t) _ _ _ w w2)) (omega arith) (rose_later _ _ _ (omega arith) r)
 then s t a b c (whole o p w f) (idle o2 p2 w2 f2) = absurd (cc)
 then s t a b c (cut n o p h w f r) (whole o2 p2 w2 f2) = absurd (cc)
 then s t a b c (cut n o p h w f r) (cut m o2 p2 h2 w2 f2 r2) = absurd (cc)
@@ -52,7 +52,7 @@ append_nothing (Some w) = ap Some (grind (arith, common_steps))
 
 nothing_by : (a : State) (k : Bool) → a.failed ≡ k → Writes [] a a
 nothing_by a true e = idle e e refl refl
-nothing_by a false e = whole e e (append_nothing a.written) (omega arith)
+nothing_by a false e = whole e e (append_nothing a.written) refl
 
 pub nothing : (a : State) → Writes [] a a
 nothing a = nothing_by a a.failed refl
@@ -103,7 +103,7 @@ in_full t a b (cut n o p l w f r) h = absurd (cc)
 in_full t a b (idle o p w f) h = absurd (cc)
 
 pub faults : (t : Text) (a b : State) → Writes t a b → a.faults ≤ b.faults
-faults t a b (whole o p w f) = f
+faults t a b (whole o p w f) = omega arith
 faults t a b (cut n o p l w f r) = f
 faults t a b (idle o p w f) = omega arith
 
@@ -123,3 +123,8 @@ pub lines_at : (names : List Text) (is : List Instr) (i : ℕ) (x : Instr) → i
 lines_at names is i x within at =
     let e : i + 1 ≡ suc i = omega arith in
     at_drop_more (lines_text names i) is i x within ∙ ap (λ y. lines_text names i (y ∷ drop (i + 1) is)) (sym at) ∙ ap (λ n. line_text names i x ++ lines_text names n (drop (i + 1) is)) (sym e)
+
+pub no_fault : (t : Text) (a b : State) → Writes t a b → b.failed ≡ false → b.faults ≡ a.faults
+no_fault t a b (whole o p w f) h = f
+no_fault t a b (cut n o p l w f r) h = absurd (cc)
+no_fault t a b (idle o p w f) h = absurd (cc)

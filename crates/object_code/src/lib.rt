@@ -2,7 +2,9 @@
 #![tactic(auto)]
 
 mod listing;
+mod theorems;
 mod unit;
 
 pub use listing::list_code;
+pub use theorems::proper_units_can_be_listed;
 pub use unit::{AltCode, BodyCode, ClassCode, CodeObject, Frame, Instr, MethodCode, Unit};

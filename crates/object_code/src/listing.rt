@@ -321,6 +321,7 @@ pub fn list_code<K: Sink>(unit: &Unit, sink: &mut K) -> Result<(), WriteFault>
     ensures whole { OnOk result (K.written sink.new ≡ option_map (λ w. w ++ listing unit.now) (K.written sink.old)) }
     ensures front { OnErr result ((n : ℕ) × (n ≤ length (listing unit.now)) × (K.written sink.new ≡ option_map (λ w. w ++ take n (listing unit.now)) (K.written sink.old))) }
     ensures failed { OnErr result (Rose (K.faults sink.old) (K.faults sink.new)) }
+    ensures no_fault { OnOk result (K.faults sink.new ≡ K.faults sink.old) }
     ensures faults_stay_or_rise { K.faults sink.old ≤ K.faults sink.new }
 {
     let mut failed = false;

@@ -28,3 +28,4 @@ pub mod Counted
 pub mod Limits
 pub mod Existing
 pub mod ProgramProper
+pub mod Laws

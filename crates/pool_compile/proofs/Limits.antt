@@ -1,5 +1,6 @@
 -- A program without class faults is small.
 use Rattle.std.proofs.Common.{◌≡◌, ◌≢◌, refl, IsTrue, ℕ, zero, suc, ◌+◌, ◌-◌, ◌≤◌, ◌==◌, List, [], ◌∷◌, ◌++◌, length, Option, Some, true, arith}
+use Rattle.std.specs.Prelude.{map}
 use Rattle.std.proofs.Math.Logic.{∥∥₁_elim}
 use denote.Struct.Props.{props}
 use Rattle.pool_syntax.specs.declared.tree.Var.{Var}
@@ -12,8 +13,8 @@ use Rattle.pool_relation.specs.Typed.{has_room}
 use Rattle.pool_relation.specs.Written.{is_source, are_source_statements, is_value_for, are_written, is_written}
 use Rattle.pool_relation.proofs.Laws.{none2, none4, grammatical_written, has_a_class}
 use Rattle.object_code.specs.declared.unit.ClassCode.{ClassCode}
-use Rattle.pool_compile.specs.Code.{more, expression_words, expressions_words, guards_words, statement_words, statements_words, works_words, class_code}
-use Rattle.pool_compile.specs.Small.{AreSmallMethods, IsSmall}
+use Rattle.pool_compile.specs.Code.{more, expression_words, expressions_words, guards_words, statement_words, statements_words, works_words, names_of, method_code_of, class_code, code}
+use Rattle.pool_compile.specs.Small.{FramesAreSmall, HaveSmallFrames, AreSmallMethods, IsSmall}
 use Rattle.pool_compile.proofs.Counted.{counted, counted_statements, nil_left, nil_right}
 use Rattle.pool_compile.proofs.Greater.{more_within}
 use Rattle.pool_compile.proofs.Heights.{is_counted, are_counted, is_counted_statement, are_counted_statements, are_counted_guards, are_counted_works, first_room, room}
@@ -193,3 +194,12 @@ written p m = ∥∥₁_elim m (hlevel props) (λ g. grammatical_written p g)
 
 pub some_class : (p : ProgramTree) → ∥ IsGrammatical p ∥₁ → p ≢ []
 some_class p m e = ∥∥₁_elim m (λ x y. absurd x) (λ g. has_a_class p g e)
+
+methods_frames : (vars : List ℕ) (ms : List MethodTree) → AreSmallMethods ms → HaveSmallFrames (map (method_code_of vars) ms)
+methods_frames vars [] s = tt {0}
+methods_frames vars (m ∷ ms) s = (omega (arith, s.0.0, s.0.1), methods_frames vars ms s.1)
+
+-- the frames of a small program have at most 96 words
+pub frames_small : (p : ProgramTree) → IsSmall p → FramesAreSmall (code p)
+frames_small [] s = tt {0}
+frames_small (k ∷ ks) s = (omega (arith, s.0.1), methods_frames (names_of k.vars) k.methods s.0.2, frames_small ks s.1)

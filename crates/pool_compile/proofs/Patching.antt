@@ -10,7 +10,7 @@ use Rattle.pool_syntax.specs.declared.tree.Stmt.{Stmt}
 use Rattle.pool_syntax.specs.declared.tree.Alt.{Alt, out-Alt}
 use Rattle.pool_syntax.specs.Terms.{Alternatives, NoAlts, Alt as OneAlt, Select}
 use Rattle.pool_syntax.specs.TreeOf.{expression_of, statement_of, statements_of}
-use Rattle.class_check.specs.Stands.{alternatives_of}
+use Rattle.pool_syntax.specs.TreeOf.{alternatives_of}
 use Rattle.object_code.specs.declared.unit.Instr.{Instr}
 use Rattle.object_code.specs.declared.unit.Instr.TheVariants as I
 use Rattle.object_code.specs.declared.unit.AltCode.{AltCode}

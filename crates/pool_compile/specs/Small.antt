@@ -1,4 +1,4 @@
--- Programs whose counts are within the limits of the language, and code whose places are below 2^32.
+-- Programs whose counts are within the limits of the language, and code whose places are below 2^32 and whose frames have at most 96 words.
 use Rattle.std.specs.Prelude.{◌≤◌, ◌<◌, ◌^◌, ◌++◌, List, [], ◌∷◌, length}
 use Rattle.pool_syntax.specs.Terms.{MethodTree, ClassTree, ProgramTree}
 use Rattle.object_code.specs.declared.unit.MethodCode.{MethodCode}
@@ -29,3 +29,12 @@ IsShortClass k = (length k.body.code < 2 ^ 32) × AreShortMethods k.methods
 abbrev pub AreShort : List ClassCode → Type 0
 AreShort [] = Unit {0}
 AreShort (k ∷ ks) = IsShortClass k × AreShort ks
+
+-- a frame has at most 96 words
+abbrev pub HaveSmallFrames : List MethodCode → Type 0
+HaveSmallFrames [] = Unit {0}
+HaveSmallFrames (m ∷ ms) = (m.frame_words ≤ 96) × HaveSmallFrames ms
+
+abbrev pub FramesAreSmall : List ClassCode → Type 0
+FramesAreSmall [] = Unit {0}
+FramesAreSmall (k ∷ ks) = (k.body.frame_words ≤ 96) × HaveSmallFrames k.methods × FramesAreSmall ks

@@ -4,13 +4,13 @@
 mod builder;
 mod expressions;
 mod fault;
-mod laws;
 mod numbers;
 mod program;
 mod scope;
 mod statements;
+mod theorems;
 mod words;
 
 pub use fault::CompileFault;
-pub use laws::{code_follows, new_code_stands};
 pub use program::compile;
+pub use theorems::{code_follows, new_code_stands};

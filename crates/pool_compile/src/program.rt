@@ -4,7 +4,7 @@ ghost use Rattle.pool_syntax.specs.TreeOf.{class_tree, expression_of, method_tre
 ghost use Rattle.object_code.specs.Proper.{IsProper};
 ghost use Rattle.pool_compile.specs.Code.{body_instrs, class_code, code, expression_words, method_code_of, method_instrs, more, names_of, statements_words};
 ghost use Rattle.pool_compile.specs.Numberings.{numbering};
-ghost use Rattle.pool_compile.specs.Small.{AreShort, AreShortMethods, AreSmallMethods, IsShortClass, IsSmall, IsSmallClass, IsSmallMethod};
+ghost use Rattle.pool_compile.specs.Small.{AreShort, FramesAreSmall, AreShortMethods, AreSmallMethods, IsShortClass, IsSmall, IsSmallClass, IsSmallMethod};
 
 use crate::builder::Builder;
 use crate::expressions::emit;
@@ -152,6 +152,7 @@ pub fn compile(alloc: Global, program: &Checked<'_>) -> Result<Unit, CompileFaul
     ensures names { IfOk result (λ unit. unit.names ≡ program.now.names.now) }
     ensures code { IfOk result (λ unit. unit.classes ≡ code (program_of program.now.program.now)) }
     ensures proper { IfOk result (λ unit. IsProper unit) }
+    ensures frames { IfOk result (λ unit. FramesAreSmall unit.classes) }
 {
     let names = program.names.copy()?;
     let classes = compile_classes(alloc, program.program.classes.items())?;

@@ -3,7 +3,7 @@ ghost use Rattle.std.specs.Prelude.{◌≡◌, ◌<◌, [], ◌∷◌, ◌++◌,
 ghost use Rattle.std.specs.List.{All};
 ghost use Rattle.pool_syntax.specs.Terms.{Select as SelectOf};
 ghost use Rattle.pool_syntax.specs.TreeOf.{statement_of, statements_of};
-ghost use Rattle.class_check.specs.Stands.{alternatives_of};
+ghost use Rattle.pool_syntax.specs.TreeOf.{alternatives_of};
 ghost use Rattle.pool_compile.specs.Code.{alternatives_at, alternatives_code, answer_names, guards_code, statement_code, statements_code};
 ghost use Rattle.pool_compile.specs.Jumps.{filled, jumps_at};
 ghost use Rattle.pool_compile.specs.Numberings.{numbering};

@@ -1,5 +1,5 @@
 use Rattle.std.proofs.Common.{◌≡◌, ◌++◌, drop}
-use Rattle.class_check.specs.Stands.{alternatives_of}
+use Rattle.pool_syntax.specs.TreeOf.{alternatives_of}
 use Rattle.pool_compile.specs.Code.{guards_code}
 use Rattle.pool_compile.specs.Numberings.{numbering}
 use Rattle.pool_compile.proofs.statements.emit_guards.Given as goal

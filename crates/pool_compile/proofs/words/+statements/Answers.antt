@@ -1,7 +1,7 @@
 use Rattle.std.proofs.Common.{sym, ap, ◌∙◌}
 use Rattle.pool_syntax.specs.TreeOf.{expression_of, statement_of, statements_of}
-use Rattle.class_check.specs.Stands.{alternatives_of}
-use Rattle.class_check.proofs.Trees.{if_tree, select_tree, while_tree}
+use Rattle.pool_syntax.specs.TreeOf.{alternatives_of}
+use Rattle.pool_syntax.proofs.Laws.{if_tree, select_tree, while_tree}
 use Rattle.pool_compile.specs.Code.{expression_words, guards_words, more, statement_words, statements_words, works_words}
 use Rattle.pool_compile.proofs.Greater.{both, by_tree}
 use Rattle.pool_compile.proofs.words.+statements.Goals as goal

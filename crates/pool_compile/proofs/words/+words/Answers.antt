@@ -1,6 +1,6 @@
 use Rattle.std.proofs.Common.{refl, sym, ap, ◌∙◌, suc, arith}
 use Rattle.pool_syntax.specs.TreeOf.{expression_of, expressions_of}
-use Rattle.class_check.proofs.Trees.{call_tree, send_tree}
+use Rattle.pool_syntax.proofs.Laws.{call_tree, send_tree}
 use Rattle.pool_compile.specs.Code.{expression_words, expressions_words}
 use Rattle.pool_compile.proofs.Greater.{at_front, both, by_tree, next, step_back}
 use Rattle.pool_compile.proofs.words.+words.Goals as goal

@@ -1,5 +1,5 @@
 use Rattle.std.proofs.Common.{◌≡◌, ◌≤◌, drop}
-use Rattle.class_check.specs.Stands.{alternatives_of}
+use Rattle.pool_syntax.specs.TreeOf.{alternatives_of}
 use Rattle.pool_compile.specs.Code.{guards_words}
 use Rattle.pool_compile.proofs.words.guards_words.Given as goal
 
