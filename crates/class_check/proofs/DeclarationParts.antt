@@ -7,6 +7,8 @@ use Rattle.pool_syntax.specs.declared.tree.Method.{Method}
 use Rattle.pool_syntax.specs.declared.tree.ClassDecl.{ClassDecl}
 use Rattle.pool_syntax.specs.Terms.{ProgramTree}
 use Rattle.pool_syntax.specs.TreeOf.{class_tree, method_tree, statements_of}
+use Rattle.pool_syntax.specs.FaultNumbers as N
+use Rattle.pool_syntax.specs.Limits as L
 use Rattle.pool_syntax.specs.Typing.{Scope, Fault, vars_faults, too_many, fault_if, kind_faults, method_tree_faults, methods_faults, classes_faults, class_scope, statements_faults}
 use Rattle.class_check.specs.declared.fault.ClassFault.{ClassFault}
 use Rattle.class_check.specs.Least.{noted}
@@ -37,7 +39,7 @@ both_variables p number names (u ∷ us) vs = grind (arith, both_variables p num
 
 limit_at : Option Var → List Fault
 limit_at None = []
-limit_at (Some v) = (v.pos, 12) ∷ []
+limit_at (Some v) = (v.pos, N.limit) ∷ []
 
 -- the variable behind so many is the one at that place
 too_many_at : (n : ℕ) (vs : List Var) → too_many n vs ≡ limit_at (slice_get vs n)
@@ -46,7 +48,7 @@ too_many_at n [] = refl
 too_many_at zero (v ∷ vs) = refl
 too_many_at (suc n) (v ∷ vs) = too_many_at n vs
 
-pub too_many_there : (n : ℕ) (vs : List Var) (v : Var) → slice_get vs n ≡ Some v → too_many n vs ≡ (v.pos, 12) ∷ []
+pub too_many_there : (n : ℕ) (vs : List Var) (v : Var) → slice_get vs n ≡ Some v → too_many n vs ≡ (v.pos, N.limit) ∷ []
 unfolding limit_at
 too_many_there n vs v at = too_many_at n vs ∙ ap limit_at at
 
@@ -66,7 +68,7 @@ too_many_second (suc n) (u ∷ us) vs past = let e : suc n - suc (length us) ≡
 
 pub method_noted : (g : Scope) (ms : List Method) (i : ℕ) (m : Method) (twice : Bool) (a b : Option ClassFault) → i < length ms → m ≡ get_or ms i m
     → twice ≡ list_any (λ k. k.name.name.0 == m.name.name.0) (take i ms)
-    → Notes a b (fault_if twice m.name.pos 4 ++ (fault_if (i == 64) m.name.pos 12 ++ method_tree_faults g (method_tree m)))
+    → Notes a b (fault_if twice m.name.pos N.method_twice ++ (fault_if (i == L.most_methods) m.name.pos N.limit ++ method_tree_faults g (method_tree m)))
     → noted (found_of b) (methods_faults g (names_before (λ k. k.name.name.0) [] (take (i + 1) ms)) (map method_tree (drop (i + 1) ms)))
     ≡ noted (found_of a) (methods_faults g (names_before (λ k. k.name.name.0) [] (take i ms)) (map method_tree (drop i ms)))
 method_noted g ms i m twice a b within at is_twice one =
@@ -79,8 +81,8 @@ method_noted g ms i m twice a b within at is_twice one =
 
 pub class_noted : (p : ProgramTree) (ks : List ClassDecl) (i : ℕ) (k : ClassDecl) (twice : Bool) (a b : Option ClassFault) → i < length ks → k ≡ get_or ks i k
     → twice ≡ list_any (λ c. c.name.name.0 == k.name.name.0) (take i ks)
-    → Notes a b (fault_if twice k.name.pos 1 ++ (fault_if (i == 256) k.name.pos 12
-    ++ (vars_faults p 3 [] k.vars ++ (too_many 64 k.vars ++ (methods_faults (class_scope p (class_tree k)) [] (map method_tree k.methods)
+    → Notes a b (fault_if twice k.name.pos N.class_twice ++ (fault_if (i == L.most_classes) k.name.pos N.limit
+    ++ (vars_faults p N.variable_twice [] k.vars ++ (too_many L.most_variables k.vars ++ (methods_faults (class_scope p (class_tree k)) [] (map method_tree k.methods)
     ++ statements_faults (class_scope p (class_tree k)) (statements_of k.body))))))
     → noted (found_of b) (classes_faults p (names_before (λ c. c.name.name.0) [] (take (i + 1) ks)) (map class_tree (drop (i + 1) ks)))
     ≡ noted (found_of a) (classes_faults p (names_before (λ c. c.name.name.0) [] (take i ks)) (map class_tree (drop i ks)))

@@ -2,7 +2,6 @@ pub mod Looked
 pub mod Noting
 pub mod Held
 pub mod Arguments
-pub mod Trees
 pub mod ExpressionParts
 pub mod BeforeLaws
 pub mod StatementParts

@@ -8,11 +8,12 @@ use Rattle.pool_syntax.specs.declared.tree.Alt.{Alt, out-Alt}
 use Rattle.pool_syntax.specs.declared.tree.Named.{Named}
 use Rattle.pool_syntax.specs.Terms.{Expression, Async, Then, Alt as OneAlt, MethodTree}
 use Rattle.pool_syntax.specs.TreeOf.{expression_of, expressions_of, statement_of, statements_of}
+use Rattle.pool_syntax.specs.FaultNumbers.{answer_name}
 use Rattle.pool_syntax.specs.Typing.{Scope, Sort, BoolSort, needs, expression_faults, arguments_faults, destination_faults, answer_faults, statement_faults, statements_faults, alternatives_faults, names_faults, fault_if, own_method, sent_method, params_of, sort_of, position}
 use Rattle.class_check.specs.declared.fault.ClassFault.{ClassFault}
 use Rattle.class_check.specs.Least.{noted}
 use Rattle.class_check.specs.PairOf.{Notes, found_of}
-use Rattle.class_check.specs.Stands.{alternatives_of}
+use Rattle.pool_syntax.specs.TreeOf.{alternatives_of}
 use Rattle.class_check.specs.Before.{names_before}
 use Rattle.class_check.proofs.Noting.{noted_append}
 use Rattle.class_check.proofs.Held.{same_faults}
@@ -47,7 +48,7 @@ alternative_noted g h xs i x a b c d within at held cond names work =
 -- and so of the names of an answer list
 pub name_noted : (g : Scope) (ns : List Named) (i : ℕ) (n : Named) (twice : Bool) (a b : Option ClassFault) → i < length ns → n ≡ get_or ns i n
     → twice ≡ list_any (λ m. m.name.0 == n.name.0) (take i ns)
-    → Notes a b (fault_if (not (is_some (own_method g n.name.0)) || twice) n.pos 11)
+    → Notes a b (fault_if (not (is_some (own_method g n.name.0)) || twice) n.pos answer_name)
     → noted (found_of b) (names_faults g (names_before (λ m. m.name.0) [] (take (i + 1) ns)) (drop (i + 1) ns)) ≡ noted (found_of a) (names_faults g (names_before (λ m. m.name.0) [] (take i ns)) (drop i ns))
 name_noted g ns i n twice a b within at is_twice one =
     let front : drop i ns ≡ n ∷ drop (i + 1) ns = at_drop_more (λ l. l) ns i n within ∙ ap (λ x. x ∷ drop (i + 1) ns) (sym at) in

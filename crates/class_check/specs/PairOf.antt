@@ -1,25 +1,26 @@
 -- The token and the number of a class fault.
 use Rattle.std.specs.Prelude.{List, Option, option_map}
+use Rattle.pool_syntax.specs.FaultNumbers as N
 use Rattle.pool_syntax.specs.Typing.{Fault}
 use Rattle.class_check.specs.declared.fault.ClassFault.{ClassFault}
 use Rattle.class_check.specs.declared.fault.ClassFault.TheVariants as F
 use Rattle.class_check.specs.Least.{noted}
 use Rattle.std.specs.Prelude.{◌≡◌}
 
--- want of memory is no fault of the program, and has the number behind theirs
+-- want of memory is no fault of the program, and has the number behind theirs, 13
 abbrev pub pair_of : ClassFault → Fault
-pair_of (F.ClassTwice t) = (t, 1)
-pair_of (F.UnknownClass t) = (t, 2)
-pair_of (F.VariableTwice t) = (t, 3)
-pair_of (F.MethodTwice t) = (t, 4)
-pair_of (F.LocalTwice t) = (t, 5)
-pair_of (F.UnknownVariable t) = (t, 6)
-pair_of (F.UnknownMethod t) = (t, 7)
-pair_of (F.ArgumentCount t) = (t, 8)
-pair_of (F.TypeDiffers t) = (t, 9)
-pair_of (F.NoResult t) = (t, 10)
-pair_of (F.AnswerName t) = (t, 11)
-pair_of (F.Limit t) = (t, 12)
+pair_of (F.ClassTwice t) = (t, N.class_twice)
+pair_of (F.UnknownClass t) = (t, N.unknown_class)
+pair_of (F.VariableTwice t) = (t, N.variable_twice)
+pair_of (F.MethodTwice t) = (t, N.method_twice)
+pair_of (F.LocalTwice t) = (t, N.local_twice)
+pair_of (F.UnknownVariable t) = (t, N.unknown_variable)
+pair_of (F.UnknownMethod t) = (t, N.unknown_method)
+pair_of (F.ArgumentCount t) = (t, N.argument_count)
+pair_of (F.TypeDiffers t) = (t, N.type_differs)
+pair_of (F.NoResult t) = (t, N.no_result)
+pair_of (F.AnswerName t) = (t, N.answer_name)
+pair_of (F.Limit t) = (t, N.limit)
 pair_of F.Memory = (0, 13)
 
 -- the pair of the fault, if there is one

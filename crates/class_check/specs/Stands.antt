@@ -7,10 +7,10 @@ use Rattle.pool_syntax.specs.declared.words.Op.TheVariants as O
 use Rattle.pool_syntax.specs.declared.tree.Kind.{Kind}
 use Rattle.pool_syntax.specs.declared.tree.Var.{Var}
 use Rattle.pool_syntax.specs.declared.tree.Method.{Method}
-use Rattle.pool_syntax.specs.declared.tree.Alt.{Alt, out-Alt}
-use Rattle.pool_syntax.specs.Terms.{MethodTree, ProgramTree, Alternatives, NoAlts, Alt as OneAlt}
+use Rattle.pool_syntax.specs.FaultNumbers as N
+use Rattle.pool_syntax.specs.Terms.{MethodTree, ProgramTree}
 use Rattle.pool_syntax.specs.Classes.{class_of}
-use Rattle.pool_syntax.specs.TreeOf.{class_tree, method_tree, expression_of, statements_of}
+use Rattle.pool_syntax.specs.TreeOf.{class_tree, method_tree}
 use Rattle.pool_syntax.specs.Typing as T
 use Rattle.class_check.specs.declared.sort.Sort.{Sort}
 use Rattle.class_check.specs.declared.sort.Sort.TheVariants as S
@@ -49,12 +49,12 @@ abbrev pub creation_sort : T.Scope → ℕ → T.Sort
 creation_sort g c = if is_some (class_of g.program c) then T.ClassSort c else T.BrokenSort
 
 abbrev pub creation_faults : T.Scope → ℕ → ℕ → List T.Fault
-creation_faults g c at = T.fault_if (not (is_some (class_of g.program c))) at 2
+creation_faults g c at = T.fault_if (not (is_some (class_of g.program c))) at N.unknown_class
 
 -- the faults of operands of these sorts at these tokens
 abbrev pub operands_faults : Op → T.Sort → ℕ → T.Sort → ℕ → List T.Fault
-operands_faults O.Same s at t to = T.no_result s at ++ (T.no_result t to ++ T.fault_if (not (T.is_comparable (T.counted s) (T.counted t))) to 9)
-operands_faults O.Differs s at t to = T.no_result s at ++ (T.no_result t to ++ T.fault_if (not (T.is_comparable (T.counted s) (T.counted t))) to 9)
+operands_faults O.Same s at t to = T.no_result s at ++ (T.no_result t to ++ T.fault_if (not (T.is_comparable (T.counted s) (T.counted t))) to N.type_differs)
+operands_faults O.Differs s at t to = T.no_result s at ++ (T.no_result t to ++ T.fault_if (not (T.is_comparable (T.counted s) (T.counted t))) to N.type_differs)
 operands_faults op s at t to = T.misfit s (T.operand_sort op) at ++ T.misfit t (T.operand_sort op) to
 
 -- the faults of an argument of this sort at the parameter of its number, if there is one
@@ -62,12 +62,7 @@ abbrev pub argument_faults : ProgramTree → Option Var → T.Sort → ℕ → L
 argument_faults p None s at = T.no_result s at
 argument_faults p (Some v) s at = T.misfit s (T.kind_sort p v.kind) at
 
--- the alternatives of a select
-abbrev pub alternatives_of : List Alt → Alternatives
-alternatives_of [] = NoAlts
-alternatives_of (a ∷ rest) = OneAlt (expression_of (out-Alt a).guard) (out-Alt a).answer (statements_of (out-Alt a).work) (alternatives_of rest)
-
 -- the number of the fault of a name that stands twice
 abbrev pub twice_number : Owner → ℕ
-twice_number W.Class = 3
-twice_number W.Method = 5
+twice_number W.Class = N.variable_twice
+twice_number W.Method = N.local_twice

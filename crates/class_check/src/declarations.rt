@@ -1,6 +1,8 @@
 //! The faults of classes, methods and variables.
 ghost use Rattle.std.specs.Prelude.{◌≡◌, ◌==◌, ◌++◌, ◌||◌, [], map, length, take, Some, OnOk};
 ghost use Rattle.std.specs.List.{list_any};
+ghost use Rattle.pool_syntax.specs.FaultNumbers.{class_twice, limit, local_twice, method_twice, variable_twice};
+ghost use Rattle.pool_syntax.specs.Limits.{most_classes, most_locals, most_methods, most_params, most_variables};
 ghost use Rattle.pool_syntax.specs.TreeOf.{class_tree, expression_of, method_tree, statements_of};
 ghost use Rattle.pool_syntax.specs.Typing.{class_scope, expression_faults, fault_if, faults, kind_faults, method_tree_faults, methods_faults, outcome_faults, statements_faults, too_many, value_needs, vars_faults};
 ghost use Rattle.class_check.specs.Before.{names_before};
@@ -17,8 +19,23 @@ use crate::statements::statements;
 use pool_syntax::{ClassDecl, Kind, Method, NameId, Var};
 use std::alloc::{AllocError, Global};
 
+/// The most classes of a program.
+const MOST_CLASSES: usize = 256;
+
+/// The most methods of a class.
+const MOST_METHODS: usize = 64;
+
+/// The most variables of a class.
+const MOST_VARIABLES: usize = 64;
+
+/// The most parameters of a method.
+const MOST_PARAMS: usize = 8;
+
+/// The most parameters and locals of a method together.
+const MOST_LOCALS: usize = 32;
+
 /// Where variables are declared.
-#[derive(Clone, Copy, Debug)]
+#[derive(Clone, Copy)]
 pub enum Owner {
     Class,
     Method,
@@ -133,16 +150,16 @@ fn head(none: &Index<Var>, scope: &Scope, method: &Method, first: &mut Option<Cl
     requires params { scope.now.params.now.list.now ≡ method.now.params }
     requires locals { scope.now.locals.now.list.now ≡ method.now.locals }
     ensures { Notes first.old first.new
-        (vars_faults (map class_tree scope.now.classes.now.list.now) 5 [] (method.now.params ++ method.now.locals)
-        ++ (too_many 8 method.now.params ++ (too_many 32 (method.now.params ++ method.now.locals)
+        (vars_faults (map class_tree scope.now.classes.now.list.now) local_twice [] (method.now.params ++ method.now.locals)
+        ++ (too_many most_params method.now.params ++ (too_many most_locals (method.now.params ++ method.now.locals)
         ++ outcome_faults (map class_tree scope.now.classes.now.list.now) method.now.result method.now.result_pos))) }
 {
     let params = scope.params;
     let locals = scope.locals;
     variables(scope.classes, Owner::Method, none, params, first);
     variables(scope.classes, Owner::Method, params, locals, first);
-    note_too_many(8, params.list, first);
-    note_too_many_locals(32, params.list, locals.list, first);
+    note_too_many(MOST_PARAMS, params.list, first);
+    note_too_many_locals(MOST_LOCALS, params.list, locals.list, first);
     outcome(scope.classes, method, first);
 }
 
@@ -208,14 +225,14 @@ fn next_method(
 ) -> Result<(), AllocError>
     requires { scope.now.params.now.list.now ≡ [] }
     ensures { OnOk result (Notes first.old first.new
-        (fault_if others.1 next.now.name.pos 4
-        ++ (fault_if (others.0 == 64) next.now.name.pos 12 ++ method_tree_faults (scope_of scope.now) (method_tree next.now)))) }
+        (fault_if others.1 next.now.name.pos method_twice
+        ++ (fault_if (others.0 == most_methods) next.now.name.pos limit ++ method_tree_faults (scope_of scope.now) (method_tree next.now)))) }
 {
     let token = next.name.pos;
     if others.1 {
         note(first, ClassFault::MethodTwice { token });
     }
-    if others.0 == 64 {
+    if others.0 == MOST_METHODS {
         note(first, ClassFault::Limit { token });
     }
     method(alloc, scope, next, first)
@@ -243,7 +260,7 @@ fn class(
     first: &mut Option<ClassFault>,
 ) -> Result<(), AllocError>
     ensures { OnOk result (Notes first.old first.new
-        (vars_faults (map class_tree classes.now.list.now) 3 [] class.now.vars ++ (too_many 64 class.now.vars
+        (vars_faults (map class_tree classes.now.list.now) variable_twice [] class.now.vars ++ (too_many most_variables class.now.vars
         ++ (methods_faults (class_scope (map class_tree classes.now.list.now) (class_tree class.now)) [] (map method_tree class.now.methods)
         ++ statements_faults (class_scope (map class_tree classes.now.list.now) (class_tree class.now)) (statements_of class.now.body))))) }
 {
@@ -267,7 +284,7 @@ fn class(
         locals: &none,
     };
     variables(classes, Owner::Class, &none, &vars, first);
-    note_too_many(64, vars.list, first);
+    note_too_many(MOST_VARIABLES, vars.list, first);
     methods(alloc, &scope, first)?;
     statements(alloc, &scope, class.body.items(), first)?;
     Ok(())
@@ -283,8 +300,8 @@ fn next_class(
     first: &mut Option<ClassFault>,
 ) -> Result<(), AllocError>
     ensures { OnOk result (Notes first.old first.new
-        (fault_if others.1 next.now.name.pos 1
-        ++ (fault_if (others.0 == 256) next.now.name.pos 12 ++ (vars_faults (map class_tree classes.now.list.now) 3 [] next.now.vars ++ (too_many 64 next.now.vars
+        (fault_if others.1 next.now.name.pos class_twice
+        ++ (fault_if (others.0 == most_classes) next.now.name.pos limit ++ (vars_faults (map class_tree classes.now.list.now) variable_twice [] next.now.vars ++ (too_many most_variables next.now.vars
         ++ (methods_faults (class_scope (map class_tree classes.now.list.now) (class_tree next.now)) [] (map method_tree next.now.methods)
         ++ statements_faults (class_scope (map class_tree classes.now.list.now) (class_tree next.now)) (statements_of next.now.body))))))) }
 {
@@ -292,7 +309,7 @@ fn next_class(
     if others.1 {
         note(first, ClassFault::ClassTwice { token });
     }
-    if others.0 == 256 {
+    if others.0 == MOST_CLASSES {
         note(first, ClassFault::Limit { token });
     }
     class(alloc, classes, next, first)

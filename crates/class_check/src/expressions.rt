@@ -1,5 +1,7 @@
 //! The faults and the sorts of expressions.
 ghost use Rattle.std.specs.Prelude.{◌≡◌, ◌≤◌, ◌+◌, ◌++◌, map, min, slice_get};
+ghost use Rattle.pool_syntax.specs.FaultNumbers.{unknown_variable};
+ghost use Rattle.pool_syntax.specs.Limits.{most_operands};
 ghost use Rattle.pool_syntax.specs.TreeOf.{class_tree, expression_of, expressions_of};
 ghost use Rattle.pool_syntax.specs.Typing.{arguments_faults, destination_faults, expression_faults, limit, method_faults, method_sort, name_sort, params_of, position, sent_method, send_sort, sort_of, is_broken_name, fault_if, no_result, is_comparable, counted};
 ghost use Rattle.class_check.specs.PairOf.{Notes};
@@ -29,18 +31,21 @@ fn position(expr: &Expr) -> u32
     }
 }
 
+/// Before an expression fewer operands than these may be held.
+const MOST_OPERANDS: u8 = 64;
+
 /// One more operand held; 64 stands for all counts from 64.
 pub fn one_more(held: u8) -> u8
-    requires { held ≤ 64 }
-    ensures { result ≡ min (held + 1) 64 }
+    requires { held ≤ most_operands }
+    ensures { result ≡ min (held + 1) most_operands }
 {
-    if held < 64 { held + 1 } else { 64 }
+    (held + 1).min(MOST_OPERANDS)
 }
 
 fn note_limit(held: u8, token: u32, first: &mut Option<ClassFault>)
     ensures { Notes first.old first.new (limit held token) }
 {
-    if held >= 64 {
+    if held >= MOST_OPERANDS {
         note(first, ClassFault::Limit { token });
     }
 }
@@ -58,7 +63,7 @@ fn name_sort(scope: &Scope, name: NameId) -> Sort
 /// The sort of a name at the token, which is noted where it is not declared.
 pub fn note_name(scope: &Scope, name: NameId, token: u32, first: &mut Option<ClassFault>) -> Sort
     ensures sort { sort_tree result ≡ name_sort (scope_of scope.now) name.0 }
-    ensures first { Notes first.old first.new (fault_if (is_broken_name (scope_of scope.now) name.0) token 6) }
+    ensures first { Notes first.old first.new (fault_if (is_broken_name (scope_of scope.now) name.0) token unknown_variable) }
 {
     match scope.kind_of(name) {
         Some(kind) => kind_sort(scope.classes, kind),
@@ -198,7 +203,7 @@ fn note_argument(
 /// The sort of an expression. Notes its faults, but for what its own place needs.
 #[cycle(expressions)]
 fn expression(scope: &Scope, held: u8, expr: &Expr, first: &mut Option<ClassFault>) -> Sort
-    requires { held ≤ 64 }
+    requires { held ≤ most_operands }
     ensures sort { sort_tree result ≡ sort_of (scope_of scope.now) (expression_of expr.now) }
     ensures first { Notes first.old first.new (expression_faults (scope_of scope.now) held (expression_of expr.now)) }
 {
@@ -251,7 +256,7 @@ fn expression(scope: &Scope, held: u8, expr: &Expr, first: &mut Option<ClassFaul
 /// The sort and the token of an expression before which so many operands are held, where 64 stands for all counts from 64. Notes its faults, but for what its own place needs.
 #[cycle(expressions)]
 pub fn placed(scope: &Scope, held: u8, expr: &Expr, first: &mut Option<ClassFault>) -> Placed
-    requires { held ≤ 64 }
+    requires { held ≤ most_operands }
     ensures sort { sort_tree result.sort ≡ sort_of (scope_of scope.now) (expression_of expr.now) }
     ensures token { result.token ≡ position (expression_of expr.now) }
     ensures first { Notes first.old first.new (expression_faults (scope_of scope.now) held (expression_of expr.now)) }
@@ -271,7 +276,7 @@ fn called(
     args: &[Expr],
     first: &mut Option<ClassFault>,
 ) -> Sort
-    requires { held ≤ 64 }
+    requires { held ≤ most_operands }
     ensures sort { sort_tree result ≡ method_sort (map class_tree scope.now.classes.now.list.now) (method_of callee.entry) }
     ensures first { Notes first.old first.new (arguments_faults (scope_of scope.now) held (params_of (method_of callee.entry)) (expressions_of args.now)) }
 {
@@ -288,7 +293,7 @@ pub fn arguments(
     args: &[Expr],
     first: &mut Option<ClassFault>,
 )
-    requires { held ≤ 64 }
+    requires { held ≤ most_operands }
     ensures { Notes first.old first.new (arguments_faults (scope_of scope.now) held params.now (expressions_of args.now)) }
 {
     let mut now_held = held;

@@ -11,7 +11,7 @@ use crate::fault::{ClassFault, note};
 use pool_syntax::{Kind, NameId, Op};
 
 /// The sort of an expression.
-#[derive(Clone, Copy, Debug, PartialEq, Eq)]
+#[derive(Clone, Copy)]
 pub enum Sort {
     Int,
     Bool,
@@ -90,7 +90,7 @@ pub fn operand_sort(op: Op) -> Sort
 }
 
 /// An expression's sort, and its token.
-#[derive(Clone, Copy, Debug)]
+#[derive(Clone, Copy)]
 pub struct Placed {
     pub sort: Sort,
     pub token: u32,

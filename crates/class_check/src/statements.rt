@@ -1,9 +1,10 @@
 //! The faults of statements.
 ghost use Rattle.std.specs.Prelude.{◌≡◌, ◌≤◌, ◌++◌, ◌||◌, [], not, is_some, OnOk};
-ghost use Rattle.pool_syntax.specs.TreeOf.{expression_of, statement_of, statements_of};
+ghost use Rattle.pool_syntax.specs.FaultNumbers.{answer_name as answer_name_number};
+ghost use Rattle.pool_syntax.specs.TreeOf.{alternatives_of, expression_of, statement_of, statements_of};
 ghost use Rattle.pool_syntax.specs.Typing.{BoolSort, alternatives_faults, answer_faults, expression_faults, fault_if, own_method, names_faults, needs, needs_any, statement_faults, statements_faults};
 ghost use Rattle.class_check.specs.PairOf.{Notes};
-ghost use Rattle.class_check.specs.Stands.{scope_of, alternatives_of};
+ghost use Rattle.class_check.specs.Stands.{scope_of};
 
 use crate::expressions::{arguments, note_destination, note_name, one_more, params_of, placed};
 use crate::fault::{ClassFault, note};
@@ -15,7 +16,7 @@ use std::alloc::{AllocError, Global};
 
 /// Notes a name of an answer list that is no method of the own class, or stands there again.
 fn answer_name(scope: &Scope, again: bool, named: Named, first: &mut Option<ClassFault>)
-    ensures { Notes first.old first.new (fault_if (not (is_some (own_method (scope_of scope.now) named.name.0)) || again) named.pos 11) }
+    ensures { Notes first.old first.new (fault_if (not (is_some (own_method (scope_of scope.now) named.name.0)) || again) named.pos answer_name_number) }
 {
     if scope.own_method(named.name).is_none() || again {
         note(first, ClassFault::AnswerName { token: named.pos });

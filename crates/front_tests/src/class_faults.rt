@@ -1,46 +1,38 @@
-//! Class faults of trees.
-ghost use Rattle.std.specs.Prelude.{◌≡◌, []};
-ghost use Rattle.pool_syntax.specs.TreeOf.{class_tree};
-ghost use Rattle.pool_syntax.specs.Terms.{Done};
+//! Class faults of texts.
+ghost use Rattle.std.specs.Prelude.{◌≤◌, length};
 
 use class_check::{ClassFault, check};
-use pool_syntax::{ClassDecl, List, NameId, Named, Names, Program};
+use pool_lexer::tokens;
+use pool_parser::parse;
 use std::alloc::Global;
 
-// A class without variables, methods and statements.
-fn empty(alloc: Global, name: NameId, pos: u32) -> ClassDecl
-    ensures { class_tree result ≡ record { name = record { name = name; pos = pos }; vars = []; methods = []; body = Done } }
+// The class fault of a text that has a program, if there is one; `Memory` where the text has none.
+fn class_fault(alloc: Global, text: &[u8]) -> Option<ClassFault>
+    requires { length text.now ≤ 1048576 }
 {
-    ClassDecl {
-        name: Named { name, pos },
-        vars: List::make(alloc),
-        methods: List::make(alloc),
-        body: List::make(alloc),
+    match tokens(alloc, text) {
+        Ok(read) => match parse(alloc, &read) {
+            Ok(program) => check(alloc, &program, &read.names).err(),
+            Err(_) => Some(ClassFault::Memory),
+        },
+        Err(_) => Some(ClassFault::Memory),
     }
 }
 
-// `class Main body end`, and that twice.
 #[test]
-fn finds_the_second_class_of_one_name(rt: HostRuntime) {
-    let mut names = Names::make(rt.alloc());
-    let name = names.add(b"Main").expect(&rt, "memory");
-    let mut classes = List::make(rt.alloc());
-    classes
-        .push(empty(rt.alloc(), name, 1))
-        .expect(&rt, "memory");
-    let one = Program { classes };
-    assert!(rt; check(rt.alloc(), &one, &names).is_ok());
-
-    let mut classes = List::make(rt.alloc());
-    classes
-        .push(empty(rt.alloc(), name, 1))
-        .expect(&rt, "memory");
-    classes
-        .push(empty(rt.alloc(), name, 5))
-        .expect(&rt, "memory");
-    let two = Program { classes };
-    match check(rt.alloc(), &two, &names) {
-        Ok(_) => assert!(rt; false),
-        Err(fault) => assert!(rt; fault == ClassFault::ClassTwice { token: 5 }),
+fn finds_the_first_class_fault(rt: HostRuntime) {
+    let rows: [(&[u8], Option<ClassFault>); 3] = [
+        (b"class Main body end", None),
+        (
+            b"class Main body end class Main body end",
+            Some(ClassFault::ClassTwice { token: 5 }),
+        ),
+        (
+            b"class Main body write x; write true + 1 end",
+            Some(ClassFault::UnknownVariable { token: 4 }),
+        ),
+    ];
+    for (text, fault) in &rows {
+        assert!(rt; class_fault(rt.alloc(), *text) == *fault);
     }
 }

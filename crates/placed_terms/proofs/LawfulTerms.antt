@@ -25,12 +25,7 @@ use Rattle.pool_relation.specs.Transition as X
 use Rattle.mesh_semantics.specs.Partial.{◌>>=◌}
 use Rattle.pool_relation.specs.Transition.{transition, refilled, running}
 use Rattle.mesh_semantics.proofs.Laws.{equals, decide, differ, same_some, find_put_same, find_put_other, no_part, one_part, value_itself}
-use Rattle.pool_relation.proofs.Busy.{Ends, is_statement, statements_busy}
-use Rattle.pool_relation.proofs.Fine.{place, Fine, FineObject}
-use Rattle.pool_relation.proofs.Good.{FitsAt, classes, good_of}
-use Rattle.pool_relation.proofs.NextWaits.{does_not_wait}
-use Rattle.pool_relation.proofs.OneObject.{fine_at}
-use Rattle.pool_relation.proofs.Kept.{well_typed_kept}
+use Rattle.pool_relation.proofs.Laws.{Ends, is_statement, statements_activities, place, TypedAction, TypedObject, FitsAt, classes, invariant_of, does_not_wait, object_typed_at, typed_kept}
 use Rattle.mesh_semantics.specs.Kind as K
 use Rattle.mesh_semantics.specs.Kind.{Kind}
 use Rattle.mesh_semantics.specs.Config.{Config, object_of, put_object, messages_of}
@@ -111,21 +106,21 @@ module _ (p : ProgramTree) (none : faults p ≡ []) (written : IsTrue (is_writte
   abbrev pub W : Config Object → Type 0
   W c = Typed p (plain c)
 
-  fine : (c : Config Object) (o : ℕ) (x : Object) → W c → object_of c o ≡ Some x → Fine p (classes (plain c)) x (action p o x)
-  fine c o x w h = fine_at p none written (plain c) o x (good_of p (plain c) w) h
+  fine : (c : Config Object) (o : ℕ) (x : Object) → W c → object_of c o ≡ Some x → TypedAction p (classes (plain c)) x (action p o x)
+  fine c o x w h = object_typed_at p none written (plain c) o x (invariant_of p (plain c) w) h
 
   -- what is under way stays
   under_way_kept : (c : Config Object) (o : ℕ) (x : Object) (e : Expression) → W c → object_of c o ≡ Some x → meets (action p o x) ≡ true → in_expression e ≡ []
       → in_statements (refilled x (AsExpression e)).term ≡ in_statements x.term
   under_way_kept c o x e w h m i = by (statements_redex [] x.term) refl
     where
-      typed : FineObject p (classes (plain c)) x
-      typed = (good_of p (plain c) w).objects.fine o x h
+      typed : TypedObject p (classes (plain c)) x
+      typed = (invariant_of p (plain c) w).objects.typed o x h
 
       by : (a : Found (Unit {0})) → statements_redex [] x.term ≡ a → in_statements (refilled x (AsExpression e)).term ≡ in_statements x.term
       by (Evaluated v) q = absurd (let z : false ≡ true = rw q at m in cc)
       by (At r u) q =
-          let b = statements_busy (place p (classes (plain c)) x) [] x.term typed.term r u q in
+          let b = statements_activities (place p (classes (plain c)) x) [] x.term typed.term r u q in
           let k = at_meeting p o x u (place p (classes (plain c)) x) r b.now (rw q at m) b.ends in
           b.new_is (AsExpression e) k.0 ∙ ap (λ z. b.before ++ z) i ∙ sym (b.old_is ∙ ap (λ z. b.before ++ z) k.1)
 
@@ -180,8 +175,8 @@ module _ (p : ProgramTree) (none : faults p ≡ []) (written : IsTrue (is_writte
   serves_it : (m k : ℕ) → served_for k (Serving m (Some k) ∷ []) ≡ m ∷ []
   serves_it m k = rw (equals k) refl
 
-  returning : (c : Config Object) (b : ℕ) (y : Object) (k : ℕ) (v : Value) → W c → object_of c b ≡ Some y → kind_of (action p b y) ≡ K.Return k v → Fine p (classes (plain c)) y (A.Return k v)
-  returning c b y k v w h i = subst (Fine p (classes (plain c)) y) (return_is (action p b y) k v i) (fine c b y w h)
+  returning : (c : Config Object) (b : ℕ) (y : Object) (k : ℕ) (v : Value) → W c → object_of c b ≡ Some y → kind_of (action p b y) ≡ K.Return k v → TypedAction p (classes (plain c)) y (A.Return k v)
+  returning c b y k v w h i = subst (TypedAction p (classes (plain c)) y) (return_is (action p b y) k v i) (fine c b y w h)
 
   has_wait : (c : Config Object) (b : ℕ) (y : Object) (k : ℕ) (v : Value) → W c → object_of c b ≡ Some y → kind_of (action p b y) ≡ K.Return k v
       → (x : Object) × (m : ℕ) × (object_of c k ≡ Some x) × (kind_of (action p k x) ≡ K.Waits b m)
@@ -195,7 +190,7 @@ module _ (p : ProgramTree) (none : faults p ≡ []) (written : IsTrue (is_writte
       → (frames_of (X.given x (V.Ref n)).term ≡ frames_of x.term) × ((X.given x (V.Ref n)).fault ≡ x.fault) × (is_wait (kind_of (action p o (X.given x (V.Ref n)))) ≡ false)
   given_name c o x k n w h i f =
       let a = new_is (action p o x) k i in
-      let r = subst (Fine p (classes (plain c)) x) a (fine c o x w h) in
+      let r = subst (TypedAction p (classes (plain c)) x) a (fine c o x w h) in
       let steps = r.1 more n (record { kept = λ q j e. grows q j e (decide q n) }) (rw (equals n) refl) in (
         frames_kept c o x (literal (V.Ref n)) w h (rw a refl) refl,
         refl,
@@ -220,7 +215,7 @@ module _ (p : ProgramTree) (none : faults p ≡ []) (written : IsTrue (is_writte
       back : action p b y ≡ A.Return o v
       back = return_is (action p b y) o v iy
 
-      r : Fine p (classes (plain c)) y (A.Return o v)
+      r : TypedAction p (classes (plain c)) y (A.Return o v)
       r = returning c b y o v w hy iy
 
       apart : b ≢ o
@@ -242,7 +237,7 @@ module _ (p : ProgramTree) (none : faults p ≡ []) (written : IsTrue (is_writte
       go = rw (hy, no_fault b y hy (λ e j. let z = sym back ∙ j in cc), hx, no_fault o x hx (λ e j. let z = sym wait ∙ j in cc), back, wait, equals o, value_itself v, equals b) refl
 
       after : Typed p (plain (put_object (put_object c b (X.done y)) o (X.given x v)))
-      after = well_typed_kept p (plain c) (plain (put_object (put_object c b (X.done y)) o (X.given x v))) (L.Return b o v) none written w go
+      after = typed_kept p (plain c) (plain (put_object (put_object c b (X.done y)) o (X.given x v))) (L.Return b o v) none written w go
 
       at_o : object_of (put_object (put_object c b (X.done y)) o (X.given x v)) o ≡ Some (X.given x v)
       at_o = find_put_same o (X.given x v) (put_object c b (X.done y)).objects
@@ -279,11 +274,11 @@ module _ (p : ProgramTree) (none : faults p ≡ []) (written : IsTrue (is_writte
   pub lawful : Lawful (terms p) (λ c. Typed p (plain c))
   lawful = record {
     sorted = λ c w. w.in_order.0;
-    kept = λ c d lab w e. well_typed_kept p (plain c) (plain d) lab none written w (sym (move_is p c lab) ∙ ap as_plain e);
+    kept = λ c d lab w e. typed_kept p (plain c) (plain d) lab none written w (sym (move_is p c lab) ∙ ap as_plain e);
     fault_kind = λ c o x e w h f. ap kind_of (w.fault o x e h f);
-    can_make = λ c o x k w h i. made_of (class_of p k) X.new_object (subst (Fine p (classes (plain c)) x) (new_is (action p o x) k i) (fine c o x w h)).0;
-    can_call = λ c o x b m args w h i. let r = subst (Fine p (classes (plain c)) x) (send_is (action p o x) b m args i) (fine c o x w h) in served_by c b m args (r.0.0, r.0.1, r.0.2, r.0.3);
-    can_send = λ c o x b m args w h i. let r = subst (Fine p (classes (plain c)) x) (async_is (action p o x) b m args i) (fine c o x w h) in served_by c b m args (r.0.0, r.0.1, r.0.2, r.0.3);
+    can_make = λ c o x k w h i. made_of (class_of p k) X.new_object (subst (TypedAction p (classes (plain c)) x) (new_is (action p o x) k i) (fine c o x w h)).0;
+    can_call = λ c o x b m args w h i. let r = subst (TypedAction p (classes (plain c)) x) (send_is (action p o x) b m args i) (fine c o x w h) in served_by c b m args (r.0.0, r.0.1, r.0.2, r.0.3);
+    can_send = λ c o x b m args w h i. let r = subst (TypedAction p (classes (plain c)) x) (async_is (action p o x) b m args i) (fine c o x w h) in served_by c b m args (r.0.0, r.0.1, r.0.2, r.0.3);
     can_take = λ c names s r f w h. let z = earliest (FitsAt p (plain c) r) names (messages_of c s r) f (w.messages s r) h in
         served_by c r f.method f.args (z.0.class, z.2.0, ap class_at z.1, z.2.1);
     has_wait = has_wait;

@@ -6,7 +6,7 @@ use Rattle.pool_syntax.specs.Terms.{ClassTree, ProgramTree}
 use Rattle.pool_syntax.specs.Classes.{class_of}
 use Rattle.pool_syntax.specs.Typing.{faults, classes_faults, class_scope, methods_faults, statements_faults, vars_faults, fault_if, contains, too_many}
 use Rattle.pool_relation.specs.Transition.{last_class}
-use Rattle.pool_relation.proofs.Faults.{none2, no_fault_if}
+use Rattle.pool_relation.proofs.Laws.{none2, no_fault_if}
 use Rattle.mesh_semantics.specs.Act.{class_place}
 use Rattle.mesh_semantics.specs.Record.{last_place}
 use Rattle.mesh_semantics.specs.FitFor.{FitFor}

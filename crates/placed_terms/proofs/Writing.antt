@@ -20,9 +20,7 @@ use Rattle.pool_relation.specs.UnderWay.{Activity, in_statements, frames_of}
 use Rattle.pool_relation.specs.Transition.{done}
 use Rattle.pool_relation.specs.Typed.{Typed}
 use Rattle.pool_relation.specs.Written.{is_written}
-use Rattle.pool_relation.proofs.Busy.{Ends, is_statement, statements_busy}
-use Rattle.pool_relation.proofs.Fine.{place, FineObject}
-use Rattle.pool_relation.proofs.Good.{classes, good_of}
+use Rattle.pool_relation.proofs.Laws.{Ends, is_statement, statements_activities, place, TypedObject, classes, invariant_of}
 
 abbrev is_write : Action → Bool
 is_write (A.Write item) = true
@@ -88,8 +86,8 @@ module _ (p : ProgramTree) (none : faults p ≡ []) (written : IsTrue (is_writte
   pub write_keeps_frames : (c : Configuration) (o : ℕ) (x : Object) (item : Item) → Typed p c → object_of c o ≡ Some x → action p o x ≡ A.Write item → frames_of (done x).term ≡ frames_of x.term
   write_keeps_frames c o x item w h a = ap length (by (statements_redex [] x.term) refl)
     where
-      typed : FineObject p (classes c) x
-      typed = (good_of p c w).objects.fine o x h
+      typed : TypedObject p (classes c) x
+      typed = (invariant_of p c w).objects.typed o x h
 
       is : is_write (action p o x) ≡ true
       is = rw a refl
@@ -97,6 +95,6 @@ module _ (p : ProgramTree) (none : faults p ≡ []) (written : IsTrue (is_writte
       by : (f : Found (Unit {0})) → statements_redex [] x.term ≡ f → in_statements (done x).term ≡ in_statements x.term
       by (Evaluated v) q = absurd (let z : false ≡ true = rw q at is in cc)
       by (At r u) q =
-          let b = statements_busy (place p (classes c) x) [] x.term typed.term r u q in
+          let b = statements_activities (place p (classes c) x) [] x.term typed.term r u q in
           let k = at_write p o x u (place p (classes c) x) r b.now (rw q at is) b.ends in
           b.new_is (AsStatements T.Done) k.0 ∙ ap (λ z. b.before ++ z) (sym k.1) ∙ sym b.old_is

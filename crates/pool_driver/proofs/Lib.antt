@@ -7,5 +7,4 @@ pub mod TurnLaws
 pub mod RecordLaws
 mod RecordRows
 pub mod StopLaws
-pub mod SpelledTokens
 pub mod EndLaws

@@ -22,12 +22,7 @@ use Rattle.pool_relation.specs.Transition.{transition, run, start}
 use Rattle.pool_relation.specs.Typed.{GoesWrong}
 use Rattle.pool_relation.specs.Written.{is_written}
 use Rattle.pool_relation.specs.Ready.{is_ready}
-use Rattle.pool_relation.proofs.Quiet.{no_transition}
-use Rattle.pool_relation.proofs.Runs.{joined}
-use Rattle.pool_relation.proofs.Started.{start_well_typed}
-use Rattle.pool_relation.proofs.Kept.{run_kept}
-use Rattle.pool_relation.proofs.GoingOn.{not_wrong}
-use Rattle.pool_relation.proofs.Grammatical.{grammatical_written}
+use Rattle.pool_relation.proofs.Laws.{no_transition, joined, start_typed, run_kept, not_wrong, grammatical_written}
 use Rattle.pool_driver.specs.Served.{are_small, is_served, IsServedAction}
 use Rattle.pool_driver.specs.Turn.{local_steps, step_count, Turn, shows, full, nothing, one_step, many_steps, turn_by, turn}
 use Rattle.pool_driver.specs.Records.{is_quiet, Record, with_line, ends, after_turn, record_from, record_at, record_of, labels_of, labels, is_quiet_end, ends_quiet, shows_fault, ended, status_after, status_of, IsRunFrom}
@@ -259,7 +254,7 @@ is_run p quantum turns s none g = (lone begins.0, begins.1, record { leads = sho
     right : (before behind : List Label) (d : Configuration) (o : ℕ) (x : Object) → labels (record_of p quantum turns).lines ≡ before ++ behind
         → run p (lone begins.0) before ≡ Some d → object_of d o ≡ Some x → ¬ (GoesWrong p d o (action p o x))
     right before behind d o x is r e =
-        not_wrong p none written d o x (run_kept p (lone begins.0) d before none written (start_well_typed p none written 0 (lone begins.0) begins.1) r) e
+        not_wrong p none written d o x (run_kept p (lone begins.0) d before none written (start_typed p none written 0 (lone begins.0) begins.1) r) e
 
 pub record_of_inputs : (told : Told) (names : FileNames) (p : ProgramTree) (turns : Turns) (text : List ℕ) (status : Status) → IsGrammatical p → Accepts told names p turns
     → text ≡ record_text (record_of p turns.quantum turns.turns).lines → status ≡ status_of (record_of p turns.quantum turns.turns).lines → IsRecordOf told names text status

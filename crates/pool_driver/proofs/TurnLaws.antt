@@ -20,7 +20,7 @@ use Rattle.mesh_semantics.specs.Partial.{◌>>=◌}
 use Rattle.pool_relation.specs.Transition.{transition, run}
 use Rattle.mesh_semantics.specs.Same.{is_same_item, error_number}
 use Rattle.pool_semantics.specs.Shown.{Shows}
-use Rattle.pool_relation.proofs.Runs.{joined}
+use Rattle.pool_relation.proofs.Laws.{joined}
 use Rattle.pool_driver.specs.declared.run.Asked.{Asked}
 use Rattle.pool_driver.specs.declared.run.Asked.TheVariants as Q
 use Rattle.pool_driver.specs.Served.{are_small, is_served, IsServedAction}

@@ -9,8 +9,8 @@ use Rattle.pool_syntax.specs.Grammar.{rule}
 use Rattle.pool_syntax.specs.Derives.{Begins, IsFirstUnexpected}
 use Rattle.pool_syntax.specs.Nesting.{IsFirstTooDeep}
 use Rattle.pool_syntax.specs.Typing.{faults}
-use Rattle.pool_lexer.specs.Ended.{toks}
-use Rattle.pool_parser.specs.Programs.{HasProgram, IsShallowBelow}
+use Rattle.pool_syntax.specs.Programs.{toks, HasProgram, IsShallowBelow}
+pub use Rattle.pool_syntax.specs.Programs.{IsParsed, IsTextOf, IsTypedText}
 use Rattle.pool_parser.specs.declared.fault.SyntaxFault.{SyntaxFault}
 use Rattle.pool_parser.specs.declared.fault.SyntaxFault.TheVariants as Syntax
 use Rattle.class_check.specs.Least.{IsLeastFault}
@@ -19,25 +19,13 @@ use Rattle.pool_driver.specs.Served.{is_served}
 use Rattle.pool_driver.specs.declared.fault.Fault.{Fault}
 use Rattle.pool_driver.specs.declared.fault.Fault.TheVariants as F
 
--- the text has the program, and this table of its names and strings
-abbrev pub IsParsed : Text → List Text → ProgramTree → Type 0
-IsParsed s names p = (ts : List Token) × HasTokens s names ts × HasProgram (toks ts) p
-
--- the text has the program
-abbrev pub IsTextOf : Text → ProgramTree → Type 0
-IsTextOf s p = (names : List Text) × IsParsed s names p
-
--- the text has the program, and it has no class faults
-abbrev pub IsTypedText : Text → ProgramTree → Type 0
-IsTypedText s p = IsTextOf s p × (faults p ≡ [])
-
 -- the text is a program without class faults, of the form that is run
 abbrev pub IsProgramText : Text → ProgramTree → Type 0
 IsProgramText s p = IsTextOf s p × (faults p ≡ []) × (is_served p ≡ true)
 
 -- the first fault of tokens that have no program
 abbrev pub IsSyntaxFault : List Tok → SyntaxFault → Type 0
-IsSyntaxFault ts (Syntax.Unexpected t) = IsFirstUnexpected ts t × IsShallowBelow ts t
+IsSyntaxFault ts (Syntax.Unexpected t) = IsFirstUnexpected ts t × IsShallowBelow ts t × ((p : ProgramTree) → HasProgram ts p → ⊥)
 IsSyntaxFault ts (Syntax.TooDeep t) = IsFirstTooDeep ts t × Begins ts program (rule program) 0 (t + 1)
 IsSyntaxFault ts Syntax.Memory = ⊥
 

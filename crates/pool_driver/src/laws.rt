@@ -4,16 +4,13 @@ ghost use Rattle.pool_syntax.specs.declared.token.Token.{Token as OneToken};
 ghost use Rattle.pool_syntax.specs.Spelled.{IsGrammatical, is_spelled};
 ghost use Rattle.pool_syntax.specs.Terms.{ProgramTree};
 ghost use Rattle.pool_syntax.specs.Tokens.{Text};
-ghost use Rattle.pool_lexer.specs.Ended.{toks};
-ghost use Rattle.pool_parser.specs.Programs.{IsShallowBelow};
-ghost use Rattle.pool_printer.specs.Canonical.{canonical, program_tokens};
-ghost use Rattle.pool_printer.specs.ReadBack.{are_in_range};
+ghost use Rattle.pool_syntax.specs.Programs.{IsParsed, IsShallowBelow, toks};
+ghost use Rattle.pool_printer.specs.Canonical.{canonical};
 ghost use Rattle.pool_printer.specs.SameProgram.{IsSameProgram};
-ghost use Rattle.pool_driver.specs.Programs.{IsParsed};
 
 /// A canonical text in which no token stands deeper than 200 is read as a program that is the same but for positions and numbering.
 pub fn canonical_text_is_read_back()
-    ensures { (names : ListOf Text) (p : ProgramTree) → is_spelled names p ≡ true → are_in_range (program_tokens p) ≡ true → IsGrammatical p
+    ensures { (names : ListOf Text) (p : ProgramTree) → is_spelled names p ≡ true → IsGrammatical p
         → (other : ListOf Text) × (ts : ListOf OneToken) × (q : ProgramTree) × IsSameProgram names p other ts q
         × (IsShallowBelow (toks ts) (length (toks ts)) → IsParsed (canonical names p) other q) }
 {}

@@ -5,7 +5,8 @@ use Rattle.pool_syntax.specs.Tokens.{Text, longest, IsPieces, HasTokens, texts_a
 use Rattle.pool_syntax.specs.declared.token.Tok.{Tok}
 use Rattle.pool_syntax.specs.declared.token.Tok.TheVariants as tok
 use Rattle.pool_syntax.specs.declared.token.Token.{Token}
-use Rattle.pool_lexer.specs.Ended.{toks, EndsInEnd, IsPlaced}
+use Rattle.pool_syntax.specs.Programs.{toks}
+use Rattle.pool_lexer.specs.Ended.{EndsInEnd, IsPlaced}
 use Rattle.pool_lexer.specs.Reading.{with_kept}
 use Rattle.pool_lexer.proofs.Kept.{cases_Option, texts_after-cons, token_placed, token_not_end}
 
@@ -32,11 +33,11 @@ ended_from names at (w ∷ ws) = elim (cases_Option (token_of names w)) [
 ]
 
 -- every number is a place
-all_more : (P : Tok → Type 0) (t : Tok) (ts : List Tok) → P t → All P ts → All P (t ∷ ts)
+pub all_more : (P : Tok → Type 0) (t : Tok) (ts : List Tok) → P t → All P ts → All P (t ∷ ts)
 all_more P t ts here others zero d h = here
 all_more P t ts here others (suc k) d h = others k d (omega arith)
 
-all_none : (P : Tok → Type 0) → All P []
+pub all_none : (P : Tok → Type 0) → All P []
 all_none P k d h = absurd (omega arith)
 
 placed_from : (seen : List Text) (at : ℕ) (ws : List Text) → All (IsPlaced (length (texts_after seen ws))) (toks (tokens_from (texts_after seen ws) at ws))

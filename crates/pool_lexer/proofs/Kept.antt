@@ -95,7 +95,7 @@ abbrev pub IsFixed : Tok → Type 0
 IsFixed t = ((n : ℕ) → IsPlaced n t) × (t ≢ tok.End)
 
 -- two values that are there
-some_same : {A : Type 0} {x y : A} → ◌≡◌ {A = Option A} (Some x) (Some y) → x ≡ y
+pub some_same : {A : Type 0} {x y : A} → ◌≡◌ {A = Option A} (Some x) (Some y) → x ≡ y
 some_same e = cc
 
 -- what of a token hangs on the table

@@ -4,11 +4,13 @@ pub mod Ends
 pub mod Fronts
 pub mod LineLaws
 pub mod Kept
+pub mod Laws
 pub mod Listed
 pub mod Longest
 pub mod PiecesAt
 pub mod RunLaws
 pub mod Signs
+pub mod SpelledTokens
 pub mod Rests
 pub mod Steps
 pub mod Strings

@@ -1,12 +1,7 @@
 -- What a list of tokens is for its reader: it ends in End, and its numbers are places of the table.
-use Rattle.std.specs.Prelude.{◌≡◌, ℕ, ◌+◌, ◌<◌, ◌↔◌, List, map, length, slice_get, Some}
+use Rattle.std.specs.Prelude.{◌≡◌, ℕ, ◌+◌, ◌<◌, ◌↔◌, List, length, slice_get, Some}
 use Rattle.pool_syntax.specs.declared.token.Tok.{Tok}
 use Rattle.pool_syntax.specs.declared.token.Tok.TheVariants as tok
-use Rattle.pool_syntax.specs.declared.token.Token.{Token}
-
--- the tokens without their places
-abbrev pub toks : List Token → List Tok
-toks ts = map (λ t. t.tok) ts
 
 -- There is a last token, and a token is End exactly where it is the last.
 abbrev pub EndsInEnd : List Tok → Type 0

@@ -1,7 +1,9 @@
 //! The tokens of a whole text, or its first fault.
 ghost use Rattle.std.specs.Prelude.{◌≡◌, ◌≢◌, ℕ, ◌+◌, ◌^◌, ◌<◌, ◌≤◌, ◌⊎◌, List as ItemList, [], ◌∷◌, ◌++◌, Err, IfOk, IfErr, OnOk, MatchResult, All, length};
+ghost use Rattle.pool_syntax.specs.Programs.{toks};
+ghost use Rattle.pool_syntax.specs.Spelled.{AreSpelled};
 ghost use Rattle.pool_syntax.specs.Tokens.{HasTokens, IsFirstFault};
-ghost use Rattle.pool_lexer.specs.Ended.{EndsInEnd, IsPlaced, toks};
+ghost use Rattle.pool_lexer.specs.Ended.{EndsInEnd, IsPlaced};
 ghost use Rattle.pool_lexer.specs.Reading.{TellsStep};
 
 use crate::piece::piece_at;
@@ -27,6 +29,9 @@ pub fn tokens(alloc: Global, bytes: &[u8]) -> Result<Tokens, LexFault>
     // The last token is End and no other is, and each number of a name or string is a place of the table.
     ensures ended { IfOk result (λ t. EndsInEnd (toks t.list)) }
     ensures placed { IfOk result (λ t. All (IsPlaced (length t.names)) (toks t.list)) }
+
+    // Each name, string and integer is one of a spelled program.
+    ensures spelled { IfOk result (λ t. AreSpelled t.names (toks t.list)) }
     ensures count { IfOk result (λ t. length t.list ≤ length bytes.now + 1) }
 {
     let mut tokens = Tokens {

@@ -1,5 +1,5 @@
 //! Lines of a text, words of a line, and numbers.
-ghost use Rattle.std.specs.Prelude.{◌≡◌, ◌+◌, ◌<◌, ◌≤◌, ◌↔◌, [], ◌∷◌, None, IfSome, length, drop, slice_range};
+ghost use Rattle.std.specs.Prelude.{◌≡◌, ◌+◌, ◌<◌, ◌≤◌, ◌↔◌, [], ◌∷◌, None, IfSome, length, drop, min, slice_range};
 ghost use Rattle.std.specs.List.{prefix_len};
 ghost use Rattle.pool_lexer.specs.ByteSets.{is_in};
 ghost use Rattle.pool_lexer.specs.Lines.{lines, words, decimal_of};
@@ -18,6 +18,8 @@ pub fn next_line(bytes: &[u8], from: usize) -> Option<LineAt>
     ensures forward { IfSome result (λ at. from < at.next) }
     ensures line { IfSome result
         (λ at. lines (drop from bytes.now) ≡ slice_range bytes.now at.start at.end ∷ lines (drop at.next bytes.now)) }
+    // It goes up to its line feed, or to the text's end.
+    ensures next { IfSome result (λ at. at.next ≡ min (length bytes.now) (from + prefix_len (is_in NotLineFeed) (drop from bytes.now) + 1)) }
     ensures none { (result ≡ None) ↔ (from ≡ length bytes.now) }
 {
     if from == bytes.len() {

@@ -10,6 +10,12 @@ use crate::places::Decimal;
 use crate::spelling::keyword;
 use pool_syntax::{LexFault, Names, Tok};
 
+/// The most bytes of a name.
+const NAME_LIMIT: usize = 64;
+
+/// The most bytes of a string, between its quotes.
+const STRING_LIMIT: usize = 256;
+
 /// The token of a piece, and the table with the text that it keeps.
 pub fn token(names: &mut Names, text: &[u8], kind: Kind, at: u32) -> Result<Option<Tok>, LexFault>
     requires kind { IsKind kind text.now }
@@ -31,7 +37,7 @@ fn word(names: &mut Names, text: &[u8], at: u32) -> Result<Tok, LexFault>
     requires room { length names.old < 2 ^ 32 }
     ensures { TellsToken (λ t. Some t) at text.now names.old names.new result }
 {
-    if text.len() > 64 {
+    if text.len() > NAME_LIMIT {
         return Err(LexFault::TooLong { at });
     }
     match keyword(text) {
@@ -61,7 +67,7 @@ fn string(names: &mut Names, text: &[u8], at: u32) -> Result<Tok, LexFault>
     requires room { length names.old < 2 ^ 32 }
     ensures { TellsToken (λ t. Some t) at text.now names.old names.new result }
 {
-    if text.len() > 258 {
+    if text.len() > STRING_LIMIT + 2 {
         return Err(LexFault::TooLong { at });
     }
     match names.add(&text[1..text.len() - 1]) {

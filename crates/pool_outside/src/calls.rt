@@ -8,7 +8,7 @@ use std::alloc::{AllocError, Global};
 use thiserror::Error;
 
 /// Why a text was not read whole.
-#[derive(Clone, Copy, Debug, PartialEq, Eq, Error)]
+#[derive(Clone, Copy, Debug, Error)]
 pub enum ReadFault {
     /// The open or a read failed, and the count of faults rose or stands at its last value.
     #[error("a read failed")]
@@ -38,7 +38,7 @@ impl From<AllocError> for ReadFault {
 }
 
 /// A write failed before the piece was written whole.
-#[derive(Clone, Copy, Debug, PartialEq, Eq)]
+#[derive(Clone, Copy)]
 pub struct WriteFault;
 
 /// The most bytes that are asked for in one read.
@@ -51,7 +51,8 @@ fn zeros(alloc: Global, count: usize) -> Result<Vec<u8>, AllocError>
 }
 
 /// Opens the name once, and reads its text to the end, in pieces of at most 64 KiB. Once more than `limit` bytes
-/// were given it reads no further, and answers `TooLong`. `Failed` comes where the open or a read failed.
+/// were given it reads no further, and answers `TooLong`. `Failed` comes where the open or a read failed, and no
+/// call is made after it.
 pub fn read_whole<F: Files>(
     alloc: Global,
     files: &mut F,
@@ -66,7 +67,12 @@ pub fn read_whole<F: Files>(
     ensures within { IfOk result (λ text. length text.items ≤ limit) }
     ensures ended { OnOk result (F.live files.new ≡ false) }
     ensures failed { IsErrOf result ReadFault.Failed → Rose (F.faults files.old) (F.faults files.new) }
+    ensures failed_within { IsErrOf result ReadFault.Failed → F.given files.new ≤ limit }
     ensures too_long { IsErrOf result ReadFault.TooLong ↔ limit < F.given files.new }
+    ensures stops_there { IsErrOf result ReadFault.TooLong → F.live files.new ≡ true }
+    ensures no_fault { OnOk result (F.faults files.new ≡ F.faults files.old) }
+    ensures no_fault_too_long { IsErrOf result ReadFault.TooLong → F.faults files.new ≡ F.faults files.old }
+    ensures no_fault_memory { IsErrOf result ReadFault.Memory → F.faults files.new ≡ F.faults files.old }
     ensures stops { F.given files.new ≤ limit + 65536 }
     ensures no_more_than_told { IfSome (F.told files.old name.now) (λ s. F.given files.new ≤ length s) }
     ensures opened_once { F.opens files.new ≡ F.opens files.old + 1 }
@@ -94,6 +100,7 @@ pub fn write_all_of<K: Sink>(sink: &mut K, piece: &[u8]) -> Result<(), WriteFaul
     ensures whole { OnOk result (K.written sink.new ≡ option_map (λ w. w ++ piece.now) (K.written sink.old)) }
     ensures front { OnErr result ((n : ℕ) × (n ≤ length piece.now) × (K.written sink.new ≡ option_map (λ w. w ++ take n piece.now) (K.written sink.old))) }
     ensures failed { OnErr result (Rose (K.faults sink.old) (K.faults sink.new)) }
+    ensures no_fault { OnOk result (K.faults sink.new ≡ K.faults sink.old) }
     ensures faults_stay_or_rise { K.faults sink.old ≤ K.faults sink.new }
 {
     let mut at = 0;

@@ -1,6 +1,6 @@
 // Files and sinks of the system, over std. No contract tells what they hold; the bytes that std gives and takes are passed on
 // as they are.
-ghost use Rattle.std.specs.Prelude.{◌≡◌, ℕ, ◌+◌, ◌-◌, ◌^◌, ◌<◌, ◌≤◌, None, true, false, length, take, is_some, option_map, unwrap_or, IfOk, OnErr};
+ghost use Rattle.std.specs.Prelude.{◌≡◌, ℕ, ◌+◌, ◌-◌, ◌^◌, ◌<◌, ◌≤◌, None, true, false, length, take, is_some, option_map, unwrap_or, IfOk, OnOk, OnErr};
 ghost use Rattle.std.specs.Io.KnownBytes.{Appends, Consumes, IsAtEnd, Keeps};
 ghost use Rattle.pool_outside.specs.Outside.{Rose};
 ghost use Rattle.pool_outside.specs.Memory.{counted};
@@ -88,6 +88,7 @@ impl<R: rt::Files + Drop> Files for StdFiles<R> {
         requires room { 0 < length into.old }
         ensures passed { IfOk result (λ n. 0 < n → Consumes self.old.left self.new.left (take n into.new)) }
         ensures at_end { IfOk result (λ n. n ≡ 0 → IsAtEnd self.old.left) }
+        ensures no_fault { OnOk result (self.new.faults ≡ self.old.faults) }
         ensures fits { IfOk result (λ n. n ≤ length into.old) }
         ensures counted { IfOk result (λ n. self.new.given ≡ counted self.old.given n) }
         ensures ended { IfOk result (λ n. n ≡ 0 → self.new.live ≡ false) }
@@ -151,6 +152,7 @@ impl<W: Write + Drop> Sink for StdSink<W> {
         ensures kept { OnErr result (Keeps self.old.held self.new.held) }
         ensures takes { IfOk result (λ n. (1 ≤ n) × (n ≤ length piece.now)) }
         ensures failed { OnErr result (Rose self.old.faults self.new.faults) }
+        ensures no_fault { OnOk result (self.new.faults ≡ self.old.faults) }
         ensures faults_stay_or_rise { self.old.faults ≤ self.new.faults }
     {
         match self.writer.write(piece) {

@@ -10,7 +10,7 @@ use std::alloc::{AllocError, Global};
 use std::marker::Model;
 
 /// A text and its name.
-#[derive(Debug, Drop)]
+#[derive(Drop)]
 pub struct NamedText {
     pub name: String,
     pub text: Vec<u8>,
@@ -25,13 +25,13 @@ impl Model for NamedText {
 }
 
 /// A place in a text, by the text's index.
-#[derive(Clone, Copy, Debug)]
+#[derive(Clone, Copy)]
 struct Place {
     text: usize,
     at: usize,
 }
 
-#[derive(Debug, Drop)]
+#[derive(Drop)]
 struct Shelf {
     texts: Vec<NamedText>,
     place: Option<Place>,
@@ -147,7 +147,7 @@ impl Shelf {
 }
 
 /// Texts in memory, for tests. Calls of both kinds are numbered together from 0.
-#[derive(Debug, Drop)]
+#[derive(Drop)]
 pub struct MemFiles {
     shelf: Shelf,
     failing: Vec<u64>,
@@ -247,7 +247,7 @@ impl Files for MemFiles {
 }
 
 /// Texts in memory whose calls never fail. An unknown name has the empty text.
-#[derive(Debug, Drop)]
+#[derive(Drop)]
 pub struct CalmFiles {
     shelf: Shelf,
 }
@@ -309,7 +309,7 @@ impl Files for CalmFiles {
 }
 
 /// A sink in memory, for tests. Its memory is taken when it is made.
-#[derive(Debug, Drop)]
+#[derive(Drop)]
 pub struct MemSink {
     bytes: Vec<u8>,
     room: usize,
@@ -388,7 +388,7 @@ impl Sink for MemSink {
 }
 
 /// A sink that takes every piece whole and keeps none.
-#[derive(Debug, Drop)]
+#[derive(Drop)]
 pub struct CalmSink;
 
 impl CalmSink {

@@ -3,7 +3,7 @@ ghost use Rattle.std.specs.Prelude.{◌≡◌, ℕ, ◌+◌, ◌-◌, ◌^◌, �
 ghost use Rattle.pool_outside.specs.Outside.{Rose};
 
 /// A call of the outside failed. The count of faults then rose, or stands at its last value.
-#[derive(Clone, Copy, Debug, PartialEq, Eq)]
+#[derive(Clone, Copy)]
 pub struct Failed;
 
 /// Files by their names, one of them entered at a time.
@@ -33,6 +33,7 @@ pub trait Files {
     fn open_file(&mut self, name: &str) -> Result<(), Failed>
         requires allowed { IsTrue (may self.old (opens self.old) name.now) }
         requires countable { opens self.old < 2 ^ 64 - 1 }
+        ensures no_fault { OnOk result (faults self.new ≡ faults self.old) }
         ensures opens_rises { opens self.new ≡ opens self.old + 1 }
         ensures none_given { given self.new ≡ 0 }
         ensures entered { OnOk result ((rest self.new ≡ told self.old name.now) × (live self.new ≡ true)) }
@@ -46,6 +47,7 @@ pub trait Files {
     fn read(&mut self, into: &mut [u8]) -> Result<usize, Failed>
         requires live { live self.old ≡ true }
         requires room { 0 < length into.old }
+        ensures no_fault { OnOk result (faults self.new ≡ faults self.old) }
         ensures fits { IfOk result (λ n. n ≤ length into.old) }
         ensures bytes { IfOk result (λ n. IfSome (rest self.old) (λ s. (n ≤ length s) × (take n into.new ≡ take n s))) }
         ensures left { IfOk result (λ n. rest self.new ≡ option_map (drop n) (rest self.old)) }
@@ -73,5 +75,6 @@ pub trait Sink {
         ensures takes { IfOk result (λ n. (1 ≤ n) × (n ≤ length piece.now)) }
         ensures appended { IfOk result (λ n. written self.new ≡ option_map (λ w. w ++ take n piece.now) (written self.old)) }
         ensures failed { OnErr result (Rose (faults self.old) (faults self.new) × (written self.new ≡ written self.old)) }
+        ensures no_fault { OnOk result (faults self.new ≡ faults self.old) }
         ensures faults_stay_or_rise { faults self.old ≤ faults self.new };
 }

@@ -2,10 +2,12 @@
 use Rattle.std.proofs.Common.{◌≡◌, ◌≢◌, ℕ, zero, suc, ◌+◌, ◌-◌, ◌<◌, ◌≤◌, List, [], ◌∷◌, Some, length, take, min, slice_get, refl, ap, arith}
 use native.Mathlib.Decide.{dec_le}
 use Rattle.std.proofs.lemmas.Option.{slice_get-get_or}
-use Rattle.pool_lexer.specs.Ended.{EndsInEnd, toks}
+use Rattle.pool_lexer.specs.Ended.{EndsInEnd}
+use Rattle.pool_syntax.specs.Programs.{toks}
 use Rattle.pool_syntax.specs.declared.token.Token.{Token}
 use Rattle.pool_syntax.specs.declared.token.Tok.{Tok}
 use Rattle.pool_syntax.specs.declared.token.Tok.TheVariants as tok
+use Rattle.pool_parser.specs.Nested.{IsNestedBelow}
 use Rattle.pool_parser.specs.Parses.{seen}
 use Rattle.pool_parser.proofs.Agreement.{AgreeBelow}
 
@@ -25,6 +27,19 @@ front_same [] n i l m = absurd (omega arith)
 front_same (x ∷ list) zero i l m = absurd (omega arith)
 front_same (x ∷ list) (suc n) zero l m = refl
 front_same (x ∷ list) (suc n) (suc i) l m = front_same list n i (omega arith) (omega arith)
+
+-- no token of the front stands deeper than it does in the list
+front_take : (list : List Token) (n k : ℕ) → k ≤ n → take k (toks (take n list)) ≡ take k (toks list)
+front_take list n zero l = refl
+front_take [] zero (suc k) l = absurd (omega arith)
+front_take [] (suc n) (suc k) l = refl
+front_take (x ∷ list) zero (suc k) l = absurd (omega arith)
+front_take (x ∷ list) (suc n) (suc k) l = ap (λ (ts : List Tok). x.tok ∷ ts) (front_take list n k (omega arith))
+
+pub nested_front : (list : List Token) (n : ℕ) → n ≤ length list → IsNestedBelow (toks list) n → IsNestedBelow (toks (take n list)) (length (take n list))
+nested_front list n l h k m =
+    let a : length (take n list) ≡ n = front_length list n l in
+    rw (front_take list n (k + 1) (omega arith)) (h k (omega arith))
 
 -- all tokens but the last, with End behind them, are all tokens
 whole : (list : List Token) (n : ℕ) → n + 1 ≡ length list → slice_get (toks list) n ≡ Some tok.End → seen (take n list) ≡ toks list

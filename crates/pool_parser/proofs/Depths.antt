@@ -9,7 +9,7 @@ use Rattle.pool_parser.specs.declared.nesting.TokenRole.{TokenRole}
 use Rattle.pool_parser.specs.declared.nesting.TokenRole.TheVariants.{Opening, Beginning, Closing, Operating, Parting, Plain}
 use Rattle.pool_parser.specs.declared.nesting.Level.{Level}
 use Rattle.pool_parser.specs.Depths.{role_of, depth_at, Counts}
-use Rattle.pool_parser.specs.Programs.{IsShallowBelow}
+use Rattle.pool_syntax.specs.Programs.{IsShallowBelow}
 
 -- no token of these, of which the last comes first, stands too deep
 abbrev pub IsShallow : List Tok → Type 0

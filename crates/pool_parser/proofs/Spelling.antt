@@ -18,8 +18,8 @@ use Rattle.pool_syntax.specs.Spelled.{is_name, is_string_number, is_literal, is_
 use Rattle.pool_syntax.specs.declared.tree.Program.{Program}
 use Rattle.pool_syntax.specs.TreeOf.{program_of}
 use Rattle.pool_parser.specs.declared.fault.SyntaxFault.{SyntaxFault}
-use Rattle.pool_parser.specs.Programs.{HasProgram}
-use Rattle.pool_parser.specs.Spelling.{IsSpelledToken, AreSpelled}
+use Rattle.pool_syntax.specs.Programs.{HasProgram}
+use Rattle.pool_syntax.specs.Spelled.{IsSpelledToken, AreSpelled}
 
 both : {a b : Bool} → IsTrue a → IsTrue b → IsTrue (a && b)
 both {a = true} h k = k

@@ -6,5 +6,4 @@ pub mod Alternatives
 pub mod Tails
 pub mod Declarations
 pub mod Depths
-pub mod Programs
-pub mod Spelling
+pub mod Nested

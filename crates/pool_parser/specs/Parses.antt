@@ -1,6 +1,6 @@
 -- What a function of the parser answers.
 use Rattle.std.specs.Prelude.{◌≡◌, ◌≢◌, ℕ, ◌+◌, ◌<◌, ◌≤◌, List, [], ◌∷◌, ◌++◌, length, Some, Result, Ok, Err, IfOk, slice_get, Bool, true, false}
-use Rattle.pool_lexer.specs.Ended.{toks}
+use Rattle.pool_syntax.specs.Programs.{toks}
 use Rattle.pool_syntax.specs.declared.token.Token.{Token}
 use Rattle.pool_syntax.specs.declared.token.Tok.{Tok}
 use Rattle.pool_syntax.specs.declared.token.Tok.TheVariants as tok

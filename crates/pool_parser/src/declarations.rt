@@ -1,5 +1,5 @@
 //! Variables, methods, classes and the program.
-ghost use Rattle.std.specs.Prelude.{◌≡◌, ◌+◌, ◌^◌, ◌<◌, ◌≤◌, [], ◌++◌, length, map, ℕ, Some, IfOk, IfErr, slice_get, List as ListOf};
+ghost use Rattle.std.specs.Prelude.{◌≡◌, ◌+◌, ◌<◌, ◌≤◌, [], ◌++◌, length, map, ℕ, Some, IfOk, IfErr, slice_get, List as ListOf};
 ghost use Rattle.pool_syntax.specs.declared.tree.Var.{Var as OneVariable};
 ghost use Rattle.pool_syntax.specs.Rules.{more_vars, more_locals, params as params_phrase, more_params, param as param_phrase, method as method_phrase, more_methods, class as class_phrase, more_classes};
 ghost use Rattle.pool_syntax.specs.Grammar.{variables};
@@ -7,12 +7,12 @@ ghost use Rattle.pool_syntax.specs.TreeOf.{method_tree, class_tree};
 ghost use Rattle.pool_parser.specs.declared.fault.SyntaxFault.TheVariants.{Memory};
 ghost use Rattle.pool_parser.specs.Tails.{proper_part, result_part, body_part};
 ghost use Rattle.pool_parser.specs.Declarations.{ParsesDeclared, ParsesProgram};
-ghost use Rattle.pool_parser.specs.Parses.{seen, RunsToEnd, Parses, ParsesRule, Advances, Stays};
+ghost use Rattle.pool_parser.specs.Parses.{seen, Parses, ParsesRule, Advances, Stays};
 
 use crate::expressions::{Grouping, grouped};
 use crate::fault::SyntaxFault;
 use crate::naming::{kind, names};
-use crate::source::{expect, expect_name, is_at};
+use crate::source::{Source, expect, expect_name, is_at};
 use crate::statements::statements;
 use pool_syntax::{
     ClassDecl, Expr, Keyword, Kind, List, Method, Named, Program, Sign, Tok, Token, Var,
@@ -44,34 +44,30 @@ fn declare(
 /// Names, a colon and a kind, as variables behind those that are there.
 fn declared(
     alloc: Global,
-    tokens: &[Token],
+    source: Source,
     at: usize,
     vars: List<Var>,
 ) -> Result<(List<Var>, usize), SyntaxFault>
-    requires within { at ≤ length tokens.now }
-    requires small { length tokens.now < 2 ^ 32 }
-    requires ended { RunsToEnd tokens.now }
-    ensures parses { ParsesDeclared tokens.now vars at result }
-    ensures next { Advances tokens.now at result }
+    requires within { at ≤ length source.tokens.now }
+    ensures parses { ParsesDeclared source.entry.tokens.now vars at result }
+    ensures next { Advances source.entry.tokens.now at result }
 {
-    let (names, next) = names(alloc, tokens, at)?;
-    expect(tokens, next, Tok::Sign(Sign::Colon))?;
-    let ((kind, kind_pos), after) = kind(tokens, next + 1)?;
+    let (names, next) = names(alloc, source, at)?;
+    expect(source, next, Tok::Sign(Sign::Colon))?;
+    let ((kind, kind_pos), after) = kind(source, next + 1)?;
     Ok((declare(vars, names.items(), kind, kind_pos)?, after))
 }
 
 /// The variables of a class.
-fn fields(alloc: Global, tokens: &[Token], at: usize) -> Result<(List<Var>, usize), SyntaxFault>
-    requires within { at ≤ length tokens.now }
-    requires small { length tokens.now < 2 ^ 32 }
-    requires ended { RunsToEnd tokens.now }
-    ensures parses { Parses tokens.now (more_vars []) at (λ vs. vs) result }
-    ensures next { Stays tokens.now at result }
+fn fields(alloc: Global, source: Source, at: usize) -> Result<(List<Var>, usize), SyntaxFault>
+    requires within { at ≤ length source.tokens.now }
+    ensures parses { Parses source.entry.tokens.now (more_vars []) at (λ vs. vs) result }
+    ensures next { Stays source.entry.tokens.now at result }
 {
     let mut vars = List::make(alloc);
     let mut next = at;
-    'fields: while is_at(tokens, next, Tok::Word(Keyword::Var)) {
-        let (all, after) = declared(alloc, tokens, next + 1, vars)?;
+    'fields: while is_at(source, next, Tok::Word(Keyword::Var)) {
+        let (all, after) = declared(alloc, source, next + 1, vars)?;
         vars = all;
         next = after;
     }
@@ -79,17 +75,15 @@ fn fields(alloc: Global, tokens: &[Token], at: usize) -> Result<(List<Var>, usiz
 }
 
 /// The locals of a method.
-fn locals(alloc: Global, tokens: &[Token], at: usize) -> Result<(List<Var>, usize), SyntaxFault>
-    requires within { at ≤ length tokens.now }
-    requires small { length tokens.now < 2 ^ 32 }
-    requires ended { RunsToEnd tokens.now }
-    ensures parses { Parses tokens.now (more_locals []) at (λ vs. vs) result }
-    ensures next { Stays tokens.now at result }
+fn locals(alloc: Global, source: Source, at: usize) -> Result<(List<Var>, usize), SyntaxFault>
+    requires within { at ≤ length source.tokens.now }
+    ensures parses { Parses source.entry.tokens.now (more_locals []) at (λ vs. vs) result }
+    ensures next { Stays source.entry.tokens.now at result }
 {
     let mut vars = List::make(alloc);
     let mut next = at;
-    'locals: while is_at(tokens, next, Tok::Word(Keyword::Local)) {
-        let (all, after) = declared(alloc, tokens, next + 1, vars)?;
+    'locals: while is_at(source, next, Tok::Word(Keyword::Local)) {
+        let (all, after) = declared(alloc, source, next + 1, vars)?;
         vars = all;
         next = after;
     }
@@ -97,16 +91,14 @@ fn locals(alloc: Global, tokens: &[Token], at: usize) -> Result<(List<Var>, usiz
 }
 
 /// A name, a colon and a kind.
-fn param(tokens: &[Token], at: usize) -> Result<(Var, usize), SyntaxFault>
-    requires within { at ≤ length tokens.now }
-    requires small { length tokens.now < 2 ^ 32 }
-    requires ended { RunsToEnd tokens.now }
-    ensures parses { Parses tokens.now param_phrase at (λ v. v) result }
-    ensures next { Advances tokens.now at result }
+fn param(source: Source, at: usize) -> Result<(Var, usize), SyntaxFault>
+    requires within { at ≤ length source.tokens.now }
+    ensures parses { Parses source.entry.tokens.now param_phrase at (λ v. v) result }
+    ensures next { Advances source.entry.tokens.now at result }
 {
-    let name = expect_name(tokens, at)?;
-    expect(tokens, at + 1, Tok::Sign(Sign::Colon))?;
-    let ((kind, kind_pos), next) = kind(tokens, at + 2)?;
+    let name = expect_name(source, at)?;
+    expect(source, at + 1, Tok::Sign(Sign::Colon))?;
+    let ((kind, kind_pos), next) = kind(source, at + 2)?;
     let var = Var {
         name: name.name,
         kind,
@@ -117,39 +109,35 @@ fn param(tokens: &[Token], at: usize) -> Result<(Var, usize), SyntaxFault>
 }
 
 /// Parameters in parentheses.
-fn params(alloc: Global, tokens: &[Token], at: usize) -> Result<(List<Var>, usize), SyntaxFault>
-    requires within { at ≤ length tokens.now }
-    requires small { length tokens.now < 2 ^ 32 }
-    requires ended { RunsToEnd tokens.now }
-    ensures parses { Parses tokens.now params_phrase at (λ vs. vs) result }
-    ensures next { Advances tokens.now at result }
+fn params(alloc: Global, source: Source, at: usize) -> Result<(List<Var>, usize), SyntaxFault>
+    requires within { at ≤ length source.tokens.now }
+    ensures parses { Parses source.entry.tokens.now params_phrase at (λ vs. vs) result }
+    ensures next { Advances source.entry.tokens.now at result }
 {
-    expect(tokens, at, Tok::Sign(Sign::LeftParen))?;
+    expect(source, at, Tok::Sign(Sign::LeftParen))?;
     let mut params = List::make(alloc);
-    if is_at(tokens, at + 1, Tok::Sign(Sign::RightParen)) {
+    if is_at(source, at + 1, Tok::Sign(Sign::RightParen)) {
         return Ok((params, at + 2));
     }
-    let (first, next) = param(tokens, at + 1)?;
+    let (first, next) = param(source, at + 1)?;
     params.push(first)?;
-    let (params, next) = further_params(tokens, next, params)?;
-    expect(tokens, next, Tok::Sign(Sign::RightParen))?;
+    let (params, next) = further_params(source, next, params)?;
+    expect(source, next, Tok::Sign(Sign::RightParen))?;
     Ok((params, next + 1))
 }
 
 fn further_params(
-    tokens: &[Token],
+    source: Source,
     at: usize,
     mut params: List<Var>,
 ) -> Result<(List<Var>, usize), SyntaxFault>
-    requires within { at ≤ length tokens.now }
-    requires small { length tokens.now < 2 ^ 32 }
-    requires ended { RunsToEnd tokens.now }
-    ensures parses { Parses tokens.now (more_params params) at (λ vs. vs) result }
-    ensures next { Stays tokens.now at result }
+    requires within { at ≤ length source.tokens.now }
+    ensures parses { Parses source.entry.tokens.now (more_params params) at (λ vs. vs) result }
+    ensures next { Stays source.entry.tokens.now at result }
 {
     let mut next = at;
-    'params: while is_at(tokens, next, Tok::Sign(Sign::Comma)) {
-        let (param, after) = param(tokens, next + 1)?;
+    'params: while is_at(source, next, Tok::Sign(Sign::Comma)) {
+        let (param, after) = param(source, next + 1)?;
         params.push(param)?;
         next = after;
     }
@@ -157,41 +145,37 @@ fn further_params(
 }
 
 /// A method, with or without a result.
-fn method(alloc: Global, tokens: &[Token], at: usize) -> Result<(Method, usize), SyntaxFault>
-    requires within { at ≤ length tokens.now }
-    requires small { length tokens.now < 2 ^ 32 }
-    requires ended { RunsToEnd tokens.now }
-    ensures parses { Parses tokens.now method_phrase at method_tree result }
-    ensures next { Advances tokens.now at result }
+fn method(alloc: Global, source: Source, at: usize) -> Result<(Method, usize), SyntaxFault>
+    requires within { at ≤ length source.tokens.now }
+    ensures parses { Parses source.entry.tokens.now method_phrase at method_tree result }
+    ensures next { Advances source.entry.tokens.now at result }
 {
-    expect(tokens, at, Tok::Word(Keyword::Method))?;
-    let name = expect_name(tokens, at + 1)?;
-    let (params, next) = params(alloc, tokens, at + 2)?;
-    if is_at(tokens, next, Tok::Sign(Sign::Colon)) {
-        with_result(alloc, tokens, next, name, params)
+    expect(source, at, Tok::Word(Keyword::Method))?;
+    let name = expect_name(source, at + 1)?;
+    let (params, next) = params(alloc, source, at + 2)?;
+    if is_at(source, next, Tok::Sign(Sign::Colon)) {
+        with_result(alloc, source, next, name, params)
     } else {
-        without_result(alloc, tokens, next, name, params)
+        without_result(alloc, source, next, name, params)
     }
 }
 
 /// The rest of a method without a result.
 fn without_result(
     alloc: Global,
-    tokens: &[Token],
+    source: Source,
     at: usize,
     name: Named,
     params: List<Var>,
 ) -> Result<(Method, usize), SyntaxFault>
-    requires within { at ≤ length tokens.now }
-    requires small { length tokens.now < 2 ^ 32 }
-    requires ended { RunsToEnd tokens.now }
-    ensures parses { ParsesRule tokens.now method_phrase (proper_part name params) at method_tree result }
-    ensures next { Advances tokens.now at result }
+    requires within { at ≤ length source.tokens.now }
+    ensures parses { ParsesRule source.entry.tokens.now method_phrase (proper_part name params) at method_tree result }
+    ensures next { Advances source.entry.tokens.now at result }
 {
-    let (locals, begin) = locals(alloc, tokens, at)?;
-    expect(tokens, begin, Tok::Word(Keyword::Begin))?;
-    let (body, end) = statements(alloc, tokens, begin + 1)?;
-    expect(tokens, end, Tok::Word(Keyword::End))?;
+    let (locals, begin) = locals(alloc, source, at)?;
+    expect(source, begin, Tok::Word(Keyword::Begin))?;
+    let (body, end) = statements(alloc, source, begin + 1)?;
+    expect(source, end, Tok::Word(Keyword::End))?;
     let method = Method {
         name,
         params,
@@ -207,25 +191,23 @@ fn without_result(
 /// The rest of a method with a result.
 fn with_result(
     alloc: Global,
-    tokens: &[Token],
+    source: Source,
     at: usize,
     name: Named,
     params: List<Var>,
 ) -> Result<(Method, usize), SyntaxFault>
-    requires colon { slice_get (seen tokens.now) at ≡ Some (Tok.Sign Sign.Colon) }
-    requires within { at + 1 ≤ length tokens.now }
-    requires small { length tokens.now < 2 ^ 32 }
-    requires ended { RunsToEnd tokens.now }
-    ensures parses { ParsesRule tokens.now method_phrase (result_part name params) at method_tree result }
-    ensures next { Advances tokens.now at result }
+    requires colon { slice_get (seen source.tokens.now) at ≡ Some (Tok.Sign Sign.Colon) }
+    requires within { at + 1 ≤ length source.tokens.now }
+    ensures parses { ParsesRule source.entry.tokens.now method_phrase (result_part name params) at method_tree result }
+    ensures next { Advances source.entry.tokens.now at result }
 {
-    let ((kind, kind_pos), next) = kind(tokens, at + 1)?;
-    let (locals, begin) = locals(alloc, tokens, next)?;
-    expect(tokens, begin, Tok::Word(Keyword::Begin))?;
-    let (body, result) = statements(alloc, tokens, begin + 1)?;
-    expect(tokens, result, Tok::Word(Keyword::Result))?;
-    let (value, end) = grouped(alloc, tokens, result + 1, Grouping::Or)?;
-    expect(tokens, end, Tok::Word(Keyword::End))?;
+    let ((kind, kind_pos), next) = kind(source, at + 1)?;
+    let (locals, begin) = locals(alloc, source, next)?;
+    expect(source, begin, Tok::Word(Keyword::Begin))?;
+    let (body, result) = statements(alloc, source, begin + 1)?;
+    expect(source, result, Tok::Word(Keyword::Result))?;
+    let (value, end) = grouped(alloc, source, result + 1, Grouping::Or)?;
+    expect(source, end, Tok::Word(Keyword::End))?;
     let method = Method {
         name,
         params,
@@ -239,55 +221,49 @@ fn with_result(
 }
 
 /// The methods of a class.
-fn methods(alloc: Global, tokens: &[Token], at: usize) -> Result<(List<Method>, usize), SyntaxFault>
-    requires within { at ≤ length tokens.now }
-    requires small { length tokens.now < 2 ^ 32 }
-    requires ended { RunsToEnd tokens.now }
-    ensures parses { Parses tokens.now (more_methods []) at (λ ms. map method_tree ms) result }
-    ensures next { Stays tokens.now at result }
+fn methods(alloc: Global, source: Source, at: usize) -> Result<(List<Method>, usize), SyntaxFault>
+    requires within { at ≤ length source.tokens.now }
+    ensures parses { Parses source.entry.tokens.now (more_methods []) at (λ ms. map method_tree ms) result }
+    ensures next { Stays source.entry.tokens.now at result }
 {
     let mut methods = List::make(alloc);
     let mut next = at;
-    'methods: while is_at(tokens, next, Tok::Word(Keyword::Method)) {
-        let (method, after) = method(alloc, tokens, next)?;
+    'methods: while is_at(source, next, Tok::Word(Keyword::Method)) {
+        let (method, after) = method(alloc, source, next)?;
         methods.push(method)?;
         next = after;
     }
     Ok((methods, next))
 }
 
-fn class(alloc: Global, tokens: &[Token], at: usize) -> Result<(ClassDecl, usize), SyntaxFault>
-    requires within { at ≤ length tokens.now }
-    requires small { length tokens.now < 2 ^ 32 }
-    requires ended { RunsToEnd tokens.now }
-    ensures parses { Parses tokens.now class_phrase at class_tree result }
-    ensures next { Advances tokens.now at result }
+fn class(alloc: Global, source: Source, at: usize) -> Result<(ClassDecl, usize), SyntaxFault>
+    requires within { at ≤ length source.tokens.now }
+    ensures parses { Parses source.entry.tokens.now class_phrase at class_tree result }
+    ensures next { Advances source.entry.tokens.now at result }
 {
-    expect(tokens, at, Tok::Word(Keyword::Class))?;
-    let name = expect_name(tokens, at + 1)?;
-    let (vars, next) = fields(alloc, tokens, at + 2)?;
-    let (methods, body) = methods(alloc, tokens, next)?;
-    class_body(alloc, tokens, body, name, vars, methods)
+    expect(source, at, Tok::Word(Keyword::Class))?;
+    let name = expect_name(source, at + 1)?;
+    let (vars, next) = fields(alloc, source, at + 2)?;
+    let (methods, body) = methods(alloc, source, next)?;
+    class_body(alloc, source, body, name, vars, methods)
 }
 
 /// The rest of a class, behind its variables and methods.
 fn class_body(
     alloc: Global,
-    tokens: &[Token],
+    source: Source,
     at: usize,
     name: Named,
     vars: List<Var>,
     methods: List<Method>,
 ) -> Result<(ClassDecl, usize), SyntaxFault>
-    requires within { at ≤ length tokens.now }
-    requires small { length tokens.now < 2 ^ 32 }
-    requires ended { RunsToEnd tokens.now }
-    ensures parses { ParsesRule tokens.now class_phrase (body_part name vars (map method_tree methods)) at class_tree result }
-    ensures next { Advances tokens.now at result }
+    requires within { at ≤ length source.tokens.now }
+    ensures parses { ParsesRule source.entry.tokens.now class_phrase (body_part name vars (map method_tree methods)) at class_tree result }
+    ensures next { Advances source.entry.tokens.now at result }
 {
-    expect(tokens, at, Tok::Word(Keyword::Body))?;
-    let (body, end) = statements(alloc, tokens, at + 1)?;
-    expect(tokens, end, Tok::Word(Keyword::End))?;
+    expect(source, at, Tok::Word(Keyword::Body))?;
+    let (body, end) = statements(alloc, source, at + 1)?;
+    expect(source, end, Tok::Word(Keyword::End))?;
     let class = ClassDecl {
         name,
         vars,
@@ -299,19 +275,17 @@ fn class_body(
 
 fn further_classes(
     alloc: Global,
-    tokens: &[Token],
+    source: Source,
     at: usize,
     mut classes: List<ClassDecl>,
 ) -> Result<(List<ClassDecl>, usize), SyntaxFault>
-    requires within { at ≤ length tokens.now }
-    requires small { length tokens.now < 2 ^ 32 }
-    requires ended { RunsToEnd tokens.now }
-    ensures parses { Parses tokens.now (more_classes (map class_tree classes)) at (λ cs. map class_tree cs) result }
-    ensures next { Stays tokens.now at result }
+    requires within { at ≤ length source.tokens.now }
+    ensures parses { Parses source.entry.tokens.now (more_classes (map class_tree classes)) at (λ cs. map class_tree cs) result }
+    ensures next { Stays source.entry.tokens.now at result }
 {
     let mut next = at;
-    'classes: while is_at(tokens, next, Tok::Word(Keyword::Class)) {
-        let (class, after) = class(alloc, tokens, next)?;
+    'classes: while is_at(source, next, Tok::Word(Keyword::Class)) {
+        let (class, after) = class(alloc, source, next)?;
         classes.push(class)?;
         next = after;
     }
@@ -319,16 +293,14 @@ fn further_classes(
 }
 
 /// The program of the tokens, with End behind them.
-pub fn program(alloc: Global, tokens: &[Token]) -> Result<Program, SyntaxFault>
-    requires small { length tokens.now < 2 ^ 32 }
-    requires ended { RunsToEnd tokens.now }
-    requires once { (i : ℕ) → slice_get (seen tokens.now) i ≡ Some Tok.End → i ≡ length tokens.now }
-    ensures { ParsesProgram tokens.now result }
+pub fn program(alloc: Global, source: Source) -> Result<Program, SyntaxFault>
+    requires once { (i : ℕ) → slice_get (seen source.tokens.now) i ≡ Some Tok.End → i ≡ length source.tokens.now }
+    ensures { ParsesProgram source.entry.tokens.now result }
 {
-    let (first, next) = class(alloc, tokens, 0)?;
+    let (first, next) = class(alloc, source, 0)?;
     let mut classes = List::make(alloc);
     classes.push(first)?;
-    let (classes, end) = further_classes(alloc, tokens, next, classes)?;
-    expect(tokens, end, Tok::End)?;
+    let (classes, end) = further_classes(alloc, source, next, classes)?;
+    expect(source, end, Tok::End)?;
     Ok(Program { classes })
 }

@@ -1,5 +1,5 @@
 //! Expressions: one function for each form of phrase.
-ghost use Rattle.std.specs.Prelude.{◌≡◌, ◌≢◌, ◌+◌, ◌^◌, ◌<◌, ◌≤◌, length, Some, None, IfOk, IfErr, IfSome, option_map, slice_get};
+ghost use Rattle.std.specs.Prelude.{◌≡◌, ◌≢◌, ◌+◌, ◌<◌, ◌≤◌, length, Some, None, IfOk, IfErr, IfSome, option_map, slice_get};
 ghost use Rattle.pool_syntax.specs.Rules.{group, comparison as comparison_level, factor as factor_level, postfix as postfix_level, primary as primary_level, args as args_phrase, more_args, expression as expression_phrase};
 ghost use Rattle.pool_syntax.specs.Grammar.{operator_of, operand as operand_level};
 ghost use Rattle.pool_syntax.specs.Terms.{Infix, Prefix, Send};
@@ -8,17 +8,17 @@ ghost use Rattle.pool_syntax.specs.declared.words.NameId.{NameId as AnyName};
 ghost use Rattle.pool_syntax.specs.declared.token.Tok.{Tok as AnyTok};
 ghost use Rattle.pool_syntax.specs.declared.token.Keyword.{Keyword as AnyWord};
 ghost use Rattle.pool_parser.specs.declared.fault.SyntaxFault.TheVariants.{Memory};
-ghost use Rattle.pool_parser.specs.Parses.{seen, RunsToEnd, Parses, ParsesExpression, TellsInvocation, postfix_tree, Advances, Stays};
+ghost use Rattle.pool_parser.specs.Parses.{seen, Parses, ParsesExpression, TellsInvocation, postfix_tree, Advances, Stays};
 ghost use Rattle.pool_parser.specs.Groups.{group_of};
 ghost use Rattle.pool_parser.specs.Literals.{literal_of};
 
 use crate::fault::SyntaxFault;
-use crate::source::{expect, expect_name, is_at, peek};
-use pool_syntax::{Expr, Keyword, List, NameId, Named, Op, Sign, Tok, Token};
+use crate::source::{Source, expect, expect_name, is_at, peek};
+use pool_syntax::{Expr, Keyword, List, NameId, Named, Op, Sign, Tok};
 use std::alloc::Global;
 
 /// The levels of operators whose repetition groups to the left.
-#[derive(Clone, Copy, Debug)]
+#[derive(Clone, Copy)]
 pub enum Grouping {
     Or,
     And,
@@ -129,21 +129,19 @@ fn send(alloc: Global, to: Expr, method: Named, args: List<Expr>) -> Result<Expr
 #[cycle(expressions)]
 fn operand(
     alloc: Global,
-    tokens: &[Token],
+    source: Source,
     at: usize,
     grouping: Grouping,
 ) -> Result<(Expr, usize), SyntaxFault>
-    requires within { at ≤ length tokens.now }
-    requires small { length tokens.now < 2 ^ 32 }
-    requires ended { RunsToEnd tokens.now }
-    ensures parses { ParsesExpression tokens.now (operand_level (group_of grouping)) at result }
-    ensures next { Advances tokens.now at result }
+    requires within { at ≤ length source.tokens.now }
+    ensures parses { ParsesExpression source.entry.tokens.now (operand_level (group_of grouping)) at result }
+    ensures next { Advances source.entry.tokens.now at result }
 {
     match grouping {
-        Grouping::Or => grouped(alloc, tokens, at, Grouping::And),
-        Grouping::And => comparison(alloc, tokens, at),
-        Grouping::Sum => grouped(alloc, tokens, at, Grouping::Product),
-        Grouping::Product => factor(alloc, tokens, at),
+        Grouping::Or => grouped(alloc, source, at, Grouping::And),
+        Grouping::And => comparison(alloc, source, at),
+        Grouping::Sum => grouped(alloc, source, at, Grouping::Product),
+        Grouping::Product => factor(alloc, source, at),
     }
 }
 
@@ -151,19 +149,17 @@ fn operand(
 #[cycle(expressions)]
 pub fn grouped(
     alloc: Global,
-    tokens: &[Token],
+    source: Source,
     at: usize,
     grouping: Grouping,
 ) -> Result<(Expr, usize), SyntaxFault>
-    requires within { at ≤ length tokens.now }
-    requires small { length tokens.now < 2 ^ 32 }
-    requires ended { RunsToEnd tokens.now }
-    ensures parses { ParsesExpression tokens.now (group (group_of grouping)) at result }
-    ensures next { Advances tokens.now at result }
+    requires within { at ≤ length source.tokens.now }
+    ensures parses { ParsesExpression source.entry.tokens.now (group (group_of grouping)) at result }
+    ensures next { Advances source.entry.tokens.now at result }
 {
-    let (mut left, mut next) = operand(alloc, tokens, at, grouping)?;
-    'operands: while let Some(op) = operator(grouping, peek(tokens, next)) {
-        let (right, after) = operand(alloc, tokens, next + 1, grouping)?;
+    let (mut left, mut next) = operand(alloc, source, at, grouping)?;
+    'operands: while let Some(op) = operator(grouping, peek(source, next)) {
+        let (right, after) = operand(alloc, source, next + 1, grouping)?;
         left = binary(alloc, op, left, right, next as u32)?;
         next = after;
     }
@@ -172,38 +168,34 @@ pub fn grouped(
 
 /// A sum, or two with a comparison between them.
 #[cycle(expressions)]
-fn comparison(alloc: Global, tokens: &[Token], at: usize) -> Result<(Expr, usize), SyntaxFault>
-    requires within { at ≤ length tokens.now }
-    requires small { length tokens.now < 2 ^ 32 }
-    requires ended { RunsToEnd tokens.now }
-    ensures parses { ParsesExpression tokens.now comparison_level at result }
-    ensures next { Advances tokens.now at result }
+fn comparison(alloc: Global, source: Source, at: usize) -> Result<(Expr, usize), SyntaxFault>
+    requires within { at ≤ length source.tokens.now }
+    ensures parses { ParsesExpression source.entry.tokens.now comparison_level at result }
+    ensures next { Advances source.entry.tokens.now at result }
 {
-    let (left, next) = grouped(alloc, tokens, at, Grouping::Sum)?;
-    match comparison_operator(peek(tokens, next)) {
+    let (left, next) = grouped(alloc, source, at, Grouping::Sum)?;
+    match comparison_operator(peek(source, next)) {
         None => Ok((left, next)),
         Some(op) => {
-            let (right, after) = grouped(alloc, tokens, next + 1, Grouping::Sum)?;
+            let (right, after) = grouped(alloc, source, next + 1, Grouping::Sum)?;
             Ok((binary(alloc, op, left, right, next as u32)?, after))
         }
     }
 }
 
 #[cycle(expressions)]
-fn factor(alloc: Global, tokens: &[Token], at: usize) -> Result<(Expr, usize), SyntaxFault>
-    requires within { at ≤ length tokens.now }
-    requires small { length tokens.now < 2 ^ 32 }
-    requires ended { RunsToEnd tokens.now }
-    ensures parses { ParsesExpression tokens.now factor_level at result }
-    ensures next { Advances tokens.now at result }
+fn factor(alloc: Global, source: Source, at: usize) -> Result<(Expr, usize), SyntaxFault>
+    requires within { at ≤ length source.tokens.now }
+    ensures parses { ParsesExpression source.entry.tokens.now factor_level at result }
+    ensures next { Advances source.entry.tokens.now at result }
 {
-    match prefix_operator(peek(tokens, at)) {
+    match prefix_operator(peek(source, at)) {
         None => {
-            let (postfix, next) = postfix(alloc, tokens, at)?;
+            let (postfix, next) = postfix(alloc, source, at)?;
             Ok((postfix.tree, next))
         }
         Some(op) => {
-            let (arg, next) = factor(alloc, tokens, at + 1)?;
+            let (arg, next) = factor(alloc, source, at + 1)?;
             Ok((unary(alloc, op, arg, at as u32)?, next))
         }
     }
@@ -213,20 +205,18 @@ fn factor(alloc: Global, tokens: &[Token], at: usize) -> Result<(Expr, usize), S
 #[cycle(expressions)]
 pub fn postfix(
     alloc: Global,
-    tokens: &[Token],
+    source: Source,
     at: usize,
 ) -> Result<(PostfixTree, usize), SyntaxFault>
-    requires within { at ≤ length tokens.now }
-    requires small { length tokens.now < 2 ^ 32 }
-    requires ended { RunsToEnd tokens.now }
-    ensures parses { Parses tokens.now (expression_phrase postfix_level) at postfix_tree result }
-    ensures invokes { TellsInvocation tokens.now at result }
-    ensures next { Advances tokens.now at result }
+    requires within { at ≤ length source.tokens.now }
+    ensures parses { Parses source.entry.tokens.now (expression_phrase postfix_level) at postfix_tree result }
+    ensures invokes { TellsInvocation source.entry.tokens.now at result }
+    ensures next { Advances source.entry.tokens.now at result }
 {
-    let (mut to, mut next) = primary(alloc, tokens, at)?;
-    'sends: while is_at(tokens, next, Tok::Sign(Sign::Bang)) {
-        let method = expect_name(tokens, next + 1)?;
-        let (args, after) = arguments(alloc, tokens, next + 2)?;
+    let (mut to, mut next) = primary(alloc, source, at)?;
+    'sends: while is_at(source, next, Tok::Sign(Sign::Bang)) {
+        let method = expect_name(source, next + 1)?;
+        let (args, after) = arguments(alloc, source, next + 2)?;
         to = PostfixTree {
             tree: send(alloc, to.tree, method, args)?,
             invokes: true,
@@ -237,15 +227,13 @@ pub fn postfix(
 }
 
 #[cycle(expressions)]
-fn primary(alloc: Global, tokens: &[Token], at: usize) -> Result<(PostfixTree, usize), SyntaxFault>
-    requires within { at ≤ length tokens.now }
-    requires small { length tokens.now < 2 ^ 32 }
-    requires ended { RunsToEnd tokens.now }
-    ensures parses { Parses tokens.now (expression_phrase primary_level) at postfix_tree result }
-    ensures invokes { TellsInvocation tokens.now at result }
-    ensures next { Advances tokens.now at result }
+fn primary(alloc: Global, source: Source, at: usize) -> Result<(PostfixTree, usize), SyntaxFault>
+    requires within { at ≤ length source.tokens.now }
+    ensures parses { Parses source.entry.tokens.now (expression_phrase primary_level) at postfix_tree result }
+    ensures invokes { TellsInvocation source.entry.tokens.now at result }
+    ensures next { Advances source.entry.tokens.now at result }
 {
-    let token = peek(tokens, at);
+    let token = peek(source, at);
     if let Some(tree) = literal(token, at as u32) {
         return Ok((
             PostfixTree {
@@ -256,9 +244,9 @@ fn primary(alloc: Global, tokens: &[Token], at: usize) -> Result<(PostfixTree, u
         ));
     }
     match token {
-        Tok::Name(name) => named(alloc, tokens, at, name),
-        Tok::Word(word) => created(tokens, at, word),
-        _ => parenthesized(alloc, tokens, at),
+        Tok::Name(name) => named(alloc, source, at, name),
+        Tok::Word(word) => created(source, at, word),
+        _ => parenthesized(alloc, source, at),
     }
 }
 
@@ -266,22 +254,20 @@ fn primary(alloc: Global, tokens: &[Token], at: usize) -> Result<(PostfixTree, u
 #[cycle(expressions)]
 fn parenthesized(
     alloc: Global,
-    tokens: &[Token],
+    source: Source,
     at: usize,
 ) -> Result<(PostfixTree, usize), SyntaxFault>
-    requires no_literal { (t : AnyTok) → slice_get (seen tokens.now) at ≡ Some t → literal_of t at ≡ None }
-    requires no_word { (w : AnyWord) → slice_get (seen tokens.now) at ≢ Some (Tok.Word w) }
-    requires no_name { (n : AnyName) → slice_get (seen tokens.now) at ≢ Some (Tok.Name n) }
-    requires within { at ≤ length tokens.now }
-    requires small { length tokens.now < 2 ^ 32 }
-    requires ended { RunsToEnd tokens.now }
-    ensures parses { Parses tokens.now (expression_phrase primary_level) at postfix_tree result }
-    ensures invokes { TellsInvocation tokens.now at result }
-    ensures next { Advances tokens.now at result }
+    requires no_literal { (t : AnyTok) → slice_get (seen source.tokens.now) at ≡ Some t → literal_of t at ≡ None }
+    requires no_word { (w : AnyWord) → slice_get (seen source.tokens.now) at ≢ Some (Tok.Word w) }
+    requires no_name { (n : AnyName) → slice_get (seen source.tokens.now) at ≢ Some (Tok.Name n) }
+    requires within { at ≤ length source.tokens.now }
+    ensures parses { Parses source.entry.tokens.now (expression_phrase primary_level) at postfix_tree result }
+    ensures invokes { TellsInvocation source.entry.tokens.now at result }
+    ensures next { Advances source.entry.tokens.now at result }
 {
-    expect(tokens, at, Tok::Sign(Sign::LeftParen))?;
-    let (tree, next) = grouped(alloc, tokens, at + 1, Grouping::Or)?;
-    expect(tokens, next, Tok::Sign(Sign::RightParen))?;
+    expect(source, at, Tok::Sign(Sign::LeftParen))?;
+    let (tree, next) = grouped(alloc, source, at + 1, Grouping::Or)?;
+    expect(source, next, Tok::Sign(Sign::RightParen))?;
     Ok((
         PostfixTree {
             tree,
@@ -295,20 +281,18 @@ fn parenthesized(
 #[cycle(expressions)]
 fn named(
     alloc: Global,
-    tokens: &[Token],
+    source: Source,
     at: usize,
     name: NameId,
 ) -> Result<(PostfixTree, usize), SyntaxFault>
-    requires name { slice_get (seen tokens.now) at ≡ Some (Tok.Name name) }
-    requires within { at + 1 ≤ length tokens.now }
-    requires small { length tokens.now < 2 ^ 32 }
-    requires ended { RunsToEnd tokens.now }
-    ensures parses { Parses tokens.now (expression_phrase primary_level) at postfix_tree result }
-    ensures invokes { TellsInvocation tokens.now at result }
-    ensures next { Advances tokens.now at result }
+    requires name { slice_get (seen source.tokens.now) at ≡ Some (Tok.Name name) }
+    requires within { at + 1 ≤ length source.tokens.now }
+    ensures parses { Parses source.entry.tokens.now (expression_phrase primary_level) at postfix_tree result }
+    ensures invokes { TellsInvocation source.entry.tokens.now at result }
+    ensures next { Advances source.entry.tokens.now at result }
 {
-    if is_at(tokens, at + 1, Tok::Sign(Sign::LeftParen)) {
-        let (args, next) = arguments(alloc, tokens, at + 1)?;
+    if is_at(source, at + 1, Tok::Sign(Sign::LeftParen)) {
+        let (args, next) = arguments(alloc, source, at + 1)?;
         let tree = Expr::Call {
             method: name,
             args,
@@ -337,18 +321,16 @@ fn named(
 }
 
 /// A new object of a class, where the word is `new`.
-fn created(tokens: &[Token], at: usize, word: Keyword) -> Result<(PostfixTree, usize), SyntaxFault>
-    requires word { slice_get (seen tokens.now) at ≡ Some (Tok.Word word) }
+fn created(source: Source, at: usize, word: Keyword) -> Result<(PostfixTree, usize), SyntaxFault>
+    requires word { slice_get (seen source.tokens.now) at ≡ Some (Tok.Word word) }
     requires no_literal { literal_of (Tok.Word word) at ≡ None }
-    requires within { at + 1 ≤ length tokens.now }
-    requires small { length tokens.now < 2 ^ 32 }
-    requires ended { RunsToEnd tokens.now }
-    ensures parses { Parses tokens.now (expression_phrase primary_level) at postfix_tree result }
-    ensures invokes { TellsInvocation tokens.now at result }
-    ensures next { Advances tokens.now at result }
+    requires within { at + 1 ≤ length source.tokens.now }
+    ensures parses { Parses source.entry.tokens.now (expression_phrase primary_level) at postfix_tree result }
+    ensures invokes { TellsInvocation source.entry.tokens.now at result }
+    ensures next { Advances source.entry.tokens.now at result }
 {
-    expect(tokens, at, Tok::Word(Keyword::New))?;
-    let class = expect_name(tokens, at + 1)?;
+    expect(source, at, Tok::Word(Keyword::New))?;
+    let class = expect_name(source, at + 1)?;
     let tree = Expr::New {
         class: class.name,
         pos: class.pos,
@@ -365,43 +347,39 @@ fn created(tokens: &[Token], at: usize, word: Keyword) -> Result<(PostfixTree, u
 #[cycle(expressions)]
 pub fn arguments(
     alloc: Global,
-    tokens: &[Token],
+    source: Source,
     at: usize,
 ) -> Result<(List<Expr>, usize), SyntaxFault>
-    requires within { at ≤ length tokens.now }
-    requires small { length tokens.now < 2 ^ 32 }
-    requires ended { RunsToEnd tokens.now }
-    ensures parses { Parses tokens.now args_phrase at expressions_of result }
-    ensures next { Advances tokens.now at result }
+    requires within { at ≤ length source.tokens.now }
+    ensures parses { Parses source.entry.tokens.now args_phrase at expressions_of result }
+    ensures next { Advances source.entry.tokens.now at result }
 {
-    expect(tokens, at, Tok::Sign(Sign::LeftParen))?;
+    expect(source, at, Tok::Sign(Sign::LeftParen))?;
     let mut args = List::make(alloc);
-    if is_at(tokens, at + 1, Tok::Sign(Sign::RightParen)) {
+    if is_at(source, at + 1, Tok::Sign(Sign::RightParen)) {
         return Ok((args, at + 2));
     }
-    let (first, next) = grouped(alloc, tokens, at + 1, Grouping::Or)?;
+    let (first, next) = grouped(alloc, source, at + 1, Grouping::Or)?;
     args.push(first)?;
-    let (args, next) = more_arguments(alloc, tokens, next, args)?;
-    expect(tokens, next, Tok::Sign(Sign::RightParen))?;
+    let (args, next) = more_arguments(alloc, source, next, args)?;
+    expect(source, next, Tok::Sign(Sign::RightParen))?;
     Ok((args, next + 1))
 }
 
 #[cycle(expressions)]
 fn more_arguments(
     alloc: Global,
-    tokens: &[Token],
+    source: Source,
     at: usize,
     mut args: List<Expr>,
 ) -> Result<(List<Expr>, usize), SyntaxFault>
-    requires within { at ≤ length tokens.now }
-    requires small { length tokens.now < 2 ^ 32 }
-    requires ended { RunsToEnd tokens.now }
-    ensures parses { Parses tokens.now (more_args (expressions_of args)) at expressions_of result }
-    ensures next { Stays tokens.now at result }
+    requires within { at ≤ length source.tokens.now }
+    ensures parses { Parses source.entry.tokens.now (more_args (expressions_of args)) at expressions_of result }
+    ensures next { Stays source.entry.tokens.now at result }
 {
     let mut next = at;
-    'arguments: while is_at(tokens, next, Tok::Sign(Sign::Comma)) {
-        let (arg, after) = grouped(alloc, tokens, next + 1, Grouping::Or)?;
+    'arguments: while is_at(source, next, Tok::Sign(Sign::Comma)) {
+        let (arg, after) = grouped(alloc, source, next + 1, Grouping::Or)?;
         args.push(arg)?;
         next = after;
     }

@@ -1,13 +1,13 @@
 //! Lists of names, and kinds.
-ghost use Rattle.std.specs.Prelude.{◌≡◌, ◌+◌, ◌^◌, ◌<◌, ◌≤◌, length, List as ListOf};
+ghost use Rattle.std.specs.Prelude.{◌≡◌, ◌+◌, ◌<◌, ◌≤◌, length, List as ListOf};
 ghost use Rattle.pool_syntax.specs.declared.tree.Named.{Named as OneName};
 ghost use Rattle.pool_syntax.specs.Rules.{names as names_phrase, list as list_phrase, kind as kind_phrase};
 ghost use Rattle.pool_parser.specs.Literals.{kind_of};
-ghost use Rattle.pool_parser.specs.Parses.{RunsToEnd, Parses, Advances};
+ghost use Rattle.pool_parser.specs.Parses.{Parses, Advances};
 
 use crate::fault::SyntaxFault;
-use crate::source::{expect, expect_name, is_at, peek};
-use pool_syntax::{Keyword, Kind, List, Named, Sign, Tok, Token};
+use crate::source::{Source, expect, expect_name, is_at, peek};
+use pool_syntax::{Keyword, Kind, List, Named, Sign, Tok};
 use std::alloc::Global;
 
 /// The kind that the token is.
@@ -23,37 +23,29 @@ fn token_kind(token: Tok) -> Option<Kind>
 }
 
 /// A kind, with its token's number.
-pub fn kind(tokens: &[Token], at: usize) -> Result<((Kind, u32), usize), SyntaxFault>
-    requires within { at ≤ length tokens.now }
-    requires small { length tokens.now < 2 ^ 32 }
-    requires ended { RunsToEnd tokens.now }
-    ensures parses { Parses tokens.now kind_phrase at (λ k. k) result }
-    ensures next { Advances tokens.now at result }
+pub fn kind(source: Source, at: usize) -> Result<((Kind, u32), usize), SyntaxFault>
+    requires within { at ≤ length source.tokens.now }
+    ensures parses { Parses source.entry.tokens.now kind_phrase at (λ k. k) result }
+    ensures next { Advances source.entry.tokens.now at result }
 {
-    match token_kind(peek(tokens, at)) {
+    match token_kind(peek(source, at)) {
         Some(kind) => Ok(((kind, at as u32), at + 1)),
         None => Err(SyntaxFault::Unexpected { token: at as u32 }),
     }
 }
 
 /// One or more names, with commas between them.
-pub fn names(
-    alloc: Global,
-    tokens: &[Token],
-    at: usize,
-) -> Result<(List<Named>, usize), SyntaxFault>
-    requires within { at ≤ length tokens.now }
-    requires small { length tokens.now < 2 ^ 32 }
-    requires ended { RunsToEnd tokens.now }
-    ensures parses { Parses tokens.now names_phrase at (λ ns. ns) result }
-    ensures next { Advances tokens.now at result }
+pub fn names(alloc: Global, source: Source, at: usize) -> Result<(List<Named>, usize), SyntaxFault>
+    requires within { at ≤ length source.tokens.now }
+    ensures parses { Parses source.entry.tokens.now names_phrase at (λ ns. ns) result }
+    ensures next { Advances source.entry.tokens.now at result }
 {
-    let first = expect_name(tokens, at)?;
+    let first = expect_name(source, at)?;
     let mut list = List::make(alloc);
     list.push(first)?;
     let mut next = at + 1;
-    'names: while is_at(tokens, next, Tok::Sign(Sign::Comma)) {
-        let name = expect_name(tokens, next + 1)?;
+    'names: while is_at(source, next, Tok::Sign(Sign::Comma)) {
+        let name = expect_name(source, next + 1)?;
         list.push(name)?;
         next += 2;
     }
@@ -63,17 +55,15 @@ pub fn names(
 /// Names in parentheses.
 pub fn answer_list(
     alloc: Global,
-    tokens: &[Token],
+    source: Source,
     at: usize,
 ) -> Result<(List<Named>, usize), SyntaxFault>
-    requires within { at ≤ length tokens.now }
-    requires small { length tokens.now < 2 ^ 32 }
-    requires ended { RunsToEnd tokens.now }
-    ensures parses { Parses tokens.now list_phrase at (λ ns. ns) result }
-    ensures next { Advances tokens.now at result }
+    requires within { at ≤ length source.tokens.now }
+    ensures parses { Parses source.entry.tokens.now list_phrase at (λ ns. ns) result }
+    ensures next { Advances source.entry.tokens.now at result }
 {
-    expect(tokens, at, Tok::Sign(Sign::LeftParen))?;
-    let (list, next) = names(alloc, tokens, at + 1)?;
-    expect(tokens, next, Tok::Sign(Sign::RightParen))?;
+    expect(source, at, Tok::Sign(Sign::LeftParen))?;
+    let (list, next) = names(alloc, source, at + 1)?;
+    expect(source, next, Tok::Sign(Sign::RightParen))?;
     Ok((list, next + 1))
 }

@@ -1,18 +1,20 @@
 //! The first token that stands too deep, by one pass over the tokens.
 ghost use Rattle.std.specs.Prelude.{◌≡◌, ◌^◌, ◌<◌, ◌≤◌, ◌∷◌, length, reverse, slice_get, Ok, Some, None, IfOk, IfErr, IfSome, List as ListOf};
-ghost use Rattle.pool_lexer.specs.Ended.{toks};
 ghost use Rattle.pool_syntax.specs.declared.token.Tok.{Tok as OneToken};
+ghost use Rattle.pool_syntax.specs.Programs.{IsShallowBelow, toks};
 ghost use Rattle.pool_syntax.specs.Nesting.{role as nesting_role, IsFirstTooDeep};
 ghost use Rattle.pool_parser.specs.declared.fault.SyntaxFault.TheVariants.{Memory};
 ghost use Rattle.pool_parser.specs.Depths.{role_of, depth_at, Counts};
-ghost use Rattle.pool_parser.specs.Programs.{IsShallowBelow};
 
 use crate::fault::SyntaxFault;
 use pool_syntax::{Keyword, Sign, Tok, Token};
 use std::alloc::Global;
 
+/// The deepest that a token may stand.
+const DEEPEST: u32 = 200;
+
 /// What a token is to the nesting.
-#[derive(Clone, Copy, Debug)]
+#[derive(Clone, Copy)]
 enum TokenRole {
     Opening,
     /// Closed by `end`, and not counted.
@@ -25,7 +27,7 @@ enum TokenRole {
 }
 
 /// How many open brackets and operators hold the next token, if it goes on with the expression, and if it does not.
-#[derive(Clone, Copy, Debug)]
+#[derive(Clone, Copy)]
 struct Level {
     held: u32,
     parted: u32,
@@ -144,7 +146,7 @@ pub fn first_too_deep(alloc: Global, tokens: &[Token]) -> Result<Option<usize>, 
     let mut at = 0;
     'tokens: while at < tokens.len() {
         let role = token_role(token_at(tokens, at));
-        if depth(role, level) > 200 {
+        if depth(role, level) > DEEPEST {
             return Ok(Some(at));
         }
         level = level_after(&mut outer, role, level)?;

@@ -1,21 +1,22 @@
 //! The program of a list of tokens.
 ghost use Rattle.std.specs.Prelude.{◌≡◌, ℕ, ◌+◌, ◌^◌, ◌<◌, ◌≤◌, ◌⊎◌, length, take, Ok, Err, IfOk, IsTrue, MatchResult};
-ghost use Rattle.pool_lexer.specs.Ended.{EndsInEnd, toks};
+ghost use Rattle.pool_lexer.specs.Ended.{EndsInEnd};
 ghost use Rattle.pool_syntax.specs.Terms.{ProgramTree};
 ghost use Rattle.pool_syntax.specs.Rules.{program as program_phrase};
 ghost use Rattle.pool_syntax.specs.Grammar.{rule};
 ghost use Rattle.pool_syntax.specs.Derives.{Begins, IsFirstUnexpected};
 ghost use Rattle.pool_syntax.specs.Nesting.{IsFirstTooDeep};
 ghost use Rattle.pool_syntax.specs.TreeOf.{program_of};
-ghost use Rattle.pool_syntax.specs.Spelled.{is_spelled};
-ghost use Rattle.pool_parser.specs.Spelling.{AreSpelled};
+ghost use Rattle.pool_syntax.specs.Programs.{HasProgram, IsShallowBelow, toks};
+ghost use Rattle.pool_syntax.specs.Spelled.{AreSpelled, is_spelled};
 ghost use Rattle.pool_parser.specs.declared.fault.SyntaxFault.TheVariants.{Memory};
 ghost use Rattle.pool_parser.specs.Declarations.{ParsesProgram};
-ghost use Rattle.pool_parser.specs.Programs.{HasProgram, IsShallowBelow};
+ghost use Rattle.pool_parser.specs.Nested.{IsNestedBelow};
 
 use crate::declarations::program;
 use crate::fault::SyntaxFault;
 use crate::nesting::first_too_deep;
+use crate::source::Source;
 use pool_lexer::Tokens;
 use pool_syntax::{Program, Token};
 use std::alloc::Global;
@@ -25,9 +26,15 @@ fn program_of_front(alloc: Global, tokens: &[Token], end: usize) -> Result<Progr
     requires within { end + 1 ≤ length tokens.now }
     requires small { length tokens.now < 2 ^ 32 }
     requires ended { EndsInEnd (toks tokens.now) }
+    requires nested { IsNestedBelow (toks tokens.now) end }
     ensures { ParsesProgram (take end tokens.now) result }
 {
-    program(alloc, &tokens[..end])
+    program(
+        alloc,
+        Source {
+            tokens: &tokens[..end],
+        },
+    )
 }
 
 /// The fault, or that this token stands too deep where the fault is behind it.
@@ -52,6 +59,7 @@ fn unless_behind(fault: SyntaxFault, deep: usize) -> SyntaxFault
 /// call nests deeper than the tokens may.
 fn fault_up_to(alloc: Global, tokens: &[Token], deep: usize) -> SyntaxFault
     requires within { deep < length tokens.now }
+    requires first { IsFirstTooDeep (toks tokens.now) deep }
     requires small { length tokens.now < 2 ^ 32 }
     requires ended { EndsInEnd (toks tokens.now) }
     ensures unexpected { (t : ℕ) → result ≡ SyntaxFault.Unexpected t → IsFirstUnexpected (toks tokens.now) t × (t ≤ deep) }
@@ -79,7 +87,8 @@ fn parse_tokens(alloc: Global, tokens: &[Token]) -> Result<Program, SyntaxFault>
     }
 }
 
-/// The program of a text's tokens. Takes time linear in the tokens; the calls nest no deeper than the tokens may, 200 deep.
+/// The program of a text's tokens. Takes time linear in the tokens. The nesting is judged before anything is parsed, so the calls
+/// nest no deeper than the tokens may, 200 deep.
 pub fn parse(alloc: Global, tokens: &Tokens) -> Result<Program, SyntaxFault>
     requires ended { EndsInEnd (toks tokens.now.list) }
     requires size { length tokens.now.list ≤ 67108865 }

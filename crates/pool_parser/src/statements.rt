@@ -1,18 +1,18 @@
 //! Statements: one function for each form of phrase.
-ghost use Rattle.std.specs.Prelude.{◌≡◌, ◌≢◌, ◌+◌, ◌^◌, ◌<◌, ◌≤◌, length, Some, slice_get, List as ListOf, Option as OptionOf};
+ghost use Rattle.std.specs.Prelude.{◌≡◌, ◌≢◌, ◌+◌, ◌<◌, ◌≤◌, length, Some, slice_get, List as ListOf, Option as OptionOf};
 ghost use Rattle.pool_syntax.specs.declared.tree.Named.{Named as OneName};
 ghost use Rattle.pool_syntax.specs.Rules.{stmts as stmts_phrase, more_stmts, stmt as stmt_phrase, alt as alt_phrase, more_alts};
-ghost use Rattle.pool_syntax.specs.TreeOf.{expression_of, statement_of, statements_of};
-ghost use Rattle.pool_parser.specs.Alternatives.{alternative_of, alternatives_of};
+ghost use Rattle.pool_syntax.specs.TreeOf.{alternatives_of, expression_of, statement_of, statements_of};
+ghost use Rattle.pool_parser.specs.Alternatives.{alternative_of};
 ghost use Rattle.pool_parser.specs.Reads.{begins_statement as token_begins_statement};
 ghost use Rattle.pool_parser.specs.Tails.{sending as sending_rule, else_part as else_rule, then_part as then_rule};
-ghost use Rattle.pool_parser.specs.Parses.{seen, RunsToEnd, Parses, ParsesRule, Advances, Stays};
+ghost use Rattle.pool_parser.specs.Parses.{seen, Parses, ParsesRule, Advances, Stays};
 
 use crate::expressions::{Grouping, arguments, grouped, postfix};
 use crate::fault::SyntaxFault;
 use crate::naming::answer_list;
-use crate::source::{expect, expect_name, is_at, peek};
-use pool_syntax::{Alt, Expr, Keyword, List, Named, Sign, Stmt, Tok, Token};
+use crate::source::{Source, expect, expect_name, is_at, peek};
+use pool_syntax::{Alt, Expr, Keyword, List, Named, Sign, Stmt, Tok};
 use std::alloc::Global;
 
 /// Whether a statement begins with the token.
@@ -36,17 +36,15 @@ fn begins_statement(token: Tok) -> bool
 }
 
 /// An invocation, or a send that waits for no result.
-fn sending(alloc: Global, tokens: &[Token], at: usize) -> Result<(Stmt, usize), SyntaxFault>
-    requires within { at ≤ length tokens.now }
-    requires small { length tokens.now < 2 ^ 32 }
-    requires ended { RunsToEnd tokens.now }
-    ensures parses { ParsesRule tokens.now stmt_phrase sending_rule at statement_of result }
-    ensures next { Advances tokens.now at result }
+fn sending(alloc: Global, source: Source, at: usize) -> Result<(Stmt, usize), SyntaxFault>
+    requires within { at ≤ length source.tokens.now }
+    ensures parses { ParsesRule source.entry.tokens.now stmt_phrase sending_rule at statement_of result }
+    ensures next { Advances source.entry.tokens.now at result }
 {
-    let (to, next) = postfix(alloc, tokens, at)?;
-    if is_at(tokens, next, Tok::Sign(Sign::BangBang)) {
-        let method = expect_name(tokens, next + 1)?;
-        let (args, after) = arguments(alloc, tokens, next + 2)?;
+    let (to, next) = postfix(alloc, source, at)?;
+    if is_at(source, next, Tok::Sign(Sign::BangBang)) {
+        let method = expect_name(source, next + 1)?;
+        let (args, after) = arguments(alloc, source, next + 2)?;
         Ok((
             Stmt::Async {
                 to: to.tree,
@@ -65,75 +63,67 @@ fn sending(alloc: Global, tokens: &[Token], at: usize) -> Result<(Stmt, usize), 
 /// A statement that begins with a name: an assignment, or a send or call.
 fn named_statement(
     alloc: Global,
-    tokens: &[Token],
+    source: Source,
     at: usize,
     target: Named,
 ) -> Result<(Stmt, usize), SyntaxFault>
-    requires name { slice_get (seen tokens.now) at ≡ Some (Tok.Name target.name) }
+    requires name { slice_get (seen source.tokens.now) at ≡ Some (Tok.Name target.name) }
     requires place { target.pos ≡ at }
-    requires within { at + 1 ≤ length tokens.now }
-    requires small { length tokens.now < 2 ^ 32 }
-    requires ended { RunsToEnd tokens.now }
-    ensures parses { Parses tokens.now stmt_phrase at statement_of result }
-    ensures next { Advances tokens.now at result }
+    requires within { at + 1 ≤ length source.tokens.now }
+    ensures parses { Parses source.entry.tokens.now stmt_phrase at statement_of result }
+    ensures next { Advances source.entry.tokens.now at result }
 {
-    if is_at(tokens, at + 1, Tok::Sign(Sign::Becomes)) {
-        let (value, next) = grouped(alloc, tokens, at + 2, Grouping::Or)?;
+    if is_at(source, at + 1, Tok::Sign(Sign::Becomes)) {
+        let (value, next) = grouped(alloc, source, at + 2, Grouping::Or)?;
         Ok((Stmt::Assign { target, value }, next))
     } else {
-        sending(alloc, tokens, at)
+        sending(alloc, source, at)
     }
 }
 
 /// A string or an expression to be written.
-fn writing(alloc: Global, tokens: &[Token], at: usize) -> Result<(Stmt, usize), SyntaxFault>
-    requires word { slice_get (seen tokens.now) at ≡ Some (Tok.Word Keyword.Write) }
-    requires within { at + 1 ≤ length tokens.now }
-    requires small { length tokens.now < 2 ^ 32 }
-    requires ended { RunsToEnd tokens.now }
-    ensures parses { Parses tokens.now stmt_phrase at statement_of result }
-    ensures next { Advances tokens.now at result }
+fn writing(alloc: Global, source: Source, at: usize) -> Result<(Stmt, usize), SyntaxFault>
+    requires word { slice_get (seen source.tokens.now) at ≡ Some (Tok.Word Keyword.Write) }
+    requires within { at + 1 ≤ length source.tokens.now }
+    ensures parses { Parses source.entry.tokens.now stmt_phrase at statement_of result }
+    ensures next { Advances source.entry.tokens.now at result }
 {
-    match peek(tokens, at + 1) {
+    match peek(source, at + 1) {
         Tok::Str(text) => Ok((Stmt::WriteText { text }, at + 2)),
         _ => {
-            let (value, next) = grouped(alloc, tokens, at + 1, Grouping::Or)?;
+            let (value, next) = grouped(alloc, source, at + 1, Grouping::Or)?;
             Ok((Stmt::Write { value }, next))
         }
     }
 }
 
 /// The names that may be answered.
-fn answering(alloc: Global, tokens: &[Token], at: usize) -> Result<(Stmt, usize), SyntaxFault>
-    requires word { slice_get (seen tokens.now) at ≡ Some (Tok.Word Keyword.Answer) }
-    requires within { at + 1 ≤ length tokens.now }
-    requires small { length tokens.now < 2 ^ 32 }
-    requires ended { RunsToEnd tokens.now }
-    ensures parses { Parses tokens.now stmt_phrase at statement_of result }
-    ensures next { Advances tokens.now at result }
+fn answering(alloc: Global, source: Source, at: usize) -> Result<(Stmt, usize), SyntaxFault>
+    requires word { slice_get (seen source.tokens.now) at ≡ Some (Tok.Word Keyword.Answer) }
+    requires within { at + 1 ≤ length source.tokens.now }
+    ensures parses { Parses source.entry.tokens.now stmt_phrase at statement_of result }
+    ensures next { Advances source.entry.tokens.now at result }
 {
-    let (names, next) = answer_list(alloc, tokens, at + 1)?;
+    let (names, next) = answer_list(alloc, source, at + 1)?;
     Ok((Stmt::Answer { names }, next))
 }
 
 #[cycle(statements)]
-fn statement(alloc: Global, tokens: &[Token], at: usize) -> Result<(Stmt, usize), SyntaxFault>
-    requires within { at ≤ length tokens.now }
-    requires small { length tokens.now < 2 ^ 32 }
-    requires ended { RunsToEnd tokens.now }
-    ensures parses { Parses tokens.now stmt_phrase at statement_of result }
-    ensures next { Advances tokens.now at result }
+fn statement(alloc: Global, source: Source, at: usize) -> Result<(Stmt, usize), SyntaxFault>
+    requires within { at ≤ length source.tokens.now }
+    ensures parses { Parses source.entry.tokens.now stmt_phrase at statement_of result }
+    ensures next { Advances source.entry.tokens.now at result }
 {
-    match peek(tokens, at) {
+    match peek(source, at) {
         Tok::Name(name) => {
             let target = Named {
                 name,
                 pos: at as u32,
             };
-            named_statement(alloc, tokens, at, target)
+            named_statement(alloc, source, at, target)
         }
-        Tok::Word(word) => worded_statement(alloc, tokens, at, word),
-        _ => sending(alloc, tokens, at),
+        Tok::Word(word) => worded_statement(alloc, source, at, word),
+        _ => sending(alloc, source, at),
     }
 }
 
@@ -141,117 +131,105 @@ fn statement(alloc: Global, tokens: &[Token], at: usize) -> Result<(Stmt, usize)
 #[cycle(statements)]
 fn worded_statement(
     alloc: Global,
-    tokens: &[Token],
+    source: Source,
     at: usize,
     word: Keyword,
 ) -> Result<(Stmt, usize), SyntaxFault>
-    requires word { slice_get (seen tokens.now) at ≡ Some (Tok.Word word) }
-    requires within { at + 1 ≤ length tokens.now }
-    requires small { length tokens.now < 2 ^ 32 }
-    requires ended { RunsToEnd tokens.now }
-    ensures parses { Parses tokens.now stmt_phrase at statement_of result }
-    ensures next { Advances tokens.now at result }
+    requires word { slice_get (seen source.tokens.now) at ≡ Some (Tok.Word word) }
+    requires within { at + 1 ≤ length source.tokens.now }
+    ensures parses { Parses source.entry.tokens.now stmt_phrase at statement_of result }
+    ensures next { Advances source.entry.tokens.now at result }
 {
     match word {
-        Keyword::Write => writing(alloc, tokens, at),
-        Keyword::Answer => answering(alloc, tokens, at),
-        Keyword::If => conditional(alloc, tokens, at),
-        Keyword::While => repetition(alloc, tokens, at),
-        Keyword::Select => selection(alloc, tokens, at),
-        _ => sending(alloc, tokens, at),
+        Keyword::Write => writing(alloc, source, at),
+        Keyword::Answer => answering(alloc, source, at),
+        Keyword::If => conditional(alloc, source, at),
+        Keyword::While => repetition(alloc, source, at),
+        Keyword::Select => selection(alloc, source, at),
+        _ => sending(alloc, source, at),
     }
 }
 
 #[cycle(statements)]
-fn conditional(alloc: Global, tokens: &[Token], at: usize) -> Result<(Stmt, usize), SyntaxFault>
-    requires word { slice_get (seen tokens.now) at ≡ Some (Tok.Word Keyword.If) }
-    requires within { at + 1 ≤ length tokens.now }
-    requires small { length tokens.now < 2 ^ 32 }
-    requires ended { RunsToEnd tokens.now }
-    ensures parses { Parses tokens.now stmt_phrase at statement_of result }
-    ensures next { Advances tokens.now at result }
+fn conditional(alloc: Global, source: Source, at: usize) -> Result<(Stmt, usize), SyntaxFault>
+    requires word { slice_get (seen source.tokens.now) at ≡ Some (Tok.Word Keyword.If) }
+    requires within { at + 1 ≤ length source.tokens.now }
+    ensures parses { Parses source.entry.tokens.now stmt_phrase at statement_of result }
+    ensures next { Advances source.entry.tokens.now at result }
 {
-    let (cond, next) = grouped(alloc, tokens, at + 1, Grouping::Or)?;
-    expect(tokens, next, Tok::Word(Keyword::Then))?;
-    let (yes, after) = statements(alloc, tokens, next + 1)?;
-    else_part(alloc, tokens, after, cond, yes)
+    let (cond, next) = grouped(alloc, source, at + 1, Grouping::Or)?;
+    expect(source, next, Tok::Word(Keyword::Then))?;
+    let (yes, after) = statements(alloc, source, next + 1)?;
+    else_part(alloc, source, after, cond, yes)
 }
 
 /// The other list of a conditional, if there is one, and its end.
 #[cycle(statements)]
 fn else_part(
     alloc: Global,
-    tokens: &[Token],
+    source: Source,
     at: usize,
     cond: Expr,
     yes: List<Stmt>,
 ) -> Result<(Stmt, usize), SyntaxFault>
-    requires within { at ≤ length tokens.now }
-    requires small { length tokens.now < 2 ^ 32 }
-    requires ended { RunsToEnd tokens.now }
-    ensures parses { ParsesRule tokens.now stmt_phrase (else_rule (expression_of cond) (statements_of yes)) at statement_of result }
-    ensures next { Advances tokens.now at result }
+    requires within { at ≤ length source.tokens.now }
+    ensures parses { ParsesRule source.entry.tokens.now stmt_phrase (else_rule (expression_of cond) (statements_of yes)) at statement_of result }
+    ensures next { Advances source.entry.tokens.now at result }
 {
-    if is_at(tokens, at, Tok::Word(Keyword::Else)) {
-        let (no, next) = statements(alloc, tokens, at + 1)?;
-        expect(tokens, next, Tok::Word(Keyword::Fi))?;
+    if is_at(source, at, Tok::Word(Keyword::Else)) {
+        let (no, next) = statements(alloc, source, at + 1)?;
+        expect(source, next, Tok::Word(Keyword::Fi))?;
         Ok((Stmt::If { cond, yes, no }, next + 1))
     } else {
-        expect(tokens, at, Tok::Word(Keyword::Fi))?;
+        expect(source, at, Tok::Word(Keyword::Fi))?;
         let no = List::make(alloc);
         Ok((Stmt::If { cond, yes, no }, at + 1))
     }
 }
 
 #[cycle(statements)]
-fn repetition(alloc: Global, tokens: &[Token], at: usize) -> Result<(Stmt, usize), SyntaxFault>
-    requires word { slice_get (seen tokens.now) at ≡ Some (Tok.Word Keyword.While) }
-    requires within { at + 1 ≤ length tokens.now }
-    requires small { length tokens.now < 2 ^ 32 }
-    requires ended { RunsToEnd tokens.now }
-    ensures parses { Parses tokens.now stmt_phrase at statement_of result }
-    ensures next { Advances tokens.now at result }
+fn repetition(alloc: Global, source: Source, at: usize) -> Result<(Stmt, usize), SyntaxFault>
+    requires word { slice_get (seen source.tokens.now) at ≡ Some (Tok.Word Keyword.While) }
+    requires within { at + 1 ≤ length source.tokens.now }
+    ensures parses { Parses source.entry.tokens.now stmt_phrase at statement_of result }
+    ensures next { Advances source.entry.tokens.now at result }
 {
-    let (cond, next) = grouped(alloc, tokens, at + 1, Grouping::Or)?;
-    expect(tokens, next, Tok::Word(Keyword::Do))?;
-    let (body, after) = statements(alloc, tokens, next + 1)?;
-    expect(tokens, after, Tok::Word(Keyword::Od))?;
+    let (cond, next) = grouped(alloc, source, at + 1, Grouping::Or)?;
+    expect(source, next, Tok::Word(Keyword::Do))?;
+    let (body, after) = statements(alloc, source, next + 1)?;
+    expect(source, after, Tok::Word(Keyword::Od))?;
     Ok((Stmt::While { cond, body }, after + 1))
 }
 
 #[cycle(statements)]
-fn selection(alloc: Global, tokens: &[Token], at: usize) -> Result<(Stmt, usize), SyntaxFault>
-    requires word { slice_get (seen tokens.now) at ≡ Some (Tok.Word Keyword.Select) }
-    requires within { at + 1 ≤ length tokens.now }
-    requires small { length tokens.now < 2 ^ 32 }
-    requires ended { RunsToEnd tokens.now }
-    ensures parses { Parses tokens.now stmt_phrase at statement_of result }
-    ensures next { Advances tokens.now at result }
+fn selection(alloc: Global, source: Source, at: usize) -> Result<(Stmt, usize), SyntaxFault>
+    requires word { slice_get (seen source.tokens.now) at ≡ Some (Tok.Word Keyword.Select) }
+    requires within { at + 1 ≤ length source.tokens.now }
+    ensures parses { Parses source.entry.tokens.now stmt_phrase at statement_of result }
+    ensures next { Advances source.entry.tokens.now at result }
 {
-    let (first, next) = alternative(alloc, tokens, at + 1)?;
+    let (first, next) = alternative(alloc, source, at + 1)?;
     let mut alts = List::make(alloc);
     alts.push(first)?;
-    let (alts, after) = more_alternatives(alloc, tokens, next, alts)?;
-    expect(tokens, after, Tok::Word(Keyword::End))?;
+    let (alts, after) = more_alternatives(alloc, source, next, alts)?;
+    expect(source, after, Tok::Word(Keyword::End))?;
     Ok((Stmt::Select { alts }, after + 1))
 }
 
 #[cycle(statements)]
 fn more_alternatives(
     alloc: Global,
-    tokens: &[Token],
+    source: Source,
     at: usize,
     mut alts: List<Alt>,
 ) -> Result<(List<Alt>, usize), SyntaxFault>
-    requires within { at ≤ length tokens.now }
-    requires small { length tokens.now < 2 ^ 32 }
-    requires ended { RunsToEnd tokens.now }
-    ensures parses { Parses tokens.now (more_alts (alternatives_of alts)) at alternatives_of result }
-    ensures next { Stays tokens.now at result }
+    requires within { at ≤ length source.tokens.now }
+    ensures parses { Parses source.entry.tokens.now (more_alts (alternatives_of alts)) at alternatives_of result }
+    ensures next { Stays source.entry.tokens.now at result }
 {
     let mut next = at;
-    'alternatives: while is_at(tokens, next, Tok::Word(Keyword::When)) {
-        let (alt, after) = alternative(alloc, tokens, next)?;
+    'alternatives: while is_at(source, next, Tok::Word(Keyword::When)) {
+        let (alt, after) = alternative(alloc, source, next)?;
         alts.push(alt)?;
         next = after;
     }
@@ -259,20 +237,18 @@ fn more_alternatives(
 }
 
 #[cycle(statements)]
-fn alternative(alloc: Global, tokens: &[Token], at: usize) -> Result<(Alt, usize), SyntaxFault>
-    requires within { at ≤ length tokens.now }
-    requires small { length tokens.now < 2 ^ 32 }
-    requires ended { RunsToEnd tokens.now }
-    ensures parses { Parses tokens.now alt_phrase at alternative_of result }
-    ensures next { Advances tokens.now at result }
+fn alternative(alloc: Global, source: Source, at: usize) -> Result<(Alt, usize), SyntaxFault>
+    requires within { at ≤ length source.tokens.now }
+    ensures parses { Parses source.entry.tokens.now alt_phrase at alternative_of result }
+    ensures next { Advances source.entry.tokens.now at result }
 {
-    expect(tokens, at, Tok::Word(Keyword::When))?;
-    let (guard, next) = grouped(alloc, tokens, at + 1, Grouping::Or)?;
-    if is_at(tokens, next, Tok::Word(Keyword::Answer)) {
-        let (names, after) = answer_list(alloc, tokens, next + 1)?;
-        work(alloc, tokens, after, guard, Some(names))
+    expect(source, at, Tok::Word(Keyword::When))?;
+    let (guard, next) = grouped(alloc, source, at + 1, Grouping::Or)?;
+    if is_at(source, next, Tok::Word(Keyword::Answer)) {
+        let (names, after) = answer_list(alloc, source, next + 1)?;
+        work(alloc, source, after, guard, Some(names))
     } else {
-        work(alloc, tokens, next, guard, None)
+        work(alloc, source, next, guard, None)
     }
 }
 
@@ -280,19 +256,17 @@ fn alternative(alloc: Global, tokens: &[Token], at: usize) -> Result<(Alt, usize
 #[cycle(statements)]
 fn work(
     alloc: Global,
-    tokens: &[Token],
+    source: Source,
     at: usize,
     guard: Expr,
     answer: Option<List<Named>>,
 ) -> Result<(Alt, usize), SyntaxFault>
-    requires within { at ≤ length tokens.now }
-    requires small { length tokens.now < 2 ^ 32 }
-    requires ended { RunsToEnd tokens.now }
-    ensures parses { ParsesRule tokens.now alt_phrase (then_rule (expression_of guard) answer) at alternative_of result }
-    ensures next { Advances tokens.now at result }
+    requires within { at ≤ length source.tokens.now }
+    ensures parses { ParsesRule source.entry.tokens.now alt_phrase (then_rule (expression_of guard) answer) at alternative_of result }
+    ensures next { Advances source.entry.tokens.now at result }
 {
-    expect(tokens, at, Tok::Word(Keyword::Then))?;
-    let (work, next) = statements(alloc, tokens, at + 1)?;
+    expect(source, at, Tok::Word(Keyword::Then))?;
+    let (work, next) = statements(alloc, source, at + 1)?;
     Ok((
         Alt {
             guard,
@@ -307,24 +281,22 @@ fn work(
 #[cycle(statements)]
 pub fn statements(
     alloc: Global,
-    tokens: &[Token],
+    source: Source,
     at: usize,
 ) -> Result<(List<Stmt>, usize), SyntaxFault>
-    requires within { at ≤ length tokens.now }
-    requires small { length tokens.now < 2 ^ 32 }
-    requires ended { RunsToEnd tokens.now }
-    ensures parses { Parses tokens.now stmts_phrase at statements_of result }
-    ensures next { Stays tokens.now at result }
+    requires within { at ≤ length source.tokens.now }
+    ensures parses { Parses source.entry.tokens.now stmts_phrase at statements_of result }
+    ensures next { Stays source.entry.tokens.now at result }
 {
     let mut list = List::make(alloc);
-    if !begins_statement(peek(tokens, at)) {
+    if !begins_statement(peek(source, at)) {
         return Ok((list, at));
     }
-    let (first, after) = statement(alloc, tokens, at)?;
+    let (first, after) = statement(alloc, source, at)?;
     list.push(first)?;
     let mut next = after;
-    'statements: while is_at(tokens, next, Tok::Sign(Sign::Semicolon)) {
-        let (statement, after) = statement(alloc, tokens, next + 1)?;
+    'statements: while is_at(source, next, Tok::Sign(Sign::Semicolon)) {
+        let (statement, after) = statement(alloc, source, next + 1)?;
         list.push(statement)?;
         next = after;
     }

@@ -8,10 +8,10 @@ use Rattle.pool_syntax.specs.declared.token.Sign.TheVariants as sign
 use Rattle.pool_syntax.specs.declared.tree.Stmt.{Stmt}
 use Rattle.pool_syntax.specs.declared.tree.Alt.{Alt, out-Alt}
 use Rattle.pool_syntax.specs.Terms.{Expression, Expressions, Statements, If, While, Select, Async, Alternatives}
-use Rattle.pool_syntax.specs.TreeOf.{expression_of, statement_of, statements_of}
+use Rattle.pool_syntax.specs.TreeOf.{expression_of, statement_of, statements_of, alternatives_of}
 use Rattle.pool_printer.specs.Canonical.{alternatives_tokens, answer_tokens, call_tokens, else_tokens, expression_tokens, statement_parts, statement_tokens, statements_tokens}
 use Rattle.pool_printer.specs.Known.{are_known}
-use Rattle.pool_printer.specs.Parts.{alternative_tokens, alternatives_of}
+use Rattle.pool_printer.specs.Parts.{alternative_tokens}
 use Rattle.pool_printer.specs.Saying.{from_place, separator_at}
 use Rattle.pool_printer.proofs.Places.{known_left, known_right, parts_more, all_more}
 

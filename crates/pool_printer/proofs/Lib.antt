@@ -1,7 +1,6 @@
 mod Rows
 pub mod Putting
 pub mod Places
-pub mod Trees
 pub mod Needs
 pub mod Sizes
 pub mod Bodies

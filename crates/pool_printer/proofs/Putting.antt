@@ -32,9 +32,9 @@ rose_before a b c (inr r) e = inr (omega arith)
 
 -- one text and then another
 pub puts_append : (s t : Text) (a b c : State) → Puts s a b → Puts t b c → Puts (s ++ t) a c
-puts_append s t a b c (whole o p w f) (whole o2 p2 w2 f2) = whole o p2 (joined s t _ _ _ w w2) (omega arith)
+puts_append s t a b c (whole o p w f) (whole o2 p2 w2 f2) = whole o p2 (joined s t _ _ _ w w2) (f2 ∙ f)
 puts_append s t a b c (whole o p w f) (cut n o2 p2 h w2 f2 r) =
-    cut (length s + n) o p2 (grind (arith, common_steps)) (same_text _ _ _ _ (front_of_second n s t) (joined s (take n t) _ _ _ w w2)) (omega arith) (rose_later _ _ _ f r)
+    cut (length s + n) o p2 (grind (arith, common_steps)) (same_text _ _ _ _ (front_of_second n s t) (joined s (take n t) _ _ _ w w2)) (omega arith) (rose_later _ _ _ (omega arith) r)
 puts_append s t a b c (whole o p w f) (idle o2 p2 w2 f2) = absurd (cc)
 puts_append s t a b c (cut n o p h w f r) (whole o2 p2 w2 f2) = absurd (cc)
 puts_append s t a b c (cut n o p h w f r) (cut m o2 p2 h2 w2 f2 r2) = absurd (cc)
@@ -51,7 +51,7 @@ append_nothing (Some w) = ap Some (grind (arith, common_steps))
 -- the same but for the last token
 like_put : (a b : State) (k : Bool) → a.failed ≡ k → b.failed ≡ a.failed → b.written ≡ a.written → b.faults ≡ a.faults → Puts [] a b
 like_put a b true e h w f = idle e (h ∙ e) w f
-like_put a b false e h w f = whole e (h ∙ e) (w ∙ append_nothing a.written) (omega arith)
+like_put a b false e h w f = whole e (h ∙ e) (w ∙ append_nothing a.written) f
 
 puts_like : (a b : State) → b.failed ≡ a.failed → b.written ≡ a.written → b.faults ≡ a.faults → Puts [] a b
 puts_like a b h w f = like_put a b a.failed refl h w f
@@ -118,6 +118,12 @@ put_rose t a b (cut n o p l w f r) g h = r
 put_rose t a b (idle o p w f) g h = absurd (cc)
 
 pub put_faults : (t : Text) (a b : State) → Puts t a b → a.faults ≤ b.faults
-put_faults t a b (whole o p w f) = f
+put_faults t a b (whole o p w f) = omega arith
 put_faults t a b (cut n o p l w f r) = f
 put_faults t a b (idle o p w f) = omega arith
+
+-- a text that was put whole met no failed write
+pub put_no_fault : (t : Text) (a b : State) → Puts t a b → b.failed ≡ false → b.faults ≡ a.faults
+put_no_fault t a b (whole o p w f) h = f
+put_no_fault t a b (cut n o p l w f r) h = absurd (cc)
+put_no_fault t a b (idle o p w f) h = absurd (cc)

@@ -10,14 +10,13 @@ use Rattle.pool_syntax.specs.Terms.{ProgramTree}
 use Rattle.pool_syntax.specs.declared.token.Tok.{Tok}
 use Rattle.pool_syntax.specs.declared.token.Tok.TheVariants.{End}
 use Rattle.pool_syntax.specs.declared.token.Token.{Token}
+use Rattle.pool_syntax.proofs.Laws.{text_at_place}
 use Rattle.pool_lexer.specs.declared.scan.ByteSet.TheVariants.{Space}
 use Rattle.pool_lexer.specs.declared.piece.Kind.TheVariants.{Skipped}
 use Rattle.pool_lexer.specs.Reading.{with_kept}
-use Rattle.pool_lexer.proofs.Fronts.{white_run}
-use Rattle.pool_lexer.proofs.Kept.{kept_there, texts_after-cons}
-use Rattle.pool_lexer.proofs.Longest.{longest_run}
+use Rattle.pool_lexer.proofs.Laws.{white_run, kept_there, texts_after-cons, longest_run}
 use Rattle.pool_printer.specs.Canonical.{breaks_after, breaks_before, gap, text_behind, program_tokens}
-use Rattle.pool_printer.specs.ReadBack.{number_in, are_in_range, IsReadBack}
+use Rattle.pool_printer.specs.ReadBack.{number_in, IsReadBack}
 use Rattle.pool_printer.specs.Renumbered.{token_by}
 use Rattle.pool_printer.specs.Spelling.{spelling}
 use Rattle.pool_printer.proofs.SpelledTokens.{spelled_tokens}
@@ -141,20 +140,12 @@ all_tokens names other (t ∷ ts) h = token_then_tokens names other 0 t ts (piec
 
 -- their texts
 
-place_of_text : (names : List Text) (w : Text) → is_among names w ≡ true → slice_get names (name_of names w) ≡ Some w
-place_of_text [] w h = absurd (cc)
-place_of_text (x ∷ xs) w h = by (bytes_eq x w) refl (λ k. place_of_text xs w k)
-  where
-    by : (b : Bool) → bytes_eq x w ≡ b → (is_among xs w ≡ true → slice_get xs (name_of xs w) ≡ Some w) → slice_get (x ∷ xs) (elim b [ true ↦ 0 | false ↦ suc (name_of xs w) ]) ≡ Some w
-    by true e rest = ap Some ((bytes_eq-Decides x w).0 e)
-    by false e rest = rest (rw e at h)
-
 all_kept : (seen ws : List Text) → AllByRecursion (HasKept (texts_after seen ws)) ws
 all_kept seen [] = tt
 all_kept seen (w ∷ ws) =
     let later = with_kept seen w in
     subst (λ o. AllByRecursion (HasKept o) (w ∷ ws)) (sym (texts_after-cons seen w ws))
-    (λ x e. place_of_text (texts_after later ws) x (kept_there seen w ws x e).0, all_kept later ws)
+    (λ x e. text_at_place (texts_after later ws) x (kept_there seen w ws x e).0, all_kept later ws)
 
 behind_texts : (names other : List Text) (before : Tok) (ts : List Tok) → AllByRecursion (Lexes names) ts → AllByRecursion (HasKept other) (pieces_behind names before ts) → AllByRecursion (λ t. spelling other (token_by (number_in other names) t) ≡ spelling names t) ts
 behind_texts names other before [] h kept = tt
@@ -164,11 +155,11 @@ all_texts : (names other : List Text) (ts : List Tok) → AllByRecursion (Lexes 
 all_texts names other [] h kept = tt
 all_texts names other (t ∷ ts) h kept = (h.0.text other kept.0, behind_texts names other t ts h.1 kept.1)
 
--- The canonical text of a spelled program, whose integers are below 2 ^ 63, is read back.
-pub canonical_tokens : (names : List Text) (p : ProgramTree) → is_spelled names p ≡ true → are_in_range (program_tokens p) ≡ true → (other : List Text) × (ts : List Token) × IsReadBack names p other ts
-canonical_tokens names p h r =
+-- The canonical text of a spelled program is read back.
+pub canonical_tokens : (names : List Text) (p : ProgramTree) → is_spelled names p ≡ true → (other : List Text) × (ts : List Token) × IsReadBack names p other ts
+canonical_tokens names p h =
     let ts = program_tokens p in
-    let lex = tokens_lex names ts (spelled_tokens names p h) r in
+    let lex = tokens_lex names ts (spelled_tokens names p h) in
     let ws = all_pieces names ts in
     let other = texts_after [] ws in (
       other,

@@ -13,7 +13,7 @@ use Rattle.pool_syntax.specs.declared.tree.Kind.TheVariants as kind
 use Rattle.pool_syntax.specs.declared.tree.Named.{Named}
 use Rattle.pool_syntax.specs.declared.tree.Var.{Var}
 use Rattle.pool_syntax.specs.Terms.{Expression, Literal, Me, Variable, Create, Prefix, Infix, Call, Send, NoArgs, Arg, Statements, Assign, Write, WriteText, Do, Async, If, While, Answer, Select, Done, Then, NoAlts, Alt, ProgramTree}
-use Rattle.pool_printer.specs.Spelling.{keyword_text, sign_text}
+use Rattle.pool_syntax.specs.Spelling.{keyword_text, sign_text}
 use Rattle.pool_printer.specs.Canonical.{canonical}
 
 abbrev named : ℕ → Named

@@ -5,16 +5,15 @@ use Rattle.pool_syntax.specs.Spelled.{is_spelled, IsGrammatical}
 use Rattle.pool_syntax.specs.Terms.{ProgramTree}
 use Rattle.pool_syntax.specs.Tokens.{Text}
 use Rattle.pool_syntax.specs.declared.token.Token.{Token}
-use Rattle.pool_printer.specs.Canonical.{program_tokens}
-use Rattle.pool_printer.specs.ReadBack.{number_in, are_in_range}
+use Rattle.pool_printer.specs.ReadBack.{number_in}
 use Rattle.pool_printer.specs.SameProgram.{IsSameProgram}
 use Rattle.pool_printer.proofs.DerivedProgram.{canonical_derives}
 use Rattle.pool_printer.proofs.ReadBack.{canonical_tokens}
 
-pub same_program : (names : List Text) (p : ProgramTree) → is_spelled names p ≡ true → are_in_range (program_tokens p) ≡ true → IsGrammatical p
+pub same_program : (names : List Text) (p : ProgramTree) → is_spelled names p ≡ true → IsGrammatical p
     → (other : List Text) × (ts : List Token) × (q : ProgramTree) × IsSameProgram names p other ts q
-same_program names p h r g =
-    let read = canonical_tokens names p h r in
+same_program names p h g =
+    let read = canonical_tokens names p h in
     let derived = canonical_derives (number_in read.0 names) p g in (
       read.0,
       read.1,

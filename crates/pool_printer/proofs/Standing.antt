@@ -10,8 +10,7 @@ use Rattle.pool_syntax.specs.declared.token.LexFault.TheVariants.{IntegerTooLarg
 use Rattle.pool_lexer.specs.ByteSets.{is_in}
 use Rattle.pool_lexer.specs.declared.scan.ByteSet.TheVariants.{NameByte, Digit}
 use Rattle.pool_lexer.specs.declared.piece.Kind.TheVariants.{Word, Integer}
-use Rattle.pool_lexer.proofs.Fronts.{word_run, integer_run}
-use Rattle.pool_lexer.proofs.Longest.{longest_run, longest_string}
+use Rattle.pool_lexer.proofs.Laws.{word_run, integer_run, longest_run, longest_string}
 
 -- the byte between two tokens: a line feed or a space
 abbrev pub gap_byte : Bool → ℕ

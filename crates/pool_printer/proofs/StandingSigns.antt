@@ -9,8 +9,8 @@ use Rattle.pool_syntax.specs.declared.token.Sign.{Sign}
 use Rattle.pool_syntax.specs.declared.token.Sign.TheVariants as sign
 use Rattle.pool_syntax.specs.declared.token.Tok.TheVariants as tok
 use Rattle.pool_lexer.specs.Pieces.{IsNoRun}
-use Rattle.pool_lexer.proofs.Signs.{longest_narrow, longest_wide}
-use Rattle.pool_printer.specs.Spelling.{keyword_text, sign_text}
+use Rattle.pool_lexer.proofs.Laws.{longest_narrow, longest_wide}
+use Rattle.pool_syntax.specs.Spelling.{keyword_text, sign_text}
 use Rattle.pool_printer.proofs.Standing.{Stands, gap_byte, word_stands}
 
 pub keyword_stands : (k : Keyword) → Stands (keyword_text k)

@@ -8,10 +8,8 @@ use Rattle.pool_syntax.specs.Spelled.{is_name, is_string_number, is_name_text, i
 use Rattle.pool_syntax.specs.declared.words.NameId.{NameId}
 use Rattle.pool_syntax.specs.declared.token.Tok.{Tok}
 use Rattle.pool_syntax.specs.declared.token.Tok.TheVariants as tok
-use Rattle.pool_lexer.proofs.Kept.{cases_Option}
-use Rattle.pool_lexer.proofs.Listed.{listed_is}
-use Rattle.pool_lexer.proofs.WordTokens.{name_kept}
-use Rattle.pool_printer.specs.ReadBack.{number_in, is_in_range, are_in_range}
+use Rattle.pool_lexer.proofs.Laws.{cases_Option, listed_is, name_kept}
+use Rattle.pool_printer.specs.ReadBack.{number_in}
 use Rattle.pool_printer.specs.Renumbered.{token_by}
 use Rattle.pool_printer.specs.Spelling.{spelling, text_at, text_or_none}
 use Rattle.pool_printer.proofs.Places.{left_true, right_true}
@@ -93,15 +91,15 @@ integer_lexes names z h =
       text = λ other kept. refl;
     }
 
-pub token_lexes : (names : List Text) (t : Tok) → is_spelled_token names t ≡ true → is_in_range t ≡ true → Lexes names t
-token_lexes names (tok.Word k) h r = record { stands = keyword_stands k; again = λ other. keyword_again other k; text = λ other kept. refl }
-token_lexes names (tok.Name n) h r = name_lexes names n h
-token_lexes names (tok.Int (pos z)) h r = integer_lexes names z (leb-true _ _ r)
-token_lexes names (tok.Int (negsuc z)) h r = absurd (cc)
-token_lexes names (tok.Str n) h r = string_lexes names n h
-token_lexes names (tok.Sign s) h r = record { stands = sign_stands s; again = λ other. sign_again other s; text = λ other kept. refl }
-token_lexes names tok.End h r = absurd (cc)
+pub token_lexes : (names : List Text) (t : Tok) → is_spelled_token names t ≡ true → Lexes names t
+token_lexes names (tok.Word k) h = record { stands = keyword_stands k; again = λ other. keyword_again other k; text = λ other kept. refl }
+token_lexes names (tok.Name n) h = name_lexes names n h
+token_lexes names (tok.Int (pos z)) h = integer_lexes names z (leb-true _ _ h)
+token_lexes names (tok.Int (negsuc z)) h = absurd (cc)
+token_lexes names (tok.Str n) h = string_lexes names n h
+token_lexes names (tok.Sign s) h = record { stands = sign_stands s; again = λ other. sign_again other s; text = λ other kept. refl }
+token_lexes names tok.End h = absurd (cc)
 
-pub tokens_lex : (names : List Text) (ts : List Tok) → are_spelled_tokens names ts ≡ true → are_in_range ts ≡ true → AllByRecursion (Lexes names) ts
-tokens_lex names [] h r = tt
-tokens_lex names (t ∷ ts) h r = (token_lexes names t (left_true _ _ h) (left_true _ _ r), tokens_lex names ts (right_true (is_spelled_token names t) _ h) (right_true (is_in_range t) _ r))
+pub tokens_lex : (names : List Text) (ts : List Tok) → are_spelled_tokens names ts ≡ true → AllByRecursion (Lexes names) ts
+tokens_lex names [] h = tt
+tokens_lex names (t ∷ ts) h = (token_lexes names t (left_true _ _ h), tokens_lex names ts (right_true (is_spelled_token names t) _ h))

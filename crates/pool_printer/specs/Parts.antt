@@ -1,16 +1,11 @@
--- The alternatives of a select, and the tokens of one.
-use Rattle.std.specs.Prelude.{List, [], ◌∷◌}
+-- The tokens of one of the code's alternatives.
+use Rattle.std.specs.Prelude.{List, ◌∷◌}
 use Rattle.pool_syntax.specs.declared.token.Keyword.TheVariants as word
 use Rattle.pool_syntax.specs.declared.token.Tok.{Tok}
 use Rattle.pool_syntax.specs.declared.token.Tok.TheVariants.{Word}
 use Rattle.pool_syntax.specs.declared.tree.Alt.{Alt, out-Alt}
-use Rattle.pool_syntax.specs.Terms.{Alternatives, NoAlts, Alt as OneAlt}
 use Rattle.pool_syntax.specs.TreeOf.{expression_of, statements_of}
 use Rattle.pool_printer.specs.Canonical.{expression_tokens, answer_tokens, statements_tokens, ◌then◌}
-
-abbrev pub alternatives_of : List Alt → Alternatives
-alternatives_of [] = NoAlts
-alternatives_of (a ∷ rest) = OneAlt (expression_of (out-Alt a).guard) (out-Alt a).answer (statements_of (out-Alt a).work) (alternatives_of rest)
 
 abbrev pub alternative_tokens : Alt → List Tok
 alternative_tokens a =

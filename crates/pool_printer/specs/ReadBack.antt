@@ -15,20 +15,6 @@ use Rattle.pool_printer.specs.Spelling.{spelling, text_at}
 abbrev pub number_in : List Text → List Text → ℕ → ℕ
 number_in other names n = name_of other (text_at names n)
 
--- an integer of a token is below 2 ^ 63
-abbrev pub is_in_range : Tok → Bool
-is_in_range (Int (pos z)) = nat_le z 9223372036854775807
-is_in_range (Int (negsuc z)) = true
-is_in_range (Word k) = true
-is_in_range (Name n) = true
-is_in_range (Str n) = true
-is_in_range (Sign s) = true
-is_in_range End = true
-
-abbrev pub are_in_range : List Tok → Bool
-are_in_range [] = true
-are_in_range (t ∷ ts) = is_in_range t && are_in_range ts
-
 -- The canonical text has this table and these tokens: those of the program, each number replaced by that of the same text in this table.
 pub record IsReadBack (names : List Text) (p : ProgramTree) (other : List Text) (ts : List Token) : Type 0 where
   pub tokens : HasTokens (canonical names p) other ts

@@ -18,7 +18,7 @@ state p w n = record { last = p.last; failed = p.failed; written = w; faults = n
 
 -- The text was written whole, or a front of it up to a failed write, or nothing of it since a write had failed before.
 pub data Puts (text : Text) (a b : State) : Type 0 where
-  whole : (a.failed ≡ false) → (b.failed ≡ false) → (b.written ≡ option_map (λ w. w ++ text) a.written) → (a.faults ≤ b.faults) → Puts text a b
+  whole : (a.failed ≡ false) → (b.failed ≡ false) → (b.written ≡ option_map (λ w. w ++ text) a.written) → (b.faults ≡ a.faults) → Puts text a b
   cut : (n : ℕ) → (a.failed ≡ false) → (b.failed ≡ true) → (n ≤ length text) → (b.written ≡ option_map (λ w. w ++ take n text) a.written)
       → (a.faults ≤ b.faults) → Rose a.faults b.faults → Puts text a b
   idle : (a.failed ≡ true) → (b.failed ≡ true) → (b.written ≡ a.written) → (b.faults ≡ a.faults) → Puts text a b

@@ -6,7 +6,6 @@ mod expressions;
 pub mod laws;
 mod program;
 mod saying;
-mod spelling;
 mod statements;
 
 pub use program::print;

@@ -16,6 +16,7 @@ pub fn print<K: Sink>(program: &Program, names: &Names, sink: &mut K) -> Result<
     ensures whole { OnOk result (K.written sink.new ≡ option_map (λ w. w ++ canonical names.now (program_of program.now)) (K.written sink.old)) }
     ensures front { OnErr result ((n : ℕ) × (n ≤ length (canonical names.now (program_of program.now))) × (K.written sink.new ≡ option_map (λ w. w ++ take n (canonical names.now (program_of program.now))) (K.written sink.old))) }
     ensures failed { OnErr result (Rose (K.faults sink.old) (K.faults sink.new)) }
+    ensures no_fault { OnOk result (K.faults sink.new ≡ K.faults sink.old) }
     ensures faults_stay_or_rise { K.faults sink.old ≤ K.faults sink.new }
 {
     let mut progress = Progress {

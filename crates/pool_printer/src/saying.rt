@@ -6,13 +6,12 @@ ghost use Rattle.pool_printer.specs.Known.{are_known, is_known};
 ghost use Rattle.pool_printer.specs.Saying.{Prints, Puts, separator_at, state};
 ghost use Rattle.pool_printer.specs.Spelling.{spelling};
 
-use crate::spelling::{keyword_text, sign_text};
 use itoa::Buffer;
 use pool_outside::{Sink, WriteFault, write_all_of};
 use pool_syntax::{Keyword, Names, Sign, Tok};
 
 /// How far the text has come: its last token, and whether a write has failed. From then on nothing is written.
-#[derive(Clone, Copy, Debug)]
+#[derive(Clone, Copy)]
 pub struct Progress {
     pub last: Option<Tok>,
     pub failed: bool,
@@ -50,7 +49,7 @@ fn spell<K: Sink>(names: &Names, sink: &mut K, progress: &mut Progress, token: T
     ensures text { Puts (spelling names.now token) (state progress.old (K.written sink.old) (K.faults sink.old)) (state progress.new (K.written sink.new) (K.faults sink.new)) }
 {
     match token {
-        Tok::Word(word) => put(sink, progress, keyword_text(word)),
+        Tok::Word(word) => put(sink, progress, word.text()),
         Tok::Name(name) => put(sink, progress, names.text(name)),
         Tok::Int(value) => {
             let mut buffer = Buffer::new();
@@ -61,7 +60,7 @@ fn spell<K: Sink>(names: &Names, sink: &mut K, progress: &mut Progress, token: T
             put(sink, progress, names.text(text));
             put(sink, progress, b"\"");
         }
-        Tok::Sign(sign) => put(sink, progress, sign_text(sign)),
+        Tok::Sign(sign) => put(sink, progress, sign.text()),
         Tok::End => put(sink, progress, b""),
     }
 }

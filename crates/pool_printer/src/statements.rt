@@ -2,10 +2,10 @@
 ghost use Rattle.std.specs.Prelude.{◌≡◌, ◌∷◌, true};
 ghost use Rattle.pool_syntax.specs.declared.token.Keyword.TheVariants.{Answer};
 ghost use Rattle.pool_syntax.specs.declared.token.Tok.TheVariants.{Word};
-ghost use Rattle.pool_syntax.specs.TreeOf.{statement_of, statements_of};
+ghost use Rattle.pool_syntax.specs.TreeOf.{alternatives_of, statement_of, statements_of};
 ghost use Rattle.pool_printer.specs.Canonical.{alternatives_tokens, answer_tokens, else_tokens, names_tokens, statement_tokens, statements_tokens};
 ghost use Rattle.pool_printer.specs.Known.{are_known};
-ghost use Rattle.pool_printer.specs.Parts.{alternative_tokens, alternatives_of};
+ghost use Rattle.pool_printer.specs.Parts.{alternative_tokens};
 ghost use Rattle.pool_printer.specs.Saying.{Prints, state};
 
 use crate::expressions::{ANY, SEND, call, expression};

@@ -5,10 +5,10 @@ use Rattle.pool_relation.specs.Transition.{start}
 use Rattle.pool_relation.specs.Written.{is_written}
 use Rattle.pool_relation.specs.Typed.{Typed}
 use Rattle.pool_relation.proofs.Rows.{program}
-use Rattle.pool_relation.proofs.Started.{start_well_typed}
+use Rattle.pool_relation.proofs.Start.{start_typed}
 
 written : IsTrue (is_written program)
 written = refl
 
-start_typed : (c : Configuration) → start program 0 ≡ Some c → Typed program c
-start_typed c e = start_well_typed program refl written 0 c e
+program_starts_typed : (c : Configuration) → start program 0 ≡ Some c → Typed program c
+program_starts_typed c e = start_typed program refl written 0 c e

@@ -1,16 +1,9 @@
 -- A program as it is written: nothing is under way in it, each operator has its number of operands, and a method without result has the value nil.
 use Rattle.std.specs.Prelude.{List, [], ◌∷◌, Option, Some, None, Bool, true, false, not, ◌&&◌}
 use Rattle.pool_syntax.specs.declared.words.Value.TheVariants as V
-use Rattle.pool_syntax.specs.declared.words.Op.{Op}
-use Rattle.pool_syntax.specs.declared.words.Op.TheVariants as O
 use Rattle.pool_syntax.specs.declared.tree.Kind.{Kind}
+pub use Rattle.pool_syntax.specs.Values.{is_prefix}
 use Rattle.pool_syntax.specs.Terms.{Expression, Literal, Me, Variable, Create, Prefix, Infix, Call, Send, Frame, Wait, Expressions, NoArgs, Arg, Statement, Assign, Write, WriteText, Do, Async, If, While, Answer, Select, Serve, Statements, Done, Then, Alternatives, NoAlts, Alt, MethodTree, ProgramTree}
-
--- whether an operator stands before one operand, and not between two
-abbrev pub is_prefix : Op → Bool
-is_prefix O.Neg = true
-is_prefix O.Not = true
-is_prefix _ = false
 
 -- a part of a text: nothing is under way in it, and each operator has its number of operands
 abbrev mutual

@@ -1,4 +1,4 @@
-//! The transition relation of POOL over unplaced objects, and its laws.
+//! The transition relation of POOL over unplaced objects, as definitions (`specs/`), and its laws.
 #![tactic(auto)]
 
-pub mod laws;
+pub mod theorems;

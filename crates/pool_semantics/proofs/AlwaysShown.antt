@@ -9,13 +9,14 @@ use Rattle.pool_relation.specs.Configuration.{Configuration, object_of}
 use Rattle.pool_relation.specs.Typed.{CanTake, GoesWrong}
 use Rattle.pool_semantics.specs.Sound.{Sound}
 use Rattle.pool_semantics.specs.Shown.{are_few, shown, shown_of, shown_if, shown_at}
-use Rattle.pool_semantics.proofs.TypedFacts.{nobody_goes_wrong, few_parameters}
+use Rattle.pool_relation.proofs.Laws.{few_parameters}
+use Rattle.pool_semantics.proofs.TypedFacts.{nobody_goes_wrong}
 
 no_few : (vs : List Value) → length vs ≤ 8 → are_few vs ≡ true
 no_few vs h = let e : length vs - 8 ≡ 0 = omega arith in eq-eqb (length vs - 8) 0 e
 
 can_take : (p : ProgramTree) (c : Configuration) (b m : ℕ) (vs : List Value) → Sound p c → are_few vs ≡ false → CanTake p c b m (length vs) → ⊥
-can_take p c b m vs s f t = let e = no_few vs (few_parameters p c t.0.class m (length vs) t.1 s t.3) in grind (arith, e)
+can_take p c b m vs s f t = let e = no_few vs (few_parameters p t.0.class m (length vs) t.1 s.faultless t.3) in grind (arith, e)
 
 -- what is not shown goes wrong
 hidden : (p : ProgramTree) (c : Configuration) (o : ℕ) (a : Action) → Sound p c → shown a ≡ None → GoesWrong p c o a

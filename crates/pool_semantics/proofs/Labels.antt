@@ -223,10 +223,6 @@ nothing : (r : Option (Unit {0})) (o : Option Configuration) → o ≡ None → 
 nothing None o h = refl
 nothing (Some u) o h = h
 
-pub new_unknown : (p : ProgramTree) (m : BTreeMap ℕ Thing) (ms : List (Pair × List Message)) (o n : ℕ) (k c : NameId) (t : Thing) → Doing p m o t (C.New c) → class_of p k.0 ≡ None
-    → transition p (with_objects m ms) (L.New o n k) ≡ None
-new_unknown p m ms o n k c t d h = new_is p m ms o n k t (C.New c) d ∙ nothing (require ((c.0 == k.0) && is_none (object_of (with_objects m ms) n))) _ (rw h refl)
-
 pub new_made : (p : ProgramTree) (m : BTreeMap ℕ Thing) (ms : List (Pair × List Message)) (o n : ℕ) (k c : NameId) (t : Thing) (class : ClassTree) → Doing p m o t (C.New c) → (c.0 == k.0) ≡ true → is_some (get nat_cmp m n) ≡ false → class_of p k.0 ≡ Some class
     → transition p (with_objects m ms) (L.New o n k) ≡ Some (put_object (put_object (with_objects m ms) o (changed (thing_object t) (now_args t.work.next) (H.Becomes (V.Ref n)))) n (new_object class))
 new_made p m ms o n k c t class d h g f =
@@ -259,14 +255,6 @@ return_refused p m ms b o v y a d h =
     rw (running_doing p m ms b y a d, d.gives, returns_acted (thing_object y) (now_args y.work.next) (now_names y.work.next) (now_choices y.work.next) a o v, h)
     (bind_none (running (with_objects m ms) o) _ (λ x. refl))
 
-pub return_no_caller : (p : ProgramTree) (m : BTreeMap ℕ Thing) (ms : List (Pair × List Message)) (b o : ℕ) (v : Value) (y : Thing) (a : Act) → Doing p m b y a → running (with_objects m ms) o ≡ None
-    → transition p (with_objects m ms) (L.Return b o v) ≡ None
-return_no_caller p m ms b o v y a d h = rw (running_doing p m ms b y a d, h) refl
-
-no_wait : (a : Act) (r : ℕ) → ((b : ℕ) (k : NameId) → a ≡ C.Waits b k → ⊥) → waits_act a r ≡ false
-no_wait (C.Waits b k) r n = absurd (n b k refl)
-no_wait _ r n = refl
-
 both_false : (a b : Bool) → b ≡ false → (a && b) ≡ false
 both_false true b h = h
 both_false false b h = refl
@@ -274,10 +262,6 @@ both_false false b h = refl
 pub return_unawaited : (p : ProgramTree) (m : BTreeMap ℕ Thing) (ms : List (Pair × List Message)) (b o : ℕ) (v : Value) (y x : Thing) (a1 a2 : Act) → Doing p m b y a1 → Doing p m o x a2 → waits_act a2 b ≡ false
     → transition p (with_objects m ms) (L.Return b o v) ≡ None
 return_unawaited p m ms b o v y x a1 a2 d g h = let k = both_false (returns_act a1 o v) (waits_act a2 b) h in return_is p m ms b o v y x a1 a2 d g ∙ rw k refl
-
-pub return_not_waiting : (p : ProgramTree) (m : BTreeMap ℕ Thing) (ms : List (Pair × List Message)) (b o : ℕ) (v : Value) (y x : Thing) (a1 a2 : Act) → Doing p m b y a1 → Doing p m o x a2 → ((q : ℕ) (k : NameId) → a2 ≡ C.Waits q k → ⊥)
-    → transition p (with_objects m ms) (L.Return b o v) ≡ None
-return_not_waiting p m ms b o v y x a1 a2 d g n = return_unawaited p m ms b o v y x a1 a2 d g (no_wait a2 b n)
 
 pub return_made : (p : ProgramTree) (m : BTreeMap ℕ Thing) (ms : List (Pair × List Message)) (b o : ℕ) (v : Value) (y x : Thing) (a1 a2 : Act) → Doing p m b y a1 → Doing p m o x a2 → returns_act a1 o v ≡ true → waits_act a2 b ≡ true
     → transition p (with_objects m ms) (L.Return b o v) ≡ Some (put_object (put_object (with_objects m ms) b (changed (thing_object y) (now_args y.work.next) H.End)) o (changed (thing_object x) (now_args x.work.next) (H.Becomes v)))
@@ -322,10 +306,6 @@ pub answer_refused : (p : ProgramTree) (m : BTreeMap ℕ Thing) (ms : List (Pair
 answer_refused p m ms b o n args x a d h =
     rw (running_doing p m ms o x a d, d.gives, calls_acted (thing_object x) (now_args x.work.next) (now_names x.work.next) (now_choices x.work.next) a b n.0 args, h)
     (bind_none (running (with_objects m ms) b) _ (λ y. refl))
-
-pub answer_no_receiver : (p : ProgramTree) (m : BTreeMap ℕ Thing) (ms : List (Pair × List Message)) (b o : ℕ) (n : NameId) (args : List Value) (x : Thing) (a : Act) → Doing p m o x a → running (with_objects m ms) b ≡ None
-    → transition p (with_objects m ms) (L.Answer b o n args) ≡ None
-answer_no_receiver p m ms b o n args x a d h = rw (running_doing p m ms o x a d, h) refl
 
 pub answer_without : (p : ProgramTree) (m : BTreeMap ℕ Thing) (ms : List (Pair × List Message)) (b o : ℕ) (n : NameId) (args : List Value) (x y : Thing) (a1 a2 : Act) → Doing p m o x a1 → Doing p m b y a2
     → answered_by p (with_objects m ms) b o n args (thing_object x) (thing_object y) (offer_act a2 (now_names y.work.next) (now_choices y.work.next) n.0) ≡ None

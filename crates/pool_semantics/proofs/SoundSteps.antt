@@ -11,7 +11,7 @@ use Rattle.pool_relation.specs.Transition.{transition}
 use Rattle.pool_semantics.specs.Plains.{Stepped, configuration}
 use Rattle.pool_semantics.specs.Sound.{Sound}
 use Rattle.pool_relation.specs.Typed.{GoesWrong, Typed}
-use Rattle.pool_relation.proofs.Merely.{typed}
+use Rattle.pool_relation.proofs.Laws.{typed}
 use Rattle.pool_semantics.proofs.TypedFacts.{nobody_goes_wrong, sound_is_kept}
 
 pub sound_after : (b : Bool) (l : Label) (s t : State) → Stepped b (transition (program_of s.program.now) (configuration s) l) s t → Sound (program_of s.program.now) (configuration s) → Sound (program_of t.program.now) (configuration t)

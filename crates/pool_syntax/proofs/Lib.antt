@@ -1,2 +1,4 @@
 pub mod Filled
 pub mod Texts
+pub mod Trees
+pub mod Laws

@@ -1,5 +1,5 @@
 -- The keys of a set of byte vectors as a table of texts.
-use Rattle.std.proofs.Common.{◌≡◌, refl, sym, ap, ◌∙◌, ℕ, suc, ◌+◌, ◌<◌, ◌≤◌, Bool, true, false, cond, ◌||◌, List, [], ◌∷◌, ◌++◌, length, map, take, Option, Some, None, is_some, Vec, Global, bytes_eq, arith, position, nat_lt, length-append, ◌^◌, get_or, zero, subst}
+use Rattle.std.proofs.Common.{◌≡◌, refl, sym, ap, ◌∙◌, ℕ, suc, ◌+◌, ◌<◌, ◌≤◌, Bool, true, false, cond, ◌||◌, List, [], ◌∷◌, ◌++◌, length, map, take, Option, Some, None, is_some, Vec, Global, bytes_eq, arith, position, slice_get, nat_lt, length-append, ◌^◌, get_or, zero, subst}
 use Rattle.std.specs.List.{list_any, position_or_len}
 use Rattle.std.proofs.lemmas.List.Recursion.{is_position_or_len}
 use Rattle.std.proofs.lemmas.Slice.Eq.{bytes_eq-Decides}
@@ -56,7 +56,7 @@ texts_of-insert keys v = rw (with_text, is_among-any keys v.items) (by (list_any
     by true = refl
     by false = last keys
 
-is_among-last : (names : List (List ℕ)) (w x : List ℕ) → is_among (names ++ w ∷ []) x ≡ (is_among names x || bytes_eq w x)
+pub is_among-last : (names : List (List ℕ)) (w x : List ℕ) → is_among (names ++ w ∷ []) x ≡ (is_among names x || bytes_eq w x)
 is_among-last [] w x = grind arith
 is_among-last (n ∷ ns) w x = rw (is_among-last ns w x) (grind arith)
 
@@ -68,6 +68,15 @@ is_distinct-last (n ∷ ns) w a d = let r = is_distinct-last ns w in rw (is_amon
 pub name_of-missing : (names : List (List ℕ)) (w : List ℕ) → is_among names w ≡ false → name_of names w ≡ length names
 name_of-missing [] w h = refl
 name_of-missing (n ∷ ns) w h = grind (arith, name_of-missing ns w)
+
+-- a text that is there stands at its place
+pub text_at_place : (names : List (List ℕ)) (w : List ℕ) → is_among names w ≡ true → slice_get names (name_of names w) ≡ Some w
+text_at_place [] w h = absurd (cc)
+text_at_place (x ∷ xs) w h = by (bytes_eq x w) refl (λ k. text_at_place xs w k)
+  where
+    by : (b : Bool) → bytes_eq x w ≡ b → (is_among xs w ≡ true → slice_get xs (name_of xs w) ≡ Some w) → slice_get (x ∷ xs) (elim b [ true ↦ 0 | false ↦ suc (name_of xs w) ]) ≡ Some w
+    by true e rest = ap Some ((bytes_eq-Decides x w).0 e)
+    by false e rest = rest (rw e at h)
 
 -- the table after a new text's vector is put in
 pub texts_of-put : (keys after : List (Vec ℕ Global)) (names : List (List ℕ)) (v : Vec ℕ Global) → texts_of keys ≡ names → is_among names v.items ≡ false → after ≡ insert_key (λ x y. bytes_eq x.items y.items) keys v → texts_of after ≡ names ++ v.items ∷ []

@@ -5,6 +5,8 @@ pub mod Values
 pub mod Terms
 pub mod TreeOf
 pub mod Classes
+pub mod FaultNumbers
+pub mod Limits
 pub mod Typing
 pub mod Rules
 pub mod Grammar
@@ -12,3 +14,5 @@ pub mod Derives
 pub mod Nesting
 pub mod Tokens
 pub mod Spelled
+pub mod Spelling
+pub mod Programs

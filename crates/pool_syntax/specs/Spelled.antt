@@ -1,6 +1,7 @@
 -- Programs whose names, strings and integers can be written as tokens: what the tokens of a text always give.
-use Rattle.std.specs.Prelude.{ℕ, ◌≤◌, pos, negsuc, List, [], ◌∷◌, length, slice_get, Option, Some, None, Bool, true, false, not, ◌&&◌, nat_le}
+use Rattle.std.specs.Prelude.{ℕ, ◌≤◌, pos, negsuc, List, [], ◌∷◌, length, slice_get, Option, Some, None, Bool, true, false, not, ◌&&◌, nat_le, All, IsTrue}
 use Rattle.pool_syntax.specs.declared.token.Tok.{Tok}
+use Rattle.pool_syntax.specs.declared.token.Tok.TheVariants as tok
 use Rattle.pool_syntax.specs.declared.words.Value.{Value}
 use Rattle.pool_syntax.specs.declared.words.Value.TheVariants as value
 use Rattle.pool_syntax.specs.declared.tree.Kind.{Kind}
@@ -30,13 +31,25 @@ is_name names n = text_passes is_name_text (slice_get names n)
 abbrev pub is_string_number : List Text → ℕ → Bool
 is_string_number names n = text_passes is_string_text (slice_get names n)
 
--- a value that a literal can have: no negative integer, and no object's name
+-- a value that a literal can have: no integer below 0 or from 2 ^ 63 on, and no object's name
 abbrev pub is_literal : Value → Bool
-is_literal (value.Int (pos z)) = true
+is_literal (value.Int (pos z)) = nat_le z 9223372036854775807
 is_literal (value.Int (negsuc z)) = false
 is_literal (value.Bool b) = true
 is_literal (value.Ref n) = false
 is_literal value.Nil = true
+
+-- a token whose name, string or integer is that of a spelled program
+abbrev pub IsSpelledToken : List Text → Tok → Type 0
+IsSpelledToken names (tok.Name n) = IsTrue (is_name names n.0)
+IsSpelledToken names (tok.Str n) = IsTrue (is_string_number names n.0)
+IsSpelledToken names (tok.Int z) = IsTrue (is_literal (value.Int z))
+IsSpelledToken names (tok.Word k) = Unit {0}
+IsSpelledToken names (tok.Sign s) = Unit {0}
+IsSpelledToken names tok.End = Unit {0}
+
+abbrev pub AreSpelled : List Text → List Tok → Type 0
+AreSpelled names ts = All (IsSpelledToken names) ts
 
 abbrev pub is_kind : List Text → Kind → Bool
 is_kind names kind.Int = true
@@ -107,7 +120,7 @@ are_spelled_methods names (m ∷ ms) =
     is_name names m.name.name.0 && are_variables names m.params && are_variables names m.locals && is_outcome names m.outcome
     && are_spelled_statements names m.body && is_spelled_expression names m.value && are_spelled_methods names ms
 
--- each name is a name, each string the inside of a string, and no integer is negative; every number is a place of the table
+-- each name is a name, each string the inside of a string, and each integer from 0 and below 2 ^ 63; every number is a place of the table
 abbrev pub is_spelled : List Text → ProgramTree → Bool
 is_spelled names [] = true
 is_spelled names (k ∷ ks) =

@@ -1,6 +1,7 @@
 -- How a text splits into pieces: white space, comments and tokens, each the longest at its place; and its tokens and its first fault.
-use Rattle.std.specs.Prelude.{◌≡◌, ℕ, zero, suc, ◌+◌, ◌-◌, ◌*◌, ◌≤◌, Bool, true, false, ◌&&◌, ◌||◌, not, List, [], ◌∷◌, length, take, drop, Option, Some, None, nat_le, nat_eq, bytes_eq, codes, pos}
+use Rattle.std.specs.Prelude.{◌≡◌, ℕ, zero, suc, ◌+◌, ◌-◌, ◌*◌, ◌≤◌, Bool, true, false, ◌&&◌, ◌||◌, not, List, [], ◌∷◌, map, length, take, drop, Option, Some, None, nat_le, nat_eq, bytes_eq, pos}
 use Rattle.std.specs.List.{AllByRecursion}
+use Rattle.pool_syntax.specs.Spelling.{keyword_text, sign_text}
 use Rattle.pool_syntax.specs.Table.{with_text, name_of}
 use Rattle.pool_syntax.specs.declared.words.NameId.{NameId}
 use Rattle.pool_syntax.specs.declared.token.Keyword.{Keyword}
@@ -17,64 +18,20 @@ use Rattle.pool_syntax.specs.declared.token.LexFault.TheVariants.{BadByte, Integ
 abbrev pub Text : Type 0
 Text = List ℕ
 
--- the words and the signs
+-- the words and the signs, each behind its text
 
 abbrev pub keywords : List (Text × Keyword)
-keywords =
-    (codes "class", word.Class)
-    ∷ (codes "var", word.Var)
-    ∷ (codes "method", word.Method)
-    ∷ (codes "local", word.Local)
-    ∷ (codes "begin", word.Begin)
-    ∷ (codes "result", word.Result)
-    ∷ (codes "post", word.Post)
-    ∷ (codes "end", word.End)
-    ∷ (codes "body", word.Body)
-    ∷ (codes "if", word.If)
-    ∷ (codes "then", word.Then)
-    ∷ (codes "else", word.Else)
-    ∷ (codes "fi", word.Fi)
-    ∷ (codes "while", word.While)
-    ∷ (codes "do", word.Do)
-    ∷ (codes "od", word.Od)
-    ∷ (codes "answer", word.Answer)
-    ∷ (codes "select", word.Select)
-    ∷ (codes "when", word.When)
-    ∷ (codes "write", word.Write)
-    ∷ (codes "new", word.New)
-    ∷ (codes "self", word.SelfWord)
-    ∷ (codes "nil", word.Nil)
-    ∷ (codes "true", word.True)
-    ∷ (codes "false", word.False)
-    ∷ (codes "not", word.Not)
-    ∷ (codes "and", word.And)
-    ∷ (codes "or", word.Or)
-    ∷ (codes "Int", word.Int)
-    ∷ (codes "Bool", word.Bool)
-    ∷ []
+keywords = map (λ k. (keyword_text k, k)) (
+    word.Class ∷ word.Var ∷ word.Method ∷ word.Local ∷ word.Begin ∷ word.Result ∷ word.Post ∷ word.End ∷ word.Body ∷ word.If ∷ word.Then ∷
+    word.Else ∷ word.Fi ∷ word.While ∷ word.Do ∷ word.Od ∷ word.Answer ∷ word.Select ∷ word.When ∷ word.Write ∷ word.New ∷ word.SelfWord ∷
+    word.Nil ∷ word.True ∷ word.False ∷ word.Not ∷ word.And ∷ word.Or ∷ word.Int ∷ word.Bool ∷ []
+    )
 
 abbrev pub signs : List (Text × Sign)
-signs =
-    (codes ":=", sign.Becomes)
-    ∷ (codes ":", sign.Colon)
-    ∷ (codes ";", sign.Semicolon)
-    ∷ (codes ",", sign.Comma)
-    ∷ (codes "(", sign.LeftParen)
-    ∷ (codes ")", sign.RightParen)
-    ∷ (codes "!", sign.Bang)
-    ∷ (codes "!!", sign.BangBang)
-    ∷ (codes "==", sign.Equal)
-    ∷ (codes "!=", sign.Differs)
-    ∷ (codes "<", sign.Less)
-    ∷ (codes "<=", sign.LessEq)
-    ∷ (codes ">", sign.More)
-    ∷ (codes ">=", sign.MoreEq)
-    ∷ (codes "+", sign.Plus)
-    ∷ (codes "-", sign.Minus)
-    ∷ (codes "*", sign.Star)
-    ∷ (codes "/", sign.Slash)
-    ∷ (codes "%", sign.Percent)
-    ∷ []
+signs = map (λ k. (sign_text k, k)) (
+    sign.Becomes ∷ sign.Colon ∷ sign.Semicolon ∷ sign.Comma ∷ sign.LeftParen ∷ sign.RightParen ∷ sign.Bang ∷ sign.BangBang ∷ sign.Equal ∷
+    sign.Differs ∷ sign.Less ∷ sign.LessEq ∷ sign.More ∷ sign.MoreEq ∷ sign.Plus ∷ sign.Minus ∷ sign.Star ∷ sign.Slash ∷ sign.Percent ∷ []
+    )
 
 -- what stands beside the text in a table
 abbrev pub lookup : {A : Type 0} → List (Text × A) → Text → Option A

@@ -4,6 +4,7 @@ use Rattle.pool_syntax.specs.declared.words.Value.TheVariants as V
 use Rattle.pool_syntax.specs.declared.tree.Expr.{Expr, Int, Bool, Nil, Me, Var, New, Unary', Binary', Call', Send', Row_of-Expr, end_of-Expr, more_of-Expr}
 use Rattle.pool_syntax.specs.declared.tree.Stmt as S
 use Rattle.pool_syntax.specs.declared.tree.Stmt.{Stmt, Row_of-Stmt, Row_of-Alt, end_of-Stmt, more_of-Stmt, end_of-Alt, more_of-Alt}
+use Rattle.pool_syntax.specs.declared.tree.Alt.{Alt as OneAlt}
 use Rattle.pool_syntax.specs.declared.tree.Method.{Method}
 use Rattle.pool_syntax.specs.declared.tree.ClassDecl.{ClassDecl}
 use Rattle.pool_syntax.specs.declared.tree.Program.{Program}
@@ -57,6 +58,11 @@ abbrev mutual
 abbrev pub statements_of : List Stmt → Statements
 statements_of [] = Done
 statements_of (s ∷ ss) = Then (statement_of s) (statements_of ss)
+
+-- a list of alternatives
+abbrev pub alternatives_of : List OneAlt → Alternatives
+alternatives_of [] = NoAlts
+alternatives_of (a ∷ alts) = Alt (expression_of a.guard) a.answer (statements_of a.work) (alternatives_of alts)
 
 -- the tree of a method
 abbrev pub method_tree : Method → MethodTree

@@ -11,6 +11,8 @@ use Rattle.pool_syntax.specs.declared.tree.Named.{Named}
 use Rattle.pool_syntax.specs.declared.tree.Var.{Var}
 use Rattle.pool_syntax.specs.Terms.{Expression, Literal, Me, Variable, Create, Prefix, Infix, Call, Send, Frame, Wait, Expressions, NoArgs, Arg, Statement, Assign, Write, WriteText, Do, Async, If, While, Answer, Select, Serve, Statements, Done, Then, Alternatives, NoAlts, Alt, MethodTree, ClassTree, ProgramTree}
 use Rattle.pool_syntax.specs.Classes.{class_of, named_method}
+use Rattle.pool_syntax.specs.FaultNumbers as N
+use Rattle.pool_syntax.specs.Limits as L
 
 -- a token and the number of the fault, from 1
 abbrev pub Fault : Type 0
@@ -182,12 +184,12 @@ fault_if false at number = []
 
 -- the fault of an expression of no sort
 abbrev pub no_result : Sort → ℕ → List Fault
-no_result NoSort at = (at, 10) ∷ []
+no_result NoSort at = (at, N.no_result) ∷ []
 no_result _ at = []
 
 -- an expression of this sort where another is needed
 abbrev pub misfit : Sort → Sort → ℕ → List Fault
-misfit s need at = no_result s at ++ fault_if (not (is_open (counted s) || is_same_sort s need || is_broken need)) at 9
+misfit s need at = no_result s at ++ fault_if (not (is_open (counted s) || is_same_sort s need || is_broken need)) at N.type_differs
   where
     is_broken : Sort → Bool
     is_broken BrokenSort = true
@@ -212,7 +214,7 @@ is_comparable s t = is_same_sort s t || is_open s || is_open t
 -- the operands of `==` and `!=`
 abbrev pub needs_alike : Scope → Expression → Expression → List Fault
 needs_alike g l r =
-    needs_any g l ++ (needs_any g r ++ fault_if (not (is_comparable (counted (sort_of g l)) (counted (sort_of g r)))) (position r) 9)
+    needs_any g l ++ (needs_any g r ++ fault_if (not (is_comparable (counted (sort_of g l)) (counted (sort_of g r)))) (position r) N.type_differs)
 
 -- the faults of operands by what their places need
 abbrev pub needs_operands : Scope → Op → Expression → Expression → List Fault
@@ -222,12 +224,12 @@ needs_operands g op l r = needs g (operand_sort op) l ++ needs g (operand_sort o
 
 -- an expression that begins with 64 operands held
 abbrev pub limit : ℕ → ℕ → List Fault
-limit held at = fault_if (nat_le 64 held) at 12
+limit held at = fault_if (nat_le L.most_operands held) at N.limit
 
 -- the faults of a call of this method with so many arguments
 abbrev pub method_faults : Option MethodTree → ℕ → ℕ → List Fault
-method_faults None count at = (at, 7) ∷ []
-method_faults (Some m) count at = fault_if (not (length m.params == count)) at 8
+method_faults None count at = (at, N.unknown_method) ∷ []
+method_faults (Some m) count at = fault_if (not (length m.params == count)) at N.argument_count
 
 -- the parameters of a method
 abbrev pub params_of : Option MethodTree → List Var
@@ -248,9 +250,9 @@ sent_method g _ m = None
 abbrev pub destination_faults : Scope → Sort → ℕ → ℕ → ℕ → ℕ → List Fault
 destination_faults g (ClassSort c) m count at to = method_faults (named_method (methods_of g.program c) m) count at
 destination_faults g BrokenSort m count at to = []
-destination_faults g NoSort m count at to = (to, 10) ∷ []
-destination_faults g NilSort m count at to = fault_if (not g.under_way) to 9
-destination_faults g _ m count at to = (to, 9) ∷ []
+destination_faults g NoSort m count at to = (to, N.no_result) ∷ []
+destination_faults g NilSort m count at to = fault_if (not g.under_way) to N.type_differs
+destination_faults g _ m count at to = (to, N.type_differs) ∷ []
 
 -- the method of this name in the own class
 abbrev pub own_method : Scope → ℕ → Option MethodTree
@@ -267,7 +269,7 @@ inside g m = record g { temps = temps_of_method (own_method g m) }
 
 -- what the value of a method under way needs: nothing where it has no result; the class has the method
 abbrev pub value_needs : Scope → Option MethodTree → Expression → List Fault
-value_needs g None e = (position e, 7) ∷ []
+value_needs g None e = (position e, N.unknown_method) ∷ []
 value_needs g (Some m) e = value_fits m.outcome
   where
     value_fits : Option Kind → List Fault
@@ -278,7 +280,7 @@ value_needs g (Some m) e = value_fits m.outcome
 abbrev pub names_faults : Scope → List ℕ → List Named → List Fault
 names_faults g before [] = []
 names_faults g before (n ∷ ns) =
-    fault_if (not (is_some (own_method g n.name.0)) || list_any (λ m. m == n.name.0) before) n.pos 11
+    fault_if (not (is_some (own_method g n.name.0)) || list_any (λ m. m == n.name.0) before) n.pos N.answer_name
     ++ names_faults g (n.name.0 ∷ before) ns
 
 -- the faults of an alternative's list, if it answers
@@ -289,10 +291,10 @@ answer_faults g (Some names) = names_faults g [] names
 -- the faults in an expression before which this many operands are held, but for what its own place needs
 abbrev mutual
   pub expression_faults : Scope → ℕ → Expression → List Fault
-  expression_faults g h (Literal v p) = limit h p ++ fault_if (is_dangling g v) p 2
+  expression_faults g h (Literal v p) = limit h p ++ fault_if (is_dangling g v) p N.unknown_class
   expression_faults g h (Me p) = limit h p
-  expression_faults g h (Variable x p) = limit h p ++ fault_if (is_broken_name g x) p 6
-  expression_faults g h (Create c p) = limit h p ++ fault_if (not (is_some (class_of g.program c))) p 2
+  expression_faults g h (Variable x p) = limit h p ++ fault_if (is_broken_name g x) p N.unknown_variable
+  expression_faults g h (Create c p) = limit h p ++ fault_if (not (is_some (class_of g.program c))) p N.unknown_class
   expression_faults g h (Prefix op e p) = limit h p ++ (expression_faults g h e ++ needs g (operand_sort op) e)
   expression_faults g h (Infix op l r p) =
       limit h p ++ (expression_faults g h l ++ (expression_faults g (h + 1) r ++ needs_operands g op l r))
@@ -313,7 +315,7 @@ abbrev mutual
 
   pub statement_faults : Scope → Statement → List Fault
   statement_faults g (Assign x p e) =
-      fault_if (is_broken_name g x) p 6 ++ (expression_faults g 0 e ++ needs g (name_sort g x) e)
+      fault_if (is_broken_name g x) p N.unknown_variable ++ (expression_faults g 0 e ++ needs g (name_sort g x) e)
   statement_faults g (Write e) = expression_faults g 0 e ++ needs_any g e
   statement_faults g (WriteText s) = []
   statement_faults g (Do e) = expression_faults g 0 e
@@ -341,7 +343,7 @@ abbrev mutual
 abbrev pub kind_faults : ProgramTree → Kind → ℕ → List Fault
 kind_faults p K.Int at = []
 kind_faults p K.Bool at = []
-kind_faults p (K.Class c) at = fault_if (not (is_some (class_of p c.0))) at 2
+kind_faults p (K.Class c) at = fault_if (not (is_some (class_of p c.0))) at N.unknown_class
 
 -- whether a name is among these
 abbrev pub contains : List ℕ → ℕ → Bool
@@ -357,7 +359,7 @@ vars_faults p number before (v ∷ vs) =
 -- the variable at this place of the list, if there is one
 abbrev pub too_many : ℕ → List Var → List Fault
 too_many n [] = []
-too_many zero (v ∷ vs) = (v.pos, 12) ∷ []
+too_many zero (v ∷ vs) = (v.pos, N.limit) ∷ []
 too_many (suc n) (v ∷ vs) = too_many n vs
 
 -- the fault of a result's kind
@@ -368,7 +370,7 @@ outcome_faults p (Some k) at = kind_faults p k at
 -- the faults of a method
 abbrev pub method_tree_faults : Scope → MethodTree → List Fault
 method_tree_faults g m =
-    vars_faults g.program 5 [] (m.params ++ m.locals) ++ (too_many 8 m.params ++ (too_many 32 (m.params ++ m.locals)
+    vars_faults g.program N.local_twice [] (m.params ++ m.locals) ++ (too_many L.most_params m.params ++ (too_many L.most_locals (m.params ++ m.locals)
     ++ (outcome_faults g.program m.outcome m.outcome_pos
     ++ (statements_faults h m.body ++ (expression_faults h 0 m.value ++ value_needs h (Some m) m.value)))))
   where
@@ -379,7 +381,7 @@ method_tree_faults g m =
 abbrev pub methods_faults : Scope → List ℕ → List MethodTree → List Fault
 methods_faults g before [] = []
 methods_faults g before (m ∷ ms) =
-    fault_if (contains before m.name.name.0) m.name.pos 4 ++ (fault_if (length before == 64) m.name.pos 12
+    fault_if (contains before m.name.name.0) m.name.pos N.method_twice ++ (fault_if (length before == L.most_methods) m.name.pos N.limit
     ++ (method_tree_faults g m ++ methods_faults g (m.name.name.0 ∷ before) ms))
 
 -- where the body of a class stands
@@ -390,8 +392,8 @@ class_scope p k = record { program = p; class = k.name.name.0; own = Some k; tem
 abbrev pub classes_faults : ProgramTree → List ℕ → List ClassTree → List Fault
 classes_faults p before [] = []
 classes_faults p before (k ∷ ks) =
-    fault_if (contains before k.name.name.0) k.name.pos 1 ++ (fault_if (length before == 256) k.name.pos 12
-    ++ (vars_faults p 3 [] k.vars ++ (too_many 64 k.vars ++ (methods_faults (class_scope p k) [] k.methods
+    fault_if (contains before k.name.name.0) k.name.pos N.class_twice ++ (fault_if (length before == L.most_classes) k.name.pos N.limit
+    ++ (vars_faults p N.variable_twice [] k.vars ++ (too_many L.most_variables k.vars ++ (methods_faults (class_scope p k) [] k.methods
     ++ (statements_faults (class_scope p k) k.body ++ classes_faults p (k.name.name.0 ∷ before) ks)))))
 
 -- the faults of a program

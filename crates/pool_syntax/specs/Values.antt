@@ -106,6 +106,12 @@ prefix_value Neg = negated
 prefix_value Not = denied
 prefix_value _ = λ v. WrongSort
 
+-- whether an operator stands before its one operand, and not between two
+abbrev pub is_prefix : Op → Bool
+is_prefix Neg = true
+is_prefix Not = true
+is_prefix _ = false
+
 -- whether a value is nil
 abbrev pub is_nil : Value → Bool
 is_nil V.Nil = true

@@ -5,7 +5,7 @@ use crate::list::List;
 #[derive(Clone, Copy, Debug, PartialEq, Eq)]
 pub struct NameId(pub u32);
 
-#[derive(Clone, Copy, Debug, PartialEq, Eq)]
+#[derive(Clone, Copy)]
 pub enum Op {
     Add,
     Sub,
@@ -56,7 +56,7 @@ pub enum Item {
     Text(NameId),
 }
 
-#[derive(Clone, Copy, Debug, PartialEq, Eq)]
+#[derive(Clone, Copy)]
 pub enum Label {
     Local {
         object: u32,
@@ -103,7 +103,7 @@ pub enum Label {
     },
 }
 
-#[derive(Clone, Copy, Debug, PartialEq, Eq)]
+#[derive(Clone, Copy)]
 pub enum What {
     Step {
         label: Label,
@@ -137,13 +137,13 @@ pub enum What {
     Idle,
 }
 
-#[derive(Clone, Copy, Debug, PartialEq, Eq)]
+#[derive(Clone, Copy)]
 pub enum Event {
     Turn { node: u32 },
     Link { from: u32, to: u32 },
 }
 
-#[derive(Clone, Copy, Debug, PartialEq, Eq)]
+#[derive(Clone, Copy)]
 pub enum FullKind {
     Heap,
     Frames,
@@ -151,7 +151,7 @@ pub enum FullKind {
 }
 
 /// How a run ends, with the number of its events.
-#[derive(Clone, Copy, Debug, PartialEq, Eq)]
+#[derive(Clone, Copy)]
 pub enum End {
     Quiet {
         done: u32,
@@ -167,7 +167,7 @@ pub enum End {
 }
 
 /// A line of a record: an event with its number, from 1, or the end.
-#[derive(Clone, Copy, Debug, PartialEq, Eq)]
+#[derive(Clone, Copy)]
 pub enum Line {
     Event {
         number: u32,
@@ -177,14 +177,14 @@ pub enum Line {
     End(End),
 }
 
-#[derive(Clone, Copy, Debug, PartialEq, Eq)]
+#[derive(Clone, Copy)]
 pub enum Place {
     At(u32),
     Same,
     Spread,
 }
 
-#[derive(Debug, Drop)]
+#[derive(Drop)]
 pub struct Placement {
     pub width: u32,
     pub height: u32,

@@ -5,7 +5,7 @@ use pool_syntax::{Alt, Expr, NameId, Named, Op, Stmt, Value};
 pub type Binding = (u32, Value);
 
 /// An evaluated value, with the position of the literal that it was, or 0.
-#[derive(Clone, Copy, Debug, PartialEq, Eq)]
+#[derive(Clone, Copy)]
 pub struct Operand {
     pub value: Value,
     pub pos: u32,

@@ -6,7 +6,7 @@ ghost use Rattle.value_operators.specs.Operated.{is_logical, outcome_of};
 use pool_syntax::{Error, Op, Value};
 
 /// What an operator makes of its operands.
-#[derive(Clone, Copy, Debug)]
+#[derive(Clone, Copy)]
 pub enum Answer {
     Gives(Value),
     Fails(Error),

@@ -3,6 +3,7 @@ use Rattle.std.proofs.lemmas.Result.{err_from_is_err_and}
 use Rattle.pool_syntax.specs.Tokens.{HasTokens, IsFirstFault}
 use Rattle.pool_lexer.proofs.Ends.{ended_of, placed_of, count_of}
 use Rattle.pool_lexer.proofs.Rests.{read_more, room_more, read_all, read_fault, only_memory, no_other}
+use Rattle.pool_lexer.proofs.SpelledTokens.{spelled_of}
 use Rattle.pool_lexer.proofs.Wholes.{same_tokens, not_both}
 use Rattle.pool_lexer.proofs.lexer.tokens.Goals as goal
 use Rattle.pool_lexer.proofs.lexer.tokens.Goals.{In_ok-push}
@@ -54,6 +55,9 @@ returns-clause-ended c = ended_of c.args.bytes.now _ _ (whole c)
 
 pub returns-clause-placed : goal.returns-clause-placed
 returns-clause-placed c = placed_of c.args.bytes.now _ _ (whole c)
+
+pub returns-clause-spelled : goal.returns-clause-spelled
+returns-clause-spelled c = spelled_of c.args.bytes.now _ _ (whole c)
 
 pub returns-clause-count : goal.returns-clause-count
 returns-clause-count c = count_of c.args.bytes.now _ _ (whole c)

@@ -12,7 +12,7 @@ invariant-loop-text g l =
       live : files.live l.files ≡ true;
       room : length l.piece.items ≡ 65536;
       opens : files.opens l.files ≡ files.opens l.fn.files + 1;
-      faults : files.faults l.fn.files ≤ files.faults l.files;
+      faults : files.faults l.files ≡ files.faults l.fn.files;
       told : files.told l.files ≡ files.told l.fn.files;
       may : files.may l.files ≡ files.may l.fn.files;
     }

@@ -8,5 +8,5 @@ loop-at-preserved g c =
     record {
       within = omega (arith, c.in-Ok.ensures.takes);
       so_far = write_more (written c.args.sink.now) (written c.loop-at.sink) (written c.write.new.self) c.args.piece.now c.loop-at.at c.in-Ok.taken c.loop-at.invariant.so_far c.in-Ok.ensures.appended;
-      faults = omega (arith, c.in-Ok.ensures.faults_stay_or_rise);
+      faults = omega (arith, c.in-Ok.ensures.no_fault, c.loop-at.invariant.faults);
     }

@@ -8,7 +8,7 @@ invariant-loop-at g l =
     record {
       within : l.at ≤ length l.piece;
       so_far : written l.sink ≡ option_map (λ w. w ++ take l.at l.piece) (written l.fn.sink);
-      faults : g.K.Sink.faults l.fn.sink ≤ g.K.Sink.faults l.sink;
+      faults : g.K.Sink.faults l.sink ≡ g.K.Sink.faults l.fn.sink;
     }
 
 abbrev pub decreases-loop-at : goal.decreases-loop-at

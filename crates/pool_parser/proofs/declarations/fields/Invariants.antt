@@ -7,7 +7,7 @@ use Rattle.pool_parser.proofs.declarations.fields.Given as goal
 
 -- what is read from here on is what all give
 abbrev pub invariant-fields : goal.invariant-fields
-invariant-fields l = (l.at ≤ l.next) × (l.next ≤ length l.tokens) × ((o : Outcome (List Var)) → ReadsPhrase (seen l.tokens) (more_vars (l.vars)) l.next o → ReadsPhrase (seen l.tokens) (more_vars ([])) l.at o)
+invariant-fields l = (l.at ≤ l.next) × (l.next ≤ length l.source.tokens.now) × ((o : Outcome (List Var)) → ReadsPhrase (seen l.source.tokens.now) (more_vars (l.vars)) l.next o → ReadsPhrase (seen l.source.tokens.now) (more_vars ([])) l.at o)
 
 abbrev pub decreases-fields : goal.decreases-fields
-decreases-fields l = length l.tokens - l.next
+decreases-fields l = length l.source.tokens.now - l.next

@@ -7,7 +7,7 @@ use Rattle.pool_parser.proofs.declarations.further_params.Given as goal
 
 -- what is read from here on is what all give
 abbrev pub invariant-params : goal.invariant-params
-invariant-params l = (l.at ≤ l.next) × (l.next ≤ length l.tokens) × ((o : Outcome (List Var)) → ReadsPhrase (seen l.tokens) (more_params (l.params)) l.next o → ReadsPhrase (seen l.tokens) (more_params (l.fn.params)) l.at o)
+invariant-params l = (l.at ≤ l.next) × (l.next ≤ length l.source.tokens.now) × ((o : Outcome (List Var)) → ReadsPhrase (seen l.source.tokens.now) (more_params (l.params)) l.next o → ReadsPhrase (seen l.source.tokens.now) (more_params (l.fn.params)) l.at o)
 
 abbrev pub decreases-params : goal.decreases-params
-decreases-params l = length l.tokens - l.next
+decreases-params l = length l.source.tokens.now - l.next

@@ -7,7 +7,7 @@ use Rattle.pool_parser.proofs.declarations.locals.Given as goal
 
 -- what is read from here on is what all give
 abbrev pub invariant-locals : goal.invariant-locals
-invariant-locals l = (l.at ≤ l.next) × (l.next ≤ length l.tokens) × ((o : Outcome (List Var)) → ReadsPhrase (seen l.tokens) (more_locals (l.vars)) l.next o → ReadsPhrase (seen l.tokens) (more_locals ([])) l.at o)
+invariant-locals l = (l.at ≤ l.next) × (l.next ≤ length l.source.tokens.now) × ((o : Outcome (List Var)) → ReadsPhrase (seen l.source.tokens.now) (more_locals (l.vars)) l.next o → ReadsPhrase (seen l.source.tokens.now) (more_locals ([])) l.at o)
 
 abbrev pub decreases-locals : goal.decreases-locals
-decreases-locals l = length l.tokens - l.next
+decreases-locals l = length l.source.tokens.now - l.next

@@ -9,7 +9,8 @@ use Rattle.pool_parser.proofs.Parts.{sign_there, sign_missing}
 use Rattle.pool_parser.proofs.Levels.{grouped_read, grouped_refused, operator_read, operator_refused, operators_end}
 use Rattle.pool_parser.proofs.Primaries.{comparison_one, comparison_two, comparison_refused, prefix_read, plain_read, literal_read, literal_not, variable_read, call_read, inside_read, inside_refused, primary_refused, other_begins_none, postfix_read, postfix_refused, postfix_alone, send_read, send_refused, send_missing, sends_end, call_invokes, send_invokes, not_invoke}
 use Rattle.pool_parser.proofs.Arguments.{args_missing, args_empty, args_read, args_refused, args_refused_later, arg_read, arg_refused, arg_end}
-use Rattle.pool_parser.proofs.Lists.{expressions-last, call-tree}
+use Rattle.pool_syntax.proofs.Laws.{call_tree}
+use Rattle.pool_parser.proofs.Lists.{expressions-last}
 use Rattle.pool_parser.proofs.expressions.+expressions.Goals as goal
 
 pub grouped-returns-in_err-left-clause-parses : goal.grouped-returns-in_err-left-clause-parses
@@ -104,10 +105,10 @@ named-returns-in_err-args-clause-parses t c = exit _ _ _ _ postfix_tree _ _ c.fr
     (passed_on (λ u R. call_read (refused u) c.requires.name (c.is_at.ensures.yes (search rules)) R) _ c.in_err-args.ensures.parses)
 
 pub named-returns-in_ok-args-clause-parses : goal.named-returns-in_ok-args-clause-parses
-named-returns-in_ok-args-clause-parses t c = rw call-tree (call_read (read _ _) c.requires.name (c.is_at.ensures.yes (search rules)) c.in_ok-args.ensures.parses)
+named-returns-in_ok-args-clause-parses t c = rw call_tree (call_read (read _ _) c.requires.name (c.is_at.ensures.yes (search rules)) c.in_ok-args.ensures.parses)
 
 pub named-returns-in_ok-args-clause-invokes : goal.named-returns-in_ok-args-clause-invokes
-named-returns-in_ok-args-clause-invokes t c = rw call-tree (call_invokes c.requires.name c.in_ok-args.ensures.parses)
+named-returns-in_ok-args-clause-invokes t c = rw call_tree (call_invokes c.requires.name c.in_ok-args.ensures.parses)
 
 pub named-returns-else-is_at-clause-parses : goal.named-returns-else-is_at-clause-parses
 named-returns-else-is_at-clause-parses t c = variable_read c.requires.name (c.is_at.ensures.no (search rules))

@@ -1,6 +1,7 @@
 use Rattle.std.proofs.Common.{◌+◌, ◌≤◌, length, arith, rules}
 use Rattle.pool_parser.proofs.Exits.{exit, unexpected}
 use Rattle.pool_parser.proofs.NameLists.{names_read, names_missing, more_read, more_missing, names_end}
+use Rattle.pool_parser.proofs.Seen.{seen_ended}
 use Rattle.pool_parser.proofs.naming.names.Goals as goal
 
 pub returns-in_err-first-clause-parses : goal.returns-in_err-first-clause-parses
@@ -10,7 +11,7 @@ returns-in_err-first-clause-parses c = exit _ _ _ _ (λ ns. ns) _ _ c.from_resid
 pub names-init : goal.names-init
 names-init c = (
   omega arith,
-  c.requires.ended _ _ c.in_ok-first.ensures.ok.0 (λ e. cc),
+  seen_ended c.args.source.tokens.now _ _ c.in_ok-first.ensures.ok.0 (λ e. cc),
   λ o R. names_read c.in_ok-first.first o c.in_ok-first.ensures.ok (rw (c.in_ok-push.ensures.ok, c.make-list.ensures) at R),
 )
 
@@ -21,7 +22,7 @@ returns-in_err-name-clause-parses c = exit _ _ _ _ (λ ns. ns) _ _ c.from_residu
 pub names-preserved : goal.names-preserved
 names-preserved c = (
   omega arith,
-  let l : c.names.next + 1 + 1 ≤ length c.args.tokens.now = c.requires.ended _ _ c.in_ok-name.ensures.ok.0 (λ e. cc) in omega arith,
+  let l : c.names.next + 1 + 1 ≤ length c.args.source.tokens.now = seen_ended c.args.source.tokens.now _ _ c.in_ok-name.ensures.ok.0 (λ e. cc) in omega arith,
   λ o R. c.names.invariant.2 _
       (more_read _ c.in_ok-name.name o (c.names-test.ensures.yes (search rules)) c.in_ok-name.ensures.ok (rw c.in_ok-push-2.ensures.ok at R)),
 )

@@ -8,7 +8,7 @@ use Rattle.pool_parser.proofs.naming.names.Given as goal
 -- what the names from here on give is what all give
 abbrev pub invariant-names : goal.invariant-names
 invariant-names l =
-    (l.at < l.next) × (l.next ≤ length l.tokens) × ((o : Outcome (List Named)) → ReadsPhrase (seen l.tokens) (more_names l.list) l.next o → ReadsPhrase (seen l.tokens) names l.at o)
+    (l.at < l.next) × (l.next ≤ length l.source.tokens.now) × ((o : Outcome (List Named)) → ReadsPhrase (seen l.source.tokens.now) (more_names l.list) l.next o → ReadsPhrase (seen l.source.tokens.now) names l.at o)
 
 abbrev pub decreases-names : goal.decreases-names
-decreases-names l = length l.tokens - l.next
+decreases-names l = length l.source.tokens.now - l.next

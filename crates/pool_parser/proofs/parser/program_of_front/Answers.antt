@@ -1,9 +1,13 @@
+use Rattle.std.proofs.Common.{arith}
 use Rattle.pool_parser.proofs.Seen.{seen_ended}
-use Rattle.pool_parser.proofs.Cut.{once_front}
+use Rattle.pool_parser.proofs.Cut.{nested_front, once_front}
 use Rattle.pool_parser.proofs.parser.program_of_front.Goals as goal
 
-pub program-requires-clause-ended : goal.program-requires-clause-ended
-program-requires-clause-ended c = seen_ended _
+pub invariant_of-program-clause-ended : goal.invariant_of-program-clause-ended
+invariant_of-program-clause-ended c = seen_ended _
 
-pub program-requires-clause-once : goal.program-requires-clause-once
-program-requires-clause-once c = once_front _ _ c.requires.within c.requires.ended
+pub invariant_of-program-clause-nested : goal.invariant_of-program-clause-nested
+invariant_of-program-clause-nested c = nested_front _ _ (omega (arith, c.requires.within)) c.requires.nested
+
+pub program-requires : goal.program-requires
+program-requires c = record { once = once_front _ _ c.requires.within c.requires.ended }

@@ -1,12 +1,14 @@
 use Rattle.std.proofs.Common.{arith, rules, sym}
 use Rattle.pool_syntax.specs.TreeOf.{statement_of, statements_of}
-use Rattle.pool_parser.specs.Alternatives.{alternative_of, alternatives_of}
+use Rattle.pool_parser.specs.Alternatives.{alternative_of}
+use Rattle.pool_syntax.specs.TreeOf.{alternatives_of}
 use Rattle.pool_parser.specs.Reads.{read, refused}
 use Rattle.pool_parser.proofs.Exits.{exit, passed_on, unexpected, relay}
 use Rattle.pool_parser.proofs.Parts.{word_there, word_missing}
 use Rattle.pool_parser.proofs.Telling.{other_read, word_tells_none, other_tells_none}
 use Rattle.pool_parser.proofs.Bodies.{if_refused, then_missing, these_refused, these_read, else_refused, else_read, no_else, while_refused, do_missing, body_refused, body_read, when_missing, guard_refused, guard_read, answers_refused, answers_read, no_answers, work_read, select_refused, select_refused_later, select_read, alt_read, alt_refused, alts_end, stmts_read, stmts_refused, stmts_empty, statement_read, statement_refused, statements_end}
-use Rattle.pool_parser.proofs.Lists.{statements-last, if-tree, while-tree, alternatives-last, select-tree}
+use Rattle.pool_syntax.proofs.Laws.{if_tree, while_tree, select_tree}
+use Rattle.pool_parser.proofs.Lists.{statements-last, alternatives-last}
 use Rattle.pool_parser.proofs.statements.+statements.Goals as goal
 
 pub statement-returns-in_default : goal.statement-returns-in_default
@@ -51,10 +53,10 @@ else_part-returns-in_err-expect-2-clause-parses t c = exit _ _ _ _ statement_of 
     (unexpected _ _ _ _ _ _ c.in_err-expect-2.ensures.err.0 (no_else (c.is_at.ensures.no (search rules)) (word_missing c.in_err-expect-2.ensures.err.1)))
 
 pub else_part-returns-in_ok-expect-clause-parses : goal.else_part-returns-in_ok-expect-clause-parses
-else_part-returns-in_ok-expect-clause-parses t c = rw if-tree (else_read (c.is_at.ensures.yes (search rules)) c.in_ok-no.ensures.parses (word_there c.in_ok-expect.ensures.ok))
+else_part-returns-in_ok-expect-clause-parses t c = rw if_tree (else_read (c.is_at.ensures.yes (search rules)) c.in_ok-no.ensures.parses (word_there c.in_ok-expect.ensures.ok))
 
 pub else_part-returns-in_ok-expect-2-clause-parses : goal.else_part-returns-in_ok-expect-2-clause-parses
-else_part-returns-in_ok-expect-2-clause-parses t c = rw (if-tree, c.make-no.ensures) (no_else (c.is_at.ensures.no (search rules)) (word_there c.in_ok-expect-2.ensures.ok))
+else_part-returns-in_ok-expect-2-clause-parses t c = rw (if_tree, c.make-no.ensures) (no_else (c.is_at.ensures.no (search rules)) (word_there c.in_ok-expect-2.ensures.ok))
 
 pub repetition-returns-in_err-cond-clause-parses : goal.repetition-returns-in_err-cond-clause-parses
 repetition-returns-in_err-cond-clause-parses t c = exit _ _ _ _ statement_of _ _ c.from_residual.ensures.1 (passed_on (λ u. while_refused c.requires.word) _ c.in_err-cond.ensures.parses)
@@ -72,7 +74,7 @@ repetition-returns-in_err-expect-2-clause-parses t c = exit _ _ _ _ statement_of
     (unexpected _ _ _ _ _ _ c.in_err-expect-2.ensures.err.0 (body_read c.requires.word c.in_ok-cond.ensures.parses c.in_ok-expect.ensures.ok c.in_ok-body.ensures.parses (word_missing c.in_err-expect-2.ensures.err.1)))
 
 pub repetition-returns-clause-parses : goal.repetition-returns-clause-parses
-repetition-returns-clause-parses t c = rw while-tree (body_read c.requires.word c.in_ok-cond.ensures.parses c.in_ok-expect.ensures.ok c.in_ok-body.ensures.parses (word_there c.in_ok-expect-2.ensures.ok))
+repetition-returns-clause-parses t c = rw while_tree (body_read c.requires.word c.in_ok-cond.ensures.parses c.in_ok-expect.ensures.ok c.in_ok-body.ensures.parses (word_there c.in_ok-expect-2.ensures.ok))
 
 pub selection-returns-in_err-first-clause-parses : goal.selection-returns-in_err-first-clause-parses
 selection-returns-in_err-first-clause-parses t c = exit _ _ _ _ statement_of _ _ c.from_residual.ensures.1 (passed_on (λ u. select_refused c.requires.word) _ c.in_err-first.ensures.parses)
@@ -87,7 +89,7 @@ selection-returns-in_err-expect-clause-parses t c = exit _ _ _ _ statement_of _ 
     (rw (c.in_ok-push.ensures.ok, c.make-alts.ensures) at c.in_ok-alts.ensures.parses) (word_missing c.in_err-expect.ensures.err.1)))
 
 pub selection-returns-clause-parses : goal.selection-returns-clause-parses
-selection-returns-clause-parses t c = rw select-tree (select_read c.requires.word c.in_ok-first.ensures.parses
+selection-returns-clause-parses t c = rw select_tree (select_read c.requires.word c.in_ok-first.ensures.parses
     (rw (c.in_ok-push.ensures.ok, c.make-alts.ensures) at c.in_ok-alts.ensures.parses) (word_there c.in_ok-expect.ensures.ok))
 
 pub more_alternatives-returns-in_err-alt-clause-parses : goal.more_alternatives-returns-in_err-alt-clause-parses

@@ -13,7 +13,7 @@ use Rattle.pool_printer.specs.Saying.{from_place, separator_at}
 use Rattle.pool_printer.proofs.Places.{known_left, right_true, rests_step, rests_end, no_more}
 use Rattle.pool_printer.proofs.Putting.{prints_append, prints_more, prints_same}
 use Rattle.pool_printer.proofs.Sizes.{size, size_all, argument_size}
-use Rattle.pool_printer.proofs.Trees.{call_tree, send_tree}
+use Rattle.pool_syntax.proofs.Laws.{call_tree, send_tree}
 use Rattle.pool_printer.proofs.Needs.{arguments_more, in_place_high, in_place_low, known_in_place, known_infix, known_part, known_send}
 use Rattle.pool_printer.proofs.expressions.+expressions.Goals as goal
 

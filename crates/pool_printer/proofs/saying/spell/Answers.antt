@@ -6,18 +6,18 @@ use Rattle.pool_printer.proofs.Places.{known_name, text_known}
 use Rattle.pool_printer.proofs.Putting.{puts_append, puts_same}
 use Rattle.pool_printer.proofs.saying.spell.Goals as goal
 
-pub text-requires : goal.text-requires
-text-requires g c = known_name c.args.names.now c.in-Name.name.0 (ap (is_known c.args.names.now) (sym c.in-Name.is) ∙ c.requires)
+pub text-requires-in-Name : goal.text-requires-in-Name
+text-requires-in-Name g c = known_name c.args.names.now c.in-Name.name.0 (ap (is_known c.args.names.now) (sym c.in-Name.is) ∙ c.requires)
 
 pub text-requires-in-Str : goal.text-requires-in-Str
 text-requires-in-Str g c = known_name c.args.names.now c.in-Str.text.0 (ap (is_known c.args.names.now) (sym c.in-Str.is) ∙ c.requires)
 
 pub returns-in-Word-clause-text : goal.returns-in-Word-clause-text
-returns-in-Word-clause-text g c = puts_same _ _ _ _ (c.keyword_text.ensures ∙ ap (spelling c.args.names.now) (sym c.in-Word.is)) c.put.ensures.text
+returns-in-Word-clause-text g c = puts_same _ _ _ _ (c.text.ensures ∙ ap (spelling c.args.names.now) (sym c.in-Word.is)) c.put.ensures.text
 
 pub returns-in-Name-clause-text : goal.returns-in-Name-clause-text
 returns-in-Name-clause-text g c =
-    puts_same _ _ _ _ (sym (text_known c.args.names.now c.in-Name.name.0 _ c.text.ensures) ∙ ap (spelling c.args.names.now) (sym c.in-Name.is)) c.put-in-Name.ensures.text
+    puts_same _ _ _ _ (sym (text_known c.args.names.now c.in-Name.name.0 _ c.text-in-Name.ensures) ∙ ap (spelling c.args.names.now) (sym c.in-Name.is)) c.put-in-Name.ensures.text
 
 pub returns-in-Int-clause-text : goal.returns-in-Int-clause-text
 returns-in-Int-clause-text g c =
@@ -31,7 +31,7 @@ returns-in-Str-clause-text g c =
     (puts_append _ _ _ _ _ c.put-in-Str.ensures.text (puts_append _ _ _ _ _ c.put-in-Str-2.ensures.text c.put-in-Str-3.ensures.text))
 
 pub returns-in-Sign-clause-text : goal.returns-in-Sign-clause-text
-returns-in-Sign-clause-text g c = puts_same _ _ _ _ (c.sign_text.ensures ∙ ap (spelling c.args.names.now) (sym c.in-Sign.is)) c.put-in-Sign.ensures.text
+returns-in-Sign-clause-text g c = puts_same _ _ _ _ (c.text-in-Sign.ensures ∙ ap (spelling c.args.names.now) (sym c.in-Sign.is)) c.put-in-Sign.ensures.text
 
 pub returns-in-End-clause-text : goal.returns-in-End-clause-text
 returns-in-End-clause-text g c = puts_same _ _ _ _ (ap (spelling c.args.names.now) (sym c.in-End.is)) c.put-in-End.ensures.text

@@ -7,17 +7,17 @@ use Rattle.pool_syntax.specs.declared.token.Keyword.TheVariants as word
 use Rattle.pool_syntax.specs.declared.token.Sign.TheVariants as sign
 use Rattle.pool_syntax.specs.declared.tree.Stmt.{Stmt}
 use Rattle.pool_syntax.specs.Terms.{If, While, Select}
-use Rattle.pool_syntax.specs.TreeOf.{expression_of, expressions_of, statement_of, statements_of}
+use Rattle.pool_syntax.specs.TreeOf.{expression_of, expressions_of, statement_of, statements_of, alternatives_of}
 use Rattle.pool_printer.specs.Canonical.{alternatives_tokens, call_tokens, else_tokens, names_tokens, statement_parts, statement_tokens, statements_tokens}
 use Rattle.pool_printer.specs.Known.{are_known}
-use Rattle.pool_printer.specs.Parts.{alternative_tokens, alternatives_of}
+use Rattle.pool_printer.specs.Parts.{alternative_tokens}
 use Rattle.pool_printer.specs.Saying.{from_place, separator_at}
 use Rattle.pool_printer.proofs.Bodies.{alternatives_more, else_there, known_alternative, known_async, known_if, known_select, known_while, statements_more}
 use Rattle.pool_printer.proofs.Needs.{known_part}
 use Rattle.pool_printer.proofs.Places.{known_left, no_more, rests_step, rests_end}
 use Rattle.pool_printer.proofs.Putting.{prints_append, prints_more, prints_same}
 use Rattle.pool_printer.proofs.Sizes.{alternative_length, length_of, length_of_all, length_of_alternatives, statement_length}
-use Rattle.pool_printer.proofs.Trees.{if_tree, while_tree, select_tree}
+use Rattle.pool_syntax.proofs.Laws.{if_tree, while_tree, select_tree}
 use Rattle.pool_printer.proofs.statements.+statements.Goals as goal
 
 abbrev tokens_of : Stmt → List Tok

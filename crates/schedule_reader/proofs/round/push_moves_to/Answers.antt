@@ -2,7 +2,8 @@ use Rattle.std.proofs.Common.{◌≡◌, ◌+◌, ◌-◌, ◌∙◌, ap, length
 use Rattle.std.specs.List.{range_with_len}
 use Rattle.schedule_reader.specs.Entries.{are_neighbours}
 use Rattle.schedule_reader.specs.Events.{moves_to}
-use Rattle.schedule_reader.proofs.Rounds.{more, move_of, move_step}
+use Rattle.input_lines.proofs.Laws.{more}
+use Rattle.schedule_reader.proofs.Rounds.{move_of, move_step}
 use Rattle.schedule_reader.proofs.round.push_moves_to.Goals as goal
 use Rattle.schedule_reader.proofs.round.push_moves_to.Goals.{then-are_neighbours+in_ok-push, else-are_neighbours}
 

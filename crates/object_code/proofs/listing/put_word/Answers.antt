@@ -1,0 +1,5 @@
+use Rattle.object_code.proofs.Writing.{then}
+use Rattle.object_code.proofs.listing.put_word.Goals as goal
+
+pub returns : goal.returns
+returns g c = then _ _ _ _ _ c.put.ensures c.put-2.ensures

@@ -1,0 +1,39 @@
+-- Worked placements, computed: of a unit with the classes A and B, B having 3 variables.
+use Rattle.std.proofs.Common.{◌≡◌, refl, ℕ, [], ◌∷◌}
+use Rattle.std.specs.Prelude.{Ok, Err, codes}
+use Rattle.pool_syntax.specs.declared.words.Place.TheVariants as P
+use Rattle.object_code.specs.declared.unit.ClassCode.{ClassCode}
+use Rattle.object_code.specs.declared.unit.Unit.{Unit as Code}
+use Rattle.placement_reader.specs.declared.fault.PlacementFault.TheVariants as F
+use Rattle.placement_reader.specs.Placements.{placement_of}
+
+abbrev class : ℕ → ℕ → ClassCode
+class name vars = record { name = record { 0 = name }; vars = vars; methods = []; body = record { frame_words = 0; code = [] } }
+
+abbrev unit : Code
+unit = record { names = codes "A" ∷ codes "x" ∷ codes "B" ∷ []; classes = class 0 0 ∷ class 2 3 ∷ [] }
+
+what_is_not_said : placement_of unit (codes "mesh 2 1\n") ≡ Ok (record { width = 2; height = 1; objects = 256; frames = 1024; cells = 1024; places = P.Same ∷ P.Same ∷ [] })
+what_is_not_said = refl
+
+each_line : placement_of unit (codes "# two nodes\nmesh 2 1\ncells 3\nplace B at 1\n\nobjects 7\nframes 9\nplace A spread")
+    ≡ Ok (record { width = 2; height = 1; objects = 7; frames = 9; cells = 3; places = P.Spread ∷ P.At 1 ∷ [] })
+each_line = refl
+
+too_many_words : placement_of unit (codes "mesh 8 8\nframes 16384") ≡ Err (F.TooLarge 102285312)
+too_many_words = refl
+
+a_mesh_of_nine : placement_of unit (codes "mesh 9 1") ≡ Err (F.OutOfRange 1)
+a_mesh_of_nine = refl
+
+a_name_that_is_no_class : placement_of unit (codes "mesh 1 1\nplace x at 7") ≡ Err (F.UnknownClass 2)
+a_name_that_is_no_class = refl
+
+a_node_that_is_not_there : placement_of unit (codes "mesh 1 1\nplace A at 1") ≡ Err (F.NoSuchNode 2)
+a_node_that_is_not_there = refl
+
+cells_twice : placement_of unit (codes "mesh 1 1\ncells 4\ncells 4") ≡ Err (F.Repeated 3)
+cells_twice = refl
+
+no_line : placement_of unit [] ≡ Err (F.BadLine 1)
+no_line = refl

@@ -1,0 +1,155 @@
+-- The forms of a placement's lines, and their faults.
+use Rattle.std.specs.Prelude.{ℕ, ◌+◌, List, [], ◌∷◌, Option, Some, None, is_some, Bool, true, false, ◌&&◌, not, nat_eq, nat_le, nat_lt, bytes_eq, codes}
+use Rattle.pool_syntax.specs.Table.{is_among, name_of}
+use Rattle.pool_syntax.specs.Tokens.{Text}
+use Rattle.pool_syntax.specs.declared.words.Place.{Place}
+use Rattle.pool_syntax.specs.declared.words.Place.TheVariants as P
+use Rattle.input_lines.specs.Kept.{number_of}
+use Rattle.object_code.specs.Suits.{IsFromTo, IsOfMesh}
+use Rattle.object_code.specs.declared.unit.ClassCode.{ClassCode}
+use Rattle.object_code.specs.declared.unit.Unit.{Unit as Code}
+use Rattle.placement_reader.specs.declared.fault.PlacementFault.{PlacementFault}
+use Rattle.placement_reader.specs.declared.fault.PlacementFault.TheVariants as F
+use Rattle.placement_reader.specs.declared.form.Form.{Form}
+use Rattle.placement_reader.specs.declared.form.Form.TheVariants as form
+use Rattle.placement_reader.specs.declared.form.Count.{Count}
+use Rattle.placement_reader.specs.declared.form.Count.TheVariants as C
+use Rattle.placement_reader.specs.declared.form.Spot.{Spot}
+use Rattle.placement_reader.specs.declared.form.Spot.TheVariants as S
+
+-- the place of the first class whose name has this number
+abbrev pub class_numbered : ℕ → ℕ → List ClassCode → Option ℕ
+class_numbered at n [] = None
+class_numbered at n (k ∷ ks) = elim (nat_eq k.name.0 n) [ true ↦ Some at | false ↦ class_numbered (at + 1) n ks ]
+
+-- the place of the class of this name; the table of names has each text once
+abbrev pub class_named : Code → Text → Option ℕ
+class_named u w = elim (is_among u.names w) [ true ↦ class_numbered 0 (name_of u.names w) u.classes | false ↦ None ]
+
+abbrev pub then_some : {A : Type 0} → Option ℕ → (ℕ → Option A) → Option A
+then_some None next = None
+then_some (Some n) next = next n
+
+abbrev pub only_if : {A : Type 0} → Bool → Option A → Option A
+only_if true a = a
+only_if false a = None
+
+-- the count that a word names
+abbrev pub kind_of : Text → Option Count
+kind_of w = elim (bytes_eq w (codes "objects")) [
+  | true ↦ Some C.Objects
+  | false ↦ elim (bytes_eq w (codes "frames")) [ true ↦ Some C.Frames | false ↦ only_if (bytes_eq w (codes "cells")) (Some C.Cells) ]
+]
+
+abbrev pub count_form : Option Count → Option ℕ → Option Form
+count_form None n = None
+count_form (Some k) None = None
+count_form (Some k) (Some n) = Some (form.Counted k n)
+
+abbrev pub spot_of : Text → Option Spot
+spot_of w = elim (bytes_eq w (codes "same")) [ true ↦ Some S.Same | false ↦ only_if (bytes_eq w (codes "spread")) (Some S.Spread) ]
+
+abbrev pub place_form : Option ℕ → Option Spot → Option Form
+place_form class None = None
+place_form class (Some spot) = Some (form.Placed class spot)
+
+-- `mesh W H`, `place C same`, `place C spread`
+abbrev pub form_of_three : Code → Text → Text → Text → Option Form
+form_of_three u w a b = elim (bytes_eq w (codes "mesh")) [
+  | true ↦ then_some (number_of a) (λ width. then_some (number_of b) (λ height. Some (form.Mesh width height)))
+  | false ↦ only_if (bytes_eq w (codes "place")) (place_form (class_named u a) (spot_of b))
+]
+
+-- `place C at K`
+abbrev pub form_of_four : Code → Text → Text → Text → Text → Option Form
+form_of_four u w a b c =
+    only_if (bytes_eq w (codes "place") && bytes_eq b (codes "at")) (then_some (number_of c) (λ node. Some (form.Placed (class_named u a) (S.At node))))
+
+-- the form of a line, whatever its numbers and its class
+abbrev pub form_of : Code → List Text → Option Form
+form_of u [] = None
+form_of u (w ∷ []) = None
+form_of u (w ∷ a ∷ []) = count_form (kind_of w) (number_of a)
+form_of u (w ∷ a ∷ b ∷ []) = form_of_three u w a b
+form_of u (w ∷ a ∷ b ∷ c ∷ []) = form_of_four u w a b c
+form_of u (w ∷ a ∷ b ∷ c ∷ d ∷ more) = None
+
+abbrev pub is_kind : Count → Count → Bool
+is_kind C.Objects C.Objects = true
+is_kind C.Objects C.Frames = false
+is_kind C.Objects C.Cells = false
+is_kind C.Frames C.Objects = false
+is_kind C.Frames C.Frames = true
+is_kind C.Frames C.Cells = false
+is_kind C.Cells C.Objects = false
+is_kind C.Cells C.Frames = false
+is_kind C.Cells C.Cells = true
+
+-- the number that the first line of this kind gives
+abbrev pub number_in : Count → List Form → Option ℕ
+number_in k [] = None
+number_in k (form.Mesh w h ∷ fs) = number_in k fs
+number_in k (form.Counted j n ∷ fs) = elim (is_kind j k) [ true ↦ Some n | false ↦ number_in k fs ]
+number_in k (form.Placed c s ∷ fs) = number_in k fs
+
+abbrev pub is_class : ℕ → Option ℕ → Bool
+is_class c None = false
+is_class c (Some d) = nat_eq d c
+
+-- where the first line on this class puts it
+abbrev pub spot_in : ℕ → List Form → Option Spot
+spot_in c [] = None
+spot_in c (form.Mesh w h ∷ fs) = spot_in c fs
+spot_in c (form.Counted j n ∷ fs) = spot_in c fs
+spot_in c (form.Placed d s ∷ fs) = elim (is_class c d) [ true ↦ Some s | false ↦ spot_in c fs ]
+
+-- the greatest number of a kind
+abbrev pub most : Count → ℕ
+most C.Objects = 4096
+most C.Frames = 16384
+most C.Cells = 16384
+
+abbrev pub is_from_one : ℕ → ℕ → Bool
+is_from_one high n = nat_le 1 n && nat_le n high
+
+abbrev pub is_there : ℕ → Spot → Bool
+is_there nodes (S.At n) = nat_lt n nodes
+is_there nodes S.Same = true
+is_there nodes S.Spread = true
+
+abbrev pub unless : Bool → PlacementFault → Option PlacementFault → Option PlacementFault
+unless true fault next = next
+unless false fault next = Some fault
+
+-- the fault of least number of a form behind the mesh, on this line and after these forms; the mesh itself stands before all of them
+abbrev pub fault_of : ℕ → ℕ → List Form → Form → Option PlacementFault
+fault_of nodes line earlier (form.Mesh w h) = Some (F.Repeated line)
+fault_of nodes line earlier (form.Counted k n) =
+    unless (not (is_some (number_in k earlier))) (F.Repeated line) (unless (is_from_one (most k) n) (F.OutOfRange line) None)
+fault_of nodes line earlier (form.Placed None s) = Some (F.UnknownClass line)
+fault_of nodes line earlier (form.Placed (Some c) s) =
+    unless (not (is_some (spot_in c earlier))) (F.Repeated line) (unless (is_there nodes s) (F.NoSuchNode line) None)
+
+abbrev pub fault_or_bad : ℕ → ℕ → List Form → Option Form → Option PlacementFault
+fault_or_bad nodes line earlier None = Some (F.BadLine line)
+fault_or_bad nodes line earlier (Some f) = fault_of nodes line earlier f
+
+abbrev pub place_of : Spot → Place
+place_of (S.At n) = P.At n
+place_of S.Same = P.Same
+place_of S.Spread = P.Spread
+
+-- where a class is put; where no line says it, with its creator
+abbrev pub place_or_same : Option Spot → Place
+place_or_same None = P.Same
+place_or_same (Some s) = place_of s
+
+-- a form without fault: its number is in its range, or its node is one of the mesh
+abbrev pub IsFine : ℕ → Form → Type 0
+IsFine nodes (form.Mesh w h) = Unit {0}
+IsFine nodes (form.Counted k n) = IsFromTo 1 (most k) n
+IsFine nodes (form.Placed c s) = IsOfMesh nodes (place_of s)
+
+abbrev pub AreFine : ℕ → List Form → Type 0
+AreFine nodes [] = Unit {0}
+AreFine nodes (f ∷ fs) = IsFine nodes f × AreFine nodes fs

@@ -1,0 +1,104 @@
+-- The placement that a text is, or its first fault.
+use Rattle.std.specs.Prelude.{◌≡◌, ℕ, ◌+◌, ◌*◌, List, [], ◌∷◌, ◌++◌, length, map, Option, Some, None, unwrap_or, Result, Ok, Err, true, false, ◌&&◌, nat_le}
+use Rattle.std.specs.List.{range_with_len}
+use Rattle.pool_syntax.specs.Tokens.{Text}
+use Rattle.pool_syntax.specs.declared.words.Place.{Place}
+use Rattle.pool_syntax.specs.declared.words.Placement.{Placement}
+use Rattle.pool_lexer.specs.Lines.{lines}
+use Rattle.input_lines.specs.Kept.{Kept, kept}
+use Rattle.object_code.specs.Suits.{IsFromTo, most_vars, words}
+use Rattle.object_code.specs.declared.unit.Unit.{Unit as Code}
+use Rattle.placement_reader.specs.declared.fault.PlacementFault.{PlacementFault}
+use Rattle.placement_reader.specs.declared.fault.PlacementFault.TheVariants as F
+use Rattle.placement_reader.specs.declared.form.Form.{Form}
+use Rattle.placement_reader.specs.declared.form.Form.TheVariants as form
+use Rattle.placement_reader.specs.declared.form.Count.TheVariants as C
+use Rattle.placement_reader.specs.declared.read.Mesh.{Mesh}
+use Rattle.placement_reader.specs.Forms.{fault_or_bad, form_of, is_from_one, number_in, place_or_same, spot_in}
+
+abbrev pub first_of : Option PlacementFault → Option PlacementFault → Option PlacementFault
+first_of None later = later
+first_of (Some f) later = Some f
+
+abbrev pub with_form : List Form → Option Form → List Form
+with_form fs None = fs
+with_form fs (Some f) = fs ++ f ∷ []
+
+-- the fault of the first line that has one, after these forms
+abbrev pub first_fault : Code → ℕ → List Form → List Kept → Option PlacementFault
+first_fault u nodes earlier [] = None
+first_fault u nodes earlier (k ∷ ks) =
+    first_of (fault_or_bad nodes k.line earlier (form_of u k.words)) (first_fault u nodes (with_form earlier (form_of u k.words)) ks)
+
+-- the forms of all lines, after these
+abbrev pub forms_of : Code → List Form → List Kept → List Form
+forms_of u earlier [] = earlier
+forms_of u earlier (k ∷ ks) = forms_of u (with_form earlier (form_of u k.words)) ks
+
+abbrev pub places_of : ℕ → List Form → List Place
+places_of count fs = map (λ c. place_or_same (spot_in c fs)) (range_with_len 0 count)
+
+-- the placement that the forms are, with what stands where there is no line
+abbrev pub value_of : Code → ℕ → ℕ → List Form → Placement
+value_of u w h fs =
+    record {
+      width = w;
+      height = h;
+      objects = unwrap_or (number_in C.Objects fs) 256;
+      frames = unwrap_or (number_in C.Frames fs) 1024;
+      cells = unwrap_or (number_in C.Cells fs) 1024;
+      places = places_of (length u.classes) fs;
+    }
+
+-- at most 16,777,216 words
+abbrev pub fitted : ℕ → Placement → Result Placement PlacementFault
+fitted vars p = elim (nat_le (words p vars) 16777216) [ true ↦ Ok p | false ↦ Err (F.TooLarge (words p vars)) ]
+
+abbrev pub fitted_or_fault : Option PlacementFault → ℕ → Placement → Result Placement PlacementFault
+fitted_or_fault None vars p = fitted vars p
+fitted_or_fault (Some f) vars p = Err f
+
+-- the fault of the first line that is kept: it is a mesh, each number from 1 to 8
+abbrev pub mesh_fault : ℕ → Option Form → Option PlacementFault
+mesh_fault line None = Some (F.BadLine line)
+mesh_fault line (Some (form.Mesh w h)) = elim (is_from_one 8 w && is_from_one 8 h) [ true ↦ None | false ↦ Some (F.OutOfRange line) ]
+mesh_fault line (Some (form.Counted k n)) = Some (F.BadLine line)
+mesh_fault line (Some (form.Placed c s)) = Some (F.BadLine line)
+
+-- the first line is this mesh
+pub record IsMeshLine (line : ℕ) (f : Option Form) (m : Mesh) : Type 0 where
+  pub form_is : f ≡ Some (form.Mesh m.width m.height)
+  pub faultless : mesh_fault line f ≡ None
+  pub width : IsFromTo 1 8 m.width
+  pub height : IsFromTo 1 8 m.height
+
+-- the mesh line, and the lines behind it
+abbrev pub with_mesh : Code → ℕ → Option Form → List Kept → Result Placement PlacementFault
+with_mesh u line None ks = Err (F.BadLine line)
+with_mesh u line (Some (form.Mesh w h)) ks =
+    fitted_or_fault (first_of (mesh_fault line (Some (form.Mesh w h))) (first_fault u (w * h) [] ks)) (most_vars u.classes) (value_of u w h (forms_of u [] ks))
+with_mesh u line (Some (form.Counted k n)) ks = Err (F.BadLine line)
+with_mesh u line (Some (form.Placed c s)) ks = Err (F.BadLine line)
+
+-- the placement of the kept lines of a text with so many lines
+abbrev pub placement_of_lines : Code → ℕ → List Kept → Result Placement PlacementFault
+placement_of_lines u count [] = Err (F.BadLine (count + 1))
+placement_of_lines u count (k ∷ ks) = with_mesh u k.line (form_of u k.words) ks
+
+-- the placement of a text, for the classes of a unit
+abbrev pub placement_of : Code → Text → Result Placement PlacementFault
+placement_of u s = placement_of_lines u (length (lines s)) (kept s)
+
+-- The fault is this one, unless memory ran out.
+abbrev pub IsTold : PlacementFault → Option PlacementFault → Type 0
+IsTold (F.BadLine line) told = told ≡ Some (F.BadLine line)
+IsTold (F.UnknownClass line) told = told ≡ Some (F.UnknownClass line)
+IsTold (F.Repeated line) told = told ≡ Some (F.Repeated line)
+IsTold (F.NoSuchNode line) told = told ≡ Some (F.NoSuchNode line)
+IsTold (F.OutOfRange line) told = told ≡ Some (F.OutOfRange line)
+IsTold (F.TooLarge count) told = told ≡ Some (F.TooLarge count)
+IsTold F.Memory told = Unit {0}
+
+abbrev pub fault_in : Result Placement PlacementFault → Option PlacementFault
+fault_in (Ok p) = None
+fault_in (Err f) = Some f

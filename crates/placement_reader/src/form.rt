@@ -1,0 +1,130 @@
+//! The forms of a placement's lines.
+ghost use Rattle.std.specs.Prelude.{◌≡◌};
+ghost use Rattle.pool_lexer.specs.Lines.{words};
+ghost use Rattle.input_lines.specs.Kept.{number_of};
+ghost use Rattle.placement_reader.specs.Forms.{class_named, class_numbered, count_form, form_of, form_of_four, form_of_three, kind_of, spot_of};
+
+use input_lines::{Few, few_words, number};
+use object_code::{ClassCode, Unit};
+use pool_syntax::NameId;
+
+/// What is counted at each node.
+#[derive(Clone, Copy)]
+pub enum Count {
+    Objects,
+    Frames,
+    Cells,
+}
+
+/// Where new objects of a class stand, the node's number being as written.
+#[derive(Clone, Copy)]
+pub enum Spot {
+    At(u64),
+    Same,
+    Spread,
+}
+
+/// A line of a placement, its numbers being as written. `class` is the class's place in the unit, where it is there.
+#[derive(Clone, Copy)]
+pub enum Form {
+    Mesh { width: u64, height: u64 },
+    Counted { kind: Count, number: u64 },
+    Placed { class: Option<usize>, spot: Spot },
+}
+
+/// The first class whose name has this number.
+fn class_numbered(classes: &[ClassCode], name: NameId) -> Option<usize>
+    ensures { result ≡ class_numbered 0 name.0 classes.now }
+{
+    for (place, class) in classes.iter().enumerate() {
+        if class.name.0 == name.0 {
+            return Some(place);
+        }
+    }
+    None
+}
+
+/// The class of this name.
+fn class_named(unit: &Unit, word: &[u8]) -> Option<usize>
+    ensures { result ≡ class_named unit.now word.now }
+{
+    let name = unit.names.find(word)?;
+    class_numbered(unit.classes.items(), name)
+}
+
+fn kind_of(word: &[u8]) -> Option<Count>
+    ensures { result ≡ kind_of word.now }
+{
+    if word == b"objects".as_slice() {
+        return Some(Count::Objects);
+    }
+    if word == b"frames".as_slice() {
+        return Some(Count::Frames);
+    }
+    if word == b"cells".as_slice() {
+        return Some(Count::Cells);
+    }
+    None
+}
+
+fn count_form(word: &[u8], first: &[u8]) -> Option<Form>
+    ensures { result ≡ count_form (kind_of word.now) (number_of first.now) }
+{
+    let kind = kind_of(word)?;
+    let number = number(first)?;
+    Some(Form::Counted { kind, number })
+}
+
+fn spot_of(word: &[u8]) -> Option<Spot>
+    ensures { result ≡ spot_of word.now }
+{
+    if word == b"same".as_slice() {
+        return Some(Spot::Same);
+    }
+    if word == b"spread".as_slice() {
+        return Some(Spot::Spread);
+    }
+    None
+}
+
+fn form_of_three(unit: &Unit, word: &[u8], first: &[u8], second: &[u8]) -> Option<Form>
+    ensures { result ≡ form_of_three unit.now word.now first.now second.now }
+{
+    if word == b"mesh".as_slice() {
+        let width = number(first)?;
+        let height = number(second)?;
+        return Some(Form::Mesh { width, height });
+    }
+    if word == b"place".as_slice() {
+        let spot = spot_of(second)?;
+        let class = class_named(unit, first);
+        return Some(Form::Placed { class, spot });
+    }
+    None
+}
+
+fn form_of_four(unit: &Unit, word: &[u8], first: &[u8], second: &[u8], third: &[u8]) -> Option<Form>
+    ensures { result ≡ form_of_four unit.now word.now first.now second.now third.now }
+{
+    if word == b"place".as_slice() && second == b"at".as_slice() {
+        let node = number(third)?;
+        let class = class_named(unit, first);
+        return Some(Form::Placed {
+            class,
+            spot: Spot::At(node),
+        });
+    }
+    None
+}
+
+/// The form of a line, whatever its numbers and its class.
+pub fn form_in(unit: &Unit, line: &[u8]) -> Option<Form>
+    ensures { result ≡ form_of unit.now (words line.now) }
+{
+    match few_words(line) {
+        Few::Two(word, first) => count_form(word, first),
+        Few::Three(word, first, second) => form_of_three(unit, word, first, second),
+        Few::Four(word, first, second, third) => form_of_four(unit, word, first, second, third),
+        _ => None,
+    }
+}

@@ -1,0 +1,89 @@
+//! What the lines so far say.
+ghost use Rattle.std.specs.Prelude.{◌≡◌, ◌≤◌, ◌<◌, [], ◌∷◌, length, IfOk};
+ghost use Rattle.std.specs.List.{range_with_len};
+ghost use Rattle.object_code.specs.Suits.{IsFromTo, IsOfMesh};
+ghost use Rattle.placement_reader.specs.Forms.{AreFine, is_class, is_kind, most, number_in, place_of, place_or_same, spot_in};
+ghost use Rattle.placement_reader.specs.Placements.{places_of};
+
+use crate::form::{Count, Form, Spot};
+use pool_syntax::{List, Place};
+use std::alloc::{AllocError, Global};
+
+fn is_kind(one: Count, other: Count) -> bool
+    ensures { result ≡ is_kind one other }
+{
+    match (one, other) {
+        (Count::Objects, Count::Objects) => true,
+        (Count::Frames, Count::Frames) => true,
+        (Count::Cells, Count::Cells) => true,
+        _ => false,
+    }
+}
+
+fn is_class(class: usize, named: Option<usize>) -> bool
+    ensures { result ≡ is_class class named }
+{
+    match named {
+        Some(other) => other == class,
+        None => false,
+    }
+}
+
+/// The number that a line gives this kind.
+fn number_of_line(kind: Count, form: Form) -> Option<u64>
+    ensures { result ≡ number_in kind (form ∷ []) }
+{
+    match form {
+        Form::Counted {
+            kind: other,
+            number,
+        } => {
+            if is_kind(other, kind) {
+                return Some(number);
+            }
+            None
+        }
+        _ => None,
+    }
+}
+
+/// The number that the first line of this kind gives.
+pub fn number_in(kind: Count, forms: &[Form]) -> Option<u64>
+    ensures { result ≡ number_in kind forms.now }
+{
+    for form in forms {
+        match number_of_line(kind, *form) {
+            Some(number) => return Some(number),
+            None => {}
+        }
+    }
+    None
+}
+
+/// Where a line puts this class.
+fn spot_of_line(class: usize, form: Form) -> Option<Spot>
+    ensures { result ≡ spot_in class (form ∷ []) }
+{
+    match form {
+        Form::Placed { class: named, spot } => {
+            if is_class(class, named) {
+                return Some(spot);
+            }
+            None
+        }
+        _ => None,
+    }
+}
+
+/// Where the first line on this class puts it.
+pub fn spot_in(class: usize, forms: &[Form]) -> Option<Spot>
+    ensures { result ≡ spot_in class forms.now }
+{
+    for form in forms {
+        match spot_of_line(class, *form) {
+            Some(spot) => return Some(spot),
+            None => {}
+        }
+    }
+    None
+}

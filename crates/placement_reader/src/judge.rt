@@ -1,0 +1,110 @@
+//! The fault of a line.
+ghost use Rattle.std.specs.Prelude.{◌≡◌, ◌∷◌, IfOk, IfErr, Some, None};
+ghost use Rattle.pool_lexer.specs.Lines.{words};
+ghost use Rattle.placement_reader.specs.declared.form.Form.TheVariants.{Counted, Placed};
+ghost use Rattle.placement_reader.specs.Forms.{IsFine, fault_of, fault_or_bad, form_of, is_from_one, is_there, most};
+
+use crate::fault::PlacementFault;
+use crate::form::{Count, Form, Spot, form_in};
+use crate::forms::{number_in, spot_in};
+use object_code::Unit;
+
+/// The greatest number of a kind, for each node.
+pub fn most(kind: Count) -> u64
+    ensures { result ≡ most kind }
+{
+    match kind {
+        Count::Objects => 4096,
+        Count::Frames => 16384,
+        Count::Cells => 16384,
+    }
+}
+
+/// Whether a number is from 1 to another.
+pub fn is_from_one(high: u64, number: u64) -> bool
+    ensures { result ≡ is_from_one high number }
+{
+    1 <= number && number <= high
+}
+
+fn is_there(nodes: u64, spot: Spot) -> bool
+    ensures { result ≡ is_there nodes spot }
+{
+    match spot {
+        Spot::At(node) => node < nodes,
+        Spot::Same => true,
+        Spot::Spread => true,
+    }
+}
+
+fn count_fault(
+    nodes: u64,
+    line: u32,
+    earlier: &[Form],
+    kind: Count,
+    number: u64,
+) -> Option<PlacementFault>
+    ensures { result ≡ fault_of nodes line earlier.now (Counted kind number) }
+{
+    if number_in(kind, earlier).is_some() {
+        return Some(PlacementFault::Repeated { line });
+    }
+    if !is_from_one(most(kind), number) {
+        return Some(PlacementFault::OutOfRange { line });
+    }
+    None
+}
+
+fn place_fault(
+    nodes: u64,
+    line: u32,
+    earlier: &[Form],
+    class: Option<usize>,
+    spot: Spot,
+) -> Option<PlacementFault>
+    ensures { result ≡ fault_of nodes line earlier.now (Placed class spot) }
+{
+    let Some(place) = class else {
+        return Some(PlacementFault::UnknownClass { line });
+    };
+    if spot_in(place, earlier).is_some() {
+        return Some(PlacementFault::Repeated { line });
+    }
+    if !is_there(nodes, spot) {
+        return Some(PlacementFault::NoSuchNode { line });
+    }
+    None
+}
+
+/// The fault of a form behind the mesh line, after these forms, where the mesh has so many nodes.
+fn fault_of(nodes: u64, line: u32, earlier: &[Form], form: Form) -> Option<PlacementFault>
+    ensures { result ≡ fault_of nodes line earlier.now form }
+{
+    match form {
+        Form::Mesh { .. } => Some(PlacementFault::Repeated { line }),
+        Form::Counted { kind, number } => count_fault(nodes, line, earlier, kind, number),
+        Form::Placed { class, spot } => place_fault(nodes, line, earlier, class, spot),
+    }
+}
+
+/// The form of a line behind the mesh line, or its fault.
+pub fn judge(
+    unit: &Unit,
+    nodes: u64,
+    number: u32,
+    earlier: &[Form],
+    line: &[u8],
+) -> Result<Form, PlacementFault>
+    ensures form { IfOk result (λ f. form_of unit.now (words line.now) ≡ Some f) }
+    ensures fine { IfOk result (λ f. IsFine nodes f) }
+    ensures ok { IfOk result (λ f. fault_or_bad nodes number earlier.now (form_of unit.now (words line.now)) ≡ None) }
+    ensures err { IfErr result (λ f. fault_or_bad nodes number earlier.now (form_of unit.now (words line.now)) ≡ Some f) }
+{
+    let Some(form) = form_in(unit, line) else {
+        return Err(PlacementFault::BadLine { line: number });
+    };
+    match fault_of(nodes, number, earlier, form) {
+        Some(fault) => Err(fault),
+        None => Ok(form),
+    }
+}

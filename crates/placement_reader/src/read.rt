@@ -1,0 +1,215 @@
+//! Reads a placement.
+ghost use Rattle.std.specs.Prelude.{◌≡◌, ◌+◌, ◌*◌, ◌≤◌, [], length, drop, unwrap_or, IfOk, IfErr, IfSome, OnOk, Ok, Some, None};
+ghost use Rattle.std.specs.List.{All};
+ghost use Rattle.pool_lexer.specs.Lines.{lines, words as line_words};
+ghost use Rattle.input_lines.specs.Kept.{kept_from};
+ghost use Rattle.object_code.specs.Suits.{IsFromTo, IsOfMesh, Suits, most_vars, words};
+ghost use Rattle.placement_reader.specs.declared.form.Count.TheVariants.{Objects, Frames, Cells};
+ghost use Rattle.placement_reader.specs.Forms.{AreFine, form_of, most, number_in, place_or_same, spot_in};
+ghost use Rattle.placement_reader.specs.Placements.{IsMeshLine, IsTold, fault_in, first_fault, fitted, forms_of, mesh_fault, placement_of, places_of, value_of};
+
+use crate::fault::PlacementFault;
+use crate::form::{Count, Form, Spot, form_in};
+use crate::forms::{number_in, spot_in};
+use crate::judge::{is_from_one, judge};
+use input_lines::{count_lines, next_kept};
+use object_code::{ClassCode, Unit};
+use pool_syntax::{List, Place, Placement};
+use std::alloc::{AllocError, Global};
+
+/// The most words that the nodes may take together.
+const MOST_WORDS: u64 = 16777216;
+
+/// The width and the height of a mesh.
+#[derive(Clone, Copy)]
+struct Mesh {
+    width: u32,
+    height: u32,
+}
+
+/// The mesh of the first line that is kept, or that line's fault.
+fn mesh_in(unit: &Unit, number: u32, line: &[u8]) -> Result<Mesh, PlacementFault>
+    ensures ok { IfOk result (λ m. IsMeshLine number (form_of unit.now (line_words line.now)) m) }
+    ensures err { IfErr result (λ f. mesh_fault number (form_of unit.now (line_words line.now)) ≡ Some f) }
+{
+    match form_in(unit, line) {
+        Some(Form::Mesh { width, height }) => {
+            if !is_from_one(8, width) || !is_from_one(8, height) {
+                return Err(PlacementFault::OutOfRange { line: number });
+            }
+            Ok(Mesh {
+                width: width as u32,
+                height: height as u32,
+            })
+        }
+        _ => Err(PlacementFault::BadLine { line: number }),
+    }
+}
+
+/// The forms of all lines from one on, or the fault of the first line that has one.
+fn gather(
+    alloc: Global,
+    unit: &Unit,
+    bytes: &[u8],
+    from: usize,
+    line: u32,
+    nodes: u64,
+) -> Result<Vec<Form>, PlacementFault>
+    requires within { from ≤ length bytes.now }
+    requires small { length bytes.now ≤ 67108864 }
+    requires few { line ≤ from + 1 }
+    ensures fine { IfOk result (λ fs. AreFine nodes fs.items) }
+    ensures faultless { OnOk result (first_fault unit.now nodes [] (kept_from line (lines (drop from bytes.now))) ≡ None) }
+    ensures forms { IfOk result (λ fs. fs.items ≡ forms_of unit.now [] (kept_from line (lines (drop from bytes.now)))) }
+    ensures fault { IfErr result (λ f. IsTold f (first_fault unit.now nodes [] (kept_from line (lines (drop from bytes.now))))) }
+{
+    let mut forms = Vec::new(alloc);
+    let mut at = from;
+    let mut number = line;
+    while let Some(found) = next_kept(bytes, at, number) {
+        let form = judge(
+            unit,
+            nodes,
+            found.line,
+            forms.as_slice(),
+            &bytes[found.start..found.end],
+        )?;
+        match forms.push(form) {
+            Ok(()) => {}
+            Err(_) => return Err(PlacementFault::Memory),
+        }
+        at = found.next;
+        number = found.line + 1;
+    }
+    Ok(forms)
+}
+
+/// Where new objects of a class stand.
+fn place_in(class: usize, nodes: u64, forms: &[Form]) -> Place
+    requires small { nodes ≤ 64 }
+    requires fine { AreFine nodes forms.now }
+    ensures place { result ≡ place_or_same (spot_in class forms.now) }
+    ensures there { IsOfMesh nodes result }
+{
+    match spot_in(class, forms) {
+        Some(Spot::At(node)) => Place::At(node as u32),
+        Some(Spot::Spread) => Place::Spread,
+        Some(Spot::Same) => Place::Same,
+        None => Place::Same,
+    }
+}
+
+/// A place for each class.
+fn places_in(
+    alloc: Global,
+    count: usize,
+    nodes: u64,
+    forms: &[Form],
+) -> Result<List<Place>, AllocError>
+    requires small { nodes ≤ 64 }
+    requires fine { AreFine nodes forms.now }
+    ensures places { IfOk result (λ ps. ps ≡ places_of count forms.now) }
+{
+    let mut places = List::make(alloc);
+    for class in 0..count {
+        match places.push(place_in(class, nodes, forms)) {
+            Ok(()) => {}
+            Err(_) => return Err(AllocError),
+        }
+    }
+    Ok(places)
+}
+
+/// The number of a kind; `absent` where no line gives it.
+fn number_or(kind: Count, forms: &[Form], absent: u32) -> u32
+    requires absent { IsFromTo 1 (most kind) absent }
+    requires fine { IfSome (number_in kind forms.now) (λ n. IsFromTo 1 (most kind) n) }
+    ensures number { result ≡ unwrap_or (number_in kind forms.now) absent }
+    ensures within { IsFromTo 1 (most kind) result }
+{
+    match number_in(kind, forms) {
+        Some(number) => number as u32,
+        None => absent,
+    }
+}
+
+/// The placement that the forms of all lines are.
+fn placement_in(
+    alloc: Global,
+    unit: &Unit,
+    mesh: Mesh,
+    forms: &[Form],
+) -> Result<Placement, AllocError>
+    requires width { IsFromTo 1 8 mesh.width }
+    requires height { IsFromTo 1 8 mesh.height }
+    requires fine { AreFine (mesh.width * mesh.height) forms.now }
+    ensures value { IfOk result (λ p. p ≡ value_of unit.now mesh.width mesh.height forms.now) }
+    ensures objects { IfOk result (λ p. IsFromTo 1 4096 p.objects) }
+    ensures frames { IfOk result (λ p. IsFromTo 1 16384 p.frames) }
+    ensures cells { IfOk result (λ p. IsFromTo 1 16384 p.cells) }
+{
+    let nodes = u64::from(mesh.width * mesh.height);
+    let objects = number_or(Count::Objects, forms, 256);
+    let frames = number_or(Count::Frames, forms, 1024);
+    let cells = number_or(Count::Cells, forms, 1024);
+    let places = places_in(alloc, unit.classes.items().len(), nodes, forms)?;
+    Ok(Placement {
+        width: mesh.width,
+        height: mesh.height,
+        objects,
+        frames,
+        cells,
+        places,
+    })
+}
+
+/// The greatest number of variables of a class.
+fn most_vars(classes: &[ClassCode]) -> u32
+    ensures { result ≡ most_vars classes.now }
+{
+    let mut most = 0;
+    for class in classes {
+        if class.vars > most {
+            most = class.vars;
+        }
+    }
+    most
+}
+
+/// The words that the nodes take, with so many variables of an object.
+fn words(placement: &Placement, vars: u32) -> u64
+    requires width { IsFromTo 1 8 placement.now.width }
+    requires height { IsFromTo 1 8 placement.now.height }
+    requires objects { IsFromTo 1 4096 placement.now.objects }
+    requires frames { IsFromTo 1 16384 placement.now.frames }
+    requires cells { IsFromTo 1 16384 placement.now.cells }
+    ensures { result ≡ words placement.now vars }
+{
+    let nodes = u64::from(placement.width * placement.height);
+    let objects = u64::from(placement.objects) * u64::from(vars);
+    let others = u64::from(placement.frames) * 96 + u64::from(placement.cells) * 24;
+    nodes * (objects + others)
+}
+
+/// The placement of a text of at most 67,108,864 bytes, for the classes of a unit; or the text's first fault. It suits the unit.
+pub fn read_placement(alloc: Global, bytes: &[u8], unit: &Unit) -> Result<Placement, PlacementFault>
+    requires { length bytes.now ≤ 67108864 }
+    ensures ok { IfOk result (λ p. placement_of unit.now bytes.now ≡ Ok p) }
+    ensures suits { IfOk result (λ p. Suits p unit.now) }
+    ensures err { IfErr result (λ f. IsTold f (fault_in (placement_of unit.now bytes.now))) }
+{
+    let Some(first) = next_kept(bytes, 0, 1) else {
+        return Err(PlacementFault::BadLine {
+            line: count_lines(bytes) + 1,
+        });
+    };
+    let mesh = mesh_in(unit, first.line, &bytes[first.start..first.end])?;
+    let nodes = u64::from(mesh.width * mesh.height);
+    let forms = gather(alloc, unit, bytes, first.next, first.line + 1, nodes)?;
+    let placement = placement_in(alloc, unit, mesh, forms.as_slice())?;
+    let words = words(&placement, most_vars(unit.classes.items()));
+    if words > MOST_WORDS {
+        return Err(PlacementFault::TooLarge { words });
+    }
+    Ok(placement)
+}

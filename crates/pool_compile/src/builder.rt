@@ -1,0 +1,58 @@
+//! Code that is being made.
+ghost use Rattle.std.specs.Prelude.{◌≡◌, ◌<◌, ◌^◌, [], ◌∷◌, ◌++◌, length, slice_set, OnOk};
+
+use object_code::Instr;
+use pool_syntax::List;
+use std::alloc::{AllocError, Global};
+
+/// The instructions so far: fewer than 2^32, so that each place, and the one after the last, is a `u32`.
+#[derive(Drop)]
+pub struct Builder {
+    pub code: List<Instr>,
+    pub ghost short: { length code < 2 ^ 32 },
+}
+
+impl Builder {
+    pub fn make(alloc: Global) -> Builder
+        ensures { result.code ≡ [] }
+    {
+        Builder {
+            code: List::make(alloc),
+        }
+    }
+
+    /// The place of the next instruction.
+    pub fn place(&self) -> u32
+        ensures { result ≡ length self.now.code }
+    {
+        self.code.items().len() as u32
+    }
+
+    /// Puts an instruction last. Where 2^32 - 1 are there already, memory is wanting.
+    pub fn put(&mut self, instr: Instr) -> Result<(), AllocError>
+        ensures { OnOk result (self.new.code ≡ self.old.code ++ instr ∷ []) }
+    {
+        if self.place() == u32::MAX {
+            return Err(AllocError);
+        }
+        match self.code.push(instr) {
+            Ok(()) => Ok(()),
+            Err(_) => Err(AllocError),
+        }
+    }
+
+    /// Puts an instruction at a place, instead of the one that is there.
+    pub fn set(&mut self, place: u32, instr: Instr)
+        requires { place < length self.old.code }
+        ensures { self.new.code ≡ slice_set self.old.code place instr }
+    {
+        self.code.set(place as usize, instr);
+    }
+
+    /// The instructions.
+    pub fn done(self) -> List<Instr>
+        ensures { result ≡ self.code }
+    {
+        self.code
+    }
+}

@@ -1,0 +1,151 @@
+//! The code of methods, bodies, classes and the program.
+ghost use Rattle.std.specs.Prelude.{◌≡◌, ◌≤◌, ◌<◌, ◌^◌, ◌++◌, [], ◌∷◌, length, map, IfOk};
+ghost use Rattle.pool_syntax.specs.TreeOf.{class_tree, expression_of, method_tree, program_of, statements_of};
+ghost use Rattle.pool_compile.specs.Code.{body_instrs, class_code, code, expression_words, method_code_of, method_instrs, more, names_of, statements_words};
+ghost use Rattle.pool_compile.specs.Numberings.{numbering};
+ghost use Rattle.pool_compile.specs.Small.{AreSmallMethods, IsSmall, IsSmallClass, IsSmallMethod};
+
+use crate::builder::Builder;
+use crate::expressions::emit;
+use crate::fault::CompileFault;
+use crate::numbers::push_names;
+use crate::scope::Numbers;
+use crate::statements::emit_statements;
+use crate::words::{expression_words, more, statements_words};
+use class_check::Checked;
+use object_code::{BodyCode, ClassCode, Instr, MethodCode, Unit};
+use pool_syntax::{ClassDecl, List, Method, Stmt, Var};
+use std::alloc::{AllocError, Global};
+
+/// The names of a method's parameters and locals.
+fn temps_of(alloc: Global, method: &Method) -> Result<Vec<u32>, AllocError>
+    ensures { IfOk result (λ temps. temps.items ≡ names_of (method.now.params ++ method.now.locals)) }
+{
+    let mut temps = Vec::new(alloc);
+    push_names(&mut temps, method.params.items())?;
+    push_names(&mut temps, method.locals.items())?;
+    Ok(temps)
+}
+
+/// The names of variables.
+fn vars_of(alloc: Global, vars: &[Var]) -> Result<Vec<u32>, AllocError>
+    ensures { IfOk result (λ names. names.items ≡ names_of vars.now) }
+{
+    let mut names = Vec::new(alloc);
+    push_names(&mut names, vars)?;
+    Ok(names)
+}
+
+/// The instructions of a method: its statements, its value, its end.
+fn method_code(
+    alloc: Global,
+    numbers: &Numbers<'_>,
+    method: &Method,
+) -> Result<List<Instr>, AllocError>
+    ensures { IfOk result (λ code. code ≡ method_instrs (numbering numbers.now) (statements_of method.now.body) (expression_of method.now.value)) }
+{
+    let mut code = Builder::make(alloc);
+    emit_statements(alloc, &mut code, numbers, method.body.items())?;
+    emit(&mut code, numbers, &method.value)?;
+    code.put(Instr::Ret)?;
+    Ok(code.done())
+}
+
+/// The instructions of a body: its statements, its end.
+fn body_code(alloc: Global, numbers: &Numbers<'_>, body: &[Stmt]) -> Result<List<Instr>, AllocError>
+    ensures { IfOk result (λ code. code ≡ body_instrs (numbering numbers.now) (statements_of body.now)) }
+{
+    let mut code = Builder::make(alloc);
+    emit_statements(alloc, &mut code, numbers, body)?;
+    code.put(Instr::Halt)?;
+    Ok(code.done())
+}
+
+fn compile_method(alloc: Global, vars: &[u32], method: &Method) -> Result<MethodCode, AllocError>
+    requires few { length vars.now < 2 ^ 32 }
+    requires small { IsSmallMethod (method_tree method.now) }
+    ensures { IfOk result (λ m. m ≡ method_code_of vars.now (method_tree method.now)) }
+{
+    let temps = temps_of(alloc, method)?;
+    let words = more(
+        statements_words(method.body.items()),
+        expression_words(&method.value),
+    );
+    let count = temps.len() as u32;
+    let numbers = Numbers {
+        temps: &temps,
+        vars,
+    };
+    Ok(MethodCode {
+        name: method.name.name,
+        params: method.params.items().len() as u32,
+        temps: count,
+        frame_words: count + words,
+        code: method_code(alloc, &numbers, method)?,
+    })
+}
+
+fn compile_methods(
+    alloc: Global,
+    vars: &[u32],
+    methods: &[Method],
+) -> Result<List<MethodCode>, AllocError>
+    requires few { length vars.now < 2 ^ 32 }
+    requires small { AreSmallMethods (map method_tree methods.now) }
+    ensures { IfOk result (λ list. list ≡ map (method_code_of vars.now) (map method_tree methods.now)) }
+{
+    let mut list = List::make(alloc);
+    for method in methods {
+        let code = compile_method(alloc, vars, method)?;
+        if let Err(_) = list.push(code) {
+            return Err(AllocError);
+        }
+    }
+    Ok(list)
+}
+
+fn compile_class(alloc: Global, class: &ClassDecl) -> Result<ClassCode, AllocError>
+    requires small { IsSmallClass (class_tree class.now) }
+    ensures { IfOk result (λ k. k ≡ class_code (class_tree class.now)) }
+{
+    let vars = vars_of(alloc, class.vars.items())?;
+    let methods = compile_methods(alloc, &vars, class.methods.items())?;
+    let numbers = Numbers {
+        temps: &[],
+        vars: &vars,
+    };
+    Ok(ClassCode {
+        name: class.name.name,
+        vars: vars.len() as u32,
+        methods,
+        body: BodyCode {
+            frame_words: statements_words(class.body.items()),
+            code: body_code(alloc, &numbers, class.body.items())?,
+        },
+    })
+}
+
+fn compile_classes(alloc: Global, classes: &[ClassDecl]) -> Result<List<ClassCode>, AllocError>
+    requires small { IsSmall (map class_tree classes.now) }
+    ensures { IfOk result (λ list. list ≡ code (map class_tree classes.now)) }
+{
+    let mut list = List::make(alloc);
+    for class in classes {
+        let code = compile_class(alloc, class)?;
+        if let Err(_) = list.push(code) {
+            return Err(AllocError);
+        }
+    }
+    Ok(list)
+}
+
+/// The code of a program, with a copy of its names. Each list is made once, and a jump that passes code is written in its
+/// place once that code is there, so time and memory are in proportion to the program.
+pub fn compile(alloc: Global, program: &Checked<'_>) -> Result<Unit, CompileFault>
+    ensures names { IfOk result (λ unit. unit.names ≡ program.now.names.now) }
+    ensures code { IfOk result (λ unit. unit.classes ≡ code (program_of program.now.program.now)) }
+{
+    let names = program.names.copy()?;
+    let classes = compile_classes(alloc, program.program.classes.items())?;
+    Ok(Unit { names, classes })
+}

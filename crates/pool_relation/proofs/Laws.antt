@@ -1,0 +1,35 @@
+-- The lemmas that other crates cite.
+
+-- runs
+pub use Rattle.pool_relation.proofs.Runs.{joined, none_joined}
+-- a lone object that is not ready
+pub use Rattle.pool_relation.proofs.Quiet.{no_transition}
+-- programs of the grammar, and the configuration that a program starts in
+pub use Rattle.pool_relation.proofs.Grammatical.{grammatical_written, has_a_class}
+pub use Rattle.pool_relation.proofs.FewParameters.{few_parameters}
+pub use Rattle.pool_relation.proofs.Start.{start_typed, starts}
+-- preservation and progress
+pub use Rattle.pool_relation.proofs.preservation.EachTransition.{typed_kept, run_kept}
+pub use Rattle.pool_relation.proofs.Progress.{not_wrong, goes_on_or_meets}
+pub use Rattle.pool_relation.proofs.Truncated.{typed}
+-- typed objects: what their next actions need and leave
+pub use Rattle.pool_relation.proofs.Invariant.{Invariant, classes, FitsAt, invariant_of, typed_of}
+pub use Rattle.pool_relation.proofs.action.TypedAction.{place, VarsFit, CanReceive, TypedAction, TypedObject}
+pub use Rattle.pool_relation.proofs.action.NextAction.{action_typed}
+pub use Rattle.pool_relation.proofs.action.NextWaits.{is_waits, does_not_wait}
+pub use Rattle.pool_relation.proofs.preservation.Moves.{object_grown}
+pub use Rattle.pool_relation.proofs.preservation.OneObject.{stepped, object_typed_at}
+pub use Rattle.pool_relation.proofs.preservation.NewObject.{new_object_typed}
+pub use Rattle.pool_relation.proofs.preservation.Messages.{fit_values_of, offers, serving_typed}
+pub use Rattle.pool_relation.proofs.Running.{running_is}
+-- typed terms
+pub use Rattle.pool_relation.proofs.typing.TypedTerm.{Holds, Nothing, Methods, Waits, TypedExpression, TypedStatements}
+pub use Rattle.pool_relation.proofs.typing.Weaker.{nothing_below, statements_weaker}
+pub use Rattle.pool_relation.proofs.typing.Grown.{Grows}
+pub use Rattle.pool_relation.proofs.typing.Begun.{running_scope}
+pub use Rattle.pool_relation.proofs.typing.Faults.{none2, none3, none4, no_fault_if}
+pub use Rattle.pool_relation.proofs.redex.TypedRedex.{at, FitValues, TypedChoices}
+-- the search for the redex: where it ends, and what has none
+pub use Rattle.pool_relation.proofs.redex.RedexSearch.{passed, literal_is, not_value, value_found, not_values, not_guards, done_is, not_done, arguments_are, guards_are}
+-- what is under way in a term, and what its redex ends
+pub use Rattle.pool_relation.proofs.redex.Activities.{Ends, is_statement, statements_activities, statements_idle}

@@ -1,0 +1,3 @@
+pub mod TypedAction
+pub mod NextAction
+pub mod NextWaits

@@ -1,5 +1,0 @@
-use Rattle.pool_relation.proofs.Quiet.{no_transition}
-use Rattle.pool_relation.proofs.laws.not_ready_has_no_transition.Goals as goal
-
-pub returns : goal.returns
-returns c p root x l h = no_transition p root x h l

@@ -1,8 +1,0 @@
-use Rattle.pool_relation.proofs.Kept.{well_typed_kept, run_kept}
-use Rattle.pool_relation.proofs.laws.typed_is_kept.Goals as goal
-
-pub returns-clause-by_transition : goal.returns-clause-by_transition
-returns-clause-by_transition c = well_typed_kept
-
-pub returns-clause-by_run : goal.returns-clause-by_run
-returns-clause-by_run c = run_kept

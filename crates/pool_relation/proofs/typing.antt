@@ -1,0 +1,12 @@
+pub mod TypedTerm
+pub mod Weaker
+pub mod Sorts
+pub mod Declared
+pub mod Faults
+pub mod Written
+pub mod FromTyped
+pub mod ToTyped
+pub mod Checked
+pub mod Begun
+pub mod Outcomes
+pub mod Grown
