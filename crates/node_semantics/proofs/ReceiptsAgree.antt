@@ -272,9 +272,6 @@ module _ {S : Type 0} (g : Language S) (W : Config S → Type 0) (l : Placement)
               old o a.state a.object (subst (In new) (ap g.callers (sym same) ∙ callers) i)
           by (inr e) = old q z (sym (find_put_other q o (g.given a.state v) c.objects e) ∙ h) i
 
-      free_new : held d new ≡ None
-      free_new = (is_new g l m₁ c d₁ st₁ b x node W req small).free
-
       owns_none : entries d₁ new ≡ []
       owns_none = none_moved (subst (λ (z : Option S). OwnedAt g new z (held d new) (entries d new)) unused (sound.state.owned new)).1
         where
