@@ -124,8 +124,9 @@ module _ {S : Type 0} where
             → UnlessQuiet b (IsFresh m k e × Then (λ m'. AreFresh g l q m' es ks) (machine_act g l q k m e))
         by true z f = tt
         by false z f = (
-            fresh_if m k e (first (is_fresh_number m k e) (fresh_then (λ m'. are_fresh m' es ks) (machine_act g l q k m e)) z),
-            fresh_onwards es ks (machine_act g l q k m e) f (second (is_fresh_number m k e) (fresh_then (λ m'. are_fresh m' es ks) (machine_act g l q k m e)) z))
+          fresh_if m k e (first (is_fresh_number m k e) (fresh_then (λ m'. are_fresh m' es ks) (machine_act g l q k m e)) z),
+          fresh_onwards es ks (machine_act g l q k m e) f (second (is_fresh_number m k e) (fresh_then (λ m'. are_fresh m' es ks) (machine_act g l q k m e)) z),
+        )
 
     -- numbers that pass the test are fresh along the run
     pub fresh_along : (es : List Event) (ks : List ℕ) → are_fresh_at (machine_start g l) es ks ≡ true → FreshAlong g l q es ks
