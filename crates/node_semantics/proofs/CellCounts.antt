@@ -92,13 +92,13 @@ length_messages : (ls : List NumberedArrival) → length (arrivals ls) ≡ lengt
 length_messages [] = refl
 length_messages (a ∷ ls) = ap suc (length_messages ls)
 
-counted_letters : {S : Type 0} (n : ℕ) (es : List (ℕ × Arrival)) (i : ℕ) (ss : List (Slot S))
+counted_mailboxes : {S : Type 0} (n : ℕ) (es : List (ℕ × Arrival)) (i : ℕ) (ss : List (Slot S))
     → ((j : ℕ) (s : Slot S) → slice_get ss j ≡ Some s → arrivals s.mailbox ≡ under (λ r. r == name_at n (i + j)) es) → counted n i (length ss) es ≡ message_count ss
-counted_letters n es i [] f = refl
-counted_letters {S} n es i (s ∷ ss) f =
+counted_mailboxes n es i [] f = refl
+counted_mailboxes {S} n es i (s ∷ ss) f =
     let a : length (under (λ r. r == name_at n i) es) ≡ length s.mailbox = subst (λ k. length (under (λ r. r == name_at n k) es) ≡ length s.mailbox) (omega arith) (sym (ap length (f 0 s refl)) ∙ length_messages s.mailbox) in
     let b : counted n (i + 1) (length ss) es ≡ message_count ss =
-    counted_letters n es (i + 1) ss (λ j z e. let k : i + (j + 1) ≡ i + 1 + j = omega arith in subst (λ w. arrivals z.mailbox ≡ under (λ r. r == name_at n w) es) k (f (j + 1) z (subst (λ w. slice_get (s ∷ ss) w ≡ Some z) (suc_is j) e))) in
+    counted_mailboxes n es (i + 1) ss (λ j z e. let k : i + (j + 1) ≡ i + 1 + j = omega arith in subst (λ w. arrivals z.mailbox ≡ under (λ r. r == name_at n w) es) k (f (j + 1) z (subst (λ w. slice_get (s ∷ ss) w ≡ Some z) (suc_is j) e))) in
     let c = sum_by-cons (λ (y : Slot S). length y.mailbox) s ss in
     ap₂ (λ x y. x + y) a b ∙ sym c
   where
@@ -106,12 +106,12 @@ counted_letters {S} n es i (s ∷ ss) f =
     suc_is j = omega arith
 
 -- the mailboxes of a node have what has arrived at its objects
-pub letters_count : {S : Type 0} (n : ℕ) (es : List (ℕ × Arrival)) (ss : List (Slot S)) → length ss ≤ 65536
+pub mailboxes_count : {S : Type 0} (n : ℕ) (es : List (ℕ × Arrival)) (ss : List (Slot S)) → length ss ≤ 65536
     → ((j : ℕ) (s : Slot S) → slice_get ss j ≡ Some s → arrivals s.mailbox ≡ under (λ r. r == name_at n j) es)
     → ((q : ℕ) → node_of q ≡ n → length ss ≤ slot_of q → under (λ r. r == q) es ≡ [])
     → message_count ss ≡ total (λ e. if node_of e.0 == n then 1 else 0) es
-letters_count {S} n es ss f g out =
-    sym (counted_is n es (length ss) f out ∙ counted_letters n es 0 ss (λ j s e. let k : 0 + j ≡ j = omega arith in subst (λ w. arrivals s.mailbox ≡ under (λ r. r == name_at n w) es) (sym k) (g j s e)))
+mailboxes_count {S} n es ss f g out =
+    sym (counted_is n es (length ss) f out ∙ counted_mailboxes n es 0 ss (λ j s e. let k : 0 + j ≡ j = omega arith in subst (λ w. arrivals s.mailbox ≡ under (λ r. r == name_at n w) es) (sym k) (g j s e)))
 
 -- the packets on links that leave a node, by links and in one list
 

@@ -55,9 +55,9 @@ module _ {S : Type 0} (m m' : Machine S) where
     names = knows_kept e.packet (λ q i. (f q i).goal) grow h.names;
   }
 
-  pub letters_kept : (s : Slot S) → Each (λ e. (q : ℕ) → caller_of e.message ≡ Some q → request_of m' q ≡ request_of m q) s.mailbox
+  pub mailbox_kept : (s : Slot S) → Each (λ e. (q : ℕ) → caller_of e.message ≡ Some q → request_of m' q ≡ request_of m q) s.mailbox
       → Each (λ e. IsNumberOf m e.number (caller_of e.message)) s.mailbox → Each (λ e. IsNumberOf m' e.number (caller_of e.message)) s.mailbox
-  letters_kept s h k = each_both _ _ _ (λ e f i. number_kept e.number (caller_of e.message) f i) s.mailbox h k
+  mailbox_kept s h k = each_both _ _ _ (λ e f i. number_kept e.number (caller_of e.message) f i) s.mailbox h k
 
 -- Who owns nothing is referred to nowhere.
 

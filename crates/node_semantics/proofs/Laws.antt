@@ -6,7 +6,7 @@ pub use Rattle.node_semantics.proofs.EventsAgree.{event_agrees}
 pub use Rattle.node_semantics.proofs.QuietAgrees.{quiet_agrees}
 pub use Rattle.node_semantics.proofs.SameLines.{same_lines}
 pub use Rattle.node_semantics.proofs.ClassAndFault.{class_kept, fault_kept, any_fault}
-pub use Rattle.node_semantics.proofs.FreshNumbers.{numbers_exist}
+pub use Rattle.node_semantics.proofs.FreshNumbers.{numbers_exist, unused_number, is_unused, are_fresh_at, fresh_along}
 pub use Rattle.node_semantics.proofs.NumbersOut.{outstanding}
 pub use Rattle.node_semantics.proofs.ReceivablePackets.{head_is_receivable}
 pub use Rattle.node_semantics.proofs.ReceiptsAnswer.{receive_answers}

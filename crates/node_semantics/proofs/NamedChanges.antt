@@ -1,4 +1,4 @@
--- The small changes by name: a request goes out, a letter comes or is taken, a number is settled, an object is added.
+-- The small changes by name: a request goes out, a message comes or is taken, a number is settled, an object is added.
 use Rattle.std.proofs.Common.{◌≡◌, ◌≢◌, ◌⊎◌, inl, inr, refl, sym, ap, subst, ◌∙◌, ℕ, ◌==◌, List, [], ◌∷◌, ◌++◌, append-nil, Option, Some, None, Bool, true, false}
 use Rattle.std.specs.Prelude.{slice_get}
 use Rattle.std.specs.Ordering.{nat_cmp}
@@ -114,19 +114,19 @@ module _ {S : Type 0} (g : Language S) (l : Placement) where
         ask_stands = slot_stands g l m c d st n x node o own s asking here c (put nat_cmp o D.Posted d.holding) d.arrived
             (λ q e. refl) (λ q e. find_put_other q o D.Posted d.holding e) (λ q e. refl) (But o) keep r mine distinct
 
-      -- a letter comes
+      -- a message comes
       module _ (a : NumberedArrival) (number : IsNumberOf m a.number (caller_of a.message)) where
-        abbrev pub with_letter : Slot S
-        with_letter = record s { mailbox = s.mailbox ++ a ∷ [] }
+        abbrev pub with_arrival : Slot S
+        with_arrival = record s { mailbox = s.mailbox ++ a ∷ [] }
 
         abbrev mₗ : Machine S
-        mₗ = mₛ g l m c d st n x node o own s with_letter here
+        mₗ = mₛ g l m c d st n x node o own s with_arrival here
 
         q : Placed
         q = placed_here
 
         keepₗ : (b : ℕ) → Any b → Same m mₗ b
-        keepₗ b z = slot_keeps g l m c d st n x node o own s with_letter here refl refl b
+        keepₗ b z = slot_keeps g l m c d st n x node o own s with_arrival here refl refl b
 
         any : Refers g Any c d
         any = refers_any g c d
@@ -140,10 +140,10 @@ module _ {S : Type 0} (g : Language S) (l : Placement) where
         box_there : (b : ℕ) → b ≢ o → under (λ z. z == b) (d.arrived ++ (o, a.message) ∷ []) ≡ arrived_at d b
         box_there b e = under-append (λ z. z == b) d.arrived ((o, a.message) ∷ []) ∙ rw (differ o b (λ i. e (sym i))) (append-nil (arrived_at d b))
 
-        letter_mine : Spot g mₗ o (Some with_letter) (object_of c o) (held d o) (under (λ z. z == o) (d.arrived ++ (o, a.message) ∷ []))
-        letter_mine = spot_same g mₗ o {s = Some with_letter} {x = Some q.object} {h = held d o} {b = arrived_at d o ++ a.message ∷ []} refl q.there refl box_here (
+        arrival_mine : Spot g mₗ o (Some with_arrival) (object_of c o) (held d o) (under (λ z. z == o) (d.arrived ++ (o, a.message) ∷ []))
+        arrival_mine = spot_same g mₗ o {s = Some with_arrival} {x = Some q.object} {h = held d o} {b = arrived_at d o ++ a.message ∷ []} refl q.there refl box_here (
           record {
-            state = stands_as o s with_letter q.object (held d o) refl refl q.stands.state;
+            state = stands_as o s with_arrival q.object (held d o) refl refl q.stands.state;
             mailbox = messages_append s.mailbox a ∙ ap (λ (ms : List Arrival). ms ++ a.message ∷ []) q.stands.mailbox;
           },
           each_append _ s.mailbox a (box_kept g m mₗ Any keepₗ s (arrived_at d o) q.stands.mailbox (any.in_boxes o) q.mailbox)
@@ -151,12 +151,12 @@ module _ {S : Type 0} (g : Language S) (l : Placement) where
           served_kept g m mₗ Any keepₗ s.callers (g.callers q.object) (λ b e. tt) q.callers,
         )
 
-        pub letter_stands : MachineStandsFor g l (mₛ g l m c d st n x node o own s with_letter here) c (record d { arrived = d.arrived ++ (o, a.message) ∷ [] })
-        letter_stands = slot_stands g l m c d st n x node o own s with_letter here c d.holding (d.arrived ++ (o, a.message) ∷ [])
-            (λ b e. refl) (λ b e. refl) box_there Any keepₗ any letter_mine
-            (still_distinct g l m c d st n x node o own s with_letter here (λ b k e. sym (keepₗ b tt).request ∙ e))
+        pub arrival_stands : MachineStandsFor g l (mₛ g l m c d st n x node o own s with_arrival here) c (record d { arrived = d.arrived ++ (o, a.message) ∷ [] })
+        arrival_stands = slot_stands g l m c d st n x node o own s with_arrival here c d.holding (d.arrived ++ (o, a.message) ∷ [])
+            (λ b e. refl) (λ b e. refl) box_there Any keepₗ any arrival_mine
+            (still_distinct g l m c d st n x node o own s with_arrival here (λ b k e. sym (keepₗ b tt).request ∙ e))
 
-      -- a letter is taken, and the object becomes y
+      -- a message is taken, and the object becomes y
       module _ (names : List ℕ) (y : S) (ks : List ℕ) (idle : s.request ≡ None) (free : held d o ≡ None) (fit : AreNumbersOf m ks (g.callers y)) where
         abbrev pub taking : Slot S
         taking = record s { state = y; callers = ks; mailbox = without_first (is_on names) s.mailbox }

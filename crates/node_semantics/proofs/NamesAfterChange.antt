@@ -12,7 +12,7 @@ use Rattle.mesh_semantics.proofs.Laws.{no_part, each_map}
 use Rattle.node_semantics.specs.Node.{Slot, NumberedPacket, arrivals}
 use Rattle.node_semantics.specs.Machine.{Machine}
 use Rattle.node_semantics.specs.StandsFor.{slot_at, Occupied, AtName, IsNumberOf, AreNumbersOf, caller_of, owner_of, HasSlot, PacketFits, packets, MailboxFits, CallersFit, MachineStandsFor}
-use Rattle.node_semantics.proofs.KeptNumbers.{Same, callers_kept, fits_kept, letters_kept, none_sent, none_called, of_packets, of_messages, each_both}
+use Rattle.node_semantics.proofs.KeptNumbers.{Same, callers_kept, fits_kept, mailbox_kept, none_sent, none_called, of_packets, of_messages, each_both}
 
 -- all that refers to a request refers to one of these objects
 pub record Refers {S : Type 0} (g : Language S) (K : ℕ → Type 0) (c : Config S) (d : Delay) : Type 0 where
@@ -77,7 +77,7 @@ module _ {S : Type 0} (g : Language S) (m m' : Machine S) (K : ℕ → Type 0) (
       → Each (λ e. IsNumberOf m e.number (caller_of e.message)) s.mailbox → Each (λ e. IsNumberOf m' e.number (caller_of e.message)) s.mailbox
   box_kept s box i h k =
       let r = of_messages (λ a. (q : ℕ) → caller_of a ≡ Some q → K q) s.mailbox (subst (Each (λ a. (q : ℕ) → caller_of a ≡ Some q → K q)) (sym i) h) in
-      letters_kept m m' s (each_map _ _ (λ e f q j. (keep q (f q j)).request) s.mailbox r) k
+      mailbox_kept m m' s (each_map _ _ (λ e f q j. (keep q (f q j)).request) s.mailbox r) k
 
   pub served_kept : (ks os : List ℕ) → ((q : ℕ) → In q os → K q) → AreNumbersOf m ks os → AreNumbersOf m' ks os
   served_kept ks os f h = callers_kept m m' ks os (λ q i. (keep q (f q i)).request) h

@@ -19,7 +19,7 @@ use Rattle.node_semantics.specs.Requests.{Requests}
 use Rattle.node_semantics.specs.StandsFor.{slot_at, Occupied, SlotStandsFor, Free, Served, Posted, Due, AtName, MachineStandsFor}
 use Rattle.node_semantics.proofs.NamesAndSlots.{at_node, name_node, name_slot}
 use Rattle.node_semantics.proofs.SlotsOfObjects.{Rows, rows, rows_count, Meets, at}
-use Rattle.node_semantics.proofs.CellCounts.{letters_count, leaving_count}
+use Rattle.node_semantics.proofs.CellCounts.{mailboxes_count, leaving_count}
 
 ones : {X : Type 0} (xs : List X) → length xs ≡ sum_by (λ x. 1) xs
 ones [] = refl
@@ -65,7 +65,7 @@ module _ {S : Type 0} (g : Language S) (W : Config S → Type 0) (law : Lawful g
   frames_count = sym (rows_count Here n (λ e. 1 + g.frames e.1) (λ s. 1 + g.frames s.state) (λ q s y h. ap (λ k. 1 + k) (frames_same q s y (held d q) h.stands.state)) c.objects x.slots here)
 
   pub cells_count : message_count x.slots + leaving m.links n ≡ cell_count d n
-  cells_count = ap₂ (λ a b. a + b) (letters_count n d.arrived x.slots (st.few n x node) inside outside) (leaving_count n m.links d.links st.in_order st.links)
+  cells_count = ap₂ (λ a b. a + b) (mailboxes_count n d.arrived x.slots (st.few n x node) inside outside) (leaving_count n m.links d.links st.in_order st.links)
     where
       inside : (j : ℕ) (s : Slot S) → slice_get x.slots j ≡ Some s → arrivals s.mailbox ≡ under (λ r. r == name_at n j) d.arrived
       inside j s e = by (object_of c q) (subst (λ z. AtName g q z (object_of c q) (held d q) (arrived_at d q)) at_q (st.named q))

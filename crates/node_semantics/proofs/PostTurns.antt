@@ -29,7 +29,7 @@ use Rattle.node_semantics.proofs.NamesAndSlots.{set_same, name_slot, at_node, be
 use Rattle.node_semantics.proofs.KeptNumbers.{Same, no_caller}
 use Rattle.node_semantics.proofs.NamesAfterChange.{Spot, spot, found, Refers, refers_any, Any, box_kept, served_kept, spot_same}
 use Rattle.node_semantics.proofs.SmallChanges.{chain, post_stands, slot_keeps, slot_stands, still_distinct, mₛ}
-use Rattle.node_semantics.proofs.NamedChanges.{ask_stands, letter_stands}
+use Rattle.node_semantics.proofs.NamedChanges.{ask_stands, arrival_stands}
 use Rattle.node_semantics.proofs.AddedObject.{last_stands}
 use Rattle.node_semantics.proofs.OneObjectTurns.{Row, Turning, x₁, d₁, own, own_stands}
 
@@ -50,13 +50,13 @@ module _ {S : Type 0} (g : Language S) (l : Placement) where
     in_callers = st.in_callers;
   }
 
-  -- a letter comes to an object of the node, as the node puts it
-  pub put_letter_stands : (m : Machine S) (c : Config S) (d : Delay) → MachineStandsFor g l m c d → (n : ℕ) (x : NodeState S) → slice_get m.nodes n ≡ Some x
+  -- a message comes to an object of the node, as the node puts it
+  pub deliver_stands : (m : Machine S) (c : Config S) (d : Delay) → MachineStandsFor g l m c d → (n : ℕ) (x : NodeState S) → slice_get m.nodes n ≡ Some x
       → (b : ℕ) → node_of b ≡ n → HasSlot m b → (a : NumberedArrival) → IsNumberOf m a.number (caller_of a.message)
       → MachineStandsFor g l (record { nodes = set_at m.nodes n (deliver b a x); links = m.links }) c (arrive b a.message d)
-  put_letter_stands m c d st n x node b own h a number =
+  deliver_stands m c d st n x node b own h a number =
       subst (λ z. MachineStandsFor g l (record { nodes = set_at m.nodes n z; links = m.links }) c (arrive b a.message d)) (sym is)
-      (letter_stands g l m c d st n x node b own h.0 h.1 a number)
+      (arrival_stands g l m c d st n x node b own h.0 h.1 a number)
     where
       is : deliver b a x ≡ record x { slots = set_at x.slots (slot_of b) (record (h.0) { mailbox = h.0.mailbox ++ a ∷ [] }) }
       is = ap (deliver_in (slot_of b) a x) (sym (at_node m n x node b own) ∙ h.1)
@@ -196,8 +196,8 @@ module _ {S : Type 0} (g : Language S) (W : Config S → Type 0) (l : Placement)
     abbrev callee_packet : Packet
     callee_packet = D.Request o b k args
 
-    abbrev callee_letter : NumberedArrival
-    callee_letter = record { number = Some fresh; message = record { sender = o; is_call = true; method = k; args = args } }
+    abbrev call_arrival : NumberedArrival
+    call_arrival = record { number = Some fresh; message = record { sender = o; is_call = true; method = k; args = args } }
 
     abbrev mₚ : Machine S
     mₚ = asked x' refl d' stands₁ t.free nothing no_wait fresh s.goal is_fresh
@@ -212,13 +212,13 @@ module _ {S : Type 0} (g : Language S) (W : Config S → Type 0) (l : Placement)
     callee = asked_has x' refl d' stands₁ t.free nothing no_wait fresh s.goal is_fresh b to_callee
 
     call_by : (z : Bool) → (node_of b == n) ≡ z
-        → Row g W l m n (message_act n (Wt.PostCall o b (id k) args) (put_request x' i s fresh s.goal) b callee_letter callee_packet) (call_turn l c d' n o b k args)
+        → Row g W l m n (message_act n (Wt.PostCall o b (id k) args) (put_request x' i s fresh s.goal) b call_arrival callee_packet) (call_turn l c d' n o b k args)
     call_by true z = rw z (
       refl,
       t.sound.state.typed,
-      chain g l m n (put_request x' i s fresh s.goal) (deliver b callee_letter (put_request x' i s fresh s.goal)) m.links c _
-          (put_letter_stands g l mₚ c (hold o D.Posted d') posted n (put_request x' i s fresh s.goal) (set_same m.nodes n x (put_request x' i s fresh s.goal) t.node) b
-          (equal (node_of b) n z) callee callee_letter number),
+      chain g l m n (put_request x' i s fresh s.goal) (deliver b call_arrival (put_request x' i s fresh s.goal)) m.links c _
+          (deliver_stands g l mₚ c (hold o D.Posted d') posted n (put_request x' i s fresh s.goal) (set_same m.nodes n x (put_request x' i s fresh s.goal) t.node) b
+          (equal (node_of b) n z) callee call_arrival number),
     )
     call_by false z = rw z (
       refl,
@@ -226,7 +226,7 @@ module _ {S : Type 0} (g : Language S) (W : Config S → Type 0) (l : Placement)
       post_stands g l mₚ c (hold o D.Posted d') posted (n, next l n (node_of b)) (record { number = Some fresh; packet = callee_packet }) (record { number = number; names = callee }),
     )
 
-    pub call_row : Row g W l m n (message_act n (Wt.PostCall o b (id k) args) (put_request x' i s fresh s.goal) b callee_letter callee_packet) (call_turn l c d' n o b k args)
+    pub call_row : Row g W l m n (message_act n (Wt.PostCall o b (id k) args) (put_request x' i s fresh s.goal) b call_arrival callee_packet) (call_turn l c d' n o b k args)
     call_row = call_by (node_of b == n) refl
 
   -- a message is sent
@@ -237,8 +237,8 @@ module _ {S : Type 0} (g : Language S) (W : Config S → Type 0) (l : Placement)
     abbrev note_packet : Packet
     note_packet = D.Async o b k args
 
-    abbrev note_letter : NumberedArrival
-    note_letter = record { number = None; message = record { sender = o; is_call = false; method = k; args = args } }
+    abbrev message_arrival : NumberedArrival
+    message_arrival = record { number = None; message = record { sender = o; is_call = false; method = k; args = args } }
 
     abbrev xₙ : NodeState S
     xₙ = put_state x' i s (g.done s.state)
@@ -270,12 +270,12 @@ module _ {S : Type 0} (g : Language S) (W : Config S → Type 0) (l : Placement)
         by (inr z) = let h = has_slot b to_receiver.0 to_receiver.1 in (h.0, changed_there m mₙ n x xₙ t.node refl o own_o s s' t.here set b z ∙ h.1)
 
     send_by : (z : Bool) → (node_of b == n) ≡ z
-        → Row g W l m n (message_act n (Wt.Step (L.Send o b (id k) args) 1) xₙ b note_letter note_packet) (send_turn g l c d' n o b k args)
+        → Row g W l m n (message_act n (Wt.Step (L.Send o b (id k) args) 1) xₙ b message_arrival note_packet) (send_turn g l c d' n o b k args)
     send_by true z = rw (z, moved) (
       refl,
       t.law.kept c cₙ (L.Send o b (id k) args) t.sound.state.typed moved,
-      chain g l m n xₙ (deliver b note_letter xₙ) m.links cₙ _
-          (put_letter_stands g l mₙ cₙ d' done n xₙ (set_same m.nodes n x xₙ t.node) b (equal (node_of b) n z) receiver note_letter refl),
+      chain g l m n xₙ (deliver b message_arrival xₙ) m.links cₙ _
+          (deliver_stands g l mₙ cₙ d' done n xₙ (set_same m.nodes n x xₙ t.node) b (equal (node_of b) n z) receiver message_arrival refl),
     )
     send_by false z = rw (z, moved) (
       refl,
@@ -283,5 +283,5 @@ module _ {S : Type 0} (g : Language S) (W : Config S → Type 0) (l : Placement)
       post_stands g l mₙ cₙ d' done (n, next l n (node_of b)) (record { number = None; packet = note_packet }) (record { number = refl; names = receiver }),
     )
 
-    pub send_row : Row g W l m n (message_act n (Wt.Step (L.Send o b (id k) args) 1) xₙ b note_letter note_packet) (send_turn g l c d' n o b k args)
+    pub send_row : Row g W l m n (message_act n (Wt.Step (L.Send o b (id k) args) 1) xₙ b message_arrival note_packet) (send_turn g l c d' n o b k args)
     send_row = send_by (node_of b == n) refl

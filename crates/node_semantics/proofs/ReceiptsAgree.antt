@@ -35,7 +35,7 @@ use Rattle.node_semantics.proofs.SettledNumber.{settled_is, given_to}
 use Rattle.node_semantics.proofs.SmallChanges.{post_stands, object_stands}
 use Rattle.node_semantics.proofs.NamedChanges.{settle_stands}
 use Rattle.node_semantics.proofs.AddedObject.{add_stands, add_there, is_new, no_object}
-use Rattle.node_semantics.proofs.PostTurns.{put_letter_stands}
+use Rattle.node_semantics.proofs.PostTurns.{deliver_stands}
 use Rattle.node_semantics.proofs.NodeCounts.{objects_count}
 use Rattle.node_semantics.proofs.OneObjectTurns.{Row}
 
@@ -272,9 +272,6 @@ module _ {S : Type 0} (g : Language S) (W : Config S → Type 0) (l : Placement)
               old o a.state a.object (subst (In new) (ap g.callers (sym same) ∙ callers) i)
           by (inr e) = old q z (sym (find_put_other q o (g.given a.state v) c.objects e) ∙ h) i
 
-      free_new : held d new ≡ None
-      free_new = (is_new g l m₁ c d₁ st₁ b x node W req small).free
-
       owns_none : entries d₁ new ≡ []
       owns_none = none_moved (subst (λ (z : Option S). OwnedAt g new z (held d new) (entries d new)) unused (sound.state.owned new)).1
         where
@@ -320,9 +317,9 @@ module _ {S : Type 0} (g : Language S) (W : Config S → Type 0) (l : Placement)
         let h = value_stands o v fit.number.0.0 at r (awaiting (D.Result o v) o v (inl refl) (equals o) head) in
         (refl, typed, subst (λ z. MachineStandsFor g l (record { nodes = set_at m₁.nodes b (settle_number g v z x); links = m₁.links }) c (free o d₁)) (sym fit.number.0.1) h)
     receipt_row num (D.Request o r k args) fit head at =
-        (refl, typed, put_letter_stands g l m₁ c d₁ st₁ b x node r at fit.names (record { number = num; message = record { sender = o; is_call = true; method = k; args = args } }) fit.number)
+        (refl, typed, deliver_stands g l m₁ c d₁ st₁ b x node r at fit.names (record { number = num; message = record { sender = o; is_call = true; method = k; args = args } }) fit.number)
     receipt_row num (D.Async o r k args) fit head at =
-        (refl, typed, put_letter_stands g l m₁ c d₁ st₁ b x node r at fit.names (record { number = None; message = record { sender = o; is_call = false; method = k; args = args } }) refl)
+        (refl, typed, deliver_stands g l m₁ c d₁ st₁ b x node r at fit.names (record { number = None; message = record { sender = o; is_call = false; method = k; args = args } }) refl)
 
     -- what the packet meets that the node is given
 

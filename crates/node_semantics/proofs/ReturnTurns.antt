@@ -55,7 +55,7 @@ module _ {S : Type 0} (g : Language S) (W : Config S → Type 0) (l : Placement)
     posted : g.kind k slot.state ≡ K.Send b method args
     waits : g.waiting slot.state b method ≡ state
     mailbox : arrivals slot.mailbox ≡ arrived_at d k
-    letters_fit : Each (λ e. IsNumberOf m e.number (caller_of e.message)) slot.mailbox
+    mailbox_fit : Each (λ e. IsNumberOf m e.number (caller_of e.message)) slot.mailbox
     callers_fit : AreNumbersOf m slot.callers (g.callers state)
 
   module _ (k : ℕ) (v : Value) (kind : g.kind o s.state ≡ K.Return k v) where
@@ -108,7 +108,7 @@ module _ {S : Type 0} (g : Language S) (W : Config S → Type 0) (l : Placement)
               posted = subst (λ z. g.kind k f.slot.state ≡ K.Send b z args) same u;
               waits = subst (λ z. g.waiting f.slot.state b z ≡ w.0) same q;
               mailbox = f.stands.mailbox;
-              letters_fit = f.mailbox;
+              mailbox_fit = f.mailbox;
               callers_fit = f.callers;
             }
 
@@ -240,7 +240,7 @@ module _ {S : Type 0} (g : Language S) (W : Config S → Type 0) (l : Placement)
         spot_k : Spot g m₂ k (slot_at m₂ k) (object_of c' k) (held d' k) (arrived_at d' k)
         spot_k = spot_same g m₂ k {s = Some (given_to g number v w.slot)} {x = Some (g.given w.state v)} {h = None} {b = arrived_at d k} now_k at_k (find_without_same k d.holding) refl (
           record { state = Free refl given_is; mailbox = w.mailbox },
-          box_kept g m m₂ (But k) keep w.slot (arrived_at d k) w.mailbox (refers.in_boxes k) w.letters_fit,
+          box_kept g m m₂ (But k) keep w.slot (arrived_at d k) w.mailbox (refers.in_boxes k) w.mailbox_fit,
           callers_k,
         )
 
@@ -316,7 +316,7 @@ module _ {S : Type 0} (g : Language S) (W : Config S → Type 0) (l : Placement)
         far_k = spot_same g m₃ k {s = Some w.slot} {x = Some (g.given w.state v)} {h = Some (D.Due v)} {b = arrived_at d k}
             (slot_q' k apart' ∙ w.here) at_k (find_put_same k (D.Due v) d.holding) refl (
               record { state = Due v (number, w.number_is) (rw w.posted refl) given_is; mailbox = w.mailbox },
-              box_kept g m m₃ Any keep' w.slot (arrived_at d k) w.mailbox (any.in_boxes k) w.letters_fit,
+              box_kept g m m₃ Any keep' w.slot (arrived_at d k) w.mailbox (any.in_boxes k) w.mailbox_fit,
               served_kept g m m₃ Any keep' w.slot.callers (g.callers (g.given w.state v)) (λ q z. tt) (subst (AreNumbersOf m w.slot.callers) callers_are w.callers_fit),
             )
 

@@ -126,7 +126,7 @@ module _ {S : Type 0} (g : Language S) (W : Config S → Type 0) (l : Placement)
     number : IsNumberOf m f.number (caller_of a)
     number = first_each (λ e. IsNumberOf m e.number (caller_of e.message)) names s.mailbox f is_first (spot_here g W l m c d n i x s t).1
 
-    -- the slot after its letter was taken
+    -- the slot after its message was taken
     module _ (c₁ : Config S) (h : List (ℕ × Holding)) (base : MachineStandsFor g l m₁ c₁ (record d' { holding = h })) (still : find nat_cmp o h ≡ None) (y : S) (ks : List ℕ)
         (fit : AreNumbersOf m₁ ks (g.callers y)) where
       abbrev taking : Slot S
@@ -287,8 +287,8 @@ module _ {S : Type 0} (g : Language S) (W : Config S → Type 0) (l : Placement)
           served_kept g m m₁ Any keep s.callers (g.callers s.state) (λ b u. tt) (spot_here g W l m c d n i x s t).2,
         )
 
-    letter_row : Row g W l m n (serve_act g n x' i s j names f.number a) (accept_turn g c d' o names (Some a))
-    letter_row = by a.is_call f.number refl number
+    arrival_row : Row g W l m n (serve_act g n x' i s j names f.number a) (accept_turn g c d' o names (Some a))
+    arrival_row = by a.is_call f.number refl number
       where
         by : (b : Bool) (z : Option ℕ) → a.is_call ≡ b → IsNumberOf m z (caller_of a) → Row g W l m n (serve_act g n x' i s j names z a) (accept_turn g c d' o names (Some a))
         by true None e h = absurd (let u : IsNumberOf m None (Some a.sender) = rw e at h in let v = u.0.1 in cc)
@@ -318,7 +318,7 @@ module _ {S : Type 0} (g : Language S) (W : Config S → Type 0) (l : Placement)
                 let u : first_arrival names (arrived_at d o) ≡ Some f.message = subst (λ z. first_arrival names z ≡ Some f.message) box_is (first_same names s.mailbox f h) in
                 let v = arrived_first names (arrived_at d o) f.message u in
                 let w : offered 1 alts f.message.method ≡ Some (j, names) = offers f.message.method v.1 (rw (open_is, e) v.0) ∙ ap (λ z. Some (j, answered z)) e in
-                rw u (letter_row alts kind names j f h w)
+                rw u (arrival_row alts kind names j f h w)
 
     choice : (j : ℕ) (rest : List Alternative) → ((k : ℕ) → numbered alts (j + k) ≡ slice_get rest k)
         → ((k : ℕ) → HasArrived (arrived_at d o) k → offered 1 alts k ≡ offered j rest k) → list_any (is_possible (arrived_at d o)) rest ≡ true

@@ -1,7 +1,7 @@
--- One node of a machine, and what it does by itself: a turn, or the receipt of a packet at its goal. A node has its objects, each in a slot, the messages that have arrived
--- for them, and the number of each request that is out. A request is a new object on another node or a call; it has its number until its value has come. What changes outside
--- the node goes into one packet. Until then the object stands in its slot as it stood when it posted the request, whatever has become of the request.
--- Throughout, g is a language, l a placement, q the most local transitions of a turn, n the node with its state x, fresh the number that a request of this turn gets,
+-- One node of a machine, and its act, which is all that it does by itself: a turn, or the receipt of a packet at its goal. A node has its objects, each in a slot, the
+-- messages that have arrived for them, and the number of each request that is out. A request is a new object on another node, or a call; it has its number until its value has
+-- come, and until then its object stands in its slot as it stood when it posted the request, whatever has become of the request. What changes outside the node goes into one
+-- packet. Throughout, g is a language, l a placement, q the most local transitions of a turn, n the node with its state x, fresh the number that a request of this turn gets,
 -- i the number of a slot and s what is in it, and leaving the number of packets on the links that leave the node.
 use Rattle.std.specs.Prelude.{ℕ, zero, suc, ◌+◌, ◌-◌, ◌*◌, ◌%◌, ◌==◌, List, [], ◌∷◌, ◌++◌, length, sum_by, filter, Option, Some, None, is_some, is_none, Bool, true, false, ◌&&◌, if◌then◌else◌, nat_le, nat_lt, slice_get}
 use Rattle.std.specs.Option.{unwrap_or}
@@ -218,8 +218,8 @@ create_act g n fresh x i s class goal =
 
 -- a message arrives here at once, or leaves in a packet
 abbrev pub message_act : {S : Type 0} → ℕ → What → NodeState S → ℕ → NumberedArrival → Packet → NodeActed S
-message_act n w x b letter packet =
-    if node_of b == n then Acts w None (deliver b letter x) else Acts w (Some (record { number = letter.number; packet = packet })) x
+message_act n w x b arrival packet =
+    if node_of b == n then Acts w None (deliver b arrival x) else Acts w (Some (record { number = arrival.number; packet = packet })) x
 
 -- the object has taken the first message on these methods and serves it
 abbrev pub taken_act : {S : Type 0} → What → NodeState S → List ℕ → List ℕ → ℕ → Slot S → Option S → NodeActed S

@@ -1,18 +1,20 @@
 -- Machines of nodes over terms, computed: the lines that a machine writes are those of the record; and of the call between two nodes where the number of each request is,
 -- and what the machine says of the caller, after each event.
-use Rattle.std.proofs.Common.{◌≡◌, refl, ℕ, zero, suc, ◌+◌, List, [], ◌∷◌, ◌++◌, Option, Some, None}
-use Rattle.std.specs.Prelude.{flat_map}
+use Rattle.std.proofs.Common.{◌≡◌, refl, ℕ, zero, suc, ◌+◌, List, [], ◌∷◌, ◌++◌, Option, Some, None, true}
+use Rattle.std.specs.Prelude.{flat_map, slice_get, nat_lt, length, if◌then◌else◌}
+use Rattle.std.specs.List.{list_all}
 use Rattle.pool_syntax.specs.declared.words.Event.{Event}
 use Rattle.pool_syntax.specs.declared.words.Event.TheVariants.{Turn, Link}
 use Rattle.mesh_semantics.specs.Record.{record_of}
 use Rattle.mesh_semantics.specs.Standing.{Standing, Ready, Finished, Calls, Creates, Due}
 use Rattle.pool_relation.specs.Action.{Object}
-use Rattle.node_semantics.specs.Node.{Slot, NumberedPacket}
+use Rattle.node_semantics.specs.Node.{Slot, NodeState, NumberedPacket}
 use Rattle.node_semantics.specs.Machine as M
 use Rattle.node_semantics.specs.Machine.{Machine, MachineActed, machine_act, machine_start}
 use Rattle.node_semantics.specs.StandsFor.{slot_at, request_of}
 use Rattle.node_semantics.specs.Standings.{machine_standing}
-use Rattle.node_semantics.specs.Written.{machine_lines}
+use Rattle.node_semantics.specs.Written.{machine_lines, FreshAlong}
+use Rattle.node_semantics.proofs.Laws.{is_unused, fresh_along}
 use Rattle.placed_terms.specs.Terms.{terms}
 use Rattle.placed_terms.proofs.Words.{at}
 use Rattle.placed_terms.proofs.TwoNodes as Two
@@ -38,6 +40,46 @@ rising k (suc n) = k ∷ rising (k + 1) n
 the_lines_over_four_nodes :
     machine_lines (terms Four.program) Four.placement 50 (rounds 70) (rising 0 840) ≡ (record_of (terms Four.program) Four.placement 50 (rounds 70)).lines
 the_lines_over_four_nodes = refl
+
+-- the least number that is not out at the node of the event
+abbrev least : ℕ → ℕ → List (Slot Object) → ℕ
+least zero k slots = k
+least (suc more) k slots = if is_unused k slots then k else least more (k + 1) slots
+
+abbrev least_in : Option (NodeState Object) → ℕ
+least_in None = 0
+least_in (Some x) = least (length x.slots) 0 x.slots
+
+abbrev least_at : Machine Object → Event → ℕ
+least_at m (Turn n) = least_in (slice_get m.nodes n)
+least_at m (Link a b) = 0
+
+abbrev on_machine : (Machine Object → List ℕ) → MachineActed Object → List ℕ
+on_machine go (M.Acts what m) = go m
+on_machine go _ = []
+
+-- numbers that are used again as soon as they are free
+abbrev least_along : Machine Object → List Event → List ℕ
+least_along m [] = []
+least_along m (e ∷ es) = least_at m e ∷ on_machine (λ m'. least_along m' es) (machine_act (terms Four.program) Four.placement 50 (least_at m e) m e)
+
+abbrev least_numbers : Option (Machine Object) → List ℕ
+least_numbers None = []
+least_numbers (Some m) = least_along m (rounds 70)
+
+abbrev reused : List ℕ
+reused = least_numbers (machine_start (terms Four.program) Four.placement)
+
+reused_is_fresh : FreshAlong (terms Four.program) Four.placement 50 (rounds 70) reused
+reused_is_fresh = fresh_along (terms Four.program) Four.placement 50 (rounds 70) reused refl
+
+the_lines_with_numbers_used_again :
+    machine_lines (terms Four.program) Four.placement 50 (rounds 70) reused ≡ (record_of (terms Four.program) Four.placement 50 (rounds 70)).lines
+the_lines_with_numbers_used_again = refl
+
+-- no node has more than three objects that ask for anything: on the first one the main object, a producer and a consumer
+three_numbers_do : list_all (λ k. nat_lt k 3) reused ≡ true
+three_numbers_do = refl
 
 -- the call between two nodes; the number 7 is used for both requests
 
