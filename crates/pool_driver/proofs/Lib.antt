@@ -9,3 +9,4 @@ mod RecordRows
 pub mod ReadLaws
 pub mod EndLaws
 pub mod OutputLaws
+pub mod PlacedRecords

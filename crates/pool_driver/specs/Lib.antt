@@ -14,3 +14,4 @@ pub mod Outputs
 pub mod Ends
 pub mod Readers
 pub mod Asked
+pub mod OneNode
