@@ -29,3 +29,4 @@ pub mod Limits
 pub mod Existing
 pub mod ProgramProper
 pub mod Laws
+mod Rows
