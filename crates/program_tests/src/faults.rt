@@ -187,17 +187,22 @@ fn first_faults_are_told(rt: HostRuntime) -> Result<(), Fail> {
     Ok(())
 }
 
-#[test]
-fn each_token_that_may_not_come_next_is_told(rt: HostRuntime) -> Result<(), Fail> {
+/// The first front behind which a token is told wrongly.
+fn first_wrong_front(alloc: Global) -> Result<Option<&'static str>, AllocError> {
     for row in FRONTS.lines() {
-        match row.split_once(" | ") {
-            Some((front, next)) => assert_eq!(rt;
-                first_wrong_behind(rt.alloc(), front, next)?,
-                None,
-                "{row}"
-            ),
-            None => assert!(rt; row.starts_with("--"), "{row}"),
+        let wrong = match row.split_once(" | ") {
+            Some((front, next)) => first_wrong_behind(alloc, front, next)?.is_some(),
+            None => !row.starts_with("--"),
+        };
+        if wrong {
+            return Ok(Some(row));
         }
     }
+    Ok(None)
+}
+
+#[test]
+fn each_token_that_may_not_come_next_is_told(rt: HostRuntime) -> Result<(), Fail> {
+    assert_eq!(rt; first_wrong_front(rt.alloc())?, None);
     Ok(())
 }
