@@ -1,3 +1,10 @@
+pub mod Fields
+pub mod Numbered
+pub mod Parted
 pub mod RecordText
+pub mod Records
+pub mod Shown
+pub mod ShownBy
 pub mod Steps
+pub mod ToldBy
 pub mod Writable

@@ -1,0 +1,79 @@
+-- A record's lines with the numbers of their names in a table, and the table with these names.
+use Rattle.std.specs.Prelude.{◌≡◌, List, [], ◌∷◌, Option, Some, None}
+use Rattle.pool_syntax.specs.Table.{name_of, with_text}
+use Rattle.pool_syntax.specs.Tokens.{Text}
+use Rattle.pool_syntax.specs.declared.words.NameId.{NameId}
+use Rattle.pool_syntax.specs.declared.words.Item.{Item}
+use Rattle.pool_syntax.specs.declared.words.Item.TheVariants as I
+use Rattle.pool_syntax.specs.declared.words.Label.{Label}
+use Rattle.pool_syntax.specs.declared.words.Label.TheVariants as L
+use Rattle.pool_syntax.specs.declared.words.What.{What}
+use Rattle.pool_syntax.specs.declared.words.What.TheVariants as W
+use Rattle.pool_syntax.specs.declared.words.Line.{Line}
+use Rattle.pool_syntax.specs.declared.words.Line.TheVariants as R
+use Rattle.run_record.specs.declared.fault.RecordFault.{RecordFault}
+use Rattle.run_record.specs.declared.fault.RecordFault.TheVariants as fault
+use Rattle.run_record.specs.Records.{Told}
+
+-- the same with this number of its name, if it has one
+abbrev pub item_with : NameId → Item → Item
+item_with id (I.Value v) = I.Value v
+item_with id (I.Text t) = I.Text id
+
+abbrev pub label_with : NameId → Label → Label
+label_with id (L.Local o) = L.Local o
+label_with id (L.New o p c) = L.New o p id
+label_with id (L.Answer p o m args) = L.Answer p o id args
+label_with id (L.Return p o v) = L.Return p o v
+label_with id (L.Send o p m args) = L.Send o p id args
+label_with id (L.Take p o m args) = L.Take p o id args
+label_with id (L.Write o item) = L.Write o (item_with id item)
+label_with id (L.Pick o i) = L.Pick o i
+label_with id (L.Fault o e) = L.Fault o e
+
+abbrev pub what_with : NameId → What → What
+what_with id (W.Step label times) = W.Step (label_with id label) times
+what_with id (W.PostCreate o c n) = W.PostCreate o id n
+what_with id (W.PostCall o p m args) = W.PostCall o p id args
+what_with id (W.Arrive o p m) = W.Arrive o p id
+what_with id (W.Created o p) = W.Created o p
+what_with id (W.Result o v) = W.Result o v
+what_with id W.Pass = W.Pass
+what_with id W.Idle = W.Idle
+
+abbrev pub line_with : NameId → Line → Line
+line_with id (R.Event n e what) = R.Event n e (what_with id what)
+line_with id (R.End e) = R.End e
+
+-- the table with the text of a name, which goes last where it is new
+abbrev pub with_name : List Text → Option Text → List Text
+with_name names None = names
+with_name names (Some w) = with_text names w
+
+abbrev pub numbered_by : List Text → Option Text → Line → Line
+numbered_by names None l = l
+numbered_by names (Some w) l = line_with (record { 0 = name_of names w }) l
+
+-- the line with the number of its name in the table
+abbrev pub numbered : List Text → Told → Line
+numbered names t = numbered_by names t.text t.line
+
+abbrev pub names_after : List Text → List Told → List Text
+names_after names [] = names
+names_after names (t ∷ ts) = names_after (with_name names t.text) ts
+
+abbrev pub lines_after : List Text → List Told → List Line
+lines_after names [] = []
+lines_after names (t ∷ ts) = numbered names t ∷ lines_after (with_name names t.text) ts
+
+-- The fault is this one, unless memory ran out.
+abbrev pub IsTold : RecordFault → Option RecordFault → Type 0
+IsTold (fault.BadLine line) told = told ≡ Some (fault.BadLine line)
+IsTold (fault.OutOfOrder line) told = told ≡ Some (fault.OutOfOrder line)
+IsTold fault.Memory told = Unit {0}
+
+-- The table is this one, unless memory ran out.
+abbrev pub IsTable : RecordFault → List Text → List Text → Type 0
+IsTable (fault.BadLine line) new names = new ≡ names
+IsTable (fault.OutOfOrder line) new names = new ≡ names
+IsTable fault.Memory new names = Unit {0}

@@ -1,0 +1,137 @@
+//! Lines with the numbers of their names.
+ghost use Rattle.std.specs.Prelude.{◌≡◌, ◌+◌, ◌<◌, ◌≤◌, ◌^◌, length, IfOk, OnOk};
+ghost use Rattle.run_record.specs.Numbered.{item_with, label_with, line_with, numbered, what_with, with_name};
+ghost use Rattle.run_record.specs.ToldBy.{told};
+
+use crate::line::ReadLine;
+use pool_syntax::{Item, Label, Line, NameId, Names, What};
+use std::alloc::AllocError;
+
+fn item_with(id: NameId, item: Item) -> Item
+    ensures { result ≡ item_with id item }
+{
+    match item {
+        Item::Value(value) => Item::Value(value),
+        Item::Text(_) => Item::Text(id),
+    }
+}
+
+fn label_with(id: NameId, label: &Label) -> Label
+    ensures { result ≡ label_with id label.now }
+{
+    match label {
+        Label::New { object, name, .. } => Label::New {
+            object: *object,
+            name: *name,
+            class: id,
+        },
+        Label::Answer {
+            receiver,
+            caller,
+            args,
+            ..
+        } => Label::Answer {
+            receiver: *receiver,
+            caller: *caller,
+            method: id,
+            args: *args,
+        },
+        Label::Send {
+            object,
+            receiver,
+            args,
+            ..
+        } => Label::Send {
+            object: *object,
+            receiver: *receiver,
+            method: id,
+            args: *args,
+        },
+        Label::Take {
+            receiver,
+            sender,
+            args,
+            ..
+        } => Label::Take {
+            receiver: *receiver,
+            sender: *sender,
+            method: id,
+            args: *args,
+        },
+        Label::Write { object, item } => Label::Write {
+            object: *object,
+            item: item_with(id, *item),
+        },
+        other => *other,
+    }
+}
+
+fn what_with(id: NameId, what: &What) -> What
+    ensures { result ≡ what_with id what.now }
+{
+    match what {
+        What::Step { label, times } => What::Step {
+            label: label_with(id, label),
+            times: *times,
+        },
+        What::PostCreate { object, node, .. } => What::PostCreate {
+            object: *object,
+            class: id,
+            node: *node,
+        },
+        What::PostCall {
+            object,
+            receiver,
+            args,
+            ..
+        } => What::PostCall {
+            object: *object,
+            receiver: *receiver,
+            method: id,
+            args: *args,
+        },
+        What::Arrive {
+            object,
+            receiver,
+            ..
+        } => What::Arrive {
+            object: *object,
+            receiver: *receiver,
+            method: id,
+        },
+        other => *other,
+    }
+}
+
+fn line_with(id: NameId, line: &Line) -> Line
+    ensures { result ≡ line_with id line.now }
+{
+    match line {
+        Line::Event {
+            number,
+            event,
+            what,
+        } => Line::Event {
+            number: *number,
+            event: *event,
+            what: what_with(id, what),
+        },
+        Line::End(end) => Line::End(*end),
+    }
+}
+
+/// The line with the number of its name, which goes last in the table where it is new.
+pub fn numbered(names: &mut Names, read: &ReadLine<'_>) -> Result<Line, AllocError>
+    requires { length names.old < 2 ^ 32 }
+    ensures line { IfOk result (λ l. l ≡ numbered names.old (told read.now)) }
+    ensures names { OnOk result (names.new ≡ with_name names.old (told read.now).text) }
+    ensures few { OnOk result (length names.new ≤ length names.old + 1) }
+{
+    match read.text {
+        None => Ok(read.line),
+        Some(text) => {
+            let id = names.add(text)?;
+            Ok(line_with(id, &read.line))
+        }
+    }
+}
