@@ -12,7 +12,7 @@ mod token;
 
 pub use lexer::tokens;
 pub use lines::{decimal, next_line, next_word};
-pub use spelling::keyword;
 pub use places::{Decimal, LineAt, WordAt};
 pub use pool_syntax::{Keyword, LexFault, Sign, Tok, Token};
+pub use spelling::keyword;
 pub use table::Tokens;
