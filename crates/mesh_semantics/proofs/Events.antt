@@ -121,6 +121,10 @@ module _ {S : Type 0} (g : Language S) (W : Config S → Type 0) (law : Lawful g
           let m = filter_member (λ e. is_above (find nat_cmp n d.last) e.0) (ready_at g c d n) f (first_member _ f i) in
           subst (Stepping c d n) same (ready c d n f s m.1)
 
+  -- the object whose turn it is, is there
+  pub turn_there : (c : Config S) (d : Delay) (n : ℕ) (e : ℕ × S) → IsSound g W l c d → turn_of g c d n ≡ Some e → object_of c e.0 ≡ Some e.1
+  turn_there c d n e s h = (turn_is c d n e s h).acting.found
+
   turn_kept : (c : Config S) (d : Delay) (n q : ℕ) (e : ℕ × S) → IsSound g W l c d → Stepping c d n e
       → Nearly g W law l fit.ways n c (object_turn g l q c (stepped_last n e.0 d) n e.0 (g.kind e.0 e.1))
   turn_kept c d n q e s t = by (g.kind e.0 e.1) refl t.can

@@ -11,11 +11,11 @@ pub use Rattle.mesh_semantics.proofs.Meshes.{ways}
 pub use Rattle.mesh_semantics.proofs.Fitting.{fit_of}
 pub use Rattle.mesh_semantics.proofs.InOrder.{in_order}
 pub use Rattle.mesh_semantics.proofs.Started.{placed_start_sound}
-pub use Rattle.mesh_semantics.proofs.Events.{act_kept, act_answers, record_shows}
+pub use Rattle.mesh_semantics.proofs.Events.{turn_there, act_kept, act_answers, record_shows}
 pub use Rattle.mesh_semantics.proofs.Final.{no_transition}
 pub use Rattle.mesh_semantics.proofs.Idle.{idle_turn, idle_link, turn_idles, link_idles}
 pub use Rattle.mesh_semantics.proofs.Cycles.{every_cycle, is_cycle}
-pub use Rattle.mesh_semantics.proofs.Simulated.{move_same}
+pub use Rattle.mesh_semantics.proofs.Simulated.{there, found, move_same}
 pub use Rattle.mesh_semantics.proofs.SameActs.{act_same, quiet_same}
 pub use Rattle.mesh_semantics.proofs.SameRecords.{records_agree}
 pub use Rattle.mesh_semantics.proofs.SameStandings.{standing_same, cycles_same}

@@ -1,9 +1,12 @@
 -- How a call ends: what came of the inputs, and what was written of it.
-use Rattle.std.proofs.Common.{◌≡◌, ◌≢◌, ◌∙◌, ◌⊎◌, inl, inr, ◌+◌, ◌<◌, ◌≤◌, ◌||◌, ◌++◌, ℕ, Bool, true, false, List, [], ◌∷◌, length, Option, Some, None, IfSome, Result, Ok, Err, refl, sym, ap, subst, arith}
+use Rattle.std.proofs.Common.{◌≡◌, ◌∙◌, ◌⊎◌, inl, inr, ◌≤◌, ◌||◌, ◌++◌, ℕ, Bool, true, false, List, [], ◌∷◌, length, Option, Some, None, Ok, Err, refl, sym, subst, arith}
+use Rattle.std.proofs.lemmas.List.{append-nil, append_assoc}
 use Rattle.pool_outside.specs.Outside.{Rose}
 use Rattle.pool_syntax.specs.Tokens.{Text}
 use Rattle.pool_syntax.specs.declared.words.End.{End}
 use Rattle.pool_syntax.specs.declared.words.End.TheVariants as F
+use Rattle.pool_syntax.specs.declared.words.Line.{Line}
+use Rattle.pool_syntax.specs.declared.words.Line.TheVariants as R
 use Rattle.pool_driver.specs.declared.status.Status.{Status}
 use Rattle.pool_driver.specs.declared.status.Status.TheVariants as S
 use Rattle.pool_driver.specs.declared.fault.Input.{Input}
@@ -11,26 +14,29 @@ use Rattle.pool_driver.specs.declared.fault.Fault.{Fault}
 use Rattle.pool_driver.specs.declared.fault.Stop.{Stop}
 use Rattle.pool_driver.specs.declared.fault.Stop.TheVariants as T
 use Rattle.pool_driver.specs.declared.outputs.Output.{Output}
-use Rattle.pool_driver.specs.Commands.{Request, record_of, print_of}
+use Rattle.command_words.specs.Commands.{Request, of_run, of_program, of_ring}
 use Rattle.pool_driver.specs.FaultText.{refusal_line, unread_line, usage_line}
-use Rattle.pool_driver.specs.Inputs.{Told, inputs, limit_of, IsAccepted, HasFault, IsServed, AreServed, IsServable}
+use Rattle.pool_driver.specs.Inputs.{Told, inputs, limit_of, IsAccepted, HasFault, WereAccepted, AreAccepted, AreServed, IsServable, StopAt}
+use Rattle.pool_gen.specs.Ring.{ring_placement, ring_program, ring_schedule}
+use Rattle.pool_driver.specs.declared.fault.Input.TheVariants as I
 use Rattle.pool_driver.specs.Outputs.{IsOutput, IsWhole}
-use Rattle.pool_driver.specs.Records.{Shown, ended, shows_fault, status_after}
-use Rattle.pool_driver.specs.Records as R
+use Rattle.pool_driver.specs.Runs.{record_of, ended, shows_fault, status_after}
 use Rattle.pool_driver.specs.Ends as E
-use Rattle.pool_driver.specs.Ends.{Reading, Writing, AllRead, Stops, too_long, faulty, IsRefused, IsUnread, IsMade, Says, IsIdle, Wrote, WroteFront, Ends}
+use Rattle.pool_driver.specs.Ends.{Reading, Writing, AllRead, Stops, too_long, faulty, IsRefused, IsRingRefused, IsUnread, IsMade, Says, IsIdle, Wrote, WroteFront, Ends}
 use Rattle.pool_driver.specs.Readers as D
-use Rattle.pool_driver.specs.Readers.{Makes, Writes, Tells, text_of, status_of_output}
+use Rattle.pool_driver.specs.Readers.{Makes, Writes, Delivers, Tells, text_of, status_of_output}
 
--- what was asked for, or a front of it
+-- what was asked for, or a front of it, or nothing for want of memory
 pub text_ends : (words : Option Request) (k : Reading) (out err : Writing) (r : Request) (o : Output) (status : Status) → words ≡ Some r → Makes k r (Ok o)
-    → Writes out (text_of o) (status_of_output o) status → IsIdle err → Ends words k out err status
+    → Delivers out (text_of o) (status_of_output o) status → IsIdle err → Ends words k out err status
 text_ends words k out err r o status is (D.made p e made printable) w idle = let same : p ≡ o = cc in by w (subst (λ (x : Output). IsMade k r (text_of x) (status_of_output x)) same made)
   where
-    by : Writes out (text_of o) (status_of_output o) status → IsMade k r (text_of o) (status_of_output o) → Ends words k out err status
-    by (D.whole wrote e) made = E.whole r (text_of o) is (subst (λ (s : Status). IsMade k r (text_of o) s) (sym e) made) wrote idle
-    by (D.cut front e) made = E.cut r (text_of o) (status_of_output o) is made front idle e
+    by : Delivers out (text_of o) (status_of_output o) status → IsMade k r (text_of o) (status_of_output o) → Ends words k out err status
+    by (D.written (D.whole wrote e)) made = E.whole r (text_of o) is (subst (λ (s : Status). IsMade k r (text_of o) s) (sym e) made) wrote idle
+    by (D.written (D.cut front e)) made = E.cut r (text_of o) (status_of_output o) is made front idle e
+    by (D.nothing quiet e) made = E.no_memory quiet idle e
 text_ends words k out err r o status is (D.refused input f e h) w idle = absurd (cc)
+text_ends words k out err r o status is (D.ring_refused input f e h) w idle = absurd (cc)
 text_ends words k out err r o status is (D.unread input e h) w idle = absurd (cc)
 text_ends words k out err r o status is (D.memory e) w idle = absurd (cc)
 
@@ -60,6 +66,11 @@ stop_ends words k out err r stop status is makes (D.refusal input f e w) idle = 
         let fault : g ≡ f = cc in
         line_ends words k out err (refusal_line input f) S.Refused status
         (E.refusal r input f is (subst (λ (x : Fault). IsRefused k r input x) fault (subst (λ (x : Input). IsRefused k r x g) at h)) refl refl) w idle
+    by (D.ring_refused i g z h) =
+        let at : i ≡ input = cc in
+        let fault : g ≡ f = cc in
+        line_ends words k out err (refusal_line input f) S.Refused status
+        (E.ring_refusal r input f is (subst (λ (x : Fault). IsRingRefused k r input x) fault (subst (λ (x : Input). IsRingRefused k r x g) at h)) refl refl) w idle
     by (D.unread i z h) = absurd (let y : T.Refused input f ≡ T.Unread i = cc in cc)
     by (D.memory z) = absurd (let y : T.Refused input f ≡ T.Memory = cc in cc)
 stop_ends words k out err r stop status is makes (D.unread input e w) idle = by makes
@@ -67,11 +78,12 @@ stop_ends words k out err r stop status is makes (D.unread input e w) idle = by 
     by : Makes k r (Err stop) → Ends words k out err status
     by (D.made o z made printable) = absurd (cc)
     by (D.refused i g z h) = absurd (let y : T.Unread input ≡ T.Refused i g = cc in cc)
+    by (D.ring_refused i g z h) = absurd (let y : T.Unread input ≡ T.Refused i g = cc in cc)
     by (D.unread i z h) =
         let at : i ≡ input = cc in
         line_ends words k out err (unread_line input) S.ReadFault status (E.unread r input is (subst (IsUnread k r) at h) refl refl) w idle
     by (D.memory z) = absurd (let y : T.Unread input ≡ T.Memory = cc in cc)
-stop_ends words k out err r stop status is makes (D.memory e quiet) idle = E.no_memory r is idle quiet e
+stop_ends words k out err r stop status is makes (D.memory e quiet) idle = E.no_memory idle quiet e
 
 -- what is asked for is written with a status that says so
 
@@ -81,36 +93,66 @@ ended_whole false (F.Quiet done) = inl refl
 ended_whole b (F.Schedule done) = inr (inr (inl refl))
 ended_whole b (F.Full kind node done) = inr (inr (inr refl))
 
-status_whole : (b : Bool) (ss : List Shown) (e : End) → IsWhole (status_after b ss e)
-status_whole b [] e = ended_whole b e
-status_whole b (s ∷ ss) e = status_whole (b || shows_fault s.what) ss e
+status_whole : (b : Bool) (ls : List Line) → IsWhole (status_after b ls)
+status_whole b [] = inl refl
+status_whole b (R.Event number e what ∷ ls) = status_whole (b || shows_fault what) ls
+status_whole b (R.End e ∷ ls) = ended_whole b e
 
 output_whole : (r : Request) (texts : List Text) (text : Text) (s : Status) → IsOutput r texts text s → IsWhole s
-output_whole (record_of names) [] text s h = absurd h
-output_whole (record_of names) (p ∷ []) text s h = absurd h
-output_whole (record_of names) (p ∷ l ∷ []) text s h = absurd h
-output_whole (record_of names) (p ∷ l ∷ t ∷ []) text s h =
-    let r = R.record_of h.program h.turns.quantum h.turns.turns in subst IsWhole (sym h.ended) (status_whole false r.events r.end)
-output_whole (record_of names) (p ∷ l ∷ t ∷ u ∷ us) text s h = absurd h
-output_whole (print_of name) [] text s h = absurd h
-output_whole (print_of name) (p ∷ []) text s h = inl h.1
-output_whole (print_of name) (p ∷ l ∷ ls) text s h = absurd h
+output_whole (of_run show names) [] text s h = absurd h
+output_whole (of_run show names) (p ∷ []) text s h = absurd h
+output_whole (of_run show names) (p ∷ l ∷ []) text s h = absurd h
+output_whole (of_run show names) (p ∷ l ∷ t ∷ []) text s h = subst IsWhole (sym h.ended) (status_whole false (record_of h.meaning).lines)
+output_whole (of_run show names) (p ∷ l ∷ t ∷ u ∷ us) text s h = absurd h
+output_whole (of_program ask name) [] text s h = absurd h
+output_whole (of_program ask name) (p ∷ []) text s h = inl h.1
+output_whole (of_program ask name) (p ∷ l ∷ ls) text s h = absurd h
+output_whole (of_ring k) [] text s h = subst IsWhole (sym h.ended) (status_whole false (record_of h.meaning).lines)
+output_whole (of_ring k) (p ∷ ps) text s h = absurd h
 
 -- An input that is told, within the limit and accepted, does not stop a call.
 
-served_at : (told : Told) (r : Request) (before behind : List (Input × Text)) (i : Input) (name : Text) → AreServed told r (before ++ (i, name) ∷ behind) → IsServed told r i name
-served_at told r [] behind i name h = h.0
-served_at told r (b ∷ before) behind i name h = served_at told r before behind i name h.1
+-- it is told, within the limit and accepted behind the texts that were read before it
+pub record IsServed (told : Told) (earlier : List Text) (i : Input) (name : Text) : Type 0 where
+  pub text : Text
+  pub is : told name ≡ Some text
+  pub within : length text ≤ limit_of i
+  pub accepted : IsAccepted earlier i text
+
+served_at : (told : Told) (earlier : List Text) (before behind : List (Input × Text)) (texts : List Text) (i : Input) (name : Text) → WereAccepted told earlier before texts
+    → AreServed told earlier (before ++ (i, name) ∷ behind) → IsServed told (earlier ++ texts) i name
+served_at told earlier [] behind [] i name w h =
+    subst (λ (e : List Text). IsServed told e i name) (sym (append-nil earlier)) (record { text = h.0; is = h.1; within = h.2; accepted = h.3 })
+served_at told earlier [] behind (t ∷ ts) i name w h = absurd w
+served_at told earlier (b ∷ before) behind [] i name w h = absurd w
+served_at told earlier (b ∷ before) behind (t ∷ ts) i name w h =
+    let same : t ≡ h.0 = rw h.1 at w.0.0 in
+    let rest = subst (λ (x : Text). AreServed told (earlier ++ x ∷ []) (before ++ (i, name) ∷ behind)) (sym same) h.4 in
+    subst (λ (e : List Text). IsServed told e i name) (append_assoc earlier (t ∷ []) ts) (served_at told (earlier ++ t ∷ []) before behind ts i name w.2 rest)
+
+served_inputs : (told : Told) (r : Request) → IsServable told r → AreServed told [] (inputs r)
+served_inputs told (of_run show names) h = h
+served_inputs told (of_program ask name) h = h
+served_inputs told (of_ring k) h = tt
+
+never_stopped : (p l s : Text) (i : Input) (f : Fault) → AreAccepted p l s → StopAt p l s i f → ⊥
+never_stopped p l s I.Program f h w = w.1 h.0
+never_stopped p l s I.Placement f h w = w.2 h.1
+never_stopped p l s I.Schedule f h w = w.3 h.2
+
+never_ring : (k : Reading) (r : Request) (i : Input) (f : Fault) → IsServable k.told r → IsRingRefused k r i f → ⊥
+never_ring k r i f served h =
+    never_stopped (ring_program h.cells) ring_placement (ring_schedule h.cells) i f (subst (IsServable k.told) h.ring served) h.why
 
 never_refused : (k : Reading) (r : Request) (i : Input) (f : Fault) → IsServable k.told r → IsRefused k r i f → ⊥
 never_refused k r i f served h = by h.why
   where
-    here : IsServed k.told r i h.name
-    here = served_at k.told r h.reached.before h.reached.behind i h.name (subst (AreServed k.told r) h.reached.place served)
+    here : IsServed k.told h.reached.texts i h.name
+    here = served_at k.told [] h.reached.before h.reached.behind h.reached.texts i h.name h.reached.accepted (subst (AreServed k.told []) h.reached.place (served_inputs k.told r served))
 
-    by : Stops k i h.name (IsAccepted r i) (HasFault r i) f → ⊥
-    by (too_long e g l t) = let le : k.given ≤ length here.0 = rw here.1 at t in let short = here.2 in omega arith
-    by (faulty s w x refuses) = let same : s ≡ here.0 = rw here.1 at w.0.0 in refuses (subst (IsAccepted r i) (sym same) here.3)
+    by : Stops k i h.name (IsAccepted h.reached.texts i) (HasFault h.reached.texts i) f → ⊥
+    by (too_long e g l t) = let le : k.given ≤ length here.text = rw here.is at t in let short = here.within in omega arith
+    by (faulty s w x refuses) = let same : s ≡ here.text = rw here.is at w.0.0 in refuses (subst (IsAccepted h.reached.texts i) (sym same) here.accepted)
 
 never_said : (k : Reading) (words : Option Request) (line : Text) (status : Status) (r : Request) → words ≡ Some r → IsServable k.told r → ¬ (Rose k.faults k.failed) → Says k words line status → ⊥
 never_said k words line status r is served read (E.usage none e s) = let z : Some r ≡ None = sym is ∙ none.none in cc
@@ -118,6 +160,10 @@ never_said k words line status r is served read (E.refusal q i f at h e s) =
     let z : Some q ≡ Some r = sym at ∙ is in
     let same : q ≡ r = cc in
     never_refused k r i f served (subst (λ (x : Request). IsRefused k x i f) same h)
+never_said k words line status r is served read (E.ring_refusal q i f at h e s) =
+    let z : Some q ≡ Some r = sym at ∙ is in
+    let same : q ≡ r = cc in
+    never_ring k r i f served (subst (λ (x : Request). IsRingRefused k x i f) same h)
 never_said k words line status r is served read (E.unread q i at h e s) = read h.rose
 
 -- So words of a command, accepted inputs and no fault give the whole text, or nothing for want of memory.
@@ -127,7 +173,7 @@ completes words k out err status (E.whole q text at made w idle) r is served rea
 completes words k out err status (E.said line says w idle) r is served read wrote told = absurd (never_said k words line status r is served read says)
 completes words k out err status (E.cut q text planned at made front idle e) r is served read wrote told = absurd (wrote front.rose)
 completes words k out err status (E.line_cut line planned says front idle e) r is served read wrote told = absurd (told front.rose)
-completes words k out err status (E.no_memory q at idle quiet e) r is served read wrote told = inr e
+completes words k out err status (E.no_memory idle quiet e) r is served read wrote told = inr e
 
 -- the same of an output, and of a reason why there is none; the other sink stands as it was
 
@@ -135,7 +181,7 @@ abbrev quiet : Option Text → ℕ → Writing
 quiet held faults = record { before = held; after = held; faults = faults; failed = faults }
 
 pub text_completes : (words : Option Request) (k : Reading) (out : Writing) (held : Option Text) (faults : ℕ) (q : Request) (o : Output) (status : Status) → words ≡ Some q → Makes k q (Ok o)
-    → Writes out (text_of o) (status_of_output o) status → (r : Request) → words ≡ Some r → IsServable k.told r → ¬ (Rose k.faults k.failed) → ¬ (Rose out.faults out.failed)
+    → Delivers out (text_of o) (status_of_output o) status → (r : Request) → words ≡ Some r → IsServable k.told r → ¬ (Rose k.faults k.failed) → ¬ (Rose out.faults out.failed)
     → ¬ (Rose faults faults) → IsWhole status ⊎ (status ≡ S.Memory)
 text_completes words k out held faults q o status is makes writes r at served read wrote told =
     completes words k out (quiet held faults) status (text_ends words k out (quiet held faults) q o status is makes writes (refl, refl)) r at served read wrote told

@@ -1,12 +1,11 @@
-pub mod Carried
-pub mod ServedTrees
-pub mod ServedTerms
-pub mod ServedLaws
-pub mod ServedRows
-pub mod TurnLaws
-pub mod RecordLaws
-mod RecordRows
 pub mod ReadLaws
 pub mod EndLaws
+pub mod RowLaws
+pub mod WhyLaws
+pub mod KnownRows
+pub mod CycleLaws
+pub mod RunLaws
 pub mod OutputLaws
-pub mod PlacedRecords
+pub mod DriveLaws
+pub mod PlanLaws
+pub mod TextLaws

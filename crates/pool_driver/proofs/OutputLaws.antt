@@ -1,28 +1,25 @@
 -- What a request makes of its inputs, one after another.
-use Rattle.std.proofs.Common.{◌≡◌, ◌∙◌, ◌+◌, ℕ, List, [], ◌∷◌, Option, Some, Bool, true, IsTrue, slice_get, Result, refl, sym, ap, subst, arith}
+use Rattle.std.proofs.Common.{◌≡◌, ◌∙◌, ◌+◌, ℕ, [], ◌∷◌, Some, Bool, IsTrue, slice_get, Result, Ok, Err, false, refl, sym, ap, subst, arith}
 use Rattle.pool_syntax.specs.Tokens.{Text}
-use Rattle.pool_syntax.specs.Terms.{ProgramTree}
-use Rattle.pool_syntax.specs.TreeOf.{program_of}
-use Rattle.pool_syntax.specs.Typing.{faults}
-use Rattle.pool_syntax.specs.declared.tree.Program.{Program}
+use Rattle.pool_syntax.specs.declared.words.Placement.{Placement}
+use Rattle.object_code.specs.declared.unit.Unit.{Unit as Code}
+use Rattle.placement_reader.specs.Placements.{placement_of}
+use Rattle.schedule_reader.specs.Schedules.{schedule_of}
+use Rattle.command_words.specs.declared.command.Ask.{Ask}
+use Rattle.command_words.specs.declared.command.Show.{Show}
+use Rattle.pool_driver.specs.declared.fault.Fault.{Fault}
 use Rattle.pool_driver.specs.declared.fault.Input.{Input}
 use Rattle.pool_driver.specs.declared.fault.Input.TheVariants as I
 use Rattle.pool_driver.specs.declared.fault.Stop.{Stop}
 use Rattle.pool_driver.specs.declared.outputs.Output.{Output}
-use Rattle.pool_driver.specs.declared.program.Parsed.{Parsed}
-use Rattle.pool_driver.specs.declared.schedule.Turns.{Turns}
-use Rattle.pool_driver.specs.declared.status.Status.{Status}
-use Rattle.pool_driver.specs.Commands.{FileNames, Request, record_of, print_of}
-use Rattle.pool_driver.specs.Inputs.{inputs, MayOpen, IsAccepted, IsReadAs}
-use Rattle.pool_driver.specs.Outputs.{IsRecordOf}
-use Rattle.pool_driver.specs.RecordText.{record_text}
-use Rattle.pool_driver.specs.Records as R
-use Rattle.pool_driver.specs.Records.{lines}
-use Rattle.pool_driver.specs.Schedules.{schedule_of}
-use Rattle.pool_driver.specs.Served.{is_served}
+use Rattle.command_words.specs.Commands.{FileNames, Request, of_run, of_program, of_ring}
+use Rattle.pool_driver.specs.Inputs.{inputs, MayOpen, IsAccepted, HasFault, IsPlacementOf, IsReadAs}
 use Rattle.pool_driver.specs.Ends.{Reading, Reaches}
-use Rattle.pool_driver.specs.Readers.{IsProgramOf, Makes}
-use Rattle.pool_driver.proofs.RecordLaws.{is_run}
+use Rattle.pool_driver.specs.declared.fault.Stop.TheVariants as T
+use Rattle.pool_driver.specs.declared.outputs.Loaded.{Loaded}
+use Rattle.pool_gen.specs.Ring.{ring_placement, ring_program, ring_schedule}
+use Rattle.pool_driver.specs.Readers as D
+use Rattle.pool_driver.specs.Readers.{HasPlacementFault, HasScheduleFault, HasTypedFault, IsAcceptedPlacement, IsAcceptedSchedule, IsPlacedAs, IsScheduledAs, IsTypedProgram, IsUnitOf, Judges, Loads, Makes, Rings}
 
 -- for the same request
 pub makes_for : (k : Reading) (q r : Request) (result : Result Output Stop) → q ≡ r → Makes k q result → Makes k r result
@@ -43,22 +40,23 @@ two_opened opens one two a b = omega arith
 pub three_opened : (opens one two three : ℕ) → one ≡ opens + 1 → two ≡ one + 1 → three ≡ two + 1 → three ≡ opens + 3
 three_opened opens one two three a b c = omega arith
 
--- the inputs of a record, one after another
+-- the inputs of a run, one after another
 
-pub reaches_program : (k : Reading) (names : FileNames) → k.opened ≡ k.opens + 1 → Reaches k (record_of names) I.Program names.program
-reaches_program k names h = record { before = []; behind = (I.Placement, names.placement) ∷ (I.Schedule, names.schedule) ∷ []; texts = []; place = refl; accepted = tt; opened = h }
+abbrev pub reaches_program : (k : Reading) (show : Show) (names : FileNames) → k.opened ≡ k.opens + 1 → Reaches k (of_run show names) I.Program names.program
+reaches_program k show names h =
+    record { before = []; behind = (I.Placement, names.placement) ∷ (I.Schedule, names.schedule) ∷ []; texts = []; place = refl; accepted = tt; opened = h }
 
-pub reaches_printed : (k : Reading) (name : Text) → k.opened ≡ k.opens + 1 → Reaches k (print_of name) I.Program name
-reaches_printed k name h = record { before = []; behind = []; texts = []; place = refl; accepted = tt; opened = h }
+abbrev pub reaches_asked : (k : Reading) (ask : Ask) (name : Text) → k.opened ≡ k.opens + 1 → Reaches k (of_program ask name) I.Program name
+reaches_asked k ask name h = record { before = []; behind = []; texts = []; place = refl; accepted = tt; opened = h }
 
-pub reaches_placement : (k : Reading) (names : FileNames) (s : Text) → IsReadAs k.told I.Program names.program s → IsAccepted (record_of names) I.Program s → k.opened ≡ k.opens + 2
-    → Reaches k (record_of names) I.Placement names.placement
-reaches_placement k names s read accepted h =
+abbrev pub reaches_placement : (k : Reading) (show : Show) (names : FileNames) (s : Text) → IsReadAs k.told I.Program names.program s → IsAccepted [] I.Program s → k.opened ≡ k.opens + 2
+    → Reaches k (of_run show names) I.Placement names.placement
+reaches_placement k show names s read accepted h =
     record { before = (I.Program, names.program) ∷ []; behind = (I.Schedule, names.schedule) ∷ []; texts = s ∷ []; place = refl; accepted = (read, accepted, tt); opened = h }
 
-pub reaches_schedule : (k : Reading) (names : FileNames) (s t : Text) → IsReadAs k.told I.Program names.program s → IsAccepted (record_of names) I.Program s
-    → IsReadAs k.told I.Placement names.placement t → IsAccepted (record_of names) I.Placement t → k.opened ≡ k.opens + 3 → Reaches k (record_of names) I.Schedule names.schedule
-reaches_schedule k names s t read accepted read_second placed h = record {
+abbrev pub reaches_schedule : (k : Reading) (show : Show) (names : FileNames) (s t : Text) → IsReadAs k.told I.Program names.program s → IsAccepted [] I.Program s
+    → IsReadAs k.told I.Placement names.placement t → IsAccepted (s ∷ []) I.Placement t → k.opened ≡ k.opens + 3 → Reaches k (of_run show names) I.Schedule names.schedule
+reaches_schedule k show names s t read accepted read_second placed h = record {
   before = (I.Program, names.program) ∷ (I.Placement, names.placement) ∷ [];
   behind = [];
   texts = s ∷ t ∷ [];
@@ -67,36 +65,78 @@ reaches_schedule k names s t read accepted read_second placed h = record {
   opened = h;
 }
 
--- a program that was read, checked and is served
-pub accepts : (names : FileNames) (s : Text) (parsed : Parsed) (checked : Program) → IsProgramOf s parsed → checked ≡ parsed.program → faults (program_of checked) ≡ []
-    → is_served (program_of checked) ≡ true → IsAccepted (record_of names) I.Program s
-accepts names s parsed checked is same typed served = (
-  program_of parsed.program,
-  ((parsed.names, is.parsed), ap (λ (p : Program). faults (program_of p)) (sym same) ∙ typed, ap (λ (p : Program). is_served (program_of p)) (sym same) ∙ served),
-)
+-- a program that was read and compiled
+pub accepts : (s : Text) (u : Code) → IsUnitOf s u → IsAccepted [] I.Program s
+accepts s u is = (is.code.program, ((is.code.names, is.code.parsed), is.code.typed))
 
--- its record
-pub record_is : (s t : Text) (parsed : Parsed) (checked : Program) (names : List Text) (turns : Turns) (text : Text) (status : Status) → IsProgramOf s parsed → checked ≡ parsed.program → names ≡ parsed.names
-    → faults (program_of checked) ≡ [] → is_served (program_of checked) ≡ true → schedule_of t ≡ Some turns
-    → text ≡ record_text names (lines (R.record_of (program_of checked) turns.quantum turns.turns)) → status ≡ R.status_of (R.record_of (program_of checked) turns.quantum turns.turns)
-    → IsRecordOf s t text status
-record_is s t parsed checked names turns text status is same table typed served scheduled w e =
-    let p = program_of parsed.program in
-    let none : faults p ≡ [] = ap (λ (q : Program). faults (program_of q)) (sym same) ∙ typed in
-    let form : is_served p ≡ true = ap (λ (q : Program). is_served (program_of q)) (sym same) ∙ served in
-    let r = is_run p turns.quantum turns.turns form none is.grammatical in
-    record {
-      names = parsed.names;
-      program = p;
-      parsed = is.parsed;
-      typed = none;
-      served = form;
-      turns = turns;
-      scheduled = scheduled;
-      first = r.0;
-      starts = r.1;
-      written = w ∙ ap (λ (n : List Text). record_text n (lines (R.record_of (program_of checked) turns.quantum turns.turns))) table
-          ∙ ap (λ (q : Program). record_text parsed.names (lines (R.record_of (program_of q) turns.quantum turns.turns))) same;
-      ended = e ∙ ap (λ (q : Program). R.status_of (R.record_of (program_of q) turns.quantum turns.turns)) same;
-      run = r.2;
-    }
+-- a placement that was read for it
+module _ (s : Text) (u : Code) (is : IsUnitOf s u) where
+  pub places : (t : Text) (l : Placement) → placement_of u t ≡ Ok l → IsPlacementOf s t l
+  places t l e = record { unit = u; code = is.code; placed = e }
+
+  pub placement_fault : (t : Text) (f : Fault) → HasPlacementFault u t f → HasFault (s ∷ []) I.Placement t f
+  placement_fault t f h = subst (λ (x : Fault). HasFault (s ∷ []) I.Placement t x) (sym h.1) (u, is.code, h.2)
+
+  -- and no other is
+  placed_by : (t : Text) (l : Placement) → IsPlacementOf s t l → placement_of u t ≡ Ok l
+  placed_by t l h = subst (λ (v : Code). placement_of v t ≡ Ok l) (is.only h.unit h.code) h.placed
+
+  pub placement_accepted : (t : Text) → IsAccepted (s ∷ []) I.Placement t → IsAcceptedPlacement u t
+  placement_accepted t q = (q.0, placed_by t q.0 q.1)
+
+  module _ (t : Text) (l : Placement) (placed : placement_of u t ≡ Ok l) where
+    pub schedule_fault : (v : Text) (f : Fault) → HasScheduleFault l v f → HasFault (s ∷ t ∷ []) I.Schedule v f
+    schedule_fault v f h = subst (λ (x : Fault). HasFault (s ∷ t ∷ []) I.Schedule v x) (sym h.1) (l, places t l placed, h.2)
+
+    pub schedule_accepted : (v : Text) → IsAccepted (s ∷ t ∷ []) I.Schedule v → IsAcceptedSchedule l v
+    schedule_accepted v q =
+        let z : Ok q.0 ≡ Ok l = sym (placed_by t q.0 q.2) ∙ placed in
+        let same : q.0 ≡ l = cc in
+        (q.1, subst (λ (x : Placement). schedule_of x.width x.height v ≡ Ok q.1) same q.3)
+
+-- what comes of three texts, one after another
+
+module _ (p l s : Text) (stop : Stop) where
+  pub loads_program : Judges I.Program IsTypedProgram HasTypedFault IsUnitOf p (Err stop) → Loads p l s (Err stop)
+  loads_program (D.fits b e i) = absurd (cc)
+  loads_program (D.fails f e x n) = let same : stop ≡ T.Refused I.Program f = cc in D.stops I.Program f (ap Err same) (x, n)
+  loads_program (D.forgets e) = let same : stop ≡ T.Memory = cc in D.lacks (ap Err same)
+
+  pub loads_placement : (u : Code) → IsUnitOf p u → Judges I.Placement (IsAcceptedPlacement u) (HasPlacementFault u) (IsPlacedAs u) l (Err stop) → Loads p l s (Err stop)
+  loads_placement u is (D.fits b e i) = absurd (cc)
+  loads_placement u is (D.fails f e x n) =
+      let same : stop ≡ T.Refused I.Placement f = cc in
+      D.stops I.Placement f (ap Err same) (accepts p u is, placement_fault p u is l f x, λ q. n (placement_accepted p u is l q))
+  loads_placement u is (D.forgets e) = let same : stop ≡ T.Memory = cc in D.lacks (ap Err same)
+
+  pub loads_schedule : (u : Code) (place : Placement) → IsUnitOf p u → IsPlacedAs u l place → Judges I.Schedule (IsAcceptedSchedule place) (HasScheduleFault place) (IsScheduledAs place) s (Err stop)
+      → Loads p l s (Err stop)
+  loads_schedule u place is placed (D.fits b e i) = absurd (cc)
+  loads_schedule u place is placed (D.fails f e x n) =
+      let same : stop ≡ T.Refused I.Schedule f = cc in
+      D.stops I.Schedule f (ap Err same)
+      (accepts p u is, (place, places p u is l place placed.0), schedule_fault p u is l place placed.0 s f x, λ q. n (schedule_accepted p u is l place placed.0 s q))
+  loads_schedule u place is placed (D.forgets e) = let same : stop ≡ T.Memory = cc in D.lacks (ap Err same)
+
+-- the same of texts that equal these
+pub loads_of : (p l s p' l' s' : Text) (result : Result Loaded Stop) → p ≡ p' → l ≡ l' → s ≡ s' → Loads p l s result → Loads p' l' s' result
+loads_of p l s p' l' s' result a b c h =
+    subst (λ (x : Text). Loads x l' s' result) a (subst (λ (x : Text). Loads p x s' result) b (subst (λ (x : Text). Loads p l x result) c h))
+
+-- of a ring: what was loaded, and why nothing was
+pub was_loaded : (p l s : Text) (r : Loaded) → Loads p l s (Ok r) → IsUnitOf p r.unit × IsPlacedAs r.unit l r.placement × IsScheduledAs r.placement s r.schedule
+was_loaded p l s r (D.loads q e a b c) = let same : q ≡ r = cc in subst (λ (x : Loaded). IsUnitOf p x.unit × IsPlacedAs x.unit l x.placement × IsScheduledAs x.placement s x.schedule) same (a, b, c)
+was_loaded p l s r (D.stops i f e w) = absurd (cc)
+was_loaded p l s r (D.lacks e) = absurd (cc)
+
+pub ring_stops : (k : ℕ) (stop : Stop) → Loads (ring_program k) ring_placement (ring_schedule k) (Err stop) → Rings k (Err stop)
+ring_stops k stop (D.loads q e a b c) = absurd (cc)
+ring_stops k stop (D.stops i f e w) = let same : stop ≡ T.Refused i f = cc in D.stops i f (ap Err same) w
+ring_stops k stop (D.lacks e) = let same : stop ≡ T.Memory = cc in D.lacks (ap Err same)
+
+-- a ring opens nothing
+pub ring_makes : (k : Reading) (cells : ℕ) (result : Result Output Stop) → k.opened ≡ k.opens → k.live ≡ false → k.failed ≡ k.faults → Rings cells result → Makes k (of_ring cells) result
+ring_makes k cells result opened ended calm (D.rings o e is printable) =
+    D.made o e (record { texts = []; accepted = tt; opened = opened ∙ none_opened k.opens; given = tt; ended = ended; calm = calm; output = is }) printable
+ring_makes k cells result opened ended calm (D.stops i f e w) = D.ring_refused i f e (record { cells = cells; ring = refl; why = w; opened = opened; calm = calm })
+ring_makes k cells result opened ended calm (D.lacks e) = D.memory e

@@ -1,6 +1,5 @@
 -- What comes of reading inputs: an error is passed on, and a text that was read is judged.
-use Rattle.std.proofs.Common.{◌≡◌, ◌∙◌, ◌+◌, ◌≤◌, ◌<◌, ℕ, List, [], ◌∷◌, ◌++◌, length, Option, Some, None, IfSome, IfOk, MatchResult, Result, Ok, Err, true, ◌≢◌, refl, sym, ap, subst}
-use Rattle.pool_outside.specs.Outside.{Rose}
+use Rattle.std.proofs.Common.{◌≡◌, ◌∙◌, ℕ, List, [], Some, None, IfOk, MatchResult, IsOk, IsErr, inr, Result, Ok, Err, true, ◌≢◌, refl, sym, ap, subst}
 use Rattle.pool_syntax.specs.Tokens.{Text}
 use Rattle.pool_syntax.specs.Spelled.{IsGrammatical, is_spelled}
 use Rattle.pool_syntax.specs.Terms.{ProgramTree}
@@ -8,16 +7,28 @@ use Rattle.pool_syntax.specs.TreeOf.{program_of}
 use Rattle.pool_driver.specs.declared.fault.Input.{Input}
 use Rattle.pool_driver.specs.declared.fault.Input.TheVariants as I
 use Rattle.pool_driver.specs.declared.program.Parsed.{Parsed}
-use Rattle.pool_driver.specs.Programs.{IsFaultOfText, IsParsed}
+use Rattle.pool_driver.specs.Programs.{IsFaultOfClasses, IsFaultOfText, IsParsed}
+use Rattle.pool_syntax.specs.Typing.{faults}
+use Rattle.pool_syntax.specs.declared.words.Placement.{Placement}
+use Rattle.object_code.specs.declared.unit.Unit.{Unit as Code}
+use Rattle.object_code.specs.Proper.{IsProper}
+use Rattle.placement_reader.specs.declared.fault.PlacementFault.{PlacementFault}
+use Rattle.placement_reader.specs.declared.fault.PlacementFault.TheVariants as Place
+use Rattle.placement_reader.specs.Placements as Pl
+use Rattle.placement_reader.specs.Placements.{placement_of}
+use Rattle.schedule_reader.specs.declared.fault.ScheduleFault.{ScheduleFault}
+use Rattle.schedule_reader.specs.declared.fault.ScheduleFault.TheVariants as Timed
+use Rattle.schedule_reader.specs.Schedules as Sch
+use Rattle.schedule_reader.specs.Schedules.{schedule_of}
 use Rattle.pool_driver.specs.declared.fault.Fault.{Fault}
+use Rattle.pool_driver.specs.declared.fault.Fault.TheVariants as Why
 use Rattle.pool_driver.specs.declared.fault.Stop.{Stop}
 use Rattle.pool_driver.specs.declared.fault.Stop.TheVariants as T
-use Rattle.pool_driver.specs.declared.outputs.Output.{Output}
-use Rattle.pool_driver.specs.Commands.{Request}
-use Rattle.pool_driver.specs.Inputs.{Told, IsReadAs, IsAccepted, HasFault, limit_of}
-use Rattle.pool_driver.specs.Ends.{Reading, AllRead, WasRead, Stops, too_long, faulty, Reaches, IsRefused, IsUnread}
+use Rattle.command_words.specs.Commands.{Request}
+use Rattle.pool_driver.specs.Inputs.{Told, IsAccepted, HasFault, unit_of}
+use Rattle.pool_driver.specs.Ends.{Reading, AllRead, WasRead, Stops, too_long, faulty, Reaches}
 use Rattle.pool_driver.specs.Readers as R
-use Rattle.pool_driver.specs.Readers.{IsAnyProgram, IsProgramOf, Judges, Reads, Makes}
+use Rattle.pool_driver.specs.Readers.{HasPlacementFault, HasScheduleFault, HasTypedFault, IsAcceptedPlacement, IsAcceptedSchedule, IsAnyProgram, IsPlacedAs, IsProgramOf, IsScheduledAs, IsTypedProgram, IsUnitOf, Judges, Reads, Makes, stop_of_placement, stop_of_schedule}
 
 -- what is accepted and what is a fault, by other words
 stops_as : (k : Reading) (input : Input) (name : Text) (P Q : Text → Type 0) (F G : Text → Fault → Type 0) (f : Fault) → ((s : Text) (f : Fault) → F s f → G s f) → ((s : Text) → Q s → P s)
@@ -34,15 +45,15 @@ module _ {A : Type 0} (k : Reading) (input : Input) (name : Text) (P : Text → 
   was_read a (R.memory e) = absurd (cc)
 
   -- an input at which a request stops
-  pub stops_at : (r : Request) (stop : Stop) → ((s : Text) (f : Fault) → F s f → HasFault r input s f) → ((s : Text) → IsAccepted r input s → P s) → Reaches k r input name
+  pub stops_at : (r : Request) (stop : Stop) (reached : Reaches k r input name) → ((s : Text) (f : Fault) → F s f → HasFault reached.texts input s f) → ((s : Text) → IsAccepted reached.texts input s → P s)
       → Reads k input name P F Is (Err stop) → Makes k r (Err stop)
-  stops_at r stop fault accept reached (R.read s a e w i c) = absurd (cc)
-  stops_at r stop fault accept reached (R.refused f e w c) =
+  stops_at r stop reached fault accept (R.read s a e w i c) = absurd (cc)
+  stops_at r stop reached fault accept (R.refused f e w c) =
       let same : stop ≡ T.Refused input f = cc in
-      R.refused input f (ap Err same) (record { name = name; reached = reached; why = stops_as k input name P (IsAccepted r input) F (HasFault r input) f fault accept w; calm = c })
-  stops_at r stop fault accept reached (R.unread e rose w) =
+      R.refused input f (ap Err same) (record { name = name; reached = reached; why = stops_as k input name P (IsAccepted reached.texts input) F (HasFault reached.texts input) f fault accept w; calm = c })
+  stops_at r stop reached fault accept (R.unread e rose w) =
       let same : stop ≡ T.Unread input = cc in R.unread input (ap Err same) (record { name = name; reached = reached; rose = rose; within = w })
-  stops_at r stop fault accept reached (R.memory e) = let same : stop ≡ T.Memory = cc in R.memory (ap Err same)
+  stops_at r stop reached fault accept (R.memory e) = let same : stop ≡ T.Memory = cc in R.memory (ap Err same)
 
 module _ {A B : Type 0} (k : Reading) (input : Input) (name : Text) (P Q : Text → Type 0) (F G : Text → Fault → Type 0) (Is : Text → A → Type 0) where
   -- an error is passed on
@@ -72,6 +83,18 @@ judges_refusal input Q G To s (T.Refused i f) refuse unread accept =
 judges_refusal input Q G To s (T.Unread i) refuse unread accept = absurd (unread i refl)
 judges_refusal input Q G To s T.Memory refuse unread accept = R.forgets refl
 
+-- what a judge says of what fits, and an error of it that is passed on
+pub fits_is : {A : Type 0} (input : Input) (P : Text → Type 0) (F : Text → Fault → Type 0) (Is : Text → A → Type 0) (s : Text) (a : A) → Judges input P F Is s (Ok a) → Is s a
+fits_is input P F Is s a (R.fits b e i) = let same : b ≡ a = cc in subst (Is s) same i
+fits_is input P F Is s a (R.fails f e x n) = absurd (cc)
+fits_is input P F Is s a (R.forgets e) = absurd (cc)
+
+pub judge_passed : {A B : Type 0} (input : Input) (P Q : Text → Type 0) (F G : Text → Fault → Type 0) (Is : Text → A → Type 0) (To : Text → B → Type 0) (s : Text) (stop : Stop)
+    → ((f : Fault) → F s f → G s f) → (Q s → P s) → Judges input P F Is s (Err stop) → Judges input Q G To s (Err stop)
+judge_passed input P Q F G Is To s stop fault accept (R.fits b e i) = absurd (cc)
+judge_passed input P Q F G Is To s stop fault accept (R.fails f e x n) = let same : stop ≡ T.Refused input f = cc in R.fails f (ap Err same) (fault f x) (λ q. n (accept q))
+judge_passed input P Q F G Is To s stop fault accept (R.forgets e) = let same : stop ≡ T.Memory = cc in R.forgets (ap Err same)
+
 -- what the reader of a program says of a text
 pub program_judged : (bytes : Text) (result : Result Parsed Stop) → IfOk result (λ p. IsParsed bytes p.names (program_of p.program)) → IfOk result (λ p. IsGrammatical (program_of p.program))
     → IfOk result (λ p. is_spelled p.names (program_of p.program) ≡ true) → ((i : Input) (f : Fault) → result ≡ Err (T.Refused i f) → (i ≡ I.Program) × IsFaultOfText bytes f)
@@ -79,9 +102,54 @@ pub program_judged : (bytes : Text) (result : Result Parsed Stop) → IfOk resul
     → ((names : List Text) (p : ProgramTree) → IsParsed bytes names p → MatchResult result (λ q. (q.names ≡ names) × (program_of q.program ≡ p)) (λ r. r ≡ T.Memory))
     → Judges I.Program IsAnyProgram IsFaultOfText IsProgramOf bytes result
 program_judged bytes (Ok p) parsed grammatical spelled refused unread only =
-    R.fits p refl (record { parsed = parsed; grammatical = grammatical; spelled = spelled; only = λ names q h. (only names q h).1 })
+    R.fits p refl (record { parsed = parsed; grammatical = grammatical; spelled = spelled; only = only })
 program_judged bytes (Err stop) parsed grammatical spelled refused unread only =
     judges_refusal I.Program IsAnyProgram IsFaultOfText IsProgramOf bytes stop (λ i f e. refused i f (ap Err e)) (λ i e. unread i (ap Err e)) (λ q. only q.1.0 q.0 q.1.1)
+
+-- what the compiler says of a program that was read
+pub unit_judged : (s : Text) (read : Parsed) (result : Result Code Stop) → IsProgramOf s read → IfOk result (λ u. u ≡ unit_of read.names (program_of read.program)) → IfOk result (λ u. IsProper u)
+    → (IsOk result → faults (program_of read.program) ≡ []) → (faults (program_of read.program) ≡ [] → IsErr result → result ≡ Err T.Memory)
+    → ((i : Input) (f : Fault) → result ≡ Err (T.Refused i f) → (i ≡ I.Program) × IsFaultOfClasses (program_of read.program) f) → ((i : Input) → result ≢ Err (T.Unread i))
+    → Judges I.Program IsTypedProgram HasTypedFault IsUnitOf s result
+unit_judged s read (Ok u) is code proper typed only refused unread = R.fits u refl (record {
+  code = record { names = read.names; program = program_of read.program; parsed = is.parsed; typed = typed refl; coded = code };
+  proper = proper;
+  only = λ v h. let same = is.only h.names h.program h.parsed in h.coded ∙ sym (code ∙ ap (λ (n : List Text). unit_of n (program_of read.program)) same.0 ∙ ap (unit_of h.names) same.1);
+})
+unit_judged s read (Err stop) is code proper typed only refused unread =
+    judges_refusal I.Program IsTypedProgram HasTypedFault IsUnitOf s stop
+    (λ i f e. let why = refused i f (ap Err e) in (why.0, inr (program_of read.program, (read.names, is.parsed), why.1)))
+    (λ i e. unread i (ap Err e))
+    (λ q. let z = only (ap faults (is.only q.1.0.0 q.0 q.1.0.1).1 ∙ q.1.1) refl in let same : stop ≡ T.Memory = cc in same)
+
+-- what the readers of a placement and of a schedule say of a text
+
+placement_fails : (u : Code) (s : Text) (f : PlacementFault) (stop : Stop) → stop ≡ T.Refused I.Placement (Why.Placement f) → Pl.fault_in (placement_of u s) ≡ Some f
+    → Judges I.Placement (IsAcceptedPlacement u) (HasPlacementFault u) (IsPlacedAs u) s (Err stop)
+placement_fails u s f stop e told = R.fails (Why.Placement f) (ap Err e) (f, refl, told) (λ q. let z : None ≡ Some f = sym (ap Pl.fault_in q.1) ∙ told in cc)
+
+pub placement_refused : (u : Code) (s : Text) (f : PlacementFault) (stop : Stop) → stop ≡ stop_of_placement f → Pl.IsTold f (Pl.fault_in (placement_of u s))
+    → Judges I.Placement (IsAcceptedPlacement u) (HasPlacementFault u) (IsPlacedAs u) s (Err stop)
+placement_refused u s (Place.BadLine line) stop e told = placement_fails u s (Place.BadLine line) stop e told
+placement_refused u s (Place.UnknownClass line) stop e told = placement_fails u s (Place.UnknownClass line) stop e told
+placement_refused u s (Place.Repeated line) stop e told = placement_fails u s (Place.Repeated line) stop e told
+placement_refused u s (Place.NoSuchNode line) stop e told = placement_fails u s (Place.NoSuchNode line) stop e told
+placement_refused u s (Place.OutOfRange line) stop e told = placement_fails u s (Place.OutOfRange line) stop e told
+placement_refused u s (Place.TooLarge words) stop e told = placement_fails u s (Place.TooLarge words) stop e told
+placement_refused u s Place.Memory stop e told = R.forgets (ap Err e)
+
+schedule_fails : (l : Placement) (s : Text) (f : ScheduleFault) (stop : Stop) → stop ≡ T.Refused I.Schedule (Why.Schedule f) → Sch.fault_in (schedule_of l.width l.height s) ≡ Some f
+    → Judges I.Schedule (IsAcceptedSchedule l) (HasScheduleFault l) (IsScheduledAs l) s (Err stop)
+schedule_fails l s f stop e told = R.fails (Why.Schedule f) (ap Err e) (f, refl, told) (λ q. let z : None ≡ Some f = sym (ap Sch.fault_in q.1) ∙ told in cc)
+
+pub schedule_refused : (l : Placement) (s : Text) (f : ScheduleFault) (stop : Stop) → stop ≡ stop_of_schedule f → Sch.IsTold f (Sch.fault_in (schedule_of l.width l.height s))
+    → Judges I.Schedule (IsAcceptedSchedule l) (HasScheduleFault l) (IsScheduledAs l) s (Err stop)
+schedule_refused l s (Timed.BadLine line) stop e told = schedule_fails l s (Timed.BadLine line) stop e told
+schedule_refused l s (Timed.NoSuchNode line) stop e told = schedule_fails l s (Timed.NoSuchNode line) stop e told
+schedule_refused l s (Timed.NoSuchLink line) stop e told = schedule_fails l s (Timed.NoSuchLink line) stop e told
+schedule_refused l s (Timed.OutOfRange line) stop e told = schedule_fails l s (Timed.OutOfRange line) stop e told
+schedule_refused l s (Timed.TooManyEvents count) stop e told = schedule_fails l s (Timed.TooManyEvents count) stop e told
+schedule_refused l s Timed.Memory stop e told = R.forgets (ap Err e)
 
 -- the same reading, counted from an earlier moment
 pub since : {A : Type 0} (k : Reading) (told : Told) (opens faults : ℕ) (input : Input) (name : Text) (P : Text → Type 0) (F : Text → Fault → Type 0) (Is : Text → A → Type 0) (result : Result A Stop)

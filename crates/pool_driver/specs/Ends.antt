@@ -7,9 +7,10 @@ use Rattle.pool_driver.specs.declared.status.Status.TheVariants as S
 use Rattle.pool_driver.specs.declared.fault.Input.{Input}
 use Rattle.pool_driver.specs.declared.fault.Fault.{Fault}
 use Rattle.pool_driver.specs.declared.fault.Fault.TheVariants as F
-use Rattle.pool_driver.specs.Commands.{Request}
+use Rattle.command_words.specs.Commands.{Request, of_ring}
+use Rattle.pool_gen.specs.Ring.{ring_placement, ring_program, ring_schedule}
 use Rattle.pool_driver.specs.FaultText.{refusal_line, unread_line, usage_line}
-use Rattle.pool_driver.specs.Inputs.{Told, inputs, limit_of, IsReadAs, IsAccepted, HasFault, WereAccepted}
+use Rattle.pool_driver.specs.Inputs.{Told, inputs, limit_of, IsReadAs, IsAccepted, HasFault, StopAt, WereAccepted}
 use Rattle.pool_driver.specs.Outputs.{IsOutput}
 
 -- the exit status of each
@@ -65,14 +66,14 @@ pub record Reaches (k : Reading) (r : Request) (input : Input) (name : Text) : T
   pub behind : List (Input × Text)
   pub texts : List Text
   pub place : inputs r ≡ before ++ (input, name) ∷ behind
-  pub accepted : WereAccepted k.told r before texts
+  pub accepted : WereAccepted k.told [] before texts
   pub opened : k.opened ≡ k.opens + (length before + 1)
 
 -- the first input that is not accepted has this fault, and no read failed
 pub record IsRefused (k : Reading) (r : Request) (input : Input) (fault : Fault) : Type 0 where
   pub name : Text
   pub reached : Reaches k r input name
-  pub why : Stops k input name (IsAccepted r input) (HasFault r input) fault
+  pub why : Stops k input name (IsAccepted reached.texts input) (HasFault reached.texts input) fault
   pub calm : AllRead k
 
 -- a read of this input failed, and no more than its limit was given
@@ -88,12 +89,17 @@ last_length [] = 0
 last_length (s ∷ []) = length s
 last_length (s ∷ t ∷ ts) = last_length (t ∷ ts)
 
+-- the number of bytes given since the last open, where there was one
+abbrev pub HasGiven : List Text → ℕ → Type 0
+HasGiven [] given = Unit {0}
+HasGiven (s ∷ ss) given = last_length (s ∷ ss) ≡ given
+
 -- All inputs of the request were opened, each once and in their order, and read to their ends; no read failed, each is accepted, and this is what is asked for.
 pub record IsMade (k : Reading) (r : Request) (text : Text) (status : Status) : Type 0 where
   pub texts : List Text
-  pub accepted : WereAccepted k.told r (inputs r) texts
+  pub accepted : WereAccepted k.told [] (inputs r) texts
   pub opened : k.opened ≡ k.opens + length (inputs r)
-  pub given : last_length texts ≡ k.given
+  pub given : HasGiven texts k.given
   pub ended : k.live ≡ false
   pub calm : AllRead k
   pub output : IsOutput r texts text status
@@ -104,10 +110,19 @@ pub record IsNoCommand (k : Reading) (words : Option Request) : Type 0 where
   pub opened : k.opened ≡ k.opens
   pub calm : AllRead k
 
+-- nothing was opened, and this is the first of a ring's texts that is not accepted, with its fault
+pub record IsRingRefused (k : Reading) (r : Request) (input : Input) (fault : Fault) : Type 0 where
+  pub cells : ℕ
+  pub ring : r ≡ of_ring cells
+  pub why : StopAt (ring_program cells) ring_placement (ring_schedule cells) input fault
+  pub opened : k.opened ≡ k.opens
+  pub calm : AllRead k
+
 -- A line for the error sink, and the status with which it is written.
 pub data Says (k : Reading) (words : Option Request) (line : Text) (status : Status) : Type 0 where
   usage : IsNoCommand k words → line ≡ usage_line → status ≡ S.Usage → Says k words line status
   refusal : (r : Request) (input : Input) (fault : Fault) → words ≡ Some r → IsRefused k r input fault → line ≡ refusal_line input fault → status ≡ S.Refused → Says k words line status
+  ring_refusal : (r : Request) (input : Input) (fault : Fault) → words ≡ Some r → IsRingRefused k r input fault → line ≡ refusal_line input fault → status ≡ S.Refused → Says k words line status
   unread : (r : Request) (input : Input) → words ≡ Some r → IsUnread k r input → line ≡ unread_line input → status ≡ S.ReadFault → Says k words line status
 
 -- nothing was written, and no write failed
@@ -126,10 +141,10 @@ pub record WroteFront (k : Writing) (s : Text) : Type 0 where
   pub rose : Rose k.faults k.failed
 
 -- How a call ends. What is asked for was written whole on the output; or a line on the error sink, and nothing on the output; or one of the two was cut off by a
--- failed write; or memory ran out before anything was written.
+-- failed write; or memory ran out before anything was written, of words of a command and of others alike, since reading the words takes memory too.
 pub data Ends (words : Option Request) (files : Reading) (out err : Writing) (status : Status) : Type 0 where
   whole : (r : Request) (text : Text) → words ≡ Some r → IsMade files r text status → Wrote out text → IsIdle err → Ends words files out err status
   said : (line : Text) → Says files words line status → Wrote err line → IsIdle out → Ends words files out err status
   cut : (r : Request) (text : Text) (planned : Status) → words ≡ Some r → IsMade files r text planned → WroteFront out text → IsIdle err → status ≡ S.WriteFault → Ends words files out err status
   line_cut : (line : Text) (planned : Status) → Says files words line planned → WroteFront err line → IsIdle out → status ≡ S.WriteFault → Ends words files out err status
-  no_memory : (r : Request) → words ≡ Some r → IsIdle out → IsIdle err → status ≡ S.Memory → Ends words files out err status
+  no_memory : IsIdle out → IsIdle err → status ≡ S.Memory → Ends words files out err status

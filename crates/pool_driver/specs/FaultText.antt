@@ -7,12 +7,17 @@ use Rattle.pool_parser.specs.declared.fault.SyntaxFault.{SyntaxFault}
 use Rattle.pool_parser.specs.declared.fault.SyntaxFault.TheVariants as Syntax
 use Rattle.class_check.specs.declared.fault.ClassFault.{ClassFault}
 use Rattle.class_check.specs.declared.fault.ClassFault.TheVariants as Class
+use Rattle.placement_reader.specs.declared.fault.PlacementFault.{PlacementFault}
+use Rattle.placement_reader.specs.declared.fault.PlacementFault.TheVariants as Place
+use Rattle.schedule_reader.specs.declared.fault.ScheduleFault.{ScheduleFault}
+use Rattle.schedule_reader.specs.declared.fault.ScheduleFault.TheVariants as Plan
 use Rattle.pool_driver.specs.declared.fault.Input.{Input}
 use Rattle.pool_driver.specs.declared.fault.Input.TheVariants as I
 use Rattle.pool_driver.specs.declared.fault.Fault.{Fault}
 use Rattle.pool_driver.specs.declared.fault.Fault.TheVariants as F
 
--- a fault of the lexer stands at a byte, those of the parser and the checker at a token; want of memory is no fault of an input
+-- A fault of the lexer stands at a byte, those of the parser and the checker at a token, and those of a placement and a schedule at a line, or they tell a number
+-- that is too large; want of memory is no fault of an input.
 
 abbrev pub lex_fault_text : LexFault → Text
 lex_fault_text (Lex.BadByte at) = codes "BadByte at byte " ++ decimal at
@@ -41,12 +46,30 @@ class_fault_text (Class.AnswerName token) = codes "AnswerName at token " ++ deci
 class_fault_text (Class.Limit token) = codes "Limit at token " ++ decimal token
 class_fault_text Class.Memory = []
 
+abbrev pub placement_fault_text : PlacementFault → Text
+placement_fault_text (Place.BadLine line) = codes "BadLine at line " ++ decimal line
+placement_fault_text (Place.UnknownClass line) = codes "UnknownClass at line " ++ decimal line
+placement_fault_text (Place.Repeated line) = codes "Repeated at line " ++ decimal line
+placement_fault_text (Place.NoSuchNode line) = codes "NoSuchNode at line " ++ decimal line
+placement_fault_text (Place.OutOfRange line) = codes "OutOfRange at line " ++ decimal line
+placement_fault_text (Place.TooLarge words) = codes "TooLarge " ++ decimal words
+placement_fault_text Place.Memory = []
+
+abbrev pub schedule_fault_text : ScheduleFault → Text
+schedule_fault_text (Plan.BadLine line) = codes "BadLine at line " ++ decimal line
+schedule_fault_text (Plan.NoSuchNode line) = codes "NoSuchNode at line " ++ decimal line
+schedule_fault_text (Plan.NoSuchLink line) = codes "NoSuchLink at line " ++ decimal line
+schedule_fault_text (Plan.OutOfRange line) = codes "OutOfRange at line " ++ decimal line
+schedule_fault_text (Plan.TooManyEvents count) = codes "TooManyEvents " ++ decimal count
+schedule_fault_text Plan.Memory = []
+
 abbrev pub fault_text : Fault → Text
 fault_text F.TooLong = codes "TooLong"
-fault_text F.NotYet = codes "NotYet"
 fault_text (F.Lex f) = lex_fault_text f
 fault_text (F.Syntax f) = syntax_fault_text f
 fault_text (F.Class f) = class_fault_text f
+fault_text (F.Placement f) = placement_fault_text f
+fault_text (F.Schedule f) = schedule_fault_text f
 
 abbrev pub input_text : Input → Text
 input_text I.Program = codes "pool: program: "

@@ -1,21 +1,28 @@
 -- The inputs of a request: their order, names and limits, what is read of them, and when the text of one is accepted or has a fault.
-use Rattle.std.specs.Prelude.{◌≡◌, ℕ, ◌+◌, ◌≤◌, List, [], ◌∷◌, length, slice_get, Option, Some, None, Bool, true, false, IsTrue, IfSome, ◌⊎◌}
+use Rattle.std.specs.Prelude.{◌≡◌, ℕ, ◌+◌, ◌≤◌, List, [], ◌∷◌, ◌++◌, length, slice_get, Option, Some, Ok, Bool, IsTrue, IfSome, ◌⊎◌}
 use Rattle.pool_syntax.specs.Tokens.{Text}
 use Rattle.pool_syntax.specs.Terms.{ProgramTree}
+use Rattle.pool_syntax.specs.Typing.{faults}
+use Rattle.pool_syntax.specs.declared.words.Placement.{Placement}
+use Rattle.object_code.specs.declared.unit.Unit.{Unit as Code}
+use Rattle.pool_compile.specs.Code.{code}
+use Rattle.placement_reader.specs.Placements as P
+use Rattle.placement_reader.specs.Placements.{placement_of}
+use Rattle.schedule_reader.specs.Schedules as S
+use Rattle.schedule_reader.specs.Schedules.{Plan, schedule_of}
+use Rattle.pool_gen.specs.Ring.{ring_placement, ring_program, ring_schedule}
 use Rattle.pool_driver.specs.declared.fault.Input.{Input}
 use Rattle.pool_driver.specs.declared.fault.Input.TheVariants as I
 use Rattle.pool_driver.specs.declared.fault.Fault.{Fault}
 use Rattle.pool_driver.specs.declared.fault.Fault.TheVariants as F
-use Rattle.pool_driver.specs.declared.schedule.Turns.{Turns}
-use Rattle.pool_driver.specs.Commands.{Request, record_of, print_of}
-use Rattle.pool_driver.specs.Programs.{IsTextOf, IsTypedText, IsProgramText, IsFaultOfText, IsFaultOfClasses, IsFaultOfProgram}
-use Rattle.pool_driver.specs.Placements.{is_one_node}
-use Rattle.pool_driver.specs.Schedules.{schedule_of}
+use Rattle.command_words.specs.Commands.{Request, of_run, of_program, of_ring}
+use Rattle.pool_driver.specs.Programs.{IsParsed, IsTextOf, IsTypedText, IsFaultOfText, IsFaultOfClasses}
 
 -- the inputs of a request with their names, in the order in which they are read
 abbrev pub inputs : Request → List (Input × Text)
-inputs (record_of names) = (I.Program, names.program) ∷ (I.Placement, names.placement) ∷ (I.Schedule, names.schedule) ∷ []
-inputs (print_of name) = (I.Program, name) ∷ []
+inputs (of_run show names) = (I.Program, names.program) ∷ (I.Placement, names.placement) ∷ (I.Schedule, names.schedule) ∷ []
+inputs (of_program ask name) = (I.Program, name) ∷ []
+inputs (of_ring k) = []
 
 -- the most bytes of an input
 abbrev pub most_bytes : ℕ
@@ -40,38 +47,66 @@ Told = Text → Option Text
 abbrev pub IsReadAs : Told → Input → Text → Text → Type 0
 IsReadAs told input name s = IfSome (told name) (λ t. s ≡ t) × (length s ≤ limit_of input)
 
--- The text is accepted as this input. A program has no class fault, and for a record it is of the form that is run.
-abbrev pub IsAccepted : Request → Input → Text → Type 0
-IsAccepted (record_of names) I.Program s = (p : ProgramTree) × IsProgramText s p
-IsAccepted (print_of name) I.Program s = (p : ProgramTree) × IsTypedText s p
-IsAccepted r I.Placement s = is_one_node s ≡ true
-IsAccepted r I.Schedule s = (turns : Turns) × (schedule_of s ≡ Some turns)
+-- the code of a program, with the table of its names
+abbrev pub unit_of : List Text → ProgramTree → Code
+unit_of names p = record { names = names; classes = code p }
 
--- the fault of a program for this request
-abbrev pub IsFaultFor : Request → ProgramTree → Fault → Type 0
-IsFaultFor (record_of names) p f = IsFaultOfProgram p f
-IsFaultFor (print_of name) p f = IsFaultOfClasses p f
+-- a text that is a program without class faults, with its code
+pub record IsCodeOf (source : Text) (u : Code) : Type 0 where
+  pub names : List Text
+  pub program : ProgramTree
+  pub parsed : IsParsed source names program
+  pub typed : faults program ≡ []
+  pub coded : u ≡ unit_of names program
 
--- The text has this fault as this input: a program its first. A placement or a schedule has none but that it is not served yet.
-abbrev pub HasFault : Request → Input → Text → Fault → Type 0
-HasFault r I.Program s f = IsFaultOfText s f ⊎ ((p : ProgramTree) × IsTextOf s p × IsFaultFor r p f)
-HasFault r I.Placement s f = (f ≡ F.NotYet) × (is_one_node s ≡ false)
-HasFault r I.Schedule s f = (f ≡ F.NotYet) × (schedule_of s ≡ None)
+-- a text that is a placement for the program of another text
+pub record IsPlacementOf (source s : Text) (l : Placement) : Type 0 where
+  pub unit : Code
+  pub code : IsCodeOf source unit
+  pub placed : placement_of unit s ≡ Ok l
 
--- these texts were read under the names of these inputs, and each is accepted
-abbrev pub WereAccepted : Told → Request → List (Input × Text) → List Text → Type 0
-WereAccepted told r [] [] = Unit {0}
-WereAccepted told r (i ∷ is) (s ∷ ss) = IsReadAs told i.0 i.1 s × IsAccepted r i.0 s × WereAccepted told r is ss
-WereAccepted told r _ _ = ⊥
+-- The text is accepted as this input, behind these: a program that has no class fault; a placement for the classes of the program; a schedule for the mesh of the placement.
+abbrev pub IsAccepted : List Text → Input → Text → Type 0
+IsAccepted [] I.Program s = (p : ProgramTree) × IsTypedText s p
+IsAccepted (source ∷ []) I.Placement s = (l : Placement) × IsPlacementOf source s l
+IsAccepted (source ∷ place ∷ []) I.Schedule s = (l : Placement) × (plan : Plan) × IsPlacementOf source place l × (schedule_of l.width l.height s ≡ Ok plan)
+IsAccepted _ _ s = ⊥
 
--- under the name of the input a text is told, which is within the limit and accepted
-abbrev pub IsServed : Told → Request → Input → Text → Type 0
-IsServed told r input name = (s : Text) × (told name ≡ Some s) × (length s ≤ limit_of input) × IsAccepted r input s
+-- The text has this fault as this input, behind these: a program its first of tokens, grammar and classes; a placement or a schedule that of its first faulty line.
+abbrev pub HasFault : List Text → Input → Text → Fault → Type 0
+HasFault [] I.Program s f = IsFaultOfText s f ⊎ ((p : ProgramTree) × IsTextOf s p × IsFaultOfClasses p f)
+HasFault (source ∷ []) I.Placement s (F.Placement f) = (u : Code) × IsCodeOf source u × (P.fault_in (placement_of u s) ≡ Some f)
+HasFault (source ∷ place ∷ []) I.Schedule s (F.Schedule f) = (l : Placement) × IsPlacementOf source place l × (S.fault_in (schedule_of l.width l.height s) ≡ Some f)
+HasFault _ _ s f = ⊥
 
-abbrev pub AreServed : Told → Request → List (Input × Text) → Type 0
-AreServed told r [] = Unit {0}
-AreServed told r (i ∷ is) = IsServed told r i.0 i.1 × AreServed told r is
+-- these texts were read under the names of these inputs, behind others, and each is accepted
+abbrev pub WereAccepted : Told → List Text → List (Input × Text) → List Text → Type 0
+WereAccepted told earlier [] [] = Unit {0}
+WereAccepted told earlier (i ∷ is) (s ∷ ss) = IsReadAs told i.0 i.1 s × IsAccepted earlier i.0 s × WereAccepted told (earlier ++ s ∷ []) is ss
+WereAccepted told earlier _ _ = ⊥
 
--- and so for each input of the request
+-- under the name of each input a text is told, which is within the limit and accepted behind those before it
+abbrev pub AreServed : Told → List Text → List (Input × Text) → Type 0
+AreServed told earlier [] = Unit {0}
+AreServed told earlier (i ∷ is) =
+    (s : Text) × (told i.1 ≡ Some s) × (length s ≤ limit_of i.0) × IsAccepted earlier i.0 s × AreServed told (earlier ++ s ∷ []) is
+
+-- these three texts are accepted, each behind those before it
+abbrev pub AreAccepted : Text → Text → Text → Type 0
+AreAccepted program placement schedule =
+    IsAccepted [] I.Program program × IsAccepted (program ∷ []) I.Placement placement × IsAccepted (program ∷ placement ∷ []) I.Schedule schedule
+
+-- of these three texts this is the first that is not accepted, and it has this fault
+abbrev pub StopAt : Text → Text → Text → Input → Fault → Type 0
+StopAt program placement schedule I.Program f = HasFault [] I.Program program f × (IsAccepted [] I.Program program → ⊥)
+StopAt program placement schedule I.Placement f =
+    IsAccepted [] I.Program program × HasFault (program ∷ []) I.Placement placement f × (IsAccepted (program ∷ []) I.Placement placement → ⊥)
+StopAt program placement schedule I.Schedule f =
+    IsAccepted [] I.Program program × IsAccepted (program ∷ []) I.Placement placement × HasFault (program ∷ placement ∷ []) I.Schedule schedule f
+    × (IsAccepted (program ∷ placement ∷ []) I.Schedule schedule → ⊥)
+
+-- the inputs of a request are served so; of a ring, which has none, the texts are accepted
 abbrev pub IsServable : Told → Request → Type 0
-IsServable told r = AreServed told r (inputs r)
+IsServable told (of_run show names) = AreServed told [] (inputs (of_run show names))
+IsServable told (of_program ask name) = AreServed told [] (inputs (of_program ask name))
+IsServable told (of_ring k) = AreAccepted (ring_program k) ring_placement (ring_schedule k)

@@ -1,49 +1,63 @@
 -- What a request makes of the texts of its inputs: a text, and the status with which it is written.
-use Rattle.std.specs.Prelude.{◌≡◌, List, [], ◌∷◌, true, Some, ◌⊎◌}
+use Rattle.std.specs.Prelude.{◌≡◌, ℕ, List, [], ◌∷◌, ◌++◌, ◌⊎◌}
 use Rattle.pool_syntax.specs.Tokens.{Text}
 use Rattle.pool_syntax.specs.Terms.{ProgramTree}
 use Rattle.pool_syntax.specs.Typing.{faults}
-use Rattle.pool_relation.specs.Configuration.{Configuration}
-use Rattle.pool_relation.specs.Transition.{start}
+use Rattle.object_code.specs.Listing.{listing}
 use Rattle.pool_printer.specs.Canonical.{canonical}
+use Rattle.run_record.specs.RecordText.{record_text}
 use Rattle.pool_driver.specs.declared.status.Status.{Status}
 use Rattle.pool_driver.specs.declared.status.Status.TheVariants as S
-use Rattle.pool_driver.specs.declared.schedule.Turns.{Turns}
-use Rattle.pool_driver.specs.Commands.{Request, record_of, print_of}
+use Rattle.command_words.specs.declared.command.Show.{Show}
+use Rattle.command_words.specs.declared.command.Show.TheVariants as Sh
+use Rattle.command_words.specs.declared.command.Ask.{Ask}
+use Rattle.command_words.specs.declared.command.Ask.TheVariants as As
+use Rattle.command_words.specs.Commands.{Request, of_run, of_program, of_ring}
+use Rattle.pool_driver.specs.Inputs.{unit_of}
 use Rattle.pool_driver.specs.Programs.{IsParsed}
-use Rattle.pool_driver.specs.Served.{is_served}
-use Rattle.pool_driver.specs.Schedules.{schedule_of}
-use Rattle.pool_driver.specs.Records as R
-use Rattle.pool_driver.specs.Records.{lines, status_of, IsRunFrom}
-use Rattle.pool_driver.specs.RecordText.{record_text}
+use Rattle.pool_driver.specs.Reports.{rows_of}
+use Rattle.pool_driver.specs.Runs.{Meaning, ShowsRun, ends_text, record_of, ring_text, status_of, writes_text}
+use Rattle.pool_gen.specs.Ring.{ring_placement, ring_program, ring_schedule}
+use Rattle.wait_report.specs.Report.{report_text}
 
--- The record of a program over a schedule: the text of its lines and its status; and its lines show one run of the transition relation from the start.
-pub record IsRecordOf (source schedule : Text) (text : Text) (status : Status) : Type 0 where
+-- what is shown of the run of the three texts
+abbrev pub shown_text : {source place plan : Text} → Show → Meaning source place plan → Text
+shown_text Sh.Record m = record_text m.names (record_of m).lines
+shown_text Sh.Writes m = writes_text m.names (record_of m).lines
+shown_text Sh.Report m = report_text m.names (rows_of m.program (record_of m).last (record_of m).delay) ++ ends_text m.names (record_of m).lines
+
+-- The three texts have a meaning, and this is what is shown of their run, with the status of its record; and the record's lines show one run of the transition relation.
+pub record IsRunOf (show : Show) (source place plan : Text) (text : Text) (status : Status) : Type 0 where
+  pub meaning : Meaning source place plan
+  pub written : text ≡ shown_text show meaning
+  pub ended : status ≡ status_of (record_of meaning).lines
+  pub run : ShowsRun meaning
+
+-- what is asked of a program
+abbrev pub asked_text : Ask → List Text → ProgramTree → Text
+asked_text As.Canonical names p = canonical names p
+asked_text As.Listing names p = listing (unit_of names p)
+
+-- the canonical text or the code of a program, which has no class faults
+pub record IsTextFor (ask : Ask) (source : Text) (text : Text) : Type 0 where
   pub names : List Text
   pub program : ProgramTree
   pub parsed : IsParsed source names program
   pub typed : faults program ≡ []
-  pub served : is_served program ≡ true
-  pub turns : Turns
-  pub scheduled : schedule_of schedule ≡ Some turns
-  pub first : Configuration
-  pub starts : start program 0 ≡ Some first
-  pub written : text ≡ record_text names (lines (R.record_of program turns.quantum turns.turns))
-  pub ended : status ≡ status_of (R.record_of program turns.quantum turns.turns)
-  pub run : IsRunFrom program first (R.record_of program turns.quantum turns.turns)
+  pub written : text ≡ asked_text ask names program
 
--- the canonical text of a program, which has no class faults
-pub record IsPrintOf (source : Text) (text : Text) : Type 0 where
-  pub names : List Text
-  pub program : ProgramTree
-  pub parsed : IsParsed source names program
-  pub typed : faults program ≡ []
-  pub printed : text ≡ canonical names program
+-- the texts of a ring have a meaning, and these are the counts of their run and its end line
+pub record IsRingOf (k : ℕ) (text : Text) (status : Status) : Type 0 where
+  pub meaning : Meaning (ring_program k) ring_placement (ring_schedule k)
+  pub written : text ≡ ring_text meaning.names (record_of meaning).lines
+  pub ended : status ≡ status_of (record_of meaning).lines
+  pub run : ShowsRun meaning
 
 -- what is made of the texts of the inputs, in their order
 abbrev pub IsOutput : Request → List Text → Text → Status → Type 0
-IsOutput (record_of names) (program ∷ placement ∷ schedule ∷ []) text status = IsRecordOf program schedule text status
-IsOutput (print_of name) (program ∷ []) text status = IsPrintOf program text × (status ≡ S.Done)
+IsOutput (of_run show names) (program ∷ placement ∷ schedule ∷ []) text status = IsRunOf show program placement schedule text status
+IsOutput (of_program ask name) (program ∷ []) text status = IsTextFor ask program text × (status ≡ S.Done)
+IsOutput (of_ring k) [] text status = IsRingOf k text status
 IsOutput r _ text status = ⊥
 
 -- the status says that a text was written whole

@@ -1,5 +1,5 @@
--- Which texts are programs, which of them are run, and the fault of each other text. The judges come in order: tokens, grammar, classes, form.
-use Rattle.std.specs.Prelude.{◌≡◌, ◌+◌, List, [], true, false}
+-- Which texts are programs without class faults, and the fault of each other text. The judges come in order: tokens, grammar, classes.
+use Rattle.std.specs.Prelude.{◌+◌, List}
 use Rattle.pool_syntax.specs.declared.token.Tok.{Tok}
 use Rattle.pool_syntax.specs.declared.token.Token.{Token}
 use Rattle.pool_syntax.specs.Tokens.{Text, HasTokens, IsFirstFault}
@@ -15,13 +15,8 @@ use Rattle.pool_parser.specs.declared.fault.SyntaxFault.{SyntaxFault}
 use Rattle.pool_parser.specs.declared.fault.SyntaxFault.TheVariants as Syntax
 use Rattle.class_check.specs.Least.{IsLeastFault}
 use Rattle.class_check.specs.PairOf.{pair_of}
-use Rattle.pool_driver.specs.Served.{is_served}
 use Rattle.pool_driver.specs.declared.fault.Fault.{Fault}
 use Rattle.pool_driver.specs.declared.fault.Fault.TheVariants as F
-
--- the text is a program without class faults, of the form that is run
-abbrev pub IsProgramText : Text → ProgramTree → Type 0
-IsProgramText s p = IsTextOf s p × (faults p ≡ []) × (is_served p ≡ true)
 
 -- the first fault of tokens that have no program
 abbrev pub IsSyntaxFault : List Tok → SyntaxFault → Type 0
@@ -39,8 +34,3 @@ IsFaultOfText s _ = ⊥
 abbrev pub IsFaultOfClasses : ProgramTree → Fault → Type 0
 IsFaultOfClasses p (F.Class f) = IsLeastFault (faults p) (pair_of f)
 IsFaultOfClasses p _ = ⊥
-
--- the program is not run, for this fault
-abbrev pub IsFaultOfProgram : ProgramTree → Fault → Type 0
-IsFaultOfProgram p F.NotYet = (faults p ≡ []) × (is_served p ≡ false)
-IsFaultOfProgram p f = IsFaultOfClasses p f

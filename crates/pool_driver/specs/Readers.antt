@@ -1,5 +1,5 @@
 -- What comes of reading inputs, for the functions below the top call.
-use Rattle.std.specs.Prelude.{◌≡◌, ℕ, ◌≤◌, List, [], true, false, Option, Some, None, Result, Ok, Err, ◌⊎◌}
+use Rattle.std.specs.Prelude.{◌≡◌, ℕ, ◌≤◌, List, [], ◌++◌, true, Some, Result, Ok, Err, ◌⊎◌}
 use Rattle.pool_outside.specs.Outside.{Rose}
 use Rattle.pool_syntax.specs.Tokens.{Text}
 use Rattle.pool_syntax.specs.Spelled.{IsGrammatical, is_spelled}
@@ -8,7 +8,28 @@ use Rattle.pool_syntax.specs.declared.token.LexFault.{LexFault}
 use Rattle.pool_syntax.specs.declared.token.LexFault.TheVariants as Lex
 use Rattle.pool_parser.specs.declared.fault.SyntaxFault.{SyntaxFault}
 use Rattle.pool_parser.specs.declared.fault.SyntaxFault.TheVariants as Syntax
+use Rattle.pool_syntax.specs.declared.words.Line.{Line}
+use Rattle.pool_syntax.specs.declared.words.Placement.{Placement}
 use Rattle.pool_printer.specs.Canonical.{canonical}
+use Rattle.object_code.specs.declared.unit.Unit.{Unit as Code}
+use Rattle.object_code.specs.Listing.{listing}
+use Rattle.object_code.specs.Proper.{IsProper}
+use Rattle.object_code.specs.Suits.{Suits}
+use Rattle.mesh_semantics.specs.Record.{Record, record_of}
+use Rattle.coded_objects.specs.Coded.{Placed, coded}
+use Rattle.wait_report.specs.Report.{report_text}
+use Rattle.pool_driver.specs.Reports.{rows_in}
+use Rattle.command_words.specs.declared.command.Show.{Show}
+use Rattle.command_words.specs.declared.command.Show.TheVariants as Sh
+use Rattle.placement_reader.specs.declared.fault.PlacementFault.{PlacementFault}
+use Rattle.placement_reader.specs.declared.fault.PlacementFault.TheVariants as Place
+use Rattle.placement_reader.specs.Placements as P
+use Rattle.placement_reader.specs.Placements.{placement_of}
+use Rattle.schedule_reader.specs.declared.fault.ScheduleFault.{ScheduleFault}
+use Rattle.schedule_reader.specs.declared.fault.ScheduleFault.TheVariants as Timed
+use Rattle.schedule_reader.specs.Schedules as Sch
+use Rattle.schedule_reader.specs.Schedules.{Plan, schedule_of}
+use Rattle.pool_driver.specs.declared.outputs.Loaded.{Loaded}
 use Rattle.pool_driver.specs.declared.fault.Input.{Input}
 use Rattle.pool_driver.specs.declared.fault.Input.TheVariants as I
 use Rattle.pool_driver.specs.declared.fault.Fault.{Fault}
@@ -19,17 +40,18 @@ use Rattle.pool_driver.specs.declared.outputs.Output.{Output}
 use Rattle.pool_driver.specs.declared.outputs.Output.TheVariants as O
 use Rattle.pool_driver.specs.declared.status.Status.{Status}
 use Rattle.pool_driver.specs.declared.status.Status.TheVariants as S
-use Rattle.pool_driver.specs.Commands.{Request}
+use Rattle.command_words.specs.Commands.{Request}
 use Rattle.pool_driver.specs.FaultText.{refusal_line, unread_line}
-use Rattle.pool_driver.specs.Inputs.{limit_of}
-use Rattle.pool_driver.specs.Placements.{is_one_node}
+use Rattle.pool_driver.specs.Inputs.{limit_of, IsCodeOf, StopAt}
+use Rattle.pool_driver.specs.Driving.{shown_lines, IsLoaded}
+use Rattle.pool_driver.specs.Runs.{ends_text, ring_text, status_of}
+use Rattle.pool_driver.specs.Outputs.{IsRingOf}
+use Rattle.pool_gen.specs.Ring.{ring_placement, ring_program, ring_schedule}
 use Rattle.pool_driver.specs.Programs.{IsParsed, IsTextOf, IsTypedText, IsFaultOfText, IsFaultOfClasses}
-use Rattle.pool_driver.specs.Schedules.{schedule_of}
 use Rattle.pool_driver.specs.declared.program.Parsed.{Parsed}
-use Rattle.pool_driver.specs.declared.schedule.Turns.{Turns}
 use Rattle.pool_syntax.specs.Terms.{ProgramTree}
 use Rattle.pool_syntax.specs.Typing.{faults}
-use Rattle.pool_driver.specs.Ends.{Reading, Writing, AllRead, WasRead, Stops, IsRefused, IsUnread, IsMade, IsIdle, Wrote, WroteFront}
+use Rattle.pool_driver.specs.Ends.{Reading, Writing, AllRead, WasRead, Stops, IsRefused, IsRingRefused, IsUnread, IsMade, IsIdle, Wrote, WroteFront}
 
 -- want of memory is no fault of the text
 
@@ -41,6 +63,14 @@ abbrev pub stop_of_grammar : SyntaxFault → Stop
 stop_of_grammar Syntax.Memory = T.Memory
 stop_of_grammar f = T.Refused I.Program (F.Syntax f)
 
+abbrev pub stop_of_placement : PlacementFault → Stop
+stop_of_placement Place.Memory = T.Memory
+stop_of_placement f = T.Refused I.Placement (F.Placement f)
+
+abbrev pub stop_of_schedule : ScheduleFault → Stop
+stop_of_schedule Timed.Memory = T.Memory
+stop_of_schedule f = T.Refused I.Schedule (F.Schedule f)
+
 -- A text of an input before it is judged: any is accepted, and none has a fault.
 
 abbrev pub IsAnyText : Text → Type 0
@@ -49,24 +79,27 @@ IsAnyText s = Unit {0}
 abbrev pub HasNoFault : Text → Fault → Type 0
 HasNoFault s f = ⊥
 
--- a placement
+-- a placement of a unit
 
-abbrev pub IsAcceptedPlacement : Text → Type 0
-IsAcceptedPlacement s = is_one_node s ≡ true
+abbrev pub IsAcceptedPlacement : Code → Text → Type 0
+IsAcceptedPlacement u s = (l : Placement) × (placement_of u s ≡ Ok l)
 
-abbrev pub HasPlacementFault : Text → Fault → Type 0
-HasPlacementFault s f = (f ≡ F.NotYet) × (is_one_node s ≡ false)
+abbrev pub HasPlacementFault : Code → Text → Fault → Type 0
+HasPlacementFault u s f = (g : PlacementFault) × (f ≡ F.Placement g) × (P.fault_in (placement_of u s) ≡ Some g)
 
--- a schedule
+abbrev pub IsPlacedAs : Code → Text → Placement → Type 0
+IsPlacedAs u s l = (placement_of u s ≡ Ok l) × Suits l u
 
-abbrev pub IsAcceptedSchedule : Text → Type 0
-IsAcceptedSchedule s = (turns : Turns) × (schedule_of s ≡ Some turns)
+-- a schedule of a placement
 
-abbrev pub HasScheduleFault : Text → Fault → Type 0
-HasScheduleFault s f = (f ≡ F.NotYet) × (schedule_of s ≡ None)
+abbrev pub IsAcceptedSchedule : Placement → Text → Type 0
+IsAcceptedSchedule l s = (plan : Plan) × (schedule_of l.width l.height s ≡ Ok plan)
 
-abbrev pub IsScheduled : Text → Turns → Type 0
-IsScheduled s turns = schedule_of s ≡ Some turns
+abbrev pub HasScheduleFault : Placement → Text → Fault → Type 0
+HasScheduleFault l s f = (g : ScheduleFault) × (f ≡ F.Schedule g) × (Sch.fault_in (schedule_of l.width l.height s) ≡ Some g)
+
+abbrev pub IsScheduledAs : Placement → Text → Plan → Type 0
+IsScheduledAs l s plan = schedule_of l.width l.height s ≡ Ok plan
 
 -- a program before its classes are judged, which is the only one of its text
 
@@ -77,7 +110,7 @@ pub record IsProgramOf (s : Text) (read : Parsed) : Type 0 where
   pub parsed : IsParsed s read.names (program_of read.program)
   pub grammatical : IsGrammatical (program_of read.program)
   pub spelled : is_spelled read.names (program_of read.program) ≡ true
-  pub only : (names : List Text) (p : ProgramTree) → IsParsed s names p → program_of read.program ≡ p
+  pub only : (names : List Text) (p : ProgramTree) → IsParsed s names p → (read.names ≡ names) × (program_of read.program ≡ p)
 
 -- and after that
 
@@ -89,6 +122,13 @@ HasTypedFault s f = IsFaultOfText s f ⊎ ((p : ProgramTree) × IsTextOf s p × 
 
 abbrev pub IsTypedProgramOf : Text → Parsed → Type 0
 IsTypedProgramOf s parsed = IsProgramOf s parsed × (faults (program_of parsed.program) ≡ [])
+
+-- and its code, which is the only one of its text
+
+pub record IsUnitOf (s : Text) (u : Code) : Type 0 where
+  pub code : IsCodeOf s u
+  pub proper : IsProper u
+  pub only : (v : Code) → IsCodeOf s v → v ≡ u
 
 -- What a judge says of a text: what it is, or why it is refused as this input and not accepted, or that memory ran out.
 pub data Judges {A : Type 0} (input : Input) (Accepted : Text → Type 0) (Faulty : Text → Fault → Type 0) (Is : Text → A → Type 0) (s : Text) (result : Result A Stop) : Type 0 where
@@ -103,24 +143,57 @@ pub data Reads {A : Type 0} (k : Reading) (input : Input) (name : Text) (Accepte
   unread : result ≡ Err (T.Unread input) → Rose k.faults k.failed → k.given ≤ limit_of input → Reads k input name Accepted Faulty Is result
   memory : result ≡ Err T.Memory → Reads k input name Accepted Faulty Is result
 
+-- the record of a run
+abbrev pub run_of : Loaded → Record Placed
+run_of r = record_of (coded r.unit) r.placement r.schedule.quantum r.schedule.events
+
+-- its lines
+abbrev pub lines_of : Loaded → List Line
+lines_of r = (run_of r).lines
+
+-- what is shown of a run: its lines, or where its objects stand at its end, and then the end line
+abbrev pub run_text : Show → Loaded → Text
+run_text Sh.Record r = shown_lines Sh.Record r.unit.names (lines_of r)
+run_text Sh.Writes r = shown_lines Sh.Writes r.unit.names (lines_of r)
+run_text Sh.Report r = report_text r.unit.names (rows_in (coded r.unit) (run_of r).delay (run_of r).last.objects) ++ ends_text r.unit.names (lines_of r)
+
 -- the text of an output, and its status
 abbrev pub text_of : Output → Text
-text_of (O.Record recorded) = recorded.text.items
+text_of (O.Run show loaded) = run_text show loaded
+text_of (O.Ring loaded) = ring_text loaded.unit.names (lines_of loaded)
 text_of (O.Canonical parsed) = canonical parsed.names (program_of parsed.program)
+text_of (O.Listing unit) = listing unit
 
 abbrev pub status_of_output : Output → Status
-status_of_output (O.Record recorded) = recorded.status
+status_of_output (O.Run show loaded) = status_of (lines_of loaded)
+status_of_output (O.Ring loaded) = status_of (lines_of loaded)
 status_of_output (O.Canonical parsed) = S.Done
+status_of_output (O.Listing unit) = S.Done
 
--- the names of a program that is to be printed are those of its table
+-- What can be written: a run whose parts fit one another; a program whose names are those of its table; proper code.
 abbrev pub IsPrintable : Output → Type 0
-IsPrintable (O.Record recorded) = Unit {0}
+IsPrintable (O.Run show loaded) = IsLoaded loaded.unit loaded.placement loaded.schedule
+IsPrintable (O.Ring loaded) = IsLoaded loaded.unit loaded.placement loaded.schedule
 IsPrintable (O.Canonical parsed) = is_spelled parsed.names (program_of parsed.program) ≡ true
+IsPrintable (O.Listing unit) = IsProper unit
+
+-- What comes of three texts: what is loaded of them; or the first that is not accepted, with its fault; or memory ran out.
+pub data Loads (program placement schedule : Text) (result : Result Loaded Stop) : Type 0 where
+  loads : (r : Loaded) → result ≡ Ok r → IsUnitOf program r.unit → IsPlacedAs r.unit placement r.placement → IsScheduledAs r.placement schedule r.schedule → Loads program placement schedule result
+  stops : (input : Input) (f : Fault) → result ≡ Err (T.Refused input f) → StopAt program placement schedule input f → Loads program placement schedule result
+  lacks : result ≡ Err T.Memory → Loads program placement schedule result
+
+-- what comes of the texts of a ring
+pub data Rings (k : ℕ) (result : Result Output Stop) : Type 0 where
+  rings : (o : Output) → result ≡ Ok o → IsRingOf k (text_of o) (status_of_output o) → IsPrintable o → Rings k result
+  stops : (input : Input) (f : Fault) → result ≡ Err (T.Refused input f) → StopAt (ring_program k) ring_placement (ring_schedule k) input f → Rings k result
+  lacks : result ≡ Err T.Memory → Rings k result
 
 -- what comes of all inputs of a request
 pub data Makes (k : Reading) (r : Request) (result : Result Output Stop) : Type 0 where
   made : (o : Output) → result ≡ Ok o → IsMade k r (text_of o) (status_of_output o) → IsPrintable o → Makes k r result
   refused : (input : Input) (f : Fault) → result ≡ Err (T.Refused input f) → IsRefused k r input f → Makes k r result
+  ring_refused : (input : Input) (f : Fault) → result ≡ Err (T.Refused input f) → IsRingRefused k r input f → Makes k r result
   unread : (input : Input) → result ≡ Err (T.Unread input) → IsUnread k r input → Makes k r result
   memory : result ≡ Err T.Memory → Makes k r result
 
@@ -128,6 +201,11 @@ pub data Makes (k : Reading) (r : Request) (result : Result Output Stop) : Type 
 pub data Writes (k : Writing) (text : Text) (planned status : Status) : Type 0 where
   whole : Wrote k text → status ≡ planned → Writes k text planned status
   cut : WroteFront k text → status ≡ S.WriteFault → Writes k text planned status
+
+-- and so for an output, of which nothing is written where memory is not had
+pub data Delivers (k : Writing) (text : Text) (planned status : Status) : Type 0 where
+  written : Writes k text planned status → Delivers k text planned status
+  nothing : IsIdle k → status ≡ S.Memory → Delivers k text planned status
 
 -- a line for the reason was written, whole or a front of it; or nothing for want of memory
 pub data Tells (k : Writing) (stop : Stop) (status : Status) : Type 0 where

@@ -1,11 +1,13 @@
 //! Why an input was refused, and the line that says so.
 ghost use Rattle.std.specs.Prelude.{◌≡◌, ◌++◌, OnOk, IfOk, decimal};
-ghost use Rattle.pool_driver.specs.FaultText.{class_fault_text, fault_text, input_text, lex_fault_text, refusal_line, syntax_fault_text, unread_line};
+ghost use Rattle.pool_driver.specs.FaultText.{class_fault_text, fault_text, input_text, lex_fault_text, placement_fault_text, refusal_line, schedule_fault_text, syntax_fault_text, unread_line};
 
 use class_check::ClassFault;
 use itoa::Buffer;
+use placement_reader::PlacementFault;
 use pool_parser::SyntaxFault;
 use pool_syntax::LexFault;
+use schedule_reader::ScheduleFault;
 use std::alloc::{AllocError, Global};
 
 /// The inputs of commands.
@@ -21,14 +23,16 @@ pub enum Input {
 pub enum Fault {
     /// It has more than 1,048,576 bytes.
     TooLong,
-    /// It is well formed, and of a form that is not served yet.
-    NotYet,
     /// The first fault of a program's tokens.
     Lex(LexFault),
     /// The first fault of a program's grammar.
     Syntax(SyntaxFault),
     /// The least class fault of a program.
     Class(ClassFault),
+    /// The first fault of a placement.
+    Placement(PlacementFault),
+    /// The first fault of a schedule.
+    Schedule(ScheduleFault),
 }
 
 /// Why nothing is made of the inputs.
@@ -42,12 +46,23 @@ pub enum Stop {
     Memory,
 }
 
-fn push_place(text: &mut Vec<u8>, words: &[u8], place: u32) -> Result<(), AllocError>
+/// Puts words and a number behind the text.
+pub fn push_place(text: &mut Vec<u8>, words: &[u8], place: u32) -> Result<(), AllocError>
     ensures { OnOk result (text.new.items ≡ text.old.items ++ (words.now ++ decimal place)) }
 {
     let mut buffer = Buffer::new();
     text.extend_from_slice(words)?;
     text.extend_from_slice(buffer.format(place).as_bytes())?;
+    Ok(())
+}
+
+/// Puts words and a number behind the text.
+pub fn push_count(text: &mut Vec<u8>, words: &[u8], count: u64) -> Result<(), AllocError>
+    ensures { OnOk result (text.new.items ≡ text.old.items ++ (words.now ++ decimal count)) }
+{
+    let mut buffer = Buffer::new();
+    text.extend_from_slice(words)?;
+    text.extend_from_slice(buffer.format(count).as_bytes())?;
     Ok(())
 }
 
@@ -97,15 +112,43 @@ fn push_class_fault(text: &mut Vec<u8>, fault: ClassFault) -> Result<(), AllocEr
     }
 }
 
+fn push_placement_fault(text: &mut Vec<u8>, fault: PlacementFault) -> Result<(), AllocError>
+    ensures { OnOk result (text.new.items ≡ text.old.items ++ placement_fault_text fault) }
+{
+    match fault {
+        PlacementFault::BadLine { line } => push_place(text, b"BadLine at line ", line),
+        PlacementFault::UnknownClass { line } => push_place(text, b"UnknownClass at line ", line),
+        PlacementFault::Repeated { line } => push_place(text, b"Repeated at line ", line),
+        PlacementFault::NoSuchNode { line } => push_place(text, b"NoSuchNode at line ", line),
+        PlacementFault::OutOfRange { line } => push_place(text, b"OutOfRange at line ", line),
+        PlacementFault::TooLarge { words } => push_count(text, b"TooLarge ", words),
+        PlacementFault::Memory => Ok(()),
+    }
+}
+
+fn push_schedule_fault(text: &mut Vec<u8>, fault: ScheduleFault) -> Result<(), AllocError>
+    ensures { OnOk result (text.new.items ≡ text.old.items ++ schedule_fault_text fault) }
+{
+    match fault {
+        ScheduleFault::BadLine { line } => push_place(text, b"BadLine at line ", line),
+        ScheduleFault::NoSuchNode { line } => push_place(text, b"NoSuchNode at line ", line),
+        ScheduleFault::NoSuchLink { line } => push_place(text, b"NoSuchLink at line ", line),
+        ScheduleFault::OutOfRange { line } => push_place(text, b"OutOfRange at line ", line),
+        ScheduleFault::TooManyEvents { count } => push_count(text, b"TooManyEvents ", count),
+        ScheduleFault::Memory => Ok(()),
+    }
+}
+
 fn push_fault(text: &mut Vec<u8>, fault: Fault) -> Result<(), AllocError>
     ensures { OnOk result (text.new.items ≡ text.old.items ++ fault_text fault) }
 {
     match fault {
         Fault::TooLong => text.extend_from_slice(b"TooLong"),
-        Fault::NotYet => text.extend_from_slice(b"NotYet"),
         Fault::Lex(fault) => push_lex_fault(text, fault),
         Fault::Syntax(fault) => push_syntax_fault(text, fault),
         Fault::Class(fault) => push_class_fault(text, fault),
+        Fault::Placement(fault) => push_placement_fault(text, fault),
+        Fault::Schedule(fault) => push_schedule_fault(text, fault),
     }
 }
 

@@ -1,15 +1,17 @@
 //! Reads the inputs, each once, and judges each.
-ghost use Rattle.std.specs.Prelude.{◌≡◌, ◌<◌, ◌+◌, ◌-◌, ◌^◌, ◌≤◌, IsTrue, true};
+ghost use Rattle.std.specs.Prelude.{◌≡◌, ◌<◌, ◌+◌, ◌-◌, ◌^◌, ◌≤◌, IsTrue, length, true};
 ghost use Rattle.pool_driver.specs.Inputs.{most_bytes, one_read};
-ghost use Rattle.pool_driver.specs.Placements.{is_one_node};
 ghost use Rattle.pool_driver.specs.Programs.{IsFaultOfText};
-ghost use Rattle.pool_driver.specs.Readers.{HasNoFault, HasPlacementFault, HasScheduleFault, HasTypedFault, IsAcceptedPlacement, IsAcceptedSchedule, IsAnyProgram, IsAnyText, IsProgramOf, IsScheduled, IsTypedProgram, IsTypedProgramOf, Reads};
+ghost use Rattle.pool_driver.specs.Readers.{HasNoFault, HasPlacementFault, HasScheduleFault, HasTypedFault, IsAcceptedPlacement, IsAcceptedSchedule, IsAnyProgram, IsAnyText, IsPlacedAs, IsProgramOf, IsScheduledAs, IsTypedProgram, IsTypedProgramOf, IsUnitOf, Judges, Loads, Reads, stop_of_placement, stop_of_schedule};
 
 use crate::fault::{Fault, Input, Stop};
-use crate::placement::is_placement_of_one;
-use crate::program::{Parsed, judge_classes, read_program};
-use crate::schedule::{Turns, schedule};
+use crate::outputs::Loaded;
+use crate::program::{Parsed, code_of, judge_classes, read_program};
+use object_code::Unit;
+use placement_reader::{PlacementFault, read_placement};
 use pool_outside::{Files, ReadFault, read_whole};
+use pool_syntax::Placement;
+use schedule_reader::{Schedule, ScheduleFault, read_schedule};
 use std::alloc::Global;
 
 /// The most bytes of an input.
@@ -41,11 +43,42 @@ fn read_input<F: Files>(
     }
 }
 
-/// Reads the placement.
-pub fn read_placement<F: Files>(alloc: Global, files: &mut F, name: &str) -> Result<(), Stop>
+/// Why a text is no placement.
+fn placement_stop(fault: PlacementFault) -> Stop
+    ensures { result ≡ stop_of_placement fault }
+{
+    match fault {
+        PlacementFault::Memory => Stop::Memory,
+        _ => Stop::Refused {
+            input: Input::Placement,
+            fault: Fault::Placement(fault),
+        },
+    }
+}
+
+/// Why a text is no schedule.
+fn schedule_stop(fault: ScheduleFault) -> Stop
+    ensures { result ≡ stop_of_schedule fault }
+{
+    match fault {
+        ScheduleFault::Memory => Stop::Memory,
+        _ => Stop::Refused {
+            input: Input::Schedule,
+            fault: Fault::Schedule(fault),
+        },
+    }
+}
+
+/// Reads the placement of a unit.
+pub fn read_placed<F: Files>(
+    alloc: Global,
+    files: &mut F,
+    name: &str,
+    unit: &Unit,
+) -> Result<Placement, Stop>
     requires allowed { IsTrue (F.may files.old (F.opens files.old) name.now) }
     requires countable { F.opens files.old < 2 ^ 64 - 1 }
-    ensures reads { Reads (record { told = F.told files.old; opens = F.opens files.old; opened = F.opens files.new; given = F.given files.new; live = F.live files.new; faults = F.faults files.old; failed = F.faults files.new }) Input.Placement name.now IsAcceptedPlacement HasPlacementFault (λ s placed. is_one_node s ≡ true) result }
+    ensures reads { Reads (record { told = F.told files.old; opens = F.opens files.old; opened = F.opens files.new; given = F.given files.new; live = F.live files.new; faults = F.faults files.old; failed = F.faults files.new }) Input.Placement name.now (IsAcceptedPlacement unit.now) (HasPlacementFault unit.now) (IsPlacedAs unit.now) result }
     ensures opened_once { F.opens files.new ≡ F.opens files.old + 1 }
     ensures unread_within { F.given files.new ≤ most_bytes + one_read }
     ensures same_texts { F.told files.new ≡ F.told files.old }
@@ -55,21 +88,24 @@ pub fn read_placement<F: Files>(alloc: Global, files: &mut F, name: &str) -> Res
         Ok(text) => text,
         Err(stop) => return Err(stop),
     };
-    if is_placement_of_one(&text) {
-        Ok(())
-    } else {
-        Err(Stop::Refused {
-            input: Input::Placement,
-            fault: Fault::NotYet,
-        })
+    match read_placement(alloc, &text, unit) {
+        Ok(placement) => Ok(placement),
+        Err(fault) => Err(placement_stop(fault)),
     }
 }
 
-/// Reads the schedule.
-pub fn read_schedule<F: Files>(alloc: Global, files: &mut F, name: &str) -> Result<Turns, Stop>
+/// Reads the schedule of a placement.
+pub fn read_scheduled<F: Files>(
+    alloc: Global,
+    files: &mut F,
+    name: &str,
+    placement: &Placement,
+) -> Result<Schedule, Stop>
     requires allowed { IsTrue (F.may files.old (F.opens files.old) name.now) }
     requires countable { F.opens files.old < 2 ^ 64 - 1 }
-    ensures reads { Reads (record { told = F.told files.old; opens = F.opens files.old; opened = F.opens files.new; given = F.given files.new; live = F.live files.new; faults = F.faults files.old; failed = F.faults files.new }) Input.Schedule name.now IsAcceptedSchedule HasScheduleFault IsScheduled result }
+    requires width { (1 ≤ placement.now.width) × (placement.now.width ≤ 8) }
+    requires height { (1 ≤ placement.now.height) × (placement.now.height ≤ 8) }
+    ensures reads { Reads (record { told = F.told files.old; opens = F.opens files.old; opened = F.opens files.new; given = F.given files.new; live = F.live files.new; faults = F.faults files.old; failed = F.faults files.new }) Input.Schedule name.now (IsAcceptedSchedule placement.now) (HasScheduleFault placement.now) (IsScheduledAs placement.now) result }
     ensures opened_once { F.opens files.new ≡ F.opens files.old + 1 }
     ensures unread_within { F.given files.new ≤ most_bytes + one_read }
     ensures same_texts { F.told files.new ≡ F.told files.old }
@@ -79,12 +115,9 @@ pub fn read_schedule<F: Files>(alloc: Global, files: &mut F, name: &str) -> Resu
         Ok(text) => text,
         Err(stop) => return Err(stop),
     };
-    match schedule(&text) {
-        Some(turns) => Ok(turns),
-        None => Err(Stop::Refused {
-            input: Input::Schedule,
-            fault: Fault::NotYet,
-        }),
+    match read_schedule(alloc, &text, placement) {
+        Ok(schedule) => Ok(schedule),
+        Err(fault) => Err(schedule_stop(fault)),
     }
 }
 
@@ -124,4 +157,89 @@ pub fn read_typed<F: Files>(alloc: Global, files: &mut F, name: &str) -> Result<
         Err(stop) => return Err(stop),
     }
     Ok(parsed)
+}
+
+/// Reads a program whose classes have no fault, and makes its code.
+pub fn read_unit<F: Files>(alloc: Global, files: &mut F, name: &str) -> Result<Unit, Stop>
+    requires allowed { IsTrue (F.may files.old (F.opens files.old) name.now) }
+    requires countable { F.opens files.old < 2 ^ 64 - 1 }
+    ensures reads { Reads (record { told = F.told files.old; opens = F.opens files.old; opened = F.opens files.new; given = F.given files.new; live = F.live files.new; faults = F.faults files.old; failed = F.faults files.new }) Input.Program name.now IsTypedProgram HasTypedFault IsUnitOf result }
+    ensures opened_once { F.opens files.new ≡ F.opens files.old + 1 }
+    ensures unread_within { F.given files.new ≤ most_bytes + one_read }
+    ensures same_texts { F.told files.new ≡ F.told files.old }
+    ensures same_leave { F.may files.new ≡ F.may files.old }
+{
+    let parsed = match read_parsed(alloc, files, name) {
+        Ok(parsed) => parsed,
+        Err(stop) => return Err(stop),
+    };
+    code_of(alloc, &parsed)
+}
+
+/// Judges the text of a program, and makes its code.
+fn judge_program(alloc: Global, bytes: &[u8]) -> Result<Unit, Stop>
+    requires { length bytes.now ≤ 1048576 }
+    ensures { Judges Input.Program IsTypedProgram HasTypedFault IsUnitOf bytes.now result }
+{
+    let parsed = match read_program(alloc, bytes) {
+        Ok(parsed) => parsed,
+        Err(stop) => return Err(stop),
+    };
+    code_of(alloc, &parsed)
+}
+
+/// Judges the text of a placement of a unit.
+fn judge_placement(alloc: Global, bytes: &[u8], unit: &Unit) -> Result<Placement, Stop>
+    requires { length bytes.now ≤ 1048576 }
+    ensures { Judges Input.Placement (IsAcceptedPlacement unit.now) (HasPlacementFault unit.now) (IsPlacedAs unit.now) bytes.now result }
+{
+    match read_placement(alloc, bytes, unit) {
+        Ok(placement) => Ok(placement),
+        Err(fault) => Err(placement_stop(fault)),
+    }
+}
+
+/// Judges the text of a schedule of a placement.
+fn judge_schedule(alloc: Global, bytes: &[u8], placement: &Placement) -> Result<Schedule, Stop>
+    requires small { length bytes.now ≤ 1048576 }
+    requires width { (1 ≤ placement.now.width) × (placement.now.width ≤ 8) }
+    requires height { (1 ≤ placement.now.height) × (placement.now.height ≤ 8) }
+    ensures { Judges Input.Schedule (IsAcceptedSchedule placement.now) (HasScheduleFault placement.now) (IsScheduledAs placement.now) bytes.now result }
+{
+    match read_schedule(alloc, bytes, placement) {
+        Ok(schedule) => Ok(schedule),
+        Err(fault) => Err(schedule_stop(fault)),
+    }
+}
+
+/// Judges the texts of a program, a placement and a schedule, one after another, and makes what a run is made of. A text that is longer than an input may be is want of
+/// memory.
+pub fn load_texts(
+    alloc: Global,
+    program: &[u8],
+    placement: &[u8],
+    schedule: &[u8],
+) -> Result<Loaded, Stop>
+    ensures { Loads program.now placement.now schedule.now result }
+{
+    if program.len() > MOST_BYTES || placement.len() > MOST_BYTES || schedule.len() > MOST_BYTES {
+        return Err(Stop::Memory);
+    }
+    let unit = match judge_program(alloc, program) {
+        Ok(unit) => unit,
+        Err(stop) => return Err(stop),
+    };
+    let layout = match judge_placement(alloc, placement, &unit) {
+        Ok(layout) => layout,
+        Err(stop) => return Err(stop),
+    };
+    let plan = match judge_schedule(alloc, schedule, &layout) {
+        Ok(plan) => plan,
+        Err(stop) => return Err(stop),
+    };
+    Ok(Loaded {
+        unit,
+        placement: layout,
+        schedule: plan,
+    })
 }

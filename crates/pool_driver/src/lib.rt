@@ -1,20 +1,16 @@
 //! The top call: from the words, the three texts and the two sinks to a status.
 #![tactic(auto)]
 
-mod command;
+mod drive;
 mod fault;
-mod form;
 mod inputs;
-mod kept;
 pub mod laws;
 mod outputs;
-mod placement;
 mod program;
-mod run;
-mod schedule;
 mod status;
-mod text;
+mod texts;
 mod top;
+mod why;
 
 pub use status::Status;
 pub use top::pool;

@@ -1,67 +1,132 @@
 //! What a command makes of its inputs: each is read and judged before the next is opened.
-ghost use Rattle.std.specs.Prelude.{◌≡◌, ◌+◌, ◌-◌, ◌^◌, ◌≤◌};
-ghost use Rattle.pool_driver.specs.Commands.{names_of, print_of, record_of, request};
+ghost use Rattle.std.specs.Prelude.{◌≡◌, ◌<◌, false, ◌+◌, ◌-◌, ◌^◌, ◌≤◌};
+ghost use Rattle.command_words.specs.Commands.{IsSized, names_of, of_program, of_run, request};
 ghost use Rattle.pool_driver.specs.Inputs.{MayOpen, most_bytes, one_read};
-ghost use Rattle.pool_driver.specs.Readers.{Makes};
+ghost use Rattle.pool_driver.specs.Readers.{Makes, Rings};
 
-use crate::command::{Command, Files as FileNames};
 use crate::fault::Stop;
-use crate::inputs::{read_parsed, read_placement, read_schedule, read_typed};
-use crate::program::{Parsed, judge};
-use crate::run::{Recorded, record};
+use crate::inputs::{load_texts, read_placed, read_scheduled, read_typed, read_unit};
+use crate::program::Parsed;
+use command_words::{Ask, Command, Files as FileNames, Show};
+use object_code::Unit;
+use pool_gen::ring;
 use pool_outside::Files;
-use std::alloc::{AllocError, Global};
+use pool_syntax::Placement;
+use schedule_reader::Schedule;
+use std::alloc::Global;
 
-/// What is asked for, made and not yet written. Writing it takes no memory.
+/// The code of a program, a placement of its classes, and a schedule on the placement's mesh.
 #[derive(Drop)]
-pub enum Output {
-    Record(Recorded),
-    /// The program whose canonical text is asked for.
-    Canonical(Parsed),
+pub struct Loaded {
+    pub unit: Unit,
+    pub placement: Placement,
+    pub schedule: Schedule,
 }
 
-/// The record of the program, the placement and the schedule of these names.
-fn record_output<F: Files>(
+/// What is asked for, made or loaded and not yet written.
+#[derive(Drop)]
+pub enum Output {
+    Run { show: Show, loaded: Loaded },
+    /// The run whose counts are asked for.
+    Ring(Loaded),
+    /// The program whose canonical text is asked for.
+    Canonical(Parsed),
+    /// The code whose listing is asked for.
+    Listing(Unit),
+}
+
+/// The run of the program, the placement and the schedule of these names.
+fn run_output<F: Files>(
     alloc: Global,
     files: &mut F,
+    show: Show,
     names: FileNames<'_>,
 ) -> Result<Output, Stop>
     requires countable { F.opens files.old ≤ 2 ^ 64 - 5 }
-    requires allowed { MayOpen (F.may files.old) (F.opens files.old) (record_of (names_of names)) }
-    ensures makes { Makes (record { told = F.told files.old; opens = F.opens files.old; opened = F.opens files.new; given = F.given files.new; live = F.live files.new; faults = F.faults files.old; failed = F.faults files.new }) (record_of (names_of names.entry)) result }
+    requires allowed { MayOpen (F.may files.old) (F.opens files.old) (of_run show (names_of names)) }
+    ensures makes { Makes (record { told = F.told files.old; opens = F.opens files.old; opened = F.opens files.new; given = F.given files.new; live = F.live files.new; faults = F.faults files.old; failed = F.faults files.new }) (of_run show (names_of names.entry)) result }
     ensures unread_within { F.given files.new ≤ most_bytes + one_read }
 {
-    let parsed = match read_parsed(alloc, files, names.program) {
-        Ok(parsed) => parsed,
+    let unit = match read_unit(alloc, files, names.program) {
+        Ok(unit) => unit,
         Err(stop) => return Err(stop),
     };
-    let checked = match judge(alloc, &parsed) {
-        Ok(checked) => checked,
+    let placement = match read_placed(alloc, files, names.placement, &unit) {
+        Ok(placement) => placement,
         Err(stop) => return Err(stop),
     };
-    match read_placement(alloc, files, names.placement) {
-        Ok(()) => {}
-        Err(stop) => return Err(stop),
-    }
-    let turns = match read_schedule(alloc, files, names.schedule) {
-        Ok(turns) => turns,
+    let schedule = match read_scheduled(alloc, files, names.schedule, &placement) {
+        Ok(schedule) => schedule,
         Err(stop) => return Err(stop),
     };
-    match record(alloc, &checked, turns) {
-        Ok(recorded) => Ok(Output::Record(recorded)),
-        Err(AllocError) => Err(Stop::Memory),
-    }
+    let loaded = Loaded {
+        unit,
+        placement,
+        schedule,
+    };
+    Ok(Output::Run { show, loaded })
 }
 
 /// The program of this name, whose canonical text is asked for.
 fn canonical_output<F: Files>(alloc: Global, files: &mut F, name: &str) -> Result<Output, Stop>
     requires countable { F.opens files.old ≤ 2 ^ 64 - 5 }
-    requires allowed { MayOpen (F.may files.old) (F.opens files.old) (print_of name.now) }
-    ensures makes { Makes (record { told = F.told files.old; opens = F.opens files.old; opened = F.opens files.new; given = F.given files.new; live = F.live files.new; faults = F.faults files.old; failed = F.faults files.new }) (print_of name.now) result }
+    requires allowed { MayOpen (F.may files.old) (F.opens files.old) (of_program Ask.Canonical name.now) }
+    ensures makes { Makes (record { told = F.told files.old; opens = F.opens files.old; opened = F.opens files.new; given = F.given files.new; live = F.live files.new; faults = F.faults files.old; failed = F.faults files.new }) (of_program Ask.Canonical name.now) result }
     ensures unread_within { F.given files.new ≤ most_bytes + one_read }
 {
     match read_typed(alloc, files, name) {
         Ok(parsed) => Ok(Output::Canonical(parsed)),
+        Err(stop) => Err(stop),
+    }
+}
+
+/// The code of the program of this name, whose listing is asked for.
+fn listing_output<F: Files>(alloc: Global, files: &mut F, name: &str) -> Result<Output, Stop>
+    requires countable { F.opens files.old ≤ 2 ^ 64 - 5 }
+    requires allowed { MayOpen (F.may files.old) (F.opens files.old) (of_program Ask.Listing name.now) }
+    ensures makes { Makes (record { told = F.told files.old; opens = F.opens files.old; opened = F.opens files.new; given = F.given files.new; live = F.live files.new; faults = F.faults files.old; failed = F.faults files.new }) (of_program Ask.Listing name.now) result }
+    ensures unread_within { F.given files.new ≤ most_bytes + one_read }
+{
+    match read_unit(alloc, files, name) {
+        Ok(unit) => Ok(Output::Listing(unit)),
+        Err(stop) => Err(stop),
+    }
+}
+
+/// What is asked of the program of this name.
+fn program_output<F: Files>(
+    alloc: Global,
+    files: &mut F,
+    ask: Ask,
+    name: &str,
+) -> Result<Output, Stop>
+    requires countable { F.opens files.old ≤ 2 ^ 64 - 5 }
+    requires allowed { MayOpen (F.may files.old) (F.opens files.old) (of_program ask name.now) }
+    ensures makes { Makes (record { told = F.told files.old; opens = F.opens files.old; opened = F.opens files.new; given = F.given files.new; live = F.live files.new; faults = F.faults files.old; failed = F.faults files.new }) (of_program ask name.now) result }
+    ensures unread_within { F.given files.new ≤ most_bytes + one_read }
+{
+    match ask {
+        Ask::Canonical => canonical_output(alloc, files, name),
+        Ask::Listing => listing_output(alloc, files, name),
+    }
+}
+
+/// The run of the ring of so many cells.
+fn ring_output(alloc: Global, cells: u32) -> Result<Output, Stop>
+    requires { (2 ≤ cells) × (cells ≤ 1000) }
+    ensures { Rings cells result }
+{
+    let texts = match ring(alloc, cells) {
+        Ok(texts) => texts,
+        Err(_) => return Err(Stop::Memory),
+    };
+    match load_texts(
+        alloc,
+        texts.program.items(),
+        texts.placement.items(),
+        texts.schedule.items(),
+    ) {
+        Ok(loaded) => Ok(Output::Ring(loaded)),
         Err(stop) => Err(stop),
     }
 }
@@ -74,11 +139,14 @@ pub fn make_output<F: Files>(
 ) -> Result<Output, Stop>
     requires countable { F.opens files.old ≤ 2 ^ 64 - 5 }
     requires allowed { MayOpen (F.may files.old) (F.opens files.old) (request command) }
+    requires not_live { F.live files.old ≡ false }
+    requires sized { IsSized command }
     ensures makes { Makes (record { told = F.told files.old; opens = F.opens files.old; opened = F.opens files.new; given = F.given files.new; live = F.live files.new; faults = F.faults files.old; failed = F.faults files.new }) (request command.entry) result }
-    ensures unread_within { F.given files.new ≤ most_bytes + one_read }
+    ensures unread_within { F.opens files.old < F.opens files.new → F.given files.new ≤ most_bytes + one_read }
 {
     match command {
-        Command::Record(names) => record_output(alloc, files, names),
-        Command::Print(name) => canonical_output(alloc, files, name),
+        Command::Run { show, files: names } => run_output(alloc, files, show, names),
+        Command::Program { ask, name } => program_output(alloc, files, ask, name),
+        Command::Ring { cells } => ring_output(alloc, cells),
     }
 }

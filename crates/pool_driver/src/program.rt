@@ -1,19 +1,21 @@
-//! Reads a program and judges it: its tokens, its grammar, its classes, its form.
+//! Reads a program and judges it: its tokens, its grammar, its classes; and makes its code.
 ghost use Rattle.std.specs.Prelude.{◌≡◌, ◌≢◌, ◌≤◌, List, length, true, [], IfOk, MatchResult, IsOk, IsErr, Err};
 ghost use Rattle.pool_syntax.specs.Terms.{ProgramTree};
 ghost use Rattle.pool_syntax.specs.Tokens.{Text};
 ghost use Rattle.pool_syntax.specs.TreeOf.{program_of};
 ghost use Rattle.pool_syntax.specs.Spelled.{IsGrammatical, is_spelled};
 ghost use Rattle.pool_syntax.specs.Typing.{faults};
-ghost use Rattle.pool_driver.specs.Served.{is_served};
+ghost use Rattle.object_code.specs.Proper.{IsProper};
+ghost use Rattle.pool_driver.specs.Inputs.{unit_of};
 ghost use Rattle.pool_driver.specs.Readers.{stop_of_grammar, stop_of_tokens};
-ghost use Rattle.pool_driver.specs.Programs.{IsFaultOfClasses, IsFaultOfProgram, IsFaultOfText, IsParsed};
+ghost use Rattle.pool_driver.specs.Programs.{IsFaultOfClasses, IsFaultOfText, IsParsed};
 ghost use Rattle.pool_driver.specs.declared.fault.Fault.{Fault as AnyFault};
 ghost use Rattle.pool_driver.specs.declared.fault.Input.{Input as AnyInput};
 
 use crate::fault::{Fault, Input, Stop};
-use crate::form::serves;
 use class_check::{Checked, ClassFault, check};
+use object_code::Unit;
+use pool_compile::compile;
 use pool_lexer::tokens;
 use pool_parser::{SyntaxFault, parse};
 use pool_syntax::{LexFault, Names, Program};
@@ -97,23 +99,23 @@ pub fn judge_classes<'a>(alloc: Global, parsed: &'a Parsed) -> Result<Checked<'a
     }
 }
 
-/// Judges a program that was read: its classes, and then its form.
-pub fn judge<'a>(alloc: Global, parsed: &'a Parsed) -> Result<Checked<'a>, Stop>
+/// The code of a program that was read, with a copy of its names, once its classes are judged.
+pub fn code_of(alloc: Global, parsed: &Parsed) -> Result<Unit, Stop>
     requires grammatical { IsGrammatical (program_of parsed.now.program) }
     requires spelled { is_spelled parsed.now.names (program_of parsed.now.program) ≡ true }
-    ensures same { IfOk result (λ c. (c.program.now ≡ parsed.now.program) × (c.names.now ≡ parsed.now.names)) }
-    ensures form { IfOk result (λ c. is_served (program_of c.program.now) ≡ true) }
-    ensures only { faults (program_of parsed.now.program) ≡ [] → is_served (program_of parsed.now.program) ≡ true → IsErr result → result ≡ Err Stop.Memory }
-    ensures refused { (i : AnyInput) (f : AnyFault) → result ≡ Err (Stop.Refused i f) → (i ≡ Input.Program) × IsFaultOfProgram (program_of parsed.now.program) f }
+    ensures code { IfOk result (λ u. u ≡ unit_of parsed.now.names (program_of parsed.now.program)) }
+    ensures proper { IfOk result (λ u. IsProper u) }
+    ensures typed { IsOk result → faults (program_of parsed.now.program) ≡ [] }
+    ensures only { faults (program_of parsed.now.program) ≡ [] → IsErr result → result ≡ Err Stop.Memory }
+    ensures refused { (i : AnyInput) (f : AnyFault) → result ≡ Err (Stop.Refused i f) → (i ≡ Input.Program) × IsFaultOfClasses (program_of parsed.now.program) f }
     ensures no_read { (i : AnyInput) → result ≢ Err (Stop.Unread i) }
 {
     let checked = match judge_classes(alloc, parsed) {
         Ok(checked) => checked,
         Err(stop) => return Err(stop),
     };
-    if serves(&parsed.program) {
-        Ok(checked)
-    } else {
-        Err(refuse(Fault::NotYet))
+    match compile(alloc, &checked) {
+        Ok(unit) => Ok(unit),
+        Err(_) => Err(Stop::Memory),
     }
 }

@@ -1,19 +1,25 @@
 //! The top call.
-ghost use Rattle.std.specs.Prelude.{◌≡◌, ◌⊎◌, ◌+◌, ◌-◌, ◌^◌, ◌≤◌, ◌<◌, Some, false, IfSome};
+ghost use Rattle.std.specs.Prelude.{◌≡◌, ◌⊎◌, ◌+◌, ◌-◌, ◌^◌, ◌≤◌, ◌<◌, Some, false, IfSome, IfOk, ◌++◌};
 ghost use Rattle.pool_outside.specs.Outside.{Rose};
-ghost use Rattle.pool_driver.specs.Commands.{Request, request_of, texts_of};
+ghost use Rattle.command_words.specs.Commands.{Request, request_of, texts_of};
 ghost use Rattle.pool_driver.specs.Ends.{Ends};
 ghost use Rattle.pool_driver.specs.Inputs.{IsServable, MayOpen, most_bytes, one_read};
+ghost use Rattle.pool_driver.specs.Driving.{IsLoaded, shown_lines};
 ghost use Rattle.pool_driver.specs.Outputs.{IsWhole};
-ghost use Rattle.pool_driver.specs.Readers.{IsPrintable, Tells, Writes, status_of_output, text_of};
+ghost use Rattle.pool_driver.specs.Runs.{counts_text, end_text, ended, ring_text, status_of};
+ghost use Rattle.pool_driver.specs.Readers.{Delivers, IsPrintable, Tells, Writes, lines_of, run_text, status_of_output, text_of};
 
-use crate::command::read_words;
-use crate::fault::{Stop, line_of_refusal, line_of_unread};
-use crate::outputs::{Output, make_output};
+use crate::drive::{Ended, drive, finish};
+use crate::fault::{Stop, line_of_refusal, line_of_unread, push_count, push_place};
+use crate::outputs::{Loaded, Output, make_output};
 use crate::status::Status;
-use pool_outside::{Files, Sink, write_all_of};
-use pool_printer::print;
-use std::alloc::Global;
+use crate::texts::{CanonicalText, Listing};
+use crate::why::write_report;
+use command_words::{Show, read_words};
+use pool_machine::{Machine, OpenFault};
+use pool_outside::{Files, Sink, Text, WriteFault, write_all_of, write_gathered};
+use pool_syntax::{Line, Names};
+use std::alloc::{AllocError, Global};
 
 /// The usage line.
 const USAGE: &[u8] = b"usage: pool record|run|why P L S, pool print|code P, pool ring K\n";
@@ -28,17 +34,112 @@ fn say<K: Sink>(sink: &mut K, piece: &[u8], status: Status) -> Status
     }
 }
 
+/// Makes a run and writes it; all its memory is taken before the first byte is written.
+fn write_run<K: Sink>(alloc: Global, out: &mut K, show: Show, loaded: &Loaded) -> Status
+    requires { IsLoaded loaded.now.unit loaded.now.placement loaded.now.schedule }
+    ensures { Delivers (record { before = K.written out.old; after = K.written out.new; faults = K.faults out.old; failed = K.faults out.new }) (shown_lines show loaded.now.unit.names (lines_of loaded.now)) (status_of (lines_of loaded.now)) result }
+{
+    match Machine::make(alloc, &loaded.unit, &loaded.placement) {
+        Ok(mut machine) => match drive(
+            &mut machine,
+            &loaded.unit.names,
+            &loaded.schedule,
+            show,
+            out,
+        ) {
+            Ok(last) => finish(show, last, &loaded.unit.names, out),
+            Err(WriteFault) => Status::WriteFault,
+        },
+        Err(OpenFault::Memory) => Status::Memory,
+    }
+}
+
+/// Makes a run, and writes where its objects stand at its end; all memory is taken before the first byte is written.
+fn write_why<K: Sink>(alloc: Global, out: &mut K, loaded: &Loaded) -> Status
+    requires { IsLoaded loaded.now.unit loaded.now.placement loaded.now.schedule }
+    ensures { Delivers (record { before = K.written out.old; after = K.written out.new; faults = K.faults out.old; failed = K.faults out.new }) (run_text Show.Report loaded.now) (status_of (lines_of loaded.now)) result }
+{
+    let names = &loaded.unit.names;
+    match Machine::make(alloc, &loaded.unit, &loaded.placement) {
+        Ok(mut machine) => match drive(&mut machine, names, &loaded.schedule, Show::Report, out) {
+            Ok(last) => write_report(alloc, &machine, &loaded.placement, names, last, out),
+            Err(WriteFault) => Status::WriteFault,
+        },
+        Err(OpenFault::Memory) => Status::Memory,
+    }
+}
+
+/// The lines of the counts of a run.
+fn counts_of(alloc: Global, machine: &Machine<'_>) -> Result<Vec<u8>, AllocError>
+    ensures { IfOk result (λ t. t.items ≡ counts_text machine.now.done machine.now.transitions machine.now.moves) }
+{
+    let mut text = Vec::new(alloc);
+    push_place(&mut text, b"events ", machine.done())?;
+    push_count(&mut text, b"\ntransitions ", machine.transitions())?;
+    push_count(&mut text, b"\nmoves ", machine.moves())?;
+    text.extend_from_slice(b"\n")?;
+    Ok(text)
+}
+
+/// Writes the counts of a run that has ended, and the end line.
+fn write_counts<K: Sink>(
+    alloc: Global,
+    machine: &Machine<'_>,
+    names: &Names,
+    last: Ended,
+    out: &mut K,
+) -> Status
+    ensures { Delivers (record { before = K.written out.old; after = K.written out.new; faults = K.faults out.old; failed = K.faults out.new }) (counts_text machine.now.done machine.now.transitions machine.now.moves ++ end_text names.now (Line.End last.end)) (ended last.faulted last.end) result }
+{
+    let counts = match counts_of(alloc, machine) {
+        Ok(counts) => counts,
+        Err(AllocError) => return Status::Memory,
+    };
+    match write_all_of(out, &counts) {
+        Ok(()) => finish(Show::Report, last, names, out),
+        Err(WriteFault) => Status::WriteFault,
+    }
+}
+
+/// Makes a run, and writes its counts and its end line; all memory is taken before the first byte is written.
+fn write_ring<K: Sink>(alloc: Global, out: &mut K, loaded: &Loaded) -> Status
+    requires { IsLoaded loaded.now.unit loaded.now.placement loaded.now.schedule }
+    ensures { Delivers (record { before = K.written out.old; after = K.written out.new; faults = K.faults out.old; failed = K.faults out.new }) (ring_text loaded.now.unit.names (lines_of loaded.now)) (status_of (lines_of loaded.now)) result }
+{
+    let names = &loaded.unit.names;
+    match Machine::make(alloc, &loaded.unit, &loaded.placement) {
+        Ok(mut machine) => match drive(&mut machine, names, &loaded.schedule, Show::Report, out) {
+            Ok(last) => write_counts(alloc, &machine, names, last, out),
+            Err(WriteFault) => Status::WriteFault,
+        },
+        Err(OpenFault::Memory) => Status::Memory,
+    }
+}
+
+/// Writes a text that takes no memory, in pieces of 4096 bytes.
+fn write_text<T: Text, K: Sink>(text: &T, out: &mut K) -> Status
+    requires { T.writable text.now }
+    ensures { Writes (record { before = K.written out.old; after = K.written out.new; faults = K.faults out.old; failed = K.faults out.new }) (T.bytes text.now) Status.Done result }
+{
+    match write_gathered(text, out) {
+        Ok(()) => Status::Done,
+        Err(_) => Status::WriteFault,
+    }
+}
+
 /// Writes what was asked for.
-fn write_output<K: Sink>(out: &mut K, output: &Output) -> Status
+fn write_output<K: Sink>(alloc: Global, out: &mut K, output: &Output) -> Status
     requires { IsPrintable output.now }
-    ensures { Writes (record { before = K.written out.old; after = K.written out.new; faults = K.faults out.old; failed = K.faults out.new }) (text_of output.now) (status_of_output output.now) result }
+    ensures { Delivers (record { before = K.written out.old; after = K.written out.new; faults = K.faults out.old; failed = K.faults out.new }) (text_of output.now) (status_of_output output.now) result }
 {
     match output {
-        Output::Record(recorded) => say(out, &recorded.text, recorded.status),
-        Output::Canonical(parsed) => match print(&parsed.program, &parsed.names, out) {
-            Ok(()) => Status::Done,
-            Err(_) => Status::WriteFault,
+        Output::Run { show, loaded } => match show {
+            Show::Record | Show::Writes => write_run(alloc, out, *show, loaded),
+            Show::Report => write_why(alloc, out, loaded),
         },
+        Output::Ring(loaded) => write_ring(alloc, out, loaded),
+        Output::Canonical(parsed) => write_text(&CanonicalText { parsed }, out),
+        Output::Listing(unit) => write_text(&Listing { unit }, out),
     }
 }
 
@@ -86,9 +187,13 @@ pub fn pool<F: Files, K: Sink, E: Sink>(
         → ¬ (Rose (F.faults files.old) (F.faults files.new)) → ¬ (Rose (K.faults out.old) (K.faults out.new)) → ¬ (Rose (E.faults err.old) (E.faults err.new))
         → IsWhole result ⊎ (result ≡ Status.Memory) }
 {
-    match read_words(words) {
+    let asked = match read_words(alloc, words) {
+        Ok(asked) => asked,
+        Err(AllocError) => return Status::Memory,
+    };
+    match asked {
         Some(command) => match make_output(alloc, files, command) {
-            Ok(made) => write_output(out, &made),
+            Ok(made) => write_output(alloc, out, &made),
             Err(stop) => say_stop(alloc, err, stop),
         },
         None => say(err, USAGE, Status::Usage),

@@ -7,7 +7,7 @@ use Rattle.pool_syntax.specs.Terms.{Expression, Expressions, NoArgs, Arg, Statem
 use Rattle.pool_syntax.specs.Rules as r
 use Rattle.pool_syntax.specs.Rules.{Group, disjunction, conjunction, addition, multiplication, Level, group, comparison, factor, postfix, primary, Phrase, Tree, Part, Gives, Rule, tree, then, either}
 use Rattle.pool_syntax.specs.Grammar.{rule, operator_of, arg_last, then_last, alt_last}
-use Rattle.pool_syntax.specs.Derives.{IsToken, Derives, nothing, token, inner, first, second}
+use Rattle.pool_syntax.specs.Derives.{IsToken, Derives, nothing, token, inner, first, second, IsProgram}
 use Rattle.pool_syntax.specs.Spelled.{IsGrammatical}
 use Rattle.pool_relation.specs.Written.{is_source, are_source, is_source_statement, are_source_statements, are_source_alternatives, is_prefix, are_written, is_written}
 use Rattle.mesh_semantics.proofs.Laws as b
@@ -216,8 +216,11 @@ derived ts p a i j x (inner {q = q} y d e) w = derived ts p _ _ j x e (w y (deri
 derived ts p a i j x (first d) w = derived ts p _ i j x d w.0
 derived ts p a i j x (second d) w = derived ts p _ i j x d w.1
 
+pub derived_written : (ts : List Tok) (p : ProgramTree) → IsProgram ts p → IsTrue (is_written p)
+derived_written ts p d = (derived ts r.program _ _ _ p d (rule_written r.program)).0
+
 pub grammatical_written : (p : ProgramTree) → IsGrammatical p → IsTrue (is_written p)
-grammatical_written p g = (derived g.0 r.program _ _ _ p g.2 (rule_written r.program)).0
+grammatical_written p g = derived_written g.0 p g.2
 
 pub has_a_class : (p : ProgramTree) → IsGrammatical p → p ≢ []
 has_a_class p g = (derived g.0 r.program _ _ _ p g.2 (rule_written r.program)).1

@@ -177,6 +177,19 @@ pub enum Line {
     End(End),
 }
 
+/// Where an object stands: it can step; its body is done; it met a language error; its call is posted or served; its request for a new object, which goes to the node,
+/// is posted; its value is on a link; or it is at an answer or a select and nothing can be taken.
+#[derive(Clone, Copy)]
+pub enum Standing {
+    Ready,
+    Finished,
+    Faulted { error: Error },
+    Calls { to: u32, method: NameId },
+    Creates { class: NameId, node: u32 },
+    Due,
+    Awaits,
+}
+
 #[derive(Clone, Copy)]
 pub enum Place {
     At(u32),

@@ -103,9 +103,26 @@ record P N S | 5 |  | pool: placement: read fault;
 record P L N | 5 |  | pool: schedule: read fault;
 print N | 5 |  | pool: program: read fault;
 record L L S | 2 |  | pool: program: Unexpected at token 0;
-record P P S | 2 |  | pool: placement: NotYet;
-record P S S | 2 |  | pool: placement: NotYet;
-record P L L | 2 |  | pool: schedule: NotYet;
+record P P S | 2 |  | pool: placement: BadLine at line 1;
+record P S S | 2 |  | pool: placement: BadLine at line 1;
+record P L L | 2 |  | pool: schedule: BadLine at line 1;
+run P L S | 0 | 1;end quiet 1; | 
+run P L | 64 |  | usage: pool record|run|why P L S, pool print|code P, pool ring K;
+run P -L S | 64 |  | usage: pool record|run|why P L S, pool print|code P, pool ring K;
+run N L S | 5 |  | pool: program: read fault;
+code P | 0 | class Main 0;body 1;0 PushInt 1;1 Write;2 Halt; | 
+code P L | 64 |  | usage: pool record|run|why P L S, pool print|code P, pool ring K;
+code -P | 64 |  | usage: pool record|run|why P L S, pool print|code P, pool ring K;
+code N | 5 |  | pool: program: read fault;
+code S | 2 |  | pool: program: Unexpected at token 0;
+why P L S | 0 | 0.0 Main finished;end quiet 1; | 
+why P L | 64 |  | usage: pool record|run|why P L S, pool print|code P, pool ring K;
+why P L -S | 64 |  | usage: pool record|run|why P L S, pool print|code P, pool ring K;
+ring | 64 |  | usage: pool record|run|why P L S, pool print|code P, pool ring K;
+ring 1 | 64 |  | usage: pool record|run|why P L S, pool print|code P, pool ring K;
+ring 1001 | 64 |  | usage: pool record|run|why P L S, pool print|code P, pool ring K;
+ring two | 64 |  | usage: pool record|run|why P L S, pool print|code P, pool ring K;
+ring 2 2 | 64 |  | usage: pool record|run|why P L S, pool print|code P, pool ring K;
 print S | 2 |  | pool: program: Unexpected at token 0;";
 
 /// A text with `;` for each line feed.

@@ -1,4 +1,4 @@
-//! What is told of a program: its first fault, by `record` and by `print`; `NotYet` where it has none and is not of the form that is run, by `record` alone.
+//! What is told of a program: its first fault, by `record` and by `print`.
 use crate::calls::{Outcome, calm, printed};
 use crate::fault_rows::{
     ABSENCES, CALLS, DECLARATIONS, HELD, LANGUAGE, LIMITS, NESTING, OPERATORS, PHRASES, PLACES,
@@ -77,17 +77,10 @@ pub fn is_told(alloc: Global, program: &[u8], told: &str) -> Result<bool, AllocE
     let recorded = calm(alloc, program, b"quantum 1\n")?;
     let printed = printed(alloc, program)?;
     let line = format!(in alloc; "pool: program: {told}\n")?;
-    let by_record = if told == "accepted" {
-        is_accepted(&recorded)
-    } else {
-        is_refused(&recorded, line.as_bytes())
-    };
-    let by_print = if told == "accepted" || told == "NotYet" {
-        is_accepted(&printed)
-    } else {
-        is_refused(&printed, line.as_bytes())
-    };
-    Ok(by_record && by_print)
+    if told == "accepted" {
+        return Ok(is_accepted(&recorded) && is_accepted(&printed));
+    }
+    Ok(is_refused(&recorded, line.as_bytes()) && is_refused(&printed, line.as_bytes()))
 }
 
 fn is_right(alloc: Global, row: &str) -> Result<bool, AllocError> {

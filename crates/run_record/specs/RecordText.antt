@@ -59,6 +59,11 @@ abbrev pub item_text : List Text → Item → Text
 item_text names (I.Value v) = value_text v
 item_text names (I.Text id) = 34 ∷ (text_at names id ++ 34 ∷ [])
 
+-- what is written without the quotes of a string
+abbrev pub bare_text : List Text → Item → Text
+bare_text names (I.Value v) = value_text v
+bare_text names (I.Text id) = text_at names id
+
 abbrev pub error_text : Error → Text
 error_text error.NilDestination = codes "NilDestination"
 error_text error.NilOperand = codes "NilOperand"

@@ -17,4 +17,4 @@ mod write;
 pub use fault::RecordFault;
 pub use read::read_record;
 pub use steps::{Steps, label_of};
-pub use write::write_line;
+pub use write::{write_item, write_line};

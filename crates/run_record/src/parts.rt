@@ -1,7 +1,7 @@
 //! Values, texts, errors and written items of a line.
 ghost use Rattle.std.specs.Prelude.{◌≡◌, ◌+◌, ◌*◌, ◌<◌, ◌≤◌, [], ◌∷◌, ◌++◌, length, map};
 ghost use Rattle.arrayvec.specs.ArrayVec.{array_vec_len};
-ghost use Rattle.run_record.specs.RecordText.{error_text, item_text, led, text_at, value_text};
+ghost use Rattle.run_record.specs.RecordText.{bare_text, error_text, item_text, led, text_at, value_text};
 ghost use Rattle.run_record.specs.Writable.{AreShort, IsShort, id_of_item};
 
 use crate::text::{LineText, put, put_integer, put_object, put_word};
@@ -66,6 +66,19 @@ pub fn put_item(text: &mut LineText, names: &Names, item: Item)
     match item {
         Item::Value(value) => put_value(text, value),
         Item::Text(id) => put_string(text, names, id),
+    }
+}
+
+/// Puts a space and what is written, a string without quotes.
+pub fn put_bare(text: &mut LineText, names: &Names, item: Item)
+    requires room { array_vec_len text.old ≤ 253 }
+    requires short { AreShort names.now (id_of_item item) }
+    ensures items { text.new.items ≡ text.old.items ++ led (bare_text names.now item ∷ []) }
+    ensures size { array_vec_len text.new ≤ array_vec_len text.old + 257 }
+{
+    match item {
+        Item::Value(value) => put_value(text, value),
+        Item::Text(id) => put_name(text, names, id),
     }
 }
 

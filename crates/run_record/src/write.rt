@@ -2,13 +2,14 @@
 ghost use Rattle.std.specs.Prelude.{◌≡◌, ℕ, ◌+◌, ◌<◌, ◌≤◌, [], ◌∷◌, ◌++◌, length, take, option_map, OnOk, OnErr};
 ghost use Rattle.arrayvec.specs.ArrayVec.{array_vec_len};
 ghost use Rattle.pool_outside.specs.Outside.{Rose};
-ghost use Rattle.run_record.specs.RecordText.{end_words, event_words, full_text, joined, led, line_text, line_words};
-ghost use Rattle.run_record.specs.Writable.{IsWritable};
+ghost use Rattle.run_record.specs.RecordText.{bare_text, end_words, event_words, full_text, joined, led, line_text, line_words};
+ghost use Rattle.run_record.specs.Writable.{AreShort, IsWritable, id_of_item};
 
 use crate::labels::put_what;
+use crate::parts::put_bare;
 use crate::text::{LineText, put, put_digits, put_number, put_word};
 use pool_outside::{Sink, WriteFault, write_all_of};
-use pool_syntax::{End, Event, FullKind, Line, Names};
+use pool_syntax::{End, Event, FullKind, Item, Line, Names};
 
 /// Puts a turn of a node, or a move of a link's head.
 fn put_event(text: &mut LineText, event: Event)
@@ -93,6 +94,7 @@ pub fn write_line<K: Sink>(line: &Line, names: &Names, sink: &mut K) -> Result<(
     ensures whole { OnOk result (K.written sink.new ≡ option_map (λ w. w ++ line_text names.now line.now) (K.written sink.old)) }
     ensures front { OnErr result ((n : ℕ) × (n ≤ length (line_text names.now line.now)) × (K.written sink.new ≡ option_map (λ w. w ++ take n (line_text names.now line.now)) (K.written sink.old))) }
     ensures failed { OnErr result (Rose (K.faults sink.old) (K.faults sink.new)) }
+    ensures no_fault { OnOk result (K.faults sink.new ≡ K.faults sink.old) }
     ensures faults_stay_or_rise { K.faults sink.old ≤ K.faults sink.new }
     ensures short { length (line_text names.now line.now) < 500 }
 {
@@ -100,4 +102,20 @@ pub fn write_line<K: Sink>(line: &Line, names: &Names, sink: &mut K) -> Result<(
     put_line(&mut text, line, names);
     text.push(b'\n');
     write_all_of(sink, text.as_slice())
+}
+
+/// Writes what was written by an object, a string without quotes, and a line feed in one piece. A fault comes only where the
+/// sink's count of faults rose, and a front of the piece was then written. Takes no memory.
+pub fn write_item<K: Sink>(item: Item, names: &Names, sink: &mut K) -> Result<(), WriteFault>
+    requires { AreShort names.now (id_of_item item) }
+    ensures whole { OnOk result (K.written sink.new ≡ option_map (λ w. w ++ (bare_text names.now item ++ 10 ∷ [])) (K.written sink.old)) }
+    ensures front { OnErr result ((n : ℕ) × (n ≤ length (bare_text names.now item ++ 10 ∷ [])) × (K.written sink.new ≡ option_map (λ w. w ++ take n (bare_text names.now item ++ 10 ∷ [])) (K.written sink.old))) }
+    ensures failed { OnErr result (Rose (K.faults sink.old) (K.faults sink.new)) }
+    ensures no_fault { OnOk result (K.faults sink.new ≡ K.faults sink.old) }
+    ensures faults_stay_or_rise { K.faults sink.old ≤ K.faults sink.new }
+{
+    let mut text = LineText::new();
+    put_bare(&mut text, names, item);
+    put(&mut text, b"\n");
+    write_all_of(sink, &text.as_slice()[1..])
 }

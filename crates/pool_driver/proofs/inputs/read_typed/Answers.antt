@@ -19,7 +19,7 @@ returns-in-Err-judge_classes-clause-reads g c =
     judges_refusal I.Program IsTypedProgram HasTypedFault IsTypedProgramOf s stop
     (λ i f e. let why = h.refused i f (ap Err e) in (why.0, inr (program_of c.in-Ok.parsed.program, (c.in-Ok.parsed.names, is.parsed), why.1)))
     (λ i e. h.no_read i (ap Err e))
-    (λ q. let z = h.only (ap faults (is.only q.1.0.0 q.0 q.1.0.1) ∙ q.1.1) refl in let same : stop ≡ T.Memory = cc in same))
+    (λ q. let z = h.only (ap faults (is.only q.1.0.0 q.0 q.1.0.1).1 ∙ q.1.1) refl in let same : stop ≡ T.Memory = cc in same))
 
 pub returns-clause-reads : goal.returns-clause-reads
 returns-clause-reads g c = judged _ _ _ _ _ _ _ _ _ c.in-Ok.parsed _ c.in-Ok.ensures.reads (λ s is. R.fits c.in-Ok.parsed refl (is, c.in-Ok-judge_classes.ensures.typed refl))

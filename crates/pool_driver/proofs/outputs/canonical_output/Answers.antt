@@ -1,24 +1,25 @@
 use Rattle.std.proofs.Common.{◌∷◌, [], refl}
 use Rattle.pool_syntax.specs.TreeOf.{program_of}
 use Rattle.pool_driver.specs.declared.fault.Input.TheVariants as I
+use Rattle.command_words.specs.declared.command.Ask.TheVariants as As
 use Rattle.pool_driver.specs.declared.outputs.Output.TheVariants as O
-use Rattle.pool_driver.specs.Commands.{print_of}
+use Rattle.command_words.specs.Commands.{of_program}
 use Rattle.pool_driver.specs.Inputs.{IsAccepted}
 use Rattle.pool_driver.specs.Readers as R
-use Rattle.pool_driver.proofs.OutputLaws.{may_at, none_opened, reaches_printed}
+use Rattle.pool_driver.proofs.OutputLaws.{may_at, none_opened, reaches_asked}
 use Rattle.pool_driver.proofs.ReadLaws.{stops_at, was_read}
 use Rattle.pool_driver.proofs.outputs.canonical_output.Goals as goal
 
 pub read_typed-requires-clause-allowed : goal.read_typed-requires-clause-allowed
 read_typed-requires-clause-allowed g c =
-    may_at (g.F.Files.may c.args.files.now) (g.F.Files.may c.args.files.now) (print_of c.args.name.now) (g.F.Files.opens c.args.files.now) (g.F.Files.opens c.args.files.now) 0 I.Program c.args.name.now c.requires.allowed refl (none_opened (g.F.Files.opens c.args.files.now)) refl
+    may_at (g.F.Files.may c.args.files.now) (g.F.Files.may c.args.files.now) (of_program As.Canonical c.args.name.now) (g.F.Files.opens c.args.files.now) (g.F.Files.opens c.args.files.now) 0 I.Program c.args.name.now c.requires.allowed refl (none_opened (g.F.Files.opens c.args.files.now)) refl
 
 pub returns-in-Ok-clause-makes : goal.returns-in-Ok-clause-makes
 returns-in-Ok-clause-makes g c =
     let parsed = c.in-Ok.parsed in
     let w = was_read _ _ _ _ _ _ parsed c.in-Ok.ensures.reads in
     let is = w.2.0 in
-    let accepted : IsAccepted (print_of c.args.name.now) I.Program w.0 = (program_of parsed.program, ((parsed.names, is.parsed), w.2.1)) in
+    let accepted : IsAccepted [] I.Program w.0 = (program_of parsed.program, ((parsed.names, is.parsed), w.2.1)) in
     R.made (O.Canonical parsed) refl (record {
       texts = w.0 ∷ [];
       accepted = (w.1.0, accepted, tt);
@@ -26,9 +27,9 @@ returns-in-Ok-clause-makes g c =
       given = w.1.1;
       ended = w.1.2;
       calm = w.3;
-      output = (record { names = parsed.names; program = program_of parsed.program; parsed = is.parsed; typed = w.2.1; printed = refl }, refl);
+      output = (record { names = parsed.names; program = program_of parsed.program; parsed = is.parsed; typed = w.2.1; written = refl }, refl);
     }) is.spelled
 
 pub returns-in-Err-clause-makes : goal.returns-in-Err-clause-makes
 returns-in-Err-clause-makes g c =
-    stops_at _ _ _ _ _ _ (print_of c.args.name.now) c.in-Err.stop (λ s f h. h) (λ s q. q) (reaches_printed _ c.args.name.now c.in-Err.ensures.opened_once) c.in-Err.ensures.reads
+    stops_at _ _ _ _ _ _ (of_program As.Canonical c.args.name.now) c.in-Err.stop (reaches_asked _ As.Canonical c.args.name.now c.in-Err.ensures.opened_once) (λ s f h. h) (λ s q. q) c.in-Err.ensures.reads

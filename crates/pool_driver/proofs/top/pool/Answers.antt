@@ -1,25 +1,33 @@
-use Rattle.std.proofs.Common.{sym, refl}
-use Rattle.pool_driver.specs.Commands.{request}
+use Rattle.std.proofs.Common.{◌∙◌, option_map, ap, sym, refl, inr}
+use Rattle.command_words.specs.Commands.{request}
+use Rattle.pool_driver.specs.Ends as E
 use Rattle.pool_driver.proofs.EndLaws.{stop_completes, stop_ends, text_completes, text_ends, usage_ends}
 use Rattle.pool_driver.proofs.top.pool.Goals as goal
 
-pub returns-in-Ok-clause-ends : goal.returns-in-Ok-clause-ends
-returns-in-Ok-clause-ends g c =
-    text_ends _ _ _ _ (request c.in-Some.command) c.in-Ok.made c.write_output.result (sym c.in-Some.ensures) c.in-Ok.ensures.makes c.write_output.ensures (refl, refl)
-
-pub returns-in-Ok-clause-complete : goal.returns-in-Ok-clause-complete
-returns-in-Ok-clause-complete g c r words served read out err =
-    text_completes _ _ _ (g.E.Sink.written c.args.err.now) (g.E.Sink.faults c.args.err.now) (request c.in-Some.command) c.in-Ok.made c.write_output.result (sym c.in-Some.ensures) c.in-Ok.ensures.makes
-    c.write_output.ensures r words served read out err
-
 pub returns-in-Err-clause-ends : goal.returns-in-Err-clause-ends
-returns-in-Err-clause-ends g c =
-    stop_ends _ _ _ _ (request c.in-Some.command) c.in-Err.stop c.say_stop.result (sym c.in-Some.ensures) c.in-Err.ensures.makes c.say_stop.ensures (refl, refl)
+returns-in-Err-clause-ends g c = E.no_memory (refl, refl) (refl, refl) refl
 
 pub returns-in-Err-clause-complete : goal.returns-in-Err-clause-complete
-returns-in-Err-clause-complete g c r words served read out err =
-    stop_completes _ _ _ (g.K.Sink.written c.args.out.now) (g.K.Sink.faults c.args.out.now) (request c.in-Some.command) c.in-Err.stop c.say_stop.result (sym c.in-Some.ensures) c.in-Err.ensures.makes
-    c.say_stop.ensures r words served read out err
+returns-in-Err-clause-complete g c r words served read out err = inr refl
+
+pub returns-in-Ok-make_output-clause-ends : goal.returns-in-Ok-make_output-clause-ends
+returns-in-Ok-make_output-clause-ends g c =
+    text_ends _ _ _ _ (request c.in-Some.command) c.in-Ok-make_output.made c.write_output.result (sym c.in-Ok.ensures.request ∙ ap (option_map request) c.in-Some.is) c.in-Ok-make_output.ensures.makes c.write_output.ensures (refl, refl)
+
+pub returns-in-Ok-make_output-clause-complete : goal.returns-in-Ok-make_output-clause-complete
+returns-in-Ok-make_output-clause-complete g c r words served read out err =
+    text_completes _ _ _ (g.E.Sink.written c.args.err.now) (g.E.Sink.faults c.args.err.now) (request c.in-Some.command) c.in-Ok-make_output.made c.write_output.result
+    (sym c.in-Ok.ensures.request ∙ ap (option_map request) c.in-Some.is) c.in-Ok-make_output.ensures.makes c.write_output.ensures r words served read out err
+
+pub returns-in-Err-make_output-clause-ends : goal.returns-in-Err-make_output-clause-ends
+returns-in-Err-make_output-clause-ends g c =
+    stop_ends _ _ _ _ (request c.in-Some.command) c.in-Err-make_output.stop c.say_stop.result (sym c.in-Ok.ensures.request ∙ ap (option_map request) c.in-Some.is) c.in-Err-make_output.ensures.makes c.say_stop.ensures (refl, refl)
+
+pub returns-in-Err-make_output-clause-complete : goal.returns-in-Err-make_output-clause-complete
+returns-in-Err-make_output-clause-complete g c r words served read out err =
+    stop_completes _ _ _ (g.K.Sink.written c.args.out.now) (g.K.Sink.faults c.args.out.now) (request c.in-Some.command) c.in-Err-make_output.stop c.say_stop.result
+    (sym c.in-Ok.ensures.request ∙ ap (option_map request) c.in-Some.is) c.in-Err-make_output.ensures.makes c.say_stop.ensures r words served read out err
 
 pub returns-in-None-clause-ends : goal.returns-in-None-clause-ends
-returns-in-None-clause-ends g c = usage_ends _ _ _ _ c.say.result (sym c.in-None.ensures) refl refl c.say.ensures (refl, refl)
+returns-in-None-clause-ends g c =
+    usage_ends _ _ _ _ c.say.result (sym c.in-Ok.ensures.request ∙ ap (option_map request) c.in-None.is) refl refl c.say.ensures (refl, refl)

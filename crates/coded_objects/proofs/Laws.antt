@@ -1,0 +1,8 @@
+-- The lemmas that other crates cite: the laws of code of a proper unit as a language of objects, of its start, and of what its lines name.
+pub use Rattle.coded_objects.proofs.KeptCode.{code_lawful}
+pub use Rattle.coded_objects.proofs.Callers.{code_requests, code_keeps, code_serves}
+pub use Rattle.coded_objects.proofs.Named.{code_names}
+pub use Rattle.coded_objects.proofs.Begins.{start_of_code, start_there, root_rests, code_makes, code_fits, code_start_sound}
+pub use Rattle.coded_objects.proofs.Configs.{map_object, object_stays}
+pub use Rattle.coded_objects.proofs.Naming.{name_of, object_named, kind_named}
+pub use Rattle.coded_objects.proofs.KnownLines.{acts_known, lines_known, record_known, each_line_known}

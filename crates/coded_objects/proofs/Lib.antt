@@ -1,0 +1,12 @@
+pub mod Inversions
+pub mod Callers
+pub mod LawfulCode
+pub mod Methods
+pub mod Configs
+pub mod Tested
+pub mod Naming
+pub mod KeptCode
+pub mod Named
+pub mod Begins
+pub mod KnownLines
+pub mod Laws

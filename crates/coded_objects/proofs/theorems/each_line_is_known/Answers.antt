@@ -1,0 +1,8 @@
+use Rattle.coded_objects.proofs.KnownLines.{acts_known, each_line_known}
+use Rattle.coded_objects.proofs.theorems.each_line_is_known.Goals as goal
+
+pub returns-clause-event : goal.returns-clause-event
+returns-clause-event x = λ u l q c d e what c' d' proper fit s h. acts_known u proper l c d s q e what c' d' fit h
+
+pub returns-clause-record_lines : goal.returns-clause-record_lines
+returns-clause-record_lines x = λ u l q es number e what proper fit h. each_line_known u proper l fit q es number e what h

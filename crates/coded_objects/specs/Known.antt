@@ -1,0 +1,45 @@
+-- Lines whose name, if they have one, is a place of a table of so many names: a class, a method or a string. No line has two.
+use Rattle.std.specs.Prelude.{◌≡◌, ◌⊎◌, ℕ, ◌<◌, List, [], ◌∷◌}
+use Rattle.pool_syntax.specs.declared.words.Item.{Item}
+use Rattle.pool_syntax.specs.declared.words.Item.TheVariants as I
+use Rattle.pool_syntax.specs.declared.words.Label.{Label}
+use Rattle.pool_syntax.specs.declared.words.Label.TheVariants as L
+use Rattle.pool_syntax.specs.declared.words.What.{What}
+use Rattle.pool_syntax.specs.declared.words.What.TheVariants as W
+use Rattle.pool_syntax.specs.declared.words.Line.{Line}
+use Rattle.pool_syntax.specs.declared.words.Line.TheVariants as R
+
+abbrev pub IsKnownItem : ℕ → Item → Type 0
+IsKnownItem count (I.Value v) = Unit {0}
+IsKnownItem count (I.Text s) = s.0 < count
+
+abbrev pub IsKnownLabel : ℕ → Label → Type 0
+IsKnownLabel count (L.Local o) = Unit {0}
+IsKnownLabel count (L.New o n c) = c.0 < count
+IsKnownLabel count (L.Answer b o m args) = m.0 < count
+IsKnownLabel count (L.Return b o v) = Unit {0}
+IsKnownLabel count (L.Send o b m args) = m.0 < count
+IsKnownLabel count (L.Take b s m args) = m.0 < count
+IsKnownLabel count (L.Write o item) = IsKnownItem count item
+IsKnownLabel count (L.Pick o i) = Unit {0}
+IsKnownLabel count (L.Fault o e) = Unit {0}
+
+-- what happened names a place of the table, if it names anything
+abbrev pub IsKnownIn : ℕ → What → Type 0
+IsKnownIn count (W.Step label times) = IsKnownLabel count label
+IsKnownIn count (W.PostCreate o c goal) = c.0 < count
+IsKnownIn count (W.PostCall o b m args) = m.0 < count
+IsKnownIn count (W.Arrive o r m) = m.0 < count
+IsKnownIn count (W.Created o name) = Unit {0}
+IsKnownIn count (W.Result o v) = Unit {0}
+IsKnownIn count W.Pass = Unit {0}
+IsKnownIn count W.Idle = Unit {0}
+
+abbrev pub IsKnownLine : ℕ → Line → Type 0
+IsKnownLine count (R.Event number event what) = IsKnownIn count what
+IsKnownLine count (R.End end) = Unit {0}
+
+-- the line is one of these
+abbrev pub HasLine : Line → List Line → Type 0
+HasLine z [] = ⊥
+HasLine z (y ∷ ys) = (y ≡ z) ⊎ HasLine z ys

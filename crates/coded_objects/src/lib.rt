@@ -1,0 +1,4 @@
+//! Code as a language of objects.
+#![tactic(auto)]
+
+pub mod theorems;

@@ -1,0 +1,12 @@
+use Rattle.std.proofs.Common.{◌∙◌, ◌||◌, ap₂}
+use Rattle.std.proofs.lemmas.Result.{IfOk-weaker}
+use Rattle.clap.specs.Words.{with_rule}
+use Rattle.command_words.proofs.words.of_word.Goals as goal
+
+pub returns-clause-app : goal.returns-clause-app
+returns-clause-app c = IfOk-weaker c.arg.result _ _
+    (λ r h. h.shape c.positional.ensures.local ∙ ap₂ with_rule c.new.ensures.app c.positional.ensures.rule) c.arg.ensures
+
+pub returns-clause-local : goal.returns-clause-local
+returns-clause-local c = IfOk-weaker c.arg.result _ _
+    (λ r h. h.globals ∙ ap₂ (λ a b. a || b) c.new.ensures.local c.positional.ensures.local) c.arg.ensures

@@ -1,0 +1,60 @@
+-- The command line as `clap` has it, and what its matches ask for.
+use Rattle.std.specs.Prelude.{List, Option, Some, None, option_map, option_and_then, true, codes, bytes_eq, if◌then◌else◌}
+use Rattle.pool_syntax.specs.Tokens.{Text}
+use Rattle.pool_lexer.specs.Lines.{decimal_of}
+use Rattle.clap.specs.Words.{App, Row, Rule, Shape, first_of, new_app, new_rule, with_rule, with_subcommand}
+use Rattle.clap.specs.Simple.{on_top}
+use Rattle.command_words.specs.Commands.{Request, ask_of, of_program, of_ring, of_run, ring_size, show_of}
+use Rattle.command_words.specs.declared.command.Ask.{Ask}
+use Rattle.command_words.specs.declared.command.Show.{Show}
+
+-- a required positional argument of this name
+abbrev pub positional : Text → Rule
+positional id = record (new_rule id) { required = true }
+
+-- a command of three names
+abbrev pub files_app : Text → App
+files_app name = with_rule (with_rule (with_rule (new_app name) (positional (codes "program"))) (positional (codes "placement"))) (positional (codes "schedule"))
+
+-- a command of one word
+abbrev pub word_app : Text → Text → App
+word_app name id = with_rule (new_app name) (positional id)
+
+-- no program's name stands before the words, nothing asks for help, and there must be a subcommand
+abbrev pub settings : Shape → Shape
+settings s = record s { no_binary_name = true; disable_help_flag = true; disable_help_subcommand = true; subcommand_required = true }
+
+abbrev pub pool_app : App
+pool_app =
+    with_subcommand (with_subcommand (with_subcommand (with_subcommand (with_subcommand (with_subcommand (on_top settings (new_app (codes "pool")))
+    (files_app (codes "record")).top) (files_app (codes "run")).top) (files_app (codes "why")).top)
+    (word_app (codes "print") (codes "program")).top) (word_app (codes "code") (codes "program")).top)
+    (word_app (codes "ring") (codes "cells")).top
+
+-- what the matches of a subcommand ask for
+
+abbrev pub with_names : Show → Option Text → Option Text → Option Text → Option Request
+with_names show (Some p) (Some l) (Some s) = Some (of_run show (record { program = p; placement = l; schedule = s }))
+with_names show _ _ _ = None
+
+abbrev pub run_request : Show → List Row → Option Request
+run_request show rows = with_names show (first_of (codes "program") rows) (first_of (codes "placement") rows) (first_of (codes "schedule") rows)
+
+abbrev pub program_request : Ask → List Row → Option Request
+program_request ask rows = option_map (of_program ask) (first_of (codes "program") rows)
+
+abbrev pub ring_request : List Row → Option Request
+ring_request rows = option_and_then (λ k. option_map of_ring (ring_size (decimal_of k))) (first_of (codes "cells") rows)
+
+abbrev pub other_request : Option Ask → Text → List Row → Option Request
+other_request (Some ask) name rows = program_request ask rows
+other_request None name rows = if bytes_eq name (codes "ring") then ring_request rows else None
+
+abbrev pub named_request : Option Show → Text → List Row → Option Request
+named_request (Some show) name rows = run_request show rows
+named_request None name rows = other_request (ask_of name) name rows
+
+-- what a subcommand with these matches asks for
+abbrev pub matched_request : Option (Text × List Row) → Option Request
+matched_request None = None
+matched_request (Some p) = named_request (show_of p.0) p.0 p.1

@@ -1,0 +1,81 @@
+-- The words of a command.
+use Rattle.std.specs.Prelude.{ℕ, List, [], ◌∷◌, ◌&&◌, ◌≤◌, nat_le, Option, Some, None, option_map, Bool, false, not, if◌then◌else◌, bytes_eq, codes, nat_eq, map, string_bytes, String}
+use Rattle.pool_syntax.specs.Tokens.{Text}
+use Rattle.pool_lexer.specs.Lines.{decimal_of}
+use Rattle.pool_lexer.specs.declared.places.Decimal.{Decimal}
+use Rattle.pool_lexer.specs.declared.places.Decimal.TheVariants as Number
+use Rattle.command_words.specs.declared.command.Show.{Show}
+use Rattle.command_words.specs.declared.command.Show.TheVariants as Sh
+use Rattle.command_words.specs.declared.command.Ask.{Ask}
+use Rattle.command_words.specs.declared.command.Ask.TheVariants as As
+use Rattle.command_words.specs.declared.command.Files.{Files}
+use Rattle.command_words.specs.declared.command.Command.{Command}
+use Rattle.command_words.specs.declared.command.Command.TheVariants as C
+
+-- the names of a program, a placement and a schedule
+pub record FileNames : Type 0 where
+  pub program : Text
+  pub placement : Text
+  pub schedule : Text
+
+-- what the words ask for: a run of three inputs, and what of it is shown; something of a program of this name; or the ring of so many cells
+pub data Request : Type 0 where
+  of_run : (show : Show) (names : FileNames) → Request
+  of_program : (ask : Ask) (name : Text) → Request
+  of_ring : (k : ℕ) → Request
+
+-- a word that begins with `-`
+abbrev pub is_option : Text → Bool
+is_option [] = false
+is_option (b ∷ bs) = nat_eq b 45
+
+-- what a command of three inputs shows
+abbrev pub show_of : Text → Option Show
+show_of w =
+    if bytes_eq w (codes "record") then Some Sh.Record
+    else (if bytes_eq w (codes "run") then Some Sh.Writes
+    else (if bytes_eq w (codes "why") then Some Sh.Report else None))
+
+-- what a command asks of a program
+abbrev pub ask_of : Text → Option Ask
+ask_of w = if bytes_eq w (codes "print") then Some As.Canonical else (if bytes_eq w (codes "code") then Some As.Listing else None)
+
+-- from 2 to 1000 cells
+abbrev pub ring_size : Decimal → Option ℕ
+ring_size Number.NotDigits = None
+ring_size Number.TooLarge = None
+ring_size (Number.Value k) = if nat_le 2 k && nat_le k 1000 then Some k else None
+
+abbrev pub ring_of : Text → Text → Option Request
+ring_of c k = if bytes_eq c (codes "ring") then option_map of_ring (ring_size (decimal_of k)) else None
+
+abbrev pub program_or_ring : Option Ask → Text → Text → Option Request
+program_or_ring (Some ask) c name = Some (of_program ask name)
+program_or_ring None c k = ring_of c k
+
+-- a command of three inputs, one of a program, or `ring` and a number; no word begins with `-`
+abbrev pub request_of : List Text → Option Request
+request_of (c ∷ p ∷ l ∷ s ∷ []) =
+    if not (is_option p) && (not (is_option l) && not (is_option s))
+    then option_map (λ show. of_run show (record { program = p; placement = l; schedule = s })) (show_of c)
+    else None
+request_of (c ∷ p ∷ []) = if not (is_option p) then program_or_ring (ask_of c) c p else None
+request_of _ = None
+
+-- the words as texts
+abbrev pub texts_of : {A : Type 0} → List (String A) → List Text
+texts_of words = map string_bytes words
+
+abbrev pub names_of : Files → FileNames
+names_of f = record { program = f.program.now; placement = f.placement.now; schedule = f.schedule.now }
+
+abbrev pub request : Command → Request
+request (C.Run show files) = of_run show (names_of files)
+request (C.Program ask name) = of_program ask name.now
+request (C.Ring cells) = of_ring cells
+
+-- a ring has from 2 to 1000 cells
+abbrev pub IsSized : Command → Type 0
+IsSized (C.Run show files) = Unit {0}
+IsSized (C.Program ask name) = Unit {0}
+IsSized (C.Ring cells) = (2 ≤ cells) × (cells ≤ 1000)

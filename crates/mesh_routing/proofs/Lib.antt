@@ -1,0 +1,7 @@
+mod Steps
+mod Rising
+mod Found
+mod Sorted
+mod Leaving
+mod Changed
+mod Routed

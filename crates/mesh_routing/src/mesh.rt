@@ -1,0 +1,111 @@
+//! The nodes and links of a mesh.
+ghost use Rattle.std.specs.Prelude.{◌≡◌, ◌<◌, ◌≤◌, ◌*◌, ◌↔◌, Some, IsNone, IsTrue, IfSome, length, slice_get};
+ghost use Rattle.mesh_semantics.specs.Paths.{toward, Adjacent, AreNeighbours};
+ghost use Rattle.mesh_routing.specs.Ways.{back, ends};
+
+/// A mesh of 1 to 8 columns and 1 to 8 rows. Node k stands in column k mod `width` and row k div `width`. A link goes
+/// from each node to each that stands beside it in its row or its column.
+#[derive(Clone, Copy)]
+pub struct Mesh {
+    pub width: u32,
+    pub height: u32,
+    pub ghost wide: { (1 ≤ width) × (width ≤ 8) },
+    pub ghost high: { (1 ≤ height) × (height ≤ 8) },
+}
+
+impl Mesh {
+    /// A mesh of this many columns and rows, 1 to 8 of each.
+    pub fn make(width: u32, height: u32) -> Mesh
+        requires wide { (1 ≤ width) × (width ≤ 8) }
+        requires high { (1 ≤ height) × (height ≤ 8) }
+        ensures width { result.width ≡ width }
+        ensures height { result.height ≡ height }
+    {
+        Mesh { width, height }
+    }
+
+    /// The next node on the way to another one: first along the row, then along the column. None at the goal.
+    pub fn next(&self, at: u32, to: u32) -> Option<u32>
+        requires at { at < self.now.width * self.now.height }
+        requires to { to < self.now.width * self.now.height }
+        ensures none { IsNone result ↔ (at ≡ to) }
+        ensures some { IfSome result (λ n. n ≡ toward self.now.width at to) }
+        ensures link { IfSome result (λ n. (n < self.now.width * self.now.height) × AreNeighbours self.now.width at n) }
+    {
+        if at == to {
+            return None;
+        }
+        let column = at % self.width;
+        let goal = to % self.width;
+        let next = if column == goal {
+            if at < to {
+                at + self.width
+            } else {
+                at - self.width
+            }
+        } else if column < goal {
+            at + 1
+        } else {
+            at - 1
+        };
+        Some(next)
+    }
+
+    /// Whether a link goes from the one node to the other.
+    pub fn is_link(&self, from: u32, to: u32) -> bool
+        requires from { from < self.now.width * self.now.height }
+        requires to { to < self.now.width * self.now.height }
+        ensures { IsTrue result ↔ AreNeighbours self.now.width from to }
+    {
+        let same_row = from / self.width == to / self.width;
+        let same_column = from % self.width == to % self.width;
+        let beside = adjacent(from % self.width, to % self.width);
+        let above = adjacent(from / self.width, to / self.width);
+        (same_row && beside) || (same_column && above)
+    }
+
+    // How many links leave the node.
+    pub(crate) fn ways(&self, from: u32) -> usize
+        requires { from < self.now.width * self.now.height }
+        ensures { result ≡ length (ends self.now.width self.now.height from) }
+    {
+        self.ways_back(from)
+            + (from % self.width + 1 < self.width) as usize
+            + (from + self.width < self.width * self.height) as usize
+    }
+
+    // How many of them lead to nodes with less numbers.
+    fn ways_back(&self, from: u32) -> usize
+        requires { from < self.now.width * self.now.height }
+        ensures { result ≡ back self.now.width from }
+    {
+        (self.width <= from) as usize + (0 < from % self.width) as usize
+    }
+
+    // The place of a link among those that leave its first node, by rising numbers of the nodes at their ends.
+    pub(crate) fn way(&self, from: u32, to: u32) -> usize
+        requires from { from < self.now.width * self.now.height }
+        requires to { to < self.now.width * self.now.height }
+        requires beside { AreNeighbours self.now.width from to }
+        ensures { slice_get (ends self.now.width self.now.height from) result ≡ Some to }
+    {
+        if to + self.width == from {
+            return 0;
+        }
+        if to < from {
+            return (self.width <= from) as usize;
+        }
+        if to == from + 1 && from % self.width + 1 < self.width {
+            return self.ways_back(from);
+        }
+        self.ways_back(from) + (from % self.width + 1 < self.width) as usize
+    }
+}
+
+// Whether one of the two follows the other.
+fn adjacent(x: u32, y: u32) -> bool
+    requires { (x < 64) × (y < 64) }
+    ensures { IsTrue result ↔ Adjacent x y }
+{
+    x + 1 == y || y + 1 == x
+}

@@ -1,0 +1,4 @@
+pub mod Insides
+pub mod Objects
+pub mod Padding
+pub mod Stacks

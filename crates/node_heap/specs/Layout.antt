@@ -1,0 +1,27 @@
+-- The objects of a heap, as its slots, its queues of frames and its row of variables make them.
+use Rattle.std.specs.Prelude.{◌≡◌, ℕ, ◌*◌, ◌<◌, ◌≤◌, List, [], ◌∷◌, length, map, take, drop, replicate}
+use Rattle.pool_syntax.specs.declared.words.Value.{Value}
+use Rattle.pool_syntax.specs.declared.words.Value.TheVariants.{Nil}
+use Rattle.object_code.specs.declared.unit.Frame.{Frame}
+use Rattle.object_code.specs.declared.unit.CodeObject.{CodeObject}
+use Rattle.node_heap.specs.declared.cells.FrameCell.{FrameCell}
+use Rattle.node_heap.specs.declared.cells.Slot.{Slot}
+
+abbrev pub frame_of : FrameCell → Frame
+frame_of c = record { method = c.method; at = c.at; temps = c.temps; operands = c.operands; serves = c.serves }
+
+-- the object of a slot with these frames, whose variables are the first of these values
+abbrev pub object_of : Slot → List FrameCell → List Value → CodeObject
+object_of s cs vs = record { class = s.class; vars = take s.vars vs; frames = map frame_of cs }
+
+-- the objects of these slots, where each has w values
+abbrev pub objects_of : ℕ → List Slot → List (List FrameCell) → List Value → List CodeObject
+objects_of w [] queues vs = []
+objects_of w (s ∷ ss) [] vs = []
+objects_of w (s ∷ ss) (cs ∷ queues) vs = object_of s cs vs ∷ objects_of w ss queues (drop w vs)
+
+-- each slot has its frames and its variables, and behind the slots there are no frames, and nil values
+abbrev pub IsLaid : ℕ → List Slot → List (List FrameCell) → List Value → Type 0
+IsLaid w [] queues vs = (queues ≡ replicate (length queues) []) × (vs ≡ replicate (length queues * w) Nil)
+IsLaid w (s ∷ ss) [] vs = ⊥
+IsLaid w (s ∷ ss) (cs ∷ queues) vs = (s.vars ≤ w) × (0 < length cs) × (w ≤ length vs) × IsLaid w ss queues (drop w vs)

@@ -1,0 +1,4 @@
+pub mod Heaps
+pub mod Layout
+pub mod Parts
+pub mod Rows

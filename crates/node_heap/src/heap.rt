@@ -1,0 +1,247 @@
+//! The objects of one node.
+ghost use Rattle.std.specs.Prelude.{◌≡◌, ◌<◌, ◌≤◌, ◌↔◌, [], ◌∷◌, ◌++◌, length, slice_set, Some, IfOk, OnErr, OnOk, Err};
+ghost use Rattle.pool_syntax.specs.declared.words.Serves.TheVariants as S;
+ghost use Rattle.object_code.specs.Frames.{top, below};
+ghost use Rattle.object_code.specs.Step.{nth};
+ghost use Rattle.node_heap.specs.Heaps.{object_at, put_object, frames_used, unbegun, frame_by, head_by, top_in, under_top, top_at, put_top};
+
+use crate::cells::{FrameCell, Slot};
+use crate::words::{FrameHead, HeapFull, HeapLimits};
+use cell_pool::CellPool;
+use pool_syntax::Value;
+use std::alloc::{AllocError, Global};
+use std::marker::Model;
+
+/// Object slots, variables and frames of one node. Slots are numbered from 0 in the order of `place` and are never
+/// given back. Contracts see for each slot an object of code.
+#[derive(Drop)]
+pub struct Heap {
+    limits: HeapLimits,
+    slots: Vec<Slot>,
+    values: Vec<Value>,
+    frames: CellPool<FrameCell>,
+}
+
+impl Model for Heap {
+    ghost use Rattle.object_code.specs.contracts.unit.CodeObject as image;
+    ghost use Rattle.node_heap.specs.Heaps.{HeapOf, heap_code};
+
+    ghost Value = { HeapOf };
+
+    ghost coded = { heap_code image.the_row.coded };
+
+    ghost use Rattle.node_heap.specs.Parts.{heap_of, IsHeap};
+
+    ghost view = { heap_of };
+
+    ghost invariant = { IsHeap };
+}
+
+impl Heap {
+    /// Takes the memory of all slots, variables and frames. No object is placed yet. The objects are at most 4096, the
+    /// frames at most 16384, the variables of an object at most 64, and the node is below 64. Err where the memory is
+    /// not had.
+    pub fn make(alloc: Global, limits: HeapLimits) -> Result<Heap, AllocError>
+        requires node { limits.node < 64 }
+        requires objects { limits.objects ≤ 4096 }
+        requires frames { limits.frames ≤ 16384 }
+        requires vars { limits.vars ≤ 64 }
+        ensures { IfOk result (λ h. h ≡ record { node = limits.node; most_objects = limits.objects; most_frames = limits.frames; most_vars = limits.vars; objects = [] }) }
+    {
+        let objects = limits.objects as usize;
+        let count = objects * limits.vars as usize;
+        let slots = Vec::with_capacity(alloc, objects)?;
+        let mut values = Vec::with_capacity(alloc, count)?;
+        values.resize(count, Value::Nil)?;
+        let frames = CellPool::make(alloc, limits.frames as usize, objects)?;
+        Ok(Heap {
+            limits,
+            slots,
+            values,
+            frames,
+        })
+    }
+
+    /// Makes a slot: an object of the class of this place, with so many variables, all nil, and the frame of its body.
+    /// The answer is its number. `Objects` comes exactly where as many objects are placed as the limit, and `Frames`
+    /// exactly where that is not so and as many frames are in use as the limit; nothing is then changed.
+    pub fn place(&mut self, class: u32, vars: u32) -> Result<u32, HeapFull>
+        requires { vars ≤ self.old.most_vars }
+        ensures ok { IfOk result (λ slot. (slot ≡ length self.old.objects) × (self.new ≡ record self.old { objects = self.old.objects ++ unbegun class vars ∷ [] })) }
+        ensures err { OnErr result (self.new ≡ self.old) }
+        ensures objects { (result ≡ Err HeapFull.Objects) ↔ (length self.old.objects ≡ self.old.most_objects) }
+        ensures frames { (result ≡ Err HeapFull.Frames) ↔ ((length self.old.objects < self.old.most_objects) × (frames_used self.old ≡ self.old.most_frames)) }
+    {
+        let slot = self.slots.len();
+        if slot == self.limits.objects as usize {
+            return Err(HeapFull::Objects);
+        }
+        match self.frames.push_front(slot, FrameCell::body()) {
+            Ok(()) => {
+                self.slots.push_reserved(Slot { class, vars });
+                Ok(slot as u32)
+            }
+            Err(_) => Err(HeapFull::Frames),
+        }
+    }
+
+    /// Puts a frame on top of a slot's, at place 0, with nil temps and no operands. `Frames`, and nothing else, comes
+    /// exactly where as many frames are in use as the limit; nothing is then changed.
+    pub fn push_frame(&mut self, slot: u32, frame: FrameHead) -> Result<(), HeapFull>
+        requires slot { slot < length self.old.objects }
+        requires temps { frame.temps ≤ 32 }
+        ensures ok { OnOk result (self.new ≡ put_object self.old slot (record (object_at self.old slot) { frames = frame_by frame ∷ (object_at self.old slot).frames })) }
+        ensures err { OnErr result ((result ≡ Err HeapFull.Frames) × (self.new ≡ self.old)) }
+        ensures full { (result ≡ Err HeapFull.Frames) ↔ (frames_used self.old ≡ self.old.most_frames) }
+    {
+        match self
+            .frames
+            .push_front(slot as usize, FrameCell::begin(frame))
+        {
+            Ok(()) => Ok(()),
+            Err(_) => Err(HeapFull::Frames),
+        }
+    }
+
+    /// Takes the top frame of a slot, which is not its body's.
+    pub fn pop_frame(&mut self, slot: u32) -> FrameHead
+        requires slot { slot < length self.old.objects }
+        requires frames { 1 < length (object_at self.old slot).frames }
+        ensures head { result ≡ head_by (top_at self.old slot) }
+        ensures frames { self.new ≡ put_object self.old slot (record (object_at self.old slot) { frames = under_top (object_at self.old slot).frames }) }
+    {
+        self.frames.remove(slot as usize, 0).head()
+    }
+
+    /// The head of a slot's top frame.
+    pub fn head(&self, slot: u32) -> FrameHead
+        requires { slot < length self.now.objects }
+        ensures { result ≡ head_by (top_at self.now slot) }
+    {
+        self.frames.get(slot as usize, 0).head()
+    }
+
+    /// The place in its code at which a slot's top frame stands.
+    pub fn at(&self, slot: u32) -> u32
+        requires { slot < length self.now.objects }
+        ensures { result ≡ (top_at self.now slot).at }
+    {
+        self.frames.get(slot as usize, 0).at
+    }
+
+    /// Moves a slot's top frame to a place in its code.
+    pub fn set_at(&mut self, slot: u32, at: u32)
+        requires { slot < length self.old.objects }
+        ensures { self.new ≡ put_top self.old slot (record (top_at self.old slot) { at = at }) }
+    {
+        let frame = self.frames.get_mut(slot as usize, 0);
+        frame.at = at;
+    }
+
+    /// Variable `k` of a slot, from 0.
+    pub fn load_var(&self, slot: u32, k: u32) -> Value
+        requires slot { slot < length self.now.objects }
+        requires place { k < length (object_at self.now slot).vars }
+        ensures { result ≡ nth (object_at self.now slot).vars k }
+    {
+        self.values[slot as usize * self.limits.vars as usize + k as usize]
+    }
+
+    /// Gives variable `k` of a slot this value.
+    pub fn store_var(&mut self, slot: u32, k: u32, value: Value)
+        requires slot { slot < length self.old.objects }
+        requires place { k < length (object_at self.old slot).vars }
+        ensures { self.new ≡ put_object self.old slot (record (object_at self.old slot) { vars = slice_set (object_at self.old slot).vars k value }) }
+    {
+        let place = slot as usize * self.limits.vars as usize + k as usize;
+        self.values[place] = value;
+    }
+
+    /// Parameter or local `k` of a slot's top frame, from 0.
+    pub fn load_temp(&self, slot: u32, k: u32) -> Value
+        requires slot { slot < length self.now.objects }
+        requires place { k < length (top_at self.now slot).temps }
+        ensures { result ≡ nth (top_at self.now slot).temps k }
+    {
+        self.frames.get(slot as usize, 0).temps.load(k)
+    }
+
+    /// Gives parameter or local `k` of a slot's top frame this value.
+    pub fn store_temp(&mut self, slot: u32, k: u32, value: Value)
+        requires slot { slot < length self.old.objects }
+        requires place { k < length (top_at self.old slot).temps }
+        ensures { self.new ≡ put_top self.old slot (record (top_at self.old slot) { temps = slice_set (top_at self.old slot).temps k value }) }
+    {
+        let frame = self.frames.get_mut(slot as usize, 0);
+        frame.temps.store(k, value);
+    }
+
+    /// Puts a value on the operands of a slot's top frame, which are fewer than 64.
+    pub fn push(&mut self, slot: u32, value: Value)
+        requires slot { slot < length self.old.objects }
+        requires room { length (top_at self.old slot).operands < 64 }
+        ensures { self.new ≡ put_top self.old slot (record (top_at self.old slot) { operands = value ∷ (top_at self.old slot).operands }) }
+    {
+        let frame = self.frames.get_mut(slot as usize, 0);
+        frame.operands.push(value);
+    }
+
+    /// Takes the last operand of a slot's top frame.
+    pub fn pop(&mut self, slot: u32) -> Value
+        requires slot { slot < length self.old.objects }
+        requires one { 0 < length (top_at self.old slot).operands }
+        ensures value { result ≡ top (top_at self.old slot).operands }
+        ensures rest { self.new ≡ put_top self.old slot (record (top_at self.old slot) { operands = below (top_at self.old slot).operands }) }
+    {
+        let frame = self.frames.get_mut(slot as usize, 0);
+        frame.operands.pop()
+    }
+
+    /// The operand of a slot's top frame that has so many others above it.
+    pub fn operand(&self, slot: u32, from_top: u32) -> Value
+        requires slot { slot < length self.now.objects }
+        requires place { from_top < length (top_at self.now slot).operands }
+        ensures { result ≡ nth (top_at self.now slot).operands from_top }
+    {
+        self.frames.get(slot as usize, 0).operands.get(from_top)
+    }
+
+    /// The place of the class of a slot's object in the unit.
+    pub fn class_of(&self, slot: u32) -> u32
+        requires { slot < length self.now.objects }
+        ensures { result ≡ (object_at self.now slot).class }
+    {
+        self.slots[slot as usize].class
+    }
+
+    /// The number of the node.
+    pub fn node(&self) -> u32
+        ensures number { result ≡ self.now.node }
+        ensures small { result < 64 }
+    {
+        self.limits.node
+    }
+
+    /// The number of objects placed, which is at most the limit.
+    pub fn objects(&self) -> u32
+        ensures count { result ≡ length self.now.objects }
+        ensures within { (result ≤ self.now.most_objects) × (self.now.most_objects ≤ 4096) }
+    {
+        self.slots.len() as u32
+    }
+
+    /// The number of frames in use, which is at most the limit.
+    pub fn frames(&self) -> u32
+        ensures count { result ≡ frames_used self.now }
+        ensures within { (result ≤ self.now.most_frames) × (self.now.most_frames ≤ 16384) }
+    {
+        self.limits.frames - self.frames.free() as u32
+    }
+
+    /// The most frames of all objects together.
+    pub fn frame_limit(&self) -> u32
+        ensures { result ≡ self.now.most_frames }
+    {
+        self.limits.frames
+    }
+}

@@ -1,0 +1,72 @@
+//! The operands of a frame.
+ghost use Rattle.std.specs.Prelude.{◌≡◌, ◌<◌, [], ◌∷◌, length};
+ghost use Rattle.object_code.specs.Frames.{top, below};
+ghost use Rattle.object_code.specs.Step.{nth};
+
+use pool_syntax::Value;
+use std::marker::Model;
+
+/// At most 64 values, which contracts see as a list with the last one first.
+#[derive(Clone, Copy)]
+pub struct Operands {
+    values: [Value; 64],
+    count: u32,
+}
+
+impl Model for Operands {
+    ghost use Rattle.std.specs.Prelude.{List as value_list, ◌≡◌, ◌≤◌, length};
+    ghost use Rattle.pool_syntax.specs.declared.words.Value.{Value as OneValue};
+    ghost use Rattle.node_heap.specs.Rows.{stack, stack_row};
+
+    ghost Value = { value_list OneValue };
+
+    ghost view = { λ s. stack s.values s.count };
+
+    ghost invariant = { λ s. (s.count ≤ 64) × (stack_row (stack s.values s.count) ≡ s.values) × (length (stack s.values s.count) ≡ s.count) };
+
+    ghost inverse = { λ d. record { values = stack_row d; count = length d } };
+
+    ghost inverse_ok = { λ a h i. record { values = h.1 i; count = h.2 i } };
+}
+
+impl Operands {
+    /// No operand.
+    pub fn make() -> Operands
+        ensures { result ≡ [] }
+    {
+        Operands {
+            values: [Value::Nil; 64],
+            count: 0,
+        }
+    }
+
+    /// Puts a value on the operands, which are fewer than 64.
+    pub fn push(&mut self, value: Value)
+        requires { length self.old < 64 }
+        ensures { self.new ≡ value ∷ self.old }
+    {
+        self.values[self.count as usize] = value;
+        self.count += 1;
+    }
+
+    /// Takes the last operand.
+    pub fn pop(&mut self) -> Value
+        requires { 0 < length self.old }
+        ensures value { result ≡ top self.old }
+        ensures rest { self.new ≡ below self.old }
+    {
+        self.count -= 1;
+        let place = self.count as usize;
+        let value = self.values[place];
+        self.values[place] = Value::Nil;
+        value
+    }
+
+    /// The operand that has so many others above it.
+    pub fn get(&self, from_top: u32) -> Value
+        requires { from_top < length self.now }
+        ensures { result ≡ nth self.now from_top }
+    {
+        self.values[(self.count - 1 - from_top) as usize]
+    }
+}

@@ -1,0 +1,93 @@
+-- What a proper unit says of the innermost frame.
+use Rattle.std.proofs.Common.{◌≡◌, refl, sym, ap, ◌∙◌, ℕ, suc, ◌+◌, ◌<◌, ◌≤◌, ◌^◌, List, [], ◌∷◌, length, Some, None, drop, arith}
+use Rattle.std.specs.Prelude.{slice_get, if◌then◌else◌}
+use Rattle.std.proofs.Math.Seq.{drop-cons}
+use Rattle.std.proofs.lemmas.Bool.{eq-eqb}
+use Rattle.std.proofs.lemmas.Option.{slice_get_within, get_or_from_slice_get}
+use Rattle.pool_syntax.specs.declared.words.Value.{Value}
+use Rattle.pool_syntax.specs.declared.words.NameId.{NameId}
+use Rattle.pool_syntax.specs.declared.words.Serves.TheVariants as S
+use Rattle.object_code.specs.declared.unit.Instr.{Instr}
+use Rattle.object_code.specs.declared.unit.MethodCode.{MethodCode}
+use Rattle.object_code.specs.declared.unit.ClassCode.{ClassCode}
+use Rattle.object_code.specs.declared.unit.Unit.{Unit as Code}
+use Rattle.object_code.specs.declared.unit.Frame.{Frame}
+use Rattle.object_code.specs.declared.unit.CodeObject.{CodeObject}
+use Rattle.object_code.specs.Frames.{code_of, top}
+use Rattle.object_code.specs.Step.{method_from, is_own}
+use Rattle.object_code.specs.Proper.{IsProperCode, IsProperClass, IsProper}
+use Rattle.node_heap.specs.Heaps.{top_in, under_top}
+use Rattle.unit_objects.specs.OfUnit.{IsFrameOf, AreFramesOf, FitsUnit, AnyValue}
+use Rattle.unit_objects.proofs.Reaching.{proper_code, frame_on_top}
+use Rattle.object_interp.specs.Moves.{ended}
+use Rattle.object_interp.specs.Tops.{HasTop, code_in, instr_in}
+
+pub some_of : (k : ClassCode) (fs : List Frame) → AreFramesOf k AnyValue None fs → fs ≡ top_in fs ∷ under_top fs
+some_of k [] t = absurd t
+some_of k (f ∷ fs) t = refl
+
+pub frame_of : (k : ClassCode) (fs : List Frame) → AreFramesOf k AnyValue None fs → IsFrameOf k AnyValue 0 (top_in fs)
+frame_of k [] t = absurd t
+frame_of k (f ∷ fs) t = frame_on_top k AnyValue None f fs t
+
+-- an object of the unit has an innermost frame
+abbrev pub has_top : (u : Code) (x : CodeObject) → FitsUnit u x → HasTop u x
+has_top u x h = record {
+  class = h.class;
+  is_class = h.is_class;
+  some = some_of h.class x.frames h.frames;
+  is_frame = frame_of h.class x.frames h.frames;
+}
+
+-- what is known of the innermost frame and its code
+pub record Known (u : Code) (x : CodeObject) (k : ClassCode) : Type 0 where
+  pub proper : IsProperClass u k
+  pub code : IsProperCode u (Some k) (length (top_in x.frames).temps) (code_of (Some k) (top_in x.frames).method)
+  pub same_code : code_in u x ≡ code_of (Some k) (top_in x.frames).method
+  pub few : length (top_in x.frames).operands ≤ 64
+  pub place : (top_in x.frames).at < 2 ^ 32
+
+pub known : (u : Code) → IsProper u → (x : CodeObject) (t : HasTop u x) → Known u x t.class
+known u proper x t =
+    let class = proper.each x.class t.class t.is_class in
+    let f = top_in x.frames in
+    let code = proper_code u t.class class f.method f.temps t.is_frame.has_temps in
+    let enough = code.suffices f.at (0 + length f.operands) t.is_frame.reached in
+    record {
+      proper = class;
+      code = code;
+      same_code = ap (λ k. code_of k f.method) t.is_class;
+      few = omega (arith, enough.0);
+      place = enough.1;
+    }
+
+-- there is an instruction at hand
+pub at_hand : (u : Code) → IsProper u → (x : CodeObject) → HasTop u x → (i : Instr) × (instr_in u x ≡ Some i)
+at_hand u proper x t =
+    let k = known u proper x t in
+    let f = top_in x.frames in
+    let r = k.code.suffices f.at (0 + length f.operands) t.is_frame.reached in
+    (r.2.0, ap (λ c. slice_get c f.at) k.same_code ∙ r.2.1)
+
+-- the method of this place, which has the name, is the first of those from there on
+pub method_first : (ms : List MethodCode) (n : ℕ) (k : MethodCode) (m : NameId) → slice_get ms n ≡ Some k → k.name.0 ≡ m.0
+    → method_from n (drop n ms) m ≡ Some (record { place = n; code = k })
+method_first ms n k m e same =
+    ap (λ l. method_from n l m) (drop-cons ms n k (slice_get_within ms n k e) ∙ ap (λ j. j ∷ drop (suc n) ms) (get_or_from_slice_get ms n k k e))
+    ∙ ap (λ b. if b then Some (record { place = n; code = k }) else method_from (suc n) (drop (suc n) ms) m) (eq-eqb k.name.0 m.0 same)
+
+pub some_frames : (x : CodeObject) → 0 < length x.frames → x.frames ≡ top_in x.frames ∷ under_top x.frames
+some_frames x h = by x.frames h
+  where
+    by : (fs : List Frame) → 0 < length fs → fs ≡ top_in fs ∷ under_top fs
+    by [] h = absurd (omega (arith, h))
+    by (f ∷ fs) h = refl
+
+-- a method that the object called itself is done
+pub ended_own : (x : CodeObject) (f : Frame) (fs : List Frame) (v : Value) → 1 < length fs → v ≡ top f.operands → f.serves ≡ S.Own
+    → record x { frames = record (top_in (under_top fs)) { operands = v ∷ (top_in (under_top fs)).operands } ∷ under_top (under_top fs) } ≡ ended x f (under_top fs)
+ended_own x f [] v h e own = absurd (omega (arith, h))
+ended_own x f (g ∷ []) v h e own = absurd (omega (arith, h))
+ended_own x f (g ∷ d ∷ fs) v h e own =
+    ap (λ w. record x { frames = record d { operands = w ∷ d.operands } ∷ fs }) e
+    ∙ ap (λ s. record x { frames = (if is_own s then record d { operands = top f.operands ∷ d.operands } else d) ∷ fs }) (sym own)

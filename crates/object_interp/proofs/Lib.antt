@@ -1,0 +1,9 @@
+pub mod Acting
+pub mod Asking
+pub mod Bursting
+pub mod Facts
+pub mod Guards
+pub mod Operands
+pub mod Settling
+pub mod Slots
+pub mod Stepping

@@ -1,0 +1,11 @@
+-- What holds of one of all holds of one of those that are left.
+use Rattle.std.proofs.Common.{◌≡◌, ◌-◌, []}
+use Rattle.std.specs.List.{list_any}
+use Rattle.pool_syntax.specs.Values.{is_true}
+use Rattle.object_code.specs.Frames.{taken}
+use Rattle.node_heap.specs.Heaps.{top_at}
+use Rattle.object_interp.proofs.hands.has_open_guard.Given as goal
+
+abbrev pub invariant-loop-done : goal.invariant-loop-done
+invariant-loop-done l =
+    list_any is_true (taken l.count (top_at l.heap l.slot).operands []) ≡ list_any is_true (taken (l.count - l.done) (top_at l.heap l.slot).operands [])

@@ -1,0 +1,49 @@
+use Rattle.std.proofs.Common.{sym, ap, ◌∙◌, length, Some, None, arith}
+use Rattle.object_code.specs.declared.unit.Instr.TheVariants as I
+use Rattle.node_heap.specs.Heaps.{object_at}
+use Rattle.object_interp.proofs.Facts.{has_top}
+use Rattle.object_interp.proofs.Acting.{instr_known}
+use Rattle.object_interp.proofs.Asking.{names_offered}
+use Rattle.object_interp.proofs.interp.answer_names.Goals as goal
+
+pub open_alt-requires-clause-enough : goal.open_alt-requires-clause-enough
+open_alt-requires-clause-enough c =
+    let u = c.args.unit.now in
+    let x = object_at c.args.heap.now c.args.slot in
+    let t = has_top u x c.requires.fits in
+    let e = c.instr_at.ensures ∙ ap Some c.in-Select.is in
+    let known = instr_known u c.requires.proper x t (I.Select c.in-Select.alts) e in
+    omega (arith, known.enough, ap length c.items.ensures)
+
+pub open_alt-requires-clause-few : goal.open_alt-requires-clause-few
+open_alt-requires-clause-few c =
+    let u = c.args.unit.now in
+    let x = object_at c.args.heap.now c.args.slot in
+    let t = has_top u x c.requires.fits in
+    let e = c.instr_at.ensures ∙ ap Some c.in-Select.is in
+    let known = instr_known u c.requires.proper x t (I.Select c.in-Select.alts) e in
+    omega (arith, known.enough, known.few, ap length c.items.ensures)
+
+pub returns-in-Some-answer : goal.returns-in-Some-answer
+returns-in-Some-answer c =
+    let u = c.args.unit.now in
+    let x = object_at c.args.heap.now c.args.slot in
+    let t = has_top u x c.requires.fits in
+    let e = c.instr_at.ensures ∙ ap Some c.in-Select.is in
+    sym (names_offered u x t c.in-Select.alts e c.items.result.now c.items.ensures c.args.alt (Some c.in-Some.alternative.now) c.in-Some.ensures ∙ c.in-Some-answer.is)
+
+pub returns-in-None-answer : goal.returns-in-None-answer
+returns-in-None-answer c =
+    let u = c.args.unit.now in
+    let x = object_at c.args.heap.now c.args.slot in
+    let t = has_top u x c.requires.fits in
+    let e = c.instr_at.ensures ∙ ap Some c.in-Select.is in
+    sym (names_offered u x t c.in-Select.alts e c.items.result.now c.items.ensures c.args.alt (Some c.in-Some.alternative.now) c.in-Some.ensures ∙ c.in-None-answer.is)
+
+pub returns-in-None : goal.returns-in-None
+returns-in-None c =
+    let u = c.args.unit.now in
+    let x = object_at c.args.heap.now c.args.slot in
+    let t = has_top u x c.requires.fits in
+    let e = c.instr_at.ensures ∙ ap Some c.in-Select.is in
+    sym (names_offered u x t c.in-Select.alts e c.items.result.now c.items.ensures c.args.alt None c.in-None.ensures)

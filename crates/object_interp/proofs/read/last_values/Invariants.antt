@@ -1,0 +1,10 @@
+-- The values so far, and those that are left, are all.
+use Rattle.std.proofs.Common.{◌≡◌, ◌-◌, [], ◌++◌, length}
+use Rattle.object_code.specs.Frames.{taken}
+use Rattle.node_heap.specs.Heaps.{top_at}
+use Rattle.object_interp.proofs.read.last_values.Given as goal
+
+abbrev pub invariant-loop-done : goal.invariant-loop-done
+invariant-loop-done l =
+    (l.args ++ taken (l.count - l.done) (top_at l.heap l.slot).operands [] ≡ taken l.count (top_at l.heap l.slot).operands [])
+    × (length l.args ≡ l.done)

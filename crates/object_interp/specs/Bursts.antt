@@ -1,0 +1,45 @@
+-- A burst: local steps of one object, one after the other.
+use Rattle.std.specs.Prelude.{◌≡◌, ℕ, zero, suc, ◌+◌, ◌-◌, ◌*◌, ◌<◌, length, Bool, true, false, ◌&&◌, if◌then◌else◌, nat_le}
+use Rattle.object_code.specs.declared.unit.CodeObject.{CodeObject}
+use Rattle.object_code.specs.declared.unit.Unit.{Unit as Code}
+use Rattle.object_code.specs.Kinds as C
+use Rattle.object_code.specs.Kinds.{Kind, code_kind}
+use Rattle.object_code.specs.Step.{code_stepped}
+use Rattle.node_heap.specs.Heaps.{HeapOf, object_at, put_object, frames_used}
+use Rattle.object_interp.specs.declared.words.Burst.{Burst}
+use Rattle.object_interp.specs.declared.words.Burst.TheVariants as B
+use Rattle.object_interp.specs.Offers.{need_of}
+
+-- the name of the object of a slot
+abbrev pub name_in : HeapOf → ℕ → ℕ
+name_in h slot = h.node * 65536 + slot
+
+-- how many frames the object of a slot may have: those that it has, and those that are free
+abbrev pub room_in : HeapOf → ℕ → ℕ
+room_in h slot = h.most_frames + length (object_at h slot).frames - frames_used h
+
+abbrev pub is_local : Kind → Bool
+is_local C.Local = true
+is_local _ = false
+
+-- whether the object of the name o makes a local step, and has then no more frames than there is room for
+abbrev pub can_step : Code → ℕ → ℕ → CodeObject → Bool
+can_step u o room x = is_local (code_kind u x) && nat_le (length (code_stepped u o x).frames) room
+
+-- how many such steps follow one another, at most so many, and the object after them
+abbrev pub burst_from : Code → ℕ → ℕ → ℕ → CodeObject → ℕ × CodeObject
+burst_from u o room zero x = (0, x)
+burst_from u o room (suc q) x =
+    let r = burst_from u o room q (code_stepped u o x) in
+    if can_step u o room x then (suc r.0, r.1) else (0, x)
+
+-- the answer of a burst, with the heap after it: the steps that were made; or what is at hand where that is no local step; or that the first step is a call for which there
+-- is no frame
+abbrev pub IsBurst : Code → HeapOf → ℕ → ℕ → Burst → HeapOf → Type 0
+IsBurst u h slot q (B.Local n) new =
+    let r = burst_from u (name_in h slot) (room_in h slot) q (object_at h slot) in
+    (0 < n) × (r.0 ≡ n) × (new ≡ put_object h slot r.1)
+IsBurst u h slot q (B.At need) new =
+    (is_local (code_kind u (object_at h slot)) ≡ false) × (need ≡ need_of u (code_kind u (object_at h slot))) × (new ≡ h)
+IsBurst u h slot q B.FramesFull new =
+    (code_kind u (object_at h slot) ≡ C.Local) × (can_step u (name_in h slot) (room_in h slot) (object_at h slot) ≡ false) × (frames_used h ≡ h.most_frames) × (new ≡ h)

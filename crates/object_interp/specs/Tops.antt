@@ -1,0 +1,37 @@
+-- The frame of an object that is under way, and the instruction at which it stands.
+use Rattle.std.specs.Prelude.{◌≡◌, List, ◌∷◌, Option, Some, slice_get}
+use Rattle.object_code.specs.declared.unit.Instr.{Instr}
+use Rattle.object_code.specs.declared.unit.ClassCode.{ClassCode}
+use Rattle.object_code.specs.declared.unit.Unit.{Unit as Code}
+use Rattle.object_code.specs.declared.unit.Frame.{Frame}
+use Rattle.object_code.specs.declared.unit.CodeObject.{CodeObject}
+use Rattle.object_code.specs.Frames.{code_of}
+use Rattle.unit_objects.specs.OfUnit.{IsFrameOf, AnyValue}
+use Rattle.node_heap.specs.Heaps.{top_in, under_top}
+
+-- the class of an object
+abbrev pub class_in : Code → CodeObject → Option ClassCode
+class_in u x = slice_get u.classes x.class
+
+-- the code of its innermost frame
+abbrev pub code_in : Code → CodeObject → List Instr
+code_in u x = code_of (class_in u x) (top_in x.frames).method
+
+-- the instruction at hand
+abbrev pub instr_in : Code → CodeObject → Option Instr
+instr_in u x = slice_get (code_in u x) (top_in x.frames).at
+
+-- the object with this frame over these
+abbrev pub over : CodeObject → Frame → List Frame → CodeObject
+over x f fs = record x { frames = f ∷ fs }
+
+-- the object with this frame in place of the innermost
+abbrev pub with_top : CodeObject → Frame → CodeObject
+with_top x f = over x f (under_top x.frames)
+
+-- it has a frame, and the innermost stands in code of its class
+pub record HasTop (u : Code) (x : CodeObject) : Type 0 where
+  pub class : ClassCode
+  pub is_class : class_in u x ≡ Some class
+  pub some : x.frames ≡ top_in x.frames ∷ under_top x.frames
+  pub is_frame : IsFrameOf class AnyValue 0 (top_in x.frames)

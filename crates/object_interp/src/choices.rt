@@ -1,0 +1,64 @@
+//! What an object offers where it answers or selects.
+ghost use Rattle.std.specs.Prelude.{◌≡◌, ◌-◌, ◌<◌, ◌≤◌, [], Some, length, slice_get, is_some, IsTrue};
+ghost use Rattle.std.specs.Option.{option_copied};
+ghost use Rattle.pool_syntax.specs.Values.{is_true as holds};
+ghost use Rattle.object_code.specs.Frames.{taken};
+ghost use Rattle.object_code.specs.Step.{after_choice, nth};
+ghost use Rattle.node_heap.specs.Heaps.{object_at, put_top, top_at};
+ghost use Rattle.object_interp.specs.Choices.{Chooses, NextIs, offered_alt};
+
+use crate::moves::{advance, drop_operands, is_true};
+use node_heap::Heap;
+use object_code::{AltCode, Instr};
+
+/// Whether the guard of alternative `place`, from 0, of `count` is true.
+fn is_open(heap: &Heap, slot: u32, count: u32, place: u32) -> bool
+    requires slot { slot < length heap.now.objects }
+    requires enough { count ≤ length (top_at heap.now slot).operands }
+    requires place { place < count }
+    ensures { result ≡ holds (nth (taken count (top_at heap.now slot).operands []) place) }
+{
+    let guard = heap.operand(slot, count - 1 - place);
+    is_true(guard)
+}
+
+/// The alternative of this number, from 1, if it exists and is open.
+pub(crate) fn open_alt<'a>(
+    heap: &Heap,
+    slot: u32,
+    alts: &'a [AltCode],
+    alt: u32,
+) -> Option<&'a AltCode>
+    requires slot { slot < length heap.now.objects }
+    requires enough { length alts.now ≤ length (top_at heap.now slot).operands }
+    requires few { length alts.now ≤ 64 }
+    ensures { option_copied result ≡ offered_alt alts.now (taken (length alts.now) (top_at heap.now slot).operands []) alt }
+{
+    if alt == 0 || alt as usize > alts.len() {
+        return None;
+    }
+    if is_open(heap, slot, alts.len() as u32, alt - 1) {
+        Some(&alts[(alt - 1) as usize])
+    } else {
+        None
+    }
+}
+
+/// Goes to the list of the alternative of this number, from 1, of a select, and else to the next place.
+pub(crate) fn choose(heap: &mut Heap, slot: u32, instr: &Instr, alt: u32)
+    requires slot { slot < length heap.old.objects }
+    requires frame { 0 < length (object_at heap.old slot).frames }
+    requires next { NextIs (top_at heap.old slot) instr.now }
+    requires chooses { Chooses (top_at heap.old slot) instr.now alt }
+    ensures { heap.new ≡ put_top heap.old slot (after_choice (top_at heap.old slot) alt (Some instr.now)) }
+{
+    match instr {
+        Instr::Select { alts } => {
+            let alts = alts.items();
+            let to = alts[(alt - 1) as usize].at;
+            drop_operands(heap, slot, alts.len() as u32);
+            heap.set_at(slot, to);
+        }
+        _ => advance(heap, slot),
+    }
+}

@@ -1,0 +1,233 @@
+//! The instructions of one object.
+ghost use Rattle.std.specs.Prelude.{if◌then◌else◌, ◌==◌, ◌≡◌, ◌<◌, ◌≤◌, ◌↔◌, ℕ, true, false, length, Some, IsErr, OnOk, OnErr, Err};
+ghost use Rattle.std.specs.Option.{option_copied};
+ghost use Rattle.object_code.specs.declared.unit.CodeObject.{CodeObject};
+ghost use Rattle.object_code.specs.Kinds.{code_kind};
+ghost use Rattle.object_code.specs.Step.{code_given, code_gone_on, code_picked, code_serving, is_own};
+ghost use Rattle.object_code.specs.Proper.{IsProper};
+ghost use Rattle.unit_objects.specs.OfUnit.{FitsUnit, IsAtStep};
+ghost use Rattle.node_heap.specs.Heaps.{object_at, put_object, frames_used};
+ghost use Rattle.object_interp.specs.Offers.{IsAsking, IsChoosing, IsGoingOn, IsSelecting, answers_to, hand_of, is_open_plain, offer_at, offers_at, open_names};
+ghost use Rattle.object_interp.specs.Bursts.{IsBurst};
+ghost use Rattle.object_interp.specs.Rest.{settled_at};
+
+use crate::choices::{choose, open_alt};
+use crate::hands::hand_at;
+use crate::moves::{begin, frame_is_free, operands_asked, pass, replace, settle, step};
+use crate::read::{class_at, instr_at, method_place};
+use crate::words::{Burst, Hand};
+use node_heap::{Heap, HeapFull};
+use object_code::{Instr, Unit};
+use pool_syntax::{Args, List, NameId, Serves, Value};
+
+/// The answer of a burst that is over after `done` steps, and else this.
+fn made(done: u32, none: Burst) -> Burst
+    ensures { result ≡ (if done == 0 then none else Burst.Local done) }
+{
+    if done == 0 {
+        none
+    } else {
+        Burst::Local { steps: done }
+    }
+}
+
+/// Makes local transitions of the slot's object, each with the silent instructions after it, until `quantum` are made
+/// or the next one is not local or is a call for which no frame is free. No step is made, and the answer tells why,
+/// where the first is so.
+pub fn burst(unit: &Unit, heap: &mut Heap, slot: u32, quantum: u32) -> Burst
+    requires proper { IsProper unit.now }
+    requires slot { slot < length heap.old.objects }
+    requires fits { FitsUnit unit.now (object_at heap.old slot) }
+    requires rests { IsAtStep unit.now (object_at heap.old slot) }
+    requires quantum { 1 ≤ quantum }
+    ensures burst { IsBurst unit.now heap.old slot quantum result heap.new }
+    ensures fits { FitsUnit unit.now (object_at heap.new slot) }
+    ensures rests { IsAtStep unit.now (object_at heap.new slot) }
+{
+    for done in 0..quantum {
+        let instr = instr_at(unit, heap, slot);
+        if let Hand::At(need) = hand_at(unit, heap, slot, instr) {
+            return made(done, Burst::At(need));
+        }
+        if !frame_is_free(heap, instr) {
+            return made(done, Burst::FramesFull);
+        }
+        step(unit, heap, slot, instr);
+    }
+    Burst::Local { steps: quantum }
+}
+
+/// What the slot's object does next.
+pub fn at_hand(unit: &Unit, heap: &Heap, slot: u32) -> Hand
+    requires proper { IsProper unit.now }
+    requires slot { slot < length heap.now.objects }
+    requires fits { FitsUnit unit.now (object_at heap.now slot) }
+    requires rests { IsAtStep unit.now (object_at heap.now slot) }
+    ensures { result ≡ hand_of unit.now (code_kind unit.now (object_at heap.now slot)) }
+{
+    hand_at(unit, heap, slot, instr_at(unit, heap, slot))
+}
+
+/// Runs the silent instructions at hand, up to a step instruction: for a slot that was just placed.
+pub fn to_step(unit: &Unit, heap: &mut Heap, slot: u32)
+    requires proper { IsProper unit.now }
+    requires slot { slot < length heap.old.objects }
+    requires fits { FitsUnit unit.now (object_at heap.old slot) }
+    ensures settled { heap.new ≡ put_object heap.old slot (settled_at unit.now (object_at heap.old slot)) }
+    ensures fits { FitsUnit unit.now (object_at heap.new slot) }
+    ensures rests { IsAtStep unit.now (object_at heap.new slot) }
+{
+    settle(unit, heap, slot);
+}
+
+/// The methods that alternative `alt` answers, from 1; an answer has the one alternative 1. None exactly where that
+/// alternative is plain, is not open, or does not exist.
+pub fn answer_names<'a>(
+    unit: &'a Unit,
+    heap: &Heap,
+    slot: u32,
+    alt: u32,
+) -> Option<&'a List<NameId>>
+    requires proper { IsProper unit.now }
+    requires slot { slot < length heap.now.objects }
+    requires fits { FitsUnit unit.now (object_at heap.now slot) }
+    requires rests { IsAtStep unit.now (object_at heap.now slot) }
+    ensures { option_copied result ≡ open_names (offer_at (offers_at unit.now (object_at heap.now slot)) alt) }
+{
+    match instr_at(unit, heap, slot) {
+        Instr::Answer { names } => { if alt == 1 { Some(names) } else { None } }
+        Instr::Select { alts } => match open_alt(heap, slot, alts.items(), alt) {
+            Some(alternative) => match &alternative.answer {
+                Some(names) => Some(names),
+                None => None,
+            },
+            None => None,
+        },
+        _ => None,
+    }
+}
+
+/// Whether alternative `alt`, from 1, exists, is plain and is open.
+pub fn plain_alt(unit: &Unit, heap: &Heap, slot: u32, alt: u32) -> bool
+    requires proper { IsProper unit.now }
+    requires slot { slot < length heap.now.objects }
+    requires fits { FitsUnit unit.now (object_at heap.now slot) }
+    requires rests { IsAtStep unit.now (object_at heap.now slot) }
+    ensures { result ≡ is_open_plain (offer_at (offers_at unit.now (object_at heap.now slot)) alt) }
+{
+    match instr_at(unit, heap, slot) {
+        Instr::Select { alts } => match open_alt(heap, slot, alts.items(), alt) {
+            Some(alternative) => alternative.answer.is_none(),
+            None => false,
+        },
+        _ => false,
+    }
+}
+
+/// The number of alternatives at hand: 1 at an answer, and 0 where the object neither answers nor selects.
+pub fn alts(unit: &Unit, heap: &Heap, slot: u32) -> u32
+    requires proper { IsProper unit.now }
+    requires slot { slot < length heap.now.objects }
+    requires fits { FitsUnit unit.now (object_at heap.now slot) }
+    requires rests { IsAtStep unit.now (object_at heap.now slot) }
+    ensures count { result ≡ length (offers_at unit.now (object_at heap.now slot)) }
+    ensures few { result ≤ 64 }
+{
+    match instr_at(unit, heap, slot) {
+        Instr::Answer { .. } => 1,
+        Instr::Select { alts } => alts.items().len() as u32,
+        _ => 0,
+    }
+}
+
+/// Hands the object the value of its request for a new object or of its call: the operands go and the value stands.
+pub fn resume_with(unit: &Unit, heap: &mut Heap, slot: u32, value: Value)
+    requires proper { IsProper unit.now }
+    requires slot { slot < length heap.old.objects }
+    requires fits { FitsUnit unit.now (object_at heap.old slot) }
+    requires rests { IsAtStep unit.now (object_at heap.old slot) }
+    requires asking { IsAsking (code_kind unit.now (object_at heap.old slot)) }
+    ensures given { heap.new ≡ put_object heap.old slot (code_given unit.now (object_at heap.old slot) value) }
+    ensures fits { FitsUnit unit.now (object_at heap.new slot) }
+    ensures rests { IsAtStep unit.now (object_at heap.new slot) }
+{
+    let taken = operands_asked(instr_at(unit, heap, slot));
+    replace(heap, slot, taken, value);
+    settle(unit, heap, slot);
+}
+
+/// Goes on after a message was sent, a value written, or a value given back.
+pub fn go_on(unit: &Unit, heap: &mut Heap, slot: u32)
+    requires proper { IsProper unit.now }
+    requires slot { slot < length heap.old.objects }
+    requires fits { FitsUnit unit.now (object_at heap.old slot) }
+    requires rests { IsAtStep unit.now (object_at heap.old slot) }
+    requires going_on { IsGoingOn (code_kind unit.now (object_at heap.old slot)) }
+    ensures gone_on { heap.new ≡ put_object heap.old slot (code_gone_on unit.now (object_at heap.old slot)) }
+    ensures fits { FitsUnit unit.now (object_at heap.new slot) }
+    ensures rests { IsAtStep unit.now (object_at heap.new slot) }
+{
+    let instr = instr_at(unit, heap, slot);
+    pass(heap, slot, instr);
+    settle(unit, heap, slot);
+}
+
+/// Goes into the plain alternative `alt`, from 1, which is open.
+pub fn pick(unit: &Unit, heap: &mut Heap, slot: u32, alt: u32)
+    requires proper { IsProper unit.now }
+    requires slot { slot < length heap.old.objects }
+    requires fits { FitsUnit unit.now (object_at heap.old slot) }
+    requires rests { IsAtStep unit.now (object_at heap.old slot) }
+    requires selecting { IsSelecting (code_kind unit.now (object_at heap.old slot)) }
+    requires plain { is_open_plain (offer_at (offers_at unit.now (object_at heap.old slot)) alt) ≡ true }
+    ensures picked { heap.new ≡ put_object heap.old slot (code_picked unit.now (object_at heap.old slot) alt) }
+    ensures fits { FitsUnit unit.now (object_at heap.new slot) }
+    ensures rests { IsAtStep unit.now (object_at heap.new slot) }
+{
+    let instr = instr_at(unit, heap, slot);
+    choose(heap, slot, instr, alt);
+    settle(unit, heap, slot);
+}
+
+/// Begins to serve the method by alternative `alt`, from 1, which answers it. `Frames`, and nothing else, comes exactly
+/// where as many frames are in use as the limit; nothing is then changed.
+pub fn enter(
+    unit: &Unit,
+    heap: &mut Heap,
+    slot: u32,
+    alt: u32,
+    method: NameId,
+    args: &Args,
+    serves: Serves,
+) -> Result<(), HeapFull>
+    requires proper { IsProper unit.now }
+    requires slot { slot < length heap.old.objects }
+    requires fits { FitsUnit unit.now (object_at heap.old slot) }
+    requires rests { IsAtStep unit.now (object_at heap.old slot) }
+    requires choosing { IsChoosing (code_kind unit.now (object_at heap.old slot)) }
+    requires answers { answers_to (open_names (offer_at (offers_at unit.now (object_at heap.old slot)) alt)) method ≡ true }
+    requires serves { is_own serves ≡ false }
+    ensures ok { OnOk result ((y : CodeObject) × (code_serving unit.now (object_at heap.old slot) alt method args.now serves ≡ Some y) × (heap.new ≡ put_object heap.old slot y)) }
+    ensures err { OnErr result ((result ≡ Err HeapFull.Frames) × (heap.new ≡ heap.old)) }
+    ensures full { IsErr result ↔ (frames_used heap.old ≡ heap.old.most_frames) }
+    ensures fits { FitsUnit unit.now (object_at heap.new slot) }
+    ensures rests { IsAtStep unit.now (object_at heap.new slot) }
+{
+    if heap.frames() == heap.frame_limit() {
+        return Err(HeapFull::Frames);
+    }
+    let class = class_at(unit, heap, slot);
+    let place = method_place(class, method);
+    let instr = instr_at(unit, heap, slot);
+    choose(heap, slot, instr, alt);
+    begin(
+        heap,
+        slot,
+        place,
+        &class.methods.items()[place as usize],
+        args,
+        serves,
+    );
+    settle(unit, heap, slot);
+    Ok(())
+}

@@ -1,0 +1,351 @@
+//! One instruction, and the silent ones after it.
+ghost use Rattle.std.specs.Prelude.{◌≡◌, ◌<◌, ◌≤◌, ◌+◌, ◌^◌, ◌≢◌, true, suc, [], ◌∷◌, IsTrue, Some, None, is_some, length, slice_get, take};
+ghost use Rattle.pool_syntax.specs.Values.{is_true as holds};
+ghost use Rattle.value_operators.specs.Operated.{outcome_of};
+ghost use Rattle.object_code.specs.declared.unit.Frame.{Frame};
+ghost use Rattle.object_code.specs.declared.unit.MethodCode.{MethodCode};
+ghost use Rattle.object_code.specs.Frames.{top, below, dropped, next, silent, go_on_with};
+ghost use Rattle.object_code.specs.Kinds.{operated, arity};
+ghost use Rattle.object_code.specs.Step.{asked, begun, code_stepped, is_own, method_named, outcome_value, padded};
+ghost use Rattle.object_code.specs.Proper.{IsProper};
+ghost use Rattle.unit_objects.specs.OfUnit.{FitsUnit, IsAtStep};
+ghost use Rattle.node_heap.specs.Heaps.{object_at, put_object, top_at, put_top, top_in, under_top, frames_used, nils};
+ghost use Rattle.object_interp.specs.Bursts.{name_in};
+ghost use Rattle.object_interp.specs.Moves.{Passes, RunsTo, branched, call_fits, ended, entered, gone, moved, replaced};
+ghost use Rattle.object_interp.specs.Rest.{settled_at};
+ghost use Rattle.object_interp.specs.Tops.{HasTop, class_in, instr_in, over};
+
+use crate::read::{class_at, code_at, instr_at, last_values, method_place, name_at, value_at};
+use node_heap::{FrameHead, Heap, HeapFull};
+use object_code::{Instr, MethodCode, Unit};
+use pool_syntax::{Args, NameId, Op, Serves, Value};
+use value_operators::operators::{Answer, operate, operate_one};
+
+/// Goes to the next place.
+pub(crate) fn advance(heap: &mut Heap, slot: u32)
+    requires slot { slot < length heap.old.objects }
+    requires place { suc (top_at heap.old slot).at < 2 ^ 32 }
+    ensures { heap.new ≡ put_top heap.old slot (next (top_at heap.old slot) (top_at heap.old slot).operands) }
+{
+    let at = heap.at(slot);
+    heap.set_at(slot, at + 1);
+}
+
+/// Pushes a value, and goes to the next place.
+pub(crate) fn push_next(heap: &mut Heap, slot: u32, value: Value)
+    requires slot { slot < length heap.old.objects }
+    requires place { suc (top_at heap.old slot).at < 2 ^ 32 }
+    requires room { length (top_at heap.old slot).operands < 64 }
+    ensures { heap.new ≡ put_top heap.old slot (next (top_at heap.old slot) (value ∷ (top_at heap.old slot).operands)) }
+{
+    heap.push(slot, value);
+    advance(heap, slot);
+}
+
+/// Pops a value, and goes to the next place.
+pub(crate) fn pop_next(heap: &mut Heap, slot: u32) -> Value
+    requires slot { slot < length heap.old.objects }
+    requires place { suc (top_at heap.old slot).at < 2 ^ 32 }
+    requires one { 0 < length (top_at heap.old slot).operands }
+    ensures value { result ≡ top (top_at heap.old slot).operands }
+    ensures rest { heap.new ≡ put_top heap.old slot (next (top_at heap.old slot) (below (top_at heap.old slot).operands)) }
+{
+    let value = heap.pop(slot);
+    advance(heap, slot);
+    value
+}
+
+/// Takes the last `count` operands.
+pub(crate) fn drop_operands(heap: &mut Heap, slot: u32, count: u32)
+    requires slot { slot < length heap.old.objects }
+    requires frame { 0 < length (object_at heap.old slot).frames }
+    requires enough { count ≤ length (top_at heap.old slot).operands }
+    ensures { heap.new ≡ put_top heap.old slot (record (top_at heap.old slot) { operands = dropped count (top_at heap.old slot).operands }) }
+{
+    for _done in 0..count {
+        heap.pop(slot);
+    }
+}
+
+/// Puts a value in place of the last `count` operands, and goes to the next place.
+pub(crate) fn replace(heap: &mut Heap, slot: u32, count: u32, value: Value)
+    requires slot { slot < length heap.old.objects }
+    requires frame { 0 < length (object_at heap.old slot).frames }
+    requires place { suc (top_at heap.old slot).at < 2 ^ 32 }
+    requires enough { count ≤ length (top_at heap.old slot).operands }
+    requires room { length (top_at heap.old slot).operands < 64 + count }
+    ensures { heap.new ≡ put_top heap.old slot (replaced (top_at heap.old slot) count value) }
+{
+    drop_operands(heap, slot, count);
+    push_next(heap, slot, value);
+}
+
+/// Whether a value is true.
+pub(crate) fn is_true(value: Value) -> bool
+    ensures { result ≡ holds value }
+{
+    match value {
+        Value::Bool(held) => held,
+        _ => false,
+    }
+}
+
+/// Pops a condition, and goes to the next place where it is true, and else to the place `to`.
+fn branch(heap: &mut Heap, slot: u32, to: u32)
+    requires slot { slot < length heap.old.objects }
+    requires place { suc (top_at heap.old slot).at < 2 ^ 32 }
+    requires one { 0 < length (top_at heap.old slot).operands }
+    ensures { heap.new ≡ put_top heap.old slot (branched (top_at heap.old slot) to) }
+{
+    let condition = pop_next(heap, slot);
+    if !is_true(condition) {
+        heap.set_at(slot, to);
+    }
+}
+
+/// How many operands an operator takes.
+fn operands_of(op: Op) -> u32
+    ensures { result ≡ arity op }
+{
+    match op {
+        Op::Neg | Op::Not => 1,
+        _ => 2,
+    }
+}
+
+/// What an operator makes of the last operands.
+pub(crate) fn outcome(heap: &Heap, slot: u32, op: Op) -> Answer
+    requires slot { slot < length heap.now.objects }
+    requires enough { arity op ≤ length (top_at heap.now slot).operands }
+    ensures { outcome_of result ≡ operated op (top_at heap.now slot).operands }
+{
+    match op {
+        Op::Neg | Op::Not => operate_one(op, value_at(heap, slot, 0)),
+        _ => operate(op, value_at(heap, slot, 1), value_at(heap, slot, 0)),
+    }
+}
+
+/// What an operator makes of the last operands, or nil where it fails.
+fn made_by(heap: &Heap, slot: u32, op: Op) -> Value
+    requires slot { slot < length heap.now.objects }
+    requires enough { arity op ≤ length (top_at heap.now slot).operands }
+    ensures { result ≡ outcome_value (operated op (top_at heap.now slot).operands) }
+{
+    match outcome(heap, slot, op) {
+        Answer::Gives(value) => value,
+        _ => Value::Nil,
+    }
+}
+
+/// Gives the parameters of the innermost frame, whose temps are all nil, the values in turn.
+fn fill(heap: &mut Heap, slot: u32, params: u32, args: &Args)
+    requires slot { slot < length heap.old.objects }
+    requires frame { 0 < length (object_at heap.old slot).frames }
+    requires params { params ≤ length (top_at heap.old slot).temps }
+    requires fresh { (top_at heap.old slot).temps ≡ nils (length (top_at heap.old slot).temps) }
+    ensures { heap.new ≡ put_top heap.old slot (record (top_at heap.old slot) { temps = padded (length (top_at heap.old slot).temps) (take params args.now) }) }
+{
+    let values = args.values();
+    let count = params.min(args.len() as u32);
+    for place in 0..count {
+        heap.store_temp(slot, place, values[place as usize]);
+    }
+}
+
+/// Puts the frame of a method, of this place in its class, on top of the slot's, with these arguments: a missing one
+/// is nil, and a further one is dropped. A frame is free.
+pub(crate) fn begin(
+    heap: &mut Heap,
+    slot: u32,
+    place: u32,
+    method: &MethodCode,
+    args: &Args,
+    serves: Serves,
+)
+    requires slot { slot < length heap.old.objects }
+    requires temps { method.now.temps ≤ 32 }
+    requires params { method.now.params ≤ method.now.temps }
+    requires free { frames_used heap.old ≢ heap.old.most_frames }
+    ensures { heap.new ≡ put_object heap.old slot (over (object_at heap.old slot) (begun (record { place = place; code = method.now }) args.now serves) (object_at heap.old slot).frames) }
+{
+    let head = FrameHead {
+        method: Some(place),
+        temps: method.temps,
+        serves,
+    };
+    match heap.push_frame(slot, head) {
+        Ok(()) => fill(heap, slot, method.params, args),
+        Err(_) => unreachable!(),
+    }
+}
+
+/// Calls the own method of this name, with the last operands as its arguments.
+fn call(unit: &Unit, heap: &mut Heap, slot: u32, name: NameId)
+    requires proper { IsProper unit.now }
+    requires slot { slot < length heap.old.objects }
+    requires fits { FitsUnit unit.now (object_at heap.old slot) }
+    requires at { instr_in unit.now (object_at heap.old slot) ≡ Some (Instr.Call name) }
+    requires free { frames_used heap.old ≢ heap.old.most_frames }
+    ensures { heap.new ≡ put_object heap.old slot (entered (object_at heap.old slot) (top_at heap.old slot) (under_top (object_at heap.old slot).frames) (method_named (class_in unit.now (object_at heap.old slot)) name)) }
+{
+    let class = class_at(unit, heap, slot);
+    let place = method_place(class, name);
+    let method = &class.methods.items()[place as usize];
+    let args = last_values(heap, slot, method.params);
+    drop_operands(heap, slot, method.params);
+    advance(heap, slot);
+    begin(heap, slot, place, method, &args, Serves::Own);
+}
+
+/// Leaves a method that is done: its value is handed to the frame under it, where the object called it itself.
+pub(crate) fn end(heap: &mut Heap, slot: u32)
+    requires slot { slot < length heap.old.objects }
+    requires frames { 1 < length (object_at heap.old slot).frames }
+    requires one { 0 < length (top_at heap.old slot).operands }
+    requires room { IsTrue (is_own (top_at heap.old slot).serves) → length (top_in (under_top (object_at heap.old slot).frames)).operands < 64 }
+    ensures { heap.new ≡ put_object heap.old slot (ended (object_at heap.old slot) (top_at heap.old slot) (under_top (object_at heap.old slot).frames)) }
+{
+    let value = value_at(heap, slot, 0);
+    let head = heap.pop_frame(slot);
+    match head.serves {
+        Serves::Own => heap.push(slot, value),
+        _ => {}
+    }
+}
+
+/// Whether the instruction is no call, or a frame is free.
+pub(crate) fn frame_is_free(heap: &Heap, instr: &Instr) -> bool
+    ensures free { result ≡ call_fits heap.now instr.now }
+    ensures within { frames_used heap.now ≤ heap.now.most_frames }
+{
+    let used = heap.frames();
+    match instr {
+        Instr::Call(_) => used < heap.frame_limit(),
+        _ => true,
+    }
+}
+
+/// Does the local step of the instruction at hand.
+fn act(unit: &Unit, heap: &mut Heap, slot: u32, instr: &Instr)
+    requires proper { IsProper unit.now }
+    requires slot { slot < length heap.old.objects }
+    requires fits { FitsUnit unit.now (object_at heap.old slot) }
+    requires at { instr_in unit.now (object_at heap.old slot) ≡ Some instr.now }
+    requires free { call_fits heap.old instr.now ≡ true }
+    ensures { heap.new ≡ put_object heap.old slot (moved (class_in unit.now (object_at heap.old slot)) (name_in heap.old slot) (object_at heap.old slot) (top_at heap.old slot) (under_top (object_at heap.old slot).frames) instr.now) }
+{
+    match instr {
+        Instr::LoadI(var) => {
+            let value = heap.load_var(slot, *var);
+            push_next(heap, slot, value);
+        }
+        Instr::LoadT(temp) => {
+            let value = heap.load_temp(slot, *temp);
+            push_next(heap, slot, value);
+        }
+        Instr::SelfRef => {
+            let name = name_at(heap, slot);
+            push_next(heap, slot, Value::Ref(name));
+        }
+        Instr::StoreI(var) => {
+            let value = pop_next(heap, slot);
+            heap.store_var(slot, *var, value);
+        }
+        Instr::StoreT(temp) => {
+            let value = pop_next(heap, slot);
+            heap.store_temp(slot, *temp, value);
+        }
+        Instr::Oper(op) => {
+            let value = made_by(heap, slot, *op);
+            replace(heap, slot, operands_of(*op), value);
+        }
+        Instr::Pop => {
+            pop_next(heap, slot);
+        }
+        Instr::Branch(to) => branch(heap, slot, *to),
+        Instr::Loop => advance(heap, slot),
+        Instr::Call(name) => call(unit, heap, slot, *name),
+        Instr::Ret => end(heap, slot),
+        _ => {}
+    }
+}
+
+/// Runs the instruction if it is silent, and tells whether it is.
+fn run_silent(heap: &mut Heap, slot: u32, instr: &Instr) -> bool
+    requires slot { slot < length heap.old.objects }
+    requires next { (g : Frame) → silent (top_at heap.old slot) (Some instr.now) ≡ Some g → (g.at < 2 ^ 32) × (length g.operands ≤ 64) }
+    ensures { RunsTo heap.old slot (silent (top_at heap.old slot) (Some instr.now)) result heap.new }
+{
+    match instr {
+        Instr::PushInt(value) => push_next(heap, slot, Value::Int(*value)),
+        Instr::PushBool(value) => push_next(heap, slot, Value::Bool(*value)),
+        Instr::PushNil => push_next(heap, slot, Value::Nil),
+        Instr::Jump(to) => heap.set_at(slot, *to),
+        _ => return false,
+    }
+    true
+}
+
+/// Runs the silent instructions at hand.
+pub(crate) fn settle(unit: &Unit, heap: &mut Heap, slot: u32)
+    requires proper { IsProper unit.now }
+    requires slot { slot < length heap.old.objects }
+    requires top { HasTop unit.now (object_at heap.old slot) }
+    ensures { heap.new ≡ put_object heap.old slot (settled_at unit.now (object_at heap.old slot)) }
+{
+    let code = code_at(unit, heap, slot);
+    for _turn in 0..code.len() {
+        let at = heap.at(slot);
+        if !run_silent(heap, slot, &code[at as usize]) {
+            return;
+        }
+    }
+}
+
+/// Makes the local step at hand, and runs the silent instructions after it.
+pub(crate) fn step(unit: &Unit, heap: &mut Heap, slot: u32, instr: &Instr)
+    requires proper { IsProper unit.now }
+    requires slot { slot < length heap.old.objects }
+    requires fits { FitsUnit unit.now (object_at heap.old slot) }
+    requires rests { IsAtStep unit.now (object_at heap.old slot) }
+    requires at { instr_in unit.now (object_at heap.old slot) ≡ Some instr.now }
+    requires free { call_fits heap.old instr.now ≡ true }
+    ensures { heap.new ≡ put_object heap.old slot (code_stepped unit.now (name_in heap.old slot) (object_at heap.old slot)) }
+{
+    act(unit, heap, slot, instr);
+    settle(unit, heap, slot);
+}
+
+/// How many operands a request for a new object or a call takes.
+pub(crate) fn operands_asked(instr: &Instr) -> u32
+    requires { asked (Some instr.now) < 2 ^ 32 }
+    ensures { result ≡ asked (Some instr.now) }
+{
+    match instr {
+        Instr::Send { count, .. } => *count + 1,
+        _ => 0,
+    }
+}
+
+/// Goes on after what the instruction at hand asks for was done.
+pub(crate) fn pass(heap: &mut Heap, slot: u32, instr: &Instr)
+    requires slot { slot < length heap.old.objects }
+    requires frame { 0 < length (object_at heap.old slot).frames }
+    requires passes { Passes (object_at heap.old slot) instr.now }
+    ensures { heap.new ≡ put_object heap.old slot (gone (object_at heap.old slot) (top_at heap.old slot) (under_top (object_at heap.old slot).frames) instr.now) }
+{
+    match instr {
+        Instr::Write => {
+            pop_next(heap, slot);
+        }
+        Instr::WriteText(_) => advance(heap, slot),
+        Instr::Async { count, .. } => {
+            drop_operands(heap, slot, *count + 1);
+            advance(heap, slot);
+        }
+        Instr::Ret => {
+            heap.pop_frame(slot);
+        }
+        _ => {}
+    }
+}

@@ -1,0 +1,12 @@
+-- A program that was parsed, and has no class faults, is as a text gives it.
+use Rattle.std.proofs.Common.{◌≡◌, List, []}
+use Rattle.pool_syntax.specs.Terms.{ProgramTree}
+use Rattle.pool_syntax.specs.Tokens.{Text}
+use Rattle.pool_syntax.specs.Typing.{faults}
+use Rattle.pool_syntax.specs.Programs.{IsParsed, toks}
+use Rattle.pool_relation.proofs.Laws.{derived_written}
+use Rattle.placed_code.specs.CheckedProgram.{IsCheckedProgram}
+use Rattle.placed_code.proofs.DerivedTexts.{derived_text}
+
+pub parsed_checked : (s : Text) (names : List Text) (p : ProgramTree) → IsParsed s names p → faults p ≡ [] → IsCheckedProgram p
+parsed_checked s names p h none = record { faultless = none; written = derived_written (toks h.0) p h.2.0; text = derived_text (toks h.0) p h.2.0 }

@@ -1,0 +1,3 @@
+pub mod CheckedProgram
+pub mod Matches
+pub mod StandsAlike

@@ -1,0 +1,70 @@
+use Rattle.std.proofs.Common.{Option, refl, sym, ap, subst}
+use Rattle.pool_syntax.specs.declared.words.Placement.{Placement}
+use Rattle.object_code.specs.declared.unit.Unit.{Unit as Code}
+use Rattle.mesh_semantics.specs.Config.{Config}
+use Rattle.mesh_semantics.specs.Delay.{no_delay}
+use Rattle.mesh_semantics.specs.Record.{record_at}
+use Rattle.coded_objects.specs.Coded.{Placed, coded}
+use Rattle.coded_objects.proofs.Laws.{start_there}
+use Rattle.pool_driver.specs.declared.status.Status.TheVariants as S
+use Rattle.pool_driver.specs.Driving.{IsLoaded}
+use Rattle.pool_driver.specs.Readers as R
+use Rattle.pool_driver.specs.Readers.{Delivers, run_of}
+use Rattle.pool_driver.proofs.DriveLaws.{cut_writes, delivers_of, end_writes, from_start, has_run}
+use Rattle.pool_driver.proofs.top.write_run.Goals as goal
+
+pub make-requires-clause-proper : goal.make-requires-clause-proper
+make-requires-clause-proper g c = c.requires.proper
+
+pub make-requires-clause-suits : goal.make-requires-clause-suits
+make-requires-clause-suits g c = c.requires.suits
+
+pub drive-requires-clause-loaded : goal.drive-requires-clause-loaded
+drive-requires-clause-loaded g c =
+    let s = c.in-Ok.ensures in
+    subst (λ (u : Code). IsLoaded u c.in-Ok.machine.placement c.args.loaded.now.schedule) (sym s.unit)
+    (subst (λ (l : Placement). IsLoaded c.args.loaded.now.unit l c.args.loaded.now.schedule) (sym s.placement) c.requires)
+
+pub drive-requires-clause-table : goal.drive-requires-clause-table
+drive-requires-clause-table g c = ap (λ (u : Code). u.names) (sym c.in-Ok.ensures.unit)
+
+pub drive-requires-clause-fresh : goal.drive-requires-clause-fresh
+drive-requires-clause-fresh g c = c.in-Ok.ensures.done
+
+pub drive-requires-clause-unmoved : goal.drive-requires-clause-unmoved
+drive-requires-clause-unmoved g c = c.in-Ok.ensures.moves
+
+pub drive-requires-clause-still : goal.drive-requires-clause-still
+drive-requires-clause-still g c = c.in-Ok.ensures.transitions
+
+pub drive-requires-clause-under_way : goal.drive-requires-clause-under_way
+drive-requires-clause-under_way g c =
+    let first = start_there c.args.loaded.now.unit c.requires.proper c.args.loaded.now.placement in
+    record { config = first.0; delay = no_delay; stands = c.in-Ok.ensures.stands first.0 first.1 }
+
+pub returns-in-Ok-drive : goal.returns-in-Ok-drive
+returns-in-Ok-drive g c =
+    let u = c.args.loaded.now.unit in
+    let l = c.args.loaded.now.placement in
+    let plan = c.args.loaded.now.schedule in
+    let s = c.in-Ok.ensures in
+    let first = start_there u c.requires.proper l in
+    let drives = from_start c.args.show u l plan first.0 no_delay c.in-Ok.machine _ _ _ s.unit s.placement (c.in-Ok-drive.ensures first.0 no_delay (s.stands first.0 first.1)) in
+    delivers_of _ c.args.show u.names _ (run_of c.args.loaded.now) c.finish.result
+    (sym (ap (λ (o : Option (Config Placed)). record_at (coded u) l plan.quantum o plan.events) first.1))
+    (end_writes c.args.show u l plan first.0 no_delay _ _ u.names _ c.in-Ok-drive.last c.finish.result refl (has_run c.args.show u l plan first.0 no_delay _ _ c.in-Ok-drive.last drives) (refl, refl) c.finish.ensures)
+
+pub returns-in-Ok : goal.returns-in-Ok
+returns-in-Ok g c =
+    let u = c.args.loaded.now.unit in
+    let l = c.args.loaded.now.placement in
+    let plan = c.args.loaded.now.schedule in
+    let s = c.in-Ok.ensures in
+    let first = start_there u c.requires.proper l in
+    let drives = from_start c.args.show u l plan first.0 no_delay c.in-Ok.machine _ _ _ s.unit s.placement (c.in-Err.ensures first.0 no_delay (s.stands first.0 first.1)) in
+    delivers_of _ c.args.show u.names _ (run_of c.args.loaded.now) S.WriteFault
+    (sym (ap (λ (o : Option (Config Placed)). record_at (coded u) l plan.quantum o plan.events) first.1))
+    (cut_writes c.args.show u l plan first.0 no_delay _ _ _ drives)
+
+pub returns : goal.returns
+returns g c = R.nothing (refl, refl) refl

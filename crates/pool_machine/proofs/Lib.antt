@@ -1,0 +1,12 @@
+pub mod NumberedLinks
+pub mod PostedPackets
+pub mod ChangedNodes
+pub mod Searches
+pub mod Steps
+pub mod Brought
+pub mod TurnsOfNodes
+pub mod MovesOfHeads
+pub mod EventsOfMachines
+pub mod ToldOfObjects
+pub mod StartOfMachines
+pub mod MadeNodes

@@ -1,0 +1,96 @@
+use Rattle.std.proofs.Common.{◌≡◌, ◌<◌, ◌≤◌, List, [], refl, sym, ap, subst, ◌∙◌, length, arith}
+use Rattle.pool_syntax.specs.declared.words.Place.{Place}
+use Rattle.mesh_semantics.specs.Record.{last_place, root_node}
+use Rattle.node_semantics.specs.Node.{NodeState}
+use Rattle.coded_objects.specs.Coded.{Placed}
+use Rattle.coded_objects.proofs.Laws.{code_fits, code_start_sound}
+use Rattle.rendezvous_protocol.specs.declared.packet.Packet.{Packet}
+use Rattle.mesh_routing.specs.Links.{LinksOf}
+use Rattle.pool_machine.proofs.ChangedNodes.{element}
+use Rattle.pool_machine.proofs.StartOfMachines.{counts_start, kept_start, root_inside, stands_start}
+use Rattle.pool_machine.proofs.machine.Machine.make.Goals as goal
+
+pub index_mut-requires : goal.index_mut-requires
+index_mut-requires c =
+    let root : c.root_of-root.result ≡ root_node (last_place c.args.placement.now.places) = c.root_of-root.ensures ∙ ap (λ (ps : List Place). root_node (last_place ps)) c.items.ensures in
+    let below : c.root_of-root.result < length c.in-Ok.nodes.items =
+    subst (λ i. i < length c.in-Ok.nodes.items) (sym root) (subst (λ n. root_node (last_place c.args.placement.now.places) < n) (sym c.in-Ok.ensures.count) (root_inside c.args.unit.now c.args.placement.now c.requires.suits)) in
+    subst (λ n. c.root_of-root.result < n) (sym c.in-Ok.nodes.ok.0) below
+
+pub start_root-requires-clause-unit : goal.start_root-requires-clause-unit
+start_root-requires-clause-unit c =
+    let root : c.root_of-root.result ≡ root_node (last_place c.args.placement.now.places) = c.root_of-root.ensures ∙ ap (λ (ps : List Place). root_node (last_place ps)) c.items.ensures in
+    let below : c.root_of-root.result < length c.in-Ok.nodes.items =
+    subst (λ i. i < length c.in-Ok.nodes.items) (sym root) (subst (λ n. root_node (last_place c.args.placement.now.places) < n) (sym c.in-Ok.ensures.count) (root_inside c.args.unit.now c.args.placement.now c.requires.suits)) in
+    let here = element c.in-Ok.nodes.items c.root_of-root.result c.index_mut.result.now below c.index_mut.ensures.value in
+    let node = c.in-Ok.ensures.each c.root_of-root.result c.index_mut.result.now here in
+    node.node.of_unit
+
+pub start_root-requires-clause-room : goal.start_root-requires-clause-room
+start_root-requires-clause-room c =
+    let root : c.root_of-root.result ≡ root_node (last_place c.args.placement.now.places) = c.root_of-root.ensures ∙ ap (λ (ps : List Place). root_node (last_place ps)) c.items.ensures in
+    let below : c.root_of-root.result < length c.in-Ok.nodes.items =
+    subst (λ i. i < length c.in-Ok.nodes.items) (sym root) (subst (λ n. root_node (last_place c.args.placement.now.places) < n) (sym c.in-Ok.ensures.count) (root_inside c.args.unit.now c.args.placement.now c.requires.suits)) in
+    let here = element c.in-Ok.nodes.items c.root_of-root.result c.index_mut.result.now below c.index_mut.ensures.value in
+    let node = c.in-Ok.ensures.each c.root_of-root.result c.index_mut.result.now here in
+    subst (λ n. 1 ≤ n) (sym node.node.of_placement.objects) c.requires.suits.objects.0
+
+pub start_root-requires-clause-frames : goal.start_root-requires-clause-frames
+start_root-requires-clause-frames c =
+    let root : c.root_of-root.result ≡ root_node (last_place c.args.placement.now.places) = c.root_of-root.ensures ∙ ap (λ (ps : List Place). root_node (last_place ps)) c.items.ensures in
+    let below : c.root_of-root.result < length c.in-Ok.nodes.items =
+    subst (λ i. i < length c.in-Ok.nodes.items) (sym root) (subst (λ n. root_node (last_place c.args.placement.now.places) < n) (sym c.in-Ok.ensures.count) (root_inside c.args.unit.now c.args.placement.now c.requires.suits)) in
+    let here = element c.in-Ok.nodes.items c.root_of-root.result c.index_mut.result.now below c.index_mut.ensures.value in
+    let node = c.in-Ok.ensures.each c.root_of-root.result c.index_mut.result.now here in
+    subst (λ n. 1 ≤ n) (sym node.node.of_placement.frames) c.requires.suits.frames.0
+
+pub start_root-requires-clause-empty : goal.start_root-requires-clause-empty
+start_root-requires-clause-empty c =
+    let root : c.root_of-root.result ≡ root_node (last_place c.args.placement.now.places) = c.root_of-root.ensures ∙ ap (λ (ps : List Place). root_node (last_place ps)) c.items.ensures in
+    let below : c.root_of-root.result < length c.in-Ok.nodes.items =
+    subst (λ i. i < length c.in-Ok.nodes.items) (sym root) (subst (λ n. root_node (last_place c.args.placement.now.places) < n) (sym c.in-Ok.ensures.count) (root_inside c.args.unit.now c.args.placement.now c.requires.suits)) in
+    let here = element c.in-Ok.nodes.items c.root_of-root.result c.index_mut.result.now below c.index_mut.ensures.value in
+    let node = c.in-Ok.ensures.each c.root_of-root.result c.index_mut.result.now here in
+    ap (λ (x : NodeState Placed). x.slots) node.state
+
+pub invariant_of-result : goal.invariant_of-result
+invariant_of-result c =
+    let root : c.root_of-root.result ≡ root_node (last_place c.args.placement.now.places) = c.root_of-root.ensures ∙ ap (λ (ps : List Place). root_node (last_place ps)) c.items.ensures in
+    let below : c.root_of-root.result < length c.in-Ok.nodes.items =
+    subst (λ i. i < length c.in-Ok.nodes.items) (sym root) (subst (λ n. root_node (last_place c.args.placement.now.places) < n) (sym c.in-Ok.ensures.count) (root_inside c.args.unit.now c.args.placement.now c.requires.suits)) in
+    let here = element c.in-Ok.nodes.items c.root_of-root.result c.index_mut.result.now below c.index_mut.ensures.value in
+    let y = c.start_root.ensures.root in
+    let width : c.in-Ok-make.links.width ≡ c.args.placement.now.width = ap (λ (z : LinksOf Packet). z.width) c.in-Ok-make.ensures ∙ c.make-mesh.ensures.width in
+    let height : c.in-Ok-make.links.height ≡ c.args.placement.now.height = ap (λ (z : LinksOf Packet). z.height) c.in-Ok-make.ensures ∙ c.make-mesh.ensures.height in
+    let cells : c.in-Ok-make.links.cells ≡ c.args.placement.now.cells = ap (λ (z : LinksOf Packet). z.cells) c.in-Ok-make.ensures in
+    let empty : c.in-Ok-make.links.links ≡ [] = ap (λ (z : LinksOf Packet). z.links) c.in-Ok-make.ensures in
+    record {
+      mesh = record { width = c.make-mesh.ensures.width; height = c.make-mesh.ensures.height };
+      kept = kept_start c.args.unit.now c.args.placement.now c.requires.proper c.requires.suits c.in-Ok.nodes.items c.in-Ok.ensures c.root_of-root.result root c.index_mut.result.now here y.0 y.1 c.start_root.new.self y.2 c.start_root.ensures.unit c.in-Ok-make.links width height cells empty;
+      counts = counts_start c.args.unit.now c.args.placement.now c.requires.proper c.requires.suits c.in-Ok.nodes.items c.in-Ok.ensures c.root_of-root.result root c.index_mut.result.now here y.0 y.1 c.start_root.new.self y.2 c.start_root.ensures.unit c.in-Ok-make.links width height cells empty;
+      moves = omega arith;
+      transitions = omega arith;
+    }
+
+pub returns : goal.returns
+returns c =
+    let root : c.root_of-root.result ≡ root_node (last_place c.args.placement.now.places) = c.root_of-root.ensures ∙ ap (λ (ps : List Place). root_node (last_place ps)) c.items.ensures in
+    let below : c.root_of-root.result < length c.in-Ok.nodes.items =
+    subst (λ i. i < length c.in-Ok.nodes.items) (sym root) (subst (λ n. root_node (last_place c.args.placement.now.places) < n) (sym c.in-Ok.ensures.count) (root_inside c.args.unit.now c.args.placement.now c.requires.suits)) in
+    let here = element c.in-Ok.nodes.items c.root_of-root.result c.index_mut.result.now below c.index_mut.ensures.value in
+    let y = c.start_root.ensures.root in
+    let width : c.in-Ok-make.links.width ≡ c.args.placement.now.width = ap (λ (z : LinksOf Packet). z.width) c.in-Ok-make.ensures ∙ c.make-mesh.ensures.width in
+    let height : c.in-Ok-make.links.height ≡ c.args.placement.now.height = ap (λ (z : LinksOf Packet). z.height) c.in-Ok-make.ensures ∙ c.make-mesh.ensures.height in
+    let cells : c.in-Ok-make.links.cells ≡ c.args.placement.now.cells = ap (λ (z : LinksOf Packet). z.cells) c.in-Ok-make.ensures in
+    let empty : c.in-Ok-make.links.links ≡ [] = ap (λ (z : LinksOf Packet). z.links) c.in-Ok-make.ensures in
+    record {
+      unit = refl;
+      placement = refl;
+      done = refl;
+      moves = refl;
+      transitions = refl;
+      stands = λ e is. record {
+        sound = code_start_sound c.args.unit.now c.requires.proper c.args.placement.now (code_fits c.args.unit.now c.args.placement.now c.requires.suits) e is;
+        stands = stands_start c.args.unit.now c.args.placement.now c.requires.proper c.requires.suits c.in-Ok.nodes.items c.in-Ok.ensures c.root_of-root.result root c.index_mut.result.now here y.0 y.1 c.start_root.new.self y.2 c.start_root.ensures.unit c.in-Ok-make.links width height cells empty e is;
+      };
+    }

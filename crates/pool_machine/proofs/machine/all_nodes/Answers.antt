@@ -1,0 +1,15 @@
+use Rattle.std.proofs.Common.{sym, ◌+◌, List, subst}
+use Rattle.pool_node.specs.NodeOf.{NodeOf}
+use Rattle.pool_machine.proofs.MadeNodes.{node_made}
+use Rattle.pool_machine.specs.Whole.{AreEmpty, IsEmptyNode}
+use Rattle.pool_machine.proofs.machine.all_nodes.Goals as goal
+
+pub loop-id-preserved : goal.loop-id-preserved
+loop-id-preserved c =
+    let made = c.in_ok-make.ensures.empty in
+    let new : IsEmptyNode c.args.unit.now c.args.placement.now c.loop-id.id c.in_ok-make.field-0 = record {
+      node = record { id = λ i. (made i).id; of_unit = c.in_ok-make.ensures.unit; of_placement = c.in_ok-make.ensures.placement };
+      state = λ i. (made i).state;
+    } in
+    subst (λ (nodes : List NodeOf). AreEmpty c.args.unit.now c.args.placement.now (c.loop-id.id + 1) nodes) (sym c.in_ok-push.ensures.items)
+    (node_made c.args.unit.now c.args.placement.now c.loop-id.id c.loop-id.nodes.items c.in_ok-make.field-0 c.loop-id.invariant new)

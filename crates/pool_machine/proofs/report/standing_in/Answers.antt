@@ -1,0 +1,32 @@
+use Rattle.std.proofs.Common.{sym, ◌∙◌}
+use Rattle.std.proofs.lemmas.Option.{slice_get_within}
+use Rattle.pool_node.specs.Acts.{told_standing}
+use Rattle.mesh_semantics.specs.Delay.{node_of, slot_of}
+use Rattle.pool_machine.proofs.ToldOfObjects.{Found, due_told, found_at, none_on_mesh, on_way, slot_found, slot_told}
+use Rattle.pool_machine.proofs.report.standing_in.Goals as goal
+
+pub returns-then-is_on_way : goal.returns-then-is_on_way
+returns-then-is_on_way c =
+    let f : Found c.args.nodes.now c.args.name = slot_found c.args.nodes.now c.args.name (sym c.has_object.ensures ∙ c.if-not-has_object.false) in
+    let y = c.is_on_way.ensures.yes c.if-is_on_way.true in
+    due_told c.args.unit.now c.args.placement.now c.args.nodes.now c.args.links.now c.args.name f (on_way c.args.name (y.0, y.1) c.args.links.now.links y.2)
+
+pub standing-requires-clause-unit : goal.standing-requires-clause-unit
+standing-requires-clause-unit c =
+    let f : Found c.args.nodes.now c.args.name = found_at c.args.nodes.now c.args.name (slot_found c.args.nodes.now c.args.name (sym c.has_object.ensures ∙ c.if-not-has_object.false))
+    c.index-nodes-node.result c.index-nodes-node.is in
+    (c.requires.kept.parts.each (node_of c.args.name) c.index-nodes-node.result f.node_is).of_unit
+
+pub standing-requires-clause-slot : goal.standing-requires-clause-slot
+standing-requires-clause-slot c =
+    let f : Found c.args.nodes.now c.args.name = found_at c.args.nodes.now c.args.name (slot_found c.args.nodes.now c.args.name (sym c.has_object.ensures ∙ c.if-not-has_object.false))
+    c.index-nodes-node.result c.index-nodes-node.is in
+    slice_get_within c.index-nodes-node.result.state.slots (slot_of c.args.name) f.slot f.slot_is
+
+pub returns : goal.returns
+returns c =
+    let f : Found c.args.nodes.now c.args.name = found_at c.args.nodes.now c.args.name (slot_found c.args.nodes.now c.args.name (sym c.has_object.ensures ∙ c.if-not-has_object.false))
+    c.index-nodes-node.result c.index-nodes-node.is in
+    slot_told c.args.unit.now c.args.placement.now c.args.nodes.now c.args.links.now c.args.name f c.requires.kept.parts (told_standing c.standing.result)
+    (none_on_mesh c.args.unit.now c.args.placement.now c.args.nodes.now c.args.links.now c.requires.kept c.args.name c.args.mesh.now.width c.args.mesh.now.height c.requires.mesh.width c.requires.mesh.height (c.is_on_way.ensures.no c.if-is_on_way.false))
+    c.standing.ensures

@@ -1,0 +1,72 @@
+-- What the calls of a machine tell, for every sound configuration of code with its delay that the machine stands for.
+use Rattle.std.specs.Prelude.{◌≡◌, ℕ, ◌+◌, ◌*◌, ◌<◌, length, Option, Some}
+use Rattle.pool_syntax.specs.declared.words.Event.{Event}
+use Rattle.pool_syntax.specs.declared.words.Event.TheVariants as Ev
+use Rattle.pool_syntax.specs.declared.words.What.{What}
+use Rattle.pool_syntax.specs.declared.words.What.TheVariants as W
+use Rattle.pool_syntax.specs.declared.words.Line.TheVariants as R
+use Rattle.pool_syntax.specs.declared.words.Placement.{Placement}
+use Rattle.object_code.specs.declared.unit.Unit.{Unit as Code}
+use Rattle.mesh_semantics.specs.Config.{Config, object_of}
+use Rattle.mesh_semantics.specs.Delay.{Delay, no_delay}
+use Rattle.mesh_semantics.specs.Act as A
+use Rattle.mesh_semantics.specs.Act.{Acted}
+use Rattle.mesh_semantics.specs.Paths.{IsLink}
+use Rattle.mesh_semantics.specs.Record.{shown, start}
+use Rattle.mesh_semantics.specs.Sound.{IsSound}
+use Rattle.mesh_semantics.specs.Standing as T
+use Rattle.mesh_semantics.specs.Standing.{standing}
+use Rattle.mesh_semantics.specs.Partial.{◌>>=◌}
+use Rattle.node_semantics.specs.StandsFor.{MachineStandsFor}
+use Rattle.coded_objects.specs.Coded.{Placed, coded}
+use Rattle.coded_objects.specs.OfCode.{IsOfCode}
+use Rattle.pool_machine.specs.declared.words.Outcome.{Outcome}
+use Rattle.pool_machine.specs.declared.words.Outcome.TheVariants as O
+use Rattle.pool_machine.specs.MachineOf.{MachineOf, machine_of}
+
+-- the node is of the mesh, or the link is
+abbrev pub IsOfMesh : Placement → Event → Type 0
+IsOfMesh l (Ev.Turn n) = n < l.width * l.height
+IsOfMesh l (Ev.Link a b) = IsLink l (a, b)
+
+-- the machine stands for a configuration of code with its delay, which is sound
+pub record Stands (m : MachineOf) (c : Config Placed) (d : Delay) : Type 0 where
+  pub sound : IsSound (coded m.unit) (IsOfCode m.unit) m.placement c d
+  pub stands : MachineStandsFor (coded m.unit) m.placement (machine_of m) c d
+
+-- one where a packet has left a link
+abbrev pub moved : Event → What → ℕ
+moved (Ev.Turn n) what = 0
+moved (Ev.Link a b) W.Idle = 0
+moved (Ev.Link a b) what = 1
+
+-- A machine that was just made: it has done nothing, and stands for the start, with nothing on its way.
+pub record IsStart (u : Code) (l : Placement) (m : MachineOf) : Type 0 where
+  pub unit : m.unit ≡ u
+  pub placement : m.placement ≡ l
+  pub done : m.done ≡ 0
+  pub moves : m.moves ≡ 0
+  pub transitions : m.transitions ≡ 0
+  pub stands : (c : Config Placed) → start (coded u) l ≡ Some c → Stands m c no_delay
+
+-- what is the same after an event
+pub record IsAfter (old new : MachineOf) (e : Event) (what : What) : Type 0 where
+  pub unit : new.unit ≡ old.unit
+  pub placement : new.placement ≡ old.placement
+  pub done : new.done ≡ old.done + 1
+  pub moves : new.moves ≡ old.moves + moved e what
+  pub transitions : new.transitions ≡ old.transitions + length (shown what)
+
+-- The event's answer is that of the configuration: its line with the next number, and the machine then stands for what is after it; or its limit, and the machine is as before.
+abbrev pub IsOutcome : Event → MachineOf → Outcome → MachineOf → Acted Placed → Type 0
+IsOutcome e old (O.Line line) new (A.Acts w c d) = (line ≡ R.Event (old.done + 1) e w) × IsAfter old new e w × Stands new c d
+IsOutcome e old (O.Full kind node) new (A.Full k n) = (kind ≡ k) × (node ≡ n) × (new ≡ old)
+IsOutcome e old _ new _ = ⊥
+
+-- where the object of this name stands, if there is one
+abbrev pub standing_at : Code → Config Placed → Delay → ℕ → Option T.Standing
+standing_at u c d o = object_of c o >>= λ x. Some (standing (coded u) d o x)
+
+-- the class of the object of this name, if there is one
+abbrev pub class_at : Code → Config Placed → ℕ → Option ℕ
+class_at u c o = object_of c o >>= λ x. Some ((coded u).class x)

@@ -1,0 +1,5 @@
+pub mod MachineOf
+pub mod Parts
+pub mod Whole
+pub mod Told
+pub mod Answers

@@ -1,0 +1,71 @@
+-- What a machine keeps of its nodes and links from one event to the next, and what an event does to them.
+use Rattle.std.specs.Prelude.{◌≡◌, ℕ, ◌*◌, List, Some, true, length, map, slice_get}
+use Rattle.pool_syntax.specs.declared.words.Placement.{Placement}
+use Rattle.object_code.specs.declared.unit.Unit.{Unit as Code}
+use Rattle.object_code.specs.Proper.{IsProper}
+use Rattle.object_code.specs.Suits.{Suits}
+use Rattle.mesh_semantics.specs.Config.{Config}
+use Rattle.mesh_semantics.specs.Delay.{Delay}
+use Rattle.mesh_semantics.specs.Sound.{Each, IsSound}
+use Rattle.mesh_semantics.specs.Tables.{Pair, no_entry_empty}
+use Rattle.coded_objects.specs.Coded.{Placed, coded}
+use Rattle.coded_objects.specs.OfCode.{IsOfCode}
+use Rattle.node_semantics.specs.Machine as M
+use Rattle.node_semantics.specs.Machine.{Machine, MachineActed}
+use Rattle.node_semantics.specs.StandsFor.{MachineStandsFor}
+use Rattle.rendezvous_protocol.specs.declared.packet.Packet.{Packet}
+use Rattle.mesh_routing.specs.Links.{LinksOf}
+use Rattle.mesh_routing.specs.declared.mesh.Mesh.{Mesh}
+use Rattle.pool_node.specs.NodeOf.{NodeOf}
+use Rattle.pool_node.specs.OfUnit.{IsOfPlacement, IsOfUnit}
+use Rattle.pool_machine.specs.MachineOf.{numbered_link}
+use Rattle.pool_machine.specs.declared.words.Did.{Did}
+use Rattle.pool_machine.specs.declared.words.Did.TheVariants as D
+
+-- the machine by the definition of nodes and links
+abbrev pub machine_from : List NodeOf → List (Pair × List Packet) → Machine Placed
+machine_from nodes links = record { nodes = map (λ n. n.state) nodes; links = map numbered_link links }
+
+-- a node with this number, of the unit and the placement
+pub record IsNodeOf (u : Code) (l : Placement) (i : ℕ) (n : NodeOf) : Type 0 where
+  pub id : n.id ≡ i
+  pub of_unit : IsOfUnit u n
+  pub of_placement : IsOfPlacement u l n
+
+-- nodes of the unit, numbered from 0
+abbrev pub AreOfUnit : Code → List NodeOf → Type 0
+AreOfUnit u nodes = (i : ℕ) (n : NodeOf) → slice_get nodes i ≡ Some n → (n.id ≡ i) × IsOfUnit u n
+
+-- nodes and links of the unit and the placement
+pub record AreParts (u : Code) (l : Placement) (nodes : List NodeOf) (k : LinksOf Packet) : Type 0 where
+  pub proper : IsProper u
+  pub suits : Suits l u
+  pub count : length nodes ≡ l.width * l.height
+  pub each : (i : ℕ) (n : NodeOf) → slice_get nodes i ≡ Some n → IsNodeOf u l i n
+  pub width : k.width ≡ l.width
+  pub height : k.height ≡ l.height
+  pub cells : k.cells ≡ l.cells
+  pub filled : no_entry_empty k.links ≡ true
+
+-- such nodes and links, with a sound configuration and its delay that they stand for
+pub record AreKept (u : Code) (l : Placement) (nodes : List NodeOf) (k : LinksOf Packet) : Type 0 where
+  pub parts : AreParts u l nodes k
+  pub config : Config Placed
+  pub delay : Delay
+  pub sound : IsSound (coded u) (IsOfCode u) l config delay
+  pub stands : MachineStandsFor (coded u) l (machine_from nodes k.links) config delay
+
+-- the mesh of the placement
+pub record IsMeshOf (l : Placement) (mesh : Mesh) : Type 0 where
+  pub width : mesh.width ≡ l.width
+  pub height : mesh.height ≡ l.height
+
+-- each count of objects that the nodes have made has the property
+abbrev pub EachCount : (ℕ → Type 0) → List NodeOf → Type 0
+EachCount P nodes = (i : ℕ) (n : NodeOf) → slice_get nodes i ≡ Some n → Each P n.state.made
+
+-- what it tells is what the machine does by the definition, and it is then as that says
+abbrev pub IsDid : Did → List NodeOf → LinksOf Packet → List NodeOf → LinksOf Packet → MachineActed Placed → Type 0
+IsDid (D.Line what) nodes links nodes' links' (M.Acts w m) = (what ≡ w) × (machine_from nodes' links'.links ≡ m)
+IsDid (D.Full kind node) nodes links nodes' links' (M.Full k n) = (kind ≡ k) × (node ≡ n) × (nodes' ≡ nodes) × (links' ≡ links)
+IsDid _ nodes links nodes' links' _ = ⊥

@@ -1,0 +1,32 @@
+-- What holds of the fields of a machine, and what a contract sees of them.
+use Rattle.std.specs.Prelude.{ℕ, ◌≡◌, ◌≤◌, ◌*◌, List, Some, length, slice_get}
+use Rattle.pool_syntax.specs.declared.words.Placement.{Placement}
+use Rattle.object_code.specs.declared.unit.Unit.{Unit as Code}
+use Rattle.coded_objects.specs.Coded.{coded}
+use Rattle.node_semantics.specs.Machine.{empty_node}
+use Rattle.pool_node.specs.NodeOf.{NodeOf}
+use Rattle.pool_machine.specs.MachineOf.{MachineOf}
+use Rattle.pool_machine.specs.Parts.{AreKept, EachCount, IsMeshOf, IsNodeOf}
+use Rattle.pool_machine.specs.declared.machine.Machine.TheInside.{Inside}
+
+-- a node without objects
+pub record IsEmptyNode (u : Code) (l : Placement) (i : ℕ) (n : NodeOf) : Type 0 where
+  pub node : IsNodeOf u l i n
+  pub state : n.state ≡ empty_node (coded u)
+
+-- so many nodes without objects, numbered from 0
+pub record AreEmpty (u : Code) (l : Placement) (size : ℕ) (nodes : List NodeOf) : Type 0 where
+  pub count : length nodes ≡ size
+  pub each : (i : ℕ) (n : NodeOf) → slice_get nodes i ≡ Some n → IsEmptyNode u l i n
+
+abbrev pub machine_view : Inside → MachineOf
+machine_view m = record { unit = m.unit.now; placement = m.placement.now; nodes = m.nodes.items; links = m.links.links; done = m.done; moves = m.moves; transitions = m.transitions }
+
+pub record IsWhole (m : Inside) : Type 0 where
+  pub mesh : IsMeshOf m.placement.now m.mesh
+  pub kept : AreKept m.unit.now m.placement.now m.nodes.items m.links
+  -- no node has made more objects than there were events
+  pub counts : EachCount (λ k. k ≤ m.done) m.nodes.items
+  pub moves : m.moves ≤ m.done
+  -- an event makes fewer than 2 ^ 32 transitions
+  pub transitions : m.transitions ≤ m.done * 4294967295

@@ -1,0 +1,224 @@
+//! The machine.
+ghost use Rattle.std.specs.Prelude.{◌≡◌, ◌<◌, ◌≤◌, ◌-◌, ◌*◌, ◌^◌, is_some, IfOk};
+ghost use Rattle.std.specs.Option.{option_map};
+ghost use Rattle.std.specs.List.{list_any};
+ghost use Rattle.object_code.specs.Proper.{IsProper};
+ghost use Rattle.object_code.specs.Suits.{Suits};
+ghost use Rattle.mesh_semantics.specs.Config.{Config};
+ghost use Rattle.mesh_semantics.specs.Delay.{Delay};
+ghost use Rattle.mesh_semantics.specs.Act.{act, is_quiet, object_count};
+ghost use Rattle.mesh_semantics.specs.Record.{last_place, root_node};
+ghost use Rattle.coded_objects.specs.Coded.{Placed, coded};
+ghost use Rattle.pool_node.specs.Acts.{told_standing};
+ghost use Rattle.pool_machine.specs.Whole.{AreEmpty};
+ghost use Rattle.pool_machine.specs.Answers.{IsOfMesh, IsOutcome, IsStart, Stands, class_at, standing_at};
+
+use crate::counts::{moved_by, shown_by};
+use crate::report::{can_step, class_in, has_faulted, standing_in};
+use crate::step::step;
+use crate::words::{Did, OpenFault, Outcome};
+use mesh_routing::{Links, Mesh};
+use object_code::Unit;
+use pool_node::Node;
+use pool_syntax::{Event, Line, NameId, Place, Placement, Standing};
+use rendezvous_protocol::Packet;
+use std::alloc::{AllocError, Global};
+use std::marker::Model;
+
+/// The machine of a unit on the nodes of a placement, with the links between them. Contracts speak of every sound
+/// configuration of code with its delay that it stands for.
+#[derive(Drop)]
+pub struct Machine<'a> {
+    unit: &'a Unit,
+    placement: &'a Placement,
+    mesh: Mesh,
+    nodes: Vec<Node>,
+    links: Links<Packet>,
+    done: u32,
+    moves: u64,
+    transitions: u64,
+}
+
+impl<'a> Model for Machine<'a> {
+    ghost use Rattle.object_code.specs.contracts.unit.CodeObject as image;
+    ghost use Rattle.object_code.specs.contracts.unit.Unit as unit_of;
+    ghost use Rattle.pool_syntax.specs.contracts.words.Placement as placement_of;
+    ghost use Rattle.pool_syntax.specs.contracts.words.Error as error;
+    ghost use Rattle.pool_syntax.specs.contracts.words.Value as value;
+    ghost use Rattle.rendezvous_protocol.specs.contracts.packet.Packet as packet;
+    ghost use Rattle.pool_node.specs.NodeOf.{node_code};
+    ghost use Rattle.pool_machine.specs.MachineOf.{MachineOf, machine_code};
+
+    ghost Value = { MachineOf };
+
+    ghost coded = { machine_code unit_of.the_row.coded placement_of.the_row.coded (node_code image.the_row.coded error.the_row.coded value.the_row.coded) packet.the_row.coded };
+
+    ghost use Rattle.pool_machine.specs.Whole.{IsWhole, machine_view};
+
+    ghost view = { machine_view };
+
+    ghost invariant = { IsWhole };
+}
+
+/// Makes all nodes of a mesh, without objects.
+fn all_nodes(alloc: Global, unit: &Unit, placement: &Placement) -> Result<Vec<Node>, AllocError>
+    requires proper { IsProper unit.now }
+    requires suits { Suits placement.now unit.now }
+    ensures { IfOk result (λ nodes. AreEmpty unit.now placement.now (placement.now.width * placement.now.height) nodes.items) }
+{
+    let mut nodes = Vec::new(alloc);
+    for id in 0..placement.width * placement.height {
+        nodes.push(Node::make(alloc, unit, placement, id)?)?;
+    }
+    Ok(nodes)
+}
+
+/// The node of this place, or node 0 where it names none.
+fn node_of_place(place: &Place) -> u32
+    ensures { result ≡ root_node (Some place.now) }
+{
+    match *place {
+        Place::At(node) => node,
+        Place::Same | Place::Spread => 0,
+    }
+}
+
+/// The node of the root: the place of the last class, or node 0 where that names none.
+fn root_of(places: &[Place]) -> u32
+    ensures { result ≡ root_node (last_place places.now) }
+{
+    match places.last() {
+        Some(place) => node_of_place(place),
+        None => 0,
+    }
+}
+
+impl<'a> Machine<'a> {
+    /// Takes all memory of a run, and places the root object on its node. `Memory` where it is not had.
+    pub fn make(
+        alloc: Global,
+        unit: &'a Unit,
+        placement: &'a Placement,
+    ) -> Result<Machine<'a>, OpenFault>
+        requires proper { IsProper unit.now }
+        requires suits { Suits placement.now unit.now }
+        ensures { IfOk result (λ m. IsStart unit.now placement.now m) }
+    {
+        let mesh = Mesh::make(placement.width, placement.height);
+        let Ok(mut nodes) = all_nodes(alloc, unit, placement) else {
+            return Err(OpenFault::Memory);
+        };
+        let Ok(links) = Links::make(alloc, &mesh, placement.cells) else {
+            return Err(OpenFault::Memory);
+        };
+        let root = root_of(placement.places.items());
+        nodes[root as usize].start_root(unit);
+        Ok(Machine {
+            unit,
+            placement,
+            mesh,
+            nodes,
+            links,
+            done: 0,
+            moves: 0,
+            transitions: 0,
+        })
+    }
+
+    /// Makes an event: a turn of a node, with up to `quantum` local transitions, or a move of the head of a link. `Full`
+    /// comes exactly where the step would pass a limit of a node, and the machine is then as before.
+    pub fn event(&mut self, event: Event, quantum: u32) -> Outcome
+        requires mesh { IsOfMesh self.old.placement event }
+        requires quantum { (1 ≤ quantum) × (quantum ≤ 10000) }
+        requires few { self.old.done < 2 ^ 32 - 1 }
+        ensures { (c : Config Placed) (d : Delay) → Stands self.old c d → IsOutcome event self.old result self.new (act (coded self.old.unit) self.old.placement quantum c d event) }
+    {
+        let did = step(
+            self.unit,
+            self.placement,
+            &self.mesh,
+            self.nodes.as_mut_slice(),
+            &mut self.links,
+            &event,
+            quantum,
+        );
+        match did {
+            Did::Full { kind, node } => Outcome::Full { kind, node },
+            Did::Line(what) => {
+                self.done += 1;
+                self.moves += moved_by(&event, &what);
+                self.transitions += shown_by(&what);
+                Outcome::Line(Line::Event {
+                    number: self.done,
+                    event,
+                    what,
+                })
+            }
+        }
+    }
+
+    /// Whether no packet is on a link and no object is ready.
+    pub fn is_quiet(&self) -> bool
+        ensures { (c : Config Placed) (d : Delay) → Stands self.now c d → result ≡ is_quiet (coded self.now.unit) c d }
+    {
+        self.links.is_empty() && !can_step(self.unit, self.nodes.as_slice())
+    }
+
+    /// The number of events made.
+    pub fn done(&self) -> u32
+        ensures { result ≡ self.now.done }
+    {
+        self.done
+    }
+
+    /// The number of link events that moved a packet.
+    pub fn moves(&self) -> u64
+        ensures { result ≡ self.now.moves }
+    {
+        self.moves
+    }
+
+    /// The number of transitions that the events made.
+    pub fn transitions(&self) -> u64
+        ensures { result ≡ self.now.transitions }
+    {
+        self.transitions
+    }
+
+    /// Whether an object has met a language error.
+    pub fn any_faulted(&self) -> bool
+        ensures { (c : Config Placed) (d : Delay) → Stands self.now c d → result ≡ list_any (λ e. is_some e.1.fault) c.objects }
+    {
+        has_faulted(self.nodes.as_slice())
+    }
+
+    /// The number of objects of a node.
+    pub fn objects_of(&self, node: u32) -> u32
+        requires { node < self.now.placement.width * self.now.placement.height }
+        ensures count { (c : Config Placed) (d : Delay) → Stands self.now c d → result ≡ object_count c node }
+        ensures few { result ≤ 4096 }
+    {
+        self.nodes[node as usize].objects()
+    }
+
+    /// Where the object of a name stands. None exactly where no object has the name.
+    pub fn status_of(&self, name: u32) -> Option<Standing>
+        ensures { (c : Config Placed) (d : Delay) → Stands self.now c d → option_map told_standing result ≡ standing_at self.now.unit c d name }
+    {
+        standing_in(
+            self.unit,
+            self.placement,
+            &self.mesh,
+            self.nodes.as_slice(),
+            &self.links,
+            name,
+        )
+    }
+
+    /// The class of the object of a name. None exactly where no object has the name.
+    pub fn class_of(&self, name: u32) -> Option<NameId>
+        ensures { (c : Config Placed) (d : Delay) → Stands self.now c d → option_map (λ k. k.0) result ≡ class_at self.now.unit c name }
+    {
+        class_in(self.unit, self.nodes.as_slice(), name)
+    }
+}

@@ -1,0 +1,114 @@
+//! The move of a link's head.
+ghost use Rattle.std.specs.Prelude.{◌≡◌, ◌≢◌, map, Some, slice_get};
+ghost use Rattle.mesh_semantics.specs.Paths.{IsLink};
+ghost use Rattle.mesh_semantics.specs.Tables.{list_at, pair_cmp};
+ghost use Rattle.mesh_semantics.specs.Act.{goal_node};
+ghost use Rattle.coded_objects.specs.Coded.{coded};
+ghost use Rattle.node_semantics.specs.Machine.{move_in};
+ghost use Rattle.rendezvous_protocol.specs.Packets.{numbered};
+ghost use Rattle.pool_machine.specs.Parts.{AreKept, AreParts, EachCount, IsDid, IsMeshOf, machine_from};
+
+use crate::turns::post;
+use crate::words::Did;
+use mesh_routing::{Links, Mesh};
+use object_code::Unit;
+use pool_node::{Act, Node};
+use pool_syntax::{FullKind, Placement, What};
+use rendezvous_protocol::{Packet, goal};
+
+/// The head of a link at its goal: it is received, and leaves the link, unless a limit is met.
+fn arrive(
+    unit: &Unit,
+    placement: &Placement,
+    mesh: &Mesh,
+    nodes: &mut [Node],
+    links: &mut Links<Packet>,
+    from: u32,
+    to: u32,
+    packet: Packet,
+) -> Did
+    requires kept { AreKept unit.now placement.now nodes.old links.old }
+    requires mesh { IsMeshOf placement.now mesh.now }
+    requires link { IsLink placement.now (from, to) }
+    requires head { slice_get (list_at pair_cmp (from, to) links.old.links) 0 ≡ Some packet }
+    requires goal { goal_node (numbered packet).packet ≡ to }
+    ensures act { IsDid result nodes.old links.old nodes.new links.new (move_in (coded unit.now) placement.now (machine_from nodes.old links.old.links) from to (map numbered (list_at pair_cmp (from, to) links.old.links))) }
+    ensures parts { AreParts unit.now placement.now nodes.new links.new }
+    ensures counts { map (λ n. n.state.made) nodes.new ≡ map (λ n. n.state.made) nodes.old }
+{
+    let leaving = links.leaving(to);
+    match nodes[to as usize].receive(unit, placement, packet, leaving) {
+        Act::Idle => Did::Line(What::Idle),
+        Act::Full { kind } => Did::Full { kind, node: to },
+        Act::Line {
+            what,
+            packet: answer,
+        } => {
+            let _ = links.move_head(from, to);
+            if let Some(answer) = answer {
+                post(mesh, links, to, answer);
+            }
+            Did::Line(what)
+        }
+    }
+}
+
+/// The head of a link at another node than its goal: it goes last on its next link, unless the node has no cell for it.
+fn pass(
+    unit: &Unit,
+    placement: &Placement,
+    mesh: &Mesh,
+    nodes: &[Node],
+    links: &mut Links<Packet>,
+    from: u32,
+    to: u32,
+    packet: Packet,
+) -> Did
+    requires kept { AreKept unit.now placement.now nodes.now links.old }
+    requires mesh { IsMeshOf placement.now mesh.now }
+    requires link { IsLink placement.now (from, to) }
+    requires head { slice_get (list_at pair_cmp (from, to) links.old.links) 0 ≡ Some packet }
+    requires goal { goal_node (numbered packet).packet ≢ to }
+    ensures act { IsDid result nodes.now links.old nodes.now links.new (move_in (coded unit.now) placement.now (machine_from nodes.now links.old.links) from to (map numbered (list_at pair_cmp (from, to) links.old.links))) }
+    ensures parts { AreParts unit.now placement.now nodes.now links.new }
+{
+    let waiting = nodes[to as usize].messages();
+    let leaving = links.leaving(to);
+    if waiting + leaving + 1 > placement.cells {
+        return Did::Full {
+            kind: FullKind::Cells,
+            node: to,
+        };
+    }
+    let _ = links.move_head(from, to);
+    post(mesh, links, to, packet);
+    Did::Line(What::Pass)
+}
+
+/// Makes a move of the head of a link.
+pub(crate) fn move_link(
+    unit: &Unit,
+    placement: &Placement,
+    mesh: &Mesh,
+    nodes: &mut [Node],
+    links: &mut Links<Packet>,
+    from: u32,
+    to: u32,
+) -> Did
+    requires kept { AreKept unit.now placement.now nodes.old links.old }
+    requires mesh { IsMeshOf placement.now mesh.now }
+    requires link { IsLink placement.now (from, to) }
+    ensures act { IsDid result nodes.old links.old nodes.new links.new (move_in (coded unit.now) placement.now (machine_from nodes.old links.old.links) from to (map numbered (list_at pair_cmp (from, to) links.old.links))) }
+    ensures parts { AreParts unit.now placement.now nodes.new links.new }
+    ensures counts { map (λ n. n.state.made) nodes.new ≡ map (λ n. n.state.made) nodes.old }
+{
+    let Some(head) = links.head(from, to) else {
+        return Did::Line(What::Idle);
+    };
+    let packet = *head;
+    if goal(&packet) == to {
+        arrive(unit, placement, mesh, nodes, links, from, to, packet)
+    } else {
+        pass(unit, placement, mesh, nodes, links, from, to, packet)
+    }
+}

@@ -1,0 +1,163 @@
+//! What a machine tells of its nodes and objects.
+ghost use Rattle.std.specs.Prelude.{◌≡◌, ◌<◌, ◌*◌, ◌↔◌, ℕ, Bool, true, false, map, is_some, slice_get, IsTrue};
+ghost use Rattle.std.specs.Option.{option_map};
+ghost use Rattle.std.specs.List.{list_any};
+ghost use Rattle.mesh_semantics.specs.Tables.{list_at, pair_cmp};
+ghost use Rattle.mesh_semantics.specs.Paths.{AreNeighbours};
+ghost use Rattle.mesh_semantics.specs.Delay.{node_of, slot_of};
+ghost use Rattle.coded_objects.specs.Coded.{coded};
+ghost use Rattle.node_semantics.specs.Machine.{any_ready};
+ghost use Rattle.node_semantics.specs.Standings.{brings, machine_standing};
+ghost use Rattle.node_semantics.specs.StandsFor.{slot_in};
+ghost use Rattle.rendezvous_protocol.specs.Packets.{numbered};
+ghost use Rattle.pool_node.specs.Acts.{told_standing};
+ghost use Rattle.pool_machine.specs.Parts.{AreKept, AreOfUnit, IsMeshOf, machine_from};
+ghost use Rattle.pool_machine.specs.Told.{has_fault, is_brought, slot_class};
+
+use mesh_routing::{Links, Mesh};
+use object_code::Unit;
+use pool_node::Node;
+use pool_syntax::{NameId, Placement, Standing};
+use rendezvous_protocol::Packet;
+
+/// Whether an object of a node can step.
+pub(crate) fn can_step(unit: &Unit, nodes: &[Node]) -> bool
+    requires { AreOfUnit unit.now nodes.now }
+    ensures { result ≡ any_ready (coded unit.now) 0 (map (λ n. n.state) nodes.now) }
+{
+    for node in nodes {
+        if node.is_ready(unit) {
+            return true;
+        }
+    }
+    false
+}
+
+/// Whether an object has met a language error.
+pub(crate) fn has_faulted(nodes: &[Node]) -> bool
+    ensures { result ≡ has_fault (map (λ n. n.state) nodes.now) }
+{
+    for node in nodes {
+        if node.any_faulted() {
+            return true;
+        }
+    }
+    false
+}
+
+/// Whether the packet brings the object its value.
+fn brings_to(packet: &Packet, name: u32) -> bool
+    ensures { result ≡ brings name (numbered packet.now).packet }
+{
+    match *packet {
+        Packet::Created { to, .. } | Packet::Result { to, .. } => to == name,
+        _ => false,
+    }
+}
+
+/// Whether a packet on the link brings the object its value.
+fn link_brings(links: &Links<Packet>, from: u32, to: u32, name: u32) -> bool
+    requires link { (from < links.now.width * links.now.height) × (to < links.now.width * links.now.height) × AreNeighbours links.now.width from to }
+    ensures { result ≡ is_brought name (list_at pair_cmp (from, to) links.now.links) }
+{
+    for place in 0..links.leaving(from) {
+        let Some(packet) = links.at(from, to, place) else {
+            return false;
+        };
+        if brings_to(packet, name) {
+            return true;
+        }
+    }
+    false
+}
+
+/// Whether the nodes are beside each other in a mesh of this width.
+fn are_neighbours(width: u32, a: u32, b: u32) -> bool
+    requires width { 0 < width }
+    requires a { a < 64 }
+    requires b { b < 64 }
+    ensures { IsTrue result ↔ AreNeighbours width a b }
+{
+    if a / width == b / width {
+        a % width + 1 == b % width || b % width + 1 == a % width
+    } else {
+        a % width == b % width && (a / width + 1 == b / width || b / width + 1 == a / width)
+    }
+}
+
+/// Whether a packet on a link from this node brings the object its value.
+fn node_brings(mesh: &Mesh, links: &Links<Packet>, from: u32, name: u32) -> bool
+    requires width { mesh.now.width ≡ links.now.width }
+    requires height { mesh.now.height ≡ links.now.height }
+    requires from { from < mesh.now.width * mesh.now.height }
+    ensures yes { result ≡ true → (b : ℕ) × (is_brought name (list_at pair_cmp (from, b) links.now.links) ≡ true) }
+    ensures no { result ≡ false → (b : ℕ) → b < mesh.now.width * mesh.now.height → AreNeighbours mesh.now.width from b → is_brought name (list_at pair_cmp (from, b) links.now.links) ≡ false }
+{
+    for to in 0..mesh.width * mesh.height {
+        if are_neighbours(mesh.width, from, to) && link_brings(links, from, to, name) {
+            return true;
+        }
+    }
+    false
+}
+
+/// Whether a packet on a link brings the object its value.
+fn is_on_way(mesh: &Mesh, links: &Links<Packet>, name: u32) -> bool
+    requires width { mesh.now.width ≡ links.now.width }
+    requires height { mesh.now.height ≡ links.now.height }
+    ensures yes { result ≡ true → (a : ℕ) × (b : ℕ) × (is_brought name (list_at pair_cmp (a, b) links.now.links) ≡ true) }
+    ensures no { result ≡ false → (a b : ℕ) → a < mesh.now.width * mesh.now.height → b < mesh.now.width * mesh.now.height → AreNeighbours mesh.now.width a b → is_brought name (list_at pair_cmp (a, b) links.now.links) ≡ false }
+{
+    for from in 0..mesh.width * mesh.height {
+        if links.leaving(from) > 0 && node_brings(mesh, links, from, name) {
+            return true;
+        }
+    }
+    false
+}
+
+/// Whether there is an object of the name.
+fn has_object(nodes: &[Node], name: u32) -> bool
+    ensures { result ≡ is_some (slot_in (slice_get (map (λ n. n.state) nodes.now) (node_of name)) (slot_of name)) }
+{
+    let node = (name / 65536) as usize;
+    node < nodes.len() && name % 65536 < nodes[node].objects()
+}
+
+/// Where the object of a name stands: due while its value is on a link, and else as its node says. `placement` is there
+/// for the contract.
+pub(crate) fn standing_in(
+    unit: &Unit,
+    placement: &Placement,
+    mesh: &Mesh,
+    nodes: &[Node],
+    links: &Links<Packet>,
+    name: u32,
+) -> Option<Standing>
+    requires kept { AreKept unit.now placement.now nodes.now links.now }
+    requires mesh { IsMeshOf placement.now mesh.now }
+    ensures { option_map told_standing result ≡ machine_standing (coded unit.now) (machine_from nodes.now links.now.links) name }
+{
+    let _ = placement;
+    if !has_object(nodes, name) {
+        return None;
+    }
+    if is_on_way(mesh, links, name) {
+        return Some(Standing::Due);
+    }
+    let node = (name / 65536) as usize;
+    Some(nodes[node].standing(unit, name % 65536))
+}
+
+/// The class of the object of a name.
+pub(crate) fn class_in(unit: &Unit, nodes: &[Node], name: u32) -> Option<NameId>
+    requires { AreOfUnit unit.now nodes.now }
+    ensures { option_map (λ k. k.0) result ≡ slot_class unit.now (slot_in (slice_get (map (λ n. n.state) nodes.now) (node_of name)) (slot_of name)) }
+{
+    if !has_object(nodes, name) {
+        return None;
+    }
+    let node = (name / 65536) as usize;
+    let class = nodes[node].class_of(name % 65536);
+    Some(unit.classes.items()[class as usize].name)
+}

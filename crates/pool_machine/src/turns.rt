@@ -1,0 +1,66 @@
+//! The turn of a node, and the packet that leaves it.
+ghost use Rattle.std.specs.Prelude.{◌≡◌, ◌≢◌, ◌<◌, ◌≤◌, ◌+◌, ◌-◌, ◌*◌, ◌^◌, ℕ};
+ghost use Rattle.pool_syntax.specs.declared.words.Event.TheVariants as Ev;
+ghost use Rattle.mesh_semantics.specs.Tables.{pair_cmp, push_list};
+ghost use Rattle.mesh_semantics.specs.Paths.{toward};
+ghost use Rattle.mesh_semantics.specs.Act.{goal_node};
+ghost use Rattle.coded_objects.specs.Coded.{coded};
+ghost use Rattle.node_semantics.specs.Machine.{leaving, machine_act};
+ghost use Rattle.node_semantics.specs.Agrees.{IsFresh};
+ghost use Rattle.rendezvous_protocol.specs.Packets.{numbered};
+ghost use Rattle.pool_machine.specs.Parts.{AreKept, AreParts, EachCount, IsDid, IsMeshOf, machine_from};
+
+use crate::words::Did;
+use mesh_routing::{Links, Mesh};
+use object_code::Unit;
+use pool_node::{Act, Node};
+use pool_syntax::{Placement, What};
+use rendezvous_protocol::{Packet, goal};
+
+/// Puts a packet that leaves a node last on the first link to its goal.
+pub(crate) fn post(mesh: &Mesh, links: &mut Links<Packet>, at: u32, packet: Packet)
+    requires width { mesh.now.width ≡ links.old.width }
+    requires height { mesh.now.height ≡ links.old.height }
+    requires at { at < mesh.now.width * mesh.now.height }
+    requires goal { goal_node (numbered packet).packet < mesh.now.width * mesh.now.height }
+    requires away { at ≢ goal_node (numbered packet).packet }
+    requires room { leaving links.old.links at < links.old.cells }
+    ensures { links.new ≡ record links.old { links = push_list pair_cmp (at, toward mesh.now.width at (goal_node (numbered packet).packet)) packet links.old.links } }
+{
+    let to = goal(&packet);
+    if let Some(next) = mesh.next(at, to) {
+        let _ = links.put(at, next, packet);
+    }
+}
+
+/// Makes a turn of a node, and puts the packet that leaves it on its link.
+pub(crate) fn turn(
+    unit: &Unit,
+    placement: &Placement,
+    mesh: &Mesh,
+    nodes: &mut [Node],
+    links: &mut Links<Packet>,
+    node: u32,
+    quantum: u32,
+) -> Did
+    requires kept { AreKept unit.now placement.now nodes.old links.old }
+    requires mesh { IsMeshOf placement.now mesh.now }
+    requires node { node < placement.now.width * placement.now.height }
+    requires quantum { 1 ≤ quantum }
+    requires countable { EachCount (λ k. k < 2 ^ 32 - 1) nodes.old }
+    ensures act { (fresh : ℕ) × IsFresh (machine_from nodes.old links.old.links) fresh (Ev.Turn node) × IsDid result nodes.old links.old nodes.new links.new (machine_act (coded unit.now) placement.now quantum fresh (machine_from nodes.old links.old.links) (Ev.Turn node)) }
+    ensures parts { AreParts unit.now placement.now nodes.new links.new }
+    ensures counts { (most : ℕ) → EachCount (λ k. k ≤ most) nodes.old → EachCount (λ k. k ≤ most + 1) nodes.new }
+{
+    let leaving = links.leaving(node);
+    match nodes[node as usize].turn(unit, placement, quantum, leaving) {
+        Act::Idle => Did::Line(What::Idle),
+        Act::Full { kind } => Did::Full { kind, node },
+        Act::Line { what, packet } => {
+            if let Some(packet) = packet {
+                post(mesh, links, node, packet);
+            }
+            Did::Line(what)
+        }
+    }
+}

@@ -1,0 +1,17 @@
+use Rattle.std.proofs.Common.{refl, sym, ap, ◌∙◌}
+use Rattle.pool_syntax.specs.declared.words.Label.TheVariants as L
+use Rattle.pool_syntax.specs.declared.words.What.TheVariants as W
+use Rattle.pool_node.proofs.Posting.{async_made, async_full, room_kept, cells_kept, lacks_kept}
+use Rattle.pool_node.proofs.acts.async_turn.Goals as goal
+
+pub returns-then-lacks : goal.returns-then-lacks
+returns-then-lacks c = λ q. async_full c.args.unit.now c.args.placement.now c.args.leaving c.args.parts.now c.requires.set c.args.slot c.requires.slot c.args.to c.args.method c.args.args q c.requires.kind (sym c.lacks.ensures ∙ c.if-lacks.true)
+
+pub post-requires-clause-room : goal.post-requires-clause-room
+post-requires-clause-room c = room_kept c.args.unit.now c.args.placement.now c.args.leaving c.args.parts.now c.requires.set c.args.slot c.requires.slot _ refl c.go_on_in.new.parts c.go_on_in.ensures c.args.to (sym c.lacks.ensures ∙ c.if-lacks.false)
+
+pub returns : goal.returns
+returns c = λ q.
+    async_made c.args.unit.now c.args.placement.now c.args.leaving c.args.parts.now c.requires.set c.args.slot c.requires.slot c.args.to c.args.method c.args.args q c.go_on_in.new.parts c.post.new.parts c.step.result c.post.result c.name_of-from.result c.requires.kind c.go_on_in.ensures
+    (c.step.ensures ∙ ap (λ o. W.Step (L.Send o c.args.to c.args.method c.args.args) 1) c.name_of-from.ensures) c.name_of-from.ensures
+    (c.post.ensures c.args.placement.now c.args.leaving c.step.result (cells_kept c.args.unit.now c.args.placement.now c.args.leaving c.args.parts.now c.requires.set c.args.slot c.requires.slot _ refl c.go_on_in.new.parts c.go_on_in.ensures) (lacks_kept c.args.unit.now c.args.placement.now c.args.leaving c.args.parts.now c.requires.set c.args.slot c.requires.slot _ refl c.go_on_in.new.parts c.go_on_in.ensures c.args.to (sym c.lacks.ensures ∙ c.if-lacks.false)))

@@ -1,0 +1,17 @@
+use Rattle.std.proofs.Common.{arith}
+use Rattle.pool_node.proofs.acts.lacks.Goals.{else-to-parts-via-then-to-parts+else-to-objects, else-to-parts-via-else-to-parts}
+use Rattle.pool_node.specs.Views.{node_of}
+use Rattle.pool_node.proofs.Slots.{slots_length}
+use Rattle.pool_node.proofs.Posting.{lacks_not_there, lacks_if}
+use Rattle.pool_node.proofs.acts.lacks.Goals as goal
+
+pub returns-then-to-objects : goal.returns-then-to-objects
+returns-then-to-objects c =
+    let n = slots_length c.args.parts.now.heap.objects c.args.parts.now.outstanding c.args.parts.now.faults c.args.parts.now.goals c.args.parts.now.mailbox.boxes in
+    lacks_not_there c.args.placement.now c.args.leaving (node_of c.args.parts.now) c.args.to (omega arith) (omega (arith, n))
+
+pub returns : goal.returns
+returns c =
+    let n = slots_length c.args.parts.now.heap.objects c.args.parts.now.outstanding c.args.parts.now.faults c.args.parts.now.goals c.args.parts.now.mailbox.boxes in
+    lacks_if c.args.placement.now c.args.leaving (node_of c.args.parts.now) c.args.to c.no_cell.result c.no_cell.ensures
+    (λ e. elim c.else-to-parts.branch [ else-to-parts-via-then-to-parts+else-to-objects w ↦ omega (arith, n, e) | else-to-parts-via-else-to-parts w ↦ absurd (omega (arith, e)) ])

@@ -1,0 +1,16 @@
+use Rattle.std.proofs.Common.{◌≡◌, ℕ, ◌+◌, not, ap, ◌∙◌, arith}
+use Rattle.std.specs.Prelude.{nat_lt}
+use Rattle.node_semantics.specs.Node.{message_count}
+use Rattle.pool_node.specs.Views.{slots_of}
+use Rattle.pool_node.proofs.Counting.{messages_seen}
+use Rattle.pool_node.proofs.Posting.{le_not}
+use Rattle.pool_node.proofs.acts.no_cell.Goals as goal
+
+pub overflow_add-result : goal.overflow_add-result
+overflow_add-result c = let k = messages_seen c.args.parts.now c.requires.whole in omega (arith, k, c.requires.cells)
+
+pub returns : goal.returns
+returns c =
+    let k = messages_seen c.args.parts.now c.requires.whole in
+    let e : c.count.result + c.args.leaving ≡ message_count (slots_of c.args.parts.now) + c.args.leaving = omega (arith, k) in
+    le_not c.args.placement.now.cells (c.count.result + c.args.leaving) ∙ ap (λ (n : ℕ). not (nat_lt n c.args.placement.now.cells)) e

@@ -1,0 +1,39 @@
+use Rattle.std.proofs.Common.{arith, ◌∙◌, ap, refl, List, [], None, replicate, length}
+use Rattle.coded_objects.specs.Coded.{coded}
+use Rattle.node_semantics.specs.Machine.{empty_node}
+use Rattle.object_code.specs.declared.unit.ClassCode.{ClassCode}
+use Rattle.pool_node.proofs.Fresh.{fresh_view}
+use Rattle.pool_node.proofs.Telling.{most_small}
+use Rattle.pool_node.proofs.node.Node.make.Goals as goal
+use Rattle.pool_node.specs.declared.parts.Parts.{Parts}
+
+pub make-requires-clause-vars : goal.make-requires-clause-vars
+make-requires-clause-vars c =
+    let m = most_small c.args.unit.now.classes (λ j k e. (c.requires.proper.each j k e).limits.0) in
+    let e = c.most_vars_of-vars.ensures in omega (arith, m, e)
+
+pub returns-clause-empty : goal.returns-clause-empty
+returns-clause-empty c =
+    let made = c.in_ok-filled-4.ensures ∙ ap (λ (ks : List ClassCode). replicate (length ks) 0) c.items.ensures in
+    let p : Parts = record {
+      id = c.args.id;
+      cells = c.args.placement.now.cells;
+      heap = c.in_ok-make.field-0;
+      mailbox = c.in_ok-make-2.field-0;
+      outstanding = c.in_ok-make-3.field-0;
+      faults = c.in_ok-filled.field-0;
+      goals = c.in_ok-filled-2.field-0;
+      ready = c.in_ok-filled-3.field-0;
+      last = None;
+      made = c.in_ok-filled-4.field-0;
+    } in
+    let fresh = fresh_view c.args.unit.now p c.args.id c.args.placement.now.objects c.args.placement.now.frames _ c.in_ok-make.ensures refl made in
+    fresh ∙ (λ i. record {
+      id = c.args.id;
+      most_objects = c.args.placement.now.objects;
+      most_frames = c.args.placement.now.frames;
+      most_cells = (c.in_ok-make-2.ensures i).cells;
+      most_vars = c.most_vars_of-vars.ensures i;
+      state = empty_node (coded c.args.unit.now);
+      ready = [];
+    })

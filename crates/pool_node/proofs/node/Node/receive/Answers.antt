@@ -1,0 +1,12 @@
+use Rattle.std.proofs.Common.{ap, ◌∙◌}
+use Rattle.coded_objects.specs.Coded.{coded}
+use Rattle.rendezvous_protocol.specs.Packets.{numbered}
+use Rattle.pool_node.specs.NodeOf.{NodeOf}
+use Rattle.pool_node.specs.Views.{node_of}
+use Rattle.pool_node.proofs.Counts.{made_after}
+use Rattle.pool_node.proofs.node.Node.receive.Goals as goal
+
+pub returns-clause-made : goal.returns-clause-made
+returns-clause-made c =
+    made_after (coded c.args.unit.now) c.args.placement.now c.self.inside.parts.id c.args.leaving (numbered c.args.packet) c.receipt_of.result
+    (node_of c.self.inside.parts) (node_of c.receipt_of.new.parts) c.receipt_of.ensures.act ∙ ap (λ (n : NodeOf). n.state.made) c.self.view_is

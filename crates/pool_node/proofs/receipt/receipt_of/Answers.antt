@@ -1,0 +1,7 @@
+use Rattle.std.proofs.Common.{arith}
+use Rattle.pool_node.proofs.Acting.{made_acts}
+use Rattle.pool_node.proofs.receipt.receipt_of.Goals as goal
+
+pub returns-clause-act : goal.returns-clause-act
+returns-clause-act c =
+    (made_acts c.args.unit.now c.args.placement.now c.args.leaving c.args.parts.now c.received-act.new.parts c.requires.whole c.requires.unit c.requires.placement (omega arith) _ c.received-act.result c.received-act.ensures).0

@@ -1,0 +1,19 @@
+use Rattle.std.proofs.Common.{refl, sym, ap, ◌∙◌, arith}
+use Rattle.node_semantics.specs.Node.{name_at}
+use Rattle.pool_node.proofs.Creating.{some_placed}
+use Rattle.pool_node.proofs.Receiving.{create_heap, create_frames, create_cells, create_made}
+use Rattle.pool_node.proofs.receipt.receive_create.Goals as goal
+
+pub returns-then-objects-placement : goal.returns-then-objects-placement
+returns-then-objects-placement c = λ goal. let y = some_placed c.args.unit.now c.args.name c.args.class c.requires.named in create_heap c.args.unit.now c.args.placement.now c.args.leaving c.args.parts.now c.requires.set c.args.number c.args.from c.args.class c.args.name c.requires.named y.0 y.1 goal _ refl (omega arith)
+
+pub returns-then-frames-placement : goal.returns-then-frames-placement
+returns-then-frames-placement c = λ goal. let y = some_placed c.args.unit.now c.args.name c.args.class c.requires.named in create_frames c.args.unit.now c.args.placement.now c.args.leaving c.args.parts.now c.requires.set c.args.number c.args.from c.args.class c.args.name c.requires.named y.0 y.1 goal _ refl (omega arith) (omega arith)
+
+pub returns-then-no_cell : goal.returns-then-no_cell
+returns-then-no_cell c = λ goal. let y = some_placed c.args.unit.now c.args.name c.args.class c.requires.named in create_cells c.args.unit.now c.args.placement.now c.args.leaving c.args.parts.now c.requires.set c.args.number c.args.from c.args.class c.args.name c.requires.named y.0 y.1 goal _ refl (omega arith) (omega arith) (sym c.if-no_cell.true ∙ c.no_cell.ensures)
+
+pub returns-in-Ok : goal.returns-in-Ok
+returns-in-Ok c = λ goal.
+    create_made c.args.unit.now c.args.placement.now c.args.leaving c.args.parts.now c.requires.set c.args.number c.args.from c.args.class c.args.name c.requires.named c.in-Ok.ensures.added.0 c.in-Ok.ensures.added.1 goal c.add_in.new.parts c.step.result c.name_of-object.result c.in-Ok.ensures.added.2
+    (c.name_of-object.ensures ∙ ap (λ j. name_at c.add_in.new.parts.id j) c.in-Ok.ensures.slot) c.step.ensures (sym c.if-no_cell.false ∙ c.no_cell.ensures)

@@ -1,0 +1,35 @@
+-- What the calls of a node tell: its act by the definition of a node.
+use Rattle.std.specs.Prelude.{◌≡◌, Bool, true, false}
+use Rattle.std.specs.Option.{option_map}
+use Rattle.pool_syntax.specs.declared.words.Standing.{Standing}
+use Rattle.pool_syntax.specs.declared.words.Standing.TheVariants as Z
+use Rattle.mesh_semantics.specs.Standing as T
+use Rattle.coded_objects.specs.Coded.{Placed}
+use Rattle.node_semantics.specs.Node as N
+use Rattle.node_semantics.specs.Node.{NodeActed}
+use Rattle.rendezvous_protocol.specs.Packets.{numbered}
+use Rattle.pool_node.specs.declared.words.Act.{Act}
+use Rattle.pool_node.specs.declared.words.Act.TheVariants as A
+use Rattle.pool_node.specs.NodeOf.{NodeOf}
+
+-- the call tells what the node did: nothing, a line with the packet that leaves, or a limit; and the node is then as it says
+abbrev pub IsActOf : Act → NodeOf → NodeOf → NodeActed Placed → Type 0
+IsActOf A.Idle old new N.Idle = new ≡ old
+IsActOf (A.Line what packet) old new (N.Acts w p x) = (what ≡ w) × (option_map numbered packet ≡ p) × (new ≡ record old { state = x; ready = new.ready })
+IsActOf (A.Full kind) old new (N.Full k) = (kind ≡ k) × (new ≡ old)
+IsActOf _ old new _ = ⊥
+
+-- the standing that it tells
+abbrev pub told_standing : Standing → T.Standing
+told_standing Z.Ready = T.Ready
+told_standing Z.Finished = T.Finished
+told_standing (Z.Faulted e) = T.Faulted e
+told_standing (Z.Calls b m) = T.Calls b m.0
+told_standing (Z.Creates k node) = T.Creates k.0 node
+told_standing Z.Due = T.Due
+told_standing Z.Awaits = T.Awaits
+
+-- ready, if it can step
+abbrev pub chosen_standing : Bool → T.Standing
+chosen_standing true = T.Ready
+chosen_standing false = T.Awaits

@@ -1,0 +1,155 @@
+//! The steps of an object that makes an object.
+ghost use Rattle.std.specs.Prelude.{◌≡◌, ◌≢◌, ℕ, ◌+◌, ◌-◌, ◌*◌, ◌^◌, ◌<◌, ◌≤◌, None, Some, length, get_or, slice_get, slice_set};
+ghost use Rattle.pool_syntax.specs.declared.words.Placement.{Placement as OnePlacement};
+ghost use Rattle.pool_syntax.specs.declared.words.NameId.{NameId as OneName};
+ghost use Rattle.object_code.specs.Kinds as C;
+ghost use Rattle.object_code.specs.Kinds.{code_kind};
+ghost use Rattle.object_code.specs.Step.{class_from};
+ghost use Rattle.node_heap.specs.Heaps.{object_at};
+ghost use Rattle.node_semantics.specs.Node.{goal_for};
+ghost use Rattle.pool_node.specs.OfUnit.{IsOfUnit};
+ghost use Rattle.pool_node.specs.Views.{IsWhole, node_of};
+ghost use Rattle.pool_node.specs.Made.{IsSet, IsTurned};
+
+use crate::acts::{name_of, no_cell, step};
+use crate::moves::{add_in, ask_in, give_in};
+use crate::parts::Parts;
+use crate::words::Act;
+use node_heap::HeapFull;
+use object_code::Unit;
+use pool_syntax::{FullKind, Label, Place, Placement, Value, What};
+use rendezvous_protocol::Packet;
+
+/// The node of the next object that is made of the class at this place.
+fn goal_of(placement: &Placement, parts: &Parts, class: u32) -> u32
+    requires places { class < length placement.now.places }
+    requires made { class < length parts.now.made }
+    requires size { (placement.now.width ≤ 8) × (placement.now.height ≤ 8) × (0 < placement.now.width * placement.now.height) }
+    ensures { result ≡ goal_for placement.now parts.now.id (get_or parts.now.made class 0) (slice_get placement.now.places class) }
+{
+    let made = parts.made.items()[class as usize];
+    match placement.places.items()[class as usize] {
+        Place::At(node) => node,
+        Place::Same => parts.id,
+        Place::Spread => {
+            let nodes = placement.width * placement.height;
+            ((parts.id as u64 + made as u64) % nodes as u64) as u32
+        }
+    }
+}
+
+/// Counts one object more of the class at this place.
+fn count_in(parts: &mut Parts, class: u32)
+    requires class { class < length parts.old.made }
+    requires few { get_or parts.old.made class 0 < 2 ^ 32 - 1 }
+    ensures { parts.new ≡ record parts.old { made = slice_set parts.old.made class (get_or parts.old.made class 0 + 1) } }
+{
+    let made = parts.made.items()[class as usize];
+    parts.made.set(class as usize, made + 1);
+}
+
+/// Makes an object on the own node, unless there is no slot or no frame for it. Its maker has its name at once.
+fn create_here(unit: &Unit, parts: &mut Parts, slot: u32, class: u32) -> Act
+    requires whole { IsWhole parts.old }
+    requires unit { IsOfUnit unit.now (node_of parts.old) }
+    requires slot { slot < length parts.old.heap.objects }
+    requires free { get_or parts.old.outstanding slot None ≡ None }
+    requires kind { (k : OneName) × (code_kind unit.now (object_at parts.old.heap slot) ≡ C.New k) × (class_from 0 unit.now.classes k ≡ Some class) }
+    requires class { class < length unit.now.classes }
+    requires few { get_or parts.old.made class 0 < 2 ^ 32 - 1 }
+    ensures { (l : OnePlacement) (q leaving : ℕ) → IsSet unit.now l leaving parts.old → goal_for l parts.old.id (get_or parts.old.made class 0) (slice_get l.places class) ≡ parts.old.id → IsTurned unit.now l q leaving result parts.old parts.new slot }
+{
+    let object = name_of(parts, slot);
+    match add_in(unit, parts, class) {
+        Ok(new) => {
+            let name = name_of(parts, new);
+            give_in(unit, parts, slot, Value::Ref(name));
+            count_in(parts, class);
+            let label = Label::New {
+                object,
+                name,
+                class: unit.classes.items()[class as usize].name,
+            };
+            Act::Line {
+                what: step(label),
+                packet: None,
+            }
+        }
+        Err(HeapFull::Objects) => Act::Full {
+            kind: FullKind::Heap,
+        },
+        Err(HeapFull::Frames) => Act::Full {
+            kind: FullKind::Frames,
+        },
+    }
+}
+
+/// Posts a request for an object on another node, unless there is no cell for its packet.
+fn create_there(
+    unit: &Unit,
+    placement: &Placement,
+    parts: &mut Parts,
+    slot: u32,
+    class: u32,
+    goal: u32,
+    leaving: u32,
+) -> Act
+    requires set { IsSet unit.now placement.now leaving parts.old }
+    requires slot { slot < length parts.old.heap.objects }
+    requires free { get_or parts.old.outstanding slot None ≡ None }
+    requires kind { (k : OneName) × (code_kind unit.now (object_at parts.old.heap slot) ≡ C.New k) × (class_from 0 unit.now.classes k ≡ Some class) }
+    requires class { class < length unit.now.classes }
+    requires few { get_or parts.old.made class 0 < 2 ^ 32 - 1 }
+    requires goal { goal_for placement.now parts.old.id (get_or parts.old.made class 0) (slice_get placement.now.places class) ≡ goal }
+    requires other { goal ≢ parts.old.id }
+    ensures { (q : ℕ) → IsTurned unit.now placement.now q leaving result parts.old parts.new slot }
+{
+    if no_cell(placement, parts, leaving) {
+        return Act::Full {
+            kind: FullKind::Cells,
+        };
+    }
+    let object = name_of(parts, slot);
+    let number = ask_in(unit, parts, slot, goal);
+    count_in(parts, class);
+    let name = unit.classes.items()[class as usize].name;
+    let packet = Packet::Create {
+        number,
+        from: object,
+        node: goal,
+        class: name,
+    };
+    Act::Line {
+        what: What::PostCreate {
+            object,
+            class: name,
+            node: goal,
+        },
+        packet: Some(packet),
+    }
+}
+
+/// Makes an object of the class at this place, or posts a request for it.
+pub(crate) fn create_turn(
+    unit: &Unit,
+    placement: &Placement,
+    parts: &mut Parts,
+    slot: u32,
+    class: u32,
+    leaving: u32,
+) -> Act
+    requires set { IsSet unit.now placement.now leaving parts.old }
+    requires slot { slot < length parts.old.heap.objects }
+    requires free { get_or parts.old.outstanding slot None ≡ None }
+    requires kind { (k : OneName) × (code_kind unit.now (object_at parts.old.heap slot) ≡ C.New k) × (class_from 0 unit.now.classes k ≡ Some class) }
+    requires class { class < length unit.now.classes }
+    requires few { get_or parts.old.made class 0 < 2 ^ 32 - 1 }
+    ensures { (q : ℕ) → IsTurned unit.now placement.now q leaving result parts.old parts.new slot }
+{
+    let goal = goal_of(placement, parts, class);
+    if goal == parts.id {
+        create_here(unit, parts, slot, class)
+    } else {
+        create_there(unit, placement, parts, slot, class, goal, leaving)
+    }
+}

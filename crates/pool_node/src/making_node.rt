@@ -1,0 +1,66 @@
+//! What a new node is made of.
+ghost use Rattle.std.specs.Prelude.{◌≡◌, ◌<◌, ◌≤◌, [], Some, IfOk, replicate};
+ghost use Rattle.object_code.specs.Suits.{most_vars};
+ghost use Rattle.coded_objects.specs.Coded.{Placed, coded};
+ghost use Rattle.node_semantics.specs.Node.{name_at};
+ghost use Rattle.pool_node.specs.OfUnit.{IsOfUnit};
+ghost use Rattle.pool_node.specs.Views.{IsWhole, node_of, slots_of};
+ghost use Rattle.pool_node.specs.Changes.{IsAdded};
+
+use crate::acts::name_of;
+use crate::moves::add_in;
+use crate::parts::Parts;
+use crate::receipt::class_named;
+use object_code::Unit;
+use pool_syntax::List;
+use std::alloc::{AllocError, Global};
+
+/// So many times one value. Err where the memory is not had.
+pub(crate) fn filled<T: Copy + Drop>(
+    alloc: Global,
+    count: u32,
+    value: T,
+) -> Result<List<T>, AllocError>
+    ensures { IfOk result (λ it. it ≡ replicate count value) }
+{
+    let mut list = List::make(alloc);
+    for _i in 0..count {
+        if list.push(value).is_err() {
+            return Err(AllocError);
+        }
+    }
+    Ok(list)
+}
+
+/// The greatest number of variables of a class.
+pub(crate) fn most_vars_of(unit: &Unit) -> u32
+    ensures { result ≡ most_vars unit.now.classes }
+{
+    let classes = unit.classes.items();
+    let mut most = 0;
+    for i in (0..classes.len()).rev() {
+        if classes[i].vars > most {
+            most = classes[i].vars;
+        }
+    }
+    most
+}
+
+/// Places the root object in slot 0, and tells its name.
+pub(crate) fn start_in(unit: &Unit, parts: &mut Parts) -> u32
+    requires whole { IsWhole parts.old }
+    requires unit { IsOfUnit unit.now (node_of parts.old) }
+    requires room { 1 ≤ parts.old.heap.most_objects }
+    requires frames { 1 ≤ parts.old.heap.most_frames }
+    requires empty { slots_of parts.old ≡ [] }
+    ensures name { result ≡ name_at parts.old.id 0 }
+    ensures root { (y : Placed) × ((coded unit.now).root ≡ Some y) × IsAdded unit.now parts.old parts.new y }
+{
+    let object = name_of(parts, 0);
+    let classes = unit.classes.items();
+    let name = classes[classes.len() - 1].name;
+    if let Some(place) = class_named(unit, name) {
+        let _placed = add_in(unit, parts, place).is_ok();
+    }
+    object
+}

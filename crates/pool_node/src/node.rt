@@ -1,0 +1,191 @@
+//! One node.
+ghost use Rattle.std.specs.Prelude.{◌≡◌, ◌<◌, ◌≤◌, ◌+◌, ◌-◌, ◌*◌, ◌^◌, ℕ, [], ◌∷◌, length, slice_get, is_some, Some, IfOk};
+ghost use Rattle.std.specs.List.{list_any};
+ghost use Rattle.object_code.specs.Proper.{IsProper};
+ghost use Rattle.object_code.specs.Suits.{Suits, most_vars};
+ghost use Rattle.mesh_semantics.specs.Sound.{Each};
+ghost use Rattle.mesh_semantics.specs.Act.{first_of};
+ghost use Rattle.coded_objects.specs.Coded.{Placed, coded};
+ghost use Rattle.node_semantics.specs.Node.{Slot, fresh_slot, message_count, name_at, ready_slots, receipt_act, turn_act};
+ghost use Rattle.node_semantics.specs.Machine.{empty_node};
+ghost use Rattle.node_semantics.specs.Agrees.{IsUnused};
+ghost use Rattle.node_semantics.specs.Receives.{IsReceivable};
+ghost use Rattle.node_semantics.specs.Standings.{slot_standing};
+ghost use Rattle.rendezvous_protocol.specs.Packets.{numbered};
+ghost use Rattle.pool_node.specs.OfUnit.{IsOfPlacement, IsOfUnit};
+ghost use Rattle.pool_node.specs.Acts.{IsActOf, told_standing};
+
+use crate::making_node::{filled, most_vars_of, start_in};
+use crate::parts::Parts;
+use crate::receipt::receipt_of;
+use crate::standing::{any_fault, standing_of};
+use crate::turn::{first_ready, turn_of};
+use crate::words::Act;
+use mailbox::Mailbox;
+use node_heap::{Heap, HeapLimits};
+use object_code::Unit;
+use pool_syntax::{Placement, Standing};
+use rendezvous_protocol::{Outstanding, Packet};
+use std::alloc::{AllocError, Global};
+use std::marker::Model;
+
+/// One node: its objects, the messages that have arrived for them, the requests that are out, the slot that stepped
+/// last, and how many objects of each class its objects have made.
+#[derive(Drop)]
+pub struct Node {
+    parts: Parts,
+}
+
+impl Model for Node {
+    ghost use Rattle.object_code.specs.contracts.unit.CodeObject as image;
+    ghost use Rattle.pool_syntax.specs.contracts.words.Error as error;
+    ghost use Rattle.pool_syntax.specs.contracts.words.Value as value;
+    ghost use Rattle.pool_node.specs.NodeOf.{NodeOf, node_code};
+
+    ghost Value = { NodeOf };
+
+    ghost coded = { node_code image.the_row.coded error.the_row.coded value.the_row.coded };
+
+    ghost use Rattle.pool_node.specs.Views.{IsWhole, node_of};
+
+    ghost view = { λ n. node_of n.parts };
+
+    ghost invariant = { λ n. IsWhole n.parts };
+}
+
+impl Node {
+    /// Takes the memory of a node of the placement. No object is there yet. Err where the memory is not had.
+    pub fn make(
+        alloc: Global,
+        unit: &Unit,
+        placement: &Placement,
+        id: u32,
+    ) -> Result<Node, AllocError>
+        requires proper { IsProper unit.now }
+        requires suits { Suits placement.now unit.now }
+        requires id { id < placement.now.width * placement.now.height }
+        ensures empty { IfOk result (λ n. n ≡ record { id = id; most_objects = placement.now.objects; most_frames = placement.now.frames; most_cells = placement.now.cells; most_vars = most_vars unit.now.classes; state = empty_node (coded unit.now); ready = [] }) }
+        ensures unit { IfOk result (λ n. IsOfUnit unit.now n) }
+        ensures placement { IfOk result (λ n. IsOfPlacement unit.now placement.now n) }
+    {
+        let vars = most_vars_of(unit);
+        let limits = HeapLimits {
+            node: id,
+            objects: placement.objects,
+            frames: placement.frames,
+            vars,
+        };
+        let parts = Parts {
+            id,
+            cells: placement.cells,
+            heap: Heap::make(alloc, limits)?,
+            mailbox: Mailbox::make(alloc, placement.objects, placement.cells)?,
+            outstanding: Outstanding::make(alloc, placement.objects)?,
+            faults: filled(alloc, placement.objects, None)?,
+            goals: filled(alloc, placement.objects, 0)?,
+            ready: filled(alloc, placement.objects, false)?,
+            last: None,
+            made: filled(alloc, unit.classes.items().len() as u32, 0)?,
+        };
+        Ok(Node { parts })
+    }
+
+    /// Places the root object, of the last class of the unit, in slot 0, and tells its name.
+    pub fn start_root(&mut self, unit: &Unit) -> u32
+        requires unit { IsOfUnit unit.now self.old }
+        requires room { 1 ≤ self.old.most_objects }
+        requires frames { 1 ≤ self.old.most_frames }
+        requires empty { self.old.state.slots ≡ [] }
+        ensures name { result ≡ name_at self.old.id 0 }
+        ensures root { (y : Placed) × ((coded unit.now).root ≡ Some y) × (self.new ≡ record self.old { state = record self.old.state { slots = fresh_slot y ∷ [] }; ready = self.new.ready }) }
+        ensures unit { IsOfUnit unit.now self.new }
+    {
+        start_in(unit, &mut self.parts)
+    }
+
+    /// Makes a turn: the ready object of least slot above the one that stepped last, else of least slot, makes up to
+    /// `quantum` local transitions or one other step. `leaving` is the number of packets on the links that leave the
+    /// node. `Idle` comes exactly where no object is ready, and `Full` exactly where the step would pass a limit, with
+    /// the first of heap, frames and cells; the node is then as before.
+    pub fn turn(&mut self, unit: &Unit, placement: &Placement, quantum: u32, leaving: u32) -> Act
+        requires unit { IsOfUnit unit.now self.old }
+        requires placement { IsOfPlacement unit.now placement.now self.old }
+        requires quantum { 1 ≤ quantum }
+        requires cells { message_count self.old.state.slots + leaving ≤ self.old.most_cells }
+        requires countable { Each (λ k. k < 2 ^ 32 - 1) self.old.state.made }
+        ensures act { (fresh : ℕ) × IsUnused fresh self.old.state × IsActOf result self.old self.new (turn_act (coded unit.now) placement.now quantum self.old.id leaving fresh self.old.state) }
+        ensures unit { IsOfUnit unit.now self.new }
+        ensures counts { (most : ℕ) → Each (λ k. k ≤ most) self.old.state.made → Each (λ k. k ≤ most + 1) self.new.state.made }
+    {
+        turn_of(unit, placement, &mut self.parts, quantum, leaving)
+    }
+
+    /// Receives a packet at its goal. `Full` comes exactly where that would pass a limit, with the first of heap, frames
+    /// and cells; the node is then as before. `Idle` never comes.
+    pub fn receive(
+        &mut self,
+        unit: &Unit,
+        placement: &Placement,
+        packet: Packet,
+        leaving: u32,
+    ) -> Act
+        requires unit { IsOfUnit unit.now self.old }
+        requires placement { IsOfPlacement unit.now placement.now self.old }
+        requires cells { message_count self.old.state.slots + leaving ≤ self.old.most_cells }
+        requires packet { IsReceivable (coded unit.now) self.old.id self.old.state (numbered packet).number (numbered packet).packet }
+        ensures act { IsActOf result self.old self.new (receipt_act (coded unit.now) placement.now self.old.id leaving (numbered packet) self.old.state) }
+        ensures unit { IsOfUnit unit.now self.new }
+        ensures made { self.new.state.made ≡ self.old.state.made }
+    {
+        receipt_of(unit, placement, &mut self.parts, packet, leaving)
+    }
+
+    /// Whether an object of the node is ready.
+    pub fn is_ready(&self, unit: &Unit) -> bool
+        requires { IsOfUnit unit.now self.now }
+        ensures { result ≡ is_some (first_of (ready_slots (coded unit.now) self.now.id self.now.state)) }
+    {
+        let _ = unit;
+        first_ready(&self.parts, 0).is_some()
+    }
+
+    /// The number of objects.
+    pub fn objects(&self) -> u32
+        ensures count { result ≡ length self.now.state.slots }
+        ensures within { (result ≤ self.now.most_objects) × (self.now.most_objects ≤ 4096) }
+    {
+        self.parts.heap.objects()
+    }
+
+    /// The number of messages that have arrived and were not taken.
+    pub fn messages(&self) -> u32
+        ensures count { result ≡ message_count self.now.state.slots }
+        ensures within { result ≤ self.now.most_cells }
+    {
+        self.parts.mailbox.count()
+    }
+
+    /// Where the object of a slot stands, as its node knows it: while its request is out it calls or creates.
+    pub fn standing(&self, unit: &Unit, slot: u32) -> Standing
+        requires unit { IsOfUnit unit.now self.now }
+        requires slot { slot < length self.now.state.slots }
+        ensures { (s : Slot Placed) → slice_get self.now.state.slots slot ≡ Some s → told_standing result ≡ slot_standing (coded unit.now) (name_at self.now.id slot) s }
+    {
+        standing_of(unit, &self.parts, slot)
+    }
+
+    /// The place of the class of a slot's object in the unit.
+    pub fn class_of(&self, slot: u32) -> u32
+        requires { slot < length self.now.state.slots }
+        ensures { (s : Slot Placed) → slice_get self.now.state.slots slot ≡ Some s → result ≡ s.state.object.class }
+    {
+        self.parts.heap.class_of(slot)
+    }
+
+    /// Whether an object of the node has met a language error.
+    pub fn any_faulted(&self) -> bool
+        ensures { result ≡ list_any (λ (s : Slot Placed). is_some s.state.fault) self.now.state.slots }
+    {
+        any_fault(&self.parts)
+    }
+}

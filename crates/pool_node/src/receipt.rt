@@ -1,0 +1,218 @@
+//! The receipt of a packet at its goal.
+ghost use Rattle.std.specs.Prelude.{◌≡◌, ℕ, ◌+◌, ◌<◌, ◌≤◌, None, Some, length};
+ghost use Rattle.pool_syntax.specs.declared.words.Placement.{Placement as OnePlacement};
+ghost use Rattle.pool_syntax.specs.declared.words.What.TheVariants as W;
+ghost use Rattle.object_code.specs.Step.{class_from};
+ghost use Rattle.mesh_semantics.specs.Delay as D;
+ghost use Rattle.coded_objects.specs.Coded.{coded};
+ghost use Rattle.node_semantics.specs.Node as N;
+ghost use Rattle.node_semantics.specs.Node.{deliver, receipt, receipt_act, message_count};
+ghost use Rattle.node_semantics.specs.Receives.{IsReceivable};
+ghost use Rattle.rendezvous_protocol.specs.Packets.{numbered};
+ghost use Rattle.pool_node.specs.OfUnit.{IsOfPlacement, IsOfUnit};
+ghost use Rattle.pool_node.specs.Acts.{IsActOf};
+ghost use Rattle.pool_node.specs.Views.{IsWhole, arrival_of, node_of, slots_of};
+ghost use Rattle.pool_node.specs.Made.{IsMade, IsSet, settled_number};
+
+use crate::acts::{deliver_to, name_of, no_cell, settle_if_out, step};
+use crate::moves::add_in;
+use crate::parts::Parts;
+use crate::words::Act;
+use mailbox::Message;
+use node_heap::HeapFull;
+use object_code::Unit;
+use pool_syntax::{FullKind, Label, NameId, Placement, Value, What};
+use rendezvous_protocol::Packet;
+
+/// The place of the first class of this name.
+pub(crate) fn class_named(unit: &Unit, class: NameId) -> Option<u32>
+    requires few { length unit.now.classes ≤ 256 }
+    ensures { result ≡ class_from 0 unit.now.classes class }
+{
+    let classes = unit.classes.items();
+    for place in 0..classes.len() {
+        if classes[place].name.0 == class.0 {
+            return Some(place as u32);
+        }
+    }
+    None
+}
+
+/// Makes an object of the class at this place for an object of another node, to which its name leaves.
+fn receive_create(
+    unit: &Unit,
+    placement: &Placement,
+    parts: &mut Parts,
+    number: u32,
+    from: u32,
+    class: u32,
+    name: NameId,
+    leaving: u32,
+) -> Act
+    requires set { IsSet unit.now placement.now leaving parts.old }
+    requires class { class < length unit.now.classes }
+    requires named { class_from 0 unit.now.classes name ≡ Some class }
+    ensures { (goal : ℕ) → IsMade unit.now placement.now leaving result parts.old parts.new (receipt (coded unit.now) parts.old.id (node_of parts.old).state (Some number) (D.Create from goal name.0)) }
+{
+    if parts.heap.objects() >= placement.objects {
+        return Act::Full {
+            kind: FullKind::Heap,
+        };
+    }
+    if parts.heap.frames() >= placement.frames {
+        return Act::Full {
+            kind: FullKind::Frames,
+        };
+    }
+    if no_cell(placement, parts, leaving) {
+        return Act::Full {
+            kind: FullKind::Cells,
+        };
+    }
+    match add_in(unit, parts, class) {
+        Ok(new) => {
+            let object = name_of(parts, new);
+            let label = Label::New {
+                object: from,
+                name: object,
+                class: name,
+            };
+            Act::Line {
+                what: step(label),
+                packet: Some(Packet::Created {
+                    number,
+                    to: from,
+                    name: object,
+                }),
+            }
+        }
+        Err(HeapFull::Objects) => Act::Idle,
+        Err(HeapFull::Frames) => Act::Idle,
+    }
+}
+
+/// Gives an object the value that has come.
+fn receive_value(unit: &Unit, parts: &mut Parts, number: u32, value: Value, what: What) -> Act
+    requires whole { IsWhole parts.old }
+    requires unit { IsOfUnit unit.now (node_of parts.old) }
+    ensures { (l : OnePlacement) (leaving : ℕ) → IsSet unit.now l leaving parts.old → IsMade unit.now l leaving result parts.old parts.new (N.Acts what None (settled_number unit.now number value (node_of parts.old).state)) }
+{
+    settle_if_out(unit, parts, number, value);
+    Act::Line { what, packet: None }
+}
+
+/// Puts a message that has arrived at its receiver, unless there is no cell for it.
+fn receive_message(
+    unit: &Unit,
+    placement: &Placement,
+    parts: &mut Parts,
+    to: u32,
+    message: Message,
+    leaving: u32,
+) -> Act
+    requires set { IsSet unit.now placement.now leaving parts.old }
+    requires there { D.slot_of to < length parts.old.heap.objects }
+    ensures { IsMade unit.now placement.now leaving result parts.old parts.new (N.Acts (W.Arrive message.from to message.method) None (deliver to (arrival_of message) (node_of parts.old).state)) }
+{
+    if no_cell(placement, parts, leaving) {
+        return Act::Full {
+            kind: FullKind::Cells,
+        };
+    }
+    let what = What::Arrive {
+        object: message.from,
+        receiver: to,
+        method: message.method,
+    };
+    deliver_to(unit, parts, to, message);
+    Act::Line { what, packet: None }
+}
+
+/// What is done with a packet, before the limit of frames is asked.
+fn received(
+    unit: &Unit,
+    placement: &Placement,
+    parts: &mut Parts,
+    packet: Packet,
+    leaving: u32,
+) -> Act
+    requires set { IsSet unit.now placement.now leaving parts.old }
+    requires packet { IsReceivable (coded unit.now) parts.old.id (node_of parts.old).state (numbered packet).number (numbered packet).packet }
+    ensures { IsMade unit.now placement.now leaving result parts.old parts.new (receipt (coded unit.now) parts.old.id (node_of parts.old).state (numbered packet).number (numbered packet).packet) }
+{
+    match packet {
+        Packet::Create {
+            number,
+            from,
+            node: _,
+            class,
+        } => match class_named(unit, class) {
+            Some(place) => receive_create(
+                unit, placement, parts, number, from, place, class, leaving,
+            ),
+            None => Act::Idle,
+        },
+        Packet::Created { number, to, name } => {
+            let what = What::Created { object: to, name };
+            receive_value(unit, parts, number, Value::Ref(name), what)
+        }
+        Packet::Result { number, to, value } => {
+            let what = What::Result { object: to, value };
+            receive_value(unit, parts, number, value, what)
+        }
+        Packet::Request {
+            number,
+            from,
+            to,
+            method,
+            args,
+        } => {
+            let message = Message {
+                from,
+                method,
+                args,
+                call: Some(number),
+            };
+            receive_message(unit, placement, parts, to, message, leaving)
+        }
+        Packet::Async {
+            from,
+            to,
+            method,
+            args,
+        } => {
+            let message = Message {
+                from,
+                method,
+                args,
+                call: None,
+            };
+            receive_message(unit, placement, parts, to, message, leaving)
+        }
+    }
+}
+
+/// The receipt of a packet.
+pub(crate) fn receipt_of(
+    unit: &Unit,
+    placement: &Placement,
+    parts: &mut Parts,
+    packet: Packet,
+    leaving: u32,
+) -> Act
+    requires whole { IsWhole parts.old }
+    requires unit { IsOfUnit unit.now (node_of parts.old) }
+    requires placement { IsOfPlacement unit.now placement.now (node_of parts.old) }
+    requires cells { message_count (slots_of parts.old) + leaving ≤ placement.now.cells }
+    requires packet { IsReceivable (coded unit.now) parts.old.id (node_of parts.old).state (numbered packet).number (numbered packet).packet }
+    ensures act { IsActOf result (node_of parts.old) (node_of parts.new) (receipt_act (coded unit.now) placement.now parts.old.id leaving (numbered packet) (node_of parts.old).state) }
+    ensures whole { IsWhole parts.new }
+    ensures unit { IsOfUnit unit.now (node_of parts.new) }
+{
+    // Read for what it ensures: the frames are within their limit.
+    let _frames = parts.heap.frames();
+    let act = received(unit, placement, parts, packet, leaving);
+    // Read for what it ensures: the frames are within their limit.
+    let _frames = parts.heap.frames();
+    act
+}

@@ -1,0 +1,102 @@
+//! Where the objects of a node stand.
+ghost use Rattle.std.specs.Prelude.{◌≡◌, ◌<◌, length, is_some, Option as option, true, false};
+ghost use Rattle.pool_syntax.specs.declared.words.Error.{Error as OneError};
+ghost use Rattle.std.specs.List.{list_any};
+ghost use Rattle.coded_objects.specs.Coded.{Placed, coded, kind_of};
+ghost use Rattle.node_semantics.specs.Node.{Slot, arrivals, name_at};
+ghost use Rattle.node_semantics.specs.Standings.{slot_standing};
+ghost use Rattle.pool_node.specs.Acts.{chosen_standing, told_standing};
+ghost use Rattle.object_code.specs.Kinds.{code_kind};
+ghost use Rattle.object_interp.specs.Offers.{IsChoosing};
+ghost use Rattle.node_heap.specs.Heaps.{object_at};
+ghost use Rattle.mailbox.specs.Mail.{box_of};
+ghost use Rattle.mesh_semantics.specs.Act.{can_step};
+ghost use Rattle.pool_node.specs.OfUnit.{IsOfUnit};
+ghost use Rattle.pool_node.specs.Views.{IsWhole, arrivals_of, node_of, slot_at, slots_of};
+
+use crate::choice::first_possible;
+use crate::parts::Parts;
+use object_code::Unit;
+use object_interp::{Hand, Need, at_hand};
+use pool_syntax::{Error, Standing};
+
+/// Where the object of a slot stands while its request is out.
+fn asking(unit: &Unit, parts: &Parts, slot: u32) -> Standing
+    requires whole { IsWhole parts.now }
+    requires unit { IsOfUnit unit.now (node_of parts.now) }
+    requires slot { slot < length parts.now.heap.objects }
+    requires out { is_some (slot_at parts.now slot).request ≡ true }
+    ensures { told_standing result ≡ slot_standing (coded unit.now) (name_at parts.now.id slot) (slot_at parts.now slot) }
+{
+    match at_hand(unit, &parts.heap, slot) {
+        Hand::At(Need::Send { to, method, .. }) => Standing::Calls { to, method },
+        Hand::At(Need::New { class }) => Standing::Creates {
+            class: unit.classes.items()[class as usize].name,
+            node: parts.goals.items()[slot as usize],
+        },
+        _ => Standing::Awaits,
+    }
+}
+
+/// Where the object of a slot stands.
+pub(crate) fn standing_of(unit: &Unit, parts: &Parts, slot: u32) -> Standing
+    requires whole { IsWhole parts.now }
+    requires unit { IsOfUnit unit.now (node_of parts.now) }
+    requires slot { slot < length parts.now.heap.objects }
+    ensures { told_standing result ≡ slot_standing (coded unit.now) (name_at parts.now.id slot) (slot_at parts.now slot) }
+{
+    if parts.outstanding.number_of(slot).is_some() {
+        return asking(unit, parts, slot);
+    }
+    if let Some(error) = parts.faults.items()[slot as usize] {
+        return Standing::Faulted { error };
+    }
+    free_standing(unit, parts, slot)
+}
+
+/// Where the object of a slot stands, of which no request is out and which has met no error.
+fn free_standing(unit: &Unit, parts: &Parts, slot: u32) -> Standing
+    requires whole { IsWhole parts.now }
+    requires unit { IsOfUnit unit.now (node_of parts.now) }
+    requires slot { slot < length parts.now.heap.objects }
+    requires free { is_some (slot_at parts.now slot).request ≡ false }
+    requires fault { is_some (slot_at parts.now slot).state.fault ≡ false }
+    ensures { told_standing result ≡ slot_standing (coded unit.now) (name_at parts.now.id slot) (slot_at parts.now slot) }
+{
+    match at_hand(unit, &parts.heap, slot) {
+        Hand::At(Need::Halted) => Standing::Finished,
+        Hand::At(Need::Answer) => choosing(unit, parts, slot),
+        Hand::At(Need::Select) => choosing(unit, parts, slot),
+        _ => Standing::Ready,
+    }
+}
+
+/// Where an object stands that answers or selects: it is ready where an alternative is possible.
+fn choosing(unit: &Unit, parts: &Parts, slot: u32) -> Standing
+    requires whole { IsWhole parts.now }
+    requires unit { IsOfUnit unit.now (node_of parts.now) }
+    requires slot { slot < length parts.now.heap.objects }
+    requires choosing { IsChoosing (code_kind unit.now (object_at parts.now.heap slot)) }
+    ensures { told_standing result ≡ chosen_standing (can_step (arrivals (arrivals_of (box_of parts.now.mailbox slot))) (kind_of (code_kind unit.now (object_at parts.now.heap slot)))) }
+{
+    if first_possible(unit, &parts.heap, &parts.mailbox, slot).is_some() {
+        Standing::Ready
+    } else {
+        Standing::Awaits
+    }
+}
+
+/// Whether there is an error.
+fn any_some(faults: &[Option<Error>]) -> bool
+    ensures { result ≡ list_any (λ (f : option OneError). is_some f) faults.now }
+{
+    faults.iter().any(|fault| fault.is_some())
+}
+
+/// Whether an object of the node has met an error.
+pub(crate) fn any_fault(parts: &Parts) -> bool
+    requires whole { IsWhole parts.now }
+    ensures { result ≡ list_any (λ (s : Slot Placed). is_some s.state.fault) (slots_of parts.now) }
+{
+    any_some(parts.faults.items())
+}

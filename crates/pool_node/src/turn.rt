@@ -1,0 +1,184 @@
+//! A turn of a node.
+ghost use Rattle.std.specs.Prelude.{◌≡◌, ℕ, ◌+◌, ◌-◌, ◌^◌, ◌<◌, ◌≤◌, true, None, Some, length, get_or, take};
+ghost use Rattle.object_code.specs.Kinds.{code_kind};
+ghost use Rattle.node_heap.specs.Heaps.{object_at};
+ghost use Rattle.mesh_semantics.specs.Sound.{Each};
+ghost use Rattle.mesh_semantics.specs.Act.{can_step};
+ghost use Rattle.coded_objects.specs.Coded.{coded, kind_of};
+ghost use Rattle.mailbox.specs.Mail.{box_of};
+ghost use Rattle.object_interp.specs.declared.words.Hand.TheVariants as H;
+ghost use Rattle.object_interp.specs.Offers.{hand_of};
+ghost use Rattle.node_semantics.specs.Node.{arrivals, message_count, turn_act};
+ghost use Rattle.node_semantics.specs.Agrees.{IsUnused};
+ghost use Rattle.pool_node.specs.OfUnit.{IsOfPlacement, IsOfUnit};
+ghost use Rattle.pool_node.specs.Views.{IsWhole, arrivals_of, node_of, slots_of};
+ghost use Rattle.pool_node.specs.Acts.{IsActOf};
+ghost use Rattle.pool_node.specs.Made.{IsSet, IsTurned, kept};
+ghost use Rattle.pool_node.specs.Bits.{bit_in_turn, first_bit_from};
+
+use crate::acts::{async_turn, call_turn, fault_turn, local_turn, return_turn, write_turn};
+use crate::making::create_turn;
+use crate::parts::Parts;
+use crate::serving::choose_turn;
+use crate::words::Act;
+use object_code::Unit;
+use object_interp::{Hand, Need, at_hand};
+use pool_syntax::Placement;
+
+/// The step of a slot that needs this.
+fn need_turn(
+    unit: &Unit,
+    placement: &Placement,
+    parts: &mut Parts,
+    slot: u32,
+    need: Need,
+    leaving: u32,
+) -> Act
+    requires set { IsSet unit.now placement.now leaving parts.old }
+    requires slot { slot < length parts.old.heap.objects }
+    requires free { get_or parts.old.outstanding slot None ≡ None }
+    requires steps { can_step (arrivals (arrivals_of (box_of parts.old.mailbox slot))) (kind_of (code_kind unit.now (object_at parts.old.heap slot))) ≡ true }
+    requires hand { H.At need ≡ hand_of unit.now (code_kind unit.now (object_at parts.old.heap slot)) }
+    requires countable { Each (λ k. k < 2 ^ 32 - 1) parts.old.made }
+    ensures { (q : ℕ) → IsTurned unit.now placement.now q leaving result parts.old parts.new slot }
+{
+    match need {
+        Need::New { class } => create_turn(unit, placement, parts, slot, class, leaving),
+        Need::Send { to, method, args } => {
+            call_turn(unit, placement, parts, slot, to, method, args, leaving)
+        }
+        Need::Async { to, method, args } => {
+            async_turn(unit, placement, parts, slot, to, method, args, leaving)
+        }
+        Need::Write { item } => write_turn(unit, parts, slot, item),
+        Need::Answer => choose_turn(unit, placement, parts, slot),
+        Need::Select => choose_turn(unit, placement, parts, slot),
+        Need::Return {
+            caller,
+            number,
+            value,
+        } => return_turn(unit, placement, parts, slot, caller, number, value, leaving),
+        Need::Fault { error } => fault_turn(unit, parts, slot, error),
+        Need::Halted => Act::Idle,
+    }
+}
+
+/// The step of a slot whose object can go.
+fn slot_turn(
+    unit: &Unit,
+    placement: &Placement,
+    parts: &mut Parts,
+    slot: u32,
+    quantum: u32,
+    leaving: u32,
+) -> Act
+    requires set { IsSet unit.now placement.now leaving parts.old }
+    requires slot { slot < length parts.old.heap.objects }
+    requires free { get_or parts.old.outstanding slot None ≡ None }
+    requires fault { get_or parts.old.faults slot None ≡ None }
+    requires steps { can_step (arrivals (arrivals_of (box_of parts.old.mailbox slot))) (kind_of (code_kind unit.now (object_at parts.old.heap slot))) ≡ true }
+    requires quantum { 1 ≤ quantum }
+    requires countable { Each (λ k. k < 2 ^ 32 - 1) parts.old.made }
+    ensures { IsTurned unit.now placement.now quantum leaving result parts.old parts.new slot }
+{
+    match at_hand(unit, &parts.heap, slot) {
+        Hand::Local => local_turn(unit, parts, slot, quantum),
+        Hand::At(need) => need_turn(unit, placement, parts, slot, need, leaving),
+    }
+}
+
+/// The least slot from this one on whose bit is set.
+pub(crate) fn first_ready(parts: &Parts, from: u32) -> Option<u32>
+    requires whole { IsWhole parts.now }
+    ensures { result ≡ first_bit_from from (take (length parts.now.heap.objects) parts.now.ready) }
+{
+    let bits = parts.ready.items();
+    for slot in from..parts.heap.objects() {
+        if bits[slot as usize] {
+            return Some(slot);
+        }
+    }
+    None
+}
+
+/// The slot in turn: the one of the least number above the last whose bit is set, else the least of all.
+fn slot_in_turn(parts: &Parts) -> Option<u32>
+    requires whole { IsWhole parts.now }
+    ensures { result ≡ bit_in_turn parts.now.last (take (length parts.now.heap.objects) parts.now.ready) }
+{
+    if let Some(last) = parts.last
+        && last < parts.heap.objects()
+    {
+        let above = first_ready(parts, last + 1);
+        if above.is_some() {
+            return above;
+        }
+    }
+    first_ready(parts, 0)
+}
+
+/// Where a limit is told, the last slot is the one from before.
+fn keep_last(parts: &mut Parts, act: &Act, before: Option<u32>)
+    ensures { parts.new ≡ kept act.now parts.old before }
+{
+    match *act {
+        Act::Full { .. } => parts.last = before,
+        Act::Idle => {}
+        Act::Line { .. } => {}
+    }
+}
+
+/// The step of the slot in turn.
+fn step_of(
+    unit: &Unit,
+    placement: &Placement,
+    parts: &mut Parts,
+    slot: u32,
+    quantum: u32,
+    leaving: u32,
+) -> Act
+    requires whole { IsWhole parts.old }
+    requires unit { IsOfUnit unit.now (node_of parts.old) }
+    requires placement { IsOfPlacement unit.now placement.now (node_of parts.old) }
+    requires quantum { 1 ≤ quantum }
+    requires cells { message_count (slots_of parts.old) + leaving ≤ placement.now.cells }
+    requires countable { Each (λ k. k < 2 ^ 32 - 1) parts.old.made }
+    requires turn { bit_in_turn parts.old.last (take (length parts.old.heap.objects) parts.old.ready) ≡ Some slot }
+    ensures act { (fresh : ℕ) × IsUnused fresh (node_of parts.old).state × IsActOf result (node_of parts.old) (node_of parts.new) (turn_act (coded unit.now) placement.now quantum parts.old.id leaving fresh (node_of parts.old).state) }
+    ensures whole { IsWhole parts.new }
+    ensures unit { IsOfUnit unit.now (node_of parts.new) }
+{
+    let before = parts.last;
+    // Read for what it ensures: the frames are within their limit.
+    let _frames = parts.heap.frames();
+    parts.last = Some(slot);
+    let act = slot_turn(unit, placement, parts, slot, quantum, leaving);
+    keep_last(parts, &act, before);
+    // Read for what it ensures: the frames are within their limit.
+    let _frames = parts.heap.frames();
+    act
+}
+
+/// A turn of a node.
+pub(crate) fn turn_of(
+    unit: &Unit,
+    placement: &Placement,
+    parts: &mut Parts,
+    quantum: u32,
+    leaving: u32,
+) -> Act
+    requires whole { IsWhole parts.old }
+    requires unit { IsOfUnit unit.now (node_of parts.old) }
+    requires placement { IsOfPlacement unit.now placement.now (node_of parts.old) }
+    requires quantum { 1 ≤ quantum }
+    requires cells { message_count (slots_of parts.old) + leaving ≤ placement.now.cells }
+    requires countable { Each (λ k. k < 2 ^ 32 - 1) parts.old.made }
+    ensures act { (fresh : ℕ) × IsUnused fresh (node_of parts.old).state × IsActOf result (node_of parts.old) (node_of parts.new) (turn_act (coded unit.now) placement.now quantum parts.old.id leaving fresh (node_of parts.old).state) }
+    ensures whole { IsWhole parts.new }
+    ensures unit { IsOfUnit unit.now (node_of parts.new) }
+{
+    match slot_in_turn(parts) {
+        Some(slot) => step_of(unit, placement, parts, slot, quantum, leaving),
+        None => Act::Idle,
+    }
+}

@@ -1,0 +1,11 @@
+pub mod Elements
+pub mod Pigeons
+pub mod Resting
+pub mod Reaching
+pub mod Stepping
+pub mod Keeping
+pub mod AtHand
+pub mod Asked
+pub mod Forgetting
+pub mod Weaker
+pub mod Laws

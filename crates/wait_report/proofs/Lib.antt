@@ -1,0 +1,5 @@
+mod Chains
+mod EachCycle
+mod Marks
+mod Named
+mod Told

@@ -1,0 +1,36 @@
+-- Which objects call which, by their places.
+use Rattle.std.specs.Prelude.{◌≡◌, ◌≢◌, ℕ, ◌<◌, List, length, get_or, map, Option, Some, None}
+use Rattle.pool_syntax.specs.declared.words.Standing.{Standing}
+use Rattle.pool_syntax.specs.declared.words.Standing.TheVariants as S
+use Rattle.wait_report.specs.declared.rows.ObjectRow.{ObjectRow}
+
+-- the name that an object calls
+abbrev pub called : Standing → Option ℕ
+called (S.Calls b m) = Some b
+called S.Ready = None
+called S.Finished = None
+called (S.Faulted e) = None
+called (S.Creates c n) = None
+called S.Due = None
+called S.Awaits = None
+
+abbrev pub names_of : List ObjectRow → List ℕ
+names_of rows = map (λ r. r.name) rows
+
+-- each number is below the later ones
+abbrev pub Rising : List ℕ → Type 0
+Rising xs = (j k : ℕ) → j < k → k < length xs → get_or xs j 0 < get_or xs k 0
+
+-- the place of the name that is called, if the name is there
+abbrev pub IsNext : List ℕ → Option ℕ → Option ℕ → Type 0
+IsNext numbers None p = p ≡ None
+IsNext numbers (Some b) None = (k : ℕ) → k < length numbers → get_or numbers k 0 ≢ b
+IsNext numbers (Some b) (Some j) = (j < length numbers) × (get_or numbers j 0 ≡ b)
+
+abbrev pub calls_of : List ObjectRow → List (Option ℕ)
+calls_of rows = map (λ r. called r.standing) rows
+
+-- these are the places of the names that the objects call
+pub record AreNext (numbers : List ℕ) (rows : List ObjectRow) (next : List (Option ℕ)) : Type 0 where
+  pub many : length next ≡ length rows
+  pub each : (k : ℕ) → k < length rows → IsNext numbers (get_or (calls_of rows) k None) (get_or next k None)

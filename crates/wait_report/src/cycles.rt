@@ -1,0 +1,104 @@
+//! The cycles of objects that each call the next.
+ghost use Rattle.std.specs.Prelude.{◌≡◌, ◌≢◌, ◌<◌, ◌++◌, ℕ, None, true, false, length, get_or, IfOk, OnOk};
+ghost use Rattle.mesh_semantics.specs.Standing.{chase};
+ghost use Rattle.wait_report.specs.Cycles.{jump, cycle_at, least_from, AreWithin, AreStarts, IsMarked};
+
+use crate::text::{put, put_next};
+use std::alloc::{AllocError, Global};
+
+/// Puts the line of the cycle that is told from this place on; nothing where none is.
+pub fn put_cycle(
+    text: &mut Vec<u8>,
+    numbers: &[u32],
+    next: &[Option<usize>],
+    first: usize,
+) -> Result<(), AllocError>
+    requires within { AreWithin next.now }
+    requires numbers { length numbers.now ≡ length next.now }
+    requires first { first < length next.now }
+    ensures { OnOk result (text.new.items ≡ text.old.items ++ cycle_at numbers.now (chase (jump next.now) (length next.now) first first)) }
+{
+    let before = text.len();
+    put(text, b"cycle")?;
+    let mut at = first;
+    for _step in 0..next.len() {
+        put_next(text, numbers[at])?;
+        match next[at] {
+            Some(place) if place == first => return put(text, b"\n"),
+            Some(place) if place > first => at = place,
+            _ => break,
+        }
+    }
+    text.truncate(before);
+    Ok(())
+}
+
+/// The least of the places from the first `at` on. None where it is not there.
+fn least_from(path: &[usize], at: usize) -> Option<usize>
+    ensures { result ≡ least_from at path.now }
+{
+    let mut least = None;
+    for place in path {
+        least = match least {
+            None if *place == at => Some(*place),
+            None => None,
+            Some(l) => Some(if *place < l { *place } else { l }),
+        };
+    }
+    least
+}
+
+/// Goes from a place that was not seen to each next one, until one was seen or none comes next, and marks the least
+/// place of the cycle that this closes, if it does.
+fn walk(
+    alloc: Global,
+    next: &[Option<usize>],
+    seen: &mut [bool],
+    starts: &mut [bool],
+    from: usize,
+) -> Result<(), AllocError>
+    requires within { AreWithin next.now }
+    requires state { IsMarked next.now seen.old starts.old }
+    requires from { from < length next.now }
+    ensures state { OnOk result (IsMarked next.now seen.new starts.new) }
+    ensures lengths { (length seen.new ≡ length seen.old) × (length starts.new ≡ length starts.old) }
+    ensures seen { OnOk result (get_or seen.new from false ≡ true) }
+    ensures kept { OnOk result ((k : ℕ) → get_or seen.old k false ≡ true → get_or seen.new k false ≡ true) }
+{
+    let mut path = Vec::new(alloc);
+    let mut at = from;
+    while !seen[at] {
+        seen[at] = true;
+        path.push(at)?;
+        match next[at] {
+            Some(place) => at = place,
+            None => return Ok(()),
+        }
+    }
+    if let Some(least) = least_from(path.as_slice(), at) {
+        starts[least] = true;
+    }
+    Ok(())
+}
+
+/// Marks the places from which cycles are told.
+pub fn starts(alloc: Global, next: &[Option<usize>]) -> Result<Vec<bool>, AllocError>
+    requires { AreWithin next.now }
+    ensures marks { IfOk result (λ s. length s.items ≡ length next.now) }
+    ensures starts { IfOk result (λ s. AreStarts next.now s.items) }
+{
+    let mut starts = vec![in alloc; false; next.len()]?;
+    let mut seen = vec![in alloc; false; next.len()]?;
+    for from in 0..next.len() {
+        if !seen[from] {
+            walk(
+                alloc,
+                next,
+                seen.as_mut_slice(),
+                starts.as_mut_slice(),
+                from,
+            )?;
+        }
+    }
+    Ok(starts)
+}

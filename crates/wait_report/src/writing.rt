@@ -1,0 +1,104 @@
+//! The report.
+ghost use Rattle.std.specs.Prelude.{◌≡◌, ◌≤◌, ℕ, ◌++◌, length, take, option_map, Err, IfOk, OnOk};
+ghost use Rattle.pool_outside.specs.Outside.{Rose};
+ghost use Rattle.wait_report.specs.Calls.{names_of, AreNext, Rising};
+ghost use Rattle.wait_report.specs.Cycles.{AreStarts};
+ghost use Rattle.wait_report.specs.Report.{cycles_in, cycles_text, report_text, rows_text, AreKnown};
+ghost use Rattle.wait_report.specs.declared.writing.ReportFault.TheVariants.{Failed as SinkFailed, Memory as NoMemory};
+
+use crate::cycles::{put_cycle, starts};
+use crate::rows::{ObjectRow, callees, numbers};
+use crate::text::put_row;
+use pool_outside::{Sink, WriteFault, write_all_of};
+use pool_syntax::{List, Names};
+use std::alloc::{AllocError, Global};
+
+/// Why no report was written whole: a write failed, or memory was not had.
+#[derive(Clone, Copy, Debug, PartialEq, Eq)]
+pub enum ReportFault {
+    Failed,
+    Memory,
+}
+
+/// Puts the lines of the objects.
+fn put_rows(text: &mut Vec<u8>, names: &Names, rows: &[ObjectRow]) -> Result<(), AllocError>
+    requires { AreKnown names.now rows.now }
+    ensures { OnOk result (text.new.items ≡ text.old.items ++ rows_text names.now rows.now) }
+{
+    for row in rows {
+        put_row(text, names, row)?;
+    }
+    Ok(())
+}
+
+/// Puts the lines of the cycles.
+fn put_cycles(
+    text: &mut Vec<u8>,
+    rows: &[ObjectRow],
+    numbers: &[u32],
+    next: &[Option<usize>],
+    starts: &[bool],
+) -> Result<(), AllocError>
+    requires rising { Rising numbers.now }
+    requires numbers { numbers.now ≡ names_of rows.now }
+    requires next { AreNext numbers.now rows.now next.now }
+    requires starts { AreStarts next.now starts.now }
+    requires marks { length starts.now ≡ length next.now }
+    ensures { OnOk result (text.new.items ≡ text.old.items ++ cycles_text (cycles_in rows.now)) }
+{
+    for at in 0..rows.len() {
+        if starts[at] {
+            put_cycle(text, numbers, next, at)?;
+        }
+    }
+    Ok(())
+}
+
+/// The text of the report, in time linear in it but for a binary search for each object.
+fn text_of(alloc: Global, rows: &[ObjectRow], names: &Names) -> Result<Vec<u8>, AllocError>
+    requires rising { Rising (names_of rows.now) }
+    requires known { AreKnown names.now rows.now }
+    ensures { IfOk result (λ t. t.items ≡ report_text names.now rows.now) }
+{
+    let numbers = numbers(alloc, rows)?;
+    let next = callees(alloc, rows, numbers.as_slice())?;
+    let starts = starts(alloc, next.as_slice())?;
+    let mut text = Vec::new(alloc);
+    put_rows(&mut text, names, rows)?;
+    put_cycles(
+        &mut text,
+        rows,
+        numbers.as_slice(),
+        next.as_slice(),
+        starts.as_slice(),
+    )?;
+    Ok(text)
+}
+
+/// Writes a line for each object, by rising names, and one for each cycle of objects that each call the next. The text
+/// is made whole before it is written: Memory where it has no room, and nothing was then written. Failed only where
+/// the sink's count of faults rose, and a front of the text was then written.
+pub fn report<K: Sink>(
+    alloc: Global,
+    objects: &List<ObjectRow>,
+    names: &Names,
+    sink: &mut K,
+) -> Result<(), ReportFault>
+    requires rising { Rising (names_of objects.now) }
+    requires known { AreKnown names.now objects.now }
+    ensures whole { OnOk result (K.written sink.new ≡ option_map (λ w. w ++ report_text names.now objects.now) (K.written sink.old)) }
+    ensures front { result ≡ Err SinkFailed → (n : ℕ) × (n ≤ length (report_text names.now objects.now)) × (K.written sink.new ≡ option_map (λ w. w ++ take n (report_text names.now objects.now)) (K.written sink.old)) }
+    ensures failed { result ≡ Err SinkFailed → Rose (K.faults sink.old) (K.faults sink.new) }
+    ensures memory { result ≡ Err NoMemory → (K.written sink.new ≡ K.written sink.old) × (K.faults sink.new ≡ K.faults sink.old) }
+    ensures no_fault { OnOk result (K.faults sink.new ≡ K.faults sink.old) }
+    ensures faults_stay_or_rise { K.faults sink.old ≤ K.faults sink.new }
+{
+    let text = match text_of(alloc, objects.items(), names) {
+        Ok(text) => text,
+        Err(AllocError) => return Err(ReportFault::Memory),
+    };
+    match write_all_of(sink, text.as_slice()) {
+        Ok(()) => Ok(()),
+        Err(WriteFault) => Err(ReportFault::Failed),
+    }
+}
