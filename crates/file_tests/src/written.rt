@@ -1,6 +1,6 @@
 //! Lines as they are written.
 ghost use Rattle.std.specs.Prelude.{◌≡◌};
-ghost use Rattle.run_record.specs.Writable.{id_of_item, id_of_label, id_of_line, id_of_what};
+ghost use Rattle.record_lines.specs.Writable.{id_of_item, id_of_label, id_of_line, id_of_what};
 
 use crate::rows::spread;
 use pool_outside::MemSink;

@@ -20,41 +20,27 @@ use Rattle.unit_objects.specs.OfUnit.{FitsUnit, IsAtStep, AnyValue}
 use Rattle.unit_objects.proofs.Laws.{plain_any, stepped_of, stepped_rests}
 use Rattle.object_interp.specs.declared.words.Burst.{Burst}
 use Rattle.object_interp.specs.declared.words.Burst.TheVariants as B
-use Rattle.object_interp.specs.declared.words.Hand.TheVariants as H
 use Rattle.object_interp.specs.declared.words.Need.{Need}
 use Rattle.object_interp.specs.Bursts.{name_in, room_in, is_local, can_step, burst_from, IsBurst}
 use Rattle.object_interp.specs.Moves.{call_fits}
-use Rattle.object_interp.specs.Offers.{need_of, hand_of}
+use Rattle.object_interp.specs.Offers.{need_of}
 use Rattle.object_interp.specs.Tops.{class_in, instr_in}
 use Rattle.object_interp.proofs.Facts.{has_top}
 use Rattle.object_interp.proofs.Acting.{frames_put, has_method}
 use Rattle.object_interp.proofs.Slots.{put_same, object_then, still_there, put_then}
 use Rattle.object_interp.proofs.Stepping.{stepped_top}
 
--- what the answer of a hand says of the kind
-at_of : (u : Code) (k : Kind) (need : Need) → H.At need ≡ hand_of u k → (is_local k ≡ false) × (need ≡ need_of u k)
-at_of u C.Local need e = absurd (grind (arith, e))
-at_of u C.Finished need e = (refl, cc)
-at_of u (C.Fault f) need e = (refl, cc)
-at_of u (C.New c) need e = (refl, cc)
-at_of u (C.Send b m args) need e = (refl, cc)
-at_of u (C.Async b m args) need e = (refl, cc)
-at_of u (C.Write item) need e = (refl, cc)
-at_of u (C.Answer names) need e = (refl, cc)
-at_of u (C.Select alts) need e = (refl, cc)
-at_of u (C.Return k n v) need e = (refl, cc)
-
-local_of : (u : Code) (k : Kind) → H.Local ≡ hand_of u k → k ≡ C.Local
-local_of u C.Local e = refl
-local_of u C.Finished e = absurd (grind (arith, e))
-local_of u (C.Fault f) e = absurd (grind (arith, e))
-local_of u (C.New c) e = absurd (grind (arith, e))
-local_of u (C.Send b m args) e = absurd (grind (arith, e))
-local_of u (C.Async b m args) e = absurd (grind (arith, e))
-local_of u (C.Write item) e = absurd (grind (arith, e))
-local_of u (C.Answer names) e = absurd (grind (arith, e))
-local_of u (C.Select alts) e = absurd (grind (arith, e))
-local_of u (C.Return k n v) e = absurd (grind (arith, e))
+local_of : (k : Kind) → is_local k ≡ true → k ≡ C.Local
+local_of C.Local e = refl
+local_of C.Finished e = absurd (grind (arith, e))
+local_of (C.Fault f) e = absurd (grind (arith, e))
+local_of (C.New c) e = absurd (grind (arith, e))
+local_of (C.Send b m args) e = absurd (grind (arith, e))
+local_of (C.Async b m args) e = absurd (grind (arith, e))
+local_of (C.Write item) e = absurd (grind (arith, e))
+local_of (C.Answer names) e = absurd (grind (arith, e))
+local_of (C.Select alts) e = absurd (grind (arith, e))
+local_of (C.Return k n v) e = absurd (grind (arith, e))
 
 not_zero : (n : ℕ) → (suc n == 0) ≡ false
 not_zero n = by (eqb_tells (suc n) 0)
@@ -218,17 +204,16 @@ module _ (u : Code) (h : HeapOf) (slot q : ℕ) where
         ap (λ n. from n here) e
         ∙ ap (λ b. if b then (suc (from m (code_stepped u (name_in h slot) here)).0, (from m (code_stepped u (name_in h slot) here)).1) else (0, here)) can
 
-    pub more_bursting : (new : HeapOf) (i : Instr) → done < q → instr_in u here ≡ Some i → H.Local ≡ hand_of u (code_kind u here) → call_fits now i ≡ true → frames_used now ≤ now.most_frames
+    pub more_bursting : (new : HeapOf) (i : Instr) → done < q → instr_in u here ≡ Some i → is_local (code_kind u here) ≡ true → call_fits now i ≡ true → frames_used now ≤ now.most_frames
         → new ≡ put_object now slot (code_stepped u (name_in now slot) here) → Bursting u h slot q (done + 1) new
-    more_bursting new i lt e hand free within made =
-        let local = local_of u (code_kind u here) hand in
+    more_bursting new i lt e local free within made =
         let m = q - (done + 1) in
         let x = code_stepped u (name_in now slot) here in
         let same_name = name_same now t.is_now in
         let new_is : new ≡ put_object h slot x = put_then h now new slot here (λ z. x) there t.is_now made in
         let object_new : object_at new slot ≡ x = object_then h new slot x there new_is in
         let can : can_step u (name_in h slot) (room_in h slot) here ≡ true =
-        can_step_is i e within ∙ ap (λ k. is_local k && call_fits now i) local ∙ free in
+        can_step_is i e within ∙ ap (λ b. b && call_fits now i) local ∙ free in
         let step = more m (omega (arith, lt)) true can in
         let same_object : code_stepped u (name_in h slot) here ≡ object_at new slot = ap (λ o. code_stepped u o here) (sym same_name) ∙ sym object_new in
         record {
@@ -250,31 +235,31 @@ module _ (u : Code) (h : HeapOf) (slot q : ℕ) where
         let c = ap (λ r. r.0) last in
         (some, omega (arith, t.count, c, e), t.is_now ∙ ap (put_object h slot) (sym (t.object ∙ ap (λ r. r.1) last)))
 
-    pub ends_at : (need : Need) → done < q → H.At need ≡ hand_of u (code_kind u here) → (result : Burst) → result ≡ (if done == 0 then B.At need else B.Local done)
+    pub ends_at : done < q → is_local (code_kind u here) ≡ false → (result : Burst) → result ≡ (if done == 0 then B.At (need_of u (code_kind u here)) else B.Local done)
         → IsBurst u h slot q result now
-    ends_at need lt e result told = subst (λ r. IsBurst u h slot q r now) (sym told) (by done refl)
+    ends_at lt other result told = subst (λ r. IsBurst u h slot q r now) (sym told) (by done refl)
       where
-        a : (is_local (code_kind u here) ≡ false) × (need ≡ need_of u (code_kind u here))
-        a = at_of u (code_kind u here) need e
+        need : Need
+        need = need_of u (code_kind u here)
 
         last : from (q - done) here ≡ (0, here)
-        last = stopped lt (ap (λ b. b && nat_le (length (code_stepped u (name_in h slot) here).frames) (room_in h slot)) a.0)
+        last = stopped lt (ap (λ b. b && nat_le (length (code_stepped u (name_in h slot) here).frames) (room_in h slot)) other)
 
         by : (n : ℕ) → done ≡ n → IsBurst u h slot q (if n == 0 then B.At need else B.Local n) now
         by zero z =
             let same = t.first z in
-            (ap (λ b. is_local (code_kind u (object_at b slot))) (sym same) ∙ a.0, a.1 ∙ ap (λ b. need_of u (code_kind u (object_at b slot))) same, same)
+            (ap (λ b. is_local (code_kind u (object_at b slot))) (sym same) ∙ other, ap (λ b. need_of u (code_kind u (object_at b slot))) same, same)
         by (suc n) z = subst (λ b. IsBurst u h slot q (if b then B.At need else B.Local (suc n)) now) (sym (not_zero n)) (over_after (suc n) z (omega arith) last)
 
-    pub ends_full : (i : Instr) → done < q → H.Local ≡ hand_of u (code_kind u here) → instr_in u here ≡ Some i → call_fits now i ≡ false
+    pub ends_full : (i : Instr) → done < q → is_local (code_kind u here) ≡ true → instr_in u here ≡ Some i → call_fits now i ≡ false
         → frames_used now ≤ now.most_frames → (result : Burst) → result ≡ (if done == 0 then B.FramesFull else B.Local done) → IsBurst u h slot q result now
     ends_full i lt e at full within result told = subst (λ r. IsBurst u h slot q r now) (sym told) (by done refl)
       where
         local : code_kind u here ≡ C.Local
-        local = local_of u (code_kind u here) e
+        local = local_of (code_kind u here) e
 
         cannot : can_step u (name_in h slot) (room_in h slot) here ≡ false
-        cannot = can_step_is i at within ∙ ap (λ k. is_local k && call_fits now i) local ∙ full
+        cannot = can_step_is i at within ∙ ap (λ b. b && call_fits now i) e ∙ full
 
         by : (n : ℕ) → done ≡ n → IsBurst u h slot q (if n == 0 then B.FramesFull else B.Local n) now
         by zero z =

@@ -2,17 +2,18 @@
 ghost use Rattle.std.specs.Prelude.{if◌then◌else◌, ◌==◌, ◌≡◌, ◌<◌, ◌≤◌, ◌↔◌, ℕ, true, false, length, Some, IsErr, OnOk, OnErr, Err};
 ghost use Rattle.std.specs.Option.{option_copied};
 ghost use Rattle.object_code.specs.declared.unit.CodeObject.{CodeObject};
-ghost use Rattle.object_code.specs.Kinds.{code_kind};
+ghost use Rattle.object_code.specs.Kinds.{code_kind, instr_kind};
 ghost use Rattle.object_code.specs.Step.{code_given, code_gone_on, code_picked, code_serving, is_own};
 ghost use Rattle.object_code.specs.Proper.{IsProper};
 ghost use Rattle.unit_objects.specs.OfUnit.{FitsUnit, IsAtStep};
-ghost use Rattle.node_heap.specs.Heaps.{object_at, put_object, frames_used};
-ghost use Rattle.object_interp.specs.Offers.{IsAsking, IsChoosing, IsGoingOn, IsSelecting, answers_to, hand_of, is_open_plain, offer_at, offers_at, open_names};
-ghost use Rattle.object_interp.specs.Bursts.{IsBurst};
+ghost use Rattle.node_heap.specs.Heaps.{object_at, put_object, top_at, frames_used};
+ghost use Rattle.object_interp.specs.Offers.{IsAsking, IsChoosing, IsGoingOn, IsSelecting, answers_to, hand_of, is_open_plain, need_of, offer_at, offers_at, open_names};
+ghost use Rattle.object_interp.specs.Bursts.{IsBurst, is_local};
 ghost use Rattle.object_interp.specs.Rest.{settled_at};
+ghost use Rattle.object_interp.specs.Tops.{HasTop, instr_in};
 
 use crate::choices::{choose, open_alt};
-use crate::hands::hand_at;
+use crate::hands::{hand_at, is_local_at};
 use crate::moves::{begin, frame_is_free, operands_asked, pass, replace, settle, step};
 use crate::read::{class_at, instr_at, method_place};
 use crate::words::{Burst, Hand};
@@ -20,14 +21,32 @@ use node_heap::{Heap, HeapFull};
 use object_code::{Instr, Unit};
 use pool_syntax::{Args, List, NameId, Serves, Value};
 
-/// The answer of a burst that is over after `done` steps, and else this.
-fn made(done: u32, none: Burst) -> Burst
-    ensures { result ≡ (if done == 0 then none else Burst.Local done) }
+/// The answer of a burst that is over after `done` steps, where a call is at hand and no frame is free.
+fn stopped_full(done: u32) -> Burst
+    ensures { result ≡ (if done == 0 then Burst.FramesFull else Burst.Local done) }
 {
     if done == 0 {
-        none
+        Burst::FramesFull
     } else {
         Burst::Local { steps: done }
+    }
+}
+
+/// The answer of a burst that is over after `done` steps, where no local transition is at hand.
+fn stopped_at(unit: &Unit, heap: &Heap, slot: u32, instr: &Instr, done: u32) -> Burst
+    requires proper { IsProper unit.now }
+    requires slot { slot < length heap.now.objects }
+    requires top { HasTop unit.now (object_at heap.now slot) }
+    requires at { instr_in unit.now (object_at heap.now slot) ≡ Some instr.now }
+    requires stops { is_local (instr_kind (top_at heap.now slot) (Some instr.now)) ≡ false }
+    ensures { result ≡ (if done == 0 then Burst.At (need_of unit.now (instr_kind (top_at heap.now slot) (Some instr.now))) else Burst.Local done) }
+{
+    if done > 0 {
+        return Burst::Local { steps: done };
+    }
+    match hand_at(unit, heap, slot, instr) {
+        Hand::At(need) => Burst::At(need),
+        Hand::Local => unreachable!(),
     }
 }
 
@@ -46,11 +65,11 @@ pub fn burst(unit: &Unit, heap: &mut Heap, slot: u32, quantum: u32) -> Burst
 {
     for done in 0..quantum {
         let instr = instr_at(unit, heap, slot);
-        if let Hand::At(need) = hand_at(unit, heap, slot, instr) {
-            return made(done, Burst::At(need));
+        if !is_local_at(heap, slot, instr) {
+            return stopped_at(unit, heap, slot, instr, done);
         }
         if !frame_is_free(heap, instr) {
-            return made(done, Burst::FramesFull);
+            return stopped_full(done);
         }
         step(unit, heap, slot, instr);
     }

@@ -35,7 +35,7 @@ use Rattle.pool_machine.specs.Answers.{IsAfter, IsOutcome, Stands, moved}
 use Rattle.pool_machine.specs.declared.words.Outcome.{Outcome}
 use Rattle.pool_machine.specs.declared.words.Outcome.TheVariants as O
 use Rattle.schedule_reader.specs.Schedules.{Plan}
-use Rattle.run_record.specs.Writable.{AreShort, IsWritable, id_of_item, id_of_label, id_of_what}
+use Rattle.record_lines.specs.Writable.{AreShort, IsWritable, id_of_item, id_of_label, id_of_what}
 use Rattle.command_words.specs.declared.command.Show.{Show}
 use Rattle.command_words.specs.declared.command.Show.TheVariants as Sh
 use Rattle.pool_driver.specs.declared.status.Status.{Status}

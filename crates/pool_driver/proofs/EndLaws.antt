@@ -9,16 +9,16 @@ use Rattle.pool_syntax.specs.declared.words.Line.{Line}
 use Rattle.pool_syntax.specs.declared.words.Line.TheVariants as R
 use Rattle.pool_driver.specs.declared.status.Status.{Status}
 use Rattle.pool_driver.specs.declared.status.Status.TheVariants as S
-use Rattle.pool_driver.specs.declared.fault.Input.{Input}
-use Rattle.pool_driver.specs.declared.fault.Fault.{Fault}
-use Rattle.pool_driver.specs.declared.fault.Stop.{Stop}
-use Rattle.pool_driver.specs.declared.fault.Stop.TheVariants as T
+use Rattle.fault_lines.specs.declared.fault.Input.{Input}
+use Rattle.fault_lines.specs.declared.fault.Fault.{Fault}
+use Rattle.fault_lines.specs.declared.fault.Stop.{Stop}
+use Rattle.fault_lines.specs.declared.fault.Stop.TheVariants as T
 use Rattle.pool_driver.specs.declared.outputs.Output.{Output}
 use Rattle.command_words.specs.Commands.{Request, of_run, of_program, of_ring}
-use Rattle.pool_driver.specs.FaultText.{refusal_line, unread_line, usage_line}
+use Rattle.fault_lines.specs.FaultText.{refusal_line, unread_line, usage_line}
 use Rattle.pool_driver.specs.Inputs.{Told, inputs, limit_of, IsAccepted, HasFault, WereAccepted, AreAccepted, AreServed, IsServable, StopAt}
 use Rattle.pool_gen.specs.Ring.{ring_placement, ring_program, ring_schedule}
-use Rattle.pool_driver.specs.declared.fault.Input.TheVariants as I
+use Rattle.fault_lines.specs.declared.fault.Input.TheVariants as I
 use Rattle.pool_driver.specs.Outputs.{IsOutput, IsWhole}
 use Rattle.pool_driver.specs.Runs.{record_of, ended, shows_fault, status_after}
 use Rattle.pool_driver.specs.Ends as E

@@ -7,15 +7,15 @@ use Rattle.placement_reader.specs.Placements.{placement_of}
 use Rattle.schedule_reader.specs.Schedules.{schedule_of}
 use Rattle.command_words.specs.declared.command.Ask.{Ask}
 use Rattle.command_words.specs.declared.command.Show.{Show}
-use Rattle.pool_driver.specs.declared.fault.Fault.{Fault}
-use Rattle.pool_driver.specs.declared.fault.Input.{Input}
-use Rattle.pool_driver.specs.declared.fault.Input.TheVariants as I
-use Rattle.pool_driver.specs.declared.fault.Stop.{Stop}
+use Rattle.fault_lines.specs.declared.fault.Fault.{Fault}
+use Rattle.fault_lines.specs.declared.fault.Input.{Input}
+use Rattle.fault_lines.specs.declared.fault.Input.TheVariants as I
+use Rattle.fault_lines.specs.declared.fault.Stop.{Stop}
 use Rattle.pool_driver.specs.declared.outputs.Output.{Output}
 use Rattle.command_words.specs.Commands.{FileNames, Request, of_run, of_program, of_ring}
 use Rattle.pool_driver.specs.Inputs.{inputs, MayOpen, IsAccepted, HasFault, IsPlacementOf, IsReadAs}
 use Rattle.pool_driver.specs.Ends.{Reading, Reaches}
-use Rattle.pool_driver.specs.declared.fault.Stop.TheVariants as T
+use Rattle.fault_lines.specs.declared.fault.Stop.TheVariants as T
 use Rattle.pool_driver.specs.declared.outputs.Loaded.{Loaded}
 use Rattle.pool_gen.specs.Ring.{ring_placement, ring_program, ring_schedule}
 use Rattle.pool_driver.specs.Readers as D

@@ -4,8 +4,8 @@ use Rattle.pool_syntax.specs.Tokens.{Text}
 use Rattle.pool_syntax.specs.Spelled.{IsGrammatical, is_spelled}
 use Rattle.pool_syntax.specs.Terms.{ProgramTree}
 use Rattle.pool_syntax.specs.TreeOf.{program_of}
-use Rattle.pool_driver.specs.declared.fault.Input.{Input}
-use Rattle.pool_driver.specs.declared.fault.Input.TheVariants as I
+use Rattle.fault_lines.specs.declared.fault.Input.{Input}
+use Rattle.fault_lines.specs.declared.fault.Input.TheVariants as I
 use Rattle.pool_driver.specs.declared.program.Parsed.{Parsed}
 use Rattle.pool_driver.specs.Programs.{IsFaultOfClasses, IsFaultOfText, IsParsed}
 use Rattle.pool_syntax.specs.Typing.{faults}
@@ -20,10 +20,10 @@ use Rattle.schedule_reader.specs.declared.fault.ScheduleFault.{ScheduleFault}
 use Rattle.schedule_reader.specs.declared.fault.ScheduleFault.TheVariants as Timed
 use Rattle.schedule_reader.specs.Schedules as Sch
 use Rattle.schedule_reader.specs.Schedules.{schedule_of}
-use Rattle.pool_driver.specs.declared.fault.Fault.{Fault}
-use Rattle.pool_driver.specs.declared.fault.Fault.TheVariants as Why
-use Rattle.pool_driver.specs.declared.fault.Stop.{Stop}
-use Rattle.pool_driver.specs.declared.fault.Stop.TheVariants as T
+use Rattle.fault_lines.specs.declared.fault.Fault.{Fault}
+use Rattle.fault_lines.specs.declared.fault.Fault.TheVariants as Why
+use Rattle.fault_lines.specs.declared.fault.Stop.{Stop}
+use Rattle.fault_lines.specs.declared.fault.Stop.TheVariants as T
 use Rattle.command_words.specs.Commands.{Request}
 use Rattle.pool_driver.specs.Inputs.{Told, IsAccepted, HasFault, unit_of}
 use Rattle.pool_driver.specs.Ends.{Reading, AllRead, WasRead, Stops, too_long, faulty, Reaches}

@@ -30,7 +30,7 @@ use Rattle.pool_driver.specs.Reports.{row_in, row_of, rows_in, rows_of, standing
 use Rattle.pool_driver.specs.declared.outputs.Loaded.{Loaded}
 use Rattle.placement_reader.specs.Placements.{placement_of}
 use Rattle.schedule_reader.specs.Schedules.{Plan}
-use Rattle.run_record.specs.RecordText.{line_text, record_text}
+use Rattle.record_lines.specs.RecordText.{line_text, record_text}
 use Rattle.command_words.specs.declared.command.Show.{Show}
 use Rattle.command_words.specs.declared.command.Show.TheVariants as Sh
 use Rattle.pool_driver.specs.Driving.{AreShortTexts, IsLoaded, shown_lines}

@@ -8,7 +8,7 @@ use Rattle.pool_syntax.specs.Tokens.{Text, IsFaultless, is_integer, is_listed, i
 use Rattle.pool_syntax.specs.Table.{is_among, with_text}
 use Rattle.pool_syntax.specs.Terms.{ProgramTree}
 use Rattle.pool_syntax.specs.Programs.{IsParsed}
-use Rattle.run_record.specs.RecordText.{text_at, text_or_none}
+use Rattle.record_lines.specs.RecordText.{text_at, text_or_none}
 use Rattle.pool_driver.specs.Driving.{AreShortTexts}
 
 -- each text has at most 256 bytes

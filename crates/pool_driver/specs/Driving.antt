@@ -20,7 +20,7 @@ use Rattle.coded_objects.specs.Coded.{Placed, coded}
 use Rattle.pool_machine.specs.MachineOf.{MachineOf}
 use Rattle.pool_machine.specs.Answers.{IsOfMesh, Stands}
 use Rattle.schedule_reader.specs.Schedules.{Plan}
-use Rattle.run_record.specs.RecordText.{line_text, text_at}
+use Rattle.record_lines.specs.RecordText.{line_text, text_at}
 use Rattle.command_words.specs.declared.command.Show.{Show}
 use Rattle.command_words.specs.declared.command.Show.TheVariants as Sh
 use Rattle.pool_driver.specs.declared.drive.Ended.{Ended}

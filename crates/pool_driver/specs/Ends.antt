@@ -4,12 +4,12 @@ use Rattle.pool_outside.specs.Outside.{Rose}
 use Rattle.pool_syntax.specs.Tokens.{Text}
 use Rattle.pool_driver.specs.declared.status.Status.{Status}
 use Rattle.pool_driver.specs.declared.status.Status.TheVariants as S
-use Rattle.pool_driver.specs.declared.fault.Input.{Input}
-use Rattle.pool_driver.specs.declared.fault.Fault.{Fault}
-use Rattle.pool_driver.specs.declared.fault.Fault.TheVariants as F
+use Rattle.fault_lines.specs.declared.fault.Input.{Input}
+use Rattle.fault_lines.specs.declared.fault.Fault.{Fault}
+use Rattle.fault_lines.specs.declared.fault.Fault.TheVariants as F
 use Rattle.command_words.specs.Commands.{Request, of_ring}
 use Rattle.pool_gen.specs.Ring.{ring_placement, ring_program, ring_schedule}
-use Rattle.pool_driver.specs.FaultText.{refusal_line, unread_line, usage_line}
+use Rattle.fault_lines.specs.FaultText.{refusal_line, unread_line, usage_line}
 use Rattle.pool_driver.specs.Inputs.{Told, inputs, limit_of, IsReadAs, IsAccepted, HasFault, StopAt, WereAccepted}
 use Rattle.pool_driver.specs.Outputs.{IsOutput}
 

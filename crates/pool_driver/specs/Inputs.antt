@@ -11,10 +11,10 @@ use Rattle.placement_reader.specs.Placements.{placement_of}
 use Rattle.schedule_reader.specs.Schedules as S
 use Rattle.schedule_reader.specs.Schedules.{Plan, schedule_of}
 use Rattle.pool_gen.specs.Ring.{ring_placement, ring_program, ring_schedule}
-use Rattle.pool_driver.specs.declared.fault.Input.{Input}
-use Rattle.pool_driver.specs.declared.fault.Input.TheVariants as I
-use Rattle.pool_driver.specs.declared.fault.Fault.{Fault}
-use Rattle.pool_driver.specs.declared.fault.Fault.TheVariants as F
+use Rattle.fault_lines.specs.declared.fault.Input.{Input}
+use Rattle.fault_lines.specs.declared.fault.Input.TheVariants as I
+use Rattle.fault_lines.specs.declared.fault.Fault.{Fault}
+use Rattle.fault_lines.specs.declared.fault.Fault.TheVariants as F
 use Rattle.command_words.specs.Commands.{Request, of_run, of_program, of_ring}
 use Rattle.pool_driver.specs.Programs.{IsParsed, IsTextOf, IsTypedText, IsFaultOfText, IsFaultOfClasses}
 

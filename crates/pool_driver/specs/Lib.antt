@@ -1,6 +1,5 @@
 pub mod Commands
 pub mod Programs
-pub mod FaultText
 pub mod Inputs
 pub mod Runs
 pub mod Reports

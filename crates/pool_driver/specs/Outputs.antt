@@ -5,7 +5,7 @@ use Rattle.pool_syntax.specs.Terms.{ProgramTree}
 use Rattle.pool_syntax.specs.Typing.{faults}
 use Rattle.object_code.specs.Listing.{listing}
 use Rattle.pool_printer.specs.Canonical.{canonical}
-use Rattle.run_record.specs.RecordText.{record_text}
+use Rattle.record_lines.specs.RecordText.{record_text}
 use Rattle.pool_driver.specs.declared.status.Status.{Status}
 use Rattle.pool_driver.specs.declared.status.Status.TheVariants as S
 use Rattle.command_words.specs.declared.command.Show.{Show}

@@ -15,8 +15,8 @@ use Rattle.pool_parser.specs.declared.fault.SyntaxFault.{SyntaxFault}
 use Rattle.pool_parser.specs.declared.fault.SyntaxFault.TheVariants as Syntax
 use Rattle.class_check.specs.Least.{IsLeastFault}
 use Rattle.class_check.specs.PairOf.{pair_of}
-use Rattle.pool_driver.specs.declared.fault.Fault.{Fault}
-use Rattle.pool_driver.specs.declared.fault.Fault.TheVariants as F
+use Rattle.fault_lines.specs.declared.fault.Fault.{Fault}
+use Rattle.fault_lines.specs.declared.fault.Fault.TheVariants as F
 
 -- the first fault of tokens that have no program
 abbrev pub IsSyntaxFault : List Tok → SyntaxFault → Type 0

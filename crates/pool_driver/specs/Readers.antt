@@ -30,18 +30,18 @@ use Rattle.schedule_reader.specs.declared.fault.ScheduleFault.TheVariants as Tim
 use Rattle.schedule_reader.specs.Schedules as Sch
 use Rattle.schedule_reader.specs.Schedules.{Plan, schedule_of}
 use Rattle.pool_driver.specs.declared.outputs.Loaded.{Loaded}
-use Rattle.pool_driver.specs.declared.fault.Input.{Input}
-use Rattle.pool_driver.specs.declared.fault.Input.TheVariants as I
-use Rattle.pool_driver.specs.declared.fault.Fault.{Fault}
-use Rattle.pool_driver.specs.declared.fault.Fault.TheVariants as F
-use Rattle.pool_driver.specs.declared.fault.Stop.{Stop}
-use Rattle.pool_driver.specs.declared.fault.Stop.TheVariants as T
+use Rattle.fault_lines.specs.declared.fault.Input.{Input}
+use Rattle.fault_lines.specs.declared.fault.Input.TheVariants as I
+use Rattle.fault_lines.specs.declared.fault.Fault.{Fault}
+use Rattle.fault_lines.specs.declared.fault.Fault.TheVariants as F
+use Rattle.fault_lines.specs.declared.fault.Stop.{Stop}
+use Rattle.fault_lines.specs.declared.fault.Stop.TheVariants as T
 use Rattle.pool_driver.specs.declared.outputs.Output.{Output}
 use Rattle.pool_driver.specs.declared.outputs.Output.TheVariants as O
 use Rattle.pool_driver.specs.declared.status.Status.{Status}
 use Rattle.pool_driver.specs.declared.status.Status.TheVariants as S
 use Rattle.command_words.specs.Commands.{Request}
-use Rattle.pool_driver.specs.FaultText.{refusal_line, unread_line}
+use Rattle.fault_lines.specs.FaultText.{refusal_line, unread_line}
 use Rattle.pool_driver.specs.Inputs.{limit_of, IsCodeOf, StopAt}
 use Rattle.pool_driver.specs.Driving.{shown_lines, IsLoaded}
 use Rattle.pool_driver.specs.Runs.{ends_text, ring_text, status_of}

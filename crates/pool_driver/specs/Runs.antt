@@ -23,7 +23,7 @@ use Rattle.placed_terms.specs.RunOf.{IsRunFrom}
 use Rattle.pool_machine.specs.Answers.{moved}
 use Rattle.placement_reader.specs.Placements.{placement_of}
 use Rattle.schedule_reader.specs.Schedules.{Plan, schedule_of}
-use Rattle.run_record.specs.RecordText.{line_text, text_at, value_text}
+use Rattle.record_lines.specs.RecordText.{line_text, text_at, value_text}
 use Rattle.pool_driver.specs.declared.status.Status.{Status}
 use Rattle.pool_driver.specs.declared.status.Status.TheVariants as S
 use Rattle.pool_driver.specs.Inputs.{unit_of}

@@ -4,7 +4,7 @@ ghost use Rattle.mesh_semantics.specs.Config.{Config};
 ghost use Rattle.mesh_semantics.specs.Delay.{Delay};
 ghost use Rattle.coded_objects.specs.Coded.{Placed};
 ghost use Rattle.pool_machine.specs.Answers.{Stands};
-ghost use Rattle.run_record.specs.Writable.{IsWritable};
+ghost use Rattle.record_lines.specs.Writable.{IsWritable};
 ghost use Rattle.pool_driver.specs.Driving.{Drives, IsLoaded, IsUnderWay, item_of, shown_line, tells_fault};
 ghost use Rattle.pool_driver.specs.Ends.{Wrote, WroteFront};
 ghost use Rattle.pool_driver.specs.Readers.{Writes};
@@ -15,7 +15,7 @@ use command_words::Show;
 use pool_machine::{Machine, Outcome};
 use pool_outside::{Sink, WriteFault};
 use pool_syntax::{End, Item, Label, Line, Names, What};
-use run_record::{write_item, write_line};
+use record_lines::{write_item, write_line};
 use schedule_reader::Schedule;
 
 /// How a run has ended, and whether a language error was told before.

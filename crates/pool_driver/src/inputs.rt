@@ -4,9 +4,9 @@ ghost use Rattle.pool_driver.specs.Inputs.{most_bytes, one_read};
 ghost use Rattle.pool_driver.specs.Programs.{IsFaultOfText};
 ghost use Rattle.pool_driver.specs.Readers.{HasNoFault, HasPlacementFault, HasScheduleFault, HasTypedFault, IsAcceptedPlacement, IsAcceptedSchedule, IsAnyProgram, IsAnyText, IsPlacedAs, IsProgramOf, IsScheduledAs, IsTypedProgram, IsTypedProgramOf, IsUnitOf, Judges, Loads, Reads, stop_of_placement, stop_of_schedule};
 
-use crate::fault::{Fault, Input, Stop};
 use crate::outputs::Loaded;
 use crate::program::{Parsed, code_of, judge_classes, read_program};
+use fault_lines::{Fault, Input, Stop};
 use object_code::Unit;
 use placement_reader::{PlacementFault, read_placement};
 use pool_outside::{Files, ReadFault, read_whole};
@@ -212,19 +212,18 @@ fn judge_schedule(alloc: Global, bytes: &[u8], placement: &Placement) -> Result<
     }
 }
 
-/// Judges the texts of a program, a placement and a schedule, one after another, and makes what a run is made of. A text that is longer than an input may be is want of
-/// memory.
+/// Judges the texts of a program, a placement and a schedule, one after another, and makes what a run is made of.
 pub fn load_texts(
     alloc: Global,
     program: &[u8],
     placement: &[u8],
     schedule: &[u8],
 ) -> Result<Loaded, Stop>
+    requires program { length program.now ≤ 1048576 }
+    requires placement { length placement.now ≤ 1048576 }
+    requires schedule { length schedule.now ≤ 1048576 }
     ensures { Loads program.now placement.now schedule.now result }
 {
-    if program.len() > MOST_BYTES || placement.len() > MOST_BYTES || schedule.len() > MOST_BYTES {
-        return Err(Stop::Memory);
-    }
     let unit = match judge_program(alloc, program) {
         Ok(unit) => unit,
         Err(stop) => return Err(stop),

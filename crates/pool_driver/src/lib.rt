@@ -2,7 +2,6 @@
 #![tactic(auto)]
 
 mod drive;
-mod fault;
 mod inputs;
 pub mod laws;
 mod outputs;

@@ -4,10 +4,10 @@ ghost use Rattle.command_words.specs.Commands.{IsSized, names_of, of_program, of
 ghost use Rattle.pool_driver.specs.Inputs.{MayOpen, most_bytes, one_read};
 ghost use Rattle.pool_driver.specs.Readers.{Makes, Rings};
 
-use crate::fault::Stop;
 use crate::inputs::{load_texts, read_placed, read_scheduled, read_typed, read_unit};
 use crate::program::Parsed;
 use command_words::{Ask, Command, Files as FileNames, Show};
+use fault_lines::Stop;
 use object_code::Unit;
 use pool_gen::ring;
 use pool_outside::Files;

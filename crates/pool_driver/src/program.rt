@@ -9,11 +9,11 @@ ghost use Rattle.object_code.specs.Proper.{IsProper};
 ghost use Rattle.pool_driver.specs.Inputs.{unit_of};
 ghost use Rattle.pool_driver.specs.Readers.{stop_of_grammar, stop_of_tokens};
 ghost use Rattle.pool_driver.specs.Programs.{IsFaultOfClasses, IsFaultOfText, IsParsed};
-ghost use Rattle.pool_driver.specs.declared.fault.Fault.{Fault as AnyFault};
-ghost use Rattle.pool_driver.specs.declared.fault.Input.{Input as AnyInput};
+ghost use Rattle.fault_lines.specs.declared.fault.Fault.{Fault as AnyFault};
+ghost use Rattle.fault_lines.specs.declared.fault.Input.{Input as AnyInput};
 
-use crate::fault::{Fault, Input, Stop};
 use class_check::{Checked, ClassFault, check};
+use fault_lines::{Fault, Input, Stop};
 use object_code::Unit;
 use pool_compile::compile;
 use pool_lexer::tokens;

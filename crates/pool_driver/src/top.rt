@@ -10,12 +10,12 @@ ghost use Rattle.pool_driver.specs.Runs.{counts_text, end_text, ended, ring_text
 ghost use Rattle.pool_driver.specs.Readers.{Delivers, IsPrintable, Tells, Writes, lines_of, run_text, status_of_output, text_of};
 
 use crate::drive::{Ended, drive, finish};
-use crate::fault::{Stop, line_of_refusal, line_of_unread, push_count, push_place};
 use crate::outputs::{Loaded, Output, make_output};
 use crate::status::Status;
 use crate::texts::{CanonicalText, Listing};
 use crate::why::write_report;
 use command_words::{Show, read_words};
+use fault_lines::{Stop, line_of_refusal, line_of_unread, push_count, push_place};
 use pool_machine::{Machine, OpenFault};
 use pool_outside::{Files, Sink, Text, WriteFault, write_all_of, write_gathered};
 use pool_syntax::{Line, Names};

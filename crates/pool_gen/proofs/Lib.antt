@@ -1,1 +1,2 @@
 pub mod DrawnLaws
+pub mod Lengths

@@ -1,5 +1,5 @@
 //! A ring of cells that pass a token on.
-ghost use Rattle.std.specs.Prelude.{◌≡◌, ◌≤◌, IfOk};
+ghost use Rattle.std.specs.Prelude.{◌≡◌, ◌≤◌, length, IfOk};
 ghost use Rattle.pool_gen.specs.Ring.{ring_placement, ring_program, ring_schedule};
 
 use crate::drawn::push_drawn;
@@ -74,12 +74,13 @@ fn schedule(alloc: Global, k: u32) -> Result<List<u8>, AllocError>
     Ok(text)
 }
 
-/// The ring of `k` cells, from 2 to 1000. `AllocError`: out of memory.
+/// The ring of `k` cells, from 2 to 1000; each text has at most 1,048,576 bytes. `AllocError`: out of memory.
 pub fn ring(alloc: Global, k: u32) -> Result<Texts, AllocError>
     requires { (2 ≤ k) × (k ≤ 1000) }
     ensures program { IfOk result (λ t. t.program ≡ ring_program k) }
     ensures placement { IfOk result (λ t. t.placement ≡ ring_placement) }
     ensures schedule { IfOk result (λ t. t.schedule ≡ ring_schedule k) }
+    ensures short { IfOk result (λ t. (length t.program ≤ 1048576) × (length t.placement ≤ 1048576) × (length t.schedule ≤ 1048576)) }
 {
     Ok(Texts {
         program: program(alloc, k)?,

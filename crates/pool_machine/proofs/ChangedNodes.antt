@@ -12,8 +12,8 @@ use Rattle.mesh_semantics.proofs.Laws.{same_some, decide}
 use Rattle.node_semantics.specs.Node.{NodeState, set_at}
 use Rattle.coded_objects.specs.Coded.{Placed}
 use Rattle.mesh_routing.specs.Links.{LinksOf}
-use Rattle.pool_node.specs.NodeOf.{NodeOf}
-use Rattle.pool_node.specs.OfUnit.{IsOfPlacement, IsOfUnit}
+use Rattle.node_parts.specs.NodeOf.{NodeOf}
+use Rattle.node_parts.specs.OfUnit.{IsOfPlacement, IsOfUnit}
 use Rattle.rendezvous_protocol.specs.declared.packet.Packet.{Packet}
 use Rattle.pool_machine.specs.Parts.{AreOfUnit, AreParts, EachCount, IsNodeOf}
 

@@ -21,7 +21,7 @@ use Rattle.coded_objects.specs.Coded.{Placed, coded}
 use Rattle.rendezvous_protocol.specs.declared.packet.Packet.{Packet}
 use Rattle.rendezvous_protocol.specs.Packets.{numbered}
 use Rattle.mesh_routing.specs.Links.{LinksOf}
-use Rattle.pool_node.specs.NodeOf.{NodeOf}
+use Rattle.node_parts.specs.NodeOf.{NodeOf}
 use Rattle.pool_machine.specs.MachineOf.{MachineOf}
 use Rattle.pool_machine.specs.Parts.{AreKept, AreParts, IsDid, machine_from}
 use Rattle.pool_machine.specs.Answers.{IsOfMesh, IsOutcome, Stands, moved}

@@ -1,12 +1,12 @@
 -- Nodes that are made one after another.
-use Rattle.std.proofs.Common.{◌≡◌, ◌≢◌, ◌⊎◌, inl, inr, sym, subst, ◌∙◌, ap, ℕ, ◌+◌, List, [], ◌∷◌, ◌++◌, length, Some, arith}
+use Rattle.std.proofs.Common.{◌≡◌, ◌≢◌, ◌⊎◌, inl, inr, sym, subst, ◌∙◌, ap, ℕ, ◌+◌, List, [], ◌∷◌, ◌++◌, length, Some}
 use Rattle.std.specs.Prelude.{slice_get}
 use Rattle.std.proofs.lemmas.List.{length_push}
 use Rattle.pool_syntax.specs.declared.words.Placement.{Placement}
 use Rattle.object_code.specs.declared.unit.Unit.{Unit as Code}
 use Rattle.mesh_semantics.proofs.Laws.{decide, same_some}
 use Rattle.node_semantics.proofs.NamesAndSlots.{last_there, front_there}
-use Rattle.pool_node.specs.NodeOf.{NodeOf}
+use Rattle.node_parts.specs.NodeOf.{NodeOf}
 use Rattle.pool_machine.specs.Whole.{AreEmpty, IsEmptyNode}
 
 pub node_made : (u : Code) (l : Placement) (size : ℕ) (nodes : List NodeOf) (n : NodeOf) → AreEmpty u l size nodes → IsEmptyNode u l size n → AreEmpty u l (size + 1) (nodes ++ n ∷ [])

@@ -10,7 +10,7 @@ use Rattle.mesh_semantics.proofs.Laws.{same_some}
 use Rattle.node_semantics.specs.Node.{NodeState, ready_slots}
 use Rattle.node_semantics.specs.Machine.{any_ready}
 use Rattle.coded_objects.specs.Coded.{Placed}
-use Rattle.pool_node.specs.NodeOf.{NodeOf}
+use Rattle.node_parts.specs.NodeOf.{NodeOf}
 
 module _ {X : Type 0} (t : X → Bool) where
   pub found_one : (xs : List X) (i : ℕ) (x : X) → slice_get xs i ≡ Some x → t x ≡ true → list_any t xs ≡ true

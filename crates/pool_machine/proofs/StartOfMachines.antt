@@ -24,8 +24,8 @@ use Rattle.coded_objects.specs.OfCode.{IsOfCode}
 use Rattle.coded_objects.proofs.Laws.{code_fits, code_requests, code_start_sound, start_there}
 use Rattle.rendezvous_protocol.specs.declared.packet.Packet.{Packet}
 use Rattle.mesh_routing.specs.Links.{LinksOf}
-use Rattle.pool_node.specs.NodeOf.{NodeOf}
-use Rattle.pool_node.specs.OfUnit.{IsOfUnit}
+use Rattle.node_parts.specs.NodeOf.{NodeOf}
+use Rattle.node_parts.specs.OfUnit.{IsOfUnit}
 use Rattle.pool_machine.specs.MachineOf.{numbered_link}
 use Rattle.pool_machine.specs.Parts.{AreKept, AreParts, EachCount, machine_from}
 use Rattle.pool_machine.specs.Whole.{AreEmpty}

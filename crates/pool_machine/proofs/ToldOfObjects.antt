@@ -32,7 +32,7 @@ use Rattle.coded_objects.proofs.Laws.{code_keeps, code_lawful, code_requests}
 use Rattle.rendezvous_protocol.specs.declared.packet.Packet.{Packet}
 use Rattle.rendezvous_protocol.specs.Packets.{numbered}
 use Rattle.mesh_routing.specs.Links.{LinksOf}
-use Rattle.pool_node.specs.NodeOf.{NodeOf}
+use Rattle.node_parts.specs.NodeOf.{NodeOf}
 use Rattle.pool_machine.specs.MachineOf.{numbered_link}
 use Rattle.pool_machine.specs.Parts.{AreKept, AreOfUnit, AreParts, machine_from}
 use Rattle.pool_machine.specs.Told.{is_brought, slot_class}

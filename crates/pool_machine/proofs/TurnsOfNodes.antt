@@ -24,8 +24,8 @@ use Rattle.coded_objects.proofs.Laws.{code_lawful, code_requests}
 use Rattle.rendezvous_protocol.specs.declared.packet.Packet.{Packet}
 use Rattle.rendezvous_protocol.specs.Packets.{numbered}
 use Rattle.mesh_routing.specs.Links.{LinksOf}
-use Rattle.pool_node.specs.NodeOf.{NodeOf}
-use Rattle.pool_node.specs.OfUnit.{IsOfUnit}
+use Rattle.node_parts.specs.NodeOf.{NodeOf}
+use Rattle.node_parts.specs.OfUnit.{IsOfUnit}
 use Rattle.pool_node.specs.Acts.{IsActOf}
 use Rattle.pool_node.specs.declared.words.Act.{Act}
 use Rattle.pool_node.specs.declared.words.Act.TheVariants as T

@@ -9,7 +9,7 @@ use Rattle.node_semantics.specs.Node.{NumberedPacket}
 use Rattle.node_semantics.specs.Machine.{Machine}
 use Rattle.rendezvous_protocol.specs.declared.packet.Packet.{Packet}
 use Rattle.rendezvous_protocol.specs.Packets.{numbered}
-use Rattle.pool_node.specs.NodeOf.{NodeOf}
+use Rattle.node_parts.specs.NodeOf.{NodeOf}
 
 pub record MachineOf : Type 0 where
   pub unit : Code

@@ -16,8 +16,8 @@ use Rattle.node_semantics.specs.StandsFor.{MachineStandsFor}
 use Rattle.rendezvous_protocol.specs.declared.packet.Packet.{Packet}
 use Rattle.mesh_routing.specs.Links.{LinksOf}
 use Rattle.mesh_routing.specs.declared.mesh.Mesh.{Mesh}
-use Rattle.pool_node.specs.NodeOf.{NodeOf}
-use Rattle.pool_node.specs.OfUnit.{IsOfPlacement, IsOfUnit}
+use Rattle.node_parts.specs.NodeOf.{NodeOf}
+use Rattle.node_parts.specs.OfUnit.{IsOfPlacement, IsOfUnit}
 use Rattle.pool_machine.specs.MachineOf.{numbered_link}
 use Rattle.pool_machine.specs.declared.words.Did.{Did}
 use Rattle.pool_machine.specs.declared.words.Did.TheVariants as D

@@ -4,7 +4,7 @@ use Rattle.pool_syntax.specs.declared.words.Placement.{Placement}
 use Rattle.object_code.specs.declared.unit.Unit.{Unit as Code}
 use Rattle.coded_objects.specs.Coded.{coded}
 use Rattle.node_semantics.specs.Machine.{empty_node}
-use Rattle.pool_node.specs.NodeOf.{NodeOf}
+use Rattle.node_parts.specs.NodeOf.{NodeOf}
 use Rattle.pool_machine.specs.MachineOf.{MachineOf}
 use Rattle.pool_machine.specs.Parts.{AreKept, EachCount, IsMeshOf, IsNodeOf}
 use Rattle.pool_machine.specs.declared.machine.Machine.TheInside.{Inside}

@@ -46,7 +46,7 @@ impl<'a> Model for Machine<'a> {
     ghost use Rattle.pool_syntax.specs.contracts.words.Error as error;
     ghost use Rattle.pool_syntax.specs.contracts.words.Value as value;
     ghost use Rattle.rendezvous_protocol.specs.contracts.packet.Packet as packet;
-    ghost use Rattle.pool_node.specs.NodeOf.{node_code};
+    ghost use Rattle.node_parts.specs.NodeOf.{node_code};
     ghost use Rattle.pool_machine.specs.MachineOf.{MachineOf, machine_code};
 
     ghost Value = { MachineOf };

@@ -17,17 +17,16 @@ use Rattle.node_semantics.proofs.Laws.{unused_number}
 use Rattle.rendezvous_protocol.specs.declared.packet.Packet.{Packet}
 use Rattle.pool_syntax.specs.declared.words.FullKind.{FullKind}
 use Rattle.rendezvous_protocol.specs.Packets.{numbered}
-use Rattle.pool_node.specs.declared.parts.Parts.{Parts}
+use Rattle.node_parts.specs.declared.parts.Parts.{Parts}
 use Rattle.pool_node.specs.declared.words.Act.{Act}
 use Rattle.pool_node.specs.declared.words.Act.TheVariants as A
-use Rattle.pool_node.specs.NodeOf.{NodeOf}
-use Rattle.pool_node.specs.OfUnit.{IsOfUnit, IsOfPlacement}
+use Rattle.node_parts.specs.NodeOf.{NodeOf}
+use Rattle.node_parts.specs.OfUnit.{IsOfUnit, IsOfPlacement}
 use Rattle.pool_node.specs.Acts.{IsActOf}
-use Rattle.pool_node.specs.Views.{IsWhole, arrivals_of, slots_of, node_of, slot_at}
+use Rattle.node_parts.specs.Views.{IsWhole, arrivals_of, slots_of, node_of, slot_at}
 use Rattle.pool_node.specs.Bits.{bit_in_turn}
 use Rattle.pool_node.specs.Made.{IsSet, IsLine, IsFull, IsMade, IsTurned, turn_at, kept}
-use Rattle.pool_node.proofs.Slots.{slots_length}
-use Rattle.pool_node.proofs.Changing.{slot_view, kind_seen}
+use Rattle.node_parts.proofs.Laws.{slots_length, slot_view, kind_seen}
 use Rattle.pool_node.proofs.Counting.{frames_seen, within_fits}
 use Rattle.pool_node.proofs.InTurn.{turn_bits, in_turn, CanGo, can_go_is}
 

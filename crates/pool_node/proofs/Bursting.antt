@@ -27,13 +27,11 @@ use Rattle.mesh_semantics.specs.Language.{Language}
 use Rattle.mesh_semantics.specs.Partial.{◌>>=◌}
 use Rattle.node_semantics.specs.Node as N
 use Rattle.node_semantics.specs.Node.{Slot, NodeState, NodeActed, frames_in, local_act, local_state, name_at, put_state, room_for, set_at, steps_of, within_node}
-use Rattle.pool_node.specs.declared.parts.Parts.{Parts}
+use Rattle.node_parts.specs.declared.parts.Parts.{Parts}
 use Rattle.pool_node.specs.declared.words.Act.TheVariants as A
-use Rattle.pool_node.specs.Views.{numbers_of, slots_of, node_of, slot_at, refreshed}
+use Rattle.node_parts.specs.Views.{numbers_of, slots_of, node_of, slot_at, refreshed}
 use Rattle.pool_node.specs.Made.{IsSet, IsTurned, turn_at}
-use Rattle.pool_node.proofs.Changing.{slot_real}
-use Rattle.pool_node.proofs.Moving.{by_heap, burst_changed}
-use Rattle.pool_node.proofs.Numbers.{numbers_stepped}
+use Rattle.node_parts.proofs.Laws.{slot_real, by_heap, burst_changed, numbers_stepped}
 use Rattle.pool_node.proofs.Counting.{frames_seen, some_frame, under_way_is}
 use Rattle.pool_node.proofs.Turning.{moved, moved_line, turn_is, turned, quiet_cells}
 

@@ -22,10 +22,10 @@ use Rattle.mesh_semantics.specs.Language.{Language}
 use Rattle.mesh_semantics.proofs.Laws.{same_some}
 use Rattle.node_semantics.specs.Node as N
 use Rattle.node_semantics.specs.Node.{Slot, NodeState, NodeActed, NumberedPacket, NumberedArrival, set_at, message_count, frames_in, packet_count, within_node}
-use Rattle.pool_node.specs.declared.parts.Parts.{Parts}
-use Rattle.pool_node.specs.OfUnit.{IsOfUnit}
-use Rattle.pool_node.specs.Views.{IsWhole, arrivals_of, head_or, tail_of, slot_by, slots_by, slots_of, node_of}
-use Rattle.pool_node.proofs.Changing.{below_length, got, slot_real}
+use Rattle.node_parts.specs.declared.parts.Parts.{Parts}
+use Rattle.node_parts.specs.OfUnit.{IsOfUnit}
+use Rattle.node_parts.specs.Views.{IsWhole, arrivals_of, head_or, tail_of, slot_by, slots_by, slots_of, node_of}
+use Rattle.node_parts.proofs.Laws.{below_length, got, slot_real}
 
 pub sum_set : {X : Type 0} (f : X → ℕ) (xs : List X) (i : ℕ) (x y : X) → slice_get xs i ≡ Some x → sum_by f (set_at xs i y) + f x ≡ sum_by f xs + f y
 sum_set f [] i x y h = absurd (cc)

@@ -19,7 +19,7 @@ use Rattle.node_semantics.specs.Node as N
 use Rattle.node_semantics.specs.Node.{Slot, NodeState, NodeActed, NumberedArrival, NumberedPacket, arrivals, chosen_act, choice_act, create_act, created_for, count_one, deliver, deliver_in, first_on, give_back, goal_here, local_act, local_state, made_own, message_act, message_count, packet_count, frames_in, put_request, put_state, receipt, receipt_act, return_act, room_for, serve_act, settle_number, settled, slot_act, slot_in_turn, steps_of, taken_act, turn_act, turn_of_slot, name_at, set_at, within_node}
 use Rattle.pool_node.specs.declared.words.Act.{Act}
 use Rattle.pool_node.specs.declared.words.Act.TheVariants as A
-use Rattle.pool_node.specs.NodeOf.{NodeOf}
+use Rattle.node_parts.specs.NodeOf.{NodeOf}
 use Rattle.pool_node.specs.Acts.{IsActOf}
 
 -- a property of the counts after an act

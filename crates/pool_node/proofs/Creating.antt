@@ -35,17 +35,14 @@ use Rattle.node_semantics.specs.Requests.{posts_request}
 use Rattle.node_semantics.specs.Agrees.{IsUnused}
 use Rattle.node_semantics.proofs.NamesAndSlots.{front_there, set_length}
 use Rattle.rendezvous_protocol.specs.declared.packet.Packet.TheVariants as P
-use Rattle.pool_node.specs.declared.parts.Parts.{Parts}
+use Rattle.node_parts.specs.declared.parts.Parts.{Parts}
 use Rattle.pool_node.specs.declared.words.Act.TheVariants as A
-use Rattle.pool_node.specs.NodeOf.{NodeOf}
-use Rattle.pool_node.specs.OfUnit.{IsOfUnit}
-use Rattle.pool_node.specs.Views.{IsWhole, slots_of, node_of, slot_at}
-use Rattle.pool_node.specs.Changes.{IsAdded, IsChanged}
+use Rattle.node_parts.specs.NodeOf.{NodeOf}
+use Rattle.node_parts.specs.OfUnit.{IsOfUnit}
+use Rattle.node_parts.specs.Views.{IsWhole, slots_of, node_of, slot_at}
+use Rattle.node_parts.specs.Changes.{IsAdded, IsChanged}
 use Rattle.pool_node.specs.Made.{IsSet, IsTurned, IsMoved, turn_at}
-use Rattle.pool_node.proofs.Slots.{slots_length}
-use Rattle.pool_node.proofs.Changing.{slot_real, kind_seen, got, below_length}
-use Rattle.pool_node.proofs.Numbers.{length_given}
-use Rattle.pool_node.proofs.Adding.{settled_placed}
+use Rattle.node_parts.proofs.Laws.{slots_length, slot_real, kind_seen, got, below_length, length_given, settled_placed}
 use Rattle.pool_node.proofs.Counting.{frames_seen, frames_set, frames_add, messages_add, within_heap, within_frames, within_cells}
 use Rattle.pool_node.proofs.Turning.{here, moved, moved_state, moved_line, moved_twice, turn_is, turned, same_messages}
 use Rattle.pool_node.proofs.Posting.{within_objects, within_less, lt_of, lt_not, under_le}

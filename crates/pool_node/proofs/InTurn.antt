@@ -1,5 +1,5 @@
 -- Whose turn it is, by the bits.
-use Rattle.std.proofs.Common.{◌≡◌, refl, sym, ap, ap₂, subst, ◌∙◌, ℕ, zero, suc, ◌+◌, ◌<◌, ◌≤◌, ◌&&◌, List, [], ◌∷◌, length, drop, get_or, map, Option, Some, None, is_none, Bool, true, false, if◌then◌else◌, arith}
+use Rattle.std.proofs.Common.{◌≡◌, refl, sym, ap, ap₂, subst, ◌∙◌, ℕ, zero, suc, ◌+◌, ◌<◌, ◌&&◌, List, [], ◌∷◌, drop, map, Option, Some, None, is_none, Bool, true, false, arith}
 use Rattle.std.specs.Prelude.{slice_get, filter, nat_lt}
 use Rattle.std.specs.Option.{option_map}
 use Rattle.std.proofs.lemmas.Bool.Decides.{nat_tests}
@@ -8,31 +8,8 @@ use Rattle.mesh_semantics.specs.Language.{Language}
 use Rattle.mesh_semantics.specs.Sound.{Each}
 use Rattle.mesh_semantics.proofs.Laws.{first, second, same_some}
 use Rattle.node_semantics.specs.Node.{Slot, NodeState, arrivals, can_go, comes_after, name_at, placed, ready_slots, slot_in_turn}
-use Rattle.pool_node.specs.Bits.{first_bit, first_bit_from, bit_in_turn}
-
-bit_step : (n : ℕ) (bs : List Bool) (i : ℕ) → i < length bs → first_bit n (drop i bs) ≡ (if get_or bs i false then Some n else first_bit (n + 1) (drop (suc i) bs))
-bit_step n [] i h = absurd (omega arith)
-bit_step n (b ∷ bs) zero h = refl
-bit_step n (b ∷ bs) (suc i) h = bit_step n bs i (omega (arith, h))
-
-pub bit_here : (bs : List Bool) (from i : ℕ) → i < length bs → first_bit_from i bs ≡ first_bit_from from bs → get_or bs i false ≡ true → Some i ≡ first_bit_from from bs
-bit_here bs from i h invariant t = sym (bit_step i bs i h ∙ ap (λ (b : Bool). if b then Some i else first_bit (i + 1) (drop (suc i) bs)) t) ∙ invariant
-
-pub bit_later : (bs : List Bool) (from i : ℕ) → i < length bs → first_bit_from i bs ≡ first_bit_from from bs → get_or bs i false ≡ false
-    → first_bit_from (i + 1) bs ≡ first_bit_from from bs
-bit_later bs from i h invariant t =
-    let e : suc i ≡ i + 1 = omega arith in
-    let step : first_bit i (drop i bs) ≡ first_bit (i + 1) (drop (suc i) bs) = bit_step i bs i h ∙ ap (λ (b : Bool). if b then Some i else first_bit (i + 1) (drop (suc i) bs)) t in
-    subst (λ (k : ℕ). first_bit (i + 1) (drop k bs) ≡ first_bit_from from bs) e (sym step ∙ invariant)
-
-pub bit_none : (bs : List Bool) (i : ℕ) → length bs ≤ i → None ≡ first_bit_from i bs
-bit_none bs i h = by bs i h i
-  where
-    by : (bs : List Bool) (i : ℕ) → length bs ≤ i → (n : ℕ) → None ≡ first_bit n (drop i bs)
-    by [] zero h n = refl
-    by [] (suc i) h n = refl
-    by (b ∷ bs) zero h n = absurd (omega arith)
-    by (b ∷ bs) (suc i) h n = by bs i (omega (arith, h)) n
+use Rattle.ready_set.specs.Bits.{first_bit}
+use Rattle.pool_node.specs.Bits.{bit_in_turn}
 
 module _ {S : Type 0} (f : ℕ × Slot S → Bool) where
   abbrev fst : ℕ × Slot S → ℕ

@@ -24,15 +24,14 @@ use Rattle.node_semantics.specs.Node.{Slot, NodeState, NodeActed, deliver, frame
 use Rattle.node_semantics.specs.Agrees.{IsUnused}
 use Rattle.node_semantics.proofs.Laws.{set_length}
 use Rattle.rendezvous_protocol.specs.declared.packet.Packet.{Packet}
-use Rattle.pool_node.specs.declared.parts.Parts.{Parts}
+use Rattle.node_parts.specs.declared.parts.Parts.{Parts}
 use Rattle.pool_node.specs.declared.words.Act.TheVariants as A
-use Rattle.pool_node.specs.NodeOf.{NodeOf}
-use Rattle.pool_node.specs.Views.{IsWhole, arrival_of, slots_of, node_of, slot_at}
-use Rattle.pool_node.specs.Changes.{IsChanged}
+use Rattle.node_parts.specs.NodeOf.{NodeOf}
+use Rattle.node_parts.specs.Views.{IsWhole, arrival_of, slots_of, node_of, slot_at}
+use Rattle.node_parts.specs.Changes.{IsChanged}
 use Rattle.pool_node.specs.Made.{IsSet, IsLine, IsTurned, IsMoved, packet_by, posted, lacks_cell}
-use Rattle.pool_node.proofs.Slots.{slots_length}
+use Rattle.node_parts.proofs.Laws.{slots_length, length_gone_on}
 use Rattle.pool_node.proofs.Counting.{messages_seen, frames_seen, frames_set, within_cells}
-use Rattle.pool_node.proofs.Numbers.{length_gone_on}
 use Rattle.pool_node.proofs.Turning.{moved, moved_state, moved_id, moved_line, line_after, turn_is, turned, here, same_messages, delivered_length, delivered_frames, delivered_one, delivered_none}
 
 pub count_here : (p : Parts) (n leaving cells : ℕ) → IsWhole p → n ≡ lengths p.mailbox.boxes → n + leaving ≡ message_count (slots_of p) + leaving

@@ -26,13 +26,12 @@ use Rattle.node_semantics.specs.Node as N
 use Rattle.node_semantics.specs.Node.{Slot, NodeState, NodeActed, add_slot, created_for, deliver, fresh_slot, frames_in, message_count, name_at, receipt, within_node}
 use Rattle.node_semantics.specs.Receives.{HasObject}
 use Rattle.rendezvous_protocol.specs.declared.packet.Packet.TheVariants as P
-use Rattle.pool_node.specs.declared.parts.Parts.{Parts}
-use Rattle.pool_node.specs.NodeOf.{NodeOf}
-use Rattle.pool_node.specs.Views.{arrival_of, slots_of, node_of}
-use Rattle.pool_node.specs.Changes.{IsAdded}
+use Rattle.node_parts.specs.declared.parts.Parts.{Parts}
+use Rattle.node_parts.specs.NodeOf.{NodeOf}
+use Rattle.node_parts.specs.Views.{arrival_of, slots_of, node_of}
+use Rattle.node_parts.specs.Changes.{IsAdded}
 use Rattle.pool_node.specs.Made.{IsSet, IsLine, IsFull, IsMoved, settled_number}
-use Rattle.pool_node.proofs.Slots.{slots_length}
-use Rattle.pool_node.proofs.Changing.{below_length}
+use Rattle.node_parts.proofs.Laws.{slots_length, below_length}
 use Rattle.pool_node.proofs.Counting.{messages_seen, frames_seen, frames_add, messages_add, within_heap, within_frames, within_cells}
 use Rattle.pool_node.proofs.Turning.{moved_line, delivered_length, delivered_frames, delivered_one}
 use Rattle.pool_node.proofs.Returning.{messages_settled}

@@ -21,15 +21,13 @@ use Rattle.node_semantics.specs.Node.{Slot, NodeState, NodeActed, give_back, has
 use Rattle.node_semantics.proofs.SettledNumber.{settled_is}
 use Rattle.rendezvous_protocol.specs.declared.packet.Packet.TheVariants as P
 use Rattle.rendezvous_protocol.specs.Numbers.{is_number}
-use Rattle.pool_node.specs.declared.parts.Parts.{Parts}
+use Rattle.node_parts.specs.declared.parts.Parts.{Parts}
 use Rattle.pool_node.specs.declared.words.Act.TheVariants as A
-use Rattle.pool_node.specs.OfUnit.{IsOfUnit}
-use Rattle.pool_node.specs.Views.{IsWhole, tail_of, slots_of, node_of, slot_at}
-use Rattle.pool_node.specs.Changes.{IsChanged}
+use Rattle.node_parts.specs.OfUnit.{IsOfUnit}
+use Rattle.node_parts.specs.Views.{IsWhole, tail_of, slots_of, node_of, slot_at}
+use Rattle.node_parts.specs.Changes.{IsChanged}
 use Rattle.pool_node.specs.Made.{IsSet, IsTurned, IsMoved, turn_at}
-use Rattle.pool_node.proofs.Changing.{slot_real, slot_view}
-use Rattle.pool_node.proofs.Moving.{returned_number}
-use Rattle.pool_node.proofs.Numbers.{length_gone_on}
+use Rattle.node_parts.proofs.Laws.{slot_real, slot_view, returned_number, length_gone_on}
 use Rattle.pool_node.proofs.Counting.{within_cells}
 use Rattle.pool_node.proofs.Turning.{moved, moved_state, moved_line, moved_twice, turn_is, turned, same_messages}
 use Rattle.pool_node.proofs.Posting.{within_objects, within_less, same_eq, lt_of, lt_not, under_le}

@@ -39,19 +39,15 @@ use Rattle.coded_objects.specs.Coded.{Placed, coded, kind_of, numbers, alternati
 use Rattle.node_semantics.specs.Node as N
 use Rattle.node_semantics.specs.Node.{Slot, NodeState, NodeActed, NumberedArrival, arrivals, choice_act, chosen_act, first_on, frames_in, is_on, message_count, name_at, put_state, serve_act, set_at, slot_act, taken_act, within_node}
 use Rattle.node_semantics.proofs.Laws.{set_length}
-use Rattle.pool_node.proofs.Slots.{slots_length}
+use Rattle.node_parts.proofs.Laws.{slots_length, no_outcome, no_branch, no_return, no_send, no_async, same_names, possible_is, choosing_kind, slot_real, kind_seen, served_is, numbers_serving}
 use Rattle.mailbox.specs.declared.Message.{Message}
 use Rattle.mailbox.specs.Mail.{box_of, is_named}
-use Rattle.pool_node.specs.declared.parts.Parts.{Parts}
+use Rattle.node_parts.specs.declared.parts.Parts.{Parts}
 use Rattle.pool_node.specs.declared.words.Act.TheVariants as A
-use Rattle.pool_node.specs.Views.{arrival_of, arrivals_of, number_by, slots_of, node_of, slot_at}
-use Rattle.pool_node.specs.Changes.{IsChanged, serves_for_call}
-use Rattle.pool_node.specs.Choices.{is_called, may_go, first_of_these, place_called}
+use Rattle.node_parts.specs.Views.{arrival_of, arrivals_of, number_by, slots_of, node_of, slot_at}
+use Rattle.node_parts.specs.Changes.{IsChanged, serves_for_call}
+use Rattle.node_parts.specs.Choices.{is_called, may_go, first_of_these, place_called}
 use Rattle.pool_node.specs.Made.{IsSet, IsTurned, turn_at, taken_label, label_by}
-use Rattle.pool_node.proofs.Offering.{no_outcome, no_branch, no_return, no_send, no_async, same_names, possible_is, choosing_kind}
-use Rattle.pool_node.proofs.Changing.{slot_real, kind_seen}
-use Rattle.pool_node.proofs.Moving.{served_is}
-use Rattle.pool_node.proofs.Numbers.{numbers_serving}
 use Rattle.pool_node.proofs.Counting.{frames_seen, frames_set, messages_set, within_frames, some_frame, under_way_is}
 use Rattle.pool_node.proofs.Turning.{here, moved, moved_line, turned, quiet_cells}
 

@@ -33,13 +33,12 @@ use Rattle.mailbox.specs.Mail.{lengths}
 use Rattle.coded_objects.specs.Coded.{Placed, coded, class_numbers, kind_of, last_code}
 use Rattle.mesh_semantics.specs.Act.{first_of}
 use Rattle.node_semantics.specs.Node.{Slot, can_go, arrivals, message_count, name_at, placed, ready_slots}
-use Rattle.pool_node.specs.declared.parts.Parts.{Parts}
-use Rattle.pool_node.specs.NodeOf.{NodeOf}
-use Rattle.pool_node.specs.OfUnit.{IsOfUnit}
-use Rattle.pool_node.specs.Views.{IsWhole, tail_of, slots_by, slots_of, node_of, slot_at}
-use Rattle.pool_node.specs.Bits.{first_bit, first_bit_from}
-use Rattle.pool_node.proofs.Slots.{slots_length}
-use Rattle.pool_node.proofs.Changing.{slot_view, kind_seen}
+use Rattle.node_parts.specs.declared.parts.Parts.{Parts}
+use Rattle.node_parts.specs.NodeOf.{NodeOf}
+use Rattle.node_parts.specs.OfUnit.{IsOfUnit}
+use Rattle.node_parts.specs.Views.{IsWhole, tail_of, slots_by, slots_of, node_of, slot_at}
+use Rattle.ready_set.specs.Bits.{first_bit, first_bit_from}
+use Rattle.node_parts.proofs.Laws.{slots_length, slot_view, kind_seen}
 use Rattle.pool_node.proofs.Counting.{messages_seen}
 use Rattle.pool_node.proofs.InTurn.{bits_first}
 

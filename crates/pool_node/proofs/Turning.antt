@@ -21,16 +21,15 @@ use Rattle.node_semantics.specs.Node.{Slot, NodeState, NodeActed, NumberedArriva
 use Rattle.node_semantics.proofs.Laws.{unused_number, set_length}
 use Rattle.rendezvous_protocol.specs.declared.packet.Packet.{Packet}
 use Rattle.rendezvous_protocol.specs.Packets.{numbered}
-use Rattle.pool_node.specs.declared.parts.Parts.{Parts}
+use Rattle.node_parts.specs.declared.parts.Parts.{Parts}
 use Rattle.pool_node.specs.declared.words.Act.{Act}
 use Rattle.pool_node.specs.declared.words.Act.TheVariants as A
-use Rattle.pool_node.specs.NodeOf.{NodeOf}
-use Rattle.pool_node.specs.OfUnit.{IsOfUnit}
-use Rattle.pool_node.specs.Views.{IsWhole, slots_of, node_of, slot_at}
-use Rattle.pool_node.specs.Changes.{IsChanged}
+use Rattle.node_parts.specs.NodeOf.{NodeOf}
+use Rattle.node_parts.specs.OfUnit.{IsOfUnit}
+use Rattle.node_parts.specs.Views.{IsWhole, slots_of, node_of, slot_at}
+use Rattle.node_parts.specs.Changes.{IsChanged}
 use Rattle.pool_node.specs.Made.{IsSet, IsLine, IsMade, IsTurned, IsMoved, turn_at}
-use Rattle.pool_node.proofs.Slots.{slots_length}
-use Rattle.pool_node.proofs.Changing.{slot_real, kind_seen}
+use Rattle.node_parts.proofs.Laws.{slots_length, slot_real, kind_seen}
 use Rattle.pool_node.proofs.Counting.{messages_set, frames_set}
 
 pub moved : (u : Code) (p q : Parts) (i : ℕ) (t : Slot Placed) → IsChanged u p q i t → IsMoved u p q (record (node_of p).state { slots = set_at (slots_of p) i t })

@@ -10,7 +10,7 @@ use Rattle.node_semantics.specs.Node.{NodeActed}
 use Rattle.rendezvous_protocol.specs.Packets.{numbered}
 use Rattle.pool_node.specs.declared.words.Act.{Act}
 use Rattle.pool_node.specs.declared.words.Act.TheVariants as A
-use Rattle.pool_node.specs.NodeOf.{NodeOf}
+use Rattle.node_parts.specs.NodeOf.{NodeOf}
 
 -- the call tells what the node did: nothing, a line with the packet that leaves, or a limit; and the node is then as it says
 abbrev pub IsActOf : Act → NodeOf → NodeOf → NodeActed Placed → Type 0

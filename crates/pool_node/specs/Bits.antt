@@ -1,15 +1,7 @@
--- The bits that say which objects can step.
-use Rattle.std.specs.Prelude.{ℕ, ◌+◌, List, [], ◌∷◌, drop, Option, Some, None, Bool, if◌then◌else◌}
+-- The bit of the object whose turn it is.
+use Rattle.std.specs.Prelude.{ℕ, ◌+◌, List, Option, Some, None, Bool}
 use Rattle.mesh_semantics.specs.Act.{or_else}
-
--- the first bit that is set, where the first of these has the number n
-abbrev pub first_bit : ℕ → List Bool → Option ℕ
-first_bit n [] = None
-first_bit n (b ∷ bs) = if b then Some n else first_bit (n + 1) bs
-
--- the first from the number n on
-abbrev pub first_bit_from : ℕ → List Bool → Option ℕ
-first_bit_from n bs = first_bit n (drop n bs)
+use Rattle.ready_set.specs.Bits.{first_bit, first_bit_from}
 
 -- the first above the last, else the first
 abbrev pub bit_in_turn : Option ℕ → List Bool → Option ℕ

@@ -1,9 +1,3 @@
-pub mod Codes
-pub mod NodeOf
-pub mod OfUnit
 pub mod Acts
-pub mod Views
-pub mod Choices
-pub mod Changes
 pub mod Made
 pub mod Bits

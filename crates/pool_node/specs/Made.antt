@@ -18,12 +18,12 @@ use Rattle.mailbox.specs.declared.Message.{Message}
 use Rattle.node_heap.specs.Heaps.{frames_used}
 use Rattle.rendezvous_protocol.specs.declared.packet.Packet.{Packet}
 use Rattle.rendezvous_protocol.specs.Packets.{numbered}
-use Rattle.pool_node.specs.declared.parts.Parts.{Parts}
+use Rattle.node_parts.specs.declared.parts.Parts.{Parts}
 use Rattle.pool_node.specs.declared.words.Act.{Act}
 use Rattle.pool_node.specs.declared.words.Act.TheVariants as A
-use Rattle.pool_node.specs.NodeOf.{NodeOf}
-use Rattle.pool_node.specs.OfUnit.{IsOfPlacement, IsOfUnit}
-use Rattle.pool_node.specs.Views.{IsWhole, arrival_of, node_of, slot_at, slots_of}
+use Rattle.node_parts.specs.NodeOf.{NodeOf}
+use Rattle.node_parts.specs.OfUnit.{IsOfPlacement, IsOfUnit}
+use Rattle.node_parts.specs.Views.{IsWhole, arrival_of, node_of, slot_at, slots_of}
 
 -- the node is whole, of its unit and its placement, and within its limits with so many packets on the links that leave it
 pub record IsSet (u : Code) (l : Placement) (leaving : ℕ) (p : Parts) : Type 0 where

@@ -10,15 +10,14 @@ ghost use Rattle.node_heap.specs.Heaps.{object_at};
 ghost use Rattle.node_semantics.specs.Node.{deliver, message_count, name_at, settled};
 ghost use Rattle.coded_objects.specs.Coded.{coded};
 ghost use Rattle.mailbox.specs.Mail.{lengths};
-ghost use Rattle.pool_node.specs.OfUnit.{IsOfUnit};
-ghost use Rattle.pool_node.specs.Views.{IsWhole, arrival_of, node_of, slots_of};
+ghost use Rattle.node_parts.specs.OfUnit.{IsOfUnit};
+ghost use Rattle.node_parts.specs.Views.{IsWhole, arrival_of, node_of, slots_of};
 ghost use Rattle.pool_node.specs.Made.{IsLine, IsMoved, IsSet, IsTurned, lacks_cell, packet_by, posted};
 ghost use Rattle.rendezvous_protocol.specs.Packets.{numbered};
 
-use crate::moves::{ask_in, deliver_in, end_method, fault_in, go_on_in, settle_in};
-use crate::parts::{Parts, refresh};
 use crate::words::Act;
 use mailbox::Message;
+use node_parts::{Parts, ask_in, deliver_in, end_method, fault_in, go_on_in, refresh, settle_in};
 use object_code::Unit;
 use object_interp::{Burst, burst};
 use pool_syntax::{Args, Error, FullKind, Item, Label, NameId, Placement, Value, What};

@@ -7,15 +7,14 @@ ghost use Rattle.object_code.specs.Kinds.{code_kind};
 ghost use Rattle.object_code.specs.Step.{class_from};
 ghost use Rattle.node_heap.specs.Heaps.{object_at};
 ghost use Rattle.node_semantics.specs.Node.{goal_for};
-ghost use Rattle.pool_node.specs.OfUnit.{IsOfUnit};
-ghost use Rattle.pool_node.specs.Views.{IsWhole, node_of};
+ghost use Rattle.node_parts.specs.OfUnit.{IsOfUnit};
+ghost use Rattle.node_parts.specs.Views.{IsWhole, node_of};
 ghost use Rattle.pool_node.specs.Made.{IsSet, IsTurned};
 
 use crate::acts::{name_of, no_cell, step};
-use crate::moves::{add_in, ask_in, give_in};
-use crate::parts::Parts;
 use crate::words::Act;
 use node_heap::HeapFull;
+use node_parts::{Parts, add_in, ask_in, give_in};
 use object_code::Unit;
 use pool_syntax::{FullKind, Label, Place, Placement, Value, What};
 use rendezvous_protocol::Packet;

@@ -3,14 +3,13 @@ ghost use Rattle.std.specs.Prelude.{◌≡◌, ◌<◌, ◌≤◌, [], Some, IfO
 ghost use Rattle.object_code.specs.Suits.{most_vars};
 ghost use Rattle.coded_objects.specs.Coded.{Placed, coded};
 ghost use Rattle.node_semantics.specs.Node.{name_at};
-ghost use Rattle.pool_node.specs.OfUnit.{IsOfUnit};
-ghost use Rattle.pool_node.specs.Views.{IsWhole, node_of, slots_of};
-ghost use Rattle.pool_node.specs.Changes.{IsAdded};
+ghost use Rattle.node_parts.specs.OfUnit.{IsOfUnit};
+ghost use Rattle.node_parts.specs.Views.{IsWhole, node_of, slots_of};
+ghost use Rattle.node_parts.specs.Changes.{IsAdded};
 
 use crate::acts::name_of;
-use crate::moves::add_in;
-use crate::parts::Parts;
 use crate::receipt::class_named;
+use node_parts::{Parts, add_in};
 use object_code::Unit;
 use pool_syntax::List;
 use std::alloc::{AllocError, Global};

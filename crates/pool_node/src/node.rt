@@ -12,19 +12,20 @@ ghost use Rattle.node_semantics.specs.Agrees.{IsUnused};
 ghost use Rattle.node_semantics.specs.Receives.{IsReceivable};
 ghost use Rattle.node_semantics.specs.Standings.{slot_standing};
 ghost use Rattle.rendezvous_protocol.specs.Packets.{numbered};
-ghost use Rattle.pool_node.specs.OfUnit.{IsOfPlacement, IsOfUnit};
+ghost use Rattle.node_parts.specs.OfUnit.{IsOfPlacement, IsOfUnit};
 ghost use Rattle.pool_node.specs.Acts.{IsActOf, told_standing};
 
 use crate::making_node::{filled, most_vars_of, start_in};
-use crate::parts::Parts;
 use crate::receipt::receipt_of;
 use crate::standing::{any_fault, standing_of};
 use crate::turn::{first_ready, turn_of};
 use crate::words::Act;
 use mailbox::Mailbox;
 use node_heap::{Heap, HeapLimits};
+use node_parts::Parts;
 use object_code::Unit;
 use pool_syntax::{Placement, Standing};
+use ready_set::ReadySet;
 use rendezvous_protocol::{Outstanding, Packet};
 use std::alloc::{AllocError, Global};
 use std::marker::Model;
@@ -40,13 +41,13 @@ impl Model for Node {
     ghost use Rattle.object_code.specs.contracts.unit.CodeObject as image;
     ghost use Rattle.pool_syntax.specs.contracts.words.Error as error;
     ghost use Rattle.pool_syntax.specs.contracts.words.Value as value;
-    ghost use Rattle.pool_node.specs.NodeOf.{NodeOf, node_code};
+    ghost use Rattle.node_parts.specs.NodeOf.{NodeOf, node_code};
 
     ghost Value = { NodeOf };
 
     ghost coded = { node_code image.the_row.coded error.the_row.coded value.the_row.coded };
 
-    ghost use Rattle.pool_node.specs.Views.{IsWhole, node_of};
+    ghost use Rattle.node_parts.specs.Views.{IsWhole, node_of};
 
     ghost view = { λ n. node_of n.parts };
 
@@ -83,7 +84,7 @@ impl Node {
             outstanding: Outstanding::make(alloc, placement.objects)?,
             faults: filled(alloc, placement.objects, None)?,
             goals: filled(alloc, placement.objects, 0)?,
-            ready: filled(alloc, placement.objects, false)?,
+            ready: ReadySet::make(alloc, placement.objects)?,
             last: None,
             made: filled(alloc, unit.classes.items().len() as u32, 0)?,
         };

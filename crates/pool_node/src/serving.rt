@@ -4,15 +4,13 @@ ghost use Rattle.object_code.specs.Kinds.{code_kind};
 ghost use Rattle.node_heap.specs.Heaps.{object_at};
 ghost use Rattle.mailbox.specs.Mail.{box_of};
 ghost use Rattle.object_interp.specs.Offers.{IsChoosing, offer_at, offers_at, open_names};
-ghost use Rattle.pool_node.specs.Choices.{first_of_these, place_called};
+ghost use Rattle.node_parts.specs.Choices.{first_of_these, place_called};
 ghost use Rattle.pool_node.specs.Made.{IsSet, IsTurned, taken_label};
 
 use crate::acts::{name_of, step};
-use crate::choice::{called_place, first_possible};
-use crate::moves::{pick_in, serve_in};
-use crate::parts::Parts;
 use crate::words::Act;
 use mailbox::Message;
+use node_parts::{Parts, called_place, first_possible, pick_in, serve_in};
 use object_code::Unit;
 use object_interp::plain_alt;
 use pool_syntax::{FullKind, Label, Placement};

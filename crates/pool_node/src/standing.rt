@@ -11,11 +11,10 @@ ghost use Rattle.object_interp.specs.Offers.{IsChoosing};
 ghost use Rattle.node_heap.specs.Heaps.{object_at};
 ghost use Rattle.mailbox.specs.Mail.{box_of};
 ghost use Rattle.mesh_semantics.specs.Act.{can_step};
-ghost use Rattle.pool_node.specs.OfUnit.{IsOfUnit};
-ghost use Rattle.pool_node.specs.Views.{IsWhole, arrivals_of, node_of, slot_at, slots_of};
+ghost use Rattle.node_parts.specs.OfUnit.{IsOfUnit};
+ghost use Rattle.node_parts.specs.Views.{IsWhole, arrivals_of, node_of, slot_at, slots_of};
 
-use crate::choice::first_possible;
-use crate::parts::Parts;
+use node_parts::{Parts, first_possible};
 use object_code::Unit;
 use object_interp::{Hand, Need, at_hand};
 use pool_syntax::{Error, Standing};

@@ -10,17 +10,18 @@ ghost use Rattle.object_interp.specs.declared.words.Hand.TheVariants as H;
 ghost use Rattle.object_interp.specs.Offers.{hand_of};
 ghost use Rattle.node_semantics.specs.Node.{arrivals, message_count, turn_act};
 ghost use Rattle.node_semantics.specs.Agrees.{IsUnused};
-ghost use Rattle.pool_node.specs.OfUnit.{IsOfPlacement, IsOfUnit};
-ghost use Rattle.pool_node.specs.Views.{IsWhole, arrivals_of, node_of, slots_of};
+ghost use Rattle.node_parts.specs.OfUnit.{IsOfPlacement, IsOfUnit};
+ghost use Rattle.node_parts.specs.Views.{IsWhole, arrivals_of, node_of, slots_of};
 ghost use Rattle.pool_node.specs.Acts.{IsActOf};
 ghost use Rattle.pool_node.specs.Made.{IsSet, IsTurned, kept};
-ghost use Rattle.pool_node.specs.Bits.{bit_in_turn, first_bit_from};
+ghost use Rattle.ready_set.specs.Bits.{first_bit_from};
+ghost use Rattle.pool_node.specs.Bits.{bit_in_turn};
 
 use crate::acts::{async_turn, call_turn, fault_turn, local_turn, return_turn, write_turn};
 use crate::making::create_turn;
-use crate::parts::Parts;
 use crate::serving::choose_turn;
 use crate::words::Act;
+use node_parts::Parts;
 use object_code::Unit;
 use object_interp::{Hand, Need, at_hand};
 use pool_syntax::Placement;
@@ -92,13 +93,7 @@ pub(crate) fn first_ready(parts: &Parts, from: u32) -> Option<u32>
     requires whole { IsWhole parts.now }
     ensures { result ≡ first_bit_from from (take (length parts.now.heap.objects) parts.now.ready) }
 {
-    let bits = parts.ready.items();
-    for slot in from..parts.heap.objects() {
-        if bits[slot as usize] {
-            return Some(slot);
-        }
-    }
-    None
+    parts.ready.first_within(from, parts.heap.objects())
 }
 
 /// The slot in turn: the one of the least number above the last whose bit is set, else the least of all.

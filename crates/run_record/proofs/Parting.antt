@@ -9,7 +9,7 @@ use Rattle.run_record.specs.declared.fields.Few.TheVariants as F
 use Rattle.run_record.specs.Fields.{object_of, parts, then_some, value_of, values_within}
 use Rattle.run_record.specs.Parted.{AreFields}
 use borrow.Author.Tests.{eqb-true}
-use Rattle.run_record.specs.RecordText.{joined, led}
+use Rattle.record_lines.specs.RecordText.{joined, led}
 use Rattle.run_record.specs.Records.{end_of}
 use Rattle.run_record.specs.Shown.{for_three, item_for, item_of, post_by, post_of, shown_by, what_of, write_of}
 

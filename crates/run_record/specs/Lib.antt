@@ -1,10 +1,8 @@
 pub mod Fields
 pub mod Numbered
 pub mod Parted
-pub mod RecordText
 pub mod Records
 pub mod Shown
 pub mod ShownBy
 pub mod Steps
 pub mod ToldBy
-pub mod Writable

@@ -10,7 +10,7 @@ use Rattle.pool_syntax.specs.declared.words.What.{What}
 use Rattle.pool_syntax.specs.declared.words.What.TheVariants as W
 use Rattle.run_record.specs.declared.shown.Message.{Message}
 use Rattle.run_record.specs.declared.shown.Message.TheVariants as M
-use Rattle.run_record.specs.RecordText.{joined}
+use Rattle.record_lines.specs.RecordText.{joined}
 use Rattle.run_record.specs.Fields.{begins_with, count_of, error_of, name_of_word, object_of, only_if, positive_of, string_of, then_some, value_of, values_within}
 
 -- what a line shows, the number 0 standing for that of its name, and the name's text, if it has one

@@ -6,7 +6,7 @@ use Rattle.pool_syntax.specs.Tokens.{Text}
 use Rattle.mesh_semantics.specs.Partial.{◌>>=◌}
 use Rattle.mesh_semantics.specs.Standing.{chase}
 use Rattle.mesh_semantics.proofs.Laws.{equals, differ}
-use Rattle.run_record.specs.RecordText.{led, object_text}
+use Rattle.record_lines.specs.RecordText.{led, object_text}
 use Rattle.wait_report.specs.Cycles.{jump, cycle_at}
 use Rattle.wait_report.proofs.Named.{stepped}
 

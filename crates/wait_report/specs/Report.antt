@@ -4,7 +4,7 @@ use Rattle.pool_syntax.specs.Tokens.{Text}
 use Rattle.pool_syntax.specs.declared.words.Standing.{Standing}
 use Rattle.pool_syntax.specs.declared.words.Standing.TheVariants as S
 use Rattle.mesh_semantics.specs.Standing.{chase}
-use Rattle.run_record.specs.RecordText.{error_text, joined, object_text, text_at}
+use Rattle.record_lines.specs.RecordText.{error_text, joined, object_text, text_at}
 use Rattle.wait_report.specs.declared.rows.ObjectRow.{ObjectRow}
 use Rattle.wait_report.specs.Calls.{called}
 

@@ -1,6 +1,6 @@
 //! The text of the report.
 ghost use Rattle.std.specs.Prelude.{◌≡◌, ◌<◌, [], ◌∷◌, ◌++◌, length, decimal, OnOk};
-ghost use Rattle.run_record.specs.RecordText.{error_text, led, object_text};
+ghost use Rattle.record_lines.specs.RecordText.{error_text, led, object_text};
 ghost use Rattle.wait_report.specs.Report.{row_line, standing_words, IsKnown, IsKnownAt};
 
 use crate::rows::ObjectRow;

@@ -1,5 +1,5 @@
 use Rattle.std.proofs.Common.{inl}
-use Rattle.pool_driver.specs.declared.fault.Input.TheVariants as I
+use Rattle.fault_lines.specs.declared.fault.Input.TheVariants as I
 use Rattle.pool_driver.specs.Programs.{IsFaultOfText}
 use Rattle.pool_driver.specs.Readers.{HasTypedFault, IsAnyProgram, IsProgramOf, IsTypedProgram, IsUnitOf}
 use Rattle.pool_driver.proofs.ReadLaws.{fits_is, judge_passed, program_judged, unit_judged}

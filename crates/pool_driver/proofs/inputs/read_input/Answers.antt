@@ -1,5 +1,5 @@
 use Rattle.std.proofs.Common.{ap, Err, refl, sym}
-use Rattle.pool_driver.specs.declared.fault.Fault.TheVariants as F
+use Rattle.fault_lines.specs.declared.fault.Fault.TheVariants as F
 use Rattle.pool_driver.specs.Ends.{too_long}
 use Rattle.pool_driver.specs.Readers as R
 use Rattle.pool_driver.proofs.inputs.read_input.Goals as goal

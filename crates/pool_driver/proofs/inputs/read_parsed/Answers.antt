@@ -1,5 +1,5 @@
 use Rattle.std.proofs.Common.{◌∙◌, ℕ, List, subst}
-use Rattle.pool_driver.specs.declared.fault.Input.TheVariants as I
+use Rattle.fault_lines.specs.declared.fault.Input.TheVariants as I
 use Rattle.pool_driver.specs.Programs.{IsFaultOfText}
 use Rattle.pool_driver.specs.Readers.{Judges, IsAnyProgram, IsProgramOf}
 use Rattle.pool_driver.proofs.ReadLaws.{passed_on, judged, program_judged}

@@ -1,8 +1,8 @@
 use Rattle.std.proofs.Common.{◌≡◌, ◌∙◌, ap, Err, inl, inr, refl}
 use Rattle.pool_syntax.specs.TreeOf.{program_of}
 use Rattle.pool_syntax.specs.Typing.{faults}
-use Rattle.pool_driver.specs.declared.fault.Input.TheVariants as I
-use Rattle.pool_driver.specs.declared.fault.Stop.TheVariants as T
+use Rattle.fault_lines.specs.declared.fault.Input.TheVariants as I
+use Rattle.fault_lines.specs.declared.fault.Stop.TheVariants as T
 use Rattle.pool_driver.specs.Readers as R
 use Rattle.pool_driver.specs.Readers.{IsTypedProgram, HasTypedFault, IsTypedProgramOf}
 use Rattle.pool_driver.proofs.ReadLaws.{passed_on, judged, judges_refusal}

@@ -1,6 +1,6 @@
 use Rattle.std.proofs.Common.{◌∷◌, [], refl, ap}
 use Rattle.object_code.specs.Listing.{listing}
-use Rattle.pool_driver.specs.declared.fault.Input.TheVariants as I
+use Rattle.fault_lines.specs.declared.fault.Input.TheVariants as I
 use Rattle.command_words.specs.declared.command.Ask.TheVariants as As
 use Rattle.pool_driver.specs.declared.outputs.Output.TheVariants as O
 use Rattle.command_words.specs.Commands.{of_program}

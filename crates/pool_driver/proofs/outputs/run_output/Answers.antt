@@ -1,5 +1,5 @@
 use Rattle.std.proofs.Common.{◌∙◌, ◌∷◌, [], refl}
-use Rattle.pool_driver.specs.declared.fault.Input.TheVariants as I
+use Rattle.fault_lines.specs.declared.fault.Input.TheVariants as I
 use Rattle.pool_driver.specs.declared.outputs.Output.TheVariants as O
 use Rattle.command_words.specs.Commands.{names_of, of_run}
 use Rattle.pool_driver.specs.Readers as R

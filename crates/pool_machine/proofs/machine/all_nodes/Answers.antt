@@ -1,5 +1,5 @@
 use Rattle.std.proofs.Common.{sym, ◌+◌, List, subst}
-use Rattle.pool_node.specs.NodeOf.{NodeOf}
+use Rattle.node_parts.specs.NodeOf.{NodeOf}
 use Rattle.pool_machine.proofs.MadeNodes.{node_made}
 use Rattle.pool_machine.specs.Whole.{AreEmpty, IsEmptyNode}
 use Rattle.pool_machine.proofs.machine.all_nodes.Goals as goal

@@ -2,7 +2,7 @@ use Rattle.std.proofs.Common.{◌≡◌, ◌*◌, ◌<◌, sym, ap, ap₂, subst
 use Rattle.mesh_semantics.specs.Act.{goal_node}
 use Rattle.node_semantics.specs.Machine.{leaving}
 use Rattle.node_semantics.specs.Node.{message_count}
-use Rattle.pool_node.specs.NodeOf.{NodeOf}
+use Rattle.node_parts.specs.NodeOf.{NodeOf}
 use Rattle.mesh_routing.specs.Links.{LinksOf}
 use Rattle.rendezvous_protocol.specs.Packets.{numbered}
 use Rattle.pool_machine.proofs.MovesOfHeads.{full_pass, goal_inside, headless, line_pass, pass_parts, pass_room}

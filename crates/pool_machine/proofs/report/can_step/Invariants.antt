@@ -3,7 +3,7 @@ use Rattle.std.specs.Prelude.{Some, slice_get}
 use Rattle.mesh_semantics.specs.Act.{first_of}
 use Rattle.coded_objects.specs.Coded.{coded}
 use Rattle.node_semantics.specs.Node.{ready_slots}
-use Rattle.pool_node.specs.NodeOf.{NodeOf}
+use Rattle.node_parts.specs.NodeOf.{NodeOf}
 use Rattle.pool_machine.proofs.report.can_step.Given as goal
 
 abbrev pub invariant-loop-node : goal.invariant-loop-node

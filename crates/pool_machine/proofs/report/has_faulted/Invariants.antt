@@ -3,7 +3,7 @@ use Rattle.std.specs.Prelude.{Some, slice_get}
 use Rattle.std.specs.List.{list_any}
 use Rattle.coded_objects.specs.Coded.{Placed}
 use Rattle.node_semantics.specs.Node.{Slot}
-use Rattle.pool_node.specs.NodeOf.{NodeOf}
+use Rattle.node_parts.specs.NodeOf.{NodeOf}
 use Rattle.pool_machine.proofs.report.has_faulted.Given as goal
 
 abbrev pub invariant-loop-node : goal.invariant-loop-node

@@ -1,5 +1,5 @@
 use Rattle.std.proofs.Common.{arith}
-use Rattle.pool_node.specs.Views.{arrival_of}
+use Rattle.node_parts.specs.Views.{arrival_of}
 use Rattle.pool_node.proofs.Turning.{delivered_there, delivered_nowhere}
 use Rattle.pool_node.proofs.acts.deliver_to.Goals as goal
 

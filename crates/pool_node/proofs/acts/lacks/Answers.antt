@@ -1,7 +1,7 @@
 use Rattle.std.proofs.Common.{arith}
 use Rattle.pool_node.proofs.acts.lacks.Goals.{else-to-parts-via-then-to-parts+else-to-objects, else-to-parts-via-else-to-parts}
-use Rattle.pool_node.specs.Views.{node_of}
-use Rattle.pool_node.proofs.Slots.{slots_length}
+use Rattle.node_parts.specs.Views.{node_of}
+use Rattle.node_parts.proofs.Laws.{slots_length}
 use Rattle.pool_node.proofs.Posting.{lacks_not_there, lacks_if}
 use Rattle.pool_node.proofs.acts.lacks.Goals as goal
 

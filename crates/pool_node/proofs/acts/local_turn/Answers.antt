@@ -2,7 +2,7 @@ use Rattle.std.proofs.Common.{ap}
 use Rattle.node_heap.specs.Heaps.{HeapOf}
 use Rattle.pool_syntax.specs.declared.words.Label.TheVariants as L
 use Rattle.pool_syntax.specs.declared.words.What.TheVariants as W
-use Rattle.pool_node.proofs.Changing.{slot_real}
+use Rattle.node_parts.proofs.Laws.{slot_real}
 use Rattle.pool_node.proofs.Bursting.{local_made, local_full}
 use Rattle.pool_node.proofs.acts.local_turn.Goals as goal
 

@@ -3,7 +3,7 @@ use Rattle.object_code.specs.declared.unit.CodeObject.{CodeObject}
 use Rattle.node_heap.specs.Heaps.{frames_of}
 use Rattle.coded_objects.specs.Coded.{placed}
 use Rattle.pool_node.proofs.Creating.{class_below}
-use Rattle.pool_node.proofs.Moving.{on_ok}
+use Rattle.node_parts.proofs.Laws.{on_ok}
 use Rattle.pool_node.proofs.Telling.{nothing_there, ok_of, root_is, root_named}
 use Rattle.pool_node.proofs.making_node.start_in.Goals as goal
 

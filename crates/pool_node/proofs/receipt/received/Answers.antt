@@ -4,7 +4,7 @@ use Rattle.node_semantics.specs.Node.{receipt}
 use Rattle.node_semantics.specs.Receives.{IsReceivable}
 use Rattle.rendezvous_protocol.specs.declared.packet.Packet.{Packet}
 use Rattle.rendezvous_protocol.specs.Packets.{numbered}
-use Rattle.pool_node.specs.Views.{node_of}
+use Rattle.node_parts.specs.Views.{node_of}
 use Rattle.pool_node.specs.Made.{IsMade}
 use Rattle.pool_node.proofs.Creating.{class_below}
 use Rattle.pool_node.proofs.Receiving.{named_there, object_there}

@@ -1,7 +1,7 @@
 use Rattle.std.proofs.Common.{sym, ap, ◌∙◌}
 use Rattle.pool_syntax.specs.declared.words.Label.TheVariants as L
 use Rattle.pool_syntax.specs.declared.words.What.TheVariants as W
-use Rattle.pool_node.proofs.Changing.{slot_real}
+use Rattle.node_parts.proofs.Laws.{slot_real}
 use Rattle.pool_node.proofs.Taking.{pick_made, some_way}
 use Rattle.pool_node.proofs.serving.choose.Goals as goal
 

@@ -2,8 +2,7 @@ use Rattle.std.proofs.Common.{ap, length, List, ℕ, get_or, arith}
 use Rattle.object_code.specs.declared.unit.ClassCode.{ClassCode}
 use Rattle.object_code.specs.Kinds.{code_kind}
 use Rattle.node_heap.specs.Heaps.{object_at}
-use Rattle.pool_node.proofs.Changing.{slot_real}
-use Rattle.pool_node.proofs.Offering.{hand_new}
+use Rattle.node_parts.proofs.Laws.{slot_real, hand_new}
 use Rattle.pool_node.proofs.Creating.{class_found, class_below, class_name}
 use Rattle.pool_node.proofs.Telling.{creates}
 use Rattle.pool_node.proofs.standing.asking.Goals as goal

@@ -4,8 +4,7 @@ use Rattle.node_heap.specs.Heaps.{object_at}
 use Rattle.mailbox.specs.Mail.{box_of}
 use Rattle.object_interp.specs.declared.words.Need.{Need}
 use Rattle.object_interp.specs.declared.words.Hand.TheVariants as H
-use Rattle.pool_node.proofs.Changing.{slot_real}
-use Rattle.pool_node.proofs.Offering.{hand_new, hand_answer, hand_select, selecting_chooses, can_choose}
+use Rattle.node_parts.proofs.Laws.{slot_real, hand_new, hand_answer, hand_select, selecting_chooses, can_choose}
 use Rattle.pool_node.proofs.Creating.{class_found, class_below}
 use Rattle.pool_node.proofs.turn.need_turn.Goals as goal
 

@@ -4,7 +4,7 @@ use Rattle.mesh_semantics.specs.Config.{Config}
 use Rattle.mesh_semantics.specs.Delay.{Delay}
 use Rattle.coded_objects.specs.Coded.{Placed}
 use Rattle.node_semantics.specs.StandsFor.{slot_at}
-use Rattle.pool_node.specs.NodeOf.{NodeOf}
+use Rattle.node_parts.specs.NodeOf.{NodeOf}
 use Rattle.pool_machine.specs.MachineOf.{MachineOf}
 use Rattle.pool_machine.specs.Told.{slot_class}
 use Rattle.pool_machine.specs.Answers.{Stands, class_at}

@@ -5,7 +5,7 @@ use Rattle.mesh_semantics.specs.Act.{act}
 use Rattle.coded_objects.specs.Coded.{Placed, coded}
 use Rattle.node_semantics.specs.Machine.{machine_act}
 use Rattle.node_semantics.specs.Agrees.{IsFresh}
-use Rattle.pool_node.specs.NodeOf.{NodeOf}
+use Rattle.node_parts.specs.NodeOf.{NodeOf}
 use Rattle.pool_machine.specs.MachineOf.{MachineOf}
 use Rattle.std.specs.Vec.{with_items}
 use Rattle.std.proofs.lemmas.List.{with_items_is}

@@ -4,7 +4,7 @@ use Rattle.mesh_semantics.specs.Config.{Config}
 use Rattle.mesh_semantics.specs.Delay.{Delay}
 use Rattle.coded_objects.specs.Coded.{Placed, coded}
 use Rattle.node_semantics.specs.Standings.{machine_standing}
-use Rattle.pool_node.specs.NodeOf.{NodeOf}
+use Rattle.node_parts.specs.NodeOf.{NodeOf}
 use Rattle.pool_node.specs.Acts.{told_standing}
 use Rattle.pool_machine.specs.MachineOf.{MachineOf}
 use Rattle.pool_machine.specs.Parts.{machine_from}

@@ -2,10 +2,11 @@ use Rattle.std.proofs.Common.{arith, ◌∙◌, ap, refl, List, [], None, replic
 use Rattle.coded_objects.specs.Coded.{coded}
 use Rattle.node_semantics.specs.Machine.{empty_node}
 use Rattle.object_code.specs.declared.unit.ClassCode.{ClassCode}
-use Rattle.pool_node.proofs.Fresh.{fresh_view}
+use Rattle.pool_node.proofs.Fresh.{fresh_view, fresh_whole}
 use Rattle.pool_node.proofs.Telling.{most_small}
 use Rattle.pool_node.proofs.node.Node.make.Goals as goal
-use Rattle.pool_node.specs.declared.parts.Parts.{Parts}
+use Rattle.node_heap.specs.Heaps.{HeapOf}
+use Rattle.node_parts.specs.declared.parts.Parts.{Parts}
 
 pub make-requires-clause-vars : goal.make-requires-clause-vars
 make-requires-clause-vars c =
@@ -14,7 +15,7 @@ make-requires-clause-vars c =
 
 pub returns-clause-empty : goal.returns-clause-empty
 returns-clause-empty c =
-    let made = c.in_ok-filled-4.ensures ∙ ap (λ (ks : List ClassCode). replicate (length ks) 0) c.items.ensures in
+    let made = c.in_ok-filled-3.ensures ∙ ap (λ (ks : List ClassCode). replicate (length ks) 0) c.items.ensures in
     let p : Parts = record {
       id = c.args.id;
       cells = c.args.placement.now.cells;
@@ -23,9 +24,9 @@ returns-clause-empty c =
       outstanding = c.in_ok-make-3.field-0;
       faults = c.in_ok-filled.field-0;
       goals = c.in_ok-filled-2.field-0;
-      ready = c.in_ok-filled-3.field-0;
+      ready = c.in_ok-make-4.field-0;
       last = None;
-      made = c.in_ok-filled-4.field-0;
+      made = c.in_ok-filled-3.field-0;
     } in
     let fresh = fresh_view c.args.unit.now p c.args.id c.args.placement.now.objects c.args.placement.now.frames _ c.in_ok-make.ensures refl made in
     fresh ∙ (λ i. record {
@@ -37,3 +38,9 @@ returns-clause-empty c =
       state = empty_node (coded c.args.unit.now);
       ready = [];
     })
+
+pub invariant_of-result : goal.invariant_of-result
+invariant_of-result c =
+    fresh_whole _ c.args.placement.now.objects (ap (λ (h : HeapOf). h.node) c.in_ok-make.ensures) (ap (λ (h : HeapOf). h.most_objects) c.in_ok-make.ensures)
+    (ap (λ (h : HeapOf). h.objects) c.in_ok-make.ensures) c.requires.suits.objects.1 c.in_ok-make-2.ensures c.in_ok-make-3.ensures c.in_ok-filled.ensures c.in_ok-filled-2.ensures
+    c.in_ok-make-4.ensures

@@ -1,8 +1,8 @@
 use Rattle.std.proofs.Common.{ap, ◌∙◌}
 use Rattle.coded_objects.specs.Coded.{coded}
 use Rattle.rendezvous_protocol.specs.Packets.{numbered}
-use Rattle.pool_node.specs.NodeOf.{NodeOf}
-use Rattle.pool_node.specs.Views.{node_of}
+use Rattle.node_parts.specs.NodeOf.{NodeOf}
+use Rattle.node_parts.specs.Views.{node_of}
 use Rattle.pool_node.proofs.Counts.{made_after}
 use Rattle.pool_node.proofs.node.Node.receive.Goals as goal
 

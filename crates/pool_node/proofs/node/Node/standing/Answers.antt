@@ -2,7 +2,7 @@ use Rattle.std.proofs.Common.{ℕ, sym, ap, ap₂, ◌∙◌}
 use Rattle.coded_objects.specs.Coded.{Placed, coded}
 use Rattle.node_semantics.specs.Node.{Slot, name_at}
 use Rattle.node_semantics.specs.Standings.{slot_standing}
-use Rattle.pool_node.specs.NodeOf.{NodeOf}
+use Rattle.node_parts.specs.NodeOf.{NodeOf}
 use Rattle.pool_node.proofs.Telling.{slot_below, the_slot}
 use Rattle.pool_node.proofs.node.Node.standing.Goals as goal
 

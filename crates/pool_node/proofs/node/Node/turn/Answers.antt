@@ -1,8 +1,8 @@
 use Rattle.std.proofs.Common.{ℕ, ◌≤◌, sym, subst}
 use Rattle.mesh_semantics.specs.Sound.{Each}
 use Rattle.coded_objects.specs.Coded.{coded}
-use Rattle.pool_node.specs.NodeOf.{NodeOf}
-use Rattle.pool_node.specs.Views.{node_of}
+use Rattle.node_parts.specs.NodeOf.{NodeOf}
+use Rattle.node_parts.specs.Views.{node_of}
 use Rattle.pool_node.proofs.Counts.{counts_after}
 use Rattle.pool_node.proofs.node.Node.turn.Goals as goal
 

@@ -1,0 +1,183 @@
+//! Why an input was refused, and the line that says so.
+ghost use Rattle.std.specs.Prelude.{◌≡◌, ◌++◌, OnOk, IfOk, decimal};
+ghost use Rattle.fault_lines.specs.FaultText.{class_fault_text, fault_text, input_text, lex_fault_text, placement_fault_text, refusal_line, schedule_fault_text, syntax_fault_text, unread_line};
+
+use class_check::ClassFault;
+use itoa::Buffer;
+use placement_reader::PlacementFault;
+use pool_parser::SyntaxFault;
+use pool_syntax::LexFault;
+use schedule_reader::ScheduleFault;
+use std::alloc::{AllocError, Global};
+
+/// The inputs of commands.
+#[derive(Clone, Copy)]
+pub enum Input {
+    Program,
+    Placement,
+    Schedule,
+}
+
+/// Why an input was refused.
+#[derive(Clone, Copy)]
+pub enum Fault {
+    /// It has more than 1,048,576 bytes.
+    TooLong,
+    /// The first fault of a program's tokens.
+    Lex(LexFault),
+    /// The first fault of a program's grammar.
+    Syntax(SyntaxFault),
+    /// The least class fault of a program.
+    Class(ClassFault),
+    /// The first fault of a placement.
+    Placement(PlacementFault),
+    /// The first fault of a schedule.
+    Schedule(ScheduleFault),
+}
+
+/// Why nothing is made of the inputs.
+#[derive(Clone, Copy)]
+pub enum Stop {
+    /// The input was refused.
+    Refused { input: Input, fault: Fault },
+    /// A read of the input failed.
+    Unread { input: Input },
+    /// Out of memory.
+    Memory,
+}
+
+/// Puts words and a number behind the text.
+pub fn push_place(text: &mut Vec<u8>, words: &[u8], place: u32) -> Result<(), AllocError>
+    ensures { OnOk result (text.new.items ≡ text.old.items ++ (words.now ++ decimal place)) }
+{
+    let mut buffer = Buffer::new();
+    text.extend_from_slice(words)?;
+    text.extend_from_slice(buffer.format(place).as_bytes())?;
+    Ok(())
+}
+
+/// Puts words and a number behind the text.
+pub fn push_count(text: &mut Vec<u8>, words: &[u8], count: u64) -> Result<(), AllocError>
+    ensures { OnOk result (text.new.items ≡ text.old.items ++ (words.now ++ decimal count)) }
+{
+    let mut buffer = Buffer::new();
+    text.extend_from_slice(words)?;
+    text.extend_from_slice(buffer.format(count).as_bytes())?;
+    Ok(())
+}
+
+fn push_lex_fault(text: &mut Vec<u8>, fault: LexFault) -> Result<(), AllocError>
+    ensures { OnOk result (text.new.items ≡ text.old.items ++ lex_fault_text fault) }
+{
+    match fault {
+        LexFault::BadByte { at } => push_place(text, b"BadByte at byte ", at),
+        LexFault::IntegerTooLarge { at } => push_place(text, b"IntegerTooLarge at byte ", at),
+        LexFault::OpenString { at } => push_place(text, b"OpenString at byte ", at),
+        LexFault::TooLong { at } => push_place(text, b"TooLong at byte ", at),
+        LexFault::Memory => Ok(()),
+    }
+}
+
+fn push_syntax_fault(text: &mut Vec<u8>, fault: SyntaxFault) -> Result<(), AllocError>
+    ensures { OnOk result (text.new.items ≡ text.old.items ++ syntax_fault_text fault) }
+{
+    match fault {
+        SyntaxFault::Unexpected { token } => push_place(text, b"Unexpected at token ", token),
+        SyntaxFault::TooDeep { token } => push_place(text, b"TooDeep at token ", token),
+        SyntaxFault::Memory => Ok(()),
+    }
+}
+
+fn push_class_fault(text: &mut Vec<u8>, fault: ClassFault) -> Result<(), AllocError>
+    ensures { OnOk result (text.new.items ≡ text.old.items ++ class_fault_text fault) }
+{
+    match fault {
+        ClassFault::ClassTwice { token } => push_place(text, b"ClassTwice at token ", token),
+        ClassFault::UnknownClass { token } => push_place(text, b"UnknownClass at token ", token),
+        ClassFault::VariableTwice { token } => push_place(text, b"VariableTwice at token ", token),
+        ClassFault::MethodTwice { token } => push_place(text, b"MethodTwice at token ", token),
+        ClassFault::LocalTwice { token } => push_place(text, b"LocalTwice at token ", token),
+        ClassFault::UnknownVariable { token } => push_place(
+            text,
+            b"UnknownVariable at token ",
+            token,
+        ),
+        ClassFault::UnknownMethod { token } => push_place(text, b"UnknownMethod at token ", token),
+        ClassFault::ArgumentCount { token } => push_place(text, b"ArgumentCount at token ", token),
+        ClassFault::TypeDiffers { token } => push_place(text, b"TypeDiffers at token ", token),
+        ClassFault::NoResult { token } => push_place(text, b"NoResult at token ", token),
+        ClassFault::AnswerName { token } => push_place(text, b"AnswerName at token ", token),
+        ClassFault::Limit { token } => push_place(text, b"Limit at token ", token),
+        ClassFault::Memory => Ok(()),
+    }
+}
+
+fn push_placement_fault(text: &mut Vec<u8>, fault: PlacementFault) -> Result<(), AllocError>
+    ensures { OnOk result (text.new.items ≡ text.old.items ++ placement_fault_text fault) }
+{
+    match fault {
+        PlacementFault::BadLine { line } => push_place(text, b"BadLine at line ", line),
+        PlacementFault::UnknownClass { line } => push_place(text, b"UnknownClass at line ", line),
+        PlacementFault::Repeated { line } => push_place(text, b"Repeated at line ", line),
+        PlacementFault::NoSuchNode { line } => push_place(text, b"NoSuchNode at line ", line),
+        PlacementFault::OutOfRange { line } => push_place(text, b"OutOfRange at line ", line),
+        PlacementFault::TooLarge { words } => push_count(text, b"TooLarge ", words),
+        PlacementFault::Memory => Ok(()),
+    }
+}
+
+fn push_schedule_fault(text: &mut Vec<u8>, fault: ScheduleFault) -> Result<(), AllocError>
+    ensures { OnOk result (text.new.items ≡ text.old.items ++ schedule_fault_text fault) }
+{
+    match fault {
+        ScheduleFault::BadLine { line } => push_place(text, b"BadLine at line ", line),
+        ScheduleFault::NoSuchNode { line } => push_place(text, b"NoSuchNode at line ", line),
+        ScheduleFault::NoSuchLink { line } => push_place(text, b"NoSuchLink at line ", line),
+        ScheduleFault::OutOfRange { line } => push_place(text, b"OutOfRange at line ", line),
+        ScheduleFault::TooManyEvents { count } => push_count(text, b"TooManyEvents ", count),
+        ScheduleFault::Memory => Ok(()),
+    }
+}
+
+fn push_fault(text: &mut Vec<u8>, fault: Fault) -> Result<(), AllocError>
+    ensures { OnOk result (text.new.items ≡ text.old.items ++ fault_text fault) }
+{
+    match fault {
+        Fault::TooLong => text.extend_from_slice(b"TooLong"),
+        Fault::Lex(fault) => push_lex_fault(text, fault),
+        Fault::Syntax(fault) => push_syntax_fault(text, fault),
+        Fault::Class(fault) => push_class_fault(text, fault),
+        Fault::Placement(fault) => push_placement_fault(text, fault),
+        Fault::Schedule(fault) => push_schedule_fault(text, fault),
+    }
+}
+
+/// `pool: ` and the input's name, with what stands before the fault.
+fn line_about(alloc: Global, input: Input) -> Result<Vec<u8>, AllocError>
+    ensures { IfOk result (λ line. line.items ≡ input_text input) }
+{
+    match input {
+        Input::Program => b"pool: program: ".to_vec(alloc),
+        Input::Placement => b"pool: placement: ".to_vec(alloc),
+        Input::Schedule => b"pool: schedule: ".to_vec(alloc),
+    }
+}
+
+/// The line of a refused input.
+pub fn line_of_refusal(alloc: Global, input: Input, fault: Fault) -> Result<Vec<u8>, AllocError>
+    ensures { IfOk result (λ line. line.items ≡ refusal_line input fault) }
+{
+    let mut line = line_about(alloc, input)?;
+    push_fault(&mut line, fault)?;
+    line.extend_from_slice(b"\n")?;
+    Ok(line)
+}
+
+/// The line of an input that could not be read.
+pub fn line_of_unread(alloc: Global, input: Input) -> Result<Vec<u8>, AllocError>
+    ensures { IfOk result (λ line. line.items ≡ unread_line input) }
+{
+    let mut line = line_about(alloc, input)?;
+    line.extend_from_slice(b"read fault\n")?;
+    Ok(line)
+}

@@ -1,0 +1,6 @@
+pub mod Codes
+pub mod NodeOf
+pub mod OfUnit
+pub mod Views
+pub mod Choices
+pub mod Changes

@@ -1,0 +1,13 @@
+//! The parts of a node, and the small changes of them: each changes one slot, and the bit that says whether its object can step.
+#![tactic(auto)]
+
+mod choice;
+mod moves;
+mod parts;
+
+pub use choice::{called_place, first_possible};
+pub use moves::{
+    add_in, ask_in, deliver_in, end_method, fault_in, give_in, go_on_in, pick_in, serve_in,
+    settle_in,
+};
+pub use parts::{Parts, refresh};

@@ -1,0 +1,6 @@
+//! Which slots of a node are ready.
+#![tactic(auto)]
+
+mod ready;
+
+pub use ready::ReadySet;

@@ -1,0 +1,85 @@
+//! A line's text under way: words, each with a space before it.
+ghost use Rattle.std.specs.Prelude.{◌≡◌, ◌+◌, ◌<◌, ◌≤◌, [], ◌∷◌, ◌++◌, length, decimal};
+ghost use Rattle.std.specs.Fmt.{signed_decimal};
+ghost use Rattle.arrayvec.specs.ArrayVec.{array_vec_len};
+ghost use Rattle.record_lines.specs.RecordText.{led, object_text};
+
+use arrayvec::ArrayVec;
+use itoa::Buffer;
+
+/// The text of a line, which has fewer than 500 bytes.
+pub type LineText = ArrayVec<u8, 512>;
+
+/// Puts bytes behind the text.
+pub fn put(text: &mut LineText, bytes: &[u8])
+    requires { array_vec_len text.old + length bytes.now ≤ 512 }
+    ensures items { text.new.items ≡ text.old.items ++ bytes.now }
+    ensures size { array_vec_len text.new ≡ array_vec_len text.old + length bytes.now }
+{
+    match text.try_extend_from_slice(bytes) {
+        Ok(()) => {}
+        Err(_) => unreachable!(),
+    }
+}
+
+/// Puts a space and a word behind the text.
+pub fn put_word(text: &mut LineText, word: &[u8])
+    requires { array_vec_len text.old + length word.now < 512 }
+    ensures items { text.new.items ≡ text.old.items ++ led (word.now ∷ []) }
+    ensures size { array_vec_len text.new ≡ array_vec_len text.old + length word.now + 1 }
+{
+    text.push(b' ');
+    put(text, word);
+}
+
+/// Puts a number, of at most 10 digits.
+pub fn put_digits(text: &mut LineText, number: u32)
+    requires { array_vec_len text.old ≤ 502 }
+    ensures items { text.new.items ≡ text.old.items ++ decimal number }
+    ensures size { array_vec_len text.new ≤ array_vec_len text.old + 10 }
+{
+    let mut buffer = Buffer::new();
+    put(text, buffer.format(number).as_bytes());
+}
+
+/// Puts a space and a number.
+pub fn put_number(text: &mut LineText, number: u32)
+    requires { array_vec_len text.old ≤ 501 }
+    ensures items { text.new.items ≡ text.old.items ++ led (decimal number ∷ []) }
+    ensures size { array_vec_len text.new ≤ array_vec_len text.old + 11 }
+{
+    text.push(b' ');
+    put_digits(text, number);
+}
+
+/// Puts a space and an integer.
+pub fn put_integer(text: &mut LineText, number: i64)
+    requires { array_vec_len text.old ≤ 491 }
+    ensures items { text.new.items ≡ text.old.items ++ led (signed_decimal number ∷ []) }
+    ensures size { array_vec_len text.new ≤ array_vec_len text.old + 21 }
+{
+    let mut buffer = Buffer::new();
+    put_word(text, buffer.format(number).as_bytes());
+}
+
+/// Puts half of an object's name, of at most 5 digits.
+fn put_half(text: &mut LineText, half: u16)
+    requires { array_vec_len text.old ≤ 507 }
+    ensures items { text.new.items ≡ text.old.items ++ decimal half }
+    ensures size { array_vec_len text.new ≤ array_vec_len text.old + 5 }
+{
+    let mut buffer = Buffer::new();
+    put(text, buffer.format(half).as_bytes());
+}
+
+/// Puts a space and an object's name.
+pub fn put_object(text: &mut LineText, object: u32)
+    requires { array_vec_len text.old ≤ 500 }
+    ensures items { text.new.items ≡ text.old.items ++ led (object_text object ∷ []) }
+    ensures size { array_vec_len text.new ≤ array_vec_len text.old + 12 }
+{
+    text.push(b' ');
+    put_half(text, (object / 65536) as u16);
+    text.push(b'.');
+    put_half(text, (object % 65536) as u16);
+}
