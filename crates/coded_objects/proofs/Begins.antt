@@ -42,7 +42,7 @@ nothing_is_of_code u = record {
   served = λ o b m ms y h f. absurd (cc);
 }
 
-root_is : (u : Code) (x : Placed) → (coded u).root ≡ Some x → (k : NameId) × (y : CodeObject) × (code_made u k ≡ Some y) × (placed y ≡ x)
+pub root_is : (u : Code) (x : Placed) → (coded u).root ≡ Some x → (k : NameId) × (y : CodeObject) × (code_made u k ≡ Some y) × (placed y ≡ x)
 root_is u x e =
     let a = given_by (last_code u.classes) (λ k. code_made u k.name >>= λ y. Some (placed y)) x e in
     let b = given_by (code_made u a.0.name) (λ y. Some (placed y)) x a.2 in
@@ -112,7 +112,7 @@ code_makes u k h e =
     let z : (coded u).made k ≡ Some (placed t.0) = ap (λ (q : Option CodeObject). q >>= λ y. Some (placed y)) t.1 in
     let q : None ≡ Some (placed t.0) = sym e ∙ z in absurd (cc)
 
-root_there : (u : Code) → IsProper u → (x : Placed) × ((coded u).root ≡ Some x)
+pub root_there : (u : Code) → IsProper u → (x : Placed) × ((coded u).root ≡ Some x)
 root_there u proper =
     let a = last_there u.classes proper.classes.0 in
     let t = can_be_made u a.0.name.0 (last_in u.classes a.0 a.1) in
@@ -151,6 +151,7 @@ some_nodes (suc w) (suc h) a b = grind arith
 
 pub code_fits : (u : Code) (l : Placement) → Suits l u → FitFor (coded u) l
 code_fits u l s = record {
+  ways = s.ways;
   nodes = some_nodes l.width l.height s.width.0 s.height.0;
   objects = (s.objects.0, (let t = s.objects.1 in omega (arith, t)));
   frames = s.frames.0;

@@ -1,5 +1,5 @@
 -- What is kept of a configuration, where one object or two change.
-use Rattle.std.proofs.Common.{◌≡◌, ◌≢◌, ◌⊎◌, inl, inr, refl, sym, ap, subst, ◌∙◌, IsTrue, ℕ, ◌<◌, List, [], ◌∷◌, length, Option, Some, None}
+use Rattle.std.proofs.Common.{◌≡◌, ◌≢◌, ◌⊎◌, inl, inr, refl, sym, ap, subst, ◌∙◌, IsTrue, ℕ, ℤ, ◌<◌, List, [], ◌∷◌, length, Option, Some, None}
 use Rattle.std.specs.Ordering.{nat_cmp}
 use Rattle.std.specs.FinMap.{is_sorted}
 use Rattle.pool_syntax.specs.declared.words.Value.{Value}
@@ -38,8 +38,8 @@ module _ (P Q : Value → Type 0) (to : (v : Value) → P v → Q v) where
   pub map_object : (u : Code) (x : CodeObject) → IsObjectOf u P x → IsObjectOf u Q x
   map_object u x h = record { class = h.class; is_class = h.is_class; count = h.count; vars = each_map P Q to x.vars h.vars; frames = map_frames h.class None x.frames h.frames }
 
-pub plain_names : (c : Config Placed) → HoldsOfPlain (Names c)
-plain_names c = (λ z b e. absurd (cc), λ t b e. absurd (cc), λ b e. absurd (cc))
+pub plain_names : {N : ℤ → Type 0} (c : Config Placed) → HoldsOfPlain N (Names c)
+plain_names c = (λ z n b e. absurd (cc), λ t b e. absurd (cc), λ b e. absurd (cc))
 
 pub ref_names : (c : Config Placed) (o : ℕ) → IsThere c o → Names c (V.Ref o)
 ref_names c o h b e = subst (IsThere c) (number_of e) h

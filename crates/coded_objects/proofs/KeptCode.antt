@@ -40,7 +40,7 @@ use Rattle.coded_objects.proofs.LawfulCode.{first_there, lawful_where_kept}
 use Rattle.coded_objects.proofs.Tested.{Chooses, local_is, new_is, send_is, async_is, return_is, wait_is, write_is, fault_is, offered_is, pick_is}
 
 -- the messages without the first that is taken
-each_left : (P : Message → Type 0) (names : List ℕ) (ms : List Message) → Each P ms → Each P (without_message names ms)
+pub each_left : (P : Message → Type 0) (names : List ℕ) (ms : List Message) → Each P ms → Each P (without_message names ms)
 each_left P names [] h = tt
 each_left P names (m ∷ ms) h = by (has_name names m.method) refl (each_left P names ms h.1)
   where

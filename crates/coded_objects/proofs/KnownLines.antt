@@ -17,23 +17,25 @@ use Rattle.pool_syntax.specs.declared.words.Line.TheVariants as R
 use Rattle.pool_syntax.specs.declared.words.Placement.{Placement}
 use Rattle.object_code.specs.declared.unit.Unit.{Unit as Code}
 use Rattle.object_code.specs.Proper.{IsProper}
-use Rattle.mesh_semantics.proofs.Laws.{first, second, equal, equals, same_some, given_by, required, each_head, moved_own, moved_some, fit_of, turn_there, act_kept}
+use Rattle.mesh_semantics.proofs.Laws.{first, second, equal, equals, same_some, given_by, required, each_head, moved_own, moved_some, fit_of, turn_there, act_kept, with_wires, IsOfWire, TellsOfWire, tells_of_wire}
 use Rattle.mesh_semantics.proofs.Basics.{running_gives}
 use Rattle.mesh_semantics.specs.Same.{are_same}
 use Rattle.mesh_semantics.specs.Message.{Message}
-use Rattle.mesh_semantics.specs.Tables.{Pair}
+use Rattle.std.specs.FinMap.{put}
+use Rattle.mesh_semantics.specs.Tables.{Pair, pair_cmp}
 use Rattle.mesh_semantics.specs.Kind as K
 use Rattle.mesh_semantics.specs.Kind.{Kind, Alternative, makes, calls, posts, writes, alternatives}
 use Rattle.mesh_semantics.specs.Config.{Config, object_of, messages_of}
 use Rattle.mesh_semantics.specs.Moves.{running, offered, first_message, move}
-use Rattle.mesh_semantics.specs.Paths.{path, along, on_link}
+use Rattle.mesh_semantics.specs.Paths.{path, along, on_link, move_head}
+use Rattle.mesh_semantics.specs.Wire.{Wire, Coming, Empty, Stale, Next, coming, take, wire_act}
 use Rattle.mesh_semantics.specs.Delay as D
-use Rattle.mesh_semantics.specs.Delay.{Packet, Arrival, Holding, Delay, node_of, arrived_at, held, hold, free, post, take_arrival, count_made, stepped_last, cell_count}
-use Rattle.mesh_semantics.specs.Act.{id, next_name, sent, Acted, Acts, Full, Nothing, act, within, shows, labelled, object_count, frame_count, local_steps, step_count, local_turn, goal_of, create_turn, first_arrival, accept_turn, chosen_turn, is_possible, choice_turn, object_turn, node_turn, turn_of, first_of, goal_node, received, passed, link_move, is_quiet}
+use Rattle.mesh_semantics.specs.Delay.{Packet, Arrival, Holding, Wires, Delay, wire_at, node_of, arrived_at, held, hold, free, post, take_arrival, count_made, stepped_last, cell_count}
+use Rattle.mesh_semantics.specs.Act.{id, next_name, sent, Acted, Acts, Full, Nothing, act, within, shows, labelled, object_count, frame_count, local_steps, step_count, local_turn, goal_of, create_turn, first_arrival, accept_turn, chosen_turn, is_possible, choice_turn, object_turn, node_turn, turn_of, first_of, goal_node, received, passed, link_move, plain_act, on_wires, wire_move, wire_turn, act_over, is_quiet}
 use Rattle.mesh_semantics.specs.Sound.{Each, Entry, Sent, entries, Owns, OwnedAt, Letter, letter, letter_if, letters, letters_in, notes, Has, IsPlaced, IsSound}
 use Rattle.mesh_semantics.specs.FitFor.{FitFor}
 use Rattle.mesh_semantics.specs.Kept.{After}
-use Rattle.mesh_semantics.specs.Record.{start, after, record_from, record_at, record_of}
+use Rattle.mesh_semantics.specs.Record.{start, after, record_from, record_at, record_of, record_on_wires}
 use Rattle.mesh_semantics.proofs.Owned.{moved}
 use Rattle.coded_objects.specs.Coded.{Placed, coded}
 use Rattle.coded_objects.specs.OfCode.{Names, IsOfCode}
@@ -257,9 +259,10 @@ module _ (u : Code) (proper : IsProper u) where
         by (Some x) e = within_told c s.state.typed l b (passed (coded u) l c (moved (a, b) d) b x)
             (either_told (length u.names) (goal_node x == b) (received (coded u) l c (moved (a, b) d) b x) (Acts W.Pass c (post l b (goal_node x) x (moved (a, b) d))) (received_told a b x e) tt)
 
-    act_told : (q : ℕ) (e : Event) → FitFor (coded u) l → IsTold (length u.names) (act (coded u) l q c d e)
-    act_told q (Ev.Link a b) fit = link_told a b
-    act_told q (Ev.Turn n) fit = by (turn_of (coded u) c d n) refl
+    plain_told : (q : ℕ) (e : Event) → FitFor (coded u) l → IsTold (length u.names) (plain_act (coded u) l q c d e)
+    plain_told q (Ev.Wire w a b) fit = tt
+    plain_told q (Ev.Link a b) fit = link_told a b
+    plain_told q (Ev.Turn n) fit = by (turn_of (coded u) c d n) refl
       where
         by : (z : Option (ℕ × Placed)) → turn_of (coded u) c d n ≡ z → IsTold (length u.names) (node_turn (coded u) l q c d n z)
         by None i = tt
@@ -267,6 +270,44 @@ module _ (u : Code) (proper : IsProper u) where
             within_told c s.state.typed l n (object_turn (coded u) l q c (stepped_last n e.0 d) n e.0 ((coded u).kind e.0 e.1))
             (object_told c s.state.typed l q (stepped_last n e.0 d) n e.0 ((coded u).kind e.0 e.1)
             (hand_known c s.state.typed e.0 e.1 (turn_there (coded u) (IsOfCode u) (code_lawful u proper) l (fit_of (coded u) l fit) c d n e s i)))
+
+    entered_told : (before : List (Pair × Packet)) (ws : Wires) (a : Acted Placed) → IsTold (length u.names) a → IsTold (length u.names) (on_wires before ws a)
+    entered_told before ws (Acts what e f) h = h
+    entered_told before ws (Full k n) h = tt
+    entered_told before ws Nothing h = tt
+
+    wire_told : (what : What) → IsOfWire what → IsKnownIn (length u.names) what
+    wire_told (W.Frame k) h = tt
+    wire_told (W.Lost k) h = tt
+    wire_told (W.Stale k) h = tt
+    wire_told (W.Acked k) h = tt
+    wire_told (W.Late k) h = tt
+    wire_told (W.Step label times) h = absurd h
+    wire_told (W.PostCreate o k goal) h = absurd h
+    wire_told (W.PostCall o r m args) h = absurd h
+    wire_told (W.Arrive o r m) h = absurd h
+    wire_told (W.Created o name) h = absurd h
+    wire_told (W.Result o v) h = absurd h
+    wire_told W.Pass h = absurd h
+    wire_told W.Idle h = absurd h
+
+    act_told : (q : ℕ) (e : Event) → FitFor (coded u) l → IsTold (length u.names) (act (coded u) l q c d e)
+    act_told q e fit = by d.wires e
+      where
+        comes : (ws : Wires) (a b : ℕ) (x : Coming Packet) → IsTold (length u.names) (wire_move (coded u) l c d ws a b x)
+        comes ws a b Empty = tt
+        comes ws a b (Stale n) = tt
+        comes ws a b (Next x) = entered_told (move_head (a, b) d.links) (put pair_cmp (a, b) (take (wire_at ws (a, b))) ws) (link_move (coded u) l c d a b (first_of (on_link d.links (a, b)))) (link_told a b)
+
+        turns : (ws : Wires) (k : Pair) (r : Option (What × Wire Packet)) → TellsOfWire r → IsTold (length u.names) (wire_turn c d ws k r)
+        turns ws k None h = tt
+        turns ws k (Some r) h = wire_told r.0 h
+
+        by : (o : Option Wires) (e : Event) → IsTold (length u.names) (act_over (coded u) l q c d o e)
+        by None e = plain_told q e fit
+        by (Some ws) (Ev.Turn n) = entered_told d.links ws (plain_act (coded u) l q c d (Ev.Turn n)) (plain_told q (Ev.Turn n) fit)
+        by (Some ws) (Ev.Link a b) = comes ws a b (coming (wire_at ws (a, b)))
+        by (Some ws) (Ev.Wire w a b) = turns ws (a, b) (wire_act w (wire_at ws (a, b))) (tells_of_wire w (wire_at ws (a, b)))
 
     -- the line of an event
     pub acts_known : (q : ℕ) (e : Event) (what : What) (c' : Config Placed) (d' : Delay) → FitFor (coded u) l → act (coded u) l q c d e ≡ Acts what c' d' → IsKnownIn (length u.names) what
@@ -298,17 +339,27 @@ module _ (u : Code) (proper : IsProper u) where
             (on (act (coded u) l q c d e) (act_kept (coded u) (IsOfCode u) (code_lawful u proper) l (fit_of (coded u) l fit) c d q e s) (act_told l c d s q e fit) rest)
 
     -- the lines of the record of a run from the start
-    pub record_known : (es : List Event) → Each (IsKnownLine (length u.names)) (record_of (coded u) l q es).lines
-    record_known es = by (start (coded u) l) refl
+    known_at : (d : Delay) → ((c : Config Placed) → start (coded u) l ≡ Some c → IsSound (coded u) (IsOfCode u) l c d) → (es : List Event)
+        → Each (IsKnownLine (length u.names)) (record_at (coded u) l q (start (coded u) l) d es).lines
+    known_at d sound es = by (start (coded u) l) refl
       where
-        by : (z : Option (Config Placed)) → start (coded u) l ≡ z → Each (IsKnownLine (length u.names)) (record_at (coded u) l q z es).lines
+        by : (z : Option (Config Placed)) → start (coded u) l ≡ z → Each (IsKnownLine (length u.names)) (record_at (coded u) l q z d es).lines
         by None e = tt
-        by (Some c) e = lines_known es c D.no_delay 0 (code_start_sound u proper l fit c e)
+        by (Some c) e = lines_known es c d 0 (sound c e)
+
+    pub record_known : (es : List Event) → Each (IsKnownLine (length u.names)) (record_of (coded u) l q es).lines
+    record_known es = known_at D.no_delay (λ c e. code_start_sound u proper l fit c e) es
+
+    pub record_known_on_wires : (es : List Event) → Each (IsKnownLine (length u.names)) (record_on_wires (coded u) l q es).lines
+    record_known_on_wires es = known_at D.no_delay_on_wires (λ c e. with_wires (coded u) (IsOfCode u) l c D.no_delay [] (code_start_sound u proper l fit c e)) es
+
+    in_lines : (ls : List Line) (number : ℕ) (e : Event) (what : What) → Each (IsKnownLine (length u.names)) ls → HasLine (R.Event number e what) ls → IsKnownIn (length u.names) what
+    in_lines [] number e what a i = absurd i
+    in_lines (y ∷ ys) number e what a (inl i) = subst (IsKnownLine (length u.names)) i a.0
+    in_lines (y ∷ ys) number e what a (inr i) = in_lines ys number e what a.1 i
 
     pub each_line_known : (es : List Event) (number : ℕ) (e : Event) (what : What) → HasLine (R.Event number e what) (record_of (coded u) l q es).lines → IsKnownIn (length u.names) what
-    each_line_known es number e what h = of (record_of (coded u) l q es).lines (record_known es) h
-      where
-        of : (ls : List Line) → Each (IsKnownLine (length u.names)) ls → HasLine (R.Event number e what) ls → IsKnownIn (length u.names) what
-        of [] a i = absurd i
-        of (y ∷ ys) a (inl i) = subst (IsKnownLine (length u.names)) i a.0
-        of (y ∷ ys) a (inr i) = of ys a.1 i
+    each_line_known es number e what h = in_lines (record_of (coded u) l q es).lines number e what (record_known es) h
+
+    pub each_line_known_on_wires : (es : List Event) (number : ℕ) (e : Event) (what : What) → HasLine (R.Event number e what) (record_on_wires (coded u) l q es).lines → IsKnownIn (length u.names) what
+    each_line_known_on_wires es number e what h = in_lines (record_on_wires (coded u) l q es).lines number e what (record_known_on_wires es) h

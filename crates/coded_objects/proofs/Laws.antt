@@ -3,6 +3,12 @@ pub use Rattle.coded_objects.proofs.KeptCode.{code_lawful}
 pub use Rattle.coded_objects.proofs.Callers.{code_requests, code_keeps, code_serves}
 pub use Rattle.coded_objects.proofs.Named.{code_names}
 pub use Rattle.coded_objects.proofs.Begins.{start_of_code, start_there, root_rests, code_makes, code_fits, code_start_sound}
-pub use Rattle.coded_objects.proofs.Configs.{map_object, object_stays}
+pub use Rattle.coded_objects.proofs.Configs.{map_object, object_stays, IsMessageOf}
 pub use Rattle.coded_objects.proofs.Naming.{name_of, object_named, kind_named}
 pub use Rattle.coded_objects.proofs.KnownLines.{acts_known, lines_known, record_known, each_line_known}
+-- values that code makes, what labels name, and what the line of each event tells
+pub use Rattle.coded_objects.proofs.MadeCode.{made_lawful, label_made, call_made, class_made}
+pub use Rattle.coded_objects.proofs.MadeStart.{made_start_sound}
+pub use Rattle.coded_objects.proofs.LabelParts.{label_there, call_names}
+pub use Rattle.coded_objects.proofs.Telling.{DueHas, IsTold, act_told}
+pub use Rattle.coded_objects.proofs.WireNumbers.{HandsAtMost, ActHands, act_hands}

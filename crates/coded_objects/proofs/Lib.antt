@@ -10,3 +10,8 @@ pub mod Named
 pub mod Begins
 pub mod KnownLines
 pub mod Laws
+pub mod MadeCode
+pub mod WireNumbers
+pub mod Telling
+pub mod LabelParts
+pub mod MadeStart

@@ -34,6 +34,11 @@ IsKnownIn count (W.Created o name) = Unit {0}
 IsKnownIn count (W.Result o v) = Unit {0}
 IsKnownIn count W.Pass = Unit {0}
 IsKnownIn count W.Idle = Unit {0}
+IsKnownIn count (W.Frame k) = Unit {0}
+IsKnownIn count (W.Lost k) = Unit {0}
+IsKnownIn count (W.Stale k) = Unit {0}
+IsKnownIn count (W.Acked k) = Unit {0}
+IsKnownIn count (W.Late k) = Unit {0}
 
 abbrev pub IsKnownLine : ℕ → Line → Type 0
 IsKnownLine count (R.Event number event what) = IsKnownIn count what

@@ -12,7 +12,7 @@ ghost use Rattle.mesh_semantics.specs.Config.{Config};
 ghost use Rattle.mesh_semantics.specs.Delay.{Delay, no_delay};
 ghost use Rattle.mesh_semantics.specs.FitFor.{FitFor};
 ghost use Rattle.mesh_semantics.specs.Lawful.{Lawful};
-ghost use Rattle.mesh_semantics.specs.Record.{start, record_of};
+ghost use Rattle.mesh_semantics.specs.Record.{start, record_of, record_on_wires};
 ghost use Rattle.mesh_semantics.specs.Sound.{IsSound};
 ghost use Rattle.mesh_semantics.specs.Ways.{In};
 ghost use Rattle.node_semantics.specs.Outstanding.{AreServed};
@@ -58,10 +58,12 @@ pub fn the_start_is_sound()
 {}
 
 /// What a line of a run of code names, a class, a method or a string, is a place of the unit's table of names: so of each event from a sound configuration, and of each
-/// event line of the record of a run from the start.
+/// event line of the record of a run from the start, with or without wires.
 pub fn each_line_is_known()
     ensures event { (u : Code) (l : Placement) (q : ℕ) (c : Config Placed) (d : Delay) (e : Event) (what : What) (c' : Config Placed) (d' : Delay) → IsProper u
         → FitFor (coded u) l → IsSound (coded u) (IsOfCode u) l c d → act (coded u) l q c d e ≡ Acts what c' d' → IsKnownIn (length u.names) what }
     ensures record_lines { (u : Code) (l : Placement) (q : ℕ) (es : List Event) (number : ℕ) (e : Event) (what : What) → IsProper u → FitFor (coded u) l
         → HasLine (R.Event number e what) (record_of (coded u) l q es).lines → IsKnownIn (length u.names) what }
+    ensures record_lines_on_wires { (u : Code) (l : Placement) (q : ℕ) (es : List Event) (number : ℕ) (e : Event) (what : What) → IsProper u → FitFor (coded u) l
+        → HasLine (R.Event number e what) (record_on_wires (coded u) l q es).lines → IsKnownIn (length u.names) what }
 {}

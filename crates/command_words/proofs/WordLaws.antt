@@ -29,7 +29,7 @@ files_shape name = built_leaf (inherited pool.top (files_app name).top)
 abbrev pub word_shape : Text → Text → Shape
 word_shape name id = built_leaf (inherited pool.top (word_app name id).top)
 
-subs_are : pool.subs ≡ files_shape (codes "record") ∷ files_shape (codes "run") ∷ files_shape (codes "why") ∷ word_shape (codes "print") (codes "program") ∷ word_shape (codes "code") (codes "program") ∷ word_shape (codes "ring") (codes "cells") ∷ []
+subs_are : pool.subs ≡ files_shape (codes "record") ∷ files_shape (codes "run") ∷ files_shape (codes "why") ∷ word_shape (codes "print") (codes "program") ∷ word_shape (codes "code") (codes "program") ∷ word_shape (codes "ring") (codes "cells") ∷ word_shape (codes "convert") (codes "record") ∷ []
 subs_are = refl
 
 -- the faults of a command's own level, of its walk and the walk's own faults
@@ -102,6 +102,10 @@ enters_code = record { first = refl; turn = refl; found = refl }
 pub enters_ring : Enters (codes "ring") (word_shape (codes "ring") (codes "cells"))
 unfolding clap_on_literals
 enters_ring = record { first = refl; turn = refl; found = refl }
+
+pub enters_convert : Enters (codes "convert") (word_shape (codes "convert") (codes "record"))
+unfolding clap_on_literals
+enters_convert = record { first = refl; turn = refl; found = refl }
 
 -- what stands between the words of a subcommand
 
@@ -207,6 +211,11 @@ unfolding walk_fault defaults_fault
 cells_below_1 name p e =
     level_by (word_shape name (codes "cells")) (p ∷ []) (only name (codes "cells") p) [] (word_walk name (codes "cells") p e) (word_fault_1 name (codes "cells") p [] e)
 
+pub record_below_1 : (name p : Text) → is_option p ≡ false → below (word_shape name (codes "record")) (p ∷ []) ≡ []
+unfolding walk_fault defaults_fault
+record_below_1 name p e =
+    level_by (word_shape name (codes "record")) (p ∷ []) (only name (codes "record") p) [] (word_walk name (codes "record") p e) (word_fault_1 name (codes "record") p [] e)
+
 -- what the words ask for, and what `clap` makes of them
 
 -- without a fault the matches ask for what the words ask for, and with one the words ask for nothing
@@ -235,18 +244,18 @@ neither true b e = absurd (true≢false e)
 neither false b e = (refl, e)
 
 pub files_judged : (name : Text) (show : Show) → Enters name (files_shape name) → show_of name ≡ Some show → ask_of name ≡ None
-    → bytes_eq name (codes "ring") ≡ false → (rest : List Text) → list_any is_option rest ≡ false → Judged (name ∷ rest)
-files_judged name show enters shows asks rings [] plain =
+    → bytes_eq name (codes "ring") ≡ false → bytes_eq name (codes "convert") ≡ false → (rest : List Text) → list_any is_option rest ≡ false → Judged (name ∷ rest)
+files_judged name show enters shows asks rings converts [] plain =
     by_fault (name ∷ []) kind.MissingRequiredArgument [] (entered_faults name _ [] enters ∙ below_0 name) refl
-files_judged name show enters shows asks rings (p ∷ []) plain =
+files_judged name show enters shows asks rings converts (p ∷ []) plain =
     let a = neither _ _ plain in
     by_fault (name ∷ p ∷ []) kind.MissingRequiredArgument [] (entered_faults name _ (p ∷ []) enters ∙ below_1 name p a.0)
-    (rw (a.0, asks, rings) refl)
-files_judged name show enters shows asks rings (p ∷ l ∷ []) plain =
+    (rw (a.0, asks, rings, converts) refl)
+files_judged name show enters shows asks rings converts (p ∷ l ∷ []) plain =
     let a = neither _ _ plain in
     let b = neither _ _ a.1 in
     by_fault (name ∷ p ∷ l ∷ []) kind.MissingRequiredArgument [] (entered_faults name _ (p ∷ l ∷ []) enters ∙ below_2 name p l a.0 b.0) refl
-files_judged name show enters shows asks rings (p ∷ l ∷ x ∷ []) plain =
+files_judged name show enters shows asks rings converts (p ∷ l ∷ x ∷ []) plain =
     let a = neither _ _ plain in
     let b = neither _ _ a.1 in
     let d = neither _ _ b.1 in
@@ -254,7 +263,7 @@ files_judged name show enters shows asks rings (p ∷ l ∷ x ∷ []) plain =
     ∙ ap (λ w. Some (name, finished (files name) w.held)) (walk_3 name p l x [] a.0 b.0 d.0) in
     by_matches (name ∷ p ∷ l ∷ x ∷ []) (entered_faults name _ (p ∷ l ∷ x ∷ []) enters ∙ below_3 name p l x a.0 b.0 d.0)
     (ap matched_request rows ∙ rw (a.0, b.0, d.0, shows) refl)
-files_judged name show enters shows asks rings (p ∷ l ∷ x ∷ y ∷ rest) plain =
+files_judged name show enters shows asks rings converts (p ∷ l ∷ x ∷ y ∷ rest) plain =
     let a = neither _ _ plain in
     let b = neither _ _ a.1 in
     let d = neither _ _ b.1 in
@@ -304,19 +313,36 @@ ring_judged (p ∷ q ∷ rest) plain =
     (entered_faults (codes "ring") _ (p ∷ q ∷ rest) enters_ring ∙ word_below_2 (codes "ring") (codes "cells") p q rest a.0 b.0)
     (no_more (codes "ring") p q rest refl a.0 b.0 b.1)
 
+pub convert_judged : (rest : List Text) → list_any is_option rest ≡ false → Judged (codes "convert" ∷ rest)
+convert_judged [] plain =
+    by_fault (codes "convert" ∷ []) kind.MissingRequiredArgument [] (entered_faults (codes "convert") _ [] enters_convert ∙ word_below_0 (codes "convert") (codes "record")) refl
+convert_judged (p ∷ []) plain =
+    let a = neither _ _ plain in
+    let rows = entered_rows (codes "convert") _ (p ∷ []) enters_convert
+    ∙ ap (λ w. Some (codes "convert", finished (word_rules (codes "convert") (codes "record")) w.held)) (word_walk (codes "convert") (codes "record") p a.0) in
+    by_matches (codes "convert" ∷ p ∷ []) (entered_faults (codes "convert") _ (p ∷ []) enters_convert ∙ record_below_1 (codes "convert") p a.0)
+    (ap matched_request rows ∙ rw a.0 refl)
+convert_judged (p ∷ q ∷ rest) plain =
+    let a = neither _ _ plain in
+    let b = neither _ _ a.1 in
+    by_fault (codes "convert" ∷ p ∷ q ∷ rest) kind.UnknownArgument []
+    (entered_faults (codes "convert") _ (p ∷ q ∷ rest) enters_convert ∙ word_below_2 (codes "convert") (codes "record") p q rest a.0 b.0)
+    (no_more (codes "convert") p q rest refl a.0 b.0 b.1)
+
 -- a word that is no subcommand's name
 
 pub record IsNoName (w : Text) : Type 0 where
   pub shows : show_of w ≡ None
   pub asks : ask_of w ≡ None
   pub rings : bytes_eq w (codes "ring") ≡ false
+  pub converts : bytes_eq w (codes "convert") ≡ false
   pub met : subcommand_met (names_of pool) idle w ≡ None
 
 no_request : (w : Text) (rest : List Text) → IsNoName w → list_any is_option rest ≡ false → request_of (w ∷ rest) ≡ None
 no_request w [] other plain = refl
 no_request w (p ∷ []) other plain =
     let a = neither (is_option p) _ plain in
-    rw (a.0, other.asks, other.rings) refl
+    rw (a.0, other.asks, other.rings, other.converts) refl
 no_request w (p ∷ q ∷ rest) other plain =
     let a = neither _ _ plain in
     let b = neither _ _ a.1 in
@@ -353,23 +379,27 @@ judged [] plain = no_words_judged
 judged (w ∷ rest) plain =
     let a = neither _ _ plain in
     elim (decided w (codes "record")) [
-      | inl e ↦ subst (λ n. Judged (n ∷ rest)) (sym e) (files_judged (codes "record") Sh.Record enters_record refl refl refl rest a.1)
+      | inl e ↦ subst (λ n. Judged (n ∷ rest)) (sym e) (files_judged (codes "record") Sh.Record enters_record refl refl refl refl rest a.1)
       | inr record_no ↦ elim (decided w (codes "run")) [
-        | inl e ↦ subst (λ n. Judged (n ∷ rest)) (sym e) (files_judged (codes "run") Sh.Writes enters_run refl refl refl rest a.1)
+        | inl e ↦ subst (λ n. Judged (n ∷ rest)) (sym e) (files_judged (codes "run") Sh.Writes enters_run refl refl refl refl rest a.1)
         | inr run_no ↦ elim (decided w (codes "why")) [
-          | inl e ↦ subst (λ n. Judged (n ∷ rest)) (sym e) (files_judged (codes "why") Sh.Report enters_why refl refl refl rest a.1)
+          | inl e ↦ subst (λ n. Judged (n ∷ rest)) (sym e) (files_judged (codes "why") Sh.Report enters_why refl refl refl refl rest a.1)
           | inr why_no ↦ elim (decided w (codes "print")) [
             | inl e ↦ subst (λ n. Judged (n ∷ rest)) (sym e) (program_judged (codes "print") As.Canonical enters_print refl refl rest a.1)
             | inr print_no ↦ elim (decided w (codes "code")) [
               | inl e ↦ subst (λ n. Judged (n ∷ rest)) (sym e) (program_judged (codes "code") As.Listing enters_code refl refl rest a.1)
               | inr code_no ↦ elim (decided w (codes "ring")) [
                 | inl e ↦ subst (λ n. Judged (n ∷ rest)) (sym e) (ring_judged rest a.1)
-                | inr ring_no ↦ no_name_judged w rest (record {
-                  shows = rw (record_no.0, run_no.0, why_no.0) refl;
-                  asks = rw (print_no.0, code_no.0) refl;
-                  rings = ring_no.0;
-                  met = rw (record_no.1, run_no.1, why_no.1, print_no.1, code_no.1, ring_no.1) refl;
-                }) a.0 a.1
+                | inr ring_no ↦ elim (decided w (codes "convert")) [
+                  | inl e ↦ subst (λ n. Judged (n ∷ rest)) (sym e) (convert_judged rest a.1)
+                  | inr convert_no ↦ no_name_judged w rest (record {
+                    shows = rw (record_no.0, run_no.0, why_no.0) refl;
+                    asks = rw (print_no.0, code_no.0) refl;
+                    rings = ring_no.0;
+                    converts = convert_no.0;
+                    met = rw (record_no.1, run_no.1, why_no.1, print_no.1, code_no.1, ring_no.1, convert_no.1) refl;
+                  }) a.0 a.1
+                ]
               ]
             ]
           ]

@@ -18,11 +18,13 @@ pub record FileNames : Type 0 where
   pub placement : Text
   pub schedule : Text
 
--- what the words ask for: a run of three inputs, and what of it is shown; something of a program of this name; or the ring of so many cells
+-- what the words ask for: a run of three inputs, and what of it is shown; something of a program of this name; the ring of so many cells; or a record of this name in the
+-- second form
 pub data Request : Type 0 where
   of_run : (show : Show) (names : FileNames) → Request
   of_program : (ask : Ask) (name : Text) → Request
   of_ring : (k : ℕ) → Request
+  of_convert : (record_name : Text) → Request
 
 -- a word that begins with `-`
 abbrev pub is_option : Text → Bool
@@ -46,20 +48,22 @@ ring_size Number.NotDigits = None
 ring_size Number.TooLarge = None
 ring_size (Number.Value k) = if nat_le 2 k && nat_le k 1000 then Some k else None
 
-abbrev pub ring_of : Text → Text → Option Request
-ring_of c k = if bytes_eq c (codes "ring") then option_map of_ring (ring_size (decimal_of k)) else None
+abbrev pub other_of : Text → Text → Option Request
+other_of c w =
+    if bytes_eq c (codes "ring") then option_map of_ring (ring_size (decimal_of w))
+    else (if bytes_eq c (codes "convert") then Some (of_convert w) else None)
 
-abbrev pub program_or_ring : Option Ask → Text → Text → Option Request
-program_or_ring (Some ask) c name = Some (of_program ask name)
-program_or_ring None c k = ring_of c k
+abbrev pub program_or_other : Option Ask → Text → Text → Option Request
+program_or_other (Some ask) c name = Some (of_program ask name)
+program_or_other None c w = other_of c w
 
--- a command of three inputs, one of a program, or `ring` and a number; no word begins with `-`
+-- a command of three inputs, one of a program, `ring` and a number, or `convert` and a record; no word begins with `-`
 abbrev pub request_of : List Text → Option Request
 request_of (c ∷ p ∷ l ∷ s ∷ []) =
     if not (is_option p) && (not (is_option l) && not (is_option s))
     then option_map (λ show. of_run show (record { program = p; placement = l; schedule = s })) (show_of c)
     else None
-request_of (c ∷ p ∷ []) = if not (is_option p) then program_or_ring (ask_of c) c p else None
+request_of (c ∷ p ∷ []) = if not (is_option p) then program_or_other (ask_of c) c p else None
 request_of _ = None
 
 -- the words as texts
@@ -73,9 +77,11 @@ abbrev pub request : Command → Request
 request (C.Run show files) = of_run show (names_of files)
 request (C.Program ask name) = of_program ask name.now
 request (C.Ring cells) = of_ring cells
+request (C.Convert name) = of_convert name.now
 
 -- a ring has from 2 to 1000 cells
 abbrev pub IsSized : Command → Type 0
 IsSized (C.Run show files) = Unit {0}
 IsSized (C.Program ask name) = Unit {0}
 IsSized (C.Ring cells) = (2 ≤ cells) × (cells ≤ 1000)
+IsSized (C.Convert name) = Unit {0}

@@ -36,4 +36,6 @@ pub enum Command<'a> {
     Program { ask: Ask, name: &'a str },
     /// With the number of cells.
     Ring { cells: u32 },
+    /// With the name of a record.
+    Convert { name: &'a str },
 }

@@ -4,7 +4,7 @@ ghost use Rattle.std.specs.List.{list_any};
 ghost use Rattle.clap.specs.Words.{app_of, first_of, found_of, rows_of, rule_of, subcommand_rows_of};
 ghost use Rattle.clap.specs.declared.builder.Command.TheViews.{out-Command as fields_of};
 ghost use Rattle.command_words.specs.Commands.{IsSized, is_option, request, request_of, ring_size, texts_of};
-ghost use Rattle.command_words.specs.CommandLine.{files_app, matched_request, pool_app, positional, program_request, ring_request, run_request, word_app};
+ghost use Rattle.command_words.specs.CommandLine.{convert_request, files_app, matched_request, pool_app, positional, program_request, ring_request, run_request, word_app};
 ghost use Rattle.pool_lexer.specs.Lines.{decimal_of};
 
 use crate::command::{Ask, Command, Files, Show};
@@ -80,7 +80,8 @@ fn command_line<'a>(alloc: Global) -> Result<clap::Command<'a>, AllocError>
         .subcommand(of_files(alloc, "why")?)?
         .subcommand(of_word(alloc, "print", "program")?)?
         .subcommand(of_word(alloc, "code", "program")?)?
-        .subcommand(of_word(alloc, "ring", "cells")?)
+        .subcommand(of_word(alloc, "ring", "cells")?)?
+        .subcommand(of_word(alloc, "convert", "record")?)
 }
 
 /// The first value of an argument.
@@ -152,6 +153,17 @@ fn ring<'a>(matches: &ArgMatches<'a>) -> Option<Command<'a>>
     }
 }
 
+/// The record of this name in the second form.
+fn convert<'a>(matches: &ArgMatches<'a>) -> Option<Command<'a>>
+    ensures request { option_map request result ≡ convert_request (rows_of (found_of matches.now)) }
+    ensures sized { IfSome result IsSized }
+{
+    match value(matches, "record") {
+        Some(name) => Some(Command::Convert { name }),
+        None => None,
+    }
+}
+
 /// The command of the matches.
 fn command<'a>(matches: &ArgMatches<'a>) -> Option<Command<'a>>
     ensures request { option_map request result ≡ matched_request (subcommand_rows_of matches.now) }
@@ -165,6 +177,7 @@ fn command<'a>(matches: &ArgMatches<'a>) -> Option<Command<'a>>
         "print" => program(Ask::Canonical, matches),
         "code" => program(Ask::Listing, matches),
         "ring" => ring(matches),
+        "convert" => convert(matches),
         _ => None,
     }
 }

@@ -11,12 +11,14 @@ use Rattle.placement_reader.specs.declared.fault.PlacementFault.{PlacementFault}
 use Rattle.placement_reader.specs.declared.fault.PlacementFault.TheVariants as Place
 use Rattle.schedule_reader.specs.declared.fault.ScheduleFault.{ScheduleFault}
 use Rattle.schedule_reader.specs.declared.fault.ScheduleFault.TheVariants as Plan
+use Rattle.run_record.specs.declared.fault.RecordFault.{RecordFault}
+use Rattle.run_record.specs.declared.fault.RecordFault.TheVariants as Rec
 use Rattle.fault_lines.specs.declared.fault.Input.{Input}
 use Rattle.fault_lines.specs.declared.fault.Input.TheVariants as I
 use Rattle.fault_lines.specs.declared.fault.Fault.{Fault}
 use Rattle.fault_lines.specs.declared.fault.Fault.TheVariants as F
 
--- A fault of the lexer stands at a byte, those of the parser and the checker at a token, and those of a placement and a schedule at a line, or they tell a number
+-- A fault of the lexer stands at a byte, those of the parser and the checker at a token, and those of a placement, a schedule and a record at a line, or they tell a number
 -- that is too large; want of memory is no fault of an input.
 
 abbrev pub lex_fault_text : LexFault → Text
@@ -54,6 +56,8 @@ placement_fault_text (Place.NoSuchNode line) = codes "NoSuchNode at line " ++ de
 placement_fault_text (Place.OutOfRange line) = codes "OutOfRange at line " ++ decimal line
 placement_fault_text (Place.TooLarge words) = codes "TooLarge " ++ decimal words
 placement_fault_text Place.Memory = []
+placement_fault_text (Place.NoSuchLink line) = codes "NoSuchLink at line " ++ decimal line
+placement_fault_text (Place.NoRoute from to) = codes "NoRoute " ++ decimal from ++ codes " " ++ decimal to
 
 abbrev pub schedule_fault_text : ScheduleFault → Text
 schedule_fault_text (Plan.BadLine line) = codes "BadLine at line " ++ decimal line
@@ -63,6 +67,12 @@ schedule_fault_text (Plan.OutOfRange line) = codes "OutOfRange at line " ++ deci
 schedule_fault_text (Plan.TooManyEvents count) = codes "TooManyEvents " ++ decimal count
 schedule_fault_text Plan.Memory = []
 
+abbrev pub record_fault_text : RecordFault → Text
+record_fault_text (Rec.BadLine line) = codes "BadLine at line " ++ decimal line
+record_fault_text (Rec.OutOfOrder line) = codes "OutOfOrder at line " ++ decimal line
+record_fault_text (Rec.WrongAsk line) = codes "WrongAsk at line " ++ decimal line
+record_fault_text Rec.Memory = []
+
 abbrev pub fault_text : Fault → Text
 fault_text F.TooLong = codes "TooLong"
 fault_text (F.Lex f) = lex_fault_text f
@@ -70,11 +80,13 @@ fault_text (F.Syntax f) = syntax_fault_text f
 fault_text (F.Class f) = class_fault_text f
 fault_text (F.Placement f) = placement_fault_text f
 fault_text (F.Schedule f) = schedule_fault_text f
+fault_text (F.Record f) = record_fault_text f
 
 abbrev pub input_text : Input → Text
 input_text I.Program = codes "pool: program: "
 input_text I.Placement = codes "pool: placement: "
 input_text I.Schedule = codes "pool: schedule: "
+input_text I.Record = codes "pool: record: "
 
 abbrev pub refusal_line : Input → Fault → Text
 refusal_line input fault = input_text input ++ (fault_text fault ++ codes "\n")
@@ -83,4 +95,4 @@ abbrev pub unread_line : Input → Text
 unread_line input = input_text input ++ codes "read fault\n"
 
 abbrev pub usage_line : Text
-usage_line = codes "usage: pool record|run|why P L S, pool print|code P, pool ring K\n"
+usage_line = codes "usage: pool record|run|why P L S, pool print|code P, pool ring K, pool convert R\n"

@@ -1,12 +1,13 @@
 //! Why an input was refused, and the line that says so.
 ghost use Rattle.std.specs.Prelude.{◌≡◌, ◌++◌, OnOk, IfOk, decimal};
-ghost use Rattle.fault_lines.specs.FaultText.{class_fault_text, fault_text, input_text, lex_fault_text, placement_fault_text, refusal_line, schedule_fault_text, syntax_fault_text, unread_line};
+ghost use Rattle.fault_lines.specs.FaultText.{class_fault_text, fault_text, input_text, lex_fault_text, placement_fault_text, record_fault_text, refusal_line, schedule_fault_text, syntax_fault_text, unread_line};
 
 use class_check::ClassFault;
 use itoa::Buffer;
 use placement_reader::PlacementFault;
 use pool_parser::SyntaxFault;
 use pool_syntax::LexFault;
+use run_record::RecordFault;
 use schedule_reader::ScheduleFault;
 use std::alloc::{AllocError, Global};
 
@@ -16,12 +17,13 @@ pub enum Input {
     Program,
     Placement,
     Schedule,
+    Record,
 }
 
 /// Why an input was refused.
 #[derive(Clone, Copy)]
 pub enum Fault {
-    /// It has more than 1,048,576 bytes.
+    /// It has more bytes than its limit: 1,048,576, and of a record 67,108,864.
     TooLong,
     /// The first fault of a program's tokens.
     Lex(LexFault),
@@ -33,6 +35,8 @@ pub enum Fault {
     Placement(PlacementFault),
     /// The first fault of a schedule.
     Schedule(ScheduleFault),
+    /// The first fault of a record.
+    Record(RecordFault),
 }
 
 /// Why nothing is made of the inputs.
@@ -123,6 +127,11 @@ fn push_placement_fault(text: &mut Vec<u8>, fault: PlacementFault) -> Result<(),
         PlacementFault::OutOfRange { line } => push_place(text, b"OutOfRange at line ", line),
         PlacementFault::TooLarge { words } => push_count(text, b"TooLarge ", words),
         PlacementFault::Memory => Ok(()),
+        PlacementFault::NoSuchLink { line } => push_place(text, b"NoSuchLink at line ", line),
+        PlacementFault::NoRoute { from, to } => {
+            push_place(text, b"NoRoute ", from)?;
+            push_place(text, b" ", to)
+        }
     }
 }
 
@@ -139,6 +148,17 @@ fn push_schedule_fault(text: &mut Vec<u8>, fault: ScheduleFault) -> Result<(), A
     }
 }
 
+fn push_record_fault(text: &mut Vec<u8>, fault: RecordFault) -> Result<(), AllocError>
+    ensures { OnOk result (text.new.items ≡ text.old.items ++ record_fault_text fault) }
+{
+    match fault {
+        RecordFault::BadLine { line } => push_place(text, b"BadLine at line ", line),
+        RecordFault::OutOfOrder { line } => push_place(text, b"OutOfOrder at line ", line),
+        RecordFault::WrongAsk { line } => push_place(text, b"WrongAsk at line ", line),
+        RecordFault::Memory => Ok(()),
+    }
+}
+
 fn push_fault(text: &mut Vec<u8>, fault: Fault) -> Result<(), AllocError>
     ensures { OnOk result (text.new.items ≡ text.old.items ++ fault_text fault) }
 {
@@ -149,6 +169,7 @@ fn push_fault(text: &mut Vec<u8>, fault: Fault) -> Result<(), AllocError>
         Fault::Class(fault) => push_class_fault(text, fault),
         Fault::Placement(fault) => push_placement_fault(text, fault),
         Fault::Schedule(fault) => push_schedule_fault(text, fault),
+        Fault::Record(fault) => push_record_fault(text, fault),
     }
 }
 
@@ -160,6 +181,7 @@ fn line_about(alloc: Global, input: Input) -> Result<Vec<u8>, AllocError>
         Input::Program => b"pool: program: ".to_vec(alloc),
         Input::Placement => b"pool: placement: ".to_vec(alloc),
         Input::Schedule => b"pool: schedule: ".to_vec(alloc),
+        Input::Record => b"pool: record: ".to_vec(alloc),
     }
 }
 

@@ -28,7 +28,17 @@ pub const EVENTS: &str = r##"-- Turns and moves.
 - | 1 turn turn 0 pass
 - | 1 node 0 pass
 - | 1 Turn 0 pass
-- | 1 ack 0 1 pass
+1 ack 0-1: pass | 1 ack 0 1 pass
+1 send 0-1: frame 3 | 1 send 0 1 frame 3
+1 lose ack 0-1: lost 2 | 1 lose ack 0 1 lost 2
+1 twice ack 1-0: idle | 1 twice ack 1 0 idle
+1 late 0-1: late 7 | 1 late 0 1 late 7
+1 0-1: stale 0 | 1 link 0 1 stale 0
+- | 1 send ack 0 1 frame 3
+- | 1 lose ack ack 0 1 lost 2
+- | 1 send 0 1 frame
+- | 1 send 0 1 frame 03
+- | 1 send 0 frame 3
 - | 1 turn 0 Pass
 - | 1 turn 0 passes
 - | 1 turn 0 pass idle

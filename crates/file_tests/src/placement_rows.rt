@@ -276,6 +276,47 @@ Repeated 3 | mesh 1 1~place Cell same~place Cell spread
 Repeated 4 | mesh 1 1~place Cell at 0~place Log at 0~place Cell at 0
 Repeated 5 | mesh 1 1~place Log same~place Main same~cells 3~place Main at 0"##;
 
+/// Cut links and routes.
+pub const ROUTES: &str = r##"-- Around a cut link, and back where a route leads back.
+2 2 256 1024 1024 same same same 0-1 0:1:2 0:3:2 | mesh 2 2~cut 0 1~route 0 1 2~route 0 3 2
+2 2 256 1024 1024 same 1 same 0-1 0:1:2 0:3:2 | mesh 2 2~route 0 1 2~cut 0 1~place Log at 1~route 0 3 2
+NoRoute 0 3 | mesh 2 2~cut 0 1~route 0 1 2
+NoRoute 0 1 | mesh 2 2~cut 0 1
+NoRoute 0 1 | mesh 2 2~cut 0 1~route 0 1 2~route 0 3 2~route 2 1 0
+NoRoute 0 1 | mesh 2 1~cut 0 1
+NoRoute 1 0 | mesh 2 1~cut 1 0
+NoRoute 0 2 | mesh 3 1~route 1 2 0
+NoRoute 56 7 | mesh 8 8~cut 62 63
+2 2 256 1024 1024 same same same 3:0:1 | mesh 2 2~route 3 0 1
+2 2 256 1024 1024 same same same 3:0:2 | mesh 2 2~route 3 0 2
+-- A second line on the same link, or on the same goal at the same node.
+Repeated 3 | mesh 2 2~cut 0 1~cut 00 01
+NoRoute 0 1 | mesh 2 2~cut 0 1~cut 1 0
+Repeated 3 | mesh 2 2~route 0 1 2~route 0 1 2
+Repeated 3 | mesh 2 2~route 0 1 2~route 0 1 1
+2 2 256 1024 1024 same same same 0:3:2 1:3:3 | mesh 2 2~route 0 3 2~route 1 3 3
+-- Nodes and links.
+NoSuchNode 2 | mesh 2 2~cut 0 4
+NoSuchNode 2 | mesh 2 2~cut 4 0
+NoSuchLink 2 | mesh 2 2~cut 0 3
+NoSuchLink 2 | mesh 2 2~cut 1 1
+NoSuchLink 2 | mesh 3 2~cut 2 3
+NoSuchNode 2 | mesh 2 2~route 4 1 2
+NoSuchNode 2 | mesh 2 2~route 0 4 2
+NoSuchNode 2 | mesh 2 2~route 0 1 4
+OutOfRange 2 | mesh 2 2~route 0 0 2
+OutOfRange 2 | mesh 2 2~route 0 0 3
+NoSuchLink 2 | mesh 2 2~route 0 1 3
+NoSuchLink 2 | mesh 2 2~route 0 1 0
+BadLine 2 | mesh 2 2~cut 0
+BadLine 2 | mesh 2 2~cut 0 1 2
+BadLine 2 | mesh 2 2~route 0 1
+BadLine 2 | mesh 2 2~route 0 1 2 3
+BadLine 2 | mesh 2 2~cut 0 x
+BadLine 1 | cut 0 1~mesh 2 2
+-- The number of words is judged first.
+TooLarge 102268928 | mesh 8 8~frames 16384~cut 0 1"##;
+
 /// Two faults.
 pub const PAIRS: &str = r##"-- On one line: the least.
 BadLine 2 | mesh 1 1~place Foo

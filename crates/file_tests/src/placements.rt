@@ -1,7 +1,7 @@
 //! Placements of texts.
 use crate::placement_rows::{
-    CLASSES, COUNTS, FIRST_LINES, LINES, MANY, MESHES, NONE, PAIRS, PLACES, SIXTEEN, SIXTY_FOUR,
-    SIZES,
+    CLASSES, COUNTS, FIRST_LINES, LINES, MANY, MESHES, NONE, PAIRS, PLACES, ROUTES, SIXTEEN,
+    SIXTY_FOUR, SIZES,
 };
 use crate::rows::{MOST_BYTES, bytes_of, push_wrong, spread};
 use class_check::check;
@@ -32,7 +32,7 @@ fn unit_of(alloc: Global, program: &str) -> Result<Option<Unit>, AllocError> {
     Ok(compile(alloc, &checked).ok())
 }
 
-/// The width, the height and the three counts, and the place of each class.
+/// The width, the height and the three counts, the place of each class, each cut link, and each route.
 fn value_told(alloc: Global, placement: &Placement) -> Result<String, AllocError> {
     let mut told = format!(in alloc;
         "{} {} {} {} {}",
@@ -45,10 +45,16 @@ fn value_told(alloc: Global, placement: &Placement) -> Result<String, AllocError
             Place::Spread => told.push_str(" spread")?,
         }
     }
+    for cut in placement.cuts.items() {
+        write!(told, " {}-{}", cut.from, cut.to)?;
+    }
+    for route in placement.routes.items() {
+        write!(told, " {}:{}:{}", route.at, route.goal, route.next)?;
+    }
     Ok(told)
 }
 
-/// The fault, with its line or its number of words.
+/// The fault, with its line, its number of words or its pair of nodes.
 fn fault_told(alloc: Global, fault: PlacementFault) -> Result<String, AllocError> {
     match fault {
         PlacementFault::BadLine { line } => format!(in alloc; "BadLine {line}"),
@@ -58,6 +64,8 @@ fn fault_told(alloc: Global, fault: PlacementFault) -> Result<String, AllocError
         PlacementFault::OutOfRange { line } => format!(in alloc; "OutOfRange {line}"),
         PlacementFault::TooLarge { words } => format!(in alloc; "TooLarge {words}"),
         PlacementFault::Memory => Err(AllocError),
+        PlacementFault::NoSuchLink { line } => format!(in alloc; "NoSuchLink {line}"),
+        PlacementFault::NoRoute { from, to } => format!(in alloc; "NoRoute {from} {to}"),
     }
 }
 
@@ -98,7 +106,7 @@ class Log var x, y : Int body end class Main var log : Log body log := new Log e
 
 #[test]
 fn lines_are_read(rt: HostRuntime) -> Result<(), Fail> {
-    for rows in [MESHES, FIRST_LINES, LINES, COUNTS, PLACES] {
+    for rows in [MESHES, FIRST_LINES, LINES, COUNTS, PLACES, ROUTES] {
         assert_eq!(rt; wrong_rows(rt.alloc(), PROGRAM, rows)?.as_str(), "");
     }
     Ok(())

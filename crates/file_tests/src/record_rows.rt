@@ -81,7 +81,10 @@ BadLine 2 | end quiet 0~end quiet 0
 BadLine 1 | ~
 BadLine 1 | ~end quiet 0~
 BadLine 1 | # c~end quiet 0~
-BadLine 1 | record 2~end quiet 0~
+quiet 0 | record 2~end quiet 0~
+BadLine 2 | record 2~
+BadLine 1 | record 3~end quiet 0~
+WrongAsk 4 | record 2~1 turn 0 post create 0.0 Child 1~2 send 0 1 frame 0~3 link 0 1 new 0.0 1.0 Child by 2~end schedule 3~
 BadLine 2 | 1 turn 0 pass~~end quiet 1~
 BadLine 2 | 1 turn 0 pass~ ~end quiet 1~
 BadLine 1 | 1 turn 0 pass^~end quiet 1~

@@ -2,7 +2,9 @@
 use crate::line_rows::{DELAYS, EVENTS, STEPS};
 use crate::record_rows::RECORDS;
 use crate::rows::{MOST_BYTES, bytes_of, push_wrong};
-use pool_syntax::{Args, End, Error, Event, FullKind, Item, Label, Line, Names, Value, What};
+use pool_syntax::{
+    Args, End, Error, Event, FullKind, Item, Label, Line, Names, Value, What, WireAct,
+};
 use run_record::{RecordFault, label_of, read_record};
 use std::alloc::{AllocError, Global};
 use std::test::Fail;
@@ -134,6 +136,24 @@ fn push_what(told: &mut String, what: &What) -> Result<(), AllocError> {
         }
         What::Pass => told.push_str(" pass"),
         What::Idle => told.push_str(" idle"),
+        What::Frame { number } => write!(told, " frame {number}"),
+        What::Lost { number } => write!(told, " lost {number}"),
+        What::Stale { number } => write!(told, " stale {number}"),
+        What::Acked { number } => write!(told, " acked {number}"),
+        What::Late { number } => write!(told, " late {number}"),
+    }
+}
+
+fn act_word(act: WireAct) -> &'static str {
+    match act {
+        WireAct::Send => "send",
+        WireAct::Ack => "ack",
+        WireAct::Lose => "lose",
+        WireAct::Twice => "twice",
+        WireAct::Late => "late",
+        WireAct::LoseAck => "lose ack",
+        WireAct::TwiceAck => "twice ack",
+        WireAct::LateAck => "late ack",
     }
 }
 
@@ -141,6 +161,7 @@ fn push_event(told: &mut String, event: Event) -> Result<(), AllocError> {
     match event {
         Event::Turn { node } => write!(told, " {node}:"),
         Event::Link { from, to } => write!(told, " {from}-{to}:"),
+        Event::Wire { act, from, to } => write!(told, " {} {from}-{to}:", act_word(act)),
     }
 }
 
@@ -203,6 +224,7 @@ fn told(alloc: Global, text: &[u8]) -> Result<String, AllocError> {
         Ok(lines) => lines_told(alloc, lines.items()),
         Err(RecordFault::BadLine { line }) => format!(in alloc; "BadLine {line}"),
         Err(RecordFault::OutOfOrder { line }) => format!(in alloc; "OutOfOrder {line}"),
+        Err(RecordFault::WrongAsk { line }) => format!(in alloc; "WrongAsk {line}"),
         Err(RecordFault::Memory) => Err(AllocError),
     }
 }

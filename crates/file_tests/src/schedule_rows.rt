@@ -1,7 +1,7 @@
 //! Schedules and what is told of each, written by hand from the format.
 //!
 //! A row is what is told, a bar and a text; of a value these are the quantum, the number of events, the first twelve of them, and behind two points the last one, where
-//! it is none of these. A turn is its node, and a move on a link its two nodes. A line that begins with two dashes is a heading.
+//! it is none of these. A turn is its node, and a move on a link its two nodes; what happens on a wire stands before these, and behind the number of events whether links are wires. A line that begins with two dashes is a heading.
 
 /// The quantum line.
 pub const QUANTA: &str = r##"-- The quantum at its limits, and one past them.
@@ -345,6 +345,148 @@ TooManyEvents 4608000000 | quantum 1~[8:round 2000000~]
 TooManyEvents 576000000000 | quantum 1~[1000:round 2000000~]"##,
     ),
 ];
+
+/// Wires that may lose, on the four nodes.
+pub const WIRES: &str = r##"-- The worked schedule.
+5 15 lossy 0 send:0-1 lose:0-1 send:0-1 twice:0-1 0-1 0-1 ack:0-1 1 send:1-0 1-0 ack:1-0 .. ack:0-1 | quantum 5~wires lossy~turn 0~send 0 1~lose 0 1~send 0 1~twice 0 1~link 0 1 2~ack 0 1~turn 1~send 1 0~link 1 0~ack 1 0~turn 0 2~ack 0 1
+-- Each word.
+1 1 lossy send:0-1 | quantum 1~wires lossy~send 0 1
+1 1 lossy ack:0-1 | quantum 1~wires lossy~ack 0 1
+1 1 lossy lose:2-3 | quantum 1~wires lossy~lose 2 3
+1 1 lossy twice:3-1 | quantum 1~wires lossy~twice 3 1
+1 1 lossy late:0-2 | quantum 1~wires lossy~late 0 2
+1 1 lossy lose-ack:2-3 | quantum 1~wires lossy~lose ack 2 3
+1 1 lossy twice-ack:3-1 | quantum 1~wires lossy~twice ack 3 1
+1 1 lossy late-ack:0-2 | quantum 1~wires lossy~late ack 0 2
+1 1 0 | quantum 1~turn 0
+1 1 lossy 0 | quantum 1~wires lossy~turn 0
+1 1 lossy 0-1 | quantum 1~wires lossy~link 0 1
+-- Counts.
+1 3 lossy send:0-1 send:0-1 send:0-1 | quantum 1~wires lossy~send 0 1 3
+1 3 lossy ack:1-0 ack:1-0 0 | quantum 1~wires lossy~ack 1 0 002~turn 0
+1 1 lossy send:0-1 | quantum 1~wires lossy~send 0 1 1
+1 2000000 lossy [12:send:0-1 ].. send:0-1 | quantum 1~wires lossy~send 0 1 2000000
+1 2000000 lossy [12:ack:0-1 ].. ack:0-1 | quantum 1~wires lossy~ack 0 1 2000000
+TooManyEvents 2000001 | quantum 1~wires lossy~send 0 1 2000000~lose 0 1
+TooManyEvents 2000001 | quantum 1~wires lossy~ack 0 1 1999999~late ack 0 1~turn 0
+-- A round is each turn, and then three events of each link.
+1 28 lossy 0 1 2 3 send:0-1 0-1 ack:0-1 send:0-2 0-2 ack:0-2 send:1-0 1-0 .. ack:3-2 | quantum 1~wires lossy~round 1
+1 56 lossy 0 1 2 3 send:0-1 0-1 ack:0-1 send:0-2 0-2 ack:0-2 send:1-0 1-0 .. ack:3-2 | quantum 1~wires lossy~round 2
+1 1999984 lossy 0 1 2 3 send:0-1 0-1 ack:0-1 send:0-2 0-2 ack:0-2 send:1-0 1-0 .. ack:3-2 | quantum 1~wires lossy~round 71428
+TooManyEvents 2000012 | quantum 1~wires lossy~round 71429
+TooManyEvents 56000000 | quantum 1~wires lossy~round 2000000
+-- The line itself.
+1 0 lossy | quantum 1~wires lossy
+1 0 lossy | quantum 1~wires lossy~
+1 0 lossy | quantum 1^~>wires [3: ]lossy >^~
+1 0 lossy | # c~quantum 1~~# c~ ~wires lossy~# c
+1 1 lossy send:0-1 | ~quantum 1~# wires lossy~~wires lossy~~send 0 1"##;
+
+/// What is wrong with wires.
+pub const WIRE_FAULTS: &str =
+    r##"-- The line stands once, directly behind the quantum, and is spelled so.
+BadLine 1 | wires lossy
+BadLine 1 | wires lossy~quantum 1
+BadLine 3 | quantum 1~wires lossy~wires lossy
+BadLine 3 | quantum 1~turn 0~wires lossy
+BadLine 5 | quantum 1~# c~turn 0~~wires lossy~send 0 1
+BadLine 2 | quantum 1~wires
+BadLine 2 | quantum 1~lossy
+BadLine 2 | quantum 1~wires lossy 1
+BadLine 2 | quantum 1~lossy wires
+BadLine 2 | quantum 1~wire lossy
+BadLine 2 | quantum 1~wires Lossy
+BadLine 2 | quantum 1~wires lossyx
+BadLine 2 | quantum 1~wireslossy
+BadLine 1 | quantum 1 wires lossy
+OutOfRange 1 | quantum 0~wires lossy
+OutOfRange 1 | quantum 0~wires lossy~send 0 9
+-- Without it no word of wires is known.
+BadLine 2 | quantum 1~send 0 1
+BadLine 2 | quantum 1~ack 0 1
+BadLine 2 | quantum 1~send 0 1 1
+BadLine 2 | quantum 1~ack 0 1 1
+BadLine 2 | quantum 1~lose 0 1
+BadLine 2 | quantum 1~twice 0 1
+BadLine 2 | quantum 1~late 0 1
+BadLine 2 | quantum 1~lose ack 0 1
+BadLine 2 | quantum 1~twice ack 0 1
+BadLine 2 | quantum 1~late ack 0 1
+BadLine 2 | quantum 1~send 0 1~wires lossy
+BadLine 2 | quantum 1~send 9 9
+-- Words.
+BadLine 3 | quantum 1~wires lossy~send
+BadLine 3 | quantum 1~wires lossy~send 0
+BadLine 3 | quantum 1~wires lossy~send 0 1 1 1
+BadLine 3 | quantum 1~wires lossy~send 0 x
+BadLine 3 | quantum 1~wires lossy~send 0 1 x
+BadLine 3 | quantum 1~wires lossy~send -1 0
+BadLine 3 | quantum 1~wires lossy~ack
+BadLine 3 | quantum 1~wires lossy~ack ack 0 1
+BadLine 3 | quantum 1~wires lossy~send ack 0 1
+BadLine 3 | quantum 1~wires lossy~link ack 0 1
+BadLine 3 | quantum 1~wires lossy~ack send 0 1
+BadLine 3 | quantum 1~wires lossy~ack lose 0 1
+BadLine 3 | quantum 1~wires lossy~lose send 0 1
+BadLine 3 | quantum 1~wires lossy~lose ack 0
+BadLine 3 | quantum 1~wires lossy~lose ack
+BadLine 3 | quantum 1~wires lossy~lose ack ack 0 1
+BadLine 3 | quantum 1~wires lossy~Send 0 1
+BadLine 3 | quantum 1~wires lossy~sends 0 1
+BadLine 3 | quantum 1~wires lossy~frame 0 1
+BadLine 3 | quantum 1~wires lossy~lost 0 1
+BadLine 3 | quantum 1~wires lossy~quantum 1
+-- No count behind these.
+BadLine 3 | quantum 1~wires lossy~lose 0 1 1
+BadLine 3 | quantum 1~wires lossy~twice 0 1 1
+BadLine 3 | quantum 1~wires lossy~late 0 1 1
+BadLine 3 | quantum 1~wires lossy~lose ack 0 1 1
+BadLine 3 | quantum 1~wires lossy~twice ack 0 1 1
+BadLine 3 | quantum 1~wires lossy~late ack 0 1 1
+-- The faults of a link, of which the least is told.
+NoSuchNode 3 | quantum 1~wires lossy~send 4 0
+NoSuchNode 3 | quantum 1~wires lossy~ack 0 4
+NoSuchNode 3 | quantum 1~wires lossy~lose 4 4
+NoSuchNode 3 | quantum 1~wires lossy~twice 9223372036854775808 0
+NoSuchNode 3 | quantum 1~wires lossy~late 0 4
+NoSuchNode 3 | quantum 1~wires lossy~lose ack 0 4
+NoSuchNode 3 | quantum 1~wires lossy~twice ack 4 0
+NoSuchNode 3 | quantum 1~wires lossy~late ack 4 0
+NoSuchNode 3 | quantum 1~wires lossy~send 4 0 0
+NoSuchLink 3 | quantum 1~wires lossy~send 0 3
+NoSuchLink 3 | quantum 1~wires lossy~ack 1 2
+NoSuchLink 3 | quantum 1~wires lossy~lose 0 0
+NoSuchLink 3 | quantum 1~wires lossy~twice 3 0
+NoSuchLink 3 | quantum 1~wires lossy~late 2 1
+NoSuchLink 3 | quantum 1~wires lossy~lose ack 0 3
+NoSuchLink 3 | quantum 1~wires lossy~twice ack 1 1
+NoSuchLink 3 | quantum 1~wires lossy~late ack 1 2
+NoSuchLink 3 | quantum 1~wires lossy~ack 0 3 0
+OutOfRange 3 | quantum 1~wires lossy~send 0 1 0
+OutOfRange 3 | quantum 1~wires lossy~ack 0 1 2000001
+OutOfRange 4 | quantum 1~wires lossy~send 0 1~round 0
+NoSuchNode 4 | quantum 1~~wires lossy~lose 0 7~send 0 0"##;
+
+/// The four nodes without the link from 0 to 1.
+pub const AROUND_A_CUT: &str = r##"-- A line may not ask for it, and it goes in one direction.
+NoSuchLink 2 | quantum 1~link 0 1
+1 1 1-0 | quantum 1~link 1 0
+NoSuchLink 3 | quantum 1~wires lossy~link 0 1
+NoSuchLink 3 | quantum 1~wires lossy~send 0 1
+NoSuchLink 3 | quantum 1~wires lossy~ack 0 1
+NoSuchLink 3 | quantum 1~wires lossy~lose 0 1
+NoSuchLink 3 | quantum 1~wires lossy~twice 0 1
+NoSuchLink 3 | quantum 1~wires lossy~late 0 1
+NoSuchLink 3 | quantum 1~wires lossy~lose ack 0 1
+NoSuchLink 3 | quantum 1~wires lossy~twice ack 0 1
+NoSuchLink 3 | quantum 1~wires lossy~late ack 0 1
+NoSuchLink 3 | quantum 1~wires lossy~send 0 1 0
+1 8 lossy send:1-0 ack:1-0 lose:1-0 twice:1-0 late:1-0 lose-ack:1-0 twice-ack:1-0 late-ack:1-0 | quantum 1~wires lossy~send 1 0~ack 1 0~lose 1 0~twice 1 0~late 1 0~lose ack 1 0~twice ack 1 0~late ack 1 0
+-- A round passes it over.
+1 11 0 1 2 3 0-2 1-0 1-3 2-0 2-3 3-1 3-2 | quantum 1~round 1
+1 25 lossy 0 1 2 3 send:0-2 0-2 ack:0-2 send:1-0 1-0 ack:1-0 send:1-3 1-3 .. ack:3-2 | quantum 1~wires lossy~round 1
+1 2000000 lossy 0 1 2 3 send:0-2 0-2 ack:0-2 send:1-0 1-0 ack:1-0 send:1-3 1-3 .. ack:3-2 | quantum 1~wires lossy~round 80000
+TooManyEvents 2000001 | quantum 1~wires lossy~round 80000~late 1 0"##;
 
 /// A schedule on the four nodes.
 pub const ROUNDS: &str = "quantum 3~turn 1 2~round 2~link 2 3 3~turn 0~round 1000~link 3 1 5";

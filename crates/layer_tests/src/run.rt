@@ -89,8 +89,10 @@ fn write_run(
         }
         let event = schedule.event(place);
         let quantum = schedule.quantum();
-        let may = is_of_mesh(placement, &event) && (1..=10000).contains(&quantum);
-        if !may || machine.done() == u32::MAX {
+        if !is_of_mesh(placement, &event) {
+            return false;
+        }
+        if !(1..=10000).contains(&quantum) || machine.done() == u32::MAX {
             return false;
         }
         match machine.event(event, quantum) {
@@ -122,7 +124,7 @@ fn record(
     requires suits { Suits placement.now unit.now }
 {
     let mut sink = MemSink::make(alloc, 1048576, 4096, Vec::new(alloc))?;
-    let Ok(mut machine) = Machine::make(alloc, unit, placement) else {
+    let Ok(mut machine) = Machine::make(alloc, unit, placement, false) else {
         return Err(AllocError);
     };
     let whole = write_run(&mut machine, placement, schedule, &unit.names, &mut sink);

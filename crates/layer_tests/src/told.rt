@@ -1,22 +1,40 @@
 //! What the calls of a run ask of events and of lines, told at run time.
-ghost use Rattle.std.specs.Prelude.{◌≡◌, ◌≤◌, IfSome, length, true};
-ghost use Rattle.pool_machine.specs.Answers.{IsOfMesh};
+ghost use Rattle.std.specs.Prelude.{◌≡◌, ◌≤◌, Bool, IfSome, length, true};
+ghost use Rattle.mesh_semantics.specs.Paths.{is_cut};
+ghost use Rattle.pool_machine.specs.Answers.{IsOfMesh, IsServed};
 ghost use Rattle.record_lines.specs.Writable.{IsShort, id_of_item, id_of_label, id_of_line, id_of_what};
 
 use mesh_routing::Mesh;
-use pool_syntax::{Event, Item, Label, Line, NameId, Names, Placement, What};
+use pool_syntax::{Event, Item, Label, Line, LinkId, NameId, Names, Placement, What};
 
-/// Whether a node, or a link between two, is of the placement's mesh.
+/// Whether the link is one of the missing ones.
+fn is_cut(cuts: &[LinkId], from: u32, to: u32) -> bool
+    ensures { result ≡ is_cut cuts.now from to }
+{
+    for cut in cuts {
+        if cut.from == from && cut.to == to {
+            return true;
+        }
+    }
+    false
+}
+
+/// Whether an event is of a node or of a link of the placement's mesh, and none on a wire.
 pub fn is_of_mesh(placement: &Placement, event: &Event) -> bool
     requires wide { (1 ≤ placement.now.width) × (placement.now.width ≤ 8) }
     requires high { (1 ≤ placement.now.height) × (placement.now.height ≤ 8) }
-    ensures { result ≡ true → IsOfMesh placement.now event.now }
+    ensures mesh { result ≡ true → IsOfMesh placement.now event.now }
+    ensures served { (lossy : Bool) → result ≡ true → IsServed lossy event.now }
 {
     let mesh = Mesh::make(placement.width, placement.height);
     let nodes = placement.width * placement.height;
     match *event {
         Event::Turn { node } => node < nodes,
-        Event::Link { from, to } => from < nodes && to < nodes && mesh.is_link(from, to),
+        Event::Link { from, to } => {
+            let within = from < nodes && to < nodes;
+            within && mesh.is_link(from, to) && !is_cut(placement.cuts.items(), from, to)
+        }
+        Event::Wire { .. } => false,
     }
 }
 

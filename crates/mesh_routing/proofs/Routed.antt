@@ -14,6 +14,11 @@ use Rattle.mesh_routing.proofs.Found.{list_there}
 use Rattle.mesh_routing.proofs.Leaving.{counted_at, all_empty}
 use Rattle.mesh_routing.proofs.Changed.{put_at, pushed, changed}
 
+one_of : {X : Type 0} (xss : List (List X)) (i : ℕ) → length (get_or xss i []) ≤ lengths xss
+one_of [] i = omega arith
+one_of (xs ∷ xss) zero = omega arith
+one_of (xs ∷ xss) (suc i) = let a = one_of xss i in omega (arith, a)
+
 module _ {X : Type 0} (w h c : ℕ) (nodes : List (Pool X)) (wide : 1 ≤ w) (inv : AreNodes w h c nodes) where
   -- the packets of a link are those of its way
   pub there : (a b i : ℕ) → slice_get (ends w h a) i ≡ Some b → list_at pair_cmp (a, b) (view_of w h c nodes).links ≡ list_of (node_of nodes a) i
@@ -110,6 +115,10 @@ module _ {X : Type 0} (w h c : ℕ) (nodes : List (Pool X)) (wide : 1 ≤ w) (in
 
     pub there_read : (b i : ℕ) → slice_get (ends w h a) i ≡ Some b → list_at pair_cmp (a, b) (view_of w h c nodes).links ≡ list_of p i
     there_read b i s = there a b i s ∙ ap (λ q. list_of q i) is_node
+
+    -- a link has no more packets than leave its node
+    pub one_there : (i : ℕ) → length (list_of p i) ≤ leaving (view_of w h c nodes).links a
+    one_there i = let b = one_of p.lists i in omega (arith, b, left)
 
     pub free_there : (f : ℕ) → f ≡ free_of p → lengths p.lists ≤ p.cells → c - f ≡ leaving (view_of w h c nodes).links a
     free_there f k m = omega (arith, k, m, left, has_cells)

@@ -3,14 +3,14 @@ use Rattle.std.proofs.Common.{◌≡◌, ◌≢◌, ◌⊎◌, inl, inr, sym, ap
 use Rattle.std.proofs.lemmas.Nat.{div-add-mod', mod_below}
 use Rattle.pool_syntax.specs.declared.words.Placement.{Placement}
 use Rattle.mesh_semantics.specs.Paths.{toward, AreNeighbours}
-use Rattle.mesh_semantics.proofs.Laws.{ways}
+use Rattle.mesh_semantics.proofs.Laws.{toward_beside}
 
 -- the next node is one of the mesh, beside this one
 pub stepped : (w h a b n : ℕ) → 1 ≤ w → a < w * h → b < w * h → a ≢ b → n ≡ toward w a b → (n < w * h) × AreNeighbours w a n
 stepped w h a b n p i j d e =
-    let l : Placement = record { width = w; height = h; objects = 0; frames = 0; cells = 0; places = [] } in
-    let s = (ways l (omega (arith, p))).link a b i j d in
-    subst (λ m. (m < w * h) × AreNeighbours w a m) (sym e) (s.to, s.beside)
+    let l : Placement = record { width = w; height = h; objects = 0; frames = 0; cells = 0; places = []; cuts = []; routes = [] } in
+    let s = toward_beside l a b (omega (arith, p)) i j d in
+    subst (λ m. (m < w * h) × AreNeighbours w a m) (sym e) (s.1, s.2)
 
 -- a node beside another one with a number that is not less follows it in its row, or stands below it
 pub onward : (w h a b : ℕ) → 1 ≤ w → AreNeighbours w a b → a ≤ b → ((b ≡ a + 1) × (a % w + 1 < w)) ⊎ (b ≡ a + w)

@@ -1,5 +1,5 @@
 //! The packets on the links of a mesh.
-ghost use Rattle.std.specs.Prelude.{◌≡◌, ◌<◌, ◌≤◌, ◌*◌, ◌↔◌, [], drop, slice_get, IsErr, IsTrue, OnOk, IfErr, IfOk};
+ghost use Rattle.std.specs.Prelude.{◌≡◌, ◌<◌, ◌≤◌, ◌*◌, ◌↔◌, [], drop, length, slice_get, IsErr, IsTrue, OnOk, IfErr, IfOk};
 ghost use Rattle.std.specs.Option.{option_copied};
 ghost use Rattle.mesh_semantics.specs.Tables.{pair_cmp, list_at, push_list, put_list};
 ghost use Rattle.node_semantics.specs.Machine.{leaving};
@@ -89,6 +89,17 @@ impl<T: Copy> Links<T> {
             return None;
         }
         Some(pool.get(way, place as usize))
+    }
+
+    /// The number of packets on a link, in constant time.
+    pub fn length(&self, from: u32, to: u32) -> u32
+        requires link { IsLinkOf self.now from to }
+        ensures { result ≡ length (list_at pair_cmp (from, to) self.now.links) }
+    {
+        let _most = self.leaving(from);
+        let way = self.mesh.way(from, to);
+        let pool = &self.nodes[from as usize];
+        pool.len(way) as u32
     }
 
     /// Takes the first packet of a link off it, in constant time. None where there is none.

@@ -1,7 +1,9 @@
 //! The nodes and links of a mesh.
 ghost use Rattle.std.specs.Prelude.{◌≡◌, ◌<◌, ◌≤◌, ◌*◌, ◌↔◌, Some, IsNone, IsTrue, IfSome, length, slice_get};
-ghost use Rattle.mesh_semantics.specs.Paths.{toward, Adjacent, AreNeighbours};
+ghost use Rattle.mesh_semantics.specs.Paths.{toward, AreNeighbours};
 ghost use Rattle.mesh_routing.specs.Ways.{back, ends};
+
+use crate::beside::are_neighbours;
 
 /// A mesh of 1 to 8 columns and 1 to 8 rows. Node k stands in column k mod `width` and row k div `width`. A link goes
 /// from each node to each that stands beside it in its row or its column.
@@ -57,11 +59,7 @@ impl Mesh {
         requires to { to < self.now.width * self.now.height }
         ensures { IsTrue result ↔ AreNeighbours self.now.width from to }
     {
-        let same_row = from / self.width == to / self.width;
-        let same_column = from % self.width == to % self.width;
-        let beside = adjacent(from % self.width, to % self.width);
-        let above = adjacent(from / self.width, to / self.width);
-        (same_row && beside) || (same_column && above)
+        are_neighbours(u64::from(self.width), u64::from(from), u64::from(to))
     }
 
     // How many links leave the node.
@@ -100,12 +98,4 @@ impl Mesh {
         }
         self.ways_back(from) + (from % self.width + 1 < self.width) as usize
     }
-}
-
-// Whether one of the two follows the other.
-fn adjacent(x: u32, y: u32) -> bool
-    requires { (x < 64) × (y < 64) }
-    ensures { IsTrue result ↔ Adjacent x y }
-{
-    x + 1 == y || y + 1 == x
 }

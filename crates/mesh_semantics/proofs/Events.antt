@@ -1,15 +1,17 @@
 -- Each event keeps a sound configuration so, its labels lead to what is after it, and so does a whole record.
 use Rattle.std.proofs.Common.{◌≡◌, ◌≢◌, ◌⊎◌, inl, inr, refl, ap, subst, ◌∙◌, IsTrue, ℕ, ◌+◌, ◌==◌, List, [], ◌∷◌, ◌++◌, Option, Some, None, Bool, true, false, ◌&&◌}
-use Rattle.std.specs.Prelude.{filter}
+use Rattle.std.specs.Prelude.{filter, length, drop}
 use Rattle.std.specs.Ordering.{nat_cmp, eq_by_cmp, is_lt}
 use Rattle.std.specs.declared.cmp.Ordering.{Ordering}
 use Rattle.std.specs.declared.cmp.Ordering.TheVariants.{Less, Equal, Greater}
-use Rattle.std.specs.FinMap.{find, is_sorted}
+use Rattle.std.specs.FinMap.{find, put, is_sorted}
 use Rattle.std.specs.FinMap.Entries.{below_all}
 use Rattle.pool_syntax.specs.declared.words.Error.{Error}
 use Rattle.pool_syntax.specs.declared.words.Event.{Event}
 use Rattle.pool_syntax.specs.declared.words.Event.TheVariants as Ev
 use Rattle.pool_syntax.specs.declared.words.Label.{Label}
+use Rattle.pool_syntax.specs.declared.words.What.{What}
+use Rattle.pool_syntax.specs.declared.words.What.TheVariants as W
 use Rattle.pool_syntax.specs.declared.words.Line.TheVariants as R
 use Rattle.pool_syntax.specs.declared.words.Line.{Line}
 use Rattle.pool_syntax.specs.declared.words.End.TheVariants as E
@@ -21,14 +23,19 @@ use Rattle.mesh_semantics.specs.Kind.{Kind}
 use Rattle.mesh_semantics.specs.Language.{Language}
 use Rattle.mesh_semantics.specs.Config.{Config, object_of}
 use Rattle.mesh_semantics.specs.Moves.{move, moves}
-use Rattle.mesh_semantics.specs.Delay.{Delay, Holding, node_of, arrived_at, held, stepped_last}
-use Rattle.mesh_semantics.specs.Act.{Acted, Acts, Full, Nothing, act, node_turn, turn_of, ready_at, first_of, is_above, is_ready, can_step, object_turn, is_quiet}
+use Rattle.mesh_semantics.specs.Tables.{Pair, pair_cmp}
+use Rattle.mesh_semantics.specs.Paths.{move_head}
+use Rattle.mesh_semantics.specs.Wire.{Wire, Coming, Empty, Stale, Next, coming, take, wire_act}
+use Rattle.mesh_semantics.specs.Delay.{Packet, Wires, wire_at, enter_all, Delay, Holding, node_of, arrived_at, held, stepped_last}
+use Rattle.mesh_semantics.specs.Act.{Acted, Acts, Full, Nothing, plain_act, on_wires, wire_move, wire_turn, act_over, act, node_turn, turn_of, ready_at, first_of, is_above, is_ready, can_step, object_turn, is_quiet}
 use Rattle.mesh_semantics.specs.Sound.{IsSound}
 use Rattle.mesh_semantics.specs.Fit.{Fit}
 use Rattle.mesh_semantics.specs.Lawful.{Lawful}
 use Rattle.mesh_semantics.specs.Kept.{After, ShowsRun}
 use Rattle.mesh_semantics.specs.Record.{EndsOnce, shown, after, record_from, labels_of, labels, ends_quiet}
 use Rattle.mesh_semantics.proofs.Final.{no_transition}
+use Rattle.mesh_semantics.proofs.Started.{with_wires}
+use Rattle.mesh_semantics.proofs.WireLaws.{IsOfWire, TellsOfWire, tells_of_wire}
 use Rattle.mesh_semantics.proofs.Maps.{tied, untied}
 use Rattle.mesh_semantics.proofs.Turns.{Nearly, within_after, Acting, write_turn, fault_turn, call_posted}
 use Rattle.mesh_semantics.proofs.Meetings.{create_kept}
@@ -81,6 +88,11 @@ member_found {X} (k ∷ es) e s (inr m) =
             by Greater i = let q = rw i at u in cc
     apart (f ∷ fs) (inr m) b j = apart fs m (second (is_lt (nat_cmp k.0 f.0)) (below_all nat_cmp k.0 fs) b) j
 
+-- what happens on a wire shows no label
+silent : (w : What) → IsOfWire w → shown w ≡ []
+silent (W.Step label times) h = absurd h
+silent _ h = refl
+
 module _ {S : Type 0} (g : Language S) where
   moves_append : (c e : Config S) (xs ys : List Label) → moves g c xs ≡ Some e → moves g c (xs ++ ys) ≡ moves g e ys
   moves_append c e [] ys h = let same : c ≡ e = same_some h in ap (λ z. moves g z ys) same
@@ -96,9 +108,9 @@ module _ {S : Type 0} (g : Language S) (W : Config S → Type 0) (law : Lawful g
   }
 
   -- the object that steps at its node
-  record Stepping (c : Config S) (d : Delay) (n : ℕ) (e : ℕ × S) : Type 0 where
-    acting : Acting g W law l fit.ways c (stepped_last n e.0 d) n e.0 e.1
-    can : can_step (arrived_at d e.0) (g.kind e.0 e.1) ≡ true
+  pub record Stepping (c : Config S) (d : Delay) (n : ℕ) (e : ℕ × S) : Type 0 where
+    pub acting : Acting g W law l fit.ways c (stepped_last n e.0 d) n e.0 e.1
+    pub can : can_step (arrived_at d e.0) (g.kind e.0 e.1) ≡ true
 
   ready : (c : Config S) (d : Delay) (n : ℕ) (e : ℕ × S) → IsSound g W l c d → Member e (ready_at g c d n) → Stepping c d n e
   ready c d n e s m =
@@ -111,7 +123,7 @@ module _ {S : Type 0} (g : Language S) (W : Config S → Type 0) (law : Lawful g
       by None (Some x) i j found at h = absurd (let q = rw (i, j) at h in cc)
       by (Some t) f i j found at h = absurd (let q = rw i at h in cc)
 
-  turn_is : (c : Config S) (d : Delay) (n : ℕ) (e : ℕ × S) → IsSound g W l c d → turn_of g c d n ≡ Some e → Stepping c d n e
+  pub turn_is : (c : Config S) (d : Delay) (n : ℕ) (e : ℕ × S) → IsSound g W l c d → turn_of g c d n ≡ Some e → Stepping c d n e
   turn_is c d n e s h = by (first_of (filter (λ e. is_above (find nat_cmp n d.last) e.0) (ready_at g c d n))) refl
     where
       by : (z : Option (ℕ × S)) → first_of (filter (λ e. is_above (find nat_cmp n d.last) e.0) (ready_at g c d n)) ≡ z → Stepping c d n e
@@ -148,14 +160,39 @@ module _ {S : Type 0} (g : Language S) (W : Config S → Type 0) (law : Lawful g
       by (K.Waits b m) i h = absurd (let z : false ≡ true = h in cc)
       by K.Stuck i h = absurd (let z : false ≡ true = h in cc)
 
-  -- every event
-  pub act_kept : (c : Config S) (d : Delay) (q : ℕ) (e : Event) → IsSound g W l c d → After g W l c (act g l q c d e)
-  act_kept c d q (Ev.Link a b) s = link_kept g W law l fit c d a b s
-  act_kept c d q (Ev.Turn n) s = by (turn_of g c d n) refl
+  -- every event where each link hands out its own head
+  plain_kept : (c : Config S) (d : Delay) (q : ℕ) (e : Event) → IsSound g W l c d → After g W l c (plain_act g l q c d e)
+  plain_kept c d q (Ev.Wire w a b) s = (refl, s)
+  plain_kept c d q (Ev.Link a b) s = link_kept g W law l fit c d a b s
+  plain_kept c d q (Ev.Turn n) s = by (turn_of g c d n) refl
     where
       by : (z : Option (ℕ × S)) → turn_of g c d n ≡ z → After g W l c (node_turn g l q c d n z)
       by None i = (refl, s)
       by (Some e) i = within_after g W law l fit.ways n c (object_turn g l q c (stepped_last n e.0 d) n e.0 (g.kind e.0 e.1)) (turn_kept c d n q e s (turn_is c d n e s i))
+
+  entered_kept : (c : Config S) (before : List (Pair × Packet)) (ws : Wires) (x : Acted S) → After g W l c x → After g W l c (on_wires before ws x)
+  entered_kept c before ws (Acts w e d) h = (h.0, with_wires g W l e d (enter_all (drop (length before) d.links) ws) h.1)
+  entered_kept c before ws (Full k n) h = tt
+  entered_kept c before ws Nothing h = absurd h
+
+  over_kept : (c : Config S) (d : Delay) (q : ℕ) (ws : Option Wires) (e : Event) → IsSound g W l c d → After g W l c (act_over g l q c d ws e)
+  over_kept c d q None e s = plain_kept c d q e s
+  over_kept c d q (Some ws) (Ev.Turn n) s = entered_kept c d.links ws (plain_act g l q c d (Ev.Turn n)) (plain_kept c d q (Ev.Turn n) s)
+  over_kept c d q (Some ws) (Ev.Link a b) s = by (coming (wire_at ws (a, b)))
+    where
+      by : (x : Coming Packet) → After g W l c (wire_move g l c d ws a b x)
+      by Empty = (refl, s)
+      by (Stale n) = (refl, with_wires g W l c d _ s)
+      by (Next x) = entered_kept c (move_head (a, b) d.links) (put pair_cmp (a, b) (take (wire_at ws (a, b))) ws) (plain_act g l q c d (Ev.Link a b)) (plain_kept c d q (Ev.Link a b) s)
+  over_kept c d q (Some ws) (Ev.Wire w a b) s = by (wire_act w (wire_at ws (a, b))) (tells_of_wire w (wire_at ws (a, b)))
+    where
+      by : (r : Option (What × Wire Packet)) → TellsOfWire r → After g W l c (wire_turn c d ws (a, b) r)
+      by None h = (refl, s)
+      by (Some r) h = (ap (moves g c) (silent r.0 h), with_wires g W l c d _ s)
+
+  -- every event
+  pub act_kept : (c : Config S) (d : Delay) (q : ℕ) (e : Event) → IsSound g W l c d → After g W l c (act g l q c d e)
+  act_kept c d q e s = over_kept c d q d.wires e s
 
   -- no event is without an answer
   pub act_answers : (c : Config S) (d : Delay) (q : ℕ) (e : Event) → IsSound g W l c d → act g l q c d e ≢ Nothing

@@ -25,7 +25,7 @@ use Rattle.mesh_semantics.specs.Moves.{move, running, offered, numbered, can_pic
 use Rattle.mesh_semantics.specs.Paths.{under, along, path}
 use Rattle.mesh_semantics.specs.Delay as D
 use Rattle.mesh_semantics.specs.Delay.{Packet, Arrival, Holding, Delay, node_of, arrived_at, held}
-use Rattle.mesh_semantics.specs.Act.{first_arrival, is_possible, can_step, is_ready, is_quiet}
+use Rattle.mesh_semantics.specs.Act.{first_arrival, is_possible, can_step, is_ready, is_acknowledged, is_quiet}
 use Rattle.mesh_semantics.specs.Sound.{Sent, Called, sent_of, called_of, entries, call_by, Owns, OwnedAt, letters_in, letter, notes, IsSound}
 
 -- what cannot be done with what has arrived
@@ -192,7 +192,7 @@ module _ {S : Type 0} (g : Language S) (W : Config S → Type 0) (l : Placement)
     where
       by : (b : Bool) → list_any (λ e. is_ready g d e.0 e.1) c.objects ≡ b → b ≡ false
       by false e = refl
-      by true e = absurd (let q : (not (list_any (λ e. true) d.links) && false) ≡ true = rw e at quiet in grind (arith, q))
+      by true e = absurd (let q : (not (list_any (λ e. true) d.links) && (is_acknowledged d.wires && false)) ≡ true = rw e at quiet in grind (arith, q))
 
   rest : (o : ℕ) (x : S) → object_of c o ≡ Some x → g.fault x ≡ None → Rest g d o x
   rest o x h f = by (held d o) (g.kind o x) refl refl owned

@@ -1,6 +1,7 @@
 -- Maps after one entry was put or taken out.
-use Rattle.std.proofs.Common.{◌≡◌, ◌≢◌, refl, sym, ap, subst, ◌∙◌, IsTrue, ℕ, ◌+◌, List, [], ◌∷◌, ◌++◌, Some, None, true, false, not, ◌&&◌, cond, arith}
+use Rattle.std.proofs.Common.{◌≡◌, ◌≢◌, refl, sym, ap, subst, ◌∙◌, IsTrue, ℕ, ◌+◌, List, [], ◌∷◌, ◌++◌, Some, None, Bool, true, false, not, ◌&&◌, cond, arith}
 use Rattle.mesh_semantics.specs.Paths.{total}
+use Rattle.std.specs.List.{list_all}
 use Rattle.std.specs.Option.{unwrap_or}
 use Rattle.std.specs.Ordering.{nat_cmp, eq_by_cmp, is_lt, is_eq, ordering_then}
 use Rattle.std.specs.declared.cmp.Ordering.{Ordering}
@@ -103,6 +104,37 @@ untied_pair k j n = by (nat_cmp j.0 k.0) refl
     by Less i = rw i refl
     by Greater i = rw i refl
     by Equal i = rw i (untied j.1 k.1 (λ e. n (λ t. (nat_cmp-IsAntisymmetric j.0 k.0 i t, e t))))
+
+-- a map from pairs after one entry was put
+module _ {X : Type 0} where
+  pub find_pair_same : (k : Pair) (x : X) (es : List (Pair × X)) → find pair_cmp k (put pair_cmp k x es) ≡ Some x
+  find_pair_same k x es = find-put pair_cmp pair_total k k x es ∙ ap (λ b. cond b (Some x) (find pair_cmp k es)) (tied_pair k)
+
+  pub find_pair_other : (j k : Pair) (x : X) (es : List (Pair × X)) → j ≢ k → find pair_cmp j (put pair_cmp k x es) ≡ find pair_cmp j es
+  find_pair_other j k x es n = find-put pair_cmp pair_total j k x es ∙ ap (λ b. cond b (Some x) (find pair_cmp j es)) (untied_pair k j n)
+
+pair_same : (j k : Pair) → pair_cmp j k ≡ Equal → j ≡ k
+pair_same j k e = by (nat_cmp j.0 k.0) refl
+  where
+    by : (a : Ordering) → nat_cmp j.0 k.0 ≡ a → j ≡ k
+    by Less i = absurd (let q : Less ≡ Equal = rw i at e in cc)
+    by Greater i = absurd (let q : Greater ≡ Equal = rw i at e in cc)
+    by Equal i = let q : nat_cmp j.1 k.1 ≡ Equal = rw i at e in λ t. (nat_cmp-IsAntisymmetric j.0 k.0 i t, nat_cmp-IsAntisymmetric j.1 k.1 q t)
+
+-- a test of the keys of a map
+module _ {X : Type 0} (test : Pair → Bool) where
+  pub tested : (es : List (Pair × X)) → list_all (λ e. test e.0) es ≡ true → (k : Pair) (x : X) → find pair_cmp k es ≡ Some x → test k ≡ true
+  tested [] h k x f = absurd (cc)
+  tested (e ∷ es) h k x f = by (pair_cmp k e.0) refl (tested es (second (test e.0) (list_all (λ e. test e.0) es) h) k x)
+    where
+      by : (r : Ordering) → pair_cmp k e.0 ≡ r → (find pair_cmp k es ≡ Some x → test k ≡ true) → test k ≡ true
+      by Less i rest = rest (rw i at f)
+      by Greater i rest = rest (rw i at f)
+      by Equal i rest = subst (λ z. test z ≡ true) (sym (pair_same k e.0 i)) (first (test e.0) (list_all (λ e. test e.0) es) h)
+
+  pub all_tested : (es : List (Pair × X)) → ((k : Pair) → test k ≡ true) → list_all (λ e. test e.0) es ≡ true
+  all_tested [] f = refl
+  all_tested (e ∷ es) f = both (test e.0) (list_all (λ e. test e.0) es) (f e.0) (all_tested es f)
 
 -- a table of lists after one list was put, or a value last in one
 module _ {X : Type 0} where

@@ -1,9 +1,12 @@
--- In every mesh each path ends at its goal and has no node twice: each step comes one nearer.
-use Rattle.std.proofs.Common.{◌≡◌, ◌≢◌, ◌⊎◌, inl, inr, refl, ap, subst, ◌∙◌, ℕ, zero, suc, ◌+◌, ◌-◌, ◌*◌, ◌/◌, ◌%◌, ◌<◌, ◌≤◌, ◌==◌, ◌∷◌, Bool, true, false, nat_lt, arith}
+-- In every mesh without cuts and routes each path ends at its goal and has no node twice: each step comes one nearer.
+use Rattle.std.proofs.Common.{◌≡◌, ◌≢◌, ◌⊎◌, inl, inr, refl, sym, ap, subst, ◌∙◌, ℕ, zero, suc, ◌+◌, ◌-◌, ◌*◌, ◌/◌, ◌%◌, ◌<◌, ◌≤◌, ◌==◌, List, [], ◌∷◌, Bool, true, false, nat_lt, arith}
+use Rattle.std.specs.Option.{unwrap_or}
 use Rattle.std.proofs.lemmas.Nat.{div-add-mod', mod_below, mod-mul-add, div-mul-add, div_below}
 use Rattle.pool_syntax.specs.declared.words.Placement.{Placement}
 use Rattle.mesh_semantics.proofs.Tests.{equal, equals}
-use Rattle.mesh_semantics.specs.Paths.{toward, walk, Adjacent, AreNeighbours}
+use Rattle.pool_syntax.specs.declared.words.Route.{Route}
+use Rattle.mesh_semantics.specs.Paths.{toward, walk, Adjacent, AreNeighbours, IsLink, is_cut, route_of}
+use Rattle.mesh_semantics.specs.Routes.{AreBeside}
 use Rattle.mesh_semantics.specs.Ways.{Leads, In, Once, ends_of, Ways}
 
 -- how many steps it is from a to b
@@ -188,9 +191,24 @@ step_inside w h a b p i j n = by (a % w == b % w) (nat_lt a b) (nat_lt (a % w) (
         rw (x, z) (omega (arith, at, l, rb, k))
     by false u false x y z = rw (x, z) (omega (arith, i))
 
-pub ways : (l : Placement) → 0 < l.width → Ways l
-ways l p = record {
-  leads = λ a b i j. comes l.width b p (l.width * l.height) a (near l.width l.height a b p i j);
-  once = λ a b i j. once l.width b p (l.width * l.height) a;
-  link = λ a b i j n. record { from = i; to = step_inside l.width l.height a b p i j n; beside = (one_step l.width a b p n).beside };
+pub toward_beside : (l : Placement) (a b : ℕ) → 0 < l.width → a < l.width * l.height → b < l.width * l.height → a ≢ b → AreBeside l a (toward l.width a b)
+toward_beside l a b p i j n = (i, step_inside l.width l.height a b p i j n, (one_step l.width a b p n).beside)
+
+abbrev by_routes : ℕ → List Route → ℕ → ℕ → ℕ
+by_routes w rs a b = unwrap_or (route_of rs a b) (toward w a b)
+
+-- without cuts and routes every pair of nodes has a path
+pub plain_ways : (l : Placement) → 0 < l.width → l.cuts ≡ [] → l.routes ≡ [] → Ways l
+plain_ways l p no_cuts no_routes = record {
+  leads = λ a b i j.
+      subst (λ rs. Leads (by_routes l.width rs) b a (walk (by_routes l.width rs) (l.width * l.height) a b)) (sym no_routes)
+      (comes l.width b p (l.width * l.height) a (near l.width l.height a b p i j));
+  once = λ a b i j. subst (λ rs. Once (a ∷ ends_of (walk (by_routes l.width rs) (l.width * l.height) a b))) (sym no_routes) (once l.width b p (l.width * l.height) a);
+  link = λ a b i j n.
+      subst (λ rs. IsLink l (a, by_routes l.width rs a b)) (sym no_routes) (let t = toward_beside l a b p i j n in record {
+        from = t.0;
+        to = t.1;
+        beside = t.2;
+        there = ap (λ cs. is_cut cs a (toward l.width a b)) no_cuts;
+      });
 }

@@ -1,9 +1,9 @@
 -- Where objects correspond, every event gives the same line or the same limit, and what is after it corresponds.
 use Rattle.std.proofs.Common.{◌≡◌, refl, sym, ap, ap₂, subst, ◌∙◌, ℕ, zero, suc, ◌+◌, ◌*◌, ◌==◌, List, [], ◌∷◌, Option, Some, None, is_some, is_none, Bool, true, false, not, ◌&&◌, ◌||◌, if◌then◌else◌, nat_lt, nat_le, slice_get}
-use Rattle.std.specs.Prelude.{filter}
+use Rattle.std.specs.Prelude.{filter, length, drop}
 use Rattle.std.specs.List.{list_any}
 use Rattle.std.specs.Ordering.{nat_cmp}
-use Rattle.std.specs.FinMap.{find}
+use Rattle.std.specs.FinMap.{find, put}
 use Rattle.pool_syntax.specs.declared.words.Value.TheVariants as V
 use Rattle.pool_syntax.specs.declared.words.Event.{Event}
 use Rattle.pool_syntax.specs.declared.words.Event.TheVariants as Ev
@@ -13,6 +13,7 @@ use Rattle.pool_syntax.specs.declared.words.What.{What}
 use Rattle.pool_syntax.specs.declared.words.What.TheVariants as W'
 use Rattle.pool_syntax.specs.declared.words.FullKind.TheVariants as F
 use Rattle.pool_syntax.specs.declared.words.Placement.{Placement}
+use Rattle.mesh_semantics.specs.Tables.{Pair, pair_cmp}
 use Rattle.mesh_semantics.specs.Partial.{◌>>=◌}
 use Rattle.mesh_semantics.specs.Kind as K
 use Rattle.mesh_semantics.specs.Kind.{Kind, Alternative}
@@ -21,8 +22,9 @@ use Rattle.mesh_semantics.specs.Config.{Config}
 use Rattle.mesh_semantics.specs.Moves.{move}
 use Rattle.mesh_semantics.specs.Paths.{total, on_link, move_head}
 use Rattle.mesh_semantics.specs.Delay as D
-use Rattle.mesh_semantics.specs.Delay.{Packet, Arrival, Delay, node_of, post, arrived_at, take_arrival, held, hold, free, count_made, stepped_last, cell_count}
-use Rattle.mesh_semantics.specs.Act.{id, object_count, frame_count, is_possible, can_step, is_ready, ready_at, first_of, first_arrival, or_else, is_above, turn_of, Acted, Acts, Full, Nothing, within, shows, labelled, within_frames, local_steps, greatest, step_count, local_turn, class_place, goal_by, goal_of, next_name, create_turn, sent, accept_turn, chosen_turn, choice_turn, object_turn, node_turn, received, goal_node, passed, link_move, act, is_quiet}
+use Rattle.mesh_semantics.specs.Wire.{Wire, Coming, Empty, Stale, Next, coming, take, wire_act}
+use Rattle.mesh_semantics.specs.Delay.{Packet, Arrival, Wires, Delay, wire_at, enter_all, node_of, post, arrived_at, take_arrival, held, hold, free, count_made, stepped_last, cell_count}
+use Rattle.mesh_semantics.specs.Act.{id, object_count, frame_count, is_possible, can_step, is_ready, ready_at, first_of, first_arrival, or_else, is_above, turn_of, Acted, Acts, Full, Nothing, within, shows, labelled, within_frames, local_steps, greatest, step_count, local_turn, class_place, goal_by, goal_of, next_name, create_turn, sent, accept_turn, chosen_turn, choice_turn, object_turn, node_turn, received, goal_node, passed, link_move, plain_act, on_wires, wire_move, wire_turn, act_over, act, is_acknowledged, is_quiet}
 use Rattle.pool_syntax.specs.declared.words.Line.TheVariants as R'
 use Rattle.pool_syntax.specs.declared.words.End.TheVariants as E'
 use Rattle.mesh_semantics.specs.Record.{after, record_from}
@@ -218,14 +220,15 @@ module _ {S T : Type 0} (g : Language S) (h : Language T) (W : Config S → Type
         by true = received_same l d b x
         by false = (refl, z, refl)
 
-    -- every event
-    pub act_same : (l : Placement) (q : ℕ) (d : Delay) (ev : Event) → SameAct R (act g l q c d ev) (act h l q e d ev)
-    act_same l q d (Ev.Link a b) = by (first_of (on_link d.links (a, b)))
+    -- every event where each link hands out its own head
+    plain_same : (l : Placement) (q : ℕ) (d : Delay) (ev : Event) → SameAct R (plain_act g l q c d ev) (plain_act h l q e d ev)
+    plain_same l q d (Ev.Wire w a b) = (refl, z, refl)
+    plain_same l q d (Ev.Link a b) = by (first_of (on_link d.links (a, b)))
       where
         by : (f : Option Packet) → SameAct R (link_move g l c d a b f) (link_move h l e d a b f)
         by None = (refl, z, refl)
         by (Some x) = within_same l b _ _ (passed_same l (record d { links = move_head (a, b) d.links }) b x)
-    act_same l q d (Ev.Turn n) = by (turn_of g c d n) (turn_of h e d n) (turn_same c e d n z)
+    plain_same l q d (Ev.Turn n) = by (turn_of g c d n) (turn_of h e d n) (turn_same c e d n z)
       where
         by : (a : Option (ℕ × S)) (b : Option (ℕ × T)) → Both Twins a b → SameAct R (node_turn g l q c d n a) (node_turn h l q e d n b)
         by None None r = (refl, z, refl)
@@ -235,6 +238,36 @@ module _ {S T : Type 0} (g : Language S) (h : Language T) (W : Config S → Type
             (subst (λ k. SameAct R (object_turn g l q c (stepped_last n x.0 d) n x.0 (g.kind x.0 x.1)) (object_turn h l q e (stepped_last n k d) n k (h.kind k f.1))) r.0
             (subst (λ k. SameAct R (object_turn g l q c (stepped_last n x.0 d) n x.0 (g.kind x.0 x.1)) (object_turn h l q e (stepped_last n x.0 d) n x.0 k)) (sim.kinds x.0 x.1 f.1 r.1)
             (object_same l q (stepped_last n x.0 d) n x.0 (g.kind x.0 x.1))))
+
+    entered_same : (before : List (Pair × Packet)) (ws : Wires) (a : Acted S) (b : Acted T) → SameAct R a b → SameAct R (on_wires before ws a) (on_wires before ws b)
+    entered_same before ws (Acts w k d) (Acts v f t) (i, r, j) = (i, r, ap (λ (u : Delay). record u { wires = Some (enter_all (drop (length before) u.links) ws) }) j)
+    entered_same before ws (Acts w k d) (Full j m) r = absurd r
+    entered_same before ws (Acts w k d) Nothing r = absurd r
+    entered_same before ws (Full k n) (Acts v f t) r = absurd r
+    entered_same before ws (Full k n) (Full j m) r = r
+    entered_same before ws (Full k n) Nothing r = absurd r
+    entered_same before ws Nothing (Acts v f t) r = absurd r
+    entered_same before ws Nothing (Full j m) r = absurd r
+    entered_same before ws Nothing Nothing r = tt
+
+    -- every event
+    over_same : (l : Placement) (q : ℕ) (d : Delay) (ws : Option Wires) (ev : Event) → SameAct R (act_over g l q c d ws ev) (act_over h l q e d ws ev)
+    over_same l q d None ev = plain_same l q d ev
+    over_same l q d (Some ws) (Ev.Turn n) = entered_same d.links ws (plain_act g l q c d (Ev.Turn n)) (plain_act h l q e d (Ev.Turn n)) (plain_same l q d (Ev.Turn n))
+    over_same l q d (Some ws) (Ev.Link a b) = by (coming (wire_at ws (a, b)))
+      where
+        by : (x : Coming Packet) → SameAct R (wire_move g l c d ws a b x) (wire_move h l e d ws a b x)
+        by Empty = (refl, z, refl)
+        by (Stale n) = (refl, z, refl)
+        by (Next x) = entered_same (move_head (a, b) d.links) (put pair_cmp (a, b) (take (wire_at ws (a, b))) ws) (plain_act g l q c d (Ev.Link a b)) (plain_act h l q e d (Ev.Link a b)) (plain_same l q d (Ev.Link a b))
+    over_same l q d (Some ws) (Ev.Wire w a b) = by (wire_act w (wire_at ws (a, b)))
+      where
+        by : (r : Option (What × Wire Packet)) → SameAct R (wire_turn c d ws (a, b) r) (wire_turn e d ws (a, b) r)
+        by None = (refl, z, refl)
+        by (Some r) = (refl, z, refl)
+
+    pub act_same : (l : Placement) (q : ℕ) (d : Delay) (ev : Event) → SameAct R (act g l q c d ev) (act h l q e d ev)
+    act_same l q d ev = over_same l q d d.wires ev
 
   -- quiet, and whole records
 
@@ -246,7 +279,7 @@ module _ {S T : Type 0} (g : Language S) (h : Language T) (W : Config S → Type
       (ap₂ (λ a k. is_none (held d e.0) && is_none a && can_step (arrived_at d e.0) k) (sim.faults e.0 e.1 f.1 z.1) (sim.kinds e.0 e.1 f.1 z.1) ∙ ap (λ n. is_ready h d n f.1) z.0) (none_ready d es fs z.2)
 
   pub quiet_same : (c : Config S) (e : Config T) (d : Delay) → Related R c e → is_quiet g c d ≡ is_quiet h e d
-  quiet_same c e d z = ap (λ b. not (list_any (λ e. true) d.links) && not b) (none_ready d c.objects e.objects z.objects)
+  quiet_same c e d z = ap (λ b. not (list_any (λ e. true) d.links) && (is_acknowledged d.wires && not b)) (none_ready d c.objects e.objects z.objects)
 
   -- where every event of the first keeps W
   pub record_same : ((c c' : Config S) (d d' : Delay) (l : Placement) (q : ℕ) (ev : Event) (what : What) → W c → act g l q c d ev ≡ Acts what c' d' → W c')

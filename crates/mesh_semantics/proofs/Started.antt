@@ -7,7 +7,7 @@ use Rattle.mesh_semantics.proofs.Tests.{decide, equals}
 use Rattle.mesh_semantics.specs.Language.{Language}
 use Rattle.mesh_semantics.specs.Config.{Config, object_of}
 use Rattle.mesh_semantics.specs.Paths.{path}
-use Rattle.mesh_semantics.specs.Delay.{no_delay, node_of, slot_of}
+use Rattle.mesh_semantics.specs.Delay.{Delay, Wires, no_delay, node_of, slot_of}
 use Rattle.mesh_semantics.specs.Act.{object_count, frame_count}
 use Rattle.mesh_semantics.specs.Record.{last_place, root_node, start}
 use Rattle.mesh_semantics.specs.FitFor.{FitFor}
@@ -63,6 +63,13 @@ module _ {S : Type 0} (g : Language S) (W : Config S → Type 0) (l : Placement)
       limit : (n : ℕ) (t : Bool) → (node_of (k * 65536) == n) ≡ t → (object_count one n ≤ l.objects) × (frame_count g one n ≤ l.frames) × (0 + 0 ≤ l.cells)
       limit n true i = (rw i (omega (arith, a)), rw (i, f) (omega (arith, b)), omega arith)
       limit n false i = (rw i (omega arith), rw i (omega arith), omega arith)
+
+-- soundness asks nothing of wires
+pub with_wires : {S : Type 0} (g : Language S) (W : Config S → Type 0) (l : Placement) (c : Config S) (d : Delay) (ws : Wires) → IsSound g W l c d → IsSound g W l c (record d { wires = Some ws })
+with_wires g W l c d ws s = record {
+  state = record { typed = s.state.typed; names = s.state.names; owned = s.state.owned; packets = s.state.packets; arrivals = s.state.arrivals; lists = s.state.lists; order = s.state.order };
+  limits = s.limits;
+}
 
 last_there : (ps : List Place) (k : ℕ) → last_place ps ≡ Some (Pl.At k) → (i : ℕ) × (slice_get ps i ≡ Some (Pl.At k))
 last_there [] k h = absurd (cc)

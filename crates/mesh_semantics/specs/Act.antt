@@ -1,10 +1,10 @@
 -- The counts of a node, which objects are ready, whose turn it is, what one event does to a configuration and its delay, and when all is quiet.
--- One event is one turn of a node, or one move of the head of a link; nothing else happens at once.
+-- One event is one turn of a node, one move of the head of a link, or, where links are wires, one of what else happens on a wire; nothing else happens at once.
 -- Throughout, g is a language, l a placement, q the most local transitions of a turn, c a configuration with its delay d, n a node, and o the name of the object whose turn it is.
-use Rattle.std.specs.Prelude.{ℕ, zero, suc, ◌+◌, ◌*◌, ◌%◌, ◌==◌, List, [], ◌∷◌, filter, Option, Some, None, is_some, is_none, Bool, true, false, not, ◌&&◌, ◌||◌, if◌then◌else◌, nat_le, nat_lt, slice_get}
-use Rattle.std.specs.List.{list_any}
+use Rattle.std.specs.Prelude.{ℕ, zero, suc, ◌+◌, ◌*◌, ◌%◌, ◌==◌, List, [], ◌∷◌, length, drop, filter, Option, Some, None, is_some, is_none, Bool, true, false, not, ◌&&◌, ◌||◌, if◌then◌else◌, nat_le, nat_lt, slice_get}
+use Rattle.std.specs.List.{list_any, list_all}
 use Rattle.std.specs.Ordering.{nat_cmp}
-use Rattle.std.specs.FinMap.{find}
+use Rattle.std.specs.FinMap.{find, put}
 use Rattle.pool_syntax.specs.declared.words.Value.{Value}
 use Rattle.pool_syntax.specs.declared.words.Value.TheVariants as V
 use Rattle.pool_syntax.specs.declared.words.NameId.{NameId}
@@ -25,9 +25,11 @@ use Rattle.mesh_semantics.specs.Kind.{Kind, Alternative, has_name, answered}
 use Rattle.mesh_semantics.specs.Language.{Language}
 use Rattle.mesh_semantics.specs.Config.{Config}
 use Rattle.mesh_semantics.specs.Moves.{move}
+use Rattle.mesh_semantics.specs.Tables.{Pair, pair_cmp}
 use Rattle.mesh_semantics.specs.Paths.{total, on_link, move_head}
+use Rattle.mesh_semantics.specs.Wire.{Wire, Coming, Empty, Stale, Next, coming, take, wire_act, is_done}
 use Rattle.mesh_semantics.specs.Delay as D
-use Rattle.mesh_semantics.specs.Delay.{Packet, Arrival, Delay, node_of, slot_of, post, arrived_at, arrive, take_arrival, held, hold, free, made_by, count_made, stepped_last, cell_count}
+use Rattle.mesh_semantics.specs.Delay.{Packet, Arrival, Wires, Delay, wire_at, enter_all, node_of, slot_of, post, arrived_at, arrive, take_arrival, held, hold, free, made_by, count_made, stepped_last, cell_count}
 
 -- a number as a name
 abbrev pub id : ℕ → NameId
@@ -240,11 +242,46 @@ abbrev pub link_move : {S : Type 0} → Language S → Placement → Config S �
 link_move g l c d a b None = Acts W.Idle c d
 link_move g l c d a b (Some x) = within g l b (passed g l c (record d { links = move_head (a, b) d.links }) b x)
 
--- what an event does, with at most q local transitions in a turn
-abbrev pub act : {S : Type 0} → Language S → Placement → ℕ → Config S → Delay → Event → Acted S
-act g l q c d (Ev.Turn n) = node_turn g l q c d n (turn_of g c d n)
-act g l q c d (Ev.Link a b) = link_move g l c d a b (first_of (on_link d.links (a, b)))
+-- what an event does where each link hands out its own head, with at most q local transitions in a turn; nothing happens on wires
+abbrev pub plain_act : {S : Type 0} → Language S → Placement → ℕ → Config S → Delay → Event → Acted S
+plain_act g l q c d (Ev.Turn n) = node_turn g l q c d n (turn_of g c d n)
+plain_act g l q c d (Ev.Link a b) = link_move g l c d a b (first_of (on_link d.links (a, b)))
+plain_act g l q c d (Ev.Wire w a b) = Acts W.Idle c d
 
--- every link is empty and no object is ready
+-- what stands on links behind these packets has entered the wires
+abbrev pub on_wires : {S : Type 0} → List (Pair × Packet) → Wires → Acted S → Acted S
+on_wires before ws (Acts w c d) = Acts w c (record d { wires = Some (enter_all (drop (length before) d.links) ws) })
+on_wires before ws (Full k n) = Full k n
+on_wires before ws Nothing = Nothing
+
+-- the first frame of a wire comes to its far end: with the next packet the head of the link moves
+abbrev pub wire_move : {S : Type 0} → Language S → Placement → Config S → Delay → Wires → ℕ → ℕ → Coming Packet → Acted S
+wire_move g l c d ws a b Empty = Acts W.Idle c d
+wire_move g l c d ws a b (Stale n) = Acts (W.Stale n) c (record d { wires = Some (put pair_cmp (a, b) (take (wire_at ws (a, b))) ws) })
+wire_move g l c d ws a b (Next x) =
+    on_wires (move_head (a, b) d.links) (put pair_cmp (a, b) (take (wire_at ws (a, b))) ws) (link_move g l c d a b (first_of (on_link d.links (a, b))))
+
+-- something else happens on the wire of a link, or there is nothing to be done
+abbrev pub wire_turn : {S : Type 0} → Config S → Delay → Wires → Pair → Option (What × Wire Packet) → Acted S
+wire_turn c d ws k None = Acts W.Idle c d
+wire_turn c d ws k (Some r) = Acts r.0 c (record d { wires = Some (put pair_cmp k r.1 ws) })
+
+-- what an event does where links are wires or not
+abbrev pub act_over : {S : Type 0} → Language S → Placement → ℕ → Config S → Delay → Option Wires → Event → Acted S
+act_over g l q c d None e = plain_act g l q c d e
+act_over g l q c d (Some ws) (Ev.Turn n) = on_wires d.links ws (plain_act g l q c d (Ev.Turn n))
+act_over g l q c d (Some ws) (Ev.Link a b) = wire_move g l c d ws a b (coming (wire_at ws (a, b)))
+act_over g l q c d (Some ws) (Ev.Wire w a b) = wire_turn c d ws (a, b) (wire_act w (wire_at ws (a, b)))
+
+-- what an event does
+abbrev pub act : {S : Type 0} → Language S → Placement → ℕ → Config S → Delay → Event → Acted S
+act g l q c d e = act_over g l q c d d.wires e
+
+-- whether all that entered wires is acknowledged
+abbrev pub is_acknowledged : Option Wires → Bool
+is_acknowledged None = true
+is_acknowledged (Some ws) = list_all (λ e. is_done (wire_at ws e.0)) ws
+
+-- every link is empty, all that entered wires is acknowledged, and no object is ready
 abbrev pub is_quiet : {S : Type 0} → Language S → Config S → Delay → Bool
-is_quiet g c d = not (list_any (λ e. true) d.links) && not (list_any (λ e. is_ready g d e.0 e.1) c.objects)
+is_quiet g c d = not (list_any (λ e. true) d.links) && (is_acknowledged d.wires && not (list_any (λ e. is_ready g d e.0 e.1) c.objects))

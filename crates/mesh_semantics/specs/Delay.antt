@@ -1,6 +1,6 @@
 -- The delay: what a machine of nodes adds to a configuration. It has the packets on links, the arrived messages, and what each object waits for,
--- and no request numbers. The node of a name is the name div 65536, its slot the name mod 65536.
-use Rattle.std.specs.Prelude.{ℕ, ◌+◌, ◌/◌, ◌%◌, ◌==◌, List, [], ◌∷◌, ◌++◌, Option, Bool, ◌&&◌, if◌then◌else◌}
+-- where links are wires the frames on them, and no request numbers. The node of a name is the name div 65536, its slot the name mod 65536.
+use Rattle.std.specs.Prelude.{ℕ, ◌+◌, ◌/◌, ◌%◌, ◌==◌, List, [], ◌∷◌, ◌++◌, Option, Some, None, Bool, ◌&&◌, if◌then◌else◌}
 use Rattle.std.specs.Option.{unwrap_or}
 use Rattle.std.specs.Ordering.{nat_cmp}
 use Rattle.std.specs.FinMap.{find, put}
@@ -8,6 +8,7 @@ use Rattle.pool_syntax.specs.declared.words.Value.{Value}
 use Rattle.pool_syntax.specs.declared.words.Placement.{Placement}
 use Rattle.mesh_semantics.specs.Tables.{Pair, pair_cmp, without}
 use Rattle.mesh_semantics.specs.Kind.{has_name}
+use Rattle.mesh_semantics.specs.Wire.{Wire, empty_wire, enter}
 use Rattle.mesh_semantics.specs.Paths.{next, total, under, without_first, put_last}
 
 -- what travels on links
@@ -32,6 +33,10 @@ pub data Holding : Type 0 where
   -- its value is on the way
   Due : (value : Value) → Holding
 
+-- by the ends of a link, its wire; one that was never used has no entry
+abbrev pub Wires : Type 0
+Wires = List (Pair × Wire Packet)
+
 -- what the machine adds to a configuration
 pub record Delay : Type 0 where
   -- each packet with its link; of those on one link the head is the first
@@ -44,10 +49,25 @@ pub record Delay : Type 0 where
   pub last : List (ℕ × ℕ)
   -- by the node and the class, how many objects the node's own have made
   pub made : List (Pair × ℕ)
+  -- of the links, where they are wires that may lose, repeat and reorder; else each link hands out its own head
+  pub wires : Option Wires
 
 -- the delay at the start
 abbrev pub no_delay : Delay
-no_delay = record { links = []; arrived = []; holding = []; last = []; made = [] }
+no_delay = record { links = []; arrived = []; holding = []; last = []; made = []; wires = None }
+
+-- the same with a wire on each link
+abbrev pub no_delay_on_wires : Delay
+no_delay_on_wires = record no_delay { wires = Some [] }
+
+-- the wire of a link
+abbrev pub wire_at : Wires → Pair → Wire Packet
+wire_at ws k = unwrap_or (find pair_cmp k ws) empty_wire
+
+-- what each link gets enters its wire
+abbrev pub enter_all : List (Pair × Packet) → Wires → Wires
+enter_all [] ws = ws
+enter_all (e ∷ es) ws = enter_all es (put pair_cmp e.0 (enter e.1 (wire_at ws e.0)) ws)
 
 -- the node of a name
 abbrev pub node_of : ℕ → ℕ

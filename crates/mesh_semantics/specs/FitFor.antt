@@ -3,8 +3,11 @@ use Rattle.std.specs.Prelude.{◌≡◌, ℕ, ◌*◌, ◌<◌, ◌≤◌, lengt
 use Rattle.pool_syntax.specs.declared.words.Place.TheVariants as Pl
 use Rattle.pool_syntax.specs.declared.words.Placement.{Placement}
 use Rattle.mesh_semantics.specs.Language.{Language}
+use Rattle.mesh_semantics.specs.Ways.{Ways}
 
 pub record FitFor {S : Type 0} (g : Language S) (l : Placement) : Type 0 where
+  -- each pair of nodes has a path
+  pub ways : Ways l
   -- the mesh has a node
   pub nodes : 0 < l.width * l.height
   -- a node has room for an object, and a slot of any of its objects has 16 bits

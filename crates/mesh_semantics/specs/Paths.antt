@@ -1,6 +1,10 @@
 -- The nodes and links of a mesh, the path of a packet through it, and what is on links. Node k stands in column k mod width and row k div width.
-use Rattle.std.specs.Prelude.{◌≡◌, ◌⊎◌, ℕ, zero, suc, ◌+◌, ◌-◌, ◌*◌, ◌/◌, ◌%◌, ◌<◌, ◌==◌, List, [], ◌∷◌, ◌++◌, Bool, ◌&&◌, if◌then◌else◌, nat_lt, flat_map}
+use Rattle.std.specs.Prelude.{◌≡◌, ◌⊎◌, ℕ, zero, suc, ◌+◌, ◌-◌, ◌*◌, ◌/◌, ◌%◌, ◌<◌, ◌==◌, List, [], ◌∷◌, ◌++◌, Option, Some, None, Bool, false, ◌&&◌, ◌||◌, if◌then◌else◌, nat_eq, nat_lt, flat_map}
+use Rattle.std.specs.List.{list_any}
+use Rattle.std.specs.Option.{unwrap_or}
+use Rattle.pool_syntax.specs.declared.words.LinkId.{LinkId}
 use Rattle.pool_syntax.specs.declared.words.Placement.{Placement}
+use Rattle.pool_syntax.specs.declared.words.Route.{Route}
 use Rattle.mesh_semantics.specs.Tables.{Pair}
 
 -- two numbers, one of which follows the other
@@ -11,18 +15,36 @@ Adjacent x y = (x + 1 ≡ y) ⊎ (y + 1 ≡ x)
 abbrev pub AreNeighbours : ℕ → ℕ → ℕ → Type 0
 AreNeighbours w a b = ((a / w ≡ b / w) × Adjacent (a % w) (b % w)) ⊎ ((a % w ≡ b % w) × Adjacent (a / w) (b / w))
 
--- a link of the mesh goes from a node to a neighbour
+-- the same as a test
+abbrev pub are_adjacent : ℕ → ℕ → Bool
+are_adjacent m n = nat_eq (m + 1) n || nat_eq (n + 1) m
+
+abbrev pub are_neighbours : ℕ → ℕ → ℕ → Bool
+are_neighbours w a b = (nat_eq (a / w) (b / w) && are_adjacent (a % w) (b % w)) || (nat_eq (a % w) (b % w) && are_adjacent (a / w) (b / w))
+
+-- whether the link from a to b is one of the missing ones
+abbrev pub is_cut : List LinkId → ℕ → ℕ → Bool
+is_cut cuts a b = list_any (λ (k : LinkId). k.from == a && k.to == b) cuts
+
+-- a link of the mesh goes from a node to a neighbour, and is not cut
 pub record IsLink (l : Placement) (k : Pair) : Type 0 where
   pub from : k.0 < l.width * l.height
   pub to : k.1 < l.width * l.height
   pub beside : AreNeighbours l.width k.0 k.1
+  pub there : is_cut l.cuts k.0 k.1 ≡ false
 
 -- the next node on the way from one node to another one in a mesh of this width: first along the row, then along the column
 abbrev pub toward : ℕ → ℕ → ℕ → ℕ
 toward w a b = if a % w == b % w then (if nat_lt a b then a + w else a - w) else (if nat_lt (a % w) (b % w) then a + 1 else a - 1)
 
+-- where the first route for b at a leads
+abbrev pub route_of : List Route → ℕ → ℕ → Option ℕ
+route_of [] a b = None
+route_of (r ∷ rs) a b = if r.at == a && r.goal == b then Some r.next else route_of rs a b
+
+-- the next node on the way from a to b: by a route where one stands
 abbrev pub next : Placement → ℕ → ℕ → ℕ
-next l = toward l.width
+next l a b = unwrap_or (route_of l.routes a b) (toward l.width a b)
 
 -- the links on the way from a to b by these steps, at most so many
 abbrev pub walk : (ℕ → ℕ → ℕ) → ℕ → ℕ → ℕ → List Pair

@@ -6,6 +6,7 @@ use Rattle.pool_syntax.specs.declared.words.Value.TheVariants as V
 use Rattle.pool_syntax.specs.declared.words.Error.{Error}
 use Rattle.pool_syntax.specs.declared.words.Placement.{Placement}
 use Rattle.mesh_semantics.specs.Tables.{Pair}
+pub use Rattle.mesh_semantics.specs.Tables.{Each}
 use Rattle.mesh_semantics.specs.Message.{Message}
 use Rattle.mesh_semantics.specs.Kind as K
 use Rattle.mesh_semantics.specs.Kind.{Kind, waits_on}
@@ -15,11 +16,6 @@ use Rattle.mesh_semantics.specs.Paths.{next, path, along, IsLink}
 use Rattle.mesh_semantics.specs.Delay as D
 use Rattle.mesh_semantics.specs.Delay.{Packet, Arrival, Holding, Delay, node_of, slot_of, arrived_at, held, cell_count}
 use Rattle.mesh_semantics.specs.Act.{object_count, frame_count, goal_node}
-
--- each element has the property
-abbrev pub Each : {X : Type 0} → (X → Type 0) → List X → Type 0
-Each P [] = Unit {0}
-Each P (x ∷ xs) = P x × Each P xs
 
 -- what is on the way for an object: a packet, or its call that has arrived
 pub data Entry : Type 0 where

@@ -24,7 +24,7 @@ abbrev pub ends_of : List Pair → List ℕ
 ends_of [] = []
 ends_of (k ∷ ks) = k.1 ∷ ends_of ks
 
--- each path of a mesh ends at its goal and has no node twice, and each step on the way to a node of the mesh is over a link of the mesh
+-- each path between nodes of the mesh ends at its goal and has no node twice, and each of its steps is over a link of the mesh that is not cut
 pub record Ways (l : Placement) : Type 0 where
   pub leads : (a b : ℕ) → a < l.width * l.height → b < l.width * l.height → Leads (next l) b a (path l a b)
   pub once : (a b : ℕ) → a < l.width * l.height → b < l.width * l.height → Once (a ∷ ends_of (path l a b))

@@ -1,32 +1,43 @@
 //! Laws of placed machines, over the definitions alone: each is the contract of a function that does nothing. They hold of any language of objects, whose states
 //! are the type parameters `S` and `T`. What is kept of a configuration is a property, and how objects of two languages correspond a relation: a contract ranges over
 //! these as over what a function gives, from the type parameters `K` and `M`.
-ghost use Rattle.std.specs.Prelude.{◌≡◌, ◌≢◌, ◌<◌, ◌*◌, ℕ, List, [], Some, None, true};
+ghost use Rattle.std.specs.Prelude.{◌≡◌, ◌≢◌, ◌<◌, ◌*◌, ℕ, ◌==◌, List, [], ◌++◌, length, drop, Option, Some, None, true, if◌then◌else◌, slice_get};
 ghost use Rattle.pool_syntax.specs.declared.words.Label.{Label};
 ghost use Rattle.pool_syntax.specs.declared.words.Event.{Event};
 ghost use Rattle.pool_syntax.specs.declared.words.Event.TheVariants as Ev;
+ghost use Rattle.pool_syntax.specs.declared.words.What.{What};
 ghost use Rattle.pool_syntax.specs.declared.words.What.TheVariants as W;
+ghost use Rattle.pool_syntax.specs.declared.words.WireAct.{WireAct};
 ghost use Rattle.pool_syntax.specs.declared.words.Placement.{Placement};
 ghost use Rattle.mesh_semantics.specs.Language.{Language};
 ghost use Rattle.mesh_semantics.specs.Config.{Config};
 ghost use Rattle.mesh_semantics.specs.Moves.{move};
-ghost use Rattle.mesh_semantics.specs.Paths.{on_link};
+ghost use Rattle.mesh_semantics.specs.Tables.{Pair};
 ghost use Rattle.mesh_semantics.specs.Ways.{Ways};
+ghost use Rattle.mesh_semantics.specs.Routes.{IsRouted, without_route};
+ghost use Rattle.mesh_semantics.specs.Wire.{Happening, WireFacts, coming, empty_wire, entered, happened, send, take, wanted, wire_act};
+ghost use Rattle.mesh_semantics.specs.KeptWire.{Carries, Follows, KeptWire, empty_kept, kept_act, kept_coming, kept_send, kept_take, kept_wanted, whole};
 ghost use Rattle.mesh_semantics.specs.Traffic.{Change, Inside, IsPrefix, between, traffic, no_traffic, Traffic};
-ghost use Rattle.mesh_semantics.specs.Delay.{Delay, no_delay};
+ghost use Rattle.mesh_semantics.specs.Delay.{Delay, Wires, no_delay, no_delay_on_wires, wire_at};
 ghost use Rattle.mesh_semantics.specs.Act.{Acts, Nothing, act, is_quiet, ready_at};
-ghost use Rattle.mesh_semantics.specs.Record.{record_from, start};
+ghost use Rattle.mesh_semantics.specs.Record.{record_from, record_of, record_on_wires, start};
+ghost use Rattle.mesh_semantics.specs.Asks.{EachAnswersPost};
 ghost use Rattle.mesh_semantics.specs.Standing.{IsCycle, Contained, called_by, cycles, standing};
 ghost use Rattle.mesh_semantics.specs.Sound.{IsSound};
+ghost use Rattle.mesh_semantics.specs.Wired.{AreReached, KeepsWires, NothingComes, NothingDone};
 ghost use Rattle.mesh_semantics.specs.FitFor.{FitFor};
 ghost use Rattle.mesh_semantics.specs.Lawful.{Lawful};
+ghost use Rattle.mesh_semantics.specs.Waits.{Waits};
 ghost use Rattle.mesh_semantics.specs.Kept.{After, ShowsRun};
 ghost use Rattle.mesh_semantics.specs.Simulates.{Simulates, Related, Corresponds, SameAct, SameRecord};
 ghost use Rattle.mesh_semantics.specs.Given.{IsGiven, AreGiven};
 
-/// Each path of a mesh ends at its goal and has no node twice, and each of its steps is over a link of the mesh.
+/// Where no pair of nodes is without route, each path ends at its goal and has no node twice, and each of its steps is over a link of the mesh that is not cut; and only
+/// there. Without cuts and routes no pair is.
 pub fn paths_end_without_a_node_twice()
-    ensures { (l : Placement) → 0 < l.width → Ways l }
+    ensures routed { (l : Placement) → IsRouted l → without_route l ≡ None → Ways l }
+    ensures none { (l : Placement) → Ways l → without_route l ≡ None }
+    ensures plain { (l : Placement) → 0 < l.width → l.cuts ≡ [] → l.routes ≡ [] → Ways l }
 {}
 
 /// Of each pair of nodes what has left the links is a prefix of what entered, in order, whatever enters and whichever links hand out their heads.
@@ -35,10 +46,32 @@ pub fn order_is_kept_between_two_nodes<X>()
         → IsPrefix (between a b (traffic l no_traffic es).left) (between a b (traffic l no_traffic es).entered) }
 {}
 
-/// The start is sound, with nothing on its way: one object, in which no method is under way, on a node of the mesh.
+/// Whatever happens on a wire, in whatever order: what was handed out is a front of what entered, so each packet leaves at most once and in order; what is acknowledged
+/// was handed out; and each frame that is under way carries what has its number.
+pub fn wires_hand_out_what_entered_in_order<X>()
+    ensures facts { (hs : List (Happening X)) → WireFacts (happened hs empty_wire) }
+    ensures entered { (hs : List (Happening X)) → (happened hs empty_wire).put ≡ entered hs }
+{}
+
+/// What is kept of a wire does as the wire does, for every list that it carries: it tells the same, what is then kept carries the list, and the same change was made. What
+/// carries a list carries every longer one.
+pub fn a_kept_wire_does_what_its_wire_does<X>()
+    ensures empty { Carries (empty_kept {X = X}) [] }
+    ensures longer { (v : KeptWire X) (put more : List X) → Carries v put → Carries v (put ++ more) }
+    ensures wanted { (v : KeptWire X) (put : List X) → kept_wanted v (length put) ≡ wanted (whole v put) }
+    ensures coming { (v : KeptWire X) (put : List X) → Carries v put → kept_coming v ≡ coming (whole v put) }
+    ensures comes { (v : KeptWire X) (put : List X) → Carries v put → Carries (kept_take v) put × (whole (kept_take v) put ≡ take (whole v put)) }
+    ensures sends { (v : KeptWire X) (put : List X) (n : ℕ) (fresh : Option X) → Carries v put → kept_wanted v (length put) ≡ Some n
+        → fresh ≡ (if n == v.sent then slice_get put n else None) → Follows put (Some (kept_send n fresh v)) (send (whole v put)) }
+    ensures acts { (a : WireAct) (v : KeptWire X) (put : List X) → Carries v put → Follows put (kept_act a (drop v.handed put) v) (wire_act a (whole v put)) }
+{}
+
+/// The start is sound, with nothing on its way and with or without wires: one object, in which no method is under way, on a node of the mesh.
 pub fn the_start_is_sound<S, K>()
-    ensures { (g : Language S) (kept : K → Config S) (l : Placement) (x : S) (c : Config S) → FitFor g l → g.root ≡ Some x → g.frames x ≡ 0
+    ensures start { (g : Language S) (kept : K → Config S) (l : Placement) (x : S) (c : Config S) → FitFor g l → g.root ≡ Some x → g.frames x ≡ 0
         → start g l ≡ Some c → IsGiven kept c → IsSound g (IsGiven kept) l c no_delay }
+    ensures on_wires { (g : Language S) (kept : K → Config S) (l : Placement) (x : S) (c : Config S) → FitFor g l → g.root ≡ Some x → g.frames x ≡ 0
+        → start g l ≡ Some c → IsGiven kept c → IsSound g (IsGiven kept) l c no_delay_on_wires }
 {}
 
 /// From a sound configuration the labels of an event's line lead to the configuration after it, which is sound with its delay. A line without labels leaves the
@@ -54,6 +87,22 @@ pub fn each_event_answers<S, K>()
         → IsSound g (IsGiven kept) l c d → act g l q c d e ≢ Nothing }
 {}
 
+/// Where links are wires, an event keeps what holds of them: what is on a link is the rest of what entered its wire, behind what the wire has handed out. And what
+/// becomes of each wire is what may happen on a wire. So does a whole record.
+pub fn wires_are_kept<S>()
+    ensures event { (g : Language S) (l : Placement) (q : ℕ) (c e : Config S) (d f : Delay) (ev : Event) (what : What) → KeepsWires d → act g l q c d ev ≡ Acts what e f
+        → KeepsWires f × AreReached d.wires f.wires }
+    ensures record { (g : Language S) (l : Placement) (q : ℕ) (c : Config S) (d : Delay) (done : ℕ) (es : List Event) → KeepsWires d
+        → KeepsWires (record_from g l q c d done es).delay × AreReached d.wires (record_from g l q c d done es).delay.wires }
+    ensures start { KeepsWires no_delay_on_wires }
+{}
+
+/// Where all is quiet, all that entered a wire is handed out and acknowledged.
+pub fn quiet_wires_are_acknowledged<S>()
+    ensures { (g : Language S) (c : Config S) (d : Delay) (ws : Wires) (k : Pair) → d.wires ≡ Some ws → is_quiet g c d ≡ true
+        → (wire_at ws k).acked ≡ length (wire_at ws k).put }
+{}
+
 /// A sound configuration in which all is quiet has no transition.
 pub fn quiet_has_no_transition<S, K>()
     ensures { (g : Language S) (kept : K → Config S) (l : Placement) (c : Config S) (d : Delay) (lab : Label) → IsSound g (IsGiven kept) l c d
@@ -67,15 +116,28 @@ pub fn records_show_runs<S, K>()
         → IsSound g (IsGiven kept) l c d → ShowsRun g (IsGiven kept) l c (record_from g l q c d done es) }
 {}
 
-/// An idle line changes nothing: no object of a node is ready at its idle turn, and nothing is on a link at its idle move. Where that is so, the line is idle.
+/// Each line of a record that answers a request has the number of a line above 0, which posts this request: of the same object, for the class or the call that the line names.
+pub fn each_line_answers_its_post<S, K>()
+    ensures answers { (g : Language S) (kept : K → Config S) (l : Placement) (q : ℕ) (c : Config S) (es : List Event) → Lawful g (IsGiven kept) → Waits g (IsGiven kept) → FitFor g l
+        → start g l ≡ Some c → IsSound g (IsGiven kept) l c no_delay → EachAnswersPost (record_of g l q es).lines }
+    ensures on_wires { (g : Language S) (kept : K → Config S) (l : Placement) (q : ℕ) (c : Config S) (es : List Event) → Lawful g (IsGiven kept) → Waits g (IsGiven kept) → FitFor g l
+        → start g l ≡ Some c → IsSound g (IsGiven kept) l c no_delay → EachAnswersPost (record_on_wires g l q es).lines }
+{}
+
+/// An idle line changes nothing: no object of a node is ready at its idle turn, nothing comes off a link at its idle move, and nothing is to be done at an idle event of a
+/// wire. Where that is so, the line is idle.
 pub fn idle_is_nothing<S>()
     ensures turn { (g : Language S) (l : Placement) (q : ℕ) (c e : Config S) (d f : Delay) (n : ℕ) → act g l q c d (Ev.Turn n) ≡ Acts W.Idle e f
         → (ready_at g c d n ≡ []) × (e ≡ c) × (f ≡ d) }
-    ensures link { (g : Language S) (l : Placement) (q : ℕ) (c e : Config S) (d f : Delay) (a b : ℕ) → act g l q c d (Ev.Link a b) ≡ Acts W.Idle e f
-        → (on_link d.links (a, b) ≡ []) × (e ≡ c) × (f ≡ d) }
+    ensures link { (g : Language S) (l : Placement) (q : ℕ) (c e : Config S) (d f : Delay) (a b : ℕ) → KeepsWires d → act g l q c d (Ev.Link a b) ≡ Acts W.Idle e f
+        → NothingComes d.wires d (a, b) × (e ≡ c) × (f ≡ d) }
+    ensures wire { (g : Language S) (l : Placement) (q : ℕ) (c e : Config S) (d f : Delay) (w : WireAct) (a b : ℕ) → act g l q c d (Ev.Wire w a b) ≡ Acts W.Idle e f
+        → NothingDone d.wires w (a, b) × (e ≡ c) × (f ≡ d) }
     ensures idle_turn { (g : Language S) (l : Placement) (q : ℕ) (c : Config S) (d : Delay) (n : ℕ) → ready_at g c d n ≡ [] → act g l q c d (Ev.Turn n) ≡ Acts W.Idle c d }
-    ensures idle_link { (g : Language S) (l : Placement) (q : ℕ) (c : Config S) (d : Delay) (a b : ℕ) → on_link d.links (a, b) ≡ []
+    ensures idle_link { (g : Language S) (l : Placement) (q : ℕ) (c : Config S) (d : Delay) (a b : ℕ) → NothingComes d.wires d (a, b)
         → act g l q c d (Ev.Link a b) ≡ Acts W.Idle c d }
+    ensures idle_wire { (g : Language S) (l : Placement) (q : ℕ) (c : Config S) (d : Delay) (w : WireAct) (a b : ℕ) → NothingDone d.wires w (a, b)
+        → act g l q c d (Ev.Wire w a b) ≡ Acts W.Idle c d }
 {}
 
 /// The listed cycles are the cycles of calls: each is listed, and no other.

@@ -29,11 +29,11 @@ use Rattle.node_semantics.proofs.StandsForParts.{assemble}
 use Rattle.node_semantics.proofs.SmallChanges.{aside_stands}
 
 module _ {S : Type 0} (g : Language S) (l : Placement) (m : Machine S) (c : Config S) (d : Delay) (st : MachineStandsFor g l m c d) (n : ℕ) (x : NodeState S) (node : slice_get m.nodes n ≡ Some x) where
-  pub last_stands : (i : ℕ) → MachineStandsFor g l (record { nodes = set_at m.nodes n (record x { last = Some i }); links = m.links }) c (record d { last = put nat_cmp n i d.last })
+  pub last_stands : (i : ℕ) → MachineStandsFor g l (record m { nodes = set_at m.nodes n (record x { last = Some i }); links = m.links }) c (record d { last = put nat_cmp n i d.last })
   last_stands i = aside_stands g l m c d st n x node (record x { last = Some i }) (put nat_cmp n i d.last) d.made refl
       (sym (find_put_same n i d.last)) (λ b e. find_put_other b n i d.last e) (st.made n x node) (λ b k e. refl)
 
-  pub count_stands : (k : ℕ) → In k g.classes → MachineStandsFor g l (record { nodes = set_at m.nodes n (count_one g k x); links = m.links }) c (count_made n k d)
+  pub count_stands : (k : ℕ) → In k g.classes → MachineStandsFor g l (record m { nodes = set_at m.nodes n (count_one g k x); links = m.links }) c (count_made n k d)
   count_stands k class = aside_stands g l m c d st n x node (count_one g k x) d.last (count_made n k d).made refl
       (st.last n x node) (λ b e. refl) own others
     where
@@ -94,14 +94,14 @@ module _ {S : Type 0} (g : Language S) (l : Placement) (m : Machine S) (c : Conf
     no_object w q k b z e i = let a = req.served_waits c b z q w e i in let f = a.2 in cc
 
     -- the other slots stay
-    pub add_there : (y : S) (q : ℕ) → q ≢ next_of → slot_at (record { nodes = set_at m.nodes n (add_slot x y); links = m.links }) q ≡ slot_at m q
+    pub add_there : (y : S) (q : ℕ) → q ≢ next_of → slot_at (record m { nodes = set_at m.nodes n (add_slot x y); links = m.links }) q ≡ slot_at m q
     add_there y q e = by (decide (node_of q) n)
       where
         x' : NodeState S
         x' = add_slot x y
 
         m' : Machine S
-        m' = record { nodes = set_at m.nodes n x'; links = m.links }
+        m' = record m { nodes = set_at m.nodes n x'; links = m.links }
 
         by : (node_of q ≡ n) ⊎ (node_of q ≢ n) → slot_at m' q ≡ slot_at m q
         by (inr i) = elsewhere m m' n x x' node refl q i
@@ -111,7 +111,7 @@ module _ {S : Type 0} (g : Language S) (l : Placement) (m : Machine S) (c : Conf
             ∙ sym (before m m' n x x' node refl q i)
 
     pub add_stands : (y : S) → ((b : ℕ) (z : S) → object_of c b ≡ Some z → In next_of (g.callers z) → ⊥) → entries d next_of ≡ [] → g.callers y ≡ []
-        → MachineStandsFor g l (record { nodes = set_at m.nodes n (add_slot x y); links = m.links }) (put_object c next_of y) d
+        → MachineStandsFor g l (record m { nodes = set_at m.nodes n (add_slot x y); links = m.links }) (put_object c next_of y) d
     add_stands y unserved none alone = assemble g l m c d st n x node x' m.links c' d few (st.last n x node) (λ b e. refl) (st.made n x node) (λ b k e. refl)
         (λ q. spots q (decide q next_of)) st.links st.in_order
         (λ z. link_kept g m m' (But next_of) keep (list_at pair_cmp z m.links) (on_link d.links z) (st.links z) (r.on_links z) grow (st.on_links z))
@@ -124,7 +124,7 @@ module _ {S : Type 0} (g : Language S) (l : Placement) (m : Machine S) (c : Conf
         c' = put_object c next_of y
 
         m' : Machine S
-        m' = record { nodes = set_at m.nodes n x'; links = m.links }
+        m' = record m { nodes = set_at m.nodes n x'; links = m.links }
 
         few : length x'.slots ≤ 65536
         few = let e = length-append x.slots (fresh_slot y ∷ []) in omega (arith, e, small)

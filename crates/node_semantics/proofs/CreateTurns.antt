@@ -66,11 +66,11 @@ module _ {S : Type 0} (g : Language S) (W : Config S → Type 0) (l : Placement)
     e = count_made n class d'
 
     abbrev mᵧ : Machine S
-    mᵧ = record { nodes = set_at m.nodes n y; links = m.links }
+    mᵧ = record m { nodes = set_at m.nodes n y; links = m.links }
 
     base : MachineStandsFor g l mᵧ c e
     base = chain g l m n x' y m.links c e
-        (count_stands g l (record { nodes = set_at m.nodes n x'; links = m.links }) c d' (stands₁ g W l m c d n i x s t) n x' (set_same m.nodes n x x' t.node) class known)
+        (count_stands g l (record m { nodes = set_at m.nodes n x'; links = m.links }) c d' (stands₁ g W l m c d n i x s t) n x' (set_same m.nodes n x x' t.node) class known)
 
     nodeᵧ : slice_get mᵧ.nodes n ≡ Some y
     nodeᵧ = set_same m.nodes n x y t.node
@@ -80,13 +80,13 @@ module _ {S : Type 0} (g : Language S) (W : Config S → Type 0) (l : Placement)
       no_wait : is_wait (g.kind o s.state) ≡ false
       no_wait = rw kind refl
 
-      posted : MachineStandsFor g l (record { nodes = set_at m.nodes n (put_request y i s fresh goal); links = m.links }) c (hold o D.Posted e)
+      posted : MachineStandsFor g l (record m { nodes = set_at m.nodes n (put_request y i s fresh goal); links = m.links }) c (hold o D.Posted e)
       posted = asked_stands g W l m c d n i x s t y refl e base t.free (nothing g W l m c d n i x s t) no_wait fresh goal is_fresh
 
       abbrev packet : NumberedPacket
       packet = record { number = Some fresh; packet = D.Create o goal class }
 
-      fits : PacketFits (record { nodes = set_at m.nodes n (put_request y i s fresh goal); links = m.links }) packet
+      fits : PacketFits (record m { nodes = set_at m.nodes n (put_request y i s fresh goal); links = m.links }) packet
       fits = record {
         number = ((fresh, refl), asked_number g W l m c d n i x s t y refl e base t.free (nothing g W l m c d n i x s t) no_wait fresh goal is_fresh);
         names = asked_goal g W l m c d n i x s t y refl e base t.free (nothing g W l m c d n i x s t) no_wait fresh goal is_fresh;
@@ -94,7 +94,7 @@ module _ {S : Type 0} (g : Language S) (W : Config S → Type 0) (l : Placement)
 
       pub far_row : Row g W l m n (N.Acts (Wt.PostCreate o (id class) goal) (Some packet) (put_request y i s fresh goal))
           (A.Acts (Wt.PostCreate o (id class) goal) c (hold o D.Posted (post l n goal (D.Create o goal class) e)))
-      far_row = (refl, typed, post_stands g l (record { nodes = set_at m.nodes n (put_request y i s fresh goal); links = m.links }) c (hold o D.Posted e) posted (n, next l n goal) packet fits)
+      far_row = (refl, typed, post_stands g l (record m { nodes = set_at m.nodes n (put_request y i s fresh goal); links = m.links }) c (hold o D.Posted e) posted (n, next l n goal) packet fits)
 
     -- on the own node
     count : length x.slots ≡ object_count c n
@@ -122,11 +122,11 @@ module _ {S : Type 0} (g : Language S) (W : Config S → Type 0) (l : Placement)
     y₁ = put_state y i s z₁
 
     abbrev m₂ : Machine S
-    m₂ = record { nodes = set_at m.nodes n y₁; links = m.links }
+    m₂ = record m { nodes = set_at m.nodes n y₁; links = m.links }
 
     maker : MachineStandsFor g l m₂ c₁ e
     maker = chain g l m n y y₁ m.links c₁ e
-        (subst (λ j. MachineStandsFor g l (record { nodes = set_at (set_at m.nodes n y) n (record y { slots = set_at y.slots j (record s { state = z₁ }) }); links = m.links }) c₁ e) (slot_o g W l m c d n i x s t)
+        (subst (λ j. MachineStandsFor g l (record m { nodes = set_at (set_at m.nodes n y) n (record y { slots = set_at y.slots j (record s { state = z₁ }) }); links = m.links }) c₁ e) (slot_o g W l m c d n i x s t)
         (state_stands g l mᵧ c e base n y nodeᵧ o (own_o g W l m c d n i x s t) s (aside_same g W l m c d n i x s t y refl m.links o ∙ t.here) t.free t.idle t.there z₁
         (t.req.given_callers o s.state (V.Ref new) (rw kind refl))))
 
@@ -152,9 +152,9 @@ module _ {S : Type 0} (g : Language S) (W : Config S → Type 0) (l : Placement)
     same_length : length y₁.slots ≡ length x.slots
     same_length = set_length x.slots i (record s { state = z₁ })
 
-    added : MachineStandsFor g l (record { nodes = set_at m.nodes n (add_slot y₁ made.0); links = m.links }) (put_object c₁ new made.0) e
+    added : MachineStandsFor g l (record m { nodes = set_at m.nodes n (add_slot y₁ made.0); links = m.links }) (put_object c₁ new made.0) e
     added = chain g l m n y₁ (add_slot y₁ made.0) m.links (put_object c₁ new made.0) e
-        (subst (λ k. MachineStandsFor g l (record { nodes = set_at (set_at m.nodes n y₁) n (add_slot y₁ made.0); links = m.links }) (put_object c₁ (name_at n k) made.0) e) same_length
+        (subst (λ k. MachineStandsFor g l (record m { nodes = set_at (set_at m.nodes n y₁) n (add_slot y₁ made.0); links = m.links }) (put_object c₁ (name_at n k) made.0) e) same_length
         (add_stands g l m₂ c₁ e maker n y₁ (set_same m.nodes n x y₁ t.node) W t.req (subst (λ k. k < 65536) (sym same_length) small) made.0
         (subst (λ k. (b : ℕ) (z : S) → object_of c₁ b ≡ Some z → In (name_at n k) (g.callers z) → ⊥) (sym same_length) nobody)
         (subst (λ k. entries d (name_at n k) ≡ []) (sym same_length) owns_none)

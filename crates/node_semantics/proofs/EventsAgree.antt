@@ -11,11 +11,11 @@ use Rattle.mesh_semantics.specs.Kind.{Kind, Alternative}
 use Rattle.mesh_semantics.specs.Language.{Language}
 use Rattle.mesh_semantics.specs.Config.{Config, object_of}
 use Rattle.mesh_semantics.specs.Delay.{Delay, node_of, slot_of, held, stepped_last}
-use Rattle.mesh_semantics.specs.Act.{act, node_turn, object_turn, turn_of, can_step, is_possible}
+use Rattle.mesh_semantics.specs.Act.{plain_act, node_turn, object_turn, turn_of, can_step, is_possible}
 use Rattle.mesh_semantics.specs.Sound.{IsSound}
 use Rattle.mesh_semantics.specs.Lawful.{Lawful}
 use Rattle.node_semantics.specs.Node.{Slot, NodeState, name_at, can_go, arrivals, slot_act, slot_in_turn, turn_of_slot}
-use Rattle.node_semantics.specs.Machine.{Machine, machine_act, turn_in, after_node, leaving}
+use Rattle.node_semantics.specs.Machine.{Machine, plain_machine_act, turn_in, after_node, leaving}
 use Rattle.node_semantics.specs.Requests.{Requests}
 use Rattle.node_semantics.specs.StandsFor.{slot_at, slot_in, request_in, request_of, MachineStandsFor}
 use Rattle.node_semantics.specs.Agrees.{Agrees, IsOfMesh, IsFresh}
@@ -100,12 +100,14 @@ module _ {S : Type 0} (g : Language S) (W : Config S → Type 0) (law : Lawful g
     turned (Some a) None h = elim h [ ]
 
   turn_agrees : (q fresh n : ℕ) → n < l.width * l.height → ((o : ℕ) → node_of o ≡ n → request_of m o ≢ Some fresh)
-      → Agrees g l (machine_act g l q fresh m (Ev.Turn n)) (act g l q c d (Ev.Turn n))
+      → Agrees g l (plain_machine_act g l q fresh m (Ev.Turn n)) (plain_act g l q c d (Ev.Turn n))
   turn_agrees q fresh n inside is_fresh =
       let x = there_at m.nodes n (subst (λ z. n < z) (sym st.nodes) inside) in
       subst (λ z. Agrees g l (turn_in g l q fresh m n z) (node_turn g l q c d n (turn_of g c d n))) (sym x.1)
       (turned q fresh n x.0 x.1 is_fresh (turn_of g c d n) (slot_in_turn g n x.0) (chosen g W law req l m c d st n x.0 x.1 sound.state.typed))
 
-  pub event_agrees : (q fresh : ℕ) (e : Event) → IsOfMesh l e → IsFresh m fresh e → Agrees g l (machine_act g l q fresh m e) (act g l q c d e)
-  event_agrees q fresh (Ev.Turn n) inside is_fresh = turn_agrees q fresh n inside (unused m n fresh is_fresh)
-  event_agrees q fresh (Ev.Link a b) inside is_fresh = link_agrees g W law req l few m c d sound st a b inside.1 q fresh
+  -- where each link hands out its own head
+  pub plain_agrees : (q fresh : ℕ) (e : Event) → IsOfMesh l e → IsFresh m fresh e → Agrees g l (plain_machine_act g l q fresh m e) (plain_act g l q c d e)
+  plain_agrees q fresh (Ev.Turn n) inside is_fresh = turn_agrees q fresh n inside (unused m n fresh is_fresh)
+  plain_agrees q fresh (Ev.Link a b) inside is_fresh = link_agrees g W law req l few m c d sound st a b inside.1 q fresh
+  plain_agrees q fresh (Ev.Wire w a b) inside is_fresh = (refl, st)

@@ -8,9 +8,9 @@ use Rattle.mesh_semantics.proofs.Laws.{same_some, equals, first, second}
 use Rattle.mesh_semantics.specs.Language.{Language}
 use Rattle.node_semantics.specs.Node.{Slot, NodeState, has_number}
 use Rattle.node_semantics.specs.Machine as M
-use Rattle.node_semantics.specs.Machine.{Machine, MachineActed, machine_act, machine_start, is_machine_quiet}
+use Rattle.node_semantics.specs.Machine.{Machine, MachineActed, machine_act, machine_start, machine_start_on_wires, is_machine_quiet}
 use Rattle.node_semantics.specs.Agrees.{IsFresh, IsUnused}
-use Rattle.node_semantics.specs.Written.{Then, UnlessQuiet, AreFresh, AreFreshAt, FreshAlong}
+use Rattle.node_semantics.specs.Written.{Then, UnlessQuiet, AreFresh, AreFreshAt, FreshAlong, FreshAlongWires}
 
 abbrev above : Option ℕ → ℕ
 above None = 0
@@ -42,6 +42,7 @@ module _ {S : Type 0} where
   abbrev number : Machine S → Event → ℕ
   number m (Ev.Turn n) = node_bound (slice_get m.nodes n)
   number m (Ev.Link a b) = 0
+  number m (Ev.Wire w a b) = 0
 
   -- there is always a number that is not out
   is_fresh : (m : Machine S) (e : Event) → IsFresh m (number m e) e
@@ -49,6 +50,7 @@ module _ {S : Type 0} where
       let a : s.request ≡ Some (bound x.slots) = h ∙ ap (λ z. Some (node_bound z)) node in
       let b = below x.slots i s (bound x.slots) here a in omega (arith, b)
   is_fresh m (Ev.Link a b) = tt
+  is_fresh m (Ev.Wire w a b) = tt
 
   module _ (g : Language S) (l : Placement) (q : ℕ) where
     onwards : (es : List Event) (a : MachineActed S) → ((m : Machine S) → (ks : List ℕ) × AreFresh g l q m es ks) → (ks : List ℕ) × Then (λ m. AreFresh g l q m es ks) a
@@ -62,12 +64,15 @@ module _ {S : Type 0} where
         let r = onwards es (machine_act g l q (number m e) m e) (λ m'. fresh_from es m') in
         (number m e ∷ r.0, unless (is_machine_quiet g m) (IsFresh m (number m e) e × Then (λ m'. AreFresh g l q m' es r.0) (machine_act g l q (number m e) m e)) (is_fresh m e, r.1))
 
+    fresh_at : (es : List Event) (m : Option (Machine S)) → (ks : List ℕ) × AreFreshAt g l q m es ks
+    fresh_at es None = ([], tt)
+    fresh_at es (Some m) = fresh_from es m
+
     pub numbers_exist : (es : List Event) → (ks : List ℕ) × FreshAlong g l q es ks
-    numbers_exist es = by (machine_start g l)
-      where
-        by : (m : Option (Machine S)) → (ks : List ℕ) × AreFreshAt g l q m es ks
-        by None = ([], tt)
-        by (Some m) = fresh_from es m
+    numbers_exist es = fresh_at es (machine_start g l)
+
+    pub numbers_exist_on_wires : (es : List Event) → (ks : List ℕ) × FreshAlongWires g l q es ks
+    numbers_exist_on_wires es = fresh_at es (machine_start_on_wires g l)
 
 -- a test of numbers
 module _ {S : Type 0} where
@@ -82,6 +87,7 @@ module _ {S : Type 0} where
   abbrev pub is_fresh_number : Machine S → ℕ → Event → Bool
   is_fresh_number m k (Ev.Turn n) = is_fresh_at k (slice_get m.nodes n)
   is_fresh_number m k (Ev.Link a b) = true
+  is_fresh_number m k (Ev.Wire w a b) = true
 
   unused_if : (k : ℕ) (ss : List (Slot S)) → is_unused k ss ≡ true → (i : ℕ) (s : Slot S) → slice_get ss i ≡ Some s → s.request ≢ Some k
   unused_if k [] h i s e r = absurd (cc)
@@ -93,6 +99,7 @@ module _ {S : Type 0} where
   fresh_if : (m : Machine S) (k : ℕ) (e : Event) → is_fresh_number m k e ≡ true → IsFresh m k e
   fresh_if m k (Ev.Turn n) h = λ x node. unused_if k x.slots (let a : is_fresh_at k (Some x) ≡ true = subst (λ z. is_fresh_at k z ≡ true) node h in a)
   fresh_if m k (Ev.Link a b) h = tt
+  fresh_if m k (Ev.Wire w a b) h = tt
 
   module _ (g : Language S) (l : Placement) (q : ℕ) where
     abbrev fresh_then : (Machine S → Bool) → MachineActed S → Bool

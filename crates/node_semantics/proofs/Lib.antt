@@ -28,8 +28,10 @@ pub mod LinkTests
 pub mod MachineStandings
 pub mod ReceiptsAnswer
 pub mod TurnsAnswer
-pub mod StartsAgree
 pub mod QuietAgrees
+pub mod PlainWires
+pub mod WiresAgree
+pub mod StartsAgree
 pub mod FreshNumbers
 pub mod SameLines
 pub mod NumbersOut

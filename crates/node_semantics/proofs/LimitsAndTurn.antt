@@ -47,12 +47,12 @@ module _ {S : Type 0} (g : Language S) (W : Config S → Type 0) (law : Lawful g
         a ∙ total_last (λ e. if e.0.0 == n then 1 else 0) d.links ((n, next l n (goal_node e.packet)), e.packet) ∙ ap₂ (λ i j. i + j) (sym b) z
 
     within_acts : (w : What) (p : Option NumberedPacket) (y : NodeState S) (c' : Config S) (d' : Delay) → W c'
-        → MachineStandsFor g l (record { nodes = set_at m.nodes n y; links = post_packet l n p m.links }) c' d'
+        → MachineStandsFor g l (record m { nodes = set_at m.nodes n y; links = post_packet l n p m.links }) c' d'
         → Agrees g l (after_node l n m (within_node g l (leaving m.links n) (N.Acts w p y))) (within g l n (A.Acts w c' d'))
     within_acts w p y c' d' k h = by (nat_lt l.objects (length y.slots)) (nat_lt l.frames (frames_in g y.slots)) (nat_lt l.cells (message_count y.slots + leaving m.links n + packet_count p)) refl refl refl
       where
         m' : Machine S
-        m' = record { nodes = set_at m.nodes n y; links = post_packet l n p m.links }
+        m' = record m { nodes = set_at m.nodes n y; links = post_packet l n p m.links }
 
         node' : slice_get m'.nodes n ≡ Some y
         node' = set_same m.nodes n x y node

@@ -12,12 +12,12 @@ use Rattle.mesh_semantics.specs.Config.{Config}
 use Rattle.mesh_semantics.specs.Paths.{next, on_link, move_head}
 use Rattle.mesh_semantics.specs.Delay.{Delay, post, cell_count}
 use Rattle.mesh_semantics.specs.Act as A
-use Rattle.mesh_semantics.specs.Act.{Acted, act, within, passed, link_move, goal_node, first_of, object_count, frame_count}
+use Rattle.mesh_semantics.specs.Act.{Acted, plain_act, within, passed, link_move, goal_node, first_of, object_count, frame_count}
 use Rattle.mesh_semantics.specs.Sound.{IsSound}
 use Rattle.mesh_semantics.specs.Lawful.{Lawful}
 use Rattle.node_semantics.specs.Node.{NumberedPacket, NodeState, message_count}
 use Rattle.node_semantics.specs.Machine as M
-use Rattle.node_semantics.specs.Machine.{Machine, MachineActed, machine_act, move_in, come, leaving, post_packet}
+use Rattle.node_semantics.specs.Machine.{Machine, MachineActed, plain_machine_act, move_in, come, leaving, post_packet}
 use Rattle.node_semantics.specs.Requests.{Requests}
 use Rattle.node_semantics.specs.StandsFor.{PacketFits, packets, MachineStandsFor}
 use Rattle.node_semantics.specs.Agrees.{Agrees}
@@ -102,7 +102,7 @@ module _ {S : Type 0} (g : Language S) (W : Config S → Type 0) (law : Lawful g
     moved : Agrees g l (come g l m₁ b e (slice_get m.nodes b)) (within g l b (passed g l c d₁ b e.packet))
     moved = subst (λ z. Agrees g l (come g l m₁ b e z) (within g l b (passed g l c d₁ b e.packet))) (sym node.1) (arrived node.0 node.1 (goal_node e.packet == b) refl)
 
-  pub link_agrees : (q fresh : ℕ) → Agrees g l (machine_act g l q fresh m (Ev.Link a b)) (act g l q c d (Ev.Link a b))
+  pub link_agrees : (q fresh : ℕ) → Agrees g l (plain_machine_act g l q fresh m (Ev.Link a b)) (plain_act g l q c d (Ev.Link a b))
   link_agrees q fresh = by (list_at pair_cmp (a, b) m.links) refl
     where
       by : (es : List NumberedPacket) → list_at pair_cmp (a, b) m.links ≡ es → Agrees g l (move_in g l m a b es) (link_move g l c d a b (first_of (on_link d.links (a, b))))

@@ -93,7 +93,7 @@ module _ {S : Type 0} (g : Language S) (W : Config S → Type 0) (l : Placement)
   frames_fit y w k = rw (sym now) (le_same (frames_in g x.slots) (g.frames s.state) (g.frames y) (frames_in g (set_at x.slots i (record s { state = y }))) l.frames sums (subst (λ z. z ≤ l.frames) (sym before) (t.sound.limits n).1))
     where
       m' : Machine S
-      m' = record { nodes = set_at m.nodes n (put_state x' i s y); links = m.links }
+      m' = record m { nodes = set_at m.nodes n (put_state x' i s y); links = m.links }
 
       now : frames_in g (set_at x.slots i (record s { state = y })) ≡ frame_count g (put_object c o y) n
       now = frames_count g W t.law t.req l m' (put_object c o y) d' (own_stands g W l m c d n i x s t y k) w n (put_state x' i s y) (set_same m.nodes n x (put_state x' i s y) t.node)

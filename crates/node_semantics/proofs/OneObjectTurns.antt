@@ -34,7 +34,7 @@ use Rattle.node_semantics.proofs.StandsForParts.{assemble, fewer}
 
 -- a node and a configuration show the same, and the machine then stands for what is after it
 abbrev pub Row : {S : Type 0} → Language S → (Config S → Type 0) → Placement → Machine S → ℕ → NodeActed S → Acted S → Type 0
-Row g W l m n (N.Acts w p y) (A.Acts v c d) = (w ≡ v) × W c × MachineStandsFor g l (record { nodes = set_at m.nodes n y; links = post_packet l n p m.links }) c d
+Row g W l m n (N.Acts w p y) (A.Acts v c d) = (w ≡ v) × W c × MachineStandsFor g l (record m { nodes = set_at m.nodes n y; links = post_packet l n p m.links }) c d
 Row g W l m n (N.Acts w p y) (A.Full j b) = ⊥
 Row g W l m n (N.Acts w p y) A.Nothing = ⊥
 Row g W l m n (N.Full k) (A.Acts v c d) = ⊥
@@ -84,7 +84,7 @@ module _ {S : Type 0} (g : Language S) (W : Config S → Type 0) (l : Placement)
   -- a change of this slot
   module _ (s' : Slot S) (x' : NodeState S) (set : x'.slots ≡ set_at x.slots i s') (links' : List (Pair × List NumberedPacket)) where
     abbrev pub m' : Machine S
-    m' = record { nodes = set_at m.nodes n x'; links = links' }
+    m' = record m { nodes = set_at m.nodes n x'; links = links' }
 
     set' : x'.slots ≡ set_at x.slots (slot_of o) s'
     set' = set ∙ ap (λ j. set_at x.slots j s') (sym (name_slot n i t.small))
@@ -117,7 +117,7 @@ module _ {S : Type 0} (g : Language S) (W : Config S → Type 0) (l : Placement)
         by (inr z) = same_slot m m' q (slot_there q z)
 
   -- the object becomes y and serves the same callers
-  pub own_stands : (y : S) → g.callers y ≡ g.callers s.state → MachineStandsFor g l (record { nodes = set_at m.nodes n (put_state x₁ i s y); links = m.links }) (put_object c o y) d₁
+  pub own_stands : (y : S) → g.callers y ≡ g.callers s.state → MachineStandsFor g l (record m { nodes = set_at m.nodes n (put_state x₁ i s y); links = m.links }) (put_object c o y) d₁
   own_stands y k = assemble g l m c d t.st n x t.node x' m.links c' d₁ (few s' x' refl m.links) last_is last_else
       (t.st.made n x t.node) (λ b z e. refl) (λ q. at q (decide q o)) t.st.links t.st.in_order on_links
       (fewer g l m c d t.st n x t.node x' m.links c' d₁ (λ q z e. sym (same q).request ∙ e))
@@ -132,7 +132,7 @@ module _ {S : Type 0} (g : Language S) (W : Config S → Type 0) (l : Placement)
       c' = put_object c o y
 
       m₂ : Machine S
-      m₂ = record { nodes = set_at m.nodes n x'; links = m.links }
+      m₂ = record m { nodes = set_at m.nodes n x'; links = m.links }
 
       same : (q : ℕ) → Same m m₂ q
       same = requests_same s' x' refl m.links refl refl

@@ -53,9 +53,9 @@ module _ {S : Type 0} (g : Language S) (l : Placement) where
   -- a message comes to an object of the node, as the node puts it
   pub deliver_stands : (m : Machine S) (c : Config S) (d : Delay) → MachineStandsFor g l m c d → (n : ℕ) (x : NodeState S) → slice_get m.nodes n ≡ Some x
       → (b : ℕ) → node_of b ≡ n → HasSlot m b → (a : NumberedArrival) → IsNumberOf m a.number (caller_of a.message)
-      → MachineStandsFor g l (record { nodes = set_at m.nodes n (deliver b a x); links = m.links }) c (arrive b a.message d)
+      → MachineStandsFor g l (record m { nodes = set_at m.nodes n (deliver b a x); links = m.links }) c (arrive b a.message d)
   deliver_stands m c d st n x node b own h a number =
-      subst (λ z. MachineStandsFor g l (record { nodes = set_at m.nodes n z; links = m.links }) c (arrive b a.message d)) (sym is)
+      subst (λ z. MachineStandsFor g l (record m { nodes = set_at m.nodes n z; links = m.links }) c (arrive b a.message d)) (sym is)
       (arrival_stands g l m c d st n x node b own h.0 h.1 a number)
     where
       is : deliver b a x ≡ record x { slots = set_at x.slots (slot_of b) (record (h.0) { mailbox = h.0.mailbox ++ a ∷ [] }) }
@@ -65,7 +65,7 @@ module _ {S : Type 0} (g : Language S) (l : Placement) where
   pub state_stands : (m : Machine S) (c : Config S) (d : Delay) (st : MachineStandsFor g l m c d) (n : ℕ) (x : NodeState S) → slice_get m.nodes n ≡ Some x
       → (o : ℕ) → node_of o ≡ n → (s : Slot S) → slot_at m o ≡ Some s → held d o ≡ None → s.request ≡ None
       → object_of c o ≡ Some s.state → (y : S) → g.callers y ≡ g.callers s.state
-      → MachineStandsFor g l (record { nodes = set_at m.nodes n (record x { slots = set_at x.slots (slot_of o) (record s { state = y }) }); links = m.links }) (put_object c o y) d
+      → MachineStandsFor g l (record m { nodes = set_at m.nodes n (record x { slots = set_at x.slots (slot_of o) (record s { state = y }) }); links = m.links }) (put_object c o y) d
   state_stands m c d st n x node o own s here free idle there y k =
       slot_stands g l m c d st n x node o own s s' here (put_object c o y) d.holding d.arrived (λ q e. find_put_other q o y c.objects e) (λ q e. refl) (λ q e. refl)
       Any keep any mine (still_distinct g l m c d st n x node o own s s' here (λ q z e. sym (keep q tt).request ∙ e))
@@ -104,7 +104,7 @@ module _ {S : Type 0} (g : Language S) (W : Config S → Type 0) (l : Placement)
   d' = d₁ g W l m c d n i x s t
 
   abbrev m₁ : Machine S
-  m₁ = record { nodes = set_at m.nodes n x'; links = m.links }
+  m₁ = record m { nodes = set_at m.nodes n x'; links = m.links }
 
   pub own_o : node_of o ≡ n
   own_o = own g W l m c d n i x s t
@@ -120,11 +120,11 @@ module _ {S : Type 0} (g : Language S) (W : Config S → Type 0) (l : Placement)
 
   -- changes beside the slots
   module _ (y : NodeState S) (same : y.slots ≡ x.slots) (links : List (Pair × List NumberedPacket)) where
-    pub aside_same : (q : ℕ) → slot_at (record { nodes = set_at m.nodes n y; links = links }) q ≡ slot_at m q
+    pub aside_same : (q : ℕ) → slot_at (record m { nodes = set_at m.nodes n y; links = links }) q ≡ slot_at m q
     aside_same q = by (decide (node_of q) n)
       where
         m' : Machine S
-        m' = record { nodes = set_at m.nodes n y; links = links }
+        m' = record m { nodes = set_at m.nodes n y; links = links }
 
         by : (node_of q ≡ n) ⊎ (node_of q ≢ n) → slot_at m' q ≡ slot_at m q
         by (inl e) = after m m' n x y t.node refl q e ∙ ap (λ ss. slice_get ss (slot_of q)) same ∙ sym (before m m' n x y t.node refl q e)
@@ -137,25 +137,25 @@ module _ {S : Type 0} (g : Language S) (W : Config S → Type 0) (l : Placement)
   unserved e = no_caller g W t.req c t.sound.state.typed o s.state t.there e
 
   -- the request of the object is out
-  module _ (y : NodeState S) (same : y.slots ≡ x.slots) (e : Delay) (base : MachineStandsFor g l (record { nodes = set_at m.nodes n y; links = m.links }) c e)
+  module _ (y : NodeState S) (same : y.slots ≡ x.slots) (e : Delay) (base : MachineStandsFor g l (record m { nodes = set_at m.nodes n y; links = m.links }) c e)
       (free : held e o ≡ None) (none : entries e o ≡ []) (not_wait : is_wait (g.kind o s.state) ≡ false)
       (fresh goal : ℕ) (is_fresh : (q : ℕ) → node_of q ≡ n → request_of m q ≢ Some fresh) where
     mᵦ : Machine S
-    mᵦ = record { nodes = set_at m.nodes n y; links = m.links }
+    mᵦ = record m { nodes = set_at m.nodes n y; links = m.links }
 
-    here : slot_at (record { nodes = set_at m.nodes n y; links = m.links }) o ≡ Some s
+    here : slot_at (record m { nodes = set_at m.nodes n y; links = m.links }) o ≡ Some s
     here = aside_same y same m.links o ∙ t.here
 
-    still_fresh : (q : ℕ) → node_of q ≡ n → request_of (record { nodes = set_at m.nodes n y; links = m.links }) q ≢ Some fresh
+    still_fresh : (q : ℕ) → node_of q ≡ n → request_of (record m { nodes = set_at m.nodes n y; links = m.links }) q ≢ Some fresh
     still_fresh q i f = is_fresh q i (sym (ap request_in (aside_same y same m.links q)) ∙ f)
 
     abbrev pub asked : Machine S
-    asked = record { nodes = set_at m.nodes n (put_request y i s fresh goal); links = m.links }
+    asked = record m { nodes = set_at m.nodes n (put_request y i s fresh goal); links = m.links }
 
     pub asked_stands : MachineStandsFor g l asked c (hold o D.Posted e)
     asked_stands = chain g l m n y (put_request y i s fresh goal) m.links c (hold o D.Posted e)
-        (subst (λ j. MachineStandsFor g l (record { nodes = set_at (set_at m.nodes n y) n (record y { slots = set_at y.slots j (record s { request = Some fresh; goal = goal }) }); links = m.links }) c (hold o D.Posted e)) slot_o
-        (ask_stands g l (record { nodes = set_at m.nodes n y; links = m.links }) c e base n y (set_same m.nodes n x y t.node) o own_o s here t.there free none (unserved not_wait) fresh goal still_fresh))
+        (subst (λ j. MachineStandsFor g l (record m { nodes = set_at (set_at m.nodes n y) n (record y { slots = set_at y.slots j (record s { request = Some fresh; goal = goal }) }); links = m.links }) c (hold o D.Posted e)) slot_o
+        (ask_stands g l (record m { nodes = set_at m.nodes n y; links = m.links }) c e base n y (set_same m.nodes n x y t.node) o own_o s here t.there free none (unserved not_wait) fresh goal still_fresh))
 
     abbrev asking : Slot S
     asking = record s { request = Some fresh; goal = goal }
@@ -244,7 +244,7 @@ module _ {S : Type 0} (g : Language S) (W : Config S → Type 0) (l : Placement)
     xₙ = put_state x' i s (g.done s.state)
 
     abbrev mₙ : Machine S
-    mₙ = record { nodes = set_at m.nodes n xₙ; links = m.links }
+    mₙ = record m { nodes = set_at m.nodes n xₙ; links = m.links }
 
     abbrev cₙ : Config S
     cₙ = put_messages (put_object c o (g.done s.state)) o b (messages_of c o b ++ record { method = k; args = args } ∷ [])

@@ -14,11 +14,11 @@ use Rattle.mesh_semantics.specs.Language.{Language}
 use Rattle.mesh_semantics.specs.Config.{Config}
 use Rattle.mesh_semantics.specs.Paths.{on_link}
 use Rattle.mesh_semantics.specs.Delay.{Packet, Delay, node_of}
-use Rattle.mesh_semantics.specs.Act.{is_quiet, is_ready, ready_at, first_of}
+use Rattle.mesh_semantics.specs.Act.{is_acknowledged, is_quiet, is_ready, ready_at, first_of}
 use Rattle.mesh_semantics.specs.Lawful.{Lawful}
 use Rattle.mesh_semantics.specs.Sound.{Consistent}
 use Rattle.node_semantics.specs.Node.{Slot, NumberedPacket, NodeState, ready_slots}
-use Rattle.node_semantics.specs.Machine.{Machine, any_ready, is_machine_quiet}
+use Rattle.node_semantics.specs.Machine.{Machine, are_acknowledged, any_ready, is_machine_quiet}
 use Rattle.node_semantics.specs.Requests.{Requests}
 use Rattle.node_semantics.specs.StandsFor.{packets, MachineStandsFor}
 use Rattle.node_semantics.proofs.LinkTests.{any_on_links}
@@ -161,5 +161,11 @@ module _ {S : Type 0} (g : Language S) (W : Config S → Type 0) (law : Lawful g
           let r = here (node_of e.1.0) x.0 x.1 ∙ of_one (λ e'. node_of e'.0 == node_of e.1.0 && is_ready g d e'.0 e'.1) c.objects e.0 e.1 e.2 t in
           any_in g 0 m.nodes (node_of e.1.0) x.0 x.1 (subst (λ z. is_some (first_of (ready_slots g z x.0)) ≡ true) (sym (none (node_of e.1.0))) r)
 
-  pub quiet_agrees : is_machine_quiet g m ≡ is_quiet g c d
-  quiet_agrees = ap₂ (λ a b. not a && not b) (links_same m.links d.links st.in_order st.links) ready_same
+  pub quiet_agrees : (list_any (λ e. has_some e.1) m.links ≡ false → are_acknowledged m.wires ≡ is_acknowledged d.wires) → is_machine_quiet g m ≡ is_quiet g c d
+  quiet_agrees same =
+      by (list_any (λ e. has_some e.1) m.links) refl ∙ ap₂ (λ a b. not a && (is_acknowledged d.wires && not b)) (links_same m.links d.links st.in_order st.links) ready_same
+    where
+      by : (b : Bool) → list_any (λ e. has_some e.1) m.links ≡ b
+          → (not (list_any (λ e. has_some e.1) m.links) && (are_acknowledged m.wires && not (any_ready g 0 m.nodes))) ≡ (not (list_any (λ e. has_some e.1) m.links) && (is_acknowledged d.wires && not (any_ready g 0 m.nodes)))
+      by true e = rw e refl
+      by false e = ap (λ a. not (list_any (λ e. has_some e.1) m.links) && (a && not (any_ready g 0 m.nodes))) (same e)

@@ -166,7 +166,7 @@ module _ {S : Type 0} (g : Language S) (W : Config S → Type 0) (l : Placement)
 
     -- a value comes to its owner
     value_stands : (o : ℕ) (v : Value) (z : ℕ) → node_of o ≡ b → request_of m₁ o ≡ Some z → Awaiting o v
-        → MachineStandsFor g l (record { nodes = set_at m₁.nodes b (record x { slots = settled g z v x.slots }); links = m₁.links }) c (free o d₁)
+        → MachineStandsFor g l (record m₁ { nodes = set_at m₁.nodes b (record x { slots = settled g z v x.slots }); links = m₁.links }) c (free o d₁)
     value_stands o v z own r a = by (held d o) refl f.stands.state
       where
         f : Found g l m₁ c d₁ st₁ o a.state
@@ -185,12 +185,12 @@ module _ {S : Type 0} (g : Language S) (W : Config S → Type 0) (l : Placement)
         set : settled g z v x.slots ≡ set_at x.slots (slot_of o) (given_to g z v f.slot)
         set = settled_is g z v x.slots (slot_of o) f.slot (sym (at_node m₁ b x node o own) ∙ f.here) number one
 
-        finish : g.given f.slot.state v ≡ a.state → MachineStandsFor g l (record { nodes = set_at m₁.nodes b (record x { slots = settled g z v x.slots }); links = m₁.links }) c (free o d₁)
-        finish h = subst (λ ss. MachineStandsFor g l (record { nodes = set_at m₁.nodes b (record x { slots = ss }); links = m₁.links }) c (free o d₁)) (sym set)
+        finish : g.given f.slot.state v ≡ a.state → MachineStandsFor g l (record m₁ { nodes = set_at m₁.nodes b (record x { slots = settled g z v x.slots }); links = m₁.links }) c (free o d₁)
+        finish h = subst (λ ss. MachineStandsFor g l (record m₁ { nodes = set_at m₁.nodes b (record x { slots = ss }); links = m₁.links }) c (free o d₁)) (sym set)
             (settle_stands g l m₁ c d₁ st₁ b x node o own f.slot f.here z v (a.object ∙ ap Some (sym h)) a.none (no_caller g W req c typed o a.state a.object a.no_wait))
 
         by : (h : Option Holding) → held d o ≡ h → SlotStandsFor g o f.slot a.state h
-            → MachineStandsFor g l (record { nodes = set_at m₁.nodes b (record x { slots = settled g z v x.slots }); links = m₁.links }) c (free o d₁)
+            → MachineStandsFor g l (record m₁ { nodes = set_at m₁.nodes b (record x { slots = settled g z v x.slots }); links = m₁.links }) c (free o d₁)
         by None i k = absurd (let q : None ≡ Some (D.Due v) = sym i ∙ a.held in cc)
         by (Some D.Posted) i k = absurd (let q : Some D.Posted ≡ Some (D.Due v) = sym i ∙ a.held in cc)
         by (Some (D.Due u)) i (Due w q r s) =
@@ -279,7 +279,7 @@ module _ {S : Type 0} (g : Language S) (W : Config S → Type 0) (l : Placement)
           none_moved h = moved_nothing new h
 
       abbrev m₂ : Machine S
-      m₂ = record { nodes = set_at m₁.nodes b (add_slot x made.0); links = m₁.links }
+      m₂ = record m₁ { nodes = set_at m₁.nodes b (add_slot x made.0); links = m₁.links }
 
       added : MachineStandsFor g l m₂ c₂ d₂
       added = add_stands g l m₁ c₁ d₂ maker b x node W req small made.0 nobody owns_none (req.made_callers class made.0 made.1)
@@ -311,11 +311,11 @@ module _ {S : Type 0} (g : Language S) (W : Config S → Type 0) (l : Placement)
     receipt_row num (D.Created o name) fit head at =
         let r : request_of m₁ o ≡ Some fit.number.0.0 = fit.number.1 ∙ fit.number.0.1 in
         let h = value_stands o (V.Ref name) fit.number.0.0 at r (awaiting (D.Created o name) o (V.Ref name) (inr (name, refl, refl)) (equals o) head) in
-        (refl, typed, subst (λ z. MachineStandsFor g l (record { nodes = set_at m₁.nodes b (settle_number g (V.Ref name) z x); links = m₁.links }) c (free o d₁)) (sym fit.number.0.1) h)
+        (refl, typed, subst (λ z. MachineStandsFor g l (record m₁ { nodes = set_at m₁.nodes b (settle_number g (V.Ref name) z x); links = m₁.links }) c (free o d₁)) (sym fit.number.0.1) h)
     receipt_row num (D.Result o v) fit head at =
         let r : request_of m₁ o ≡ Some fit.number.0.0 = fit.number.1 ∙ fit.number.0.1 in
         let h = value_stands o v fit.number.0.0 at r (awaiting (D.Result o v) o v (inl refl) (equals o) head) in
-        (refl, typed, subst (λ z. MachineStandsFor g l (record { nodes = set_at m₁.nodes b (settle_number g v z x); links = m₁.links }) c (free o d₁)) (sym fit.number.0.1) h)
+        (refl, typed, subst (λ z. MachineStandsFor g l (record m₁ { nodes = set_at m₁.nodes b (settle_number g v z x); links = m₁.links }) c (free o d₁)) (sym fit.number.0.1) h)
     receipt_row num (D.Request o r k args) fit head at =
         (refl, typed, deliver_stands g l m₁ c d₁ st₁ b x node r at fit.names (record { number = num; message = record { sender = o; is_call = true; method = k; args = args } }) fit.number)
     receipt_row num (D.Async o r k args) fit head at =

@@ -160,7 +160,7 @@ module _ {S : Type 0} (g : Language S) (W : Config S → Type 0) (l : Placement)
       -- the caller is on the same node
       module _ (near : node_of k ≡ n) where
         abbrev m₁ : Machine S
-        m₁ = record { nodes = set_at m.nodes n xₘ; links = m.links }
+        m₁ = record m { nodes = set_at m.nodes n xₘ; links = m.links }
 
         node₁ : slice_get m₁.nodes n ≡ Some xₘ
         node₁ = set_same m.nodes n x xₘ t.node
@@ -169,7 +169,7 @@ module _ {S : Type 0} (g : Language S) (W : Config S → Type 0) (l : Placement)
         x₂ = record xₘ { slots = settled g number v (set_at x.slots i s₁) }
 
         abbrev m₂ : Machine S
-        m₂ = record { nodes = set_at m.nodes n x₂; links = m.links }
+        m₂ = record m { nodes = set_at m.nodes n x₂; links = m.links }
 
         slot_o : slot_at m₁ o ≡ Some s₁
         slot_o = slot_here g W l m c d n i x s t s₁ xₘ refl m.links
@@ -292,7 +292,7 @@ module _ {S : Type 0} (g : Language S) (W : Config S → Type 0) (l : Placement)
         links' = push_list pair_cmp key e m.links
 
         abbrev m₃ : Machine S
-        m₃ = record { nodes = set_at m.nodes n xₘ; links = links' }
+        m₃ = record m { nodes = set_at m.nodes n xₘ; links = links' }
 
         abbrev e' : Delay
         e' = hold k (D.Due v) (post l n (node_of k) (D.Result k v) (d₁ g W l m c d n i x s t))

@@ -104,7 +104,7 @@ module _ {S : Type 0} (g : Language S) (W : Config S → Type 0) (l : Placement)
   d' = d₁ g W l m c d n i x s t
 
   abbrev m₁ : Machine S
-  m₁ = record { nodes = set_at m.nodes n x'; links = m.links }
+  m₁ = record m { nodes = set_at m.nodes n x'; links = m.links }
 
   typed : W c
   typed = t.sound.state.typed
@@ -135,9 +135,9 @@ module _ {S : Type 0} (g : Language S) (W : Config S → Type 0) (l : Placement)
       abbrev x₂ : NodeState S
       x₂ = record x' { slots = set_at x'.slots i taking }
 
-      taken : MachineStandsFor g l (record { nodes = set_at m.nodes n x₂; links = m.links }) (put_object c₁ o y) (record d' { holding = h; arrived = without_first (is_for o names) d.arrived })
+      taken : MachineStandsFor g l (record m { nodes = set_at m.nodes n x₂; links = m.links }) (put_object c₁ o y) (record d' { holding = h; arrived = without_first (is_for o names) d.arrived })
       taken = chain g l m n x' x₂ m.links (put_object c₁ o y) _
-          (subst (λ k. MachineStandsFor g l (record { nodes = set_at (set_at m.nodes n x') n (record x' { slots = set_at x'.slots k taking }); links = m.links }) (put_object c₁ o y)
+          (subst (λ k. MachineStandsFor g l (record m { nodes = set_at (set_at m.nodes n x') n (record x' { slots = set_at x'.slots k taking }); links = m.links }) (put_object c₁ o y)
           (record d' { holding = h; arrived = without_first (is_for o names) d.arrived })) (slot_o g W l m c d n i x s t)
           (take_stands g l m₁ c₁ (record d' { holding = h }) base n x' (node₁ g W l m c d n i x s t) o (own_o g W l m c d n i x s t) s
           (aside_same g W l m c d n i x s t x' refl m.links o ∙ t.here) names y ks t.idle still fit))

@@ -24,8 +24,8 @@ use Rattle.node_semantics.proofs.StandsForParts.{assemble}
 module _ {S : Type 0} (g : Language S) (l : Placement) where
   -- two changes of one node are one
   pub chain : (m : Machine S) (n : ℕ) (x y : NodeState S) (links : List (Pair × List NumberedPacket)) (c : Config S) (d : Delay)
-      → MachineStandsFor g l (record { nodes = set_at (set_at m.nodes n x) n y; links = links }) c d → MachineStandsFor g l (record { nodes = set_at m.nodes n y; links = links }) c d
-  chain m n x y links c d h = subst (λ ns. MachineStandsFor g l (record { nodes = ns; links = links }) c d) (set_set m.nodes n x y) h
+      → MachineStandsFor g l (record m { nodes = set_at (set_at m.nodes n x) n y; links = links }) c d → MachineStandsFor g l (record m { nodes = set_at m.nodes n y; links = links }) c d
+  chain m n x y links c d h = subst (λ ns. MachineStandsFor g l (record m { nodes = ns; links = links }) c d) (set_set m.nodes n x y) h
 
   -- what is known of packets does not look at links
   relinked : (m : Machine S) (links : List (Pair × List NumberedPacket)) (es : List NumberedPacket) → Each (PacketFits m) es → Each (PacketFits (record m { links = links })) es
@@ -98,7 +98,7 @@ module _ {S : Type 0} (g : Language S) (l : Placement) where
       pub aside_stands : (x' : NodeState S) (last' : List (ℕ × ℕ)) (made' : List (Pair × ℕ)) → x'.slots ≡ x.slots
           → (x'.last ≡ find nat_cmp n last') → ((b : ℕ) → b ≢ n → find nat_cmp b last' ≡ find nat_cmp b d.last)
           → CountsMade g x' (record d { made = made' }) n → ((b k : ℕ) → b ≢ n → made_by (record d { made = made' }) b k ≡ made_by d b k)
-          → MachineStandsFor g l (record { nodes = set_at m.nodes n x'; links = m.links }) c (record d { last = last'; made = made' })
+          → MachineStandsFor g l (record m { nodes = set_at m.nodes n x'; links = m.links }) c (record d { last = last'; made = made' })
       aside_stands x' last' made' e last last_else made made_else =
           assemble g l m c d st n x node x' m.links c d' (subst (λ z. length z ≤ 65536) (sym e) (st.few n x node)) last last_else made made_else
           (λ q. spot_same g m' q (slots q) refl refl refl (spot_kept g m m' Any keep q (slot_at m q) (object_of c q) (held d q) (arrived_at d q) (r.in_boxes q) (λ y a i j. tt) (spot g l m c d st q)))
@@ -107,7 +107,7 @@ module _ {S : Type 0} (g : Language S) (l : Placement) where
           (λ a b k i j f. st.distinct a b k i (sym (keep a tt).request ∙ j) (sym (keep b tt).request ∙ f))
         where
           m' : Machine S
-          m' = record { nodes = set_at m.nodes n x'; links = m.links }
+          m' = record m { nodes = set_at m.nodes n x'; links = m.links }
 
           d' : Delay
           d' = record d { last = last'; made = made' }
@@ -131,7 +131,7 @@ module _ {S : Type 0} (g : Language S) (l : Placement) where
         xₛ = record x { slots = set_at x.slots (slot_of o) s' }
 
         abbrev pub mₛ : Machine S
-        mₛ = record { nodes = set_at m.nodes n xₛ; links = m.links }
+        mₛ = record m { nodes = set_at m.nodes n xₛ; links = m.links }
 
         pub slot_here : slot_at mₛ o ≡ Some s'
         slot_here = changed_here m mₛ n x xₛ node refl o own s s' here refl

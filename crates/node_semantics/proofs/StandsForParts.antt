@@ -33,7 +33,7 @@ module _ {S : Type 0} (g : Language S) (l : Placement) (m : Machine S) (c : Conf
 
   module _ (x' : NodeState S) (links' : List (Pair × List NumberedPacket)) (c' : Config S) (d' : Delay) where
     abbrev pub now : Machine S
-    now = record { nodes = set_at m.nodes n x'; links = links' }
+    now = record m { nodes = set_at m.nodes n x'; links = links' }
 
     pub assemble : (length x'.slots ≤ 65536)
         → (x'.last ≡ find nat_cmp n d'.last) → ((b : ℕ) → b ≢ n → find nat_cmp b d'.last ≡ find nat_cmp b d.last)

@@ -6,16 +6,17 @@ use Rattle.pool_syntax.specs.declared.words.Placement.{Placement}
 use Rattle.mesh_semantics.proofs.Laws.{same_some}
 use Rattle.mesh_semantics.specs.Language.{Language}
 use Rattle.mesh_semantics.specs.Config.{Config}
-use Rattle.mesh_semantics.specs.Delay.{no_delay, node_of, slot_of}
+use Rattle.mesh_semantics.specs.Delay.{no_delay, no_delay_on_wires, node_of, slot_of}
 use Rattle.mesh_semantics.specs.Fit.{Fit}
 use Rattle.pool_syntax.specs.declared.words.Place.{Place}
 use Rattle.pool_syntax.specs.declared.words.Place.TheVariants as Pl
 use Rattle.mesh_semantics.specs.Record.{start, last_place, root_name, root_node, with_root}
 use Rattle.node_semantics.specs.Node.{NodeState, name_at, set_at, fresh_slot}
-use Rattle.node_semantics.specs.Machine.{Machine, empty_node, machine_start, start_with}
-use Rattle.node_semantics.specs.Agrees.{StartAgrees}
+use Rattle.node_semantics.specs.Machine.{Machine, empty_node, machine_start, machine_start_on_wires, on_wires_from, start_with}
+use Rattle.node_semantics.specs.WiresStandFor.{StandsFor, StartAgrees}
 use Rattle.node_semantics.specs.Requests.{Requests}
 use Rattle.node_semantics.specs.StandsFor.{slot_at, slot_in, request_of, request_in, CountsMade, MachineStandsFor}
+use Rattle.node_semantics.proofs.WiresAgree.{starts_on_wires}
 use Rattle.node_semantics.proofs.AddedObject.{add_stands}
 use Rattle.mesh_semantics.specs.Act.{class_place}
 use Rattle.node_semantics.proofs.ClassPlaces.{zeros}
@@ -38,7 +39,7 @@ last_in (q ∷ r ∷ ps) p h = let z = last_in (r ∷ ps) p h in (suc z.0, z.1)
 
 module _ {S : Type 0} (g : Language S) (W : Config S → Type 0) (req : Requests g W) (l : Placement) where
   abbrev m₀ : Machine S
-  m₀ = record { nodes = replicate (l.width * l.height) (empty_node g); links = [] }
+  m₀ = record { nodes = replicate (l.width * l.height) (empty_node g); links = []; wires = None }
 
   abbrev c₀ : Config S
   c₀ = record { objects = []; messages = [] }
@@ -66,19 +67,19 @@ module _ {S : Type 0} (g : Language S) (W : Config S → Type 0) (req : Requests
   }
 
   alone : (k : ℕ) (y : S) → k < l.width * l.height → g.callers y ≡ []
-      → MachineStandsFor g l (record { nodes = set_at m₀.nodes k (record (empty_node g) { slots = fresh_slot y ∷ [] }); links = [] }) (record { objects = (k * 65536, y) ∷ []; messages = [] }) no_delay
+      → MachineStandsFor g l (record m₀ { nodes = set_at m₀.nodes k (record (empty_node g) { slots = fresh_slot y ∷ [] }); links = [] }) (record { objects = (k * 65536, y) ∷ []; messages = [] }) no_delay
   alone k y inside none =
       let x = there_at m₀.nodes k (subst (λ z. k < z) (sym (length-replicate (l.width * l.height) (empty_node g))) inside) in
       let e : (empty_node g) ≡ x.0 = copy_is (l.width * l.height) (empty_node g) x.0 k x.1 in
       let node : slice_get m₀.nodes k ≡ Some (empty_node g) = x.1 ∙ ap Some (sym e) in
       let name : name_at k 0 ≡ k * 65536 = omega arith in
-      subst (λ z. MachineStandsFor g l (record { nodes = set_at m₀.nodes k (record (empty_node g) { slots = fresh_slot y ∷ [] }); links = [] }) (record { objects = (z, y) ∷ []; messages = [] }) no_delay) name
+      subst (λ z. MachineStandsFor g l (record m₀ { nodes = set_at m₀.nodes k (record (empty_node g) { slots = fresh_slot y ∷ [] }); links = [] }) (record { objects = (z, y) ∷ []; messages = [] }) no_delay) name
       (add_stands g l m₀ c₀ no_delay empty k (empty_node g) node W req (omega arith) y (λ b z h i. absurd (cc)) refl none)
 
   root_at : (k : ℕ) → node_of (k * 65536) ≡ k
   root_at k = omega arith
 
-  pub start_agrees : Fit l → StartAgrees g l (machine_start g l) (start g l)
+  pub start_agrees : Fit l → StartAgrees g l no_delay (machine_start g l) (start g l)
   start_agrees fit = by g.root refl
     where
       root : (p : Option Place) → last_place l.places ≡ p → root_node p < l.width * l.height
@@ -87,8 +88,18 @@ module _ {S : Type 0} (g : Language S) (W : Config S → Type 0) (req : Requests
       root (Some Pl.Spread) e = fit.nodes
       root (Some (Pl.At k)) e = let i = last_in l.places (Pl.At k) e in fit.places i.0 k i.1
 
-      by : (y : Option S) → g.root ≡ y → StartAgrees g l (start_with g l (node_of (root_name l)) y) (with_root (root_name l) y)
+      by : (y : Option S) → g.root ≡ y → StartAgrees g l no_delay (start_with g l (node_of (root_name l)) y) (with_root (root_name l) y)
       by None e = tt
       by (Some y) e =
-          subst (λ z. MachineStandsFor g l (record { nodes = set_at m₀.nodes z (record (empty_node g) { slots = fresh_slot y ∷ [] }); links = [] }) (record { objects = (root_name l, y) ∷ []; messages = [] }) no_delay)
-          (sym (root_at (root_node (last_place l.places)))) (alone (root_node (last_place l.places)) y (root (last_place l.places) refl) (req.root_callers y e))
+          subst (λ z. StandsFor g l (record m₀ { nodes = set_at m₀.nodes z (record (empty_node g) { slots = fresh_slot y ∷ [] }); links = [] }) (record { objects = (root_name l, y) ∷ []; messages = [] }) no_delay)
+          (sym (root_at (root_node (last_place l.places)))) (record { state = alone (root_node (last_place l.places)) y (root (last_place l.places) refl) (req.root_callers y e); wires = tt })
+
+  -- and so with wires
+  pub start_agrees_on_wires : Fit l → StartAgrees g l no_delay_on_wires (machine_start_on_wires g l) (start g l)
+  start_agrees_on_wires fit = by (machine_start g l) (start g l) (start_agrees fit)
+    where
+      by : (m : Option (Machine S)) (c : Option (Config S)) → StartAgrees g l no_delay m c → StartAgrees g l no_delay_on_wires (on_wires_from m) c
+      by None None h = tt
+      by (Some m) (Some c) h = starts_on_wires g l m c h.state
+      by None (Some c) h = absurd h
+      by (Some m) None h = absurd h

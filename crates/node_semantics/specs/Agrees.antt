@@ -1,11 +1,9 @@
 -- That a machine answers an event as what it stands for does, and stands for what is after it; and what is asked of an event and its number.
-use Rattle.std.specs.Prelude.{◌≡◌, ◌≢◌, ◌<◌, ◌*◌, ℕ, Option, Some, None, slice_get}
+use Rattle.std.specs.Prelude.{◌≡◌, ◌≢◌, ◌<◌, ◌*◌, ℕ, Some, slice_get}
 use Rattle.pool_syntax.specs.declared.words.Event.{Event}
 use Rattle.pool_syntax.specs.declared.words.Event.TheVariants as Ev
 use Rattle.pool_syntax.specs.declared.words.Placement.{Placement}
 use Rattle.mesh_semantics.specs.Language.{Language}
-use Rattle.mesh_semantics.specs.Config.{Config}
-use Rattle.mesh_semantics.specs.Delay.{no_delay}
 use Rattle.mesh_semantics.specs.Act as A
 use Rattle.mesh_semantics.specs.Act.{Acted}
 use Rattle.node_semantics.specs.Node.{Slot, NodeState}
@@ -27,6 +25,7 @@ Agrees g l M.Nothing a = ⊥
 abbrev pub IsOfMesh : Placement → Event → Type 0
 IsOfMesh l (Ev.Turn n) = n < l.width * l.height
 IsOfMesh l (Ev.Link a b) = (a < l.width * l.height) × (b < l.width * l.height)
+IsOfMesh l (Ev.Wire w a b) = (a < l.width * l.height) × (b < l.width * l.height)
 
 -- the number is out for no slot of the node
 abbrev pub IsUnused : {S : Type 0} → ℕ → NodeState S → Type 0
@@ -36,10 +35,4 @@ IsUnused {S} fresh x = (i : ℕ) (s : Slot S) → slice_get x.slots i ≡ Some s
 abbrev pub IsFresh : {S : Type 0} → Machine S → ℕ → Event → Type 0
 IsFresh {S} m fresh (Ev.Turn n) = (x : NodeState S) → slice_get m.nodes n ≡ Some x → IsUnused fresh x
 IsFresh m fresh (Ev.Link a b) = Unit {0}
-
--- the machine stands for the start, or there is neither
-abbrev pub StartAgrees : {S : Type 0} → Language S → Placement → Option (Machine S) → Option (Config S) → Type 0
-StartAgrees g l (Some m) (Some c) = MachineStandsFor g l m c no_delay
-StartAgrees g l None None = Unit {0}
-StartAgrees g l (Some m) None = ⊥
-StartAgrees g l None (Some c) = ⊥
+IsFresh m fresh (Ev.Wire w a b) = Unit {0}

@@ -1,5 +1,5 @@
 -- A machine of nodes: its nodes, the links with the numbered packets on them, what one event does to it, when it is quiet, and how it starts.
-use Rattle.std.specs.Prelude.{ℕ, ◌+◌, ◌*◌, ◌==◌, List, [], ◌∷◌, length, sum_by, Option, Some, None, is_some, Bool, false, not, ◌&&◌, ◌||◌, if◌then◌else◌, nat_lt, slice_get, replicate}
+use Rattle.std.specs.Prelude.{ℕ, ◌+◌, ◌*◌, ◌==◌, List, [], ◌∷◌, length, sum_by, Option, Some, None, is_some, Bool, true, false, not, ◌&&◌, ◌||◌, if◌then◌else◌, nat_lt, slice_get, replicate}
 use Rattle.pool_syntax.specs.declared.words.What.{What}
 use Rattle.pool_syntax.specs.declared.words.What.TheVariants as W
 use Rattle.pool_syntax.specs.declared.words.Event.{Event}
@@ -7,20 +7,33 @@ use Rattle.pool_syntax.specs.declared.words.Event.TheVariants as Ev
 use Rattle.pool_syntax.specs.declared.words.FullKind.{FullKind}
 use Rattle.pool_syntax.specs.declared.words.FullKind.TheVariants as F
 use Rattle.pool_syntax.specs.declared.words.Placement.{Placement}
-use Rattle.std.specs.List.{list_any}
+use Rattle.std.specs.List.{list_any, list_all}
+use Rattle.std.specs.Option.{unwrap_or}
+use Rattle.std.specs.FinMap.{find, put}
 use Rattle.mesh_semantics.specs.Tables.{Pair, pair_cmp, list_at, put_list, push_list, has_some}
 use Rattle.mesh_semantics.specs.Language.{Language}
 use Rattle.mesh_semantics.specs.Paths.{next}
+use Rattle.mesh_semantics.specs.Wire.{Coming, Empty, Stale, Next}
+use Rattle.mesh_semantics.specs.KeptWire.{KeptWire, empty_kept, kept_coming, kept_take, kept_act}
 use Rattle.mesh_semantics.specs.Act.{first_of, goal_node}
 use Rattle.mesh_semantics.specs.Record.{root_name}
 use Rattle.mesh_semantics.specs.Delay.{node_of}
 use Rattle.node_semantics.specs.Node as N
 use Rattle.node_semantics.specs.Node.{NumberedPacket, NodeState, NodeActed, set_at, message_count, turn_act, receipt_act, fresh_slot, ready_slots}
 
+abbrev pub KeptWires : Type 0
+KeptWires = List (Pair × KeptWire NumberedPacket)
+
+-- what is kept of the wire of a link
+abbrev pub kept_at : KeptWires → Pair → KeptWire NumberedPacket
+kept_at ws k = unwrap_or (find pair_cmp k ws) empty_kept
+
 pub record Machine (S : Type 0) : Type 0 where
   pub nodes : List (NodeState S)
   -- by the ends of a link, the head first; a link without packets has no entry
   pub links : List (Pair × List NumberedPacket)
+  -- by the ends of a link, what is kept of its wire, where links are wires; one that was never used has no entry
+  pub wires : Option KeptWires
 
 pub data MachineActed (S : Type 0) : Type 0 where
   Acts : (what : What) (machine : Machine S) → MachineActed S
@@ -39,7 +52,7 @@ post_packet l n (Some x) links = push_list pair_cmp (n, next l n (goal_node x.pa
 -- the machine after what one of its nodes did; a limit that would be passed leaves it as it is
 abbrev pub after_node : {S : Type 0} → Placement → ℕ → Machine S → NodeActed S → MachineActed S
 after_node l n m N.Idle = Acts W.Idle m
-after_node l n m (N.Acts w packet x) = Acts w (record { nodes = set_at m.nodes n x; links = post_packet l n packet m.links })
+after_node l n m (N.Acts w packet x) = Acts w (record m { nodes = set_at m.nodes n x; links = post_packet l n packet m.links })
 after_node l n m (N.Full k) = Full k n
 after_node l n m N.Nothing = Nothing
 
@@ -61,19 +74,53 @@ abbrev pub move_in : {S : Type 0} → Language S → Placement → Machine S →
 move_in g l m a b [] = Acts W.Idle m
 move_in g l m a b (e ∷ rest) = come g l (record m { links = put_list pair_cmp (a, b) rest m.links }) b e (slice_get m.nodes b)
 
--- what an event does: one turn of a node, or one move of the head of a link; a request that is posted in it has the fresh number
+-- what an event does where each link hands out its own head: one turn of a node, or one move of the head of a link; a request that is posted in it has the fresh number
+abbrev pub plain_machine_act : {S : Type 0} → Language S → Placement → ℕ → ℕ → Machine S → Event → MachineActed S
+plain_machine_act g l q fresh m (Ev.Turn n) = turn_in g l q fresh m n (slice_get m.nodes n)
+plain_machine_act g l q fresh m (Ev.Link a b) = move_in g l m a b (list_at pair_cmp (a, b) m.links)
+plain_machine_act g l q fresh m (Ev.Wire w a b) = Acts W.Idle m
+
+-- the machine with these wires
+abbrev pub with_kept : {S : Type 0} → KeptWires → MachineActed S → MachineActed S
+with_kept ws (Acts w m) = Acts w (record m { wires = Some ws })
+with_kept ws (Full k n) = Full k n
+with_kept ws Nothing = Nothing
+
+-- the first frame of a wire comes to its far end: with the next packet the head of the link moves
+abbrev pub kept_move : {S : Type 0} → Language S → Placement → Machine S → KeptWires → ℕ → ℕ → Coming NumberedPacket → MachineActed S
+kept_move g l m ws a b Empty = Acts W.Idle m
+kept_move g l m ws a b (Stale n) = Acts (W.Stale n) (record m { wires = Some (put pair_cmp (a, b) (kept_take (kept_at ws (a, b))) ws) })
+kept_move g l m ws a b (Next x) = with_kept (put pair_cmp (a, b) (kept_take (kept_at ws (a, b))) ws) (move_in g l m a b (list_at pair_cmp (a, b) m.links))
+
+-- something else happens on the wire of a link, or there is nothing to be done
+abbrev pub kept_turn : {S : Type 0} → Machine S → KeptWires → Pair → Option (What × KeptWire NumberedPacket) → MachineActed S
+kept_turn m ws k None = Acts W.Idle m
+kept_turn m ws k (Some r) = Acts r.0 (record m { wires = Some (put pair_cmp k r.1 ws) })
+
+-- what an event does where links are wires or not; a turn changes nothing of what is kept of wires
+abbrev pub machine_act_over : {S : Type 0} → Language S → Placement → ℕ → ℕ → Machine S → Option KeptWires → Event → MachineActed S
+machine_act_over g l q fresh m None e = plain_machine_act g l q fresh m e
+machine_act_over g l q fresh m (Some ws) (Ev.Turn n) = plain_machine_act g l q fresh m (Ev.Turn n)
+machine_act_over g l q fresh m (Some ws) (Ev.Link a b) = kept_move g l m ws a b (kept_coming (kept_at ws (a, b)))
+machine_act_over g l q fresh m (Some ws) (Ev.Wire w a b) = kept_turn m ws (a, b) (kept_act w (list_at pair_cmp (a, b) m.links) (kept_at ws (a, b)))
+
+-- what an event does
 abbrev pub machine_act : {S : Type 0} → Language S → Placement → ℕ → ℕ → Machine S → Event → MachineActed S
-machine_act g l q fresh m (Ev.Turn n) = turn_in g l q fresh m n (slice_get m.nodes n)
-machine_act g l q fresh m (Ev.Link a b) = move_in g l m a b (list_at pair_cmp (a, b) m.links)
+machine_act g l q fresh m e = machine_act_over g l q fresh m m.wires e
 
 -- whether an object can step, of nodes from this one on
 abbrev pub any_ready : {S : Type 0} → Language S → ℕ → List (NodeState S) → Bool
 any_ready g n [] = false
 any_ready g n (x ∷ xs) = is_some (first_of (ready_slots g n x)) || any_ready g (n + 1) xs
 
--- every link is empty and no object can step
+-- whether all that was handed out is acknowledged
+abbrev pub are_acknowledged : Option KeptWires → Bool
+are_acknowledged None = true
+are_acknowledged (Some ws) = list_all (λ e. (kept_at ws e.0).acked == (kept_at ws e.0).handed) ws
+
+-- every link is empty, all that wires handed out is acknowledged, and no object can step
 abbrev pub is_machine_quiet : {S : Type 0} → Language S → Machine S → Bool
-is_machine_quiet g m = not (list_any (λ e. has_some e.1) m.links) && not (any_ready g 0 m.nodes)
+is_machine_quiet g m = not (list_any (λ e. has_some e.1) m.links) && (are_acknowledged m.wires && not (any_ready g 0 m.nodes))
 
 -- an object has met an error
 abbrev pub any_faulted : {S : Type 0} → Language S → Machine S → Bool
@@ -87,8 +134,16 @@ empty_node g = record { slots = []; last = None; made = replicate (length g.clas
 abbrev pub start_with : {S : Type 0} → Language S → Placement → ℕ → Option S → Option (Machine S)
 start_with g l n None = None
 start_with g l n (Some y) =
-    Some (record { nodes = set_at (replicate (l.width * l.height) (empty_node g)) n (record (empty_node g) { slots = fresh_slot y ∷ [] }); links = [] })
+    Some (record { nodes = set_at (replicate (l.width * l.height) (empty_node g)) n (record (empty_node g) { slots = fresh_slot y ∷ [] }); links = []; wires = None })
 
 -- the start, if there is a class
 abbrev pub machine_start : {S : Type 0} → Language S → Placement → Option (Machine S)
 machine_start g l = start_with g l (node_of (root_name l)) g.root
+
+-- the same with a wire on each link
+abbrev pub on_wires_from : {S : Type 0} → Option (Machine S) → Option (Machine S)
+on_wires_from None = None
+on_wires_from (Some m) = Some (record m { wires = Some [] })
+
+abbrev pub machine_start_on_wires : {S : Type 0} → Language S → Placement → Option (Machine S)
+machine_start_on_wires g l = on_wires_from (machine_start g l)

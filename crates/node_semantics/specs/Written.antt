@@ -7,7 +7,7 @@ use Rattle.pool_syntax.specs.declared.words.Line.TheVariants as R
 use Rattle.pool_syntax.specs.declared.words.Placement.{Placement}
 use Rattle.mesh_semantics.specs.Language.{Language}
 use Rattle.node_semantics.specs.Machine as M
-use Rattle.node_semantics.specs.Machine.{Machine, MachineActed, machine_act, machine_start, is_machine_quiet}
+use Rattle.node_semantics.specs.Machine.{Machine, MachineActed, machine_act, machine_start, machine_start_on_wires, is_machine_quiet}
 use Rattle.node_semantics.specs.Agrees.{IsFresh}
 
 abbrev pub goes_on : {S : Type 0} → Event → ℕ → (Machine S → List Line) → MachineActed S → List Line
@@ -30,6 +30,10 @@ lines_at g l q (Some m) es numbers = lines_from g l q m 0 es numbers
 
 abbrev pub machine_lines : {S : Type 0} → Language S → Placement → ℕ → List Event → List ℕ → List Line
 machine_lines g l q es numbers = lines_at g l q (machine_start g l) es numbers
+
+-- the same where links are wires
+abbrev pub machine_lines_on_wires : {S : Type 0} → Language S → Placement → ℕ → List Event → List ℕ → List Line
+machine_lines_on_wires g l q es numbers = lines_at g l q (machine_start_on_wires g l) es numbers
 
 -- what holds after the event, if there is an after
 abbrev pub Then : {S : Type 0} → (Machine S → Type 0) → MachineActed S → Type 0
@@ -55,3 +59,7 @@ AreFreshAt g l q (Some m) es numbers = AreFresh g l q m es numbers
 -- the numbers are fresh along the run of the machine from its start
 abbrev pub FreshAlong : {S : Type 0} → Language S → Placement → ℕ → List Event → List ℕ → Type 0
 FreshAlong g l q es numbers = AreFreshAt g l q (machine_start g l) es numbers
+
+-- the same where links are wires
+abbrev pub FreshAlongWires : {S : Type 0} → Language S → Placement → ℕ → List Event → List ℕ → Type 0
+FreshAlongWires g l q es numbers = AreFreshAt g l q (machine_start_on_wires g l) es numbers

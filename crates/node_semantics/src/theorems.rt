@@ -8,9 +8,9 @@ ghost use Rattle.mesh_semantics.specs.Tables.{pair_cmp, list_at};
 ghost use Rattle.mesh_semantics.specs.Language.{Language};
 ghost use Rattle.mesh_semantics.specs.Config.{Config, object_of};
 ghost use Rattle.mesh_semantics.specs.Ways.{In};
-ghost use Rattle.mesh_semantics.specs.Delay.{Delay, cell_count, no_delay};
+ghost use Rattle.mesh_semantics.specs.Delay.{Delay, cell_count, no_delay, no_delay_on_wires};
 ghost use Rattle.mesh_semantics.specs.Act.{act, frame_count, goal_node, is_quiet, object_count};
-ghost use Rattle.mesh_semantics.specs.Record.{record_of, start};
+ghost use Rattle.mesh_semantics.specs.Record.{record_of, record_on_wires, start};
 ghost use Rattle.mesh_semantics.specs.Standing.{standing};
 ghost use Rattle.mesh_semantics.specs.Sound.{Each, IsSound};
 ghost use Rattle.mesh_semantics.specs.FitFor.{FitFor};
@@ -18,45 +18,52 @@ ghost use Rattle.mesh_semantics.specs.Lawful.{Lawful};
 ghost use Rattle.mesh_semantics.specs.Given.{IsGiven};
 ghost use Rattle.node_semantics.specs.Node as N;
 ghost use Rattle.node_semantics.specs.Node.{IsStep, NodeState, NumberedPacket, Slot, frames_in, message_count, ready_slots, receipt_act, turn_act};
-ghost use Rattle.node_semantics.specs.Machine.{Machine, any_faulted, is_machine_quiet, leaving, machine_act, machine_start};
+ghost use Rattle.node_semantics.specs.Machine.{Machine, any_faulted, is_machine_quiet, leaving, machine_act, machine_start, machine_start_on_wires};
 ghost use Rattle.node_semantics.specs.Requests.{KeepsClassAndFault, Requests};
 ghost use Rattle.node_semantics.specs.StandsFor.{MachineStandsFor, slot_at};
 ghost use Rattle.node_semantics.specs.Outstanding.{AreServed, Outstanding};
-ghost use Rattle.node_semantics.specs.Agrees.{Agrees, IsFresh, IsOfMesh, StartAgrees};
-ghost use Rattle.node_semantics.specs.Written.{FreshAlong, machine_lines};
+ghost use Rattle.node_semantics.specs.Agrees.{IsFresh, IsOfMesh};
+ghost use Rattle.node_semantics.specs.WiresStandFor.{AgreesOn, StandsFor, StartAgrees};
+ghost use Rattle.node_semantics.specs.Written.{FreshAlong, FreshAlongWires, machine_lines, machine_lines_on_wires};
 ghost use Rattle.node_semantics.specs.Receives.{IsReceivable, KnownNames};
 ghost use Rattle.node_semantics.specs.CanTurn.{CanTurn};
 ghost use Rattle.node_semantics.specs.Standings.{SaysOf, machine_standing, slot_standing};
 
-/// At its start a machine stands for the start, with nothing on the way; there is a start for both or for neither.
+/// At its start a machine stands for the start, with nothing on the way and with or without wires; there is a start for both or for neither.
 pub fn a_machine_starts_as_what_it_stands_for<S, K>()
-    ensures { (g : Language S) (kept : K → Config S) (l : Placement) → FitFor g l → Requests g (IsGiven kept) → StartAgrees g l (machine_start g l) (start g l) }
+    ensures start { (g : Language S) (kept : K → Config S) (l : Placement) → FitFor g l → Requests g (IsGiven kept) → StartAgrees g l no_delay (machine_start g l) (start g l) }
+    ensures on_wires { (g : Language S) (kept : K → Config S) (l : Placement) → FitFor g l → Requests g (IsGiven kept)
+        → StartAgrees g l no_delay_on_wires (machine_start_on_wires g l) (start g l) }
 {}
 
 /// A machine answers an event as the sound configuration does that it stands for, with the same line or the same limit, and after a line it stands for what is after it.
 pub fn a_machine_does_what_it_stands_for<S, K>()
     ensures { (g : Language S) (kept : K → Config S) (l : Placement) (q fresh : ℕ) (m : Machine S) (c : Config S) (d : Delay) (e : Event)
-        → Lawful g (IsGiven kept) → Requests g (IsGiven kept) → FitFor g l → IsSound g (IsGiven kept) l c d → MachineStandsFor g l m c d
-        → IsOfMesh l e → IsFresh m fresh e → Agrees g l (machine_act g l q fresh m e) (act g l q c d e) }
+        → Lawful g (IsGiven kept) → Requests g (IsGiven kept) → FitFor g l → IsSound g (IsGiven kept) l c d → StandsFor g l m c d
+        → IsOfMesh l e → IsFresh m fresh e → AgreesOn g l (machine_act g l q fresh m e) (act g l q c d e) }
 {}
 
 /// A machine is quiet exactly where what it stands for is.
 pub fn a_machine_is_quiet_as_what_it_stands_for<S, K>()
     ensures { (g : Language S) (kept : K → Config S) (l : Placement) (m : Machine S) (c : Config S) (d : Delay)
-        → Lawful g (IsGiven kept) → Requests g (IsGiven kept) → IsSound g (IsGiven kept) l c d → MachineStandsFor g l m c d → is_machine_quiet g m ≡ is_quiet g c d }
+        → Lawful g (IsGiven kept) → Requests g (IsGiven kept) → IsSound g (IsGiven kept) l c d → StandsFor g l m c d → is_machine_quiet g m ≡ is_quiet g c d }
 {}
 
 /// Over a schedule a machine writes the lines of the record, whatever numbers its requests have, if the number of each event is not out at the node of the event at
-/// that moment.
+/// that moment; and so over wires.
 pub fn a_machine_writes_the_record<S, K>()
-    ensures { (g : Language S) (kept : K → Config S) (l : Placement) (q : ℕ) (es : List Event) (numbers : List ℕ)
+    ensures lines { (g : Language S) (kept : K → Config S) (l : Placement) (q : ℕ) (es : List Event) (numbers : List ℕ)
         → Lawful g (IsGiven kept) → Requests g (IsGiven kept) → FitFor g l → ((c : Config S) → start g l ≡ Some c → IsSound g (IsGiven kept) l c no_delay)
         → Each (IsOfMesh l) es → FreshAlong g l q es numbers → machine_lines g l q es numbers ≡ (record_of g l q es).lines }
+    ensures on_wires { (g : Language S) (kept : K → Config S) (l : Placement) (q : ℕ) (es : List Event) (numbers : List ℕ)
+        → Lawful g (IsGiven kept) → Requests g (IsGiven kept) → FitFor g l → ((c : Config S) → start g l ≡ Some c → IsSound g (IsGiven kept) l c no_delay)
+        → Each (IsOfMesh l) es → FreshAlongWires g l q es numbers → machine_lines_on_wires g l q es numbers ≡ (record_on_wires g l q es).lines }
 {}
 
 /// For each schedule there are such numbers.
 pub fn there_are_fresh_numbers<S>()
-    ensures { (g : Language S) (l : Placement) (q : ℕ) (es : List Event) → (numbers : List ℕ) × FreshAlong g l q es numbers }
+    ensures on_wires { (g : Language S) (l : Placement) (q : ℕ) (es : List Event) → (numbers : List ℕ) × FreshAlongWires g l q es numbers }
+    ensures numbers { (g : Language S) (l : Placement) (q : ℕ) (es : List Event) → (numbers : List ℕ) × FreshAlong g l q es numbers }
 {}
 
 /// A number that is out at a node is that of one object, and these objects are exactly those that are posted, at a wait, or due, if whom an object waits for serves it.

@@ -1,3 +1,10 @@
 pub mod Writing
 pub mod ProperKnown
 pub mod Laws
+pub mod Formats
+pub mod FileFormat
+pub mod WholeFile
+pub mod Fronts
+pub mod Ends
+pub mod Taking
+pub mod Shorts

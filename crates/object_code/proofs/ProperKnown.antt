@@ -1,6 +1,6 @@
 -- The names and strings of a proper unit are in its table.
-use Rattle.std.proofs.Common.{◌≡◌, refl, subst, IsTrue, ℕ, zero, suc, ◌+◌, ◌==◌, ◌<◌, List, [], ◌∷◌, length, get_or, Option, Some, None, is_some, Bool, true, false, arith}
-use Rattle.std.specs.Prelude.{slice_get, if◌then◌else◌}
+use Rattle.std.proofs.Common.{◌≡◌, refl, IsTrue, ℕ, zero, suc, ◌==◌, ◌<◌, List, [], ◌∷◌, length, get_or, Option, Some, None, is_some, Bool, true, false, arith}
+use Rattle.std.specs.Prelude.{slice_get}
 use Rattle.std.specs.List.{All}
 use Rattle.std.proofs.lemmas.List.Elements.{All-nil, All-cons}
 use Rattle.pool_syntax.specs.declared.words.NameId.{NameId}
@@ -10,9 +10,9 @@ use Rattle.object_code.specs.declared.unit.AltCode.{AltCode}
 use Rattle.object_code.specs.declared.unit.MethodCode.{MethodCode}
 use Rattle.object_code.specs.declared.unit.ClassCode.{ClassCode}
 use Rattle.object_code.specs.declared.unit.Unit.{Unit as Code}
-use Rattle.object_code.specs.Known.{IsKnown, AnswerIsKnown, AlternativeIsKnown, InstrIsKnown, MethodIsKnown, ClassIsKnown, IsKnownUnit}
+use Rattle.object_code.specs.Known.{IsKnown, AnswerIsKnown, AlternativeIsKnown, InstrIsKnown, MethodIsKnown, IsKnownUnit}
 use Rattle.object_code.specs.Proper.{AreOwn, AnswerOwn, AltsExist, Exists, IsProperClass, IsProper}
-use Rattle.object_code.specs.Step.{method_from, method_named, class_from}
+use Rattle.object_code.specs.Step.{method_from, class_from}
 
 there : {A : Type 0} (xs : List A) (k : ℕ) (d : A) → k < length xs → slice_get xs k ≡ Some (get_or xs k d)
 there [] k d h = absurd (omega (arith, h))

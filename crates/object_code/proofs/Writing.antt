@@ -1,12 +1,18 @@
 -- Texts that are written one after another.
-use Rattle.std.proofs.Common.{◌≡◌, refl, sym, ap, ◌∙◌, ℕ, suc, ◌+◌, ◌<◌, ◌≤◌, inl, inr, List, [], ◌∷◌, ◌++◌, length, take, drop, get_or, Bool, true, false, Option, Some, None, option_map, append_assoc, subst, slice_get, arith}
-use Rattle.std.specs.List.{All}
+use Rattle.std.proofs.Common.{◌≡◌, refl, sym, ap, ◌∙◌, ℕ, zero, suc, ◌+◌, ◌<◌, ◌≤◌, inl, inr, List, [], ◌∷◌, ◌++◌, length, take, drop, get_or, Bool, true, false, Option, Some, None, option_map, append_assoc, subst, slice_get, arith}
+use Rattle.std.specs.List.{All, AllByRecursion as Each}
 use Rattle.std.proofs.lemmas.Grind.{common_steps}
 use Rattle.std.proofs.lemmas.List.{at_drop_more}
 use Rattle.std.proofs.lemmas.List.Elements.{All-get_or}
 use Rattle.pool_outside.specs.Outside.{Rose}
 use Rattle.pool_syntax.specs.Tokens.{Text}
 use Rattle.object_code.specs.declared.unit.Instr.{Instr}
+use Rattle.object_code.specs.declared.unit.MethodCode.{MethodCode}
+use Rattle.object_code.specs.declared.unit.ClassCode.{ClassCode}
+use Rattle.object_code.specs.declared.file.ClassKinds.{ClassKinds}
+use Rattle.object_code.specs.declared.file.MethodKinds.{MethodKinds}
+use Rattle.object_code.specs.FileBytes.{items_bytes, pairs}
+use Rattle.object_code.specs.Shaped.{AreShapedMethods, AreShapedClasses}
 use Rattle.object_code.specs.Listing.{line_text, lines_text, text_at, text_or_none}
 use Rattle.object_code.specs.Written.{State, Writes, whole, cut, idle}
 
@@ -60,6 +66,9 @@ nothing a = nothing_by a a.failed refl
 -- the same text
 pub same : (s t : Text) (a b : State) → s ≡ t → Writes s a b → Writes t a b
 same s t a b e p = let P : Text → Type 0 = λ u. Writes u a b in subst P e p
+
+pub meant : (s t : Text) (a b : State) → Writes s a b → s ≡ t → Writes t a b
+meant s t a b p e = same s t a b e p
 
 -- to write the rest from here is to write all from there
 pub record Rests (all : Text) (from : State) (rest : Text) (here : State) : Type 0 where
@@ -128,3 +137,67 @@ pub no_fault : (t : Text) (a b : State) → Writes t a b → b.failed ≡ false 
 no_fault t a b (whole o p w f) h = f
 no_fault t a b (cut n o p l w f r) h = absurd (cc)
 no_fault t a b (idle o p w f) h = absurd (cc)
+
+-- what holds of each, by recursion, holds of the one at a place
+pub each_at : {A : Type 0} (P : A → Type 0) (xs : List A) (i : ℕ) (d : A) → i < length xs → Each P xs → P (get_or xs i d)
+each_at P [] i d within h = absurd (let z : i < 0 = within in omega (arith, z))
+each_at P (x ∷ xs) zero d within h = h.0
+each_at P (x ∷ xs) (suc i) d within h = each_at P xs i d (let z : suc i < suc (length xs) = within in omega (arith, z)) h.1
+
+pub each_holds : {A : Type 0} (P : A → Type 0) (xs : List A) (i : ℕ) (x : A) → i < length xs → x ≡ get_or xs i x → Each P xs → P x
+each_holds P xs i x within at h = subst P (sym at) (each_at P xs i x within h)
+
+-- nothing is asked of each
+pub each_any : {A : Type 0} (xs : List A) → Each (λ x. Unit {0}) xs
+each_any [] = tt
+each_any (x ∷ xs) = (tt, each_any xs)
+
+-- the items of two lists at a place, side by side
+pub pair_at : {A B : Type 0} (bytes : A × B → Text) (xs : List A) (ys : List B) (i : ℕ) (x : A) (y : B) → i < length xs → i < length ys → x ≡ get_or xs i x → y ≡ get_or ys i y
+    → items_bytes bytes (pairs (drop i xs) (drop i ys)) ≡ bytes (x, y) ++ items_bytes bytes (pairs (drop (i + 1) xs) (drop (i + 1) ys))
+pair_at bytes xs ys i x y p q e f =
+    at_drop_more (λ zs. items_bytes bytes (pairs zs (drop i ys))) xs i x p
+    ∙ at_drop_more (λ zs. items_bytes bytes (pairs (get_or xs i x ∷ drop (i + 1) xs) zs)) ys i y q
+    ∙ ap (λ z. bytes (z, get_or ys i y) ++ items_bytes bytes (pairs (drop (i + 1) xs) (drop (i + 1) ys))) (sym e)
+    ∙ ap (λ z. bytes (x, z) ++ items_bytes bytes (pairs (drop (i + 1) xs) (drop (i + 1) ys))) (sym f)
+
+pub as_many_pairs : {A B : Type 0} (xs : List A) (ys : List B) → length xs ≡ length ys → length (pairs xs ys) ≡ length xs
+as_many_pairs [] [] e = refl
+as_many_pairs [] (y ∷ ys) e = refl
+as_many_pairs (x ∷ xs) [] e = absurd (let z : suc (length xs) ≡ 0 = e in omega (arith, z))
+as_many_pairs (x ∷ xs) (y ∷ ys) e = ap suc (as_many_pairs xs ys (let z : suc (length xs) ≡ suc (length ys) = e in omega (arith, z)))
+
+-- shaped classes are as many as their kinds, and at each place so are their methods
+pub shaped_many : (ks : List ClassCode) (qs : List ClassKinds) → AreShapedClasses ks qs → length ks ≡ length qs
+shaped_many [] [] h = refl
+shaped_many [] (q ∷ qs) h = absurd h
+shaped_many (k ∷ ks) [] h = absurd h
+shaped_many (k ∷ ks) (q ∷ qs) h = ap suc (shaped_many ks qs h.2)
+
+pub shaped_methods : (ms : List MethodCode) (ss : List MethodKinds) → AreShapedMethods ms ss → length ms ≡ length ss
+shaped_methods [] [] h = refl
+shaped_methods [] (s ∷ ss) h = absurd h
+shaped_methods (m ∷ ms) [] h = absurd h
+shaped_methods (m ∷ ms) (s ∷ ss) h = ap suc (shaped_methods ms ss h.1)
+
+shaped_at : (ks : List ClassCode) (qs : List ClassKinds) (i : ℕ) (d : ClassCode) (e : ClassKinds) → AreShapedClasses ks qs → i < length ks
+    → length (get_or ks i d).methods ≡ length (get_or qs i e).methods
+shaped_at [] qs i d e h within = absurd (let z : i < 0 = within in omega (arith, z))
+shaped_at (k ∷ ks) [] i d e h within = absurd h
+shaped_at (k ∷ ks) (q ∷ qs) zero d e h within = shaped_methods k.methods q.methods h.1
+shaped_at (k ∷ ks) (q ∷ qs) (suc i) d e h within = shaped_at ks qs i d e h.2 (let z : suc i < suc (length ks) = within in omega (arith, z))
+
+pub shaped_there : (ks : List ClassCode) (qs : List ClassKinds) (i : ℕ) (x : ClassCode) (y : ClassKinds) → AreShapedClasses ks qs → i < length ks → x ≡ get_or ks i x → y ≡ get_or qs i y
+    → length x.methods ≡ length y.methods
+shaped_there ks qs i x y h within e f = ap (λ (z : ClassCode). length z.methods) e ∙ shaped_at ks qs i x y h within ∙ ap (λ (z : ClassKinds). length z.methods) (sym f)
+
+-- the text of a number, and those behind it
+pub text_at_drop : {A : Type 0} (bytes : A → Text) (xs : List A) (i : ℕ) (x : A) → slice_get xs i ≡ Some x → items_bytes bytes (drop i xs) ≡ bytes x ++ items_bytes bytes (drop (i + 1) xs)
+text_at_drop bytes [] i x e = absurd (cc)
+text_at_drop bytes (y ∷ xs) zero x e = let z : y ≡ x = cc in ap (λ w. bytes w ++ items_bytes bytes xs) z
+text_at_drop bytes (y ∷ xs) (suc i) x e = let z : suc i + 1 ≡ suc (i + 1) = omega arith in text_at_drop bytes xs i x e ∙ ap (λ n. bytes x ++ items_bytes bytes (drop n (y ∷ xs))) (sym z)
+
+pub each_got : {A : Type 0} (P : A → Type 0) (xs : List A) (i : ℕ) (x : A) → slice_get xs i ≡ Some x → Each P xs → P x
+each_got P [] i x e h = absurd (cc)
+each_got P (y ∷ xs) zero x e h = let z : y ≡ x = cc in subst P z h.0
+each_got P (y ∷ xs) (suc i) x e h = each_got P xs i x e h.1

@@ -6,3 +6,8 @@ pub mod Listing
 pub mod Known
 pub mod Written
 pub mod Suits
+pub mod Read
+pub mod FileBytes
+pub mod Decode
+pub mod Shaped
+pub mod Gives

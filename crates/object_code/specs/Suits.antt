@@ -4,6 +4,8 @@ use Rattle.std.specs.List.{All}
 use Rattle.pool_syntax.specs.declared.words.Place.{Place}
 use Rattle.pool_syntax.specs.declared.words.Place.TheVariants as P
 use Rattle.pool_syntax.specs.declared.words.Placement.{Placement}
+use Rattle.mesh_semantics.specs.Ways.{Ways}
+use Rattle.mesh_semantics.specs.Routes.{IsRouted}
 use Rattle.object_code.specs.declared.unit.ClassCode.{ClassCode}
 use Rattle.object_code.specs.declared.unit.Unit.{Unit as Code}
 
@@ -28,7 +30,7 @@ most_vars (k ∷ ks) = if nat_le k.vars (most_vars ks) then most_vars ks else k.
 abbrev pub words : Placement → ℕ → ℕ
 words l vars = nodes l * (l.objects * vars + l.frames * 96 + l.cells * 24)
 
--- numbers within their ranges, a place for each class, and no more than 16,777,216 words
+-- numbers within their ranges, a place for each class, no more than 16,777,216 words, cuts and routes of the mesh, and a path between each two nodes
 pub record Suits (l : Placement) (u : Code) : Type 0 where
   pub width : IsFromTo 1 8 l.width
   pub height : IsFromTo 1 8 l.height
@@ -38,3 +40,5 @@ pub record Suits (l : Placement) (u : Code) : Type 0 where
   pub places : length l.places ≡ length u.classes
   pub each : All (IsOfMesh (nodes l)) l.places
   pub fits : words l (most_vars u.classes) ≤ 16777216
+  pub routed : IsRouted l
+  pub ways : Ways l

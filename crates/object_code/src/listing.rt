@@ -13,7 +13,7 @@ use pool_outside::{Sink, WriteFault, write_all_of};
 use pool_syntax::{List, NameId, Names, Op};
 
 /// Writes the piece, unless a write has failed before.
-fn put<K: Sink>(sink: &mut K, failed: &mut bool, piece: &[u8])
+pub(crate) fn put<K: Sink>(sink: &mut K, failed: &mut bool, piece: &[u8])
     ensures { Writes piece.now (state failed.old (K.written sink.old) (K.faults sink.old)) (state failed.new (K.written sink.new) (K.faults sink.new)) }
 {
     if !*failed {

@@ -31,6 +31,7 @@ some_node (suc w) h a b = omega (arith, b)
 
 pub suits_fits : (p : ProgramTree) (u : Code) (l : Placement) → u.classes ≡ code p → Suits l u → FitFor (terms p) l
 suits_fits p u l unit s = record {
+  ways = s.ways;
   nodes = some_node l.width l.height s.width.0 s.height.0;
   objects = (s.objects.0, (let most = s.objects.1 in omega (arith, most)));
   frames = s.frames.0;

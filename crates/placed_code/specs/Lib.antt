@@ -1,3 +1,4 @@
 pub mod CheckedProgram
 pub mod Matches
 pub mod StandsAlike
+pub mod HasCode

@@ -5,21 +5,28 @@ ghost use Rattle.pool_syntax.specs.Tokens.{Text};
 ghost use Rattle.pool_syntax.specs.Typing.{faults};
 ghost use Rattle.pool_syntax.specs.Programs.{IsParsed};
 ghost use Rattle.pool_syntax.specs.declared.words.Event.{Event};
+ghost use Rattle.pool_syntax.specs.declared.words.Label.{Label};
 ghost use Rattle.pool_syntax.specs.declared.words.Placement.{Placement};
 ghost use Rattle.pool_relation.specs.Action.{Object};
+ghost use Rattle.pool_relation.specs.Configuration.{Configuration};
+ghost use Rattle.pool_relation.specs.Transition as X;
+ghost use Rattle.pool_relation.specs.Transition.{run};
 ghost use Rattle.object_code.specs.declared.unit.Unit.{Unit as Code};
+ghost use Rattle.object_code.specs.Proper.{IsProper};
 ghost use Rattle.object_code.specs.Suits.{Suits};
 ghost use Rattle.pool_compile.specs.Code.{code};
+ghost use Rattle.mesh_semantics.specs.Act.{act, is_quiet};
 ghost use Rattle.mesh_semantics.specs.Config.{Config, object_of};
 ghost use Rattle.mesh_semantics.specs.Delay.{Delay};
 ghost use Rattle.mesh_semantics.specs.FitFor.{FitFor};
-ghost use Rattle.mesh_semantics.specs.Record.{record_of, start};
-ghost use Rattle.mesh_semantics.specs.Simulates.{Both, Simulates, Related, SameRecord};
+ghost use Rattle.mesh_semantics.specs.Record.{record_of, record_on_wires, root_name, start};
+ghost use Rattle.mesh_semantics.specs.Simulates.{Both, Simulates, Related, SameAct, SameRecord};
 ghost use Rattle.mesh_semantics.specs.Standing.{cycles};
-ghost use Rattle.placed_terms.specs.Terms.{terms};
+ghost use Rattle.placed_terms.specs.Terms.{terms, plain};
 ghost use Rattle.placed_terms.specs.RunOf.{TypedTerms};
 ghost use Rattle.coded_objects.specs.Coded.{Placed, coded};
 ghost use Rattle.placed_code.specs.CheckedProgram.{IsCheckedProgram};
+ghost use Rattle.placed_code.specs.HasCode.{HasCode};
 ghost use Rattle.placed_code.specs.Matches.{Matches};
 ghost use Rattle.placed_code.specs.StandsAlike.{StandsAlike};
 
@@ -44,9 +51,11 @@ pub fn code_starts_as_terms()
         → (e : Config Placed) × (start (coded u) l ≡ Some e) × Related (Matches p u) c e }
 {}
 
-/// Over any schedule the record of code has the lines of its program's record and the same delay at the end, and their last configurations correspond.
+/// Over any schedule, with or without wires, the record of code has the lines of its program's record and the same delay at the end, and their last configurations correspond.
 pub fn records_of_code_are_those_of_terms()
-    ensures { (p : ProgramTree) (u : Code) (l : Placement) (q : ℕ) (es : List Event) → IsCheckedProgram p → u.classes ≡ code p → FitFor (terms p) l
+    ensures on_wires { (p : ProgramTree) (u : Code) (l : Placement) (q : ℕ) (es : List Event) → IsCheckedProgram p → u.classes ≡ code p → FitFor (terms p) l
+        → SameRecord (Matches p u) (record_on_wires (terms p) l q es) (record_on_wires (coded u) l q es) }
+    ensures records { (p : ProgramTree) (u : Code) (l : Placement) (q : ℕ) (es : List Event) → IsCheckedProgram p → u.classes ≡ code p → FitFor (terms p) l
         → SameRecord (Matches p u) (record_of (terms p) l q es) (record_of (coded u) l q es) }
 {}
 
@@ -56,4 +65,19 @@ pub fn code_stands_as_terms()
         → Related (Matches p u) c e → Both (StandsAlike p u d o) (object_of c o) (object_of e o) }
     ensures cycles { (p : ProgramTree) (u : Code) (c : Config Object) (e : Config Placed) (d : Delay) → IsCheckedProgram p → u.classes ≡ code p
         → Related (Matches p u) c e → cycles (terms p) c d ≡ cycles (coded u) e d }
+{}
+
+/// In corresponding configurations of which the first is typed, each event has the same line or the same limit, and what is after it corresponds; and both are quiet or neither.
+pub fn events_of_code_are_those_of_terms()
+    ensures acts { (p : ProgramTree) (u : Code) (l : Placement) (q : ℕ) (c : Config Object) (e : Config Placed) (d : Delay) (ev : Event) → IsCheckedProgram p → u.classes ≡ code p
+        → TypedTerms p c → Related (Matches p u) c e → SameAct (Matches p u) (act (terms p) l q c d ev) (act (coded u) l q e d ev) }
+    ensures quiet { (p : ProgramTree) (u : Code) (c : Config Object) (e : Config Placed) (d : Delay) → IsCheckedProgram p → u.classes ≡ code p
+        → Related (Matches p u) c e → is_quiet (terms p) c d ≡ is_quiet (coded u) e d }
+{}
+
+/// Beside each configuration that a run of a program reaches stands its code: a configuration that corresponds to it and is of the unit, and that is sound with each delay with
+/// which it is. So the events of code, and of a machine that stands for code, are those of each sound configuration that a run reaches.
+pub fn what_a_run_reaches_has_code()
+    ensures { (p : ProgramTree) (u : Code) (l : Placement) (first : Configuration) (labs : List Label) (c : Config Object) → IsCheckedProgram p → u.classes ≡ code p → IsProper u
+        → X.start p (root_name l) ≡ Some first → run p first labs ≡ Some (plain c) → HasCode p u l c }
 {}

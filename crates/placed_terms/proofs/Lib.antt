@@ -1,11 +1,15 @@
 pub mod Instance
 pub mod LawfulTerms
 pub mod RootClass
+pub mod Starting
+pub mod LinesOf
 pub mod RunsFrom
+pub mod WaitingTerms
 pub mod Writing
 pub mod Laws
 pub mod Words
 pub mod TwoNodes
+mod AroundACut
 mod UnsoundStates
 mod LastCell
 mod FullHeap
@@ -15,3 +19,4 @@ pub mod FourNodes
 pub mod MachineRuns
 mod RequestRows
 mod DrawnRuns
+mod OverWires

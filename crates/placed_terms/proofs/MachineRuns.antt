@@ -4,7 +4,7 @@ use Rattle.std.proofs.Common.{◌≡◌, refl, ℕ, zero, suc, ◌+◌, List, []
 use Rattle.std.specs.Prelude.{flat_map, slice_get, nat_lt, length, if◌then◌else◌}
 use Rattle.std.specs.List.{list_all}
 use Rattle.pool_syntax.specs.declared.words.Event.{Event}
-use Rattle.pool_syntax.specs.declared.words.Event.TheVariants.{Turn, Link}
+use Rattle.pool_syntax.specs.declared.words.Event.TheVariants.{Turn, Link, Wire}
 use Rattle.mesh_semantics.specs.Record.{record_of}
 use Rattle.mesh_semantics.specs.Standing.{Standing, Ready, Finished, Calls, Creates, Due}
 use Rattle.pool_relation.specs.Action.{Object}
@@ -33,7 +33,7 @@ rounds zero = []
 rounds (suc k) = round ++ rounds k
 
 -- so many numbers that rise from k
-abbrev rising : ℕ → ℕ → List ℕ
+abbrev pub rising : ℕ → ℕ → List ℕ
 rising k zero = []
 rising k (suc n) = k ∷ rising (k + 1) n
 
@@ -53,6 +53,7 @@ least_in (Some x) = least (length x.slots) 0 x.slots
 abbrev least_at : Machine Object → Event → ℕ
 least_at m (Turn n) = least_in (slice_get m.nodes n)
 least_at m (Link a b) = 0
+least_at m (Wire w a b) = 0
 
 abbrev on_machine : (Machine Object → List ℕ) → MachineActed Object → List ℕ
 on_machine go (M.Acts what m) = go m

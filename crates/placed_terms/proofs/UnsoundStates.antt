@@ -13,7 +13,7 @@ use Rattle.placed_terms.proofs.Words.{at, int}
 
 -- what is on links, what has arrived, and what objects wait for
 abbrev delay : List (Pair × Packet) → List (ℕ × Arrival) → List (ℕ × Holding) → Delay
-delay links arrived holding = record { links = links; arrived = arrived; holding = holding; last = []; made = [] }
+delay links arrived holding = record { links = links; arrived = arrived; holding = holding; last = []; made = []; wires = None }
 
 -- the start of the program has the property; there the root is alone, at slot 0 of node 0, and is about to make a server at node 1
 abbrev AtStart : Option (Config Object) → (Config Object → Type 0) → Type 0

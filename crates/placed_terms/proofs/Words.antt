@@ -96,7 +96,7 @@ send e m es = T.Async e m 0 (args es)
 
 -- with the limits that stand where a text gives none
 abbrev pub mesh : ℕ → ℕ → List Place → Placement
-mesh w h places = record { width = w; height = h; objects = 256; frames = 1024; cells = 1024; places = places }
+mesh w h places = record { width = w; height = h; objects = 256; frames = 1024; cells = 1024; places = places; cuts = []; routes = [] }
 
 abbrev pub turns : ℕ → ℕ → List Event
 turns n zero = []

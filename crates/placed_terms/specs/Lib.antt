@@ -1,2 +1,4 @@
 pub mod Terms
+pub mod TypedTerms
+pub mod LineOf
 pub mod RunOf

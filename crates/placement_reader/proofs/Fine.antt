@@ -46,12 +46,16 @@ number_fine nodes k (form.Counted j n ∷ fs) h = by (is_kind j k) (same_kind j 
   by true here later = here refl
   by false here later = later
 number_fine nodes k (form.Placed c s ∷ fs) h = number_fine nodes k fs h.1
+number_fine nodes k (form.Cut a b ∷ fs) h = number_fine nodes k fs h.1
+number_fine nodes k (form.Routed a g b ∷ fs) h = number_fine nodes k fs h.1
 
 pub spot_fine : (nodes c : ℕ) (fs : List Form) → AreFine nodes fs → IfSome (spot_in c fs) (λ s. IsOfMesh nodes (place_of s))
 spot_fine nodes c [] h = tt
 spot_fine nodes c (form.Mesh w g ∷ fs) h = spot_fine nodes c fs h.1
 spot_fine nodes c (form.Counted j n ∷ fs) h = spot_fine nodes c fs h.1
 spot_fine nodes c (form.Placed d s ∷ fs) h = chosen (λ s. IsOfMesh nodes (place_of s)) (is_class c d) s (spot_in c fs) h.0 (spot_fine nodes c fs h.1)
+spot_fine nodes c (form.Cut a b ∷ fs) h = spot_fine nodes c fs h.1
+spot_fine nodes c (form.Routed a g b ∷ fs) h = spot_fine nodes c fs h.1
 
 there : (nodes : ℕ) (o : Option Spot) → IfSome o (λ s. IsOfMesh nodes (place_of s)) → IsOfMesh nodes (place_or_same o)
 there nodes None h = tt
@@ -67,11 +71,11 @@ pub spot_at : (nodes c n : ℕ) (fs : List Form) → AreFine nodes fs → spot_i
 spot_at nodes c n fs h e = subst (λ o. IfSome o (λ s. IsOfMesh nodes (place_of s))) e (spot_fine nodes c fs h)
 
 -- a line without fault, and those behind it
-pub step_fault : (u : Code) (nodes : ℕ) (earlier : List Form) (k : Kept) (f : Form) (ks : List Kept)
-    → form_of u k.words ≡ Some f → fault_or_bad nodes k.line earlier (form_of u k.words) ≡ None
-    → first_fault u nodes earlier (k ∷ ks) ≡ first_fault u nodes (earlier ++ f ∷ []) ks
-step_fault u nodes earlier k f ks e ok =
-    ap (λ o. first_of o (first_fault u nodes (with_form earlier (form_of u k.words)) ks)) ok ∙ ap (λ o. first_fault u nodes (with_form earlier o) ks) e
+pub step_fault : (u : Code) (w nodes : ℕ) (earlier : List Form) (k : Kept) (f : Form) (ks : List Kept)
+    → form_of u k.words ≡ Some f → fault_or_bad w nodes k.line earlier (form_of u k.words) ≡ None
+    → first_fault u w nodes earlier (k ∷ ks) ≡ first_fault u w nodes (earlier ++ f ∷ []) ks
+step_fault u w nodes earlier k f ks e ok =
+    ap (λ o. first_of o (first_fault u w nodes (with_form earlier (form_of u k.words)) ks)) ok ∙ ap (λ o. first_fault u w nodes (with_form earlier o) ks) e
 
 pub step_forms : (u : Code) (earlier : List Form) (k : Kept) (f : Form) (ks : List Kept)
     → form_of u k.words ≡ Some f → forms_of u earlier (k ∷ ks) ≡ forms_of u (earlier ++ f ∷ []) ks

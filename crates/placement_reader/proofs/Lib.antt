@@ -1,3 +1,4 @@
 pub mod Fine
+mod Faultless
 pub mod Most
 mod Rows

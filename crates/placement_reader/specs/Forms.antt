@@ -1,9 +1,12 @@
 -- The forms of a placement's lines, and their faults.
-use Rattle.std.specs.Prelude.{ℕ, ◌+◌, List, [], ◌∷◌, Option, Some, None, is_some, Bool, true, false, ◌&&◌, not, nat_eq, nat_le, nat_lt, bytes_eq, codes}
+use Rattle.std.specs.Prelude.{ℕ, ◌+◌, ◌<◌, List, [], ◌∷◌, Option, Some, None, is_some, Bool, true, false, ◌&&◌, not, nat_eq, nat_le, nat_lt, bytes_eq, codes}
 use Rattle.pool_syntax.specs.Table.{is_among, name_of}
 use Rattle.pool_syntax.specs.Tokens.{Text}
 use Rattle.pool_syntax.specs.declared.words.Place.{Place}
 use Rattle.pool_syntax.specs.declared.words.Place.TheVariants as P
+use Rattle.pool_syntax.specs.declared.words.LinkId.{LinkId}
+use Rattle.pool_syntax.specs.declared.words.Route.{Route}
+use Rattle.mesh_semantics.specs.Paths.{are_neighbours, is_cut, route_of}
 use Rattle.input_lines.specs.Kept.{number_of}
 use Rattle.object_code.specs.Suits.{IsFromTo, IsOfMesh}
 use Rattle.object_code.specs.declared.unit.ClassCode.{ClassCode}
@@ -53,17 +56,22 @@ abbrev pub place_form : Option ℕ → Option Spot → Option Form
 place_form class None = None
 place_form class (Some spot) = Some (form.Placed class spot)
 
--- `mesh W H`, `place C same`, `place C spread`
+-- `mesh W H`, `cut A B`, `place C same`, `place C spread`
 abbrev pub form_of_three : Code → Text → Text → Text → Option Form
 form_of_three u w a b = elim (bytes_eq w (codes "mesh")) [
   | true ↦ then_some (number_of a) (λ width. then_some (number_of b) (λ height. Some (form.Mesh width height)))
-  | false ↦ only_if (bytes_eq w (codes "place")) (place_form (class_named u a) (spot_of b))
+  | false ↦ elim (bytes_eq w (codes "cut")) [
+    | true ↦ then_some (number_of a) (λ from. then_some (number_of b) (λ to. Some (form.Cut from to)))
+    | false ↦ only_if (bytes_eq w (codes "place")) (place_form (class_named u a) (spot_of b))
+  ]
 ]
 
--- `place C at K`
+-- `route A G B`, `place C at K`
 abbrev pub form_of_four : Code → Text → Text → Text → Text → Option Form
-form_of_four u w a b c =
-    only_if (bytes_eq w (codes "place") && bytes_eq b (codes "at")) (then_some (number_of c) (λ node. Some (form.Placed (class_named u a) (S.At node))))
+form_of_four u w a b c = elim (bytes_eq w (codes "route")) [
+  | true ↦ then_some (number_of a) (λ at. then_some (number_of b) (λ goal. then_some (number_of c) (λ next. Some (form.Routed at goal next))))
+  | false ↦ only_if (bytes_eq w (codes "place") && bytes_eq b (codes "at")) (then_some (number_of c) (λ node. Some (form.Placed (class_named u a) (S.At node))))
+]
 
 -- the form of a line, whatever its numbers and its class
 abbrev pub form_of : Code → List Text → Option Form
@@ -91,6 +99,8 @@ number_in k [] = None
 number_in k (form.Mesh w h ∷ fs) = number_in k fs
 number_in k (form.Counted j n ∷ fs) = elim (is_kind j k) [ true ↦ Some n | false ↦ number_in k fs ]
 number_in k (form.Placed c s ∷ fs) = number_in k fs
+number_in k (form.Cut a b ∷ fs) = number_in k fs
+number_in k (form.Routed a g b ∷ fs) = number_in k fs
 
 abbrev pub is_class : ℕ → Option ℕ → Bool
 is_class c None = false
@@ -102,6 +112,26 @@ spot_in c [] = None
 spot_in c (form.Mesh w h ∷ fs) = spot_in c fs
 spot_in c (form.Counted j n ∷ fs) = spot_in c fs
 spot_in c (form.Placed d s ∷ fs) = elim (is_class c d) [ true ↦ Some s | false ↦ spot_in c fs ]
+spot_in c (form.Cut a b ∷ fs) = spot_in c fs
+spot_in c (form.Routed a g b ∷ fs) = spot_in c fs
+
+-- the cut links
+abbrev pub cuts_of : List Form → List LinkId
+cuts_of [] = []
+cuts_of (form.Mesh w h ∷ fs) = cuts_of fs
+cuts_of (form.Counted j n ∷ fs) = cuts_of fs
+cuts_of (form.Placed c s ∷ fs) = cuts_of fs
+cuts_of (form.Cut a b ∷ fs) = record { from = a; to = b } ∷ cuts_of fs
+cuts_of (form.Routed a g b ∷ fs) = cuts_of fs
+
+-- the routes
+abbrev pub routes_of : List Form → List Route
+routes_of [] = []
+routes_of (form.Mesh w h ∷ fs) = routes_of fs
+routes_of (form.Counted j n ∷ fs) = routes_of fs
+routes_of (form.Placed c s ∷ fs) = routes_of fs
+routes_of (form.Cut a b ∷ fs) = routes_of fs
+routes_of (form.Routed a g b ∷ fs) = record { at = a; goal = g; next = b } ∷ routes_of fs
 
 -- the greatest number of a kind
 abbrev pub most : Count → ℕ
@@ -121,18 +151,25 @@ abbrev pub unless : Bool → PlacementFault → Option PlacementFault → Option
 unless true fault next = next
 unless false fault next = Some fault
 
--- the fault of least number of a form behind the mesh, on this line and after these forms; the mesh itself stands before all of them
-abbrev pub fault_of : ℕ → ℕ → List Form → Form → Option PlacementFault
-fault_of nodes line earlier (form.Mesh w h) = Some (F.Repeated line)
-fault_of nodes line earlier (form.Counted k n) =
+-- the fault of least number of a form behind a mesh of this width, on this line and after these forms; the mesh itself stands before all of them
+abbrev pub fault_of : ℕ → ℕ → ℕ → List Form → Form → Option PlacementFault
+fault_of w nodes line earlier (form.Mesh v h) = Some (F.Repeated line)
+fault_of w nodes line earlier (form.Counted k n) =
     unless (not (is_some (number_in k earlier))) (F.Repeated line) (unless (is_from_one (most k) n) (F.OutOfRange line) None)
-fault_of nodes line earlier (form.Placed None s) = Some (F.UnknownClass line)
-fault_of nodes line earlier (form.Placed (Some c) s) =
+fault_of w nodes line earlier (form.Placed None s) = Some (F.UnknownClass line)
+fault_of w nodes line earlier (form.Placed (Some c) s) =
     unless (not (is_some (spot_in c earlier))) (F.Repeated line) (unless (is_there nodes s) (F.NoSuchNode line) None)
+fault_of w nodes line earlier (form.Cut a b) =
+    unless (not (is_cut (cuts_of earlier) a b)) (F.Repeated line)
+    (unless (nat_lt a nodes && nat_lt b nodes) (F.NoSuchNode line) (unless (are_neighbours w a b) (F.NoSuchLink line) None))
+fault_of w nodes line earlier (form.Routed a g b) =
+    unless (not (is_some (route_of (routes_of earlier) a g))) (F.Repeated line)
+    (unless (nat_lt a nodes && nat_lt g nodes && nat_lt b nodes) (F.NoSuchNode line)
+    (unless (not (nat_eq g a)) (F.OutOfRange line) (unless (are_neighbours w a b) (F.NoSuchLink line) None)))
 
-abbrev pub fault_or_bad : ℕ → ℕ → List Form → Option Form → Option PlacementFault
-fault_or_bad nodes line earlier None = Some (F.BadLine line)
-fault_or_bad nodes line earlier (Some f) = fault_of nodes line earlier f
+abbrev pub fault_or_bad : ℕ → ℕ → ℕ → List Form → Option Form → Option PlacementFault
+fault_or_bad w nodes line earlier None = Some (F.BadLine line)
+fault_or_bad w nodes line earlier (Some f) = fault_of w nodes line earlier f
 
 abbrev pub place_of : Spot → Place
 place_of (S.At n) = P.At n
@@ -144,11 +181,13 @@ abbrev pub place_or_same : Option Spot → Place
 place_or_same None = P.Same
 place_or_same (Some s) = place_of s
 
--- a form without fault: its number is in its range, or its node is one of the mesh
+-- a form without fault: its number is in its range, or its nodes are of the mesh
 abbrev pub IsFine : ℕ → Form → Type 0
 IsFine nodes (form.Mesh w h) = Unit {0}
 IsFine nodes (form.Counted k n) = IsFromTo 1 (most k) n
 IsFine nodes (form.Placed c s) = IsOfMesh nodes (place_of s)
+IsFine nodes (form.Cut a b) = (a < nodes) × (b < nodes)
+IsFine nodes (form.Routed a g b) = (a < nodes) × (g < nodes) × (b < nodes)
 
 abbrev pub AreFine : ℕ → List Form → Type 0
 AreFine nodes [] = Unit {0}

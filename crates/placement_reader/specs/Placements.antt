@@ -4,6 +4,8 @@ use Rattle.std.specs.List.{range_with_len}
 use Rattle.pool_syntax.specs.Tokens.{Text}
 use Rattle.pool_syntax.specs.declared.words.Place.{Place}
 use Rattle.pool_syntax.specs.declared.words.Placement.{Placement}
+use Rattle.mesh_semantics.specs.Tables.{Pair}
+use Rattle.mesh_semantics.specs.Routes.{without_route}
 use Rattle.pool_lexer.specs.Lines.{lines}
 use Rattle.input_lines.specs.Kept.{Kept, kept}
 use Rattle.object_code.specs.Suits.{IsFromTo, most_vars, words}
@@ -14,7 +16,7 @@ use Rattle.placement_reader.specs.declared.form.Form.{Form}
 use Rattle.placement_reader.specs.declared.form.Form.TheVariants as form
 use Rattle.placement_reader.specs.declared.form.Count.TheVariants as C
 use Rattle.placement_reader.specs.declared.read.Mesh.{Mesh}
-use Rattle.placement_reader.specs.Forms.{fault_or_bad, form_of, is_from_one, number_in, place_or_same, spot_in}
+use Rattle.placement_reader.specs.Forms.{cuts_of, fault_or_bad, form_of, is_from_one, number_in, place_or_same, routes_of, spot_in}
 
 abbrev pub first_of : Option PlacementFault → Option PlacementFault → Option PlacementFault
 first_of None later = later
@@ -25,10 +27,10 @@ with_form fs None = fs
 with_form fs (Some f) = fs ++ f ∷ []
 
 -- the fault of the first line that has one, after these forms
-abbrev pub first_fault : Code → ℕ → List Form → List Kept → Option PlacementFault
-first_fault u nodes earlier [] = None
-first_fault u nodes earlier (k ∷ ks) =
-    first_of (fault_or_bad nodes k.line earlier (form_of u k.words)) (first_fault u nodes (with_form earlier (form_of u k.words)) ks)
+abbrev pub first_fault : Code → ℕ → ℕ → List Form → List Kept → Option PlacementFault
+first_fault u w nodes earlier [] = None
+first_fault u w nodes earlier (k ∷ ks) =
+    first_of (fault_or_bad w nodes k.line earlier (form_of u k.words)) (first_fault u w nodes (with_form earlier (form_of u k.words)) ks)
 
 -- the forms of all lines, after these
 abbrev pub forms_of : Code → List Form → List Kept → List Form
@@ -48,11 +50,18 @@ value_of u w h fs =
       frames = unwrap_or (number_in C.Frames fs) 1024;
       cells = unwrap_or (number_in C.Cells fs) 1024;
       places = places_of (length u.classes) fs;
+      cuts = cuts_of fs;
+      routes = routes_of fs;
     }
+
+-- no pair of nodes without route
+abbrev pub connected : Option Pair → Placement → Result Placement PlacementFault
+connected None p = Ok p
+connected (Some k) p = Err (F.NoRoute k.0 k.1)
 
 -- at most 16,777,216 words
 abbrev pub fitted : ℕ → Placement → Result Placement PlacementFault
-fitted vars p = elim (nat_le (words p vars) 16777216) [ true ↦ Ok p | false ↦ Err (F.TooLarge (words p vars)) ]
+fitted vars p = elim (nat_le (words p vars) 16777216) [ true ↦ connected (without_route p) p | false ↦ Err (F.TooLarge (words p vars)) ]
 
 abbrev pub fitted_or_fault : Option PlacementFault → ℕ → Placement → Result Placement PlacementFault
 fitted_or_fault None vars p = fitted vars p
@@ -64,6 +73,8 @@ mesh_fault line None = Some (F.BadLine line)
 mesh_fault line (Some (form.Mesh w h)) = elim (is_from_one 8 w && is_from_one 8 h) [ true ↦ None | false ↦ Some (F.OutOfRange line) ]
 mesh_fault line (Some (form.Counted k n)) = Some (F.BadLine line)
 mesh_fault line (Some (form.Placed c s)) = Some (F.BadLine line)
+mesh_fault line (Some (form.Cut a b)) = Some (F.BadLine line)
+mesh_fault line (Some (form.Routed a g b)) = Some (F.BadLine line)
 
 -- the first line is this mesh
 pub record IsMeshLine (line : ℕ) (f : Option Form) (m : Mesh) : Type 0 where
@@ -76,9 +87,11 @@ pub record IsMeshLine (line : ℕ) (f : Option Form) (m : Mesh) : Type 0 where
 abbrev pub with_mesh : Code → ℕ → Option Form → List Kept → Result Placement PlacementFault
 with_mesh u line None ks = Err (F.BadLine line)
 with_mesh u line (Some (form.Mesh w h)) ks =
-    fitted_or_fault (first_of (mesh_fault line (Some (form.Mesh w h))) (first_fault u (w * h) [] ks)) (most_vars u.classes) (value_of u w h (forms_of u [] ks))
+    fitted_or_fault (first_of (mesh_fault line (Some (form.Mesh w h))) (first_fault u w (w * h) [] ks)) (most_vars u.classes) (value_of u w h (forms_of u [] ks))
 with_mesh u line (Some (form.Counted k n)) ks = Err (F.BadLine line)
 with_mesh u line (Some (form.Placed c s)) ks = Err (F.BadLine line)
+with_mesh u line (Some (form.Cut a b)) ks = Err (F.BadLine line)
+with_mesh u line (Some (form.Routed a g b)) ks = Err (F.BadLine line)
 
 -- the placement of the kept lines of a text with so many lines
 abbrev pub placement_of_lines : Code → ℕ → List Kept → Result Placement PlacementFault
@@ -98,6 +111,8 @@ IsTold (F.NoSuchNode line) told = told ≡ Some (F.NoSuchNode line)
 IsTold (F.OutOfRange line) told = told ≡ Some (F.OutOfRange line)
 IsTold (F.TooLarge count) told = told ≡ Some (F.TooLarge count)
 IsTold F.Memory told = Unit {0}
+IsTold (F.NoSuchLink line) told = told ≡ Some (F.NoSuchLink line)
+IsTold (F.NoRoute from to) told = told ≡ Some (F.NoRoute from to)
 
 abbrev pub fault_in : Result Placement PlacementFault → Option PlacementFault
 fault_in (Ok p) = None

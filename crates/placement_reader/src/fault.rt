@@ -29,6 +29,12 @@ pub enum PlacementFault {
     /// Out of memory.
     #[error("out of memory")]
     Memory,
+    /// The line cuts the link between two nodes that are no neighbours, or routes over it.
+    #[error("line {line} names a link that is not there")]
+    NoSuchLink { line: u32 },
+    /// The path between these nodes takes a cut link or comes to a node twice; of all such pairs this has the least first node, and then the least second one.
+    #[error("no route from {from} to {to}")]
+    NoRoute { from: u32, to: u32 },
 }
 
 impl From<AllocError> for PlacementFault {

@@ -30,6 +30,8 @@ pub enum Form {
     Mesh { width: u64, height: u64 },
     Counted { kind: Count, number: u64 },
     Placed { class: Option<usize>, spot: Spot },
+    Cut { from: u64, to: u64 },
+    Routed { at: u64, goal: u64, next: u64 },
 }
 
 /// The first class whose name has this number.
@@ -95,6 +97,11 @@ fn form_of_three(unit: &Unit, word: &[u8], first: &[u8], second: &[u8]) -> Optio
         let height = number(second)?;
         return Some(Form::Mesh { width, height });
     }
+    if word == b"cut".as_slice() {
+        let from = number(first)?;
+        let to = number(second)?;
+        return Some(Form::Cut { from, to });
+    }
     if word == b"place".as_slice() {
         let spot = spot_of(second)?;
         let class = class_named(unit, first);
@@ -106,6 +113,12 @@ fn form_of_three(unit: &Unit, word: &[u8], first: &[u8], second: &[u8]) -> Optio
 fn form_of_four(unit: &Unit, word: &[u8], first: &[u8], second: &[u8], third: &[u8]) -> Option<Form>
     ensures { result ≡ form_of_four unit.now word.now first.now second.now third.now }
 {
+    if word == b"route".as_slice() {
+        let at = number(first)?;
+        let goal = number(second)?;
+        let next = number(third)?;
+        return Some(Form::Routed { at, goal, next });
+    }
     if word == b"place".as_slice() && second == b"at".as_slice() {
         let node = number(third)?;
         let class = class_named(unit, first);

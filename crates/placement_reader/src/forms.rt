@@ -2,7 +2,8 @@
 ghost use Rattle.std.specs.Prelude.{◌≡◌, ◌≤◌, ◌<◌, [], ◌∷◌, length, IfOk};
 ghost use Rattle.std.specs.List.{range_with_len};
 ghost use Rattle.object_code.specs.Suits.{IsFromTo, IsOfMesh};
-ghost use Rattle.placement_reader.specs.Forms.{AreFine, is_class, is_kind, most, number_in, place_of, place_or_same, spot_in};
+ghost use Rattle.mesh_semantics.specs.Paths.{is_cut, route_of};
+ghost use Rattle.placement_reader.specs.Forms.{AreFine, cuts_of, is_class, is_kind, most, number_in, place_of, place_or_same, routes_of, spot_in};
 ghost use Rattle.placement_reader.specs.Placements.{places_of};
 
 use crate::form::{Count, Form, Spot};
@@ -54,6 +55,63 @@ pub fn number_in(kind: Count, forms: &[Form]) -> Option<u64>
     for form in forms {
         match number_of_line(kind, *form) {
             Some(number) => return Some(number),
+            None => {}
+        }
+    }
+    None
+}
+
+/// Whether a line cuts this link.
+fn is_cut_by_line(from: u64, to: u64, form: Form) -> bool
+    ensures { result ≡ is_cut (cuts_of (form ∷ [])) from to }
+{
+    match form {
+        Form::Cut {
+            from: other,
+            to: end,
+        } => other == from && end == to,
+        _ => false,
+    }
+}
+
+/// Whether a line cuts this link.
+pub fn is_cut(from: u64, to: u64, forms: &[Form]) -> bool
+    ensures { result ≡ is_cut (cuts_of forms.now) from to }
+{
+    for form in forms {
+        if is_cut_by_line(from, to, *form) {
+            return true;
+        }
+    }
+    false
+}
+
+/// Where a line leads what is for the goal at this node.
+fn route_of_line(at: u64, goal: u64, form: Form) -> Option<u64>
+    ensures { result ≡ route_of (routes_of (form ∷ [])) at goal }
+{
+    match form {
+        Form::Routed {
+            at: other,
+            goal: end,
+            next,
+        } => {
+            if other == at && end == goal {
+                return Some(next);
+            }
+            None
+        }
+        _ => None,
+    }
+}
+
+/// Where the first such line leads what is for the goal at this node.
+pub fn route_in(at: u64, goal: u64, forms: &[Form]) -> Option<u64>
+    ensures { result ≡ route_of (routes_of forms.now) at goal }
+{
+    for form in forms {
+        match route_of_line(at, goal, *form) {
+            Some(next) => return Some(next),
             None => {}
         }
     }

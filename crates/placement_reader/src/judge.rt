@@ -1,12 +1,13 @@
 //! The fault of a line.
-ghost use Rattle.std.specs.Prelude.{◌≡◌, ◌∷◌, IfOk, IfErr, Some, None};
+ghost use Rattle.std.specs.Prelude.{◌≡◌, ◌≤◌, ◌<◌, ◌∷◌, IfOk, IfErr, Some, None};
 ghost use Rattle.pool_lexer.specs.Lines.{words};
-ghost use Rattle.placement_reader.specs.declared.form.Form.TheVariants.{Counted, Placed};
+ghost use Rattle.placement_reader.specs.declared.form.Form.TheVariants.{Counted, Cut, Placed, Routed};
 ghost use Rattle.placement_reader.specs.Forms.{IsFine, fault_of, fault_or_bad, form_of, is_from_one, is_there, most};
 
 use crate::fault::PlacementFault;
 use crate::form::{Count, Form, Spot, form_in};
-use crate::forms::{number_in, spot_in};
+use crate::forms::{is_cut, number_in, route_in, spot_in};
+use mesh_routing::are_neighbours;
 use object_code::Unit;
 
 /// The greatest number of a kind, for each node.
@@ -38,13 +39,14 @@ fn is_there(nodes: u64, spot: Spot) -> bool
 }
 
 fn count_fault(
+    width: u64,
     nodes: u64,
     line: u32,
     earlier: &[Form],
     kind: Count,
     number: u64,
 ) -> Option<PlacementFault>
-    ensures { result ≡ fault_of nodes line earlier.now (Counted kind number) }
+    ensures { result ≡ fault_of width nodes line earlier.now (Counted kind number) }
 {
     if number_in(kind, earlier).is_some() {
         return Some(PlacementFault::Repeated { line });
@@ -56,13 +58,14 @@ fn count_fault(
 }
 
 fn place_fault(
+    width: u64,
     nodes: u64,
     line: u32,
     earlier: &[Form],
     class: Option<usize>,
     spot: Spot,
 ) -> Option<PlacementFault>
-    ensures { result ≡ fault_of nodes line earlier.now (Placed class spot) }
+    ensures { result ≡ fault_of width nodes line earlier.now (Placed class spot) }
 {
     let Some(place) = class else {
         return Some(PlacementFault::UnknownClass { line });
@@ -76,34 +79,101 @@ fn place_fault(
     None
 }
 
-/// The fault of a form behind the mesh line, after these forms, where the mesh has so many nodes.
-fn fault_of(nodes: u64, line: u32, earlier: &[Form], form: Form) -> Option<PlacementFault>
-    ensures { result ≡ fault_of nodes line earlier.now form }
+fn cut_fault(
+    width: u64,
+    nodes: u64,
+    line: u32,
+    earlier: &[Form],
+    from: u64,
+    to: u64,
+) -> Option<PlacementFault>
+    requires width { 1 ≤ width }
+    requires nodes { nodes ≤ 64 }
+    ensures { result ≡ fault_of width nodes line earlier.now (Cut from to) }
+{
+    if is_cut(from, to, earlier) {
+        return Some(PlacementFault::Repeated { line });
+    }
+    if from >= nodes || to >= nodes {
+        return Some(PlacementFault::NoSuchNode { line });
+    }
+    if !are_neighbours(width, from, to) {
+        return Some(PlacementFault::NoSuchLink { line });
+    }
+    None
+}
+
+fn route_fault(
+    width: u64,
+    nodes: u64,
+    line: u32,
+    earlier: &[Form],
+    at: u64,
+    goal: u64,
+    next: u64,
+) -> Option<PlacementFault>
+    requires width { 1 ≤ width }
+    requires nodes { nodes ≤ 64 }
+    ensures { result ≡ fault_of width nodes line earlier.now (Routed at goal next) }
+{
+    if route_in(at, goal, earlier).is_some() {
+        return Some(PlacementFault::Repeated { line });
+    }
+    if at >= nodes || goal >= nodes || next >= nodes {
+        return Some(PlacementFault::NoSuchNode { line });
+    }
+    if goal == at {
+        return Some(PlacementFault::OutOfRange { line });
+    }
+    if !are_neighbours(width, at, next) {
+        return Some(PlacementFault::NoSuchLink { line });
+    }
+    None
+}
+
+/// The fault of a form behind the mesh line, after these forms, where the mesh has this width and so many nodes.
+fn fault_of(
+    width: u64,
+    nodes: u64,
+    line: u32,
+    earlier: &[Form],
+    form: Form,
+) -> Option<PlacementFault>
+    requires width { 1 ≤ width }
+    requires nodes { nodes ≤ 64 }
+    ensures { result ≡ fault_of width nodes line earlier.now form }
 {
     match form {
         Form::Mesh { .. } => Some(PlacementFault::Repeated { line }),
-        Form::Counted { kind, number } => count_fault(nodes, line, earlier, kind, number),
-        Form::Placed { class, spot } => place_fault(nodes, line, earlier, class, spot),
+        Form::Counted { kind, number } => count_fault(width, nodes, line, earlier, kind, number),
+        Form::Placed { class, spot } => place_fault(width, nodes, line, earlier, class, spot),
+        Form::Cut { from, to } => cut_fault(width, nodes, line, earlier, from, to),
+        Form::Routed { at, goal, next } => {
+            route_fault(width, nodes, line, earlier, at, goal, next)
+        }
     }
 }
 
 /// The form of a line behind the mesh line, or its fault.
 pub fn judge(
     unit: &Unit,
+    width: u64,
     nodes: u64,
     number: u32,
     earlier: &[Form],
     line: &[u8],
 ) -> Result<Form, PlacementFault>
+    requires width { 1 ≤ width }
+    requires nodes { nodes ≤ 64 }
     ensures form { IfOk result (λ f. form_of unit.now (words line.now) ≡ Some f) }
     ensures fine { IfOk result (λ f. IsFine nodes f) }
-    ensures ok { IfOk result (λ f. fault_or_bad nodes number earlier.now (form_of unit.now (words line.now)) ≡ None) }
-    ensures err { IfErr result (λ f. fault_or_bad nodes number earlier.now (form_of unit.now (words line.now)) ≡ Some f) }
+    ensures ok { IfOk result (λ f. fault_or_bad width nodes number earlier.now (form_of unit.now (words line.now)) ≡ None) }
+    ensures err { IfErr result (λ f. fault_or_bad width nodes number earlier.now (form_of unit.now (words line.now)) ≡ Some f) }
 {
     let Some(form) = form_in(unit, line) else {
         return Err(PlacementFault::BadLine { line: number });
     };
-    match fault_of(nodes, number, earlier, form) {
+    match fault_of(width, nodes, number, earlier, form) {
         Some(fault) => Err(fault),
         None => Ok(form),
     }

@@ -1,12 +1,13 @@
 //! Reads a placement.
-ghost use Rattle.std.specs.Prelude.{◌≡◌, ◌+◌, ◌*◌, ◌≤◌, [], length, drop, unwrap_or, IfOk, IfErr, IfSome, OnOk, Ok, Some, None};
+ghost use Rattle.std.specs.Prelude.{◌≡◌, ◌+◌, ◌*◌, ◌≤◌, [], length, drop, unwrap_or, IfOk, IfErr, IfNone, IfSome, OnOk, Ok, Some, None};
 ghost use Rattle.std.specs.List.{All};
 ghost use Rattle.pool_lexer.specs.Lines.{lines, words as line_words};
 ghost use Rattle.input_lines.specs.Kept.{kept_from};
 ghost use Rattle.object_code.specs.Suits.{IsFromTo, IsOfMesh, Suits, most_vars, words};
 ghost use Rattle.placement_reader.specs.declared.form.Count.TheVariants.{Objects, Frames, Cells};
-ghost use Rattle.placement_reader.specs.Forms.{AreFine, form_of, most, number_in, place_or_same, spot_in};
-ghost use Rattle.placement_reader.specs.Placements.{IsMeshLine, IsTold, fault_in, first_fault, fitted, forms_of, mesh_fault, placement_of, places_of, value_of};
+ghost use Rattle.mesh_semantics.specs.Routes.{IsRouted, without_route};
+ghost use Rattle.placement_reader.specs.Forms.{AreFine, cuts_of, form_of, most, number_in, place_or_same, routes_of, spot_in};
+ghost use Rattle.placement_reader.specs.Placements.{IsMeshLine, IsTold, connected, fault_in, first_fault, fitted, forms_of, mesh_fault, placement_of, places_of, value_of};
 
 use crate::fault::PlacementFault;
 use crate::form::{Count, Form, Spot, form_in};
@@ -14,8 +15,9 @@ use crate::forms::{number_in, spot_in};
 use crate::judge::{is_from_one, judge};
 use input_lines::{count_lines, next_kept};
 use object_code::{ClassCode, Unit};
-use pool_syntax::{List, Place, Placement};
+use pool_syntax::{LinkId, List, Place, Placement, Route};
 use std::alloc::{AllocError, Global};
+use table_routing::{Table, TableFault};
 
 /// The most words that the nodes may take together.
 const MOST_WORDS: u64 = 16777216;
@@ -53,15 +55,18 @@ fn gather(
     bytes: &[u8],
     from: usize,
     line: u32,
+    width: u64,
     nodes: u64,
 ) -> Result<Vec<Form>, PlacementFault>
+    requires width { 1 ≤ width }
+    requires nodes { nodes ≤ 64 }
     requires within { from ≤ length bytes.now }
     requires small { length bytes.now ≤ 67108864 }
     requires few { line ≤ from + 1 }
     ensures fine { IfOk result (λ fs. AreFine nodes fs.items) }
-    ensures faultless { OnOk result (first_fault unit.now nodes [] (kept_from line (lines (drop from bytes.now))) ≡ None) }
+    ensures faultless { OnOk result (first_fault unit.now width nodes [] (kept_from line (lines (drop from bytes.now))) ≡ None) }
     ensures forms { IfOk result (λ fs. fs.items ≡ forms_of unit.now [] (kept_from line (lines (drop from bytes.now)))) }
-    ensures fault { IfErr result (λ f. IsTold f (first_fault unit.now nodes [] (kept_from line (lines (drop from bytes.now))))) }
+    ensures fault { IfErr result (λ f. IsTold f (first_fault unit.now width nodes [] (kept_from line (lines (drop from bytes.now))))) }
 {
     let mut forms = Vec::new(alloc);
     let mut at = from;
@@ -69,6 +74,7 @@ fn gather(
     while let Some(found) = next_kept(bytes, at, number) {
         let form = judge(
             unit,
+            width,
             nodes,
             found.line,
             forms.as_slice(),
@@ -120,6 +126,49 @@ fn places_in(
     Ok(places)
 }
 
+/// The cut links.
+fn cuts_in(alloc: Global, nodes: u64, forms: &[Form]) -> Result<List<LinkId>, AllocError>
+    requires small { nodes ≤ 64 }
+    requires fine { AreFine nodes forms.now }
+    ensures { IfOk result (λ ks. ks ≡ cuts_of forms.now) }
+{
+    let mut cuts = List::make(alloc);
+    for form in forms {
+        match *form {
+            Form::Cut { from, to } => {
+                cuts.push(LinkId {
+                    from: from as u32,
+                    to: to as u32,
+                })?;
+            }
+            _ => {}
+        }
+    }
+    Ok(cuts)
+}
+
+/// The routes.
+fn routes_in(alloc: Global, nodes: u64, forms: &[Form]) -> Result<List<Route>, AllocError>
+    requires small { nodes ≤ 64 }
+    requires fine { AreFine nodes forms.now }
+    ensures { IfOk result (λ rs. rs ≡ routes_of forms.now) }
+{
+    let mut routes = List::make(alloc);
+    for form in forms {
+        match *form {
+            Form::Routed { at, goal, next } => {
+                routes.push(Route {
+                    at: at as u32,
+                    goal: goal as u32,
+                    next: next as u32,
+                })?;
+            }
+            _ => {}
+        }
+    }
+    Ok(routes)
+}
+
 /// The number of a kind; `absent` where no line gives it.
 fn number_or(kind: Count, forms: &[Form], absent: u32) -> u32
     requires absent { IsFromTo 1 (most kind) absent }
@@ -153,6 +202,8 @@ fn placement_in(
     let frames = number_or(Count::Frames, forms, 1024);
     let cells = number_or(Count::Cells, forms, 1024);
     let places = places_in(alloc, unit.classes.items().len(), nodes, forms)?;
+    let cuts = cuts_in(alloc, nodes, forms)?;
+    let routes = routes_in(alloc, nodes, forms)?;
     Ok(Placement {
         width: mesh.width,
         height: mesh.height,
@@ -160,6 +211,8 @@ fn placement_in(
         frames,
         cells,
         places,
+        cuts,
+        routes,
     })
 }
 
@@ -191,6 +244,19 @@ fn words(placement: &Placement, vars: u32) -> u64
     nodes * (objects + others)
 }
 
+/// The fault of a placement in which a pair of nodes is without route.
+fn route_fault(alloc: Global, placement: &Placement) -> Option<PlacementFault>
+    requires { IsRouted placement.now }
+    ensures none { IfNone result (without_route placement.now ≡ None) }
+    ensures some { IfSome result (λ f. IsTold f (fault_in (connected (without_route placement.now) placement.now))) }
+{
+    match Table::make(alloc, placement) {
+        Ok(_) => None,
+        Err(TableFault::NoRoute { from, to }) => Some(PlacementFault::NoRoute { from, to }),
+        Err(TableFault::Memory) => Some(PlacementFault::Memory),
+    }
+}
+
 /// The placement of a text of at most 67,108,864 bytes, for the classes of a unit; or the text's first fault. It suits the unit.
 pub fn read_placement(alloc: Global, bytes: &[u8], unit: &Unit) -> Result<Placement, PlacementFault>
     requires { length bytes.now ≤ 67108864 }
@@ -203,13 +269,20 @@ pub fn read_placement(alloc: Global, bytes: &[u8], unit: &Unit) -> Result<Placem
             line: count_lines(bytes) + 1,
         });
     };
-    let mesh = mesh_in(unit, first.line, &bytes[first.start..first.end])?;
+    let mesh = match mesh_in(unit, first.line, &bytes[first.start..first.end]) {
+        Ok(mesh) => mesh,
+        Err(fault) => return Err(fault),
+    };
     let nodes = u64::from(mesh.width * mesh.height);
-    let forms = gather(alloc, unit, bytes, first.next, first.line + 1, nodes)?;
+    let width = u64::from(mesh.width);
+    let forms = gather(alloc, unit, bytes, first.next, first.line + 1, width, nodes)?;
     let placement = placement_in(alloc, unit, mesh, forms.as_slice())?;
     let words = words(&placement, most_vars(unit.classes.items()));
     if words > MOST_WORDS {
         return Err(PlacementFault::TooLarge { words });
     }
-    Ok(placement)
+    match route_fault(alloc, &placement) {
+        Some(fault) => Err(fault),
+        None => Ok(placement),
+    }
 }

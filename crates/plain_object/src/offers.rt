@@ -1,7 +1,9 @@
 //! What an answer or a select offers.
 ghost use Rattle.std.specs.Prelude.{◌≡◌, [], ◌∷◌, Option, Some, None};
+ghost use Rattle.std.specs.List.{list_any};
 ghost use Rattle.pool_syntax.specs.Values.{is_true};
 ghost use Rattle.pool_relation.specs.Action as A;
+ghost use Rattle.pool_relation.specs.Ready.{is_open_plain};
 ghost use Rattle.pool_relation.specs.Transition.{names_method, picked, plain_choice, select_offer};
 ghost use Rattle.term_stack.specs.Reduced.{choice, choices};
 ghost use Rattle.term_stack.specs.Arguments.{now_names, now_choices};
@@ -108,6 +110,32 @@ pub fn plain_alt<'a>(work: &Work<'a>, alt: u32) -> Option<&'a [Stmt]>
         return None;
     };
     numbered(guards.as_slice(), alt)
+}
+
+/// Whether an alternative with an evaluated guard is open and plain.
+fn any_open_plain(guards: &[Guarded<'_>]) -> bool
+    ensures { result ≡ list_any is_open_plain (choices guards.now) }
+{
+    for guarded in guards {
+        if is_open(guarded) && guarded.alt.answer.is_none() {
+            return true;
+        }
+    }
+    false
+}
+
+/// Whether an alternative of what comes next is open and plain.
+pub fn has_open_plain(work: &Work<'_>) -> bool
+    ensures { result ≡ list_any is_open_plain (now_choices work.now.next) }
+{
+    let Now::Statement {
+        task: Task::Select { guards },
+        ..
+    } = &work.next
+    else {
+        return false;
+    };
+    any_open_plain(guards.as_slice())
 }
 
 /// What an object that does this next offers to a call of the method.

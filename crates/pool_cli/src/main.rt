@@ -7,8 +7,8 @@ ghost use Rattle.std.specs.Vec.Iter.{into_iter_items};
 ghost use Rattle.std.specs.IoError.{error_kind};
 ghost use Rattle.pool_outside.specs.Outside.{Rose};
 ghost use Rattle.pool_driver.specs.Commands.{Request, request_of, texts_of};
-ghost use Rattle.pool_driver.specs.Ends.{Ends, code_of};
-ghost use Rattle.pool_driver.specs.Inputs.{IsServable, MayOpen, most_bytes, one_read};
+ghost use Rattle.pool_driver.specs.Ends.{Ends, StaysWithin, code_of};
+ghost use Rattle.pool_driver.specs.Inputs.{IsServable, MayOpen};
 ghost use Rattle.pool_driver.specs.Outputs.{IsWhole};
 
 use pool_driver::{Status, pool};
@@ -50,8 +50,9 @@ fn run<F: Files, K: Sink, E: Sink>(
         (record { before = E.written err.old; after = E.written err.new; faults = E.faults err.old; failed = E.faults err.new })
         status }
 
-    // Of an input that was opened no more than its limit and one read was given.
-    ensures stops_reading { F.opens files.old < F.opens files.new → F.given files.new ≤ most_bytes + one_read }
+    // Of the input that was opened last no more than its limit and one read was given.
+    ensures stops_reading { (r : Request) → request_of (texts_of words.now) ≡ Some r → StaysWithin
+        (record { told = F.told files.old; opens = F.opens files.old; opened = F.opens files.new; given = F.given files.new; live = F.live files.new; faults = F.faults files.old; failed = F.faults files.new }) r }
 
     // Words of a command, accepted inputs and no fault in this call give the text whole, or nothing for want of memory.
     ensures complete { (r : Request) → request_of (texts_of words.now) ≡ Some r → IsServable (F.told files.old) r

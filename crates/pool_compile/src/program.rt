@@ -151,6 +151,7 @@ fn compile_classes(alloc: Global, classes: &[ClassDecl]) -> Result<List<ClassCod
 pub fn compile(alloc: Global, program: &Checked<'_>) -> Result<Unit, CompileFault>
     ensures names { IfOk result (λ unit. unit.names ≡ program.now.names.now) }
     ensures code { IfOk result (λ unit. unit.classes ≡ code (program_of program.now.program.now)) }
+    ensures short { IfOk result (λ unit. AreShort unit.classes) }
     ensures proper { IfOk result (λ unit. IsProper unit) }
     ensures frames { IfOk result (λ unit. FramesAreSmall unit.classes) }
 {

@@ -14,7 +14,7 @@ use Rattle.fault_lines.specs.declared.fault.Fault.{Fault}
 use Rattle.fault_lines.specs.declared.fault.Stop.{Stop}
 use Rattle.fault_lines.specs.declared.fault.Stop.TheVariants as T
 use Rattle.pool_driver.specs.declared.outputs.Output.{Output}
-use Rattle.command_words.specs.Commands.{Request, of_run, of_program, of_ring}
+use Rattle.command_words.specs.Commands.{Request, of_run, of_program, of_ring, of_convert}
 use Rattle.fault_lines.specs.FaultText.{refusal_line, unread_line, usage_line}
 use Rattle.pool_driver.specs.Inputs.{Told, inputs, limit_of, IsAccepted, HasFault, WereAccepted, AreAccepted, AreServed, IsServable, StopAt}
 use Rattle.pool_gen.specs.Ring.{ring_placement, ring_program, ring_schedule}
@@ -109,6 +109,9 @@ output_whole (of_program ask name) (p ∷ []) text s h = inl h.1
 output_whole (of_program ask name) (p ∷ l ∷ ls) text s h = absurd h
 output_whole (of_ring k) [] text s h = subst IsWhole (sym h.ended) (status_whole false (record_of h.meaning).lines)
 output_whole (of_ring k) (p ∷ ps) text s h = absurd h
+output_whole (of_convert name) [] text s h = absurd h
+output_whole (of_convert name) (p ∷ []) text s h = inl h.1
+output_whole (of_convert name) (p ∷ l ∷ ls) text s h = absurd h
 
 -- An input that is told, within the limit and accepted, does not stop a call.
 
@@ -134,11 +137,13 @@ served_inputs : (told : Told) (r : Request) → IsServable told r → AreServed 
 served_inputs told (of_run show names) h = h
 served_inputs told (of_program ask name) h = h
 served_inputs told (of_ring k) h = tt
+served_inputs told (of_convert name) h = h
 
 never_stopped : (p l s : Text) (i : Input) (f : Fault) → AreAccepted p l s → StopAt p l s i f → ⊥
 never_stopped p l s I.Program f h w = w.1 h.0
 never_stopped p l s I.Placement f h w = w.2 h.1
 never_stopped p l s I.Schedule f h w = w.3 h.2
+never_stopped p l s I.Record f h w = absurd w
 
 never_ring : (k : Reading) (r : Request) (i : Input) (f : Fault) → IsServable k.told r → IsRingRefused k r i f → ⊥
 never_ring k r i f served h =

@@ -6,6 +6,9 @@ pub mod KnownRows
 pub mod CycleLaws
 pub mod RunLaws
 pub mod OutputLaws
+pub mod AskerLaws
 pub mod DriveLaws
+pub mod ConvertLaws
 pub mod PlanLaws
+pub mod ReadableLaws
 pub mod TextLaws

@@ -1,5 +1,5 @@
 -- What a request makes of its inputs, one after another.
-use Rattle.std.proofs.Common.{◌≡◌, ◌∙◌, ◌+◌, ℕ, [], ◌∷◌, Some, Bool, IsTrue, slice_get, Result, Ok, Err, false, refl, sym, ap, subst, arith}
+use Rattle.std.proofs.Common.{◌≡◌, ◌∙◌, ◌+◌, ◌≤◌, ℕ, zero, suc, [], ◌∷◌, Option, None, Some, Bool, IsTrue, slice_get, Result, Ok, Err, false, refl, sym, ap, subst, arith}
 use Rattle.pool_syntax.specs.Tokens.{Text}
 use Rattle.pool_syntax.specs.declared.words.Placement.{Placement}
 use Rattle.object_code.specs.declared.unit.Unit.{Unit as Code}
@@ -12,14 +12,14 @@ use Rattle.fault_lines.specs.declared.fault.Input.{Input}
 use Rattle.fault_lines.specs.declared.fault.Input.TheVariants as I
 use Rattle.fault_lines.specs.declared.fault.Stop.{Stop}
 use Rattle.pool_driver.specs.declared.outputs.Output.{Output}
-use Rattle.command_words.specs.Commands.{FileNames, Request, of_run, of_program, of_ring}
-use Rattle.pool_driver.specs.Inputs.{inputs, MayOpen, IsAccepted, HasFault, IsPlacementOf, IsReadAs}
-use Rattle.pool_driver.specs.Ends.{Reading, Reaches}
+use Rattle.command_words.specs.Commands.{FileNames, Request, of_run, of_program, of_ring, of_convert}
+use Rattle.pool_driver.specs.Inputs.{inputs, limit_of, most_bytes, most_of_record, one_read, MayOpen, IsAccepted, HasFault, IsPlacementOf, IsReadAs}
+use Rattle.pool_driver.specs.Ends.{Reading, Reaches, StaysWithin}
 use Rattle.fault_lines.specs.declared.fault.Stop.TheVariants as T
 use Rattle.pool_driver.specs.declared.outputs.Loaded.{Loaded}
 use Rattle.pool_gen.specs.Ring.{ring_placement, ring_program, ring_schedule}
 use Rattle.pool_driver.specs.Readers as D
-use Rattle.pool_driver.specs.Readers.{HasPlacementFault, HasScheduleFault, HasTypedFault, IsAcceptedPlacement, IsAcceptedSchedule, IsPlacedAs, IsScheduledAs, IsTypedProgram, IsUnitOf, Judges, Loads, Makes, Rings}
+use Rattle.pool_driver.specs.Readers.{HasPlacementFault, HasRecordFault, HasScheduleFault, HasTypedFault, IsAcceptedPlacement, IsAcceptedSchedule, IsPlacedAs, IsScheduledAs, IsTypedProgram, IsUnitOf, Judges, Loads, Makes, Rings}
 
 -- for the same request
 pub makes_for : (k : Reading) (q r : Request) (result : Result Output Stop) → q ≡ r → Makes k q result → Makes k r result
@@ -65,6 +65,50 @@ reaches_schedule k show names s t read accepted read_second placed h = record {
   opened = h;
 }
 
+abbrev pub reaches_record : (k : Reading) (name : Text) → k.opened ≡ k.opens + 1 → Reaches k (of_convert name) I.Record name
+reaches_record k name h = record { before = []; behind = []; texts = []; place = refl; accepted = tt; opened = h }
+
+-- a record that is refused
+pub record_fault : (s : Text) (f : Fault) → HasRecordFault s f → HasFault [] I.Record s f
+record_fault s f h = subst (λ (x : Fault). HasFault [] I.Record s x) (sym h.1) h.2
+
+-- no more than the limit of the input that was opened last, of which only these three numbers speak
+
+abbrev Within : ℕ → ℕ → ℕ → Request → Type 0
+Within opens opened given r = StaysWithin (record { told = λ name. None; opens = opens; opened = opened; given = given; live = false; faults = 0; failed = 0 }) r
+
+abbrev input_in : Input → Option (Input × Text) → Input
+input_in d None = d
+input_in d (Some i) = i.0
+
+within_limit : (given : ℕ) (input other : Input) (name name' : Text) → ◌≡◌ {A = Option (Input × Text)} (Some (other, name')) (Some (input, name)) → given ≤ limit_of other + one_read → given ≤ limit_of input + one_read
+within_limit given input other name name' e h = subst (λ (i : Input). given ≤ limit_of i + one_read) (ap (input_in other) e) h
+
+module _ (opens opened given : ℕ) where
+  pub run_within : (show : Show) (names : FileNames) → given ≤ most_bytes + one_read → Within opens opened given (of_run show names)
+  run_within show names h zero input name e n = within_limit given input I.Program name names.program e h
+  run_within show names h (suc zero) input name e n = within_limit given input I.Placement name names.placement e h
+  run_within show names h (suc (suc zero)) input name e n = within_limit given input I.Schedule name names.schedule e h
+  run_within show names h (suc (suc (suc place))) input name e n = absurd (cc)
+
+  pub program_within : (ask : Ask) (name : Text) → given ≤ most_bytes + one_read → Within opens opened given (of_program ask name)
+  program_within ask named h zero input name e n = within_limit given input I.Program name named e h
+  program_within ask named h (suc place) input name e n = absurd (cc)
+
+  pub ring_within : (cells : ℕ) → Within opens opened given (of_ring cells)
+  ring_within cells place input name e n = absurd (cc)
+
+  pub convert_within : (name : Text) → given ≤ most_of_record + one_read → Within opens opened given (of_convert name)
+  convert_within named h zero input name e n = within_limit given input I.Record name named e h
+  convert_within named h (suc place) input name e n = absurd (cc)
+
+  pub stays_for : (q r : Request) → q ≡ r → Within opens opened given q → Within opens opened given r
+  stays_for q r e h = subst (Within opens opened given) e h
+
+  -- where nothing was opened
+  pub none_within : (r : Request) → opened ≡ opens → Within opens opened given r
+  none_within r same place input name e n = absurd (omega (arith, same, n))
+
 -- a program that was read and compiled
 pub accepts : (s : Text) (u : Code) → IsUnitOf s u → IsAccepted [] I.Program s
 accepts s u is = (is.code.program, ((is.code.names, is.code.parsed), is.code.typed))
@@ -92,7 +136,7 @@ module _ (s : Text) (u : Code) (is : IsUnitOf s u) where
     schedule_accepted v q =
         let z : Ok q.0 ≡ Ok l = sym (placed_by t q.0 q.2) ∙ placed in
         let same : q.0 ≡ l = cc in
-        (q.1, subst (λ (x : Placement). schedule_of x.width x.height v ≡ Ok q.1) same q.3)
+        (q.1, subst (λ (x : Placement). schedule_of x.width x.height x.cuts v ≡ Ok q.1) same q.3)
 
 -- what comes of three texts, one after another
 

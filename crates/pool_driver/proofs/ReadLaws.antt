@@ -20,6 +20,10 @@ use Rattle.schedule_reader.specs.declared.fault.ScheduleFault.{ScheduleFault}
 use Rattle.schedule_reader.specs.declared.fault.ScheduleFault.TheVariants as Timed
 use Rattle.schedule_reader.specs.Schedules as Sch
 use Rattle.schedule_reader.specs.Schedules.{schedule_of}
+use Rattle.run_record.specs.Numbered.{IsTold}
+use Rattle.run_record.specs.Records as Rec
+use Rattle.run_record.specs.declared.fault.RecordFault.{RecordFault}
+use Rattle.run_record.specs.declared.fault.RecordFault.TheVariants as Lines
 use Rattle.fault_lines.specs.declared.fault.Fault.{Fault}
 use Rattle.fault_lines.specs.declared.fault.Fault.TheVariants as Why
 use Rattle.fault_lines.specs.declared.fault.Stop.{Stop}
@@ -28,7 +32,7 @@ use Rattle.command_words.specs.Commands.{Request}
 use Rattle.pool_driver.specs.Inputs.{Told, IsAccepted, HasFault, unit_of}
 use Rattle.pool_driver.specs.Ends.{Reading, AllRead, WasRead, Stops, too_long, faulty, Reaches}
 use Rattle.pool_driver.specs.Readers as R
-use Rattle.pool_driver.specs.Readers.{HasPlacementFault, HasScheduleFault, HasTypedFault, IsAcceptedPlacement, IsAcceptedSchedule, IsAnyProgram, IsPlacedAs, IsProgramOf, IsScheduledAs, IsTypedProgram, IsUnitOf, Judges, Reads, Makes, stop_of_placement, stop_of_schedule}
+use Rattle.pool_driver.specs.Readers.{HasPlacementFault, HasRecordFault, HasScheduleFault, HasTypedFault, IsAcceptedPlacement, IsAcceptedRecord, IsAcceptedSchedule, IsAnyProgram, IsPlacedAs, IsProgramOf, IsRecordOf, IsScheduledAs, IsTypedProgram, IsUnitOf, Judges, Reads, Makes, stop_of_placement, stop_of_record, stop_of_schedule}
 
 -- what is accepted and what is a fault, by other words
 stops_as : (k : Reading) (input : Input) (name : Text) (P Q : Text → Type 0) (F G : Text → Fault → Type 0) (f : Fault) → ((s : Text) (f : Fault) → F s f → G s f) → ((s : Text) → Q s → P s)
@@ -137,12 +141,14 @@ placement_refused u s (Place.NoSuchNode line) stop e told = placement_fails u s 
 placement_refused u s (Place.OutOfRange line) stop e told = placement_fails u s (Place.OutOfRange line) stop e told
 placement_refused u s (Place.TooLarge words) stop e told = placement_fails u s (Place.TooLarge words) stop e told
 placement_refused u s Place.Memory stop e told = R.forgets (ap Err e)
+placement_refused u s (Place.NoSuchLink line) stop e told = placement_fails u s (Place.NoSuchLink line) stop e told
+placement_refused u s (Place.NoRoute from to) stop e told = placement_fails u s (Place.NoRoute from to) stop e told
 
-schedule_fails : (l : Placement) (s : Text) (f : ScheduleFault) (stop : Stop) → stop ≡ T.Refused I.Schedule (Why.Schedule f) → Sch.fault_in (schedule_of l.width l.height s) ≡ Some f
+schedule_fails : (l : Placement) (s : Text) (f : ScheduleFault) (stop : Stop) → stop ≡ T.Refused I.Schedule (Why.Schedule f) → Sch.fault_in (schedule_of l.width l.height l.cuts s) ≡ Some f
     → Judges I.Schedule (IsAcceptedSchedule l) (HasScheduleFault l) (IsScheduledAs l) s (Err stop)
 schedule_fails l s f stop e told = R.fails (Why.Schedule f) (ap Err e) (f, refl, told) (λ q. let z : None ≡ Some f = sym (ap Sch.fault_in q.1) ∙ told in cc)
 
-pub schedule_refused : (l : Placement) (s : Text) (f : ScheduleFault) (stop : Stop) → stop ≡ stop_of_schedule f → Sch.IsTold f (Sch.fault_in (schedule_of l.width l.height s))
+pub schedule_refused : (l : Placement) (s : Text) (f : ScheduleFault) (stop : Stop) → stop ≡ stop_of_schedule f → Sch.IsTold f (Sch.fault_in (schedule_of l.width l.height l.cuts s))
     → Judges I.Schedule (IsAcceptedSchedule l) (HasScheduleFault l) (IsScheduledAs l) s (Err stop)
 schedule_refused l s (Timed.BadLine line) stop e told = schedule_fails l s (Timed.BadLine line) stop e told
 schedule_refused l s (Timed.NoSuchNode line) stop e told = schedule_fails l s (Timed.NoSuchNode line) stop e told
@@ -150,6 +156,18 @@ schedule_refused l s (Timed.NoSuchLink line) stop e told = schedule_fails l s (T
 schedule_refused l s (Timed.OutOfRange line) stop e told = schedule_fails l s (Timed.OutOfRange line) stop e told
 schedule_refused l s (Timed.TooManyEvents count) stop e told = schedule_fails l s (Timed.TooManyEvents count) stop e told
 schedule_refused l s Timed.Memory stop e told = R.forgets (ap Err e)
+
+-- and the reader of a record
+
+record_fails : (s : Text) (f : RecordFault) (stop : Stop) → stop ≡ T.Refused I.Record (Why.Record f) → (Rec.record_of s).fault ≡ Some f
+    → Judges I.Record IsAcceptedRecord HasRecordFault IsRecordOf s (Err stop)
+record_fails s f stop e told = R.fails (Why.Record f) (ap Err e) (f, refl, told) (λ q. let z : None ≡ Some f = sym q ∙ told in cc)
+
+pub record_refused : (s : Text) (f : RecordFault) (stop : Stop) → stop ≡ stop_of_record f → IsTold f (Rec.record_of s).fault → Judges I.Record IsAcceptedRecord HasRecordFault IsRecordOf s (Err stop)
+record_refused s (Lines.BadLine line) stop e told = record_fails s (Lines.BadLine line) stop e told
+record_refused s (Lines.OutOfOrder line) stop e told = record_fails s (Lines.OutOfOrder line) stop e told
+record_refused s (Lines.WrongAsk line) stop e told = record_fails s (Lines.WrongAsk line) stop e told
+record_refused s Lines.Memory stop e told = R.forgets (ap Err e)
 
 -- the same reading, counted from an earlier moment
 pub since : {A : Type 0} (k : Reading) (told : Told) (opens faults : ℕ) (input : Input) (name : Text) (P : Text → Type 0) (F : Text → Fault → Type 0) (Is : Text → A → Type 0) (result : Result A Stop)

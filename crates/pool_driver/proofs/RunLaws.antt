@@ -1,5 +1,5 @@
 -- From code to terms: what the three texts mean together, and what is shown of their run.
-use Rattle.std.proofs.Common.{◌≡◌, ◌∙◌, ◌++◌, ℕ, List, [], ◌∷◌, map, Option, Some, None, Ok, length, ◌<◌, refl, sym, ap, subst, arith}
+use Rattle.std.proofs.Common.{◌≡◌, ◌∙◌, ◌++◌, ℕ, List, [], ◌∷◌, map, Option, Some, None, Bool, true, false, Ok, length, ◌<◌, refl, sym, ap, subst, arith}
 use Rattle.pool_syntax.specs.Tokens.{Text}
 use Rattle.pool_syntax.specs.Terms.{ClassTree, ProgramTree}
 use Rattle.pool_syntax.specs.declared.words.Line.{Line}
@@ -9,35 +9,46 @@ use Rattle.pool_relation.specs.Configuration.{Configuration}
 use Rattle.pool_relation.specs.Transition.{last_class, start}
 use Rattle.object_code.specs.declared.unit.Unit.{Unit as Code}
 use Rattle.object_code.specs.declared.unit.ClassCode.{ClassCode}
+use Rattle.object_code.specs.Proper.{IsProper}
+use Rattle.object_code.specs.Suits.{Suits}
+use Rattle.record_laws.specs.Readable.{IsRecord}
+use Rattle.readable_records.proofs.Laws.{program_reads, program_reads_on_wires}
 use Rattle.pool_compile.specs.Code.{code}
-use Rattle.mesh_semantics.specs.Record.{root_name}
+use Rattle.mesh_semantics.specs.Config.{Config}
+use Rattle.mesh_semantics.specs.Record as M
+use Rattle.mesh_semantics.specs.Record.{record_at, root_name}
+use Rattle.mesh_semantics.specs.Wired.{KeepsWires}
 use Rattle.placed_terms.specs.Terms.{terms}
-use Rattle.placed_terms.proofs.Laws.{runs_from}
+use Rattle.placed_terms.proofs.Laws.{answers, answers_on_wires, runs_from, runs_from_on_wires}
+use Rattle.std.proofs.lemmas.List.{append_assoc}
 use Rattle.placed_code.specs.CheckedProgram.{IsCheckedProgram}
-use Rattle.placed_code.proofs.Laws.{code_record, code_simulates, parsed_checked, suits_fits}
+use Rattle.placed_code.proofs.Laws.{code_record, code_record_on_wires, code_simulates, parsed_checked, suits_fits}
 use Rattle.coded_objects.specs.Coded.{Placed, coded}
 use Rattle.mesh_semantics.specs.Act.{id}
-use Rattle.mesh_semantics.specs.Delay.{Delay}
+use Rattle.mesh_semantics.specs.Delay.{Delay, no_delay, no_delay_on_wires}
 use Rattle.mesh_semantics.specs.Simulates.{SameRecord, Zipped}
 use Rattle.mesh_semantics.specs.Standing as T
 use Rattle.mesh_semantics.specs.Standing.{standing}
-use Rattle.mesh_semantics.proofs.Laws.{standing_same}
+use Rattle.mesh_semantics.proofs.Laws.{no_wires_kept, record_keeps_wires, standing_same}
 use Rattle.placed_code.specs.Matches.{Matches}
-use Rattle.placed_terms.specs.RunOf.{TypedTerms}
+use Rattle.placed_terms.specs.RunOf.{IsRunFrom, TypedTerms}
 use Rattle.wait_report.specs.declared.rows.ObjectRow.{ObjectRow}
 use Rattle.wait_report.specs.Report.{report_text}
 use Rattle.pool_driver.specs.Reports.{row_in, row_of, rows_in, rows_of, standing_word}
 use Rattle.pool_driver.specs.declared.outputs.Loaded.{Loaded}
 use Rattle.placement_reader.specs.Placements.{placement_of}
 use Rattle.schedule_reader.specs.Schedules.{Plan}
-use Rattle.record_lines.specs.RecordText.{line_text, record_text}
+use Rattle.record_lines.specs.SecondForm.{form_text, line_text2, lines_text2, text2}
+use Rattle.mesh_semantics.specs.Asks.{EachAnswersPost, ask_of, asks_from}
+use Rattle.pool_machine.specs.Answers.{nothing_sent}
 use Rattle.command_words.specs.declared.command.Show.{Show}
 use Rattle.command_words.specs.declared.command.Show.TheVariants as Sh
-use Rattle.pool_driver.specs.Driving.{AreShortTexts, IsLoaded, shown_lines}
+use Rattle.pool_driver.specs.Driving.{AreShortTexts, IsLoaded, IsPlanOn, shown_lines, shown_record}
 use Rattle.pool_driver.specs.Outputs.{IsRunOf, shown_text}
 use Rattle.pool_driver.specs.Readers.{IsPlacedAs, IsScheduledAs, IsUnitOf, lines_of, run_of, run_text}
 use Rattle.pool_driver.specs.Runs.{Meaning, ShowsRun, ends_text, record_of, ring_text, status_of, writes_of, writes_text}
 use Rattle.pool_driver.proofs.PlanLaws.{plan_is_on}
+use Rattle.pool_driver.proofs.ReadableLaws.{events_read}
 use Rattle.pool_driver.proofs.TextLaws.{parsed_short}
 
 -- a program of which there is code has a last class, and starts
@@ -55,17 +66,23 @@ starts p n h = by (last_class p) refl
 
 -- what is shown of lines and of rows, in the words of the output
 abbrev texts_shown : (show : Show) (names : List Text) (rows : List ObjectRow) (ls : List Line) → Text
-texts_shown Sh.Record names rows ls = record_text names ls
+texts_shown Sh.Record names rows ls = text2 names ls
 texts_shown Sh.Writes names rows ls = writes_text names ls
 texts_shown Sh.Report names rows ls = report_text names rows ++ ends_text names ls
 
-record_is : (names : List Text) (ls : List Line) → shown_lines Sh.Record names ls ≡ record_text names ls
-record_is names [] = refl
-record_is names (l ∷ ls) = ap (λ (t : Text). line_text names l ++ t) (record_is names ls)
+lines_are : (names : List Text) (earlier ls : List Line) → shown_lines Sh.Record names earlier ls ≡ lines_text2 names ls (asks_from earlier ls)
+lines_are names earlier [] = refl
+lines_are names earlier (l ∷ ls) = ap (λ (t : Text). line_text2 names l (ask_of earlier l) ++ t) (lines_are names (l ∷ earlier) ls)
 
-writes_are : (names : List Text) (ls : List Line) → shown_lines Sh.Writes names ls ≡ writes_text names ls
-writes_are names [] = refl
-writes_are names (l ∷ ls) = ap (λ (t : Text). writes_of names l ++ t) (writes_are names ls)
+record_is : (names : List Text) (ls : List Line) → shown_record Sh.Record names ls ≡ text2 names ls
+record_is names ls = append_assoc form_text (10 ∷ []) (shown_lines Sh.Record names [] ls) ∙ ap (λ (t : Text). form_text ++ 10 ∷ t) (lines_are names [] ls)
+
+writes_behind : (names : List Text) (earlier ls : List Line) → shown_lines Sh.Writes names earlier ls ≡ writes_text names ls
+writes_behind names earlier [] = refl
+writes_behind names earlier (l ∷ ls) = ap (λ (t : Text). writes_of names l ++ t) (writes_behind names (l ∷ earlier) ls)
+
+writes_are : (names : List Text) (ls : List Line) → shown_record Sh.Writes names ls ≡ writes_text names ls
+writes_are names ls = writes_behind names [] ls
 
 shown_is : (show : Show) (r : Loaded) → run_text show r ≡ texts_shown show r.unit.names (rows_in (coded r.unit) (run_of r).delay (run_of r).last.objects) (lines_of r)
 shown_is Sh.Record r = record_is r.unit.names (lines_of r)
@@ -95,6 +112,22 @@ module _ (p : ProgramTree) (u : Code) (checked : IsCheckedProgram p) (unit : u.c
       ap (λ (r : ObjectRow). r ∷ map (row_of p d) es) (same_row e.0 f.0 e.1 f.1 z.0 z.1)
       ∙ ap (λ (rows : List ObjectRow). row_in (coded u) d f ∷ rows) (same_rows es fs z.2)
 
+-- what holds of links that are wires and of those that are not
+with_wires_or_not : (P : Delay → Type 0) (lossy : Bool) → P no_delay → P no_delay_on_wires → P (nothing_sent lossy)
+with_wires_or_not P true plain wired = wired
+with_wires_or_not P false plain wired = plain
+
+-- at the end of a record each wire has handed out a front of what entered it
+ends_kept : (p : ProgramTree) (l : Placement) (plan : Plan) → KeepsWires (record_at (terms p) l plan.quantum (M.start (terms p) l) (nothing_sent plan.lossy) plan.events).delay
+ends_kept p l plan = by (M.start (terms p) l)
+  where
+    kept : KeepsWires (nothing_sent plan.lossy)
+    kept = with_wires_or_not KeepsWires plan.lossy tt no_wires_kept
+
+    by : (z : Option (Config Object)) → KeepsWires (record_at (terms p) l plan.quantum z (nothing_sent plan.lossy) plan.events).delay
+    by None = kept
+    by (Some c) = (record_keeps_wires (terms p) l plan.quantum plan.events c (nothing_sent plan.lossy) 0 kept).0
+
 module _ (source place text : Text) (u : Code) (l : Placement) (plan : Plan) (is : IsUnitOf source u) (placed : IsPlacedAs u place l) (scheduled : IsScheduledAs l text plan) where
   abbrev pub means : Meaning source place text
   means = record {
@@ -117,8 +150,16 @@ module _ (source place text : Text) (u : Code) (l : Placement) (plan : Plan) (is
   abbrev pub made : Loaded
   made = record { unit = u; placement = l; schedule = plan }
 
+  -- the record of the program from this delay
+  abbrev terms_over : Delay → M.Record Object
+  terms_over d = record_at (terms is.code.program) l plan.quantum (M.start (terms is.code.program) l) d plan.events
+
   same : SameRecord (Matches is.code.program u) (record_of means) (run_of made)
-  same = code_record is.code.program u checked classes l plan.quantum plan.events (suits_fits is.code.program u l classes placed.1)
+  same =
+      let p = is.code.program in
+      let fits = suits_fits p u l classes placed.1 in
+      with_wires_or_not (λ d. SameRecord (Matches p u) (terms_over d) (record_at (coded u) l plan.quantum (M.start (coded u) l) d plan.events)) plan.lossy
+      (code_record p u checked classes l plan.quantum plan.events fits) (code_record_on_wires p u checked classes l plan.quantum plan.events fits)
 
   -- the lines of the code are those of the program, and so are its rows
   pub same_lines : lines_of made ≡ (record_of means).lines
@@ -129,14 +170,31 @@ module _ (source place text : Text) (u : Code) (l : Placement) (plan : Plan) (is
       ap (λ (d : Delay). rows_in (coded u) d (run_of made).last.objects) (sym same.delay)
       ∙ sym (same_rows is.code.program u checked classes (record_of means).delay (record_of means).last.objects (run_of made).last.objects same.last.objects)
 
+  on : IsPlanOn l plan
+  on = plan_is_on l text plan scheduled
+
   pub shows : ShowsRun means
   shows =
+      let p = is.code.program in
+      let names = is.code.names in
+      let fits = suits_fits p u l classes placed.1 in
+      let proper = subst IsProper is.code.coded is.proper in
+      let suits = subst (Suits l) is.code.coded placed.1 in
+      let read = events_read u l placed.1 plan.lossy plan.events on.events in
       let there : 0 < length (code is.code.program) = subst (λ (ks : List ClassCode). 0 < length ks) classes is.proper.classes.0 in
       let first = starts is.code.program (root_name l) there in
       record {
         first = first.0;
         starts = first.1;
-        run = runs_from is.code.program is.code.typed checked.written l (suits_fits is.code.program u l classes placed.1) plan.quantum plan.events first.0 first.1;
+        run = with_wires_or_not (λ d. IsRunFrom p l plan.quantum first.0 d (terms_over d)) plan.lossy
+            (runs_from p is.code.typed checked.written l fits plan.quantum plan.events first.0 first.1)
+            (runs_from_on_wires p is.code.typed checked.written l fits plan.quantum plan.events first.0 first.1);
+        readable = with_wires_or_not (λ d. IsRecord names (terms_over d).lines) plan.lossy
+            (program_reads source names p l plan.quantum plan.events is.code.parsed is.code.typed proper suits on.quantum.1 on.count read)
+            (program_reads_on_wires source names p l plan.quantum plan.events is.code.parsed is.code.typed proper suits on.quantum.1 on.count read);
+        answers = with_wires_or_not (λ d. EachAnswersPost (terms_over d).lines) plan.lossy
+            (answers p is.code.typed checked.written l fits plan.quantum plan.events) (answers_on_wires p is.code.typed checked.written l fits plan.quantum plan.events);
+        wires = ends_kept p l plan;
       }
 
   pub run_is : (show : Show) → IsRunOf show source place text (run_text show made) (status_of (lines_of made))

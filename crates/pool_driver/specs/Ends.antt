@@ -1,5 +1,5 @@
 -- How a call of `pool` ends: what came of its inputs, and what was written.
-use Rattle.std.specs.Prelude.{◌≡◌, ℕ, ◌+◌, ◌<◌, ◌≤◌, List, [], ◌∷◌, ◌++◌, length, take, Option, Some, None, option_map, Bool, true, false, IfSome}
+use Rattle.std.specs.Prelude.{◌≡◌, ℕ, ◌+◌, ◌<◌, ◌≤◌, List, [], ◌∷◌, ◌++◌, length, slice_get, take, Option, Some, None, option_map, Bool, true, false, IfSome}
 use Rattle.pool_outside.specs.Outside.{Rose}
 use Rattle.pool_syntax.specs.Tokens.{Text}
 use Rattle.pool_driver.specs.declared.status.Status.{Status}
@@ -10,7 +10,7 @@ use Rattle.fault_lines.specs.declared.fault.Fault.TheVariants as F
 use Rattle.command_words.specs.Commands.{Request, of_ring}
 use Rattle.pool_gen.specs.Ring.{ring_placement, ring_program, ring_schedule}
 use Rattle.fault_lines.specs.FaultText.{refusal_line, unread_line, usage_line}
-use Rattle.pool_driver.specs.Inputs.{Told, inputs, limit_of, IsReadAs, IsAccepted, HasFault, StopAt, WereAccepted}
+use Rattle.pool_driver.specs.Inputs.{Told, inputs, limit_of, one_read, IsReadAs, IsAccepted, HasFault, StopAt, WereAccepted}
 use Rattle.pool_driver.specs.Outputs.{IsOutput}
 
 -- the exit status of each
@@ -53,6 +53,11 @@ AllWrote k = k.failed ≡ k.faults
 -- what was read last was read to its end, and is this text
 abbrev pub WasRead : Reading → Input → Text → Text → Type 0
 WasRead k input name s = IsReadAs k.told input name s × (length s ≡ k.given) × (k.live ≡ false)
+
+-- of the input that was opened last, the one at this place of the request's, no more than its limit and one read was given
+abbrev pub StaysWithin : Reading → Request → Type 0
+StaysWithin k r =
+    (place : ℕ) (input : Input) (name : Text) → slice_get (inputs r) place ≡ Some (input, name) → k.opened ≡ k.opens + (place + 1) → k.given ≤ limit_of input + one_read
 
 -- The input stops the call for this fault: more bytes than its limit were given, and its text goes on; or it was read whole, and its text has the fault
 -- and is not accepted.

@@ -1,5 +1,5 @@
 -- The inputs of a request: their order, names and limits, what is read of them, and when the text of one is accepted or has a fault.
-use Rattle.std.specs.Prelude.{◌≡◌, ℕ, ◌+◌, ◌≤◌, List, [], ◌∷◌, ◌++◌, length, slice_get, Option, Some, Ok, Bool, IsTrue, IfSome, ◌⊎◌}
+use Rattle.std.specs.Prelude.{◌≡◌, ℕ, ◌+◌, ◌≤◌, List, [], ◌∷◌, ◌++◌, length, slice_get, Option, Some, None, Ok, Bool, IsTrue, IfSome, ◌⊎◌}
 use Rattle.pool_syntax.specs.Tokens.{Text}
 use Rattle.pool_syntax.specs.Terms.{ProgramTree}
 use Rattle.pool_syntax.specs.Typing.{faults}
@@ -15,7 +15,8 @@ use Rattle.fault_lines.specs.declared.fault.Input.{Input}
 use Rattle.fault_lines.specs.declared.fault.Input.TheVariants as I
 use Rattle.fault_lines.specs.declared.fault.Fault.{Fault}
 use Rattle.fault_lines.specs.declared.fault.Fault.TheVariants as F
-use Rattle.command_words.specs.Commands.{Request, of_run, of_program, of_ring}
+use Rattle.run_record.specs.Records.{record_of}
+use Rattle.command_words.specs.Commands.{Request, of_run, of_program, of_ring, of_convert}
 use Rattle.pool_driver.specs.Programs.{IsParsed, IsTextOf, IsTypedText, IsFaultOfText, IsFaultOfClasses}
 
 -- the inputs of a request with their names, in the order in which they are read
@@ -23,13 +24,20 @@ abbrev pub inputs : Request → List (Input × Text)
 inputs (of_run show names) = (I.Program, names.program) ∷ (I.Placement, names.placement) ∷ (I.Schedule, names.schedule) ∷ []
 inputs (of_program ask name) = (I.Program, name) ∷ []
 inputs (of_ring k) = []
+inputs (of_convert name) = (I.Record, name) ∷ []
 
--- the most bytes of an input
+-- the most bytes of an input: of a record, and of another
 abbrev pub most_bytes : ℕ
 most_bytes = 1048576
 
+abbrev pub most_of_record : ℕ
+most_of_record = 67108864
+
 abbrev pub limit_of : Input → ℕ
-limit_of input = most_bytes
+limit_of I.Program = most_bytes
+limit_of I.Placement = most_bytes
+limit_of I.Schedule = most_bytes
+limit_of I.Record = most_of_record
 
 -- the most bytes of one read
 abbrev pub one_read : ℕ
@@ -65,18 +73,21 @@ pub record IsPlacementOf (source s : Text) (l : Placement) : Type 0 where
   pub code : IsCodeOf source unit
   pub placed : placement_of unit s ≡ Ok l
 
--- The text is accepted as this input, behind these: a program that has no class fault; a placement for the classes of the program; a schedule for the mesh of the placement.
+-- The text is accepted as this input, behind these: a program that has no class fault; a placement for the classes of the program; a schedule for the mesh of the placement;
+-- and, behind none, a record of either form.
 abbrev pub IsAccepted : List Text → Input → Text → Type 0
 IsAccepted [] I.Program s = (p : ProgramTree) × IsTypedText s p
 IsAccepted (source ∷ []) I.Placement s = (l : Placement) × IsPlacementOf source s l
-IsAccepted (source ∷ place ∷ []) I.Schedule s = (l : Placement) × (plan : Plan) × IsPlacementOf source place l × (schedule_of l.width l.height s ≡ Ok plan)
+IsAccepted (source ∷ place ∷ []) I.Schedule s = (l : Placement) × (plan : Plan) × IsPlacementOf source place l × (schedule_of l.width l.height l.cuts s ≡ Ok plan)
+IsAccepted [] I.Record s = (record_of s).fault ≡ None
 IsAccepted _ _ s = ⊥
 
--- The text has this fault as this input, behind these: a program its first of tokens, grammar and classes; a placement or a schedule that of its first faulty line.
+-- The text has this fault as this input, behind these: a program its first of tokens, grammar and classes; a placement, a schedule or a record that of its first faulty line.
 abbrev pub HasFault : List Text → Input → Text → Fault → Type 0
 HasFault [] I.Program s f = IsFaultOfText s f ⊎ ((p : ProgramTree) × IsTextOf s p × IsFaultOfClasses p f)
 HasFault (source ∷ []) I.Placement s (F.Placement f) = (u : Code) × IsCodeOf source u × (P.fault_in (placement_of u s) ≡ Some f)
-HasFault (source ∷ place ∷ []) I.Schedule s (F.Schedule f) = (l : Placement) × IsPlacementOf source place l × (S.fault_in (schedule_of l.width l.height s) ≡ Some f)
+HasFault (source ∷ place ∷ []) I.Schedule s (F.Schedule f) = (l : Placement) × IsPlacementOf source place l × (S.fault_in (schedule_of l.width l.height l.cuts s) ≡ Some f)
+HasFault [] I.Record s (F.Record f) = (record_of s).fault ≡ Some f
 HasFault _ _ s f = ⊥
 
 -- these texts were read under the names of these inputs, behind others, and each is accepted
@@ -104,9 +115,11 @@ StopAt program placement schedule I.Placement f =
 StopAt program placement schedule I.Schedule f =
     IsAccepted [] I.Program program × IsAccepted (program ∷ []) I.Placement placement × HasFault (program ∷ placement ∷ []) I.Schedule schedule f
     × (IsAccepted (program ∷ placement ∷ []) I.Schedule schedule → ⊥)
+StopAt program placement schedule I.Record f = ⊥
 
 -- the inputs of a request are served so; of a ring, which has none, the texts are accepted
 abbrev pub IsServable : Told → Request → Type 0
 IsServable told (of_run show names) = AreServed told [] (inputs (of_run show names))
 IsServable told (of_program ask name) = AreServed told [] (inputs (of_program ask name))
+IsServable told (of_convert name) = AreServed told [] (inputs (of_convert name))
 IsServable told (of_ring k) = AreAccepted (ring_program k) ring_placement (ring_schedule k)

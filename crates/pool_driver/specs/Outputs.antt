@@ -1,18 +1,20 @@
 -- What a request makes of the texts of its inputs: a text, and the status with which it is written.
-use Rattle.std.specs.Prelude.{◌≡◌, ℕ, List, [], ◌∷◌, ◌++◌, ◌⊎◌}
+use Rattle.std.specs.Prelude.{◌≡◌, ℕ, List, [], ◌∷◌, ◌++◌, None, ◌⊎◌}
 use Rattle.pool_syntax.specs.Tokens.{Text}
 use Rattle.pool_syntax.specs.Terms.{ProgramTree}
 use Rattle.pool_syntax.specs.Typing.{faults}
 use Rattle.object_code.specs.Listing.{listing}
 use Rattle.pool_printer.specs.Canonical.{canonical}
-use Rattle.record_lines.specs.RecordText.{record_text}
+use Rattle.record_lines.specs.SecondForm.{text2}
 use Rattle.pool_driver.specs.declared.status.Status.{Status}
 use Rattle.pool_driver.specs.declared.status.Status.TheVariants as S
 use Rattle.command_words.specs.declared.command.Show.{Show}
 use Rattle.command_words.specs.declared.command.Show.TheVariants as Sh
 use Rattle.command_words.specs.declared.command.Ask.{Ask}
 use Rattle.command_words.specs.declared.command.Ask.TheVariants as As
-use Rattle.command_words.specs.Commands.{Request, of_run, of_program, of_ring}
+use Rattle.run_record.specs.Numbered.{lines_after, names_after}
+use Rattle.run_record.specs.Records as Rec
+use Rattle.command_words.specs.Commands.{Request, of_run, of_program, of_ring, of_convert}
 use Rattle.pool_driver.specs.Inputs.{unit_of}
 use Rattle.pool_driver.specs.Programs.{IsParsed}
 use Rattle.pool_driver.specs.Reports.{rows_of}
@@ -22,7 +24,7 @@ use Rattle.wait_report.specs.Report.{report_text}
 
 -- what is shown of the run of the three texts
 abbrev pub shown_text : {source place plan : Text} → Show → Meaning source place plan → Text
-shown_text Sh.Record m = record_text m.names (record_of m).lines
+shown_text Sh.Record m = text2 m.names (record_of m).lines
 shown_text Sh.Writes m = writes_text m.names (record_of m).lines
 shown_text Sh.Report m = report_text m.names (rows_of m.program (record_of m).last (record_of m).delay) ++ ends_text m.names (record_of m).lines
 
@@ -53,11 +55,17 @@ pub record IsRingOf (k : ℕ) (text : Text) (status : Status) : Type 0 where
   pub ended : status ≡ status_of (record_of meaning).lines
   pub run : ShowsRun meaning
 
+-- the record has no fault, and this is the text of its lines in the second form
+pub record IsCarriedOver (s text : Text) : Type 0 where
+  pub faultless : (Rec.record_of s).fault ≡ None
+  pub written : text ≡ text2 (names_after [] (Rec.record_of s).told) (lines_after [] (Rec.record_of s).told)
+
 -- what is made of the texts of the inputs, in their order
 abbrev pub IsOutput : Request → List Text → Text → Status → Type 0
 IsOutput (of_run show names) (program ∷ placement ∷ schedule ∷ []) text status = IsRunOf show program placement schedule text status
 IsOutput (of_program ask name) (program ∷ []) text status = IsTextFor ask program text × (status ≡ S.Done)
 IsOutput (of_ring k) [] text status = IsRingOf k text status
+IsOutput (of_convert name) (s ∷ []) text status = IsCarriedOver s text × (status ≡ S.Done)
 IsOutput r _ text status = ⊥
 
 -- the status says that a text was written whole

@@ -1,5 +1,5 @@
 -- What comes of reading inputs, for the functions below the top call.
-use Rattle.std.specs.Prelude.{◌≡◌, ℕ, ◌≤◌, List, [], ◌++◌, true, Some, Result, Ok, Err, ◌⊎◌}
+use Rattle.std.specs.Prelude.{◌≡◌, ℕ, ◌≤◌, List, [], ◌++◌, true, Some, None, Result, Ok, Err, ◌⊎◌}
 use Rattle.pool_outside.specs.Outside.{Rose}
 use Rattle.pool_syntax.specs.Tokens.{Text}
 use Rattle.pool_syntax.specs.Spelled.{IsGrammatical, is_spelled}
@@ -15,7 +15,7 @@ use Rattle.object_code.specs.declared.unit.Unit.{Unit as Code}
 use Rattle.object_code.specs.Listing.{listing}
 use Rattle.object_code.specs.Proper.{IsProper}
 use Rattle.object_code.specs.Suits.{Suits}
-use Rattle.mesh_semantics.specs.Record.{Record, record_of}
+use Rattle.mesh_semantics.specs.Record.{Record}
 use Rattle.coded_objects.specs.Coded.{Placed, coded}
 use Rattle.wait_report.specs.Report.{report_text}
 use Rattle.pool_driver.specs.Reports.{rows_in}
@@ -29,6 +29,15 @@ use Rattle.schedule_reader.specs.declared.fault.ScheduleFault.{ScheduleFault}
 use Rattle.schedule_reader.specs.declared.fault.ScheduleFault.TheVariants as Timed
 use Rattle.schedule_reader.specs.Schedules as Sch
 use Rattle.schedule_reader.specs.Schedules.{Plan, schedule_of}
+use Rattle.std.specs.List.{All}
+use Rattle.mesh_semantics.specs.Asks.{asks}
+use Rattle.record_lines.specs.SecondForm.{text2}
+use Rattle.record_lines.specs.Writable.{IsWritable}
+use Rattle.run_record.specs.declared.fault.RecordFault.{RecordFault}
+use Rattle.run_record.specs.declared.fault.RecordFault.TheVariants as RecordFaults
+use Rattle.run_record.specs.Numbered.{lines_after, names_after}
+use Rattle.run_record.specs.Records as Rec
+use Rattle.pool_driver.specs.declared.converted.Recorded.{Recorded}
 use Rattle.pool_driver.specs.declared.outputs.Loaded.{Loaded}
 use Rattle.fault_lines.specs.declared.fault.Input.{Input}
 use Rattle.fault_lines.specs.declared.fault.Input.TheVariants as I
@@ -43,8 +52,8 @@ use Rattle.pool_driver.specs.declared.status.Status.TheVariants as S
 use Rattle.command_words.specs.Commands.{Request}
 use Rattle.fault_lines.specs.FaultText.{refusal_line, unread_line}
 use Rattle.pool_driver.specs.Inputs.{limit_of, IsCodeOf, StopAt}
-use Rattle.pool_driver.specs.Driving.{shown_lines, IsLoaded}
-use Rattle.pool_driver.specs.Runs.{ends_text, ring_text, status_of}
+use Rattle.pool_driver.specs.Driving.{shown_record, IsLoaded}
+use Rattle.pool_driver.specs.Runs.{ends_text, record_over, ring_text, status_of}
 use Rattle.pool_driver.specs.Outputs.{IsRingOf}
 use Rattle.pool_gen.specs.Ring.{ring_placement, ring_program, ring_schedule}
 use Rattle.pool_driver.specs.Programs.{IsParsed, IsTextOf, IsTypedText, IsFaultOfText, IsFaultOfClasses}
@@ -66,6 +75,10 @@ stop_of_grammar f = T.Refused I.Program (F.Syntax f)
 abbrev pub stop_of_placement : PlacementFault → Stop
 stop_of_placement Place.Memory = T.Memory
 stop_of_placement f = T.Refused I.Placement (F.Placement f)
+
+abbrev pub stop_of_record : RecordFault → Stop
+stop_of_record RecordFaults.Memory = T.Memory
+stop_of_record f = T.Refused I.Record (F.Record f)
 
 abbrev pub stop_of_schedule : ScheduleFault → Stop
 stop_of_schedule Timed.Memory = T.Memory
@@ -93,13 +106,13 @@ IsPlacedAs u s l = (placement_of u s ≡ Ok l) × Suits l u
 -- a schedule of a placement
 
 abbrev pub IsAcceptedSchedule : Placement → Text → Type 0
-IsAcceptedSchedule l s = (plan : Plan) × (schedule_of l.width l.height s ≡ Ok plan)
+IsAcceptedSchedule l s = (plan : Plan) × (schedule_of l.width l.height l.cuts s ≡ Ok plan)
 
 abbrev pub HasScheduleFault : Placement → Text → Fault → Type 0
-HasScheduleFault l s f = (g : ScheduleFault) × (f ≡ F.Schedule g) × (Sch.fault_in (schedule_of l.width l.height s) ≡ Some g)
+HasScheduleFault l s f = (g : ScheduleFault) × (f ≡ F.Schedule g) × (Sch.fault_in (schedule_of l.width l.height l.cuts s) ≡ Some g)
 
 abbrev pub IsScheduledAs : Placement → Text → Plan → Type 0
-IsScheduledAs l s plan = schedule_of l.width l.height s ≡ Ok plan
+IsScheduledAs l s plan = schedule_of l.width l.height l.cuts s ≡ Ok plan
 
 -- a program before its classes are judged, which is the only one of its text
 
@@ -130,6 +143,25 @@ pub record IsUnitOf (s : Text) (u : Code) : Type 0 where
   pub proper : IsProper u
   pub only : (v : Code) → IsCodeOf s v → v ≡ u
 
+-- a record of either form: its lines, with the table of the texts that they name
+
+abbrev pub IsAcceptedRecord : Text → Type 0
+IsAcceptedRecord s = (Rec.record_of s).fault ≡ None
+
+abbrev pub HasRecordFault : Text → Fault → Type 0
+HasRecordFault s f = (g : RecordFault) × (f ≡ F.Record g) × ((Rec.record_of s).fault ≡ Some g)
+
+-- lines that can be written with the table, and their request numbers
+pub record IsShowable (r : Recorded) : Type 0 where
+  pub writable : All (IsWritable r.names) r.lines
+  pub asked : r.asks ≡ asks r.lines
+
+pub record IsRecordOf (s : Text) (r : Recorded) : Type 0 where
+  pub faultless : (Rec.record_of s).fault ≡ None
+  pub lines : r.lines ≡ lines_after [] (Rec.record_of s).told
+  pub names : r.names ≡ names_after [] (Rec.record_of s).told
+  pub showable : IsShowable r
+
 -- What a judge says of a text: what it is, or why it is refused as this input and not accepted, or that memory ran out.
 pub data Judges {A : Type 0} (input : Input) (Accepted : Text → Type 0) (Faulty : Text → Fault → Type 0) (Is : Text → A → Type 0) (s : Text) (result : Result A Stop) : Type 0 where
   fits : (a : A) → result ≡ Ok a → Is s a → Judges input Accepted Faulty Is s result
@@ -145,7 +177,7 @@ pub data Reads {A : Type 0} (k : Reading) (input : Input) (name : Text) (Accepte
 
 -- the record of a run
 abbrev pub run_of : Loaded → Record Placed
-run_of r = record_of (coded r.unit) r.placement r.schedule.quantum r.schedule.events
+run_of r = record_over (coded r.unit) r.placement r.schedule
 
 -- its lines
 abbrev pub lines_of : Loaded → List Line
@@ -153,8 +185,8 @@ lines_of r = (run_of r).lines
 
 -- what is shown of a run: its lines, or where its objects stand at its end, and then the end line
 abbrev pub run_text : Show → Loaded → Text
-run_text Sh.Record r = shown_lines Sh.Record r.unit.names (lines_of r)
-run_text Sh.Writes r = shown_lines Sh.Writes r.unit.names (lines_of r)
+run_text Sh.Record r = shown_record Sh.Record r.unit.names (lines_of r)
+run_text Sh.Writes r = shown_record Sh.Writes r.unit.names (lines_of r)
 run_text Sh.Report r = report_text r.unit.names (rows_in (coded r.unit) (run_of r).delay (run_of r).last.objects) ++ ends_text r.unit.names (lines_of r)
 
 -- the text of an output, and its status
@@ -163,19 +195,22 @@ text_of (O.Run show loaded) = run_text show loaded
 text_of (O.Ring loaded) = ring_text loaded.unit.names (lines_of loaded)
 text_of (O.Canonical parsed) = canonical parsed.names (program_of parsed.program)
 text_of (O.Listing unit) = listing unit
+text_of (O.Converted r) = text2 r.names r.lines
 
 abbrev pub status_of_output : Output → Status
 status_of_output (O.Run show loaded) = status_of (lines_of loaded)
 status_of_output (O.Ring loaded) = status_of (lines_of loaded)
 status_of_output (O.Canonical parsed) = S.Done
 status_of_output (O.Listing unit) = S.Done
+status_of_output (O.Converted r) = S.Done
 
--- What can be written: a run whose parts fit one another; a program whose names are those of its table; proper code.
+-- What can be written: a run whose parts fit one another; a program whose names are those of its table; proper code; lines with their request numbers.
 abbrev pub IsPrintable : Output → Type 0
 IsPrintable (O.Run show loaded) = IsLoaded loaded.unit loaded.placement loaded.schedule
 IsPrintable (O.Ring loaded) = IsLoaded loaded.unit loaded.placement loaded.schedule
 IsPrintable (O.Canonical parsed) = is_spelled parsed.names (program_of parsed.program) ≡ true
 IsPrintable (O.Listing unit) = IsProper unit
+IsPrintable (O.Converted r) = IsShowable r
 
 -- What comes of three texts: what is loaded of them; or the first that is not accepted, with its fault; or memory ran out.
 pub data Loads (program placement schedule : Text) (result : Result Loaded Stop) : Type 0 where

@@ -1,9 +1,10 @@
 //! Reads the inputs, each once, and judges each.
 ghost use Rattle.std.specs.Prelude.{◌≡◌, ◌<◌, ◌+◌, ◌-◌, ◌^◌, ◌≤◌, IsTrue, length, true};
-ghost use Rattle.pool_driver.specs.Inputs.{most_bytes, one_read};
+ghost use Rattle.pool_driver.specs.Inputs.{limit_of, most_bytes, most_of_record, one_read};
 ghost use Rattle.pool_driver.specs.Programs.{IsFaultOfText};
-ghost use Rattle.pool_driver.specs.Readers.{HasNoFault, HasPlacementFault, HasScheduleFault, HasTypedFault, IsAcceptedPlacement, IsAcceptedSchedule, IsAnyProgram, IsAnyText, IsPlacedAs, IsProgramOf, IsScheduledAs, IsTypedProgram, IsTypedProgramOf, IsUnitOf, Judges, Loads, Reads, stop_of_placement, stop_of_schedule};
+ghost use Rattle.pool_driver.specs.Readers.{HasNoFault, HasPlacementFault, HasRecordFault, HasScheduleFault, HasTypedFault, IsAcceptedPlacement, IsAcceptedRecord, IsAcceptedSchedule, IsAnyProgram, IsAnyText, IsPlacedAs, IsProgramOf, IsRecordOf, IsScheduledAs, IsTypedProgram, IsTypedProgramOf, IsUnitOf, Judges, Loads, Reads, stop_of_placement, stop_of_schedule};
 
+use crate::converted::{Recorded, judge_record};
 use crate::outputs::Loaded;
 use crate::program::{Parsed, code_of, judge_classes, read_program};
 use fault_lines::{Fault, Input, Stop};
@@ -15,7 +16,14 @@ use schedule_reader::{Schedule, ScheduleFault, read_schedule};
 use std::alloc::Global;
 
 /// The most bytes of an input.
-const MOST_BYTES: usize = 1048576;
+fn limit_of(input: Input) -> usize
+    ensures { result ≡ limit_of input }
+{
+    match input {
+        Input::Program | Input::Placement | Input::Schedule => 1048576,
+        Input::Record => 67108864,
+    }
+}
 
 /// Reads an input whole.
 fn read_input<F: Files>(
@@ -28,11 +36,11 @@ fn read_input<F: Files>(
     requires countable { F.opens files.old < 2 ^ 64 - 1 }
     ensures reads { Reads (record { told = F.told files.old; opens = F.opens files.old; opened = F.opens files.new; given = F.given files.new; live = F.live files.new; faults = F.faults files.old; failed = F.faults files.new }) input name.now IsAnyText HasNoFault (λ s text. text.items ≡ s) result }
     ensures opened_once { F.opens files.new ≡ F.opens files.old + 1 }
-    ensures unread_within { F.given files.new ≤ most_bytes + one_read }
+    ensures unread_within { F.given files.new ≤ limit_of input + one_read }
     ensures same_texts { F.told files.new ≡ F.told files.old }
     ensures same_leave { F.may files.new ≡ F.may files.old }
 {
-    match read_whole(alloc, files, name, MOST_BYTES) {
+    match read_whole(alloc, files, name, limit_of(input)) {
         Ok(text) => Ok(text),
         Err(ReadFault::Failed) => Err(Stop::Unread { input }),
         Err(ReadFault::TooLong) => Err(Stop::Refused {
@@ -119,6 +127,23 @@ pub fn read_scheduled<F: Files>(
         Ok(schedule) => Ok(schedule),
         Err(fault) => Err(schedule_stop(fault)),
     }
+}
+
+/// Reads a record of either form.
+pub fn read_recorded<F: Files>(alloc: Global, files: &mut F, name: &str) -> Result<Recorded, Stop>
+    requires allowed { IsTrue (F.may files.old (F.opens files.old) name.now) }
+    requires countable { F.opens files.old < 2 ^ 64 - 1 }
+    ensures reads { Reads (record { told = F.told files.old; opens = F.opens files.old; opened = F.opens files.new; given = F.given files.new; live = F.live files.new; faults = F.faults files.old; failed = F.faults files.new }) Input.Record name.now IsAcceptedRecord HasRecordFault IsRecordOf result }
+    ensures opened_once { F.opens files.new ≡ F.opens files.old + 1 }
+    ensures unread_within { F.given files.new ≤ most_of_record + one_read }
+    ensures same_texts { F.told files.new ≡ F.told files.old }
+    ensures same_leave { F.may files.new ≡ F.may files.old }
+{
+    let text = match read_input(alloc, files, Input::Record, name) {
+        Ok(text) => text,
+        Err(stop) => return Err(stop),
+    };
+    judge_record(alloc, &text)
 }
 
 /// Reads a program.

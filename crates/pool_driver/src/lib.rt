@@ -1,6 +1,7 @@
 //! The top call: from the words, the three texts and the two sinks to a status.
 #![tactic(auto)]
 
+mod converted;
 mod drive;
 mod inputs;
 pub mod laws;

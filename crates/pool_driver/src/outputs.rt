@@ -1,10 +1,14 @@
 //! What a command makes of its inputs: each is read and judged before the next is opened.
 ghost use Rattle.std.specs.Prelude.{◌≡◌, ◌<◌, false, ◌+◌, ◌-◌, ◌^◌, ◌≤◌};
-ghost use Rattle.command_words.specs.Commands.{IsSized, names_of, of_program, of_run, request};
-ghost use Rattle.pool_driver.specs.Inputs.{MayOpen, most_bytes, one_read};
+ghost use Rattle.command_words.specs.Commands.{IsSized, names_of, of_convert, of_program, of_run, request};
+ghost use Rattle.pool_driver.specs.Ends.{StaysWithin};
+ghost use Rattle.pool_driver.specs.Inputs.{MayOpen, most_bytes, most_of_record, one_read};
 ghost use Rattle.pool_driver.specs.Readers.{Makes, Rings};
 
-use crate::inputs::{load_texts, read_placed, read_scheduled, read_typed, read_unit};
+use crate::converted::Recorded;
+use crate::inputs::{
+    load_texts, read_placed, read_recorded, read_scheduled, read_typed, read_unit,
+};
 use crate::program::Parsed;
 use command_words::{Ask, Command, Files as FileNames, Show};
 use fault_lines::Stop;
@@ -33,6 +37,8 @@ pub enum Output {
     Canonical(Parsed),
     /// The code whose listing is asked for.
     Listing(Unit),
+    /// The record that is asked for in the second form.
+    Converted(Recorded),
 }
 
 /// The run of the program, the placement and the schedule of these names.
@@ -111,6 +117,19 @@ fn program_output<F: Files>(
     }
 }
 
+/// The record of this name, which is asked for in the second form.
+fn convert_output<F: Files>(alloc: Global, files: &mut F, name: &str) -> Result<Output, Stop>
+    requires countable { F.opens files.old ≤ 2 ^ 64 - 5 }
+    requires allowed { MayOpen (F.may files.old) (F.opens files.old) (of_convert name.now) }
+    ensures makes { Makes (record { told = F.told files.old; opens = F.opens files.old; opened = F.opens files.new; given = F.given files.new; live = F.live files.new; faults = F.faults files.old; failed = F.faults files.new }) (of_convert name.now) result }
+    ensures unread_within { F.given files.new ≤ most_of_record + one_read }
+{
+    match read_recorded(alloc, files, name) {
+        Ok(recorded) => Ok(Output::Converted(recorded)),
+        Err(stop) => Err(stop),
+    }
+}
+
 /// The run of the ring of so many cells.
 fn ring_output(alloc: Global, cells: u32) -> Result<Output, Stop>
     requires { (2 ≤ cells) × (cells ≤ 1000) }
@@ -142,11 +161,12 @@ pub fn make_output<F: Files>(
     requires not_live { F.live files.old ≡ false }
     requires sized { IsSized command }
     ensures makes { Makes (record { told = F.told files.old; opens = F.opens files.old; opened = F.opens files.new; given = F.given files.new; live = F.live files.new; faults = F.faults files.old; failed = F.faults files.new }) (request command.entry) result }
-    ensures unread_within { F.opens files.old < F.opens files.new → F.given files.new ≤ most_bytes + one_read }
+    ensures unread_within { StaysWithin (record { told = F.told files.old; opens = F.opens files.old; opened = F.opens files.new; given = F.given files.new; live = F.live files.new; faults = F.faults files.old; failed = F.faults files.new }) (request command.entry) }
 {
     match command {
         Command::Run { show, files: names } => run_output(alloc, files, show, names),
         Command::Program { ask, name } => program_output(alloc, files, ask, name),
         Command::Ring { cells } => ring_output(alloc, cells),
+        Command::Convert { name } => convert_output(alloc, files, name),
     }
 }

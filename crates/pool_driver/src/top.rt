@@ -2,14 +2,15 @@
 ghost use Rattle.std.specs.Prelude.{◌≡◌, ◌⊎◌, ◌+◌, ◌-◌, ◌^◌, ◌≤◌, ◌<◌, Some, false, IfSome, IfOk, ◌++◌};
 ghost use Rattle.pool_outside.specs.Outside.{Rose};
 ghost use Rattle.command_words.specs.Commands.{Request, request_of, texts_of};
-ghost use Rattle.pool_driver.specs.Ends.{Ends};
-ghost use Rattle.pool_driver.specs.Inputs.{IsServable, MayOpen, most_bytes, one_read};
-ghost use Rattle.pool_driver.specs.Driving.{IsLoaded, shown_lines};
+ghost use Rattle.pool_driver.specs.Ends.{Ends, StaysWithin};
+ghost use Rattle.pool_driver.specs.Inputs.{IsServable, MayOpen};
+ghost use Rattle.pool_driver.specs.Driving.{IsLoaded, shown_record};
 ghost use Rattle.pool_driver.specs.Outputs.{IsWhole};
 ghost use Rattle.pool_driver.specs.Runs.{counts_text, end_text, ended, ring_text, status_of};
 ghost use Rattle.pool_driver.specs.Readers.{Delivers, IsPrintable, Tells, Writes, lines_of, run_text, status_of_output, text_of};
 
-use crate::drive::{Ended, drive, finish};
+use crate::converted::SecondForm;
+use crate::drive::{Ended, drive, finish, make_table};
 use crate::outputs::{Loaded, Output, make_output};
 use crate::status::Status;
 use crate::texts::{CanonicalText, Listing};
@@ -22,7 +23,7 @@ use pool_syntax::{Line, Names};
 use std::alloc::{AllocError, Global};
 
 /// The usage line.
-const USAGE: &[u8] = b"usage: pool record|run|why P L S, pool print|code P, pool ring K\n";
+const USAGE: &[u8] = b"usage: pool record|run|why P L S, pool print|code P, pool ring K, pool convert R\n";
 
 /// Writes a piece, and answers the status, or that a write failed.
 fn say<K: Sink>(sink: &mut K, piece: &[u8], status: Status) -> Status
@@ -37,11 +38,17 @@ fn say<K: Sink>(sink: &mut K, piece: &[u8], status: Status) -> Status
 /// Makes a run and writes it; all its memory is taken before the first byte is written.
 fn write_run<K: Sink>(alloc: Global, out: &mut K, show: Show, loaded: &Loaded) -> Status
     requires { IsLoaded loaded.now.unit loaded.now.placement loaded.now.schedule }
-    ensures { Delivers (record { before = K.written out.old; after = K.written out.new; faults = K.faults out.old; failed = K.faults out.new }) (shown_lines show loaded.now.unit.names (lines_of loaded.now)) (status_of (lines_of loaded.now)) result }
+    ensures { Delivers (record { before = K.written out.old; after = K.written out.new; faults = K.faults out.old; failed = K.faults out.new }) (shown_record show loaded.now.unit.names (lines_of loaded.now)) (status_of (lines_of loaded.now)) result }
 {
-    match Machine::make(alloc, &loaded.unit, &loaded.placement) {
+    let mut asks = match make_table(alloc, loaded) {
+        Ok(asks) => asks,
+        Err(AllocError) => return Status::Memory,
+    };
+    let lossy = loaded.schedule.lossy();
+    match Machine::make(alloc, &loaded.unit, &loaded.placement, lossy) {
         Ok(mut machine) => match drive(
             &mut machine,
+            &mut asks,
             &loaded.unit.names,
             &loaded.schedule,
             show,
@@ -60,8 +67,20 @@ fn write_why<K: Sink>(alloc: Global, out: &mut K, loaded: &Loaded) -> Status
     ensures { Delivers (record { before = K.written out.old; after = K.written out.new; faults = K.faults out.old; failed = K.faults out.new }) (run_text Show.Report loaded.now) (status_of (lines_of loaded.now)) result }
 {
     let names = &loaded.unit.names;
-    match Machine::make(alloc, &loaded.unit, &loaded.placement) {
-        Ok(mut machine) => match drive(&mut machine, names, &loaded.schedule, Show::Report, out) {
+    let mut asks = match make_table(alloc, loaded) {
+        Ok(asks) => asks,
+        Err(AllocError) => return Status::Memory,
+    };
+    let lossy = loaded.schedule.lossy();
+    match Machine::make(alloc, &loaded.unit, &loaded.placement, lossy) {
+        Ok(mut machine) => match drive(
+            &mut machine,
+            &mut asks,
+            names,
+            &loaded.schedule,
+            Show::Report,
+            out,
+        ) {
             Ok(last) => write_report(alloc, &machine, &loaded.placement, names, last, out),
             Err(WriteFault) => Status::WriteFault,
         },
@@ -107,8 +126,20 @@ fn write_ring<K: Sink>(alloc: Global, out: &mut K, loaded: &Loaded) -> Status
     ensures { Delivers (record { before = K.written out.old; after = K.written out.new; faults = K.faults out.old; failed = K.faults out.new }) (ring_text loaded.now.unit.names (lines_of loaded.now)) (status_of (lines_of loaded.now)) result }
 {
     let names = &loaded.unit.names;
-    match Machine::make(alloc, &loaded.unit, &loaded.placement) {
-        Ok(mut machine) => match drive(&mut machine, names, &loaded.schedule, Show::Report, out) {
+    let mut asks = match make_table(alloc, loaded) {
+        Ok(asks) => asks,
+        Err(AllocError) => return Status::Memory,
+    };
+    let lossy = loaded.schedule.lossy();
+    match Machine::make(alloc, &loaded.unit, &loaded.placement, lossy) {
+        Ok(mut machine) => match drive(
+            &mut machine,
+            &mut asks,
+            names,
+            &loaded.schedule,
+            Show::Report,
+            out,
+        ) {
             Ok(last) => write_counts(alloc, &machine, names, last, out),
             Err(WriteFault) => Status::WriteFault,
         },
@@ -140,6 +171,7 @@ fn write_output<K: Sink>(alloc: Global, out: &mut K, output: &Output) -> Status
         Output::Ring(loaded) => write_ring(alloc, out, loaded),
         Output::Canonical(parsed) => write_text(&CanonicalText { parsed }, out),
         Output::Listing(unit) => write_text(&Listing { unit }, out),
+        Output::Converted(record) => write_text(&SecondForm { record }, out),
     }
 }
 
@@ -179,8 +211,9 @@ pub fn pool<F: Files, K: Sink, E: Sink>(
         (record { before = E.written err.old; after = E.written err.new; faults = E.faults err.old; failed = E.faults err.new })
         result }
 
-    // Of an input that was opened no more than its limit and one read was given.
-    ensures stops_reading { F.opens files.old < F.opens files.new → F.given files.new ≤ most_bytes + one_read }
+    // Of the input that was opened last no more than its limit and one read was given.
+    ensures stops_reading { (r : Request) → request_of (texts_of words.now) ≡ Some r → StaysWithin
+        (record { told = F.told files.old; opens = F.opens files.old; opened = F.opens files.new; given = F.given files.new; live = F.live files.new; faults = F.faults files.old; failed = F.faults files.new }) r }
 
     // Words of a command, accepted inputs and no fault in this call give the text whole, or nothing for want of memory.
     ensures complete { (r : Request) → request_of (texts_of words.now) ≡ Some r → IsServable (F.told files.old) r

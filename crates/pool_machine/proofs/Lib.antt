@@ -2,7 +2,6 @@ pub mod NumberedLinks
 pub mod PostedPackets
 pub mod ChangedNodes
 pub mod Searches
-pub mod Steps
 pub mod Brought
 pub mod TurnsOfNodes
 pub mod MovesOfHeads
@@ -10,3 +9,10 @@ pub mod EventsOfMachines
 pub mod ToldOfObjects
 pub mod StartOfMachines
 pub mod MadeNodes
+pub mod NumberedWires
+pub mod WithoutWires
+pub mod EventsOnWires
+pub mod EnteredPackets
+pub mod KeptMaps
+pub mod NewWires
+pub mod Acknowledged

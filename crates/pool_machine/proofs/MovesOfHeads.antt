@@ -9,7 +9,7 @@ use Rattle.pool_syntax.specs.declared.words.FullKind.TheVariants as F
 use Rattle.pool_syntax.specs.declared.words.Placement.{Placement}
 use Rattle.object_code.specs.declared.unit.Unit.{Unit as Code}
 use Rattle.mesh_semantics.specs.Tables.{Pair, list_at, pair_cmp, push_list, put_list}
-use Rattle.mesh_semantics.specs.Paths.{AreNeighbours, IsLink, on_link, toward}
+use Rattle.mesh_semantics.specs.Paths.{AreNeighbours, IsLink, next, on_link}
 use Rattle.mesh_semantics.specs.Act.{goal_node}
 use Rattle.mesh_semantics.specs.Delay as Del
 use Rattle.mesh_semantics.specs.Sound.{Each, IsPlaced}
@@ -46,6 +46,16 @@ first_and_rest (y ∷ xs) x h = ap (λ z. z ∷ xs) (same_some h)
 
 not_itself : (x : ℕ) → x + 1 ≡ x → ⊥
 not_itself x h = omega (arith, h)
+
+above : (x y : ℕ) → x < y → nat_lt x y ≡ true
+above x y i = grind (arith, i)
+
+within : (x y : ℕ) → y ≤ x → nat_lt x y ≡ false
+within x y i = grind (arith, i)
+
+pub no_first : {X : Type 0} (xs : List X) → slice_get xs 0 ≡ None → xs ≡ []
+no_first [] h = refl
+no_first (x ∷ xs) h = absurd (cc)
 
 -- a node is no neighbour of itself
 pub apart : (w a b : ℕ) → AreNeighbours w a b → a ≢ b
@@ -114,7 +124,7 @@ module _ (u : Code) (l : Placement) (nodes : List NodeOf) (k : LinksOf Packet) (
       ≡ come (coded u) l (machine_from nodes (headless a b k).links) b (numbered packet) (Some (get_or nodes b d).state)
   comes =
       ap (λ (z : List NumberedPacket). move_in (coded u) l (machine_from nodes k.links) a b z) (ap (map numbered) all)
-      ∙ ap (λ (z : List (Pair × List NumberedPacket)). come (coded u) l (record { nodes = map (λ n. n.state) nodes; links = z }) b (numbered packet) (slice_get (map (λ n. n.state) nodes) b))
+      ∙ ap (λ (z : List (Pair × List NumberedPacket)). come (coded u) l (record { nodes = map (λ n. n.state) nodes; links = z; wires = None }) b (numbered packet) (slice_get (map (λ n. n.state) nodes) b))
       (listed_numbered (a, b) (drop 1 (list_at pair_cmp (a, b) k.links)) k.links)
       ∙ ap (λ z. come (coded u) l (machine_from nodes (headless a b k).links) b (numbered packet) z) (state_there nodes b (get_or nodes b d) here)
 
@@ -129,7 +139,7 @@ module _ (u : Code) (l : Placement) (nodes : List NodeOf) (k : LinksOf Packet) (
   -- the packet goes to a node of the mesh
   pub goal_inside : goal_node (numbered packet).packet < l.width * l.height
   goal_inside =
-      let on : on_link kept.delay.links (a, b) ≡ (numbered packet).packet ∷ packets (map numbered (drop 1 (list_at pair_cmp (a, b) k.links))) = sym (kept.stands.links (a, b)) ∙ ap packets all_numbered in
+      let on : on_link kept.delay.links (a, b) ≡ (numbered packet).packet ∷ packets (map numbered (drop 1 (list_at pair_cmp (a, b) k.links))) = sym (kept.stands.state.links (a, b)) ∙ ap packets all_numbered in
       (subst (Each (λ x. IsPlaced l kept.config ((a, b), x))) on (each_on (IsPlaced l kept.config) kept.delay.links (a, b) kept.sound.state.packets)).0.goal
 
   -- at its goal
@@ -149,7 +159,7 @@ module _ (u : Code) (l : Placement) (nodes : List NodeOf) (k : LinksOf Packet) (
     receivable =
         subst (λ i. IsReceivable (coded u) i (get_or nodes b d).state (numbered packet).number (numbered packet).packet) (sym (is_node u l nodes k kept b link.to d).id)
         (head_is_receivable (coded u) (IsOfCode u) (code_lawful u kept.parts.proper) (code_requests u) (code_names u kept.parts.proper) l (few_objects u l kept.parts.suits)
-        (machine_from nodes k.links) kept.config kept.delay kept.sound kept.stands a b (numbered packet) (map numbered (drop 1 (list_at pair_cmp (a, b) k.links))) all_numbered at
+        (machine_from nodes k.links) kept.config kept.delay kept.sound kept.stands.state a b (numbered packet) (map numbered (drop 1 (list_at pair_cmp (a, b) k.links))) all_numbered at
         (get_or nodes b d).state (state_there nodes b (get_or nodes b d) here))
 
     module _ (out : ℕ) (count : out ≡ leaving k.links b) where
@@ -226,9 +236,6 @@ module _ (u : Code) (l : Placement) (nodes : List NodeOf) (k : LinksOf Packet) (
           subst (IsDid (D.Full F.Cells b) nodes k nodes k) (sym (passes ∙ ap (λ (z : Bool). if z then M.Full F.Cells b
           else M.Acts W.Pass (record (machine_from nodes (headless a b k).links) { links = post_packet l b (Some (numbered packet)) (map numbered_link (headless a b k).links) })) t))
           (refl, refl, refl, refl)
-        where
-          above : (x y : ℕ) → x < y → nat_lt x y ≡ true
-          above x y i = grind (arith, i)
 
       pub line_pass : (k' : LinksOf Packet) → waiting + out + 1 ≤ l.cells → k' ≡ links_after l b (Some packet) (headless a b k)
           → IsDid (D.Line W.Pass) nodes k nodes k' (move_in (coded u) l (machine_from nodes k.links) a b (map numbered (list_at pair_cmp (a, b) k.links)))
@@ -238,11 +245,8 @@ module _ (u : Code) (l : Placement) (nodes : List NodeOf) (k : LinksOf Packet) (
           else M.Acts W.Pass (record (machine_from nodes (headless a b k).links) { links = post_packet l b (Some (numbered packet)) (map numbered_link (headless a b k).links) })) t)) (
             refl,
             ap (λ (z : LinksOf Packet). machine_from nodes z.links) e
-                ∙ ap (λ (z : List (Pair × List NumberedPacket)). record { nodes = map (λ n. n.state) nodes; links = z }) (after_numbered l b (Some packet) (headless a b k)),
+                ∙ ap (λ (z : List (Pair × List NumberedPacket)). record { nodes = map (λ n. n.state) nodes; links = z; wires = None }) (after_numbered l b (Some packet) (headless a b k)),
           )
-        where
-          within : (x y : ℕ) → y ≤ x → nat_lt x y ≡ false
-          within x y i = grind (arith, i)
 
       pub pass_room : waiting + out + 1 ≤ l.cells → leaving (headless a b k).links b < l.cells
       pass_room h = let s = leaving_same in omega (arith, h, s, count)
@@ -251,5 +255,5 @@ module _ (u : Code) (l : Placement) (nodes : List NodeOf) (k : LinksOf Packet) (
     pass_parts k' e = subst (AreParts u l nodes) (sym e) (moved_on (headless a b k) headless_parts)
       where
         moved_on : (j : LinksOf Packet) → AreParts u l nodes j → AreParts u l nodes (links_after l b (Some packet) j)
-        moved_on j parts = parts_moved u l nodes j parts (push_list pair_cmp (b, toward l.width b (goal_node (numbered packet).packet)) packet j.links)
-            (pushed_filled (b, toward l.width b (goal_node (numbered packet).packet)) packet j.links parts.filled)
+        moved_on j parts = parts_moved u l nodes j parts (push_list pair_cmp (b, next l b (goal_node (numbered packet).packet)) packet j.links)
+            (pushed_filled (b, next l b (goal_node (numbered packet).packet)) packet j.links parts.filled)

@@ -21,8 +21,9 @@ use Rattle.node_semantics.specs.Node as N
 use Rattle.node_semantics.specs.Node.{NodeState, NodeActed, NumberedPacket, Slot, frames_in, message_count, packet_count, slot_act, slot_in_turn, turn_act, turn_of_slot, within_node, name_at}
 use Rattle.node_semantics.specs.Machine as M
 use Rattle.node_semantics.specs.Machine.{Machine, machine_act, post_packet}
-use Rattle.node_semantics.specs.StandsFor.{MachineStandsFor, packets}
-use Rattle.node_semantics.specs.Agrees.{Agrees, IsFresh, IsOfMesh}
+use Rattle.node_semantics.specs.StandsFor.{packets}
+use Rattle.node_semantics.specs.WiresStandFor.{AgreesOn, StandsFor}
+use Rattle.node_semantics.specs.Agrees.{IsFresh, IsOfMesh}
 use Rattle.node_semantics.proofs.Laws.{event_agrees}
 use Rattle.coded_objects.specs.Coded.{Placed, coded}
 use Rattle.coded_objects.specs.OfCode.{IsOfCode}
@@ -87,51 +88,51 @@ pub record Following (u : Code) (l : Placement) (c : Config Placed) (d : Delay) 
   pub delay : Delay
   pub act : act (coded u) l q c d e ≡ A.Acts w config delay
   pub sound : IsSound (coded u) (IsOfCode u) l config delay
-  pub stands : MachineStandsFor (coded u) l m config delay
+  pub stands : StandsFor (coded u) l m config delay
 
 pub few_objects : (u : Code) (l : Placement) → Suits l u → l.objects < 65536
 few_objects u l suits = (fit_of (coded u) l (code_fits u l suits)).objects
 
 module _ (u : Code) (l : Placement) (proper : IsProper u) (suits : Suits l u) (m : Machine Placed) (c : Config Placed) (d : Delay)
-    (sound : IsSound (coded u) (IsOfCode u) l c d) (st : MachineStandsFor (coded u) l m c d) (q fresh : ℕ) (e : Event) (inside : IsOfMesh l e) (is_fresh : IsFresh m fresh e) where
-  pub agrees : Agrees (coded u) l (machine_act (coded u) l q fresh m e) (act (coded u) l q c d e)
-  agrees = event_agrees (coded u) (IsOfCode u) (code_lawful u proper) (code_requests u) l (few_objects u l suits) m c d sound st q fresh e inside is_fresh
+    (sound : IsSound (coded u) (IsOfCode u) l c d) (st : StandsFor (coded u) l m c d) (q fresh : ℕ) (e : Event) (inside : IsOfMesh l e) (is_fresh : IsFresh m fresh e) where
+  pub agrees : AgreesOn (coded u) l (machine_act (coded u) l q fresh m e) (act (coded u) l q c d e)
+  agrees = event_agrees (coded u) (IsOfCode u) (code_lawful u proper) (code_requests u) l (few_objects u l suits) m c d sound st.state q fresh st.wires e inside is_fresh
 
   after : After (coded u) (IsOfCode u) l c (act (coded u) l q c d e)
   after = act_kept (coded u) (IsOfCode u) (code_lawful u proper) l (fit_of (coded u) l (code_fits u l suits)) c d q e sound
 
   pub follows : (w : What) (m' : Machine Placed) → machine_act (coded u) l q fresh m e ≡ M.Acts w m' → Following u l c d q e w m'
-  follows w m' h = by (act (coded u) l q c d e) refl (subst (λ z. Agrees (coded u) l z (act (coded u) l q c d e)) h agrees) after
+  follows w m' h = by (act (coded u) l q c d e) refl (subst (λ z. AgreesOn (coded u) l z (act (coded u) l q c d e)) h agrees) after
     where
-      by : (z : Acted Placed) → act (coded u) l q c d e ≡ z → Agrees (coded u) l (M.Acts w m') z → After (coded u) (IsOfCode u) l c z → Following u l c d q e w m'
+      by : (z : Acted Placed) → act (coded u) l q c d e ≡ z → AgreesOn (coded u) l (M.Acts w m') z → After (coded u) (IsOfCode u) l c z → Following u l c d q e w m'
       by (A.Acts v c' d') i a b = record { config = c'; delay = d'; act = i ∙ ap (λ t. A.Acts t c' d') (sym a.0); sound = b.1; stands = a.1 }
       by (A.Full k n) i a b = absurd a
       by A.Nothing i a b = absurd a
 
   pub stays : (k : FullKind) (n : ℕ) → machine_act (coded u) l q fresh m e ≡ M.Full k n → act (coded u) l q c d e ≡ A.Full k n
-  stays k n h = by (act (coded u) l q c d e) refl (subst (λ z. Agrees (coded u) l z (act (coded u) l q c d e)) h agrees)
+  stays k n h = by (act (coded u) l q c d e) refl (subst (λ z. AgreesOn (coded u) l z (act (coded u) l q c d e)) h agrees)
     where
-      by : (z : Acted Placed) → act (coded u) l q c d e ≡ z → Agrees (coded u) l (M.Full k n) z → act (coded u) l q c d e ≡ A.Full k n
+      by : (z : Acted Placed) → act (coded u) l q c d e ≡ z → AgreesOn (coded u) l (M.Full k n) z → act (coded u) l q c d e ≡ A.Full k n
       by (A.Full j b) i a = i ∙ ap₂ (λ x y. A.Full x y) (sym a.0) (sym a.1)
       by (A.Acts v c' d') i a = absurd a
       by A.Nothing i a = absurd a
 
   pub answers : machine_act (coded u) l q fresh m e ≢ M.Nothing
-  answers h = subst (λ z. Agrees (coded u) l z (act (coded u) l q c d e)) h agrees
+  answers h = subst (λ z. AgreesOn (coded u) l z (act (coded u) l q c d e)) h agrees
 
   pub posted : (w : What) (nodes : List (NodeState Placed)) (base : List (Pair × List NumberedPacket)) (n : ℕ) (p : NumberedPacket)
-      → machine_act (coded u) l q fresh m e ≡ M.Acts w (record { nodes = nodes; links = post_packet l n (Some p) base })
+      → machine_act (coded u) l q fresh m e ≡ M.Acts w (record { nodes = nodes; links = post_packet l n (Some p) base; wires = None })
       → (goal_node p.packet < l.width * l.height) × (n ≢ goal_node p.packet)
   posted w nodes base n p h = (placed.goal, placed.way.0)
     where
       k : Pair
       k = (n, next l n (goal_node p.packet))
 
-      z : Following u l c d q e w (record { nodes = nodes; links = post_packet l n (Some p) base })
-      z = follows w (record { nodes = nodes; links = post_packet l n (Some p) base }) h
+      z : Following u l c d q e w (record { nodes = nodes; links = post_packet l n (Some p) base; wires = None })
+      z = follows w (record { nodes = nodes; links = post_packet l n (Some p) base; wires = None }) h
 
       on : on_link z.delay.links (n, next l n (goal_node p.packet)) ≡ packets (list_at pair_cmp (n, next l n (goal_node p.packet)) base) ++ p.packet ∷ []
-      on = sym (z.stands.links (n, next l n (goal_node p.packet))) ∙ ap packets (push_list_same (n, next l n (goal_node p.packet)) p base)
+      on = sym (z.stands.state.links (n, next l n (goal_node p.packet))) ∙ ap packets (push_list_same (n, next l n (goal_node p.packet)) p base)
           ∙ packets_append (list_at pair_cmp (n, next l n (goal_node p.packet)) base) p
 
       placed : IsPlaced l z.config ((n, next l n (goal_node p.packet)), p.packet)

@@ -1,5 +1,5 @@
 -- A machine that was just made stands for the start.
-use Rattle.std.proofs.Common.{◌≡◌, refl, sym, ap, ap₂, subst, ◌∙◌, ℕ, zero, suc, ◌*◌, ◌<◌, ◌≤◌, List, [], ◌∷◌, length, map, set, replicate, Option, Some, None, arith}
+use Rattle.std.proofs.Common.{◌≡◌, refl, sym, ap, ap₂, subst, ◌∙◌, ℕ, zero, suc, ◌*◌, ◌<◌, ◌≤◌, List, [], ◌∷◌, length, map, set, replicate, Option, Some, None, Bool, arith}
 use Rattle.std.specs.Prelude.{slice_get}
 use Rattle.pool_syntax.specs.declared.words.Place.{Place}
 use Rattle.pool_syntax.specs.declared.words.Place.TheVariants as Pl
@@ -16,8 +16,7 @@ use Rattle.mesh_semantics.specs.Tables.{Pair, no_entry_empty}
 use Rattle.mesh_semantics.proofs.Laws.{fit_of}
 use Rattle.node_semantics.specs.Node.{NodeState, NumberedPacket, fresh_slot, set_at}
 use Rattle.node_semantics.specs.Machine.{empty_node, start_with}
-use Rattle.node_semantics.specs.StandsFor.{MachineStandsFor}
-use Rattle.node_semantics.specs.Agrees.{StartAgrees}
+use Rattle.node_semantics.specs.WiresStandFor.{StandsFor, StartAgrees}
 use Rattle.node_semantics.proofs.Laws.{start_agrees}
 use Rattle.coded_objects.specs.Coded.{Placed, coded}
 use Rattle.coded_objects.specs.OfCode.{IsOfCode}
@@ -26,9 +25,12 @@ use Rattle.rendezvous_protocol.specs.declared.packet.Packet.{Packet}
 use Rattle.mesh_routing.specs.Links.{LinksOf}
 use Rattle.node_parts.specs.NodeOf.{NodeOf}
 use Rattle.node_parts.specs.OfUnit.{IsOfUnit}
-use Rattle.pool_machine.specs.MachineOf.{numbered_link}
-use Rattle.pool_machine.specs.Parts.{AreKept, AreParts, EachCount, machine_from}
+use Rattle.pool_machine.specs.MachineOf.{LinkWires, numbered_link}
+use Rattle.pool_machine.specs.Parts.{AreParts, EachCount, machine_from}
+use Rattle.pool_machine.specs.OnWires.{AreMade, AreWired, EachEntered, machine_on}
+use Rattle.pool_machine.specs.Answers.{nothing_sent}
 use Rattle.pool_machine.specs.Whole.{AreEmpty}
+use Rattle.pool_machine.proofs.NewWires.{made_entered, made_stand, made_there, sound_start}
 use Rattle.pool_machine.proofs.ChangedNodes.{counts_same, made_set, node_kept, parts_changed, states_set}
 
 last_in : (ps : List Place) (p : Place) → last_place ps ≡ Some p → (i : ℕ) × (slice_get ps i ≡ Some p)
@@ -88,35 +90,47 @@ module _ (u : Code) (l : Placement) (proper : IsProper u) (suits : Suits l u) (n
   state_is : n'.state ≡ record (empty_node (coded u)) { slots = fresh_slot y ∷ [] }
   state_is = ap (λ (z : NodeOf). z.state) is ∙ ap (λ (z : NodeState Placed). record z { slots = fresh_slot y ∷ [] }) (empty.each i n here).state
 
-  begins : (c : Config Placed) → start (coded u) l ≡ Some c → MachineStandsFor (coded u) l (machine_from (set nodes i n') k.links) c no_delay
-  begins c e = subst (λ z. MachineStandsFor (coded u) l z c no_delay) (sym same) (agreed)
+  begins : (c : Config Placed) → start (coded u) l ≡ Some c → StandsFor (coded u) l (machine_from (set nodes i n') k.links) c no_delay
+  begins c e = subst (λ z. StandsFor (coded u) l z c no_delay) (sym same) (agreed)
     where
-      agreed : MachineStandsFor (coded u) l (record { nodes = set_at (replicate (l.width * l.height) (empty_node (coded u))) (node_of (root_name l)) (record (empty_node (coded u)) { slots = fresh_slot y ∷ [] }); links = [] }) c no_delay
+      agreed : StandsFor (coded u) l (record { nodes = set_at (replicate (l.width * l.height) (empty_node (coded u))) (node_of (root_name l)) (record (empty_node (coded u)) { slots = fresh_slot y ∷ [] }); links = []; wires = None }) c no_delay
       agreed =
-          let a : StartAgrees (coded u) l (start_with (coded u) l (node_of (root_name l)) (coded u).root) (start (coded u) l) = start_agrees (coded u) (IsOfCode u) (code_requests u) l (fit u l suits) in
-          let b = subst (λ z. StartAgrees (coded u) l (start_with (coded u) l (node_of (root_name l)) z) (start (coded u) l)) made a in
-          subst (λ z. StartAgrees (coded u) l (start_with (coded u) l (node_of (root_name l)) (Some y)) z) e b
+          let a : StartAgrees (coded u) l no_delay (start_with (coded u) l (node_of (root_name l)) (coded u).root) (start (coded u) l) = start_agrees (coded u) (IsOfCode u) (code_requests u) l (fit u l suits) in
+          let b = subst (λ z. StartAgrees (coded u) l no_delay (start_with (coded u) l (node_of (root_name l)) z) (start (coded u) l)) made a in
+          subst (λ z. StartAgrees (coded u) l no_delay (start_with (coded u) l (node_of (root_name l)) (Some y)) z) e b
 
       place : i ≡ node_of (root_name l)
       place = root ∙ sym (root_at (root_node (last_place l.places)))
 
       same : machine_from (set nodes i n') k.links
-          ≡ record { nodes = set_at (replicate (l.width * l.height) (empty_node (coded u))) (node_of (root_name l)) (record (empty_node (coded u)) { slots = fresh_slot y ∷ [] }); links = [] }
+          ≡ record { nodes = set_at (replicate (l.width * l.height) (empty_node (coded u))) (node_of (root_name l)) (record (empty_node (coded u)) { slots = fresh_slot y ∷ [] }); links = []; wires = None }
       same =
           let a : map (λ (z : NodeOf). z.state) (set nodes i n') ≡ set_at (replicate (l.width * l.height) (empty_node (coded u))) (node_of (root_name l)) (record (empty_node (coded u)) { slots = fresh_slot y ∷ [] }) =
           states_set nodes i n'
           ∙ ap (λ (z : List (NodeState Placed)). set_at z i n'.state) (all_same nodes (l.width * l.height) (empty_node (coded u)) empty.count (λ j z e. (empty.each j z e).state))
           ∙ ap₂ (λ j z. set_at (replicate (l.width * l.height) (empty_node (coded u))) j z) place state_is in
           let b : map numbered_link k.links ≡ [] = ap (map numbered_link) links in
-          ap₂ (λ (p : List (NodeState Placed)) (q : List (Pair × List NumberedPacket)). record { nodes = p; links = q }) a b
-
-  pub kept_start : AreKept u l (set nodes i n') k
-  kept_start =
-      let s = start_there u proper l in
-      record { parts = parts; config = s.0; delay = no_delay; sound = code_start_sound u proper l (code_fits u l suits) s.0 s.1; stands = begins s.0 s.1 }
-
-  pub stands_start : (c : Config Placed) → start (coded u) l ≡ Some c → MachineStandsFor (coded u) l (machine_from (set nodes i n') k.links) c no_delay
-  stands_start = begins
+          ap₂ (λ (p : List (NodeState Placed)) (q : List (Pair × List NumberedPacket)). record { nodes = p; links = q; wires = None }) a b
 
   pub counts_start : EachCount (λ k. k ≤ 0) (set nodes i n')
   counts_start = counts_same (λ k. k ≤ 0) nodes (set nodes i n') (made_set nodes i n n' here (ap (λ (z : NodeOf). z.state.made) is)) (no_counts u l (l.width * l.height) nodes empty)
+
+  -- with new wires, or none
+  module _ (lossy : Bool) (ws : Option LinkWires) (width' size : ℕ) (wide : width' ≡ l.width) (sized : size ≡ l.width * l.height) (new : AreMade width' size lossy ws) where
+    pub stands_start : (c : Config Placed) → start (coded u) l ≡ Some c → StandsFor (coded u) l (machine_on (set nodes i n') k.links ws) c (nothing_sent lossy)
+    stands_start c e = made_stand u l width' size (set nodes i n') k.links links lossy ws new c (begins c e)
+
+    pub wired_start : AreWired u l (set nodes i n') k ws
+    wired_start =
+        let s = start_there u proper l in
+        record {
+          parts = parts;
+          there = made_there l width' size wide sized lossy ws new;
+          config = s.0;
+          delay = nothing_sent lossy;
+          sound = sound_start u l s.0 lossy (code_start_sound u proper l (code_fits u l suits) s.0 s.1);
+          stands = stands_start s.0 s.1;
+        }
+
+    pub entered_start : EachEntered (λ n. n ≤ 0) ws k.links
+    entered_start = made_entered width' size lossy ws k.links new links

@@ -1,7 +1,7 @@
 -- What a machine tells is so of each sound configuration that it stands for.
-use Rattle.std.proofs.Common.{◌≡◌, ◌≢◌, ◌↔◌, refl, sym, ap, subst, ◌∙◌, IsTrue, ℕ, zero, suc, ◌*◌, ◌<◌, ◌==◌, List, [], ◌∷◌, length, map, get_or, Option, Some, None, is_some, Bool, true, false, not, ◌&&◌, ◌||◌, cond, if◌then◌else◌, arith}
+use Rattle.std.proofs.Common.{◌≡◌, ◌↔◌, refl, sym, ap, ap₂, subst, ◌∙◌, IsTrue, ℕ, zero, suc, ◌*◌, ◌<◌, ◌==◌, List, [], ◌∷◌, length, map, get_or, Option, Some, None, is_some, Bool, true, false, not, ◌&&◌, ◌||◌, cond, if◌then◌else◌, arith}
 use Rattle.std.specs.Prelude.{slice_get}
-use Rattle.std.specs.Option.{unwrap_or}
+use Rattle.std.specs.Option.{option_map, unwrap_or}
 use Rattle.std.specs.Ordering.{eq_by_cmp}
 use Rattle.std.specs.List.{list_any}
 use Rattle.std.specs.FinMap.Entries.{find}
@@ -10,7 +10,7 @@ use Rattle.pool_syntax.specs.declared.words.Placement.{Placement}
 use Rattle.object_code.specs.declared.unit.ClassCode.{ClassCode}
 use Rattle.object_code.specs.declared.unit.Unit.{Unit as Code}
 use Rattle.mesh_semantics.specs.Config.{Config, object_of}
-use Rattle.mesh_semantics.specs.Delay.{Delay, Holding, Arrival, held, arrived_at, node_of, slot_of}
+use Rattle.mesh_semantics.specs.Delay.{Delay, held, arrived_at, node_of, slot_of}
 use Rattle.mesh_semantics.specs.Delay as Del
 use Rattle.mesh_semantics.specs.Act.{is_quiet, object_count}
 use Rattle.mesh_semantics.specs.Paths.{AreNeighbours, is_link, on_link}
@@ -21,10 +21,11 @@ use Rattle.mesh_semantics.specs.Standing.{Standing, standing}
 use Rattle.mesh_semantics.specs.Tables.{Pair, has_some, list_at, pair_cmp}
 use Rattle.mesh_semantics.proofs.Laws.{both, equals, same_some}
 use Rattle.node_semantics.specs.Node.{NodeState, NumberedPacket, Slot, name_at}
-use Rattle.node_semantics.specs.Machine.{any_faulted, any_ready, is_machine_quiet}
+use Rattle.node_semantics.specs.Machine.{any_faulted, any_ready, are_acknowledged, is_machine_quiet}
 use Rattle.node_semantics.specs.Standings.{brings, is_on_way, machine_standing, slot_standing, standing_in}
 use Rattle.node_semantics.specs.StandsFor.{AtName, MachineStandsFor, packets, slot_at, slot_in}
-use Rattle.node_semantics.proofs.Laws.{any_fault, class_kept, nothing_stands, object_stands, objects_count, quiet_agrees, whole_name}
+use Rattle.node_semantics.specs.WiresStandFor.{StandsFor}
+use Rattle.node_semantics.proofs.Laws.{acknowledged_same, any_fault, class_kept, nothing_stands, object_stands, objects_count, quiet_agrees, whole_name}
 use Rattle.node_semantics.proofs.LinkTests.{any_on_links}
 use Rattle.coded_objects.specs.Coded.{Placed, class_number, coded}
 use Rattle.coded_objects.specs.OfCode.{IsOfCode}
@@ -33,13 +34,15 @@ use Rattle.rendezvous_protocol.specs.declared.packet.Packet.{Packet}
 use Rattle.rendezvous_protocol.specs.Packets.{numbered}
 use Rattle.mesh_routing.specs.Links.{LinksOf}
 use Rattle.node_parts.specs.NodeOf.{NodeOf}
-use Rattle.pool_machine.specs.MachineOf.{numbered_link}
+use Rattle.pool_machine.specs.MachineOf.{LinkWires, numbered_link, numbered_wires}
 use Rattle.pool_machine.specs.Parts.{AreKept, AreOfUnit, AreParts, machine_from}
+use Rattle.pool_machine.specs.OnWires.{machine_on}
 use Rattle.pool_machine.specs.Told.{is_brought, slot_class}
 use Rattle.pool_machine.specs.Answers.{class_at, standing_at}
 use Rattle.pool_machine.proofs.NumberedLinks.{any_filled, list_numbered}
 use Rattle.pool_machine.proofs.ChangedNodes.{state_there}
 use Rattle.pool_machine.proofs.Searches.{found_none, node_behind}
+use Rattle.pool_machine.proofs.WithoutWires.{stands_rewired}
 
 -- a name's slot
 
@@ -115,27 +118,45 @@ fails_at b k (z ∷ ls) (suc i) e own at h = by (is_link k.0 k.1 z.0) h (fails_a
     by true g r = r (neither (b z.1) (list_any b (on_link ls k)) g).1
     by false g r = r g
 
+-- quiet
+module _ (u : Code) (l : Placement) (nodes : List NodeOf) (k : LinksOf Packet) (parts : AreParts u l nodes k) (ws : Option LinkWires) (c : Config Placed) (d : Delay)
+    (sound : IsSound (coded u) (IsOfCode u) l c d) (st : StandsFor (coded u) l (machine_on nodes k.links ws) c d) where
+  quiet_is : is_machine_quiet (coded u) (machine_on nodes k.links ws) ≡ is_quiet (coded u) c d
+  quiet_is =
+      quiet_agrees (coded u) (IsOfCode u) (code_lawful u parts.proper) (code_requests u) l (machine_on nodes k.links ws) c d sound.state st.state
+      (acknowledged_same (option_map numbered_wires ws) d.wires (map numbered_link k.links) st.wires)
+
+  pub quiet_told : (empty acked ready : Bool) → (IsTrue empty ↔ (k.links ≡ [])) → acked ≡ are_acknowledged (option_map numbered_wires ws)
+      → ready ≡ any_ready (coded u) 0 (map (λ n. n.state) nodes) → (empty && (acked && not ready)) ≡ is_quiet (coded u) c d
+  quiet_told empty acked ready iff a r =
+      ap₂ (λ x y. x && (y && not ready)) same a ∙ ap (λ z. not (list_any (λ (e : Pair × List NumberedPacket). has_some e.1) (map numbered_link k.links)) && (are_acknowledged (option_map numbered_wires ws) && not z)) r ∙ quiet_is
+    where
+      by : (b : Bool) → empty ≡ b → (es : List (Pair × List Packet)) → k.links ≡ es → b ≡ not (has_some es)
+      by true e [] i = refl
+      by false e [] i = let t : empty ≡ true = iff.1 i in sym e ∙ t
+      by true e (x ∷ es) i = absurd (let z : [] ≡ x ∷ es = sym (iff.0 e) ∙ i in cc)
+      by false e (x ∷ es) i = refl
+
+      same : empty ≡ not (list_any (λ (e : Pair × List NumberedPacket). has_some e.1) (map numbered_link k.links))
+      same = by empty refl k.links refl ∙ ap not (sym (any_filled k.links parts.filled))
+
+  grouped : (a b r : Bool) → ((a && b) && r) ≡ (a && (b && r))
+  grouped true b r = refl
+  grouped false b r = refl
+
+  -- what is known of links and wires together
+  pub settled_told : (empty settled ready : Bool) → (IsTrue empty ↔ (k.links ≡ [])) → settled ≡ (empty && are_acknowledged (option_map numbered_wires ws))
+      → ready ≡ any_ready (coded u) 0 (map (λ n. n.state) nodes) → (settled && not ready) ≡ is_quiet (coded u) c d
+  settled_told empty settled ready iff e r =
+      ap (λ b. b && not ready) e ∙ grouped empty (are_acknowledged (option_map numbered_wires ws)) (not ready) ∙ quiet_told empty (are_acknowledged (option_map numbered_wires ws)) ready iff refl r
+
+-- what stands for it, with wires left out of sight
+pub state_of : (u : Code) (l : Placement) (nodes : List NodeOf) (links : List (Pair × List Packet)) (ws : Option LinkWires) (c : Config Placed) (d : Delay)
+    → StandsFor (coded u) l (machine_on nodes links ws) c d → MachineStandsFor (coded u) l (machine_from nodes links) c d
+state_of u l nodes links ws c d st = stands_rewired (coded u) l c d d.wires (machine_on nodes links ws) None st.state
+
 module _ (u : Code) (l : Placement) (nodes : List NodeOf) (k : LinksOf Packet) (parts : AreParts u l nodes k) (c : Config Placed) (d : Delay)
     (sound : IsSound (coded u) (IsOfCode u) l c d) (st : MachineStandsFor (coded u) l (machine_from nodes k.links) c d) where
-  -- quiet
-  quiet_is : is_machine_quiet (coded u) (machine_from nodes k.links) ≡ is_quiet (coded u) c d
-  quiet_is = quiet_agrees (coded u) (IsOfCode u) (code_lawful u parts.proper) (code_requests u) l (machine_from nodes k.links) c d sound.state st
-
-  filled_is : is_machine_quiet (coded u) (machine_from nodes k.links) ≡ (not (has_some k.links) && not (any_ready (coded u) 0 (map (λ n. n.state) nodes)))
-  filled_is = ap (λ b. not b && not (any_ready (coded u) 0 (map (λ n. n.state) nodes))) (any_filled k.links parts.filled)
-
-  pub quiet_empty : (ready : Bool) → k.links ≡ [] → ready ≡ any_ready (coded u) 0 (map (λ n. n.state) nodes) → not ready ≡ is_quiet (coded u) c d
-  quiet_empty ready e r =
-      ap not r ∙ sym (ap (λ (z : List (Pair × List Packet)). not (has_some z) && not (any_ready (coded u) 0 (map (λ n. n.state) nodes))) e) ∙ sym filled_is ∙ quiet_is
-
-  pub not_quiet : (empty : Bool) → empty ≡ false → (IsTrue empty ↔ (k.links ≡ [])) → empty ≡ is_quiet (coded u) c d
-  not_quiet empty e iff =
-      e ∙ sym (ap (λ b. not b && not (any_ready (coded u) 0 (map (λ n. n.state) nodes))) (by k.links (λ z. let t : empty ≡ true = iff.1 z in let f : true ≡ false = sym t ∙ e in cc))) ∙ sym filled_is ∙ quiet_is
-    where
-      by : (es : List (Pair × List Packet)) → es ≢ [] → has_some es ≡ true
-      by [] n = absurd (n refl)
-      by (e ∷ es) n = refl
-
   pub faults_told : any_faulted (coded u) (machine_from nodes k.links) ≡ list_any (λ (e : ℕ × Placed). is_some e.1.fault) c.objects
   faults_told = any_fault (coded u) (code_keeps u) l (machine_from nodes k.links) c d st ((code_lawful u parts.proper).sorted c sound.state.typed)
 
@@ -164,10 +185,10 @@ pub none_on_way : (u : Code) (l : Placement) (nodes : List NodeOf) (k : LinksOf 
     → ((a b : ℕ) → a < l.width * l.height → b < l.width * l.height → AreNeighbours l.width a b → is_brought o (list_at pair_cmp (a, b) k.links) ≡ false)
     → is_on_way o (map numbered_link k.links) ≡ false
 none_on_way u l nodes k kept o none =
-    any_on_links (brings o) (map numbered_link k.links) kept.delay.links kept.stands.in_order kept.stands.links
+    any_on_links (brings o) (map numbered_link k.links) kept.delay.links kept.stands.state.in_order kept.stands.state.links
     ∙ found_none (λ (e : Pair × Del.Packet). brings o e.1) kept.delay.links (λ i e at.
     let placed = each_at (IsPlaced l kept.config) kept.delay.links i e kept.sound.state.packets at in
-    let on : packets (map numbered (list_at pair_cmp e.0 k.links)) ≡ on_link kept.delay.links e.0 = ap packets (sym (list_numbered e.0 k.links)) ∙ kept.stands.links e.0 in
+    let on : packets (map numbered (list_at pair_cmp e.0 k.links)) ≡ on_link kept.delay.links e.0 = ap packets (sym (list_numbered e.0 k.links)) ∙ kept.stands.state.links e.0 in
     fails_at (brings o) e.0 kept.delay.links i e (both (e.0.0 == e.0.0) (e.0.1 == e.0.1) (equals e.0.0) (equals e.0.1)) at
     (ap (list_any (brings o)) (sym on) ∙ brought_packets o (list_at pair_cmp e.0 k.links) ∙ none e.0.0 e.0.1 placed.link.from placed.link.to placed.link.beside))
 

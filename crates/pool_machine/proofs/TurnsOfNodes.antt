@@ -10,7 +10,7 @@ use Rattle.pool_syntax.specs.declared.words.FullKind.{FullKind}
 use Rattle.pool_syntax.specs.declared.words.Placement.{Placement}
 use Rattle.object_code.specs.declared.unit.Unit.{Unit as Code}
 use Rattle.mesh_semantics.specs.Tables.{Pair, pair_cmp, push_list}
-use Rattle.mesh_semantics.specs.Paths.{toward}
+use Rattle.mesh_semantics.specs.Paths.{next}
 use Rattle.mesh_semantics.specs.Act.{goal_node}
 use Rattle.mesh_semantics.proofs.Laws.{same_some}
 use Rattle.node_semantics.specs.Node as N
@@ -48,12 +48,12 @@ line_of what packet n n' N.Nothing h = absurd h
 -- the links after a node has acted
 abbrev pub links_after : Placement → ℕ → Option Packet → LinksOf Packet → LinksOf Packet
 links_after l n None k = k
-links_after l n (Some p) k = record k { links = push_list pair_cmp (n, toward l.width n (goal_node (numbered p).packet)) p k.links }
+links_after l n (Some p) k = record k { links = push_list pair_cmp (n, next l n (goal_node (numbered p).packet)) p k.links }
 
 pub after_numbered : (l : Placement) (n : ℕ) (p : Option Packet) (k : LinksOf Packet)
     → map numbered_link (links_after l n p k).links ≡ post_packet l n (option_map numbered p) (map numbered_link k.links)
 after_numbered l n None k = refl
-after_numbered l n (Some p) k = sym (push_numbered (n, toward l.width n (goal_node (numbered p).packet)) p k.links)
+after_numbered l n (Some p) k = sym (push_numbered (n, next l n (goal_node (numbered p).packet)) p k.links)
 
 -- what a node does is what the machine does, on any links
 module _ (u : Code) (l : Placement) (nodes : List NodeOf) (i : ℕ) (n : NodeOf) (here : slice_get nodes i ≡ Some n) (k₀ k : LinksOf Packet) where
@@ -81,15 +81,15 @@ module _ (u : Code) (l : Placement) (nodes : List NodeOf) (i : ℕ) (n : NodeOf)
         refl,
         let states : map (λ (n : NodeOf). n.state) (set nodes i n') ≡ N.set_at (map (λ n. n.state) nodes) i a.0 =
             states_set nodes i n' ∙ ap (λ (z : NodeOf). N.set_at (map (λ n. n.state) nodes) i z.state) a.2 in
-            ap₂ (λ (x : List (NodeState Placed)) (y : List (Pair × List NumberedPacket)). record { nodes = x; links = y }) states (after_numbered l i packet k),
+            ap₂ (λ (x : List (NodeState Placed)) (y : List (Pair × List NumberedPacket)). record { nodes = x; links = y; wires = None }) states (after_numbered l i packet k),
       )
 
   pub parts_after : (packet : Option Packet) → AreParts u l nodes k → (n' : NodeOf) → IsNodeOf u l i n' → AreParts u l (set nodes i n') (links_after l i packet k)
   parts_after None parts n' is = parts_changed u l nodes k parts i n n' here is
   parts_after (Some p) parts n' is =
       let z = parts_changed u l nodes k parts i n n' here is in
-      parts_moved u l (set nodes i n') k z (push_list pair_cmp (i, toward l.width i (goal_node (numbered p).packet)) p k.links)
-      (pushed_filled (i, toward l.width i (goal_node (numbered p).packet)) p k.links parts.filled)
+      parts_moved u l (set nodes i n') k z (push_list pair_cmp (i, next l i (goal_node (numbered p).packet)) p k.links)
+      (pushed_filled (i, next l i (goal_node (numbered p).packet)) p k.links parts.filled)
 
   pub node_after : AreParts u l nodes k → (what : What) (packet : Option Packet) (n' : NodeOf) (t : NodeActed Placed) → IsActOf (T.Line what packet) n n' t → IsOfUnit u n' → IsNodeOf u l i n'
   node_after parts what packet n' t h fits = let a = line_of what packet n n' t h in node_kept u l i n n' a.0 (parts.each i n here) fits a.2
@@ -118,7 +118,7 @@ module _ (u : Code) (l : Placement) (nodes : List NodeOf) (k : LinksOf Packet) (
     -- its messages and the packets that leave it are within its cells
     pub cells_within : message_count n.state.slots + leaving k.links i ≤ l.cells
     cells_within =
-        let a = cells_count (coded u) (IsOfCode u) (code_lawful u kept.parts.proper) (code_requests u) l (machine_from nodes k.links) kept.config kept.delay kept.stands
+        let a = cells_count (coded u) (IsOfCode u) (code_lawful u kept.parts.proper) (code_requests u) l (machine_from nodes k.links) kept.config kept.delay kept.stands.state
         kept.sound.state.typed i n.state (state_there nodes i n here) in
         let b = (kept.sound.limits i).2 in
         let c = leaving_numbered i k.links in omega (arith, a, b, c)
@@ -148,10 +148,10 @@ module _ (u : Code) (l : Placement) (nodes : List NodeOf) (k : LinksOf Packet) (
           (b.0, b.1, omega (arith, r))
 
 -- the links where a packet was put, and where there was none
-pub with_packet : (l : Placement) (i w : ℕ) (k new : LinksOf Packet) (packet : Option Packet) (p : Packet) → packet ≡ Some p → w ≡ l.width
-    → new ≡ record k { links = push_list pair_cmp (i, toward w i (goal_node (numbered p).packet)) p k.links } → new ≡ links_after l i packet k
-with_packet l i w k new packet p some width e =
-    e ∙ ap (λ z. record k { links = push_list pair_cmp (i, toward z i (goal_node (numbered p).packet)) p k.links }) width ∙ ap (λ z. links_after l i z k) (sym some)
+pub with_packet : (l t : Placement) (i : ℕ) (k new : LinksOf Packet) (packet : Option Packet) (p : Packet) → packet ≡ Some p → t ≡ l
+    → new ≡ record k { links = push_list pair_cmp (i, next t i (goal_node (numbered p).packet)) p k.links } → new ≡ links_after l i packet k
+with_packet l t i k new packet p some table e =
+    e ∙ ap (λ (z : Placement). record k { links = push_list pair_cmp (i, next z i (goal_node (numbered p).packet)) p k.links }) table ∙ ap (λ z. links_after l i z k) (sym some)
 
 pub without_packet : (l : Placement) (i : ℕ) (k : LinksOf Packet) (packet : Option Packet) → packet ≡ None → k ≡ links_after l i packet k
 without_packet l i k packet none = ap (λ z. links_after l i z k) (sym none)

@@ -1,5 +1,5 @@
 -- What the calls of a machine tell, for every sound configuration of code with its delay that the machine stands for.
-use Rattle.std.specs.Prelude.{◌≡◌, ℕ, ◌+◌, ◌*◌, ◌<◌, length, Option, Some}
+use Rattle.std.specs.Prelude.{◌≡◌, ℕ, ◌+◌, ◌*◌, ◌<◌, length, Option, Some, Bool, true, is_some, if◌then◌else◌}
 use Rattle.pool_syntax.specs.declared.words.Event.{Event}
 use Rattle.pool_syntax.specs.declared.words.Event.TheVariants as Ev
 use Rattle.pool_syntax.specs.declared.words.What.{What}
@@ -8,7 +8,7 @@ use Rattle.pool_syntax.specs.declared.words.Line.TheVariants as R
 use Rattle.pool_syntax.specs.declared.words.Placement.{Placement}
 use Rattle.object_code.specs.declared.unit.Unit.{Unit as Code}
 use Rattle.mesh_semantics.specs.Config.{Config, object_of}
-use Rattle.mesh_semantics.specs.Delay.{Delay, no_delay}
+use Rattle.mesh_semantics.specs.Delay.{Delay, no_delay, no_delay_on_wires}
 use Rattle.mesh_semantics.specs.Act as A
 use Rattle.mesh_semantics.specs.Act.{Acted}
 use Rattle.mesh_semantics.specs.Paths.{IsLink}
@@ -17,7 +17,7 @@ use Rattle.mesh_semantics.specs.Sound.{IsSound}
 use Rattle.mesh_semantics.specs.Standing as T
 use Rattle.mesh_semantics.specs.Standing.{standing}
 use Rattle.mesh_semantics.specs.Partial.{◌>>=◌}
-use Rattle.node_semantics.specs.StandsFor.{MachineStandsFor}
+use Rattle.node_semantics.specs.WiresStandFor.{StandsFor}
 use Rattle.coded_objects.specs.Coded.{Placed, coded}
 use Rattle.coded_objects.specs.OfCode.{IsOfCode}
 use Rattle.pool_machine.specs.declared.words.Outcome.{Outcome}
@@ -28,31 +28,46 @@ use Rattle.pool_machine.specs.MachineOf.{MachineOf, machine_of}
 abbrev pub IsOfMesh : Placement → Event → Type 0
 IsOfMesh l (Ev.Turn n) = n < l.width * l.height
 IsOfMesh l (Ev.Link a b) = IsLink l (a, b)
+IsOfMesh l (Ev.Wire w a b) = IsLink l (a, b)
+
+-- an event on a wire is asked only where links are wires
+abbrev pub IsServed : Bool → Event → Type 0
+IsServed lossy (Ev.Turn n) = Unit {0}
+IsServed lossy (Ev.Link a b) = Unit {0}
+IsServed lossy (Ev.Wire w a b) = lossy ≡ true
 
 -- the machine stands for a configuration of code with its delay, which is sound
 pub record Stands (m : MachineOf) (c : Config Placed) (d : Delay) : Type 0 where
   pub sound : IsSound (coded m.unit) (IsOfCode m.unit) m.placement c d
-  pub stands : MachineStandsFor (coded m.unit) m.placement (machine_of m) c d
+  pub stands : StandsFor (coded m.unit) m.placement (machine_of m) c d
 
 -- one where a packet has left a link
 abbrev pub moved : Event → What → ℕ
 moved (Ev.Turn n) what = 0
 moved (Ev.Link a b) W.Idle = 0
+moved (Ev.Link a b) (W.Stale n) = 0
 moved (Ev.Link a b) what = 1
+moved (Ev.Wire w a b) what = 0
+
+-- nothing is on its way, on links that are wires or not
+abbrev pub nothing_sent : Bool → Delay
+nothing_sent lossy = if lossy then no_delay_on_wires else no_delay
 
 -- A machine that was just made: it has done nothing, and stands for the start, with nothing on its way.
-pub record IsStart (u : Code) (l : Placement) (m : MachineOf) : Type 0 where
+pub record IsStart (u : Code) (l : Placement) (wired : Bool) (m : MachineOf) : Type 0 where
   pub unit : m.unit ≡ u
   pub placement : m.placement ≡ l
+  pub lossy : is_some m.wires ≡ wired
   pub done : m.done ≡ 0
   pub moves : m.moves ≡ 0
   pub transitions : m.transitions ≡ 0
-  pub stands : (c : Config Placed) → start (coded u) l ≡ Some c → Stands m c no_delay
+  pub stands : (c : Config Placed) → start (coded u) l ≡ Some c → Stands m c (nothing_sent wired)
 
 -- what is the same after an event
 pub record IsAfter (old new : MachineOf) (e : Event) (what : What) : Type 0 where
   pub unit : new.unit ≡ old.unit
   pub placement : new.placement ≡ old.placement
+  pub lossy : is_some new.wires ≡ is_some old.wires
   pub done : new.done ≡ old.done + 1
   pub moves : new.moves ≡ old.moves + moved e what
   pub transitions : new.transitions ≡ old.transitions + length (shown what)

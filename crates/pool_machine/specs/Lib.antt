@@ -1,5 +1,6 @@
 pub mod MachineOf
 pub mod Parts
+pub mod OnWires
 pub mod Whole
 pub mod Told
 pub mod Answers

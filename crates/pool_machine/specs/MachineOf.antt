@@ -1,15 +1,22 @@
--- What a contract sees of a machine: its unit and its placement, its nodes, the packets on its links, and what it has done.
-use Rattle.std.specs.Prelude.{ℕ, List, map, refl}
-use Rattle.std.specs.Coded.{Coded, code_by, coded×, coded_list, coded_ℕ}
+-- What a contract sees of a machine: its unit and its placement, its nodes, the packets on its links, what it keeps of their wires, and what it has done.
+use Rattle.std.specs.Prelude.{ℕ, List, Option, map, refl}
+use Rattle.std.specs.Option.{option_map}
+use Rattle.std.specs.Coded.{Coded, code_by, coded×, coded_list, coded_option, coded_ℕ}
 use Rattle.pool_syntax.specs.declared.words.Placement.{Placement}
 use Rattle.object_code.specs.declared.unit.Unit.{Unit as Code}
 use Rattle.mesh_semantics.specs.Tables.{Pair}
+use Rattle.mesh_semantics.specs.Wire.{Frame}
+use Rattle.mesh_semantics.specs.KeptWire.{KeptWire}
 use Rattle.coded_objects.specs.Coded.{Placed}
 use Rattle.node_semantics.specs.Node.{NumberedPacket}
-use Rattle.node_semantics.specs.Machine.{Machine}
+use Rattle.node_semantics.specs.Machine.{KeptWires, Machine}
 use Rattle.rendezvous_protocol.specs.declared.packet.Packet.{Packet}
 use Rattle.rendezvous_protocol.specs.Packets.{numbered}
 use Rattle.node_parts.specs.NodeOf.{NodeOf}
+
+-- what is kept of wires, by the ends of their links
+abbrev pub LinkWires : Type 0
+LinkWires = List (Pair × KeptWire Packet)
 
 pub record MachineOf : Type 0 where
   pub unit : Code
@@ -17,22 +24,42 @@ pub record MachineOf : Type 0 where
   pub nodes : List NodeOf
   -- by the ends of a link, the head first; a link without packets has no entry
   pub links : List (Pair × List Packet)
+  -- where links are wires
+  pub wires : Option LinkWires
   -- how many events were made, how many of them moved a packet off a link, and how many transitions they made
   pub done : ℕ
   pub moves : ℕ
   pub transitions : ℕ
 
+abbrev pub wire_code : Coded Packet → Coded (KeptWire Packet)
+wire_code p =
+    code_by (ℕ × (ℕ × (ℕ × (ℕ × (List Packet × (List (Frame Packet) × List ℕ))))))
+    (coded× coded_ℕ (coded× coded_ℕ (coded× coded_ℕ (coded× coded_ℕ (coded× (coded_list p) (coded× (coded_list (coded× coded_ℕ p)) (coded_list coded_ℕ)))))))
+    (λ v. (v.handed, (v.acked, (v.next, (v.sent, (v.copies, (v.frames, v.acks)))))))
+    (λ t. record { handed = t.0; acked = t.1.0; next = t.1.1.0; sent = t.1.1.1.0; copies = t.1.1.1.1.0; frames = t.1.1.1.1.1.0; acks = t.1.1.1.1.1.1 }) (λ _. refl)
+
 abbrev pub machine_code : Coded Code → Coded Placement → Coded NodeOf → Coded Packet → Coded MachineOf
 machine_code u l n p =
-    code_by (Code × (Placement × (List NodeOf × (List (Pair × List Packet) × (ℕ × (ℕ × ℕ))))))
-    (coded× u (coded× l (coded× (coded_list n) (coded× (coded_list (coded× (coded× coded_ℕ coded_ℕ) (coded_list p))) (coded× coded_ℕ (coded× coded_ℕ coded_ℕ))))))
-    (λ m. (m.unit, (m.placement, (m.nodes, (m.links, (m.done, (m.moves, m.transitions)))))))
-    (λ t. record { unit = t.0; placement = t.1.0; nodes = t.1.1.0; links = t.1.1.1.0; done = t.1.1.1.1.0; moves = t.1.1.1.1.1.0; transitions = t.1.1.1.1.1.1 }) (λ _. refl)
+    code_by (Code × (Placement × (List NodeOf × (List (Pair × List Packet) × (Option LinkWires × (ℕ × (ℕ × ℕ)))))))
+    (coded× u (coded× l (coded× (coded_list n) (coded× (coded_list (coded× (coded× coded_ℕ coded_ℕ) (coded_list p)))
+    (coded× (coded_option (coded_list (coded× (coded× coded_ℕ coded_ℕ) (wire_code p)))) (coded× coded_ℕ (coded× coded_ℕ coded_ℕ)))))))
+    (λ m. (m.unit, (m.placement, (m.nodes, (m.links, (m.wires, (m.done, (m.moves, m.transitions))))))))
+    (λ t. record { unit = t.0; placement = t.1.0; nodes = t.1.1.0; links = t.1.1.1.0; wires = t.1.1.1.1.0; done = t.1.1.1.1.1.0; moves = t.1.1.1.1.1.1.0; transitions = t.1.1.1.1.1.1.1 }) (λ _. refl)
 
 -- the packets of a link with their numbers
 abbrev pub numbered_link : Pair × List Packet → Pair × List NumberedPacket
 numbered_link e = (e.0, map numbered e.1)
 
--- the machine by the definition of nodes and links
+-- what is kept of wires, with numbers beside the packets
+abbrev pub numbered_frame : Frame Packet → Frame NumberedPacket
+numbered_frame f = (f.0, numbered f.1)
+
+abbrev pub numbered_wire : KeptWire Packet → KeptWire NumberedPacket
+numbered_wire v = record { handed = v.handed; acked = v.acked; next = v.next; sent = v.sent; copies = map numbered v.copies; frames = map numbered_frame v.frames; acks = v.acks }
+
+abbrev pub numbered_wires : LinkWires → KeptWires
+numbered_wires ws = map (λ e. (e.0, numbered_wire e.1)) ws
+
+-- the machine by the definition of nodes and links, which are wires or not
 abbrev pub machine_of : MachineOf → Machine Placed
-machine_of m = record { nodes = map (λ n. n.state) m.nodes; links = map numbered_link m.links }
+machine_of m = record { nodes = map (λ n. n.state) m.nodes; links = map numbered_link m.links; wires = option_map numbered_wires m.wires }

@@ -1,5 +1,5 @@
--- What a machine keeps of its nodes and links from one event to the next, and what an event does to them.
-use Rattle.std.specs.Prelude.{◌≡◌, ℕ, ◌*◌, List, Some, true, length, map, slice_get}
+-- What a machine keeps of its nodes and links from one event to the next, and what a turn and a move of a link's head do to them; its wires are left out of sight.
+use Rattle.std.specs.Prelude.{◌≡◌, ℕ, ◌*◌, List, Some, None, true, length, map, slice_get}
 use Rattle.pool_syntax.specs.declared.words.Placement.{Placement}
 use Rattle.object_code.specs.declared.unit.Unit.{Unit as Code}
 use Rattle.object_code.specs.Proper.{IsProper}
@@ -12,7 +12,7 @@ use Rattle.coded_objects.specs.Coded.{Placed, coded}
 use Rattle.coded_objects.specs.OfCode.{IsOfCode}
 use Rattle.node_semantics.specs.Machine as M
 use Rattle.node_semantics.specs.Machine.{Machine, MachineActed}
-use Rattle.node_semantics.specs.StandsFor.{MachineStandsFor}
+use Rattle.node_semantics.specs.WiresStandFor.{StandsFor}
 use Rattle.rendezvous_protocol.specs.declared.packet.Packet.{Packet}
 use Rattle.mesh_routing.specs.Links.{LinksOf}
 use Rattle.mesh_routing.specs.declared.mesh.Mesh.{Mesh}
@@ -22,9 +22,9 @@ use Rattle.pool_machine.specs.MachineOf.{numbered_link}
 use Rattle.pool_machine.specs.declared.words.Did.{Did}
 use Rattle.pool_machine.specs.declared.words.Did.TheVariants as D
 
--- the machine by the definition of nodes and links
+-- the machine by the definition of nodes and links, whatever their wires
 abbrev pub machine_from : List NodeOf → List (Pair × List Packet) → Machine Placed
-machine_from nodes links = record { nodes = map (λ n. n.state) nodes; links = map numbered_link links }
+machine_from nodes links = record { nodes = map (λ n. n.state) nodes; links = map numbered_link links; wires = None }
 
 -- a node with this number, of the unit and the placement
 pub record IsNodeOf (u : Code) (l : Placement) (i : ℕ) (n : NodeOf) : Type 0 where
@@ -47,13 +47,13 @@ pub record AreParts (u : Code) (l : Placement) (nodes : List NodeOf) (k : LinksO
   pub cells : k.cells ≡ l.cells
   pub filled : no_entry_empty k.links ≡ true
 
--- such nodes and links, with a sound configuration and its delay that they stand for
+-- such nodes and links, with a sound configuration and its delay that they stand for where no link is a wire
 pub record AreKept (u : Code) (l : Placement) (nodes : List NodeOf) (k : LinksOf Packet) : Type 0 where
   pub parts : AreParts u l nodes k
   pub config : Config Placed
   pub delay : Delay
   pub sound : IsSound (coded u) (IsOfCode u) l config delay
-  pub stands : MachineStandsFor (coded u) l (machine_from nodes k.links) config delay
+  pub stands : StandsFor (coded u) l (machine_from nodes k.links) config delay
 
 -- the mesh of the placement
 pub record IsMeshOf (l : Placement) (mesh : Mesh) : Type 0 where

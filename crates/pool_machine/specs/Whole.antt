@@ -6,7 +6,8 @@ use Rattle.coded_objects.specs.Coded.{coded}
 use Rattle.node_semantics.specs.Machine.{empty_node}
 use Rattle.node_parts.specs.NodeOf.{NodeOf}
 use Rattle.pool_machine.specs.MachineOf.{MachineOf}
-use Rattle.pool_machine.specs.Parts.{AreKept, EachCount, IsMeshOf, IsNodeOf}
+use Rattle.pool_machine.specs.Parts.{EachCount, IsMeshOf, IsNodeOf}
+use Rattle.pool_machine.specs.OnWires.{AreWired, EachEntered, wires_in}
 use Rattle.pool_machine.specs.declared.machine.Machine.TheInside.{Inside}
 
 -- a node without objects
@@ -20,13 +21,16 @@ pub record AreEmpty (u : Code) (l : Placement) (size : ℕ) (nodes : List NodeOf
   pub each : (i : ℕ) (n : NodeOf) → slice_get nodes i ≡ Some n → IsEmptyNode u l i n
 
 abbrev pub machine_view : Inside → MachineOf
-machine_view m = record { unit = m.unit.now; placement = m.placement.now; nodes = m.nodes.items; links = m.links.links; done = m.done; moves = m.moves; transitions = m.transitions }
+machine_view m = record { unit = m.unit.now; placement = m.placement.now; nodes = m.nodes.items; links = m.links.links; wires = wires_in m.wires; done = m.done; moves = m.moves; transitions = m.transitions }
 
 pub record IsWhole (m : Inside) : Type 0 where
   pub mesh : IsMeshOf m.placement.now m.mesh
-  pub kept : AreKept m.unit.now m.placement.now m.nodes.items m.links
+  pub table : m.table ≡ m.placement.now
+  pub kept : AreWired m.unit.now m.placement.now m.nodes.items m.links (wires_in m.wires)
   -- no node has made more objects than there were events
   pub counts : EachCount (λ k. k ≤ m.done) m.nodes.items
+  -- and no wire more packets
+  pub entered : EachEntered (λ k. k ≤ m.done) (wires_in m.wires) m.links.links
   pub moves : m.moves ≤ m.done
   -- an event makes fewer than 2 ^ 32 transitions
   pub transitions : m.transitions ≤ m.done * 4294967295

@@ -13,9 +13,10 @@ pub(crate) fn moved_by(event: &Event, what: &What) -> u64
     match *event {
         Event::Turn { .. } => 0,
         Event::Link { .. } => match *what {
-            What::Idle => 0,
+            What::Idle | What::Stale { .. } => 0,
             _ => 1,
         },
+        Event::Wire { .. } => 0,
     }
 }
 

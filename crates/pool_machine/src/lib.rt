@@ -7,6 +7,8 @@ mod moves;
 mod report;
 mod step;
 mod turns;
+mod wired;
+mod wires;
 mod words;
 
 pub use machine::Machine;

@@ -7,15 +7,17 @@ ghost use Rattle.object_code.specs.Suits.{Suits};
 ghost use Rattle.mesh_semantics.specs.Config.{Config};
 ghost use Rattle.mesh_semantics.specs.Delay.{Delay};
 ghost use Rattle.mesh_semantics.specs.Act.{act, is_quiet, object_count};
+ghost use Rattle.mesh_semantics.specs.Routes.{IsRouted};
 ghost use Rattle.mesh_semantics.specs.Record.{last_place, root_node};
 ghost use Rattle.coded_objects.specs.Coded.{Placed, coded};
 ghost use Rattle.pool_node.specs.Acts.{told_standing};
 ghost use Rattle.pool_machine.specs.Whole.{AreEmpty};
-ghost use Rattle.pool_machine.specs.Answers.{IsOfMesh, IsOutcome, IsStart, Stands, class_at, standing_at};
+ghost use Rattle.pool_machine.specs.Answers.{IsOfMesh, IsOutcome, IsServed, IsStart, Stands, class_at, standing_at};
 
 use crate::counts::{moved_by, shown_by};
 use crate::report::{can_step, class_in, has_faulted, standing_in};
 use crate::step::step;
+use crate::wires::{Wires, is_acknowledged, make_wires};
 use crate::words::{Did, OpenFault, Outcome};
 use mesh_routing::{Links, Mesh};
 use object_code::Unit;
@@ -24,6 +26,7 @@ use pool_syntax::{Event, Line, NameId, Place, Placement, Standing};
 use rendezvous_protocol::Packet;
 use std::alloc::{AllocError, Global};
 use std::marker::Model;
+use table_routing::Table;
 
 /// The machine of a unit on the nodes of a placement, with the links between them. Contracts speak of every sound
 /// configuration of code with its delay that it stands for.
@@ -32,8 +35,10 @@ pub struct Machine<'a> {
     unit: &'a Unit,
     placement: &'a Placement,
     mesh: Mesh,
+    table: Table<'a>,
     nodes: Vec<Node>,
     links: Links<Packet>,
+    wires: Option<Wires>,
     done: u32,
     moves: u64,
     transitions: u64,
@@ -93,16 +98,29 @@ fn root_of(places: &[Place]) -> u32
     }
 }
 
+/// The table of a placement that has a route for each pair of nodes.
+fn table_of<'a>(alloc: Global, placement: &'a Placement) -> Result<Table<'a>, AllocError>
+    requires { IsRouted placement.now }
+    ensures { IfOk result (λ t. t ≡ placement.now) }
+{
+    match Table::make(alloc, placement) {
+        Ok(table) => Ok(table),
+        Err(_) => Err(AllocError),
+    }
+}
+
 impl<'a> Machine<'a> {
-    /// Takes all memory of a run, and places the root object on its node. `Memory` where it is not had.
+    /// Takes all memory of a run, and places the root object on its node. Where `lossy` holds each link is a wire that
+    /// may lose, repeat and reorder what goes over it. `Memory` where it is not had.
     pub fn make(
         alloc: Global,
         unit: &'a Unit,
         placement: &'a Placement,
+        lossy: bool,
     ) -> Result<Machine<'a>, OpenFault>
         requires proper { IsProper unit.now }
         requires suits { Suits placement.now unit.now }
-        ensures { IfOk result (λ m. IsStart unit.now placement.now m) }
+        ensures { IfOk result (λ m. IsStart unit.now placement.now lossy m) }
     {
         let mesh = Mesh::make(placement.width, placement.height);
         let Ok(mut nodes) = all_nodes(alloc, unit, placement) else {
@@ -111,24 +129,33 @@ impl<'a> Machine<'a> {
         let Ok(links) = Links::make(alloc, &mesh, placement.cells) else {
             return Err(OpenFault::Memory);
         };
+        let Ok(wires) = make_wires(alloc, &mesh, lossy) else {
+            return Err(OpenFault::Memory);
+        };
+        let Ok(table) = table_of(alloc, placement) else {
+            return Err(OpenFault::Memory);
+        };
         let root = root_of(placement.places.items());
         nodes[root as usize].start_root(unit);
         Ok(Machine {
             unit,
             placement,
             mesh,
+            table,
             nodes,
             links,
+            wires,
             done: 0,
             moves: 0,
             transitions: 0,
         })
     }
 
-    /// Makes an event: a turn of a node, with up to `quantum` local transitions, or a move of the head of a link. `Full`
-    /// comes exactly where the step would pass a limit of a node, and the machine is then as before.
+    /// Makes an event: a turn of a node, with up to `quantum` local transitions, a move of the head of a link, or what
+    /// else happens on a wire, which is asked only of a machine that was made lossy. `Full` comes exactly where the step would pass a limit of a node, and the machine is then as before.
     pub fn event(&mut self, event: Event, quantum: u32) -> Outcome
         requires mesh { IsOfMesh self.old.placement event }
+        requires served { IsServed (is_some self.old.wires) event }
         requires quantum { (1 ≤ quantum) × (quantum ≤ 10000) }
         requires few { self.old.done < 2 ^ 32 - 1 }
         ensures { (c : Config Placed) (d : Delay) → Stands self.old c d → IsOutcome event self.old result self.new (act (coded self.old.unit) self.old.placement quantum c d event) }
@@ -136,9 +163,10 @@ impl<'a> Machine<'a> {
         let did = step(
             self.unit,
             self.placement,
-            &self.mesh,
+            &self.table,
             self.nodes.as_mut_slice(),
             &mut self.links,
+            &mut self.wires,
             &event,
             quantum,
         );
@@ -157,11 +185,13 @@ impl<'a> Machine<'a> {
         }
     }
 
-    /// Whether no packet is on a link and no object is ready.
+    /// Whether no packet is on a link, all that wires handed out is acknowledged, and no object is ready.
     pub fn is_quiet(&self) -> bool
         ensures { (c : Config Placed) (d : Delay) → Stands self.now c d → result ≡ is_quiet (coded self.now.unit) c d }
     {
-        self.links.is_empty() && !can_step(self.unit, self.nodes.as_slice())
+        self.links.is_empty()
+            && is_acknowledged(&self.wires)
+            && !can_step(self.unit, self.nodes.as_slice())
     }
 
     /// The number of events made.

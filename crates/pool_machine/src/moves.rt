@@ -6,21 +6,22 @@ ghost use Rattle.mesh_semantics.specs.Act.{goal_node};
 ghost use Rattle.coded_objects.specs.Coded.{coded};
 ghost use Rattle.node_semantics.specs.Machine.{move_in};
 ghost use Rattle.rendezvous_protocol.specs.Packets.{numbered};
-ghost use Rattle.pool_machine.specs.Parts.{AreKept, AreParts, EachCount, IsDid, IsMeshOf, machine_from};
+ghost use Rattle.pool_machine.specs.Parts.{AreKept, AreParts, EachCount, IsDid, machine_from};
 
 use crate::turns::post;
 use crate::words::Did;
-use mesh_routing::{Links, Mesh};
+use mesh_routing::Links;
 use object_code::Unit;
 use pool_node::{Act, Node};
 use pool_syntax::{FullKind, Placement, What};
 use rendezvous_protocol::{Packet, goal};
+use table_routing::Table;
 
 /// The head of a link at its goal: it is received, and leaves the link, unless a limit is met.
 fn arrive(
     unit: &Unit,
     placement: &Placement,
-    mesh: &Mesh,
+    table: &Table<'_>,
     nodes: &mut [Node],
     links: &mut Links<Packet>,
     from: u32,
@@ -28,7 +29,7 @@ fn arrive(
     packet: Packet,
 ) -> Did
     requires kept { AreKept unit.now placement.now nodes.old links.old }
-    requires mesh { IsMeshOf placement.now mesh.now }
+    requires table { table.now ≡ placement.now }
     requires link { IsLink placement.now (from, to) }
     requires head { slice_get (list_at pair_cmp (from, to) links.old.links) 0 ≡ Some packet }
     requires goal { goal_node (numbered packet).packet ≡ to }
@@ -46,7 +47,7 @@ fn arrive(
         } => {
             let _ = links.move_head(from, to);
             if let Some(answer) = answer {
-                post(mesh, links, to, answer);
+                post(table, links, to, answer);
             }
             Did::Line(what)
         }
@@ -57,7 +58,7 @@ fn arrive(
 fn pass(
     unit: &Unit,
     placement: &Placement,
-    mesh: &Mesh,
+    table: &Table<'_>,
     nodes: &[Node],
     links: &mut Links<Packet>,
     from: u32,
@@ -65,7 +66,7 @@ fn pass(
     packet: Packet,
 ) -> Did
     requires kept { AreKept unit.now placement.now nodes.now links.old }
-    requires mesh { IsMeshOf placement.now mesh.now }
+    requires table { table.now ≡ placement.now }
     requires link { IsLink placement.now (from, to) }
     requires head { slice_get (list_at pair_cmp (from, to) links.old.links) 0 ≡ Some packet }
     requires goal { goal_node (numbered packet).packet ≢ to }
@@ -81,7 +82,7 @@ fn pass(
         };
     }
     let _ = links.move_head(from, to);
-    post(mesh, links, to, packet);
+    post(table, links, to, packet);
     Did::Line(What::Pass)
 }
 
@@ -89,14 +90,14 @@ fn pass(
 pub(crate) fn move_link(
     unit: &Unit,
     placement: &Placement,
-    mesh: &Mesh,
+    table: &Table<'_>,
     nodes: &mut [Node],
     links: &mut Links<Packet>,
     from: u32,
     to: u32,
 ) -> Did
     requires kept { AreKept unit.now placement.now nodes.old links.old }
-    requires mesh { IsMeshOf placement.now mesh.now }
+    requires table { table.now ≡ placement.now }
     requires link { IsLink placement.now (from, to) }
     ensures act { IsDid result nodes.old links.old nodes.new links.new (move_in (coded unit.now) placement.now (machine_from nodes.old links.old.links) from to (map numbered (list_at pair_cmp (from, to) links.old.links))) }
     ensures parts { AreParts unit.now placement.now nodes.new links.new }
@@ -107,8 +108,8 @@ pub(crate) fn move_link(
     };
     let packet = *head;
     if goal(&packet) == to {
-        arrive(unit, placement, mesh, nodes, links, from, to, packet)
+        arrive(unit, placement, table, nodes, links, from, to, packet)
     } else {
-        pass(unit, placement, mesh, nodes, links, from, to, packet)
+        pass(unit, placement, table, nodes, links, from, to, packet)
     }
 }

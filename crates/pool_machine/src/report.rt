@@ -71,20 +71,6 @@ fn link_brings(links: &Links<Packet>, from: u32, to: u32, name: u32) -> bool
     false
 }
 
-/// Whether the nodes are beside each other in a mesh of this width.
-fn are_neighbours(width: u32, a: u32, b: u32) -> bool
-    requires width { 0 < width }
-    requires a { a < 64 }
-    requires b { b < 64 }
-    ensures { IsTrue result ↔ AreNeighbours width a b }
-{
-    if a / width == b / width {
-        a % width + 1 == b % width || b % width + 1 == a % width
-    } else {
-        a % width == b % width && (a / width + 1 == b / width || b / width + 1 == a / width)
-    }
-}
-
 /// Whether a packet on a link from this node brings the object its value.
 fn node_brings(mesh: &Mesh, links: &Links<Packet>, from: u32, name: u32) -> bool
     requires width { mesh.now.width ≡ links.now.width }
@@ -94,7 +80,7 @@ fn node_brings(mesh: &Mesh, links: &Links<Packet>, from: u32, name: u32) -> bool
     ensures no { result ≡ false → (b : ℕ) → b < mesh.now.width * mesh.now.height → AreNeighbours mesh.now.width from b → is_brought name (list_at pair_cmp (from, b) links.now.links) ≡ false }
 {
     for to in 0..mesh.width * mesh.height {
-        if are_neighbours(mesh.width, from, to) && link_brings(links, from, to, name) {
+        if mesh.is_link(from, to) && link_brings(links, from, to, name) {
             return true;
         }
     }

@@ -1,42 +1,55 @@
 //! What an event does to the nodes and links.
-ghost use Rattle.std.specs.Prelude.{◌≡◌, ◌<◌, ◌≤◌, ◌+◌, ◌-◌, ◌^◌, ℕ};
-ghost use Rattle.coded_objects.specs.Coded.{coded};
-ghost use Rattle.node_semantics.specs.Machine.{machine_act};
-ghost use Rattle.node_semantics.specs.Agrees.{IsFresh};
-ghost use Rattle.pool_machine.specs.Answers.{IsOfMesh};
-ghost use Rattle.pool_machine.specs.Parts.{AreKept, AreParts, EachCount, IsDid, IsMeshOf, machine_from};
+ghost use Rattle.std.specs.Prelude.{◌≡◌, ◌<◌, ◌≤◌, ◌+◌, ◌-◌, ◌^◌, ℕ, is_some};
+ghost use Rattle.pool_machine.specs.Answers.{IsOfMesh, IsServed};
+ghost use Rattle.pool_machine.specs.Parts.{AreParts, EachCount};
+ghost use Rattle.pool_machine.specs.OnWires.{AreWired, EachEntered, HaveWires, Makes, wires_in};
 
 use crate::moves::move_link;
 use crate::turns::turn;
+use crate::wired::move_on_wire;
+use crate::wires::{Wires, act_at};
 use crate::words::Did;
-use mesh_routing::{Links, Mesh};
+use mesh_routing::Links;
 use object_code::Unit;
 use pool_node::Node;
 use pool_syntax::{Event, Placement};
 use rendezvous_protocol::Packet;
+use table_routing::Table;
 
-/// Makes an event: what it does is what the definition of nodes and links says of it, with some number for its request
-/// that is not out.
+/// Makes an event: what it does is what the definition of nodes, links and wires says of it, with some number for its
+/// request that is not out.
 pub(crate) fn step(
     unit: &Unit,
     placement: &Placement,
-    mesh: &Mesh,
+    table: &Table<'_>,
     nodes: &mut [Node],
     links: &mut Links<Packet>,
+    wires: &mut Option<Wires>,
     event: &Event,
     quantum: u32,
 ) -> Did
-    requires kept { AreKept unit.now placement.now nodes.old links.old }
-    requires mesh { IsMeshOf placement.now mesh.now }
+    requires kept { AreWired unit.now placement.now nodes.old links.old (wires_in wires.old) }
+    requires table { table.now ≡ placement.now }
     requires event { IsOfMesh placement.now event.now }
+    requires served { IsServed (is_some (wires_in wires.old)) event.now }
     requires quantum { 1 ≤ quantum }
     requires countable { EachCount (λ k. k < 2 ^ 32 - 1) nodes.old }
-    ensures act { (fresh : ℕ) × IsFresh (machine_from nodes.old links.old.links) fresh event.now × IsDid result nodes.old links.old nodes.new links.new (machine_act (coded unit.now) placement.now quantum fresh (machine_from nodes.old links.old.links) event.now) }
+    requires few { EachEntered (λ k. k < 2 ^ 32 - 1) (wires_in wires.old) links.old.links }
+    ensures act { Makes unit.now placement.now quantum event.now result nodes.old links.old (wires_in wires.old) nodes.new links.new (wires_in wires.new) }
     ensures parts { AreParts unit.now placement.now nodes.new links.new }
     ensures counts { (most : ℕ) → EachCount (λ k. k ≤ most) nodes.old → EachCount (λ k. k ≤ most + 1) nodes.new }
+    ensures there { HaveWires placement.now (wires_in wires.new) }
+    ensures lossy { is_some (wires_in wires.new) ≡ is_some (wires_in wires.old) }
 {
     match *event {
-        Event::Turn { node } => turn(unit, placement, mesh, nodes, links, node, quantum),
-        Event::Link { from, to } => move_link(unit, placement, mesh, nodes, links, from, to),
+        Event::Turn { node } => turn(unit, placement, table, nodes, links, node, quantum),
+        Event::Link { from, to } => match wires {
+            Some(wires) => move_on_wire(unit, placement, table, nodes, links, wires, from, to),
+            None => move_link(unit, placement, table, nodes, links, from, to),
+        },
+        Event::Wire { act, from, to } => match wires {
+            Some(wires) => Did::Line(act_at(wires, links, act, from, to)),
+            None => unreachable!(),
+        },
     }
 }

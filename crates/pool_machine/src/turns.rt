@@ -2,33 +2,34 @@
 ghost use Rattle.std.specs.Prelude.{◌≡◌, ◌≢◌, ◌<◌, ◌≤◌, ◌+◌, ◌-◌, ◌*◌, ◌^◌, ℕ};
 ghost use Rattle.pool_syntax.specs.declared.words.Event.TheVariants as Ev;
 ghost use Rattle.mesh_semantics.specs.Tables.{pair_cmp, push_list};
-ghost use Rattle.mesh_semantics.specs.Paths.{toward};
+ghost use Rattle.mesh_semantics.specs.Paths.{next};
 ghost use Rattle.mesh_semantics.specs.Act.{goal_node};
 ghost use Rattle.coded_objects.specs.Coded.{coded};
 ghost use Rattle.node_semantics.specs.Machine.{leaving, machine_act};
 ghost use Rattle.node_semantics.specs.Agrees.{IsFresh};
 ghost use Rattle.rendezvous_protocol.specs.Packets.{numbered};
-ghost use Rattle.pool_machine.specs.Parts.{AreKept, AreParts, EachCount, IsDid, IsMeshOf, machine_from};
+ghost use Rattle.pool_machine.specs.Parts.{AreKept, AreParts, EachCount, IsDid, machine_from};
 
 use crate::words::Did;
-use mesh_routing::{Links, Mesh};
+use mesh_routing::Links;
 use object_code::Unit;
 use pool_node::{Act, Node};
 use pool_syntax::{Placement, What};
 use rendezvous_protocol::{Packet, goal};
+use table_routing::Table;
 
 /// Puts a packet that leaves a node last on the first link to its goal.
-pub(crate) fn post(mesh: &Mesh, links: &mut Links<Packet>, at: u32, packet: Packet)
-    requires width { mesh.now.width ≡ links.old.width }
-    requires height { mesh.now.height ≡ links.old.height }
-    requires at { at < mesh.now.width * mesh.now.height }
-    requires goal { goal_node (numbered packet).packet < mesh.now.width * mesh.now.height }
+pub(crate) fn post(table: &Table<'_>, links: &mut Links<Packet>, at: u32, packet: Packet)
+    requires width { table.now.width ≡ links.old.width }
+    requires height { table.now.height ≡ links.old.height }
+    requires at { at < table.now.width * table.now.height }
+    requires goal { goal_node (numbered packet).packet < table.now.width * table.now.height }
     requires away { at ≢ goal_node (numbered packet).packet }
     requires room { leaving links.old.links at < links.old.cells }
-    ensures { links.new ≡ record links.old { links = push_list pair_cmp (at, toward mesh.now.width at (goal_node (numbered packet).packet)) packet links.old.links } }
+    ensures { links.new ≡ record links.old { links = push_list pair_cmp (at, next table.now at (goal_node (numbered packet).packet)) packet links.old.links } }
 {
     let to = goal(&packet);
-    if let Some(next) = mesh.next(at, to) {
+    if let Some(next) = table.next(at, to) {
         let _ = links.put(at, next, packet);
     }
 }
@@ -37,14 +38,14 @@ pub(crate) fn post(mesh: &Mesh, links: &mut Links<Packet>, at: u32, packet: Pack
 pub(crate) fn turn(
     unit: &Unit,
     placement: &Placement,
-    mesh: &Mesh,
+    table: &Table<'_>,
     nodes: &mut [Node],
     links: &mut Links<Packet>,
     node: u32,
     quantum: u32,
 ) -> Did
     requires kept { AreKept unit.now placement.now nodes.old links.old }
-    requires mesh { IsMeshOf placement.now mesh.now }
+    requires table { table.now ≡ placement.now }
     requires node { node < placement.now.width * placement.now.height }
     requires quantum { 1 ≤ quantum }
     requires countable { EachCount (λ k. k < 2 ^ 32 - 1) nodes.old }
@@ -58,7 +59,7 @@ pub(crate) fn turn(
         Act::Full { kind } => Did::Full { kind, node },
         Act::Line { what, packet } => {
             if let Some(packet) = packet {
-                post(mesh, links, node, packet);
+                post(table, links, node, packet);
             }
             Did::Line(what)
         }

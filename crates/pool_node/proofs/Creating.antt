@@ -345,7 +345,7 @@ class_name ks js k c d h e =
 -- a class of which an object makes an object is there
 pub class_found : (u : Code) (x : CodeObject) → FitsUnit u x → IsProper u → (k : NameId) (c : ℕ) → code_kind u x ≡ C.New k → unwrap_or (class_from 0 u.classes k) 0 ≡ c
     → class_from 0 u.classes k ≡ Some c
-class_found u x fits proper k c kind is = by (class_from 0 u.classes k) refl is (made_there u proper AnyValue (λ z. tt, λ b. tt, tt) x fits k kind)
+class_found u x fits proper k c kind is = by (class_from 0 u.classes k) refl is (made_there u proper AnyValue (λ z n. tt, λ b. tt, tt) x fits k kind)
   where
     by : (o : Option ℕ) → class_from 0 u.classes k ≡ o → unwrap_or o 0 ≡ c → (y : CodeObject) × (code_made u k ≡ Some y) → o ≡ Some c
     by None e i m = absurd (let w : None ≡ Some m.0 = sym (ap (λ (a : Option ℕ). placed_at u a) e) ∙ m.1 in cc)

@@ -90,14 +90,14 @@ offered_there u x fits proper h j a names alt m args s at q named =
     by (code_kind u x) refl h (subst (λ (os : List Offered). slice_get os j ≡ Some a) (offers_are u x h) at)
   where
     by : (k : Kind) → code_kind u x ≡ k → IsChoosing k → slice_get (offered_by k) j ≡ Some a → (y : CodeObject) × (code_serving u x alt m args s ≡ Some y)
-    by (C.Answer ns) e c w = served_there u proper AnyValue (λ z. tt, λ b. tt, tt) x fits ns alt m args s e (named_by_test m ns (first j w))
+    by (C.Answer ns) e c w = served_there u proper AnyValue (λ z n. tt, λ b. tt, tt) x fits ns alt m args s e (named_by_test m ns (first j w))
       where
         first : (i : ℕ) → slice_get (offered_by (C.Answer ns)) i ≡ Some a → list_any (λ (n : NameId). n.0 == m.0) ns ≡ true
         first zero z =
             let v : Some ns ≡ Some names = ap (λ (b : Offered). b.answer) (same_some z) ∙ q in
             ap (λ (l : List NameId). is_named l m) (same_some v) ∙ named
         first (suc i) z = absurd (cc)
-    by (C.Select alts) e c w = chosen_there u proper AnyValue (λ z. tt, λ b. tt, tt) x fits alts j a names alt m args s e w q (named_by_test m names named)
+    by (C.Select alts) e c w = chosen_there u proper AnyValue (λ z n. tt, λ b. tt, tt) x fits alts j a names alt m args s e w q (named_by_test m names named)
     by C.Finished e c w = absurd c
     by C.Local e c w = absurd c
     by (C.Fault f) e c w = absurd c

@@ -29,6 +29,12 @@ pub record Texts : Type 0 where
   pub given : ℕ
   pub opens : ℕ
 
+-- texts that are given in small pieces
+pub record Pieces : Type 0 where
+  pub shelf : Texts
+  -- the most bytes that one read gives
+  pub gives : ℕ
+
 -- texts in memory whose calls may fail
 pub record FilesState : Type 0 where
   pub texts : List (List ℕ × List ℕ)

@@ -10,5 +10,5 @@ mod outside;
 pub use buffered::{Behind, Buffered, Text, write_gathered};
 pub use calls::{ReadFault, WriteFault, read_whole, write_all_of};
 pub use edge::{StdFiles, StdSink};
-pub use memory::{CalmFiles, CalmSink, MemFiles, MemSink, NamedText};
+pub use memory::{CalmFiles, CalmSink, MemFiles, MemSink, NamedText, PieceFiles};
 pub use outside::{Failed, Files, Sink};

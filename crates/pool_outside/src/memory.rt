@@ -3,7 +3,7 @@ ghost use Rattle.std.specs.Prelude.{◌≡◌, ℕ, ◌+◌, ◌-◌, ◌^◌, �
 ghost use Rattle.std.specs.Result.{is_err};
 ghost use Rattle.std.specs.Str.{bytes_eq};
 ghost use Rattle.pool_outside.specs.Outside.{Rose};
-ghost use Rattle.pool_outside.specs.Memory.{counted, is_failing, text_under, text_at, Texts, FilesState, SinkState};
+ghost use Rattle.pool_outside.specs.Memory.{counted, is_failing, text_under, text_at, Texts, Pieces, FilesState, SinkState};
 
 use crate::outside::{Failed, Files, Sink};
 use std::alloc::{AllocError, Global};
@@ -305,6 +305,77 @@ impl Files for CalmFiles {
         ensures given { IfOk result (λ n. self.new ≡ record self.old { rest = option_map (drop n) self.old.rest; live = nat_lt 0 n; given = counted self.old.given n }) }
     {
         Ok(self.shelf.take(into))
+    }
+}
+
+/// Texts in memory whose calls never fail, and of which each read gives a few bytes at most. An unknown name has the empty text.
+#[derive(Drop)]
+pub struct PieceFiles {
+    shelf: Shelf,
+    gives: usize,
+}
+
+impl Model for PieceFiles {
+    ghost Value = { Pieces };
+
+    ghost view = { λ f. record { shelf = f.shelf; gives = f.gives } };
+
+    ghost invariant = { λ f. 1 ≤ f.gives };
+}
+
+impl PieceFiles {
+    /// The texts, of which the first of a name counts, and the most bytes that one read gives.
+    pub fn make(texts: Vec<NamedText>, gives: usize) -> PieceFiles
+        requires { 1 ≤ gives }
+        ensures { result ≡ record { shelf = record { texts = texts.items; rest = None; live = false; given = 0; opens = 0 }; gives = gives } }
+    {
+        PieceFiles {
+            shelf: Shelf::make(texts),
+            gives,
+        }
+    }
+}
+
+impl Files for PieceFiles {
+    ghost told = { λ f name. Some (unwrap_or (text_under f.shelf.texts name) []) };
+
+    ghost rest = { λ f. f.shelf.rest };
+
+    ghost given = { λ f. f.shelf.given };
+
+    ghost faults = { λ f. 0 };
+
+    ghost opens = { λ f. f.shelf.opens };
+
+    ghost may = { λ f n name. true };
+
+    ghost live = { λ f. f.shelf.live };
+
+    /// Never fails.
+    fn open_file(&mut self, name: &str) -> Result<(), Failed>
+        requires countable { self.old.shelf.opens < 2 ^ 64 - 1 }
+        ensures ok { IsOk result }
+        ensures entered { self.new.shelf ≡ record self.old.shelf { rest = Some (unwrap_or (text_under self.old.shelf.texts name.now) []); live = true; given = 0; opens = self.old.shelf.opens + 1 } }
+        ensures same_piece { self.new.gives ≡ self.old.gives }
+    {
+        if !self.shelf.enter(name) {
+            self.shelf.enter_empty();
+        }
+        Ok(())
+    }
+
+    /// Never fails, and gives as much as there is room for, but at most its piece.
+    fn read(&mut self, into: &mut [u8]) -> Result<usize, Failed>
+        requires room { 0 < length into.old }
+        ensures ok { IsOk result }
+        ensures least { IfOk result (λ n. n ≡ min (min (length into.old) self.old.gives) (length (unwrap_or self.old.shelf.rest []))) }
+        ensures ended { IfOk result (λ n. n ≡ 0 → IfSome self.old.shelf.rest (λ s. s ≡ []) × (self.new.shelf.live ≡ false)) }
+        ensures front { IfOk result (λ n. take n into.new ≡ take n (unwrap_or self.old.shelf.rest [])) }
+        ensures given { IfOk result (λ n. self.new.shelf ≡ record self.old.shelf { rest = option_map (drop n) self.old.shelf.rest; live = nat_lt 0 n; given = counted self.old.shelf.given n }) }
+        ensures same_piece { self.new.gives ≡ self.old.gives }
+    {
+        let most = into.len().min(self.gives);
+        Ok(self.shelf.take(&mut into[..most]))
     }
 }
 

@@ -5,6 +5,8 @@ ghost use Rattle.pool_syntax.specs.Rules.{Phrase, Tree};
 ghost use Rattle.pool_syntax.specs.Grammar.{rule};
 ghost use Rattle.pool_syntax.specs.Derives.{Derives, Begins, IsProgram};
 ghost use Rattle.pool_syntax.specs.Terms.{ProgramTree};
+ghost use Rattle.pool_syntax.specs.Tokens.{Text};
+ghost use Rattle.pool_syntax.specs.Programs.{IsParsed};
 
 /// Tokens that a phrase derives begin it.
 pub fn derived_begins()
@@ -19,4 +21,9 @@ pub fn front_begins()
 /// Tokens have at most one program.
 pub fn one_program()
     ensures { (ts : ListOf OneToken) (p q : ProgramTree) → IsProgram ts p → IsProgram ts q → p ≡ q }
+{}
+
+/// A text has at most one program, and one table of its names and strings.
+pub fn a_text_has_one_program()
+    ensures { (s : Text) (names others : ListOf Text) (p q : ProgramTree) → IsParsed s names p → IsParsed s others q → (names ≡ others) × (p ≡ q) }
 {}

@@ -3,7 +3,7 @@
 -- runs
 pub use Rattle.pool_relation.proofs.Runs.{joined, none_joined}
 -- a lone object that is not ready
-pub use Rattle.pool_relation.proofs.Quiet.{no_transition}
+pub use Rattle.pool_relation.proofs.Quiet.{Runs, not_there, there, runs, no_transition}
 -- programs of the grammar, and the configuration that a program starts in
 pub use Rattle.pool_relation.proofs.Grammatical.{derived_written, grammatical_written, has_a_class}
 pub use Rattle.pool_relation.proofs.FewParameters.{classes_few, few_parameters}
@@ -20,7 +20,7 @@ pub use Rattle.pool_relation.proofs.action.NextWaits.{is_waits, does_not_wait}
 pub use Rattle.pool_relation.proofs.preservation.Moves.{object_grown}
 pub use Rattle.pool_relation.proofs.preservation.OneObject.{stepped, object_typed_at}
 pub use Rattle.pool_relation.proofs.preservation.NewObject.{new_object_typed}
-pub use Rattle.pool_relation.proofs.preservation.Messages.{fit_values_of, offers, serving_typed}
+pub use Rattle.pool_relation.proofs.preservation.Messages.{fit_values_of, offers, first_fits, taken_fit, serving_typed}
 pub use Rattle.pool_relation.proofs.Running.{running_is}
 -- typed terms
 pub use Rattle.pool_relation.proofs.typing.TypedTerm.{is_broken, Holds, Nothing, Methods, Waits, TypedExpression, TypedStatements}

@@ -67,11 +67,11 @@ no_pick (A.Select cs) (suc i) h = no_plain_choice cs i h
 no_pick _ i h = refl
 
 -- the one object is there under its name alone, and only where it has no fault
-data Runs (root o : ℕ) (x : Object) : Type 0 where
+pub data Runs (root o : ℕ) (x : Object) : Type 0 where
   not_there : running (alone root x) o ≡ None → Runs root o x
   there : o ≡ root → x.fault ≡ None → running (alone root x) o ≡ Some x → Runs root o x
 
-runs : (root o : ℕ) (x : Object) → Runs root o x
+pub runs : (root o : ℕ) (x : Object) → Runs root o x
 runs root o x = by (nat_cmp o root) refl x.fault refl
   where
     by : (r : Ordering) → nat_cmp o root ≡ r → (f : Option Error) → x.fault ≡ f → Runs root o x

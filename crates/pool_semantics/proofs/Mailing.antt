@@ -1,9 +1,12 @@
 -- The earliest message on one of some methods.
-use Rattle.std.proofs.Common.{◌≡◌, refl, ap, ℕ, zero, suc, ◌<◌, List, [], ◌∷◌, length, map, slice_index_or, Some, None, true, false, arith}
-use Rattle.std.specs.List.{remove}
+use Rattle.std.proofs.Common.{◌≡◌, refl, ap, ℕ, zero, suc, ◌<◌, List, [], ◌∷◌, length, map, slice_index_or, Option, Some, None, is_some, Bool, true, false, arith}
+use Rattle.std.specs.List.{list_any, remove}
 use Rattle.pool_syntax.specs.declared.tree.Named.{Named}
 use Rattle.pool_relation.specs.Transition.{names_method, has_message, first_message, without_first}
 use Rattle.pool_semantics.specs.declared.plain.mail.Mail.{Mail}
+use Rattle.mesh_semantics.specs.Message.{Message}
+use Rattle.plain_object.specs.declared.offers.Offer.{Offer}
+use Rattle.plain_object.specs.Offers.{offered}
 use Rattle.pool_semantics.specs.Mails.{message_of}
 
 -- no message before this place is on one of the methods
@@ -37,3 +40,24 @@ named_none names (m ∷ ms) e h = let f : names_method names m.method.0 ≡ fals
 pub first_none : (names : List Named) (ms : List Mail) (e : Mail) → NoneBefore names ms (length ms) → first_message names (map message_of ms) ≡ None
 first_none names [] e h = refl
 first_none names (m ∷ ms) e h = let f : names_method names m.method.0 ≡ false = h 0 e (omega arith) in rw f (first_none names ms e (later names m ms (length ms) h))
+
+-- no message before this place passes the test
+abbrev pub NoneSo : (ℕ → Bool) → List Mail → ℕ → Type 0
+NoneSo f ms i = (k : ℕ) (d : Mail) → k < i → f (slice_index_or ms k d).method.0 ≡ false
+
+pub any_here : (f : ℕ → Bool) (ms : List Mail) (i : ℕ) (e : Mail) → i < length ms → f (slice_index_or ms i e).method.0 ≡ true → list_any (λ (m : Message). f m.method) (map message_of ms) ≡ true
+any_here f [] i e lt n = absurd (omega arith)
+any_here f (m ∷ ms) zero e lt n = rw n refl
+any_here f (m ∷ ms) (suc i) e lt n = by (f m.method.0) refl (any_here f ms i e (omega arith) n)
+  where
+    by : (b : Bool) → f m.method.0 ≡ b → list_any (λ (m : Message). f m.method) (map message_of ms) ≡ true → list_any (λ (m : Message). f m.method) (map message_of (m ∷ ms)) ≡ true
+    by true h r = rw h refl
+    by false h r = rw h r
+
+pub any_none : (f : ℕ → Bool) (ms : List Mail) → NoneSo f ms (length ms) → list_any (λ (m : Message). f m.method) (map message_of ms) ≡ false
+any_none f [] h = refl
+any_none f (m ∷ ms) h = let g : f m.method.0 ≡ false = h 0 m (omega arith) in rw g (any_none f ms (λ k d lt. h (suc k) d (omega arith)))
+
+pub offered_some : (r : Option Offer) → is_some (offered r) ≡ is_some r
+offered_some None = refl
+offered_some (Some v) = refl

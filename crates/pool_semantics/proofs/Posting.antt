@@ -64,7 +64,10 @@ pair_trans x y z h k = by (nat_cmp x.0 y.0) refl (nat_cmp y.0 z.0) refl
     by Equal p Greater q = let j : Greater ≡ Less = rw q at k in absurd (grind arith)
     by Greater p s q = let j : Greater ≡ Less = rw p at h in absurd (grind arith)
 
-pair_total : IsTotalOrder pair_cmp
+pub pair_is : (x y : Pair) → pair_cmp x y ≡ Equal → x ≡ y
+pair_is (a, b) (c, d) h = let e = pair_same (a, b) (c, d) h in ap₂ (λ m n. (m, n)) e.0 e.1
+
+pub pair_total : IsTotalOrder pair_cmp
 pair_total = record {
   antisymm = λ x y. ap₂ ordering_then (nat_cmp_total.antisymm x.0 y.0) (nat_cmp_total.antisymm x.1 y.1) ∙ sym (then_reverse (nat_cmp y.0 x.0) (nat_cmp y.1 x.1));
   trans = pair_trans;

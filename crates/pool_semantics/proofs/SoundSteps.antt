@@ -1,9 +1,11 @@
 -- A step keeps what a Plain keeps of its configuration.
-use Rattle.std.proofs.Common.{◌≡◌, ap, ℕ, Some, Bool, true, false}
+use Rattle.std.proofs.Common.{◌≡◌, refl, ap, ℕ, List, [], ◌∷◌, Some, Bool, true, false, arith}
 use Rattle.std.proofs.Math.Logic.{∥∥₁_elim, ∥∥₁_map}
+use denote.Struct.Props.{props}
 use Rattle.pool_syntax.specs.declared.words.Label.{Label}
 use Rattle.pool_syntax.specs.Terms.{ProgramTree}
 use Rattle.pool_syntax.specs.TreeOf.{program_of}
+use Rattle.pool_syntax.specs.Typing.{faults}
 use Rattle.pool_relation.specs.Action.{Object, action}
 use Rattle.pool_relation.specs.Configuration.{Configuration, object_of}
 use Rattle.pool_semantics.specs.declared.plain.state.State.{State}
@@ -23,6 +25,17 @@ sound_after false l s t z f = rw z.1 f
 -- what a Plain that is not spent keeps
 pub typed_now : (b : Bool) (p : ProgramTree) (c : Configuration) → ∥ (b ≡ false → Sound p c) ∥₁ → b ≡ false → Typed p c
 typed_now b p c k h = typed p c (∥∥₁_map k (λ f. (f h).typed))
+
+pub sound_now : (b : Bool) (p : ProgramTree) (c : Configuration) → ∥ (b ≡ false → Sound p c) ∥₁ → b ≡ false → Sound p c
+sound_now b p c k h = record {
+  faultless = none_of (faults p) (∥∥₁_map k (λ f. (f h).faultless));
+  written = ∥∥₁_elim (∥∥₁_map k (λ f. (f h).written)) (hlevel props) (λ e. e);
+  typed = typed_now b p c k h;
+}
+  where
+    none_of : {X : Type 0} (xs : List X) → ∥ xs ≡ [] ∥₁ → xs ≡ []
+    none_of [] m = refl
+    none_of (x ∷ xs) m = absurd (∥∥₁_elim m (λ y z. absurd y) (λ e. grind (arith, e)))
 
 pub right_now : (b : Bool) (p : ProgramTree) (c : Configuration) (o : ℕ) (x : Object) → ∥ (b ≡ false → Sound p c) ∥₁ → b ≡ false
     → object_of c o ≡ Some x → ¬ (GoesWrong p c o (action p o x))

@@ -3,4 +3,4 @@ pub mod Plains
 pub mod Shown
 pub mod Sound
 pub mod PlainOf
-pub mod Asked
+pub mod Moving

@@ -3,4 +3,4 @@
 
 mod plain;
 
-pub use plain::{Plain, Redex, Refuse};
+pub use plain::{Plain, Redex, Refuse, agent};

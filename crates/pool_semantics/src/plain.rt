@@ -1,6 +1,7 @@
 //! The plain stepper: it makes the transitions of the relation, one label at a time.
 mod items;
 mod mail;
+mod moving;
 mod objects;
 mod redex;
 mod state;
@@ -10,7 +11,7 @@ ghost use Rattle.std.specs.Prelude.{◌≡◌, false};
 ghost use Rattle.pool_syntax.specs.TreeOf.{program_of};
 ghost use Rattle.pool_semantics.specs.Plains.{configuration};
 ghost use Rattle.pool_semantics.specs.Sound.{Sound};
-ghost use Rattle.pool_semantics.specs.Asked.{asked_of};
+ghost use Rattle.pool_relation.specs.Progress.{agent};
 
 use crate::plain::objects::add;
 pub use crate::plain::redex::Redex;
@@ -41,9 +42,9 @@ pub struct Plain<'a> {
     ghost typed: { ∥ (spent ≡ false → Sound (program_of state.program.now) (configuration state)) ∥₁ },
 }
 
-/// The object whose redex tells why the label is not possible.
-fn asked(label: &Label) -> u32
-    ensures { result ≡ asked_of label.now }
+/// The object that makes the transition: the receiver for Answer, Return and Take, and the label's object for every other label.
+pub fn agent(label: &Label) -> u32
+    ensures { result ≡ agent label.now }
 {
     match *label {
         Label::Answer { receiver, .. }
@@ -59,11 +60,13 @@ fn asked(label: &Label) -> u32
 }
 
 impl<'a> Plain<'a> {
-    ghost use Rattle.std.specs.Prelude.{Some, None, Err, IfOk, OnOk, true};
+    ghost use Rattle.std.specs.Prelude.{◌<◌, Some, None, Err, IfOk, IfSome, IfNone, OnOk, true};
+    ghost use Rattle.pool_syntax.specs.declared.words.Label.{Label};
     ghost use Rattle.pool_relation.specs.Action.{Object, action};
     ghost use Rattle.pool_relation.specs.Configuration.{object_of};
     ghost use Rattle.pool_semantics.specs.PlainOf.{configuration_of, program_tree, is_spent, frames_next};
     ghost use Rattle.pool_relation.specs.Typed.{GoesWrong, Typed};
+    ghost use Rattle.pool_relation.specs.Progress.{HasOwnTransition};
     ghost use Rattle.pool_relation.specs.Transition.{transition, start};
     ghost use Rattle.pool_semantics.specs.Shown.{Shows};
 
@@ -118,13 +121,23 @@ impl<'a> Plain<'a> {
         }
     }
 
+    /// The least object that makes a transition that is possible; None exactly where none is. Takes no memory.
+    pub fn moving(&self) -> Option<u32>
+        requires { is_spent self.now ≡ false }
+        ensures some { IfSome result (λ o. HasOwnTransition (program_tree self.now) (configuration_of self.now) o) }
+        ensures least { IfSome result (λ o. (lab : Label) → agent lab < o → transition (program_tree self.now) (configuration_of self.now) lab ≡ None) }
+        ensures none { IfNone result ((lab : Label) → transition (program_tree self.now) (configuration_of self.now) lab ≡ None) }
+    {
+        self.state.least_moving()
+    }
+
     /// Makes the label's transition.
     pub fn apply(&mut self, label: &Label) -> Result<(), Refuse>
         ensures made { OnOk result (transition (program_tree self.old) (configuration_of self.old) label.now ≡ Some (configuration_of self.new)) }
         ensures refused { (r : Redex) → result ≡ Err (Refuse.NotPossible r)
             → (transition (program_tree self.old) (configuration_of self.old) label.now ≡ None)
             × (configuration_of self.new ≡ configuration_of self.old)
-            × Shows (program_tree self.old) (configuration_of self.old) (asked_of label.now) r }
+            × Shows (program_tree self.old) (configuration_of self.old) (agent label.now) r }
         ensures program { program_tree self.new ≡ program_tree self.old }
         ensures memory { result ≡ Err Refuse.Memory → is_spent self.new ≡ true }
         ensures typed { is_spent self.new ≡ false → Typed (program_tree self.new) (configuration_of self.new) }
@@ -143,7 +156,7 @@ impl<'a> Plain<'a> {
                     return Ok(());
                 }
                 Err(Refuse::NotPossible {
-                    redex: self.redex(asked(label)),
+                    redex: self.redex(agent(label)),
                 })
             }
         }

@@ -15,6 +15,6 @@ pub use names::Names;
 pub use token::{Keyword, LexFault, Sign, Tok, Token};
 pub use tree::{Alt, ClassDecl, Expr, Kind, Method, Named, Program, Stmt, Var};
 pub use words::{
-    End, Error, Event, FullKind, Item, Label, Line, NameId, Op, Place, Placement, Serves, Standing,
-    Value, What,
+    End, Error, Event, FullKind, Item, Label, Line, LinkId, NameId, Op, Place, Placement, Route,
+    Serves, Standing, Value, What, WireAct,
 };

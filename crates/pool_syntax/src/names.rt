@@ -77,6 +77,13 @@ impl Names {
         Some(NameId(place as u32))
     }
 
+    /// How many texts there are.
+    pub fn count(&self) -> usize
+        ensures { result ≡ length self.now }
+    {
+        self.texts.as_slice().len()
+    }
+
     /// The text of a number.
     pub fn text(&self, id: NameId) -> &[u8]
         requires { id.0 < length self.now }

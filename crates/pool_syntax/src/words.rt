@@ -135,12 +135,43 @@ pub enum What {
     },
     Pass,
     Idle,
+    /// A frame of this number was put on a wire, was lost, came when another was wanted, was acknowledged, or was held back.
+    Frame {
+        number: u32,
+    },
+    Lost {
+        number: u32,
+    },
+    Stale {
+        number: u32,
+    },
+    Acked {
+        number: u32,
+    },
+    Late {
+        number: u32,
+    },
+}
+
+/// What happens on a wire, beside that its first frame comes to its end: a frame is sent, the first acknowledgement comes back, or the first frame of either side
+/// is lost, comes twice, or falls behind.
+#[derive(Clone, Copy)]
+pub enum WireAct {
+    Send,
+    Ack,
+    Lose,
+    Twice,
+    Late,
+    LoseAck,
+    TwiceAck,
+    LateAck,
 }
 
 #[derive(Clone, Copy)]
 pub enum Event {
     Turn { node: u32 },
     Link { from: u32, to: u32 },
+    Wire { act: WireAct, from: u32, to: u32 },
 }
 
 #[derive(Clone, Copy)]
@@ -197,6 +228,22 @@ pub enum Place {
     Spread,
 }
 
+/// The link from a node to a neighbour.
+#[derive(Clone, Copy, Debug, PartialEq, Eq)]
+pub struct LinkId {
+    pub from: u32,
+    pub to: u32,
+}
+
+/// At a node, a packet for the goal goes next to this neighbour.
+#[derive(Clone, Copy, Debug, PartialEq, Eq)]
+pub struct Route {
+    pub at: u32,
+    pub goal: u32,
+    pub next: u32,
+}
+
+/// `cuts` are the links of the mesh that are missing; where no route stands, packets go first along the row, then along the column.
 #[derive(Drop)]
 pub struct Placement {
     pub width: u32,
@@ -205,4 +252,6 @@ pub struct Placement {
     pub frames: u32,
     pub cells: u32,
     pub places: List<Place>,
+    pub cuts: List<LinkId>,
+    pub routes: List<Route>,
 }

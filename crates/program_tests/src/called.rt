@@ -1,5 +1,5 @@
 //! Whole calls over placements of one and more nodes.
-use crate::call_rows::{REFUSALS, RUNS, TEXTS};
+use crate::call_rows::{RECORDS, REFUSALS, RUNS, TEXTS};
 use crate::calls::{answer, as_row, world_of};
 use crate::faults::bytes_of;
 use std::alloc::{AllocError, Global};
@@ -66,6 +66,14 @@ fn placements_and_schedules_are_refused(rt: HostRuntime) -> Result<(), Fail> {
 #[test]
 fn texts_of_programs_are_written(rt: HostRuntime) -> Result<(), Fail> {
     for row in TEXTS.lines() {
+        assert!(rt; holds(rt.alloc(), row)?, "{row}");
+    }
+    Ok(())
+}
+
+#[test]
+fn records_are_carried_over(rt: HostRuntime) -> Result<(), Fail> {
+    for row in RECORDS.lines() {
         assert!(rt; holds(rt.alloc(), row)?, "{row}");
     }
     Ok(())

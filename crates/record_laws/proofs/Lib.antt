@@ -5,4 +5,5 @@ pub mod Values
 pub mod Texts
 pub mod Shows
 pub mod Reading
+pub mod SecondReading
 pub mod Names

@@ -86,6 +86,11 @@ what_placed names (W.Created o p) h = tt
 what_placed names (W.Result o v) h = tt
 what_placed names W.Pass h = tt
 what_placed names W.Idle h = tt
+what_placed names (W.Frame k) h = tt
+what_placed names (W.Lost k) h = tt
+what_placed names (W.Stale k) h = tt
+what_placed names (W.Acked k) h = tt
+what_placed names (W.Late k) h = tt
 
 -- the text's number, put into a line with a name, gives the line
 
@@ -126,6 +131,11 @@ what_back names n e (W.Created o p) d h = refl
 what_back names n e (W.Result o v) d h = refl
 what_back names n e W.Pass d h = refl
 what_back names n e W.Idle d h = refl
+what_back names n e (W.Frame k) d h = refl
+what_back names n e (W.Lost k) d h = refl
+what_back names n e (W.Stale k) d h = refl
+what_back names n e (W.Acked k) d h = refl
+what_back names n e (W.Late k) d h = refl
 
 -- lines whose names have places in the table
 abbrev pub ArePlaced : List Text → List Line → Type 0

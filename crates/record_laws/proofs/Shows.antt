@@ -241,3 +241,18 @@ what_read names (W.Created o p) h = created_read names o p h.0 h.1
 what_read names (W.Result o v) h = result_read names o v h.0 h.1
 what_read names W.Pass h = record { shown = (refl, tt); read = refl }
 what_read names W.Idle h = record { shown = (refl, tt); read = refl }
+what_read names (W.Frame n) h =
+    by_words (what_words names (W.Frame n)) _ (refl, (decimal_dark n (omega (arith, h)), tt))
+    (by_delay (codes "frame") (decimal n) [] _ refl (ap (λ a. then_some a (λ k. plain (W.Frame k))) (count_read n h)))
+what_read names (W.Lost n) h =
+    by_words (what_words names (W.Lost n)) _ (refl, (decimal_dark n (omega (arith, h)), tt))
+    (by_delay (codes "lost") (decimal n) [] _ refl (ap (λ a. then_some a (λ k. plain (W.Lost k))) (count_read n h)))
+what_read names (W.Stale n) h =
+    by_words (what_words names (W.Stale n)) _ (refl, (decimal_dark n (omega (arith, h)), tt))
+    (by_delay (codes "stale") (decimal n) [] _ refl (ap (λ a. then_some a (λ k. plain (W.Stale k))) (count_read n h)))
+what_read names (W.Acked n) h =
+    by_words (what_words names (W.Acked n)) _ (refl, (decimal_dark n (omega (arith, h)), tt))
+    (by_delay (codes "acked") (decimal n) [] _ refl (ap (λ a. then_some a (λ k. plain (W.Acked k))) (count_read n h)))
+what_read names (W.Late n) h =
+    by_words (what_words names (W.Late n)) _ (refl, (decimal_dark n (omega (arith, h)), tt))
+    (by_delay (codes "late") (decimal n) [] _ refl (ap (λ a. then_some a (λ k. plain (W.Late k))) (count_read n h)))

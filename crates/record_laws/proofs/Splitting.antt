@@ -1,11 +1,11 @@
 -- The parts of a text that was made of words: each word's own parts, one after another.
-use Rattle.std.proofs.Common.{◌≡◌, refl, sym, ap, ◌∙◌, ℕ, ◌<◌, Bool, true, false, not, nat_eq, nat_lt, List, [], ◌∷◌, ◌++◌, length, append_assoc, append-nil, arith, ltb-true, eq-eqb, ne_eqb}
+use Rattle.std.proofs.Common.{◌≡◌, refl, sym, ap, ◌∙◌, ℕ, Bool, true, false, not, nat_eq, nat_lt, List, [], ◌∷◌, ◌++◌, append_assoc, append-nil, arith, ltb-true, ne_eqb}
 use Rattle.std.proofs.lemmas.Bool.{and_from, and_parts}
 use Rattle.pool_syntax.specs.Tokens.{Text, every}
 use Rattle.pool_lexer.specs.Lines.{at_front}
 use Rattle.record_lines.specs.RecordText.{joined, led}
 use Rattle.run_record.specs.Fields.{fields, parts}
-use Rattle.run_record.proofs.Laws.{parts_length}
+use Rattle.run_record.proofs.Laws.{parts_joint}
 
 -- a byte above the space
 abbrev pub is_dark : ℕ → Bool
@@ -28,28 +28,6 @@ every_weaker p q gives (b ∷ bs) h = let both = and_parts (p b) (every p bs) h 
 pub every_append : (p : ℕ → Bool) (v w : Text) → every p v ≡ true → every p w ≡ true → every p (v ++ w) ≡ true
 every_append p [] w h k = k
 every_append p (b ∷ bs) w h k = let both = and_parts (p b) (every p bs) h in and_from (p b) (every p (bs ++ w)) both.0 (every_append p bs w both.1 k)
-
--- a byte before the first of these texts, with others behind them
-front_append : (b : ℕ) (ps qs : List Text) → 0 < length ps → at_front b (ps ++ qs) ≡ at_front b ps ++ qs
-front_append b [] qs h = absurd (omega arith)
-front_append b (p ∷ ps) qs h = refl
-
--- a byte is the same as itself
-same_byte : (s : ℕ) → nat_eq s s ≡ true
-same_byte s = eq-eqb s s refl
-
--- the parts before and behind such a byte
-pub parts_joint : (s : ℕ) (v rest : Text) → parts s (v ++ s ∷ rest) ≡ parts s v ++ parts s rest
-parts_joint s [] rest = by (nat_eq s s) (same_byte s) where
-  by : (q : Bool) → q ≡ true → elim q as (λ x. List Text) [ true ↦ [] ∷ parts s rest | false ↦ at_front s (parts s rest) ] ≡ [] ∷ parts s rest
-  by true e = refl
-  by false e = absurd (cc)
-parts_joint s (b ∷ bs) rest = by (nat_eq b s) (parts_joint s bs rest) where
-  by : (q : Bool) → parts s (bs ++ s ∷ rest) ≡ parts s bs ++ parts s rest
-      → elim q as (λ x. List Text) [ true ↦ [] ∷ parts s (bs ++ s ∷ rest) | false ↦ at_front b (parts s (bs ++ s ∷ rest)) ]
-      ≡ elim q as (λ x. List Text) [ true ↦ [] ∷ parts s bs | false ↦ at_front b (parts s bs) ] ++ parts s rest
-  by true again = ap (λ ps. [] ∷ ps) again
-  by false again = ap (λ ps. at_front b ps) again ∙ front_append b (parts s bs) (parts s rest) (parts_length s bs)
 
 -- a text without such a byte is its only part
 pub parts_alone : (s : ℕ) (w : Text) → every (is_other s) w ≡ true → parts s w ≡ w ∷ []

@@ -74,10 +74,16 @@ IsReadableWhat names (W.Created o p) = IsCount o × IsCount p
 IsReadableWhat names (W.Result o v) = IsCount o × IsReadableValue v
 IsReadableWhat names W.Pass = Unit {0}
 IsReadableWhat names W.Idle = Unit {0}
+IsReadableWhat names (W.Frame n) = IsCount n
+IsReadableWhat names (W.Lost n) = IsCount n
+IsReadableWhat names (W.Stale n) = IsCount n
+IsReadableWhat names (W.Acked n) = IsCount n
+IsReadableWhat names (W.Late n) = IsCount n
 
 abbrev pub IsReadableEvent : Event → Type 0
 IsReadableEvent (E.Turn node) = IsCount node
 IsReadableEvent (E.Link from to) = IsCount from × IsCount to
+IsReadableEvent (E.Wire act from to) = IsCount from × IsCount to
 
 abbrev pub IsReadableEnd : End → Type 0
 IsReadableEnd (F.Quiet done) = Unit {0}

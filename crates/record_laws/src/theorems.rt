@@ -4,6 +4,7 @@ ghost use Rattle.pool_syntax.specs.Table.{is_distinct};
 ghost use Rattle.pool_syntax.specs.Tokens.{Text};
 ghost use Rattle.pool_syntax.specs.declared.words.Line.{Line};
 ghost use Rattle.record_lines.specs.RecordText.{record_text};
+ghost use Rattle.record_lines.specs.SecondForm.{text2};
 ghost use Rattle.run_record.specs.Numbered.{lines_after, names_after};
 ghost use Rattle.run_record.specs.Records.{record_of};
 ghost use Rattle.record_laws.specs.Readable.{IsRecord};
@@ -13,4 +14,18 @@ pub fn the_text_of_a_record_is_read_as_its_lines()
     ensures faultless { (names : List Text) (ls : List Line) → is_distinct names ≡ true → IsRecord names ls → (record_of (record_text names ls)).fault ≡ None }
     ensures lines { (names : List Text) (ls : List Line) → is_distinct names ≡ true → IsRecord names ls → lines_after names (record_of (record_text names ls)).told ≡ ls }
     ensures names { (names : List Text) (ls : List Line) → is_distinct names ≡ true → IsRecord names ls → names_after names (record_of (record_text names ls)).told ≡ names }
+{}
+
+/// The same of the text in the second form: each line has its request number, and the lines are read without fault.
+pub fn the_second_text_of_a_record_is_read_as_its_lines()
+    ensures faultless { (names : List Text) (ls : List Line) → is_distinct names ≡ true → IsRecord names ls → (record_of (text2 names ls)).fault ≡ None }
+    ensures lines { (names : List Text) (ls : List Line) → is_distinct names ≡ true → IsRecord names ls → lines_after names (record_of (text2 names ls)).told ≡ ls }
+    ensures names { (names : List Text) (ls : List Line) → is_distinct names ≡ true → IsRecord names ls → names_after names (record_of (text2 names ls)).told ≡ names }
+{}
+
+/// A record that is carried over: what was read of its first text, written in the second form, is its second text; and both texts are read as the same lines.
+pub fn a_record_is_carried_over()
+    ensures text { (names : List Text) (ls : List Line) → is_distinct names ≡ true → IsRecord names ls
+        → text2 (names_after names (record_of (record_text names ls)).told) (lines_after names (record_of (record_text names ls)).told) ≡ text2 names ls }
+    ensures lines { (names : List Text) (ls : List Line) → IsRecord names ls → (record_of (text2 names ls)).told ≡ (record_of (record_text names ls)).told }
 {}

@@ -1,2 +1,3 @@
 pub mod RecordText
 pub mod Writable
+pub mod SecondForm

@@ -15,6 +15,8 @@ use Rattle.pool_syntax.specs.declared.words.Label.{Label}
 use Rattle.pool_syntax.specs.declared.words.Label.TheVariants as L
 use Rattle.pool_syntax.specs.declared.words.What.{What}
 use Rattle.pool_syntax.specs.declared.words.What.TheVariants as W
+use Rattle.pool_syntax.specs.declared.words.WireAct.{WireAct}
+use Rattle.pool_syntax.specs.declared.words.WireAct.TheVariants as A
 use Rattle.pool_syntax.specs.declared.words.Event.{Event}
 use Rattle.pool_syntax.specs.declared.words.Event.TheVariants as E
 use Rattle.pool_syntax.specs.declared.words.End.{End}
@@ -93,10 +95,27 @@ what_words names (W.Created o p) = codes "created" ∷ object_text o ∷ object_
 what_words names (W.Result o v) = codes "result" ∷ object_text o ∷ value_text v ∷ []
 what_words names W.Pass = codes "pass" ∷ []
 what_words names W.Idle = codes "idle" ∷ []
+what_words names (W.Frame n) = codes "frame" ∷ decimal n ∷ []
+what_words names (W.Lost n) = codes "lost" ∷ decimal n ∷ []
+what_words names (W.Stale n) = codes "stale" ∷ decimal n ∷ []
+what_words names (W.Acked n) = codes "acked" ∷ decimal n ∷ []
+what_words names (W.Late n) = codes "late" ∷ decimal n ∷ []
+
+-- what happens on a wire, as a schedule says it
+abbrev pub wire_words : WireAct → List Text
+wire_words A.Send = codes "send" ∷ []
+wire_words A.Ack = codes "ack" ∷ []
+wire_words A.Lose = codes "lose" ∷ []
+wire_words A.Twice = codes "twice" ∷ []
+wire_words A.Late = codes "late" ∷ []
+wire_words A.LoseAck = codes "lose" ∷ codes "ack" ∷ []
+wire_words A.TwiceAck = codes "twice" ∷ codes "ack" ∷ []
+wire_words A.LateAck = codes "late" ∷ codes "ack" ∷ []
 
 abbrev pub event_words : Event → List Text
 event_words (E.Turn node) = codes "turn" ∷ decimal node ∷ []
 event_words (E.Link from to) = codes "link" ∷ decimal from ∷ decimal to ∷ []
+event_words (E.Wire act from to) = wire_words act ++ decimal from ∷ decimal to ∷ []
 
 abbrev pub full_text : FullKind → Text
 full_text full.Heap = codes "heap"

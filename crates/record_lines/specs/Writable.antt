@@ -36,6 +36,11 @@ id_of_what (W.Created o p) = None
 id_of_what (W.Result o v) = None
 id_of_what W.Pass = None
 id_of_what W.Idle = None
+id_of_what (W.Frame n) = None
+id_of_what (W.Lost n) = None
+id_of_what (W.Stale n) = None
+id_of_what (W.Acked n) = None
+id_of_what (W.Late n) = None
 
 -- the name of a line: a class, a method or a string; no line has two
 abbrev pub id_of_line : Line → Option NameId

@@ -1,5 +1,5 @@
 //! What a line shows.
-ghost use Rattle.std.specs.Prelude.{◌≡◌, ◌+◌, ◌<◌, ◌≤◌, [], ◌∷◌, ◌++◌, length, map};
+ghost use Rattle.std.specs.Prelude.{◌≡◌, ◌+◌, ◌<◌, ◌≤◌, [], ◌∷◌, ◌++◌, length, decimal, map};
 ghost use Rattle.arrayvec.specs.ArrayVec.{array_vec_len};
 ghost use Rattle.record_lines.specs.RecordText.{label_words, led, object_text, text_at, value_text, what_words};
 ghost use Rattle.record_lines.specs.Writable.{AreShort, IsShort, id_of_label, id_of_what};
@@ -52,9 +52,20 @@ fn put_about(text: &mut LineText, word: &[u8], object: u32)
     put_object(text, object);
 }
 
+/// Puts a word and a frame's number.
+fn put_numbered(text: &mut LineText, word: &[u8], number: u32)
+    requires room { array_vec_len text.old ≤ 50 }
+    requires short { length word.now ≤ 7 }
+    ensures items { text.new.items ≡ text.old.items ++ led (word.now ∷ decimal number ∷ []) }
+    ensures size { array_vec_len text.new ≤ array_vec_len text.old + 20 }
+{
+    put_word(text, word);
+    put_number(text, number);
+}
+
 /// Puts a transition.
 fn put_label(text: &mut LineText, names: &Names, label: &Label, times: u32)
-    requires room { array_vec_len text.old ≤ 40 }
+    requires room { array_vec_len text.old ≤ 42 }
     requires known { AreShort names.now (id_of_label label.now) }
     ensures items { text.new.items ≡ text.old.items ++ led (label_words names.now label.now times) }
     ensures size { array_vec_len text.new ≤ array_vec_len text.old + 457 }
@@ -115,7 +126,7 @@ fn put_label(text: &mut LineText, names: &Names, label: &Label, times: u32)
 
 /// Puts what a line shows.
 pub fn put_what(text: &mut LineText, names: &Names, what: &What)
-    requires room { array_vec_len text.old ≤ 40 }
+    requires room { array_vec_len text.old ≤ 42 }
     requires known { AreShort names.now (id_of_what what.now) }
     ensures items { text.new.items ≡ text.old.items ++ led (what_words names.now what.now) }
     ensures size { array_vec_len text.new ≤ array_vec_len text.old + 459 }
@@ -156,5 +167,10 @@ pub fn put_what(text: &mut LineText, names: &Names, what: &What)
         }
         What::Pass => put_word(text, b"pass"),
         What::Idle => put_word(text, b"idle"),
+        What::Frame { number } => put_numbered(text, b"frame", *number),
+        What::Lost { number } => put_numbered(text, b"lost", *number),
+        What::Stale { number } => put_numbered(text, b"stale", *number),
+        What::Acked { number } => put_numbered(text, b"acked", *number),
+        What::Late { number } => put_numbered(text, b"late", *number),
     }
 }

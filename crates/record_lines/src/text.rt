@@ -7,12 +7,12 @@ ghost use Rattle.record_lines.specs.RecordText.{led, object_text};
 use arrayvec::ArrayVec;
 use itoa::Buffer;
 
-/// The text of a line, which has fewer than 500 bytes.
-pub type LineText = ArrayVec<u8, 512>;
+/// The text of a line, which has fewer than 528 bytes.
+pub type LineText = ArrayVec<u8, 528>;
 
 /// Puts bytes behind the text.
 pub fn put(text: &mut LineText, bytes: &[u8])
-    requires { array_vec_len text.old + length bytes.now ≤ 512 }
+    requires { array_vec_len text.old + length bytes.now ≤ 528 }
     ensures items { text.new.items ≡ text.old.items ++ bytes.now }
     ensures size { array_vec_len text.new ≡ array_vec_len text.old + length bytes.now }
 {
@@ -24,7 +24,7 @@ pub fn put(text: &mut LineText, bytes: &[u8])
 
 /// Puts a space and a word behind the text.
 pub fn put_word(text: &mut LineText, word: &[u8])
-    requires { array_vec_len text.old + length word.now < 512 }
+    requires { array_vec_len text.old + length word.now < 528 }
     ensures items { text.new.items ≡ text.old.items ++ led (word.now ∷ []) }
     ensures size { array_vec_len text.new ≡ array_vec_len text.old + length word.now + 1 }
 {
@@ -34,7 +34,7 @@ pub fn put_word(text: &mut LineText, word: &[u8])
 
 /// Puts a number, of at most 10 digits.
 pub fn put_digits(text: &mut LineText, number: u32)
-    requires { array_vec_len text.old ≤ 502 }
+    requires { array_vec_len text.old ≤ 518 }
     ensures items { text.new.items ≡ text.old.items ++ decimal number }
     ensures size { array_vec_len text.new ≤ array_vec_len text.old + 10 }
 {
@@ -44,7 +44,7 @@ pub fn put_digits(text: &mut LineText, number: u32)
 
 /// Puts a space and a number.
 pub fn put_number(text: &mut LineText, number: u32)
-    requires { array_vec_len text.old ≤ 501 }
+    requires { array_vec_len text.old ≤ 517 }
     ensures items { text.new.items ≡ text.old.items ++ led (decimal number ∷ []) }
     ensures size { array_vec_len text.new ≤ array_vec_len text.old + 11 }
 {
@@ -54,7 +54,7 @@ pub fn put_number(text: &mut LineText, number: u32)
 
 /// Puts a space and an integer.
 pub fn put_integer(text: &mut LineText, number: i64)
-    requires { array_vec_len text.old ≤ 491 }
+    requires { array_vec_len text.old ≤ 507 }
     ensures items { text.new.items ≡ text.old.items ++ led (signed_decimal number ∷ []) }
     ensures size { array_vec_len text.new ≤ array_vec_len text.old + 21 }
 {

@@ -1,21 +1,63 @@
 //! Writes a line.
-ghost use Rattle.std.specs.Prelude.{◌≡◌, ℕ, ◌+◌, ◌<◌, ◌≤◌, [], ◌∷◌, ◌++◌, length, take, option_map, OnOk, OnErr};
+ghost use Rattle.std.specs.Prelude.{◌≡◌, ℕ, ◌+◌, ◌<◌, ◌≤◌, [], ◌∷◌, ◌++◌, length, take, decimal, option_map, OnOk, OnErr};
 ghost use Rattle.arrayvec.specs.ArrayVec.{array_vec_len};
 ghost use Rattle.pool_outside.specs.Outside.{Rose};
-ghost use Rattle.record_lines.specs.RecordText.{bare_text, end_words, event_words, full_text, joined, led, line_text, line_words};
+ghost use Rattle.mesh_semantics.specs.Asks.{asker_by, asker_of, is_asked};
+ghost use Rattle.record_lines.specs.RecordText.{bare_text, end_words, event_words, full_text, joined, led, line_text, line_words, wire_words};
+ghost use Rattle.record_lines.specs.SecondForm.{ask_words, form_text, line_text2};
 ghost use Rattle.record_lines.specs.Writable.{AreShort, IsWritable, id_of_item};
 
+use crate::asked::is_asked;
 use crate::labels::put_what;
 use crate::parts::put_bare;
 use crate::text::{LineText, put, put_digits, put_number, put_word};
 use pool_outside::{Sink, WriteFault, write_all_of};
-use pool_syntax::{End, Event, FullKind, Item, Line, Names};
+use pool_syntax::{End, Event, FullKind, Item, Line, Names, WireAct};
 
-/// Puts a turn of a node, or a move of a link's head.
+/// Puts what happens on a wire.
+fn put_wire_act(text: &mut LineText, act: WireAct)
+    requires { array_vec_len text.old ≤ 10 }
+    ensures items { text.new.items ≡ text.old.items ++ led (wire_words act) }
+    ensures size { array_vec_len text.new ≤ array_vec_len text.old + 10 }
+{
+    match act {
+        WireAct::Send => put_word(text, b"send"),
+        WireAct::Ack => put_word(text, b"ack"),
+        WireAct::Lose => put_word(text, b"lose"),
+        WireAct::Twice => put_word(text, b"twice"),
+        WireAct::Late => put_word(text, b"late"),
+        WireAct::LoseAck => {
+            put_word(text, b"lose");
+            put_word(text, b"ack");
+        }
+        WireAct::TwiceAck => {
+            put_word(text, b"twice");
+            put_word(text, b"ack");
+        }
+        WireAct::LateAck => {
+            put_word(text, b"late");
+            put_word(text, b"ack");
+        }
+    }
+}
+
+/// Puts what happens on a wire, and the wire's ends.
+#[tactic(auto, using(crate::proofs::Joined::led_more))]
+fn put_wire(text: &mut LineText, act: WireAct, from: u32, to: u32)
+    requires { array_vec_len text.old ≤ 10 }
+    ensures items { text.new.items ≡ text.old.items ++ led (wire_words act ++ decimal from ∷ decimal to ∷ []) }
+    ensures size { array_vec_len text.new ≤ array_vec_len text.old + 32 }
+{
+    put_wire_act(text, act);
+    put_number(text, from);
+    put_number(text, to);
+}
+
+/// Puts a turn of a node, a move of a link's head, or what happens on a wire.
 fn put_event(text: &mut LineText, event: Event)
     requires { array_vec_len text.old ≤ 10 }
     ensures items { text.new.items ≡ text.old.items ++ led (event_words event) }
-    ensures size { array_vec_len text.new ≤ array_vec_len text.old + 27 }
+    ensures size { array_vec_len text.new ≤ array_vec_len text.old + 32 }
 {
     match event {
         Event::Turn { node } => {
@@ -27,6 +69,7 @@ fn put_event(text: &mut LineText, event: Event)
             put_number(text, from);
             put_number(text, to);
         }
+        Event::Wire { act, from, to } => put_wire(text, act, from, to),
     }
 }
 
@@ -71,7 +114,7 @@ fn put_line(text: &mut LineText, line: &Line, names: &Names)
     requires empty { text.old.items ≡ [] }
     requires writable { IsWritable names.now line.now }
     ensures items { text.new.items ≡ joined (line_words names.now line.now) }
-    ensures size { array_vec_len text.new < 499 }
+    ensures size { array_vec_len text.new ≤ 501 }
 {
     match line {
         Line::Event {
@@ -87,7 +130,7 @@ fn put_line(text: &mut LineText, line: &Line, names: &Names)
     }
 }
 
-/// Writes the line and its line feed in one piece of fewer than 500 bytes. A fault comes only where the sink's count of faults
+/// Writes the line and its line feed in one piece of fewer than 512 bytes. A fault comes only where the sink's count of faults
 /// rose, and a front of the piece was then written. Takes no memory.
 pub fn write_line<K: Sink>(line: &Line, names: &Names, sink: &mut K) -> Result<(), WriteFault>
     requires { IsWritable names.now line.now }
@@ -96,12 +139,70 @@ pub fn write_line<K: Sink>(line: &Line, names: &Names, sink: &mut K) -> Result<(
     ensures failed { OnErr result (Rose (K.faults sink.old) (K.faults sink.new)) }
     ensures no_fault { OnOk result (K.faults sink.new ≡ K.faults sink.old) }
     ensures faults_stay_or_rise { K.faults sink.old ≤ K.faults sink.new }
-    ensures short { length (line_text names.now line.now) < 500 }
+    ensures short { length (line_text names.now line.now) < 512 }
 {
     let mut text = LineText::new();
     put_line(&mut text, line, names);
     text.push(b'\n');
     write_all_of(sink, text.as_slice())
+}
+
+/// Puts a request's number behind a line that carries one.
+fn put_ask(text: &mut LineText, line: &Line, ask: u32)
+    requires { array_vec_len text.old ≤ 501 }
+    ensures items { text.new.items ≡ text.old.items ++ led (ask_words (is_asked line.now) ask) }
+    ensures size { array_vec_len text.new ≤ array_vec_len text.old + 14 }
+{
+    if is_asked(line) {
+        put_word(text, b"by");
+        put_number(text, ask);
+    }
+}
+
+/// The text of a line in the second form, without its line feed.
+#[tactic(auto, using(crate::proofs::Joined::joined_more))]
+fn put_line2(text: &mut LineText, line: &Line, ask: u32, names: &Names)
+    requires empty { text.old.items ≡ [] }
+    requires writable { IsWritable names.now line.now }
+    ensures items { text.new.items ≡ joined (line_words names.now line.now ++ ask_words (is_asked line.now) ask) }
+    ensures size { array_vec_len text.new ≤ 515 }
+{
+    put_line(text, line, names);
+    put_ask(text, line, ask);
+}
+
+/// Writes the line in the second form, with this number of its request if it carries one, and its line feed in one piece of fewer than 528 bytes. A fault
+/// comes only where the sink's count of faults rose, and a front of the piece was then written. Takes no memory.
+pub fn write_line2<K: Sink>(
+    line: &Line,
+    ask: u32,
+    names: &Names,
+    sink: &mut K,
+) -> Result<(), WriteFault>
+    requires { IsWritable names.now line.now }
+    ensures whole { OnOk result (K.written sink.new ≡ option_map (λ w. w ++ line_text2 names.now line.now ask) (K.written sink.old)) }
+    ensures front { OnErr result ((n : ℕ) × (n ≤ length (line_text2 names.now line.now ask)) × (K.written sink.new ≡ option_map (λ w. w ++ take n (line_text2 names.now line.now ask)) (K.written sink.old))) }
+    ensures failed { OnErr result (Rose (K.faults sink.old) (K.faults sink.new)) }
+    ensures no_fault { OnOk result (K.faults sink.new ≡ K.faults sink.old) }
+    ensures faults_stay_or_rise { K.faults sink.old ≤ K.faults sink.new }
+    ensures short { length (line_text2 names.now line.now ask) < 528 }
+{
+    let mut text = LineText::new();
+    put_line2(&mut text, line, ask, names);
+    put(&mut text, b"\n");
+    write_all_of(sink, text.as_slice())
+}
+
+/// Writes the first line of a record in the second form, and its line feed. A fault comes only where the sink's count of faults rose, and a front of the
+/// piece was then written. Takes no memory.
+pub fn write_form<K: Sink>(sink: &mut K) -> Result<(), WriteFault>
+    ensures whole { OnOk result (K.written sink.new ≡ option_map (λ w. w ++ (form_text ++ 10 ∷ [])) (K.written sink.old)) }
+    ensures front { OnErr result ((n : ℕ) × (n ≤ length (form_text ++ 10 ∷ [])) × (K.written sink.new ≡ option_map (λ w. w ++ take n (form_text ++ 10 ∷ [])) (K.written sink.old))) }
+    ensures failed { OnErr result (Rose (K.faults sink.old) (K.faults sink.new)) }
+    ensures no_fault { OnOk result (K.faults sink.new ≡ K.faults sink.old) }
+    ensures faults_stay_or_rise { K.faults sink.old ≤ K.faults sink.new }
+{
+    write_all_of(sink, b"record 2\n")
 }
 
 /// Writes what was written by an object, a string without quotes, and a line feed in one piece. A fault comes only where the

@@ -45,6 +45,16 @@ pub enum Packet {
     },
 }
 
+impl Default for Packet {
+    fn default() -> Packet {
+        Packet::Created {
+            number: 0,
+            to: 0,
+            name: 0,
+        }
+    }
+}
+
 /// The node that the packet goes to. The node of a name is the name divided by 65536.
 pub fn goal(packet: &Packet) -> u32
     ensures { result ≡ goal_node (numbered packet.now).packet }

@@ -1,5 +1,5 @@
 -- A record's lines with the numbers of their names in a table, and the table with these names.
-use Rattle.std.specs.Prelude.{◌≡◌, List, [], ◌∷◌, Option, Some, None}
+use Rattle.std.specs.Prelude.{◌≡◌, List, [], ◌∷◌, ◌++◌, Option, Some, None}
 use Rattle.pool_syntax.specs.Table.{name_of, with_text}
 use Rattle.pool_syntax.specs.Tokens.{Text}
 use Rattle.pool_syntax.specs.declared.words.NameId.{NameId}
@@ -40,6 +40,11 @@ what_with id (W.Created o p) = W.Created o p
 what_with id (W.Result o v) = W.Result o v
 what_with id W.Pass = W.Pass
 what_with id W.Idle = W.Idle
+what_with id (W.Frame n) = W.Frame n
+what_with id (W.Lost n) = W.Lost n
+what_with id (W.Stale n) = W.Stale n
+what_with id (W.Acked n) = W.Acked n
+what_with id (W.Late n) = W.Late n
 
 abbrev pub line_with : NameId → Line → Line
 line_with id (R.Event n e what) = R.Event n e (what_with id what)
@@ -70,10 +75,19 @@ lines_after names (t ∷ ts) = numbered names t ∷ lines_after (with_name names
 abbrev pub IsTold : RecordFault → Option RecordFault → Type 0
 IsTold (fault.BadLine line) told = told ≡ Some (fault.BadLine line)
 IsTold (fault.OutOfOrder line) told = told ≡ Some (fault.OutOfOrder line)
+IsTold (fault.WrongAsk line) told = told ≡ Some (fault.WrongAsk line)
 IsTold fault.Memory told = Unit {0}
 
--- The table is this one, unless memory ran out.
-abbrev pub IsTable : RecordFault → List Text → List Text → Type 0
-IsTable (fault.BadLine line) new names = new ≡ names
-IsTable (fault.OutOfOrder line) new names = new ≡ names
-IsTable fault.Memory new names = Unit {0}
+-- the texts of a front of these lines went into the table
+pub record HasFront (new old : List Text) (told : List Told) : Type 0 where
+  pub before : List Told
+  pub behind : List Told
+  pub all : before ++ behind ≡ told
+  pub table : new ≡ names_after old before
+
+-- The texts of these lines went into the table, or, where memory ran out, of a front of them.
+abbrev pub IsTable : RecordFault → List Text → List Text → List Told → Type 0
+IsTable (fault.BadLine line) new old told = new ≡ names_after old told
+IsTable (fault.OutOfOrder line) new old told = new ≡ names_after old told
+IsTable (fault.WrongAsk line) new old told = new ≡ names_after old told
+IsTable fault.Memory new old told = HasFront new old told

@@ -1,18 +1,24 @@
--- What a record's text says: its lines, each with the text of its name, and the first fault.
+-- What a record's text says, in either form: its lines, each with the text of its name, and the first fault.
 use Rattle.std.specs.Prelude.{ℕ, ◌+◌, List, [], ◌∷◌, Option, Some, None, Bool, true, false, ◌&&◌, not, nat_eq, nat_le, bytes_eq, codes}
 use Rattle.pool_syntax.specs.Tokens.{Text}
 use Rattle.pool_syntax.specs.declared.words.FullKind.{FullKind}
 use Rattle.pool_syntax.specs.declared.words.FullKind.TheVariants as full
+use Rattle.pool_syntax.specs.declared.words.WireAct.{WireAct}
+use Rattle.pool_syntax.specs.declared.words.WireAct.TheVariants as A
 use Rattle.pool_syntax.specs.declared.words.Event.{Event}
 use Rattle.pool_syntax.specs.declared.words.Event.TheVariants as E
 use Rattle.pool_syntax.specs.declared.words.End.{End}
 use Rattle.pool_syntax.specs.declared.words.End.TheVariants as F
 use Rattle.pool_syntax.specs.declared.words.Line.{Line}
 use Rattle.pool_syntax.specs.declared.words.Line.TheVariants as R
+use Rattle.mesh_semantics.specs.Asks.{ask_of, is_asked}
+use Rattle.record_lines.specs.SecondForm.{form_text}
 use Rattle.run_record.specs.declared.fault.RecordFault.{RecordFault}
 use Rattle.run_record.specs.declared.fault.RecordFault.TheVariants as fault
+use Rattle.run_record.specs.declared.row.Form.{Form}
+use Rattle.run_record.specs.declared.row.Form.TheVariants as form
 use Rattle.run_record.specs.Fields.{count_of, fields, only_if, parts, then_some}
-use Rattle.run_record.specs.Shown.{Shown, what_of}
+use Rattle.run_record.specs.Shown.{Shown, either, what_of}
 
 -- a line, the number 0 standing for that of its name, and the name's text, if it has one
 pub record Told : Type 0 where
@@ -62,14 +68,74 @@ abbrev pub link_of : ℕ → List Text → Option Told
 link_of n [] = None
 link_of n (a ∷ ws) = then_some (count_of a) (λ from. link_from n from ws)
 
+abbrev pub wire_from : ℕ → WireAct → ℕ → List Text → Option Told
+wire_from n act from [] = None
+wire_from n act from (b ∷ ws) = then_some (count_of b) (λ to. happened n (E.Wire act from to) (what_of ws))
+
+abbrev pub wire_of : ℕ → WireAct → List Text → Option Told
+wire_of n act [] = None
+wire_of n act (a ∷ ws) = then_some (count_of a) (λ from. wire_from n act from ws)
+
+-- of one side of a wire, or of the side of the acknowledgements where the word `ack` says so
+abbrev pub side_of : ℕ → WireAct → WireAct → List Text → Option Told
+side_of n act other [] = None
+side_of n act other (w ∷ ws) = elim (bytes_eq w (codes "ack")) [ true ↦ wire_of n other ws | false ↦ wire_of n act (w ∷ ws) ]
+
+-- what happens on a wire, by its first word
+abbrev pub wire_event : ℕ → Text → List Text → Option Told
+wire_event n w ws = elim (bytes_eq w (codes "send")) [
+  | true ↦ wire_of n A.Send ws
+  | false ↦ elim (bytes_eq w (codes "ack")) [
+    | true ↦ wire_of n A.Ack ws
+    | false ↦ elim (bytes_eq w (codes "lose")) [
+      | true ↦ side_of n A.Lose A.LoseAck ws
+      | false ↦ elim (bytes_eq w (codes "twice")) [
+        | true ↦ side_of n A.Twice A.TwiceAck ws
+        | false ↦ only_if (bytes_eq w (codes "late")) (side_of n A.Late A.LateAck ws)
+      ]
+    ]
+  ]
+]
+
 abbrev pub event_of : ℕ → List Text → Option Told
 event_of n [] = None
-event_of n (w ∷ ws) = elim (bytes_eq w (codes "turn")) [ true ↦ turn_of n ws | false ↦ only_if (bytes_eq w (codes "link")) (link_of n ws) ]
+event_of n (w ∷ ws) = elim (bytes_eq w (codes "turn")) [ true ↦ turn_of n ws | false ↦ elim (bytes_eq w (codes "link")) [ true ↦ link_of n ws | false ↦ wire_event n w ws ] ]
 
 -- the form of a line without its line feed
 abbrev pub line_of : List Text → Option Told
 line_of [] = None
 line_of (w ∷ ws) = elim (bytes_eq w (codes "end")) [ true ↦ end_of ws | false ↦ then_some (count_of w) (λ n. event_of n ws) ]
+
+-- a line with the request number that it carries, if it carries one
+pub record Row : Type 0 where
+  pub told : Told
+  pub ask : Option ℕ
+
+-- the words before ` by` and a number, and the number
+abbrev pub asked_by : List Text → Option (List Text × ℕ)
+asked_by [] = None
+asked_by (a ∷ []) = None
+asked_by (a ∷ b ∷ []) = None
+asked_by (a ∷ b ∷ c ∷ []) = only_if (bytes_eq b (codes "by")) (then_some (count_of c) (λ n. Some (a ∷ [], n)))
+asked_by (a ∷ b ∷ c ∷ d ∷ ws) = then_some (asked_by (b ∷ c ∷ d ∷ ws)) (λ r. Some (a ∷ r.0, r.1))
+
+-- a line of any kind, without a number; one that answers no request; one that does, with its number
+abbrev pub unnumbered : Told → Option Row
+unnumbered t = Some (record { told = t; ask = None })
+
+abbrev pub unasked : Told → Option Row
+unasked t = only_if (not (is_asked t.line)) (unnumbered t)
+
+abbrev pub asked_for : ℕ → Told → Option Row
+asked_for n t = only_if (is_asked t.line) (Some (record { told = t; ask = Some n }))
+
+-- the form of a line in the second form: that of the first where the line answers no request, and else that of the first with ` by` and a number behind it
+abbrev pub second_of : List Text → Option Row
+second_of ws = either (then_some (line_of ws) unasked) (then_some (asked_by ws) (λ r. then_some (line_of r.0) (asked_for r.1)))
+
+abbrev pub row_of : Form → List Text → Option Row
+row_of form.First ws = then_some (line_of ws) unnumbered
+row_of form.Second ws = second_of ws
 
 abbrev pub done_of : End → ℕ
 done_of (F.Quiet k) = k
@@ -111,27 +177,38 @@ tail_row seen ended p = elim (ended && is_empty p) [ true ↦ record { told = []
 abbrev pub order_fault : ℕ → ℕ → Bool → Line → Option RecordFault
 order_fault seen last ended l = elim (not ended && follows last l) [ true ↦ None | false ↦ Some (fault.OutOfOrder (seen + 1)) ]
 
-abbrev pub row_fault : ℕ → ℕ → Bool → Option Told → Option RecordFault
-row_fault seen last ended None = Some (fault.BadLine (seen + 1))
-row_fault seen last ended (Some t) = order_fault seen last ended t.line
+-- the request number that a line carries is that of the lines before it, of which the latest is the first
+abbrev pub ask_fault : ℕ → ℕ → Option ℕ → Option RecordFault
+ask_fault seen ask None = None
+ask_fault seen ask (Some n) = elim (nat_eq n ask) [ true ↦ None | false ↦ Some (fault.WrongAsk (seen + 1)) ]
+
+abbrev pub row_fault : List Line → ℕ → ℕ → Bool → Option Row → Option RecordFault
+row_fault earlier seen last ended None = Some (fault.BadLine (seen + 1))
+row_fault earlier seen last ended (Some r) = either (order_fault seen last ended r.told.line) (ask_fault seen (ask_of earlier r.told.line) r.ask)
 
 abbrev pub by_fault : Option RecordFault → Rows → Rows
 by_fault None r = r
 by_fault (Some f) r = refused f
 
 -- a line that is there stands before what comes behind it
-abbrev pub told_then : Option Told → (Told → Rows) → Rows
-told_then None next = record { told = []; fault = None }
-told_then (Some t) next = with_told t (next t)
+abbrev pub row_then : Option Row → (Row → Rows) → Rows
+row_then None next = record { told = []; fault = None }
+row_then (Some r) next = with_told r.told (next r)
 
--- the rest of the rows after so many lines, the last event's number, and whether the end has come
-abbrev pub rows : ℕ → ℕ → Bool → List Text → Rows
-rows seen last ended [] = refused (fault.BadLine (seen + 1))
-rows seen last ended (p ∷ []) = tail_row seen ended p
-rows seen last ended (p ∷ q ∷ ps) =
-    by_fault (row_fault seen last ended (line_of (fields p)))
-    (told_then (line_of (fields p)) (λ t. rows (seen + 1) (last_after last t.line) (is_end t.line) (q ∷ ps)))
+-- the rest of the rows behind these lines, of which the latest is the first: after so many lines of the text, the last event's number, and whether the end has come
+abbrev pub rows : Form → List Line → ℕ → ℕ → Bool → List Text → Rows
+rows f earlier seen last ended [] = refused (fault.BadLine (seen + 1))
+rows f earlier seen last ended (p ∷ []) = tail_row seen ended p
+rows f earlier seen last ended (p ∷ q ∷ ps) =
+    by_fault (row_fault earlier seen last ended (row_of f (fields p)))
+    (row_then (row_of f (fields p)) (λ r. rows f (r.told.line ∷ earlier) (seen + 1) (last_after last r.told.line) (is_end r.told.line) (q ∷ ps)))
+
+-- where the first line says so, those behind it are of the second form
+abbrev pub rows_of : List Text → Rows
+rows_of [] = rows form.First [] 0 0 false []
+rows_of (p ∷ []) = rows form.First [] 0 0 false (p ∷ [])
+rows_of (p ∷ q ∷ ps) = elim (bytes_eq p form_text) [ true ↦ rows form.Second [] 1 0 false (q ∷ ps) | false ↦ rows form.First [] 0 0 false (p ∷ q ∷ ps) ]
 
 -- what the text of a record says; only a line feed ends a line
 abbrev pub record_of : Text → Rows
-record_of s = rows 0 0 false (parts 10 s)
+record_of s = rows_of (parts 10 s)

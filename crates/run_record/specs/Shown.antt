@@ -147,13 +147,38 @@ step_of w ws = elim (bytes_eq w (codes "local")) [
   ]
 ]
 
+-- one count
+abbrev pub only_count : List Text → Option ℕ
+only_count [] = None
+only_count (a ∷ []) = count_of a
+only_count (a ∷ b ∷ ws) = None
+
+-- what became of a frame, by its first word
+abbrev pub frame_of : Text → List Text → Option Shown
+frame_of w ws = elim (bytes_eq w (codes "frame")) [
+  | true ↦ then_some (only_count ws) (λ n. plain (W.Frame n))
+  | false ↦ elim (bytes_eq w (codes "lost")) [
+    | true ↦ then_some (only_count ws) (λ n. plain (W.Lost n))
+    | false ↦ elim (bytes_eq w (codes "stale")) [
+      | true ↦ then_some (only_count ws) (λ n. plain (W.Stale n))
+      | false ↦ elim (bytes_eq w (codes "acked")) [
+        | true ↦ then_some (only_count ws) (λ n. plain (W.Acked n))
+        | false ↦ only_if (bytes_eq w (codes "late")) (then_some (only_count ws) (λ n. plain (W.Late n)))
+      ]
+    ]
+  ]
+]
+
 -- what shows no transition, by its first word
 abbrev pub delay_of : Text → List Text → Option Shown
 delay_of w ws = elim (bytes_eq w (codes "post")) [
   | true ↦ post_of ws
   | false ↦ elim (bytes_eq w (codes "arrive")) [
     | true ↦ arrive_of ws
-    | false ↦ elim (bytes_eq w (codes "created")) [ true ↦ created_of ws | false ↦ only_if (bytes_eq w (codes "result")) (result_of ws) ]
+    | false ↦ elim (bytes_eq w (codes "created")) [
+      | true ↦ created_of ws
+      | false ↦ elim (bytes_eq w (codes "result")) [ true ↦ result_of ws | false ↦ frame_of w ws ]
+    ]
   ]
 ]
 

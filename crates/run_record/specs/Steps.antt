@@ -16,6 +16,11 @@ steps_of_what (W.Created o p) = None
 steps_of_what (W.Result o v) = None
 steps_of_what W.Pass = None
 steps_of_what W.Idle = None
+steps_of_what (W.Frame n) = None
+steps_of_what (W.Lost n) = None
+steps_of_what (W.Stale n) = None
+steps_of_what (W.Acked n) = None
+steps_of_what (W.Late n) = None
 
 -- None at the end line
 abbrev pub steps_of : Line → Option Steps

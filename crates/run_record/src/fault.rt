@@ -14,6 +14,9 @@ pub enum RecordFault {
     /// The line's number is not one more than the last, or is above 2,000,000; or the end's number is not that of the events; or the end has come before.
     #[error("line {line} is out of order")]
     OutOfOrder { line: u32 },
+    /// The request number that the line carries is not that of the post that it answers.
+    #[error("line {line} answers another request")]
+    WrongAsk { line: u32 },
     /// Out of memory.
     #[error("out of memory")]
     Memory,

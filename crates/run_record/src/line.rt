@@ -1,14 +1,14 @@
 //! What a line of a record says.
 ghost use Rattle.std.specs.Prelude.{◌≡◌, ◌∷◌, None, option_map};
 ghost use Rattle.run_record.specs.Fields.{fields};
-ghost use Rattle.run_record.specs.Records.{end_of, end_of_two, event_of, full_of, happened, kind_of, line_of, link_from, link_of, turn_of};
+ghost use Rattle.run_record.specs.Records.{end_of, end_of_two, event_of, full_of, happened, kind_of, line_of, link_from, link_of, side_of, turn_of, wire_event, wire_from, wire_of};
 ghost use Rattle.run_record.specs.Shown.{what_of};
 ghost use Rattle.run_record.specs.ToldBy.{told};
 
 use crate::fields::{Few, cut, few_fields};
 use crate::shown::what_in;
 use crate::spelled::count;
-use pool_syntax::{End, Event, FullKind, Line};
+use pool_syntax::{End, Event, FullKind, Line, WireAct};
 
 /// A line, the number 0 standing for that of its name, and the name's text, if it has one.
 #[derive(Clone, Copy)]
@@ -133,6 +133,57 @@ fn link_in(number: u32, words: &[u8]) -> Option<ReadLine<'_>>
     link_from(number, from, left)
 }
 
+fn wire_from(number: u32, act: WireAct, from: u32, words: &[u8]) -> Option<ReadLine<'_>>
+    ensures { option_map told result ≡ wire_from number act from (fields words.now) }
+{
+    let next = cut(b' ', words);
+    let to = count(next.first)?;
+    let left = next.rest?;
+    happened(number, Event::Wire { act, from, to }, left)
+}
+
+fn wire_in(number: u32, act: WireAct, words: &[u8]) -> Option<ReadLine<'_>>
+    ensures { option_map told result ≡ wire_of number act (fields words.now) }
+{
+    let next = cut(b' ', words);
+    let from = count(next.first)?;
+    let left = next.rest?;
+    wire_from(number, act, from, left)
+}
+
+/// Of one side of a wire, or of that of the acknowledgements where the word `ack` says so.
+fn side_in(number: u32, act: WireAct, other: WireAct, words: &[u8]) -> Option<ReadLine<'_>>
+    ensures { option_map told result ≡ side_of number act other (fields words.now) }
+{
+    let next = cut(b' ', words);
+    if next.first == b"ack".as_slice() {
+        let left = next.rest?;
+        return wire_in(number, other, left);
+    }
+    wire_in(number, act, words)
+}
+
+fn wire_event<'a>(number: u32, word: &[u8], words: &'a [u8]) -> Option<ReadLine<'a>>
+    ensures { option_map told result ≡ wire_event number word.now (fields words.now) }
+{
+    if word == b"send".as_slice() {
+        return wire_in(number, WireAct::Send, words);
+    }
+    if word == b"ack".as_slice() {
+        return wire_in(number, WireAct::Ack, words);
+    }
+    if word == b"lose".as_slice() {
+        return side_in(number, WireAct::Lose, WireAct::LoseAck, words);
+    }
+    if word == b"twice".as_slice() {
+        return side_in(number, WireAct::Twice, WireAct::TwiceAck, words);
+    }
+    if word == b"late".as_slice() {
+        return side_in(number, WireAct::Late, WireAct::LateAck, words);
+    }
+    None
+}
+
 fn event_in(number: u32, words: &[u8]) -> Option<ReadLine<'_>>
     ensures { option_map told result ≡ event_of number (fields words.now) }
 {
@@ -144,7 +195,7 @@ fn event_in(number: u32, words: &[u8]) -> Option<ReadLine<'_>>
     if next.first == b"link".as_slice() {
         return link_in(number, left);
     }
-    None
+    wire_event(number, next.first, left)
 }
 
 /// What a line without its line feed says.

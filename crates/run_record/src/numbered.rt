@@ -1,5 +1,5 @@
 //! Lines with the numbers of their names.
-ghost use Rattle.std.specs.Prelude.{◌≡◌, ◌+◌, ◌<◌, ◌≤◌, ◌^◌, length, IfOk, OnOk};
+ghost use Rattle.std.specs.Prelude.{◌≡◌, ◌+◌, ◌<◌, ◌≤◌, ◌^◌, length, IfOk, OnErr, OnOk};
 ghost use Rattle.run_record.specs.Numbered.{item_with, label_with, line_with, numbered, what_with, with_name};
 ghost use Rattle.run_record.specs.ToldBy.{told};
 
@@ -126,6 +126,7 @@ pub fn numbered(names: &mut Names, read: &ReadLine<'_>) -> Result<Line, AllocErr
     ensures line { IfOk result (λ l. l ≡ numbered names.old (told read.now)) }
     ensures names { OnOk result (names.new ≡ with_name names.old (told read.now).text) }
     ensures few { OnOk result (length names.new ≤ length names.old + 1) }
+    ensures err { OnErr result (names.new ≡ names.old) }
 {
     match read.text {
         None => Ok(read.line),

@@ -1,14 +1,21 @@
 //! Reads a record.
-ghost use Rattle.std.specs.Prelude.{◌≡◌, ◌+◌, ◌<◌, ◌≤◌, ◌^◌, length, IfOk, IfErr, OnOk, Some, None, option_map};
-ghost use Rattle.run_record.specs.Fields.{fields};
+ghost use Rattle.std.specs.Prelude.{◌≡◌, ◌+◌, ◌<◌, ◌≤◌, ◌^◌, [], length, IfOk, IfErr, OnOk, Some, None, false, option_map};
+ghost use Rattle.std.specs.List.{All};
+ghost use Rattle.pool_syntax.specs.declared.words.Line.{Line};
+ghost use Rattle.record_lines.specs.Writable.{IsWritable};
+ghost use Rattle.mesh_semantics.specs.Asks.{ask_of};
+ghost use Rattle.run_record.specs.Fields.{fields, parts};
 ghost use Rattle.run_record.specs.Numbered.{IsTable, IsTold, lines_after, names_after};
-ghost use Rattle.run_record.specs.Records.{done_of, follows, is_empty, is_end, last_after, line_of, record_of, row_fault, tail_row};
+ghost use Rattle.run_record.specs.Posts.{HasPosts};
+ghost use Rattle.run_record.specs.Records.{done_of, follows, is_empty, is_end, last_after, record_of, row_fault, row_of, rows, rows_of, tail_row};
+ghost use Rattle.run_record.specs.RowBy.{row};
 ghost use Rattle.run_record.specs.ToldBy.{told};
 
 use crate::fault::RecordFault;
 use crate::fields::cut;
-use crate::line::{ReadLine, line_in};
 use crate::numbered::numbered;
+use crate::posts::Posts;
+use crate::row::{Form, ReadRow, row_in};
 use pool_syntax::{End, Line, List, Names};
 use std::alloc::Global;
 
@@ -51,24 +58,77 @@ fn is_end(line: &Line) -> bool
 }
 
 /// What a line says that stands behind so many others, the last event having this number; or its fault.
-fn judge(seen: u32, last: u32, ended: bool, line: &[u8]) -> Result<ReadLine<'_>, RecordFault>
+fn judge<'a>(
+    form: Form,
+    posts: &Posts,
+    seen: u32,
+    last: u32,
+    ended: bool,
+    line: &'a [u8],
+) -> Result<ReadRow<'a>, RecordFault>
     requires few { seen ≤ 67108864 }
     requires last { last ≤ 2000000 }
-    ensures line { IfOk result (λ r. line_of (fields line.now) ≡ Some (told r)) }
-    ensures ok { OnOk result (row_fault seen last ended (line_of (fields line.now)) ≡ None) }
-    ensures next { IfOk result (λ r. last_after last r.line ≤ 2000000) }
-    ensures err { IfErr result (λ f. row_fault seen last ended (line_of (fields line.now)) ≡ Some f) }
+    ensures line { IfOk result (λ r. row_of form (fields line.now) ≡ Some (row r)) }
+    ensures ok { (earlier : List Line) → HasPosts posts.now earlier → OnOk result (row_fault earlier seen last ended (row_of form (fields line.now)) ≡ None) }
+    ensures next { IfOk result (λ r. last_after last r.read.line ≤ 2000000) }
+    ensures err { (earlier : List Line) → HasPosts posts.now earlier → IfErr result (λ f. row_fault earlier seen last ended (row_of form (fields line.now)) ≡ Some f) }
 {
-    let Some(read) = line_in(line) else {
+    let Some(read) = row_in(form, line) else {
         return Err(RecordFault::BadLine { line: seen + 1 });
     };
-    if !ended && follows(last, &read.line) {
-        return Ok(read);
+    if ended || !follows(last, &read.read.line) {
+        return Err(RecordFault::OutOfOrder { line: seen + 1 });
     }
-    Err(RecordFault::OutOfOrder { line: seen + 1 })
+    match read.ask {
+        None => Ok(read),
+        Some(ask) => {
+            if ask == posts.ask(&read.read.line) {
+                return Ok(read);
+            }
+            Err(RecordFault::WrongAsk { line: seen + 1 })
+        }
+    }
 }
 
-/// The lines of a record's text of at most 67,108,864 bytes, or its first fault. The texts of names go last into the table where they
+/// The form of a record's text, the text behind the line that says so, and the number of such lines.
+#[derive(Clone, Copy)]
+pub struct Opening<'a> {
+    pub form: Form,
+    pub text: &'a [u8],
+    pub seen: u32,
+}
+
+/// Tells the form by the first line.
+#[tactic(auto, using(crate::proofs::Rows::second_rows, crate::proofs::Rows::first_rows))]
+fn form_of(bytes: &[u8]) -> Opening<'_>
+    ensures rows { rows result.form [] result.seen 0 false (parts 10 result.text.now) ≡ record_of bytes.now }
+    ensures shorter { result.seen + length result.text.now ≤ length bytes.now }
+{
+    let first = cut(b'\n', bytes);
+    match first.rest {
+        None => Opening {
+            form: Form::First,
+            text: bytes,
+            seen: 0,
+        },
+        Some(left) => {
+            if first.first == b"record 2".as_slice() {
+                return Opening {
+                    form: Form::Second,
+                    text: left,
+                    seen: 1,
+                };
+            }
+            Opening {
+                form: Form::First,
+                text: bytes,
+                seen: 0,
+            }
+        }
+    }
+}
+
+/// The lines of a record's text in either form, of at most 67,108,864 bytes, or its first fault. The texts of names go last into the table where they
 /// are new, and stay there after a refusal.
 pub fn read_record(
     alloc: Global,
@@ -80,12 +140,15 @@ pub fn read_record(
     ensures faultless { OnOk result ((record_of bytes.now).fault ≡ None) }
     ensures lines { IfOk result (λ ls. ls ≡ lines_after names.old (record_of bytes.now).told) }
     ensures names { OnOk result (names.new ≡ names_after names.old (record_of bytes.now).told) }
+    ensures writable { IfOk result (All (IsWritable names.new)) }
     ensures fault { IfErr result (λ f. IsTold f (record_of bytes.now).fault) }
-    ensures kept { IfErr result (λ f. IsTable f names.new (names_after names.old (record_of bytes.now).told)) }
+    ensures kept { IfErr result (λ f. IsTable f names.new names.old (record_of bytes.now).told) }
 {
     let mut lines = List::make(alloc);
-    let mut text = bytes;
-    let mut seen = 0;
+    let mut posts = Posts::make(alloc);
+    let start = form_of(bytes);
+    let mut text = start.text;
+    let mut seen = start.seen;
     let mut last = 0;
     let mut ended = false;
     'lines: loop {
@@ -96,13 +159,17 @@ pub fn read_record(
             }
             return Err(RecordFault::BadLine { line: seen + 1 });
         };
-        let read = match judge(seen, last, ended, next.first) {
-            Ok(read) => read,
+        let row = match judge(start.form, &posts, seen, last, ended, next.first) {
+            Ok(row) => row,
             Err(fault) => return Err(fault),
         };
-        last = last_after(last, &read.line);
-        ended = is_end(&read.line);
-        match numbered(names, &read) {
+        last = last_after(last, &row.read.line);
+        ended = is_end(&row.read.line);
+        match posts.add(&row.read.line) {
+            Ok(()) => {}
+            Err(_) => return Err(RecordFault::Memory),
+        }
+        match numbered(names, &row.read) {
             Ok(line) => match lines.push(line) {
                 Ok(()) => {}
                 Err(_) => return Err(RecordFault::Memory),

@@ -1,7 +1,7 @@
 //! What the words of a line show.
 ghost use Rattle.std.specs.Prelude.{◌≡◌, None, option_map};
 ghost use Rattle.run_record.specs.Fields.{fields, parts_left, values_within};
-ghost use Rattle.run_record.specs.Shown.{arrive_of, created_of, delay_of, fault_of, create_of, item_for, item_of, local_of, making, message_from, message_of, new_of, once, pick_of, post_by, post_of, result_of, return_of, shown_by, step_of, what_of, write_of};
+ghost use Rattle.run_record.specs.Shown.{arrive_of, created_of, delay_of, fault_of, frame_of, only_count, create_of, item_for, item_of, local_of, making, message_from, message_of, new_of, once, pick_of, post_by, post_of, result_of, return_of, shown_by, step_of, what_of, write_of};
 ghost use Rattle.run_record.specs.ShownBy.{shown};
 
 use crate::fields::{Few, cut, few_fields};
@@ -342,6 +342,45 @@ fn step_in<'a>(word: &[u8], words: &'a [u8]) -> Option<Read<'a>>
     None
 }
 
+/// The only word, which is a count.
+fn only_count(words: &[u8]) -> Option<u32>
+    ensures { result ≡ only_count (fields words.now) }
+{
+    match few_fields(words) {
+        Few::One(one) => count(one),
+        Few::Two(_, _) => None,
+        Few::Three(_, _, _) => None,
+        Few::More(_, _, _, _) => None,
+    }
+}
+
+/// What became of a frame.
+fn frame_in(word: &[u8], words: &[u8]) -> Option<Read<'static>>
+    ensures { option_map shown result ≡ frame_of word.now (fields words.now) }
+{
+    if word == b"frame".as_slice() {
+        let number = only_count(words)?;
+        return Some(alone(What::Frame { number }));
+    }
+    if word == b"lost".as_slice() {
+        let number = only_count(words)?;
+        return Some(alone(What::Lost { number }));
+    }
+    if word == b"stale".as_slice() {
+        let number = only_count(words)?;
+        return Some(alone(What::Stale { number }));
+    }
+    if word == b"acked".as_slice() {
+        let number = only_count(words)?;
+        return Some(alone(What::Acked { number }));
+    }
+    if word == b"late".as_slice() {
+        let number = only_count(words)?;
+        return Some(alone(What::Late { number }));
+    }
+    None
+}
+
 fn delay_in<'a>(word: &[u8], words: &'a [u8]) -> Option<Read<'a>>
     ensures { option_map shown result ≡ delay_of word.now (fields words.now) }
 {
@@ -357,7 +396,7 @@ fn delay_in<'a>(word: &[u8], words: &'a [u8]) -> Option<Read<'a>>
     if word == b"result".as_slice() {
         return result_in(words);
     }
-    None
+    frame_in(word, words)
 }
 
 fn shown_by<'a>(word: &[u8], words: &'a [u8]) -> Option<Read<'a>>

@@ -1,11 +1,12 @@
 -- Stretches: their ends, and the event of a number in them.
-use Rattle.std.proofs.Common.{◌≡◌, ℕ, zero, suc, ◌+◌, ◌-◌, ◌*◌, ◌%◌, ◌<◌, ◌≤◌, List, [], ◌∷◌, ◌++◌, length, get_or, slice_get, nat_le, true, false, refl, sym, ap, ◌∙◌, inl, inr, ◌⊎◌, arith, length-append}
+use Rattle.std.proofs.Common.{◌≡◌, ℕ, zero, suc, ◌+◌, ◌-◌, ◌*◌, ◌%◌, ◌<◌, ◌≤◌, List, [], ◌∷◌, ◌++◌, length, get_or, slice_get, nat_le, Bool, true, false, refl, sym, ap, ◌∙◌, inl, inr, ◌⊎◌, arith, length-append}
 use Rattle.std.proofs.Math.Nat.{mod-eq_of_lt, mod-eq-sub-mod}
 use Rattle.std.proofs.lemmas.Bool.{cases_lt}
 use borrow.Author.Tests.{leb-true, leb-false}
 use Rattle.std.specs.List.{repeat}
 use Rattle.std.specs.List.Sorted.{IsNonDecreasingBy, IsPartitionPoint}
 use Rattle.pool_syntax.specs.declared.words.Event.{Event}
+use Rattle.pool_syntax.specs.declared.words.LinkId.{LinkId}
 use Rattle.schedule_reader.specs.declared.stretch.Stretch.{Stretch}
 use Rattle.schedule_reader.specs.declared.entry.Entry.{Entry}
 use Rattle.schedule_reader.specs.Events.{count_of, events_of, total, unit_of}
@@ -119,7 +120,7 @@ point_found round last i place ss d h lt p =
     let above : i < (get_or ss place d).end = leb-false _ _ (p.1 place d (omega arith) lt) in
     (above, first_above round 0 last i place ss d h (omega arith) lt (λ k q. leb-true _ _ (p.0 k d (omega arith) q)) above)
 
-pub length_events : (w h : ℕ) (es : List Entry) → length (events_of w h es) ≡ total w h es
-length_events w h [] = refl
-length_events w h (e ∷ es) =
-    omega (arith, length-append (repeat (count_of e) (unit_of w h e)) (events_of w h es), length_repeat (count_of e) (unit_of w h e), length_events w h es)
+pub length_events : (w h : ℕ) (cuts : List LinkId) (lossy : Bool) (es : List Entry) → length (events_of w h cuts lossy es) ≡ total w h cuts lossy es
+length_events w h cuts lossy [] = refl
+length_events w h cuts lossy (e ∷ es) =
+    omega (arith, length-append (repeat (count_of e) (unit_of w h cuts lossy e)) (events_of w h cuts lossy es), length_repeat (count_of e) (unit_of w h cuts lossy e), length_events w h cuts lossy es)

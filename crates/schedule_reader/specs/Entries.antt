@@ -1,16 +1,21 @@
 -- What a line of a schedule says, and its faults.
-use Rattle.std.specs.Prelude.{ℕ, ◌+◌, ◌*◌, ◌/◌, ◌%◌, List, [], ◌∷◌, Option, Some, None, Bool, true, false, ◌&&◌, ◌||◌, nat_eq, nat_le, nat_lt, bytes_eq, codes}
+use Rattle.std.specs.Prelude.{ℕ, ◌*◌, List, [], ◌∷◌, Option, Some, None, Bool, true, false, not, ◌&&◌, if◌then◌else◌, nat_le, nat_lt, bytes_eq, codes}
+use Rattle.std.specs.Option.{option_or}
 use Rattle.pool_syntax.specs.Tokens.{Text}
+use Rattle.pool_syntax.specs.declared.words.LinkId.{LinkId}
+use Rattle.pool_syntax.specs.declared.words.WireAct.{WireAct}
+use Rattle.pool_syntax.specs.declared.words.WireAct.TheVariants as A
+use Rattle.mesh_semantics.specs.Paths.{are_neighbours, is_cut}
 use Rattle.input_lines.specs.Kept.{Kept, number_of}
 use Rattle.schedule_reader.specs.declared.entry.Entry.{Entry}
 use Rattle.schedule_reader.specs.declared.entry.Entry.TheVariants as E
 use Rattle.schedule_reader.specs.declared.fault.ScheduleFault.{ScheduleFault}
 use Rattle.schedule_reader.specs.declared.fault.ScheduleFault.TheVariants as F
 
--- goes on with the number, if there is one
-abbrev pub then_some : {A : Type 0} → Option ℕ → (ℕ → Option A) → Option A
+-- goes on with what is there, if there is something
+abbrev pub then_some : {A B : Type 0} → Option A → (A → Option B) → Option B
 then_some None next = None
-then_some (Some n) next = next n
+then_some (Some a) next = next a
 
 abbrev pub only_if : {A : Type 0} → Bool → Option A → Option A
 only_if true a = a
@@ -35,13 +40,53 @@ abbrev pub entry_of_four : Text → Text → Text → Text → Option Entry
 entry_of_four w a b c =
     only_if (bytes_eq w (codes "link")) (then_some (number_of a) (λ f. then_some (number_of b) (λ t. then_some (number_of c) (λ n. Some (E.Link f t n)))))
 
-abbrev pub entry_of : List Text → Option Entry
-entry_of [] = None
-entry_of (w ∷ []) = None
-entry_of (w ∷ a ∷ []) = entry_of_two w a
-entry_of (w ∷ a ∷ b ∷ []) = entry_of_three w a b
-entry_of (w ∷ a ∷ b ∷ c ∷ []) = entry_of_four w a b c
-entry_of (w ∷ a ∷ b ∷ c ∷ d ∷ more) = None
+-- what a line says in every schedule
+abbrev pub plain_entry_of : List Text → Option Entry
+plain_entry_of [] = None
+plain_entry_of (w ∷ []) = None
+plain_entry_of (w ∷ a ∷ []) = entry_of_two w a
+plain_entry_of (w ∷ a ∷ b ∷ []) = entry_of_three w a b
+plain_entry_of (w ∷ a ∷ b ∷ c ∷ []) = entry_of_four w a b c
+plain_entry_of (w ∷ a ∷ b ∷ c ∷ d ∷ more) = None
+
+-- a frame is sent, or an acknowledgement comes back: a line may ask for it more than once
+abbrev pub counted_act : Text → Option WireAct
+counted_act w = if bytes_eq w (codes "send") then Some A.Send else (if bytes_eq w (codes "ack") then Some A.Ack else None)
+
+-- what befalls the first frame with a packet
+abbrev pub frame_act : Text → Option WireAct
+frame_act w =
+    if bytes_eq w (codes "lose") then Some A.Lose else (if bytes_eq w (codes "twice") then Some A.Twice else (if bytes_eq w (codes "late") then Some A.Late else None))
+
+-- what befalls the first acknowledgement
+abbrev pub ack_act : Text → Option WireAct
+ack_act w =
+    if bytes_eq w (codes "lose") then Some A.LoseAck else (if bytes_eq w (codes "twice") then Some A.TwiceAck else (if bytes_eq w (codes "late") then Some A.LateAck else None))
+
+-- so many of an act on the wire from A to B
+abbrev pub wire : Option WireAct → Text → Text → Option ℕ → Option Entry
+wire act a b count = then_some act (λ w. then_some (number_of a) (λ f. then_some (number_of b) (λ t. then_some count (λ c. Some (E.Wire w f t c)))))
+
+-- `send A B`, `ack A B`, `lose A B`, `twice A B` and `late A B`
+abbrev pub wire_of_three : Text → Text → Text → Option Entry
+wire_of_three w a b = wire (option_or (counted_act w) (frame_act w)) a b (Some 1)
+
+-- `lose ack A B`, `twice ack A B` and `late ack A B`, and `send A B C` and `ack A B C`
+abbrev pub wire_of_four : Text → Text → Text → Text → Option Entry
+wire_of_four w a b c = if bytes_eq a (codes "ack") then wire (ack_act w) b c (Some 1) else wire (counted_act w) a b (number_of c)
+
+-- what a line says where links are wires, beside that
+abbrev pub wire_entry_of : List Text → Option Entry
+wire_entry_of [] = None
+wire_entry_of (w ∷ []) = None
+wire_entry_of (w ∷ a ∷ []) = None
+wire_entry_of (w ∷ a ∷ b ∷ []) = wire_of_three w a b
+wire_entry_of (w ∷ a ∷ b ∷ c ∷ []) = wire_of_four w a b c
+wire_entry_of (w ∷ a ∷ b ∷ c ∷ d ∷ more) = None
+
+-- what a line says, in a schedule that is lossy or is not
+abbrev pub entry_of : Bool → List Text → Option Entry
+entry_of lossy ws = option_or (plain_entry_of ws) (only_if lossy (wire_entry_of ws))
 
 -- `quantum Q`
 abbrev pub quantum_of : List Text → Option ℕ
@@ -50,13 +95,16 @@ quantum_of (w ∷ []) = None
 quantum_of (w ∷ a ∷ []) = only_if (bytes_eq w (codes "quantum")) (number_of a)
 quantum_of (w ∷ a ∷ b ∷ more) = None
 
--- one more or one less
-abbrev pub are_adjacent : ℕ → ℕ → Bool
-are_adjacent m n = nat_eq (m + 1) n || nat_eq (n + 1) m
+-- `wires lossy`
+abbrev pub is_lossy : List Text → Bool
+is_lossy [] = false
+is_lossy (w ∷ []) = false
+is_lossy (w ∷ a ∷ []) = bytes_eq w (codes "wires") && bytes_eq a (codes "lossy")
+is_lossy (w ∷ a ∷ b ∷ more) = false
 
--- Node k of a mesh of this width stands in column k mod w and row k div w; neighbours are beside each other in one row or one column.
-abbrev pub are_neighbours : ℕ → ℕ → ℕ → Bool
-are_neighbours w a b = (nat_eq (a / w) (b / w) && are_adjacent (a % w) (b % w)) || (nat_eq (a % w) (b % w) && are_adjacent (a / w) (b / w))
+-- whether a link goes from a to b in a mesh of this width that misses these links
+abbrev pub has_link : ℕ → List LinkId → ℕ → ℕ → Bool
+has_link w cuts a b = are_neighbours w a b && not (is_cut cuts a b)
 
 abbrev pub is_count : ℕ → Bool
 is_count c = nat_le 1 c && nat_le c 2000000
@@ -65,18 +113,23 @@ abbrev pub unless : Bool → ScheduleFault → Option ScheduleFault → Option S
 unless true fault next = next
 unless false fault next = Some fault
 
--- the fault of least number of an entry on this line, in a mesh of w times h nodes
-abbrev pub fault_of : ℕ → ℕ → ℕ → Entry → Option ScheduleFault
-fault_of w h line (E.Turn k c) = unless (nat_lt k (w * h)) (F.NoSuchNode line) (unless (is_count c) (F.OutOfRange line) None)
-fault_of w h line (E.Link a b c) =
+-- the fault of least number of so many events on a link
+abbrev pub link_fault : ℕ → ℕ → List LinkId → ℕ → ℕ → ℕ → ℕ → Option ScheduleFault
+link_fault w h cuts line a b c =
     unless (nat_lt a (w * h) && nat_lt b (w * h)) (F.NoSuchNode line)
-    (unless (are_neighbours w a b) (F.NoSuchLink line) (unless (is_count c) (F.OutOfRange line) None))
-fault_of w h line (E.Round c) = unless (is_count c) (F.OutOfRange line) None
+    (unless (has_link w cuts a b) (F.NoSuchLink line) (unless (is_count c) (F.OutOfRange line) None))
 
-abbrev pub fault_or_bad : ℕ → ℕ → ℕ → Option Entry → Option ScheduleFault
-fault_or_bad w h line None = Some (F.BadLine line)
-fault_or_bad w h line (Some e) = fault_of w h line e
+-- the fault of least number of an entry on this line, in a mesh of w times h nodes that misses these links
+abbrev pub fault_of : ℕ → ℕ → List LinkId → ℕ → Entry → Option ScheduleFault
+fault_of w h cuts line (E.Turn k c) = unless (nat_lt k (w * h)) (F.NoSuchNode line) (unless (is_count c) (F.OutOfRange line) None)
+fault_of w h cuts line (E.Link a b c) = link_fault w h cuts line a b c
+fault_of w h cuts line (E.Round c) = unless (is_count c) (F.OutOfRange line) None
+fault_of w h cuts line (E.Wire act a b c) = link_fault w h cuts line a b c
+
+abbrev pub fault_or_bad : ℕ → ℕ → List LinkId → ℕ → Option Entry → Option ScheduleFault
+fault_or_bad w h cuts line None = Some (F.BadLine line)
+fault_or_bad w h cuts line (Some e) = fault_of w h cuts line e
 
 -- the fault of a line
-abbrev pub line_fault : ℕ → ℕ → Kept → Option ScheduleFault
-line_fault w h k = fault_or_bad w h k.line (entry_of k.words)
+abbrev pub line_fault : ℕ → ℕ → List LinkId → Bool → Kept → Option ScheduleFault
+line_fault w h cuts lossy k = fault_or_bad w h cuts k.line (entry_of lossy k.words)

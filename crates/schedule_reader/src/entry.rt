@@ -1,23 +1,41 @@
 //! What a line of a schedule says.
-ghost use Rattle.std.specs.Prelude.{◌≡◌, ◌+◌, ◌*◌, ◌<◌, ◌≤◌, length, IfOk, IfErr, Some, None, true, false};
+ghost use Rattle.std.specs.Prelude.{◌≡◌, ◌+◌, ◌*◌, ◌<◌, ◌≤◌, length, IfOk, IfErr, IfNone, Some, None, true, false};
 ghost use Rattle.pool_lexer.specs.Lines.{words};
-ghost use Rattle.schedule_reader.specs.Entries.{are_adjacent, are_neighbours, entry_of, entry_of_four, entry_of_three, entry_of_two, fault_of, fault_or_bad, is_count, quantum_of};
+ghost use Rattle.mesh_semantics.specs.Paths.{is_cut};
+ghost use Rattle.schedule_reader.specs.Entries.{entry_of, entry_of_four, entry_of_three, entry_of_two, fault_of, fault_or_bad, has_link, is_count, is_lossy, link_fault, plain_entry_of, quantum_of, wire_entry_of};
 ghost use Rattle.schedule_reader.specs.Counts.{IsCountedLine, counted_of};
 
 use crate::fault::ScheduleFault;
 use crate::stretch::{Counted, Part};
+use crate::wire::{wire_of_four, wire_of_three};
 use input_lines::{Few, few_words, number};
-use pool_syntax::Event;
+use mesh_routing::are_neighbours;
+use pool_syntax::{Event, LinkId, WireAct};
 
 /// The most events of a schedule, and the greatest count of a line.
 pub const MOST_EVENTS: u64 = 2000000;
 
-/// What a line behind the quantum says; the count is 1 where the line has none.
+/// What a line behind the quantum says; the count is 1 where the line has none. `Wire` comes in lossy schedules alone.
 #[derive(Clone, Copy)]
 pub enum Entry {
-    Turn { node: u64, count: u64 },
-    Link { from: u64, to: u64, count: u64 },
-    Round { count: u64 },
+    Turn {
+        node: u64,
+        count: u64,
+    },
+    Link {
+        from: u64,
+        to: u64,
+        count: u64,
+    },
+    Round {
+        count: u64,
+    },
+    Wire {
+        act: WireAct,
+        from: u64,
+        to: u64,
+        count: u64,
+    },
 }
 
 fn entry_of_two(word: &[u8], first: &[u8]) -> Option<Entry>
@@ -62,8 +80,8 @@ fn entry_of_four(word: &[u8], first: &[u8], second: &[u8], third: &[u8]) -> Opti
     None
 }
 
-fn entry_in(line: &[u8]) -> Option<Entry>
-    ensures { result ≡ entry_of (words line.now) }
+fn plain_entry_in(line: &[u8]) -> Option<Entry>
+    ensures { result ≡ plain_entry_of (words line.now) }
 {
     match few_words(line) {
         Few::Two(word, first) => entry_of_two(word, first),
@@ -71,6 +89,26 @@ fn entry_in(line: &[u8]) -> Option<Entry>
         Few::Four(word, first, second, third) => entry_of_four(word, first, second, third),
         _ => None,
     }
+}
+
+fn wire_entry_in(line: &[u8]) -> Option<Entry>
+    ensures { result ≡ wire_entry_of (words line.now) }
+{
+    match few_words(line) {
+        Few::Three(word, first, second) => wire_of_three(word, first, second),
+        Few::Four(word, first, second, third) => wire_of_four(word, first, second, third),
+        _ => None,
+    }
+}
+
+/// What a line says; the words of wires are known only in a lossy schedule.
+fn entry_in(lossy: bool, line: &[u8]) -> Option<Entry>
+    ensures { result ≡ entry_of lossy (words line.now) }
+{
+    if let Some(entry) = plain_entry_in(line) {
+        return Some(entry);
+    }
+    if lossy { wire_entry_in(line) } else { None }
 }
 
 /// The number of a `quantum` line, whatever its range.
@@ -83,26 +121,36 @@ pub fn quantum_in(line: &[u8]) -> Option<u64>
     }
 }
 
-fn are_adjacent(one: u64, other: u64) -> bool
-    requires one_small { one < 64 }
-    requires other_small { other < 64 }
-    ensures { result ≡ are_adjacent one other }
+/// Whether this is the line `wires lossy`.
+pub fn is_lossy(line: &[u8]) -> bool
+    ensures { result ≡ is_lossy (words line.now) }
 {
-    one + 1 == other || other + 1 == one
+    match few_words(line) {
+        Few::Two(word, first) => word == b"wires".as_slice() && first == b"lossy".as_slice(),
+        _ => false,
+    }
 }
 
-/// Whether a link goes from one node to the other, in a mesh of this width.
-pub fn are_neighbours(width: u64, one: u64, other: u64) -> bool
-    requires width { 1 ≤ width }
-    requires one_small { one < 64 }
-    requires other_small { other < 64 }
-    ensures { result ≡ are_neighbours width one other }
+/// Whether the link is one of the missing ones.
+fn is_cut(cuts: &[LinkId], from: u64, to: u64) -> bool
+    ensures { result ≡ is_cut cuts.now from to }
 {
-    let same_row = one / width == other / width;
-    let same_column = one % width == other % width;
-    let beside = are_adjacent(one % width, other % width);
-    let below = are_adjacent(one / width, other / width);
-    (same_row && beside) || (same_column && below)
+    for cut in cuts {
+        if u64::from(cut.from) == from && u64::from(cut.to) == to {
+            return true;
+        }
+    }
+    false
+}
+
+/// Whether a link goes from one node to the other, in a mesh of this width that misses these links.
+pub fn has_link(width: u64, cuts: &[LinkId], from: u64, to: u64) -> bool
+    requires width { 1 ≤ width }
+    requires from_small { from < 64 }
+    requires to_small { to < 64 }
+    ensures { result ≡ has_link width cuts.now from to }
+{
+    are_neighbours(width, from, to) && !is_cut(cuts, from, to)
 }
 
 fn is_count(count: u64) -> bool
@@ -125,48 +173,112 @@ fn counted(line: u32, count: u64, part: Part) -> Result<Counted, ScheduleFault>
     })
 }
 
-/// The part of an entry and its count, or the entry's fault, in a mesh of this width and height.
-fn checked(width: u64, height: u64, line: u32, entry: Entry) -> Result<Counted, ScheduleFault>
+/// The fault of so many events on a link, in a mesh of this width and height that misses these links.
+fn link_fault(
+    width: u64,
+    height: u64,
+    cuts: &[LinkId],
+    line: u32,
+    from: u64,
+    to: u64,
+    count: u64,
+) -> Option<ScheduleFault>
     requires width { (1 ≤ width) × (width ≤ 8) }
     requires height { (1 ≤ height) × (height ≤ 8) }
-    ensures ok { IfOk result (λ c. (fault_of width height line entry ≡ None) × (c ≡ counted_of entry)) }
-    ensures err { IfErr result (λ f. fault_of width height line entry ≡ Some f) }
+    ensures fault { result ≡ link_fault width height cuts.now line from to count }
+    ensures none { IfNone result ((from < width * height) × (to < width * height) × (count ≤ 2000000)) }
 {
     let nodes = width * height;
+    if from >= nodes || to >= nodes {
+        return Some(ScheduleFault::NoSuchNode { line });
+    }
+    if !has_link(width, cuts, from, to) {
+        return Some(ScheduleFault::NoSuchLink { line });
+    }
+    if !is_count(count) {
+        return Some(ScheduleFault::OutOfRange { line });
+    }
+    None
+}
+
+/// So many of one event. The link's ends are nodes of the mesh, and the count is in its range.
+fn times(count: u64, event: Event) -> Counted
+    requires { count ≤ 2000000 }
+    ensures { result ≡ record { count = count; part = Part.One event } }
+{
+    Counted {
+        count: count as u32,
+        part: Part::One(event),
+    }
+}
+
+/// The part of an entry and its count, or the entry's fault, in a mesh of this width and height.
+fn checked(
+    width: u64,
+    height: u64,
+    cuts: &[LinkId],
+    line: u32,
+    entry: Entry,
+) -> Result<Counted, ScheduleFault>
+    requires width { (1 ≤ width) × (width ≤ 8) }
+    requires height { (1 ≤ height) × (height ≤ 8) }
+    ensures ok { IfOk result (λ c. (fault_of width height cuts.now line entry ≡ None) × (c ≡ counted_of entry)) }
+    ensures err { IfErr result (λ f. fault_of width height cuts.now line entry ≡ Some f) }
+{
     match entry {
         Entry::Turn { node, count } => {
-            if node >= nodes {
+            if node >= width * height {
                 return Err(ScheduleFault::NoSuchNode { line });
             }
             let event = Event::Turn { node: node as u32 };
             counted(line, count, Part::One(event))
         }
         Entry::Link { from, to, count } => {
-            if from >= nodes || to >= nodes {
-                return Err(ScheduleFault::NoSuchNode { line });
-            }
-            if !are_neighbours(width, from, to) {
-                return Err(ScheduleFault::NoSuchLink { line });
+            if let Some(fault) = link_fault(width, height, cuts, line, from, to, count) {
+                return Err(fault);
             }
             let event = Event::Link {
                 from: from as u32,
                 to: to as u32,
             };
-            counted(line, count, Part::One(event))
+            Ok(times(count, event))
         }
         Entry::Round { count } => counted(line, count, Part::Round),
+        Entry::Wire {
+            act,
+            from,
+            to,
+            count,
+        } => {
+            if let Some(fault) = link_fault(width, height, cuts, line, from, to, count) {
+                return Err(fault);
+            }
+            let event = Event::Wire {
+                act,
+                from: from as u32,
+                to: to as u32,
+            };
+            Ok(times(count, event))
+        }
     }
 }
 
 /// What a line behind the quantum says, or its fault.
-pub fn judge(width: u64, height: u64, number: u32, line: &[u8]) -> Result<Counted, ScheduleFault>
+pub fn judge(
+    width: u64,
+    height: u64,
+    cuts: &[LinkId],
+    lossy: bool,
+    number: u32,
+    line: &[u8],
+) -> Result<Counted, ScheduleFault>
     requires width { (1 ≤ width) × (width ≤ 8) }
     requires height { (1 ≤ height) × (height ≤ 8) }
-    ensures ok { IfOk result (λ c. IsCountedLine width height number (words line.now) c) }
-    ensures err { IfErr result (λ f. fault_or_bad width height number (entry_of (words line.now)) ≡ Some f) }
+    ensures ok { IfOk result (λ c. IsCountedLine width height cuts.now lossy number (words line.now) c) }
+    ensures err { IfErr result (λ f. fault_or_bad width height cuts.now number (entry_of lossy (words line.now)) ≡ Some f) }
 {
-    let Some(entry) = entry_in(line) else {
+    let Some(entry) = entry_in(lossy, line) else {
         return Err(ScheduleFault::BadLine { line: number });
     };
-    checked(width, height, number, entry)
+    checked(width, height, cuts, number, entry)
 }

@@ -9,9 +9,10 @@ ghost use Rattle.schedule_reader.specs.Stretches.{AreEnds, part_events, stretche
 
 use crate::entry::{MOST_EVENTS, judge};
 use crate::fault::ScheduleFault;
+use crate::opening::Opening;
 use crate::stretch::{Counted, Stretch, part_len};
 use input_lines::next_kept;
-use pool_syntax::Event;
+use pool_syntax::{Event, LinkId};
 use std::alloc::{AllocError, Global};
 
 /// The stretches so far, where they have at most 2,000,000 events, and the number of all events.
@@ -24,8 +25,8 @@ pub struct Gathered {
 /// Counts what a line asks for, and keeps it where all events so far are at most 2,000,000.
 fn add(gathered: &mut Gathered, round: &[Event], line: Counted) -> Result<(), AllocError>
     requires count { line.count ≤ 2000000 }
-    requires round { length round.now ≤ 4160 }
-    requires total { gathered.old.total ≤ 1000000000000000000 }
+    requires round { length round.now ≤ 12352 }
+    requires total { gathered.old.total ≤ 2000000000000000000 }
     requires ends { gathered.old.total ≤ 2000000 → AreEnds round.now 0 gathered.old.stretches.items gathered.old.total }
     ensures total { OnOk result (gathered.new.total ≡ gathered.old.total + line.count * length (part_events round.now line.part)) }
     ensures ends { OnOk result (gathered.new.total ≤ 2000000 → AreEnds round.now 0 gathered.new.stretches.items gathered.new.total) }
@@ -42,39 +43,41 @@ fn add(gathered: &mut Gathered, round: &[Event], line: Counted) -> Result<(), Al
     Ok(())
 }
 
-/// All entries from a line on, or the fault of the first line that has one.
+/// All entries of the lines of events, or the fault of the first line that has one.
 pub fn gather(
     alloc: Global,
     bytes: &[u8],
-    from: usize,
-    line: u32,
+    opening: Opening,
     width: u32,
     height: u32,
+    cuts: &[LinkId],
     round: &[Event],
 ) -> Result<Gathered, ScheduleFault>
-    requires within { from ≤ length bytes.now }
+    requires within { opening.at ≤ length bytes.now }
     requires small { length bytes.now ≤ 67108864 }
-    requires few { line ≤ from + 1 }
+    requires few { opening.line ≤ opening.at + 1 }
     requires width { (1 ≤ width) × (width ≤ 8) }
     requires height { (1 ≤ height) × (height ≤ 8) }
-    requires round { round.now ≡ round_of width height }
-    requires round_small { length round.now ≤ 4160 }
-    ensures faultless { OnOk result (first_fault width height (kept_from line (lines (drop from bytes.now))) ≡ None) }
-    ensures total { IfOk result (λ g. g.total ≡ total width height (entries_of (kept_from line (lines (drop from bytes.now))))) }
+    requires round { round.now ≡ round_of width height cuts.now opening.lossy }
+    requires round_small { length round.now ≤ 12352 }
+    ensures faultless { OnOk result (first_fault width height cuts.now opening.lossy (kept_from opening.line (lines (drop opening.at bytes.now))) ≡ None) }
+    ensures total { IfOk result (λ g. g.total ≡ total width height cuts.now opening.lossy (entries_of opening.lossy (kept_from opening.line (lines (drop opening.at bytes.now))))) }
     ensures ends { IfOk result (λ g. g.total ≤ 2000000 → AreEnds round.now 0 g.stretches.items g.total) }
-    ensures events { IfOk result (λ g. g.total ≤ 2000000 → stretched round.now g.stretches.items ≡ events_of width height (entries_of (kept_from line (lines (drop from bytes.now))))) }
-    ensures fault { IfErr result (λ f. IsTold f (first_fault width height (kept_from line (lines (drop from bytes.now))))) }
+    ensures events { IfOk result (λ g. g.total ≤ 2000000 → stretched round.now g.stretches.items ≡ events_of width height cuts.now opening.lossy (entries_of opening.lossy (kept_from opening.line (lines (drop opening.at bytes.now))))) }
+    ensures fault { IfErr result (λ f. IsTold f (first_fault width height cuts.now opening.lossy (kept_from opening.line (lines (drop opening.at bytes.now))))) }
 {
     let mut gathered = Gathered {
         stretches: Vec::new(alloc),
         total: 0,
     };
-    let mut at = from;
-    let mut number = line;
+    let mut at = opening.at;
+    let mut number = opening.line;
     while let Some(found) = next_kept(bytes, at, number) {
         let counted = judge(
             u64::from(width),
             u64::from(height),
+            cuts,
+            opening.lossy,
             found.line,
             &bytes[found.start..found.end],
         )?;

@@ -7,6 +7,7 @@ ghost use Rattle.schedule_reader.specs.Schedules.{IsTold, fault_in, quantum_faul
 use crate::entry::{MOST_EVENTS, quantum_in};
 use crate::fault::ScheduleFault;
 use crate::gather::gather;
+use crate::opening::behind_quantum;
 use crate::round::round;
 use crate::schedule::Schedule;
 use input_lines::{count_lines, next_kept};
@@ -34,8 +35,8 @@ pub fn read_schedule(
     requires small { length bytes.now ≤ 67108864 }
     requires width { (1 ≤ placement.now.width) × (placement.now.width ≤ 8) }
     requires height { (1 ≤ placement.now.height) × (placement.now.height ≤ 8) }
-    ensures ok { IfOk result (λ s. schedule_of placement.now.width placement.now.height bytes.now ≡ Ok s) }
-    ensures err { IfErr result (λ f. IsTold f (fault_in (schedule_of placement.now.width placement.now.height bytes.now))) }
+    ensures ok { IfOk result (λ s. schedule_of placement.now.width placement.now.height placement.now.cuts bytes.now ≡ Ok s) }
+    ensures err { IfErr result (λ f. IsTold f (fault_in (schedule_of placement.now.width placement.now.height placement.now.cuts bytes.now))) }
 {
     let Some(first) = next_kept(bytes, 0, 1) else {
         return Err(ScheduleFault::BadLine {
@@ -43,14 +44,21 @@ pub fn read_schedule(
         });
     };
     let quantum = first_quantum(first.line, &bytes[first.start..first.end])?;
-    let round = round(alloc, placement.width, placement.height)?;
+    let opening = behind_quantum(bytes, first.next, first.line + 1);
+    let round = round(
+        alloc,
+        placement.width,
+        placement.height,
+        placement.cuts.items(),
+        opening.lossy,
+    )?;
     let gathered = gather(
         alloc,
         bytes,
-        first.next,
-        first.line + 1,
+        opening,
         placement.width,
         placement.height,
+        placement.cuts.items(),
         round.as_slice(),
     )?;
     if gathered.total > MOST_EVENTS {
@@ -60,6 +68,7 @@ pub fn read_schedule(
     }
     Ok(Schedule {
         quantum,
+        lossy: opening.lossy,
         round,
         stretches: gathered.stretches,
         last: gathered.total as u32,

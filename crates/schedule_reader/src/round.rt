@@ -1,10 +1,10 @@
 //! The events of a round of the mesh.
 ghost use Rattle.std.specs.Prelude.{◌≡◌, ◌+◌, ◌*◌, ◌<◌, ◌≤◌, ◌++◌, length, OnOk, IfOk, vec_len};
-ghost use Rattle.schedule_reader.specs.Events.{moves_from, moves_to, round_of, turns};
+ghost use Rattle.schedule_reader.specs.Events.{moves_from, moves_to, round_of, round_on, turns};
 ghost use Rattle.std.specs.List.{range_with_len};
 
-use crate::entry::are_neighbours;
-use pool_syntax::Event;
+use crate::entry::has_link;
+use pool_syntax::{Event, LinkId, WireAct};
 use std::alloc::{AllocError, Global};
 
 /// Puts a turn of each node.
@@ -18,50 +18,87 @@ fn push_turns(events: &mut Vec<Event>, nodes: u32) -> Result<(), AllocError>
     Ok(())
 }
 
-/// Puts a move on each link that goes from a node.
+/// Puts what a round asks of a link: a move, and on a wire a frame that is sent before it and an acknowledgement that comes back after it.
+fn push_link(events: &mut Vec<Event>, lossy: bool, from: u32, to: u32) -> Result<(), AllocError>
+    ensures items { OnOk result (events.new.items ≡ events.old.items ++ round_on lossy from to) }
+    ensures few { OnOk result (vec_len events.new ≤ vec_len events.old + 3) }
+{
+    if !lossy {
+        events.push(Event::Link { from, to })?;
+        return Ok(());
+    }
+    events.push(Event::Wire {
+        act: WireAct::Send,
+        from,
+        to,
+    })?;
+    events.push(Event::Link { from, to })?;
+    events.push(Event::Wire {
+        act: WireAct::Ack,
+        from,
+        to,
+    })?;
+    Ok(())
+}
+
+/// Puts what a round asks of each link that goes from a node.
 fn push_moves_to(
     events: &mut Vec<Event>,
     width: u32,
+    cuts: &[LinkId],
+    lossy: bool,
     nodes: u32,
     from: u32,
 ) -> Result<(), AllocError>
     requires width { 1 ≤ width }
     requires small { nodes ≤ 64 }
     requires within { from < nodes }
-    ensures items { OnOk result (events.new.items ≡ events.old.items ++ moves_to width from (range_with_len 0 nodes)) }
-    ensures few { OnOk result (vec_len events.new ≤ vec_len events.old + 64) }
+    ensures items { OnOk result (events.new.items ≡ events.old.items ++ moves_to width cuts.now lossy from (range_with_len 0 nodes)) }
+    ensures few { OnOk result (vec_len events.new ≤ vec_len events.old + 192) }
 {
     for to in 0..nodes {
-        if are_neighbours(u64::from(width), u64::from(from), u64::from(to)) {
-            events.push(Event::Link { from, to })?;
+        if has_link(u64::from(width), cuts, u64::from(from), u64::from(to)) {
+            push_link(events, lossy, from, to)?;
         }
     }
     Ok(())
 }
 
-/// Puts a move on each link.
-fn push_moves(events: &mut Vec<Event>, width: u32, nodes: u32) -> Result<(), AllocError>
+/// Puts what a round asks of each link.
+fn push_moves(
+    events: &mut Vec<Event>,
+    width: u32,
+    cuts: &[LinkId],
+    lossy: bool,
+    nodes: u32,
+) -> Result<(), AllocError>
     requires width { 1 ≤ width }
     requires small { nodes ≤ 64 }
-    ensures items { OnOk result (events.new.items ≡ events.old.items ++ moves_from width nodes (range_with_len 0 nodes)) }
-    ensures few { OnOk result (vec_len events.new ≤ vec_len events.old + 4096) }
+    ensures items { OnOk result (events.new.items ≡ events.old.items ++ moves_from width cuts.now lossy nodes (range_with_len 0 nodes)) }
+    ensures few { OnOk result (vec_len events.new ≤ vec_len events.old + 12288) }
 {
     for from in 0..nodes {
-        push_moves_to(events, width, nodes, from)?;
+        push_moves_to(events, width, cuts, lossy, nodes, from)?;
     }
     Ok(())
 }
 
-/// The events of a round: at most 64 turns, and 224 moves.
-pub fn round(alloc: Global, width: u32, height: u32) -> Result<Vec<Event>, AllocError>
+/// The events of a round: at most 64 turns, and for each of at most 224 links that are not cut a move, or on wires three events.
+pub fn round(
+    alloc: Global,
+    width: u32,
+    height: u32,
+    cuts: &[LinkId],
+    lossy: bool,
+) -> Result<Vec<Event>, AllocError>
     requires width { (1 ≤ width) × (width ≤ 8) }
     requires height { (1 ≤ height) × (height ≤ 8) }
-    ensures items { IfOk result (λ events. events.items ≡ round_of width height) }
-    ensures few { IfOk result (λ events. vec_len events ≤ 4160) }
+    ensures items { IfOk result (λ events. events.items ≡ round_of width height cuts.now lossy) }
+    ensures few { IfOk result (λ events. vec_len events ≤ 12352) }
 {
     let nodes = width * height;
     let mut events = Vec::new(alloc);
     push_turns(&mut events, nodes)?;
-    push_moves(&mut events, width, nodes)?;
+    push_moves(&mut events, width, cuts, lossy, nodes)?;
     Ok(events)
 }

@@ -5,10 +5,11 @@ use crate::stretch::{Stretch, event_at};
 use pool_syntax::Event;
 use std::marker::Model;
 
-/// A quantum and a list of events, which are kept as a line of the text has them: a `round` is not spelled out, nor is a count.
+/// A quantum, whether links are wires that may lose, and a list of events, which are kept as a line of the text has them: a `round` is not spelled out, nor is a count.
 #[derive(Drop)]
 pub struct Schedule {
     pub(crate) quantum: u32,
+    pub(crate) lossy: bool,
     pub(crate) round: Vec<Event>,
     pub(crate) stretches: Vec<Stretch>,
     pub(crate) last: u32,
@@ -20,7 +21,7 @@ impl Model for Schedule {
 
     ghost Value = { Plan };
 
-    ghost view = { λ s. record { quantum = s.quantum; events = stretched s.round.items s.stretches.items } };
+    ghost view = { λ s. record { quantum = s.quantum; lossy = s.lossy; events = stretched s.round.items s.stretches.items } };
 
     ghost invariant = { λ s. AreEnds s.round.items 0 s.stretches.items s.last };
 }
@@ -31,6 +32,13 @@ impl Schedule {
         ensures { result ≡ self.now.quantum }
     {
         self.quantum
+    }
+
+    /// Whether each link is a wire that may lose, repeat and reorder. Where it is not, no event is one on a wire.
+    pub fn lossy(&self) -> bool
+        ensures { result ≡ self.now.lossy }
+    {
+        self.lossy
     }
 
     /// The number of events, at most 2,000,000.

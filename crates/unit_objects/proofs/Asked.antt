@@ -4,6 +4,8 @@ use Rattle.std.specs.Prelude.{slice_get, if◌then◌else◌}
 use Rattle.std.specs.List.{list_any}
 use Rattle.pool_syntax.specs.declared.words.NameId.{NameId}
 use Rattle.pool_syntax.specs.declared.words.Value.{Value}
+use Rattle.pool_syntax.specs.declared.words.Item.{Item}
+use Rattle.pool_syntax.specs.declared.words.Item.TheVariants as It
 use Rattle.pool_syntax.specs.declared.words.Value.TheVariants as V
 use Rattle.pool_syntax.specs.declared.words.Serves.{Serves}
 use Rattle.pool_syntax.specs.declared.words.Serves.TheVariants as S
@@ -22,7 +24,8 @@ use Rattle.object_code.specs.Kinds.{Kind, Offered, operated, outcome_kind, sent_
 use Rattle.object_code.specs.Proper.{AreOwn, AnswerOwn, AltsExist, Exists, IsProper}
 use Rattle.object_code.specs.Step.{Numbered, method_named, method_serving, frames_serving, code_serving, placed_of, code_placed, placed_at, class_from, code_made}
 use Rattle.mesh_semantics.specs.Sound.{Each}
-use Rattle.unit_objects.specs.OfUnit.{IsFrameOf, AreFramesOf, IsObjectOf, HoldsOfPlain, IsNamed}
+use Rattle.unit_objects.proofs.Reaching.{plain_range}
+use Rattle.unit_objects.specs.OfUnit.{IsFrameOf, AreFramesOf, IsObjectOf, HoldsOfItem, HoldsOfPlain, IsInRange, IsMadeIn, IsNamed}
 use Rattle.unit_objects.proofs.Elements.{length_taken, each_dropped, each_taken, each_top}
 use Rattle.unit_objects.proofs.Resting.{same_some}
 use Rattle.unit_objects.proofs.Stepping.{outcome_never, if_never, sent_never, return_never}
@@ -65,8 +68,12 @@ module _ (f : Frame) (Q : Kind → Type 0) (local : Q K.Local → ⊥) (fault : 
       if_never Q (list_any not_bool gs) (K.Fault NilOperand) (if list_any is_true gs then K.Select (offers alts gs) else K.Fault NoOpenGuard) (fault NilOperand)
       (if_never Q (list_any is_true gs) (K.Select (offers alts gs)) (K.Fault NoOpenGuard) (s (offers alts gs)) (fault NoOpenGuard)) a
 
+abbrev item_of : Kind → Item
+item_of (K.Write j) = j
+item_of _ = It.Value V.Nil
+
 -- what a frame sends
-module _ (P : Value → Type 0) (plain : HoldsOfPlain P) where
+module _ (P : Value → Type 0) (plain : HoldsOfPlain IsInRange P) where
   abbrev Sends : ℕ → List Value → Type 0
   Sends b args = P (V.Ref b) × Each P args × (length args ≤ 8)
 
@@ -136,6 +143,21 @@ module _ (P : Value → Type 0) (plain : HoldsOfPlain P) where
     return_at a n v (Some (I.Select alts)) e q =
         absurd (select_never f (λ x. x ≡ K.Return a n v) (λ z. grind (arith, z)) (λ x z. grind (arith, z)) alts (taken (length alts) f.operands []) (λ os z. grind (arith, z)) q)
     return_at a n v _ e q = absurd (grind (arith, q))
+
+    write_at : (j : Item) (i : Option Instr) → slice_get (code_of (Some k) f.method) f.at ≡ i → instr_kind f i ≡ K.Write j → HoldsOfItem P j
+    write_at j (Some I.Write) e q = subst (HoldsOfItem P) (ap item_of q) (at_top 0)
+    write_at j (Some (I.WriteText s)) e q = subst (HoldsOfItem P) (ap item_of q) tt
+    write_at j (Some (I.Send l m)) e q =
+        absurd (sent_never (λ x. x ≡ K.Write j) (top (dropped m f.operands)) (λ d. K.Send d l (taken m f.operands [])) (λ d z. grind (arith, z)) (λ x z. grind (arith, z)) q)
+    write_at j (Some (I.Async l m)) e q =
+        absurd (sent_never (λ x. x ≡ K.Write j) (top (dropped m f.operands)) (λ d. K.Async d l (taken m f.operands [])) (λ d z. grind (arith, z)) (λ x z. grind (arith, z)) q)
+    write_at j (Some (I.Oper op)) e q = absurd (outcome_never (λ x. x ≡ K.Write j) (λ z. grind (arith, z)) (λ x z. grind (arith, z)) (operated op f.operands) q)
+    write_at j (Some (I.Branch b)) e q = absurd (branch_never f (λ x. x ≡ K.Write j) (λ z. grind (arith, z)) (λ x z. grind (arith, z)) q)
+    write_at j (Some I.Ret) e q =
+        absurd (return_never (λ x. x ≡ K.Write j) f.serves (top f.operands) (λ z. grind (arith, z)) (λ a b z. grind (arith, z)) q)
+    write_at j (Some (I.Select alts)) e q =
+        absurd (select_never f (λ x. x ≡ K.Write j) (λ z. grind (arith, z)) (λ x z. grind (arith, z)) alts (taken (length alts) f.operands []) (λ os z. grind (arith, z)) q)
+    write_at j _ e q = absurd (grind (arith, q))
 
     -- the class of a New is there
     new_at : (d : NameId) (i : Option Instr) → slice_get (code_of (Some k) f.method) f.at ≡ i → instr_kind f i ≡ K.New d → IsTrue (is_some (class_from 0 u.classes d))
@@ -238,35 +260,39 @@ module _ (u : Code) where
       let same : n ≡ d.0 = omega (arith, d.1) in
       placed_some n d.2.0 (ap (slice_get u.classes) same ∙ d.2.1)
 
-module _ (u : Code) (proper : IsProper u) (P : Value → Type 0) (plain : HoldsOfPlain P) (x : CodeObject) (h : IsObjectOf u P x) where
+module _ (u : Code) (proper : IsProper u) (P : Value → Type 0) (plain : HoldsOfPlain (IsMadeIn u) P) (x : CodeObject) (h : IsObjectOf u P x) where
   same_kind : (q : Kind) → code_kind u x ≡ q → frames_kind (Some h.class) x.frames ≡ q
   same_kind q e = subst (λ k. frames_kind k x.frames ≡ q) h.is_class e
 
-  send_by : (b : ℕ) (m : NameId) (args : List Value) (fs : List Frame) → AreFramesOf h.class P None fs → frames_kind (Some h.class) fs ≡ K.Send b m args → Sends P plain b args
+  send_by : (b : ℕ) (m : NameId) (args : List Value) (fs : List Frame) → AreFramesOf h.class P None fs → frames_kind (Some h.class) fs ≡ K.Send b m args → Sends P (plain_range u P plain) b args
   send_by b m args [] a e = absurd a
-  send_by b m args (f ∷ fs) a e = send_at P plain u proper h.class x.class h.is_class f fs a b m args (slice_get (code_of (Some h.class) f.method) f.at) refl e
+  send_by b m args (f ∷ fs) a e = send_at P (plain_range u P plain) u proper h.class x.class h.is_class f fs a b m args (slice_get (code_of (Some h.class) f.method) f.at) refl e
 
-  async_by : (b : ℕ) (m : NameId) (args : List Value) (fs : List Frame) → AreFramesOf h.class P None fs → frames_kind (Some h.class) fs ≡ K.Async b m args → Sends P plain b args
+  async_by : (b : ℕ) (m : NameId) (args : List Value) (fs : List Frame) → AreFramesOf h.class P None fs → frames_kind (Some h.class) fs ≡ K.Async b m args → Sends P (plain_range u P plain) b args
   async_by b m args [] a e = absurd a
-  async_by b m args (f ∷ fs) a e = async_at P plain u proper h.class x.class h.is_class f fs a b m args (slice_get (code_of (Some h.class) f.method) f.at) refl e
+  async_by b m args (f ∷ fs) a e = async_at P (plain_range u P plain) u proper h.class x.class h.is_class f fs a b m args (slice_get (code_of (Some h.class) f.method) f.at) refl e
 
   value_by : (k n : ℕ) (v : Value) (fs : List Frame) → AreFramesOf h.class P None fs → frames_kind (Some h.class) fs ≡ K.Return k n v → P v
   value_by k n v [] a e = absurd a
-  value_by k n v (f ∷ fs) a e = return_at P plain u proper h.class x.class h.is_class f fs a k n v (slice_get (code_of (Some h.class) f.method) f.at) refl e
+  value_by k n v (f ∷ fs) a e = return_at P (plain_range u P plain) u proper h.class x.class h.is_class f fs a k n v (slice_get (code_of (Some h.class) f.method) f.at) refl e
+
+  item_by : (j : Item) (fs : List Frame) → AreFramesOf h.class P None fs → frames_kind (Some h.class) fs ≡ K.Write j → HoldsOfItem P j
+  item_by j [] a e = absurd a
+  item_by j (f ∷ fs) a e = write_at P (plain_range u P plain) u proper h.class x.class h.is_class f fs a j (slice_get (code_of (Some h.class) f.method) f.at) refl e
 
   new_by : (c : NameId) (fs : List Frame) → AreFramesOf h.class P None fs → frames_kind (Some h.class) fs ≡ K.New c → IsTrue (is_some (class_from 0 u.classes c))
   new_by c [] a e = absurd a
-  new_by c (f ∷ fs) a e = new_at P plain u proper h.class x.class h.is_class f fs a c (slice_get (code_of (Some h.class) f.method) f.at) refl e
+  new_by c (f ∷ fs) a e = new_at P (plain_range u P plain) u proper h.class x.class h.is_class f fs a c (slice_get (code_of (Some h.class) f.method) f.at) refl e
 
   answer_by : (names : List NameId) (fs : List Frame) → AreFramesOf h.class P None fs → frames_kind (Some h.class) fs ≡ K.Answer names → AreOwn (Some h.class) names
   answer_by names [] a e = absurd a
-  answer_by names (f ∷ fs) a e = answer_at P plain u proper h.class x.class h.is_class f fs a names (slice_get (code_of (Some h.class) f.method) f.at) refl e
+  answer_by names (f ∷ fs) a e = answer_at P (plain_range u P plain) u proper h.class x.class h.is_class f fs a names (slice_get (code_of (Some h.class) f.method) f.at) refl e
 
   chosen_by : (os : List Offered) (j : ℕ) (o : Offered) (names : List NameId) (fs : List Frame) → AreFramesOf h.class P None fs → frames_kind (Some h.class) fs ≡ K.Select os
       → slice_get os j ≡ Some o → o.answer ≡ Some names → AreOwn (Some h.class) names
   chosen_by os j o names [] a e s q = absurd a
   chosen_by os j o names (f ∷ fs) a e s q =
-      let r = select_at P plain u proper h.class x.class h.is_class f fs a os (slice_get (code_of (Some h.class) f.method) f.at) refl e in
+      let r = select_at P (plain_range u P plain) u proper h.class x.class h.is_class f fs a os (slice_get (code_of (Some h.class) f.method) f.at) refl e in
       alternative_own (Some h.class) (code_of (Some h.class) f.method) r.0 r.1 j o names r.3 (subst (λ l. slice_get l j ≡ Some o) (sym r.2) s) q
 
   serves_own : (m : NameId) (names : List NameId) (i : ℕ) (args : List Value) (s : Serves) → AreOwn (Some h.class) names → IsNamed m names
@@ -285,6 +311,10 @@ module _ (u : Code) (proper : IsProper u) (P : Value → Type 0) (plain : HoldsO
   -- the value that is returned
   pub return_value : (k n : ℕ) (v : Value) → code_kind u x ≡ K.Return k n v → P v
   return_value k n v e = value_by k n v x.frames h.frames (same_kind _ e)
+
+  -- the value that is written, if it is no string
+  pub write_value : (j : Item) → code_kind u x ≡ K.Write j → HoldsOfItem P j
+  write_value j e = item_by j x.frames h.frames (same_kind _ e)
 
   -- the class of which an object is made is there
   pub made_there : (k : NameId) → code_kind u x ≡ K.New k → (y : CodeObject) × (code_made u k ≡ Some y)

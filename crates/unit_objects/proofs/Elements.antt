@@ -5,12 +5,13 @@ use Rattle.pool_syntax.specs.declared.words.Value.{Value}
 use Rattle.pool_syntax.specs.declared.words.Value.TheVariants as V
 use Rattle.pool_syntax.specs.declared.words.Op.{Op}
 use Rattle.pool_syntax.specs.declared.words.Op.TheVariants as O
-use Rattle.pool_syntax.specs.Values.{Outcome, number, quotient, remainder, is_in_range, is_same, on_ints, on_bools, negated, denied, prefix_value, infix_value, is_prefix}
+use Rattle.pool_syntax.specs.declared.words.Error.TheVariants.{Overflow}
+use Rattle.pool_syntax.specs.Values.{Gives, Fails, Outcome, number, quotient, remainder, is_in_range, is_same, on_ints, on_bools, negated, denied, prefix_value, infix_value, is_prefix}
 use Rattle.object_code.specs.Frames.{top, below, dropped, taken}
 use Rattle.object_code.specs.Kinds.{operated}
 use Rattle.object_code.specs.Step.{nth, padded, outcome_value}
 use Rattle.mesh_semantics.specs.Sound.{Each}
-use Rattle.unit_objects.specs.OfUnit.{HoldsOfPlain}
+use Rattle.unit_objects.specs.OfUnit.{HoldsOfPlain, IsInRange}
 
 -- lengths
 length_below : (vs : List Value) (n : ℕ) → suc n ≤ length vs → n ≤ length (below vs)
@@ -54,7 +55,7 @@ module _ (P : Value → Type 0) where
   each_set (x ∷ vs) zero v p h = (p, h.1)
   each_set (x ∷ vs) (suc n) v p h = (h.0, each_set vs n v p h.1)
 
-  module _ (plain : HoldsOfPlain P) where
+  module _ (plain : HoldsOfPlain IsInRange P) where
     pub each_top : (vs : List Value) → Each P vs → P (top vs)
     each_top [] h = plain.2
     each_top (v ∷ vs) h = h.0
@@ -81,7 +82,11 @@ module _ (P : Value → Type 0) where
     if_names false x y p q = q
 
     number_names : (z : ℤ) → Names (number z)
-    number_names z = if_names (is_in_range z) _ _ (plain.0 z) plain.2
+    number_names z = by (is_in_range z) refl
+      where
+        by : (b : Bool) → is_in_range z ≡ b → Names (if b then Gives (V.Int z) else Fails Overflow)
+        by true e = plain.0 z e
+        by false e = plain.2
 
     quotient_names : (x y : ℤ) → Names (quotient x y)
     quotient_names x (pos zero) = plain.2

@@ -14,13 +14,13 @@ use Rattle.object_code.specs.Kinds.{frames_kind, code_kind}
 use Rattle.object_code.specs.Proper.{IsProper}
 use Rattle.object_code.specs.Step.{at_rest, padded, method_named, is_own, frames_stepped, code_stepped, frames_given, code_given, frames_gone_on, code_gone_on, frames_picked, code_picked, method_serving, code_serving, placed_of, code_placed, placed_at, class_from, code_made}
 use Rattle.mesh_semantics.specs.Sound.{Each}
-use Rattle.unit_objects.specs.OfUnit.{IsObjectOf, HoldsOfPlain, IsAtStep, IsAsking, IsChoosing, IsGoingOn}
+use Rattle.unit_objects.specs.OfUnit.{IsObjectOf, HoldsOfPlain, IsMadeIn, IsAtStep, IsAsking, IsChoosing, IsGoingOn}
 use Rattle.unit_objects.proofs.Elements.{length_padded, each_padded}
 use Rattle.unit_objects.proofs.Resting.{same_some}
-use Rattle.unit_objects.proofs.Reaching.{IsReady, ready_of, ready_rests}
+use Rattle.unit_objects.proofs.Reaching.{plain_range, IsReady, ready_of, ready_rests}
 use Rattle.unit_objects.proofs.Stepping.{stepped_by, given_by, gone_by, picked_by, serving_by}
 
-module _ (u : Code) (proper : IsProper u) (P : Value → Type 0) (plain : HoldsOfPlain P) where
+module _ (u : Code) (proper : IsProper u) (P : Value → Type 0) (plain : HoldsOfPlain (IsMadeIn u) P) where
   module _ (x : CodeObject) (h : IsObjectOf u P x) where
     pub stepped_of : (o : ℕ) → P (V.Ref o) → IsObjectOf u P (code_stepped u o x)
     stepped_of o p =
@@ -88,7 +88,7 @@ module _ (u : Code) (proper : IsProper u) (P : Value → Type 0) (plain : HoldsO
   new_ready c k e = record {
     is_class = e;
     count = length_padded k.vars [];
-    vars = each_padded P plain k.vars [] tt;
+    vars = each_padded P (plain_range u P plain) k.vars [] tt;
     frames = (record { reached = (0, (refl, (let z : 0 + 0 ≡ 0 = omega arith in z))); has_temps = refl; temps = tt; operands = tt }, tt, refl, refl);
   }
 

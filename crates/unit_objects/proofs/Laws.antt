@@ -7,7 +7,7 @@ pub use Rattle.unit_objects.proofs.Keeping.{stepped_of, given_of, gone_on_of, pi
 -- and brings it to a step instruction
 pub use Rattle.unit_objects.proofs.Keeping.{stepped_rests, given_rests, gone_on_rests, picked_rests, serving_rests, placed_rests, made_rests}
 -- the values of what it asks, and what is there for it
-pub use Rattle.unit_objects.proofs.Asked.{send_values, async_values, return_value, made_there, served_there, chosen_there, named_by_test}
+pub use Rattle.unit_objects.proofs.Asked.{send_values, async_values, return_value, write_value, made_there, served_there, chosen_there, named_by_test}
 -- what stands at hand in a frame
 pub use Rattle.unit_objects.proofs.AtHand.{top_frame, top_instr, top_place, top_operands, top_temps, top_takes, top_exists, top_after, ret_in_method, ret_is_over}
 pub use Rattle.unit_objects.proofs.AtHand.{frame_instr, frame_place, frame_operands, frame_temps, frame_takes, frame_exists, frame_after}

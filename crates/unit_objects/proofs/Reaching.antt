@@ -1,5 +1,5 @@
 -- Frames of a proper unit: what is at hand, and where an instruction leads.
-use Rattle.std.proofs.Common.{◌≡◌, inl, refl, sym, ap, ◌∙◌, subst, IsTrue, ℕ, zero, suc, ◌+◌, List, [], ◌∷◌, length, Option, Some, None, is_some, arith}
+use Rattle.std.proofs.Common.{◌≡◌, inl, inr, refl, sym, ap, ◌∙◌, subst, IsTrue, ℕ, zero, suc, ◌+◌, ℤ, List, [], ◌∷◌, length, Option, Some, None, is_some, arith}
 use Rattle.std.specs.Prelude.{slice_get}
 use Rattle.pool_syntax.specs.declared.words.Value.{Value}
 use Rattle.pool_syntax.specs.declared.words.Value.TheVariants as V
@@ -13,7 +13,7 @@ use Rattle.object_code.specs.Frames.{method_code, code_of, silent, go_on_with, s
 use Rattle.object_code.specs.Proper.{takes, leaves, nexts, IsAmong, Reached, IsProperCode, IsProperClass, IsProper}
 use Rattle.object_code.specs.Step.{at_rest, is_own}
 use Rattle.mesh_semantics.specs.Sound.{Each}
-use Rattle.unit_objects.specs.OfUnit.{HasTemps, IsFrameOf, StandsAfterCall, missing_under, serves_of, StandsUnder, AreFramesOf, IsObjectOf, HoldsOfPlain, IsAtStepOf, IsAtStep}
+use Rattle.unit_objects.specs.OfUnit.{HasTemps, IsFrameOf, StandsAfterCall, missing_under, serves_of, StandsUnder, AreFramesOf, IsObjectOf, HoldsOfPlain, IsInRange, IsMadeBy, IsMadeIn, IsAtStepOf, IsAtStep}
 use Rattle.unit_objects.proofs.Resting.{same_some, settled_rests}
 
 -- the place after an instruction is reached
@@ -55,14 +55,14 @@ module _ (k : ClassCode) (P : Value → Type 0) where
     operands = os;
   }
 
-  module _ (plain : HoldsOfPlain P) where
+  module _ (plain : HoldsOfPlain (IsMadeBy k) P) where
     silent_pushed : (n : ℕ) (f g : Frame) (i : Instr) (v : Value) → IsFrameOf k P n f → slice_get (code_of (Some k) f.method) f.at ≡ Some i
         → IsAmong (suc f.at) (nexts f.at i) → takes (Some k) i ≡ 0 → leaves i ≡ 1 → P v → next f (v ∷ f.operands) ≡ g → IsFrameOf k P n g
     silent_pushed n f g i v t e a none one p same =
         subst (IsFrameOf k P n) same (moved n n f i (suc f.at) f.temps (v ∷ f.operands) t e a (omega (arith, none, one)) refl t.temps (p, t.operands))
 
     pub silent_of : (n : ℕ) (f g : Frame) (i : Option Instr) → IsFrameOf k P n f → slice_get (code_of (Some k) f.method) f.at ≡ i → silent f i ≡ Some g → IsFrameOf k P n g
-    silent_of n f g (Some (I.PushInt z)) t e h = silent_pushed n f g (I.PushInt z) (V.Int z) t e (inl refl) refl refl (plain.0 z) (same_some _ _ h)
+    silent_of n f g (Some (I.PushInt z)) t e h = silent_pushed n f g (I.PushInt z) (V.Int z) t e (inl refl) refl refl (plain.0 z (inr (f.method, f.at, e))) (same_some _ _ h)
     silent_of n f g (Some (I.PushBool b)) t e h = silent_pushed n f g (I.PushBool b) (V.Bool b) t e (inl refl) refl refl (plain.1 b) (same_some _ _ h)
     silent_of n f g (Some I.PushNil) t e h = silent_pushed n f g I.PushNil V.Nil t e (inl refl) refl refl plain.2 (same_some _ _ h)
     silent_of n f g (Some (I.Jump a)) t e h =
@@ -134,11 +134,22 @@ pub record IsReady (u : Code) (P : Value → Type 0) (k : ClassCode) (x : CodeOb
   pub vars : Each P x.vars
   pub frames : AreFramesOf k P None fs
 
-module _ (u : Code) (P : Value → Type 0) (plain : HoldsOfPlain P) (k : ClassCode) where
+-- what holds of the numbers of a unit's code holds of those of each class of it, and of those that operators make
+pub plain_of : (u : Code) (P : Value → Type 0) → HoldsOfPlain (IsMadeIn u) P → (j : ℕ) (k : ClassCode) → slice_get u.classes j ≡ Some k → HoldsOfPlain (IsMadeBy k) P
+plain_of u P plain j k e = (λ z n. plain.0 z (made z n), plain.1, plain.2)
+  where
+    made : (z : ℤ) → IsMadeBy k z → IsMadeIn u z
+    made z (inl i) = inl i
+    made z (inr p) = inr (j, k, e, p)
+
+pub plain_range : (u : Code) (P : Value → Type 0) → HoldsOfPlain (IsMadeIn u) P → HoldsOfPlain IsInRange P
+plain_range u P plain = (λ z i. plain.0 z (inl i), plain.1, plain.2)
+
+module _ (u : Code) (P : Value → Type 0) (plain : HoldsOfPlain (IsMadeIn u) P) (k : ClassCode) where
   -- it is of the unit then
   pub ready_of : (x : CodeObject) (f : Frame) (fs : List Frame) → IsReady u P k x (f ∷ fs) → IsObjectOf u P (at_rest (Some k) x f fs)
   ready_of x f fs h =
-      let r = settled_of k P plain 0 f (frame_on_top k P None f fs h.frames) in
+      let r = settled_of k P (plain_of u P plain x.class k h.is_class) 0 f (frame_on_top k P None f fs h.frames) in
       record {
         class = k;
         is_class = h.is_class;
@@ -151,7 +162,7 @@ module _ (u : Code) (P : Value → Type 0) (plain : HoldsOfPlain P) (k : ClassCo
   pub ready_rests : IsProper u → (x : CodeObject) (f : Frame) (fs : List Frame) → IsReady u P k x (f ∷ fs) → IsAtStep u (at_rest (Some k) x f fs)
   ready_rests proper x f fs h =
       let t = frame_on_top k P None f fs h.frames in
-      let r = settled_of k P plain 0 f t in
+      let r = settled_of k P (plain_of u P plain x.class k h.is_class) 0 f t in
       let c = code_of (Some k) f.method in
       let code = proper_code u k (proper.each x.class k h.is_class) f.method f.temps t.has_temps in
       subst (λ o. IsAtStepOf o (settled c f ∷ fs)) (sym h.is_class)

@@ -23,10 +23,10 @@ use Rattle.object_code.specs.Kinds.{Kind, operated, arity, outcome_kind, sent_ki
 use Rattle.object_code.specs.Proper.{params_of, takes, leaves, nexts, IsAmong, IsProper}
 use Rattle.object_code.specs.Step.{Numbered, at_rest, nth, padded, outcome_value, method_from, method_named, begun, called, handed, left, is_own, instr_stepped, frames_stepped, asked, frames_given, instr_gone_on, frames_gone_on, at_alternative, after_choice, frames_picked, frames_serving, method_serving}
 use Rattle.mesh_semantics.specs.Sound.{Each}
-use Rattle.unit_objects.specs.OfUnit.{IsFrameOf, missing_under, StandsUnder, AreFramesOf, HoldsOfPlain, IsAsking, IsChoosing, IsGoingOn}
+use Rattle.unit_objects.specs.OfUnit.{IsFrameOf, missing_under, StandsUnder, AreFramesOf, HoldsOfPlain, IsMadeIn, IsAsking, IsChoosing, IsGoingOn}
 use Rattle.unit_objects.proofs.Elements.{length_dropped, length_padded, length_set, each_dropped, each_take, each_set, each_top, each_nth, each_taken, each_padded, operated_names}
 use Rattle.unit_objects.proofs.Resting.{same_some}
-use Rattle.unit_objects.proofs.Reaching.{proper_code, moved, with_missing, frame_on_top, in_place, IsReady}
+use Rattle.unit_objects.proofs.Reaching.{plain_range, proper_code, moved, with_missing, frame_on_top, in_place, IsReady}
 
 -- a method of a name stands at its place
 pub found_from : (n : ℕ) (ms : List MethodCode) (m : NameId) (r : Numbered) → method_from n ms m ≡ Some r
@@ -88,7 +88,7 @@ for_another S.Own v a = absurd a
 for_another (S.Caller k n) v a = refl
 for_another S.Sender v a = refl
 
-module _ (u : Code) (proper : IsProper u) (P : Value → Type 0) (plain : HoldsOfPlain P) (x : CodeObject) (Q : CodeObject → Type 0) (k : ClassCode) (is_class : slice_get u.classes x.class ≡ Some k)
+module _ (u : Code) (proper : IsProper u) (P : Value → Type 0) (plain : HoldsOfPlain (IsMadeIn u) P) (x : CodeObject) (Q : CodeObject → Type 0) (k : ClassCode) (is_class : slice_get u.classes x.class ≡ Some k)
     (count : length x.vars ≡ k.vars) (vars : Each P x.vars)
     (lands : (y : CodeObject) (f : Frame) (fs : List Frame) → IsReady u P k y (f ∷ fs) → Q (at_rest (Some k) y f fs)) where
   here : (fs : List Frame) → AreFramesOf k P None fs → IsReady u P k x fs
@@ -167,7 +167,7 @@ module _ (u : Code) (proper : IsProper u) (P : Value → Type 0) (plain : HoldsO
         let b : IsFrameOf k P 0 (begun r args s) = record {
           reached = (0, (refl, (let z : 0 + 0 ≡ 0 = omega arith in z)));
           has_temps = (r.code, code, length_padded r.code.temps (take r.code.params args));
-          temps = each_padded P plain r.code.temps (take r.code.params args) (each_take P r.code.params args each);
+          temps = each_padded P (plain_range u P plain) r.code.temps (take r.code.params args) (each_take P r.code.params args each);
           operands = tt;
         } in
         lands x (begun r args s) (g ∷ fs)
@@ -180,27 +180,27 @@ module _ (u : Code) (proper : IsProper u) (P : Value → Type 0) (plain : HoldsO
         let n = r.code.params in
         let t : takes (Some k) (I.Call m) ≡ n = ap params_of q in
         let d = drops (I.Call m) n e t in
-        begins m r (taken n f.operands []) S.Own (next f (dropped n f.operands)) q (each_taken P plain n f.operands [] on_top.operands tt)
+        begins m r (taken n f.operands []) S.Own (next f (dropped n f.operands)) q (each_taken P (plain_range u P plain) n f.operands [] on_top.operands tt)
         (moved k P 0 1 f (I.Call m) (suc f.at) f.temps (dropped n f.operands) on_top e (inl refl) (omega (arith, d, t)) refl on_top.temps (each_left n))
         (λ o. record { at = f.at; is_next = refl; name = m; call = e; method = r; named = q; is_method = refl }) refl refl
 
     stepped_at : (o : ℕ) → P (V.Ref o) → Q x → (i : Option Instr) → slice_get (code_of (Some k) f.method) f.at ≡ i → Q (instr_stepped (Some k) o x f fs i)
     stepped_at o p same (Some (I.LoadI n)) e =
-        goes (I.LoadI n) (nth x.vars n ∷ f.operands) e (inl refl) (omega arith) (each_nth P plain x.vars n vars, on_top.operands)
+        goes (I.LoadI n) (nth x.vars n ∷ f.operands) e (inl refl) (omega arith) (each_nth P (plain_range u P plain) x.vars n vars, on_top.operands)
     stepped_at o p same (Some (I.LoadT n)) e =
-        goes (I.LoadT n) (nth f.temps n ∷ f.operands) e (inl refl) (omega arith) (each_nth P plain f.temps n on_top.temps, on_top.operands)
+        goes (I.LoadT n) (nth f.temps n ∷ f.operands) e (inl refl) (omega arith) (each_nth P (plain_range u P plain) f.temps n on_top.temps, on_top.operands)
     stepped_at o p same (Some I.SelfRef) e = goes I.SelfRef (V.Ref o ∷ f.operands) e (inl refl) (omega arith) (p, on_top.operands)
     stepped_at o p same (Some (I.StoreI n)) e =
         let v = top f.operands in
         moves (record x { vars = slice_set x.vars n v }) (I.StoreI n) (suc f.at) f.temps (below f.operands) e (inl refl) (omega (arith, drops (I.StoreI n) 1 e refl)) refl on_top.temps
-        (each_left 1) refl (length_set x.vars n v ∙ count) (each_set P x.vars n v (each_top P plain f.operands on_top.operands) vars)
+        (each_left 1) refl (length_set x.vars n v ∙ count) (each_set P x.vars n v (each_top P (plain_range u P plain) f.operands on_top.operands) vars)
     stepped_at o p same (Some (I.StoreT n)) e =
         let v = top f.operands in
         moves x (I.StoreT n) (suc f.at) (slice_set f.temps n v) (below f.operands) e (inl refl) (omega (arith, drops (I.StoreT n) 1 e refl)) (length_set f.temps n v)
-        (each_set P f.temps n v (each_top P plain f.operands on_top.operands) on_top.temps) (each_left 1) refl count vars
+        (each_set P f.temps n v (each_top P (plain_range u P plain) f.operands on_top.operands) on_top.temps) (each_left 1) refl count vars
     stepped_at o p same (Some (I.Oper op)) e =
         goes (I.Oper op) (outcome_value (operated op f.operands) ∷ dropped (arity op) f.operands) e (inl refl) (omega (arith, drops (I.Oper op) (arity op) e refl))
-        (operated_names P plain op f.operands, each_left (arity op))
+        (operated_names P (plain_range u P plain) op f.operands, each_left (arity op))
     stepped_at o p same (Some I.Pop) e = goes I.Pop (below f.operands) e (inl refl) (omega (arith, drops I.Pop 1 e refl)) (each_left 1)
     stepped_at o p same (Some (I.Branch a)) e =
         moves x (I.Branch a) (if is_true (top f.operands) then suc f.at else a) f.temps (below f.operands) e (branch_among (is_true (top f.operands)) a)
@@ -209,7 +209,7 @@ module _ (u : Code) (proper : IsProper u) (P : Value → Type 0) (plain : HoldsO
     stepped_at o p same (Some (I.Call m)) e = calls m e same (method_named (Some k) m) refl
     stepped_at o p same (Some I.Ret) e =
         returns_by (is_own f.serves) refl (handed (Some k) x (top f.operands) fs) (left (Some k) x fs)
-        (λ own. hands f fs h (top f.operands) own (each_top P plain f.operands on_top.operands) same) (λ own. leaves_off f fs h own same)
+        (λ own. hands f fs h (top f.operands) own (each_top P (plain_range u P plain) f.operands on_top.operands) same) (λ own. leaves_off f fs h own same)
     stepped_at o p same _ e = same
 
     given_at : (v : Value) → P v → (i : Option Instr) → slice_get (code_of (Some k) f.method) f.at ≡ i → IsAsking (instr_kind f i)

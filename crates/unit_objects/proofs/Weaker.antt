@@ -1,5 +1,5 @@
 -- An object of the unit is one under each weaker property of its values.
-use Rattle.std.proofs.Common.{ℕ, List, [], ◌∷◌, Option, Some, None}
+use Rattle.std.proofs.Common.{ℕ, ℤ, List, [], ◌∷◌, Option, Some, None}
 use Rattle.pool_syntax.specs.declared.words.Value.{Value}
 use Rattle.object_code.specs.declared.unit.ClassCode.{ClassCode}
 use Rattle.object_code.specs.declared.unit.Unit.{Unit as Code}
@@ -8,8 +8,8 @@ use Rattle.object_code.specs.declared.unit.CodeObject.{CodeObject}
 use Rattle.mesh_semantics.specs.Sound.{Each}
 use Rattle.unit_objects.specs.OfUnit.{IsFrameOf, AreFramesOf, IsObjectOf, HoldsOfPlain, AnyValue, FitsUnit}
 
-pub plain_any : HoldsOfPlain AnyValue
-plain_any = (λ z. tt, λ b. tt, tt)
+pub plain_any : {N : ℤ → Type 0} → HoldsOfPlain N AnyValue
+plain_any = (λ z n. tt, λ b. tt, tt)
 
 pub each_any : (vs : List Value) → Each AnyValue vs
 each_any [] = tt

@@ -1,10 +1,13 @@
 -- Objects of code that are of a unit: their frames are of the unit's code, each at a place that its code reaches with as many operands as the frame has. What is said of
 -- each value in them is a property P, so that the same is said of objects whatever they name, and of objects that name only what is there.
-use Rattle.std.specs.Prelude.{◌≡◌, ℕ, ℤ, ◌+◌, suc, List, [], ◌∷◌, length, map, Option, Some, None, is_some, Bool, IsTrue, slice_get, ◌⊎◌}
+use Rattle.std.specs.Prelude.{◌≡◌, ℕ, ℤ, ◌+◌, suc, List, [], ◌∷◌, length, map, Option, Some, None, is_some, Bool, true, IsTrue, slice_get, ◌⊎◌}
 use Rattle.mesh_semantics.specs.Sound.{Each}
 use Rattle.pool_syntax.specs.declared.words.NameId.{NameId}
 use Rattle.pool_syntax.specs.declared.words.Value.{Value}
 use Rattle.pool_syntax.specs.declared.words.Value.TheVariants as V
+use Rattle.pool_syntax.specs.declared.words.Item.{Item}
+use Rattle.pool_syntax.specs.declared.words.Item.TheVariants as It
+use Rattle.pool_syntax.specs.Values.{is_in_range}
 use Rattle.pool_syntax.specs.declared.words.Serves.{Serves}
 use Rattle.pool_syntax.specs.declared.words.Serves.TheVariants as S
 use Rattle.object_code.specs.declared.unit.Instr.TheVariants as I
@@ -86,9 +89,30 @@ IsAtStepOf k (f ∷ fs) = silent f (slice_get (code_of k f.method) f.at) ≡ Non
 abbrev pub IsAtStep : Code → CodeObject → Type 0
 IsAtStep u x = IsAtStepOf (slice_get u.classes x.class) x.frames
 
--- a property of all values that name nothing
-abbrev pub HoldsOfPlain : (Value → Type 0) → Type 0
-HoldsOfPlain P = ((z : ℤ) → P (V.Int z)) × ((b : Bool) → P (V.Bool b)) × P V.Nil
+-- a property of all values that name nothing and have a number of these
+abbrev pub HoldsOfPlain : (ℤ → Type 0) → (Value → Type 0) → Type 0
+HoldsOfPlain N P = ((z : ℤ) → N z → P (V.Int z)) × ((b : Bool) → P (V.Bool b)) × P V.Nil
+
+-- a number of 64 bits: what operators make
+abbrev pub IsInRange : ℤ → Type 0
+IsInRange z = is_in_range z ≡ true
+
+-- a number that an instruction of the class pushes
+abbrev pub IsPushed : ClassCode → ℤ → Type 0
+IsPushed k z = (m : Option ℕ) × (at : ℕ) × (slice_get (code_of (Some k) m) at ≡ Some (I.PushInt z))
+
+-- a number that code of the class makes
+abbrev pub IsMadeBy : ClassCode → ℤ → Type 0
+IsMadeBy k z = IsInRange z ⊎ IsPushed k z
+
+-- a number that code of the unit makes
+abbrev pub IsMadeIn : Code → ℤ → Type 0
+IsMadeIn u z = IsInRange z ⊎ ((j : ℕ) × (k : ClassCode) × (slice_get u.classes j ≡ Some k) × IsPushed k z)
+
+-- a property of the value that is written, if it is no string
+abbrev pub HoldsOfItem : (Value → Type 0) → Item → Type 0
+HoldsOfItem P (It.Value v) = P v
+HoldsOfItem P (It.Text s) = Unit {0}
 
 -- a new object, or an answered message, is asked for
 abbrev pub IsAsking : Kind → Type 0

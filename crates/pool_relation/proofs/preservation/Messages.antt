@@ -150,7 +150,7 @@ module _ (p : ProgramTree) (none : faults p ≡ []) (written : IsTrue (is_writte
             ∙ ap (λ n. served_for q (Serving n caller ∷ [])) b.0.named)),
       )
 
-  first_fits : (P : Message → Type 0) (names : List Named) (ms : List Message) (m : Message) → All P ms
+  pub first_fits : (P : Message → Type 0) (names : List Named) (ms : List Message) (m : Message) → All P ms
       → first_message names ms ≡ Some m → P m
   first_fits P names [] m a e = absurd (grind (arith, e))
   first_fits P names (n ∷ ms) m a e = by (names_method names n.method) refl (first_fits P names ms m (All-tail P n ms a))
@@ -168,7 +168,7 @@ module _ (p : ProgramTree) (none : faults p ≡ []) (written : IsTrue (is_writte
       by false rest = All-cons P n _ (All-head P n ms a) rest
 
   -- the arguments of a message that is taken
-  taken_fit : (c : Configuration) (b : ℕ) (y : Object) (t : MethodTree) (first : Message) (m : ℕ) (args : List Value)
+  pub taken_fit : (c : Configuration) (b : ℕ) (y : Object) (t : MethodTree) (first : Message) (m : ℕ) (args : List Value)
       → object_of c b ≡ Some y → FitsAt p c b first
       → first.method ≡ m → first.args ≡ args → method_of p y.class m (length args) ≡ Some t
       → FitValues (place p (classes c) y) t.params args

@@ -1,6 +1,6 @@
 //! Asynchronous messages.
-ghost use Rattle.std.specs.Prelude.{◌≡◌, ◌<◌, [], ◌∷◌, ◌++◌, OnOk, Some, None, IfSome, IfNone, length, map, slice_index_or, true, false};
-ghost use Rattle.std.specs.List.{remove};
+ghost use Rattle.std.specs.Prelude.{◌≡◌, ◌<◌, [], ◌∷◌, ◌++◌, OnOk, Some, None, IfSome, IfNone, length, map, slice_index_or, is_some, true, false};
+ghost use Rattle.std.specs.List.{list_any, remove};
 ghost use Rattle.std.specs.FinMap.{put};
 ghost use Rattle.mesh_semantics.specs.Tables.{pair_cmp, list_at, put_list};
 ghost use Rattle.std.specs.BTreeMap.{get};
@@ -8,12 +8,16 @@ ghost use Rattle.std.specs.declared.collections.VecDeque.{VecDeque};
 ghost use Rattle.std.specs.Global.{Global};
 ghost use Rattle.pool_relation.specs.Transition.{has_message, first_message, without_first};
 ghost use Rattle.pool_semantics.specs.declared.plain.mail.Mail.{Mail};
-ghost use Rattle.pool_semantics.specs.Mails.{message_of, posts};
+ghost use Rattle.term_stack.specs.Arguments.{now_names, now_choices};
+ghost use Rattle.plain_object.specs.Offers.{offer_act};
+ghost use Rattle.pool_semantics.specs.Mails.{message_of, posts, queued};
 
-use plain_object::offers::names_method;
+use plain_object::act::Act;
+use plain_object::offers::{names_method, offer_to};
 use pool_syntax::{Args, NameId, Named};
 use std::alloc::{AllocError, Global};
 use std::collections::{BTreeMap, VecDeque};
+use term_stack::parts::Work;
 
 /// An asynchronous message that was not yet taken.
 #[derive(Clone, Copy)]
@@ -40,6 +44,20 @@ pub fn first_named(queue: &VecDeque<Mail>, names: &[Named]) -> Option<usize>
         at += 1;
     }
     None
+}
+
+/// Whether an object that does this next offers the method of a message.
+pub fn any_offered(queue: &VecDeque<Mail>, work: &Work<'_>, act: &Act<'_>) -> bool
+    ensures { result ≡ list_any (λ m. is_some (offer_act act.now (now_names work.now.next) (now_choices work.now.next) m.method)) (queued queue.now) }
+{
+    let mut at = 0;
+    while at < queue.len() {
+        if offer_to(work, act, queue[at].method.0).is_some() {
+            return true;
+        }
+        at += 1;
+    }
+    false
 }
 
 /// Puts a message last in the queue of its pair.

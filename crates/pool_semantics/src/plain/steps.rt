@@ -47,7 +47,7 @@ fn is_mail(mail: &Mail, method: NameId, args: &[Value]) -> bool
 
 impl<'a> State<'a> {
     /// Whether a message from the sender to the receiver is on one of these methods.
-    fn barred(&self, sender: u32, receiver: u32, names: &[Named]) -> bool
+    pub fn barred(&self, sender: u32, receiver: u32, names: &[Named]) -> bool
         ensures { result ≡ has_message names.now (messages_of (configuration self.now) sender receiver) }
     {
         match self.messages.get(&(sender, receiver)) {

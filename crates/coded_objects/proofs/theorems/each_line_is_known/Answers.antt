@@ -1,4 +1,4 @@
-use Rattle.coded_objects.proofs.KnownLines.{acts_known, each_line_known}
+use Rattle.coded_objects.proofs.KnownLines.{acts_known, each_line_known, each_line_known_on_wires}
 use Rattle.coded_objects.proofs.theorems.each_line_is_known.Goals as goal
 
 pub returns-clause-event : goal.returns-clause-event
@@ -6,3 +6,6 @@ returns-clause-event x = λ u l q c d e what c' d' proper fit s h. acts_known u 
 
 pub returns-clause-record_lines : goal.returns-clause-record_lines
 returns-clause-record_lines x = λ u l q es number e what proper fit h. each_line_known u proper l fit q es number e what h
+
+pub returns-clause-record_lines_on_wires : goal.returns-clause-record_lines_on_wires
+returns-clause-record_lines_on_wires x = λ u l q es number e what proper fit h. each_line_known_on_wires u proper l fit q es number e what h

@@ -1,6 +1,11 @@
+use Rattle.std.specs.Prelude.{[]}
 use Rattle.mesh_semantics.specs.Given.{IsGiven}
-use Rattle.mesh_semantics.proofs.Started.{placed_start_sound}
+use Rattle.mesh_semantics.specs.Delay.{no_delay}
+use Rattle.mesh_semantics.proofs.Started.{placed_start_sound, with_wires}
 use Rattle.mesh_semantics.proofs.theorems.the_start_is_sound.Goals as goal
 
-pub returns : goal.returns
-returns g c = λ h kept l x k fit root idle s w. placed_start_sound h (IsGiven kept) l fit x k root idle s w
+pub returns-clause-start : goal.returns-clause-start
+returns-clause-start g c = λ h kept l x k fit root idle s w. placed_start_sound h (IsGiven kept) l fit x k root idle s w
+
+pub returns-clause-on_wires : goal.returns-clause-on_wires
+returns-clause-on_wires g c = λ h kept l x k fit root idle s w. with_wires h (IsGiven kept) l k no_delay [] (placed_start_sound h (IsGiven kept) l fit x k root idle s w)

@@ -1,4 +1,4 @@
-use Rattle.placed_terms.proofs.RunsFrom.{event_keeps}
+use Rattle.placed_terms.proofs.Starting.{event_keeps}
 use Rattle.placed_terms.proofs.theorems.each_event_keeps_sound.Goals as goal
 
 pub returns : goal.returns

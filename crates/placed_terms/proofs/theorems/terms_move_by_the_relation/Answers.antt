@@ -1,5 +1,5 @@
 use Rattle.placed_terms.proofs.Instance.{move_is}
-use Rattle.placed_terms.proofs.RunsFrom.{moves_are_run, starts_plain}
+use Rattle.placed_terms.proofs.Starting.{moves_are_run, starts_plain}
 use Rattle.placed_terms.proofs.theorems.terms_move_by_the_relation.Goals as goal
 
 pub returns-clause-transition : goal.returns-clause-transition

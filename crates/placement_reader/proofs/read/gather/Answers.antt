@@ -17,15 +17,15 @@ loop-found-preserved c =
     let left = kept_from (found.line + 1) (lines (drop found.next c.args.bytes.now)) in
     let i = c.loop-found.invariant in
     let f = c.in_ok-form.form in
-    let ok : fault_or_bad nodes found.line forms (form_of u k.words) ≡ None =
-    subst (λ es. fault_or_bad nodes found.line es (form_of u k.words) ≡ None) c.as_slice.ensures.value c.in_ok-form.ensures.ok in
+    let ok : fault_or_bad c.args.width nodes found.line forms (form_of u k.words) ≡ None =
+    subst (λ es. fault_or_bad c.args.width nodes found.line es (form_of u k.words) ≡ None) c.as_slice.ensures.value c.in_ok-form.ensures.ok in
     record {
       within = c.in-Some.ensures.ordered.2;
       few = omega (arith, c.in-Some.ensures.few);
       fine = subst (AreFine nodes) (sym c.in-Ok.ensures.items) (fine_push nodes forms f i.fine c.in_ok-form.ensures.fine);
       fault =
-          i.fault ∙ (ap (first_fault u nodes forms) c.in-Some.ensures.line ∙ (step_fault u nodes forms k f left c.in_ok-form.ensures.form ok
-          ∙ ap (λ fs. first_fault u nodes fs left) (sym c.in-Ok.ensures.items)));
+          i.fault ∙ (ap (first_fault u c.args.width nodes forms) c.in-Some.ensures.line ∙ (step_fault u c.args.width nodes forms k f left c.in_ok-form.ensures.form ok
+          ∙ ap (λ fs. first_fault u c.args.width nodes fs left) (sym c.in-Ok.ensures.items)));
       forms =
           i.forms ∙ (ap (forms_of u forms) c.in-Some.ensures.line ∙ (step_forms u forms k f left c.in_ok-form.ensures.form
           ∙ ap (λ fs. forms_of u fs left) (sym c.in-Ok.ensures.items)));

@@ -14,7 +14,7 @@ invariant-loop-found l =
       within : l.at ≤ length l.bytes;
       few : l.number ≤ l.at + 1;
       fine : AreFine l.nodes l.forms.items;
-      fault : first_fault l.unit l.nodes [] all ≡ first_fault l.unit l.nodes l.forms.items left;
+      fault : first_fault l.unit l.width l.nodes [] all ≡ first_fault l.unit l.width l.nodes l.forms.items left;
       forms : forms_of l.unit [] all ≡ forms_of l.unit l.forms.items left;
     }
 

@@ -1,22 +1,46 @@
-use Rattle.std.proofs.Common.{◌*◌, ◌≤◌, ap, sym, subst, ◌∙◌, length}
+use Rattle.std.proofs.Common.{◌+◌, ◌*◌, ◌≤◌, drop, ap, sym, subst, ◌∙◌, length}
 use Rattle.std.specs.List.{All}
 use Rattle.pool_syntax.specs.declared.words.Placement.{Placement}
 use Rattle.object_code.specs.Suits.{IsFromTo, IsOfMesh, most_vars, nodes, words}
-use Rattle.placement_reader.specs.Forms.{AreFine}
+use Rattle.std.specs.Prelude.{slice_range}
+use Rattle.pool_lexer.specs.Lines.{lines, words as line_words}
+use Rattle.input_lines.specs.Kept.{kept_from}
+use Rattle.mesh_semantics.proofs.Laws.{routed_ways}
+use Rattle.placement_reader.specs.Forms.{AreFine, form_of}
+use Rattle.placement_reader.specs.Placements.{fault_in, placement_of, placement_of_lines}
+use Rattle.placement_reader.proofs.Faultless.{mesh_told, routed, told}
 use Rattle.placement_reader.proofs.Fine.{counted, places_there}
 use Rattle.placement_reader.proofs.read.read_placement.Goals as goal
+
+pub route_fault-requires : goal.route_fault-requires
+route_fault-requires c =
+    routed c.args.unit.now c.in-Ok.mesh.width c.in-Ok.mesh.height c.from-nodes.result c.from-width.result c.as_slice.result.now
+    (kept_from (c.in-Some.first.line + 1) (lines (drop c.in-Some.first.next c.args.bytes.now))) c.in_ok-placement.placement c.in_ok-placement.ensures.value
+    (c.as_slice.ensures.value ∙ c.in_ok-forms.ensures.forms) c.from-nodes.ensures c.from-width.ensures c.in_ok-forms.ensures.faultless c.in-Ok.ensures.ok.width c.in-Ok.ensures.ok.height
+
+pub returns-in-Err-clause-err : goal.returns-in-Err-clause-err
+returns-in-Err-clause-err c =
+    let u = c.args.unit.now in
+    let s = c.args.bytes.now in
+    let o = form_of u (line_words (slice_range s c.in-Some.first.start c.in-Some.first.end)) in
+    let left = kept_from (c.in-Some.first.line + 1) (lines (drop c.in-Some.first.next s)) in
+    told c.in-Err.fault (fault_in (placement_of u s)) (ap (λ ks. fault_in (placement_of_lines u (length (lines s)) ks)) c.in-Some.ensures.line ∙ mesh_told u c.in-Some.first.line o left c.in-Err.fault c.in-Err.ensures.err)
 
 pub returns-clause-suits : goal.returns-clause-suits
 returns-clause-suits c =
     let u = c.args.unit.now in
-    let mesh = c.in_ok-mesh.mesh in
+    let mesh = c.in-Ok.mesh in
     let fs = c.as_slice.result.now in
     let value = c.in_ok-placement.ensures.value in
     let fine : AreFine (mesh.width * mesh.height) fs =
     subst (λ n. AreFine n fs) c.from-nodes.ensures (subst (AreFine c.from-nodes.result) (sym c.as_slice.ensures.value) c.in_ok-forms.ensures.fine) in
+    let routes =
+    routed u mesh.width mesh.height c.from-nodes.result c.from-width.result fs
+    (kept_from (c.in-Some.first.line + 1) (lines (drop c.in-Some.first.next c.args.bytes.now))) c.in_ok-placement.placement value
+    (c.as_slice.ensures.value ∙ c.in_ok-forms.ensures.forms) c.from-nodes.ensures c.from-width.ensures c.in_ok-forms.ensures.faultless c.in-Ok.ensures.ok.width c.in-Ok.ensures.ok.height in
     record {
-      width = subst (λ (p : Placement). IsFromTo 1 8 p.width) (sym value) c.in_ok-mesh.ensures.ok.width;
-      height = subst (λ (p : Placement). IsFromTo 1 8 p.height) (sym value) c.in_ok-mesh.ensures.ok.height;
+      width = subst (λ (p : Placement). IsFromTo 1 8 p.width) (sym value) c.in-Ok.ensures.ok.width;
+      height = subst (λ (p : Placement). IsFromTo 1 8 p.height) (sym value) c.in-Ok.ensures.ok.height;
       objects = c.in_ok-placement.ensures.objects;
       frames = c.in_ok-placement.ensures.frames;
       cells = c.in_ok-placement.ensures.cells;
@@ -24,4 +48,6 @@ returns-clause-suits c =
       each = subst (λ (p : Placement). All (IsOfMesh (nodes p)) p.places) (sym value) (places_there (mesh.width * mesh.height) 0 (length u.classes) fs fine);
       fits =
           subst (λ n. n ≤ 16777216) (c.words-words.ensures ∙ ap (λ v. words c.in_ok-placement.placement v) (c.most_vars.ensures ∙ ap most_vars c.items.ensures)) c.if-words-gt-MOST_WORDS.false;
+      routed = routes;
+      ways = routed_ways c.in_ok-placement.placement routes c.in-None.ensures.none;
     }

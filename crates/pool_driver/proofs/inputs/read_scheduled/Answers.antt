@@ -10,10 +10,10 @@ returns-in-Err-clause-reads g c = passed_on _ _ _ _ _ _ _ _ _ c.in-Err.stop (λ 
 
 pub returns-in-Ok-read_schedule-clause-reads : goal.returns-in-Ok-read_schedule-clause-reads
 returns-in-Ok-read_schedule-clause-reads g c =
-    judged _ _ _ _ _ _ _ _ _ c.in-Ok.text _ c.in-Ok.ensures.reads (λ s is. R.fits c.in-Ok-read_schedule.schedule refl (subst (λ (t : List ℕ). schedule_of c.args.placement.now.width c.args.placement.now.height t ≡ Ok c.in-Ok-read_schedule.schedule) (c.deref.ensures.value ∙ is) c.in-Ok-read_schedule.ensures.ok))
+    judged _ _ _ _ _ _ _ _ _ c.in-Ok.text _ c.in-Ok.ensures.reads (λ s is. R.fits c.in-Ok-read_schedule.schedule refl (subst (λ (t : List ℕ). schedule_of c.args.placement.now.width c.args.placement.now.height c.args.placement.now.cuts t ≡ Ok c.in-Ok-read_schedule.schedule) (c.deref.ensures.value ∙ is) c.in-Ok-read_schedule.ensures.ok))
 
 pub returns-clause-reads : goal.returns-clause-reads
 returns-clause-reads g c =
     judged _ _ _ _ _ _ _ _ _ c.in-Ok.text _ c.in-Ok.ensures.reads (λ s is.
     schedule_refused c.args.placement.now s c.in-Err-read_schedule.fault c.schedule_stop.result c.schedule_stop.ensures
-    (subst (λ (t : List ℕ). Sch.IsTold c.in-Err-read_schedule.fault (Sch.fault_in (schedule_of c.args.placement.now.width c.args.placement.now.height t))) (c.deref.ensures.value ∙ is) c.in-Err-read_schedule.ensures.err))
+    (subst (λ (t : List ℕ). Sch.IsTold c.in-Err-read_schedule.fault (Sch.fault_in (schedule_of c.args.placement.now.width c.args.placement.now.height c.args.placement.now.cuts t))) (c.deref.ensures.value ∙ is) c.in-Err-read_schedule.ensures.err))

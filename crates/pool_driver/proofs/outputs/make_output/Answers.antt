@@ -1,7 +1,8 @@
 use Rattle.std.proofs.Common.{ap, refl, sym, subst}
 use Rattle.command_words.specs.Commands.{request}
 use Rattle.pool_driver.specs.Inputs.{MayOpen}
-use Rattle.pool_driver.proofs.OutputLaws.{makes_for, ring_makes}
+use Rattle.command_words.specs.Commands.{names_of}
+use Rattle.pool_driver.proofs.OutputLaws.{convert_within, makes_for, program_within, ring_makes, ring_within, run_within, stays_for}
 use Rattle.pool_driver.proofs.outputs.make_output.Goals as goal
 
 pub run_output-requires-clause-allowed : goal.run_output-requires-clause-allowed
@@ -19,3 +20,21 @@ returns-in-Program-clause-makes g c = makes_for _ _ _ c.program_output.result (s
 pub returns-in-Ring-clause-makes : goal.returns-in-Ring-clause-makes
 returns-in-Ring-clause-makes g c =
     makes_for _ _ _ c.ring_output.result (sym (ap request c.in-Ring.is)) (ring_makes _ c.in-Ring.cells c.ring_output.result refl c.requires.not_live refl c.ring_output.ensures)
+
+pub convert_output-requires-clause-allowed : goal.convert_output-requires-clause-allowed
+convert_output-requires-clause-allowed g c = subst (MayOpen (g.F.Files.may c.args.files.now) (g.F.Files.opens c.args.files.now)) (ap request c.in-Convert.is) c.requires.allowed
+
+pub returns-in-Convert-clause-makes : goal.returns-in-Convert-clause-makes
+returns-in-Convert-clause-makes g c = makes_for _ _ _ c.convert_output.result (sym (ap request c.in-Convert.is)) c.convert_output.ensures.makes
+
+pub returns-in-Run-clause-unread_within : goal.returns-in-Run-clause-unread_within
+returns-in-Run-clause-unread_within g c = stays_for _ _ _ _ _ (sym (ap request c.in-Run.is)) (run_within _ _ _ c.in-Run.show (names_of c.in-Run.names) c.run_output.ensures.unread_within)
+
+pub returns-in-Program-clause-unread_within : goal.returns-in-Program-clause-unread_within
+returns-in-Program-clause-unread_within g c = stays_for _ _ _ _ _ (sym (ap request c.in-Program.is)) (program_within _ _ _ c.in-Program.ask c.in-Program.name.now c.program_output.ensures.unread_within)
+
+pub returns-in-Ring-clause-unread_within : goal.returns-in-Ring-clause-unread_within
+returns-in-Ring-clause-unread_within g c = stays_for _ _ _ _ _ (sym (ap request c.in-Ring.is)) (ring_within _ _ _ c.in-Ring.cells)
+
+pub returns-in-Convert-clause-unread_within : goal.returns-in-Convert-clause-unread_within
+returns-in-Convert-clause-unread_within g c = stays_for _ _ _ _ _ (sym (ap request c.in-Convert.is)) (convert_within _ _ _ c.in-Convert.name.now c.convert_output.ensures.unread_within)

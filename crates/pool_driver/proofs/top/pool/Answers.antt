@@ -1,8 +1,12 @@
-use Rattle.std.proofs.Common.{◌∙◌, option_map, ap, sym, refl, inr}
-use Rattle.command_words.specs.Commands.{request}
+use Rattle.std.proofs.Common.{◌≡◌, ◌∙◌, Some, option_map, ap, sym, refl, inr}
+use Rattle.command_words.specs.Commands.{Request, request}
 use Rattle.pool_driver.specs.Ends as E
 use Rattle.pool_driver.proofs.EndLaws.{stop_completes, stop_ends, text_completes, text_ends, usage_ends}
+use Rattle.pool_driver.proofs.OutputLaws.{none_within, stays_for}
 use Rattle.pool_driver.proofs.top.pool.Goals as goal
+
+same_request : (q r : Request) → Some q ≡ Some r → q ≡ r
+same_request q r e = cc
 
 pub returns-in-Err-clause-ends : goal.returns-in-Err-clause-ends
 returns-in-Err-clause-ends g c = E.no_memory (refl, refl) (refl, refl) refl
@@ -31,3 +35,19 @@ returns-in-Err-make_output-clause-complete g c r words served read out err =
 pub returns-in-None-clause-ends : goal.returns-in-None-clause-ends
 returns-in-None-clause-ends g c =
     usage_ends _ _ _ _ c.say.result (sym c.in-Ok.ensures.request ∙ ap (option_map request) c.in-None.is) refl refl c.say.ensures (refl, refl)
+
+pub returns-in-Err-clause-stops_reading : goal.returns-in-Err-clause-stops_reading
+returns-in-Err-clause-stops_reading g c r words = none_within _ _ _ r refl
+
+pub returns-in-Ok-make_output-clause-stops_reading : goal.returns-in-Ok-make_output-clause-stops_reading
+returns-in-Ok-make_output-clause-stops_reading g c r words =
+    stays_for _ _ _ (request c.in-Some.command) r (same_request (request c.in-Some.command) r (sym (sym c.in-Ok.ensures.request ∙ ap (option_map request) c.in-Some.is) ∙ words))
+    c.in-Ok-make_output.ensures.unread_within
+
+pub returns-in-Err-make_output-clause-stops_reading : goal.returns-in-Err-make_output-clause-stops_reading
+returns-in-Err-make_output-clause-stops_reading g c r words =
+    stays_for _ _ _ (request c.in-Some.command) r (same_request (request c.in-Some.command) r (sym (sym c.in-Ok.ensures.request ∙ ap (option_map request) c.in-Some.is) ∙ words))
+    c.in-Err-make_output.ensures.unread_within
+
+pub returns-in-None-clause-stops_reading : goal.returns-in-None-clause-stops_reading
+returns-in-None-clause-stops_reading g c r words = none_within _ _ _ r refl

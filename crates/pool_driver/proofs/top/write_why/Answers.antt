@@ -1,18 +1,18 @@
-use Rattle.std.proofs.Common.{Option, refl, sym, ap, subst}
+use Rattle.std.proofs.Common.{◌∙◌, Option, [], refl, sym, ap, subst}
 use Rattle.pool_syntax.specs.declared.words.Placement.{Placement}
 use Rattle.object_code.specs.declared.unit.Unit.{Unit as Code}
 use Rattle.object_code.specs.Proper.{IsProper}
 use Rattle.object_code.specs.Suits.{Suits}
 use Rattle.mesh_semantics.specs.Config.{Config}
-use Rattle.mesh_semantics.specs.Delay.{no_delay}
 use Rattle.mesh_semantics.specs.Record.{record_at}
+use Rattle.pool_machine.specs.Answers.{nothing_sent}
 use Rattle.coded_objects.specs.Coded.{Placed, coded}
 use Rattle.coded_objects.proofs.Laws.{start_there}
 use Rattle.command_words.specs.declared.command.Show.TheVariants as Sh
-use Rattle.pool_driver.specs.Driving.{IsLoaded}
+use Rattle.pool_driver.specs.Driving.{IsLoaded, IsTableOf}
 use Rattle.pool_driver.specs.Readers as R
 use Rattle.pool_driver.specs.Readers.{Delivers, run_of}
-use Rattle.pool_driver.proofs.DriveLaws.{from_start, has_run, report_cut, report_delivers, report_of_run}
+use Rattle.pool_driver.proofs.DriveLaws.{from_start, has_run, made_of, report_cut, report_delivers, report_of_run}
 use Rattle.pool_driver.proofs.top.write_why.Goals as goal
 
 pub make-requires-clause-proper : goal.make-requires-clause-proper
@@ -23,35 +23,39 @@ make-requires-clause-suits g c = c.requires.suits
 
 pub drive-requires-clause-loaded : goal.drive-requires-clause-loaded
 drive-requires-clause-loaded g c =
-    let s = c.in-Ok.ensures in
-    subst (λ (u : Code). IsLoaded u c.in-Ok.machine.placement c.args.loaded.now.schedule) (sym s.unit)
+    let s = c.in-Ok-make.ensures in
+    subst (λ (u : Code). IsLoaded u c.in-Ok-make.machine.placement c.args.loaded.now.schedule) (sym s.unit)
     (subst (λ (l : Placement). IsLoaded c.args.loaded.now.unit l c.args.loaded.now.schedule) (sym s.placement) c.requires)
 
 pub drive-requires-clause-table : goal.drive-requires-clause-table
-drive-requires-clause-table g c = ap (λ (u : Code). u.names) (sym c.in-Ok.ensures.unit)
+drive-requires-clause-table g c = ap (λ (u : Code). u.names) (sym c.in-Ok-make.ensures.unit)
 
 pub drive-requires-clause-fresh : goal.drive-requires-clause-fresh
-drive-requires-clause-fresh g c = c.in-Ok.ensures.done
+drive-requires-clause-fresh g c = c.in-Ok-make.ensures.done
 
 pub drive-requires-clause-unmoved : goal.drive-requires-clause-unmoved
-drive-requires-clause-unmoved g c = c.in-Ok.ensures.moves
+drive-requires-clause-unmoved g c = c.in-Ok-make.ensures.moves
 
 pub drive-requires-clause-still : goal.drive-requires-clause-still
-drive-requires-clause-still g c = c.in-Ok.ensures.transitions
+drive-requires-clause-still g c = c.in-Ok-make.ensures.transitions
 
 pub drive-requires-clause-under_way : goal.drive-requires-clause-under_way
 drive-requires-clause-under_way g c =
     let first = start_there c.args.loaded.now.unit c.requires.proper c.args.loaded.now.placement in
-    record { config = first.0; delay = no_delay; stands = c.in-Ok.ensures.stands first.0 first.1 }
+    record { config = first.0; delay = nothing_sent c.lossy-lossy.result; stands = c.in-Ok-make.ensures.stands first.0 first.1 }
+
+pub drive-requires-clause-wired : goal.drive-requires-clause-wired
+drive-requires-clause-wired g c = c.in-Ok-make.ensures.lossy ∙ c.lossy-lossy.ensures
 
 pub write_report-requires-clause-proper : goal.write_report-requires-clause-proper
 write_report-requires-clause-proper g c =
     let u = c.args.loaded.now.unit in
     let l = c.args.loaded.now.placement in
     let plan = c.args.loaded.now.schedule in
-    let s = c.in-Ok.ensures in
+    let d = nothing_sent plan.lossy in
+    let s = made_of u l c.lossy-lossy.result plan c.in-Ok-make.machine c.lossy-lossy.ensures c.in-Ok-make.ensures in
     let first = start_there u c.requires.proper l in
-    let h = has_run Sh.Report u l plan first.0 no_delay _ _ c.in-Ok-drive.last (from_start Sh.Report u l plan first.0 no_delay c.in-Ok.machine _ _ _ s.unit s.placement (c.in-Ok-drive.ensures first.0 no_delay (s.stands first.0 first.1))) in
+    let h = has_run Sh.Report u l plan first.0 d _ _ c.in-Ok-drive.last (from_start Sh.Report u l plan first.0 d c.in-Ok-make.machine _ _ _ s.unit s.placement (c.in-Ok-drive.ensures first.0 d (s.stands first.0 first.1))) in
     subst IsProper (sym h.unit) c.requires.proper
 
 pub write_report-requires-clause-suits : goal.write_report-requires-clause-suits
@@ -59,9 +63,10 @@ write_report-requires-clause-suits g c =
     let u = c.args.loaded.now.unit in
     let l = c.args.loaded.now.placement in
     let plan = c.args.loaded.now.schedule in
-    let s = c.in-Ok.ensures in
+    let d = nothing_sent plan.lossy in
+    let s = made_of u l c.lossy-lossy.result plan c.in-Ok-make.machine c.lossy-lossy.ensures c.in-Ok-make.ensures in
     let first = start_there u c.requires.proper l in
-    let h = has_run Sh.Report u l plan first.0 no_delay c.drive.new.machine _ c.in-Ok-drive.last (from_start Sh.Report u l plan first.0 no_delay c.in-Ok.machine _ _ _ s.unit s.placement (c.in-Ok-drive.ensures first.0 no_delay (s.stands first.0 first.1))) in
+    let h = has_run Sh.Report u l plan first.0 d c.drive.new.machine _ c.in-Ok-drive.last (from_start Sh.Report u l plan first.0 d c.in-Ok-make.machine _ _ _ s.unit s.placement (c.in-Ok-drive.ensures first.0 d (s.stands first.0 first.1))) in
     subst (λ (x : Placement). Suits x c.drive.new.machine.unit) (sym h.placement) (subst (Suits l) (sym h.unit) c.requires.suits)
 
 pub write_report-requires-clause-same : goal.write_report-requires-clause-same
@@ -69,9 +74,10 @@ write_report-requires-clause-same g c =
     let u = c.args.loaded.now.unit in
     let l = c.args.loaded.now.placement in
     let plan = c.args.loaded.now.schedule in
-    let s = c.in-Ok.ensures in
+    let d = nothing_sent plan.lossy in
+    let s = made_of u l c.lossy-lossy.result plan c.in-Ok-make.machine c.lossy-lossy.ensures c.in-Ok-make.ensures in
     let first = start_there u c.requires.proper l in
-    let h = has_run Sh.Report u l plan first.0 no_delay _ _ c.in-Ok-drive.last (from_start Sh.Report u l plan first.0 no_delay c.in-Ok.machine _ _ _ s.unit s.placement (c.in-Ok-drive.ensures first.0 no_delay (s.stands first.0 first.1))) in
+    let h = has_run Sh.Report u l plan first.0 d _ _ c.in-Ok-drive.last (from_start Sh.Report u l plan first.0 d c.in-Ok-make.machine _ _ _ s.unit s.placement (c.in-Ok-drive.ensures first.0 d (s.stands first.0 first.1))) in
     sym h.placement
 
 pub write_report-requires-clause-table : goal.write_report-requires-clause-table
@@ -79,9 +85,10 @@ write_report-requires-clause-table g c =
     let u = c.args.loaded.now.unit in
     let l = c.args.loaded.now.placement in
     let plan = c.args.loaded.now.schedule in
-    let s = c.in-Ok.ensures in
+    let d = nothing_sent plan.lossy in
+    let s = made_of u l c.lossy-lossy.result plan c.in-Ok-make.machine c.lossy-lossy.ensures c.in-Ok-make.ensures in
     let first = start_there u c.requires.proper l in
-    let h = has_run Sh.Report u l plan first.0 no_delay _ _ c.in-Ok-drive.last (from_start Sh.Report u l plan first.0 no_delay c.in-Ok.machine _ _ _ s.unit s.placement (c.in-Ok-drive.ensures first.0 no_delay (s.stands first.0 first.1))) in
+    let h = has_run Sh.Report u l plan first.0 d _ _ c.in-Ok-drive.last (from_start Sh.Report u l plan first.0 d c.in-Ok-make.machine _ _ _ s.unit s.placement (c.in-Ok-drive.ensures first.0 d (s.stands first.0 first.1))) in
     ap (λ (v : Code). v.names) (sym h.unit)
 
 pub write_report-requires-clause-under_way : goal.write_report-requires-clause-under_way
@@ -89,9 +96,10 @@ write_report-requires-clause-under_way g c =
     let u = c.args.loaded.now.unit in
     let l = c.args.loaded.now.placement in
     let plan = c.args.loaded.now.schedule in
-    let s = c.in-Ok.ensures in
+    let d = nothing_sent plan.lossy in
+    let s = made_of u l c.lossy-lossy.result plan c.in-Ok-make.machine c.lossy-lossy.ensures c.in-Ok-make.ensures in
     let first = start_there u c.requires.proper l in
-    let h = has_run Sh.Report u l plan first.0 no_delay _ _ c.in-Ok-drive.last (from_start Sh.Report u l plan first.0 no_delay c.in-Ok.machine _ _ _ s.unit s.placement (c.in-Ok-drive.ensures first.0 no_delay (s.stands first.0 first.1))) in
+    let h = has_run Sh.Report u l plan first.0 d _ _ c.in-Ok-drive.last (from_start Sh.Report u l plan first.0 d c.in-Ok-make.machine _ _ _ s.unit s.placement (c.in-Ok-drive.ensures first.0 d (s.stands first.0 first.1))) in
     record { config = _; delay = _; stands = h.stands }
 
 pub returns-in-Ok-drive : goal.returns-in-Ok-drive
@@ -99,22 +107,30 @@ returns-in-Ok-drive g c =
     let u = c.args.loaded.now.unit in
     let l = c.args.loaded.now.placement in
     let plan = c.args.loaded.now.schedule in
-    let s = c.in-Ok.ensures in
+    let d = nothing_sent plan.lossy in
+    let s = made_of u l c.lossy-lossy.result plan c.in-Ok-make.machine c.lossy-lossy.ensures c.in-Ok-make.ensures in
     let first = start_there u c.requires.proper l in
-    let drives = from_start Sh.Report u l plan first.0 no_delay c.in-Ok.machine _ _ _ s.unit s.placement (c.in-Ok-drive.ensures first.0 no_delay (s.stands first.0 first.1)) in
+    let drives = from_start Sh.Report u l plan first.0 d c.in-Ok-make.machine _ _ _ s.unit s.placement (c.in-Ok-drive.ensures first.0 d (s.stands first.0 first.1)) in
     report_of_run _ u _ (run_of c.args.loaded.now) c.write_report.result
-    (sym (ap (λ (o : Option (Config Placed)). record_at (coded u) l plan.quantum o plan.events) first.1))
-    (report_delivers u l plan first.0 no_delay c.drive.new.machine _ u.names _ c.in-Ok-drive.last c.write_report.result refl (has_run Sh.Report u l plan first.0 no_delay _ _ c.in-Ok-drive.last drives) (refl, refl) c.write_report.ensures)
+    (sym (ap (λ (o : Option (Config Placed)). record_at (coded u) l plan.quantum o d plan.events) first.1))
+    (report_delivers u l plan first.0 d c.drive.new.machine _ u.names _ c.in-Ok-drive.last c.write_report.result refl (has_run Sh.Report u l plan first.0 d _ _ c.in-Ok-drive.last drives) (refl, refl) c.write_report.ensures)
 
-pub returns-in-Ok : goal.returns-in-Ok
-returns-in-Ok g c =
+pub returns-in-Ok-make : goal.returns-in-Ok-make
+returns-in-Ok-make g c =
     let u = c.args.loaded.now.unit in
     let l = c.args.loaded.now.placement in
     let plan = c.args.loaded.now.schedule in
-    let s = c.in-Ok.ensures in
+    let d = nothing_sent plan.lossy in
+    let s = made_of u l c.lossy-lossy.result plan c.in-Ok-make.machine c.lossy-lossy.ensures c.in-Ok-make.ensures in
     let first = start_there u c.requires.proper l in
-    let drives = from_start Sh.Report u l plan first.0 no_delay c.in-Ok.machine _ _ _ s.unit s.placement (c.in-Err.ensures first.0 no_delay (s.stands first.0 first.1)) in
-    report_cut u l plan first.0 no_delay _ _ _ _ _ drives
+    let drives = from_start Sh.Report u l plan first.0 d c.in-Ok-make.machine _ _ _ s.unit s.placement (c.in-Err-drive.ensures first.0 d (s.stands first.0 first.1)) in
+    report_cut u l plan first.0 d _ _ _ _ _ drives
+
+pub drive-requires-clause-posts : goal.drive-requires-clause-posts
+drive-requires-clause-posts g c = subst (λ (l : Placement). IsTableOf l c.in-Ok.asks []) (sym c.in-Ok-make.ensures.placement) c.in-Ok.ensures
+
+pub returns-in-Err : goal.returns-in-Err
+returns-in-Err g c = R.nothing (refl, refl) refl
 
 pub returns : goal.returns
 returns g c = R.nothing (refl, refl) refl

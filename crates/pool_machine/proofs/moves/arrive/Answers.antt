@@ -1,8 +1,9 @@
-use Rattle.std.proofs.Common.{◌≡◌, ◌*◌, ◌<◌, sym, ap, ap₂, subst, ◌∙◌, get_or}
+use Rattle.std.proofs.Common.{◌≡◌, ◌*◌, ◌<◌, sym, ap, subst, ◌∙◌, get_or}
 use Rattle.mesh_semantics.specs.Act.{goal_node}
 use Rattle.node_semantics.specs.Machine.{leaving}
 use Rattle.mesh_routing.specs.Links.{LinksOf}
 use Rattle.rendezvous_protocol.specs.Packets.{numbered}
+use Rattle.pool_syntax.specs.declared.words.Placement.{Placement}
 use Rattle.pool_machine.proofs.ChangedNodes.{made_set}
 use Rattle.pool_machine.proofs.MovesOfHeads.{full_move, full_received, headless, idle_received, line_move, move_parts, move_posts, never_idle, receivable}
 use Rattle.pool_machine.proofs.TurnsOfNodes.{is_node, links_after, node_here, room_there, same_parts, with_packet, without_packet}
@@ -24,7 +25,7 @@ receive-requires-clause-packet c = receivable c.args.unit.now c.args.placement.n
 pub post-requires-clause-goal : goal.post-requires-clause-goal
 post-requires-clause-goal c =
     let h = move_posts c.args.unit.now c.args.placement.now c.args.nodes.now c.args.links.now c.requires.kept c.args.from c.args.to c.requires.link c.index-nodes-to.result c.args.packet c.requires.head c.requires.goal c.leaving-leaving.result c.leaving-leaving.ensures.count c.in-Line.what c.in-Line.answer c.in-Some.answer c.receive.new.self c.in-Some.is c.in-Line.ensures.act in
-    subst (λ z. goal_node (numbered c.in-Some.answer).packet < z) (ap₂ (λ a b. a * b) (sym c.requires.mesh.width) (sym c.requires.mesh.height)) h.0
+    subst (λ (z : Placement). goal_node (numbered c.in-Some.answer).packet < z.width * z.height) (sym c.requires.table) h.0
 
 pub post-requires-clause-away : goal.post-requires-clause-away
 post-requires-clause-away c = (move_posts c.args.unit.now c.args.placement.now c.args.nodes.now c.args.links.now c.requires.kept c.args.from c.args.to c.requires.link c.index-nodes-to.result c.args.packet c.requires.head c.requires.goal c.leaving-leaving.result c.leaving-leaving.ensures.count c.in-Line.what c.in-Line.answer c.in-Some.answer c.receive.new.self c.in-Some.is c.in-Line.ensures.act).1
@@ -49,9 +50,13 @@ returns-in-Full-clause-act c = full_move c.args.unit.now c.args.placement.now c.
 pub returns-in-Full-clause-parts : goal.returns-in-Full-clause-parts
 returns-in-Full-clause-parts c = same_parts c.args.unit.now c.args.placement.now c.args.nodes.now c.args.links.now c.requires.kept c.args.to c.requires.link.to c.index-nodes-to.result c.receive.new.self (full_received c.args.unit.now c.args.placement.now c.args.nodes.now c.args.links.now c.requires.kept c.args.from c.args.to c.requires.link c.index-nodes-to.result c.args.packet c.requires.head c.requires.goal c.leaving-leaving.result c.leaving-leaving.ensures.count c.in-Full.kind c.receive.new.self c.in-Full.ensures.act)
 
+pub returns-in-Full-clause-counts : goal.returns-in-Full-clause-counts
+returns-in-Full-clause-counts c =
+    made_set c.args.nodes.now c.args.to (get_or c.args.nodes.now c.args.to c.index-nodes-to.result) c.receive.new.self (node_here c.args.unit.now c.args.placement.now c.args.nodes.now c.args.links.now c.requires.kept c.args.to c.requires.link.to c.index-nodes-to.result) c.in-Full.ensures.made
+
 links_are : (c : goal.Joined-answer) → c.match-answer.links ≡ links_after c.args.placement.now c.args.to c.in-Line.answer (headless c.args.from c.args.to c.args.links.now)
 links_are c = elim c.match-answer.branch [
-  | in-Some w ↦ w.links-is ∙ with_packet c.args.placement.now c.args.to c.args.mesh.now.width c.move_head.new.self w.post.new.links c.in-Line.answer w.in-Some.answer w.in-Some.is c.requires.mesh.width w.post.ensures
+  | in-Some w ↦ w.links-is ∙ with_packet c.args.placement.now c.args.table.now c.args.to c.move_head.new.self w.post.new.links c.in-Line.answer w.in-Some.answer w.in-Some.is c.requires.table w.post.ensures
       ∙ ap (links_after c.args.placement.now c.args.to c.in-Line.answer) c.move_head.ensures.rest
   | in_default w ↦ w.links-is ∙ without_packet c.args.placement.now c.args.to c.move_head.new.self c.in-Line.answer w.in_default.is
       ∙ ap (links_after c.args.placement.now c.args.to c.in-Line.answer) c.move_head.ensures.rest

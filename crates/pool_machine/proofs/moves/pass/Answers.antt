@@ -1,10 +1,11 @@
-use Rattle.std.proofs.Common.{◌≡◌, ◌*◌, ◌<◌, sym, ap, ap₂, subst, ◌∙◌, refl, get_or, Some, arith}
+use Rattle.std.proofs.Common.{◌≡◌, ◌*◌, ◌<◌, sym, ap, subst, ◌∙◌, refl, get_or, Some, arith}
 use Rattle.mesh_semantics.specs.Act.{goal_node}
 use Rattle.node_semantics.specs.Machine.{leaving}
 use Rattle.node_semantics.specs.Node.{message_count}
 use Rattle.node_parts.specs.NodeOf.{NodeOf}
 use Rattle.mesh_routing.specs.Links.{LinksOf}
 use Rattle.rendezvous_protocol.specs.Packets.{numbered}
+use Rattle.pool_syntax.specs.declared.words.Placement.{Placement}
 use Rattle.pool_machine.proofs.MovesOfHeads.{full_pass, goal_inside, headless, line_pass, pass_parts, pass_room}
 use Rattle.pool_machine.proofs.TurnsOfNodes.{cells_within, links_after, node_here, with_packet}
 use Rattle.pool_machine.proofs.moves.pass.Goals as goal
@@ -30,7 +31,7 @@ returns-then-waiting-leaving-clause-act c = full_pass c.args.unit.now c.args.pla
 
 pub post-requires-clause-goal : goal.post-requires-clause-goal
 post-requires-clause-goal c =
-    subst (λ z. goal_node (numbered c.args.packet).packet < z) (ap₂ (λ a b. a * b) (sym c.requires.mesh.width) (sym c.requires.mesh.height)) (goal_inside c.args.unit.now c.args.placement.now c.args.nodes.now c.args.links.now c.requires.kept c.args.from c.args.to c.requires.link c.index-nodes-to.result c.args.packet c.requires.head)
+    subst (λ (z : Placement). goal_node (numbered c.args.packet).packet < z.width * z.height) (sym c.requires.table) (goal_inside c.args.unit.now c.args.placement.now c.args.nodes.now c.args.links.now c.requires.kept c.args.from c.args.to c.requires.link c.index-nodes-to.result c.args.packet c.requires.head)
 
 pub post-requires-clause-room : goal.post-requires-clause-room
 post-requires-clause-room c =
@@ -39,7 +40,7 @@ post-requires-clause-room c =
 
 links_are : (c : goal.After-post) → c.post.new.links ≡ links_after c.args.placement.now c.args.to (Some c.args.packet) (headless c.args.from c.args.to c.args.links.now)
 links_are c =
-    with_packet c.args.placement.now c.args.to c.args.mesh.now.width c.move_head.new.self c.post.new.links (Some c.args.packet) c.args.packet refl c.requires.mesh.width c.post.ensures
+    with_packet c.args.placement.now c.args.table.now c.args.to c.move_head.new.self c.post.new.links (Some c.args.packet) c.args.packet refl c.requires.table c.post.ensures
     ∙ ap (links_after c.args.placement.now c.args.to (Some c.args.packet)) c.move_head.ensures.rest
 
 pub returns-clause-act : goal.returns-clause-act

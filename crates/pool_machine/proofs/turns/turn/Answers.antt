@@ -1,7 +1,8 @@
-use Rattle.std.proofs.Common.{◌≡◌, ◌*◌, ◌<◌, sym, ap₂, subst, ◌∙◌, get_or}
+use Rattle.std.proofs.Common.{◌≡◌, ◌*◌, ◌<◌, sym, subst, ◌∙◌, get_or}
 use Rattle.mesh_semantics.specs.Act.{goal_node}
 use Rattle.node_semantics.specs.Machine.{leaving}
 use Rattle.rendezvous_protocol.specs.Packets.{numbered}
+use Rattle.pool_syntax.specs.declared.words.Placement.{Placement}
 use Rattle.pool_machine.proofs.ChangedNodes.{counts_set}
 use Rattle.pool_machine.proofs.TurnsOfNodes.{full_turn, full_turned, idle_turn, idle_turned, is_node, line_parts, line_posts, line_turn, links_after, node_here, room_there, same_parts, with_packet, without_packet}
 use Rattle.pool_machine.proofs.turns.turn.Goals as goal
@@ -22,7 +23,7 @@ turn-requires-clause-countable c = c.requires.countable c.args.node (get_or c.ar
 pub post-requires-clause-goal : goal.post-requires-clause-goal
 post-requires-clause-goal c =
     let h = line_posts c.args.unit.now c.args.placement.now c.args.nodes.now c.args.links.now c.requires.kept c.args.node c.requires.node c.index-nodes-node.result c.leaving-leaving.result c.leaving-leaving.ensures.count c.args.quantum c.in-Line.what c.in-Line.packet c.in-Some.packet c.turn.new.self c.in-Some.is c.in-Line.ensures.act in
-    subst (λ z. goal_node (numbered c.in-Some.packet).packet < z) (ap₂ (λ a b. a * b) (sym c.requires.mesh.width) (sym c.requires.mesh.height)) h.0
+    subst (λ (z : Placement). goal_node (numbered c.in-Some.packet).packet < z.width * z.height) (sym c.requires.table) h.0
 
 pub post-requires-clause-away : goal.post-requires-clause-away
 post-requires-clause-away c = (line_posts c.args.unit.now c.args.placement.now c.args.nodes.now c.args.links.now c.requires.kept c.args.node c.requires.node c.index-nodes-node.result c.leaving-leaving.result c.leaving-leaving.ensures.count c.args.quantum c.in-Line.what c.in-Line.packet c.in-Some.packet c.turn.new.self c.in-Some.is c.in-Line.ensures.act).1
@@ -54,7 +55,7 @@ returns-in-Full-clause-counts c = λ most h.
 
 links_are : (c : goal.Joined-packet) → c.match-packet.links ≡ links_after c.args.placement.now c.args.node c.in-Line.packet c.args.links.now
 links_are c = elim c.match-packet.branch [
-  | in-Some w ↦ w.links-is ∙ with_packet c.args.placement.now c.args.node c.args.mesh.now.width c.args.links.now w.post.new.links c.in-Line.packet w.in-Some.packet w.in-Some.is c.requires.mesh.width w.post.ensures
+  | in-Some w ↦ w.links-is ∙ with_packet c.args.placement.now c.args.table.now c.args.node c.args.links.now w.post.new.links c.in-Line.packet w.in-Some.packet w.in-Some.is c.requires.table w.post.ensures
   | in_default w ↦ w.links-is ∙ without_packet c.args.placement.now c.args.node c.args.links.now c.in-Line.packet w.in_default.is
 ]
 

@@ -9,16 +9,16 @@ use Rattle.schedule_reader.proofs.gather.gather.Given as goal
 -- what the lines so far and those that are left give together is what all give
 abbrev pub invariant-loop-found : goal.invariant-loop-found
 invariant-loop-found l =
-    let all = kept_from l.line (lines (drop l.from l.bytes)) in
+    let all = kept_from l.opening.line (lines (drop l.opening.at l.bytes)) in
     let left = kept_from l.number (lines (drop l.at l.bytes)) in
     record {
       within : l.at ≤ length l.bytes;
       few : l.number ≤ l.at + 1;
-      fault : first_fault l.width l.height all ≡ first_fault l.width l.height left;
-      counted : l.gathered.total + total l.width l.height (entries_of left) ≡ total l.width l.height (entries_of all);
-      small : l.gathered.total ≤ 8320000000 * l.at;
+      fault : first_fault l.width l.height l.cuts l.opening.lossy all ≡ first_fault l.width l.height l.cuts l.opening.lossy left;
+      counted : l.gathered.total + total l.width l.height l.cuts l.opening.lossy (entries_of l.opening.lossy left) ≡ total l.width l.height l.cuts l.opening.lossy (entries_of l.opening.lossy all);
+      small : l.gathered.total ≤ 24704000000 * l.at;
       ends : l.gathered.total ≤ 2000000 → AreEnds l.round 0 l.gathered.stretches.items l.gathered.total;
-      events : l.gathered.total ≤ 2000000 → stretched l.round l.gathered.stretches.items ++ events_of l.width l.height (entries_of left) ≡ events_of l.width l.height (entries_of all);
+      events : l.gathered.total ≤ 2000000 → stretched l.round l.gathered.stretches.items ++ events_of l.width l.height l.cuts l.opening.lossy (entries_of l.opening.lossy left) ≡ events_of l.width l.height l.cuts l.opening.lossy (entries_of l.opening.lossy all);
     }
 
 abbrev pub decreases-loop-found : goal.decreases-loop-found

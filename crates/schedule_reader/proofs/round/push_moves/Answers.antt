@@ -10,6 +10,6 @@ loop-from-preserved c =
     record {
       items =
           rw c.in_ok-push_moves_to.ensures.items
-          (more (moves_from c.args.width c.args.nodes) (λ a. moves_to c.args.width a (range_with_len 0 c.args.nodes)) (λ k ks. refl) l.from c.args.nodes (omega arith) l.events.items _ l.invariant.items);
+          (more (moves_from c.args.width c.args.cuts.now c.args.lossy c.args.nodes) (λ a. moves_to c.args.width c.args.cuts.now c.args.lossy a (range_with_len 0 c.args.nodes)) (λ k ks. refl) l.from c.args.nodes (omega arith) l.events.items _ l.invariant.items);
       few = omega (arith, c.in_ok-push_moves_to.ensures.few);
     }

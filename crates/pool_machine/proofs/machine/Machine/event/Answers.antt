@@ -1,22 +1,22 @@
-use Rattle.std.proofs.Common.{◌≡◌, ◌+◌, ◌<◌, ◌≤◌, ℕ, List, refl, sym, ap, subst, ◌∙◌, arith}
+use Rattle.std.proofs.Common.{◌≡◌, ◌+◌, ◌<◌, ◌≤◌, List, refl, sym, ap, subst, ◌∙◌, arith}
 use Rattle.mesh_semantics.specs.Config.{Config}
 use Rattle.mesh_semantics.specs.Delay.{Delay}
 use Rattle.mesh_semantics.specs.Act.{act}
 use Rattle.coded_objects.specs.Coded.{Placed, coded}
-use Rattle.node_semantics.specs.Machine.{machine_act}
-use Rattle.node_semantics.specs.Agrees.{IsFresh}
 use Rattle.node_parts.specs.NodeOf.{NodeOf}
 use Rattle.pool_machine.specs.MachineOf.{MachineOf}
 use Rattle.std.specs.Vec.{with_items}
 use Rattle.std.proofs.lemmas.List.{with_items_is}
-use Rattle.pool_machine.specs.Parts.{AreKept, EachCount, IsDid, machine_from}
+use Rattle.pool_machine.specs.Parts.{EachCount}
+use Rattle.pool_machine.specs.OnWires.{AreWired, EachEntered, Makes, wires_in}
 use Rattle.pool_machine.specs.Whole.{machine_view}
 use Rattle.pool_machine.specs.Answers.{IsOfMesh, IsOutcome, Stands}
 use Rattle.pool_machine.specs.declared.words.Did.TheVariants as D
 use Rattle.pool_machine.specs.declared.words.Outcome.TheVariants as O
 use Rattle.pool_syntax.specs.declared.words.Line.TheVariants as R
 use Rattle.pool_machine.proofs.ChangedNodes.{counts_below}
-use Rattle.pool_machine.proofs.EventsOfMachines.{full_outcome, kept_full, kept_line, line_outcome, same_nodes}
+use Rattle.pool_machine.proofs.EnteredPackets.{entered_below}
+use Rattle.pool_machine.proofs.EventsOfMachines.{entered_line, full_outcome, kept_full, kept_line, line_outcome, same_links, same_nodes, same_wires}
 use Rattle.pool_machine.proofs.machine.Machine.event.Goals as goal
 
 pub step-did-requires-clause-countable : goal.step-did-requires-clause-countable
@@ -24,28 +24,46 @@ step-did-requires-clause-countable c =
     let done : c.self.inside.done < 4294967295 = subst (λ (v : MachineOf). v.done < 4294967295) (sym c.self.view_is) c.requires.few in
     counts_below c.self.inside.done 4294967295 c.as_mut_slice.result.now done (subst (EachCount (λ k. k ≤ c.self.inside.done)) (sym c.as_mut_slice.ensures.value) c.self.invariant.counts)
 
+pub step-did-requires-clause-few : goal.step-did-requires-clause-few
+step-did-requires-clause-few c =
+    let done : c.self.inside.done < 4294967295 = subst (λ (v : MachineOf). v.done < 4294967295) (sym c.self.view_is) c.requires.few in
+    entered_below c.self.inside.done 4294967295 (wires_in c.self.inside.wires) c.self.inside.links.links done c.self.invariant.entered
+
 pub invariant_of-self : goal.invariant_of-self
 invariant_of-self c =
-    let inside : IsOfMesh c.self.inside.placement.now c.args.event = subst (λ (v : MachineOf). IsOfMesh v.placement c.args.event) (sym c.self.view_is) c.requires.mesh in
-    let acted = subst (λ (ns : List NodeOf). (fresh : ℕ) × IsFresh (machine_from ns c.self.inside.links.links) fresh c.args.event
-    × IsDid (D.Full c.in-Full.kind c.in-Full.node) ns c.self.inside.links c.step-did.new.nodes c.step-did.new.links
-    (machine_act (coded c.self.inside.unit.now) c.self.inside.placement.now c.args.quantum fresh (machine_from ns c.self.inside.links.links) c.args.event)) c.as_mut_slice.ensures.value c.in-Full.ensures.act in
+    let u = c.self.inside.unit.now in
+    let l = c.self.inside.placement.now in
+    let nodes = c.self.inside.nodes.items in
+    let ws = wires_in c.self.inside.wires in
+    let ws' = wires_in c.step-did.new.wires in
+    let inside : IsOfMesh l c.args.event = subst (λ (v : MachineOf). IsOfMesh v.placement c.args.event) (sym c.self.view_is) c.requires.mesh in
+    let acted = subst (λ (ns : List NodeOf). Makes u l c.args.quantum c.args.event (D.Full c.in-Full.kind c.in-Full.node) ns c.self.inside.links ws c.step-did.new.nodes c.step-did.new.links ws') c.as_mut_slice.ensures.value c.in-Full.ensures.act in
     let back : (with_items c.self.inside.nodes c.step-did.new.nodes).items ≡ c.step-did.new.nodes =
     with_items_is c.self.inside.nodes c.step-did.new.nodes (c.in-Full.ensures.parts.count ∙ sym c.self.invariant.kept.parts.count ∙ sym c.self.inside.nodes.ok.0) in
+    let same = same_nodes u l nodes c.self.inside.links ws c.self.invariant.kept c.args.quantum c.args.event inside c.step-did.new.nodes c.step-did.new.links ws' c.in-Full.kind c.in-Full.node acted in
+    let links = same_links u l nodes c.self.inside.links ws c.self.invariant.kept c.args.quantum c.args.event inside c.step-did.new.nodes c.step-did.new.links ws' c.in-Full.kind c.in-Full.node acted in
+    let wires = same_wires u l nodes c.self.inside.links ws c.self.invariant.kept c.args.quantum c.args.event inside c.step-did.new.nodes c.step-did.new.links ws' c.in-Full.kind c.in-Full.node acted in
     record {
       mesh = c.self.invariant.mesh;
-      kept = subst (λ (ns : List NodeOf). AreKept c.self.inside.unit.now c.self.inside.placement.now ns c.step-did.new.links) (sym back) (kept_full c.self.inside.unit.now c.self.inside.placement.now c.self.inside.nodes.items c.self.inside.links c.self.invariant.kept c.args.quantum c.args.event inside c.step-did.new.nodes c.step-did.new.links c.in-Full.ensures.parts c.in-Full.kind c.in-Full.node acted);
-      counts = subst (EachCount (λ k. k ≤ c.self.inside.done)) (sym (back ∙ same_nodes c.self.inside.unit.now c.self.inside.placement.now c.self.inside.nodes.items c.self.inside.links c.self.invariant.kept c.args.quantum c.args.event inside c.step-did.new.nodes c.step-did.new.links c.in-Full.ensures.parts c.in-Full.kind c.in-Full.node acted)) c.self.invariant.counts;
+      table = c.self.invariant.table;
+      kept = subst (λ (ns : List NodeOf). AreWired u l ns c.step-did.new.links ws') (sym back)
+          (kept_full u l nodes c.self.inside.links ws c.self.invariant.kept c.args.quantum c.args.event inside c.step-did.new.nodes c.step-did.new.links ws' c.in-Full.kind c.in-Full.node acted);
+      counts = subst (EachCount (λ k. k ≤ c.self.inside.done)) (sym (back ∙ same)) c.self.invariant.counts;
+      entered = subst (λ z. EachEntered (λ k. k ≤ c.self.inside.done) z c.step-did.new.links.links) (sym wires)
+          (subst (λ z. EachEntered (λ k. k ≤ c.self.inside.done) ws z.links) (sym links) c.self.invariant.entered);
       moves = c.self.invariant.moves;
       transitions = c.self.invariant.transitions;
     }
 
 pub invariant_of-self-in-Line : goal.invariant_of-self-in-Line
 invariant_of-self-in-Line c =
-    let inside : IsOfMesh c.self.inside.placement.now c.args.event = subst (λ (v : MachineOf). IsOfMesh v.placement c.args.event) (sym c.self.view_is) c.requires.mesh in
-    let acted = subst (λ (ns : List NodeOf). (fresh : ℕ) × IsFresh (machine_from ns c.self.inside.links.links) fresh c.args.event
-    × IsDid (D.Line c.in-Line.what) ns c.self.inside.links c.step-did.new.nodes c.step-did.new.links
-    (machine_act (coded c.self.inside.unit.now) c.self.inside.placement.now c.args.quantum fresh (machine_from ns c.self.inside.links.links) c.args.event)) c.as_mut_slice.ensures.value c.in-Line.ensures.act in
+    let u = c.self.inside.unit.now in
+    let l = c.self.inside.placement.now in
+    let nodes = c.self.inside.nodes.items in
+    let ws = wires_in c.self.inside.wires in
+    let ws' = wires_in c.step-did.new.wires in
+    let inside : IsOfMesh l c.args.event = subst (λ (v : MachineOf). IsOfMesh v.placement c.args.event) (sym c.self.view_is) c.requires.mesh in
+    let acted = subst (λ (ns : List NodeOf). Makes u l c.args.quantum c.args.event (D.Line c.in-Line.what) ns c.self.inside.links ws c.step-did.new.nodes c.step-did.new.links ws') c.as_mut_slice.ensures.value c.in-Line.ensures.act in
     let back : (with_items c.self.inside.nodes c.step-did.new.nodes).items ≡ c.step-did.new.nodes =
     with_items_is c.self.inside.nodes c.step-did.new.nodes (c.in-Line.ensures.parts.count ∙ sym c.self.invariant.kept.parts.count ∙ sym c.self.inside.nodes.ok.0) in
     let moves = c.self.invariant.moves in
@@ -54,38 +72,46 @@ invariant_of-self-in-Line c =
     let few = c.shown_by.ensures.few in
     record {
       mesh = c.self.invariant.mesh;
-      kept = subst (λ (ns : List NodeOf). AreKept c.self.inside.unit.now c.self.inside.placement.now ns c.step-did.new.links) (sym back) (kept_line c.self.inside.unit.now c.self.inside.placement.now c.self.inside.nodes.items c.self.inside.links c.self.invariant.kept c.args.quantum c.args.event inside c.step-did.new.nodes c.step-did.new.links c.in-Line.ensures.parts c.in-Line.what acted);
+      table = c.self.invariant.table;
+      kept = subst (λ (ns : List NodeOf). AreWired u l ns c.step-did.new.links ws') (sym back)
+          (kept_line u l nodes c.self.inside.links ws c.self.invariant.kept c.args.quantum c.args.event inside c.step-did.new.nodes c.step-did.new.links ws' c.in-Line.ensures.parts c.in-Line.ensures.there c.in-Line.what acted);
       counts = subst (EachCount (λ k. k ≤ c.self.inside.done + 1)) (sym back) (c.in-Line.ensures.counts c.self.inside.done (subst (EachCount (λ k. k ≤ c.self.inside.done)) (sym c.as_mut_slice.ensures.value) c.self.invariant.counts));
+      entered = entered_line u l nodes c.self.inside.links ws c.self.invariant.kept c.args.quantum c.args.event inside c.step-did.new.nodes c.step-did.new.links ws' c.in-Line.ensures.lossy c.in-Line.what acted c.self.inside.done c.self.invariant.entered;
       moves = omega (arith, moves, one);
       transitions = omega (arith, transitions, few);
     }
 
 pub returns-in-Full : goal.returns-in-Full
 returns-in-Full c =
-    let inside : IsOfMesh c.self.inside.placement.now c.args.event = subst (λ (v : MachineOf). IsOfMesh v.placement c.args.event) (sym c.self.view_is) c.requires.mesh in
-    let acted = subst (λ (ns : List NodeOf). (fresh : ℕ) × IsFresh (machine_from ns c.self.inside.links.links) fresh c.args.event
-    × IsDid (D.Full c.in-Full.kind c.in-Full.node) ns c.self.inside.links c.step-did.new.nodes c.step-did.new.links
-    (machine_act (coded c.self.inside.unit.now) c.self.inside.placement.now c.args.quantum fresh (machine_from ns c.self.inside.links.links) c.args.event)) c.as_mut_slice.ensures.value c.in-Full.ensures.act in
+    let u = c.self.inside.unit.now in
+    let l = c.self.inside.placement.now in
+    let ws = wires_in c.self.inside.wires in
+    let ws' = wires_in c.step-did.new.wires in
+    let inside : IsOfMesh l c.args.event = subst (λ (v : MachineOf). IsOfMesh v.placement c.args.event) (sym c.self.view_is) c.requires.mesh in
+    let acted = subst (λ (ns : List NodeOf). Makes u l c.args.quantum c.args.event (D.Full c.in-Full.kind c.in-Full.node) ns c.self.inside.links ws c.step-did.new.nodes c.step-did.new.links ws') c.as_mut_slice.ensures.value c.in-Full.ensures.act in
     let back : (with_items c.self.inside.nodes c.step-did.new.nodes).items ≡ c.step-did.new.nodes =
     with_items_is c.self.inside.nodes c.step-did.new.nodes (c.in-Full.ensures.parts.count ∙ sym c.self.invariant.kept.parts.count ∙ sym c.self.inside.nodes.ok.0) in
     subst (λ (v : MachineOf). (e : Config Placed) (d : Delay) → Stands v e d → IsOutcome c.args.event v (O.Full c.in-Full.kind c.in-Full.node)
-    (record (machine_view c.self.inside) { nodes = (with_items c.self.inside.nodes c.step-did.new.nodes).items; links = c.step-did.new.links.links }) (act (coded v.unit) v.placement c.args.quantum e d c.args.event)) c.self.view_is
+    (record (machine_view c.self.inside) { nodes = (with_items c.self.inside.nodes c.step-did.new.nodes).items; links = c.step-did.new.links.links; wires = ws' }) (act (coded v.unit) v.placement c.args.quantum e d c.args.event)) c.self.view_is
     (subst (λ (ns : List NodeOf). (e : Config Placed) (d : Delay) → Stands (machine_view c.self.inside) e d → IsOutcome c.args.event (machine_view c.self.inside) (O.Full c.in-Full.kind c.in-Full.node)
-    (record (machine_view c.self.inside) { nodes = ns; links = c.step-did.new.links.links }) (act (coded c.self.inside.unit.now) c.self.inside.placement.now c.args.quantum e d c.args.event)) (sym back)
-    (full_outcome (machine_view c.self.inside) c.self.inside.links refl c.self.invariant.kept.parts c.args.quantum c.args.event inside c.step-did.new.nodes c.step-did.new.links c.in-Full.kind c.in-Full.node acted))
+    (record (machine_view c.self.inside) { nodes = ns; links = c.step-did.new.links.links; wires = ws' }) (act (coded u) l c.args.quantum e d c.args.event)) (sym back)
+    (full_outcome (machine_view c.self.inside) c.self.inside.links refl c.self.invariant.kept.parts c.args.quantum c.args.event inside c.step-did.new.nodes c.step-did.new.links ws' c.in-Full.kind c.in-Full.node acted))
 
 pub returns-in-Line : goal.returns-in-Line
 returns-in-Line c =
-    let inside : IsOfMesh c.self.inside.placement.now c.args.event = subst (λ (v : MachineOf). IsOfMesh v.placement c.args.event) (sym c.self.view_is) c.requires.mesh in
-    let acted = subst (λ (ns : List NodeOf). (fresh : ℕ) × IsFresh (machine_from ns c.self.inside.links.links) fresh c.args.event
-    × IsDid (D.Line c.in-Line.what) ns c.self.inside.links c.step-did.new.nodes c.step-did.new.links
-    (machine_act (coded c.self.inside.unit.now) c.self.inside.placement.now c.args.quantum fresh (machine_from ns c.self.inside.links.links) c.args.event)) c.as_mut_slice.ensures.value c.in-Line.ensures.act in
+    let u = c.self.inside.unit.now in
+    let l = c.self.inside.placement.now in
+    let ws = wires_in c.self.inside.wires in
+    let ws' = wires_in c.step-did.new.wires in
+    let inside : IsOfMesh l c.args.event = subst (λ (v : MachineOf). IsOfMesh v.placement c.args.event) (sym c.self.view_is) c.requires.mesh in
+    let acted = subst (λ (ns : List NodeOf). Makes u l c.args.quantum c.args.event (D.Line c.in-Line.what) ns c.self.inside.links ws c.step-did.new.nodes c.step-did.new.links ws') c.as_mut_slice.ensures.value c.in-Line.ensures.act in
     let back : (with_items c.self.inside.nodes c.step-did.new.nodes).items ≡ c.step-did.new.nodes =
     with_items_is c.self.inside.nodes c.step-did.new.nodes (c.in-Line.ensures.parts.count ∙ sym c.self.invariant.kept.parts.count ∙ sym c.self.inside.nodes.ok.0) in
     subst (λ (v : MachineOf). (e : Config Placed) (d : Delay) → Stands v e d → IsOutcome c.args.event v (O.Line (R.Event (c.self.inside.done + 1) c.args.event c.in-Line.what))
     (record (machine_view c.self.inside) {
       nodes = (with_items c.self.inside.nodes c.step-did.new.nodes).items;
       links = c.step-did.new.links.links;
+      wires = ws';
       done = c.self.inside.done + 1;
       moves = c.self.inside.moves + c.moved_by.result;
       transitions = c.self.inside.transitions + c.shown_by.result;
@@ -95,11 +121,12 @@ returns-in-Line c =
     (record (machine_view c.self.inside) {
       nodes = ns;
       links = c.step-did.new.links.links;
+      wires = ws';
       done = c.self.inside.done + 1;
       moves = c.self.inside.moves + c.moved_by.result;
       transitions = c.self.inside.transitions + c.shown_by.result;
     })
-    (act (coded c.self.inside.unit.now) c.self.inside.placement.now c.args.quantum e d c.args.event)) (sym back)
-    (line_outcome (machine_view c.self.inside) c.self.inside.links refl c.self.invariant.kept.parts c.args.quantum c.args.event inside c.step-did.new.nodes c.step-did.new.links c.in-Line.what acted
+    (act (coded u) l c.args.quantum e d c.args.event)) (sym back)
+    (line_outcome (machine_view c.self.inside) c.self.inside.links refl c.self.invariant.kept.parts c.args.quantum c.args.event inside c.step-did.new.nodes c.step-did.new.links ws' c.in-Line.what acted c.in-Line.ensures.lossy
     (c.self.inside.moves + c.moved_by.result) (c.self.inside.transitions + c.shown_by.result)
     (ap (λ n. c.self.inside.moves + n) c.moved_by.ensures.count) (ap (λ n. c.self.inside.transitions + n) c.shown_by.ensures.count)))

@@ -1,4 +1,4 @@
-use Rattle.std.proofs.Common.{◌≡◌, ◌<◌, ◌≤◌, List, [], refl, sym, ap, subst, ◌∙◌, length, arith}
+use Rattle.std.proofs.Common.{◌≡◌, ◌<◌, ◌≤◌, List, [], refl, sym, ap, ap₂, ◌*◌, subst, ◌∙◌, length, arith}
 use Rattle.pool_syntax.specs.declared.words.Place.{Place}
 use Rattle.mesh_semantics.specs.Record.{last_place, root_node}
 use Rattle.node_semantics.specs.Node.{NodeState}
@@ -7,7 +7,9 @@ use Rattle.coded_objects.proofs.Laws.{code_fits, code_start_sound}
 use Rattle.rendezvous_protocol.specs.declared.packet.Packet.{Packet}
 use Rattle.mesh_routing.specs.Links.{LinksOf}
 use Rattle.pool_machine.proofs.ChangedNodes.{element}
-use Rattle.pool_machine.proofs.StartOfMachines.{counts_start, kept_start, root_inside, stands_start}
+use Rattle.pool_machine.specs.OnWires.{wires_in}
+use Rattle.pool_machine.proofs.NewWires.{made_lossy, sound_start}
+use Rattle.pool_machine.proofs.StartOfMachines.{counts_start, entered_start, root_inside, stands_start, wired_start}
 use Rattle.pool_machine.proofs.machine.Machine.make.Goals as goal
 
 pub index_mut-requires : goal.index_mut-requires
@@ -66,8 +68,12 @@ invariant_of-result c =
     let empty : c.in-Ok-make.links.links ≡ [] = ap (λ (z : LinksOf Packet). z.links) c.in-Ok-make.ensures in
     record {
       mesh = record { width = c.make-mesh.ensures.width; height = c.make-mesh.ensures.height };
-      kept = kept_start c.args.unit.now c.args.placement.now c.requires.proper c.requires.suits c.in-Ok.nodes.items c.in-Ok.ensures c.root_of-root.result root c.index_mut.result.now here y.0 y.1 c.start_root.new.self y.2 c.start_root.ensures.unit c.in-Ok-make.links width height cells empty;
+      table = c.in-Ok-table_of.ensures;
+      kept = wired_start c.args.unit.now c.args.placement.now c.requires.proper c.requires.suits c.in-Ok.nodes.items c.in-Ok.ensures c.root_of-root.result root c.index_mut.result.now here y.0 y.1 c.start_root.new.self y.2 c.start_root.ensures.unit c.in-Ok-make.links width height cells empty
+          c.args.lossy (wires_in c.in-Ok-make_wires.wires) c.make-mesh.result.width (c.make-mesh.result.width * c.make-mesh.result.height) c.make-mesh.ensures.width (ap₂ (λ w h. w * h) c.make-mesh.ensures.width c.make-mesh.ensures.height) c.in-Ok-make_wires.ensures;
       counts = counts_start c.args.unit.now c.args.placement.now c.requires.proper c.requires.suits c.in-Ok.nodes.items c.in-Ok.ensures c.root_of-root.result root c.index_mut.result.now here y.0 y.1 c.start_root.new.self y.2 c.start_root.ensures.unit c.in-Ok-make.links width height cells empty;
+      entered = entered_start c.args.unit.now c.args.placement.now c.requires.proper c.requires.suits c.in-Ok.nodes.items c.in-Ok.ensures c.root_of-root.result root c.index_mut.result.now here y.0 y.1 c.start_root.new.self y.2 c.start_root.ensures.unit c.in-Ok-make.links width height cells empty
+          c.args.lossy (wires_in c.in-Ok-make_wires.wires) c.make-mesh.result.width (c.make-mesh.result.width * c.make-mesh.result.height) c.make-mesh.ensures.width (ap₂ (λ w h. w * h) c.make-mesh.ensures.width c.make-mesh.ensures.height) c.in-Ok-make_wires.ensures;
       moves = omega arith;
       transitions = omega arith;
     }
@@ -86,11 +92,14 @@ returns c =
     record {
       unit = refl;
       placement = refl;
+      lossy = made_lossy c.make-mesh.result.width (c.make-mesh.result.width * c.make-mesh.result.height) c.args.lossy (wires_in c.in-Ok-make_wires.wires) c.in-Ok-make_wires.ensures;
       done = refl;
       moves = refl;
       transitions = refl;
       stands = λ e is. record {
-        sound = code_start_sound c.args.unit.now c.requires.proper c.args.placement.now (code_fits c.args.unit.now c.args.placement.now c.requires.suits) e is;
-        stands = stands_start c.args.unit.now c.args.placement.now c.requires.proper c.requires.suits c.in-Ok.nodes.items c.in-Ok.ensures c.root_of-root.result root c.index_mut.result.now here y.0 y.1 c.start_root.new.self y.2 c.start_root.ensures.unit c.in-Ok-make.links width height cells empty e is;
+        sound = sound_start c.args.unit.now c.args.placement.now e c.args.lossy
+            (code_start_sound c.args.unit.now c.requires.proper c.args.placement.now (code_fits c.args.unit.now c.args.placement.now c.requires.suits) e is);
+        stands = stands_start c.args.unit.now c.args.placement.now c.requires.proper c.requires.suits c.in-Ok.nodes.items c.in-Ok.ensures c.root_of-root.result root c.index_mut.result.now here y.0 y.1 c.start_root.new.self y.2 c.start_root.ensures.unit c.in-Ok-make.links width height cells empty
+            c.args.lossy (wires_in c.in-Ok-make_wires.wires) c.make-mesh.result.width (c.make-mesh.result.width * c.make-mesh.result.height) c.make-mesh.ensures.width (ap₂ (λ w h. w * h) c.make-mesh.ensures.width c.make-mesh.ensures.height) c.in-Ok-make_wires.ensures e is;
       };
     }

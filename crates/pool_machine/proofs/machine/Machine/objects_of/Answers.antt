@@ -6,8 +6,9 @@ use Rattle.mesh_semantics.specs.Delay.{Delay}
 use Rattle.mesh_semantics.specs.Act.{object_count}
 use Rattle.coded_objects.specs.Coded.{Placed}
 use Rattle.pool_machine.specs.MachineOf.{MachineOf}
+use Rattle.pool_machine.specs.OnWires.{wires_in}
 use Rattle.pool_machine.specs.Answers.{Stands}
-use Rattle.pool_machine.proofs.ToldOfObjects.{objects_told}
+use Rattle.pool_machine.proofs.ToldOfObjects.{objects_told, state_of}
 use Rattle.pool_machine.proofs.machine.Machine.objects_of.Goals as goal
 
 pub returns-clause-count : goal.returns-clause-count
@@ -16,4 +17,4 @@ returns-clause-count c =
     let below : c.args.node < length c.self.inside.nodes.items = subst (λ n. c.args.node < n) (sym c.self.invariant.kept.parts.count) inside in
     let here : slice_get c.self.inside.nodes.items c.args.node ≡ Some c.index.result.now = slice_get-get_or c.self.inside.nodes.items c.args.node c.index.result.now below ∙ ap Some (sym c.index.ensures) in
     subst (λ (v : MachineOf). (e : Config Placed) (d : Delay) → Stands v e d → c.objects.result ≡ object_count e c.args.node) c.self.view_is
-    (λ e d s. c.objects.ensures.count ∙ objects_told c.self.inside.unit.now c.self.inside.placement.now c.self.inside.nodes.items c.self.inside.links c.self.invariant.kept.parts e d s.sound s.stands c.args.node c.index.result.now here)
+    (λ e d s. c.objects.ensures.count ∙ objects_told c.self.inside.unit.now c.self.inside.placement.now c.self.inside.nodes.items c.self.inside.links c.self.invariant.kept.parts e d s.sound (state_of c.self.inside.unit.now c.self.inside.placement.now c.self.inside.nodes.items c.self.inside.links.links (wires_in c.self.inside.wires) e d s.stands) c.args.node c.index.result.now here)

@@ -1,0 +1,20 @@
+-- What the proofs ask of waits, where W is what is kept of a configuration: who waits waited before, or its call was just answered.
+use Rattle.std.specs.Prelude.{◌≡◌, ◌≢◌, ◌⊎◌, ℕ, Some}
+use Rattle.pool_syntax.specs.declared.words.Label.{Label}
+use Rattle.pool_syntax.specs.declared.words.Label.TheVariants as L
+use Rattle.mesh_semantics.specs.Kind as K
+use Rattle.mesh_semantics.specs.Language.{Language}
+use Rattle.mesh_semantics.specs.Config.{Config, object_of}
+use Rattle.mesh_semantics.specs.Moves.{move}
+
+-- the label is that b answers a call of o
+abbrev pub IsAnswer : Label → ℕ → ℕ → Type 0
+IsAnswer (L.Answer p k m args) b o = (p ≡ b) × (k ≡ o)
+IsAnswer _ b o = ⊥
+
+pub record Waits {S : Type 0} (g : Language S) (W : Config S → Type 0) : Type 0 where
+  -- an object that waits after a transition is one that was there before, or the caller whom this transition answers
+  pub begun : (c d : Config S) (lab : Label) (o b m : ℕ) (x : S) → W c → move g c lab ≡ Some d → object_of d o ≡ Some x → g.kind o x ≡ K.Waits b m
+      → (object_of c o ≡ Some x) ⊎ IsAnswer lab b o
+  -- the root does not begin with a wait
+  pub root : (o b m : ℕ) (x : S) → g.root ≡ Some x → g.kind o x ≢ K.Waits b m

@@ -1,0 +1,39 @@
+-- What is kept of a delay whose links are wires: what is on a link is the rest of what entered its wire, behind what the wire has handed out.
+use Rattle.std.specs.Prelude.{◌≡◌, List, [], ◌++◌, Option, Some, None}
+use Rattle.pool_syntax.specs.declared.words.WireAct.{WireAct}
+use Rattle.mesh_semantics.specs.Tables.{Pair}
+use Rattle.mesh_semantics.specs.Paths.{on_link}
+use Rattle.mesh_semantics.specs.Wire.{Happening, WireFacts, happened, wire_act}
+use Rattle.mesh_semantics.specs.Delay.{Packet, Wires, Delay, wire_at}
+
+-- the wire of a link
+pub record IsWireOf (ws : Wires) (d : Delay) (k : Pair) : Type 0 where
+  pub facts : WireFacts (wire_at ws k)
+  pub rest : (wire_at ws k).put ≡ (wire_at ws k).handed ++ on_link d.links k
+
+abbrev pub AreWiresOf : Option Wires → Delay → Type 0
+AreWiresOf None d = Unit {0}
+AreWiresOf (Some ws) d = (k : Pair) → IsWireOf ws d k
+
+abbrev pub KeepsWires : Delay → Type 0
+KeepsWires d = AreWiresOf d.wires d
+
+-- nothing comes off a link: nothing is on it, or, where it is a wire, no frame
+abbrev pub NothingComes : Option Wires → Delay → Pair → Type 0
+NothingComes None d k = on_link d.links k ≡ []
+NothingComes (Some ws) d k = (wire_at ws k).frames ≡ []
+
+-- nothing is to be done on the wire of a link
+abbrev pub NothingDone : Option Wires → WireAct → Pair → Type 0
+NothingDone None a k = Unit {0}
+NothingDone (Some ws) a k = wire_act a (wire_at ws k) ≡ None
+
+-- what becomes of a wire is what may happen on a wire
+abbrev pub IsReached : Wires → Wires → Pair → Type 0
+IsReached ws vs k = (hs : List (Happening Packet)) × (wire_at vs k ≡ happened hs (wire_at ws k))
+
+abbrev pub AreReached : Option Wires → Option Wires → Type 0
+AreReached None None = Unit {0}
+AreReached (Some ws) (Some vs) = (k : Pair) → IsReached ws vs k
+AreReached None (Some vs) = ⊥
+AreReached (Some ws) None = ⊥

@@ -1,0 +1,10 @@
+use Rattle.std.proofs.Common.{◌≡◌, ◌-◌, length}
+use Rattle.object_code.specs.Read.{read_items, read_list}
+use Rattle.object_code.specs.FileBytes.{pairs}
+use Rattle.object_code.specs.Decode.{read_method}
+use Rattle.object_code.proofs.Taking.{with_front}
+use Rattle.object_code.proofs.file_reader.take_methods.Given as goal
+
+abbrev pub invariant-loop : goal.invariant-loop
+invariant-loop l =
+    (with_front (pairs l.methods l.kinds) (read_items read_method (l.count - l.counter) l.rest) ≡ read_list read_method l.bytes) × (length l.methods ≡ length l.kinds)

@@ -1,0 +1,12 @@
+use Rattle.std.proofs.Common.{drop}
+use Rattle.object_code.specs.FileBytes.{items_bytes, method_bytes, pairs}
+use Rattle.object_code.specs.Written.{state}
+use Rattle.object_code.proofs.Writing.{Rests}
+use Rattle.object_code.proofs.file_writer.put_methods.Given as goal
+
+abbrev pub invariant-loop-place : goal.invariant-loop-place
+invariant-loop-place g l =
+    let written = g.K.Sink.written in
+    let faults = g.K.Sink.faults in
+    Rests (items_bytes method_bytes (pairs l.methods l.kinds)) (state l.initial.failed (written l.initial.sink) (faults l.initial.sink))
+    (items_bytes method_bytes (pairs (drop l.place l.methods) (drop l.place l.kinds))) (state l.failed (written l.sink) (faults l.sink))

@@ -1,0 +1,317 @@
+//! The bytes of an object code file.
+ghost use Rattle.std.specs.Prelude.{◌≡◌, ◌≤◌, ◌<◌, ◌^◌, ℕ, [], ◌∷◌, ◌++◌, length, take, option_map, OnOk, OnErr};
+ghost use Rattle.pool_outside.specs.Outside.{Rose};
+ghost use Rattle.pool_syntax.specs.Tokens.{Text};
+ghost use Rattle.object_code.specs.FileBytes.{alternative_bytes, class_bytes, code_bytes, file_bytes, instr_bytes, integer_bytes, items_bytes, kind_bytes, list_bytes, method_bytes, name_bytes, number_bytes, operator_byte, option_bytes, pairs, text_bytes, truth_byte};
+ghost use Rattle.object_code.specs.Shaped.{AlternativeIsShort, AreShapedClasses, AreShapedMethods, ClassIsShort, ClassKindsAreShort, InstrIsShort, IsListOf, IsNumber, IsOptionOf, IsShaped, IsShort, IsShortList, MethodIsShort, MethodKindsAreShort};
+ghost use Rattle.object_code.specs.Written.{Writes, state};
+
+use crate::file::{ClassKinds, MethodKinds, UnitFile};
+use crate::listing::put;
+use crate::unit::{AltCode, ClassCode, Instr, MethodCode};
+use pool_outside::{Sink, WriteFault};
+use pool_syntax::{Kind, List, NameId, Names, Op};
+
+fn put_byte<K: Sink>(sink: &mut K, failed: &mut bool, byte: u8)
+    ensures { Writes (byte ∷ []) (state failed.old (K.written sink.old) (K.faults sink.old)) (state failed.new (K.written sink.new) (K.faults sink.new)) }
+{
+    put(sink, failed, &[byte]);
+}
+
+fn put_four<K: Sink>(sink: &mut K, failed: &mut bool, number: u32)
+    ensures { Writes (number_bytes number) (state failed.old (K.written sink.old) (K.faults sink.old)) (state failed.new (K.written sink.new) (K.faults sink.new)) }
+{
+    put(sink, failed, &number.to_be_bytes());
+}
+
+/// Writes a byte and a number.
+fn put_numbered<K: Sink>(sink: &mut K, failed: &mut bool, byte: u8, number: u32)
+    ensures { Writes (byte ∷ number_bytes number) (state failed.old (K.written sink.old) (K.faults sink.old)) (state failed.new (K.written sink.new) (K.faults sink.new)) }
+{
+    put_byte(sink, failed, byte);
+    put_four(sink, failed, number);
+}
+
+/// Writes a byte and two numbers.
+fn put_sent<K: Sink>(sink: &mut K, failed: &mut bool, byte: u8, method: NameId, count: u32)
+    ensures { Writes (byte ∷ (name_bytes method ++ number_bytes count)) (state failed.old (K.written sink.old) (K.faults sink.old)) (state failed.new (K.written sink.new) (K.faults sink.new)) }
+{
+    put_numbered(sink, failed, byte, method.0);
+    put_four(sink, failed, count);
+}
+
+/// Writes a byte and an integer.
+fn put_long<K: Sink>(sink: &mut K, failed: &mut bool, byte: u8, integer: i64)
+    ensures { Writes (byte ∷ integer_bytes integer) (state failed.old (K.written sink.old) (K.faults sink.old)) (state failed.new (K.written sink.new) (K.faults sink.new)) }
+{
+    put_byte(sink, failed, byte);
+    put(sink, failed, &integer.cast_unsigned().to_be_bytes());
+}
+
+/// What stands in a list of a file.
+trait Item {
+    ghost bytes: { Self → Text };
+
+    /// Whether its own lists have fewer than 2^32 items.
+    ghost is_short: { Self → Type 0 };
+
+    fn put_item<K: Sink>(&self, sink: &mut K, failed: &mut bool)
+        requires { is_short self.now }
+        ensures { Writes (bytes self.now) (state failed.old (K.written sink.old) (K.faults sink.old)) (state failed.new (K.written sink.new) (K.faults sink.new)) };
+}
+
+/// Writes the number of items, and the items.
+fn put_list<T: Item, K: Sink>(sink: &mut K, failed: &mut bool, items: &[T])
+    requires { IsListOf T.is_short items.now }
+    ensures { Writes (list_bytes T.bytes items.now) (state failed.old (K.written sink.old) (K.faults sink.old)) (state failed.new (K.written sink.new) (K.faults sink.new)) }
+{
+    put_four(sink, failed, items.len() as u32);
+    for item in items {
+        item.put_item(sink, failed);
+    }
+}
+
+impl Item for NameId {
+    ghost bytes = { λ n. name_bytes n };
+
+    ghost is_short = { λ _. Unit {0} };
+
+    fn put_item<K: Sink>(&self, sink: &mut K, failed: &mut bool) {
+        put_four(sink, failed, self.0);
+    }
+}
+
+impl Item for Kind {
+    ghost bytes = { λ k. kind_bytes k };
+
+    ghost is_short = { λ _. Unit {0} };
+
+    fn put_item<K: Sink>(&self, sink: &mut K, failed: &mut bool) {
+        match self {
+            Kind::Int => put_byte(sink, failed, 1),
+            Kind::Bool => put_byte(sink, failed, 2),
+            Kind::Class(class) => put_numbered(sink, failed, 3, class.0),
+        }
+    }
+}
+
+impl Item for AltCode {
+    ghost bytes = { λ a. alternative_bytes a };
+
+    ghost is_short = { λ a. AlternativeIsShort a };
+
+    fn put_item<K: Sink>(&self, sink: &mut K, failed: &mut bool) {
+        put_answered(sink, failed, &self.answer);
+        put_four(sink, failed, self.at);
+    }
+}
+
+fn put_answered<K: Sink>(sink: &mut K, failed: &mut bool, answer: &Option<List<NameId>>)
+    requires { IsOptionOf IsShortList answer.now }
+    ensures { Writes (option_bytes (list_bytes name_bytes) answer.now) (state failed.old (K.written sink.old) (K.faults sink.old)) (state failed.new (K.written sink.new) (K.faults sink.new)) }
+{
+    match answer {
+        None => put_byte(sink, failed, 0),
+        Some(names) => put_listed(sink, failed, 1, names.items()),
+    }
+}
+
+/// Writes a byte and a list.
+fn put_listed<T: Item, K: Sink>(sink: &mut K, failed: &mut bool, byte: u8, items: &[T])
+    requires { IsListOf T.is_short items.now }
+    ensures { Writes (byte ∷ list_bytes T.bytes items.now) (state failed.old (K.written sink.old) (K.faults sink.old)) (state failed.new (K.written sink.new) (K.faults sink.new)) }
+{
+    put_byte(sink, failed, byte);
+    put_list(sink, failed, items);
+}
+
+/// The byte of an operator.
+fn operator_number(op: Op) -> u8
+    ensures { result ≡ operator_byte op }
+{
+    match op {
+        Op::Add => 1,
+        Op::Sub => 2,
+        Op::Mul => 3,
+        Op::Div => 4,
+        Op::Rem => 5,
+        Op::Neg => 6,
+        Op::Less => 7,
+        Op::LessEq => 8,
+        Op::More => 9,
+        Op::MoreEq => 10,
+        Op::Same => 11,
+        Op::Differs => 12,
+        Op::And => 13,
+        Op::Or => 14,
+        Op::Not => 15,
+    }
+}
+
+impl Item for Instr {
+    ghost bytes = { λ i. instr_bytes i };
+
+    ghost is_short = { λ i. InstrIsShort i };
+
+    fn put_item<K: Sink>(&self, sink: &mut K, failed: &mut bool) {
+        match self {
+            Instr::PushInt(value) => put_long(sink, failed, 1, *value),
+            Instr::PushBool(value) => put(sink, failed, &[2, *value as u8]),
+            Instr::PushNil => put_byte(sink, failed, 3),
+            Instr::Jump(at) => put_numbered(sink, failed, 4, *at),
+            Instr::LoadI(var) => put_numbered(sink, failed, 5, *var),
+            Instr::LoadT(temp) => put_numbered(sink, failed, 6, *temp),
+            Instr::SelfRef => put_byte(sink, failed, 7),
+            Instr::StoreI(var) => put_numbered(sink, failed, 8, *var),
+            Instr::StoreT(temp) => put_numbered(sink, failed, 9, *temp),
+            Instr::Oper(op) => put(sink, failed, &[10, operator_number(*op)]),
+            Instr::Pop => put_byte(sink, failed, 11),
+            Instr::Branch(at) => put_numbered(sink, failed, 12, *at),
+            Instr::Loop => put_byte(sink, failed, 13),
+            Instr::Call(method) => put_numbered(sink, failed, 14, method.0),
+            Instr::Ret => put_byte(sink, failed, 15),
+            Instr::New(class) => put_numbered(sink, failed, 16, class.0),
+            Instr::Send { method, count } => put_sent(sink, failed, 17, *method, *count),
+            Instr::Async { method, count } => put_sent(sink, failed, 18, *method, *count),
+            Instr::Write => put_byte(sink, failed, 19),
+            Instr::WriteText(text) => put_numbered(sink, failed, 20, text.0),
+            Instr::Answer { names } => put_listed(sink, failed, 21, names.items()),
+            Instr::Select { alts } => put_listed(sink, failed, 22, alts.items()),
+            Instr::Halt => put_byte(sink, failed, 23),
+        }
+    }
+}
+
+/// Writes the words of frames, and the code.
+fn put_code<K: Sink>(sink: &mut K, failed: &mut bool, frame_words: u32, code: &[Instr])
+    requires { IsListOf InstrIsShort code.now }
+    ensures { Writes (code_bytes frame_words code.now) (state failed.old (K.written sink.old) (K.faults sink.old)) (state failed.new (K.written sink.new) (K.faults sink.new)) }
+{
+    put_four(sink, failed, frame_words);
+    put_list(sink, failed, code);
+}
+
+fn put_result<K: Sink>(sink: &mut K, failed: &mut bool, kind: &Option<Kind>)
+    ensures { Writes (option_bytes kind_bytes kind.now) (state failed.old (K.written sink.old) (K.faults sink.old)) (state failed.new (K.written sink.new) (K.faults sink.new)) }
+{
+    match kind {
+        None => put_byte(sink, failed, 0),
+        Some(kind) => {
+            put_byte(sink, failed, 1);
+            kind.put_item(sink, failed);
+        }
+    }
+}
+
+fn put_method<K: Sink>(sink: &mut K, failed: &mut bool, method: &MethodCode, kinds: &MethodKinds)
+    requires method { MethodIsShort method.now }
+    requires kinds { MethodKindsAreShort kinds.now }
+    ensures { Writes (method_bytes (method.now, kinds.now)) (state failed.old (K.written sink.old) (K.faults sink.old)) (state failed.new (K.written sink.new) (K.faults sink.new)) }
+{
+    put_four(sink, failed, method.name.0);
+    put_four(sink, failed, method.params);
+    put_list(sink, failed, kinds.temps.items());
+    put_result(sink, failed, &kinds.result);
+    put_code(sink, failed, method.frame_words, method.code.items());
+}
+
+fn put_methods<K: Sink>(
+    sink: &mut K,
+    failed: &mut bool,
+    methods: &[MethodCode],
+    kinds: &[MethodKinds],
+)
+    requires methods { IsListOf MethodIsShort methods.now }
+    requires kinds { IsListOf MethodKindsAreShort kinds.now }
+    requires many { length methods.now ≡ length kinds.now }
+    ensures { Writes (list_bytes method_bytes (pairs methods.now kinds.now)) (state failed.old (K.written sink.old) (K.faults sink.old)) (state failed.new (K.written sink.new) (K.faults sink.new)) }
+{
+    put_four(sink, failed, methods.len() as u32);
+    for place in 0..methods.len() {
+        put_method(sink, failed, &methods[place], &kinds[place]);
+    }
+}
+
+fn put_class<K: Sink>(sink: &mut K, failed: &mut bool, class: &ClassCode, kinds: &ClassKinds)
+    requires class { ClassIsShort class.now }
+    requires kinds { ClassKindsAreShort kinds.now }
+    requires many { length class.now.methods ≡ length kinds.now.methods }
+    ensures { Writes (class_bytes (class.now, kinds.now)) (state failed.old (K.written sink.old) (K.faults sink.old)) (state failed.new (K.written sink.new) (K.faults sink.new)) }
+{
+    put_four(sink, failed, class.name.0);
+    put_list(sink, failed, kinds.vars.items());
+    put_methods(sink, failed, class.methods.items(), kinds.methods.items());
+    put_code(
+        sink,
+        failed,
+        class.body.frame_words,
+        class.body.code.items(),
+    );
+}
+
+fn put_classes<K: Sink>(
+    sink: &mut K,
+    failed: &mut bool,
+    classes: &[ClassCode],
+    kinds: &[ClassKinds],
+)
+    requires classes { IsListOf ClassIsShort classes.now }
+    requires kinds { IsListOf ClassKindsAreShort kinds.now }
+    requires shaped { AreShapedClasses classes.now kinds.now }
+    ensures { Writes (list_bytes class_bytes (pairs classes.now kinds.now)) (state failed.old (K.written sink.old) (K.faults sink.old)) (state failed.new (K.written sink.new) (K.faults sink.new)) }
+{
+    put_four(sink, failed, classes.len() as u32);
+    for place in 0..classes.len() {
+        put_class(sink, failed, &classes[place], &kinds[place]);
+    }
+}
+
+/// Writes the number of bytes, and the bytes.
+fn put_counted<K: Sink>(sink: &mut K, failed: &mut bool, text: &[u8])
+    requires { IsShortList text.now }
+    ensures { Writes (text_bytes text.now) (state failed.old (K.written sink.old) (K.faults sink.old)) (state failed.new (K.written sink.new) (K.faults sink.new)) }
+{
+    put_four(sink, failed, text.len() as u32);
+    put(sink, failed, text);
+}
+
+fn put_names<K: Sink>(sink: &mut K, failed: &mut bool, names: &Names)
+    requires { IsListOf IsShortList names.now }
+    ensures { Writes (list_bytes text_bytes names.now) (state failed.old (K.written sink.old) (K.faults sink.old)) (state failed.new (K.written sink.new) (K.faults sink.new)) }
+{
+    let count = names.count() as u32;
+    put_four(sink, failed, count);
+    for number in 0..count {
+        put_counted(sink, failed, names.text(NameId(number)));
+    }
+}
+
+fn put_file<K: Sink>(sink: &mut K, failed: &mut bool, file: &UnitFile)
+    requires shaped { IsShaped file.now }
+    requires short { IsShort file.now }
+    ensures { Writes (file_bytes file.now) (state failed.old (K.written sink.old) (K.faults sink.old)) (state failed.new (K.written sink.new) (K.faults sink.new)) }
+{
+    put(sink, failed, b"POOLU\x01");
+    put_names(sink, failed, &file.unit.names);
+    put_classes(
+        sink,
+        failed,
+        file.unit.classes.items(),
+        file.kinds.classes.items(),
+    );
+}
+
+/// Writes the bytes of an object code file. After a failed write nothing more is written. Takes no memory.
+pub fn encode<K: Sink>(file: &UnitFile, sink: &mut K) -> Result<(), WriteFault>
+    requires shaped { IsShaped file.now }
+    requires short { IsShort file.now }
+    ensures whole { OnOk result (K.written sink.new ≡ option_map (λ w. w ++ file_bytes file.now) (K.written sink.old)) }
+    ensures front { OnErr result ((n : ℕ) × (n ≤ length (file_bytes file.now)) × (K.written sink.new ≡ option_map (λ w. w ++ take n (file_bytes file.now)) (K.written sink.old))) }
+    ensures failed { OnErr result (Rose (K.faults sink.old) (K.faults sink.new)) }
+    ensures no_fault { OnOk result (K.faults sink.new ≡ K.faults sink.old) }
+    ensures faults_stay_or_rise { K.faults sink.old ≤ K.faults sink.new }
+{
+    let mut failed = false;
+    put_file(sink, &mut failed, file);
+    if failed { Err(WriteFault) } else { Ok(()) }
+}

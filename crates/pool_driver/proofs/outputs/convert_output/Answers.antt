@@ -1,0 +1,32 @@
+use Rattle.std.proofs.Common.{◌∷◌, [], ap₂, refl}
+use Rattle.fault_lines.specs.declared.fault.Input.TheVariants as I
+use Rattle.record_lines.specs.SecondForm.{text2}
+use Rattle.command_words.specs.Commands.{of_convert}
+use Rattle.pool_driver.specs.declared.outputs.Output.TheVariants as O
+use Rattle.pool_driver.specs.Readers as R
+use Rattle.pool_driver.proofs.OutputLaws.{may_at, none_opened, reaches_record, record_fault}
+use Rattle.pool_driver.proofs.ReadLaws.{stops_at, was_read}
+use Rattle.pool_driver.proofs.outputs.convert_output.Goals as goal
+
+pub read_recorded-requires-clause-allowed : goal.read_recorded-requires-clause-allowed
+read_recorded-requires-clause-allowed g c =
+    may_at (g.F.Files.may c.args.files.now) (g.F.Files.may c.args.files.now) (of_convert c.args.name.now) (g.F.Files.opens c.args.files.now) (g.F.Files.opens c.args.files.now) 0 I.Record c.args.name.now c.requires.allowed refl (none_opened (g.F.Files.opens c.args.files.now)) refl
+
+pub returns-in-Ok-clause-makes : goal.returns-in-Ok-clause-makes
+returns-in-Ok-clause-makes g c =
+    let recorded = c.in-Ok.recorded in
+    let w = was_read _ _ _ _ _ _ recorded c.in-Ok.ensures.reads in
+    let is = w.2 in
+    R.made (O.Converted recorded) refl (record {
+      texts = w.0 ∷ [];
+      accepted = (w.1.0, is.faultless, tt);
+      opened = c.in-Ok.ensures.opened_once;
+      given = w.1.1;
+      ended = w.1.2;
+      calm = w.3;
+      output = (record { faultless = is.faultless; written = ap₂ text2 is.names is.lines }, refl);
+    }) is.showable
+
+pub returns-in-Err-clause-makes : goal.returns-in-Err-clause-makes
+returns-in-Err-clause-makes g c =
+    stops_at _ _ _ _ _ _ (of_convert c.args.name.now) c.in-Err.stop (reaches_record _ c.args.name.now c.in-Err.ensures.opened_once) record_fault (λ s q. q) c.in-Err.ensures.reads

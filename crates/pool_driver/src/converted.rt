@@ -1,0 +1,96 @@
+//! Records in either form, read, and written in the second form.
+ghost use Rattle.std.specs.Prelude.{◌≡◌, ◌≤◌, length, OnErr, OnOk};
+ghost use Rattle.std.specs.List.{All};
+ghost use Rattle.record_lines.specs.SecondForm.{lines_text2, text2};
+ghost use Rattle.record_lines.specs.Writable.{IsWritable};
+ghost use Rattle.pool_driver.specs.Ends.{Wrote, WroteFront};
+ghost use Rattle.pool_driver.specs.Readers.{HasRecordFault, IsAcceptedRecord, IsRecordOf, IsShowable, Judges, stop_of_record};
+
+use fault_lines::{Fault, Input, Stop};
+use pool_outside::{Sink, Text, WriteFault};
+use pool_syntax::{Line, List, Names};
+use run_record::{RecordFault, asks_of, read_record, write_form, write_line2};
+use std::alloc::{AllocError, Global};
+
+/// The lines of a record, the request number of each, and the texts of their names.
+#[derive(Drop)]
+pub struct Recorded {
+    pub lines: List<Line>,
+    pub asks: List<u32>,
+    pub names: Names,
+}
+
+/// Why a text is no record.
+fn record_stop(fault: RecordFault) -> Stop
+    ensures { result ≡ stop_of_record fault }
+{
+    match fault {
+        RecordFault::Memory => Stop::Memory,
+        _ => Stop::Refused {
+            input: Input::Record,
+            fault: Fault::Record(fault),
+        },
+    }
+}
+
+/// Judges the text of a record, and takes the request numbers of its lines.
+pub fn judge_record(alloc: Global, bytes: &[u8]) -> Result<Recorded, Stop>
+    requires { length bytes.now ≤ 67108864 }
+    ensures { Judges Input.Record IsAcceptedRecord HasRecordFault IsRecordOf bytes.now result }
+{
+    let mut names = Names::make(alloc);
+    let lines = match read_record(alloc, bytes, &mut names) {
+        Ok(lines) => lines,
+        Err(fault) => return Err(record_stop(fault)),
+    };
+    match asks_of(alloc, &lines) {
+        Ok(asks) => Ok(Recorded { lines, asks, names }),
+        Err(AllocError) => Err(Stop::Memory),
+    }
+}
+
+/// Writes lines in the second form, each with its request number.
+fn write_lines<K: Sink>(
+    lines: &[Line],
+    asks: &[u32],
+    names: &Names,
+    out: &mut K,
+) -> Result<(), WriteFault>
+    requires writable { All (IsWritable names.now) lines.now }
+    requires many { length asks.now ≡ length lines.now }
+    ensures whole { OnOk result (Wrote (record { before = K.written out.old; after = K.written out.new; faults = K.faults out.old; failed = K.faults out.new }) (lines_text2 names.now lines.now asks.now)) }
+    ensures cut { OnErr result (WroteFront (record { before = K.written out.old; after = K.written out.new; faults = K.faults out.old; failed = K.faults out.new }) (lines_text2 names.now lines.now asks.now)) }
+    ensures faults_stay_or_rise { K.faults out.old ≤ K.faults out.new }
+{
+    for place in 0..lines.len() {
+        match write_line2(&lines[place], asks[place], names, out) {
+            Ok(()) => {}
+            Err(fault) => return Err(fault),
+        }
+    }
+    Ok(())
+}
+
+/// A record in the second form.
+#[derive(Clone, Copy)]
+pub struct SecondForm<'a> {
+    pub record: &'a Recorded,
+}
+
+impl Text for SecondForm<'_> {
+    ghost bytes = { λ t. text2 t.record.now.names t.record.now.lines };
+
+    ghost writable = { λ t. IsShowable t.record.now };
+
+    fn write_to<S: Sink>(&self, sink: &mut S) -> Result<(), WriteFault> {
+        match write_form(sink) {
+            Ok(()) => write_lines(
+                self.record.lines.items(),
+                self.record.asks.items(),
+                &self.record.names,
+                sink,
+            ),
+            Err(fault) => Err(fault),
+        }
+    }
+}

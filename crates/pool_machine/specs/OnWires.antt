@@ -1,0 +1,105 @@
+-- What a machine keeps of its wires from one event to the next, where links are wires, and what an event does to nodes, links and wires.
+use Rattle.std.specs.Prelude.{◌≡◌, ◌⊎◌, ℕ, ◌+◌, ◌<◌, ◌==◌, List, Option, Some, None, Bool, true, false, length, map, is_some}
+use Rattle.std.specs.Option.{option_map, unwrap_or}
+use Rattle.std.specs.FinMap.{find, put}
+use Rattle.std.specs.BTreeMap.{BTreeMap}
+use Rattle.pool_syntax.specs.declared.words.Event.{Event}
+use Rattle.pool_syntax.specs.declared.words.What.{What}
+use Rattle.pool_syntax.specs.declared.words.What.TheVariants as W
+use Rattle.pool_syntax.specs.declared.words.Placement.{Placement}
+use Rattle.object_code.specs.declared.unit.Unit.{Unit as Code}
+use Rattle.mesh_semantics.specs.Config.{Config}
+use Rattle.mesh_semantics.specs.Delay.{Delay}
+use Rattle.mesh_semantics.specs.Paths.{AreNeighbours, IsLink}
+use Rattle.mesh_semantics.specs.Sound.{IsSound}
+use Rattle.mesh_semantics.specs.Tables.{Pair, list_at, pair_cmp}
+use Rattle.mesh_semantics.specs.KeptWire.{KeptWire, empty_kept}
+use Rattle.coded_objects.specs.Coded.{Placed, coded}
+use Rattle.coded_objects.specs.OfCode.{IsOfCode}
+use Rattle.node_semantics.specs.Machine as M
+use Rattle.node_semantics.specs.Machine.{Machine, MachineActed, machine_act}
+use Rattle.node_semantics.specs.Agrees.{IsFresh}
+use Rattle.node_semantics.specs.WiresStandFor.{StandsFor}
+use Rattle.rendezvous_protocol.specs.declared.packet.Packet.{Packet}
+use Rattle.mesh_routing.specs.Links.{LinksOf}
+use Rattle.node_parts.specs.NodeOf.{NodeOf}
+use Rattle.pool_machine.specs.MachineOf.{LinkWires, numbered_link, numbered_wires}
+use Rattle.pool_machine.specs.Parts.{AreParts}
+use Rattle.pool_machine.specs.declared.words.Did.{Did}
+use Rattle.pool_machine.specs.declared.words.Did.TheVariants as D
+
+-- what is kept of the wire of a link
+abbrev pub wire_of : LinkWires → Pair → KeptWire Packet
+wire_of ws k = unwrap_or (find pair_cmp k ws) empty_kept
+
+-- whether a link has a wire
+abbrev pub has_wire : LinkWires → Pair → Bool
+has_wire ws k = is_some (find pair_cmp k ws)
+
+-- the wires of a map, if there is one
+abbrev pub wires_in : Option (BTreeMap Pair (KeptWire Packet)) → Option LinkWires
+wires_in wires = option_map (λ m. m.entries) wires
+
+-- the machine by the definition of nodes and links, which are wires or not
+abbrev pub machine_on : List NodeOf → List (Pair × List Packet) → Option LinkWires → Machine Placed
+machine_on nodes links wires = record { nodes = map (λ n. n.state) nodes; links = map numbered_link links; wires = option_map numbered_wires wires }
+
+-- whether all that a wire handed out is acknowledged
+abbrev pub is_done : KeptWire Packet → Bool
+is_done v = v.acked == v.handed
+
+-- how many packets entered the wire of a link
+abbrev pub entered_at : LinkWires → List (Pair × List Packet) → Pair → ℕ
+entered_at ws links k = (wire_of ws k).handed + length (list_at pair_cmp k links)
+
+-- where links are wires, each link has one
+abbrev pub HaveWires : Placement → Option LinkWires → Type 0
+HaveWires l None = Unit {0}
+HaveWires l (Some ws) = (k : Pair) → IsLink l k → has_wire ws k ≡ true
+
+-- where links are wires, the number of packets that entered has the property for each
+abbrev pub EachEntered : (ℕ → Type 0) → Option LinkWires → List (Pair × List Packet) → Type 0
+EachEntered P None links = Unit {0}
+EachEntered P (Some ws) links = (k : Pair) → P (entered_at ws links k)
+
+-- wires on which nothing was put, of all links from nodes before this one, and of those from it to nodes before the other
+pub record AreNew (width size from to : ℕ) (ws : LinkWires) : Type 0 where
+  pub empty : (k : Pair) → wire_of ws k ≡ empty_kept
+  pub there : (a b : ℕ) → (a < from) ⊎ ((a ≡ from) × (b < to)) → b < size → AreNeighbours width a b → has_wire ws (a, b) ≡ true
+
+-- new wires of all links, or none
+abbrev pub AreMade : ℕ → ℕ → Bool → Option LinkWires → Type 0
+AreMade width size true (Some ws) = AreNew width size size 0 ws
+AreMade width size false None = Unit {0}
+AreMade width size true None = ⊥
+AreMade width size false (Some ws) = ⊥
+
+-- nodes, links and wires of the unit and the placement, with a sound configuration and its delay that they stand for
+pub record AreWired (u : Code) (l : Placement) (nodes : List NodeOf) (k : LinksOf Packet) (wires : Option LinkWires) : Type 0 where
+  pub parts : AreParts u l nodes k
+  pub there : HaveWires l wires
+  pub config : Config Placed
+  pub delay : Delay
+  pub sound : IsSound (coded u) (IsOfCode u) l config delay
+  pub stands : StandsFor (coded u) l (machine_on nodes k.links wires) config delay
+
+-- what happened on a wire is told, and the wire is then as that says; or there was nothing to be done, and it is as it was
+abbrev pub IsTold : KeptWire Packet → Option (What × KeptWire Packet) → What → KeptWire Packet → Type 0
+IsTold old None what new = (what ≡ W.Idle) × (new ≡ old)
+IsTold old (Some r) what new = (r.0 ≡ what) × (r.1 ≡ new)
+
+-- the same of the wire of a link, where all others are as they were
+abbrev pub IsToldAt : LinkWires → Pair → Option (What × KeptWire Packet) → What → LinkWires → Type 0
+IsToldAt old k None what new = (what ≡ W.Idle) × (new ≡ old)
+IsToldAt old k (Some r) what new = (r.0 ≡ what) × (new ≡ put pair_cmp k r.1 old)
+
+-- what it tells is what the machine does by the definition, and it is then as that says
+abbrev pub IsDidOn : Did → List NodeOf → LinksOf Packet → Option LinkWires → List NodeOf → LinksOf Packet → Option LinkWires → MachineActed Placed → Type 0
+IsDidOn (D.Line what) nodes links wires nodes' links' wires' (M.Acts w m) = (what ≡ w) × (machine_on nodes' links'.links wires' ≡ m)
+IsDidOn (D.Full kind node) nodes links wires nodes' links' wires' (M.Full k n) = (kind ≡ k) × (node ≡ n) × (nodes' ≡ nodes) × (links' ≡ links) × (wires' ≡ wires)
+IsDidOn _ nodes links wires nodes' links' wires' _ = ⊥
+
+-- the event makes that by the definition, with some number for its request that is not out
+abbrev pub Makes : Code → Placement → ℕ → Event → Did → List NodeOf → LinksOf Packet → Option LinkWires → List NodeOf → LinksOf Packet → Option LinkWires → Type 0
+Makes u l q e did nodes links wires nodes' links' wires' =
+    (fresh : ℕ) × IsFresh (machine_on nodes links.links wires) fresh e × IsDidOn did nodes links wires nodes' links' wires' (machine_act (coded u) l q fresh (machine_on nodes links.links wires) e)

@@ -1,0 +1,9 @@
+use Rattle.mesh_semantics.specs.Tables.{pair_cmp}
+use Rattle.pool_syntax.specs.TreeOf.{program_of}
+use Rattle.pool_semantics.specs.Plains.{configuration}
+use Rattle.pool_semantics.proofs.Least.{Searched}
+use Rattle.pool_semantics.proofs.Searching.{TakesOf}
+use Rattle.pool_semantics.proofs.plain.state.State.least_by_messages.Given as goal
+
+abbrev pub invariant-loop-pair : goal.invariant-loop-pair
+invariant-loop-pair l = Searched pair_cmp (TakesOf (program_of l.self.program.now) (configuration l.self)) l.least l.pair-iterator

@@ -1,0 +1,114 @@
+//! The least object that can make a transition.
+ghost use Rattle.std.specs.Prelude.{◌≡◌, ℕ};
+ghost use Rattle.pool_syntax.specs.TreeOf.{program_of};
+ghost use Rattle.pool_relation.specs.Action.{Object};
+ghost use Rattle.pool_relation.specs.Configuration.{messages_of};
+ghost use Rattle.term_stack.specs.Arguments.{now_args, now_names, now_choices};
+ghost use Rattle.plain_object.specs.Acts.{acted};
+ghost use Rattle.pool_semantics.specs.Mails.{queued};
+ghost use Rattle.pool_semantics.specs.Moving.{lesser, goes_alone, would_answer, MovesBy, Takes, Moves, Tells, IsLeast};
+ghost use Rattle.pool_semantics.specs.Plains.{configuration};
+
+use crate::plain::mail::{Mail, any_offered};
+use crate::plain::state::State;
+use plain_object::act::Act;
+use plain_object::offers::{has_open_plain, offer_to};
+use pool_syntax::NameId;
+use std::collections::VecDeque;
+use term_stack::parts::Work;
+
+/// The lesser of two names, or the one that is there.
+fn lesser(left: Option<u32>, right: Option<u32>) -> Option<u32>
+    ensures { result ≡ lesser left right }
+{
+    match left {
+        None => right,
+        Some(a) => match right {
+            None => Some(a),
+            Some(b) => Some(a.min(b)),
+        },
+    }
+}
+
+/// Whether an object that does this next needs neither a message nor a caller.
+fn goes_alone(work: &Work<'_>, act: &Act<'_>) -> bool
+    ensures { (x : Object) → result ≡ goes_alone (acted x (now_args work.now.next) (now_names work.now.next) (now_choices work.now.next) act.now) }
+{
+    match act {
+        Act::Local(_)
+        | Act::Fault(_)
+        | Act::New(_)
+        | Act::Async { .. }
+        | Act::Write(_)
+        | Act::Return { .. } => true,
+        Act::Select => has_open_plain(work),
+        Act::Finished | Act::Send { .. } | Act::Answer | Act::Waits { .. } | Act::Stuck => false,
+    }
+}
+
+impl<'a> State<'a> {
+    /// Whether the receiver answers the caller, which calls this method of it.
+    fn would_answer(&self, caller: u32, receiver: u32, method: NameId) -> bool
+        ensures { result ≡ would_answer (program_of self.now.program.now) (configuration self.now) caller receiver method.0 }
+    {
+        let Some((serving, act)) = self.acting(receiver) else {
+            return false;
+        };
+        let Some(offer) = offer_to(&serving.work, &act, method.0) else {
+            return false;
+        };
+        !self.barred(caller, receiver, offer.names)
+    }
+
+    /// The object that moves by what this one does next: itself, or the one that answers its call.
+    fn moved_by(&self, object: u32) -> Option<u32>
+        ensures { Tells (MovesBy (program_of self.now.program.now) (configuration self.now) object) result }
+    {
+        match self.acting(object) {
+            None => None,
+            Some((thing, act)) => match act {
+                Act::Send { to, method } => self.would_answer(object, to, method).then_some(to),
+                _ => goes_alone(&thing.work, &act).then_some(object),
+            },
+        }
+    }
+
+    /// The receiver, where it takes a message of the queue.
+    fn taker(&self, receiver: u32, queue: &VecDeque<Mail>) -> Option<u32>
+        ensures { Tells (λ b. (b ≡ receiver) × Takes (program_of self.now.program.now) (configuration self.now) b (queued queue.now)) result }
+    {
+        match self.acting(receiver) {
+            None => None,
+            Some((serving, act)) => any_offered(queue, &serving.work, &act).then_some(receiver),
+        }
+    }
+
+    /// The least object that moves by what an object does next.
+    fn least_by_objects(&self) -> Option<u32>
+        ensures { IsLeast (λ b. (o : ℕ) × MovesBy (program_of self.now.program.now) (configuration self.now) o b) result }
+    {
+        let mut least = None;
+        for (object, _thing) in &self.objects {
+            least = lesser(least, self.moved_by(*object));
+        }
+        least
+    }
+
+    /// The least object that takes a message.
+    fn least_by_messages(&self) -> Option<u32>
+        ensures { IsLeast (λ b. (s : ℕ) × Takes (program_of self.now.program.now) (configuration self.now) b (messages_of (configuration self.now) s b)) result }
+    {
+        let mut least = None;
+        for (pair, queue) in &self.messages {
+            least = lesser(least, self.taker(pair.1, queue));
+        }
+        least
+    }
+
+    /// The least object that moves.
+    pub fn least_moving(&self) -> Option<u32>
+        ensures { IsLeast (Moves (program_of self.now.program.now) (configuration self.now)) result }
+    {
+        lesser(self.least_by_objects(), self.least_by_messages())
+    }
+}

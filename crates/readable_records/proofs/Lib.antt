@@ -1,0 +1,5 @@
+pub mod ReadableRuns
+pub mod SpelledCode
+pub mod ReadablePrograms
+pub mod Laws
+pub mod ReadBack

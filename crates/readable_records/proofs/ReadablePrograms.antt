@@ -1,0 +1,45 @@
+-- The record of a parsed program without class faults is readable: it is that of its code, and its code is spelled.
+use Rattle.std.proofs.Common.{◌≡◌, refl, sym, subst, ℕ, ◌≤◌, List, [], length, true}
+use Rattle.pool_syntax.specs.declared.words.Event.{Event}
+use Rattle.pool_syntax.specs.declared.words.Line.{Line}
+use Rattle.pool_syntax.specs.declared.words.Placement.{Placement}
+use Rattle.pool_syntax.specs.Tokens.{Text}
+use Rattle.pool_syntax.specs.Terms.{ProgramTree}
+use Rattle.pool_syntax.specs.Typing.{faults}
+use Rattle.pool_syntax.specs.Programs.{IsParsed, toks}
+use Rattle.pool_syntax.specs.Spelled.{is_spelled}
+use Rattle.pool_lexer.proofs.SpelledTokens.{spelled_of}
+use Rattle.pool_parser.proofs.Spelling.{program_spelled}
+use Rattle.object_code.specs.declared.unit.Unit.{Unit as Code}
+use Rattle.object_code.specs.Proper.{IsProper}
+use Rattle.object_code.specs.Suits.{Suits}
+use Rattle.pool_compile.specs.Code.{code}
+use Rattle.mesh_semantics.specs.Record.{record_of, record_on_wires}
+use Rattle.mesh_semantics.specs.Sound.{Each}
+use Rattle.placed_terms.specs.Terms.{terms}
+use Rattle.placed_code.proofs.Laws.{code_record, code_record_on_wires, parsed_checked, suits_fits}
+use Rattle.record_laws.specs.Readable.{IsReadableEvent, IsRecord}
+use Rattle.readable_records.proofs.SpelledCode.{code_is_spelled}
+use Rattle.readable_records.proofs.ReadableRuns.{record_reads, record_reads_on_wires}
+
+-- the names of a parsed program are names, its strings strings, and its integers those of literals
+pub parsed_spelled : (s : Text) (names : List Text) (p : ProgramTree) → IsParsed s names p → is_spelled names p ≡ true
+parsed_spelled s names p h = program_spelled names (toks h.0) p (spelled_of s names h.0 h.1) h.2.0
+
+pub program_reads : (s : Text) (names : List Text) (p : ProgramTree) (l : Placement) (q : ℕ) (es : List Event) → IsParsed s names p → faults p ≡ []
+    → IsProper (record { names = names; classes = code p }) → Suits l (record { names = names; classes = code p }) → q ≤ 10000 → length es ≤ 2000000 → Each IsReadableEvent es
+    → IsRecord names (record_of (terms p) l q es).lines
+program_reads s names p l q es parsed none proper suits most few each =
+    let u : Code = record { names = names; classes = code p } in
+    let same = code_record p u (parsed_checked s names p parsed none) refl l q es (suits_fits p u l refl suits) in
+    subst (λ (ls : List Line). IsRecord names ls) (sym same.lines)
+    (record_reads u proper (code_is_spelled u p refl (parsed_spelled s names p parsed)) l suits q most es few each)
+
+pub program_reads_on_wires : (s : Text) (names : List Text) (p : ProgramTree) (l : Placement) (q : ℕ) (es : List Event) → IsParsed s names p → faults p ≡ []
+    → IsProper (record { names = names; classes = code p }) → Suits l (record { names = names; classes = code p }) → q ≤ 10000 → length es ≤ 2000000 → Each IsReadableEvent es
+    → IsRecord names (record_on_wires (terms p) l q es).lines
+program_reads_on_wires s names p l q es parsed none proper suits most few each =
+    let u : Code = record { names = names; classes = code p } in
+    let same = code_record_on_wires p u (parsed_checked s names p parsed none) refl l q es (suits_fits p u l refl suits) in
+    subst (λ (ls : List Line). IsRecord names ls) (sym same.lines)
+    (record_reads_on_wires u proper (code_is_spelled u p refl (parsed_spelled s names p parsed)) l suits q most es few each)

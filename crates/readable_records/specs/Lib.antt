@@ -1,0 +1,2 @@
+pub mod SpelledUnit
+pub mod ReadsBack

@@ -1,0 +1,17 @@
+-- Where the labels of a record lead a stepper.
+use Rattle.std.specs.Prelude.{◌≡◌, List, false}
+use Rattle.pool_syntax.specs.Terms.{ProgramTree}
+use Rattle.pool_syntax.specs.declared.words.Label.{Label}
+use Rattle.pool_syntax.specs.declared.words.Line.{Line}
+use Rattle.pool_relation.specs.Configuration.{Configuration}
+use Rattle.pool_relation.specs.Progress.{agent}
+use Rattle.pool_semantics.specs.PlainOf.{configuration_of, program_tree, is_spent}
+use Rattle.pool_semantics.specs.Shown.{Shows}
+use Rattle.record_check.specs.declared.labels.Followed.{Followed}
+use Rattle.record_check.specs.declared.labels.Followed.TheVariants as F
+use Rattle.record_check.specs.Judged.{LeadsTo, StopsAt}
+
+-- to a line that stops, or to the end, where the stepper stands for the last configuration and is not spent
+abbrev pub Leads : ProgramTree → List Line → Followed → Type 0
+Leads p ls (F.Stopped s) = (d : Configuration) × (lab : Label) × StopsAt p ls s.number d lab × Shows p d (agent lab) s.redex
+Leads p ls (F.Led plain) = LeadsTo p ls (configuration_of plain) × (program_tree plain ≡ p) × (is_spent plain ≡ false)

@@ -1,0 +1,49 @@
+-- What a judge of a record answers, and how far the lines of a record lead.
+use Rattle.std.specs.Prelude.{◌≡◌, ℕ, ◌<◌, List, ◌∷◌, ◌++◌, replicate, Some, None}
+use Rattle.pool_syntax.specs.Terms.{ProgramTree}
+use Rattle.pool_syntax.specs.declared.words.Label.{Label}
+use Rattle.pool_syntax.specs.declared.words.What.TheVariants as W
+use Rattle.pool_syntax.specs.declared.words.Event.{Event}
+use Rattle.pool_syntax.specs.declared.words.Line.{Line}
+use Rattle.pool_syntax.specs.declared.words.Line.TheVariants as R
+use Rattle.pool_relation.specs.Configuration.{Configuration}
+use Rattle.pool_relation.specs.Progress.{agent}
+use Rattle.pool_relation.specs.Transition.{transition, run}
+use Rattle.mesh_semantics.specs.Record.{labels}
+use Rattle.pool_semantics.specs.Shown.{Shows}
+use Rattle.pool_semantics.specs.declared.plain.redex.Redex.{Redex}
+use Rattle.record_check.specs.declared.lead.Verdict.{Verdict}
+use Rattle.record_check.specs.declared.lead.Verdict.TheVariants as V
+use Rattle.record_check.specs.Judged.{IsRunOf, StopsAt, StillMoves}
+
+-- fewer transitions of the label than so many lead from c to d, where it is not possible, and its object is at this
+pub record StopsAfter (p : ProgramTree) (c : Configuration) (lab : Label) (times : ℕ) (d : Configuration) (redex : Redex) : Type 0 where
+  pub made : ℕ
+  pub fewer : made < times
+  pub leads : run p c (replicate made lab) ≡ Some d
+  pub impossible : transition p d lab ≡ None
+  pub shows : Shows p d (agent lab) redex
+
+-- the line shows a transition that is not possible, of those that it shows not the first perhaps
+pub record StopsLine (p : ProgramTree) (c : Configuration) (l : Line) (number : ℕ) (d : Configuration) (redex : Redex) : Type 0 where
+  pub event : Event
+  pub label : Label
+  pub times : ℕ
+  pub is : l ≡ R.Event number event (W.Step label times)
+  pub stops : StopsAfter p c label times d redex
+
+-- the lines lead from c to d, in the line of this number, whose next transition is not possible
+pub record StopsIn (p : ProgramTree) (c : Configuration) (ls : List Line) (number : ℕ) (d : Configuration) (redex : Redex) : Type 0 where
+  pub before : List Line
+  pub line : Line
+  pub behind : List Line
+  pub whole : ls ≡ before ++ line ∷ behind
+  pub between : Configuration
+  pub leads : run p c (labels before) ≡ Some between
+  pub stops : StopsLine p between line number d redex
+
+-- a verdict says what the record is
+abbrev pub Judged : ProgramTree → List Line → Verdict → Type 0
+Judged p ls V.Yes = IsRunOf p ls
+Judged p ls (V.No number redex) = (d : Configuration) × (lab : Label) × StopsAt p ls number d lab × Shows p d (agent lab) redex
+Judged p ls (V.Moving o) = StillMoves p ls o

@@ -1,0 +1,76 @@
+//! Judges the labels of a record, from the start of its root.
+ghost use Rattle.std.specs.Prelude.{◌≡◌, ◌++◌, List, [], Some, IfOk, IfSome, IfNone};
+ghost use Rattle.pool_syntax.specs.TreeOf.{program_of};
+ghost use Rattle.pool_syntax.specs.declared.words.Label.{Label};
+ghost use Rattle.mesh_semantics.specs.Record.{ends_quiet, is_quiet_end, labels, labels_of};
+ghost use Rattle.record_check.specs.Judged.{first_agent, root};
+ghost use Rattle.record_check.specs.Leads.{Leads};
+
+use crate::lead::{Stop, follow};
+use class_check::Checked;
+use pool_semantics::{Plain, agent};
+use pool_syntax::{End, Line, What};
+use std::alloc::{AllocError, Global};
+
+/// Where the labels of a record lead: to a line that stops, or to the end.
+#[derive(Drop)]
+pub enum Followed<'a> {
+    Stopped(Stop),
+    Led(Plain<'a>),
+}
+
+/// The object of the first label of a line, if it has one.
+fn first_of(line: &Line) -> Option<u32>
+    ensures some { IfSome result (λ o. (rest : List Label) → first_agent (labels_of line.now ++ rest) ≡ o) }
+    ensures none { IfNone result (labels_of line.now ≡ []) }
+{
+    match line {
+        Line::Event {
+            what: What::Step { label, times },
+            ..
+        } => {
+            if *times == 0 {
+                return None;
+            }
+            Some(agent(label))
+        }
+        _ => None,
+    }
+}
+
+/// The name of the root, told by the lines.
+fn root(lines: &[Line]) -> u32
+    ensures { result ≡ root lines.now }
+{
+    for line in lines {
+        if let Some(object) = first_of(line) {
+            return object;
+        }
+    }
+    0
+}
+
+/// Whether the end line says that all was quiet.
+pub fn is_quiet(lines: &[Line]) -> bool
+    ensures { result ≡ ends_quiet lines.now }
+{
+    lines
+        .iter()
+        .any(|line| matches!(line, Line::End(End::Quiet { .. })))
+}
+
+/// Makes the transitions that the lines of a record show, from the start of its root on.
+pub fn judge_labels<'a>(
+    alloc: Global,
+    program: &Checked<'a>,
+    lines: &[Line],
+) -> Result<Followed<'a>, AllocError>
+    ensures { IfOk result (λ f. Leads (program_of program.now.program.now) lines.now f) }
+{
+    let mut plain = Plain::make(alloc, program, root(lines))?;
+    match follow(&mut plain, lines) {
+        Ok(None) => Ok(Followed::Led(plain)),
+        Ok(Some(stop)) => Ok(Followed::Stopped(stop)),
+        Err(_) => Err(AllocError),
+    }
+}

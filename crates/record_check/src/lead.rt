@@ -1,0 +1,87 @@
+//! How far the labels of lines lead.
+ghost use Rattle.std.specs.Prelude.{◌≡◌, Some, IfOk, IfSome, IfNone, false, replicate};
+ghost use Rattle.pool_relation.specs.Transition.{run};
+ghost use Rattle.mesh_semantics.specs.Record.{labels, labels_of};
+ghost use Rattle.pool_semantics.specs.PlainOf.{configuration_of, program_tree, is_spent};
+ghost use Rattle.record_check.specs.Verdicts.{StopsAfter, StopsIn, StopsLine};
+
+use pool_semantics::{Plain, Redex, Refuse};
+use pool_syntax::{Label, Line, What};
+use std::alloc::AllocError;
+
+/// What a record is.
+#[derive(Clone, Copy, Debug, PartialEq, Eq)]
+pub enum Verdict {
+    /// A run of the program.
+    Yes,
+    /// The line of this number shows a transition that is not possible, and its object is at this.
+    No { number: u32, redex: Redex },
+    /// The end is quiet, and this is the least object that can make a transition.
+    Moving { object: u32 },
+}
+
+/// A line that shows a transition that is not possible, and what its object is at.
+#[derive(Clone, Copy)]
+pub struct Stop {
+    pub number: u32,
+    pub redex: Redex,
+}
+
+/// Makes the label's transition so often; the redex where one is not possible.
+#[tactic(auto, using(crate::proofs::Leading::one_more))]
+fn make_times(plain: &mut Plain<'_>, label: &Label, times: u32) -> Result<Option<Redex>, AllocError>
+    ensures program { program_tree plain.new ≡ program_tree plain.old }
+    ensures going_on { IfOk result (λ _. is_spent plain.old ≡ false → is_spent plain.new ≡ false) }
+    ensures made { IfOk result (λ r. IfNone r (run (program_tree plain.old) (configuration_of plain.old) (replicate times label.now) ≡ Some (configuration_of plain.new))) }
+    ensures stopped { IfOk result (λ r. IfSome r (λ redex. StopsAfter (program_tree plain.old) (configuration_of plain.old) label.now times (configuration_of plain.new) redex)) }
+{
+    for _made in 0..times {
+        match plain.apply(label) {
+            Ok(()) => {}
+            Err(Refuse::NotPossible { redex }) => return Ok(Some(redex)),
+            Err(Refuse::Memory) => return Err(AllocError),
+        }
+    }
+    Ok(None)
+}
+
+/// Makes the transitions that a line shows, up to the first that is not possible.
+fn follow_line(plain: &mut Plain<'_>, line: &Line) -> Result<Option<Stop>, AllocError>
+    ensures program { program_tree plain.new ≡ program_tree plain.old }
+    ensures going_on { IfOk result (λ _. is_spent plain.old ≡ false → is_spent plain.new ≡ false) }
+    ensures leads { IfOk result (λ r. IfNone r (run (program_tree plain.old) (configuration_of plain.old) (labels_of line.now) ≡ Some (configuration_of plain.new))) }
+    ensures stops { IfOk result (λ r. IfSome r (λ s. StopsLine (program_tree plain.old) (configuration_of plain.old) line.now s.number (configuration_of plain.new) s.redex)) }
+{
+    match line {
+        Line::Event {
+            number,
+            what: What::Step { label, times },
+            ..
+        } => match make_times(plain, label, *times) {
+            Ok(None) => Ok(None),
+            Ok(Some(redex)) => Ok(Some(Stop {
+                number: *number,
+                redex,
+            })),
+            Err(_) => Err(AllocError),
+        },
+        _ => Ok(None),
+    }
+}
+
+/// Makes the transitions that the lines show, up to the first that is not possible.
+pub fn follow(plain: &mut Plain<'_>, lines: &[Line]) -> Result<Option<Stop>, AllocError>
+    ensures program { program_tree plain.new ≡ program_tree plain.old }
+    ensures going_on { IfOk result (λ _. is_spent plain.old ≡ false → is_spent plain.new ≡ false) }
+    ensures leads { IfOk result (λ r. IfNone r (run (program_tree plain.old) (configuration_of plain.old) (labels lines.now) ≡ Some (configuration_of plain.new))) }
+    ensures stops { IfOk result (λ r. IfSome r (λ s. StopsIn (program_tree plain.old) (configuration_of plain.old) lines.now s.number (configuration_of plain.new) s.redex)) }
+{
+    for line in lines {
+        match follow_line(plain, line) {
+            Ok(None) => {}
+            Ok(Some(stop)) => return Ok(Some(stop)),
+            Err(_) => return Err(AllocError),
+        }
+    }
+    Ok(None)
+}

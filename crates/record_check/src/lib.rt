@@ -1,0 +1,10 @@
+//! Judges a record: whether it is a run of a program.
+#![tactic(auto)]
+
+mod labels;
+mod lead;
+pub mod theorems;
+mod verdict;
+
+pub use lead::Verdict;
+pub use verdict::check_record;

@@ -1,0 +1,45 @@
+//! The verdict on a record.
+ghost use Rattle.std.specs.Prelude.{◌≡◌, IfOk, false};
+ghost use Rattle.pool_syntax.specs.TreeOf.{program_of};
+ghost use Rattle.pool_semantics.specs.PlainOf.{configuration_of, program_tree, is_spent};
+ghost use Rattle.record_check.specs.Judged.{LeadsTo};
+ghost use Rattle.record_check.specs.Verdicts.{Judged};
+
+use crate::labels::{Followed, is_quiet, judge_labels};
+use crate::lead::Verdict;
+use class_check::Checked;
+use pool_semantics::Plain;
+use pool_syntax::{Line, List};
+use std::alloc::{AllocError, Global};
+
+/// The verdict where all labels are possible and lead here.
+fn judge_end(plain: &Plain<'_>, lines: &[Line]) -> Verdict
+    requires { is_spent plain.now ≡ false }
+    ensures { LeadsTo (program_tree plain.now) lines.now (configuration_of plain.now) → Judged (program_tree plain.now) lines.now result }
+{
+    if !is_quiet(lines) {
+        return Verdict::Yes;
+    }
+    match plain.moving() {
+        None => Verdict::Yes,
+        Some(object) => Verdict::Moving { object },
+    }
+}
+
+/// Whether a record is a run of the program, told by its labels and its quiet end; delays are not judged.
+/// Takes time in the number of transitions that the lines show: at most 2^32 steps of the stepper for one line.
+pub fn check_record(
+    alloc: Global,
+    program: &Checked<'_>,
+    lines: &List<Line>,
+) -> Result<Verdict, AllocError>
+    ensures { IfOk result (λ v. Judged (program_of program.now.program.now) lines.now v) }
+{
+    match judge_labels(alloc, program, lines.items())? {
+        Followed::Stopped(stop) => Ok(Verdict::No {
+            number: stop.number,
+            redex: stop.redex,
+        }),
+        Followed::Led(plain) => Ok(judge_end(&plain, lines.items())),
+    }
+}

@@ -1,0 +1,149 @@
+//! A line with the request number that it carries.
+ghost use Rattle.std.specs.Prelude.{◌≡◌, [], ◌∷◌, ◌++◌, option_map, IfSome, IfNone};
+ghost use Rattle.run_record.specs.Fields.{count_of, fields, only_if, parts, then_some};
+ghost use Rattle.run_record.specs.Records.{asked_by, asked_for, line_of, row_of, second_of, unasked, unnumbered};
+ghost use Rattle.run_record.specs.RowBy.{carried, row};
+ghost use Rattle.run_record.specs.ToldBy.{told};
+
+use crate::line::{ReadLine, line_in};
+use crate::spelled::count;
+use record_lines::is_asked;
+
+/// The two forms of a record.
+#[derive(Clone, Copy)]
+pub enum Form {
+    First,
+    Second,
+}
+
+/// What a line says, and the request number that it carries, if it carries one.
+#[derive(Clone, Copy)]
+pub struct ReadRow<'a> {
+    pub read: ReadLine<'a>,
+    pub ask: Option<u32>,
+}
+
+/// What stands before the last space, and behind it.
+#[derive(Clone, Copy)]
+pub struct Back<'a> {
+    pub front: &'a [u8],
+    pub last: &'a [u8],
+}
+
+/// What stands before ` by` and a number, and the number.
+#[derive(Clone, Copy)]
+pub struct Carried<'a> {
+    pub front: &'a [u8],
+    pub ask: u32,
+}
+
+/// Cuts a text at its last space.
+#[tactic(auto, using(crate::proofs::Parting::last_cut))]
+fn cut_last(text: &[u8]) -> Option<Back<'_>>
+    ensures some { IfSome result (λ b. fields text.now ≡ fields b.front.now ++ b.last.now ∷ []) }
+    ensures none { IfNone result (fields text.now ≡ text.now ∷ []) }
+{
+    let mut at = text.len();
+    while at > 0 {
+        if text[at - 1] == b' ' {
+            return Some(Back {
+                front: &text[0..at - 1],
+                last: &text[at..text.len()],
+            });
+        }
+        at -= 1;
+    }
+    None
+}
+
+/// What stands before ` by` and a number, and the number.
+#[tactic(auto, using(crate::proofs::Parting::asked_one, crate::proofs::Parting::asked_two, crate::proofs::Parting::carried_not, crate::proofs::Parting::carried_is))]
+fn carried_in(line: &[u8]) -> Option<Carried<'_>>
+    ensures { option_map carried result ≡ asked_by (fields line.now) }
+{
+    let Some(behind) = cut_last(line) else {
+        return None;
+    };
+    let Some(before) = cut_last(behind.front) else {
+        return None;
+    };
+    if before.last != b"by".as_slice() {
+        return None;
+    }
+    match count(behind.last) {
+        None => None,
+        Some(ask) => Some(Carried {
+            front: before.front,
+            ask,
+        }),
+    }
+}
+
+fn unnumbered_in(line: &[u8]) -> Option<ReadRow<'_>>
+    ensures { option_map row result ≡ then_some (line_of (fields line.now)) unnumbered }
+{
+    match line_in(line) {
+        None => None,
+        Some(read) => Some(ReadRow { read, ask: None }),
+    }
+}
+
+fn unasked_in(line: &[u8]) -> Option<ReadRow<'_>>
+    ensures { option_map row result ≡ then_some (line_of (fields line.now)) unasked }
+{
+    match line_in(line) {
+        None => None,
+        Some(read) => {
+            if is_asked(&read.line) {
+                return None;
+            }
+            Some(ReadRow { read, ask: None })
+        }
+    }
+}
+
+fn asked_for(ask: u32, line: &[u8]) -> Option<ReadRow<'_>>
+    ensures { option_map row result ≡ then_some (line_of (fields line.now)) (asked_for ask) }
+{
+    match line_in(line) {
+        None => None,
+        Some(read) => {
+            if is_asked(&read.line) {
+                return Some(ReadRow {
+                    read,
+                    ask: Some(ask),
+                });
+            }
+            None
+        }
+    }
+}
+
+fn asked_in(line: &[u8]) -> Option<ReadRow<'_>>
+    ensures { option_map row result ≡ then_some (asked_by (fields line.now)) (λ r. then_some (line_of r.0) (asked_for r.1)) }
+{
+    match carried_in(line) {
+        None => None,
+        Some(carried) => asked_for(carried.ask, carried.front),
+    }
+}
+
+/// What a line without its line feed says in the second form.
+fn second_in(line: &[u8]) -> Option<ReadRow<'_>>
+    ensures { option_map row result ≡ second_of (fields line.now) }
+{
+    match unasked_in(line) {
+        Some(row) => Some(row),
+        None => asked_in(line),
+    }
+}
+
+/// What a line without its line feed says in a form.
+pub fn row_in(form: Form, line: &[u8]) -> Option<ReadRow<'_>>
+    ensures { option_map row result ≡ row_of form (fields line.now) }
+{
+    match form {
+        Form::First => unnumbered_in(line),
+        Form::Second => second_in(line),
+    }
+}

@@ -1,0 +1,17 @@
+-- What a schedule asks of a mesh.
+use Rattle.std.specs.Prelude.{◌≡◌, ℕ, ◌*◌, ◌<◌, ◌≤◌, Some, Bool, true, slice_get}
+use Rattle.pool_syntax.specs.declared.words.Event.{Event}
+use Rattle.pool_syntax.specs.declared.words.Event.TheVariants as V
+use Rattle.pool_syntax.specs.declared.words.Placement.{Placement}
+use Rattle.mesh_semantics.specs.Paths.{IsLink}
+use Rattle.schedule_reader.specs.Schedules.{Plan}
+
+-- an event of a node of the mesh, or of a link that is not cut; on wires only where links are wires
+abbrev pub IsEventOn : Placement → Bool → Event → Type 0
+IsEventOn l lossy (V.Turn n) = n < l.width * l.height
+IsEventOn l lossy (V.Link a b) = IsLink l (a, b)
+IsEventOn l lossy (V.Wire act a b) = (lossy ≡ true) × IsLink l (a, b)
+
+pub record IsPlanFor (l : Placement) (plan : Plan) : Type 0 where
+  pub quantum : (1 ≤ plan.quantum) × (plan.quantum ≤ 10000)
+  pub events : (i : ℕ) (e : Event) → slice_get plan.events i ≡ Some e → IsEventOn l plan.lossy e

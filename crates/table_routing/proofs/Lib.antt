@@ -1,0 +1,4 @@
+mod Places
+mod Following
+mod Routing
+mod Searching

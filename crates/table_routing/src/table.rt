@@ -1,0 +1,235 @@
+//! The table of a placement.
+ghost use Rattle.std.specs.Prelude.{◌≡◌, ◌≢◌, ◌<◌, ◌≤◌, ◌*◌, ◌+◌, ◌↔◌, [], length, get_or, set, false, None, IsNone, IsTrue, IfOk, IfErr, IfSome};
+ghost use Rattle.std.specs.List.{range_with_len};
+ghost use Rattle.pool_syntax.specs.declared.words.Placement.{Placement};
+ghost use Rattle.mesh_semantics.specs.Paths.{IsLink, is_cut, next, toward};
+ghost use Rattle.mesh_semantics.specs.Routes.{IsRouted, broken_to, is_broken, without_route};
+ghost use Rattle.table_routing.specs.Tables.{AreGaps, AreNexts, IsTold, size, with_routes};
+
+use crate::fault::TableFault;
+use mesh_routing::Mesh;
+use pool_syntax::{LinkId, Placement, Route};
+use std::alloc::{AllocError, Global};
+use std::marker::Model;
+
+/// The next node on each path of a placement. Contracts see the placement. Only `make` takes memory.
+#[derive(Drop)]
+pub struct Table<'a> {
+    placement: &'a Placement,
+    mesh: Mesh,
+    // By the number of the node at hand times the number of all nodes, and that of the goal.
+    nexts: Vec<u32>,
+}
+
+impl<'a> Model for Table<'a> {
+    ghost use Rattle.pool_syntax.specs.declared.words.Placement.{Placement};
+    ghost use Rattle.pool_syntax.specs.contracts.words.Placement as placement_of;
+
+    ghost Value = { Placement };
+
+    ghost coded = { placement_of.the_row.coded };
+
+    ghost use Rattle.table_routing.specs.Inside.{IsTable};
+
+    ghost view = { λ t. t.placement.now };
+
+    ghost invariant = { IsTable };
+}
+
+/// Whether the link is one of the missing ones.
+fn is_cut(cuts: &[LinkId], from: u32, to: u32) -> bool
+    ensures { result ≡ is_cut cuts.now from to }
+{
+    for cut in cuts {
+        if cut.from == from && cut.to == to {
+            return true;
+        }
+    }
+    false
+}
+
+/// The next node on the mesh's own way to another one.
+fn way(mesh: &Mesh, at: u32, to: u32) -> u32
+    requires at { at < mesh.now.width * mesh.now.height }
+    requires to { to < mesh.now.width * mesh.now.height }
+    ensures { at ≢ to → result ≡ toward mesh.now.width at to }
+{
+    match mesh.next(at, to) {
+        Some(next) => next,
+        None => at,
+    }
+}
+
+/// The next node for each node and goal, without the routes.
+fn ways_of(alloc: Global, placement: &Placement, mesh: &Mesh) -> Result<Vec<u32>, AllocError>
+    requires width { mesh.now.width ≡ placement.now.width }
+    requires height { mesh.now.height ≡ placement.now.height }
+    ensures { IfOk result (λ ns. AreNexts (with_routes placement.now []) (size placement.now * size placement.now) ns.items) }
+{
+    let nodes = placement.width * placement.height;
+    let mut nexts = Vec::new(alloc);
+    for place in 0..nodes * nodes {
+        let next = way(mesh, place / nodes, place % nodes);
+        match nexts.push(next) {
+            Ok(()) => {}
+            Err(_) => return Err(AllocError),
+        }
+    }
+    Ok(nexts)
+}
+
+/// Puts in where a route leads.
+#[tactic(auto, using(crate::proofs::Places::below))]
+fn put_route(nexts: &mut Vec<u32>, nodes: u32, route: Route)
+    requires few { nodes ≤ 64 }
+    requires at { route.at < nodes }
+    requires goal { route.goal < nodes }
+    requires length { length nexts.old.items ≡ nodes * nodes }
+    ensures { nexts.new.items ≡ set nexts.old.items (route.at * nodes + route.goal) route.next }
+{
+    nexts[(route.at * nodes + route.goal) as usize] = route.next;
+}
+
+/// Puts in where the routes lead; of two at one node for one goal the first counts.
+fn put_routes(nexts: &mut Vec<u32>, placement: &Placement)
+    requires routed { IsRouted placement.now }
+    requires nexts { AreNexts (with_routes placement.now []) (size placement.now * size placement.now) nexts.old.items }
+    ensures { AreNexts placement.now (size placement.now * size placement.now) nexts.new.items }
+{
+    let nodes = placement.width * placement.height;
+    let routes = placement.routes.items();
+    for i in (0..routes.len()).rev() {
+        put_route(nexts, nodes, routes[i]);
+    }
+}
+
+/// For each two nodes whether the link from the one to the other is a missing one.
+fn gaps_of(alloc: Global, placement: &Placement) -> Result<Vec<bool>, AllocError>
+    requires routed { IsRouted placement.now }
+    ensures { IfOk result (λ gs. AreGaps placement.now (size placement.now * size placement.now) gs.items) }
+{
+    let nodes = placement.width * placement.height;
+    let mut gaps = Vec::new(alloc);
+    for place in 0..nodes * nodes {
+        let gap = is_cut(placement.cuts.items(), place / nodes, place % nodes);
+        match gaps.push(gap) {
+            Ok(()) => {}
+            Err(_) => return Err(AllocError),
+        }
+    }
+    Ok(gaps)
+}
+
+/// Whether the link from the one node to the other is a missing one.
+#[tactic(auto, using(crate::proofs::Places::below))]
+fn is_gap(gaps: &[bool], nodes: u32, from: u32, to: u32) -> bool
+    requires few { nodes ≤ 64 }
+    requires from { from < nodes }
+    requires to { to < nodes }
+    requires length { length gaps.now ≡ nodes * nodes }
+    ensures { result ≡ get_or gaps.now (from * nodes + to) false }
+{
+    gaps[(from * nodes + to) as usize]
+}
+
+/// Whether the path from a node to another one takes a cut link or comes to a node twice. It goes along at most as many links as there are nodes.
+fn is_broken(placement: &Placement, nexts: &[u32], gaps: &[bool], from: u32, to: u32) -> bool
+    requires routed { IsRouted placement.now }
+    requires nexts { AreNexts placement.now (size placement.now * size placement.now) nexts.now }
+    requires gaps { AreGaps placement.now (size placement.now * size placement.now) gaps.now }
+    requires from { from < placement.now.width * placement.now.height }
+    requires to { to < placement.now.width * placement.now.height }
+    ensures { result ≡ is_broken placement.now from to }
+{
+    let nodes = placement.width * placement.height;
+    let mut at = from;
+    for step in 0..nodes {
+        if at == to {
+            return false;
+        }
+        let next = nexts[(at * nodes + to) as usize];
+        if is_gap(gaps, nodes, at, next) {
+            return true;
+        }
+        at = next;
+    }
+    true
+}
+
+/// The first pair from this node without route.
+fn broken_to(placement: &Placement, nexts: &[u32], gaps: &[bool], from: u32) -> Option<(u32, u32)>
+    requires routed { IsRouted placement.now }
+    requires nexts { AreNexts placement.now (size placement.now * size placement.now) nexts.now }
+    requires gaps { AreGaps placement.now (size placement.now * size placement.now) gaps.now }
+    requires from { from < placement.now.width * placement.now.height }
+    ensures { result ≡ broken_to placement.now from (range_with_len 0 (placement.now.width * placement.now.height)) }
+{
+    for to in 0..placement.width * placement.height {
+        if is_broken(placement, nexts, gaps, from, to) {
+            return Some((from, to));
+        }
+    }
+    None
+}
+
+/// The first pair without route.
+fn without_route(placement: &Placement, nexts: &[u32], gaps: &[bool]) -> Option<(u32, u32)>
+    requires routed { IsRouted placement.now }
+    requires nexts { AreNexts placement.now (size placement.now * size placement.now) nexts.now }
+    requires gaps { AreGaps placement.now (size placement.now * size placement.now) gaps.now }
+    ensures { result ≡ without_route placement.now }
+{
+    for from in 0..placement.width * placement.height {
+        match broken_to(placement, nexts, gaps, from) {
+            Some(pair) => return Some(pair),
+            None => {}
+        }
+    }
+    None
+}
+
+impl<'a> Table<'a> {
+    /// The table of a placement, or the least pair of nodes without route.
+    pub fn make(alloc: Global, placement: &'a Placement) -> Result<Table<'a>, TableFault>
+        requires routed { IsRouted placement.now }
+        ensures ok { IfOk result (λ t. (t ≡ placement.now) × (without_route placement.now ≡ None)) }
+        ensures err { IfErr result (λ f. IsTold f (without_route placement.now)) }
+    {
+        let mesh = Mesh::make(placement.width, placement.height);
+        let mut nexts = ways_of(alloc, placement, &mesh)?;
+        put_routes(&mut nexts, placement);
+        let gaps = gaps_of(alloc, placement)?;
+        match without_route(placement, nexts.as_slice(), gaps.as_slice()) {
+            Some((from, to)) => Err(TableFault::NoRoute { from, to }),
+            None => Ok(Table {
+                placement,
+                mesh,
+                nexts,
+            }),
+        }
+    }
+
+    /// The next node on the way to another one. None exactly at the goal.
+    pub fn next(&self, at: u32, to: u32) -> Option<u32>
+        requires at { at < self.now.width * self.now.height }
+        requires to { to < self.now.width * self.now.height }
+        ensures none { IsNone result ↔ (at ≡ to) }
+        ensures some { IfSome result (λ n. n ≡ next self.now at to) }
+        ensures link { IfSome result (λ n. IsLink self.now (at, n)) }
+    {
+        if at == to {
+            return None;
+        }
+        let nodes = self.mesh.width * self.mesh.height;
+        Some(self.nexts[(at * nodes + to) as usize])
+    }
+
+    /// Whether a link goes from the one node to the other and is not cut.
+    pub fn is_link(&self, from: u32, to: u32) -> bool
+        requires from { from < self.now.width * self.now.height }
+        requires to { to < self.now.width * self.now.height }
+        ensures { IsTrue result ↔ IsLink self.now (from, to) }
+    {
+        self.mesh.is_link(from, to) && !is_cut(self.placement.cuts.items(), from, to)
+    }
+}

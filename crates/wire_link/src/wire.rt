@@ -1,0 +1,311 @@
+//! One link as a wire.
+ghost use Rattle.std.specs.Prelude.{◌≡◌, ◌+◌, ◌^◌, ◌<◌, ◌≤◌, List, [], length, drop, None, Some, if◌then◌else◌, nat_lt, option_map};
+ghost use Rattle.pool_syntax.specs.declared.words.What.TheVariants as W;
+ghost use Rattle.mesh_semantics.specs.Tables.{Each};
+ghost use Rattle.mesh_semantics.specs.Wire.{capacity, coming_in, greater, push_within};
+ghost use Rattle.mesh_semantics.specs.KeptWire.{Carries, empty_kept, kept_coming, kept_act, kept_hear, kept_send, kept_take, kept_wanted, with_fresh};
+ghost use Rattle.rendezvous_protocol.specs.declared.packet.Packet.{Packet as AnyPacket};
+ghost use Rattle.wire_link.specs.Bytes.{decoded};
+ghost use Rattle.wire_link.specs.Wires.{IsData, IsWanted, arrived_of, data_in, frames_in, front_of, late_of, lose_of, told_of, twice_of};
+
+use crate::frame::{Frame, FrameBytes};
+use crate::reading::decode;
+use crate::sides::{Frames, first_ack, first_data, put_ack, put_data, take_ack, take_data};
+use arrayvec::ArrayVec;
+use rendezvous_protocol::Packet;
+use std::marker::Model;
+
+/// The side of a wire: what goes to the far end, or what comes back.
+#[derive(Clone, Copy)]
+pub enum Side {
+    Data,
+    Ack,
+}
+
+/// What was sent: a frame, or one that was lost since the wire is full.
+#[derive(Clone, Copy)]
+pub enum Sent {
+    Frame,
+    Lost,
+}
+
+/// What comes to the far end: nothing, a frame that is not the next one, or the next packet.
+#[derive(Clone, Copy)]
+pub enum Arrived {
+    Empty,
+    Stale { number: u32 },
+    Next { packet: Packet },
+}
+
+/// What is kept of a link as a wire: it keeps numbers, copies of the packets that were sent and not acknowledged, and the frames under way as bytes. It takes no memory.
+#[derive(Drop)]
+pub struct Wire {
+    handed: u32,
+    acked: u32,
+    next: u32,
+    sent: u32,
+    copies: ArrayVec<Packet, 8>,
+    frames: Frames,
+    acks: Frames,
+}
+
+impl Model for Wire {
+    ghost use Rattle.mesh_semantics.specs.KeptWire.{KeptWire as Kept};
+    ghost use Rattle.rendezvous_protocol.specs.declared.packet.Packet.{Packet as OnePacket};
+
+    ghost Value = { Kept OnePacket };
+
+    ghost use Rattle.wire_link.specs.Wires.{view_of, IsWire};
+
+    ghost view = { λ w. view_of w.handed w.acked w.next w.sent w.copies.items w.frames.items w.acks.items };
+
+    ghost invariant = { λ w. IsWire w.handed w.acked w.next w.sent w.copies.items w.frames.items w.acks.items };
+}
+
+impl Wire {
+    /// A wire on which nothing was put.
+    pub fn make() -> Wire
+        ensures { result ≡ empty_kept }
+    {
+        Wire {
+            handed: 0,
+            acked: 0,
+            next: 0,
+            sent: 0,
+            copies: ArrayVec::new(),
+            frames: ArrayVec::new(),
+            acks: ArrayVec::new(),
+        }
+    }
+
+    /// How many packets were acknowledged.
+    pub fn acked(&self) -> u32
+        ensures { result ≡ self.now.acked }
+    {
+        self.acked
+    }
+
+    /// How many packets were handed out.
+    pub fn handed(&self) -> u32
+        ensures { result ≡ self.now.handed }
+    {
+        self.handed
+    }
+
+    /// How many packets were sent at least once.
+    pub fn sent(&self) -> u32
+        ensures { result ≡ self.now.sent }
+    {
+        self.sent
+    }
+
+    /// The number that is wanted where so many packets entered. None exactly where all are acknowledged.
+    pub fn wants(&self, put: u32) -> Option<u32>
+        ensures wanted { result ≡ kept_wanted self.now put }
+        ensures carries { (put : List AnyPacket) × Carries self.now put }
+    {
+        if self.acked == put {
+            return None;
+        }
+        if (self.next as u64) < self.acked as u64 + 8 && self.next < put {
+            Some(self.next)
+        } else {
+            Some(self.acked)
+        }
+    }
+
+    /// What comes to the far end.
+    pub fn peek(&self) -> Arrived
+        ensures { result ≡ arrived_of (kept_coming self.now) }
+    {
+        match self.frames.as_slice() {
+            [] => Arrived::Empty,
+            [first, ..] => coming(decode(first), self.handed),
+        }
+    }
+
+    /// A number that is wanted for a list that the wire carries is sent, with its packet exactly where it was never sent.
+    pub fn send(&mut self, number: u32, fresh: Option<Packet>) -> Sent
+        requires narrow { number + 1 < 2 ^ 32 }
+        requires wanted { IsWanted self.old number fresh }
+        ensures { kept_send number fresh self.old ≡ (told_of number result, self.new) }
+    {
+        keep(&mut self.copies, fresh);
+        self.next = number + 1;
+        self.sent = later(self.sent, number + 1);
+        let place = number - self.acked;
+        match self.copies.as_slice().get(place as usize) {
+            Some(packet) => {
+                let packet = *packet;
+                launch(&mut self.frames, number, packet)
+            }
+            None => Sent::Lost,
+        }
+    }
+
+    /// The first frame comes to the far end: the next packet is handed out, another one is dropped, and the far end tells how many it has handed out.
+    pub fn arrive(&mut self) -> Arrived
+        ensures arrived { result ≡ arrived_of (kept_coming self.old) }
+        ensures change { self.new ≡ kept_take self.old }
+    {
+        match take_data(&mut self.frames) {
+            Some((number, packet)) => {
+                if number == self.handed {
+                    self.handed += 1;
+                    put_ack(&mut self.acks, self.handed);
+                    Arrived::Next { packet }
+                } else {
+                    put_ack(&mut self.acks, self.handed);
+                    Arrived::Stale { number }
+                }
+            }
+            None => Arrived::Empty,
+        }
+    }
+
+    /// The first acknowledgement comes back: the copies of what it acknowledges are dropped. None exactly where there is none.
+    pub fn ack(&mut self) -> Option<u32>
+        ensures heard { option_map (λ n. (W.Acked n, self.new)) result ≡ kept_hear self.old }
+        ensures none { result ≡ None → self.new ≡ self.old }
+    {
+        let number = take_ack(&mut self.acks)?;
+        let acked = later(self.acked, number);
+        forget(&mut self.copies, acked - self.acked);
+        self.acked = acked;
+        self.next = later(self.next, acked);
+        Some(number)
+    }
+
+    /// The first frame of a side is lost. None exactly where there is none.
+    pub fn lose(&mut self, side: Side) -> Option<u32>
+        ensures lost { option_map (λ n. (W.Lost n, self.new)) result ≡ kept_act (lose_of side) [] self.old }
+        ensures none { result ≡ None → self.new ≡ self.old }
+    {
+        match side {
+            Side::Data => match take_data(&mut self.frames) {
+                Some((number, _)) => Some(number),
+                None => None,
+            },
+            Side::Ack => take_ack(&mut self.acks),
+        }
+    }
+
+    /// The first frame of a side comes twice: a copy of it goes last. None exactly where there is none or the side is full.
+    pub fn twice(&mut self, side: Side) -> Option<u32>
+        ensures doubled { option_map (λ n. (W.Frame n, self.new)) result ≡ kept_act (twice_of side) [] self.old }
+        ensures none { result ≡ None → self.new ≡ self.old }
+    {
+        match side {
+            Side::Data => match first_data(&self.frames) {
+                Some((number, packet)) => {
+                    if put_data(&mut self.frames, number, packet) {
+                        Some(number)
+                    } else {
+                        None
+                    }
+                }
+                None => None,
+            },
+            Side::Ack => match first_ack(&self.acks) {
+                Some(number) => {
+                    if put_ack(&mut self.acks, number) {
+                        Some(number)
+                    } else {
+                        None
+                    }
+                }
+                None => None,
+            },
+        }
+    }
+
+    /// The bytes of the first frame of a side. None exactly where there is none.
+    pub fn front(&self, side: Side) -> Option<&FrameBytes>
+        ensures { option_map (λ b. decoded b.now.items) result ≡ option_map Some (front_of side self.now) }
+    {
+        match side {
+            Side::Data => self.frames.as_slice().first(),
+            Side::Ack => self.acks.as_slice().first(),
+        }
+    }
+
+    /// The first frame of a side falls behind the others. None exactly where there is none.
+    pub fn late(&mut self, side: Side) -> Option<u32>
+        ensures late { option_map (λ n. (W.Late n, self.new)) result ≡ kept_act (late_of side) [] self.old }
+        ensures none { result ≡ None → self.new ≡ self.old }
+    {
+        match side {
+            Side::Data => match take_data(&mut self.frames) {
+                Some((number, packet)) => {
+                    put_data(&mut self.frames, number, packet);
+                    Some(number)
+                }
+                None => None,
+            },
+            Side::Ack => match take_ack(&mut self.acks) {
+                Some(number) => {
+                    put_ack(&mut self.acks, number);
+                    Some(number)
+                }
+                None => None,
+            },
+        }
+    }
+}
+
+/// The greater of two numbers.
+fn later(a: u32, b: u32) -> u32
+    ensures { result ≡ greater a b }
+{
+    if a < b { b } else { a }
+}
+
+/// Puts a frame of data on its side; where that is full it is lost.
+fn launch(frames: &mut Frames, number: u32, packet: Packet) -> Sent
+    requires { Each IsData frames.old.items }
+    ensures frames { frames_in frames.new.items ≡ push_within (number, packet) (frames_in frames.old.items) }
+    ensures kept { Each IsData frames.new.items }
+    ensures told { told_of number result ≡ (if nat_lt (length (frames_in frames.old.items)) capacity then W.Frame number else W.Lost number) }
+{
+    if put_data(frames, number, packet) {
+        Sent::Frame
+    } else {
+        Sent::Lost
+    }
+}
+
+/// Keeps one copy more, if there is one.
+fn keep(copies: &mut ArrayVec<Packet, 8>, fresh: Option<Packet>)
+    requires { (p : AnyPacket) → fresh ≡ Some p → length copies.old.items < 8 }
+    ensures { copies.new.items ≡ with_fresh fresh copies.old.items }
+{
+    if let Some(packet) = fresh {
+        copies.push(packet);
+    }
+}
+
+/// Drops the first so many copies.
+fn forget(copies: &mut ArrayVec<Packet, 8>, count: u32)
+    requires { count ≤ length copies.old.items }
+    ensures { copies.new.items ≡ drop count copies.old.items }
+{
+    for _ in 0..count {
+        copies.remove(0);
+    }
+}
+
+/// What a frame is where so many packets were handed out.
+fn coming(frame: Option<Frame>, handed: u32) -> Arrived
+    ensures { result ≡ arrived_of (coming_in handed (data_in frame)) }
+{
+    match frame {
+        Some(Frame::Data { number, packet }) => {
+            if number == handed {
+                Arrived::Next { packet }
+            } else {
+                Arrived::Stale { number }
+            }
+        }
+        _ => Arrived::Empty,
+    }
+}

@@ -1,0 +1,147 @@
+//! The bytes of a frame.
+ghost use Rattle.std.specs.Prelude.{◌≡◌, ◌+◌, ◌≤◌, ◌++◌, length};
+ghost use Rattle.arrayvec.specs.ArrayVec.{array_vec_len};
+ghost use Rattle.wire_link.specs.Bytes.{ArgsFit, FrameFits, IsNumber, PacketFits, ValueFits, args_bytes, encoding, number_bytes, packet_bytes, value_bytes};
+
+use crate::frame::{Frame, FrameBytes};
+use arrayvec::ArrayVec;
+use pool_syntax::{Args, Value};
+use rendezvous_protocol::Packet;
+
+/// Puts bytes behind those that are there.
+fn put(bytes: &mut FrameBytes, more: &[u8])
+    requires { array_vec_len bytes.old + length more.now ≤ 96 }
+    ensures items { bytes.new.items ≡ bytes.old.items ++ more.now }
+{
+    match bytes.try_extend_from_slice(more) {
+        Ok(()) => {}
+        Err(_) => unreachable!(),
+    }
+}
+
+/// Puts a number.
+fn put_number(bytes: &mut FrameBytes, number: u32)
+    requires { array_vec_len bytes.old ≤ 92 }
+    ensures items { bytes.new.items ≡ bytes.old.items ++ number_bytes number }
+    ensures size { array_vec_len bytes.new ≡ array_vec_len bytes.old + 4 }
+    ensures fits { IsNumber number }
+{
+    put(bytes, &number.to_be_bytes());
+}
+
+/// Puts a value.
+fn put_value(bytes: &mut FrameBytes, value: Value)
+    requires { array_vec_len bytes.old ≤ 87 }
+    ensures items { bytes.new.items ≡ bytes.old.items ++ value_bytes value }
+    ensures size { array_vec_len bytes.new ≤ array_vec_len bytes.old + 9 }
+    ensures fits { ValueFits value }
+{
+    match value {
+        Value::Int(integer) => {
+            bytes.push(1);
+            put(bytes, &integer.cast_unsigned().to_be_bytes());
+        }
+        Value::Bool(truth) => {
+            bytes.push(2);
+            bytes.push(truth as u8);
+        }
+        Value::Ref(name) => {
+            bytes.push(3);
+            put_number(bytes, name);
+        }
+        Value::Nil => bytes.push(4),
+    }
+}
+
+/// Puts the count of the values, and the values.
+fn put_args(bytes: &mut FrameBytes, args: &Args)
+    requires { array_vec_len bytes.old ≤ 23 }
+    ensures items { bytes.new.items ≡ bytes.old.items ++ args_bytes args.now }
+    ensures fits { ArgsFit args.now }
+{
+    bytes.push(args.len() as u8);
+    let values = args.values();
+    for place in 0..args.len() {
+        put_value(bytes, values[place]);
+    }
+}
+
+/// Puts a packet.
+fn put_packet(bytes: &mut FrameBytes, packet: &Packet)
+    requires { array_vec_len bytes.old ≤ 5 }
+    ensures items { bytes.new.items ≡ bytes.old.items ++ packet_bytes packet.now }
+    ensures fits { PacketFits packet.now }
+{
+    match packet {
+        Packet::Create {
+            number,
+            from,
+            node,
+            class,
+        } => {
+            bytes.push(1);
+            put_number(bytes, *number);
+            put_number(bytes, *from);
+            put_number(bytes, *node);
+            put_number(bytes, class.0);
+        }
+        Packet::Created { number, to, name } => {
+            bytes.push(2);
+            put_number(bytes, *number);
+            put_number(bytes, *to);
+            put_number(bytes, *name);
+        }
+        Packet::Request {
+            number,
+            from,
+            to,
+            method,
+            args,
+        } => {
+            bytes.push(3);
+            put_number(bytes, *number);
+            put_number(bytes, *from);
+            put_number(bytes, *to);
+            put_number(bytes, method.0);
+            put_args(bytes, args);
+        }
+        Packet::Result { number, to, value } => {
+            bytes.push(4);
+            put_number(bytes, *number);
+            put_number(bytes, *to);
+            put_value(bytes, *value);
+        }
+        Packet::Async {
+            from,
+            to,
+            method,
+            args,
+        } => {
+            bytes.push(5);
+            put_number(bytes, *from);
+            put_number(bytes, *to);
+            put_number(bytes, method.0);
+            put_args(bytes, args);
+        }
+    }
+}
+
+/// The encoding of a frame; each frame has one.
+pub fn encode(frame: &Frame) -> FrameBytes
+    ensures items { result.items ≡ encoding frame.now }
+    ensures fits { FrameFits frame.now }
+{
+    let mut bytes = ArrayVec::new();
+    match frame {
+        Frame::Data { number, packet } => {
+            bytes.push(1);
+            put_number(&mut bytes, *number);
+            put_packet(&mut bytes, packet);
+        }
+        Frame::Ack { number } => {
+            bytes.push(2);
+            put_number(&mut bytes, *number);
+        }
+    }
+    bytes
+}
