@@ -2,7 +2,7 @@
 use Rattle.std.proofs.Common.{◌≡◌, refl, sym, ap, subst, ◌∙◌, ℕ, zero, suc, ◌+◌, ◌<◌, List, [], ◌∷◌, ◌++◌, length, Option, Some, None, Bool, true, false, arith, length-append, length-take-le}
 use Rattle.std.specs.Prelude.{take, drop, nat_le, slice_get, ◌^◌, get_or, if◌then◌else◌}
 use Rattle.std.specs.Int.{w32, from_be_bytes}
-use Rattle.std.specs.List.{AllByRecursion as All}
+use Rattle.std.specs.List.{AllByRecursion as Each}
 use Rattle.std.proofs.lemmas.Nat.{from_be_bytes-to_be_bytes_4, be_bytes_4}
 use Rattle.std.proofs.lemmas.List.{append_assoc, take-append-drop}
 use Rattle.std.proofs.Math.Seq.{take-append_seam, drop-append_seam}
@@ -15,13 +15,13 @@ use Rattle.object_code.specs.Decode.{read_name, read_text}
 
 -- bytes
 abbrev pub AreBytes : Text → Type 0
-AreBytes bs = All (λ b. b < 256) bs
+AreBytes bs = Each (λ b. b < 256) bs
 
-pub all_back : {X : Type 0} (P : X → Type 0) (xs ys : List X) → All P (xs ++ ys) → All P ys
+pub all_back : {X : Type 0} (P : X → Type 0) (xs ys : List X) → Each P (xs ++ ys) → Each P ys
 all_back P [] ys h = h
 all_back P (x ∷ xs) ys h = all_back P xs ys h.1
 
-pub all_front : {X : Type 0} (P : X → Type 0) (xs ys : List X) → All P (xs ++ ys) → All P xs
+pub all_front : {X : Type 0} (P : X → Type 0) (xs ys : List X) → Each P (xs ++ ys) → Each P xs
 all_front P [] ys h = tt
 all_front P (x ∷ xs) ys h = (h.0, all_front P xs ys h.1)
 
@@ -109,16 +109,16 @@ module _ {A : Type 0} (r : Reader A) (bytes : A → Text) (P : A → Type 0) (f 
       let w = f.wrote bs t.0 t.1 h t.2 in
       (t.0, got_value (make t.0) y t.1 rest t.3, w.0 ∙ ap (λ z. bytes t.0 ++ z) (got_rest (make t.0) y t.1 rest t.3), w.1)
 
-  items_read : (xs : List A) (rest : Text) → All P xs → read_items r (length xs) (items_bytes bytes xs ++ rest) ≡ Got xs rest
+  items_read : (xs : List A) (rest : Text) → Each P xs → read_items r (length xs) (items_bytes bytes xs ++ rest) ≡ Got xs rest
   items_read [] rest h = refl
   items_read (x ∷ xs) rest h =
       seq r (λ x rest. read_as (λ xs. x ∷ xs) (read_items r (length xs)) rest) (bytes x) (items_bytes bytes xs) x (x ∷ xs) rest (λ more. f.reads x h.0 more)
       (ap (λ z. then_read z (λ xs rest. Got (x ∷ xs) rest)) (items_read xs rest h.1))
 
-  items_wrote : (n : ℕ) (bs : Text) (xs : List A) (rest : Text) → AreBytes bs → read_items r n bs ≡ Got xs rest → (bs ≡ items_bytes bytes xs ++ rest) × (length xs ≡ n) × All P xs
+  items_wrote : (n : ℕ) (bs : Text) (xs : List A) (rest : Text) → AreBytes bs → read_items r n bs ≡ Got xs rest → (bs ≡ items_bytes bytes xs ++ rest) × (length xs ≡ n) × Each P xs
   items_wrote zero bs xs rest h e =
       let s : [] ≡ xs = got_value [] xs bs rest e in
-      (got_rest [] xs bs rest e ∙ ap (λ z. items_bytes bytes z ++ rest) s, ap length (sym s), subst (All P) s tt)
+      (got_rest [] xs bs rest e ∙ ap (λ z. items_bytes bytes z ++ rest) s, ap length (sym s), subst (Each P) s tt)
   items_wrote (suc n) bs xs rest h e =
       let t = then_got (r bs) (λ x rest. read_as (λ xs. x ∷ xs) (read_items r n) rest) xs rest e in
       let w = f.wrote bs t.0 t.1 h t.2 in
@@ -128,7 +128,7 @@ module _ {A : Type 0} (r : Reader A) (bytes : A → Text) (P : A → Type 0) (f 
         w.0 ∙ ap (λ z. bytes t.0 ++ z) (v.0 ∙ ap (λ z. items_bytes bytes u.0 ++ z) (got_rest (t.0 ∷ u.0) xs u.1 rest u.3)) ∙ sym (append_assoc (bytes t.0) (items_bytes bytes u.0) rest)
             ∙ ap (λ z. items_bytes bytes z ++ rest) s,
         sym (ap length s) ∙ ap suc v.1,
-        subst (All P) s (w.1, v.2),
+        subst (Each P) s (w.1, v.2),
       )
 
   -- a list

@@ -1,7 +1,7 @@
 -- A file is read back from its bytes, and bytes that say a file are its own.
 use Rattle.std.proofs.Common.{◌≡◌, refl, sym, ap, subst, ◌∙◌, ℕ, suc, ◌==◌, List, [], ◌∷◌, ◌++◌, length, Option, Some, None, Bool, true, false, arith}
 use Rattle.std.specs.Prelude.{if◌then◌else◌}
-use Rattle.std.specs.List.{AllByRecursion as All}
+use Rattle.std.specs.List.{AllByRecursion as Each}
 use Rattle.std.proofs.lemmas.List.{append_assoc, append-nil}
 use Rattle.pool_syntax.specs.Tokens.{Text}
 use Rattle.object_code.specs.declared.unit.Instr.{Instr}
@@ -204,13 +204,13 @@ encode_decode bs f h e = by (read_file bs) refl e
             subst (λ (z : UnitFile). (bs ≡ file_bytes z) × IsWritable z × (first_twice 0 [] z.unit.names ≡ None)) s (w.0 ∙ append-nil (file_bytes g), w.1, p)
 
 -- a file that has bytes is shaped
-shaped_methods : (ms : List MethodCode) (ss : List MethodKinds) → length ms ≡ length ss → All MethodIsWritable (pairs ms ss) → AreShapedMethods ms ss
+shaped_methods : (ms : List MethodCode) (ss : List MethodKinds) → length ms ≡ length ss → Each MethodIsWritable (pairs ms ss) → AreShapedMethods ms ss
 shaped_methods [] [] l h = tt
 shaped_methods [] (s ∷ ss) l h = absurd (let z : 0 ≡ suc (length ss) = l in omega (arith, z))
 shaped_methods (m ∷ ms) [] l h = absurd (let z : suc (length ms) ≡ 0 = l in omega (arith, z))
 shaped_methods (m ∷ ms) (s ∷ ss) l h = (h.0.2, shaped_methods ms ss (let z : suc (length ms) ≡ suc (length ss) = l in omega (arith, z)) h.1)
 
-shaped_classes : (ks : List ClassCode) (qs : List ClassKinds) → length ks ≡ length qs → All ClassIsWritable (pairs ks qs) → AreShapedClasses ks qs
+shaped_classes : (ks : List ClassCode) (qs : List ClassKinds) → length ks ≡ length qs → Each ClassIsWritable (pairs ks qs) → AreShapedClasses ks qs
 shaped_classes [] [] l h = tt
 shaped_classes [] (q ∷ qs) l h = absurd (let z : 0 ≡ suc (length qs) = l in omega (arith, z))
 shaped_classes (k ∷ ks) [] l h = absurd (let z : suc (length ks) ≡ 0 = l in omega (arith, z))

@@ -1,7 +1,7 @@
 -- Files whose kinds are those of their unit, and whose lists are short enough for their bytes.
 use Rattle.std.specs.Prelude.{◌≡◌, ℕ, ◌<◌, ◌^◌, List, [], ◌∷◌, length, Option, Some, None, FitsSigned}
 use Rattle.std.specs.Int.{w64}
-use Rattle.std.specs.List.{AllByRecursion as All}
+use Rattle.std.specs.List.{AllByRecursion as Each}
 use Rattle.pool_syntax.specs.Tokens.{Text}
 use Rattle.pool_syntax.specs.declared.words.NameId.{NameId}
 use Rattle.pool_syntax.specs.declared.tree.Kind.{Kind}
@@ -37,11 +37,11 @@ IsNumber n = n < 2 ^ 32
 
 -- a list whose length has four bytes, and each item has the property
 abbrev pub IsListOf : {X : Type 0} → (X → Type 0) → List X → Type 0
-IsListOf P xs = IsNumber (length xs) × All P xs
+IsListOf P xs = IsNumber (length xs) × Each P xs
 
 -- a text whose length has four bytes, of bytes
 abbrev pub IsShortText : Text → Type 0
-IsShortText t = IsNumber (length t) × All (λ b. b < 256) t
+IsShortText t = IsNumber (length t) × Each (λ b. b < 256) t
 
 abbrev pub KindIsNumbered : Kind → Type 0
 KindIsNumbered K.Int = Unit {0}
@@ -127,26 +127,26 @@ pub record IsShort (f : UnitFile) : Type 0 where
 
 -- A file has the numbers of its types where each number has four bytes, each integer eight, and each byte of a name one.
 abbrev pub AlternativeHasNumbers : AltCode → Type 0
-AlternativeHasNumbers a = IsOptionOf (All NameIsNumbered) a.answer × IsNumber a.at
+AlternativeHasNumbers a = IsOptionOf (Each NameIsNumbered) a.answer × IsNumber a.at
 
 abbrev pub InstrHasNumbers : Instr → Type 0
-InstrHasNumbers (I.Answer ns) = All NameIsNumbered ns
-InstrHasNumbers (I.Select alts) = All AlternativeHasNumbers alts
+InstrHasNumbers (I.Answer ns) = Each NameIsNumbered ns
+InstrHasNumbers (I.Select alts) = Each AlternativeHasNumbers alts
 InstrHasNumbers i = InstrIsNumbered i
 
 abbrev pub MethodHasNumbers : MethodCode → Type 0
-MethodHasNumbers m = NameIsNumbered m.name × IsNumber m.params × IsNumber m.frame_words × All InstrHasNumbers m.code
+MethodHasNumbers m = NameIsNumbered m.name × IsNumber m.params × IsNumber m.frame_words × Each InstrHasNumbers m.code
 
 abbrev pub ClassHasNumbers : ClassCode → Type 0
-ClassHasNumbers k = NameIsNumbered k.name × All MethodHasNumbers k.methods × IsNumber k.body.frame_words × All InstrHasNumbers k.body.code
+ClassHasNumbers k = NameIsNumbered k.name × Each MethodHasNumbers k.methods × IsNumber k.body.frame_words × Each InstrHasNumbers k.body.code
 
 abbrev pub MethodKindsHaveNumbers : MethodKinds → Type 0
-MethodKindsHaveNumbers s = All KindIsNumbered s.temps × IsOptionOf KindIsNumbered s.result
+MethodKindsHaveNumbers s = Each KindIsNumbered s.temps × IsOptionOf KindIsNumbered s.result
 
 abbrev pub ClassKindsHaveNumbers : ClassKinds → Type 0
-ClassKindsHaveNumbers q = All KindIsNumbered q.vars × All MethodKindsHaveNumbers q.methods
+ClassKindsHaveNumbers q = Each KindIsNumbered q.vars × Each MethodKindsHaveNumbers q.methods
 
 pub record HasNumbers (f : UnitFile) : Type 0 where
-  pub names : All (λ t. All (λ b. b < 256) t) f.unit.names
-  pub classes : All ClassHasNumbers f.unit.classes
-  pub kinds : All ClassKindsHaveNumbers f.kinds.classes
+  pub names : Each (λ t. Each (λ b. b < 256) t) f.unit.names
+  pub classes : Each ClassHasNumbers f.unit.classes
+  pub kinds : Each ClassKindsHaveNumbers f.kinds.classes

@@ -23,7 +23,8 @@ use pool_syntax::{Line, Names};
 use std::alloc::{AllocError, Global};
 
 /// The usage line.
-const USAGE: &[u8] = b"usage: pool record|run|why P L S, pool print|code P, pool ring K, pool convert R\n";
+const USAGE: &[u8] =
+    b"usage: pool record|run|why P L S, pool print|code P, pool ring K, pool convert R\n";
 
 /// Writes a piece, and answers the status, or that a write failed.
 fn say<K: Sink>(sink: &mut K, piece: &[u8], status: Status) -> Status
