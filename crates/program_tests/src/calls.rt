@@ -86,7 +86,7 @@ pub fn printed(alloc: Global, program: &[u8]) -> Result<Outcome, AllocError> {
 }
 
 /// Words, then what they are answered on one node: the status, the output and the error line, with `;` for each line feed.
-const LINES: &str = r"record P L S | 0 | 1 turn 0 write 0.0 1;end quiet 1; | 
+const LINES: &str = r"record P L S | 0 | record 2;1 turn 0 write 0.0 1;end quiet 1; | 
 print P | 0 | class Main;body write 1 end; | 
  | 64 |  | usage: pool record|run|why P L S, pool print|code P, pool ring K, pool convert R;
 record P L | 64 |  | usage: pool record|run|why P L S, pool print|code P, pool ring K, pool convert R;

@@ -4,7 +4,7 @@ use pool_driver::Status;
 use std::alloc::{AllocError, Global};
 use std::test::Fail;
 
-const RECORD: &[u8] = b"1 turn 0 write 0.0 1\nend quiet 1\n";
+const RECORD: &[u8] = b"record 2\n1 turn 0 write 0.0 1\nend quiet 1\n";
 
 /// The calls on the files that are made where none fails: for each input one that opens it, one that gives its bytes, and
 /// one that gives its end.
@@ -100,7 +100,7 @@ fn front(line: &[u8], write: usize) -> &[u8] {
 /// A write that fails once, and would succeed if it were tried again; with how many bytes of the record stand before it. Each line is written by itself.
 #[test]
 fn no_write_is_made_after_a_failed_one(rt: HostRuntime) -> Result<(), Fail> {
-    for (write, count) in [(0, 0), (1, 10), (2, 20), (3, 21), (4, 31)] {
+    for (write, count) in [(0, 0), (1, 9), (2, 19), (3, 29), (4, 30), (5, 40)] {
         let mut inputs = inputs(rt.alloc())?;
         inputs.out.push(write)?;
         let answer = answer(rt.alloc(), "record P L S", inputs, (100, 100), 9)?;
