@@ -1,9 +1,8 @@
 -- What is read can be written: each name or string that a line names has at most 256 bytes, and is a text of the table after reading.
-use Rattle.std.proofs.Common.{◌≡◌, ◌∙◌, refl, sym, ap, subst, ℕ, zero, suc, ◌+◌, ◌-◌, ◌<◌, ◌≤◌, ◌&&◌, Bool, true, false, nat_eq, nat_le, bytes_eq, codes, List, [], ◌∷◌, ◌++◌, length, take, drop, slice_get, slice_index, slice_range, Option, Some, None, is_none, arith}
+use Rattle.std.proofs.Common.{◌≡◌, refl, sym, ap, subst, ℕ, zero, suc, ◌+◌, ◌-◌, ◌<◌, ◌≤◌, ◌&&◌, Bool, true, false, nat_eq, nat_le, bytes_eq, codes, List, [], ◌∷◌, ◌++◌, length, take, drop, slice_get, slice_index, slice_range, Option, Some, None, is_none, arith}
 use Rattle.std.specs.Prelude.{IfSome, not}
 use Rattle.std.specs.List.{All}
 use Rattle.std.proofs.lemmas.Bool.{and_parts, leb-true}
-use Rattle.std.proofs.lemmas.List.{length-append, length-take-le, append-nil}
 use Rattle.std.proofs.lemmas.Option.{slice_get_within}
 use Rattle.pool_syntax.specs.Table.{is_among, name_of, with_text}
 use Rattle.pool_syntax.specs.Tokens.{Text, every, is_inner, is_word, keywords, lookup}
@@ -20,11 +19,9 @@ use Rattle.pool_syntax.specs.declared.words.WireAct.{WireAct}
 use Rattle.pool_syntax.specs.declared.words.WireAct.TheVariants as A
 use Rattle.pool_syntax.specs.declared.words.Event.{Event}
 use Rattle.pool_syntax.specs.declared.words.Event.TheVariants as E
-use Rattle.pool_syntax.specs.declared.words.FullKind.{FullKind}
-use Rattle.pool_syntax.specs.declared.words.End.TheVariants as F
 use Rattle.pool_syntax.specs.declared.words.Line.{Line}
 use Rattle.pool_syntax.specs.declared.words.Line.TheVariants as R
-use Rattle.record_lines.specs.RecordText.{joined, text_at, text_or_none}
+use Rattle.record_lines.specs.RecordText.{joined, text_or_none}
 use Rattle.record_lines.specs.Writable.{AreShort, IsShort, IsWritable, id_of_item, id_of_label, id_of_line, id_of_what}
 use Rattle.mesh_semantics.specs.Asks.{is_asked}
 use Rattle.mesh_semantics.specs.Tables.{Each}
@@ -37,8 +34,8 @@ use Rattle.run_record.specs.declared.shown.Message.{Message}
 use Rattle.run_record.specs.declared.shown.Message.TheVariants as M
 use Rattle.run_record.specs.Fields.{begins_with, count_of, error_of, fields, is_name, name_of_word, object_of, only_if, parts, positive_of, string_of, then_some, value_of, values_within}
 use Rattle.run_record.specs.Numbered.{item_with, label_with, line_with, lines_after, names_after, numbered, numbered_by, what_with, with_name}
-use Rattle.run_record.specs.Records.{Row, Rows, Told, asked_by, asked_for, by_fault, end_of, end_of_two, event_of, full_of, happened, is_empty, is_end, kind_of, last_after, line_of, link_from, link_of, record_of, refused, row_fault, row_of, row_then, rows, rows_of, second_of, side_of, tail_row, turn_of, unasked, unnumbered, wire_event, wire_from, wire_of}
-use Rattle.run_record.specs.Shown.{Shown, arrive_of, create_of, created_of, delay_of, either, fault_of, for_more, for_three, for_two, frame_of, item_for, item_of, local_of, making, message_from, message_of, named, new_of, of_pair, once, only_count, pick_of, plain, post_by, post_of, result_of, return_of, shown_by, step_of, what_of, write_of}
+use Rattle.run_record.specs.Records.{Row, Rows, Told, asked_by, by_fault, end_of, end_of_two, event_of, full_of, happened, is_empty, is_end, kind_of, last_after, line_of, link_from, link_of, record_of, refused, row_fault, row_of, row_then, rows, rows_of, side_of, turn_of, unasked, unnumbered, wire_event, wire_from, wire_of}
+use Rattle.run_record.specs.Shown.{Shown, arrive_of, create_of, created_of, delay_of, either, fault_of, for_more, for_three, for_two, frame_of, item_for, item_of, local_of, message_from, message_of, new_of, of_pair, only_count, pick_of, plain, post_of, result_of, return_of, step_of, what_of, write_of}
 
 -- what each part of a reading keeps
 

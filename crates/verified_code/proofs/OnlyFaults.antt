@@ -1,13 +1,11 @@
 -- A file has at most one fault of a kind, so a first fault of it is the one that the verdict tells.
-use Rattle.std.proofs.Common.{◌≡◌, ◌⊎◌, inl, inr, refl, sym, ap, subst, ◌∙◌, ℕ, zero, suc, ◌<◌, List, [], ◌∷◌, length, Option, Some, None, true, false, arith}
+use Rattle.std.proofs.Common.{◌≡◌, ◌⊎◌, inl, inr, refl, sym, ap, subst, ◌∙◌, ℕ, zero, suc, ◌<◌, List, [], ◌∷◌, length, Some, None, arith}
 use Rattle.std.specs.Prelude.{slice_get, ◌==◌}
 use Rattle.mesh_semantics.proofs.Laws.{same_some}
-use Rattle.object_code.specs.declared.unit.MethodCode.{MethodCode}
 use Rattle.object_code.specs.declared.file.UnitFile.{UnitFile}
-use Rattle.object_code.specs.declared.file.MethodKinds.{MethodKinds}
 use Rattle.verified_code.specs.Sorts.{Declared, declared_at, scope_by}
-use Rattle.verified_code.specs.Verified.{IsHeading, IsWellSorted, HasWellSorted, IsVerified}
-use Rattle.verified_code.specs.Faults.{HeadingsBelow, IsBadHeading, MethodsBelow, IsBadMethod, IsBadCode}
+use Rattle.verified_code.specs.Verified.{IsWellSorted, HasWellSorted}
+use Rattle.verified_code.specs.Faults.{IsBadHeading, MethodsBelow, IsBadMethod, IsBadCode}
 use Rattle.verified_code.specs.Verdict.{Verdict, Good, Header, Code, or_else, fault_if, bad_heading, bad_codes, good_unless, verdict}
 use Rattle.verified_code.proofs.FirstCodes.{code_is_first}
 use Rattle.verified_code.proofs.FirstFaults.{header_is_first}

@@ -1,5 +1,5 @@
 -- Facts that have at most one proof.
-use Rattle.std.proofs.Common.{◌≡◌, refl, ℕ, List, [], ◌∷◌, length}
+use Rattle.std.proofs.Common.{refl, List, [], ◌∷◌}
 use denote.Struct.Props.{props}
 use Rattle.object_code.specs.declared.unit.MethodCode.{MethodCode}
 use Rattle.object_code.specs.declared.unit.ClassCode.{ClassCode}
