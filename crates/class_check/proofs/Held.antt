@@ -20,7 +20,7 @@ mutual
   same_faults g h k (Call m es p) same = rw (same_limit h k p same, same_arguments g h k _ es same) refl
   same_faults g h k (Send e m es p) same =
       rw (same_limit h k p same, same_faults g h k e same, same_arguments g (h + 1) (k + 1) _ es (omega arith)) refl
-  same_faults g h k (Frame m t ss e) same = refl
+  same_faults g h k (Frame m t ss e qs) same = refl
   same_faults g h k (Wait b m) same = refl
 
   pub same_arguments : (g : Scope) (h k : ℕ) (vs : List Var) (es : Expressions) → min h 64 ≡ min k 64 → arguments_faults g h vs es ≡ arguments_faults g k vs es

@@ -21,8 +21,8 @@ use Rattle.class_check.proofs.Arguments.{size_of_all}
 use Rattle.class_check.proofs.BeforeLaws.{before_more, any_before}
 
 pub async_noted : (g : Scope) (to : Expression) (m pos : ℕ) (es : List Expr) (s : Sort) (method : Option MethodTree) (a b c d : Option ClassFault)
-    → Notes a b (expression_faults g 0 to) → s ≡ sort_of g to → method ≡ sent_method g s m → Notes b c (destination_faults g s m (length es) pos (position to))
-    → Notes c d (arguments_faults g 1 (params_of method) (expressions_of es)) → Notes a d (statement_faults g (Async to m pos (expressions_of es)))
+    → Notes a b (expression_faults g g.held to) → s ≡ sort_of g to → method ≡ sent_method g s m → Notes b c (destination_faults g s m (length es) pos (position to))
+    → Notes c d (arguments_faults g (g.held + 1) (params_of method) (expressions_of es)) → Notes a d (statement_faults g (Async to m pos (expressions_of es)))
 async_noted g to m pos es s method a b c d dest is_sort found sent rest =
     let count = size_of_all es in
     grind (arith, noted_append)
@@ -35,14 +35,15 @@ statement_noted g ss i s a b within at one =
     grind (arith, noted_append)
 
 -- and so of the alternatives
-pub alternative_noted : (g : Scope) (h : ℕ) (xs : List Alt) (i : ℕ) (x : Alt) (a b c d : Option ClassFault) → i < length xs → x ≡ get_or xs i x → h ≡ min i 64
+pub alternative_noted : (g : Scope) (h : ℕ) (xs : List Alt) (i : ℕ) (x : Alt) (a b c d : Option ClassFault) → i < length xs → x ≡ get_or xs i x → h ≡ min (g.held + i) 64
     → Notes a b (expression_faults g h (expression_of (out-Alt x).guard) ++ needs g BoolSort (expression_of (out-Alt x).guard))
     → Notes b c (answer_faults g (out-Alt x).answer) → Notes c d (statements_faults g (statements_of (out-Alt x).work))
-    → noted (found_of d) (alternatives_faults g (i + 1) (alternatives_of (drop (i + 1) xs))) ≡ noted (found_of a) (alternatives_faults g i (alternatives_of (drop i xs)))
+    → noted (found_of d) (alternatives_faults g (g.held + (i + 1)) (alternatives_of (drop (i + 1) xs))) ≡ noted (found_of a) (alternatives_faults g (g.held + i) (alternatives_of (drop i xs)))
 alternative_noted g h xs i x a b c d within at held cond names work =
     let front : alternatives_of (drop i xs) ≡ OneAlt (expression_of (out-Alt x).guard) (out-Alt x).answer (statements_of (out-Alt x).work) (alternatives_of (drop (i + 1) xs)) =
     at_drop_more alternatives_of xs i x within ∙ ap (λ y. OneAlt (expression_of (out-Alt y).guard) (out-Alt y).answer (statements_of (out-Alt y).work) (alternatives_of (drop (i + 1) xs))) (sym at) in
-    let same = same_faults g h i (expression_of (out-Alt x).guard) (omega arith) in
+    let same = same_faults g h (g.held + i) (expression_of (out-Alt x).guard) (omega arith) in
+    let up : g.held + (i + 1) ≡ (g.held + i) + 1 = omega arith in
     grind (arith, noted_append)
 
 -- and so of the names of an answer list

@@ -38,6 +38,7 @@ scope_of s = record {
   temps = s.params.now.list.now ++ s.locals.now.list.now;
   object_class = λ n. None;
   under_way = false;
+  held = if s.in_post then 1 else 0;
 }
 
 -- the sort of a name of this kind, if it is declared

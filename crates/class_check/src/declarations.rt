@@ -4,7 +4,7 @@ ghost use Rattle.std.specs.List.{list_any};
 ghost use Rattle.pool_syntax.specs.FaultNumbers.{class_twice, limit, local_twice, method_twice, variable_twice};
 ghost use Rattle.pool_syntax.specs.Limits.{most_classes, most_locals, most_methods, most_params, most_variables};
 ghost use Rattle.pool_syntax.specs.TreeOf.{class_tree, expression_of, method_tree, statements_of};
-ghost use Rattle.pool_syntax.specs.Typing.{class_scope, expression_faults, fault_if, faults, kind_faults, method_tree_faults, methods_faults, outcome_faults, statements_faults, too_many, value_needs, vars_faults};
+ghost use Rattle.pool_syntax.specs.Typing.{behind_value, class_scope, expression_faults, fault_if, faults, kind_faults, method_tree_faults, methods_faults, outcome_faults, statements_faults, too_many, value_needs, vars_faults};
 ghost use Rattle.class_check.specs.Before.{names_before};
 ghost use Rattle.class_check.specs.PairOf.{Notes, pair_of};
 ghost use Rattle.class_check.specs.Stands.{scope_of, twice_number};
@@ -16,7 +16,7 @@ use crate::index::{Index, places_of};
 use crate::scope::Scope;
 use crate::sort::{kind_sort, note_misfit};
 use crate::statements::statements;
-use pool_syntax::{ClassDecl, Kind, Method, NameId, Var};
+use pool_syntax::{ClassDecl, Kind, Method, NameId, Stmt, Var};
 use std::alloc::{AllocError, Global};
 
 /// The most classes of a program.
@@ -163,6 +163,27 @@ fn head(none: &Index<Var>, scope: &Scope, method: &Method, first: &mut Option<Cl
     outcome(scope.classes, method, first);
 }
 
+/// Notes the faults of post statements of a method.
+fn post(
+    alloc: Global,
+    scope: &Scope,
+    stmts: &[Stmt],
+    first: &mut Option<ClassFault>,
+) -> Result<(), AllocError>
+    ensures { OnOk result (Notes first.old first.new (statements_faults (behind_value (scope_of scope.now)) (statements_of stmts.now))) }
+{
+    let scope = Scope {
+        classes: scope.classes,
+        own: scope.own,
+        methods: scope.methods,
+        vars: scope.vars,
+        params: scope.params,
+        locals: scope.locals,
+        in_post: true,
+    };
+    statements(alloc, &scope, stmts, first)
+}
+
 /// Notes the faults inside a method.
 #[tactic(auto, using(crate::proofs::Noting::noted_append))]
 fn inside(
@@ -180,7 +201,7 @@ fn inside(
     head(none, scope, method, first);
     statements(alloc, scope, method.body.items(), first)?;
     value(scope, method, first);
-    Ok(())
+    post(alloc, scope, method.post.items(), first)
 }
 
 /// Notes the faults of a method of the scope's class.
@@ -210,6 +231,7 @@ fn method(
         vars: outer.vars,
         params: &params,
         locals: &locals,
+        in_post: outer.in_post,
     };
     inside(alloc, outer.params, &scope, method, first)
 }
@@ -282,6 +304,7 @@ fn class(
         vars: &vars,
         params: &none,
         locals: &none,
+        in_post: false,
     };
     variables(classes, Owner::Class, &none, &vars, first);
     note_too_many(MOST_VARIABLES, vars.list, first);

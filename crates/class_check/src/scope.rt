@@ -16,14 +16,24 @@ pub struct Scope<'a> {
     pub vars: &'a Index<'a, Var>,
     pub params: &'a Index<'a, Var>,
     pub locals: &'a Index<'a, Var>,
+    /// Whether it stands in post statements, where the method's value is held.
+    pub in_post: bool,
     pub ghost own_methods: { IsIndex (λ m. m.name.name.0) methods.now own.now.methods },
     pub ghost own_vars: { vars.now.list.now ≡ own.now.vars },
 }
 
 impl<'a> Scope<'a> {
-    ghost use Rattle.std.specs.Prelude.{◌≡◌, is_some, not};
+    ghost use Rattle.std.specs.Prelude.{◌≡◌, ◌≤◌, is_some, not};
     ghost use Rattle.pool_syntax.specs.Typing.{name_sort, is_broken_name, own_method};
     ghost use Rattle.class_check.specs.Stands.{scope_of, method_of, declared_sort};
+
+    /// How many operands are held before an outermost expression.
+    pub fn held(&self) -> u8
+        ensures same { result ≡ (scope_of self.now).held }
+        ensures few { result ≤ 1 }
+    {
+        if self.in_post { 1 } else { 0 }
+    }
 
     /// The index of the methods of the own class.
     pub fn own_methods(&self) -> Index<'a, Method>

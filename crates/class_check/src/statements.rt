@@ -88,34 +88,35 @@ fn statement(
     match stmt {
         Stmt::Assign { target, value } => {
             let need = note_name(scope, target.name, target.pos, first);
-            let value = placed(scope, 0, value, first);
+            let value = placed(scope, scope.held(), value, first);
             note_misfit(value, need, first);
             Ok(())
         }
         Stmt::Write { value } => {
-            let value = placed(scope, 0, value, first);
+            let value = placed(scope, scope.held(), value, first);
             note_no_result(value, first);
             Ok(())
         }
         Stmt::WriteText { .. } => Ok(()),
         Stmt::Do { value } => {
-            let _value = placed(scope, 0, value, first);
+            let _value = placed(scope, scope.held(), value, first);
             Ok(())
         }
         Stmt::Async { to, method, args } => {
-            let to = placed(scope, 0, to, first);
+            let held = scope.held();
+            let to = placed(scope, held, to, first);
             let callee = note_destination(scope, to, *method, args.items().len(), first);
-            arguments(scope, 1, params_of(callee), args.items(), first);
+            arguments(scope, held + 1, params_of(callee), args.items(), first);
             Ok(())
         }
         Stmt::If { cond, yes, no } => {
-            condition(scope, 0, cond, first);
+            condition(scope, scope.held(), cond, first);
             statements(alloc, scope, yes.items(), first)?;
             statements(alloc, scope, no.items(), first)?;
             Ok(())
         }
         Stmt::While { cond, body } => {
-            condition(scope, 0, cond, first);
+            condition(scope, scope.held(), cond, first);
             statements(alloc, scope, body.items(), first)?;
             Ok(())
         }
@@ -148,9 +149,9 @@ fn alternatives(
     alts: &[Alt],
     first: &mut Option<ClassFault>,
 ) -> Result<(), AllocError>
-    ensures { OnOk result (Notes first.old first.new (alternatives_faults (scope_of scope.now) 0 (alternatives_of alts.now))) }
+    ensures { OnOk result (Notes first.old first.new (alternatives_faults (scope_of scope.now) (scope_of scope.now).held (alternatives_of alts.now))) }
 {
-    let mut held = 0;
+    let mut held = scope.held();
     for alt in alts {
         condition(scope, held, &alt.guard, first);
         answer(alloc, scope, &alt.answer, first)?;

@@ -100,6 +100,20 @@ body 2
 7 Pop
 8 Halt
 
+class Server method f(n : Int) : Int begin result n + 1 post write n end body answer(f) end
+class Server 0
+method f 1 3
+0 LoadT 0
+1 PushInt 1
+2 Oper +
+3 Post
+4 LoadT 0
+5 Write
+6 Ret
+body 0
+0 Answer f
+1 Halt
+
 class Main var x : Int method m(x : Int) begin x := x end body m(x) end
 class Main 1
 method m 1 2

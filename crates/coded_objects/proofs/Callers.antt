@@ -20,7 +20,7 @@ use Rattle.object_code.specs.declared.unit.ClassCode.{ClassCode}
 use Rattle.pool_syntax.specs.declared.words.Serves.{Serves}
 use Rattle.pool_syntax.specs.declared.words.Serves.TheVariants as S
 use Rattle.object_code.specs.declared.unit.Unit.{Unit as Code}
-use Rattle.object_code.specs.Frames.{code_of, top, below, dropped, taken, next, silent, go_on_with, settled_within}
+use Rattle.object_code.specs.Frames.{code_of, top, below, dropped, taken, next, silent, go_on_with, settled_within, post_passed}
 use Rattle.object_code.specs.Kinds as C
 use Rattle.object_code.specs.Kinds.{Offered, operated, arity, outcome_kind, sent_kind, return_kind, offers, select_kind, instr_kind, frames_kind, code_kind}
 use Rattle.object_code.specs.Step.{Numbered, at_rest, nth, outcome_value, method_named, begun, called, handed, left, is_own, padded, instr_stepped, frames_stepped, asked, frames_given, instr_gone_on, frames_gone_on, at_alternative, after_choice, frames_picked, frames_serving, method_serving, placed_of, code_placed, class_from, placed_at, code_made}
@@ -51,6 +51,12 @@ based_of k P above [] a = tt
 based_of k P above (f ∷ []) a = ap serves_caller a.3
 based_of k P above (f ∷ g ∷ fs) a = based_of k P (Some f) (g ∷ fs) a.3
 
+passed_serves : (code : List Instr) (n : ℕ) (f : Frame) → ((g : Frame) → (settled_within code n g).serves ≡ g.serves)
+    → (s : Serves) → (go_on_with f (settled_within code n) (post_passed f s)).serves ≡ f.serves
+passed_serves code n f r S.Own = r (next f f.operands)
+passed_serves code n f r S.Sender = r (next f f.operands)
+passed_serves code n f r (S.Caller k m) = refl
+
 -- silent instructions change no one whom a frame serves
 silent_serves : (code : List Instr) (n : ℕ) (f : Frame) → ((g : Frame) → (settled_within code n g).serves ≡ g.serves)
     → (i : Option Instr) → (go_on_with f (settled_within code n) (silent f i)).serves ≡ f.serves
@@ -58,6 +64,7 @@ silent_serves code n f r (Some (I.PushInt z)) = r (next f (V.Int z ∷ f.operand
 silent_serves code n f r (Some (I.PushBool b)) = r (next f (V.Bool b ∷ f.operands))
 silent_serves code n f r (Some I.PushNil) = r (next f (V.Nil ∷ f.operands))
 silent_serves code n f r (Some (I.Jump a)) = r (record f { at = a })
+silent_serves code n f r (Some I.Post) = passed_serves code n f r f.serves
 silent_serves code n f r _ = refl
 
 pub within_serves : (code : List Instr) (n : ℕ) (f : Frame) → (settled_within code n f).serves ≡ f.serves
@@ -135,6 +142,7 @@ gone_callers k x f fs e (Some I.Write) q = rest_callers k x (next f (below f.ope
 gone_callers k x f fs e (Some (I.WriteText s)) q = rest_callers k x (next f f.operands) fs
 gone_callers k x f fs e (Some (I.Async m n)) q = rest_callers k x (next f (dropped (suc n) f.operands)) fs
 gone_callers k x f fs e (Some I.Ret) q = absurd (no_return_at_once f.serves (top f.operands) q)
+gone_callers k x f fs e (Some I.Post) q = absurd (no_return_at_once f.serves (top f.operands) q)
 gone_callers k x f fs e _ q = ap callers_of e
 
 done_callers : (k : Option ClassCode) (x : CodeObject) (fs : List Frame) → x.frames ≡ fs → is_at_once (kind_of (frames_kind k fs)) ≡ true
@@ -195,6 +203,8 @@ back_callers k x f (g ∷ gs) b c v q = return_caller f.serves (top f.operands) 
 went_callers : (k : Option ClassCode) (x : CodeObject) (f : Frame) (fs : List Frame) → is_based (f ∷ fs)
     → (i : Option Instr) (c : ℕ) (v : Value) → kind_of (instr_kind f i) ≡ K.Return c v → callers_of (f ∷ fs) ≡ c ∷ callers_of (instr_gone_on k x f fs i).frames
 went_callers k x f fs b (Some I.Ret) c v q = back_callers k x f fs b c v q
+went_callers k x f fs b (Some I.Post) c v q =
+    return_caller f.serves (top f.operands) c v (callers_of fs) q ∙ ap (λ ks. c ∷ ks) (sym (rest_callers k x (next (record f { serves = S.Sender }) f.operands) fs))
 went_callers k x f fs b (Some (I.Oper op)) c v q = absurd (outcome_no_return (operated op f.operands) c v q)
 went_callers k x f fs b (Some (I.Branch a)) c v q = absurd (branch_no_return (is_bool (top f.operands)) c v q)
 went_callers k x f fs b (Some (I.Send m n)) c v q = absurd (send_no_return (top (dropped n f.operands)) m (taken n f.operands []) c v q)

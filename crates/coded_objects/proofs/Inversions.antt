@@ -81,6 +81,7 @@ new_at f (Some (I.Select alts)) k h = absurd (nothing_is _ k (select_none makes_
 new_at f (Some (I.Send m n)) k h = absurd (nothing_is _ k (sent_none makes_class refl (λ e. refl) (λ a. refl) (top (dropped n f.operands)) (λ r. C.Send r m (taken n f.operands [])) (λ r. refl)) h)
 new_at f (Some (I.Async m n)) k h = absurd (nothing_is _ k (sent_none makes_class refl (λ e. refl) (λ a. refl) (top (dropped n f.operands)) (λ r. C.Async r m (taken n f.operands [])) (λ r. refl)) h)
 new_at f (Some I.Ret) k h = absurd (nothing_is _ k (return_none makes_class refl (λ e. refl) (λ a. refl) f.serves (top f.operands) (λ k. refl)) h)
+new_at f (Some I.Post) k h = absurd (nothing_is _ k (return_none makes_class refl (λ e. refl) (λ a. refl) f.serves (top f.operands) (λ k. refl)) h)
 new_at f None k h = absurd (cc)
 new_at f (Some _) k h = absurd (cc)
 
@@ -112,6 +113,7 @@ receiver_at c f (Some (I.Oper op)) b a h = absurd (nothing_is _ b (outcome_none 
 receiver_at c f (Some (I.Branch n)) b a h = absurd (nothing_is _ b (branch_none goes_to refl (λ e. refl) (λ a. refl) (is_bool (top f.operands))) h)
 receiver_at c f (Some (I.Select alts)) b a h = absurd (nothing_is _ b (select_none goes_to refl (λ e. refl) (λ a. refl) alts (taken (length alts) f.operands [])) h)
 receiver_at c f (Some I.Ret) b a h = absurd (nothing_is _ b (return_none goes_to refl (λ e. refl) (λ a. refl) f.serves (top f.operands) (λ k. refl)) h)
+receiver_at c f (Some I.Post) b a h = absurd (nothing_is _ b (return_none goes_to refl (λ e. refl) (λ a. refl) f.serves (top f.operands) (λ k. refl)) h)
 receiver_at c f None b a h = absurd (cc)
 receiver_at c f (Some _) b a h = absurd (cc)
 
@@ -122,6 +124,7 @@ back_is S.Sender v k h = absurd (cc)
 
 pub return_at : (f : Frame) (z : Option Instr) (k : ℕ) → goes_back (kind_of (instr_kind f z)) ≡ Some k → (n : ℕ) × (f.serves ≡ S.Caller k n)
 return_at f (Some I.Ret) k h = back_is f.serves (top f.operands) k h
+return_at f (Some I.Post) k h = back_is f.serves (top f.operands) k h
 return_at f (Some (I.Oper op)) k h = absurd (nothing_is _ k (outcome_none goes_back refl (λ e. refl) (λ a. refl) (operated op f.operands)) h)
 return_at f (Some (I.Branch a)) k h = absurd (nothing_is _ k (branch_none goes_back refl (λ e. refl) (λ a. refl) (is_bool (top f.operands))) h)
 return_at f (Some (I.Select alts)) k h = absurd (nothing_is _ k (select_none goes_back refl (λ e. refl) (λ a. refl) alts (taken (length alts) f.operands [])) h)

@@ -171,6 +171,7 @@ module _ (u : Code) (proper : IsProper u) where
   at_instr k c f m i names (Some (I.Oper op)) e h = absurd (none_of (outcome_kind (operated op f.operands)) m i names (outcome_plain (operated op f.operands)) h)
   at_instr k c f m i names (Some (I.Branch a)) e h = absurd (none_of _ m i names (branch_plain (is_bool (top f.operands)) NilOperand) h)
   at_instr k c f m i names (Some I.Ret) e h = absurd (none_of (return_kind f.serves (top f.operands)) m i names (return_plain f.serves (top f.operands)) h)
+  at_instr k c f m i names (Some I.Post) e h = absurd (none_of (return_kind f.serves (top f.operands)) m i names (return_plain f.serves (top f.operands)) h)
   at_instr k c f m i names (Some (I.Send n b)) e h =
       absurd (none_of _ m i names (sent_plain (top (dropped b f.operands)) (λ r. C.Send r n (taken b f.operands [])) (λ r. refl)) h)
   at_instr k c f m i names (Some (I.Async n b)) e h =

@@ -21,7 +21,7 @@ use Rattle.object_code.specs.declared.unit.AltCode.{AltCode}
 use Rattle.object_code.specs.declared.unit.ClassCode.{ClassCode}
 use Rattle.object_code.specs.declared.unit.MethodCode.{MethodCode}
 use Rattle.object_code.specs.declared.unit.Unit.{Unit as Code}
-use Rattle.object_code.specs.Frames.{code_of, top, below, dropped, taken, next, silent, go_on_with, settled_within}
+use Rattle.object_code.specs.Frames.{code_of, top, below, dropped, taken, next, silent, go_on_with, settled_within, post_passed}
 use Rattle.object_code.specs.Kinds.{operated, arity, return_kind, offers, instr_kind, frames_kind, code_kind}
 use Rattle.object_code.specs.Step.{Numbered, at_rest, nth, outcome_value, method_from, method_named, begun, called, handed, left, is_own, padded, instr_stepped, frames_stepped, code_stepped, asked, frames_given, code_given, instr_gone_on, frames_gone_on, code_gone_on, at_alternative, after_choice, frames_picked, code_picked, frames_serving, method_serving, code_serving, placed_of, class_from, placed_at, code_made}
 use Rattle.coded_objects.specs.Coded.{kind_of}
@@ -36,12 +36,19 @@ counted c p s m ks = if is_for p s then number_in c m ∷ ks else ks
 abbrev pub Same : Option ClassCode → ℕ → CodeObject → CodeObject → List Frame → Type 0
 Same c p x y fs = (y.class ≡ x.class) × (methods_for c p y.frames ≡ methods_for c p fs)
 
+passed_method : (code : List Instr) (n : ℕ) (f : Frame) → ((g : Frame) → (settled_within code n g).method ≡ g.method)
+    → (s : Serves) → (go_on_with f (settled_within code n) (post_passed f s)).method ≡ f.method
+passed_method code n f r S.Own = r (next f f.operands)
+passed_method code n f r S.Sender = r (next f f.operands)
+passed_method code n f r (S.Caller k m) = refl
+
 silent_method : (code : List Instr) (n : ℕ) (f : Frame) → ((g : Frame) → (settled_within code n g).method ≡ g.method)
     → (i : Option Instr) → (go_on_with f (settled_within code n) (silent f i)).method ≡ f.method
 silent_method code n f r (Some (I.PushInt z)) = r (next f (V.Int z ∷ f.operands))
 silent_method code n f r (Some (I.PushBool b)) = r (next f (V.Bool b ∷ f.operands))
 silent_method code n f r (Some I.PushNil) = r (next f (V.Nil ∷ f.operands))
 silent_method code n f r (Some (I.Jump a)) = r (record f { at = a })
+silent_method code n f r (Some I.Post) = passed_method code n f r f.serves
 silent_method code n f r _ = refl
 
 within_method : (code : List Instr) (n : ℕ) (f : Frame) → (settled_within code n f).method ≡ f.method
@@ -107,6 +114,7 @@ gone_same c p x f fs e (Some I.Write) q = rest c p x (next f (below f.operands))
 gone_same c p x f fs e (Some (I.WriteText s)) q = rest c p x (next f f.operands) fs
 gone_same c p x f fs e (Some (I.Async m n)) q = rest c p x (next f (dropped (suc n) f.operands)) fs
 gone_same c p x f fs e (Some I.Ret) q = absurd (no_return_at_once f.serves (top f.operands) q)
+gone_same c p x f fs e (Some I.Post) q = absurd (no_return_at_once f.serves (top f.operands) q)
 gone_same c p x f fs e _ q = unchanged c p x (f ∷ fs) e
 
 done_same : (c : Option ClassCode) (p : ℕ) (x : CodeObject) (fs : List Frame) → x.frames ≡ fs → is_at_once (kind_of (frames_kind c fs)) ≡ true → Same c p x (frames_gone_on c x fs) fs
@@ -202,9 +210,21 @@ back_ended c x f (g ∷ gs) b k v q =
           ∙ ap (λ ks. if k == p then number_in c f.method ∷ ks else ks) (sym (rest c p x g gs).1),
     )
 
+-- the frame goes on, for no one
+post_ended : (c : Option ClassCode) (x : CodeObject) (f : Frame) (fs : List Frame) (k : ℕ) (v : Value)
+    → kind_of (return_kind f.serves (top f.operands)) ≡ K.Return k v → Ended c k x (at_rest c x (next (record f { serves = S.Sender }) f.operands) fs) (f ∷ fs)
+post_ended c x f fs k v q =
+    let s = return_serves f.serves (top f.operands) k v q in (
+      refl,
+      number_in c f.method,
+      λ p. ap (λ t. counted c p t f.method (methods_for c p fs)) s.1
+          ∙ ap (λ ks. if k == p then number_in c f.method ∷ ks else ks) (sym (rest c p x (next (record f { serves = S.Sender }) f.operands) fs).1),
+    )
+
 went_ended : (c : Option ClassCode) (x : CodeObject) (f : Frame) (fs : List Frame) → is_based (f ∷ fs)
     → (i : Option Instr) (k : ℕ) (v : Value) → kind_of (instr_kind f i) ≡ K.Return k v → Ended c k x (instr_gone_on c x f fs i) (f ∷ fs)
 went_ended c x f fs b (Some I.Ret) k v q = back_ended c x f fs b k v q
+went_ended c x f fs b (Some I.Post) k v q = post_ended c x f fs k v q
 went_ended c x f fs b (Some (I.Oper op)) k v q = absurd (outcome_no_return (operated op f.operands) k v q)
 went_ended c x f fs b (Some (I.Branch a)) k v q = absurd (branch_no_return (is_bool (top f.operands)) k v q)
 went_ended c x f fs b (Some (I.Send m n)) k v q = absurd (send_no_return (top (dropped n f.operands)) m (taken n f.operands []) k v q)

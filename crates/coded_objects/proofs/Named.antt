@@ -5,11 +5,13 @@ use Rattle.pool_syntax.specs.declared.words.Value.{Value}
 use Rattle.pool_syntax.specs.declared.words.Value.TheVariants as V
 use Rattle.object_code.specs.declared.unit.CodeObject.{CodeObject}
 use Rattle.object_code.specs.declared.unit.Frame.{Frame}
+use Rattle.pool_syntax.specs.declared.words.Serves.{Serves}
+use Rattle.pool_syntax.specs.declared.words.Serves.TheVariants as S
 use Rattle.object_code.specs.declared.unit.Instr.{Instr}
 use Rattle.object_code.specs.declared.unit.Instr.TheVariants as I
 use Rattle.object_code.specs.declared.unit.ClassCode.{ClassCode}
 use Rattle.object_code.specs.declared.unit.Unit.{Unit as Code}
-use Rattle.object_code.specs.Frames.{code_of, next, silent, go_on_with, settled_within, settled, dropped}
+use Rattle.object_code.specs.Frames.{code_of, next, silent, go_on_with, settled_within, settled, dropped, post_passed}
 use Rattle.object_code.specs.Kinds as C
 use Rattle.object_code.specs.Kinds.{frames_kind, code_kind}
 use Rattle.object_code.specs.Step.{asked, frames_given, code_given}
@@ -39,12 +41,19 @@ names_there c (V.Nil ∷ vs) h = names_there c vs h.1
 
 -- what holds of the operands of a frame brought to a step instruction held of those before
 module _ (P : Value → Type 0) (code : List Instr) where
+  passed_operands : (n : ℕ) (f : Frame) → ((g : Frame) → Each P (settled_within code n g).operands → Each P g.operands)
+      → (s : Serves) → Each P (go_on_with f (settled_within code n) (post_passed f s)).operands → Each P f.operands
+  passed_operands n f r S.Own h = r (next f f.operands) h
+  passed_operands n f r S.Sender h = r (next f f.operands) h
+  passed_operands n f r (S.Caller k m) h = h
+
   silent_operands : (n : ℕ) (f : Frame) → ((g : Frame) → Each P (settled_within code n g).operands → Each P g.operands)
       → (i : Option Instr) → Each P (go_on_with f (settled_within code n) (silent f i)).operands → Each P f.operands
   silent_operands n f r (Some (I.PushInt z)) h = (r (next f (V.Int z ∷ f.operands)) h).1
   silent_operands n f r (Some (I.PushBool b)) h = (r (next f (V.Bool b ∷ f.operands)) h).1
   silent_operands n f r (Some I.PushNil) h = (r (next f (V.Nil ∷ f.operands)) h).1
   silent_operands n f r (Some (I.Jump a)) h = r (record f { at = a }) h
+  silent_operands n f r (Some I.Post) h = passed_operands n f r f.serves h
   silent_operands n f r _ h = h
 
   within_operands : (n : ℕ) (f : Frame) → Each P (settled_within code n f).operands → Each P f.operands

@@ -71,6 +71,7 @@ module _ (u : Code) (proper : IsProper u) where
   named_at k f temps c (Some (I.Oper op)) n e h = absurd (outcome_never (IsNaming n) (λ z. cc) (λ x z. cc) (operated op f.operands) h)
   named_at k f temps c (Some (I.Branch a)) n e h = absurd (if_never (IsNaming n) (is_bool (top f.operands)) C.Local (C.Fault NilOperand) (λ z. cc) (λ z. cc) h)
   named_at k f temps c (Some I.Ret) n e h = absurd (return_never (IsNaming n) f.serves (top f.operands) (λ z. cc) (λ a b z. cc) h)
+  named_at k f temps c (Some I.Post) n e h = absurd (return_never (IsNaming n) f.serves (top f.operands) (λ z. cc) (λ a b z. cc) h)
   named_at k f temps c (Some (I.Select alts)) n e h = absurd (none (taken (length alts) f.operands []) h)
     where
       none : (gs : List Value) → IsNaming n (C.select_kind alts gs) → ⊥

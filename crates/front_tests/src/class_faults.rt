@@ -21,7 +21,7 @@ fn class_fault(alloc: Global, text: &[u8]) -> Option<ClassFault>
 
 #[test]
 fn finds_the_first_class_fault(rt: HostRuntime) {
-    let rows: [(&[u8], Option<ClassFault>); 3] = [
+    let rows: [(&[u8], Option<ClassFault>); 4] = [
         (b"class Main body end", None),
         (
             b"class Main body end class Main body end",
@@ -30,6 +30,10 @@ fn finds_the_first_class_fault(rt: HostRuntime) {
         (
             b"class Main body write x; write true + 1 end",
             Some(ClassFault::UnknownVariable { token: 4 }),
+        ),
+        (
+            b"class A method m() begin post write x end body end",
+            Some(ClassFault::UnknownVariable { token: 9 }),
         ),
     ];
     for (text, fault) in &rows {

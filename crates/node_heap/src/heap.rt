@@ -8,7 +8,7 @@ ghost use Rattle.node_heap.specs.Heaps.{object_at, put_object, frames_used, unbe
 use crate::cells::{FrameCell, Slot};
 use crate::words::{FrameHead, HeapFull, HeapLimits};
 use cell_pool::CellPool;
-use pool_syntax::Value;
+use pool_syntax::{Serves, Value};
 use std::alloc::{AllocError, Global};
 use std::marker::Model;
 
@@ -136,6 +136,15 @@ impl Heap {
     {
         let frame = self.frames.get_mut(slot as usize, 0);
         frame.at = at;
+    }
+
+    /// Changes whom a slot's top frame serves.
+    pub fn set_serves(&mut self, slot: u32, serves: Serves)
+        requires { slot < length self.old.objects }
+        ensures { self.new ≡ put_top self.old slot (record (top_at self.old slot) { serves = serves }) }
+    {
+        let frame = self.frames.get_mut(slot as usize, 0);
+        frame.serves = serves;
     }
 
     /// Variable `k` of a slot, from 0.

@@ -16,7 +16,7 @@ use Rattle.object_code.specs.declared.unit.Instr.TheVariants as I
 use Rattle.object_code.specs.declared.unit.AltCode.{AltCode}
 use Rattle.object_code.specs.declared.unit.ClassCode.{ClassCode}
 use Rattle.object_code.specs.declared.unit.Unit.{Unit as Code}
-use Rattle.object_code.specs.Frames.{code_of, top, below, dropped, taken, next, silent, go_on_with, settled_within}
+use Rattle.object_code.specs.Frames.{code_of, top, below, dropped, taken, next, post_passed, silent, go_on_with, settled_within}
 use Rattle.object_code.specs.Kinds as C
 use Rattle.object_code.specs.Kinds.{Offered, operated, arity, outcome_kind, sent_kind, return_kind, offers, select_kind, instr_kind, frames_kind, code_kind}
 use Rattle.object_code.specs.Step.{Numbered, at_rest, nth, outcome_value, method_named, begun, called, handed, left, is_own, instr_stepped, frames_stepped, code_stepped, asked, frames_given, code_given, instr_gone_on, frames_gone_on, code_gone_on, at_alternative, after_choice, frames_picked, code_picked, frames_serving, method_serving, code_serving}
@@ -28,6 +28,12 @@ use Rattle.unit_objects.specs.OfUnit.{AreFramesOf, FitsUnit}
 use Rattle.coded_objects.specs.Coded.{kind_of, under_way}
 use Rattle.node_parts.specs.Views.{number_by, numbers_of}
 
+passed_serves : (code : List Instr) (n : ℕ) (f : Frame) → ((g : Frame) → (settled_within code n g).serves ≡ g.serves)
+    → (s : Serves) → (go_on_with f (settled_within code n) (post_passed f s)).serves ≡ f.serves
+passed_serves code n f r S.Own = r (next f f.operands)
+passed_serves code n f r (S.Caller k m) = refl
+passed_serves code n f r S.Sender = r (next f f.operands)
+
 -- silent instructions change no one whom a frame serves
 silent_serves : (code : List Instr) (n : ℕ) (f : Frame) → ((g : Frame) → (settled_within code n g).serves ≡ g.serves)
     → (i : Option Instr) → (go_on_with f (settled_within code n) (silent f i)).serves ≡ f.serves
@@ -35,6 +41,7 @@ silent_serves code n f r (Some (I.PushInt z)) = r (next f (V.Int z ∷ f.operand
 silent_serves code n f r (Some (I.PushBool b)) = r (next f (V.Bool b ∷ f.operands))
 silent_serves code n f r (Some I.PushNil) = r (next f (V.Nil ∷ f.operands))
 silent_serves code n f r (Some (I.Jump a)) = r (record f { at = a })
+silent_serves code n f r (Some I.Post) = passed_serves code n f r f.serves
 silent_serves code n f r _ = refl
 
 pub within_serves : (code : List Instr) (n : ℕ) (f : Frame) → (settled_within code n f).serves ≡ f.serves
@@ -108,6 +115,7 @@ gone_numbers k x f fs e (Some I.Write) q = rest_numbers k x (next f (below f.ope
 gone_numbers k x f fs e (Some (I.WriteText s)) q = rest_numbers k x (next f f.operands) fs
 gone_numbers k x f fs e (Some (I.Async m n)) q = rest_numbers k x (next f (dropped (suc n) f.operands)) fs
 gone_numbers k x f fs e (Some I.Ret) q = absurd (no_return_at_once f.serves (top f.operands) q)
+gone_numbers k x f fs e (Some I.Post) q = absurd (no_return_at_once f.serves (top f.operands) q)
 gone_numbers k x f fs e _ q = ap numbers_of e
 
 done_numbers : (k : Option ClassCode) (x : CodeObject) (fs : List Frame) → x.frames ≡ fs → is_at_once (kind_of (frames_kind k fs)) ≡ true
@@ -187,6 +195,8 @@ back_numbers k x f (g ∷ gs) b c n v q = return_number f.serves (top f.operands
 went_numbers : (k : Option ClassCode) (x : CodeObject) (f : Frame) (fs : List Frame) → IsBased (f ∷ fs)
     → (i : Option Instr) (c n : ℕ) (v : Value) → instr_kind f i ≡ C.Return c n v → numbers_of (f ∷ fs) ≡ n ∷ numbers_of (instr_gone_on k x f fs i).frames
 went_numbers k x f fs b (Some I.Ret) c n v q = back_numbers k x f fs b c n v q
+went_numbers k x f fs b (Some I.Post) c n v q =
+    return_number f.serves (top f.operands) c n v (numbers_of fs) q ∙ ap (λ ks. n ∷ ks) (sym (rest_numbers k x (next (record f { serves = S.Sender }) f.operands) fs))
 went_numbers k x f fs b (Some (I.Oper op)) c n v q = absurd (outcome_no_return (operated op f.operands) c n v q)
 went_numbers k x f fs b (Some (I.Branch a)) c n v q = absurd (branch_no_return (is_bool (top f.operands)) c n v q)
 went_numbers k x f fs b (Some (I.Send m n')) c n v q = absurd (send_no_return (top (dropped n' f.operands)) m (taken n' f.operands []) c n v q)
@@ -264,6 +274,7 @@ gone_length k x f fs e (Some I.Write) = omega arith
 gone_length k x f fs e (Some (I.WriteText s)) = omega arith
 gone_length k x f fs e (Some (I.Async m n)) = omega arith
 gone_length k x f fs e (Some I.Ret) = left_length k x f fs e
+gone_length k x f fs e (Some I.Post) = omega arith
 gone_length k x f fs e _ = let w = ap (λ (gs : List Frame). length gs) e in omega (arith, w)
 
 done_length : (k : Option ClassCode) (x : CodeObject) (fs : List Frame) → x.frames ≡ fs → length (frames_gone_on k x fs).frames ≤ length fs

@@ -7,7 +7,7 @@ mod parts;
 
 pub use choice::{called_place, first_possible};
 pub use moves::{
-    add_in, ask_in, deliver_in, end_method, fault_in, give_in, go_on_in, pick_in, serve_in,
+    add_in, ask_in, deliver_in, fault_in, give_in, go_on_in, pick_in, return_in, serve_in,
     settle_in,
 };
 pub use parts::{Parts, refresh};

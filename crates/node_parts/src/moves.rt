@@ -40,8 +40,9 @@ pub fn go_on_in(unit: &Unit, parts: &mut Parts, slot: u32)
     refresh(unit, parts, slot);
 }
 
-/// Ends the innermost method of a slot, whose value is given back to a caller.
-pub fn end_method(unit: &Unit, parts: &mut Parts, slot: u32)
+/// Gives the value of the innermost method of a slot back to its caller, whose number goes: the method ends, or goes on
+/// for no one where it has statements behind its value.
+pub fn return_in(unit: &Unit, parts: &mut Parts, slot: u32)
     requires whole { IsWhole parts.old }
     requires unit { IsOfUnit unit.now (node_of parts.old) }
     requires slot { slot < length parts.old.heap.objects }

@@ -409,7 +409,7 @@ instr_open = by_open instr_readers (
                                               made I.Select (read_list read_alternative) (list_steady read_alternative alternative_steady) (list_open read_alternative alternative_steady alternative_open),
                                               (
                                                 nothing I.Halt,
-                                                tt,
+                                                (nothing I.Post, tt),
                                               ),
                                             ),
                                           ),

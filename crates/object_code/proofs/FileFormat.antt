@@ -214,6 +214,7 @@ instr_format = record { reads = reads; wrote = λ bs x rest h e. by_wrote instr_
     reads (I.Answer ns) h rest = as_reads (read_list read_name) (list_bytes name_bytes) (IsListOf NameIsNumbered) names_format I.Answer ns rest h
     reads (I.Select alts) h rest = as_reads (read_list read_alternative) (list_bytes alternative_bytes) (IsListOf AlternativeIsNumbered) alternatives_format I.Select alts rest h
     reads I.Halt h rest = refl
+    reads I.Post h rest = refl
 
     plain : (n : ℕ) (i : Instr) → instr_bytes i ≡ n ∷ [] → InstrIsNumbered i → Wrote instr_bytes InstrIsNumbered n (read_nothing i)
     plain n i b p = nothing_wrote instr_bytes InstrIsNumbered n i b p
@@ -278,7 +279,7 @@ instr_format = record { reads = reads; wrote = λ bs x rest h e. by_wrote instr_
                                                 made_wrote instr_bytes InstrIsNumbered 21 (read_list read_name) (list_bytes name_bytes) (IsListOf NameIsNumbered) I.Answer names_format (λ ns. refl) (λ ns h. h),
                                                 (
                                                   made_wrote instr_bytes InstrIsNumbered 22 (read_list read_alternative) (list_bytes alternative_bytes) (IsListOf AlternativeIsNumbered) I.Select alternatives_format (λ alts. refl) (λ alts h. h),
-                                                  (plain 23 I.Halt refl tt, tt),
+                                                  (plain 23 I.Halt refl tt, (plain 24 I.Post refl tt, tt)),
                                                 ),
                                               ),
                                             ),

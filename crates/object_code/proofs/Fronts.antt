@@ -346,7 +346,7 @@ instr_steady = by_steady instr_readers (
                                             made I.Answer (read_list read_name) (list_steady read_name name_steady),
                                             (
                                               made I.Select (read_list read_alternative) (list_steady read_alternative alternative_steady),
-                                              (nothing_steady 1 I.Halt, tt),
+                                              (nothing_steady 1 I.Halt, (nothing_steady 1 I.Post, tt)),
                                             ),
                                           ),
                                         ),

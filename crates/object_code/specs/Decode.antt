@@ -70,7 +70,7 @@ instr_readers =
     read_as I.LoadT read_number ∷ read_nothing I.SelfRef ∷ read_as I.StoreI read_number ∷ read_as I.StoreT read_number ∷ read_as I.Oper read_operator ∷
     read_nothing I.Pop ∷ read_as I.Branch read_number ∷ read_nothing I.Loop ∷ read_as I.Call read_name ∷ read_nothing I.Ret ∷ read_as I.New read_name ∷
     read_sent I.Send ∷ read_sent I.Async ∷ read_nothing I.Write ∷ read_as I.WriteText read_name ∷ read_as I.Answer (read_list read_name) ∷
-    read_as I.Select (read_list read_alternative) ∷ read_nothing I.Halt ∷ []
+    read_as I.Select (read_list read_alternative) ∷ read_nothing I.Halt ∷ read_nothing I.Post ∷ []
 
 abbrev pub read_instr : Reader Instr
 read_instr bs = read_by instr_readers bs

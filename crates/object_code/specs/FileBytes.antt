@@ -98,6 +98,7 @@ instr_bytes (I.WriteText s) = 20 ∷ name_bytes s
 instr_bytes (I.Answer ns) = 21 ∷ list_bytes name_bytes ns
 instr_bytes (I.Select alts) = 22 ∷ list_bytes alternative_bytes alts
 instr_bytes I.Halt = 23 ∷ []
+instr_bytes I.Post = 24 ∷ []
 
 -- the words of its frames, and its instructions
 abbrev pub code_bytes : ℕ → List Instr → Text

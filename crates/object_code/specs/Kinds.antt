@@ -75,6 +75,7 @@ abbrev pub instr_kind : Frame → Option Instr → Kind
 instr_kind f (Some (I.Oper op)) = outcome_kind (operated op f.operands)
 instr_kind f (Some (I.Branch a)) = if is_bool (top f.operands) then Local else Fault NilOperand
 instr_kind f (Some I.Ret) = return_kind f.serves (top f.operands)
+instr_kind f (Some I.Post) = return_kind f.serves (top f.operands)
 instr_kind f (Some (I.New c)) = New c
 instr_kind f (Some (I.Send m n)) = sent_kind (top (dropped n f.operands)) (λ b. Send b m (taken n f.operands []))
 instr_kind f (Some (I.Async m n)) = sent_kind (top (dropped n f.operands)) (λ b. Async b m (taken n f.operands []))

@@ -66,6 +66,7 @@ mnemonic_text (I.WriteText s) = codes "WriteText"
 mnemonic_text (I.Answer ns) = codes "Answer"
 mnemonic_text (I.Select alts) = codes "Select"
 mnemonic_text I.Halt = codes "Halt"
+mnemonic_text I.Post = codes "Post"
 
 abbrev pub text_or_none : Option Text → Text
 text_or_none None = []
@@ -134,6 +135,7 @@ module _ (names : List Text) where
   operands_text (I.Answer ns) = spaced_text ns
   operands_text (I.Select alts) = alternatives_text alts
   operands_text I.Halt = []
+  operands_text I.Post = []
 
   -- the line of an instruction at a place
   abbrev pub line_text : ℕ → Instr → Text

@@ -125,6 +125,7 @@ instr_gone_on k x f fs (Some I.Write) = at_rest k x (next f (below f.operands)) 
 instr_gone_on k x f fs (Some (I.WriteText s)) = at_rest k x (next f f.operands) fs
 instr_gone_on k x f fs (Some (I.Async m n)) = at_rest k x (next f (dropped (suc n) f.operands)) fs
 instr_gone_on k x f fs (Some I.Ret) = left k x fs
+instr_gone_on k x f fs (Some I.Post) = at_rest k x (next (record f { serves = S.Sender }) f.operands) fs
 instr_gone_on k x f fs _ = x
 
 abbrev pub frames_gone_on : Option ClassCode → CodeObject → List Frame → CodeObject

@@ -198,6 +198,7 @@ fn mnemonic(instr: &Instr) -> &'static [u8]
         Instr::Answer { .. } => b"Answer",
         Instr::Select { .. } => b"Select",
         Instr::Halt => b"Halt",
+        Instr::Post => b"Post",
     }
 }
 
@@ -239,6 +240,7 @@ fn put_operands<K: Sink>(names: &Names, sink: &mut K, failed: &mut bool, instr: 
         Instr::Answer { names: ids } => put_spaced(names, sink, failed, ids.items()),
         Instr::Select { alts } => put_alternatives(names, sink, failed, alts.items()),
         Instr::Halt => put(sink, failed, b""),
+        Instr::Post => put(sink, failed, b""),
     }
 }
 

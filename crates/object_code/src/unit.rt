@@ -86,6 +86,8 @@ pub enum Instr {
     Select { alts: List<AltCode> },
     /// Ends a body.
     Halt,
+    /// Gives the last operand to the caller, where the frame serves one; it then serves no one. The operand stays.
+    Post,
 }
 
 /// An alternative of a select: the methods that it answers, none where it is plain, and the place of its list.

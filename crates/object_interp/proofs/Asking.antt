@@ -32,7 +32,7 @@ use Rattle.object_interp.specs.Offers.{instr_offers, frames_offers, offers_at, o
 use Rattle.object_interp.specs.Rest.{settled_at}
 use Rattle.object_interp.specs.Tops.{HasTop, class_in, instr_in, with_top}
 use Rattle.object_interp.proofs.Facts.{has_top}
-use Rattle.object_interp.proofs.Acting.{instr_known, ret_frames}
+use Rattle.object_interp.proofs.Acting.{instr_known, next_place, ret_frames}
 use Rattle.object_interp.proofs.Guards.{answer_of, is_plain, open_names_alt, open_plain_alt, length_offered}
 use Rattle.object_interp.proofs.Operands.{length_below, length_dropped}
 use Rattle.object_interp.proofs.Settling.{settled_top}
@@ -100,6 +100,7 @@ asks : (f : Frame) (i : Instr) → IsAsking (instr_kind f (Some i)) → Asks i
 asks f (I.Oper op) h = outcome_never IsAsking (λ q. q) (λ e q. q) (operated op f.operands) h
 asks f (I.Branch a) h = if_never IsAsking (is_bool (top f.operands)) C.Local _ (λ q. q) (λ q. q) h
 asks f I.Ret h = return_never IsAsking f.serves (top f.operands) (λ q. q) (λ k n q. q) h
+asks f I.Post h = return_never IsAsking f.serves (top f.operands) (λ q. q) (λ k n q. q) h
 asks f (I.New c) h = tt
 asks f (I.Send m n) h = tt
 asks f (I.Async m n) h = sent_never IsAsking (top (dropped n f.operands)) _ (λ b q. q) (λ e q. q) h
@@ -143,6 +144,7 @@ passes u proper x fits (I.WriteText s) e =
 passes u proper x fits (I.Async m n) e =
     let k = instr_known u proper x (has_top u x fits) (I.Async m n) e in ((k.after (suc (top_in x.frames).at) (inl refl)).0, k.enough, k.exists.1)
 passes u proper x fits I.Ret e = (ret_frames u proper x fits e).0
+passes u proper x fits I.Post e = next_place u proper x (has_top u x fits) I.Post e (inl refl)
 passes u proper x fits _ e = tt
 
 module _ (u : Code) (proper : IsProper u) (x : CodeObject) (fits : FitsUnit u x) where
@@ -186,6 +188,9 @@ module _ (u : Code) (proper : IsProper u) (x : CodeObject) (fits : FitsUnit u x)
   gone_has_top I.Ret e going =
       gone_ret (under_top x.frames) refl
       (serves_caller (top_in x.frames).serves (top (top_in x.frames).operands) (subst IsGoingOn (kind_top u x (has_top u x fits) I.Ret e) going))
+  gone_has_top I.Post e going =
+      let t = frame_at u proper x fits I.Post e (suc (top_in x.frames).at) (top_in x.frames).temps (top_in x.frames).operands (inl refl) (omega arith) refl in
+      top_over u proper x fits x _ (under_top x.frames) refl (record { reached = t.reached; has_temps = t.has_temps; temps = t.temps; operands = t.operands })
   gone_has_top _ e going = has_top u x fits
 
 gone_frames : (u : Code) (x : CodeObject) (f : Frame) (fs : List Frame) → settled_at u x ≡ x → settled_at u (gone x f fs I.Ret) ≡ left (class_in u x) x fs
@@ -198,6 +203,7 @@ settled_gone u x f fs I.Write stays = refl
 settled_gone u x f fs (I.WriteText s) stays = refl
 settled_gone u x f fs (I.Async m n) stays = refl
 settled_gone u x f fs I.Ret stays = gone_frames u x f fs stays
+settled_gone u x f fs I.Post stays = refl
 settled_gone u x f fs _ stays = stays
 
 -- what leads on from a choice

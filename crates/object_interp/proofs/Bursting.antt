@@ -145,6 +145,7 @@ module _ (u : Code) (proper : IsProper u) (now : HeapOf) (slot o : ℕ) (fits : 
   step_room (I.Answer names) e = no_call_room (I.Answer names) e (few (I.Answer names) tt)
   step_room (I.Select alts) e = no_call_room (I.Select alts) e (few (I.Select alts) tt)
   step_room I.Halt e = no_call_room I.Halt e (few I.Halt tt)
+  step_room I.Post e = no_call_room I.Post e (few I.Post tt)
 
 full_of : (h : HeapOf) (i : Instr) → call_fits h i ≡ false → frames_used h ≤ h.most_frames → frames_used h ≡ h.most_frames
 full_of h (I.Call m) e within = let past = ltb-false (frames_used h) h.most_frames e in omega (arith, past, within)

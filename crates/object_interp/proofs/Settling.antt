@@ -2,28 +2,37 @@
 use Rattle.std.proofs.Common.{◌≡◌, refl, sym, ap, ◌∙◌, subst, ℕ, suc, ◌<◌, ◌≤◌, ◌^◌, List, ◌∷◌, length, Option, Some, None, true, false, get_or, arith}
 use Rattle.std.specs.Prelude.{slice_get}
 use Rattle.std.proofs.lemmas.Option.{slice_get_within, slice_get_read}
+use Rattle.pool_syntax.specs.declared.words.Serves.{Serves}
+use Rattle.pool_syntax.specs.declared.words.Serves.TheVariants as S
 use Rattle.object_code.specs.declared.unit.Instr.{Instr}
 use Rattle.object_code.specs.declared.unit.Instr.TheVariants as I
 use Rattle.object_code.specs.declared.unit.Unit.{Unit as Code}
 use Rattle.object_code.specs.declared.unit.Frame.{Frame}
 use Rattle.object_code.specs.declared.unit.CodeObject.{CodeObject}
-use Rattle.object_code.specs.Frames.{code_of, silent, go_on_with, settled_within, settled}
+use Rattle.object_code.specs.Frames.{code_of, next, post_passed, silent, go_on_with, settled_within, settled}
 use Rattle.object_code.specs.Proper.{IsProper}
 use Rattle.node_heap.specs.Heaps.{HeapOf, object_at, put_object, top_at, top_in, under_top}
 use Rattle.unit_objects.specs.OfUnit.{AnyValue}
 use Rattle.unit_objects.proofs.Laws.{plain_any, silent_of}
-use Rattle.unit_objects.proofs.Resting.{same_some}
+use Rattle.unit_objects.proofs.Resting.{same_some, passed_is}
 use Rattle.object_interp.specs.Moves.{RunsTo}
 use Rattle.object_interp.specs.Rest.{frames_settled, settled_at}
 use Rattle.object_interp.specs.Tops.{HasTop, class_in, code_in, with_top}
 use Rattle.object_interp.proofs.Facts.{known, at_hand}
 use Rattle.object_interp.proofs.Slots.{put_then, object_then, put_same}
 
+-- a frame that serves no caller goes past the end of its method's value
+pub passed_else : (f : Frame) (s : Serves) → ((k n : ℕ) → s ≡ S.Caller k n → ⊥) → post_passed f s ≡ Some (next f f.operands)
+passed_else f S.Own h = refl
+passed_else f (S.Caller k n) h = absurd (h k n refl)
+passed_else f S.Sender h = refl
+
 silent_method : (f g : Frame) (i : Option Instr) → silent f i ≡ Some g → g.method ≡ f.method
 silent_method f g (Some (I.PushInt z)) h = ap (λ y. y.method) (sym (same_some _ _ h))
 silent_method f g (Some (I.PushBool b)) h = ap (λ y. y.method) (sym (same_some _ _ h))
 silent_method f g (Some I.PushNil) h = ap (λ y. y.method) (sym (same_some _ _ h))
 silent_method f g (Some (I.Jump a)) h = ap (λ y. y.method) (sym (same_some _ _ h))
+silent_method f g (Some I.Post) h = ap (λ y. y.method) (sym (passed_is f g f.serves h))
 silent_method f g _ h = absurd (grind (arith, h))
 
 -- so far: the frame that is reached, and that settling the rest from there is settling all

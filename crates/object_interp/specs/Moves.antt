@@ -60,6 +60,7 @@ gone x f fs (I.WriteText s) = over x (next f f.operands) fs
 gone x f fs (I.Async m n) = over x (next f (dropped (suc n) f.operands)) fs
 gone x f [] I.Ret = x
 gone x f (g ∷ gs) I.Ret = over x g gs
+gone x f fs I.Post = over x (next (record f { serves = S.Sender }) f.operands) fs
 gone x f fs _ = x
 
 -- the instruction is no call, or a frame is free
@@ -78,4 +79,5 @@ Passes x I.Write = (suc (top_in x.frames).at < 2 ^ 32) × (0 < length (top_in x.
 Passes x (I.WriteText s) = suc (top_in x.frames).at < 2 ^ 32
 Passes x (I.Async m n) = (suc (top_in x.frames).at < 2 ^ 32) × (suc n ≤ length (top_in x.frames).operands) × (n ≤ 8)
 Passes x I.Ret = 1 < length x.frames
+Passes x I.Post = suc (top_in x.frames).at < 2 ^ 32
 Passes x _ = Unit {0}

@@ -51,7 +51,7 @@ fn branch_hand(condition: Value) -> Hand
     }
 }
 
-/// At the end of a method that serves this one, with this value.
+/// At the end of the value of a method that serves this one.
 fn return_hand(serves: Serves, value: Value) -> Hand
     ensures { (u : Code) → result ≡ hand_of u (return_kind serves value) }
 {
@@ -132,7 +132,7 @@ fn branch_is_local(condition: Value) -> bool
     }
 }
 
-/// Whether the end of a method that serves this one is a local transition: it gives no value back to a caller.
+/// Whether the end of the value of a method that serves this one gives no value back to a caller.
 fn return_is_local(serves: Serves) -> bool
     ensures { (value : _) → result ≡ is_local (return_kind serves value) }
 {
@@ -151,7 +151,7 @@ pub(crate) fn is_local_at(heap: &Heap, slot: u32, instr: &Instr) -> bool
     match instr {
         Instr::Oper(op) => operator_is_local(heap, slot, *op),
         Instr::Branch(_) => branch_is_local(value_at(heap, slot, 0)),
-        Instr::Ret => return_is_local(heap.head(slot).serves),
+        Instr::Ret | Instr::Post => return_is_local(heap.head(slot).serves),
         Instr::New(_) | Instr::Send { .. } | Instr::Async { .. } => false,
         Instr::Write | Instr::WriteText(_) => false,
         Instr::Answer { .. } | Instr::Select { .. } | Instr::Halt => false,
@@ -170,7 +170,7 @@ pub(crate) fn hand_at(unit: &Unit, heap: &Heap, slot: u32, instr: &Instr) -> Han
     match instr {
         Instr::Oper(op) => operator_hand(heap, slot, *op),
         Instr::Branch(_) => branch_hand(value_at(heap, slot, 0)),
-        Instr::Ret => return_hand(heap.head(slot).serves, value_at(heap, slot, 0)),
+        Instr::Ret | Instr::Post => return_hand(heap.head(slot).serves, value_at(heap, slot, 0)),
         Instr::New(class) => Hand::At(Need::New {
             class: class_place(unit, *class),
         }),

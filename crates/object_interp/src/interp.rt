@@ -175,7 +175,8 @@ pub fn resume_with(unit: &Unit, heap: &mut Heap, slot: u32, value: Value)
     settle(unit, heap, slot);
 }
 
-/// Goes on after a message was sent, a value written, or a value given back.
+/// Goes on after a message was sent, a value written, or a value given back. A frame that gave its value back at its
+/// last instruction is taken away; at the end of its value alone it stays, and serves no one.
 pub fn go_on(unit: &Unit, heap: &mut Heap, slot: u32)
     requires proper { IsProper unit.now }
     requires slot { slot < length heap.old.objects }

@@ -4,7 +4,7 @@ ghost use Rattle.pool_syntax.specs.Values.{is_true as holds};
 ghost use Rattle.value_operators.specs.Operated.{outcome_of};
 ghost use Rattle.object_code.specs.declared.unit.Frame.{Frame};
 ghost use Rattle.object_code.specs.declared.unit.MethodCode.{MethodCode};
-ghost use Rattle.object_code.specs.Frames.{top, below, dropped, next, silent, go_on_with};
+ghost use Rattle.object_code.specs.Frames.{top, below, dropped, next, post_passed, silent, go_on_with};
 ghost use Rattle.object_code.specs.Kinds.{operated, arity};
 ghost use Rattle.object_code.specs.Step.{asked, begun, code_stepped, is_own, method_named, outcome_value, padded};
 ghost use Rattle.object_code.specs.Proper.{IsProper};
@@ -270,6 +270,21 @@ fn act(unit: &Unit, heap: &mut Heap, slot: u32, instr: &Instr)
     }
 }
 
+/// Goes past the end of a method's value, and tells whether it does: where the frame serves no caller.
+fn pass_value(heap: &mut Heap, slot: u32) -> bool
+    requires slot { slot < length heap.old.objects }
+    requires next { (g : Frame) → post_passed (top_at heap.old slot) (top_at heap.old slot).serves ≡ Some g → g.at < 2 ^ 32 }
+    ensures { RunsTo heap.old slot (post_passed (top_at heap.old slot) (top_at heap.old slot).serves) result heap.new }
+{
+    match heap.head(slot).serves {
+        Serves::Caller { .. } => false,
+        _ => {
+            advance(heap, slot);
+            true
+        }
+    }
+}
+
 /// Runs the instruction if it is silent, and tells whether it is.
 fn run_silent(heap: &mut Heap, slot: u32, instr: &Instr) -> bool
     requires slot { slot < length heap.old.objects }
@@ -281,6 +296,7 @@ fn run_silent(heap: &mut Heap, slot: u32, instr: &Instr) -> bool
         Instr::PushBool(value) => push_next(heap, slot, Value::Bool(*value)),
         Instr::PushNil => push_next(heap, slot, Value::Nil),
         Instr::Jump(to) => heap.set_at(slot, *to),
+        Instr::Post => return pass_value(heap, slot),
         _ => return false,
     }
     true
@@ -345,6 +361,10 @@ pub(crate) fn pass(heap: &mut Heap, slot: u32, instr: &Instr)
         }
         Instr::Ret => {
             heap.pop_frame(slot);
+        }
+        Instr::Post => {
+            heap.set_serves(slot, Serves::Sender);
+            advance(heap, slot);
         }
         _ => {}
     }

@@ -33,6 +33,7 @@ IsText (r.more_classes before) ks = IsTrue (is_text_program before) → IsTrue (
 IsText r.class k = IsTrue (is_text_program (k ∷ []))
 IsText (r.more_methods before) ms = IsTrue (are_text_methods before) → IsTrue (are_text_methods ms)
 IsText r.method m = IsTrue (are_text_methods (m ∷ []))
+IsText r.post ss = PlainStatements ss
 IsText r.stmts ss = PlainStatements ss
 IsText (r.more_stmts before) ss = PlainStatements before → PlainStatements ss
 IsText r.stmt s = PlainStatement s
@@ -93,9 +94,10 @@ rule_text (r.more_classes ks) = ((λ k w all f v. f (classes_last ks k v w)), (�
 rule_text r.class = λ n u m v vs x ms f i y ss w j z. b.both _ _ (b.both _ _ w (f refl)) refl
 rule_text (r.more_methods ms) = ((λ m w all f v. f (methods_last ms m v w)), (λ v. v))
 rule_text r.method = (
-  (λ i u n v ps x ls y j z ss w k t. b.both _ _ (b.both _ _ w refl) refl),
-  (λ i u n v ps x j y k z ls t l a ss w m c e d q f. b.both _ _ (b.both _ _ w d) refl),
+  (λ i u n v ps x ls y j z ss w qs q k t. b.both _ _ (b.both _ _ (b.both _ _ w refl) q) refl),
+  (λ i u n v ps x j y k z ls t l a ss w m c e d qs g q f. b.both _ _ (b.both _ _ (b.both _ _ w d) g) refl),
 )
+rule_text r.post = ((λ i u ss w. w), refl)
 rule_text r.stmts = ((λ s w ss f. f (b.both _ _ w refl)), refl)
 rule_text (r.more_stmts ss) = ((λ i u s w all f v. f (statements_last ss s v w)), (λ v. v))
 rule_text r.stmt = (

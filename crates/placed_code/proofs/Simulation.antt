@@ -189,11 +189,11 @@ module _ (p : ProgramTree) (u : Code) (none : faults p ≡ []) (written : IsTrue
         now o (X.done x) (record y { object = code_gone_on u y.object }) (f.wrote a.0 a.1) r.fault (unserved o x y r (A.Write a.0) a.1 refl)
         (calm_term p none written c o x w here (X.done x).term (is_next p none written c o x w here (A.Write a.0) a.1).0)
 
-    returned : (k : ℕ) (v : Value) → returns (M.kind_of (action p o x)) k v ≡ true → R o (X.done x) (record y { object = code_gone_on u y.object })
+    returned : (k : ℕ) (v : Value) → returns (M.kind_of (action p o x)) k v ≡ true → R o (X.returned x) (record y { object = code_gone_on u y.object })
     returned k v h =
         let a = returns_is (action p o x) k v h in
-        now o (X.done x) (record y { object = code_gone_on u y.object }) (f.returned k v a) r.fault (unserved o x y r (A.Return k v) a refl)
-        (calm_term p none written c o x w here (X.done x).term (is_next p none written c o x w here (A.Return k v) a).2)
+        now o (X.returned x) (record y { object = code_gone_on u y.object }) (f.returned k v a) r.fault (unserved o x y r (A.Return k v) a refl)
+        (calm_term p none written c o x w here (X.returned x).term (is_next p none written c o x w here (A.Return k v) a).2)
 
     selects : (a : Action) (j : ℕ) (ss : Statements) → X.picked a j ≡ Some ss → is_wait (M.kind_of a) ≡ false
     selects (A.Select cs) j ss h = refl

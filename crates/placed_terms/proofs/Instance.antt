@@ -205,10 +205,10 @@ module _ (p : ProgramTree) (c : Config Object) where
       pulled true a f = refl
       pulled false a f = refl
   move_is (L.Return b o v) = both_gone b o
-      (λ y x. require (returns (kind_of (action p b y)) o v && waits_on (kind_of (action p o x)) b) >> Some (put_object (put_object c b (X.done y)) o (X.given x v)))
-      (λ y x. require (X.returns (action p b y) o v && X.waits_on (action p o x) b) >> Some (C.put_object (C.put_object (plain c) b (X.done y)) o (X.given x v)))
+      (λ y x. require (returns (kind_of (action p b y)) o v && waits_on (kind_of (action p o x)) b) >> Some (put_object (put_object c b (X.returned y)) o (X.given x v)))
+      (λ y x. require (X.returns (action p b y) o v && X.waits_on (action p o x) b) >> Some (C.put_object (C.put_object (plain c) b (X.returned y)) o (X.given x v)))
       (λ y x. required_plain (returns (kind_of (action p b y)) o v && waits_on (kind_of (action p o x)) b) _
-      ∙ ap₂ (λ t u. require (t && u) >> Some (C.put_object (C.put_object (plain c) b (X.done y)) o (X.given x v))) (returns_is (action p b y) o v) (waits_is (action p o x) b))
+      ∙ ap₂ (λ t u. require (t && u) >> Some (C.put_object (C.put_object (plain c) b (X.returned y)) o (X.given x v))) (returns_is (action p b y) o v) (waits_is (action p o x) b))
   move_is (L.Answer b o m args) = both_gone o b
       (λ x y. require (calls (kind_of (action p o x)) b m.0 args) >> (offered 1 (alternatives (kind_of (action p b y))) m.0 >>= λ v. require (not (has_message v.1 (messages_of c o b)))
       >> ((method_of p y.class m.0 (length args) >>= λ method. Some (X.serving y method (Some o) args (work_of (action p b y) v.0))) >>= λ z. Some (put_object (put_object c o (refilled x (AsExpression (T.Wait b m.0)))) b z))))

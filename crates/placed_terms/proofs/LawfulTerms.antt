@@ -98,8 +98,8 @@ at_meeting p o x u g (R.Loop c ss) now h e = absurd (let z : false ≡ true = h 
 at_meeting p o x u g (R.Accept names) now h e = absurd (let z : false ≡ true = h in cc)
 at_meeting p o x u g (R.Choose cs) now h e = absurd (never (redex_action p o x u (R.Choose cs)) h
     (chosen (list_any (λ c. is_nil c.guard) cs) (A.Fault NilOperand) _ refl (chosen (list_any (λ c. not_bool c.guard) cs) A.Stuck _ refl (chosen (list_any (λ c. is_true c.guard) cs) (A.Select cs) (A.Fault NoOpenGuard) refl refl))))
-at_meeting p o x u g (R.Finish None v) now h e = absurd (let z : false ≡ true = h in cc)
-at_meeting p o x u g (R.Finish (Some k) v) now h e = absurd (let z : false ≡ true = h in cc)
+at_meeting p o x u g (R.Finish None v work) now h e = absurd (let z : false ≡ true = h in cc)
+at_meeting p o x u g (R.Finish (Some k) v work) now h e = absurd (let z : false ≡ true = h in cc)
 
 module _ (p : ProgramTree) (none : faults p ≡ []) (written : IsTrue (is_written p)) where
   -- what is kept of a configuration of terms
@@ -231,19 +231,19 @@ module _ (p : ProgramTree) (none : faults p ≡ []) (written : IsTrue (is_writte
           by (Some e) j = absurd (n e (w.fault q z e h j))
 
       d : Config Object
-      d = put_object (put_object c b (X.done y)) o (X.given x v)
+      d = put_object (put_object c b (X.returned y)) o (X.given x v)
 
-      go : transition p (plain c) (L.Return b o v) ≡ Some (plain (put_object (put_object c b (X.done y)) o (X.given x v)))
+      go : transition p (plain c) (L.Return b o v) ≡ Some (plain (put_object (put_object c b (X.returned y)) o (X.given x v)))
       go = rw (hy, no_fault b y hy (λ e j. let z = sym back ∙ j in cc), hx, no_fault o x hx (λ e j. let z = sym wait ∙ j in cc), back, wait, equals o, value_itself v, equals b) refl
 
-      after : Typed p (plain (put_object (put_object c b (X.done y)) o (X.given x v)))
-      after = typed_kept p (plain c) (plain (put_object (put_object c b (X.done y)) o (X.given x v))) (L.Return b o v) none written w go
+      after : Typed p (plain (put_object (put_object c b (X.returned y)) o (X.given x v)))
+      after = typed_kept p (plain c) (plain (put_object (put_object c b (X.returned y)) o (X.given x v))) (L.Return b o v) none written w go
 
-      at_o : object_of (put_object (put_object c b (X.done y)) o (X.given x v)) o ≡ Some (X.given x v)
-      at_o = find_put_same o (X.given x v) (put_object c b (X.done y)).objects
+      at_o : object_of (put_object (put_object c b (X.returned y)) o (X.given x v)) o ≡ Some (X.given x v)
+      at_o = find_put_same o (X.given x v) (put_object c b (X.returned y)).objects
 
-      at_b : object_of (put_object (put_object c b (X.done y)) o (X.given x v)) b ≡ Some (X.done y)
-      at_b = find_put_other b o (X.given x v) (put_object c b (X.done y)).objects apart ∙ find_put_same b (X.done y) c.objects
+      at_b : object_of (put_object (put_object c b (X.returned y)) o (X.given x v)) b ≡ Some (X.returned y)
+      at_b = find_put_other b o (X.given x v) (put_object c b (X.returned y)).objects apart ∙ find_put_same b (X.returned y) c.objects
 
       -- before it was given back, this was all that was served for o
       all : served_for o r.1 ≡ []
@@ -255,18 +255,18 @@ module _ (p : ProgramTree) (none : faults p ≡ []) (written : IsTrue (is_writte
       still : (b' m' : ℕ) → action p o (X.given x v) ≢ A.Waits b' m'
       still b' m' e = let t = after.waits o b' m' (X.given x v) at_o e in by t.0 t.1 t.2 (decide b' o) (decide b' b)
         where
-          by : (z : Object) → object_of (put_object (put_object c b (X.done y)) o (X.given x v)) b' ≡ Some z → serves o z.term ≡ m' ∷ [] → (b' ≡ o) ⊎ (b' ≢ o) → (b' ≡ b) ⊎ (b' ≢ b) → ⊥
+          by : (z : Object) → object_of (put_object (put_object c b (X.returned y)) o (X.given x v)) b' ≡ Some z → serves o z.term ≡ m' ∷ [] → (b' ≡ o) ⊎ (b' ≢ o) → (b' ≡ b) ⊎ (b' ≢ b) → ⊥
           by z f s (inl i) k =
-              let same : z ≡ X.given x v = same_some (sym f ∙ ap (object_of (put_object (put_object c b (X.done y)) o (X.given x v))) i ∙ at_o) in
+              let same : z ≡ X.given x v = same_some (sym f ∙ ap (object_of (put_object (put_object c b (X.returned y)) o (X.given x v))) i ∙ at_o) in
               let before : serves o x.term ≡ m' ∷ [] = sym (ap (served_for o) (under_way_kept c o x (literal v) w hx (rw wait refl) refl)) ∙ ap (λ (q : Object). serves o q.term) (sym same) ∙ s in
               let t = w.served o o m' [] x hx before in
               let q : A.Waits b m ≡ A.Waits o m' = sym wait ∙ ap (action p o) (same_some (sym hx ∙ t.1)) ∙ t.2 in
               apart (let u : b ≡ o = cc in u)
           by z f s (inr i) (inl k) =
-              let same : z ≡ X.done y = same_some (sym f ∙ ap (object_of (put_object (put_object c b (X.done y)) o (X.given x v))) k ∙ at_b) in
+              let same : z ≡ X.returned y = same_some (sym f ∙ ap (object_of (put_object (put_object c b (X.returned y)) o (X.given x v))) k ∙ at_b) in
               let nothing : m' ∷ [] ≡ [] = sym s ∙ ap (λ (q : Object). serves o q.term) same ∙ r.4 o ∙ all in cc
           by z f s (inr i) (inr k) =
-              let old : object_of c b' ≡ Some z = sym (find_put_other b' o (X.given x v) (put_object c b (X.done y)).objects i ∙ find_put_other b' b (X.done y) c.objects k) ∙ f in
+              let old : object_of c b' ≡ Some z = sym (find_put_other b' o (X.given x v) (put_object c b (X.returned y)).objects i ∙ find_put_other b' b (X.returned y) c.objects k) ∙ f in
               let t = w.served o b' m' [] z old s in
               let q : A.Waits b m ≡ A.Waits b' m' = sym wait ∙ ap (action p o) (same_some (sym hx ∙ t.1)) ∙ t.2 in
               k (let u : b ≡ b' = cc in sym u)

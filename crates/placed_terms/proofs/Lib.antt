@@ -20,3 +20,4 @@ pub mod MachineRuns
 mod RequestRows
 mod DrawnRuns
 mod OverWires
+mod PostRuns

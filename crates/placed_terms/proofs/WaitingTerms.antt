@@ -101,14 +101,14 @@ module _ (p : ProgramTree) (none : faults p ≡ []) (written : IsTrue (is_writte
         by (A.Fault j) i same = not_at_wait (action p o x) (ap is_waits same)
         by _ i same = absurd (cc)
 
-    returned_waits : (b k : ℕ) (v : Value) (y : Object) → object_of c b ≡ Some y → IsTrue (X.returns (action p b y) k v) → NotWaiting p b (X.done y) × (action p b y ≡ A.Return k v)
+    returned_waits : (b k : ℕ) (v : Value) (y : Object) → object_of c b ≡ Some y → IsTrue (X.returns (action p b y) k v) → NotWaiting p b (X.returned y) × (action p b y ≡ A.Return k v)
     returned_waits b k v y h e = by (action p b y) (typed_at b y h) e
       where
-        by : (j : Action) → TypedAction p (classes (plain c)) y j → IsTrue (X.returns j k v) → NotWaiting p b (X.done y) × (j ≡ A.Return k v)
+        by : (j : Action) → TypedAction p (classes (plain c)) y j → IsTrue (X.returns j k v) → NotWaiting p b (X.returned y) × (j ≡ A.Return k v)
         by (A.Return k' w) d i =
             let e : k' ≡ k = equal k' k (first (k' == k) (is_same w v) i) in
             let f : w ≡ v = same_value w v (second (k' == k) (is_same w v) i) in
-            (does_not_wait p (classes (plain c)) b (X.done y) d.2, cc)
+            (does_not_wait p (classes (plain c)) b (X.returned y) d.2, cc)
         by _ d i = absurd (cc)
 
     waiting_is : (a : Action) (b : ℕ) → IsTrue (X.waits_on a b) → (m : ℕ) × (a ≡ A.Waits b m)
@@ -227,7 +227,7 @@ module _ (p : ProgramTree) (none : faults p ≡ []) (written : IsTrue (is_writte
           let back = returned_waits k q v i.0 s.0 (first _ (X.waits_on (action p q a.0) k) u.0) in
           let is = waiting_is (action p q a.0) k (second (X.returns (action p k i.0) q v) _ u.0) in
           let still = not_kind (action p q (X.given a.0 v)) ((lawful p none written).given_back c k q is.0 i.0 a.0 v t s.0 (ap kind_of back.1) r.0 (ap kind_of is.1)).2 in
-          inl (two k q (X.done i.0) (X.given a.0 v) back.0 still u.1)
+          inl (two k q (X.returned i.0) (X.given a.0 v) back.0 still u.1)
       begun (L.Send q k n args) e =
           let a = given_by (running (plain c) q) _ d e in
           let r = running_is (plain c) q a.0 a.1 in

@@ -40,7 +40,7 @@ object_of_class n = K.Class (id n)
 
 abbrev pub method : ℕ → List Var → List Var → Option Kind → Statements → Expression → MethodTree
 method n params locals outcome body value =
-    record { name = named n; params = params; locals = locals; outcome = outcome; outcome_pos = 0; body = body; value = value }
+    record { name = named n; params = params; locals = locals; outcome = outcome; outcome_pos = 0; body = body; value = value; post = T.Done }
 
 abbrev pub class : ℕ → List Var → List MethodTree → Statements → ClassTree
 class n vars methods body = record { name = named n; vars = vars; methods = methods; body = body }

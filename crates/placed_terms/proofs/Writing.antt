@@ -78,8 +78,8 @@ at_write p o x u g (R.Loop c ss) now h e = absurd (let z : false ≡ true = h in
 at_write p o x u g (R.Accept names) now h e = absurd (let z : false ≡ true = h in cc)
 at_write p o x u g (R.Choose cs) now h e = never (redex_action p o x u (R.Choose cs)) h
     (chosen (list_any (λ c. is_nil c.guard) cs) (A.Fault NilOperand) _ refl (chosen (list_any (λ c. not_bool c.guard) cs) A.Stuck _ refl (chosen (list_any (λ c. is_true c.guard) cs) (A.Select cs) (A.Fault NoOpenGuard) refl refl)))
-at_write p o x u g (R.Finish None v) now h e = absurd (let z : false ≡ true = h in cc)
-at_write p o x u g (R.Finish (Some k) v) now h e = absurd (let z : false ≡ true = h in cc)
+at_write p o x u g (R.Finish None v work) now h e = absurd (let z : false ≡ true = h in cc)
+at_write p o x u g (R.Finish (Some k) v work) now h e = absurd (let z : false ≡ true = h in cc)
 
 module _ (p : ProgramTree) (none : faults p ≡ []) (written : IsTrue (is_written p)) where
   -- as many methods are under way after a write

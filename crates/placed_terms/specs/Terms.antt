@@ -83,7 +83,7 @@ terms p = record {
   given = X.given;
   waiting = λ x b m. refilled x (AsExpression (T.Wait b m));
   done = X.done;
-  returned = X.done;
+  returned = X.returned;
   picked = λ o x i. refilled x (AsStatements (work_of (action p o x) i));
   serving = λ o x i m caller args. method_of p x.class m (length args) >>= λ method. Some (X.serving x method caller args (work_of (action p o x) i));
   faulted = λ x e. record x { fault = Some e };

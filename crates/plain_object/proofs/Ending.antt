@@ -1,19 +1,21 @@
--- What an object does at the end of a method.
-use Rattle.std.proofs.Common.{◌≡◌, ℕ, ◌-◌, List, length, slice_get, Some}
-use Rattle.pool_syntax.specs.declared.words.Value.TheVariants as V
-use Rattle.pool_syntax.specs.Terms.{Store, ProgramTree}
-use Rattle.pool_relation.specs.Action.{action, redex_action}
-use Rattle.term_stack.specs.declared.parts.Operand.{Operand}
+-- What an object does at the end of a method or of its body.
+use Rattle.std.proofs.Common.{◌≡◌, ap, ◌∙◌, ℕ, ◌-◌, [], length, slice_get, Some, None, true}
+use Rattle.pool_syntax.specs.Terms.{ProgramTree}
+use Rattle.pool_relation.specs.Reducible.{statements_redex}
+use Rattle.pool_relation.specs.Action as A
+use Rattle.pool_relation.specs.Action.{Object, action, redex_action}
 use Rattle.term_stack.specs.declared.parts.Activation.{Activation}
-use Rattle.term_stack.specs.Parts.{operand, Valued, Over, layers, bottom}
-use Rattle.term_stack.specs.Reduced.{end_redex}
-use Rattle.plain_object.specs.Acts.{object_with}
-use Rattle.term_stack.proofs.Acting.{value_next, over_next, action_at}
+use Rattle.term_stack.specs.declared.parts.Work.{Work}
+use Rattle.term_stack.specs.Parts.{term_of}
+use Rattle.term_stack.specs.Reduced.{last_redex}
+use Rattle.term_stack.specs.Changes.{is_end, end_value}
+use Rattle.term_stack.proofs.Acting.{last_next, end_at_bottom, action_at, action_none}
 
-pub value_acts : (p : ProgramTree) (o : ℕ) (xs : List Activation) (a : Activation) (v : Operand) (k : ℕ) (vars : Store) (f : _) → slice_get xs (length xs - 1) ≡ Some a
-    → action p o (object_with k vars (bottom (layers xs (Valued (operand v)))) f) ≡ redex_action p o (object_with k vars (bottom (layers xs (Valued (operand v)))) f) a.temps.items (end_redex a.outer v.value)
-value_acts p o xs a v k vars f h = action_at p o (object_with k vars (bottom (layers xs (Valued (operand v)))) f) (end_redex a.outer v.value) a.temps.items (value_next xs a v h)
+pub last_acts : (p : ProgramTree) (o : ℕ) (w : Work) (a : Activation) (x : Object) → is_end w.next ≡ true → slice_get w.calls.items (length w.calls.items - 1) ≡ Some a
+    → x.term ≡ term_of w → action p o x ≡ redex_action p o x a.temps.items (last_redex a (end_value a.stage w.next))
+last_acts p o w a x h g e =
+    action_at p o x (last_redex a (end_value a.stage w.next)) a.temps.items (ap (statements_redex []) e ∙ last_next w.calls.items a w.next h g)
 
-pub over_acts : (p : ProgramTree) (o : ℕ) (xs : List Activation) (a : Activation) (k : ℕ) (vars : Store) (f : _) → slice_get xs (length xs - 1) ≡ Some a
-    → action p o (object_with k vars (bottom (layers xs Over)) f) ≡ redex_action p o (object_with k vars (bottom (layers xs Over)) f) a.temps.items (end_redex a.outer V.Nil)
-over_acts p o xs a k vars f h = action_at p o (object_with k vars (bottom (layers xs Over)) f) (end_redex a.outer V.Nil) a.temps.items (over_next xs a h)
+pub body_acts : (p : ProgramTree) (o : ℕ) (w : Work) (x : Object) → is_end w.next ≡ true → slice_get w.calls.items (length w.calls.items - 1) ≡ None
+    → x.term ≡ term_of w → action p o x ≡ A.Finished
+body_acts p o w x h g e = action_none p o x (ap (statements_redex []) e ∙ end_at_bottom w.calls.items w.next h g)

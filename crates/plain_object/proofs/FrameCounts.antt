@@ -15,13 +15,13 @@ use Rattle.term_stack.specs.declared.parts.Activation.{Activation}
 use Rattle.term_stack.specs.declared.parts.Work.{Work}
 use Rattle.plain_object.specs.declared.change.Change.{Change}
 use Rattle.plain_object.specs.declared.change.Change.TheVariants as H
-use Rattle.term_stack.specs.Parts.{nested, slotted, left, loop_of, Content, Running, content, around, layers, bottom, term_of}
+use Rattle.term_stack.specs.Parts.{nested, slotted, left, loop_of, Content, Running, stopped, caller_of, inside, around, layers, bottom, term_of}
 use Rattle.term_stack.specs.Changes.{is_expression, is_call, is_end, keeps_temps, next_assigns, rest_of, end_part, end_value, after_left}
 use Rattle.plain_object.specs.Acts.{changed, Fits, is_local}
 use Rattle.term_stack.specs.Arguments.{now_args}
 use Rattle.term_stack.proofs.Acting.{last_split, none_last}
 use Rattle.term_stack.proofs.Changing.{expression_filled, next_filled, assigned_bottom, assigned_around, left_call, left_bottom}
-use Rattle.term_stack.proofs.Frames.{quiet, quiet_statements, quiet_left, in_append, in_content, in_nested, in_slotted, one_around, frames_are}
+use Rattle.term_stack.proofs.Frames.{quiet, quiet_statements, quiet_left, in_append, in_content, in_nested, in_slotted, in_inside, one_around, frames_are}
 
 -- nothing is under way in what follows
 quiet_rest : (n : Now) → in_statements (rest_of n) ≡ []
@@ -44,7 +44,7 @@ one_more ys a = length-append ys (a ∷ [])
 
 -- an expression takes the place of the redex
 at_expression : (xs : List Activation) (n : Now) (e : Expression) → is_expression n ≡ true
-    → frames_of (fill_statements (bottom (layers xs (content n))) (AsExpression e)) ≡ length xs + length (in_expression e)
+    → frames_of (fill_statements (bottom (layers xs (stopped n))) (AsExpression e)) ≡ length xs + length (in_expression e)
 at_expression xs (N.Expression r ks s gs) e h =
     ap frames_of (expression_filled xs s (left gs.items) ks.items r e)
     ∙ frames_are xs (slotted s (left gs.items) (nested ks.items e))
@@ -55,23 +55,25 @@ at_expression xs N.Over e h = absurd (grind arith)
 
 -- statements take the place of the redex
 at_statement : (xs : List Activation) (n : Now) (these : Statements) → keeps_temps n ≡ true → in_statements these ≡ []
-    → frames_of (fill_statements (bottom (layers xs (content n))) (AsStatements these)) ≡ length xs
+    → frames_of (fill_statements (bottom (layers xs (stopped n))) (AsStatements these)) ≡ length xs
 at_statement xs n these h q =
     ap frames_of (next_filled xs n these h) ∙ as_many xs (Running (append these (rest_of n))) (in_append these (rest_of n) q ∙ quiet_rest n)
 
 -- an assignment is done
 at_assignment : (xs : List Activation) (n : Now) (x : ℕ) (v : Value) → next_assigns n ≡ Some (x, v)
-    → frames_of (fill_statements (bottom (layers xs (content n))) (AsStatements T.Done)) ≡ length xs
+    → frames_of (fill_statements (bottom (layers xs (stopped n))) (AsStatements T.Done)) ≡ length xs
 at_assignment xs n x v h = by (slice_get xs (length xs - 1)) refl
   where
-    inner : (ys : List Activation) (a : Activation) → frames_of (bottom (layers ys (around a.outer a.method.0 (set_value a.temps.items x v) (rest_of n, expression_of a.value.now)))) ≡ length ys + 1
+    inner : (ys : List Activation) (a : Activation)
+        → frames_of (bottom (layers ys (around a.outer (caller_of a.stage a.outer) a.method.0 (set_value a.temps.items x v) (inside a.outer a.stage (Running (rest_of n)))))) ≡ length ys + 1
     inner ys a =
-        let c = around a.outer a.method.0 (set_value a.temps.items x v) (rest_of n, expression_of a.value.now) in
-        frames_are ys c
-        ∙ ap (λ k. length ys + k) (one_around a.outer a.method.0 (set_value a.temps.items x v) (rest_of n, expression_of a.value.now)
-        ∙ ap₂ (λ k l. suc (length (k ++ l))) (quiet_rest n) (quiet a.value.now))
+        let b = inside a.outer a.stage (Running (rest_of n)) in
+        let k = caller_of a.stage a.outer in
+        frames_are ys (around a.outer k a.method.0 (set_value a.temps.items x v) b)
+        ∙ ap (λ d. length ys + d) (one_around a.outer k a.method.0 (set_value a.temps.items x v) b
+        ∙ ap (λ l. suc (length l)) (in_inside a.outer a.stage (Running (rest_of n)) ∙ quiet_rest n))
 
-    by : (o : Option Activation) → slice_get xs (length xs - 1) ≡ o → frames_of (fill_statements (bottom (layers xs (content n))) (AsStatements T.Done)) ≡ length xs
+    by : (o : Option Activation) → slice_get xs (length xs - 1) ≡ o → frames_of (fill_statements (bottom (layers xs (stopped n))) (AsStatements T.Done)) ≡ length xs
     by None i = rw (none_last xs i) (ap frames_of (assigned_bottom n x v h) ∙ ap length (quiet_rest n))
     by (Some a) i =
         let s = last_split xs a i in
@@ -79,11 +81,11 @@ at_assignment xs n x v h = by (slice_get xs (length xs - 1)) refl
 
 -- a method ends
 at_end : (xs : List Activation) (n : Now) (part : Part) → is_end n ≡ true → end_part xs n ≡ part
-    → frames_of (fill_statements (bottom (layers xs (content n))) part) ≡ length xs - 1
+    → frames_of (fill_statements (bottom (layers xs (stopped n))) part) ≡ length xs - 1
 at_end xs n part h e =
-    ap (λ q. frames_of (fill_statements (bottom (layers xs (content n))) q)) (sym e) ∙ by (slice_get xs (length xs - 1)) refl
+    ap (λ q. frames_of (fill_statements (bottom (layers xs (stopped n))) q)) (sym e) ∙ by (slice_get xs (length xs - 1)) refl
   where
-    by : (o : Option Activation) → slice_get xs (length xs - 1) ≡ o → frames_of (fill_statements (bottom (layers xs (content n))) (end_part xs n)) ≡ length xs - 1
+    by : (o : Option Activation) → slice_get xs (length xs - 1) ≡ o → frames_of (fill_statements (bottom (layers xs (stopped n))) (end_part xs n)) ≡ length xs - 1
     by None i =
         let z = none_last xs i in
         let l : length xs ≡ 0 = ap length z in
@@ -93,7 +95,7 @@ at_end xs n part h e =
         let s = last_split xs a i in
         let l : length xs ≡ length s.0 + 1 = ap length s.1 ∙ one_more s.0 a in
         let m : length s.0 ≡ length xs - 1 = omega arith in
-        ap frames_of (left_call xs s.0 a n s.1 h) ∙ as_many s.0 (after_left a.outer (end_value n)) (quiet_after a.outer (end_value n)) ∙ m
+        ap frames_of (left_call xs s.0 a n s.1 h) ∙ as_many s.0 (after_left a.outer (end_value a.stage n).value) (quiet_after a.outer (end_value a.stage n).value) ∙ m
 
 call_is_expression : (n : Now) → is_call n ≡ true → is_expression n ≡ true
 call_is_expression (N.Expression r ks s gs) h = refl
@@ -137,9 +139,10 @@ frames_after w x (H.Unfold k ss) e f l =
     (ap (λ a. a ++ []) (quiet k.now))))
 frames_after w x (H.Call m) e f l =
     rw e (sym (at_expression w.calls.items w.next _ (call_is_expression w.next f)
-    ∙ ap (λ k. length w.calls.items + suc (length k)) (ap₂ (λ a b. a ++ b) (quiet_statements m.now.body) (quiet m.now.value))))
+    ∙ ap (λ k. length w.calls.items + suc (length k)) (ap₂ (λ a b. a ++ b) (quiet_statements m.now.body) (ap₂ (λ a b. a ++ b) (quiet m.now.value) (quiet_statements m.now.post)))))
 frames_after w x (H.Leave v) e f l = rw e (sym (at_end w.calls.items w.next (AsExpression (literal v)) f.0 f.1))
 frames_after w x H.End e f l = rw e (sym (at_end w.calls.items w.next (AsStatements T.Done) f.0 f.1))
+frames_after w x H.Returned e f l = absurd (grind arith)
 frames_after w x (H.Wait b m) e f l = absurd (grind arith)
 frames_after w x (H.Serve m k args rest) e f l = absurd (grind arith)
 frames_after w x (H.Fault error) e f l = absurd (grind arith)

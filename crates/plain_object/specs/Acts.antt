@@ -10,13 +10,13 @@ use Rattle.pool_relation.specs.Reducible.{Choice, AsStatements, AsExpression, se
 use Rattle.pool_syntax.specs.Values.{is_same}
 use Rattle.pool_relation.specs.Action as A
 use Rattle.pool_relation.specs.Action.{Object, Action, literal, temps_of}
-use Rattle.pool_relation.specs.Transition.{refilled, given, serving}
+use Rattle.pool_relation.specs.Transition.{refilled, given, returned, serving}
 use Rattle.plain_object.specs.declared.act.Act.{Act}
 use Rattle.plain_object.specs.declared.act.Act.TheVariants as C
 use Rattle.plain_object.specs.declared.change.Change.{Change}
 use Rattle.plain_object.specs.declared.change.Change.TheVariants as H
 use Rattle.term_stack.specs.declared.parts.Activation.{Activation}
-use Rattle.term_stack.specs.Changes.{is_expression, is_statement, is_call, is_end, keeps_temps, next_assigns, end_part}
+use Rattle.term_stack.specs.Changes.{is_expression, is_statement, is_call, is_end, is_awaited, keeps_temps, next_assigns, end_part}
 use Rattle.term_stack.specs.declared.parts.Now.{Now}
 use Rattle.term_stack.specs.Parts.{loop_of}
 
@@ -35,9 +35,10 @@ changed x vs (H.Repeat e ss) = refilled x (AsStatements (append (statements_of s
 changed x vs (H.Unfold e ss) =
     refilled x (AsStatements (T.Then (T.If (expression_of e.now) (append (statements_of ss.now) (loop_of (expression_of e.now) (statements_of ss.now))) T.Done) T.Done))
 changed x vs (H.Call m) =
-    refilled x (AsExpression (T.Frame m.now.name.name.0 (temps_of (method_tree m.now) vs) (statements_of m.now.body) (expression_of m.now.value)))
+    refilled x (AsExpression (T.Frame m.now.name.name.0 (temps_of (method_tree m.now) vs) (statements_of m.now.body) (expression_of m.now.value) (statements_of m.now.post)))
 changed x vs (H.Leave v) = given x v
 changed x vs H.End = refilled x (AsStatements T.Done)
+changed x vs H.Returned = returned x
 changed x vs (H.Wait b m) = refilled x (AsExpression (T.Wait b m.0))
 changed x vs (H.Serve m k args after) = serving x (method_tree m.now) k args (statements_of after.now)
 changed x vs (H.Fault e) = record x { fault = Some e }
@@ -69,12 +70,14 @@ Fits xs n (H.Unfold e ss) = IsTrue (is_statement n) × IsTrue (keeps_temps n)
 Fits xs n (H.Call m) = IsTrue (is_call n)
 Fits xs n (H.Leave v) = IsTrue (is_end n) × (end_part xs n ≡ AsExpression (literal v))
 Fits xs n H.End = IsTrue (is_end n) × (end_part xs n ≡ AsStatements T.Done)
+Fits xs n H.Returned = IsTrue (is_end n) × IsTrue (is_awaited xs)
 Fits xs n (H.Wait b m) = IsTrue (is_expression n)
 Fits xs n (H.Serve m k args after) = IsTrue (is_statement n) × IsTrue (keeps_temps n)
 Fits xs n (H.Fault e) = Unit {0}
 
 -- whether an object makes the change by itself
 abbrev pub is_local : Change → Bool
+is_local H.Returned = false
 is_local (H.Wait b m) = false
 is_local (H.Serve m k args after) = false
 is_local (H.Fault e) = false
@@ -91,7 +94,7 @@ Suits xs n (C.Async b m) = IsTrue (is_statement n) × IsTrue (keeps_temps n)
 Suits xs n (C.Write i) = IsTrue (is_statement n) × IsTrue (keeps_temps n)
 Suits xs n C.Answer = IsTrue (is_statement n) × IsTrue (keeps_temps n)
 Suits xs n C.Select = IsTrue (is_statement n) × IsTrue (keeps_temps n)
-Suits xs n (C.Return k v) = IsTrue (is_end n) × (end_part xs n ≡ AsStatements T.Done)
+Suits xs n (C.Return k v) = IsTrue (is_end n) × IsTrue (is_awaited xs)
 Suits xs n (C.Waits b m) = IsTrue (is_expression n)
 Suits xs n C.Stuck = Unit {0}
 

@@ -3,23 +3,25 @@ ghost use Rattle.std.specs.Prelude.{◌≡◌, [], ◌∷◌, Option, Some, None
 ghost use Rattle.std.specs.List.{list_any};
 ghost use Rattle.pool_syntax.specs.TreeOf.{program_of};
 ghost use Rattle.pool_syntax.specs.Terms.{Statements, Store, ProgramTree};
-ghost use Rattle.pool_relation.specs.Reducible.{Finish, Leave};
+ghost use Rattle.pool_relation.specs.Reducible.{Choice};
 ghost use Rattle.pool_relation.specs.Action.{Object, action, redex_action, on_outcome, on_select, on_assignment};
 ghost use Rattle.pool_syntax.specs.Values.{is_nil, not_bool, is_true};
 ghost use Rattle.term_stack.specs.Parts.{term_of, task as statement};
-ghost use Rattle.term_stack.specs.Reduced.{assigns, reduced, task_redex, end_redex, choices, temps_at};
+ghost use Rattle.term_stack.specs.Reduced.{assigns, reduced, task_redex, last_redex, choices, temps_at};
 ghost use Rattle.value_operators.specs.Operated.{outcome_of};
 ghost use Rattle.plain_object.specs.Acts.{acted, object_with, Suits, returns_act, waits_act, calls_act, posts_act};
 ghost use Rattle.term_stack.specs.Arguments.{ready_args, task_args, task_names, task_choices, now_args, now_names, now_choices};
-ghost use Rattle.std.specs.Prelude.{List, true, not};
-ghost use Rattle.term_stack.specs.Changes.{is_expression, is_statement, is_end, keeps_temps, next_ready, next_assigns, assigning, end_part, left_part};
+ghost use Rattle.std.specs.Prelude.{◌-◌, List, length, slice_get, true, not};
+ghost use Rattle.pool_syntax.specs.declared.words.Value.{Value};
+ghost use Rattle.pool_syntax.specs.declared.tree.Named.{Named};
+ghost use Rattle.term_stack.specs.Changes.{is_expression, is_statement, is_end, keeps_temps, next_ready, next_assigns, assigning, end_value};
 ghost use Rattle.term_stack.specs.declared.parts.Activation.{Activation};
 ghost use Rattle.term_stack.specs.declared.parts.Now.{Now};
 
 use crate::change::Change;
 use crate::lookup::{find_class, find_method, value_of};
 use pool_syntax::{Error, Item, NameId, Program, Value};
-use term_stack::parts::{Activation, Binding, Guarded, Now, Outer, Ready, Task, Work};
+use term_stack::parts::{Activation, Binding, Guarded, Now, Operand, Outer, Ready, Task, Work};
 use value_operators::operators::{Answer, operate, operate_one, same};
 
 /// What an object does next. The arguments, names and guards are those of the redex.
@@ -196,21 +198,33 @@ fn act_task<'a>(class: u32, temps: &[Binding], vars: &[Binding], task: &Task<'a>
     }
 }
 
-/// What an object does at the end of a method.
-fn act_end<'a>(outer: &Outer<'_>, value: Value) -> Act<'a>
-    ensures gives { (p : ProgramTree) (o : ℕ) (x : Object) (t : Store) → redex_action p o x t (end_redex outer.now value) ≡ acted x [] [] [] result }
-    ensures suits { (xs : List Activation) (n : Now) → is_end n ≡ true → end_part xs n ≡ left_part outer.now value → Suits xs n result }
+/// What an object does at the end of a method with this value.
+fn act_end<'a>(call: &Activation<'_>, value: Operand) -> Act<'a>
+    ensures gives { (p : ProgramTree) (o : ℕ) (x : Object) (t : Store) (vs : List Value) (ns : List Named) (cs : List Choice) → redex_action p o x t (last_redex call.now value) ≡ acted x vs ns cs result }
+    ensures suits { (xs : List Activation) (n : Now) → is_end n ≡ true → slice_get xs (length xs - 1) ≡ Some call.now → end_value call.now.stage n ≡ value → Suits xs n result }
 {
-    match outer {
-        Outer::Expression { .. } => Act::Local(Change::Leave(value)),
-        Outer::Statement { caller: None, .. } => Act::Local(Change::End),
-        Outer::Statement {
-            caller: Some(caller),
-            ..
-        } => Act::Return {
-            caller: *caller,
-            value,
+    match &call.outer {
+        Outer::Expression { .. } => Act::Local(Change::Leave(value.value)),
+        Outer::Statement { .. } => match call.caller() {
+            None => Act::Local(Change::End),
+            Some(caller) => Act::Return {
+                caller,
+                value: value.value,
+            },
         },
+    }
+}
+
+/// What an object does at the end of a method or of its body.
+#[tactic(auto, using(crate::proofs::Ending::last_acts, crate::proofs::Ending::body_acts))]
+fn act_last<'a>(work: &Work<'_>) -> Act<'a>
+    requires { IsTrue (is_end work.now.next) }
+    ensures gives { (p : ProgramTree) (o : ℕ) (x : Object) (vs : List Value) (ns : List Named) (cs : List Choice) → x.term ≡ term_of work.now → action p o x ≡ acted x vs ns cs result }
+    ensures suits { Suits work.now.calls.items work.now.next result }
+{
+    match work.calls.as_slice().last() {
+        None => Act::Finished,
+        Some(call) => act_end(call, call.end_value(&work.next)),
     }
 }
 
@@ -226,7 +240,7 @@ pub fn temps<'s>(calls: &'s [Activation<'_>]) -> &'s [Binding]
 }
 
 /// What the object of this name and class, with these variables, does next.
-#[tactic(auto, using(term_stack::proofs::Acting::expression_next, term_stack::proofs::Acting::statement_next, term_stack::proofs::Acting::value_next, term_stack::proofs::Acting::over_next, term_stack::proofs::Acting::value_at_bottom, term_stack::proofs::Acting::over_at_bottom, term_stack::proofs::Acting::action_at, term_stack::proofs::Acting::action_none))]
+#[tactic(auto, using(term_stack::proofs::Acting::expression_next, term_stack::proofs::Acting::statement_next, term_stack::proofs::Acting::action_at))]
 pub fn next_act<'a>(
     work: &Work<'a>,
     program: &'a Program,
@@ -241,14 +255,8 @@ pub fn next_act<'a>(
     match &work.next {
         Now::Expression { redex, .. } => act_ready(program, name, class, temps(calls), vars, redex),
         Now::Statement { task, .. } => act_task(class, temps(calls), vars, task),
-        Now::Value { value } => match calls.last() {
-            None => Act::Local(Change::End),
-            Some(call) => act_end(&call.outer, value.value),
-        },
-        Now::Over => match calls.last() {
-            None => Act::Finished,
-            Some(call) => act_end(&call.outer, Value::Nil),
-        },
+        Now::Value { .. } => act_last(work),
+        Now::Over => act_last(work),
     }
 }
 

@@ -32,6 +32,8 @@ pub enum Change<'a> {
     Leave(Value),
     /// The end of a served method.
     End,
+    /// The value of a served method was given to its caller: its post statements come next.
+    Returned,
     Wait {
         receiver: u32,
         method: NameId,

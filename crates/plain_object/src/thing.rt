@@ -64,6 +64,7 @@ impl<'a> Thing<'a> {
             Change::Unfold { cond, body } => self.work.unfold(alloc, cond, body),
             Change::Call(method) => self.work.call(alloc, method),
             Change::Leave(_) | Change::End => self.work.leave(alloc),
+            Change::Returned => self.work.hand_over(alloc),
             Change::Wait { receiver, method } => {
                 self.work.wait(receiver, method);
                 Ok(())

@@ -1,7 +1,7 @@
 -- What the code makes of a value, of a step that another object has a part in, and of a call.
 use Rattle.object_code.specs.declared.unit.CodeObject.{CodeObject}
 use Rattle.object_code.specs.declared.unit.Frame.{Frame}
-use Rattle.std.proofs.Common.{◌≡◌, refl, sym, ap, ◌∙◌, subst, ℕ, zero, suc, ◌+◌, ◌-◌, List, [], ◌∷◌, ◌++◌, length, Option, Some, false, inl, arith}
+use Rattle.std.proofs.Common.{◌≡◌, refl, sym, ap, ◌∙◌, subst, ℕ, zero, suc, ◌+◌, ◌-◌, List, [], ◌∷◌, ◌++◌, length, Option, Some, false, inl, arith, None, inr}
 use Rattle.std.specs.Prelude.{slice_get, map}
 use Rattle.pool_syntax.specs.declared.words.Value.{Value}
 use Rattle.pool_syntax.specs.declared.words.Value.TheVariants as V
@@ -22,8 +22,8 @@ use Rattle.object_code.specs.declared.unit.ClassCode.{ClassCode}
 use Rattle.object_code.specs.Frames.{code_of, taken, dropped, next}
 use Rattle.object_code.specs.Step.{Numbered, begun, called, at_rest, frames_stepped, asked, frames_given, instr_gone_on, frames_gone_on, after_choice, at_alternative, frames_picked, frames_serving}
 use Rattle.pool_compile.specs.Code.{Numbering, name, names_of, class_code}
-use Rattle.pool_compile.specs.Stands.{Standing, Head, frame_of, fresh, IsServing, InMethod, push_all, Under, UnderStatements}
-use Rattle.pool_compile.proofs.Focus.{is_inner, after, UnderPart, Focus, Stand, Lists, guards_of}
+use Rattle.pool_compile.specs.Stands.{Standing, Head, frame_of, fresh, IsServing, InMethod, push_all, Under, UnderStatements, as_value}
+use Rattle.pool_compile.proofs.Focus.{is_inner, after, UnderPart, Focus, Stand, Lists, guards_of, Spot}
 use Rattle.pool_compile.proofs.KindLaws.{take_args, drop_args, dropped_all, lists_length}
 use Rattle.pool_compile.proofs.Methods.{Begins}
 use Rattle.pool_compile.proofs.Steps.{Target, Lands, Term, whole_of, now, stepped_here, value_lands, list_lands, done_statement}
@@ -146,15 +146,29 @@ module _ (k : Option ClassCode) (h : Head) (g : Numbering) (none : g.temps ≡ [
       ∙ ap (λ l. at_rest k y (next (at_hand (R.Post to m args) u f vs) l) f.rest) (drop_call args f.base to))
       (done_statement k h g none end halt ss L k _ f.g f.base (suc f.s.at) f.stop (sym f.spot.2.1.1))
 
-  -- the end of a method that was served for a caller
-  pub returned : (y : CodeObject) (w : ℕ) (v : Value) (u : Store) (f : Focus k g.vars L (R.Finish (Some w) v) u Goal)
-      → Got y y.vars (fill_statements ss (AsStatements T.Done)) (frames_gone_on k y L)
-  returned y w v u f =
-      let e = f.spot in
-      let a : frames_gone_on k y L ≡ instr_gone_on k y e.0 (frame_of f.host f.own f.s ∷ f.rest) (Some I.Ret) =
-      ap (frames_gone_on k y) (f.split ∙ ap (λ l. l ++ frame_of f.host f.own f.s ∷ f.rest) e.1)
-      ∙ ap (instr_gone_on k y e.0 (frame_of f.host f.own f.s ∷ f.rest)) e.4 in
-      list_lands k h g none end halt ss L (R.Finish (Some w) v) u f y _ y.vars (record f.s { above = [] }) T.Done refl refl a ((e.5, refl), (0, e.6))
+  -- a method that was served for a caller returns: it ends, or goes on for no one
+  pub returned : (y : CodeObject) (w : ℕ) (v : Value) (work : Statements) (u : Store) (f : Focus k g.vars L (R.Finish (Some w) v work) u Goal)
+      → Got y y.vars (fill_statements ss (AsStatements work)) (frames_gone_on k y L)
+  returned y w v work u f = by f.spot
+    where
+      by : Spot k f.over f.host f.own f.g f.base f.s f.stop (R.Finish (Some w) v work) u → Got y y.vars (fill_statements ss (AsStatements work)) (frames_gone_on k y L)
+      by (inl (e, d)) =
+          let a : frames_gone_on k y L ≡ instr_gone_on k y e.0 (frame_of f.host f.own f.s ∷ f.rest) (Some I.Ret) =
+          ap (frames_gone_on k y) (f.split ∙ ap (λ l. l ++ frame_of f.host f.own f.s ∷ f.rest) e.1)
+          ∙ ap (instr_gone_on k y e.0 (frame_of f.host f.own f.s ∷ f.rest)) e.4 in
+          subst (λ q. Got y y.vars (fill_statements ss (AsStatements q)) (frames_gone_on k y L)) (sym d)
+          (list_lands k h g none end halt ss L (R.Finish (Some w) v work) u f y _ y.vars (record f.s { above = [] }) T.Done refl refl a ((e.5, refl), (0, e.6)))
+      by (inr e) =
+          let a : frames_gone_on k y L ≡ instr_gone_on k y e.0 (frame_of f.host f.own f.s ∷ f.rest) (Some I.Post) =
+          ap (frames_gone_on k y) (f.split ∙ ap (λ l. l ++ frame_of f.host f.own f.s ∷ f.rest) e.1)
+          ∙ ap (instr_gone_on k y e.0 (frame_of f.host f.own f.s ∷ f.rest)) e.5 in
+          let on : Frame = next (record e.0 { serves = S.Sender }) e.0.operands in
+          let z : Standing = record f.s { above = on ∷ [] } in (
+            on,
+            frame_of f.host f.own z ∷ f.rest,
+            a,
+            whole_of k h g none end halt ss L _ (AsStatements work) (f.rebuild (AsStatements work) z e.6),
+          )
 
   -- a plain alternative
   pub picks : (y : CodeObject) (cs : List Choice) (j : ℕ) (x : Choice) (u : Store) (f : Focus k g.vars L (R.Choose cs) u Goal) → slice_get cs j ≡ Some x
@@ -180,25 +194,26 @@ module _ (tree : ClassTree) (h : Head) (end : ℕ) (halt : slice_get (code_of (S
   abbrev g : Numbering
   g = record { temps = []; vars = names_of tree.vars }
 
-  abbrev Way : Head → Numbering → Statements → Expression → Type 0
-  Way head i body value =
-      InMethod (code_of k head.method) (UnderStatements k (code_of k head.method) i body []) (is_done body) (Under k (code_of k head.method) i value []) (fresh 0 [])
+  abbrev Way : Option ℕ → Head → Numbering → Statements → Expression → Statements → Type 0
+  Way c head i body value post =
+      InMethod (code_of k head.method) c (UnderStatements k (code_of k head.method) i body []) (is_done body) (Under k (code_of k head.method) i value []) (as_value value)
+      (UnderStatements k (code_of k head.method) i post) (is_done post) (fresh 0 [])
 
-  way_in : (m : ℕ) (mt : MethodTree) (args : List Value) (w : Serves) (b : Begins tree m mt args w) (i : Numbering) → i.vars ≡ names_of tree.vars
-      → Way b.head (record i { temps = names_of (mt.params ++ mt.locals) }) mt.body mt.value
-  way_in m mt args w b i e =
-      subst (λ vs. Way b.head (record { temps = names_of (mt.params ++ mt.locals); vars = vs }) mt.body mt.value) (sym e) b.way
+  way_in : (c : Option ℕ) (m : ℕ) (mt : MethodTree) (args : List Value) (w : Serves) (b : Begins tree m mt args w) (i : Numbering) → i.vars ≡ names_of tree.vars
+      → Way c b.head (record i { temps = names_of (mt.params ++ mt.locals) }) mt.body mt.value mt.post
+  way_in c m mt args w b i e =
+      subst (λ vs. Way c b.head (record { temps = names_of (mt.params ++ mt.locals); vars = vs }) mt.body mt.value mt.post) (sym e) (b.way c)
 
   -- an own call
   pub calls : (o : ℕ) (y : CodeObject) (m : ℕ) (mt : MethodTree) (args : List Value) (b : Begins tree m mt args S.Own) → length mt.params ≡ length args
       → (u : Store) (f : Focus k g.vars L (R.Invoke m args) u (Target k h g refl end halt ss L))
-      → Lands k h g refl end halt ss L y y.vars (fill_statements ss (AsExpression (T.Frame mt.name.name.0 (temps_of mt args) mt.body mt.value))) (frames_stepped k o y L)
+      → Lands k h g refl end halt ss L y y.vars (fill_statements ss (AsExpression (T.Frame mt.name.name.0 (temps_of mt args) mt.body mt.value mt.post))) (frames_stepped k o y L)
   calls o y m mt args b count u f =
       let vs = push_all args f.base in
       let F = now k h g refl end halt ss L (R.Invoke m args) u f vs in
       let t = temps_of mt args in
       let z : Standing = record { at = suc f.s.at; operands = f.base; above = frame_of b.head t (fresh 0 []) ∷ [] } in
-      let part : Expression = T.Frame mt.name.name.0 t mt.body mt.value in
+      let part : Expression = T.Frame mt.name.name.0 t mt.body mt.value mt.post in
       let n : b.i.code.params ≡ length args = b.counts ∙ count in
       let e : frames_stepped k o y L ≡ at_rest k y (frame_of b.head t (fresh 0 [])) (frame_of f.host f.own z ∷ f.rest) =
       stepped_here k h g refl end halt ss L (R.Invoke m args) u f o y vs (I.Call (name m)) f.stop f.spot.0 f.spot.2
@@ -211,11 +226,11 @@ module _ (tree : ClassTree) (h : Head) (end : ℕ) (halt : slice_get (code_of (S
         frame_of f.host f.own z ∷ f.rest,
         e,
         whole_of k h g refl end halt ss L _ (AsExpression part) (f.rebuild (AsExpression part) z
-            ((refl, sym f.spot.2.1.1), (b.head, fresh 0 [], names_of (mt.params ++ mt.locals), refl, b.of, b.serves, b.names, way_in m mt args S.Own b f.g f.vars))),
+            ((refl, sym f.spot.2.1.1), (b.head, fresh 0 [], names_of (mt.params ++ mt.locals), refl, b.of, b.serves, b.names, way_in None m mt args S.Own b f.g f.vars))),
       )
 
   abbrev Served : MethodTree → Option ℕ → List Value → Statements → Statements
-  Served mt caller args work = T.Then (T.Serve mt.name.name.0 caller (temps_of mt args) mt.body mt.value) work
+  Served mt caller args work = T.Then (T.Serve mt.name.name.0 caller (temps_of mt args) mt.body mt.value mt.post) work
 
   -- a frame that serves over one at a place that stands for the rest
   serving : (r : Reducible) (u : Store) (f : Focus k g.vars L r u (Target k h g refl end halt ss L)) (m : ℕ) (mt : MethodTree) (args : List Value) (caller : Option ℕ) (w : Serves)
@@ -228,7 +243,7 @@ module _ (tree : ClassTree) (h : Head) (end : ℕ) (halt : slice_get (code_of (S
       let z : Standing = record { at = at; operands = f.base; above = frame_of b.head t (fresh 0 []) ∷ [] } in
       let c = code_of k f.host.method in
       let st : UnderStatements k c f.g (Served mt caller args work) f.base z f.stop =
-      (at, inl ((refl, refl), (b.head, fresh 0 [], names_of (mt.params ++ mt.locals), refl, b.of, subst (IsServing caller) (sym b.serves) serves, b.names, way_in m mt args w b f.g f.vars)), left) in
+      (at, inl ((refl, refl), (b.head, fresh 0 [], names_of (mt.params ++ mt.locals), refl, b.of, subst (IsServing caller) (sym b.serves) serves, b.names, way_in caller m mt args w b f.g f.vars)), left) in
       let part : UnderPart (is_inner r) k c f.g (AsStatements (Served mt caller args work)) f.base z f.stop =
       subst (λ q. UnderPart q k c f.g (AsStatements (Served mt caller args work)) f.base z f.stop) (sym inner) st in (
         frame_of b.head t (fresh 0 []),

@@ -90,7 +90,7 @@ module _ (kt : ClassTree) where
         let ws = two (is_source e) (are_source es) w in
         rw (room_of h p _ f, counted g own h e ws.0 (nil_left (expression_faults g h e) _ r))
         (subst (λ q. are_counted k q es ≡ true) j (counted_all g own (h + 1) _ es ws.1 (nil_right _ (arguments_faults g (h + 1) _ es) s)))
-    counted g own h (T.Frame m v ss e) w f = absurd (grind (arith, w))
+    counted g own h (T.Frame m v ss e qs) w f = absurd (grind (arith, w))
     counted g own h (T.Wait b m) w f = absurd (grind (arith, w))
 
     pub counted_all : (g : Scope) → g.own ≡ Some kt → (h : ℕ) (vs : List Var) (es : Expressions) → are_source es ≡ true → arguments_faults g h vs es ≡ []
@@ -111,39 +111,40 @@ module _ (kt : ClassTree) where
 
   mutual
     pub counted_statement : (g : Scope) → g.own ≡ Some kt → (st : Statement) → is_source_statement st ≡ true → statement_faults g st ≡ []
-        → is_counted_statement k st ≡ true
+        → is_counted_statement k g.held st ≡ true
     counted_statement g own (T.Assign x p e) w f =
-        counted g own 0 e w (nil_left (expression_faults g 0 e) _ (nil_right (fault_if (is_broken_name g x) p 6) _ f))
-    counted_statement g own (T.Write e) w f = counted g own 0 e w (nil_left (expression_faults g 0 e) _ f)
+        counted g own g.held e w (nil_left (expression_faults g g.held e) _ (nil_right (fault_if (is_broken_name g x) p 6) _ f))
+    counted_statement g own (T.Write e) w f = counted g own g.held e w (nil_left (expression_faults g g.held e) _ f)
     counted_statement g own (T.WriteText n) w f = refl
-    counted_statement g own (T.Do e) w f = counted g own 0 e w f
+    counted_statement g own (T.Do e) w f = counted g own g.held e w f
     counted_statement g own (T.Async e m p es) w f =
         let ws = two (is_source e) (are_source es) w in
-        rw (counted g own 0 e ws.0 (nil_left (expression_faults g 0 e) _ f))
-        (counted_all g own 1 _ es ws.1 (nil_right _ (arguments_faults g 1 _ es) (nil_right (expression_faults g 0 e) _ f)))
+        rw (counted g own g.held e ws.0 (nil_left (expression_faults g g.held e) _ f))
+        (subst (λ q. are_counted k q es ≡ true) (let j : g.held + 1 ≡ suc g.held = omega arith in j)
+        (counted_all g own (g.held + 1) _ es ws.1 (nil_right _ (arguments_faults g (g.held + 1) _ es) (nil_right (expression_faults g g.held e) _ f))))
     counted_statement g own (T.If e these those) w f =
         let ws = three (is_source e) (are_source_statements these) (are_source_statements those) w in
-        let r = nil_right (needs g BoolSort e) _ (nil_right (expression_faults g 0 e) _ f) in
-        rw (counted g own 0 e ws.0 (nil_left (expression_faults g 0 e) _ f), counted_statements g own these ws.1 (nil_left (statements_faults g these) _ r))
+        let r = nil_right (needs g BoolSort e) _ (nil_right (expression_faults g g.held e) _ f) in
+        rw (counted g own g.held e ws.0 (nil_left (expression_faults g g.held e) _ f), counted_statements g own these ws.1 (nil_left (statements_faults g these) _ r))
         (counted_statements g own those ws.2 (nil_right (statements_faults g these) _ r))
     counted_statement g own (T.While e ss) w f =
         let ws = two (is_source e) (are_source_statements ss) w in
-        rw (counted g own 0 e ws.0 (nil_left (expression_faults g 0 e) _ f))
-        (counted_statements g own ss ws.1 (nil_right (needs g BoolSort e) _ (nil_right (expression_faults g 0 e) _ f)))
+        rw (counted g own g.held e ws.0 (nil_left (expression_faults g g.held e) _ f))
+        (counted_statements g own ss ws.1 (nil_right (needs g BoolSort e) _ (nil_right (expression_faults g g.held e) _ f)))
     counted_statement g own (T.Answer ns) w f = refl
     counted_statement g own (T.Select alts) w f =
-        let a = counted_alternatives g own 0 alts w f in rw (a.0) a.1
-    counted_statement g own (T.Serve m c v ss e) w f = absurd (grind (arith, w))
+        let a = counted_alternatives g own g.held alts w f in rw (a.0) a.1
+    counted_statement g own (T.Serve m c v ss e qs) w f = absurd (grind (arith, w))
 
     pub counted_statements : (g : Scope) → g.own ≡ Some kt → (ss : Statements) → are_source_statements ss ≡ true → statements_faults g ss ≡ []
-        → are_counted_statements k ss ≡ true
+        → are_counted_statements k g.held ss ≡ true
     counted_statements g own T.Done w f = refl
     counted_statements g own (T.Then st ss) w f =
         let ws = two (is_source_statement st) (are_source_statements ss) w in
         rw (counted_statement g own st ws.0 (nil_left (statement_faults g st) _ f)) (counted_statements g own ss ws.1 (nil_right (statement_faults g st) _ f))
 
     pub counted_alternatives : (g : Scope) → g.own ≡ Some kt → (i : ℕ) (alts : Alternatives) → are_source_alternatives alts ≡ true
-        → alternatives_faults g i alts ≡ [] → (are_counted_guards k i alts ≡ true) × (are_counted_works k alts ≡ true)
+        → alternatives_faults g i alts ≡ [] → (are_counted_guards k i alts ≡ true) × (are_counted_works k g.held alts ≡ true)
     counted_alternatives g own i T.NoAlts w f = (refl, refl)
     counted_alternatives g own i (T.Alt e ns ss alts) w f =
         let ws = three (is_source e) (are_source_statements ss) (are_source_alternatives alts) w in

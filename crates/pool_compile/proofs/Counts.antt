@@ -1,6 +1,6 @@
 -- As many frames stand above a place as methods are under way in the part that it stands for.
 use Rattle.object_code.specs.declared.unit.CodeObject.{CodeObject}
-use Rattle.std.proofs.Common.{◌≡◌, refl, sym, ap, ◌∙◌, ℕ, suc, ◌+◌, List, [], ◌∷◌, length, Option, Some, IsTrue, ◌⊎◌, inl, inr, arith, length-append}
+use Rattle.std.proofs.Common.{◌≡◌, refl, sym, ap, ◌∙◌, ℕ, suc, ◌+◌, List, [], ◌∷◌, length, Option, Some, IsTrue, inl, inr, arith, length-append, None, ◌++◌}
 use Rattle.pool_syntax.specs.declared.words.Value.{Value}
 use Rattle.pool_syntax.specs.Terms as T
 use Rattle.pool_syntax.specs.Terms.{Store, Expression, Expressions, Statement, Statements, Alternatives}
@@ -12,7 +12,7 @@ use Rattle.object_code.specs.Frames.{code_of}
 use Rattle.pool_syntax.specs.Terms.{ProgramTree}
 use Rattle.pool_relation.specs.Action.{Object}
 use Rattle.pool_compile.specs.Code.{Numbering}
-use Rattle.pool_compile.specs.Stands.{Standing, Head, level, fresh, Led, as_value, Standings, InTurn, InMethod, Under, UnderAll, UnderStatement, UnderStatements, UnderGuards, StandsFor}
+use Rattle.pool_compile.specs.Stands.{Standing, Head, level, fresh, Led, as_value, Standings, InTurn, InMethod, Under, UnderAll, UnderStatement, UnderStatements, UnderGuards, StandsFor, Behind}
 
 level_length : (h : Head) (t : Store) (a : Standing) → length (level h t a) ≡ suc (length a.above)
 level_length h t a = length-append a.above _ ∙ (let e : length a.above + 1 ≡ suc (length a.above) = omega arith in e)
@@ -39,27 +39,41 @@ value_none _ v h = absurd (grind (arith, h))
 empty : (s : Standing) → s.above ≡ [] → length s.above ≡ 0
 empty s e = ap length e
 
--- a method under way: its statements and its value
-method_count : (c : List Instr) (k : Option ClassCode) (g : Numbering) (ss : Statements) (e : Expression) (a : Standing)
+-- a method under way: its statements, its value and its post statements
+method_count : (c : List Instr) (k : Option ClassCode) (g : Numbering) (caller : Option ℕ) (ss : Statements) (e : Expression) (qs : Statements) (a : Standing)
     → ((base : List Value) (s : Standing) (end : ℕ) → UnderStatements k c g ss base s end → length s.above ≡ length (in_statements ss))
     → ((base : List Value) (s : Standing) (end : ℕ) → Under k c g e base s end → length s.above ≡ length (in_expression e))
-    → InMethod c (UnderStatements k c g ss []) (is_done ss) (Under k c g e []) a → length a.above ≡ length (in_statements ss) + length (in_expression e)
-method_count c k g ss e a f h w = by w.2
+    → ((base : List Value) (s : Standing) (end : ℕ) → UnderStatements k c g qs base s end → length s.above ≡ length (in_statements qs))
+    → ((v : Value) → as_value e ≡ Some v → length (in_expression e) ≡ 0)
+    → InMethod c caller (UnderStatements k c g ss []) (is_done ss) (Under k c g e []) (as_value e) (UnderStatements k c g qs) (is_done qs) a
+    → length a.above ≡ length (in_statements ss) + (length (in_expression e) + length (in_statements qs))
+method_count c k g caller ss e qs a f h fq value w = by w
   where
     none : (ss : Statements) → IsTrue (is_done ss) → length (in_statements ss) ≡ 0
     none T.Done i = refl
     none (T.Then s ss) i = absurd (grind (arith, i))
 
-    by : ((r : ℕ) × UnderStatements k c g ss [] a r × Under k c g e [] (fresh r []) w.0) ⊎ (IsTrue (is_done ss) × Under k c g e [] a w.0)
-        → length a.above ≡ length (in_statements ss) + length (in_expression e)
-    by (inl v) =
-        let x = f [] a v.0 v.1 in
-        let y : length (fresh v.0 []).above ≡ length (in_expression e) = h [] (fresh v.0 []) w.0 v.2 in
-        omega (arith, x, y)
-    by (inr v) =
-        let x = h [] a w.0 v.1 in
-        let y = none ss v.0 in
-        omega (arith, x, y)
+    posts : (q : ℕ) → Behind c (is_done qs) (UnderStatements k c g qs) q → length (in_statements qs) ≡ 0
+    posts q (inl w) = none qs w.0
+    posts q (inr w) = let x : length (fresh (suc q) []).above ≡ length (in_statements qs) = fq [] (fresh (suc q) []) w.2.0 (w.2.2 []) in sym x
+
+    by : InMethod c caller (UnderStatements k c g ss []) (is_done ss) (Under k c g e []) (as_value e) (UnderStatements k c g qs) (is_done qs) a
+        → length a.above ≡ length (in_statements ss) + (length (in_expression e) + length (in_statements qs))
+    by (inl (q, b, inl (r, x, y))) =
+        let m = f [] a r x in
+        let n : length (fresh r []).above ≡ length (in_expression e) = h [] (fresh r []) q y in
+        let o = posts q b in
+        omega (arith, m, n, o)
+    by (inl (q, b, inr (d, y))) =
+        let m = h [] a q y in
+        let n = none ss d in
+        let o = posts q b in
+        omega (arith, m, n, o)
+    by (inr (v, d, is, n, (p, ret, u))) =
+        let m = fq (v ∷ []) a p u in
+        let o = none ss d in
+        let x = value v is in
+        omega (arith, m, o, x)
 
 led_count : (c : List Instr) (part : Standings) (n : ℕ) (base : List Value) (s : Standing) (end : ℕ)
     → ((base : List Value) (s : Standing) (end : ℕ) → part base s end → length s.above ≡ n) → Led c part base s end → length s.above ≡ n
@@ -85,11 +99,11 @@ mutual
       turn_count (Under k c g e) (as_value e) (UnderAll k c g es) (length (in_expression e)) (length (in_expressions es)) base s u.0
       (λ b z q w. expression_count k c g e b z q w) (λ b z q w. all_count k c g es b z q w) (value_none e) u.1
       ∙ sym (length-append (in_expression e) (in_expressions es))
-  expression_count k c g (T.Frame m t ss e) base s end u =
+  expression_count k c g (T.Frame m t ss e qs) base s end u =
       let i : Numbering = record g { temps = u.1.2 } in
       let d = code_of k u.1.0.method in
-      let n = method_count d k i ss e u.1.1 (λ b z q w. statements_count k d i ss b z q w) (λ b z q w. expression_count k d i e b z q w) u.1.7 in
-      ap length u.1.3 ∙ level_length u.1.0 t u.1.1 ∙ ap suc (n ∙ sym (length-append (in_statements ss) (in_expression e)))
+      let n = method_count d k i None ss e qs u.1.1 (λ b z q w. statements_count k d i ss b z q w) (λ b z q w. expression_count k d i e b z q w) (λ b z q w. statements_count k d i qs b z q w) (value_none e) u.1.7 in
+      ap length u.1.3 ∙ level_length u.1.0 t u.1.1 ∙ ap suc (n ∙ sym (length-append (in_statements ss) (in_expression e ++ in_statements qs) ∙ ap (λ m. length (in_statements ss) + m) (length-append (in_expression e) (in_statements qs))))
   expression_count k c g (T.Wait b m) base s end u = empty s u.1
 
   pub all_count : (k : Option ClassCode) (c : List Instr) (g : Numbering) (es : Expressions) (base : List Value) (s : Standing) (end : ℕ)
@@ -114,11 +128,11 @@ mutual
   statement_count k c g (T.While e ss) base s end u = empty s u.1.1
   statement_count k c g (T.Answer ns) base s end u = empty s u.0.1
   statement_count k c g (T.Select alts) base s end u = guards_count k c g alts base s u.0 u.2
-  statement_count k c g (T.Serve m w t ss e) base s end u =
+  statement_count k c g (T.Serve m w t ss e qs) base s end u =
       let i : Numbering = record g { temps = u.1.2 } in
       let d = code_of k u.1.0.method in
-      let n = method_count d k i ss e u.1.1 (λ b z q w. statements_count k d i ss b z q w) (λ b z q w. expression_count k d i e b z q w) u.1.7 in
-      ap length u.1.3 ∙ level_length u.1.0 t u.1.1 ∙ ap suc (n ∙ sym (length-append (in_statements ss) (in_expression e)))
+      let n = method_count d k i w ss e qs u.1.1 (λ b z q w. statements_count k d i ss b z q w) (λ b z q w. expression_count k d i e b z q w) (λ b z q w. statements_count k d i qs b z q w) (value_none e) u.1.7 in
+      ap length u.1.3 ∙ level_length u.1.0 t u.1.1 ∙ ap suc (n ∙ sym (length-append (in_statements ss) (in_expression e ++ in_statements qs) ∙ ap (λ m. length (in_statements ss) + m) (length-append (in_expression e) (in_statements qs))))
 
   pub statements_count : (k : Option ClassCode) (c : List Instr) (g : Numbering) (ss : Statements) (base : List Value) (s : Standing) (end : ℕ)
       → UnderStatements k c g ss base s end → length s.above ≡ length (in_statements ss)

@@ -1,13 +1,14 @@
 -- Code that is put behind other code.
-use Rattle.std.proofs.Common.{◌≡◌, refl, sym, ap, ◌∙◌, ℕ, suc, ◌+◌, ◌<◌, ◌≤◌, List, [], ◌∷◌, ◌++◌, length, drop, get_or, Result, Ok, Err, append_assoc, append-nil, length-append, ◌^◌, arith}
+use Rattle.std.proofs.Common.{◌≡◌, refl, sym, ap, ◌∙◌, ℕ, suc, ◌+◌, ◌<◌, ◌≤◌, List, [], ◌∷◌, ◌++◌, length, drop, get_or, Result, Ok, Err, append_assoc, append-nil, length-append, ◌^◌, arith, false, nat_eq}
 use Rattle.std.specs.Prelude.{OnOk}
 use Rattle.std.proofs.lemmas.List.{at_drop_more}
 use Rattle.pool_syntax.specs.declared.tree.Expr.{Expr, Int, Bool, Nil, Me, Var, New, Unary', Binary', Call', Send'}
-use Rattle.pool_syntax.specs.TreeOf.{expression_of, expression_row, expressions_of}
+use Rattle.pool_syntax.specs.declared.tree.Stmt.{Stmt}
+use Rattle.pool_syntax.specs.TreeOf.{expression_of, expression_row, expressions_of, statements_of}
 use Rattle.pool_syntax.specs.Typing.{size}
 use Rattle.object_code.specs.declared.unit.Instr.{Instr}
 use Rattle.object_code.specs.declared.unit.Instr.TheVariants as I
-use Rattle.pool_compile.specs.Code.{Numbering, expression_code, expressions_code, name}
+use Rattle.pool_compile.specs.Code.{Numbering, expression_code, expressions_code, name, post_code, statements_code}
 
 pub on_ok : {T E P Q : Type 0} (r : Result T E) → (P → Q) → OnOk r P → OnOk r Q
 on_ok (Ok x) f p = f p
@@ -65,3 +66,15 @@ put_all base now all rest e h = sym (append-nil now) ∙ ap (λ x. now ++ x) (sy
 pub few : (c d : List Instr) (g : Numbering) (es fs gs : List Expr) → d ≡ c ++ expressions_code g (expressions_of fs) → fs ≡ es → gs ≡ es → length d < 2 ^ 32 → length gs < 2 ^ 32
 few c d g es fs gs e f h short =
     omega (arith, ap length e, length-append c (expressions_code g (expressions_of fs)), no_more_than_instructions g fs, ap length f, ap length h)
+
+-- what stands behind the value of a method, where there are post statements
+pub put_post :
+    (g : Numbering) (base c1 c2 new : List Instr) (qs : List Stmt) → nat_eq (length qs) 0 ≡ false → c1 ≡ base ++ I.Post ∷ []
+    → c2 ≡ c1 ++ statements_code g (length c1) (statements_of qs) → new ≡ c2 ++ I.Ret ∷ []
+    → new ≡ base ++ post_code g (length base) (statements_of qs)
+put_post g base c1 c2 new [] some p1 p2 p3 = absurd (grind (arith, some))
+put_post g base c1 c2 new (q ∷ qs) some p1 p2 p3 =
+    let n : length c1 ≡ suc (length base) = ap length p1 ∙ omega (arith, length-append base (I.Post ∷ [])) in
+    then base (I.Post ∷ []) (statements_code g (suc (length base)) (statements_of (q ∷ qs)) ++ I.Ret ∷ []) c1 new p1
+    (then c1 (statements_code g (suc (length base)) (statements_of (q ∷ qs))) (I.Ret ∷ []) c2 new
+    (p2 ∙ ap (λ k. c1 ++ statements_code g k (statements_of (q ∷ qs))) n) p3)

@@ -73,6 +73,7 @@ exists_of ret u k temps c q I.Write f x = x
 exists_of ret u k temps c q (I.WriteText s) f x = x
 exists_of ret u k temps c q (I.Answer ns) f x = x
 exists_of ret u k temps c q I.Halt f x = x
+exists_of ret u k temps c q I.Post f x = x
 
 abbrev pub AllFit : Type 0 → Code → Option ClassCode → ℕ → List Instr → Type 0
 AllFit ret u k temps [] = Unit {0}
@@ -212,7 +213,7 @@ module _ (names : List Text) (g : Scope) (ground : Ground g) where
       let q = nil_left (destination_faults g (sort_of g e) m (size es) p (position e)) _ (nil_right (expression_faults g h e) _ r) in
       let d = sent_to g (sort_of g e) m (size es) p (position e) ground.written (whole e h t.0 (nil_left (expression_faults g h e) _ r)) q in
       rw (d.2, d.3) (outcome_whole g.program d.1.outcome (let k : MethodKnown g.program (Some d.1) = subst (MethodKnown g.program) d.3 ((ground.all d.0).methods m) in k.2))
-  whole (T.Frame m t ss e) h s f = absurd (grind (arith, s))
+  whole (T.Frame m t ss e qs) h s f = absurd (grind (arith, s))
   whole (T.Wait b m) h s f = absurd (grind (arith, s))
 
   -- a send has at most 8 arguments
@@ -302,7 +303,7 @@ module _ (names : List Text) (g : Scope) (ground : Ground g) where
           (both (expressions_code num es) (I.Send (name m) (size es) ∷ [])
           (expressions_fit _ es (h + 1) t.2 (nil_right (destination_faults g (sort_of g e) m (size es) p (position e)) _ b))
           ((known m (text_there _ names m t.1), few_sent e h m (size es) p t.0 x d), tt {0}))
-      expression_fits (T.Frame m t ss e) h s f = tt {0}
+      expression_fits (T.Frame m t ss e qs) h s f = tt {0}
       expression_fits (T.Wait b m) h s f = tt {0}
 
       expressions_fit : (vs : List Var) (es : Expressions) (h : ℕ) → are_spelled_expressions names es ≡ true → arguments_faults g h vs es ≡ [] → Fit (expressions_code num es)
@@ -349,47 +350,47 @@ module _ (names : List Text) (g : Scope) (ground : Ground g) where
       statement_fits (T.Assign x p e) at s f =
           let t = two (is_name names x) (is_spelled_expression names e) s in
           let r = nil_right (fault_if (is_broken_name g x) p 6) _ f in
-          both (expression_code num e) (store num x ∷ []) (expression_fits e 0 t.1 (nil_left (expression_faults g 0 e) _ r)) (store_fits x p 6 (nil_left (fault_if (is_broken_name g x) p 6) _ f))
-      statement_fits (T.Write e) at s f = both (expression_code num e) (I.Write ∷ []) (expression_fits e 0 s (nil_left (expression_faults g 0 e) _ f)) (tt {0}, tt {0})
+          both (expression_code num e) (store num x ∷ []) (expression_fits e g.held t.1 (nil_left (expression_faults g g.held e) _ r)) (store_fits x p 6 (nil_left (fault_if (is_broken_name g x) p 6) _ f))
+      statement_fits (T.Write e) at s f = both (expression_code num e) (I.Write ∷ []) (expression_fits e g.held s (nil_left (expression_faults g g.held e) _ f)) (tt {0}, tt {0})
       statement_fits (T.WriteText n) at s f = (known n (text_there _ names n s), tt {0})
-      statement_fits (T.Do e) at s f = both (expression_code num e) (I.Pop ∷ []) (expression_fits e 0 s f) (tt {0}, tt {0})
+      statement_fits (T.Do e) at s f = both (expression_code num e) (I.Pop ∷ []) (expression_fits e g.held s f) (tt {0}, tt {0})
       statement_fits (T.Async e m p es) at s f =
           let t = three (is_spelled_expression names e) (is_name names m) (are_spelled_expressions names es) s in
-          let x = nil_left (expression_faults g 0 e) _ f in
-          let b = nil_right (expression_faults g 0 e) _ f in
+          let x = nil_left (expression_faults g g.held e) _ f in
+          let b = nil_right (expression_faults g g.held e) _ f in
           let d = nil_left (destination_faults g (sort_of g e) m (size es) p (position e)) _ b in
-          both (expression_code num e) (expressions_code num es ++ I.Async (name m) (size es) ∷ []) (expression_fits e 0 t.0 x)
+          both (expression_code num e) (expressions_code num es ++ I.Async (name m) (size es) ∷ []) (expression_fits e g.held t.0 x)
           (both (expressions_code num es) (I.Async (name m) (size es) ∷ [])
-          (expressions_fit _ es 1 t.2 (nil_right (destination_faults g (sort_of g e) m (size es) p (position e)) _ b))
-          ((known m (text_there _ names m t.1), few_sent e 0 m (size es) p t.0 x d), tt {0}))
+          (expressions_fit _ es (g.held + 1) t.2 (nil_right (destination_faults g (sort_of g e) m (size es) p (position e)) _ b))
+          ((known m (text_there _ names m t.1), few_sent e g.held m (size es) p t.0 x d), tt {0}))
       statement_fits (T.If e these those) at s f =
           let t = three (is_spelled_expression names e) (are_spelled_statements names these) (are_spelled_statements names those) s in
-          let r = nil_right (needs g BoolSort e) _ (nil_right (expression_faults g 0 e) _ f) in
+          let r = nil_right (needs g BoolSort e) _ (nil_right (expression_faults g g.held e) _ f) in
           let yes = suc (at + length (expression_code num e)) in
           let first = statements_code num yes these in
           let no = suc (yes + length first) in
           let second = statements_code num no those in
-          both (expression_code num e) (I.Branch no ∷ (first ++ I.Jump (no + length second) ∷ second)) (expression_fits e 0 t.0 (nil_left (expression_faults g 0 e) _ f)) (
+          both (expression_code num e) (I.Branch no ∷ (first ++ I.Jump (no + length second) ∷ second)) (expression_fits e g.held t.0 (nil_left (expression_faults g g.held e) _ f)) (
             tt {0},
             both first (I.Jump (no + length second) ∷ second) (statements_fit these yes t.1 (nil_left (statements_faults g these) _ r))
                 (tt {0}, statements_fit those no t.2 (nil_right (statements_faults g these) _ r)),
           )
       statement_fits (T.While e ss) at s f =
           let t = two (is_spelled_expression names e) (are_spelled_statements names ss) s in
-          let r = nil_right (needs g BoolSort e) _ (nil_right (expression_faults g 0 e) _ f) in
+          let r = nil_right (needs g BoolSort e) _ (nil_right (expression_faults g g.held e) _ f) in
           let go = suc (suc at + length (expression_code num e)) in
           let turn = statements_code num go ss in (
             tt {0},
-            both (expression_code num e) (I.Branch (suc (go + length turn)) ∷ (turn ++ I.Jump at ∷ [])) (expression_fits e 0 t.0 (nil_left (expression_faults g 0 e) _ f))
+            both (expression_code num e) (I.Branch (suc (go + length turn)) ∷ (turn ++ I.Jump at ∷ [])) (expression_fits e g.held t.0 (nil_left (expression_faults g g.held e) _ f))
                 (tt {0}, both turn (I.Jump at ∷ []) (statements_fit ss go t.1 r) (tt {0}, tt {0})),
           )
       statement_fits (T.Answer ns) at s f = (names_own [] ns f, tt {0})
       statement_fits (T.Select alts) at s f =
           let go = suc (at + length (guards_code num alts)) in
           let last = go + length (alternatives_code num go 0 alts) in
-          both (guards_code num alts) (I.Select (alternatives_at num go alts) ∷ alternatives_code num go last alts) (guards_fit alts 0 s f)
-          (targets_own alts 0 go f, works_fit alts 0 go last s f)
-      statement_fits (T.Serve m c t ss e) at s f = tt {0}
+          both (guards_code num alts) (I.Select (alternatives_at num go alts) ∷ alternatives_code num go last alts) (guards_fit alts g.held s f)
+          (targets_own alts g.held go f, works_fit alts g.held go last s f)
+      statement_fits (T.Serve m c t ss e qs) at s f = tt {0}
 
       pub statements_fit : (ss : Statements) (at : ℕ) → are_spelled_statements names ss ≡ true → statements_faults g ss ≡ [] → Fit (statements_code num at ss)
       statements_fit T.Done at s f = tt {0}

@@ -1,6 +1,6 @@
 -- What frames that stand for a term say of its redex, and how another part takes the redex's place in both.
 use Rattle.object_code.specs.declared.unit.Frame.{Frame}
-use Rattle.std.proofs.Common.{◌≡◌, ap, ◌∙◌, subst, ℕ, suc, List, [], ◌∷◌, ◌++◌, length, Option, Some, Bool, true, false, append_assoc}
+use Rattle.std.proofs.Common.{◌≡◌, ap, ◌∙◌, subst, ℕ, suc, List, [], ◌∷◌, ◌++◌, length, Option, Some, is_some, IsTrue, Bool, true, false, ◌⊎◌, append_assoc}
 use Rattle.std.specs.Prelude.{slice_get, map}
 use Rattle.pool_syntax.specs.declared.words.Value.{Value}
 use Rattle.pool_syntax.specs.declared.words.Value.TheVariants as V
@@ -14,7 +14,7 @@ use Rattle.object_code.specs.declared.unit.Instr.TheVariants as I
 use Rattle.object_code.specs.declared.unit.AltCode.{AltCode}
 use Rattle.pool_syntax.specs.declared.words.Serves.TheVariants as S
 use Rattle.object_code.specs.declared.unit.ClassCode.{ClassCode}
-use Rattle.object_code.specs.Frames.{code_of, silent}
+use Rattle.object_code.specs.Frames.{code_of, next, silent}
 use Rattle.pool_compile.specs.Code.{Numbering, name, load, store, answer_names}
 use Rattle.pool_compile.specs.Stands.{Standing, Head, keys, frame_of, fresh, Ends, Standings, IsServing, push_all, Under, UnderStatement, UnderStatements}
 
@@ -50,6 +50,12 @@ abbrev pub Ending : Option ClassCode → List Frame → List Value → Standing 
 Ending k over base s stop v u serves =
     (f : Frame) × (over ≡ f ∷ []) × serves f × (f.operands ≡ v ∷ []) × (slice_get (code_of k f.method) f.at ≡ Some I.Ret)
     × (s.operands ≡ base) × (s.at ≡ stop)
+
+-- a frame that serves a caller over a held one, before its post statements, and what is left of the served method once it has returned
+abbrev pub Returning : Option ClassCode → List Frame → Head → Numbering → List Value → Standing → ℕ → Option ℕ → Value → Statements → Type 0
+Returning k over h g base s stop w v work =
+    (f : Frame) × (over ≡ f ∷ []) × IsServing w f.serves × IsTrue (is_some w) × (f.operands ≡ v ∷ []) × (slice_get (code_of k f.method) f.at ≡ Some I.Post)
+    × UnderStatements k (code_of k h.method) g work base (record s { above = next (record f { serves = S.Sender }) f.operands ∷ [] }) stop
 
 -- the lists of a select's alternatives
 abbrev pub Lists : Option ClassCode → List Instr → Numbering → List Choice → List Value → List AltCode → ℕ → Type 0
@@ -94,7 +100,8 @@ Spot k over h t g base s stop (R.Accept names) u = Here over t u (Stand k h s ba
 Spot k over h t g base s stop (R.Choose choices) u =
     Here over t u ((targets : List AltCode) × Stand k h s (push_all (guards_of choices) base) (I.Select targets) (suc s.at)
     × Lists k (code_of k h.method) g choices base targets stop)
-Spot k over h t g base s stop (R.Finish w v) u = Ending k over base s stop v u (λ f. IsServing w f.serves)
+Spot k over h t g base s stop (R.Finish w v work) u =
+    (Ending k over base s stop v u (λ f. IsServing w f.serves) × (work ≡ T.Done)) ⊎ Returning k over h g base s stop w v work
 
 -- the redex r, its frames, and what becomes of all frames where another part takes its place
 pub record Focus (k : Option ClassCode) (V : List ℕ) (L : List Frame) (r : Reducible) (u : Store) (Target : List Frame → Part → Type 0) : Type 0 where

@@ -30,37 +30,38 @@ abbrev mutual
   is_counted k h (T.Infix op l r p) = has_room h && not (is_prefix op) && is_counted k h l && is_counted k (suc h) r
   is_counted k h (T.Call m es p) = has_room h && (size es == params_of (method_named k (name m))) && are_counted k h es
   is_counted k h (T.Send e m es p) = has_room h && is_counted k h e && are_counted k (suc h) es
-  is_counted k h (T.Frame m t ss e) = false
+  is_counted k h (T.Frame m t ss e qs) = false
   is_counted k h (T.Wait b m) = false
 
   pub are_counted : Option ClassCode → ℕ → Expressions → Bool
   are_counted k h T.NoArgs = true
   are_counted k h (T.Arg e es) = is_counted k h e && are_counted k (suc h) es
 
+-- statements before which b operands are held
 abbrev mutual
-  pub is_counted_statement : Option ClassCode → Statement → Bool
-  is_counted_statement k (T.Assign x p e) = is_counted k 0 e
-  is_counted_statement k (T.Write e) = is_counted k 0 e
-  is_counted_statement k (T.WriteText s) = true
-  is_counted_statement k (T.Do e) = is_counted k 0 e
-  is_counted_statement k (T.Async e m p es) = is_counted k 0 e && are_counted k 1 es
-  is_counted_statement k (T.If e these those) = is_counted k 0 e && are_counted_statements k these && are_counted_statements k those
-  is_counted_statement k (T.While e ss) = is_counted k 0 e && are_counted_statements k ss
-  is_counted_statement k (T.Answer names) = true
-  is_counted_statement k (T.Select alts) = are_counted_guards k 0 alts && are_counted_works k alts
-  is_counted_statement k (T.Serve m w t ss e) = false
+  pub is_counted_statement : Option ClassCode → ℕ → Statement → Bool
+  is_counted_statement k b (T.Assign x p e) = is_counted k b e
+  is_counted_statement k b (T.Write e) = is_counted k b e
+  is_counted_statement k b (T.WriteText s) = true
+  is_counted_statement k b (T.Do e) = is_counted k b e
+  is_counted_statement k b (T.Async e m p es) = is_counted k b e && are_counted k (suc b) es
+  is_counted_statement k b (T.If e these those) = is_counted k b e && are_counted_statements k b these && are_counted_statements k b those
+  is_counted_statement k b (T.While e ss) = is_counted k b e && are_counted_statements k b ss
+  is_counted_statement k b (T.Answer names) = true
+  is_counted_statement k b (T.Select alts) = are_counted_guards k b alts && are_counted_works k b alts
+  is_counted_statement k b (T.Serve m w t ss e qs) = false
 
-  pub are_counted_statements : Option ClassCode → Statements → Bool
-  are_counted_statements k T.Done = true
-  are_counted_statements k (T.Then s ss) = is_counted_statement k s && are_counted_statements k ss
+  pub are_counted_statements : Option ClassCode → ℕ → Statements → Bool
+  are_counted_statements k b T.Done = true
+  are_counted_statements k b (T.Then s ss) = is_counted_statement k b s && are_counted_statements k b ss
 
   pub are_counted_guards : Option ClassCode → ℕ → Alternatives → Bool
   are_counted_guards k h T.NoAlts = true
   are_counted_guards k h (T.Alt e n ss alts) = is_counted k h e && are_counted_guards k (suc h) alts
 
-  pub are_counted_works : Option ClassCode → Alternatives → Bool
-  are_counted_works k T.NoAlts = true
-  are_counted_works k (T.Alt e n ss alts) = are_counted_statements k ss && are_counted_works k alts
+  pub are_counted_works : Option ClassCode → ℕ → Alternatives → Bool
+  are_counted_works k b T.NoAlts = true
+  are_counted_works k b (T.Alt e n ss alts) = are_counted_statements k b ss && are_counted_works k b alts
 
 -- the operands after these instructions, and before the one at a place, in the order of the list
 abbrev pub moved : Option ClassCode → ℕ → Instr → ℕ
@@ -71,7 +72,7 @@ height k h [] q = h
 height k h (i ∷ c) zero = h
 height k h (i ∷ c) (suc q) = height k (moved k h i) c q
 
-height_next : (k : Option ClassCode) (h : ℕ) (c : List Instr) (q : ℕ) (i : Instr) → slice_get c q ≡ Some i → height k h c (suc q) ≡ moved k (height k h c q) i
+pub height_next : (k : Option ClassCode) (h : ℕ) (c : List Instr) (q : ℕ) (i : Instr) → slice_get c q ≡ Some i → height k h c (suc q) ≡ moved k (height k h c q) i
 height_next k h [] q i e = absurd (grind (arith, e))
 height_next k h (j ∷ c) (suc q) i e = height_next k (moved k h j) c q i e
 height_next k h (j ∷ []) zero i e = let f : j ≡ i = grind (arith, e) in ap (moved k h) f
@@ -151,13 +152,6 @@ module _ (k : Option ClassCode) (c : List Instr) where
   push_more at h (V.Bool b) q = one_more at h (I.PushBool b) q refl refl refl
   push_more at h _ q = one_more at h I.PushNil q refl refl refl
 
-  store_less : (g : Numbering) (at x : ℕ) → Good at (store g x ∷ []) 1 0
-  store_less g at x = by (contains g.temps x)
-    where
-      by : (b : Bool) → Good at ((if b then I.StoreT (number_of g.temps x) else I.StoreI (number_of g.vars x)) ∷ []) 1 0
-      by true = good_one at 1 1 0 (I.StoreT (number_of g.temps x)) (omega arith) refl refl (omega arith) refl
-      by false = good_one at 1 1 0 (I.StoreI (number_of g.vars x)) (omega arith) refl refl (omega arith) refl
-
   arity_is : (op : Op) (b : Bool) → is_prefix op ≡ b → arity op ≡ (if b then 1 else 2)
   arity_is op b e = ap (λ q. if q then 1 else 2) e
 
@@ -170,7 +164,7 @@ module _ (k : Option ClassCode) (c : List Instr) where
   first_room (T.Infix op l r p) h q = grind (arith, q)
   first_room (T.Call m es p) h q = grind (arith, q)
   first_room (T.Send e m es p) h q = grind (arith, q)
-  first_room (T.Frame m t ss e) h q = absurd (grind (arith, q))
+  first_room (T.Frame m t ss e qs) h q = absurd (grind (arith, q))
   first_room (T.Wait b m) h q = absurd (grind (arith, q))
 
   module _ (g : Numbering) where
@@ -203,7 +197,7 @@ module _ (k : Option ClassCode) (c : List Instr) where
           (good_seq _ (expressions_code g es) (I.Send (name m) (size es) ∷ []) (suc h) (suc h + size es) (suc h) a.0
           (good_as _ (I.Send (name m) (size es) ∷ []) (suc h + size es) (suc h + size es + 1 - suc (size es)) (suc h) (omega arith)
           (good_one _ (suc h + size es) (suc (size es)) 1 (I.Send (name m) (size es)) (a.1 (let r = room h (grind (arith, q)) in omega (arith, r))) refl refl (omega arith) refl)))
-      expression_good (T.Frame m t ss e) at h q = absurd (grind (arith, q))
+      expression_good (T.Frame m t ss e qs) at h q = absurd (grind (arith, q))
       expression_good (T.Wait b m) at h q = absurd (grind (arith, q))
 
       expressions_good : (es : Expressions) (at h : ℕ) → are_counted k h es ≡ true → Good at (expressions_code g es) h (h + size es) × (h ≤ 64 → h + size es ≤ 64)
@@ -233,144 +227,154 @@ module _ (k : Option ClassCode) (c : List Instr) where
     count_at T.NoAlts at = refl
     count_at (T.Alt e n ss alts) at = ap suc (count_at alts _)
 
-    -- places without operands
-    abbrev Zeros : List AltCode → Type 0
-    Zeros [] = Unit {0}
-    Zeros (a ∷ alts) = (H a.at ≡ 0) × (a.at < length c) × Zeros alts
+    module _ (base : ℕ) (few : base ≤ 1) where
+      -- places with the operands that are held
+      abbrev Zeros : List AltCode → Type 0
+      Zeros [] = Unit {0}
+      Zeros (a ∷ alts) = (H a.at ≡ base) × (a.at < length c) × Zeros alts
 
-    led_zeros : (q : ℕ) (i : Instr) (alts : List AltCode) → takes k i ≡ H q + leaves i → Zeros alts → Led q i (map (λ a. a.at) alts)
-    led_zeros q i [] e z = tt
-    led_zeros q i (a ∷ alts) e z = (omega (arith, e, z.0), z.1, led_zeros q i alts e z.2)
+      led_zeros : (q : ℕ) (i : Instr) (alts : List AltCode) → base + takes k i ≡ H q + leaves i → Zeros alts → Led q i (map (λ a. a.at) alts)
+      led_zeros q i [] e z = tt
+      led_zeros q i (a ∷ alts) e z = (omega (arith, few, e, z.0), z.1, led_zeros q i alts e z.2)
 
-    less_one : (at : ℕ) (i : Instr) → takes k i ≡ 1 → leaves i ≡ 0 → nexts at i ≡ suc at ∷ [] → Good at (i ∷ []) 1 0
-    less_one at i t l next = good_one at 1 1 0 i (omega arith) t l (omega arith) next
+      less_one : (at : ℕ) (i : Instr) → takes k i ≡ 1 → leaves i ≡ 0 → nexts at i ≡ suc at ∷ [] → Good at (i ∷ []) (suc base) base
+      less_one at i t l next =
+          good_as at (i ∷ []) (suc base) (suc base + 0 - 1) base (omega (arith, few)) (good_one at (suc base) 1 0 i (omega (arith, few)) t l (omega (arith, few)) next)
 
-    same_zero : (at : ℕ) (i : Instr) → takes k i ≡ 0 → leaves i ≡ 0 → nexts at i ≡ suc at ∷ [] → Good at (i ∷ []) 0 0
-    same_zero at i t l next = good_one at 0 0 0 i (omega arith) t l (omega arith) next
+      store_less : (at x : ℕ) → Good at (store g x ∷ []) (suc base) base
+      store_less at x = by (contains g.temps x)
+        where
+          by : (b : Bool) → Good at ((if b then I.StoreT (number_of g.temps x) else I.StoreI (number_of g.vars x)) ∷ []) (suc base) base
+          by true = less_one at (I.StoreT (number_of g.temps x)) refl refl refl
+          by false = less_one at (I.StoreI (number_of g.vars x)) refl refl refl
 
-    mutual
-      statement_good : (st : Statement) (at : ℕ) → is_counted_statement k st ≡ true → Good at (statement_code g at st) 0 0
-      statement_good (T.Assign x p e) at q = good_seq at (expression_code g e) (store g x ∷ []) 0 1 0 (expression_good e at 0 q) (store_less g _ x)
-      statement_good (T.Write e) at q = good_seq at (expression_code g e) (I.Write ∷ []) 0 1 0 (expression_good e at 0 q) (less_one _ I.Write refl refl refl)
-      statement_good (T.WriteText n) at q = same_zero at (I.WriteText (name n)) refl refl refl
-      statement_good (T.Do e) at q = good_seq at (expression_code g e) (I.Pop ∷ []) 0 1 0 (expression_good e at 0 q) (less_one _ I.Pop refl refl refl)
-      statement_good (T.Async e m p es) at q =
-          let a = expressions_good es (at + length (expression_code g e)) 1 (grind (arith, q)) in
-          good_seq at (expression_code g e) (expressions_code g es ++ I.Async (name m) (size es) ∷ []) 0 1 0 (expression_good e at 0 (grind (arith, q)))
-          (good_seq _ (expressions_code g es) (I.Async (name m) (size es) ∷ []) 1 (1 + size es) 0 a.0
-          (good_as _ (I.Async (name m) (size es) ∷ []) (1 + size es) (1 + size es + 0 - suc (size es)) 0 (omega arith)
-          (good_one _ (1 + size es) (suc (size es)) 0 (I.Async (name m) (size es)) (a.1 (omega arith)) refl refl (omega arith) refl)))
-      statement_good (T.If e these those) at q = λ has z lt.
-          let test = expression_code g e in
-          let m = at + length test in
-          let yes = suc m in
-          let first = statements_code g yes these in
-          let j = yes + length first in
-          let other = suc j in
-          let second = statements_code g other those in
-          let branch = I.Branch other in
-          let jump = I.Jump (other + length second) in
-          let l1 = length-append test (branch ∷ (first ++ jump ∷ second)) in
-          let l2 = length-append first (jump ∷ second) in
-          let b = back c at test (branch ∷ (first ++ jump ∷ second)) has in
-          let d = back c yes first (jump ∷ second) b.1 in
-          let t = expression_good e at 0 (grind (arith, q)) (front c at test (branch ∷ (first ++ jump ∷ second)) has) z (omega (arith, lt, l1)) in
-          let zy : H yes ≡ 0 = height_next k 0 c m branch b.0 ∙ ap (λ n. moved k n branch) t.1 in
-          let f = statements_good these yes (grind (arith, q)) (front c yes first (jump ∷ second) b.1) zy (omega (arith, lt, l1, l2)) in
-          let zo : H other ≡ 0 = height_next k 0 c j jump d.0 ∙ ap (λ n. moved k n jump) f.1 in
-          let s = statements_good those other (grind (arith, q)) d.1 zo (omega (arith, lt, l1, l2)) in (
-            join at test (branch ∷ (first ++ jump ∷ second)) t.0 (
-              (omega (arith, t.1), omega (arith, t.1), (omega (arith, t.1, zy), omega (arith, lt, l1, l2), (omega (arith, t.1, zo), omega (arith, lt, l1, l2), tt))),
-              join yes first (jump ∷ second) f.0 ((omega (arith, f.1), omega (arith, f.1), (omega (arith, f.1, s.1), omega (arith, lt, l1, l2), tt)), s.0),
-            ),
-            ap H (let w : at + length (test ++ branch ∷ (first ++ jump ∷ second)) ≡ other + length second = omega (arith, l1, l2) in w) ∙ s.1,
-          )
-      statement_good (T.While e ss) at q = λ has z lt.
-          let test = expression_code g e in
-          let m = suc at + length test in
-          let go = suc m in
-          let turn = statements_code g go ss in
-          let j = go + length turn in
-          let branch = I.Branch (suc j) in
-          let jump = I.Jump at in
-          let l1 = length-append test (branch ∷ (turn ++ jump ∷ [])) in
-          let l2 = length-append turn (jump ∷ []) in
-          let b = back c (suc at) test (branch ∷ (turn ++ jump ∷ [])) has.1 in
-          let d = back c go turn (jump ∷ []) b.1 in
-          let z1 : H (suc at) ≡ 0 = height_next k 0 c at I.Loop has.0 ∙ ap (λ n. moved k n I.Loop) z in
-          let t = expression_good e (suc at) 0 (grind (arith, q)) (front c (suc at) test (branch ∷ (turn ++ jump ∷ [])) has.1) z1 (omega (arith, lt, l1)) in
-          let zg : H go ≡ 0 = height_next k 0 c m branch b.0 ∙ ap (λ n. moved k n branch) t.1 in
-          let f = statements_good ss go (grind (arith, q)) (front c go turn (jump ∷ []) b.1) zg (omega (arith, lt, l1, l2)) in
-          let zj : H (suc j) ≡ 0 = height_next k 0 c j jump d.0 ∙ ap (λ n. moved k n jump) f.1 in (
-            (
-              (omega arith, omega (arith, z), (omega (arith, z, z1), omega (arith, lt, l1), tt)),
-              join (suc at) test (branch ∷ (turn ++ jump ∷ [])) t.0 (
-                (omega (arith, t.1), omega (arith, t.1), (omega (arith, t.1, zg), omega (arith, lt, l1, l2), (omega (arith, t.1, zj), omega (arith, lt, l1, l2), tt))),
-                join go turn (jump ∷ []) f.0 ((omega (arith, f.1), omega (arith, f.1), (omega (arith, f.1, z), omega (arith, lt, l1, l2), tt)), tt),
+      same_zero : (at : ℕ) (i : Instr) → takes k i ≡ 0 → leaves i ≡ 0 → nexts at i ≡ suc at ∷ [] → Good at (i ∷ []) base base
+      same_zero at i t l next =
+          good_as at (i ∷ []) base (base + 0 - 0) base (omega (arith, few)) (good_one at base 0 0 i (omega (arith, few)) t l (omega (arith, few)) next)
+
+      mutual
+        statement_good : (st : Statement) (at : ℕ) → is_counted_statement k base st ≡ true → Good at (statement_code g at st) base base
+        statement_good (T.Assign x p e) at q = good_seq at (expression_code g e) (store g x ∷ []) base (suc base) base (expression_good e at base q) (store_less _ x)
+        statement_good (T.Write e) at q = good_seq at (expression_code g e) (I.Write ∷ []) base (suc base) base (expression_good e at base q) (less_one _ I.Write refl refl refl)
+        statement_good (T.WriteText n) at q = same_zero at (I.WriteText (name n)) refl refl refl
+        statement_good (T.Do e) at q = good_seq at (expression_code g e) (I.Pop ∷ []) base (suc base) base (expression_good e at base q) (less_one _ I.Pop refl refl refl)
+        statement_good (T.Async e m p es) at q =
+            let a = expressions_good es (at + length (expression_code g e)) (suc base) (grind (arith, q)) in
+            good_seq at (expression_code g e) (expressions_code g es ++ I.Async (name m) (size es) ∷ []) base (suc base) base (expression_good e at base (grind (arith, q)))
+            (good_seq _ (expressions_code g es) (I.Async (name m) (size es) ∷ []) (suc base) (suc base + size es) base a.0
+            (good_as _ (I.Async (name m) (size es) ∷ []) (suc base + size es) (suc base + size es + 0 - suc (size es)) base (omega (arith, few))
+            (good_one _ (suc base + size es) (suc (size es)) 0 (I.Async (name m) (size es)) (a.1 (omega (arith, few))) refl refl (omega (arith, few)) refl)))
+        statement_good (T.If e these those) at q = λ has z lt.
+            let test = expression_code g e in
+            let m = at + length test in
+            let yes = suc m in
+            let first = statements_code g yes these in
+            let j = yes + length first in
+            let other = suc j in
+            let second = statements_code g other those in
+            let branch = I.Branch other in
+            let jump = I.Jump (other + length second) in
+            let l1 = length-append test (branch ∷ (first ++ jump ∷ second)) in
+            let l2 = length-append first (jump ∷ second) in
+            let b = back c at test (branch ∷ (first ++ jump ∷ second)) has in
+            let d = back c yes first (jump ∷ second) b.1 in
+            let t = expression_good e at base (grind (arith, q)) (front c at test (branch ∷ (first ++ jump ∷ second)) has) z (omega (arith, few, lt, l1)) in
+            let zy : H yes ≡ base = height_next k 0 c m branch b.0 ∙ ap (λ n. moved k n branch) t.1 ∙ (let w : suc base + 0 - 1 ≡ base = omega (arith, few) in w) in
+            let f = statements_good these yes (grind (arith, q)) (front c yes first (jump ∷ second) b.1) zy (omega (arith, few, lt, l1, l2)) in
+            let zo : H other ≡ base = height_next k 0 c j jump d.0 ∙ ap (λ n. moved k n jump) f.1 ∙ (let w : base + 0 - 0 ≡ base = omega (arith, few) in w) in
+            let s = statements_good those other (grind (arith, q)) d.1 zo (omega (arith, few, lt, l1, l2)) in (
+              join at test (branch ∷ (first ++ jump ∷ second)) t.0 (
+                (omega (arith, few, t.1), omega (arith, few, t.1), (omega (arith, few, t.1, zy), omega (arith, few, lt, l1, l2), (omega (arith, few, t.1, zo), omega (arith, few, lt, l1, l2), tt))),
+                join yes first (jump ∷ second) f.0 ((omega (arith, few, f.1), omega (arith, few, f.1), (omega (arith, few, f.1, s.1), omega (arith, few, lt, l1, l2), tt)), s.0),
               ),
-            ),
-            ap H (let w : at + length (I.Loop ∷ (test ++ branch ∷ (turn ++ jump ∷ []))) ≡ suc j = omega (arith, l1, l2) in w) ∙ zj,
-          )
-      statement_good (T.Answer ns) at q = same_zero at (I.Answer (map (λ n. n.name) ns)) refl refl refl
-      statement_good (T.Select alts) at q = λ has z lt.
-          let gs = guards_code g alts in
-          let m = at + length gs in
-          let go = suc m in
-          let last = go + length (alternatives_code g go 0 alts) in
-          let works = alternatives_code g go last alts in
-          let targets = alternatives_at g go alts in
-          let i = I.Select targets in
-          let l1 = length-append gs (i ∷ works) in
-          let l2 = works_length k c g alts go 0 last in
-          let b = back c at gs (i ∷ works) has in
-          let a = guards_good alts at 0 (grind (arith, q)) in
-          let s = a.0 (front c at gs (i ∷ works) has) z (omega (arith, lt, l1)) in
-          let n = count_at alts go in
-          let bound = a.1 (omega arith) in
-          let zg : H go ≡ 0 = height_next k 0 c m i b.0 ∙ (let w : H m + leaves i - takes k i ≡ 0 = omega (arith, s.1, n) in w) in
-          let e : H last ≡ 0 =
-          ap H (let w : last ≡ go + length works = omega (arith, l2) in w) ∙ works_end alts go last (grind (arith, q)) b.1 zg (omega (arith, lt, l1)) in
-          let w = works_good alts go last (grind (arith, q)) b.1 zg (omega (arith, lt, l1)) e (omega (arith, lt, l1, l2)) in (
-            join at gs (i ∷ works) s.0
-                ((omega (arith, s.1, n), omega (arith, s.1, bound), led_zeros m i targets (omega (arith, s.1, n)) w.1), w.0),
-            ap H (let v : at + length (gs ++ i ∷ works) ≡ last = omega (arith, l1, l2) in v) ∙ e,
-          )
-      statement_good (T.Serve m w t ss e) at q = absurd (grind (arith, q))
+              ap H (let w : at + length (test ++ branch ∷ (first ++ jump ∷ second)) ≡ other + length second = omega (arith, few, l1, l2) in w) ∙ s.1,
+            )
+        statement_good (T.While e ss) at q = λ has z lt.
+            let test = expression_code g e in
+            let m = suc at + length test in
+            let go = suc m in
+            let turn = statements_code g go ss in
+            let j = go + length turn in
+            let branch = I.Branch (suc j) in
+            let jump = I.Jump at in
+            let l1 = length-append test (branch ∷ (turn ++ jump ∷ [])) in
+            let l2 = length-append turn (jump ∷ []) in
+            let b = back c (suc at) test (branch ∷ (turn ++ jump ∷ [])) has.1 in
+            let d = back c go turn (jump ∷ []) b.1 in
+            let z1 : H (suc at) ≡ base = height_next k 0 c at I.Loop has.0 ∙ ap (λ n. moved k n I.Loop) z ∙ (let w : base + 0 - 0 ≡ base = omega (arith, few) in w) in
+            let t = expression_good e (suc at) base (grind (arith, q)) (front c (suc at) test (branch ∷ (turn ++ jump ∷ [])) has.1) z1 (omega (arith, few, lt, l1)) in
+            let zg : H go ≡ base = height_next k 0 c m branch b.0 ∙ ap (λ n. moved k n branch) t.1 ∙ (let w : suc base + 0 - 1 ≡ base = omega (arith, few) in w) in
+            let f = statements_good ss go (grind (arith, q)) (front c go turn (jump ∷ []) b.1) zg (omega (arith, few, lt, l1, l2)) in
+            let zj : H (suc j) ≡ base = height_next k 0 c j jump d.0 ∙ ap (λ n. moved k n jump) f.1 ∙ (let w : base + 0 - 0 ≡ base = omega (arith, few) in w) in (
+              (
+                (omega (arith, few), omega (arith, few, z), (omega (arith, few, z, z1), omega (arith, few, lt, l1), tt)),
+                join (suc at) test (branch ∷ (turn ++ jump ∷ [])) t.0 (
+                  (omega (arith, few, t.1), omega (arith, few, t.1), (omega (arith, few, t.1, zg), omega (arith, few, lt, l1, l2), (omega (arith, few, t.1, zj), omega (arith, few, lt, l1, l2), tt))),
+                  join go turn (jump ∷ []) f.0 ((omega (arith, few, f.1), omega (arith, few, f.1), (omega (arith, few, f.1, z), omega (arith, few, lt, l1, l2), tt)), tt),
+                ),
+              ),
+              ap H (let w : at + length (I.Loop ∷ (test ++ branch ∷ (turn ++ jump ∷ []))) ≡ suc j = omega (arith, few, l1, l2) in w) ∙ zj,
+            )
+        statement_good (T.Answer ns) at q = same_zero at (I.Answer (map (λ n. n.name) ns)) refl refl refl
+        statement_good (T.Select alts) at q = λ has z lt.
+            let gs = guards_code g alts in
+            let m = at + length gs in
+            let go = suc m in
+            let last = go + length (alternatives_code g go 0 alts) in
+            let works = alternatives_code g go last alts in
+            let targets = alternatives_at g go alts in
+            let i = I.Select targets in
+            let l1 = length-append gs (i ∷ works) in
+            let l2 = works_length k c g alts go 0 last in
+            let b = back c at gs (i ∷ works) has in
+            let a = guards_good alts at base (grind (arith, q)) in
+            let s = a.0 (front c at gs (i ∷ works) has) z (omega (arith, few, lt, l1)) in
+            let n = count_at alts go in
+            let bound = a.1 (omega (arith, few)) in
+            let zg : H go ≡ base = height_next k 0 c m i b.0 ∙ (let w : H m + leaves i - takes k i ≡ base = omega (arith, few, s.1, n) in w) in
+            let e : H last ≡ base =
+            ap H (let w : last ≡ go + length works = omega (arith, few, l2) in w) ∙ works_end alts go last (grind (arith, q)) b.1 zg (omega (arith, few, lt, l1)) in
+            let w = works_good alts go last (grind (arith, q)) b.1 zg (omega (arith, few, lt, l1)) e (omega (arith, few, lt, l1, l2)) in (
+              join at gs (i ∷ works) s.0
+                  ((omega (arith, few, s.1, n), omega (arith, few, s.1, bound), led_zeros m i targets (omega (arith, few, s.1, n)) w.1), w.0),
+              ap H (let v : at + length (gs ++ i ∷ works) ≡ last = omega (arith, few, l1, l2) in v) ∙ e,
+            )
+        statement_good (T.Serve m w t ss e qs) at q = absurd (grind (arith, q))
 
-      pub statements_good : (ss : Statements) (at : ℕ) → are_counted_statements k ss ≡ true → Good at (statements_code g at ss) 0 0
-      statements_good T.Done at q = good_nil at 0
-      statements_good (T.Then st ss) at q =
-          good_seq at (statement_code g at st) (statements_code g (at + length (statement_code g at st)) ss) 0 0 0
-          (statement_good st at (grind (arith, q))) (statements_good ss (at + length (statement_code g at st)) (grind (arith, q)))
+        pub statements_good : (ss : Statements) (at : ℕ) → are_counted_statements k base ss ≡ true → Good at (statements_code g at ss) base base
+        statements_good T.Done at q = good_nil at base
+        statements_good (T.Then st ss) at q =
+            good_seq at (statement_code g at st) (statements_code g (at + length (statement_code g at st)) ss) base base base
+            (statement_good st at (grind (arith, q))) (statements_good ss (at + length (statement_code g at st)) (grind (arith, q)))
 
-      -- after the lists no operand is left
-      works_end : (alts : Alternatives) (at last : ℕ) → are_counted_works k alts ≡ true → Has c at (alternatives_code g at last alts) → H at ≡ 0
-          → at + length (alternatives_code g at last alts) < length c → H (at + length (alternatives_code g at last alts)) ≡ 0
-      works_end T.NoAlts at last q has z lt = ap H (let w : at + 0 ≡ at = omega arith in w) ∙ z
-      works_end (T.Alt e n ss alts) at last q has z lt =
-          let w = statements_code g at ss in
-          let j = at + length w in
-          let rest = alternatives_code g (suc j) last alts in
-          let l1 = length-append w (I.Jump last ∷ rest) in
-          let b = back c at w (I.Jump last ∷ rest) has in
-          let f = statements_good ss at (grind (arith, q)) (front c at w (I.Jump last ∷ rest) has) z (omega (arith, lt, l1)) in
-          let zj : H (suc j) ≡ 0 = height_next k 0 c j (I.Jump last) b.0 ∙ ap (λ x. moved k x (I.Jump last)) f.1 in
-          ap H (let v : at + length (w ++ I.Jump last ∷ rest) ≡ suc j + length rest = omega (arith, l1) in v)
-          ∙ works_end alts (suc j) last (grind (arith, q)) b.1 zj (omega (arith, lt, l1))
+        -- after the lists no operand is left
+        works_end : (alts : Alternatives) (at last : ℕ) → are_counted_works k base alts ≡ true → Has c at (alternatives_code g at last alts) → H at ≡ base
+            → at + length (alternatives_code g at last alts) < length c → H (at + length (alternatives_code g at last alts)) ≡ base
+        works_end T.NoAlts at last q has z lt = ap H (let w : at + 0 ≡ at = omega (arith, few) in w) ∙ z
+        works_end (T.Alt e n ss alts) at last q has z lt =
+            let w = statements_code g at ss in
+            let j = at + length w in
+            let rest = alternatives_code g (suc j) last alts in
+            let l1 = length-append w (I.Jump last ∷ rest) in
+            let b = back c at w (I.Jump last ∷ rest) has in
+            let f = statements_good ss at (grind (arith, q)) (front c at w (I.Jump last ∷ rest) has) z (omega (arith, few, lt, l1)) in
+            let zj : H (suc j) ≡ base = height_next k 0 c j (I.Jump last) b.0 ∙ ap (λ x. moved k x (I.Jump last)) f.1 ∙ (let w : base + 0 - 0 ≡ base = omega (arith, few) in w) in
+            ap H (let v : at + length (w ++ I.Jump last ∷ rest) ≡ suc j + length rest = omega (arith, few, l1) in v)
+            ∙ works_end alts (suc j) last (grind (arith, q)) b.1 zj (omega (arith, few, lt, l1))
 
-      works_good : (alts : Alternatives) (at last : ℕ) → are_counted_works k alts ≡ true → Has c at (alternatives_code g at last alts) → H at ≡ 0
-          → at + length (alternatives_code g at last alts) < length c → H last ≡ 0 → last < length c
-          → AllFine at (alternatives_code g at last alts) × Zeros (alternatives_at g at alts)
-      works_good T.NoAlts at last q has z lt e in_range = (tt, tt)
-      works_good (T.Alt a n ss alts) at last q has z lt e in_range =
-          let w = statements_code g at ss in
-          let j = at + length w in
-          let rest = alternatives_code g (suc j) last alts in
-          let l1 = length-append w (I.Jump last ∷ rest) in
-          let b = back c at w (I.Jump last ∷ rest) has in
-          let f = statements_good ss at (grind (arith, q)) (front c at w (I.Jump last ∷ rest) has) z (omega (arith, lt, l1)) in
-          let zj : H (suc j) ≡ 0 = height_next k 0 c j (I.Jump last) b.0 ∙ ap (λ x. moved k x (I.Jump last)) f.1 in
-          let r = works_good alts (suc j) last (grind (arith, q)) b.1 zj (omega (arith, lt, l1)) e in_range in (
-            join at w (I.Jump last ∷ rest) f.0 ((omega (arith, f.1), omega (arith, f.1), (omega (arith, f.1, e), in_range, tt)), r.0),
-            (z, omega (arith, lt), r.1),
-          )
+        works_good : (alts : Alternatives) (at last : ℕ) → are_counted_works k base alts ≡ true → Has c at (alternatives_code g at last alts) → H at ≡ base
+            → at + length (alternatives_code g at last alts) < length c → H last ≡ base → last < length c
+            → AllFine at (alternatives_code g at last alts) × Zeros (alternatives_at g at alts)
+        works_good T.NoAlts at last q has z lt e in_range = (tt, tt)
+        works_good (T.Alt a n ss alts) at last q has z lt e in_range =
+            let w = statements_code g at ss in
+            let j = at + length w in
+            let rest = alternatives_code g (suc j) last alts in
+            let l1 = length-append w (I.Jump last ∷ rest) in
+            let b = back c at w (I.Jump last ∷ rest) has in
+            let f = statements_good ss at (grind (arith, q)) (front c at w (I.Jump last ∷ rest) has) z (omega (arith, few, lt, l1)) in
+            let zj : H (suc j) ≡ base = height_next k 0 c j (I.Jump last) b.0 ∙ ap (λ x. moved k x (I.Jump last)) f.1 ∙ (let w : base + 0 - 0 ≡ base = omega (arith, few) in w) in
+            let r = works_good alts (suc j) last (grind (arith, q)) b.1 zj (omega (arith, few, lt, l1)) e in_range in (
+              join at w (I.Jump last ∷ rest) f.0 ((omega (arith, few, f.1), omega (arith, few, f.1), (omega (arith, few, f.1, e), in_range, tt)), r.0),
+              (z, omega (arith, few, lt), r.1),
+            )

@@ -1,6 +1,6 @@
 -- The code's kind is the term's.
 use Rattle.object_code.specs.declared.unit.Frame.{Frame}
-use Rattle.std.proofs.Common.{◌≡◌, refl, sym, ap, ◌∙◌, subst, ℕ, suc, ◌+◌, List, [], ◌∷◌, ◌++◌, length, Option, Some, None, is_some, Bool, true, false, arith}
+use Rattle.std.proofs.Common.{◌≡◌, refl, sym, ap, ◌∙◌, subst, ℕ, suc, ◌+◌, List, [], ◌∷◌, ◌++◌, length, Option, Some, None, is_some, Bool, true, false, arith, inl, inr}
 use Rattle.std.specs.Prelude.{map, if◌then◌else◌, ◌||◌}
 use Rattle.std.specs.List.{list_any}
 use Rattle.pool_syntax.specs.declared.words.Op.{Op}
@@ -10,7 +10,7 @@ use Rattle.pool_syntax.specs.declared.words.Value.TheVariants as V
 use Rattle.pool_syntax.specs.declared.words.Item.TheVariants as Item
 use Rattle.pool_syntax.specs.declared.words.Error.TheVariants.{NilOperand}
 use Rattle.pool_syntax.specs.Terms as T
-use Rattle.pool_syntax.specs.Terms.{Store, ProgramTree, MethodTree}
+use Rattle.pool_syntax.specs.Terms.{Store, ProgramTree, MethodTree, Statements}
 use Rattle.pool_syntax.specs.Classes.{class_of}
 use Rattle.pool_syntax.specs.Values.{Outcome, Gives, Fails, WrongSort, prefix_value, infix_value}
 use Rattle.pool_relation.specs.Reducible as R
@@ -29,7 +29,7 @@ use Rattle.pool_syntax.specs.Typing.{contains}
 use Rattle.pool_compile.specs.Code.{Numbering, name, load, store, number_of}
 use Rattle.pool_compile.specs.Stands.{Standing, Head, frame_of, push_all}
 use Rattle.pool_compile.specs.Follows.{SameKind, offered}
-use Rattle.pool_compile.proofs.Focus.{Stand, Ending, Lists, guards_of, Focus}
+use Rattle.pool_compile.proofs.Focus.{Stand, Ending, Lists, guards_of, Focus, Spot, Returning}
 
 -- values that were pushed come off again
 pub dropped_all : (vs : List Value) (j : ℕ) (base : List Value) → dropped (length vs + j) (push_all vs base) ≡ dropped j base
@@ -174,6 +174,16 @@ module _ (p : ProgramTree) (o : ℕ) (x : Object) (k : Option ClassCode) (W : Li
   at r u f vs i stop empty st same =
       subst (SameKind (redex_action p o x u r)) (sym (here_kind k L f.over f.host f.own f.s vs i stop f.rest f.split empty st)) same
 
+  -- a method that returns before its post statements
+  at_return : (r : Reducible) (u : Store) (f : Focus k W L r u T) (w : Option ℕ) (v : Value) (work : Statements) (e : Returning k f.over f.host f.g f.base f.s f.stop w v work)
+      → SameKind (redex_action p o x u r) (return_kind e.0.serves v) → SameKind (redex_action p o x u r) (frames_kind k L)
+  at_return r u f w v work e same =
+      let a : frames_kind k L ≡ frames_kind k (e.0 ∷ frame_of f.host f.own f.s ∷ f.rest) =
+      ap (frames_kind k) (f.split ∙ ap (λ l. l ++ frame_of f.host f.own f.s ∷ f.rest) e.1) in
+      let b : frames_kind k (e.0 ∷ frame_of f.host f.own f.s ∷ f.rest) ≡ return_kind e.0.serves v =
+      ap (instr_kind e.0) e.5 ∙ ap (λ vs. return_kind e.0.serves (top vs)) e.4 in
+      subst (SameKind (redex_action p o x u r)) (sym (a ∙ b)) same
+
   -- a method that is done
   ending : (r : Reducible) (u : Store) (f : Focus k W L r u T) (v : Value) (serves : Frame → Type 0) (e : Ending k f.over f.base f.s f.stop v u serves)
       → SameKind (redex_action p o x u r) (return_kind e.0.serves v) → SameKind (redex_action p o x u r) (frames_kind k L)
@@ -219,5 +229,13 @@ module _ (p : ProgramTree) (o : ℕ) (x : Object) (k : Option ClassCode) (W : Li
       at (R.Choose cs) u f _ _ _ f.spot.0 f.spot.2.1
       (rw (lists_length k _ f.g cs f.base targets f.stop f.spot.2.2, take_args (guards_of cs) f.base)
       (select_same cs targets (offers_same k _ f.g cs f.base targets f.stop f.spot.2.2)))
-  kind_at (R.Finish None v) u f = ending (R.Finish None v) u f v _ f.spot (rw f.spot.2 refl)
-  kind_at (R.Finish (Some w) v) u f = ending (R.Finish (Some w) v) u f v _ f.spot (rw f.spot.2.1 (f.spot.2.0, refl))
+  kind_at (R.Finish None v work) u f = by f.spot
+    where
+      by : Spot k f.over f.host f.own f.g f.base f.s f.stop (R.Finish None v work) u → SameKind (redex_action p o x u (R.Finish None v work)) (frames_kind k L)
+      by (inl e) = ending (R.Finish None v work) u f v _ e.0 (rw e.0.2 refl)
+      by (inr e) = absurd (grind (arith, e.3))
+  kind_at (R.Finish (Some w) v work) u f = by f.spot
+    where
+      by : Spot k f.over f.host f.own f.g f.base f.s f.stop (R.Finish (Some w) v work) u → SameKind (redex_action p o x u (R.Finish (Some w) v work)) (frames_kind k L)
+      by (inl e) = ending (R.Finish (Some w) v work) u f v _ e.0 (rw e.0.2.1 (e.0.2.0, refl))
+      by (inr e) = at_return (R.Finish (Some w) v work) u f (Some w) v work e (rw e.2.1 (e.2.0, refl))

@@ -1,5 +1,5 @@
 -- A program without class faults is small.
-use Rattle.std.proofs.Common.{◌≡◌, ◌≢◌, refl, IsTrue, ℕ, zero, suc, ◌+◌, ◌-◌, ◌≤◌, ◌==◌, List, [], ◌∷◌, ◌++◌, length, Option, Some, true, arith}
+use Rattle.std.proofs.Common.{◌≡◌, ◌≢◌, refl, IsTrue, ℕ, zero, suc, ◌+◌, ◌-◌, ◌≤◌, ◌==◌, List, [], ◌∷◌, ◌++◌, length, Option, Some, true, arith, subst}
 use Rattle.std.specs.Prelude.{map}
 use Rattle.std.proofs.Math.Logic.{∥∥₁_elim}
 use denote.Struct.Props.{props}
@@ -7,7 +7,7 @@ use Rattle.pool_syntax.specs.declared.tree.Var.{Var}
 use Rattle.pool_syntax.specs.Spelled.{IsGrammatical}
 use Rattle.pool_syntax.specs.Terms as T
 use Rattle.pool_syntax.specs.Terms.{Expression, Expressions, Statement, Statements, Alternatives, MethodTree, ClassTree, ProgramTree}
-use Rattle.pool_syntax.specs.Typing.{Scope, expression_faults, statements_faults, contains, fault_if, vars_faults, too_many, methods_faults, method_tree_faults, classes_faults, class_scope, faults}
+use Rattle.pool_syntax.specs.Typing.{Scope, expression_faults, statements_faults, contains, fault_if, vars_faults, too_many, methods_faults, method_tree_faults, classes_faults, class_scope, faults, behind_value, method_scope}
 use Rattle.mesh_semantics.proofs.Laws.{first, second}
 use Rattle.pool_relation.specs.Typed.{has_room}
 use Rattle.pool_relation.specs.Written.{is_source, are_source_statements, is_value_for, are_written, is_written}
@@ -44,7 +44,7 @@ module _ (k : Option ClassCode) where
         let r = roomy h (grind (arith, q)) in
         let b = all_few es (suc h) (grind (arith, q)) (omega (arith, r)) in
         behind h (expression_words e) (suc (expressions_words es)) (words_few e h (grind (arith, q))) (omega (arith, b))
-    words_few (T.Frame m t ss e) h q = absurd (grind (arith, q))
+    words_few (T.Frame m t ss e qs) h q = absurd (grind (arith, q))
     words_few (T.Wait b m) h q = absurd (grind (arith, q))
 
     pub all_few : (es : Expressions) (h : ℕ) → are_counted k h es ≡ true → h ≤ 64 → h + expressions_words es ≤ 64
@@ -61,36 +61,39 @@ module _ (k : Option ClassCode) where
       let b = guards_few alts (suc h) (grind (arith, q)) (omega (arith, r)) in
       behind h (expression_words e) (suc (guards_words alts)) (words_few e h (grind (arith, q))) (omega (arith, b))
 
-  one : (e : Expression) → is_counted k 0 e ≡ true → expression_words e ≤ 64
-  one e q = let w = words_few e 0 q in omega (arith, w)
+  one : (b : ℕ) (e : Expression) → is_counted k b e ≡ true → expression_words e ≤ 64 - b
+  one b e q = let w = words_few e b q in omega (arith, w)
 
-  sent : (e : Expression) (es : Expressions) → is_counted k 0 e ≡ true → are_counted k 1 es ≡ true → more (expression_words e) (suc (expressions_words es)) ≤ 64
-  sent e es q r = let b = all_few es 1 r (omega arith) in more_within (expression_words e) (suc (expressions_words es)) 64 (one e q) (omega (arith, b))
+  sent : (b : ℕ) (e : Expression) (es : Expressions) → b ≤ 1 → is_counted k b e ≡ true → are_counted k (suc b) es ≡ true → more (expression_words e) (suc (expressions_words es)) ≤ 64 - b
+  sent b e es le q r =
+      let a = all_few es (suc b) r (omega (arith, le)) in
+      more_within (expression_words e) (suc (expressions_words es)) (64 - b) (one b e q) (omega (arith, a, le))
 
-  mutual
-    statement_few : (s : Statement) → is_counted_statement k s ≡ true → statement_words s ≤ 64
-    statement_few (T.Assign x p e) q = one e q
-    statement_few (T.Write e) q = one e q
-    statement_few (T.WriteText t) q = omega arith
-    statement_few (T.Do e) q = one e q
-    statement_few (T.Async e m p es) q = sent e es (grind (arith, q)) (grind (arith, q))
-    statement_few (T.If e these those) q =
-        more_within (expression_words e) (more (statements_words these) (statements_words those)) 64 (one e (grind (arith, q)))
-        (more_within (statements_words these) (statements_words those) 64 (statements_few these (grind (arith, q))) (statements_few those (grind (arith, q))))
-    statement_few (T.While e ss) q = more_within (expression_words e) (statements_words ss) 64 (one e (grind (arith, q))) (statements_few ss (grind (arith, q)))
-    statement_few (T.Answer ns) q = omega arith
-    statement_few (T.Select alts) q =
-        let g = guards_few alts 0 (grind (arith, q)) (omega arith) in
-        more_within (guards_words alts) (works_words alts) 64 (omega (arith, g)) (works_few alts (grind (arith, q)))
-    statement_few (T.Serve m c t ss e) q = absurd (grind (arith, q))
+  module _ (b : ℕ) (few : b ≤ 1) where
+    mutual
+      statement_few : (s : Statement) → is_counted_statement k b s ≡ true → statement_words s ≤ 64 - b
+      statement_few (T.Assign x p e) q = one b e q
+      statement_few (T.Write e) q = one b e q
+      statement_few (T.WriteText t) q = omega (arith, few)
+      statement_few (T.Do e) q = one b e q
+      statement_few (T.Async e m p es) q = sent b e es few (grind (arith, q)) (grind (arith, q))
+      statement_few (T.If e these those) q =
+          more_within (expression_words e) (more (statements_words these) (statements_words those)) (64 - b) (one b e (grind (arith, q)))
+          (more_within (statements_words these) (statements_words those) (64 - b) (statements_few these (grind (arith, q))) (statements_few those (grind (arith, q))))
+      statement_few (T.While e ss) q = more_within (expression_words e) (statements_words ss) (64 - b) (one b e (grind (arith, q))) (statements_few ss (grind (arith, q)))
+      statement_few (T.Answer ns) q = omega (arith, few)
+      statement_few (T.Select alts) q =
+          let g = guards_few alts b (grind (arith, q)) (omega (arith, few)) in
+          more_within (guards_words alts) (works_words alts) (64 - b) (omega (arith, few, g)) (works_few alts (grind (arith, q)))
+      statement_few (T.Serve m c t ss e qs) q = absurd (grind (arith, q))
 
-    pub statements_few : (ss : Statements) → are_counted_statements k ss ≡ true → statements_words ss ≤ 64
-    statements_few T.Done q = omega arith
-    statements_few (T.Then s ss) q = more_within (statement_words s) (statements_words ss) 64 (statement_few s (grind (arith, q))) (statements_few ss (grind (arith, q)))
+      pub statements_few : (ss : Statements) → are_counted_statements k b ss ≡ true → statements_words ss ≤ 64 - b
+      statements_few T.Done q = omega (arith, few)
+      statements_few (T.Then s ss) q = more_within (statement_words s) (statements_words ss) (64 - b) (statement_few s (grind (arith, q))) (statements_few ss (grind (arith, q)))
 
-    works_few : (alts : Alternatives) → are_counted_works k alts ≡ true → works_words alts ≤ 64
-    works_few T.NoAlts q = omega arith
-    works_few (T.Alt e ns ss alts) q = more_within (statements_words ss) (works_words alts) 64 (statements_few ss (grind (arith, q))) (works_few alts (grind (arith, q)))
+      works_few : (alts : Alternatives) → are_counted_works k b alts ≡ true → works_words alts ≤ 64 - b
+      works_few T.NoAlts q = omega (arith, few)
+      works_few (T.Alt e ns ss alts) q = more_within (statements_words ss) (works_words alts) (64 - b) (statements_few ss (grind (arith, q))) (works_few alts (grind (arith, q)))
 
 pub no_more : (n : ℕ) (vs : List Var) → too_many n vs ≡ [] → length vs ≤ n
 no_more n [] h = omega arith
@@ -104,24 +107,28 @@ pub record MethodFine (kt : ClassTree) (g : Scope) (m : MethodTree) : Type 0 whe
   pub expression : expression_faults (record g { temps = m.params ++ m.locals }) 0 m.value ≡ []
   pub params : length m.params ≤ 8
   pub temps : length (m.params ++ m.locals) ≤ 32
-  pub body : are_counted_statements (Some (class_code kt)) m.body ≡ true
+  pub body : are_counted_statements (Some (class_code kt)) g.held m.body ≡ true
+  pub post_statements : statements_faults (behind_value (method_scope g m)) m.post ≡ []
+  pub post : are_counted_statements (Some (class_code kt)) 1 m.post ≡ true
   pub value : is_counted (Some (class_code kt)) 0 m.value ≡ true
 
 pub method_within : (kt : ClassTree) (g : Scope) (m : MethodTree) → g.own ≡ Some kt → method_tree_faults g m ≡ [] → IsTrue (are_source_statements m.body) → IsTrue (is_source m.value)
-    → MethodFine kt g m
-method_within kt g m own h s t =
+    → IsTrue (are_source_statements m.post) → MethodFine kt g m
+method_within kt g m own h s t q =
     let a = none4 h in
     let b = none2 a.3 in
-    let c = none2 b.1 in
+    let c = none4 b.1 in
     let inner : Scope = record g { temps = m.params ++ m.locals } in
     record {
       names = a.0;
       statements = c.0;
-      expression = (none2 c.1).0;
+      expression = c.1;
       params = no_more 8 m.params a.1;
       temps = no_more 32 (m.params ++ m.locals) a.2;
       body = counted_statements kt inner own m.body s c.0;
-      value = counted kt inner own 0 m.value t (none2 c.1).0;
+      value = counted kt inner own 0 m.value t c.1;
+      post_statements = c.3;
+      post = counted_statements kt (behind_value (method_scope g m)) own m.post q c.3;
     }
 
 -- the faults of methods, part by part
@@ -160,15 +167,24 @@ class_parts p before k ks h =
       rest = nil_right (statements_faults (class_scope p k) k.body) _ d;
     }
 
-methods_small : (kt : ClassTree) (g : Scope) (before : List ℕ) (ms : List MethodTree) → g.own ≡ Some kt → methods_faults g before ms ≡ [] → IsTrue (are_written ms) → AreSmallMethods ms
-methods_small kt g before [] own h w = tt {0}
-methods_small kt g before (m ∷ ms) own h w =
+methods_small : (kt : ClassTree) (g : Scope) (before : List ℕ) (ms : List MethodTree) → g.own ≡ Some kt → g.held ≡ 0 → methods_faults g before ms ≡ [] → IsTrue (are_written ms) → AreSmallMethods ms
+methods_small kt g before [] own low h w = tt {0}
+methods_small kt g before (m ∷ ms) own low h w =
     let a = method_parts g before m ms h in
-    let w3 = first _ (are_written ms) w in
+    let w4 = first _ (are_written ms) w in
+    let w3 = first _ (are_source_statements m.post) w4 in
     let w2 = first _ (is_value_for m.outcome m.value) w3 in
-    let f = method_within kt g m own a.method (first (are_source_statements m.body) (is_source m.value) w2) (second (are_source_statements m.body) (is_source m.value) w2) in (
-      (f.temps, more_within (statements_words m.body) (expression_words m.value) 64 (statements_few (Some (class_code kt)) m.body f.body) (one (Some (class_code kt)) m.value f.value)),
-      methods_small kt g (m.name.name.0 ∷ before) ms own a.rest (second _ (are_written ms) w),
+    let f = method_within kt g m own a.method (first (are_source_statements m.body) (is_source m.value) w2) (second (are_source_statements m.body) (is_source m.value) w2) (second _ (are_source_statements m.post) w4) in
+    let k = Some (class_code kt) in
+    let x = statements_few k 0 (omega arith) m.body (subst (λ b. are_counted_statements k b m.body ≡ true) low f.body) in
+    let y = one k 0 m.value f.value in
+    let z = statements_few k 1 (omega arith) m.post f.post in (
+      (
+        f.temps,
+        more_within (statements_words m.body) (more (expression_words m.value) (suc (statements_words m.post))) 64 (omega (arith, x))
+            (more_within (expression_words m.value) (suc (statements_words m.post)) 64 (omega (arith, y)) (omega (arith, z))),
+      ),
+      methods_small kt g (m.name.name.0 ∷ before) ms own low a.rest (second _ (are_written ms) w),
     )
 
 classes_small : (p : ProgramTree) (before : List ℕ) (ks : List ClassTree) → classes_faults p before ks ≡ [] → IsTrue (is_written ks) → IsSmall ks
@@ -179,8 +195,8 @@ classes_small p before (k ∷ ks) h w =
     let w2 = first (are_source_statements k.body) (are_written k.methods) w3 in (
       (
         no_more 64 k.vars f.few_vars,
-        statements_few (Some (class_code k)) k.body (counted_statements k (class_scope p k) refl k.body w2 f.body),
-        methods_small k (class_scope p k) [] k.methods refl f.methods (second (are_source_statements k.body) (are_written k.methods) w3),
+        (let x = statements_few (Some (class_code k)) 0 (omega arith) k.body (counted_statements k (class_scope p k) refl k.body w2 f.body) in omega (arith, x)),
+        methods_small k (class_scope p k) [] k.methods refl refl f.methods (second (are_source_statements k.body) (are_written k.methods) w3),
       ),
       classes_small p (k.name.name.0 ∷ before) ks f.rest (second _ (is_written ks) w),
     )

@@ -150,5 +150,5 @@ module _ (p : ProgramTree) (x : Object) (y : CodeObject) (tree : ClassTree) (cla
     local_at (R.Loop c ss) u f e = same_vars _ _ term vars (loop k h g refl end halt x.term y.frames o y c ss u f) e
     local_at (R.Accept ns) u f e = absurd (grind (arith, e))
     local_at (R.Choose cs) u f e = absurd (three _ _ _ NilOperand NoOpenGuard (A.Select cs) e (λ i. grind (arith, i)))
-    local_at (R.Finish None v) u f e = same_vars _ _ term vars (finish k h g refl end halt x.term y.frames o y v u f) e
-    local_at (R.Finish (Some w) v) u f e = absurd (grind (arith, e))
+    local_at (R.Finish None v work) u f e = same_vars _ _ term vars (finish k h g refl end halt x.term y.frames o y v work u f) e
+    local_at (R.Finish (Some w) v work) u f e = absurd (grind (arith, e))

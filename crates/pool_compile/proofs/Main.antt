@@ -15,6 +15,7 @@ use Rattle.pool_relation.specs.Reducible.{Choice, Reducible, Found, Evaluated, A
 use Rattle.pool_relation.specs.Action as A
 use Rattle.pool_relation.specs.Action.{Object, Action, action, found_action, redex_action, on_object, on_outcome, read, on_call, on_assignment, on_branch, on_select, literal, value_of, method_of}
 use Rattle.pool_syntax.specs.Values.{is_true}
+use Rattle.pool_relation.specs.Transition as X
 use Rattle.pool_relation.specs.Transition.{refilled, given, done, serving, picked, plain_choice}
 use Rattle.mesh_semantics.specs.Partial.{require, ◌>>◌}
 use Rattle.pool_syntax.specs.declared.words.Serves.{Serves}
@@ -135,33 +136,35 @@ module _ (p : ProgramTree) (u : Code) (o : ℕ) (x : Object) (y : CodeObject) (t
 
   made_by : (v : Value) (r : Reducible) (t : Store) → F r t → 3 ≡ tag_of r → Stands p u (given x v) (code_given u y v)
   made_by v (R.Make c) t f i = moved _ _ _ (given_k v) (made k h g refl s.end s.halt x.term y.frames y c v t f)
-  made_by v (R.Finish None w) t f i = absurd (grind (arith, i))
-  made_by v (R.Finish (Some n) w) t f i = absurd (grind (arith, i))
+  made_by v (R.Finish None w work) t f i = absurd (grind (arith, i))
+  made_by v (R.Finish (Some n) w work) t f i = absurd (grind (arith, i))
   made_by v _ t f i = absurd (grind (arith, i))
 
   resumed_by : (v : Value) (r : Reducible) (t : Store) → F r t → 10 ≡ tag_of r → Stands p u (given x v) (code_given u y v)
   resumed_by v (R.Waiting b m) t f i = moved _ _ _ (given_k v) (resumed k h g refl s.end s.halt x.term y.frames y b m v t f)
-  resumed_by v (R.Finish None w) t f i = absurd (grind (arith, i))
-  resumed_by v (R.Finish (Some n) w) t f i = absurd (grind (arith, i))
+  resumed_by v (R.Finish None w work) t f i = absurd (grind (arith, i))
+  resumed_by v (R.Finish (Some n) w work) t f i = absurd (grind (arith, i))
   resumed_by v _ t f i = absurd (grind (arith, i))
 
   wrote_by : (r : Reducible) (t : Store) → F r t → 6 ≡ tag_of r → Stands p u (done x) (code_gone_on u y)
   wrote_by (R.Print (Item.Value v)) t f i = moved _ _ _ gone_on_k (wrote k h g refl s.end s.halt x.term y.frames y v t f)
   wrote_by (R.Print (Item.Text n)) t f i = moved _ _ _ gone_on_k (wrote_text k h g refl s.end s.halt x.term y.frames y n t f)
-  wrote_by (R.Finish None w) t f i = absurd (grind (arith, i))
-  wrote_by (R.Finish (Some n) w) t f i = absurd (grind (arith, i))
+  wrote_by (R.Finish None w work) t f i = absurd (grind (arith, i))
+  wrote_by (R.Finish (Some n) w work) t f i = absurd (grind (arith, i))
   wrote_by _ t f i = absurd (grind (arith, i))
 
   posted_by : (r : Reducible) (t : Store) → F r t → 5 ≡ tag_of r → Stands p u (done x) (code_gone_on u y)
   posted_by (R.Post to m args) t f i = moved _ _ _ gone_on_k (posted k h g refl s.end s.halt x.term y.frames y to m args t f)
-  posted_by (R.Finish None w) t f i = absurd (grind (arith, i))
-  posted_by (R.Finish (Some n) w) t f i = absurd (grind (arith, i))
+  posted_by (R.Finish None w work) t f i = absurd (grind (arith, i))
+  posted_by (R.Finish (Some n) w work) t f i = absurd (grind (arith, i))
   posted_by _ t f i = absurd (grind (arith, i))
 
-  returned_by : (r : Reducible) (t : Store) → F r t → 9 ≡ tag_of r → Stands p u (done x) (code_gone_on u y)
-  returned_by (R.Finish None v) t f i = absurd (grind (arith, i))
-  returned_by (R.Finish (Some w) v) t f i = moved _ _ _ gone_on_k (returned k h g refl s.end s.halt x.term y.frames y w v t f)
-  returned_by _ t f i = absurd (grind (arith, i))
+  returned_by : (r : Reducible) (t : Store) → R.statements_redex [] x.term ≡ At r t → F r t → 9 ≡ tag_of r → Stands p u (X.returned x) (code_gone_on u y)
+  returned_by (R.Finish None v work) t e f i = absurd (grind (arith, i))
+  returned_by (R.Finish (Some w) v work) t e f i =
+      subst (λ a. Stands p u (refilled x (AsStatements (X.work_left a))) (code_gone_on u y)) (sym e)
+      (moved _ _ _ gone_on_k (returned k h g refl s.end s.halt x.term y.frames y w v work t f))
+  returned_by _ t e f i = absurd (grind (arith, i))
 
   whole_stands : (term : Statements) → Whole k h g refl s.end s.halt term y.frames → Stands p u (record x { term = term }) y
   whole_stands term w = (
@@ -190,8 +193,8 @@ module _ (p : ProgramTree) (u : Code) (o : ℕ) (x : Object) (y : CodeObject) (t
   held_by b m args (R.Request V.Nil n more) t f q i = absurd (grind (arith, q))
   held_by b m args (R.Request (V.Int z) n more) t f q i = absurd (grind (arith, q))
   held_by b m args (R.Request (V.Bool z) n more) t f q i = absurd (grind (arith, q))
-  held_by b m args (R.Finish None v) t f q i = absurd (grind (arith, i))
-  held_by b m args (R.Finish (Some w) v) t f q i = absurd (grind (arith, i))
+  held_by b m args (R.Finish None v work) t f q i = absurd (grind (arith, i))
+  held_by b m args (R.Finish (Some w) v work) t f q i = absurd (grind (arith, i))
   held_by b m args _ t f q i = absurd (grind (arith, i))
 
   picked_k : (j : ℕ) → frames_picked k y j y.frames ≡ code_picked u y j
@@ -202,8 +205,8 @@ module _ (p : ProgramTree) (u : Code) (o : ℕ) (x : Object) (y : CodeObject) (t
   picks_by cs j c (R.Choose ds) t f q i e =
       let same : ds ≡ cs = select_is ds cs q in
       moved _ _ _ (picked_k (suc j)) (picks k h g refl s.end s.halt x.term y.frames y ds j c t f (subst (λ l. slice_get l j ≡ Some c) (sym same) e))
-  picks_by cs j c (R.Finish None v) t f q i e = absurd (grind (arith, i))
-  picks_by cs j c (R.Finish (Some w) v) t f q i e = absurd (grind (arith, i))
+  picks_by cs j c (R.Finish None v work) t f q i e = absurd (grind (arith, i))
+  picks_by cs j c (R.Finish (Some w) v work) t f q i e = absurd (grind (arith, i))
   picks_by cs j c _ t f q i e = absurd (grind (arith, i))
 
   -- serving
@@ -219,8 +222,8 @@ module _ (p : ProgramTree) (u : Code) (o : ℕ) (x : Object) (y : CodeObject) (t
       → (r : Reducible) (t : Store) → F r t → 7 ≡ tag_of r → Serving i m mt args caller w T.Done
   answers_by i m mt args caller w b is (R.Accept ns) t f q =
       (frames_serving k y i b.i args w y.frames, serving_k i m mt args w b, stands _ _ (serves_answer s.tree h s.end s.halt x.term y.frames y i ns m mt args caller w b is t f))
-  answers_by i m mt args caller w b is (R.Finish None v) t f q = absurd (grind (arith, q))
-  answers_by i m mt args caller w b is (R.Finish (Some n) v) t f q = absurd (grind (arith, q))
+  answers_by i m mt args caller w b is (R.Finish None v work) t f q = absurd (grind (arith, q))
+  answers_by i m mt args caller w b is (R.Finish (Some n) v work) t f q = absurd (grind (arith, q))
   answers_by i m mt args caller w b is _ t f q = absurd (grind (arith, q))
 
   selects_by : (cs : List Choice) (j : ℕ) (c : Choice) (m : ℕ) (mt : MethodTree) (args : List Value) (caller : Option ℕ) (w : Serves) → Begins s.tree m mt args w → IsServing caller w
@@ -231,8 +234,8 @@ module _ (p : ProgramTree) (u : Code) (o : ℕ) (x : Object) (y : CodeObject) (t
         serving_k (suc j) m mt args w b,
         stands _ _ (serves_select s.tree h s.end s.halt x.term y.frames y ds j c m mt args caller w b is t f (subst (λ l. slice_get l j ≡ Some c) (sym same) e)),
       )
-  selects_by cs j c m mt args caller w b is (R.Finish None v) t f q i e = absurd (grind (arith, i))
-  selects_by cs j c m mt args caller w b is (R.Finish (Some n) v) t f q i e = absurd (grind (arith, i))
+  selects_by cs j c m mt args caller w b is (R.Finish None v work) t f q i e = absurd (grind (arith, i))
+  selects_by cs j c m mt args caller w b is (R.Finish (Some n) v work) t f q i e = absurd (grind (arith, i))
   selects_by cs j c m mt args caller w b is _ t f q i e = absurd (grind (arith, i))
 
   module _ (r : Reducible) (t : Store) (e : R.statements_redex [] x.term ≡ At r t) (f : F r t) where
@@ -271,7 +274,7 @@ module _ (p : ProgramTree) (u : Code) (o : ℕ) (x : Object) (y : CodeObject) (t
       resumed = λ b m v q. resumed_by v r t f (tagged (A.Waits b m) q refl);
       wrote = λ item q. wrote_by r t f (tagged (A.Write item) q refl);
       posted = λ b m args q. posted_by r t f (tagged (A.Async b m args) q refl);
-      returned = λ w v q. returned_by r t f (tagged (A.Return w v) q refl);
+      returned = λ w v q. returned_by r t e f (tagged (A.Return w v) q refl);
       picks = λ i work n. picks_at (action p o x) refl i work n;
       serves = λ i m work mt args caller w n is serves. serves_at (action p o x) refl i m work mt args caller w n is serves;
     }

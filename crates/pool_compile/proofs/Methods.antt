@@ -1,8 +1,8 @@
 -- The methods of a class in its code, and a method as it begins.
-use Rattle.std.proofs.Common.{◌≡◌, refl, sym, ap, ◌∙◌, subst, ℕ, suc, ◌+◌, ◌==◌, List, [], ◌∷◌, ◌++◌, length, Option, Some, Bool, true, false, inl, arith}
+use Rattle.std.proofs.Common.{◌≡◌, refl, sym, ap, ◌∙◌, subst, ℕ, suc, ◌+◌, ◌==◌, List, [], ◌∷◌, ◌++◌, length, Option, Some, Bool, true, false, inl, arith, inr}
 use Rattle.std.specs.Prelude.{slice_get, map, if◌then◌else◌, ◌&&◌}
 use Rattle.pool_syntax.specs.declared.words.Value.{Value}
-use Rattle.pool_syntax.specs.Terms.{Statements, Expression, MethodTree, ClassTree, ProgramTree}
+use Rattle.pool_syntax.specs.Terms.{Statements, Expression, MethodTree, ClassTree, ProgramTree, Done, Then}
 use Rattle.pool_syntax.specs.Classes.{class_of, named_method}
 use Rattle.pool_relation.specs.Reducible.{is_done}
 use Rattle.pool_relation.specs.Action.{temps_of}
@@ -13,13 +13,14 @@ use Rattle.object_code.specs.declared.unit.ClassCode.{ClassCode}
 use Rattle.object_code.specs.Frames as F
 use Rattle.object_code.specs.Frames.{code_of}
 use Rattle.object_code.specs.Step.{Numbered, method_from, method_named, begun}
-use Rattle.pool_compile.specs.Code.{Numbering, name, names_of, method_code_of, class_code, method_instrs, statements_code, expression_code}
-use Rattle.pool_compile.specs.Stands.{Head, keys, frame_of, fresh, IsOf, InMethod, Under, UnderStatements}
+use Rattle.pool_compile.specs.Code.{Numbering, name, names_of, method_code_of, class_code, method_instrs, statements_code, expression_code, post_code}
+use Rattle.pool_compile.specs.Stands.{Head, keys, frame_of, fresh, IsOf, InMethod, Under, UnderStatements, as_value, Behind}
+use Rattle.mesh_semantics.proofs.Laws.{first, second}
 use Rattle.pool_compile.proofs.Coded.{is_text, are_text_statements, Has, front, back, has_all, coded, coded_statements}
 use Rattle.pool_compile.proofs.Stores.{temps_keys, temps_values}
 
 abbrev pub is_text_method : MethodTree → Bool
-is_text_method m = are_text_statements m.body && is_text m.value
+is_text_method m = are_text_statements m.body && is_text m.value && are_text_statements m.post
 
 abbrev pub are_text_methods : List MethodTree → Bool
 are_text_methods [] = true
@@ -89,21 +90,34 @@ pub code_found : (vars : List ℕ) (ms : List MethodTree) (n m : ℕ) (mt : Meth
 code_found vars [] n m mt h = absurd (grind (arith, h))
 code_found vars (x ∷ ms) n m mt h = code_by vars (x.name.name.0 == m) x ms n m mt refl (λ q. code_found vars ms (suc n) m mt q) h
 
--- the code of a method stands for it, at its start
-method_starts : (k : Option ClassCode) (c : List Instr) (g : Numbering) (ss : Statements) (e : Expression) → are_text_statements ss ≡ true → is_text e ≡ true
-    → c ≡ method_instrs g ss e → InMethod c (UnderStatements k c g ss []) (is_done ss) (Under k c g e []) (fresh 0 [])
-method_starts k c g ss e t u same =
+-- what stands behind a method's value stands for its post statements
+post_starts : (k : Option ClassCode) (c : List Instr) (g : Numbering) (at : ℕ) (qs : Statements) → are_text_statements qs ≡ true → Has c at (post_code g at qs)
+    → Behind c (is_done qs) (UnderStatements k c g qs) at
+post_starts k c g at Done t h = inl (refl, h.0)
+post_starts k c g at (Then s qs) t h =
+    let later = statements_code g (suc at) (Then s qs) in
+    let r = back c (suc at) later (I.Ret ∷ []) h.1 in
+    inr (refl, h.0, (suc at + length later, r.0, λ b. coded_statements k c g (Then s qs) (suc at) t (front c (suc at) later (I.Ret ∷ []) h.1) b (suc at + length later) refl))
+
+-- the code of a method stands for it, at its start, whomever it serves
+method_starts : (k : Option ClassCode) (c : List Instr) (g : Numbering) (caller : Option ℕ) (ss : Statements) (e : Expression) (qs : Statements)
+    → are_text_statements ss ≡ true → is_text e ≡ true → are_text_statements qs ≡ true
+    → c ≡ method_instrs g ss e qs
+    → InMethod c caller (UnderStatements k c g ss []) (is_done ss) (Under k c g e []) (as_value e) (UnderStatements k c g qs) (is_done qs) (fresh 0 [])
+method_starts k c g caller ss e qs t u v same =
     let first = statements_code g 0 ss in
     let value = expression_code g e in
-    let h = subst (λ l. Has l 0 (method_instrs g ss e)) (sym same) (has_all (method_instrs g ss e)) in
-    let b = back c 0 first (value ++ I.Ret ∷ []) h in
-    let r = back c (0 + length first) value (I.Ret ∷ []) b in (
-      0 + length first + length value,
-      r.0,
+    let end = 0 + length first + length value in
+    let h = subst (λ l. Has l 0 (method_instrs g ss e qs)) (sym same) (has_all (method_instrs g ss e qs)) in
+    let b = back c 0 first (value ++ post_code g end qs) h in
+    let r = back c (0 + length first) value (post_code g end qs) b in
+    inl (
+      end,
+      post_starts k c g end qs v r,
       inl (
         0 + length first,
-        coded_statements k c g ss 0 t (front c 0 first (value ++ I.Ret ∷ []) h) [] (0 + length first) refl,
-        coded k c g e (0 + length first) u (front c (0 + length first) value (I.Ret ∷ []) b) [] (0 + length first + length value) refl,
+        coded_statements k c g ss 0 t (front c 0 first (value ++ post_code g end qs) h) [] (0 + length first) refl,
+        coded k c g e (0 + length first) u (front c (0 + length first) value (post_code g end qs) b) [] end refl,
       ),
     )
 
@@ -117,10 +131,13 @@ pub record Begins (tree : ClassTree) (m : ℕ) (mt : MethodTree) (args : List Va
   pub of : IsOf (Some (class_code tree)) head mt.name.name.0
   pub frame : begun i args w ≡ frame_of head (temps_of mt args) (fresh 0 [])
   pub names : keys (temps_of mt args) ≡ names_of (mt.params ++ mt.locals)
-  pub way : InMethod (code_of (Some (class_code tree)) head.method)
+  pub way : (caller : Option ℕ) → InMethod (code_of (Some (class_code tree)) head.method) caller
       (UnderStatements (Some (class_code tree)) (code_of (Some (class_code tree)) head.method) (record { temps = names_of (mt.params ++ mt.locals); vars = names_of tree.vars }) mt.body [])
       (is_done mt.body)
       (Under (Some (class_code tree)) (code_of (Some (class_code tree)) head.method) (record { temps = names_of (mt.params ++ mt.locals); vars = names_of tree.vars }) mt.value [])
+      (as_value mt.value)
+      (UnderStatements (Some (class_code tree)) (code_of (Some (class_code tree)) head.method) (record { temps = names_of (mt.params ++ mt.locals); vars = names_of tree.vars }) mt.post)
+      (is_done mt.post)
       (fresh 0 [])
 
 pub begins : (tree : ClassTree) (m : ℕ) (mt : MethodTree) (args : List Value) (w : Serves) → are_text_methods tree.methods ≡ true
@@ -133,7 +150,7 @@ begins tree m mt args w t h =
     let head : Head = record { method = Some (0 + c.0); serves = w } in
     let z : 0 + c.0 ≡ c.0 = omega arith in
     let text = method_text tree.methods m mt t h in
-    let code : code_of k head.method ≡ method_instrs (record { temps = names_of (mt.params ++ mt.locals); vars = vars }) mt.body mt.value =
+    let code : code_of k head.method ≡ method_instrs (record { temps = names_of (mt.params ++ mt.locals); vars = vars }) mt.body mt.value mt.post =
     ap (λ j. code_of k (Some j)) z ∙ ap (λ o. F.method_code o) c.2 in
     record {
       i = i;
@@ -144,5 +161,5 @@ begins tree m mt args w t h =
       of = (i, ap (λ n. method_named k (name n)) (name_is tree.methods m mt h) ∙ c.1, refl);
       frame = λ j. record { method = Some (0 + c.0); at = 0; temps = sym (temps_values mt.params mt.locals args) j; operands = []; serves = w };
       names = temps_keys mt args;
-      way = method_starts k (code_of k head.method) (record { temps = names_of (mt.params ++ mt.locals); vars = vars }) mt.body mt.value (grind (arith, text)) (grind (arith, text)) code;
+      way = λ caller. method_starts k (code_of k head.method) (record { temps = names_of (mt.params ++ mt.locals); vars = vars }) caller mt.body mt.value mt.post (first (are_text_statements mt.body) (is_text mt.value) (first _ (are_text_statements mt.post) text)) (second (are_text_statements mt.body) (is_text mt.value) (first _ (are_text_statements mt.post) text)) (second _ (are_text_statements mt.post) text) code;
     }

@@ -2,7 +2,7 @@
 use Rattle.std.proofs.Common.{◌≡◌, ◌≢◌, refl, sym, ap, ◌∙◌, subst, IsTrue, ℕ, zero, suc, ◌+◌, ◌==◌, ◌<◌, ◌≤◌, ◌^◌, List, [], ◌∷◌, ◌++◌, length, Option, Some, None, Bool, true, false, arith, length-append}
 use Rattle.std.specs.Prelude.{slice_get, map}
 use Rattle.pool_syntax.specs.declared.tree.Var.{Var}
-use Rattle.pool_syntax.specs.Terms.{MethodTree, ClassTree, ProgramTree}
+use Rattle.pool_syntax.specs.Terms.{MethodTree, ClassTree, ProgramTree, Statements, Done, Then}
 use Rattle.pool_syntax.specs.Classes.{class_of, named_method}
 use Rattle.pool_syntax.specs.Spelled.{is_name, is_outcome, are_variables, is_spelled_expression, are_spelled_statements, are_spelled_methods, is_spelled}
 use Rattle.pool_syntax.specs.Typing.{Scope, fault_if, vars_faults, methods_of_class, method_tree_faults, methods_faults, statements_faults, class_scope, classes_faults, faults}
@@ -16,7 +16,7 @@ use Rattle.object_code.specs.declared.unit.MethodCode.{MethodCode}
 use Rattle.object_code.specs.declared.unit.ClassCode.{ClassCode}
 use Rattle.object_code.specs.declared.unit.Unit.{Unit as Code}
 use Rattle.object_code.specs.Proper.{IsProperCode, IsProperClass, IsProper}
-use Rattle.pool_compile.specs.Code.{Numbering, names_of, statements_code, expression_code, method_instrs, body_instrs, method_code_of, class_code, code}
+use Rattle.pool_compile.specs.Code.{Numbering, names_of, statements_code, expression_code, method_instrs, body_instrs, method_code_of, class_code, code, post_code}
 use Rattle.pool_compile.specs.Small.{AreShortMethods, IsShortClass, AreShort}
 use Rattle.pool_compile.proofs.Counted.{counted_statements}
 use Rattle.pool_compile.proofs.Existing.{AllFit, fit_append, fit_at, exists_of, text_there, Ground, expression_fits, statements_fit}
@@ -75,23 +75,40 @@ module _ (p : ProgramTree) (u : Code) (same : u.classes ≡ code p) (h : faults 
           λ at e. fit_at ⊥ u kc 0 c at I.Ret fit e,
         )
 
-    method_is_proper : (m : MethodTree) → are_spelled_statements u.names m.body ≡ true → is_spelled_expression u.names m.value ≡ true → method_tree_faults (class_scope p k) m ≡ []
-        → IsTrue (are_source_statements m.body) → IsTrue (is_source m.value) → length (method_code_of (names_of k.vars) m).code < 2 ^ 32
+    -- what stands behind the value of a method
+    post_fits : (temps : List Var) → AllKnown p temps → (at : ℕ) (qs : Statements) → are_spelled_statements u.names qs ≡ true
+        → statements_faults (record (class_scope p k) { temps = temps; held = 1 }) qs ≡ []
+        → AllFit (Unit {0}) u (Some (class_code k)) (length temps) (post_code (record { temps = names_of temps; vars = names_of k.vars }) at qs)
+    post_fits temps known at Done s f = (tt {0}, tt {0})
+    post_fits temps known at (Then st qs) s f =
+        let g : Scope = record (class_scope p k) { temps = temps; held = 1 } in
+        let q = ground temps known in
+        let num : Numbering = record { temps = names_of temps; vars = names_of k.vars } in
+        let behind : Ground g = record { own = q.own; temps = q.temps; all = q.all; written = q.written; few = q.few } in (
+          tt {0},
+          fit_append (Unit {0}) u (Some (class_code k)) (length temps) (statements_code num (suc at) (Then st qs)) (I.Ret ∷ [])
+              (statements_fit u.names g behind u k (Unit {0}) same refl refl (Then st qs) (suc at) s f) (tt {0}, tt {0}),
+        )
+
+    method_is_proper : (m : MethodTree) → are_spelled_statements u.names m.body ≡ true → is_spelled_expression u.names m.value ≡ true → are_spelled_statements u.names m.post ≡ true → method_tree_faults (class_scope p k) m ≡ []
+        → IsTrue (are_source_statements m.body) → IsTrue (is_source m.value) → IsTrue (are_source_statements m.post) → length (method_code_of (names_of k.vars) m).code < 2 ^ 32
         → IsProperCode u (Some (class_code k)) (length (m.params ++ m.locals)) (method_code_of (names_of k.vars) m).code
-    method_is_proper m s v f t i short =
+    method_is_proper m s v w f t i z short =
         let temps = m.params ++ m.locals in
         let g = record (class_scope p k) { temps = temps } in
         let num : Numbering = record { temps = names_of temps; vars = names_of k.vars } in
-        let c = method_instrs num m.body m.value in
+        let c = method_instrs num m.body m.value m.post in
+        let end = 0 + length (statements_code num 0 m.body) + length (expression_code num m.value) in
         let kc = Some (class_code k) in
-        let fine = method_within k (class_scope p k) m refl f t i in
+        let fine = method_within k (class_scope p k) m refl f t i z in
         let q = ground temps (vars_known p 5 [] temps fine.names) in
         let n = length temps in
         let fit : AllFit (Unit {0}) u kc n c =
-        fit_append (Unit {0}) u kc n (statements_code num 0 m.body) (expression_code num m.value ++ I.Ret ∷ []) (statements_fit u.names g q u k (Unit {0}) same refl refl m.body 0 s fine.statements)
-        (fit_append (Unit {0}) u kc n (expression_code num m.value) (I.Ret ∷ []) (expression_fits u.names g q u k (Unit {0}) same refl refl m.value 0 v fine.expression) (tt {0}, tt {0})) in
-        method_proper u kc num n m.body m.value fine.body fine.value (omega (arith, short))
-        (λ at x e. exists_of (Unit {0}) u kc n c at x (fine_here kc c at x (method_fine kc num m.body m.value fine.body fine.value) e) (fit_at (Unit {0}) u kc n c at x fit e))
+        fit_append (Unit {0}) u kc n (statements_code num 0 m.body) (expression_code num m.value ++ post_code num end m.post) (statements_fit u.names g q u k (Unit {0}) same refl refl m.body 0 s fine.statements)
+        (fit_append (Unit {0}) u kc n (expression_code num m.value) (post_code num end m.post) (expression_fits u.names g q u k (Unit {0}) same refl refl m.value 0 v fine.expression)
+        (post_fits temps (vars_known p 5 [] temps fine.names) end m.post w fine.post_statements)) in
+        method_proper u kc num n m.body m.value m.post fine.body fine.value fine.post (omega (arith, short))
+        (λ at x e. exists_of (Unit {0}) u kc n c at x (fine_here kc c at x (method_fine kc num m.body m.value m.post fine.body fine.value fine.post) e) (fit_at (Unit {0}) u kc n c at x fit e))
 
     abbrev ProperMethod : MethodCode → Type 0
     ProperMethod m = (m.name.0 < length u.names) × (m.params ≤ 8) × (m.temps ≤ 32) × (m.params ≤ m.temps) × IsProperCode u (Some (class_code k)) m.temps m.code
@@ -101,23 +118,26 @@ module _ (p : ProgramTree) (u : Code) (same : u.classes ≡ code p) (h : faults 
     methods_proper before [] f r s short j m e = absurd (grind (arith, e))
     methods_proper before (x ∷ ms) f r s short zero m e =
         let a = method_parts (class_scope p k) before x ms f in
-        let r3 = first _ (are_written ms) r in
+        let r4 = first _ (are_written ms) r in
+        let r3 = first _ (are_source_statements x.post) r4 in
         let r2 = first _ (is_value_for x.outcome x.value) r3 in
+        let later = second _ (are_source_statements x.post) r4 in
         let body = first (are_source_statements x.body) (is_source x.value) r2 in
         let value = second (are_source_statements x.body) (is_source x.value) r2 in
-        let s1 = first _ (are_spelled_methods u.names ms) s in
+        let s0 = first _ (are_spelled_methods u.names ms) s in
+        let s1 = first _ (are_spelled_statements u.names x.post) s0 in
         let s2 = first _ (is_spelled_expression u.names x.value) s1 in
         let s3 = first _ (are_spelled_statements u.names x.body) s2 in
         let s4 = first _ (is_outcome u.names x.outcome) s3 in
         let s5 = first _ (are_variables u.names x.locals) s4 in
         let s6 = first (is_name u.names x.name.name.0) (are_variables u.names x.params) s5 in
-        let fine = method_within k (class_scope p k) x refl a.method body value in
+        let fine = method_within k (class_scope p k) x refl a.method body value later in
         subst ProperMethod (at_map (method_code_of (names_of k.vars)) x ms m e) (
           text_there _ u.names x.name.name.0 s6,
           fine.params,
           fine.temps,
           omega (arith, length-append x.params x.locals),
-          method_is_proper x (second _ (are_spelled_statements u.names x.body) s2) (second _ (is_spelled_expression u.names x.value) s1) a.method body value short.0,
+          method_is_proper x (second _ (are_spelled_statements u.names x.body) s2) (second _ (is_spelled_expression u.names x.value) s1) (second _ (are_spelled_statements u.names x.post) s0) a.method body value later short.0,
         )
     methods_proper before (x ∷ ms) f r s short (suc j) m e =
         methods_proper (x.name.name.0 ∷ before) ms (method_parts (class_scope p k) before x ms f).rest (second _ (are_written ms) r) (second _ (are_spelled_methods u.names ms) s) short.1 j m e

@@ -14,7 +14,7 @@ use Rattle.object_code.specs.declared.unit.Unit.{Unit as Code}
 use Rattle.object_code.specs.Kinds as K
 use Rattle.object_code.specs.Kinds.{Kind as CodeKind, code_kind}
 use Rattle.object_code.specs.Step.{code_stepped, code_gone_on, code_picked, code_made}
-use Rattle.pool_compile.specs.Code.{name, body_instrs, code}
+use Rattle.pool_compile.specs.Code.{name, body_instrs, method_instrs, code}
 
 abbrev named : ℕ → Named
 named n = record { name = name n; pos = 0 }
@@ -74,3 +74,13 @@ nested_code : body_instrs (record { temps = []; vars = [] }) nested
     ≡ I.Loop ∷ I.PushBool true ∷ I.Branch 14 ∷ I.PushBool false ∷ I.Branch 6 ∷ I.Jump 6 ∷ I.PushBool true ∷ I.PushBool false
     ∷ I.Select (record { answer = None; at = 9 } ∷ record { answer = Some (name 2 ∷ []); at = 12 } ∷ []) ∷ I.PushInt (pos 1) ∷ I.Write ∷ I.Jump 13 ∷ I.Jump 13 ∷ I.Jump 0 ∷ I.Halt ∷ []
 nested_code = refl
+
+-- method f(n : Int) : Int begin result n + 1 post write n end
+posting_code : method_instrs (record { temps = 1 ∷ []; vars = [] }) Done (Infix O.Add (Variable 1 0) (Literal (V.Int (pos 1)) 0) 0) (Then (Write (Variable 1 0)) Done)
+    ≡ I.LoadT 0 ∷ I.PushInt (pos 1) ∷ I.Oper O.Add ∷ I.Post ∷ I.LoadT 0 ∷ I.Write ∷ I.Ret ∷ []
+posting_code = refl
+
+-- method g() begin post if true then else write 1 fi end: the places count from the start of the method
+posting_places : method_instrs (record { temps = []; vars = [] }) Done (Literal V.Nil 0) (Then (If (Literal (V.Bool true) 0) Done (Then (Write (Literal (V.Int (pos 1)) 0)) Done)) Done)
+    ≡ I.PushNil ∷ I.Post ∷ I.PushBool true ∷ I.Branch 5 ∷ I.Jump 7 ∷ I.PushInt (pos 1) ∷ I.Write ∷ I.Ret ∷ []
+posting_places = refl

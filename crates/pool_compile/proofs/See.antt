@@ -1,14 +1,14 @@
 -- Frames that stand for a part stand at its redex, or at a silent instruction, or at its end.
-use Rattle.std.proofs.Common.{◌≡◌, ℕ, List, [], Option}
+use Rattle.std.proofs.Common.{◌≡◌, ap, subst, ℕ, List, [], ◌∷◌, Option, None}
 use Rattle.pool_syntax.specs.declared.words.Value.{Value}
 use Rattle.pool_syntax.specs.Terms as T
 use Rattle.pool_syntax.specs.Terms.{Store, Expression, Expressions, Statement, Statements, Alternatives}
 use Rattle.pool_relation.specs.Reducible as R
 use Rattle.pool_relation.specs.Reducible.{fill_expression, fill_expressions, fill_guards}
 use Rattle.object_code.specs.declared.unit.ClassCode.{ClassCode}
-use Rattle.object_code.specs.Frames.{code_of}
+use Rattle.object_code.specs.Frames.{code_of, post_passed}
 use Rattle.pool_compile.specs.Code.{Numbering}
-use Rattle.pool_compile.specs.Stands.{Standing, Head, keys, Under, UnderAll, UnderStatement, UnderStatements, UnderGuards}
+use Rattle.pool_compile.specs.Stands.{Standing, Head, keys, IsServing, Under, UnderAll, UnderStatement, UnderStatements, UnderGuards}
 use Rattle.pool_compile.proofs.Focus.{guards_of}
 use Rattle.pool_compile.proofs.Seen.{There, AllThere, SeenExpression, SeenAll, in_turn}
 use Rattle.pool_compile.proofs.SeenExpressions.{me_seen, variable_seen, create_seen, wait_seen, prefix_seen, infix_seen, call_seen, send_seen, literal_seen, arg_seen, no_args_seen}
@@ -34,14 +34,15 @@ mutual
       send_seen k h t g base s end names e m es p u.0 u.2
       (in_turn k h t g e (R.expressions_redex t es) (UnderAll k (code_of k h.method) g es) (λ part. UnderAll k (code_of k h.method) g (fill_expressions es part)) (λ b z q. AllThere b z q) u.0 base s
       (λ m w. see k h t g e base s m names w) (λ b w. see_all k h t g es b s u.0 names w) u.1)
-  see k h t g (T.Frame m v ss e) base s end names u =
+  see k h t g (T.Frame m v ss e qs) base s end names u =
       let hd = u.1.0 in
       let a = u.1.1 in
       let ns = u.1.2 in
       let i : Numbering = record g { temps = ns } in
-      frame_seen k h t g base s end names m v ss e hd a ns u.0 u.1.3 u.1.4 u.1.5 u.1.6
-      (method_seen k hd v i ss e a
-      (λ q w. see_statements k hd v i ss [] a q u.1.6 w) (λ q w. see k hd v i e [] a q u.1.6 w) u.1.7)
+      frame_seen k h t g base s end names m v ss e qs hd a ns u.0 u.1.3 u.1.4 u.1.5 u.1.6
+      (method_seen k None hd v i ss e qs a
+      (λ q w. see_statements k hd v i ss [] a q u.1.6 w) (λ q w. see k hd v i e [] a q u.1.6 w)
+      (λ x q w. see_statements k hd v i qs (x ∷ []) a q u.1.6 w) (λ n f. ap (post_passed f) u.1.5) u.1.7)
   see k h t g (T.Wait b m) base s end names u = wait_seen k h t g base s end names b m u
 
   pub see_all : (k : Option ClassCode) (h : Head) (t : Store) (g : Numbering) (es : Expressions) (base : List Value) (s : Standing) (end : ℕ) → keys t ≡ g.temps
@@ -69,14 +70,15 @@ mutual
   see_statement k h t g (T.Answer ns) ss base s end names u = answer_seen k h t g ss base s end names ns u
   see_statement k h t g (T.Select alts) ss base s end names u =
       select_seen k h t g ss base s end names alts u.0 u.1 u.3 u.4 (see_guards k h t g alts base s u.0 names u.2)
-  see_statement k h t g (T.Serve m w v work e) ss base s end names u =
+  see_statement k h t g (T.Serve m w v work e qs) ss base s end names u =
       let hd = u.1.0 in
       let a = u.1.1 in
       let ns = u.1.2 in
       let i : Numbering = record g { temps = ns } in
-      serve_seen k h t g ss base s end names m w v work e hd a ns u.0 u.1.3 u.1.4 u.1.5 u.1.6
-      (method_seen k hd v i work e a
-      (λ q w. see_statements k hd v i work [] a q u.1.6 w) (λ q w. see k hd v i e [] a q u.1.6 w) u.1.7)
+      serve_seen k h t g ss base s end names m w v work e qs hd a ns u.0 u.1.3 u.1.4 u.1.5 u.1.6
+      (method_seen k w hd v i work e qs a
+      (λ q w. see_statements k hd v i work [] a q u.1.6 w) (λ q w. see k hd v i e [] a q u.1.6 w)
+      (λ x q w. see_statements k hd v i qs (x ∷ []) a q u.1.6 w) (λ n f. ap (post_passed f) (subst (λ c. IsServing c hd.serves) n u.1.5)) u.1.7)
 
   pub see_statements : (k : Option ClassCode) (h : Head) (t : Store) (g : Numbering) (ss : Statements) (base : List Value) (s : Standing) (end : ℕ) → keys t ≡ g.temps
       → UnderStatements k (code_of k h.method) g ss base s end → SeenStatements k h t g ss base s end

@@ -1,6 +1,7 @@
 -- What is seen of each form of statement, from what is seen of its parts.
 use Rattle.object_code.specs.declared.unit.Frame.{Frame}
-use Rattle.std.proofs.Common.{◌≡◌, refl, sym, ap, ◌∙◌, subst, ℕ, zero, suc, ◌+◌, List, [], ◌∷◌, ◌++◌, length, Option, Some, Bool, true, false, inl, inr, arith}
+use Rattle.pool_syntax.specs.declared.words.Serves.TheVariants as S
+use Rattle.std.proofs.Common.{◌≡◌, refl, sym, ap, ◌∙◌, subst, ℕ, zero, suc, ◌+◌, List, [], ◌∷◌, ◌++◌, length, Option, Some, Bool, true, false, inl, inr, arith, None, is_some, IsTrue}
 use Rattle.std.specs.Prelude.{slice_get, if◌then◌else◌}
 use Rattle.pool_syntax.specs.declared.words.Value.{Value}
 use Rattle.pool_syntax.specs.declared.words.Item.TheVariants as Item
@@ -9,19 +10,19 @@ use Rattle.pool_syntax.specs.Terms as T
 use Rattle.pool_syntax.specs.Terms.{Store, Expression, Expressions, Statement, Statements, Alternatives, append}
 use Rattle.pool_syntax.specs.Typing.{size}
 use Rattle.pool_relation.specs.Reducible as R
-use Rattle.pool_relation.specs.Reducible.{Choice, Reducible, Found, Evaluated, At, and_then, Part, AsExpression, AsStatements, as_expression, as_statements, set_value, assigned, fill_expression, fill_expressions, fill_statement, fill_statements, fill_guards, is_value, are_values, is_done}
+use Rattle.pool_relation.specs.Reducible.{Choice, Reducible, Found, Evaluated, At, and_then, Part, AsExpression, AsStatements, as_expression, as_statements, set_value, assigned, fill_expression, fill_expressions, fill_statement, fill_statements, fill_guards, is_value, are_values, is_done, left_served}
 use Rattle.pool_relation.proofs.Laws.{not_value, not_values, not_done, not_guards, arguments_are, guards_are, passed}
 use Rattle.object_code.specs.declared.unit.Instr.{Instr}
 use Rattle.object_code.specs.declared.unit.Instr.TheVariants as I
 use Rattle.object_code.specs.declared.unit.AltCode.{AltCode}
 use Rattle.object_code.specs.declared.unit.ClassCode.{ClassCode}
-use Rattle.object_code.specs.Frames.{code_of, silent}
+use Rattle.object_code.specs.Frames.{code_of, silent, next}
 use Rattle.pool_compile.specs.Code.{Numbering, name, store}
-use Rattle.pool_compile.specs.Stands.{Standing, Head, keys, frame_of, level, fresh, Fresh, Jumps, Led, Ends, as_value, IsOf, IsServing, Held, UnderAll, UnderStatement, UnderStatements, UnderGuards, Works}
+use Rattle.pool_compile.specs.Stands.{Standing, Head, keys, frame_of, level, fresh, Fresh, Jumps, Led, Ends, as_value, IsOf, IsServing, Held, UnderAll, UnderStatement, UnderStatements, UnderGuards, Works, values}
 use Rattle.pool_compile.proofs.Focus.{is_inner, after, UnderPart, Lists, guards_of, Spot, Focus, Idle, Sight, over, redex, idle, within, beneath, idle_within, idle_beneath}
 use Rattle.pool_compile.proofs.Seen.{is_value_of, value_at, Refills, Keeps, AllThere, SeenExpression, Turn, both, first, second, quiet}
 use Rattle.pool_compile.proofs.SeenExpressions.{ends_at, count_values, size_fill}
-use Rattle.pool_compile.proofs.SeenFrames.{assigned_keys, done_has_none, Rewrites, SeenStatements, Method, ended, body, value, waits}
+use Rattle.pool_compile.proofs.SeenFrames.{assigned_keys, done_has_none, Rewrites, SeenStatements, Method, ended, body, value, waits, returning, post, Posts, true_done}
 
 -- the part at a statement's redex is a list of statements
 put_statements : (k : Option ClassCode) (c : List Instr) (g : Numbering) (base : List Value) (z : Standing) (end : ℕ) (inner : Bool) → inner ≡ false
@@ -38,6 +39,37 @@ assigned_value x p _ ss t v h = absurd (grind (arith, h))
 assigned_other : (x p : ℕ) (e : Expression) (ss : Statements) (t : Store) → is_value e ≡ false → t ≡ assigned (T.Then (T.Assign x p e) ss) t
 assigned_other x p (T.Literal w q) ss t h = absurd (grind (arith, h))
 assigned_other x p _ ss t h = refl
+
+-- where no post statement is left, or a caller is served, none comes next
+over_none : (w : Option ℕ) (t : Store) (qs : Statements) → is_done qs ≡ true → R.in_post w (R.statements_redex t qs) ≡ Evaluated tt
+over_none None t qs d = done_has_none t qs d
+over_none (Some c) t qs d = refl
+
+over_some : (w : Option ℕ) (t : Store) (qs : Statements) → IsTrue (is_some w) → R.in_post w (R.statements_redex t qs) ≡ Evaluated tt
+over_some None t qs i = absurd (grind (arith, i))
+over_some (Some c) t qs i = refl
+
+over_done : (w : Option ℕ) (qs : Statements) → is_done qs ≡ true → R.is_over w qs ≡ true
+over_done None qs d = d
+over_done (Some c) qs d = refl
+
+some_over : (w : Option ℕ) (qs : Statements) → IsTrue (is_some w) → R.is_over w qs ≡ true
+some_over None qs i = absurd (grind (arith, i))
+some_over (Some c) qs i = refl
+
+not_over : (w : Option ℕ) (t : Store) (qs : Statements) (r : Reducible) (u : Store) → w ≡ None → R.statements_redex t qs ≡ At r u → R.is_over w qs ≡ false
+not_over w t qs r u n f = rw (n, not_done t qs r u f) refl
+
+left_none : (w : Option ℕ) (m : ℕ) (t : Store) (ss : Statements) (e : Expression) (qs : Statements) → is_done qs ≡ true → left_served w m t ss e qs ≡ T.Done
+left_none None m t ss e qs d = refl
+left_none (Some c) m t ss e T.Done d = refl
+left_none (Some c) m t ss e (T.Then s qs) d = absurd (grind (arith, d))
+
+left_some : (w : Option ℕ) (m : ℕ) (t : Store) (ss : Statements) (e : Expression) (qs : Statements) → IsTrue (is_some w) → is_done qs ≡ false
+    → left_served w m t ss e qs ≡ T.Then (T.Serve m None t ss e qs) T.Done
+left_some None m t ss e qs i d = absurd (grind (arith, i))
+left_some (Some c) m t ss e T.Done i d = absurd (grind (arith, d))
+left_some (Some c) m t ss e (T.Then s qs) i d = refl
 
 module _ (k : Option ClassCode) where
   -- a statement in front of others
@@ -221,11 +253,26 @@ module _ (k : Option ClassCode) where
     answer_seen ns u =
         redex (R.Accept ns) t refl (leaf (T.Answer ns) (R.Accept ns) refl refl u.0.1 (λ part. refl) (refl, refl, (u.0.0, u.1)))
 
-    pub serve_seen : (m : ℕ) (w : Option ℕ) (v : Store) (work : Statements) (e : Expression) (hd : Head) (a : Standing) (ns : List ℕ)
+    -- after the return the frame goes on, for no one
+    goes_on : (m : ℕ) (w : Option ℕ) (v : Store) (work : Statements) (e : Expression) (qs : Statements) (hd : Head) (a : Standing) (ns : List ℕ) (x : Value)
+        → Held base s end → IsOf k hd m → keys v ≡ ns → is_done work ≡ true → as_value e ≡ Some x → is_done qs ≡ false → IsTrue (is_some w) → a.operands ≡ x ∷ []
+        → Posts k hd (record g { temps = ns }) qs x (fresh (suc a.at) (x ∷ []))
+        → UnderStatements k c g (left_served w m v work e qs) base (record s { above = next (record (frame_of hd v a) { serves = S.Sender }) (frame_of hd v a).operands ∷ [] }) end
+    goes_on m w v work e qs hd a ns x held of ks done is more some ops rest =
+        let hd' : Head = record { method = hd.method; serves = S.Sender } in
+        let z : Standing = fresh (suc a.at) (x ∷ []) in
+        let top : Frame = next (record (frame_of hd v a) { serves = S.Sender }) (frame_of hd v a).operands in
+        let same : top ∷ [] ≡ level hd' v z = λ i. record { method = hd.method; at = suc a.at; temps = values v; operands = ops i; serves = S.Sender } ∷ [] in
+        let s' : Standing = record s { above = top ∷ [] } in
+        let st : UnderStatement k c g (T.Serve m None v work e qs) base s' end =
+        (held, (hd', z, ns, same, (of.0, of.1, of.2), refl, ks, inr (x, true_done work done, is, refl, rest))) in
+        subst (λ l. UnderStatements k c g l base s' end) (sym (left_some w m v work e qs some more)) (one c g (T.Serve m None v work e qs) base s' end st)
+
+    pub serve_seen : (m : ℕ) (w : Option ℕ) (v : Store) (work : Statements) (e : Expression) (qs : Statements) (hd : Head) (a : Standing) (ns : List ℕ)
         → Held base s end → s.above ≡ level hd v a → IsOf k hd m → IsServing w hd.serves → keys v ≡ ns
-        → Method k hd v (record g { temps = ns }) work e a → SeenStatement h t g (T.Serve m w v work e) ss base s end
-    serve_seen m w v work e hd a ns held above of serves ks (ended x done is empty ops ret) =
-        redex (R.Finish w x) v (rw (done_has_none v work done, value_at v e x is) refl)
+        → Method k w hd v (record g { temps = ns }) work e qs a → SeenStatement h t g (T.Serve m w v work e qs) ss base s end
+    serve_seen m w v work e qs hd a ns held above of serves ks (ended x done is last empty ops ret) =
+        redex (R.Finish w x (left_served w m v work e qs)) v (rw (done_has_none v work done, value_at v e x is, over_none w v qs last) refl)
         (record {
           host = h;
           own = t;
@@ -238,33 +285,61 @@ module _ (k : Option ClassCode) where
           split = ap (λ l. l ++ frame_of h t s ∷ []) (above ∙ ap (λ l. l ++ frame_of hd v a ∷ []) empty);
           names = names;
           vars = refl;
-          spot = (frame_of hd v a, refl, serves, ops, ret, held.0, held.1);
+          spot = inl ((frame_of hd v a, refl, serves, ops, ret, held.0, held.1), left_none w m v work e qs last);
           rebuild = λ part z q.
-              (z, refl, rw (done, is_value_of e x is) (put_statements k c g base z end false refl part q (T.Serve m w v work e)));
+              (z, refl, rw (done, is_value_of e x is, over_done w qs last) (put_statements k c g base z end false refl part q (T.Serve m w v work e qs)));
         })
-    serve_seen m w v work e hd a ns held above of serves ks (body r u f x) =
-        redex r u (rw f refl) (subst (λ l. Focus k g.vars (l ++ frame_of h t s ∷ []) r u (Target (T.Serve m w v work e))) (sym above)
-        (beneath k g.vars (level hd v a) r u _ (Target (T.Serve m w v work e)) (frame_of h t s) x
+    serve_seen m w v work e qs hd a ns held above of serves ks (returning x done is more some empty ops ins rest) =
+        redex (R.Finish w x (left_served w m v work e qs)) v (rw (done_has_none v work done, value_at v e x is, over_some w v qs some) refl)
+        (record {
+          host = h;
+          own = t;
+          g = g;
+          base = base;
+          s = s;
+          stop = end;
+          over = frame_of hd v a ∷ [];
+          rest = [];
+          split = ap (λ l. l ++ frame_of h t s ∷ []) (above ∙ ap (λ l. l ++ frame_of hd v a ∷ []) empty);
+          names = names;
+          vars = refl;
+          spot = inr (frame_of hd v a, refl, serves, some, ops, ins, goes_on m w v work e qs hd a ns x held of ks done is more some ops rest);
+          rebuild = λ part z q.
+              (z, refl, rw (done, is_value_of e x is, some_over w qs some) (put_statements k c g base z end false refl part q (T.Serve m w v work e qs)));
+        })
+    serve_seen m w v work e qs hd a ns held above of serves ks (body r u f x) =
+        redex r u (rw f refl) (subst (λ l. Focus k g.vars (l ++ frame_of h t s ∷ []) r u (Target (T.Serve m w v work e qs))) (sym above)
+        (beneath k g.vars (level hd v a) r u _ (Target (T.Serve m w v work e qs)) (frame_of h t s) x
         (λ fs part z. (
           record { at = s.at; operands = s.operands; above = fs },
           refl,
           rw (not_done v work r u f)
-              (one c g (T.Serve m w (assigned work v) (fill_statements work part) e) base (record { at = s.at; operands = s.operands; above = fs }) end
+              (one c g (T.Serve m w (assigned work v) (fill_statements work part) e qs) base (record { at = s.at; operands = s.operands; above = fs }) end
               (held, (hd, z.0, ns, z.1, of, serves, assigned_keys work v ∙ ks, z.2))),
         ))))
-    serve_seen m w v work e hd a ns held above of serves ks (value r u done f x) =
-        redex r u (rw (done_has_none v work done, f) refl) (subst (λ l. Focus k g.vars (l ++ frame_of h t s ∷ []) r u (Target (T.Serve m w v work e))) (sym above)
-        (beneath k g.vars (level hd v a) r u _ (Target (T.Serve m w v work e)) (frame_of h t s) x
+    serve_seen m w v work e qs hd a ns held above of serves ks (value r u done f x) =
+        redex r u (rw (done_has_none v work done, f) refl) (subst (λ l. Focus k g.vars (l ++ frame_of h t s ∷ []) r u (Target (T.Serve m w v work e qs))) (sym above)
+        (beneath k g.vars (level hd v a) r u _ (Target (T.Serve m w v work e qs)) (frame_of h t s) x
         (λ fs part z. (
           record { at = s.at; operands = s.operands; above = fs },
           refl,
           rw (done, not_value v e r u f)
-              (one c g (T.Serve m w v work (fill_expression e part)) base (record { at = s.at; operands = s.operands; above = fs }) end
+              (one c g (T.Serve m w v work (fill_expression e part) qs) base (record { at = s.at; operands = s.operands; above = fs }) end
               (held, (hd, z.0, ns, z.1, of, serves, ks, z.2))),
         ))))
-    serve_seen m w v work e hd a ns held above of serves ks (waits x) =
-        idle (subst (λ l. Idle k (l ++ frame_of h t s ∷ []) (Same (T.Serve m w v work e))) (sym above)
-        (idle_beneath k (level hd v a) _ (Same (T.Serve m w v work e)) (frame_of h t s) x
+    serve_seen m w v work e qs hd a ns held above of serves ks (post r u x done is n f y) =
+        redex r u (rw (done_has_none v work done, value_at v e x is, n, f) refl) (subst (λ l. Focus k g.vars (l ++ frame_of h t s ∷ []) r u (Target (T.Serve m w v work e qs))) (sym above)
+        (beneath k g.vars (level hd v a) r u _ (Target (T.Serve m w v work e qs)) (frame_of h t s) y
+        (λ fs part z. (
+          record { at = s.at; operands = s.operands; above = fs },
+          refl,
+          rw (done, is_value_of e x is, not_over w v qs r u n f)
+              (one c g (T.Serve m w (assigned qs v) work e (fill_statements qs part)) base (record { at = s.at; operands = s.operands; above = fs }) end
+              (held, (hd, z.0, ns, z.1, of, serves, assigned_keys qs v ∙ ks, z.2))),
+        ))))
+    serve_seen m w v work e qs hd a ns held above of serves ks (waits x) =
+        idle (subst (λ l. Idle k (l ++ frame_of h t s ∷ []) (Same (T.Serve m w v work e qs))) (sym above)
+        (idle_beneath k (level hd v a) _ (Same (T.Serve m w v work e qs)) (frame_of h t s) x
         (λ fs z. (record { at = s.at; operands = s.operands; above = fs }, refl, (held, (hd, z.0, ns, z.1, of, serves, ks, z.2))))))
 
     -- what follows a list of statements

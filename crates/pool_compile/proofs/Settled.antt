@@ -1,6 +1,6 @@
 -- Silent instructions change nothing of what frames stand for.
 use Rattle.object_code.specs.declared.unit.Frame.{Frame}
-use Rattle.std.proofs.Common.{◌≡◌, refl, sym, ap, ◌∙◌, subst, ℕ, zero, suc, List, [], ◌∷◌, ◌++◌, length, Option, Some, None, Bool, true, false, arith}
+use Rattle.std.proofs.Common.{◌≡◌, refl, sym, ap, ◌∙◌, subst, ℕ, zero, suc, List, [], ◌∷◌, ◌++◌, length, Option, Some, None, is_some, IsTrue, Bool, true, false, inl, inr, arith}
 use Rattle.std.specs.Prelude.{slice_get, if◌then◌else◌}
 use Rattle.pool_syntax.specs.declared.words.Value.{Value}
 use Rattle.pool_syntax.specs.declared.words.Item.TheVariants as Item
@@ -8,14 +8,16 @@ use Rattle.pool_syntax.specs.Terms.{Store, Statements}
 use Rattle.pool_syntax.specs.Typing.{contains}
 use Rattle.pool_relation.specs.Reducible as R
 use Rattle.pool_relation.specs.Reducible.{Reducible, Part, fill_statements, assigned}
+use Rattle.pool_syntax.specs.declared.words.Serves.{Serves}
+use Rattle.pool_syntax.specs.declared.words.Serves.TheVariants as S
 use Rattle.object_code.specs.declared.unit.Instr.{Instr}
 use Rattle.object_code.specs.declared.unit.Instr.TheVariants as I
 use Rattle.object_code.specs.declared.unit.ClassCode.{ClassCode}
-use Rattle.object_code.specs.Frames.{code_of, silent, go_on_with, settled_within, settled}
+use Rattle.object_code.specs.Frames.{code_of, post_passed, silent, go_on_with, settled_within, settled}
 use Rattle.pool_compile.specs.Code.{Numbering, load, store, number_of}
-use Rattle.pool_compile.specs.Stands.{Standing, Head, frame_of, level, UnderStatements}
+use Rattle.pool_compile.specs.Stands.{Standing, Head, frame_of, level, IsServing, UnderStatements}
 use Rattle.pool_compile.specs.Follows.{AtRest}
-use Rattle.pool_compile.proofs.Focus.{Focus, Stand, Ending, over, redex, idle}
+use Rattle.pool_compile.proofs.Focus.{Focus, Spot, Stand, Ending, over, redex, idle}
 use Rattle.pool_compile.proofs.SeenFrames.{SeenStatements}
 use Rattle.pool_compile.proofs.See.{see_statements}
 
@@ -26,12 +28,23 @@ head_same f g fs gs e = ap (λ l. elim l as (λ _. Frame) [ [] ↦ f | a ∷ mor
 tail_same : (f g : Frame) (fs gs : List Frame) → f ∷ fs ≡ g ∷ gs → fs ≡ gs
 tail_same f g fs gs e = ap (λ l. elim l as (λ _. List Frame) [ [] ↦ [] | a ∷ more ↦ more ]) e
 
+passed_method : (f g : Frame) (s : Serves) → post_passed f s ≡ Some g → g.method ≡ f.method
+passed_method f g S.Own e = ap (λ o. elim o as (λ _. Option ℕ) [ None ↦ f.method | Some a ↦ a.method ]) (sym e)
+passed_method f g S.Sender e = ap (λ o. elim o as (λ _. Option ℕ) [ None ↦ f.method | Some a ↦ a.method ]) (sym e)
+passed_method f g (S.Caller c n) e = absurd (grind (arith, e))
+
+-- a frame that serves a caller stops before its post statements
+caller_stops : (f : Frame) (w : Option ℕ) → IsServing w f.serves → IsTrue (is_some w) → post_passed f f.serves ≡ None
+caller_stops f (Some c) s i = ap (post_passed f) s.1
+caller_stops f None s i = absurd (grind (arith, i))
+
 -- a silent instruction leaves the method
 pub silent_method : (f g : Frame) (i : Option Instr) → silent f i ≡ Some g → g.method ≡ f.method
 silent_method f g (Some (I.PushInt z)) e = ap (λ o. elim o as (λ _. Option ℕ) [ None ↦ f.method | Some a ↦ a.method ]) (sym e)
 silent_method f g (Some (I.PushBool b)) e = ap (λ o. elim o as (λ _. Option ℕ) [ None ↦ f.method | Some a ↦ a.method ]) (sym e)
 silent_method f g (Some I.PushNil) e = ap (λ o. elim o as (λ _. Option ℕ) [ None ↦ f.method | Some a ↦ a.method ]) (sym e)
 silent_method f g (Some (I.Jump a)) e = ap (λ o. elim o as (λ _. Option ℕ) [ None ↦ f.method | Some a ↦ a.method ]) (sym e)
+silent_method f g (Some I.Post) e = passed_method f g f.serves e
 silent_method f g _ e = absurd (grind (arith, e))
 
 load_still : (f : Frame) (g : Numbering) (n : ℕ) → silent f (Some (load g n)) ≡ None
@@ -79,7 +92,12 @@ module _ (k : Option ClassCode) (V : List ℕ) (L : List Frame) (T : List Frame 
   at_rest (R.Loop e ss) u f = still (R.Loop e ss) u f _ _ _ f.spot.0 f.spot.2.0 refl
   at_rest (R.Accept names) u f = still (R.Accept names) u f _ _ _ f.spot.0 f.spot.2 refl
   at_rest (R.Choose cs) u f = still (R.Choose cs) u f _ _ _ f.spot.0 f.spot.2.1 refl
-  at_rest (R.Finish w v) u f = ended (R.Finish w v) u f v _ f.spot
+  at_rest (R.Finish w v work) u f = by f.spot
+    where
+      by : Spot k f.over f.host f.own f.g f.base f.s f.stop (R.Finish w v work) u → AtRest k L
+      by (inl e) = ended (R.Finish w v work) u f v _ e.0
+      by (inr e) =
+          subst (AtRest k) (sym (f.split ∙ ap (λ o. o ++ frame_of f.host f.own f.s ∷ f.rest) e.1)) (ap (silent e.0) e.5 ∙ caller_stops e.0 w e.2 e.3)
 
 -- the whole term, in the frame of the body
 module _ (k : Option ClassCode) (h : Head) (g : Numbering) (none : g.temps ≡ []) (end : ℕ) (halt : slice_get (code_of k h.method) end ≡ Some I.Halt) where

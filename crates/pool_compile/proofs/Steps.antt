@@ -1,7 +1,7 @@
 -- What a local step of the code makes stands for what the term becomes.
 use Rattle.object_code.specs.declared.unit.CodeObject.{CodeObject}
 use Rattle.object_code.specs.declared.unit.Frame.{Frame}
-use Rattle.std.proofs.Common.{◌≡◌, refl, sym, ap, ◌∙◌, subst, ℕ, suc, List, [], ◌∷◌, ◌++◌, Option, Some, None, Bool, true, false, inr, arith}
+use Rattle.std.proofs.Common.{◌≡◌, refl, sym, ap, ◌∙◌, subst, ℕ, suc, List, [], ◌∷◌, ◌++◌, Option, Some, None, Bool, true, false, inl, inr, arith}
 use Rattle.std.specs.Prelude.{slice_get, slice_set, if◌then◌else◌}
 use Rattle.pool_syntax.specs.declared.words.Op.{Op}
 use Rattle.pool_syntax.specs.declared.words.Op.TheVariants as O
@@ -23,7 +23,7 @@ use Rattle.object_code.specs.Kinds.{operated, arity}
 use Rattle.object_code.specs.Step.{at_rest, nth, outcome_value, instr_stepped, frames_stepped}
 use Rattle.pool_compile.specs.Code.{Numbering, load, store, number_of}
 use Rattle.pool_compile.specs.Stands.{Standing, Head, keys, values, frame_of, level, fresh, UnderStatements}
-use Rattle.pool_compile.proofs.Focus.{is_inner, after, UnderPart, Focus, Stand, Ending}
+use Rattle.pool_compile.proofs.Focus.{is_inner, after, UnderPart, Focus, Spot, Stand, Ending}
 use Rattle.pool_compile.proofs.SeenFrames.{Rewrites}
 use Rattle.pool_compile.proofs.SeenStatements.{one, under_append}
 use Rattle.pool_compile.proofs.Settled.{Whole}
@@ -172,14 +172,18 @@ module _ (k : Option ClassCode) (h : Head) (g : Numbering) (none : g.temps ≡ [
       )
 
   -- a method that was served for no one is over
-  pub finish : (o : ℕ) (y : CodeObject) (v : Value) (u : Store) (f : Focus k g.vars L (R.Finish None v) u Target)
-      → Lands y y.vars (fill_statements ss (AsStatements T.Done)) (frames_stepped k o y L)
-  finish o y v u f =
-      let e = f.spot in
-      let own_step : instr_stepped k o y e.0 (frame_of f.host f.own f.s ∷ f.rest) (Some I.Ret) ≡ at_rest k y (frame_of f.host f.own f.s) f.rest = rw e.2 refl in
-      list_lands (R.Finish None v) u f y _ y.vars (record f.s { above = [] }) T.Done refl refl
-      (ending_stepped o y (R.Finish None v) u f v (λ x. x.serves ≡ S.Sender) e ∙ own_step)
-      ((e.5, refl), (0, e.6))
+  pub finish : (o : ℕ) (y : CodeObject) (v : Value) (work : Statements) (u : Store) (f : Focus k g.vars L (R.Finish None v work) u Target)
+      → Lands y y.vars (fill_statements ss (AsStatements work)) (frames_stepped k o y L)
+  finish o y v work u f = by f.spot
+    where
+      by : Spot k f.over f.host f.own f.g f.base f.s f.stop (R.Finish None v work) u → Lands y y.vars (fill_statements ss (AsStatements work)) (frames_stepped k o y L)
+      by (inl (e, d)) =
+          let own_step : instr_stepped k o y e.0 (frame_of f.host f.own f.s ∷ f.rest) (Some I.Ret) ≡ at_rest k y (frame_of f.host f.own f.s) f.rest = rw e.2 refl in
+          subst (λ q. Lands y y.vars (fill_statements ss (AsStatements q)) (frames_stepped k o y L)) (sym d)
+          (list_lands (R.Finish None v work) u f y _ y.vars (record f.s { above = [] }) T.Done refl refl
+          (ending_stepped o y (R.Finish None v work) u f v (λ x. x.serves ≡ S.Sender) e ∙ own_step)
+          ((e.5, refl), (0, e.6)))
+      by (inr e) = absurd (grind (arith, e.3))
 
   -- a variable is read
   read_lands : (o : ℕ) (y : CodeObject) (n : ℕ) (v : Value) (u : Store) (f : Focus k g.vars L (R.Read n) u Target)

@@ -35,7 +35,7 @@ tag_of (R.Post v m args) = 5
 tag_of (R.Print i) = 6
 tag_of (R.Accept ns) = 7
 tag_of (R.Choose cs) = 8
-tag_of (R.Finish (Some w) v) = 9
+tag_of (R.Finish (Some w) v work) = 9
 tag_of (R.Waiting b m) = 10
 tag_of _ = 1
 
@@ -94,8 +94,8 @@ fine_at p o x t (R.Choose cs) =
     fine_if 8 (list_any (λ c. is_nil c.guard) cs) (A.Fault NilOperand) _ refl
     (fine_if 8 (list_any (λ c. not_bool c.guard) cs) A.Stuck _ refl
     (fine_if 8 (list_any (λ c. is_true c.guard) cs) (A.Select cs) (A.Fault NoOpenGuard) refl refl))
-fine_at p o x t (R.Finish None v) = refl
-fine_at p o x t (R.Finish (Some w) v) = refl
+fine_at p o x t (R.Finish None v work) = refl
+fine_at p o x t (R.Finish (Some w) v work) = refl
 
 by_tag : (m n : ℕ) (b d : Bool) → (m == n) ≡ b → (b || d) ≡ true → d ≡ false → m ≡ n
 by_tag m n true d e f q = let i : m ≡ n = grind (arith, e) in i

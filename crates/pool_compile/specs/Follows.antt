@@ -10,6 +10,7 @@ use Rattle.pool_relation.specs.Reducible.{Choice, AsExpression, AsStatements}
 use Rattle.pool_relation.specs.Action as A
 use Rattle.pool_relation.specs.Action.{Object, Action, action, method_of}
 use Rattle.pool_syntax.specs.Values.{is_true}
+use Rattle.pool_relation.specs.Transition as X
 use Rattle.pool_relation.specs.Transition.{refilled, given, done, serving, picked}
 use Rattle.pool_syntax.specs.declared.words.Serves.{Serves}
 use Rattle.object_code.specs.declared.unit.ClassCode.{ClassCode}
@@ -69,7 +70,7 @@ pub record Follows (p : ProgramTree) (u : Code) (o : ℕ) (x : Object) (y : Code
   pub resumed : (b m : ℕ) (v : Value) → action p o x ≡ A.Waits b m → Stands p u (given x v) (code_given u y v)
   pub wrote : (item : Item) → action p o x ≡ A.Write item → Stands p u (done x) (code_gone_on u y)
   pub posted : (b m : ℕ) (args : List Value) → action p o x ≡ A.Async b m args → Stands p u (done x) (code_gone_on u y)
-  pub returned : (w : ℕ) (v : Value) → action p o x ≡ A.Return w v → Stands p u (done x) (code_gone_on u y)
+  pub returned : (w : ℕ) (v : Value) → action p o x ≡ A.Return w v → Stands p u (X.returned x) (code_gone_on u y)
   pub picks : (i : ℕ) (work : Statements) → picked (action p o x) i ≡ Some work → Stands p u (refilled x (AsStatements work)) (code_picked u y i)
   pub serves : (i m : ℕ) (work : Statements) (method : MethodTree) (args : List Value) (caller : Option ℕ) (w : Serves)
       → work_at (action p o x) i ≡ Some work → method_of p x.class m (length args) ≡ Some method → IsServing caller w

@@ -1,12 +1,12 @@
 -- Programs whose counts are within the limits of the language, and code whose places are below 2^32 and whose frames have at most 96 words.
-use Rattle.std.specs.Prelude.{◌≤◌, ◌<◌, ◌^◌, ◌++◌, List, [], ◌∷◌, length}
+use Rattle.std.specs.Prelude.{suc, ◌≤◌, ◌<◌, ◌^◌, ◌++◌, List, [], ◌∷◌, length}
 use Rattle.pool_syntax.specs.Terms.{MethodTree, ClassTree, ProgramTree}
 use Rattle.object_code.specs.declared.unit.MethodCode.{MethodCode}
 use Rattle.object_code.specs.declared.unit.ClassCode.{ClassCode}
 use Rattle.pool_compile.specs.Code.{expression_words, more, statements_words}
 
 abbrev pub IsSmallMethod : MethodTree → Type 0
-IsSmallMethod m = (length (m.params ++ m.locals) ≤ 32) × (more (statements_words m.body) (expression_words m.value) ≤ 64)
+IsSmallMethod m = (length (m.params ++ m.locals) ≤ 32) × (more (statements_words m.body) (more (expression_words m.value) (suc (statements_words m.post))) ≤ 64)
 
 abbrev pub AreSmallMethods : List MethodTree → Type 0
 AreSmallMethods [] = Unit {0}

@@ -1,6 +1,6 @@
 -- What the frames of an object of code stand for.
 use Rattle.object_code.specs.declared.unit.CodeObject.{CodeObject}
-use Rattle.std.specs.Prelude.{◌≡◌, ℕ, zero, suc, List, [], ◌∷◌, ◌++◌, length, map, Option, Some, None, Bool, IsTrue, slice_get, ◌⊎◌}
+use Rattle.std.specs.Prelude.{◌≡◌, ℕ, zero, suc, List, [], ◌∷◌, ◌++◌, length, map, Option, Some, None, Bool, false, IsTrue, slice_get, ◌⊎◌}
 use Rattle.pool_syntax.specs.declared.words.Value.{Value}
 use Rattle.pool_syntax.specs.declared.words.Value.TheVariants as V
 use Rattle.pool_syntax.specs.Terms.{Store, Expression, Literal, Me, Variable, Create, Prefix, Infix, Call, Send, Frame, Wait, Expressions, NoArgs, Arg, Statement, Assign, Write, WriteText, Do, Async, If, While, Answer, Select, Serve, Statements, Done, Then, Alternatives, NoAlts, Alt, ClassTree, ProgramTree}
@@ -101,11 +101,17 @@ Before c i part base s end = (m : ℕ) × part base s m × Ends c m i end
 abbrev pub IsOf : Option ClassCode → Head → ℕ → Type 0
 IsOf k h m = (i : Numbered) × (method_named k (name m) ≡ Some i) × (h.method ≡ Some i.place)
 
--- the statements of a method, which end at `Ret` with the value on the operands
-abbrev pub InMethod : List Instr → (Standing → ℕ → Type 0) → Bool → (Standing → ℕ → Type 0) → Standing → Type 0
-InMethod c statements done value s =
-    (q : ℕ) × (slice_get c q ≡ Some I.Ret)
-    × (((r : ℕ) × statements s r × value (fresh r []) q) ⊎ (IsTrue done × value s q))
+-- behind the value of a method: `Ret`, or `Post` and the post statements, which end at `Ret`
+abbrev pub Behind : List Instr → Bool → Standings → ℕ → Type 0
+Behind c over post q =
+    (IsTrue over × (slice_get c q ≡ Some I.Ret))
+    ⊎ ((over ≡ false) × (slice_get c q ≡ Some I.Post) × ((p : ℕ) × (slice_get c p ≡ Some I.Ret) × ((b : List Value) → post b (fresh (suc q) b) p)))
+
+-- a method under way, for the caller, or for no one: its statements, its value, or its post statements over the value, which for a caller wait for the return
+abbrev pub InMethod : List Instr → Option ℕ → (Standing → ℕ → Type 0) → Bool → (Standing → ℕ → Type 0) → Option Value → Standings → Bool → Standing → Type 0
+InMethod c caller statements done value known post over s =
+    ((q : ℕ) × Behind c over post q × (((r : ℕ) × statements s r × value (fresh r []) q) ⊎ (IsTrue done × value s q)))
+    ⊎ ((v : Value) × IsTrue done × (known ≡ Some v) × (caller ≡ None) × ((p : ℕ) × (slice_get c p ≡ Some I.Ret) × post (v ∷ []) s p))
 
 -- whom a frame serves
 abbrev pub IsServing : Option ℕ → Serves → Type 0
@@ -136,11 +142,12 @@ abbrev mutual
   Under k c g (Call m es p) base s end = Before c (I.Call (name m)) (UnderAll k c g es) base s end
   Under k c g (Send e m es p) base s end =
       Before c (I.Send (name m) (size es)) (InTurn (Under k c g e) (as_value e) (UnderAll k c g es)) base s end
-  Under k c g (Frame m t ss e) base s end =
+  Under k c g (Frame m t ss e qs) base s end =
       Held base s end
       × ((h : Head) × (a : Standing) × (names : List ℕ) × (s.above ≡ level h t a) × IsOf k h m × (h.serves ≡ S.Own) × (keys t ≡ names)
-      × InMethod (code_of k h.method) (UnderStatements k (code_of k h.method) (record g { temps = names }) ss []) (is_done ss)
-      (Under k (code_of k h.method) (record g { temps = names }) e []) a)
+      × InMethod (code_of k h.method) None (UnderStatements k (code_of k h.method) (record g { temps = names }) ss []) (is_done ss)
+      (Under k (code_of k h.method) (record g { temps = names }) e []) (as_value e)
+      (UnderStatements k (code_of k h.method) (record g { temps = names }) qs) (is_done qs) a)
   Under k c g (Wait b m) base s end =
       (args : List Value) × (s.above ≡ []) × (s.operands ≡ push_all args (V.Ref b ∷ base)) × Ends c s.at (I.Send (name m) (length args)) end
 
@@ -164,11 +171,12 @@ abbrev mutual
   UnderStatement k c g (Answer names) base s end = Fresh base s × Ends c s.at (I.Answer (map (λ n. n.name) names)) end
   UnderStatement k c g (Select alts) base s end =
       (n : ℕ) × (targets : List AltCode) × UnderGuards k c g alts base s n × (slice_get c n ≡ Some (I.Select targets)) × Works k c g alts base targets end
-  UnderStatement k c g (Serve m w t ss e) base s end =
+  UnderStatement k c g (Serve m w t ss e qs) base s end =
       Held base s end
       × ((h : Head) × (a : Standing) × (names : List ℕ) × (s.above ≡ level h t a) × IsOf k h m × IsServing w h.serves × (keys t ≡ names)
-      × InMethod (code_of k h.method) (UnderStatements k (code_of k h.method) (record g { temps = names }) ss []) (is_done ss)
-      (Under k (code_of k h.method) (record g { temps = names }) e []) a)
+      × InMethod (code_of k h.method) w (UnderStatements k (code_of k h.method) (record g { temps = names }) ss []) (is_done ss)
+      (Under k (code_of k h.method) (record g { temps = names }) e []) (as_value e)
+      (UnderStatements k (code_of k h.method) (record g { temps = names }) qs) (is_done qs) a)
 
   -- jumps may stand before each statement, and at the end
   pub UnderStatements : Option ClassCode → List Instr → Numbering → Statements → Standings

@@ -1,8 +1,8 @@
 //! The code of methods, bodies, classes and the program.
-ghost use Rattle.std.specs.Prelude.{◌≡◌, ◌≤◌, ◌<◌, ◌^◌, ◌++◌, [], ◌∷◌, length, map, IfOk};
+ghost use Rattle.std.specs.Prelude.{◌≡◌, ◌≤◌, ◌<◌, ◌^◌, ◌++◌, [], ◌∷◌, length, map, IfOk, OnOk};
 ghost use Rattle.pool_syntax.specs.TreeOf.{class_tree, expression_of, method_tree, program_of, statements_of};
 ghost use Rattle.object_code.specs.Proper.{IsProper};
-ghost use Rattle.pool_compile.specs.Code.{body_instrs, class_code, code, expression_words, method_code_of, method_instrs, more, names_of, statements_words};
+ghost use Rattle.pool_compile.specs.Code.{body_instrs, class_code, code, expression_words, method_code_of, method_instrs, more, names_of, post_code, statements_words};
 ghost use Rattle.pool_compile.specs.Numberings.{numbering};
 ghost use Rattle.pool_compile.specs.Small.{AreShort, FramesAreSmall, AreShortMethods, AreSmallMethods, IsShortClass, IsSmall, IsSmallClass, IsSmallMethod};
 
@@ -37,19 +37,36 @@ fn vars_of(alloc: Global, vars: &[Var]) -> Result<Vec<u32>, AllocError>
     Ok(names)
 }
 
+/// Adds what stands behind the value of a method.
+fn emit_end(
+    alloc: Global,
+    code: &mut Builder,
+    numbers: &Numbers<'_>,
+    post: &[Stmt],
+) -> Result<(), AllocError>
+    ensures { OnOk result (code.new.code ≡ code.old.code ++ post_code (numbering numbers.now) (length code.old.code) (statements_of post.now)) }
+{
+    if post.is_empty() {
+        return code.put(Instr::Ret);
+    }
+    code.put(Instr::Post)?;
+    emit_statements(alloc, code, numbers, post)?;
+    code.put(Instr::Ret)
+}
+
 /// The instructions of a method: its statements, its value, its end.
 fn method_code(
     alloc: Global,
     numbers: &Numbers<'_>,
     method: &Method,
 ) -> Result<List<Instr>, AllocError>
-    ensures code { IfOk result (λ code. code ≡ method_instrs (numbering numbers.now) (statements_of method.now.body) (expression_of method.now.value)) }
+    ensures code { IfOk result (λ code. code ≡ method_instrs (numbering numbers.now) (statements_of method.now.body) (expression_of method.now.value) (statements_of method.now.post)) }
     ensures short { IfOk result (λ code. length code < 2 ^ 32) }
 {
     let mut code = Builder::make(alloc);
     emit_statements(alloc, &mut code, numbers, method.body.items())?;
     emit(&mut code, numbers, &method.value)?;
-    code.put(Instr::Ret)?;
+    emit_end(alloc, &mut code, numbers, method.post.items())?;
     Ok(code.done())
 }
 
@@ -73,7 +90,10 @@ fn compile_method(alloc: Global, vars: &[u32], method: &Method) -> Result<Method
     let temps = temps_of(alloc, method)?;
     let words = more(
         statements_words(method.body.items()),
-        expression_words(&method.value),
+        more(
+            expression_words(&method.value),
+            statements_words(method.post.items()) + 1,
+        ),
     );
     let count = temps.len() as u32;
     let numbers = Numbers {

@@ -72,6 +72,7 @@ offer_instr f (Some (I.Select alts)) h = offer_select alts (taken (length alts) 
 offer_instr f (Some (I.Oper op)) h = absurd (no_outcome (operated op f.operands) h)
 offer_instr f (Some (I.Branch a)) h = absurd (no_branch (is_bool (top f.operands)) h)
 offer_instr f (Some I.Ret) h = absurd (no_return f.serves (top f.operands) h)
+offer_instr f (Some I.Post) h = absurd (no_return f.serves (top f.operands) h)
 offer_instr f (Some (I.Send m n)) h = absurd (no_send (top (dropped n f.operands)) m (taken n f.operands []) h)
 offer_instr f (Some (I.Async m n)) h = absurd (no_async (top (dropped n f.operands)) m (taken n f.operands []) h)
 offer_instr f _ h = absurd h

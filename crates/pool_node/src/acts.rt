@@ -17,7 +17,7 @@ ghost use Rattle.rendezvous_protocol.specs.Packets.{numbered};
 
 use crate::words::Act;
 use mailbox::Message;
-use node_parts::{Parts, ask_in, deliver_in, end_method, fault_in, go_on_in, refresh, settle_in};
+use node_parts::{Parts, ask_in, deliver_in, fault_in, go_on_in, refresh, return_in, settle_in};
 use object_code::Unit;
 use object_interp::{Burst, burst};
 use pool_syntax::{Args, Error, FullKind, Item, Label, NameId, Placement, Value, What};
@@ -292,7 +292,7 @@ pub(crate) fn return_turn(
         value,
     };
     if caller / 65536 == parts.id {
-        end_method(unit, parts, slot);
+        return_in(unit, parts, slot);
         settle_if_out(unit, parts, number, value);
         return Act::Line {
             what: step(label),
@@ -304,7 +304,7 @@ pub(crate) fn return_turn(
             kind: FullKind::Cells,
         };
     }
-    end_method(unit, parts, slot);
+    return_in(unit, parts, slot);
     let packet = Packet::Result {
         number,
         to: caller,

@@ -1,5 +1,5 @@
 -- How variables, parameters, methods, classes and programs are read.
-use Rattle.std.proofs.Common.{◌≡◌, ◌≢◌, ℕ, ◌+◌, ⊎_elim, List, [], ◌∷◌, ◌++◌, Some, slice_get, refl, subst, arith}
+use Rattle.std.proofs.Common.{◌≡◌, ◌≢◌, ℕ, ◌+◌, ⊎_elim, ◌≤◌, inl, inr, List, [], ◌∷◌, ◌++◌, Some, slice_get, refl, subst, arith}
 use Rattle.pool_syntax.specs.declared.words.NameId.{NameId}
 use Rattle.pool_syntax.specs.declared.tree.Kind.{Kind}
 use Rattle.pool_syntax.specs.declared.tree.Named.{Named}
@@ -8,16 +8,17 @@ use Rattle.pool_syntax.specs.declared.token.Tok.{Tok}
 use Rattle.pool_syntax.specs.declared.token.Tok.TheVariants as tok
 use Rattle.pool_syntax.specs.declared.token.Keyword.TheVariants as kw
 use Rattle.pool_syntax.specs.declared.token.Sign.TheVariants as sg
-use Rattle.pool_syntax.specs.Terms.{MethodTree, ClassTree}
+use Rattle.pool_syntax.specs.Terms.{MethodTree, ClassTree, Statements, Done}
 use Rattle.pool_syntax.specs.Rules as r
-use Rattle.pool_syntax.specs.Rules.{Phrase, Tree, program, more_classes, class, more_vars, names, more_methods, method, params, more_params, param, more_locals, word, sign, name, end, phrase, Rule, tree, then, either}
-use Rattle.pool_syntax.specs.Grammar.{rule, variables}
+use Rattle.pool_syntax.specs.Rules.{Phrase, Tree, program, more_classes, class, more_vars, names, more_methods, method, params, more_params, param, more_locals, word, sign, name, end, phrase, Rule, tree, then, either, post, stmts}
+use Rattle.pool_syntax.specs.Grammar.{rule, variables, expr}
 use Rattle.pool_syntax.specs.Derives.{IsToken, Begins}
-use Rattle.pool_parser.specs.Reads.{Outcome, read, refused, Reads, ReadsPhrase, Stops, Clear, Misses}
+use Rattle.pool_parser.specs.Reads.{Outcome, read, refused, Reads, ReadsPhrase, GoesOn, Stops, Clear, Misses}
 use Rattle.pool_parser.specs.Tails.{proper_part, result_part, body_part, declared_part}
 use Rattle.pool_parser.specs.Declarations.{ReadsDeclared}
 use Rattle.pool_parser.proofs.Reading.{Begins-tree, Begins-either, reads_tree, reads_token, reads_missing, reads_first, reads_second, reads_inner, reads_refused, reads_last, reads_nothing, reads_factored, put-id, clear_word, clear_sign, clear_token, misses_token, misses_either, misses_inner, off, off_tree}
 use Rattle.pool_parser.proofs.Parts.{clear_any, sign_there, sign_read, sign_missing, word_read, name_missing, off_sign, off_word}
+use Rattle.pool_parser.proofs.Bodies.{ends_statements, ends_value}
 use Rattle.pool_parser.proofs.Choices.{clear_through, misses_through}
 
 module _ {ts : List Tok} where
@@ -135,6 +136,33 @@ module _ {ts : List Tok} where
   pub params_end : {i : ℕ} (vs : List Var) → slice_get ts i ≢ Some (tok.Sign sg.Comma) → ReadsPhrase ts (more_params vs) i (read vs i)
   unfolding rule
   params_end vs h = reads_second reads_tree (off_sign h)
+
+  -- post statements
+
+  pub post_read : {i : ℕ} (o : Outcome Statements) → slice_get ts i ≡ Some (tok.Word kw.Post) → ReadsPhrase ts stmts (i + 1) o → ReadsPhrase ts post i o
+  unfolding rule
+  post_read o h R = reads_first (word_read h (rw put-id at (reads_last {p = post} {q = stmts} (λ x. x) o (λ t u. inr u) R))) (off_tree _ h (inl refl))
+
+  pub no_post : {i : ℕ} → slice_get ts i ≢ Some (tok.Word kw.Post) → ReadsPhrase ts post i (read Done i)
+  unfolding rule
+  no_post h = reads_second reads_tree (off_word h)
+
+  post_begins : (q : Phrase) → (GoesOn q (tok.Word kw.Post) → ⊥) → (k : ℕ) → Begins ts post (rule post) k (k + 1) → Stops ts q k
+  unfolding rule
+  post_begins q n k b t h g =
+      ⊎_elim (λ c. (misses_token tt (λ y a. let e : t ≡ tok.Word kw.Post = cc (a.0, h) in n (subst (GoesOn q) e g))).begun c)
+      (λ c. let e : k ≡ k + 1 = Begins-tree c in omega arith) (Begins-either b)
+
+  pub ends_post : {f : ℕ → Rule MethodTree} → Clear ts method (then (word kw.End) f) post
+  ends_post = clear_word (⊎_elim (λ e. cc) (⊎_elim (λ u. cc) (⊎_elim (λ e. cc) (⊎_elim (λ u. omega arith) (λ e. cc)))))
+
+  -- behind the statements of a method without a result, and behind the value of one with a result
+
+  pub after_body : {f : Statements → ℕ → Rule MethodTree} → Clear ts method (then (phrase post) (λ qs. then (word kw.End) (f qs))) stmts
+  after_body = clear_through (post_begins stmts (⊎_elim (λ u. cc) (⊎_elim (λ e. cc) (⊎_elim (λ u. omega arith) (λ e. cc))))) (λ y. ends_statements refl refl)
+
+  pub after_value : {f : Statements → ℕ → Rule MethodTree} → Clear ts method (then (phrase post) (λ qs. then (word kw.End) (f qs))) expr
+  after_value = clear_through (post_begins expr (λ u. omega arith)) (λ y. ends_value refl)
 
   -- methods
 

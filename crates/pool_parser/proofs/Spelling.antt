@@ -10,7 +10,7 @@ use Rattle.pool_syntax.specs.declared.words.Value.TheVariants as value
 use Rattle.pool_syntax.specs.Terms as t
 use Rattle.pool_syntax.specs.Terms.{Expression, Expressions, Statement, Statements, Alternatives, MethodTree, ClassTree, ProgramTree}
 use Rattle.pool_syntax.specs.Rules as r
-use Rattle.pool_syntax.specs.Rules.{Group, Level, group, comparison, factor, postfix, primary, Phrase, Tree, program, more_classes, class, more_vars, names, more_names, more_methods, method, params, more_params, param, more_locals, stmts, more_stmts, stmt, invoke, alt, more_alts, list, expression, more_operands, more_sends, args, more_args, OneAlternative, Part, word, sign, name, integer, string, end, operator, phrase, Gives, Rule, tree, then, either}
+use Rattle.pool_syntax.specs.Rules.{Group, Level, group, comparison, factor, postfix, primary, Phrase, Tree, program, more_classes, class, more_vars, names, more_names, more_methods, method, params, more_params, param, more_locals, stmts, more_stmts, stmt, invoke, alt, more_alts, list, expression, more_operands, more_sends, args, more_args, OneAlternative, Part, word, sign, name, integer, string, end, operator, phrase, Gives, Rule, tree, then, either, post}
 use Rattle.pool_syntax.specs.Grammar.{rule, arg_last, then_last, alt_last, variables}
 use Rattle.pool_syntax.specs.Derives.{IsToken, Derives, nothing, token, inner, first, second, IsProgram}
 use Rattle.pool_syntax.specs.Tokens.{Text}
@@ -45,6 +45,7 @@ module _ (table : List Text) where
   GoodTree r.kind k = IsTrue (is_kind table k.0)
   GoodTree (more_methods before) ms = IsTrue (are_spelled_methods table ms)
   GoodTree method m = IsTrue (are_spelled_methods table (m ∷ []))
+  GoodTree post ss = IsTrue (are_spelled_statements table ss)
   GoodTree params vs = IsTrue (are_variables table vs)
   GoodTree (more_params before) vs = IsTrue (are_variables table vs)
   GoodTree param v = IsTrue (are_variables table (v ∷ []))
@@ -131,7 +132,8 @@ module _ (table : List Text) where
   methods_last : (ms ls : List MethodTree) → IsTrue (are_spelled_methods table ms) → IsTrue (are_spelled_methods table ls) → IsTrue (are_spelled_methods table (ms ++ ls))
   methods_last [] ls h k = k
   methods_last (m ∷ ms) ls h k =
-      let a = is_name table m.name.name.0 && are_variables table m.params && are_variables table m.locals && is_outcome table m.outcome && are_spelled_statements table m.body && is_spelled_expression table m.value in
+      let a = is_name table m.name.name.0 && are_variables table m.params && are_variables table m.locals && is_outcome table m.outcome && are_spelled_statements table m.body && is_spelled_expression table m.value
+      && are_spelled_statements table m.post in
       let b = are_spelled_methods table ms in both (left_of a b h) (methods_last ms ls (right_of a b h) k)
 
   classes_last : (cs ds : List ClassTree) → IsTrue (is_spelled table cs) → IsTrue (is_spelled table ds) → IsTrue (is_spelled table (cs ++ ds))
@@ -167,9 +169,10 @@ module _ (table : List Text) where
   spells r.kind b = ((tt, λ p u. refl), ((tt, λ p u. refl), (tt, λ n gn. gn)))
   spells (more_methods ms) b = ((tt, λ m gm. (methods_last ms (m ∷ []) b gm, λ all g. g)), b)
   spells method b = (
-    (tt, λ y u. (tt, λ n gn. (tt, λ ps gp. (refl, λ ls gl. (tt, λ z v. (tt, λ ss gs. (tt, λ w x. both (both (both (both (both (both gn gp) gl) refl) gs) refl) refl))))))),
-    (tt, λ y u. (tt, λ n gn. (tt, λ ps gp. (tt, λ c d. (tt, λ k gk. (refl, λ ls gl. (tt, λ z v. (tt, λ ss gs. (tt, λ w x. (tt, λ e ge. (tt, λ f h. both (both (both (both (both (both gn gp) gl) gk) gs) ge) refl))))))))))),
+    (tt, λ y u. (tt, λ n gn. (tt, λ ps gp. (refl, λ ls gl. (tt, λ z v. (tt, λ ss gs. (tt, λ qs gq. (tt, λ w x. both (both (both (both (both (both (both gn gp) gl) refl) gs) refl) gq) refl)))))))),
+    (tt, λ y u. (tt, λ n gn. (tt, λ ps gp. (tt, λ c d. (tt, λ k gk. (refl, λ ls gl. (tt, λ z v. (tt, λ ss gs. (tt, λ w x. (tt, λ e ge. (tt, λ qs gq. (tt, λ f h. both (both (both (both (both (both (both gn gp) gl) gk) gs) ge) gq) refl)))))))))))),
   )
+  spells post b = ((tt, λ y u. (tt, λ ss g. g)), refl)
   spells params b = (tt, λ y u. ((tt, λ p gp. (gp, λ ps g. (tt, λ z v. g))), (tt, λ z v. refl)))
   spells (more_params ps) b = ((tt, λ y u. (tt, λ p gp. (variables_last ps (p ∷ []) b gp, λ all g. g))), b)
   spells param b = (tt, λ n gn. (tt, λ y u. (tt, λ k gk. both (both gn gk) refl)))

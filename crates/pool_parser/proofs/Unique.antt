@@ -9,7 +9,7 @@ use Rattle.pool_syntax.specs.declared.token.Sign.TheVariants as sg
 use Rattle.pool_syntax.specs.Terms as t
 use Rattle.pool_syntax.specs.Terms.{Expression, Expressions, Statement, Statements, Alternatives, ProgramTree}
 use Rattle.pool_syntax.specs.Rules as r
-use Rattle.pool_syntax.specs.Rules.{Group, Level, group, comparison, factor, postfix, primary, Phrase, Tree, program, more_classes, class, more_vars, names, more_names, more_methods, method, params, more_params, param, more_locals, stmts, more_stmts, stmt, invoke, alt, more_alts, list, expression, more_operands, more_sends, args, more_args, Part, word, sign, name, integer, string, end, operator, phrase, Gives, Rule, tree, then, either}
+use Rattle.pool_syntax.specs.Rules.{Group, Level, group, comparison, factor, postfix, primary, Phrase, Tree, program, more_classes, class, more_vars, names, more_names, more_methods, method, params, more_params, param, more_locals, stmts, more_stmts, stmt, invoke, alt, more_alts, list, expression, more_operands, more_sends, args, more_args, Part, word, sign, name, integer, string, end, operator, phrase, Gives, Rule, tree, then, either, post}
 use Rattle.pool_syntax.specs.Grammar.{rule, expr}
 use Rattle.pool_syntax.specs.Derives.{IsToken, IsTerminal, Derives, nothing, token, inner, first, second, IsProgram}
 use Rattle.pool_parser.specs.Reads.{GoesOn, Stops, Clear, Misses, read, refused, strength, level_number}
@@ -23,7 +23,7 @@ use Rattle.pool_parser.proofs.Primaries.{prefix_begins_none, misses_postfix, mis
 use Rattle.pool_parser.proofs.Arguments.{after_arg, closes_args}
 use Rattle.pool_parser.proofs.Telling.{misses_sending, misses_unbegun, behind_first, invoke_within, after_destination, assigned_rest}
 use Rattle.pool_parser.proofs.Bodies.{ends_value, ends_statements, after_these, after_guard, after_alt, ends_alt, ends_alts, after_stmt}
-use Rattle.pool_parser.proofs.Declaring.{closes_params, misses_param, ends_locals, no_local, after_vars, ends_methods, ends_classes}
+use Rattle.pool_parser.proofs.Declaring.{closes_params, misses_param, ends_locals, no_local, after_vars, ends_methods, ends_classes, after_body, after_value, ends_post}
 
 -- two alternatives are never both taken
 pub record Apart (ts : List Tok) (p : Phrase) (r s : Rule (Tree p)) : Type 0 where
@@ -284,9 +284,13 @@ module _ (ts : List Tok) where
         missed (misses_through (no_local colon) (λ v. misses_token tt (λ z o. cc (o.0, colon)))) f.3;
   }
 
+  decided_post : Decided IsOpen ts post (rule post)
+  unfolding rule
+  decided_post = ((tt, λ y. ((inl tt, λ z. clear_tree (λ t u. inr u)), λ ss. tt)), tt, apart_word_tree (inl refl))
+
   decided_method : Decided IsOpen ts method (rule method)
   unfolding rule
-  decided_method = ((tt, λ y. (tt, λ n. ((inl tt, λ z. clear_any (λ t u. u)), λ ps. ((inl tt, λ z. ends_locals), λ ls. (tt, λ b. ((inl tt, λ z. ends_statements refl refl), λ ss. (tt, λ y. tt))))))), (tt, λ y. (tt, λ n. ((inl tt, λ z. clear_any (λ t u. u)), λ ps. (tt, λ y. ((inl tt, λ z. clear_any (λ t u. u)), λ k. ((inl tt, λ z. ends_locals), λ ls. (tt, λ b. ((inl tt, λ z. ends_statements refl refl), λ ss. (tt, λ c. ((inl tt, λ z. ends_value refl), λ e. (tt, λ w. tt))))))))))), methods_apart)
+  decided_method = ((tt, λ y. (tt, λ n. ((inl tt, λ z. clear_any (λ t u. u)), λ ps. ((inl tt, λ z. ends_locals), λ ls. (tt, λ b. ((inl tt, λ z. after_body), λ ss. ((inl tt, λ z. ends_post), λ qs. (tt, λ y. tt)))))))), (tt, λ y. (tt, λ n. ((inl tt, λ z. clear_any (λ t u. u)), λ ps. (tt, λ y. ((inl tt, λ z. clear_any (λ t u. u)), λ k. ((inl tt, λ z. ends_locals), λ ls. (tt, λ b. ((inl tt, λ z. ends_statements refl refl), λ ss. (tt, λ c. ((inl tt, λ z. after_value), λ e. ((inl tt, λ z. ends_post), λ qs. (tt, λ w. tt)))))))))))), methods_apart)
 
   decided_more_methods : (ms : List _) → Decided IsOpen ts (more_methods ms) (rule (more_methods ms))
   unfolding rule
@@ -364,6 +368,7 @@ module _ (ts : List Tok) where
   decided r.kind b = decided_params IsOpen ts params_open r.kind tt
   decided (more_methods ms) b = decided_more_methods ms
   decided method b = decided_method
+  decided post b = decided_post
   decided params b = decided_params IsOpen ts params_open params tt
   decided (more_params vs) b = decided_params IsOpen ts params_open (more_params vs) tt
   decided param b = decided_params IsOpen ts params_open param tt

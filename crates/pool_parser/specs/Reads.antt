@@ -5,7 +5,7 @@ use Rattle.pool_syntax.specs.declared.token.Tok.TheVariants.{Word, Sign, Name, I
 use Rattle.pool_syntax.specs.declared.token.Keyword.TheVariants as kw
 use Rattle.pool_syntax.specs.declared.token.Sign.TheVariants as sg
 use Rattle.pool_syntax.specs.Rules as r
-use Rattle.pool_syntax.specs.Rules.{disjunction, conjunction, addition, multiplication, Level, group, comparison, factor, postfix, primary, Phrase, Tree, program, more_classes, class, more_vars, names, more_names, more_methods, method, params, more_params, param, more_locals, stmts, more_stmts, stmt, invoke, alt, more_alts, list, expression, more_operands, more_sends, args, more_args, Rule}
+use Rattle.pool_syntax.specs.Rules.{disjunction, conjunction, addition, multiplication, Level, group, comparison, factor, postfix, primary, Phrase, Tree, program, more_classes, class, more_vars, names, more_names, more_methods, method, post, params, more_params, param, more_locals, stmts, more_stmts, stmt, invoke, alt, more_alts, list, expression, more_operands, more_sends, args, more_args, Rule}
 use Rattle.pool_syntax.specs.Grammar.{rule}
 use Rattle.pool_syntax.specs.Derives.{Derives, Begins}
 
@@ -66,6 +66,7 @@ GoesOn (more_names before) t = t ≡ Sign sg.Comma
 GoesOn r.kind t = ⊥
 GoesOn (more_methods before) t = t ≡ Word kw.Method
 GoesOn method t = ⊥
+GoesOn post t = (t ≡ Word kw.Post) ⊎ IsTrue (begins_statement t) ⊎ (t ≡ Sign sg.Semicolon) ⊎ (1 ≤ strength t) ⊎ (t ≡ Sign sg.BangBang)
 GoesOn params t = ⊥
 GoesOn (more_params before) t = t ≡ Sign sg.Comma
 GoesOn param t = ⊥

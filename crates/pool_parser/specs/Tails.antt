@@ -8,7 +8,7 @@ use Rattle.pool_syntax.specs.declared.tree.Var.{Var}
 use Rattle.pool_syntax.specs.Terms as t
 use Rattle.pool_syntax.specs.Terms.{Expression, Statement, Statements, Done, MethodTree, ClassTree}
 use Rattle.pool_syntax.specs.Rules as r
-use Rattle.pool_syntax.specs.Rules.{postfix, expression, invoke, args, stmts, names, more_locals, Phrase, Tree, OneAlternative, Rule, word, sign, name, phrase, tree, ◌>>=◌, ◌>>◌, ◌or◌}
+use Rattle.pool_syntax.specs.Rules.{postfix, expression, invoke, args, stmts, names, more_locals, post, Phrase, Tree, OneAlternative, Rule, word, sign, name, phrase, tree, ◌>>=◌, ◌>>◌, ◌or◌}
 use Rattle.pool_syntax.specs.Grammar.{expr, variables}
 
 -- of stmt: a statement that begins with a postfix
@@ -31,13 +31,13 @@ body_part n vs ms = word Body >> phrase stmts >>= λ ss. word End >> tree (recor
 
 -- of method: behind its parameters, without and with a result
 abbrev pub proper_part : Named → List Var → Rule MethodTree
-proper_part n ps = phrase (more_locals []) >>= λ ls. word Begin >> phrase stmts >>= λ ss. word End >>
-    tree (record { name = n; params = ps; locals = ls; outcome = None; outcome_pos = 0; body = ss; value = t.Literal value.Nil 0 })
+proper_part n ps = phrase (more_locals []) >>= λ ls. word Begin >> phrase stmts >>= λ ss. phrase post >>= λ qs. word End >>
+    tree (record { name = n; params = ps; locals = ls; outcome = None; outcome_pos = 0; body = ss; value = t.Literal value.Nil 0; post = qs })
 
 abbrev pub result_part : Named → List Var → Rule MethodTree
 result_part n ps = sign Colon >> phrase r.kind >>= λ k. phrase (more_locals []) >>= λ ls. word Begin >> phrase stmts >>= λ ss.
-    word Result >> phrase expr >>= λ e. word End >>
-    tree (record { name = n; params = ps; locals = ls; outcome = Some k.0; outcome_pos = k.1; body = ss; value = e })
+    word Result >> phrase expr >>= λ e. phrase post >>= λ qs. word End >>
+    tree (record { name = n; params = ps; locals = ls; outcome = Some k.0; outcome_pos = k.1; body = ss; value = e; post = qs })
 
 -- names, a colon and a kind, which are variables behind those before them, and the rest of a rule
 abbrev pub declared_part : (p : Phrase) → List Var → (List Var → Rule (Tree p)) → Rule (Tree p)

@@ -1,9 +1,9 @@
 //! Variables, methods, classes and the program.
 ghost use Rattle.std.specs.Prelude.{◌≡◌, ◌+◌, ◌<◌, ◌≤◌, [], ◌++◌, length, map, ℕ, Some, IfOk, IfErr, slice_get, List as ListOf};
 ghost use Rattle.pool_syntax.specs.declared.tree.Var.{Var as OneVariable};
-ghost use Rattle.pool_syntax.specs.Rules.{more_vars, more_locals, params as params_phrase, more_params, param as param_phrase, method as method_phrase, more_methods, class as class_phrase, more_classes};
+ghost use Rattle.pool_syntax.specs.Rules.{more_vars, more_locals, params as params_phrase, more_params, param as param_phrase, method as method_phrase, more_methods, post as post_phrase, class as class_phrase, more_classes};
 ghost use Rattle.pool_syntax.specs.Grammar.{variables};
-ghost use Rattle.pool_syntax.specs.TreeOf.{method_tree, class_tree};
+ghost use Rattle.pool_syntax.specs.TreeOf.{method_tree, class_tree, statements_of};
 ghost use Rattle.pool_parser.specs.declared.fault.SyntaxFault.TheVariants.{Memory};
 ghost use Rattle.pool_parser.specs.Tails.{proper_part, result_part, body_part};
 ghost use Rattle.pool_parser.specs.Declarations.{ParsesDeclared, ParsesProgram};
@@ -15,7 +15,7 @@ use crate::naming::{kind, names};
 use crate::source::{Source, expect, expect_name, is_at};
 use crate::statements::statements;
 use pool_syntax::{
-    ClassDecl, Expr, Keyword, Kind, List, Method, Named, Program, Sign, Tok, Token, Var,
+    ClassDecl, Expr, Keyword, Kind, List, Method, Named, Program, Sign, Stmt, Tok, Token, Var,
 };
 use std::alloc::Global;
 
@@ -160,6 +160,18 @@ fn method(alloc: Global, source: Source, at: usize) -> Result<(Method, usize), S
     }
 }
 
+/// The post statements of a method, if it has any.
+fn post(alloc: Global, source: Source, at: usize) -> Result<(List<Stmt>, usize), SyntaxFault>
+    requires within { at ≤ length source.tokens.now }
+    ensures parses { Parses source.entry.tokens.now post_phrase at statements_of result }
+    ensures next { Stays source.entry.tokens.now at result }
+{
+    if !is_at(source, at, Tok::Word(Keyword::Post)) {
+        return Ok((List::make(alloc), at));
+    }
+    statements(alloc, source, at + 1)
+}
+
 /// The rest of a method without a result.
 fn without_result(
     alloc: Global,
@@ -174,7 +186,8 @@ fn without_result(
 {
     let (locals, begin) = locals(alloc, source, at)?;
     expect(source, begin, Tok::Word(Keyword::Begin))?;
-    let (body, end) = statements(alloc, source, begin + 1)?;
+    let (body, next) = statements(alloc, source, begin + 1)?;
+    let (post, end) = post(alloc, source, next)?;
     expect(source, end, Tok::Word(Keyword::End))?;
     let method = Method {
         name,
@@ -184,6 +197,7 @@ fn without_result(
         result_pos: 0,
         body,
         value: Expr::Nil { pos: 0 },
+        post,
     };
     Ok((method, end + 1))
 }
@@ -206,7 +220,8 @@ fn with_result(
     expect(source, begin, Tok::Word(Keyword::Begin))?;
     let (body, result) = statements(alloc, source, begin + 1)?;
     expect(source, result, Tok::Word(Keyword::Result))?;
-    let (value, end) = grouped(alloc, source, result + 1, Grouping::Or)?;
+    let (value, next) = grouped(alloc, source, result + 1, Grouping::Or)?;
+    let (post, end) = post(alloc, source, next)?;
     expect(source, end, Tok::Word(Keyword::End))?;
     let method = Method {
         name,
@@ -216,6 +231,7 @@ fn with_result(
         result_pos: kind_pos,
         body,
         value,
+        post,
     };
     Ok((method, end + 1))
 }

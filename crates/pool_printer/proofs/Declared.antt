@@ -1,5 +1,5 @@
 -- What is known of declarations is known of their parts, and lists of declarations one after another.
-use Rattle.std.proofs.Common.{◌≡◌, refl, ℕ, ◌+◌, ◌<◌, true, map, List, [], ◌∷◌, ◌++◌, length, drop, get_or}
+use Rattle.std.proofs.Common.{◌≡◌, refl, ℕ, ◌+◌, ◌<◌, true, map, List, [], ◌∷◌, ◌++◌, length, drop, get_or, false, nat_eq}
 use Rattle.pool_syntax.specs.Tokens.{Text}
 use Rattle.pool_syntax.specs.declared.token.Tok.TheVariants.{Word, Sign, Name}
 use Rattle.pool_syntax.specs.declared.token.Keyword.{Keyword}
@@ -7,10 +7,11 @@ use Rattle.pool_syntax.specs.declared.token.Keyword.TheVariants as word
 use Rattle.pool_syntax.specs.declared.token.Sign.TheVariants as sign
 use Rattle.pool_syntax.specs.declared.tree.Var.{Var}
 use Rattle.pool_syntax.specs.declared.tree.Method.{Method}
+use Rattle.pool_syntax.specs.declared.tree.Stmt.{Stmt}
 use Rattle.pool_syntax.specs.declared.tree.ClassDecl.{ClassDecl}
 use Rattle.pool_syntax.specs.Terms.{MethodTree, ClassTree}
-use Rattle.pool_syntax.specs.TreeOf.{class_tree, method_tree}
-use Rattle.pool_printer.specs.Canonical.{class_tokens, declarations_tokens, method_tokens, methods_tokens, outcome_tokens, program_tokens, result_tokens, separated_by, statements_tokens, variable_tokens}
+use Rattle.pool_syntax.specs.TreeOf.{class_tree, method_tree, statements_of}
+use Rattle.pool_printer.specs.Canonical.{class_tokens, declarations_tokens, method_tokens, methods_tokens, outcome_tokens, program_tokens, result_tokens, separated_by, statements_tokens, variable_tokens, post_tokens}
 use Rattle.pool_printer.specs.Known.{are_known, is_known}
 use Rattle.pool_printer.proofs.Places.{known_left, known_right, left_true, right_true, all_more, all_at}
 
@@ -18,13 +19,15 @@ pub known_method : (names : List Text) (m : MethodTree) → are_known names (met
     → (is_known names (Name m.name.name) ≡ true) × (are_known names (separated_by (Sign sign.Comma) (map variable_tokens m.params)) ≡ true)
     × (are_known names (outcome_tokens m.outcome) ≡ true) × (are_known names (declarations_tokens word.Local m.locals) ≡ true)
     × (are_known names (statements_tokens m.body) ≡ true) × (are_known names (result_tokens m.outcome m.value) ≡ true)
+    × (are_known names (post_tokens m.post) ≡ true)
 known_method names m h =
     let params = separated_by (Sign sign.Comma) (map variable_tokens m.params) in
     let outcome = outcome_tokens m.outcome in
     let locals = declarations_tokens word.Local m.locals in
     let body = statements_tokens m.body in
     let value = result_tokens m.outcome m.value in
-    let last = Word word.End ∷ [] in
+    let post = post_tokens m.post in
+    let last = post ++ Word word.End ∷ [] in
     let from_begin = Word word.Begin ∷ (body ++ (value ++ last)) in
     let from_paren = Sign sign.RightParen ∷ (outcome ++ (locals ++ from_begin)) in
     let first : are_known names (params ++ from_paren) ≡ true = right_true (is_known names (Name m.name.name)) (are_known names (params ++ from_paren)) h in
@@ -38,7 +41,13 @@ known_method names m h =
       known_left names locals from_begin third,
       known_left names body (value ++ last) fourth,
       known_left names value last fifth,
+      known_left names post (Word word.End ∷ []) (known_right names value last fifth),
     )
+
+-- post statements that are there
+pub post_there : (ss : List Stmt) → nat_eq (length ss) 0 ≡ false → post_tokens (statements_of ss) ≡ Word word.Post ∷ statements_tokens (statements_of ss)
+post_there [] h = absurd (cc)
+post_there (s ∷ ss) h = refl
 
 pub known_class : (names : List Text) (c : ClassTree) → are_known names (class_tokens c) ≡ true
     → (is_known names (Name c.name.name) ≡ true) × (are_known names (declarations_tokens word.Var c.vars) ≡ true)

@@ -10,14 +10,14 @@ use Rattle.pool_syntax.specs.declared.tree.Kind.{Kind}
 use Rattle.pool_syntax.specs.declared.tree.Kind.TheVariants as kind
 use Rattle.pool_syntax.specs.declared.tree.Named.{Named}
 use Rattle.pool_syntax.specs.declared.tree.Var.{Var}
-use Rattle.pool_syntax.specs.Terms.{Expression, Literal, Statements, MethodTree, ClassTree}
+use Rattle.pool_syntax.specs.Terms.{Expression, Literal, Statements, MethodTree, ClassTree, Done, Then}
 use Rattle.pool_syntax.specs.Rules as r
-use Rattle.pool_syntax.specs.Rules.{names, stmts, more_names, more_vars, more_locals, params, more_params, param, method, more_methods, class, more_classes}
+use Rattle.pool_syntax.specs.Rules.{names, stmts, more_names, more_vars, more_locals, params, more_params, param, method, more_methods, class, more_classes, post}
 use Rattle.pool_syntax.specs.Grammar.{rule, expr}
 use Rattle.pool_syntax.specs.Derives.{Derives, nothing, token, inner, first, second}
-use Rattle.pool_printer.specs.Canonical.{separated_by, led_by, kind_token, variable_tokens, declarations_tokens, expression_tokens, statements_tokens, method_tokens, methods_tokens, class_tokens, program_tokens}
+use Rattle.pool_printer.specs.Canonical.{separated_by, led_by, kind_token, variable_tokens, declarations_tokens, expression_tokens, statements_tokens, method_tokens, methods_tokens, class_tokens, program_tokens, post_tokens}
 use Rattle.pool_printer.specs.Renumbered.{token_by}
-use Rattle.pool_printer.specs.Renamed.{renamed_name, renamed_kind, renamed_variable, renamed_expression, renamed_method, renamed_class}
+use Rattle.pool_printer.specs.Renamed.{renamed_name, renamed_kind, renamed_variable, renamed_expression, renamed_method, renamed_class, renamed_statements}
 use Rattle.pool_printer.proofs.DerivedForm.{OutcomeForm, StatementsForm, MethodForm, MethodsForm, ClassForm, ClassesForm}
 use Rattle.pool_printer.proofs.DerivedParts.{Stands, split, Parsed, Ongoing, ended, derives_as, derives_from, named}
 use Rattle.pool_printer.proofs.DerivedExpressions.{expressed}
@@ -132,53 +132,68 @@ module _ (f : ℕ → ℕ) (ts : List Tok) where
         same = λ d. a.same d ∷ b.same d;
       }
 
+  -- the post statements of a method
+  post_derived : (qs : Statements) → StatementsForm qs → (i k : ℕ) → Stands f ts (post_tokens qs) i k
+      → Parsed ts post i k (λ x. renamed_statements f qs ≡ renamed_statements (λ n. n) x)
+  unfolding rule
+  post_derived Done w i k s = record { found = Done; derives = second (ended s); same = refl }
+  post_derived (Then q qs) w i k s =
+      let g = statements_derived f ts (Then q qs) w (i + 1) k s.1 in
+      record { found = g.found; derives = first (token i (s.0, refl) (inner g.found g.derives nothing)); same = g.same }
+
   -- a method without a result, from its parts
-  procedure_rule : (n : Named) (ps ls : List Var) (ss : Statements) (i a b c k : ℕ) → slice_get ts i ≡ Some (tok.Word word.Method)
+  procedure_rule : (n : Named) (ps ls : List Var) (ss qs : Statements) (i a b c j k : ℕ) → slice_get ts i ≡ Some (tok.Word word.Method)
       → (slice_get ts (i + 1) ≡ Some (tok.Name n.name)) × (n.pos ≡ i + 1) → Derives ts params (rule params) (i + 1 + 1) a ps
       → Derives ts (more_locals []) (rule (more_locals [])) a b ls → slice_get ts b ≡ Some (tok.Word word.Begin) → Derives ts stmts (rule stmts) (b + 1) c ss
-      → slice_get ts c ≡ Some (tok.Word word.End) → c + 1 ≡ k
-      → Derives ts method (rule method) i k (record { name = n; params = ps; locals = ls; outcome = None; outcome_pos = 0; body = ss; value = Literal value.Nil 0 })
+      → Derives ts post (rule post) c j qs → slice_get ts j ≡ Some (tok.Word word.End) → j + 1 ≡ k
+      → Derives ts method (rule method) i k (record { name = n; params = ps; locals = ls; outcome = None; outcome_pos = 0; body = ss; value = Literal value.Nil 0; post = qs })
   unfolding rule
-  procedure_rule n ps ls ss i a b c k h named_at d l s w t e =
-      first (token i (h, refl) (token n named_at (inner ps d (inner ls l (token b (s, refl) (inner ss w (token c (t, refl) (ended e))))))))
+  procedure_rule n ps ls ss qs i a b c j k h named_at d l s w q t e =
+      first (token i (h, refl) (token n named_at (inner ps d (inner ls l (token b (s, refl) (inner ss w (inner qs q (token j (t, refl) (ended e)))))))))
 
   -- a method with a result, from its parts
-  function_rule : (n : Named) (ps ls : List Var) (o : Kind) (p : ℕ) (ss : Statements) (e : Expression) (i a b c d j k : ℕ) → slice_get ts i ≡ Some (tok.Word word.Method)
+  function_rule : (n : Named) (ps ls : List Var) (o : Kind) (p : ℕ) (ss : Statements) (e : Expression) (qs : Statements) (i a b c d j m k : ℕ) → slice_get ts i ≡ Some (tok.Word word.Method)
       → (slice_get ts (i + 1) ≡ Some (tok.Name n.name)) × (n.pos ≡ i + 1) → Derives ts params (rule params) (i + 1 + 1) a ps
       → slice_get ts a ≡ Some (tok.Sign sign.Colon) → Derives ts r.kind (rule r.kind) (a + 1) b (o, p)
       → Derives ts (more_locals []) (rule (more_locals [])) b c ls → slice_get ts c ≡ Some (tok.Word word.Begin) → Derives ts stmts (rule stmts) (c + 1) d ss
-      → slice_get ts d ≡ Some (tok.Word word.Result) → Derives ts expr (rule expr) (d + 1) j e → slice_get ts j ≡ Some (tok.Word word.End) → j + 1 ≡ k
-      → Derives ts method (rule method) i k (record { name = n; params = ps; locals = ls; outcome = Some o; outcome_pos = p; body = ss; value = e })
+      → slice_get ts d ≡ Some (tok.Word word.Result) → Derives ts expr (rule expr) (d + 1) j e
+      → Derives ts post (rule post) j m qs → slice_get ts m ≡ Some (tok.Word word.End) → m + 1 ≡ k
+      → Derives ts method (rule method) i k (record { name = n; params = ps; locals = ls; outcome = Some o; outcome_pos = p; body = ss; value = e; post = qs })
   unfolding rule
-  function_rule n ps ls o p ss e i a b c d j k h named_at q u v l s w x y z g =
+  function_rule n ps ls o p ss e qs i a b c d j m k h named_at q u v l s w x y t z g =
       second (token i (h, refl) (token n named_at (inner ps q (token a (u, refl) (inner (o, p) v (inner ls l (token c (s, refl) (inner ss w (token d (x, refl)
-      (inner e y (token j (z, refl) (ended g))))))))))))
+      (inner e y (inner qs t (token m (z, refl) (ended g)))))))))))))
 
   -- a method without a result
-  procedure_derived : (n : Named) (ps ls : List Var) (p : ℕ) (ss : Statements) (e : Expression) → StatementsForm ss → e ≡ Literal value.Nil 0 → (i k : ℕ)
-      → Stands f ts (method_tokens (record { name = n; params = ps; locals = ls; outcome = None; outcome_pos = p; body = ss; value = e })) i k
-      → MethodDerived f ts i k (record { name = n; params = ps; locals = ls; outcome = None; outcome_pos = p; body = ss; value = e })
-  procedure_derived n ps ls p ss e w v i k s =
-      let rest = tok.Word word.Begin ∷ (statements_tokens ss ++ tok.Word word.End ∷ []) in
+  procedure_derived : (n : Named) (ps ls : List Var) (p : ℕ) (ss : Statements) (e : Expression) (qs : Statements) → StatementsForm ss → e ≡ Literal value.Nil 0 → StatementsForm qs → (i k : ℕ)
+      → Stands f ts (method_tokens (record { name = n; params = ps; locals = ls; outcome = None; outcome_pos = p; body = ss; value = e; post = qs })) i k
+      → MethodDerived f ts i k (record { name = n; params = ps; locals = ls; outcome = None; outcome_pos = p; body = ss; value = e; post = qs })
+  procedure_derived n ps ls p ss e qs w v u i k s =
+      let last = post_tokens qs ++ tok.Word word.End ∷ [] in
+      let rest = tok.Word word.Begin ∷ (statements_tokens ss ++ last) in
       let c = split (separated_by (tok.Sign sign.Comma) (map variable_tokens ps)) (tok.Sign sign.RightParen ∷ (declarations_tokens word.Local ls ++ rest)) s.1.1.1 in
       let a = params_derived ps (i + 1 + 1) c.middle s.1.1.0 c.front c.back.0 in
       let l = split (declarations_tokens word.Local ls) rest c.back.1 in
       let b = locals_derived ls (c.middle + 1) l.middle l.front in
-      let h = split (statements_tokens ss) (tok.Word word.End ∷ []) l.back.1 in
+      let h = split (statements_tokens ss) last l.back.1 in
       let g = statements_derived f ts ss w (l.middle + 1) h.middle h.front in
+      let z = split (post_tokens qs) (tok.Word word.End ∷ []) h.back in
+      let y = post_derived qs u h.middle z.middle z.front in
       let m = named (f n.name.0) (i + 1) in
       record {
-        found = record { name = m; params = a.found; locals = b.found; outcome = None; outcome_pos = 0; body = g.found; value = Literal value.Nil 0 };
-        derives = procedure_rule m a.found b.found g.found i (c.middle + 1) l.middle h.middle k s.0 (s.1.0, refl) a.derives (b.goes_on []) l.back.0 g.derives h.back.0 h.back.1;
-        same = λ d. record { name = renamed_name f n; params = a.same d; locals = b.same d; outcome = None; outcome_pos = 0; body = g.same d; value = renamed_expression f (v d) };
+        found = record { name = m; params = a.found; locals = b.found; outcome = None; outcome_pos = 0; body = g.found; value = Literal value.Nil 0; post = y.found };
+        derives = procedure_rule m a.found b.found g.found y.found i (c.middle + 1) l.middle h.middle z.middle k
+            s.0 (s.1.0, refl) a.derives (b.goes_on []) l.back.0 g.derives y.derives z.back.0 z.back.1;
+        same = λ d. record { name = renamed_name f n; params = a.same d; locals = b.same d; outcome = None; outcome_pos = 0; body = g.same d; value = renamed_expression f (v d); post = y.same d };
       }
 
   -- a method with a result
-  function_derived : (n : Named) (ps ls : List Var) (o : Kind) (p : ℕ) (ss : Statements) (e : Expression) → StatementsForm ss → OutcomeForm (Some o) e → (i k : ℕ)
-      → Stands f ts (method_tokens (record { name = n; params = ps; locals = ls; outcome = Some o; outcome_pos = p; body = ss; value = e })) i k
-      → MethodDerived f ts i k (record { name = n; params = ps; locals = ls; outcome = Some o; outcome_pos = p; body = ss; value = e })
-  function_derived n ps ls o p ss e w v i k s =
-      let last = tok.Word word.Result ∷ (expression_tokens 1 e ++ tok.Word word.End ∷ []) in
+  function_derived : (n : Named) (ps ls : List Var) (o : Kind) (p : ℕ) (ss : Statements) (e : Expression) (qs : Statements) → StatementsForm ss → OutcomeForm (Some o) e → StatementsForm qs → (i k : ℕ)
+      → Stands f ts (method_tokens (record { name = n; params = ps; locals = ls; outcome = Some o; outcome_pos = p; body = ss; value = e; post = qs })) i k
+      → MethodDerived f ts i k (record { name = n; params = ps; locals = ls; outcome = Some o; outcome_pos = p; body = ss; value = e; post = qs })
+  function_derived n ps ls o p ss e qs w v u i k s =
+      let end = post_tokens qs ++ tok.Word word.End ∷ [] in
+      let last = tok.Word word.Result ∷ (expression_tokens 1 e ++ end) in
       let rest = tok.Word word.Begin ∷ (statements_tokens ss ++ last) in
       let c = split (separated_by (tok.Sign sign.Comma) (map variable_tokens ps)) (tok.Sign sign.RightParen ∷ tok.Sign sign.Colon ∷ kind_token o ∷ (declarations_tokens word.Local ls ++ rest)) s.1.1.1 in
       let a = params_derived ps (i + 1 + 1) c.middle s.1.1.0 c.front c.back.0 in
@@ -187,24 +202,26 @@ module _ (f : ℕ → ℕ) (ts : List Tok) where
       let b = locals_derived ls (c.middle + 1 + 1 + 1) l.middle l.front in
       let h = split (statements_tokens ss) last l.back.1 in
       let g = statements_derived f ts ss w (l.middle + 1) h.middle h.front in
-      let t = split (expression_tokens 1 e) (tok.Word word.End ∷ []) h.back.1 in
+      let t = split (expression_tokens 1 e) end h.back.1 in
       let x = expressed f ts e v (h.middle + 1) t.middle t.front in
+      let z = split (post_tokens qs) (tok.Word word.End ∷ []) t.back in
+      let y = post_derived qs u t.middle z.middle z.front in
       let m = named (f n.name.0) (i + 1) in
       record {
-        found = record { name = m; params = a.found; locals = b.found; outcome = Some q.found.0; outcome_pos = q.found.1; body = g.found; value = x.found };
-        derives = function_rule m a.found b.found q.found.0 q.found.1 g.found x.found i (c.middle + 1) (c.middle + 1 + 1 + 1) l.middle h.middle t.middle k
-            s.0 (s.1.0, refl) a.derives c.back.1.0 q.derives (b.goes_on []) l.back.0 g.derives h.back.0 x.derives t.back.0 t.back.1;
-        same = λ d. record { name = renamed_name f n; params = a.same d; locals = b.same d; outcome = Some (q.same d); outcome_pos = 0; body = g.same d; value = x.same d };
+        found = record { name = m; params = a.found; locals = b.found; outcome = Some q.found.0; outcome_pos = q.found.1; body = g.found; value = x.found; post = y.found };
+        derives = function_rule m a.found b.found q.found.0 q.found.1 g.found x.found y.found i (c.middle + 1) (c.middle + 1 + 1 + 1) l.middle h.middle t.middle z.middle k
+            s.0 (s.1.0, refl) a.derives c.back.1.0 q.derives (b.goes_on []) l.back.0 g.derives h.back.0 x.derives y.derives z.back.0 z.back.1;
+        same = λ d. record { name = renamed_name f n; params = a.same d; locals = b.same d; outcome = Some (q.same d); outcome_pos = 0; body = g.same d; value = x.same d; post = y.same d };
       }
 
-  method_by_outcome : (n : Named) (ps ls : List Var) (o : Option Kind) (p : ℕ) (ss : Statements) (e : Expression) → StatementsForm ss → OutcomeForm o e → (i k : ℕ)
-      → Stands f ts (method_tokens (record { name = n; params = ps; locals = ls; outcome = o; outcome_pos = p; body = ss; value = e })) i k
-      → MethodDerived f ts i k (record { name = n; params = ps; locals = ls; outcome = o; outcome_pos = p; body = ss; value = e })
-  method_by_outcome n ps ls None p ss e w v i k s = procedure_derived n ps ls p ss e w v i k s
-  method_by_outcome n ps ls (Some o) p ss e w v i k s = function_derived n ps ls o p ss e w v i k s
+  method_by_outcome : (n : Named) (ps ls : List Var) (o : Option Kind) (p : ℕ) (ss : Statements) (e : Expression) (qs : Statements) → StatementsForm ss → OutcomeForm o e → StatementsForm qs → (i k : ℕ)
+      → Stands f ts (method_tokens (record { name = n; params = ps; locals = ls; outcome = o; outcome_pos = p; body = ss; value = e; post = qs })) i k
+      → MethodDerived f ts i k (record { name = n; params = ps; locals = ls; outcome = o; outcome_pos = p; body = ss; value = e; post = qs })
+  method_by_outcome n ps ls None p ss e qs w v u i k s = procedure_derived n ps ls p ss e qs w v u i k s
+  method_by_outcome n ps ls (Some o) p ss e qs w v u i k s = function_derived n ps ls o p ss e qs w v u i k s
 
   method_derived : (m : MethodTree) → MethodForm m → (i k : ℕ) → Stands f ts (method_tokens m) i k → MethodDerived f ts i k m
-  method_derived m w i k s = method_by_outcome m.name m.params m.locals m.outcome m.outcome_pos m.body m.value w.0 w.1 i k s
+  method_derived m w i k s = method_by_outcome m.name m.params m.locals m.outcome m.outcome_pos m.body m.value m.post w.0 w.1 w.2 i k s
 
   methods_derived : (ms : List MethodTree) → MethodsForm ms → (i k : ℕ) → Stands f ts (methods_tokens ms) i k → Ongoing (SameMethods f ms) (GoOnMethods ts i k)
   unfolding rule

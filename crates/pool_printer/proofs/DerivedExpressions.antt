@@ -302,7 +302,7 @@ module _ (f : ℕ → ℕ) (ts : List Tok) where
     opened (Send e m es p) w = λ i k s.
         let c = split (expression_tokens 7 e) (tok.Sign sign.Bang ∷ tok.Name (record { 0 = m }) ∷ tok.Sign sign.LeftParen ∷ (separated_by (tok.Sign sign.Comma) (argument_tokens es) ++ tok.Sign sign.RightParen ∷ [])) s in
         sent e m es p i c.middle k (placed 7 (omega arith) e (opened e w.0) i c.middle c.front) (each_argument es w.1) c.back
-    opened (Frame m t ss e) w = absurd w
+    opened (Frame m t ss e qs) w = absurd w
     opened (Wait b m) w = absurd w
 
     pub each_argument : (es : Expressions) → ArgumentsForm es → EachArgument f ts es

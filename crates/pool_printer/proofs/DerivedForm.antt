@@ -58,7 +58,7 @@ abbrev mutual
   ExpressionForm (T.Infix o l m p) = (is_prefix o ≡ false) × ExpressionForm l × ExpressionForm m
   ExpressionForm (T.Call m es p) = ArgumentsForm es
   ExpressionForm (T.Send e m es p) = ExpressionForm e × ArgumentsForm es
-  ExpressionForm (T.Frame m t ss e) = ⊥
+  ExpressionForm (T.Frame m t ss e qs) = ⊥
   ExpressionForm (T.Wait b m) = ⊥
 
   pub ArgumentsForm : Expressions → Type 0
@@ -75,7 +75,7 @@ abbrev mutual
   StatementForm (T.While e ss) = ExpressionForm e × StatementsForm ss
   StatementForm (T.Answer ns) = IsFilled ns
   StatementForm (T.Select alts) = HasAlternative alts × AlternativesForm alts
-  StatementForm (T.Serve m k t ss e) = ⊥
+  StatementForm (T.Serve m k t ss e qs) = ⊥
 
   pub StatementsForm : Statements → Type 0
   StatementsForm Done = Unit {0}
@@ -93,7 +93,7 @@ OutcomeForm None e = e ≡ T.Literal value.Nil 0
 OutcomeForm (Some k) e = ExpressionForm e
 
 abbrev pub MethodForm : MethodTree → Type 0
-MethodForm m = StatementsForm m.body × OutcomeForm m.outcome m.value
+MethodForm m = StatementsForm m.body × OutcomeForm m.outcome m.value × StatementsForm m.post
 
 abbrev pub MethodsForm : List MethodTree → Type 0
 MethodsForm [] = Unit {0}
@@ -118,6 +118,7 @@ Formed r.names ns = IsFilled ns
 Formed (r.more_names before) ns = IsFilled before → IsFilled ns
 Formed (r.more_methods before) ms = MethodsForm before → MethodsForm ms
 Formed r.method m = MethodForm m
+Formed r.post ss = StatementsForm ss
 Formed r.stmts ss = StatementsForm ss
 Formed (r.more_stmts before) ss = StatementsForm before → StatementsForm ss
 Formed r.stmt s = StatementForm s
@@ -196,7 +197,11 @@ rule_formed r.program = λ k w ks f n u. f (tt, (w, tt))
 rule_formed (r.more_classes ks) = ((λ k w all f v. f (filled_last ks k, classes_last ks k v.1 w)), (λ v. v))
 rule_formed r.class = λ n u m v vs x ms f i y ss w j z. (f tt, w)
 rule_formed (r.more_methods ms) = ((λ m w all f v. f (methods_last ms m v w)), (λ v. v))
-rule_formed r.method = ((λ i u n v ps x ls y j z ss w k t. (w, refl)), (λ i u n v ps x j y k z ls t l a ss w m c e d q f. (w, d)))
+rule_formed r.method = (
+  (λ i u n v ps x ls y j z ss w qs q k t. (w, refl, q)),
+  (λ i u n v ps x j y k z ls t l a ss w m c e d qs g q f. (w, d, g)),
+)
+rule_formed r.post = ((λ i u ss w. w), tt)
 rule_formed r.stmts = ((λ s w ss f. f (w, tt)), tt)
 rule_formed (r.more_stmts ss) = ((λ i u s w all f v. f (statements_last ss s v w)), (λ v. v))
 rule_formed r.stmt = (

@@ -20,6 +20,7 @@ written = record {
     outcome_pos = 14;
     body = Then (Do (Call 2 (Arg (Variable 1 18) NoArgs) 16)) Done;
     value = Prefix op.Neg (Literal (value.Int (pos 1)) 22) 21;
+    post = Done;
   } ∷ record {
     name = named 1 25;
     params = [];
@@ -28,6 +29,7 @@ written = record {
     outcome_pos = 0;
     body = Done;
     value = Literal value.Nil 0;
+    post = Done;
   } ∷ [];
   body = Then (Assign 1 35 (Create 0 38)) (Then (WriteText 5)
       (Then (If (Literal (value.Bool true) 44) (Then (Answer (named 2 48 ∷ [])) Done) (Then (Async (Me 51) 2 53 NoArgs) Done))
@@ -45,6 +47,7 @@ row : renamed (λ n. n + 10) written ≡ record {
     outcome_pos = 0;
     body = Then (Do (Call 12 (Arg (Variable 11 0) NoArgs) 0)) Done;
     value = Prefix op.Neg (Literal (value.Int (pos 1)) 0) 0;
+    post = Done;
   } ∷ record {
     name = named 11 0;
     params = [];
@@ -53,6 +56,7 @@ row : renamed (λ n. n + 10) written ≡ record {
     outcome_pos = 0;
     body = Done;
     value = Literal value.Nil 0;
+    post = Done;
   } ∷ [];
   body = Then (Assign 11 0 (Create 10 0)) (Then (WriteText 15)
       (Then (If (Literal (value.Bool true) 0) (Then (Answer (named 12 0 ∷ [])) Done) (Then (Async (Me 0) 12 0 NoArgs) Done))

@@ -256,7 +256,7 @@ module _ (f : ℕ → ℕ) (ts : List Tok) where
   invoked (Variable x p) v w i k s = absurd v
   invoked (Prefix o e p) v w i k s = absurd v
   invoked (Infix o l r p) v w i k s = absurd v
-  invoked (Frame m t ss e) v w i k s = absurd v
+  invoked (Frame m t ss e qs) v w i k s = absurd v
   invoked (Wait b m) v w i k s = absurd v
 
   -- alternatives
@@ -336,7 +336,7 @@ module _ (f : ℕ → ℕ) (ts : List Tok) where
     stated (While e ss) w i k s = repeated e w.0 ss (each_statement ss w.1) i k s
     stated (Answer ns) w i k s = answered ns w i k s
     stated (Select alts) w i k s = selected alts w.0 (each_alternative alts w.1) i k s
-    stated (Serve m c t ss e) w i k s = absurd w
+    stated (Serve m c t ss e qs) w i k s = absurd w
 
     each_statement : (ss : Statements) → StatementsForm ss → EachStatement f ts ss
     each_statement Done w = tt

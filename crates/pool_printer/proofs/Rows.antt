@@ -194,7 +194,8 @@ other_statements :
         outcome_pos = 0;
         body = Then (WriteText 4) Done;
         value = number 5;
-      } ∷ record { name = named 1; params = []; locals = []; outcome = None; outcome_pos = 0; body = Done; value = Literal value.Nil 0 } ∷ [];
+        post = Done;
+      } ∷ record { name = named 1; params = []; locals = []; outcome = None; outcome_pos = 0; body = Done; value = Literal value.Nil 0; post = Done } ∷ [];
       body = Then (If (Variable 1 0) (Then (Write (number 0)) Done) Done)
           (Then (If (Variable 1 0) Done (Then (Do (Create 0 0)) Done))
           (Then (While (Variable 1 0) (Then (Answer (named 3 ∷ named 1 ∷ [])) Done))
@@ -204,3 +205,15 @@ other_statements :
     ≡ codes "class Main\nmethod m ( x : Int , y : Main ) : Int local Main : Bool local m : Int begin write \"hi; \" result 5 end\nmethod x ( ) begin end\nbody if x then write 0 fi ;\nif x then else new Main fi ;\nwhile x do answer ( m , x ) od ;\n( not self ) !! m ( 1 ) ;\nselect when x answer ( m ) then when y then m ( ) ;\nx ( ) end end\nclass x\nbody end\n"
 unfolding digits
 other_statements = refl
+
+-- post statements
+post_statements :
+    canonical table (record {
+      name = named 0;
+      vars = [];
+      methods = record { name = named 3; params = []; locals = []; outcome = Some kind.Int; outcome_pos = 0; body = Done; value = number 1; post = Then (Write (number 2)) Done } ∷ [];
+      body = Done;
+    } ∷ [])
+    ≡ codes "class Main\nmethod m ( ) : Int begin result 1 post write 2 end\nbody end\n"
+unfolding digits
+post_statements = refl

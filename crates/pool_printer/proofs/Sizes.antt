@@ -17,7 +17,7 @@ abbrev mutual
   size (Infix o l r p) = 1 + (size l + size r)
   size (Call m es p) = 1 + size_all es
   size (Send e m es p) = 1 + (size e + size_all es)
-  size (Frame m t ss e) = 0
+  size (Frame m t ss e qs) = 0
   size (Wait b m) = 0
 
   pub size_all : Expressions → ℕ
@@ -40,7 +40,7 @@ abbrev mutual
   length_of (While e ss) = 1 + length_of_all ss
   length_of (Answer ns) = 0
   length_of (Select alts) = 1 + length_of_alternatives alts
-  length_of (Serve m k t ss e) = 0
+  length_of (Serve m k t ss e qs) = 0
 
   pub length_of_all : Statements → ℕ
   length_of_all Done = 0

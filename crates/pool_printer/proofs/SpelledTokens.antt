@@ -16,7 +16,7 @@ use Rattle.pool_syntax.specs.declared.tree.Named.{Named}
 use Rattle.pool_syntax.specs.declared.tree.Var.{Var}
 use Rattle.pool_syntax.specs.Terms.{Expression, Literal, Me, Variable, Create, Prefix, Infix, Call, Send, Frame, Wait, Expressions, NoArgs, Arg, Statement, Assign, Write, WriteText, Do, Async, If, While, Answer, Select, Serve, Statements, Done, Then, Alternatives, NoAlts, Alt, MethodTree, ProgramTree}
 use Rattle.pool_syntax.specs.Spelled.{is_name, is_string_number, is_literal, is_kind, are_names, are_answer_names, are_variables, is_spelled_expression, are_spelled_expressions, is_spelled_statement, are_spelled_statements, are_spelled_alternatives, is_outcome, are_spelled_methods, is_spelled}
-use Rattle.pool_printer.specs.Canonical.{led_by, separated_by, operator_token, in_place, level, left_need, right_need, bare_tokens, argument_tokens, expression_tokens, call_tokens, names_tokens, answer_tokens, else_tokens, statement_tokens, statement_parts, statements_tokens, alternatives_tokens, kind_token, variable_tokens, declarations_tokens, outcome_tokens, result_tokens, method_tokens, methods_tokens, class_tokens, program_tokens}
+use Rattle.pool_printer.specs.Canonical.{led_by, separated_by, operator_token, in_place, level, left_need, right_need, bare_tokens, argument_tokens, expression_tokens, call_tokens, names_tokens, answer_tokens, else_tokens, statement_tokens, statement_parts, statements_tokens, alternatives_tokens, kind_token, variable_tokens, declarations_tokens, outcome_tokens, result_tokens, method_tokens, methods_tokens, class_tokens, program_tokens, post_tokens}
 use Rattle.pool_printer.proofs.Places.{left_true, right_true}
 
 -- a token whose name, string or integer is spelled over the table; the end of a text is none
@@ -102,7 +102,7 @@ mutual
       (and_from _ _ (right_true (is_spelled_expression names e) _ (left_true _ _ h))
       (append_spelled names (separated_by (Sign sign.Comma) (argument_tokens es)) (Sign sign.RightParen ∷ [])
       (separated_spelled names sign.Comma (argument_tokens es) (arguments_spelled names es (right_true (is_spelled_expression names e && is_name names m) _ h))) refl))
-  bare_spelled names (Frame m t ss e) h = refl
+  bare_spelled names (Frame m t ss e qs) h = refl
   bare_spelled names (Wait b m) h = refl
 
   arguments_spelled : (names : List Text) (es : Expressions) → are_spelled_expressions names es ≡ true → parts_spelled names (argument_tokens es) ≡ true
@@ -153,7 +153,7 @@ mutual
       (separated_spelled names sign.Semicolon (statement_parts ss) (statement_parts_spelled names ss (right_true (is_spelled_expression names e) _ h))) refl)
   statement_spelled names (Answer ns) h = names_spelled names ns h
   statement_spelled names (Select alts) h = append_spelled names (alternatives_tokens alts) (Word word.End ∷ []) (alternatives_spelled names alts h) refl
-  statement_spelled names (Serve m k t ss e) h = refl
+  statement_spelled names (Serve m k t ss e qs) h = refl
 
   statement_parts_spelled : (names : List Text) (ss : Statements) → are_spelled_statements names ss ≡ true → parts_spelled names (statement_parts ss) ≡ true
   statement_parts_spelled names Done h = refl
@@ -201,6 +201,10 @@ result_spelled : (names : List Text) (o : Option Kind) (e : Expression) → is_s
 result_spelled names None e h = refl
 result_spelled names (Some k) e h = expression_spelled names 1 e h
 
+post_spelled : (names : List Text) (ss : Statements) → are_spelled_statements names ss ≡ true → are_spelled_tokens names (post_tokens ss) ≡ true
+post_spelled names Done h = refl
+post_spelled names (Then s ss) h = statements_spelled names (Then s ss) h
+
 methods_spelled : (names : List Text) (ms : List MethodTree) → are_spelled_methods names ms ≡ true → are_spelled_tokens names (methods_tokens ms) ≡ true
 methods_spelled names [] h = refl
 methods_spelled names (m ∷ ms) h =
@@ -210,7 +214,9 @@ methods_spelled names (m ∷ ms) h =
     let d = is_outcome names m.outcome in
     let e = are_spelled_statements names m.body in
     let f = is_spelled_expression names m.value in
-    let h6 = left_true (a && b && c && d && e && f) (are_spelled_methods names ms) h in
+    let g = are_spelled_statements names m.post in
+    let h7 = left_true (a && b && c && d && e && f && g) (are_spelled_methods names ms) h in
+    let h6 = left_true (a && b && c && d && e && f) g h7 in
     let h5 = left_true (a && b && c && d && e) f h6 in
     let h4 = left_true (a && b && c && d) e h5 in
     let h3 = left_true (a && b && c) d h4 in
@@ -221,8 +227,9 @@ methods_spelled names (m ∷ ms) h =
     (append_spelled names (outcome_tokens m.outcome) _ (outcome_spelled names m.outcome (right_true (a && b && c) d h4))
     (append_spelled names (declarations_tokens word.Local m.locals) _ (declarations_spelled names word.Local m.locals (right_true (a && b) c h3))
     (append_spelled names (statements_tokens m.body) _ (statements_spelled names m.body (right_true (a && b && c && d) e h5))
-    (append_spelled names (result_tokens m.outcome m.value) (Word word.End ∷ []) (result_spelled names m.outcome m.value (right_true (a && b && c && d && e) f h6)) refl))))))
-    (methods_spelled names ms (right_true (a && b && c && d && e && f) (are_spelled_methods names ms) h))
+    (append_spelled names (result_tokens m.outcome m.value) _ (result_spelled names m.outcome m.value (right_true (a && b && c && d && e) f h6))
+    (append_spelled names (post_tokens m.post) (Word word.End ∷ []) (post_spelled names m.post (right_true (a && b && c && d && e && f) g h7)) refl)))))))
+    (methods_spelled names ms (right_true (a && b && c && d && e && f && g) (are_spelled_methods names ms) h))
 
 -- the tokens of a spelled program have their texts in the table
 pub spelled_tokens : (names : List Text) (p : ProgramTree) → is_spelled names p ≡ true → are_spelled_tokens names (program_tokens p) ≡ true

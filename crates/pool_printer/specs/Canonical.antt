@@ -115,7 +115,7 @@ abbrev mutual
   bare_tokens (Send e m es p) =
       in_place 7 (level e) (bare_tokens e) then Sign sign.Bang ∷ name_token m
       ∷ Sign sign.LeftParen ∷ separated_by (Sign sign.Comma) (argument_tokens es) then Sign sign.RightParen ∷ []
-  bare_tokens (Frame m t ss e) = []
+  bare_tokens (Frame m t ss e qs) = []
   bare_tokens (Wait b m) = []
 
   -- the tokens of each argument
@@ -163,7 +163,7 @@ abbrev mutual
       then Word word.Od ∷ []
   statement_tokens (Answer ns) = Word word.Answer ∷ names_tokens ns
   statement_tokens (Select alts) = Word word.Select ∷ alternatives_tokens alts then Word word.End ∷ []
-  statement_tokens (Serve m k t ss e) = []
+  statement_tokens (Serve m k t ss e qs) = []
 
   -- the tokens of each statement
   pub statement_parts : Statements → List (List Tok)
@@ -205,6 +205,11 @@ abbrev pub result_tokens : Option Kind → Expression → List Tok
 result_tokens None e = []
 result_tokens (Some k) e = Word word.Result ∷ expression_tokens 1 e
 
+-- the post statements, if there are any
+abbrev pub post_tokens : Statements → List Tok
+post_tokens Done = []
+post_tokens (Then s ss) = Word word.Post ∷ statements_tokens (Then s ss)
+
 abbrev pub method_tokens : MethodTree → List Tok
 method_tokens m =
     Word word.Method ∷ Name m.name.name ∷ Sign sign.LeftParen ∷ separated_by (Sign sign.Comma) (map variable_tokens m.params)
@@ -212,6 +217,7 @@ method_tokens m =
     then declarations_tokens word.Local m.locals
     then Word word.Begin ∷ statements_tokens m.body
     then result_tokens m.outcome m.value
+    then post_tokens m.post
     then Word word.End ∷ []
 
 abbrev pub methods_tokens : List MethodTree → List Tok

@@ -42,7 +42,8 @@ abbrev mutual
   renamed_expression f (Infix o l r p) = Infix o (renamed_expression f l) (renamed_expression f r) 0
   renamed_expression f (Call m es p) = Call (f m) (renamed_expressions f es) 0
   renamed_expression f (Send e m es p) = Send (renamed_expression f e) (f m) (renamed_expressions f es) 0
-  renamed_expression f (Frame m t ss e) = Frame (f m) (renamed_store f t) (renamed_statements f ss) (renamed_expression f e)
+  renamed_expression f (Frame m t ss e qs) =
+      Frame (f m) (renamed_store f t) (renamed_statements f ss) (renamed_expression f e) (renamed_statements f qs)
   renamed_expression f (Wait b m) = Wait b (f m)
 
   -- the arguments of a call
@@ -61,7 +62,8 @@ abbrev mutual
   renamed_statement f (While e ss) = While (renamed_expression f e) (renamed_statements f ss)
   renamed_statement f (Answer ns) = Answer (map (renamed_name f) ns)
   renamed_statement f (Select alts) = Select (renamed_alternatives f alts)
-  renamed_statement f (Serve m k t ss e) = Serve (f m) k (renamed_store f t) (renamed_statements f ss) (renamed_expression f e)
+  renamed_statement f (Serve m k t ss e qs) =
+      Serve (f m) k (renamed_store f t) (renamed_statements f ss) (renamed_expression f e) (renamed_statements f qs)
 
   -- a list of statements
   pub renamed_statements : (ℕ → ℕ) → Statements → Statements
@@ -89,6 +91,7 @@ renamed_method f m = record {
   outcome_pos = 0;
   body = renamed_statements f m.body;
   value = renamed_expression f m.value;
+  post = renamed_statements f m.post;
 }
 
 -- a class

@@ -1,8 +1,8 @@
 //! The tokens of declarations.
 ghost use Rattle.std.specs.Prelude.{◌≡◌, map, true};
-ghost use Rattle.pool_syntax.specs.TreeOf.{class_tree, expression_of, method_tree};
+ghost use Rattle.pool_syntax.specs.TreeOf.{class_tree, expression_of, method_tree, statements_of};
 ghost use Rattle.pool_syntax.specs.declared.token.Tok.TheVariants.{Sign as SignToken};
-ghost use Rattle.pool_printer.specs.Canonical.{class_tokens, declarations_tokens, kind_token, method_tokens, methods_tokens, outcome_tokens, program_tokens, result_tokens, separated_by, variable_tokens};
+ghost use Rattle.pool_printer.specs.Canonical.{class_tokens, declarations_tokens, kind_token, method_tokens, methods_tokens, outcome_tokens, post_tokens, program_tokens, result_tokens, separated_by, variable_tokens};
 ghost use Rattle.pool_printer.specs.Known.{are_known};
 ghost use Rattle.pool_printer.specs.Saying.{Prints, state};
 
@@ -10,7 +10,7 @@ use crate::expressions::{ANY, expression};
 use crate::saying::{Progress, say, say_all, separate};
 use crate::statements::statements;
 use pool_outside::Sink;
-use pool_syntax::{ClassDecl, Expr, Keyword, Kind, Method, Names, Sign, Tok, Var};
+use pool_syntax::{ClassDecl, Expr, Keyword, Kind, Method, Names, Sign, Stmt, Tok, Var};
 
 fn kind_token(kind: Kind) -> Tok
     ensures { result ≡ kind_token kind }
@@ -95,6 +95,17 @@ fn value<K: Sink>(
     }
 }
 
+/// Writes the post statements of a method, if it has any.
+fn post<K: Sink>(names: &Names, sink: &mut K, progress: &mut Progress, stmts: &[Stmt])
+    requires { are_known names.now (post_tokens (statements_of stmts.now)) ≡ true }
+    ensures { Prints names.now (post_tokens (statements_of stmts.now)) (state progress.old (K.written sink.old) (K.faults sink.old)) (state progress.new (K.written sink.new) (K.faults sink.new)) }
+{
+    if !stmts.is_empty() {
+        say(names, sink, progress, Tok::Word(Keyword::Post));
+        statements(names, sink, progress, stmts);
+    }
+}
+
 fn method<K: Sink>(names: &Names, sink: &mut K, progress: &mut Progress, method: &Method)
     requires { are_known names.now (method_tokens (method_tree method.now)) ≡ true }
     ensures { Prints names.now (method_tokens (method_tree method.now)) (state progress.old (K.written sink.old) (K.faults sink.old)) (state progress.new (K.written sink.new) (K.faults sink.new)) }
@@ -109,6 +120,7 @@ fn method<K: Sink>(names: &Names, sink: &mut K, progress: &mut Progress, method:
     say(names, sink, progress, Tok::Word(Keyword::Begin));
     statements(names, sink, progress, method.body.items());
     value(names, sink, progress, method.result, &method.value);
+    post(names, sink, progress, method.post.items());
     say(names, sink, progress, Tok::Word(Keyword::End));
 }
 

@@ -35,6 +35,7 @@ Written (r.more_classes before) ks = IsTrue (is_written before) × (before ≢ [
 Written r.class k = IsTrue (is_written (k ∷ []))
 Written (r.more_methods before) ms = IsTrue (are_written before) → IsTrue (are_written ms)
 Written r.method m = IsTrue (are_written (m ∷ []))
+Written r.post ss = PlainStatements ss
 Written r.stmts ss = PlainStatements ss
 Written (r.more_stmts before) ss = PlainStatements before → PlainStatements ss
 Written r.stmt s = PlainStatement s
@@ -124,9 +125,10 @@ rule_written (r.more_classes ks) = ((λ k w all f v. f (classes_last ks k v.0 w,
 rule_written r.class = λ n u m v vs x ms f i y ss w j z. b.both _ _ (b.both _ _ w (f refl)) refl
 rule_written (r.more_methods ms) = ((λ m w all f v. f (methods_last ms m v w)), (λ v. v))
 rule_written r.method = (
-  (λ i u n v ps x ls y j z ss w k t. b.both _ _ (b.both _ _ (b.both _ _ w refl) refl) refl),
-  (λ i u n v ps x j y k z ls t l a ss w m c e d q f. b.both _ _ (b.both _ _ (b.both _ _ w d) refl) refl),
+  (λ i u n v ps x ls y j z ss w qs k l t. b.both _ _ (b.both _ _ (b.both _ _ (b.both _ _ w refl) refl) k) refl),
+  (λ i u n v ps x j y k z ls t l a ss w m c e d qs f q o. b.both _ _ (b.both _ _ (b.both _ _ (b.both _ _ w d) refl) f) refl),
 )
+rule_written r.post = ((λ i u ss w. w), refl)
 rule_written r.stmts = ((λ s w ss f. f (b.both _ _ w refl)), refl)
 rule_written (r.more_stmts ss) = ((λ i u s w all f v. f (statements_last ss s v w)), (λ v. v))
 rule_written r.stmt = (

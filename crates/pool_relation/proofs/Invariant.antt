@@ -69,7 +69,7 @@ invariant_of p c t = record {
     object : (o : ℕ) (x : Object) → object_of c o ≡ Some x → TypedObject p (classes c) x
     object o x e = record {
       vars = t.vars o x e;
-      term = statements_from (scope p c x.class) [] [] x.term (t.term o x e) (t.sound o x e) (known o x e);
+      term = statements_from (scope p c x.class) [] x.term (t.term o x e) (t.sound o x e) (known o x e);
     }
 
 pub typed_of : (p : ProgramTree) (c : Configuration) → Invariant p c → Typed p c
@@ -78,8 +78,8 @@ typed_of p c w = record {
   no_empty = w.order.no_empty;
   class = w.objects.class;
   vars = λ o x e. (w.objects.typed o x e).vars;
-  term = λ o x e. (statements_to Waits (scope p c x.class) [] x.term (w.objects.typed o x e).term).0;
-  sound = λ o x e. (statements_to Waits (scope p c x.class) [] x.term (w.objects.typed o x e).term).1;
+  term = λ o x e. (statements_to Waits (scope p c x.class) x.term (w.objects.typed o x e).term).0;
+  sound = λ o x e. (statements_to Waits (scope p c x.class) x.term (w.objects.typed o x e).term).1;
   fault = w.objects.fault;
   messages = w.messages;
   waits = w.serving.waits;

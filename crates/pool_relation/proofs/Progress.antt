@@ -17,7 +17,7 @@ use Rattle.pool_syntax.specs.Values.{is_same, is_same_int}
 use Rattle.pool_relation.specs.Action as A
 use Rattle.pool_relation.specs.Action.{Object, Action, action, method_of}
 use Rattle.pool_relation.specs.Configuration.{Configuration, object_of, put_object, messages_of, put_messages}
-use Rattle.pool_relation.specs.Transition.{running, done, given, new_object}
+use Rattle.pool_relation.specs.Transition.{running, done, returned, given, new_object}
 use Rattle.mesh_semantics.specs.Same.{are_same, is_same_item, error_number}
 use Rattle.pool_relation.specs.UnderWay.{Serving, served_for, serves}
 use Rattle.pool_relation.specs.Typed.{class_at, CanTake, GoesWrong, Typed}
@@ -165,6 +165,6 @@ module _ (p : ProgramTree) (none : faults p ≡ []) (written : IsTrue (is_writte
       by (A.Return k v) i f =
           let y = returned_to c o k v x g e i in
           let waiting : running c k ≡ Some y.0 = running_of c k y.0 y.2 (no_fault_waiting k y.1 y.0 y.2 y.3) in
-          inl (L.Return o k v, refl, put_object (put_object c o (done x)) k (given y.0 v), rw (there, waiting, i, y.3, equals k, same_itself v, equals o) refl)
+          inl (L.Return o k v, refl, put_object (put_object c o (returned x)) k (given y.0 v), rw (there, waiting, i, y.3, equals k, same_itself v, equals o) refl)
       by (A.Waits b m) i f = inr tt
       by A.Stuck i f = absurd f

@@ -12,7 +12,7 @@ use Rattle.pool_syntax.specs.declared.tree.Kind.{Kind}
 use Rattle.pool_syntax.specs.declared.tree.Kind.TheVariants as K
 use Rattle.pool_syntax.specs.declared.tree.Named.{Named}
 use Rattle.pool_syntax.specs.declared.tree.Var.{Var}
-use Rattle.pool_syntax.specs.Terms.{Expression, Literal, Me, Variable, Create, Prefix, Infix, Call, Send, NoArgs, Arg, Assign, Write, Do, Async, If, While, Answer, Select, Statements, Done, Then, NoAlts, Alt, MethodTree, ClassTree, ProgramTree}
+use Rattle.pool_syntax.specs.Terms.{Expression, Literal, Me, Variable, Create, Prefix, Infix, Call, Send, NoArgs, Arg, Assign, Write, Do, Async, If, While, Answer, Select, Serve, Statements, Done, Then, NoAlts, Alt, MethodTree, ClassTree, ProgramTree}
 use Rattle.pool_syntax.specs.Typing.{faults}
 use Rattle.pool_relation.specs.Action as A
 use Rattle.pool_relation.specs.Action.{Object, Action, action}
@@ -46,6 +46,7 @@ twice = record {
   outcome_pos = 0;
   body = Done;
   value = Infix O.Add (read 2) (read 2) 0;
+  post = Done;
 }
 
 abbrev server : ClassTree
@@ -170,6 +171,7 @@ picking = record {
     outcome_pos = 0;
     body = Then (Write (num 2)) Done;
     value = Literal V.Nil 0;
+    post = Done;
   } ∷ [];
   body = Then (Async (Me 0) 1 0 NoArgs) (Then (Select
       (Alt (Literal (V.Bool true) 0) None (Then (Write (num 1)) Done)
@@ -243,7 +245,7 @@ unknown_method = refl
 
 -- method m() begin end
 abbrev empty_method : MethodTree
-empty_method = record { name = at 1 3; params = []; locals = []; outcome = None; outcome_pos = 0; body = Done; value = Literal V.Nil 0 }
+empty_method = record { name = at 1 3; params = []; locals = []; outcome = None; outcome_pos = 0; body = Done; value = Literal V.Nil 0; post = Done }
 
 abbrev with_method : Statements → ProgramTree
 with_method body = record { name = at 0 1; vars = []; methods = empty_method ∷ []; body = body } ∷ []
@@ -277,7 +279,7 @@ variable_twice : faults (class_with (int_var 1 3 ∷ int_var 1 5 ∷ []) [] Done
 variable_twice = refl
 
 abbrev takes : List Var → MethodTree
-takes params = record { name = at 1 3; params = params; locals = []; outcome = None; outcome_pos = 0; body = Done; value = Literal V.Nil 0 }
+takes params = record { name = at 1 3; params = params; locals = []; outcome = None; outcome_pos = 0; body = Done; value = Literal V.Nil 0; post = Done }
 
 local_twice : faults (class_with [] (takes (int_var 2 5 ∷ int_var 2 9 ∷ []) ∷ []) Done ∷ []) ≡ (9, 5) ∷ []
 local_twice = refl
@@ -295,7 +297,7 @@ ninth_parameter = refl
 hundred_turns : after spin (repeated 400) ≡ after spin []
 hundred_turns = refl
 
-method_twice : faults (class_with [] (takes [] ∷ record { name = at 1 9; params = []; locals = []; outcome = None; outcome_pos = 0; body = Done; value = Literal V.Nil 0 } ∷ []) Done ∷ []) ≡ (9, 4) ∷ []
+method_twice : faults (class_with [] (takes [] ∷ record { name = at 1 9; params = []; locals = []; outcome = None; outcome_pos = 0; body = Done; value = Literal V.Nil 0; post = Done } ∷ []) Done ∷ []) ≡ (9, 4) ∷ []
 method_twice = refl
 
 -- the same with the two alternatives exchanged: both are possible, and the plain one is the second
@@ -311,6 +313,7 @@ exchanged = record {
     outcome_pos = 0;
     body = Then (Write (num 2)) Done;
     value = Literal V.Nil 0;
+    post = Done;
   } ∷ [];
   body = Then (Async (Me 0) 1 0 NoArgs) (Then (Select
       (Alt (Literal (V.Bool true) 0) (Some (named 1 ∷ [])) (Then (Write (num 3)) Done)
@@ -357,3 +360,85 @@ no_open_guard = refl
 -- a nil guard comes before that none is open
 nil_guard : next (only (Then (Select (Alt (Literal (V.Bool false) 0) None Done (Alt nil None Done NoAlts))) Done)) [] 0 ≡ Some (A.Fault E.NilOperand)
 nil_guard = refl
+
+-- post statements: Server 0, f 1, n 2, Main 3, s 4
+-- class Server method f(n : Int) : Int begin result n + 1 post write n end body answer(f) end
+-- class Main var s : Server body s := new Server; write s ! f(4) end
+abbrev post_method : MethodTree
+post_method = record {
+  name = named 1;
+  params = var 2 K.Int ∷ [];
+  locals = [];
+  outcome = Some K.Int;
+  outcome_pos = 0;
+  body = Done;
+  value = Infix O.Add (read 2) (num 1) 0;
+  post = Then (Write (read 2)) Done;
+}
+
+abbrev posting : ProgramTree
+posting =
+    record { name = named 0; vars = []; methods = post_method ∷ []; body = Then (Answer (named 1 ∷ [])) Done }
+    ∷ record {
+      name = named 3;
+      vars = var 4 (K.Class (name 0)) ∷ [];
+      methods = [];
+      body = Then (Assign 4 0 (Create 0 0)) (Then (Write (Send (read 4) 1 (Arg (num 4) NoArgs) 0)) Done);
+    }
+    ∷ []
+
+posting_typed : faults posting ≡ []
+posting_typed = refl
+
+abbrev posted_back : List Label
+posted_back =
+    L.New 0 1 (name 0) ∷ L.Local 0 ∷ L.Local 0 ∷ L.Answer 1 0 (name 1) (int 4 ∷ []) ∷ L.Local 1 ∷ L.Local 1 ∷ L.Return 1 0 (int 5) ∷ []
+
+-- the caller has its value before the post statements are executed
+caller_goes_on : next posting posted_back 0 ≡ Some (A.Write (I.Value (int 5)))
+caller_goes_on = refl
+
+server_goes_on : next posting posted_back 1
+    ≡ Some (A.Local (Then (Serve 1 None ((2, int 4) ∷ []) Done (Literal (int 5) 0) (Then (Write (Literal (int 4) 0)) Done)) Done) [])
+server_goes_on = refl
+
+-- and is over after them
+server_is_over : next posting (posted_back ++ L.Local 1 ∷ L.Write 1 (I.Value (int 4)) ∷ L.Local 1 ∷ []) 1 ≡ Some A.Finished
+server_is_over = refl
+
+-- an own call executes them before its value is handed over
+abbrev own_post : MethodTree
+own_post = record {
+  name = named 1;
+  params = [];
+  locals = [];
+  outcome = Some K.Int;
+  outcome_pos = 0;
+  body = Done;
+  value = num 1;
+  post = Then (Write (num 2)) Done;
+}
+
+abbrev own_posting : ProgramTree
+own_posting = record { name = named 0; vars = []; methods = own_post ∷ []; body = Then (Write (Call 1 NoArgs 0)) Done } ∷ []
+
+own_posts_first : next own_posting (L.Local 0 ∷ []) 0 ≡ Some (A.Write (I.Value (int 2)))
+own_posts_first = refl
+
+own_value_last : next own_posting (L.Local 0 ∷ L.Write 0 (I.Value (int 2)) ∷ L.Local 0 ∷ []) 0 ≡ Some (A.Write (I.Value (int 1)))
+own_value_last = refl
+
+-- post statements are checked as the statements of their method
+unknown_in_post : faults (class_with [] (record empty_method { post = Then (Write (Variable 7 9)) Done } ∷ []) Done ∷ []) ≡ (9, 6) ∷ []
+unknown_in_post = refl
+
+-- one operand is held before them, which is the value of the method
+abbrev sum_of : ℕ → Expression
+sum_of zero = Literal (V.Int (pos 1)) 5
+sum_of (suc n) = Infix O.Add (num 1) (sum_of n) 0
+
+value_is_held : faults (class_with [] (record empty_method { post = Then (Write (sum_of 63)) Done } ∷ []) Done ∷ []) ≡ (5, 12) ∷ []
+value_is_held = refl
+
+room_for_63 : faults (class_with [] (record empty_method { post = Then (Write (sum_of 62)) Done } ∷ []) Done ∷ []) ≡ []
+room_for_63 = refl

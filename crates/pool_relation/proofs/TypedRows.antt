@@ -20,10 +20,10 @@ nil = Literal V.Nil 0
 
 -- a class with a method of the result Int, and one without result
 abbrev valued : MethodTree
-valued = record { name = named 1; params = []; locals = []; outcome = Some K.Int; outcome_pos = 0; body = Done; value = number 7 }
+valued = record { name = named 1; params = []; locals = []; outcome = Some K.Int; outcome_pos = 0; body = Done; value = number 7; post = Done }
 
 abbrev silent : MethodTree
-silent = record { name = named 2; params = []; locals = []; outcome = None; outcome_pos = 0; body = Done; value = nil }
+silent = record { name = named 2; params = []; locals = []; outcome = None; outcome_pos = 0; body = Done; value = nil; post = Done }
 
 abbrev program : ProgramTree
 program = record { name = named 0; vars = []; methods = valued ∷ silent ∷ []; body = Done } ∷ []
@@ -69,18 +69,18 @@ wait_refused = refl
 wait_accepted : are_sound_statements here (does (behind 63 (Wait 1 1))) ≡ true
 wait_accepted = refl
 
-method_refused : are_sound_statements here (does (behind 64 (Frame 1 [] Done (number 7)))) ≡ false
+method_refused : are_sound_statements here (does (behind 64 (Frame 1 [] Done (number 7) Done))) ≡ false
 method_refused = refl
 
-method_accepted : are_sound_statements here (does (behind 63 (Frame 1 [] Done (number 7)))) ≡ true
+method_accepted : are_sound_statements here (does (behind 63 (Frame 1 [] Done (number 7) Done))) ≡ true
 method_accepted = refl
 
 -- a method under way without result has the value nil
-silent_faults : statements_faults here (does (Frame 2 [] Done (number 7))) ≡ []
+silent_faults : statements_faults here (does (Frame 2 [] Done (number 7) Done)) ≡ []
 silent_faults = refl
 
-silent_refused : are_sound_statements here (does (Frame 2 [] Done (number 7))) ≡ false
+silent_refused : are_sound_statements here (does (Frame 2 [] Done (number 7) Done)) ≡ false
 silent_refused = refl
 
-silent_accepted : are_sound_statements here (does (Frame 2 [] Done nil)) ≡ true
+silent_accepted : are_sound_statements here (does (Frame 2 [] Done nil Done)) ≡ true
 silent_accepted = refl

@@ -101,7 +101,7 @@ read x None None = Stuck
 -- an own call: the method under way takes the place of the redex
 abbrev pub on_call : Object → List Value → Option MethodTree → Action
 on_call x args None = Stuck
-on_call x args (Some m) = becomes x (AsExpression (T.Frame m.name.name.0 (temps_of m args) m.body m.value))
+on_call x args (Some m) = becomes x (AsExpression (T.Frame m.name.name.0 (temps_of m args) m.body m.value m.post))
 
 -- a send to the object of this value
 abbrev pub on_object : Value → (ℕ → Action) → Action
@@ -129,10 +129,10 @@ on_select cs =
     else (if list_any (λ c. not_bool c.guard) cs then Stuck
     else (if list_any (λ c. is_true c.guard) cs then Select cs else Fault NoOpenGuard))
 
--- the end of a served method
-abbrev pub on_finish : Object → Option ℕ → Value → Action
-on_finish x None v = becomes x (AsStatements T.Done)
-on_finish x (Some k) v = Return k v
+-- the end of a served method, of which this work is left
+abbrev pub on_finish : Object → Option ℕ → Value → Statements → Action
+on_finish x None v work = becomes x (AsStatements work)
+on_finish x (Some k) v work = Return k v
 
 -- what the object of the name o does at a redex whose nearest method has the temps t
 abbrev pub redex_action : ProgramTree → ℕ → Object → Store → Reducible → Action
@@ -154,7 +154,7 @@ redex_action p o x t (R.Loop e ss) =
     becomes x (AsStatements (T.Then (T.If e (append ss (T.Then (T.While e ss) T.Done)) T.Done) T.Done))
 redex_action p o x t (R.Accept names) = Answer names
 redex_action p o x t (R.Choose choices) = on_select choices
-redex_action p o x t (R.Finish caller v) = on_finish x caller v
+redex_action p o x t (R.Finish caller v work) = on_finish x caller v work
 
 -- what the object does at what was found
 abbrev pub found_action : ProgramTree → ℕ → Object → Found (Unit {0}) → Action

@@ -1,5 +1,5 @@
 -- The redex of a term: the first part, from left to right, that is no value and has only values inside.
-use Rattle.std.specs.Prelude.{ℕ, List, [], ◌∷◌, ◌==◌, ◌&&◌, Option, Bool, true, false, if◌then◌else◌}
+use Rattle.std.specs.Prelude.{ℕ, List, [], ◌∷◌, ◌==◌, ◌&&◌, Option, Some, None, Bool, true, false, if◌then◌else◌}
 use Rattle.pool_syntax.specs.declared.words.Value.{Value}
 use Rattle.pool_syntax.specs.declared.words.Op.{Op}
 use Rattle.pool_syntax.specs.declared.words.Item.{Item}
@@ -33,8 +33,8 @@ pub data Reducible : Type 0 where
   Loop : (cond : Expression) (body : Statements) → Reducible
   Accept : (names : List Named) → Reducible
   Choose : (choices : List Choice) → Reducible
-  -- a served method that is done, with its value
-  Finish : (caller : Option ℕ) (value : Value) → Reducible
+  -- a served method that is done, with its value, and what is left of it once that is given to a caller
+  Finish : (caller : Option ℕ) (value : Value) (work : Statements) → Reducible
 
 -- the value of a part without redex, or the redex with the temps of the nearest method under way
 pub data Found (A : Type 0) : Type 0 where
@@ -45,6 +45,16 @@ pub data Found (A : Type 0) : Type 0 where
 abbrev pub and_then : {A B : Type 0} → Found A → (A → Found B) → Found B
 and_then (Evaluated a) next = next a
 and_then (At r t) next = At r t
+
+-- post statements come next where the method is for no one
+abbrev pub in_post : Option ℕ → Found (Unit {0}) → Found (Unit {0})
+in_post None found = found
+in_post (Some k) found = Evaluated tt
+
+-- what is left of a served method whose value was given to the caller: its post statements, for no one
+abbrev pub left_served : Option ℕ → ℕ → Store → Statements → Expression → Statements → Statements
+left_served (Some k) m t ss e (Then s qs) = Then (Serve m None t ss e (Then s qs)) Done
+left_served _ m t ss e qs = Done
 
 -- the redex, sought from left to right
 abbrev mutual
@@ -59,8 +69,9 @@ abbrev mutual
   expression_redex t (Call m es p) = and_then (expressions_redex t es) (λ vs. At (Invoke m vs) t)
   expression_redex t (Send e m es p) =
       and_then (expression_redex t e) (λ v. and_then (expressions_redex t es) (λ vs. At (Request v m vs) t))
-  expression_redex t (Frame m u ss e) =
-      and_then (statements_redex u ss) (λ done. and_then (expression_redex u e) (λ v. At (Leave v) u))
+  expression_redex t (Frame m u ss e qs) =
+      and_then (statements_redex u ss)
+      (λ done. and_then (expression_redex u e) (λ v. and_then (in_post None (statements_redex u qs)) (λ over. At (Leave v) u)))
   expression_redex t (Wait b m) = At (Waiting b m) t
 
   pub expressions_redex : Store → Expressions → Found (List Value)
@@ -79,8 +90,10 @@ abbrev mutual
   statement_redex t (While e ss) = At (Loop e ss) t
   statement_redex t (Answer names) = At (Accept names) t
   statement_redex t (Select alts) = and_then (guards_redex t alts) (λ choices. At (Choose choices) t)
-  statement_redex t (Serve m k u ss e) =
-      and_then (statements_redex u ss) (λ done. and_then (expression_redex u e) (λ v. At (Finish k v) u))
+  statement_redex t (Serve m k u ss e qs) =
+      and_then (statements_redex u ss)
+      (λ done. and_then (expression_redex u e)
+      (λ v. and_then (in_post k (statements_redex u qs)) (λ over. At (Finish k v (left_served k m u ss e qs)) u)))
 
   -- of a list the first statement alone
   pub statements_redex : Store → Statements → Found (Unit {0})
@@ -112,6 +125,11 @@ guards_are_values (Alt e names ss alts) = is_value e && guards_are_values alts
 abbrev pub is_done : Statements → Bool
 is_done Done = true
 is_done (Then s ss) = false
+
+-- whether no post statement comes next
+abbrev pub is_over : Option ℕ → Statements → Bool
+is_over None qs = is_done qs
+is_over (Some k) qs = true
 
 -- what takes the place of a redex
 pub data Part : Type 0 where
@@ -155,9 +173,12 @@ abbrev mutual
   fill_expression (Send e m es p) x =
       if is_value e then (if are_values es then as_expression x (Send e m es p) else Send e m (fill_expressions es x) p)
       else Send (fill_expression e x) m es p
-  fill_expression (Frame m t ss e) x =
-      if is_done ss then (if is_value e then as_expression x (Frame m t ss e) else Frame m t ss (fill_expression e x))
-      else Frame m (assigned ss t) (fill_statements ss x) e
+  fill_expression (Frame m t ss e qs) x =
+      if is_done ss
+      then (if is_value e
+      then (if is_over None qs then as_expression x (Frame m t ss e qs) else Frame m (assigned qs t) ss e (fill_statements qs x))
+      else Frame m t ss (fill_expression e x) qs)
+      else Frame m (assigned ss t) (fill_statements ss x) e qs
   fill_expression (Wait b m) x = as_expression x (Wait b m)
 
   pub fill_expressions : Expressions → Part → Expressions
@@ -180,9 +201,12 @@ abbrev mutual
   fill_statement (Answer names) x = as_statements x (Answer names)
   fill_statement (Select alts) x =
       if guards_are_values alts then as_statements x (Select alts) else Then (Select (fill_guards alts x)) Done
-  fill_statement (Serve m k t ss e) x =
-      if is_done ss then (if is_value e then as_statements x (Serve m k t ss e) else Then (Serve m k t ss (fill_expression e x)) Done)
-      else Then (Serve m k (assigned ss t) (fill_statements ss x) e) Done
+  fill_statement (Serve m k t ss e qs) x =
+      if is_done ss
+      then (if is_value e
+      then (if is_over k qs then as_statements x (Serve m k t ss e qs) else Then (Serve m k (assigned qs t) ss e (fill_statements qs x)) Done)
+      else Then (Serve m k t ss (fill_expression e x) qs) Done)
+      else Then (Serve m k (assigned ss t) (fill_statements ss x) e qs) Done
 
   pub fill_statements : Statements → Part → Statements
   fill_statements Done x = Done

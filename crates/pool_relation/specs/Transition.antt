@@ -11,7 +11,7 @@ use Rattle.pool_syntax.specs.declared.tree.Named.{Named}
 use Rattle.pool_syntax.specs.Terms as T
 use Rattle.pool_syntax.specs.Terms.{Expression, Statements, MethodTree, ClassTree, ProgramTree, append}
 use Rattle.pool_syntax.specs.Values.{is_same, is_true}
-use Rattle.pool_relation.specs.Reducible.{Choice, Part, AsExpression, AsStatements, fill_statements}
+use Rattle.pool_relation.specs.Reducible.{Choice, Found, At, Finish, Part, AsExpression, AsStatements, statements_redex, fill_statements}
 use Rattle.pool_relation.specs.Action as A
 use Rattle.pool_syntax.specs.Classes.{class_of}
 use Rattle.pool_relation.specs.Action.{Object, Action, method_of, nil_store, temps_of, literal, action}
@@ -95,10 +95,19 @@ done x = refilled x (AsStatements T.Done)
 abbrev pub given : Object → Value → Object
 given x v = refilled x (AsExpression (literal v))
 
+-- what is left of the served method that gives its value back
+abbrev pub work_left : Found (Unit {0}) → Statements
+work_left (At (Finish k v work) t) = work
+work_left _ = T.Done
+
+-- the object after it gave a value back: its post statements are still to be executed
+abbrev pub returned : Object → Object
+returned x = refilled x (AsStatements (work_left (statements_redex [] x.term)))
+
 -- the object as it begins to serve the method for the caller, or for no one
 abbrev pub serving : Object → MethodTree → Option ℕ → List Value → Statements → Object
 serving x m caller args work =
-    refilled x (AsStatements (T.Then (T.Serve m.name.name.0 caller (temps_of m args) m.body m.value) work))
+    refilled x (AsStatements (T.Then (T.Serve m.name.name.0 caller (temps_of m args) m.body m.value m.post) work))
 
 -- an object as it is made
 abbrev pub new_object : ClassTree → Object
@@ -169,7 +178,7 @@ transition p c (L.Return b o v) = do
   y ← running c b
   x ← running c o
   require (returns (action p b y) o v && waits_on (action p o x) b)
-  Some (put_object (put_object c b (done y)) o (given x v))
+  Some (put_object (put_object c b (returned y)) o (given x v))
 transition p c (L.Send o b m args) = do
   x ← running c o
   require (posts (action p o x) b m.0 args && is_some (object_of c b))

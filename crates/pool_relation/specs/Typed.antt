@@ -1,5 +1,5 @@
 -- Typed configurations, and what it is for an object to go wrong.
-use Rattle.std.specs.Prelude.{◌≡◌, ℕ, ◌+◌, ◌==◌, List, [], ◌∷◌, length, Option, Some, None, is_some, nat_le, Bool, true, false, not, ◌&&◌, ◌||◌, if◌then◌else◌, All, IsTrue}
+use Rattle.std.specs.Prelude.{◌≡◌, ℕ, ◌+◌, ◌==◌, List, [], ◌∷◌, length, Option, Some, None, is_some, is_none, nat_le, Bool, true, false, not, ◌&&◌, ◌||◌, if◌then◌else◌, All, IsTrue}
 use Rattle.std.specs.FinMap.{is_sorted}
 use Rattle.std.specs.Ordering.{nat_cmp}
 use Rattle.pool_syntax.specs.declared.words.Value.{Value}
@@ -15,7 +15,7 @@ use Rattle.mesh_semantics.specs.Message.{Message}
 use Rattle.pool_relation.specs.Configuration.{Configuration, object_of, messages_of}
 use Rattle.pool_relation.specs.UnderWay.{serves}
 use Rattle.pool_relation.specs.Written.{is_prefix, is_source, are_source, are_source_statements, are_source_alternatives, is_value_for}
-use Rattle.pool_syntax.specs.Typing.{Scope, kind_sort, value_sort, is_dangling, is_same_sort, is_open, vars_of_class, statements_faults, own_method, temps_of_method}
+use Rattle.pool_syntax.specs.Typing.{Scope, kind_sort, value_sort, is_dangling, is_same_sort, is_open, vars_of_class, statements_faults, own_method, temps_of_method, inside, behind_value}
 
 -- the class of an object
 abbrev pub class_at : Option Object → Option ℕ
@@ -24,7 +24,7 @@ class_at (Some x) = Some x.class
 
 -- where the term of an object of this class stands
 abbrev pub scope : ProgramTree → Configuration → ℕ → Scope
-scope p c k = record { program = p; class = k; own = class_of p k; temps = []; object_class = λ n. class_at (object_of c n); under_way = true }
+scope p c k = record { program = p; class = k; own = class_of p k; temps = []; object_class = λ n. class_at (object_of c n); under_way = true; held = 0 }
 
 -- nil fits every kind, and the name of an object its class
 abbrev pub fits : Scope → Value → Var → Bool
@@ -58,9 +58,11 @@ abbrev mutual
   is_sound g h (Infix op l r p) = not (is_prefix op) && (if is_value l then is_sound g (h + 1) r else is_sound g h l && is_source r)
   is_sound g h (Call m es p) = are_sound g h es
   is_sound g h (Send e m es p) = if is_value e then are_sound g (h + 1) es else is_sound g h e && are_source es
-  is_sound g h (Frame m t ss e) =
+  is_sound g h (Frame m t ss e qs) =
       has_room h && is_store_of g (temps_of_method (own_method g m)) t && is_value_of (own_method g m) e
-      && (if is_done ss then is_sound g 0 e else are_sound_statements g ss && is_source e)
+      && (if is_done ss
+      then (if is_value e then are_sound_statements (behind_value (inside g m)) qs else is_sound (inside g m) 0 e && are_source_statements qs)
+      else are_sound_statements (inside g m) ss && is_source e && are_source_statements qs)
   is_sound g h (Wait b m) = has_room h
 
   pub are_sound : Scope → ℕ → Expressions → Bool
@@ -68,18 +70,20 @@ abbrev mutual
   are_sound g h (Arg e es) = if is_value e then are_sound g (h + 1) es else is_sound g h e && are_source es
 
   pub is_sound_statement : Scope → Statement → Bool
-  is_sound_statement g (Assign x p e) = is_sound g 0 e
-  is_sound_statement g (Write e) = is_sound g 0 e
+  is_sound_statement g (Assign x p e) = is_sound g g.held e
+  is_sound_statement g (Write e) = is_sound g g.held e
   is_sound_statement g (WriteText s) = true
-  is_sound_statement g (Do e) = is_sound g 0 e
-  is_sound_statement g (Async e m p es) = if is_value e then are_sound g 1 es else is_sound g 0 e && are_source es
-  is_sound_statement g (If e these those) = is_sound g 0 e && are_source_statements these && are_source_statements those
+  is_sound_statement g (Do e) = is_sound g g.held e
+  is_sound_statement g (Async e m p es) = if is_value e then are_sound g (g.held + 1) es else is_sound g g.held e && are_source es
+  is_sound_statement g (If e these those) = is_sound g g.held e && are_source_statements these && are_source_statements those
   is_sound_statement g (While e ss) = is_source e && are_source_statements ss
   is_sound_statement g (Answer names) = true
-  is_sound_statement g (Select alts) = are_sound_alternatives g 0 alts
-  is_sound_statement g (Serve m k t ss e) =
+  is_sound_statement g (Select alts) = are_sound_alternatives g g.held alts
+  is_sound_statement g (Serve m k t ss e qs) =
       is_store_of g (temps_of_method (own_method g m)) t && is_value_of (own_method g m) e
-      && (if is_done ss then is_sound g 0 e else are_sound_statements g ss && is_source e)
+      && (if is_done ss
+      then (if is_none k && is_value e then are_sound_statements (behind_value (inside g m)) qs else is_sound (inside g m) 0 e && are_source_statements qs)
+      else are_sound_statements (inside g m) ss && is_source e && are_source_statements qs)
 
   pub are_sound_statements : Scope → Statements → Bool
   are_sound_statements g Done = true

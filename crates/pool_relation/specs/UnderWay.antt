@@ -19,7 +19,7 @@ abbrev mutual
   in_expression (Infix op l r p) = in_expression l ++ in_expression r
   in_expression (Call m es p) = in_expressions es
   in_expression (Send e m es p) = in_expression e ++ in_expressions es
-  in_expression (Frame m t ss e) = Own m ∷ (in_statements ss ++ in_expression e)
+  in_expression (Frame m t ss e qs) = Own m ∷ (in_statements ss ++ (in_expression e ++ in_statements qs))
   in_expression (Wait b m) = []
 
   pub in_expressions : Expressions → List Activity
@@ -36,7 +36,7 @@ abbrev mutual
   in_statement (While e ss) = []
   in_statement (Answer names) = []
   in_statement (Select alts) = in_guards alts
-  in_statement (Serve m k t ss e) = Serving m k ∷ (in_statements ss ++ in_expression e)
+  in_statement (Serve m k t ss e qs) = Serving m k ∷ (in_statements ss ++ (in_expression e ++ in_statements qs))
 
   pub in_statements : Statements → List Activity
   in_statements Done = []

@@ -16,7 +16,7 @@ abbrev mutual
   is_source (Infix op l r p) = not (is_prefix op) && is_source l && is_source r
   is_source (Call m es p) = are_source es
   is_source (Send e m es p) = is_source e && are_source es
-  is_source (Frame m t ss e) = false
+  is_source (Frame m t ss e qs) = false
   is_source (Wait b m) = false
 
   pub are_source : Expressions → Bool
@@ -33,7 +33,7 @@ abbrev mutual
   is_source_statement (While e ss) = is_source e && are_source_statements ss
   is_source_statement (Answer names) = true
   is_source_statement (Select alts) = are_source_alternatives alts
-  is_source_statement (Serve m k t ss e) = false
+  is_source_statement (Serve m k t ss e qs) = false
 
   pub are_source_statements : Statements → Bool
   are_source_statements Done = true
@@ -56,7 +56,8 @@ is_value_for (Some k) e = true
 -- methods as they are written
 abbrev pub are_written : List MethodTree → Bool
 are_written [] = true
-are_written (m ∷ ms) = are_source_statements m.body && is_source m.value && is_value_for m.outcome m.value && are_written ms
+are_written (m ∷ ms) =
+    are_source_statements m.body && is_source m.value && is_value_for m.outcome m.value && are_source_statements m.post && are_written ms
 
 -- a program as it is written
 abbrev pub is_written : ProgramTree → Bool

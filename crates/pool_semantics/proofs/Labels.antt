@@ -55,6 +55,7 @@ running_doing p m ms o t a d = let k = things_lookup o m.entries in rw (k, d.fou
 
 -- local transitions
 changed_keeps : (x : Object) (vs : _) (h : Change) → is_local h ≡ true → record x { term = (changed x vs h).term; vars = (changed x vs h).vars } ≡ changed x vs h
+changed_keeps x vs H.Returned e = absurd (grind arith)
 changed_keeps x vs (H.Wait b m) e = absurd (grind arith)
 changed_keeps x vs (H.Serve m k args after) e = absurd (grind arith)
 changed_keeps x vs (H.Fault f) e = absurd (grind arith)
@@ -244,7 +245,7 @@ bind_none (Some x) f h = h x
 
 pub return_is : (p : ProgramTree) (m : BTreeMap ℕ Thing) (ms : List (Pair × List Message)) (b o : ℕ) (v : Value) (y x : Thing) (a1 a2 : Act) → Doing p m b y a1 → Doing p m o x a2
     → transition p (with_objects m ms) (L.Return b o v)
-    ≡ (require (returns_act a1 o v && waits_act a2 b) >> Some (put_object (put_object (with_objects m ms) b (changed (thing_object y) (now_args y.work.next) H.End)) o (changed (thing_object x) (now_args x.work.next) (H.Becomes v))))
+    ≡ (require (returns_act a1 o v && waits_act a2 b) >> Some (put_object (put_object (with_objects m ms) b (changed (thing_object y) (now_args y.work.next) H.Returned)) o (changed (thing_object x) (now_args x.work.next) (H.Becomes v))))
 return_is p m ms b o v y x a1 a2 d g =
     rw (running_doing p m ms b y a1 d, running_doing p m ms o x a2 g, d.gives, g.gives, returns_acted (thing_object y) (now_args y.work.next) (now_names y.work.next) (now_choices y.work.next) a1 o v, waits_acted (thing_object x) (now_args x.work.next) (now_names x.work.next) (now_choices x.work.next) a2 b) refl
 
@@ -264,7 +265,7 @@ pub return_unawaited : (p : ProgramTree) (m : BTreeMap ℕ Thing) (ms : List (Pa
 return_unawaited p m ms b o v y x a1 a2 d g h = let k = both_false (returns_act a1 o v) (waits_act a2 b) h in return_is p m ms b o v y x a1 a2 d g ∙ rw k refl
 
 pub return_made : (p : ProgramTree) (m : BTreeMap ℕ Thing) (ms : List (Pair × List Message)) (b o : ℕ) (v : Value) (y x : Thing) (a1 a2 : Act) → Doing p m b y a1 → Doing p m o x a2 → returns_act a1 o v ≡ true → waits_act a2 b ≡ true
-    → transition p (with_objects m ms) (L.Return b o v) ≡ Some (put_object (put_object (with_objects m ms) b (changed (thing_object y) (now_args y.work.next) H.End)) o (changed (thing_object x) (now_args x.work.next) (H.Becomes v)))
+    → transition p (with_objects m ms) (L.Return b o v) ≡ Some (put_object (put_object (with_objects m ms) b (changed (thing_object y) (now_args y.work.next) H.Returned)) o (changed (thing_object x) (now_args x.work.next) (H.Becomes v)))
 return_made p m ms b o v y x a1 a2 d g h k = return_is p m ms b o v y x a1 a2 d g ∙ rw (h, k) refl
 
 -- who returns does not wait

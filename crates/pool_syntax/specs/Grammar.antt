@@ -3,7 +3,7 @@
 use Rattle.std.specs.Prelude.{ℕ, List, [], ◌∷◌, ◌++◌, map, true, false, Option, Some, None}
 use Rattle.pool_syntax.specs.declared.token.Tok.{Tok}
 use Rattle.pool_syntax.specs.declared.token.Tok.TheVariants.{Word, Sign}
-use Rattle.pool_syntax.specs.declared.token.Keyword.TheVariants.{Class, Var, Method, Local, Begin, Result, End, Body, If, Then, Else, Fi, While, Do, Od, Answer, Select, When, Write, New, SelfWord, Nil, True, False, Not, And, Or, Int, Bool as BoolWord}
+use Rattle.pool_syntax.specs.declared.token.Keyword.TheVariants.{Class, Var, Method, Local, Begin, Result, Post, End, Body, If, Then, Else, Fi, While, Do, Od, Answer, Select, When, Write, New, SelfWord, Nil, True, False, Not, And, Or, Int, Bool as BoolWord}
 use Rattle.pool_syntax.specs.declared.token.Sign.TheVariants.{Becomes, Colon, Semicolon, Comma, LeftParen, RightParen, Bang, BangBang, Equal, Differs, Less, LessEq, More, MoreEq, Plus, Minus, Star, Slash, Percent}
 use Rattle.pool_syntax.specs.declared.words.Op.{Op}
 use Rattle.pool_syntax.specs.declared.words.Op.TheVariants as op
@@ -15,7 +15,7 @@ use Rattle.pool_syntax.specs.declared.tree.Var as variable
 use Rattle.pool_syntax.specs.Terms as t
 use Rattle.pool_syntax.specs.Terms.{Expression, Expressions, NoArgs, Arg, Statement, Statements, Done, Alternatives, NoAlts, Alt, MethodTree, ClassTree}
 use Rattle.pool_syntax.specs.Rules as r
-use Rattle.pool_syntax.specs.Rules.{Group, disjunction, conjunction, addition, multiplication, Level, group, comparison, factor, postfix, primary, Phrase, program, more_classes, class, more_vars, names, more_names, more_methods, method, params, more_params, param, more_locals, stmts, more_stmts, stmt, invoke, alt, more_alts, list, expression, more_operands, more_sends, args, more_args, OneAlternative, Tree, Part, word, sign, name, integer, string, end, operator, phrase, Rule, tree, ◌>>=◌, ◌>>◌, ◌or◌}
+use Rattle.pool_syntax.specs.Rules.{Group, disjunction, conjunction, addition, multiplication, Level, group, comparison, factor, postfix, primary, Phrase, program, more_classes, class, more_vars, names, more_names, more_methods, method, post, params, more_params, param, more_locals, stmts, more_stmts, stmt, invoke, alt, more_alts, list, expression, more_operands, more_sends, args, more_args, OneAlternative, Tree, Part, word, sign, name, integer, string, end, operator, phrase, Rule, tree, ◌>>=◌, ◌>>◌, ◌or◌}
 
 -- one more at the end
 
@@ -89,14 +89,18 @@ rule r.kind =
     (word Int >>= λ p. tree (kind.Int, p))
     or (word BoolWord >>= λ p. tree (kind.Bool, p))
     or (name >>= λ n. tree (kind.Class n.name, n.pos))
--- method ::= "method" NAME "(" [ param { "," param } ] ")" locals "begin" stmts "end"
---          | "method" NAME "(" [ param { "," param } ] ")" ":" kind locals "begin" stmts "result" expr "end"
+-- method ::= "method" NAME "(" [ param { "," param } ] ")" locals "begin" stmts [ "post" stmts ] "end"
+--          | "method" NAME "(" [ param { "," param } ] ")" ":" kind locals "begin" stmts "result" expr [ "post" stmts ] "end"
 rule method =
-    (word Method >> name >>= λ n. phrase params >>= λ ps. phrase (more_locals []) >>= λ ls. word Begin >> phrase stmts >>= λ ss. word End >>
-    tree (record { name = n; params = ps; locals = ls; outcome = None; outcome_pos = 0; body = ss; value = t.Literal value.Nil 0 }))
+    (word Method >> name >>= λ n. phrase params >>= λ ps. phrase (more_locals []) >>= λ ls. word Begin >> phrase stmts >>= λ ss. phrase post >>= λ qs. word End >>
+    tree (record { name = n; params = ps; locals = ls; outcome = None; outcome_pos = 0; body = ss; value = t.Literal value.Nil 0; post = qs }))
     or (word Method >> name >>= λ n. phrase params >>= λ ps. sign Colon >> phrase r.kind >>= λ k. phrase (more_locals []) >>= λ ls. word Begin >> phrase stmts >>= λ ss.
-    word Result >> phrase expr >>= λ e. word End >>
-    tree (record { name = n; params = ps; locals = ls; outcome = Some k.0; outcome_pos = k.1; body = ss; value = e }))
+    word Result >> phrase expr >>= λ e. phrase post >>= λ qs. word End >>
+    tree (record { name = n; params = ps; locals = ls; outcome = Some k.0; outcome_pos = k.1; body = ss; value = e; post = qs }))
+-- post ::= [ "post" stmts ]
+rule post =
+    (word Post >> phrase stmts >>= λ ss. tree ss)
+    or tree Done
 rule params = sign LeftParen >>
     ((phrase param >>= λ p. phrase (more_params (p ∷ [])) >>= λ ps. sign RightParen >> tree ps)
     or (sign RightParen >> tree []))

@@ -35,6 +35,7 @@ pub data Phrase : Type 0 where
   kind : Phrase
   more_methods : List MethodTree → Phrase
   method : Phrase
+  post : Phrase
   params : Phrase
   more_params : List Var → Phrase
   param : Phrase
@@ -67,6 +68,7 @@ Tree (more_names before) = List Named
 Tree kind = Kind × ℕ
 Tree (more_methods before) = List MethodTree
 Tree method = MethodTree
+Tree post = Statements
 Tree params = List Var
 Tree (more_params before) = List Var
 Tree param = Var

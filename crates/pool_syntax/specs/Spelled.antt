@@ -79,7 +79,7 @@ abbrev mutual
   is_spelled_expression names (Call m es p) = is_name names m && are_spelled_expressions names es
   is_spelled_expression names (Send e m es p) =
       is_spelled_expression names e && is_name names m && are_spelled_expressions names es
-  is_spelled_expression names (Frame m t ss e) = false
+  is_spelled_expression names (Frame m t ss e qs) = false
   is_spelled_expression names (Wait b m) = false
 
   pub are_spelled_expressions : List Text → Expressions → Bool
@@ -98,7 +98,7 @@ abbrev mutual
   is_spelled_statement names (While e ss) = is_spelled_expression names e && are_spelled_statements names ss
   is_spelled_statement names (Answer ns) = are_names names ns
   is_spelled_statement names (Select alts) = are_spelled_alternatives names alts
-  is_spelled_statement names (Serve m k t ss e) = false
+  is_spelled_statement names (Serve m k t ss e qs) = false
 
   pub are_spelled_statements : List Text → Statements → Bool
   are_spelled_statements names Done = true
@@ -118,7 +118,8 @@ abbrev pub are_spelled_methods : List Text → List MethodTree → Bool
 are_spelled_methods names [] = true
 are_spelled_methods names (m ∷ ms) =
     is_name names m.name.name.0 && are_variables names m.params && are_variables names m.locals && is_outcome names m.outcome
-    && are_spelled_statements names m.body && is_spelled_expression names m.value && are_spelled_methods names ms
+    && are_spelled_statements names m.body && is_spelled_expression names m.value && are_spelled_statements names m.post
+    && are_spelled_methods names ms
 
 -- each name is a name, each string the inside of a string, and each integer from 0 and below 2 ^ 63; every number is a place of the table
 abbrev pub is_spelled : List Text → ProgramTree → Bool

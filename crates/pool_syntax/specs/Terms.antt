@@ -22,8 +22,8 @@ mutual
     Infix : (op : Op) (left right : Expression) (pos : ℕ) → Expression
     Call : (method : ℕ) (args : Expressions) (pos : ℕ) → Expression
     Send : (to : Expression) (method : ℕ) (args : Expressions) (pos : ℕ) → Expression
-    -- an own method under way, with its parameters and locals, what it has still to do, and its value
-    Frame : (method : ℕ) (temps : Store) (rest : Statements) (value : Expression) → Expression
+    -- an own method under way, with its parameters and locals, what it has still to do, its value, and its post statements
+    Frame : (method : ℕ) (temps : Store) (rest : Statements) (value : Expression) (post : Statements) → Expression
     -- the call of the method is being served by the receiver
     Wait : (receiver method : ℕ) → Expression
 
@@ -42,7 +42,7 @@ mutual
     Answer : (names : List Named) → Statement
     Select : (alts : Alternatives) → Statement
     -- a method under way for the caller, or for no one
-    Serve : (method : ℕ) (caller : Option ℕ) (temps : Store) (rest : Statements) (value : Expression) → Statement
+    Serve : (method : ℕ) (caller : Option ℕ) (temps : Store) (rest : Statements) (value : Expression) (post : Statements) → Statement
 
   pub data Statements : Type 0 where
     Done : Statements
@@ -61,6 +61,8 @@ pub record MethodTree : Type 0 where
   pub outcome_pos : ℕ
   pub body : Statements
   pub value : Expression
+  -- executed after the value was given to a caller
+  pub post : Statements
 
 -- a class
 pub record ClassTree : Type 0 where

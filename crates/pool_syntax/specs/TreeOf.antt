@@ -74,6 +74,7 @@ method_tree m = record {
   outcome_pos = m.result_pos;
   body = statements_of m.body;
   value = expression_of m.value;
+  post = statements_of m.post;
 }
 
 -- the tree of a class

@@ -39,6 +39,8 @@ pub record Scope : Type 0 where
   pub object_class : ℕ → Option ℕ
   -- whether it is a term under way, where a destination may have become nil
   pub under_way : Bool
+  -- how many operands are held before an outermost expression: one in post statements, where the method's value is held
+  pub held : ℕ
 
 -- the sort of a kind
 abbrev pub kind_sort : ProgramTree → Kind → Sort
@@ -142,7 +144,7 @@ sort_of g (Prefix op e p) = op_sort op
 sort_of g (Infix op l r p) = op_sort op
 sort_of g (Call m es p) = own_sort g m
 sort_of g (Send e m es p) = send_sort g.program (sort_of g e) m
-sort_of g (Frame m t ss e) = own_sort g m
+sort_of g (Frame m t ss e qs) = own_sort g m
 sort_of g (Wait b m) = send_sort g.program (object_sort (g.object_class b)) m
 
 -- the token of an expression
@@ -155,7 +157,7 @@ position (Prefix op e p) = p
 position (Infix op l r p) = p
 position (Call m es p) = p
 position (Send e m es p) = p
-position (Frame m t ss e) = 0
+position (Frame m t ss e qs) = 0
 position (Wait b m) = 0
 
 -- whether two sorts are equal
@@ -265,7 +267,11 @@ temps_of_method (Some m) = m.params ++ m.locals
 
 -- inside a method of the class
 abbrev pub inside : Scope → ℕ → Scope
-inside g m = record g { temps = temps_of_method (own_method g m) }
+inside g m = record g { temps = temps_of_method (own_method g m); held = 0 }
+
+-- where the value of the method is held: in its post statements
+abbrev pub behind_value : Scope → Scope
+behind_value g = record g { held = 1 }
 
 -- what the value of a method under way needs: nothing where it has no result; the class has the method
 abbrev pub value_needs : Scope → Option MethodTree → Expression → List Fault
@@ -303,8 +309,9 @@ abbrev mutual
   expression_faults g h (Send e m es p) =
       limit h p ++ (expression_faults g h e ++ (destination_faults g (sort_of g e) m (size es) p (position e)
       ++ arguments_faults g (h + 1) (params_of (sent_method g (sort_of g e) m)) es))
-  expression_faults g h (Frame m t ss e) =
-      statements_faults (inside g m) ss ++ (expression_faults (inside g m) 0 e ++ value_needs (inside g m) (own_method g m) e)
+  expression_faults g h (Frame m t ss e qs) =
+      statements_faults (inside g m) ss ++ (expression_faults (inside g m) 0 e ++ (value_needs (inside g m) (own_method g m) e
+      ++ statements_faults (behind_value (inside g m)) qs))
   expression_faults g h (Wait b m) = []
 
   pub arguments_faults : Scope → ℕ → List Var → Expressions → List Fault
@@ -315,20 +322,21 @@ abbrev mutual
 
   pub statement_faults : Scope → Statement → List Fault
   statement_faults g (Assign x p e) =
-      fault_if (is_broken_name g x) p N.unknown_variable ++ (expression_faults g 0 e ++ needs g (name_sort g x) e)
-  statement_faults g (Write e) = expression_faults g 0 e ++ needs_any g e
+      fault_if (is_broken_name g x) p N.unknown_variable ++ (expression_faults g g.held e ++ needs g (name_sort g x) e)
+  statement_faults g (Write e) = expression_faults g g.held e ++ needs_any g e
   statement_faults g (WriteText s) = []
-  statement_faults g (Do e) = expression_faults g 0 e
+  statement_faults g (Do e) = expression_faults g g.held e
   statement_faults g (Async e m p es) =
-      expression_faults g 0 e ++ (destination_faults g (sort_of g e) m (size es) p (position e)
-      ++ arguments_faults g 1 (params_of (sent_method g (sort_of g e) m)) es)
+      expression_faults g g.held e ++ (destination_faults g (sort_of g e) m (size es) p (position e)
+      ++ arguments_faults g (g.held + 1) (params_of (sent_method g (sort_of g e) m)) es)
   statement_faults g (If e these those) =
-      expression_faults g 0 e ++ (needs g BoolSort e ++ (statements_faults g these ++ statements_faults g those))
-  statement_faults g (While e ss) = expression_faults g 0 e ++ (needs g BoolSort e ++ statements_faults g ss)
+      expression_faults g g.held e ++ (needs g BoolSort e ++ (statements_faults g these ++ statements_faults g those))
+  statement_faults g (While e ss) = expression_faults g g.held e ++ (needs g BoolSort e ++ statements_faults g ss)
   statement_faults g (Answer names) = names_faults g [] names
-  statement_faults g (Select alts) = alternatives_faults g 0 alts
-  statement_faults g (Serve m k t ss e) =
-      statements_faults (inside g m) ss ++ (expression_faults (inside g m) 0 e ++ value_needs (inside g m) (own_method g m) e)
+  statement_faults g (Select alts) = alternatives_faults g g.held alts
+  statement_faults g (Serve m k t ss e qs) =
+      statements_faults (inside g m) ss ++ (expression_faults (inside g m) 0 e ++ (value_needs (inside g m) (own_method g m) e
+      ++ statements_faults (behind_value (inside g m)) qs))
 
   pub statements_faults : Scope → Statements → List Fault
   statements_faults g Done = []
@@ -367,15 +375,17 @@ abbrev pub outcome_faults : ProgramTree → Option Kind → ℕ → List Fault
 outcome_faults p None at = []
 outcome_faults p (Some k) at = kind_faults p k at
 
+-- where the statements of a method of the class stand
+abbrev pub method_scope : Scope → MethodTree → Scope
+method_scope g m = record g { temps = m.params ++ m.locals }
+
 -- the faults of a method
 abbrev pub method_tree_faults : Scope → MethodTree → List Fault
 method_tree_faults g m =
     vars_faults g.program N.local_twice [] (m.params ++ m.locals) ++ (too_many L.most_params m.params ++ (too_many L.most_locals (m.params ++ m.locals)
     ++ (outcome_faults g.program m.outcome m.outcome_pos
-    ++ (statements_faults h m.body ++ (expression_faults h 0 m.value ++ value_needs h (Some m) m.value)))))
-  where
-    h : Scope
-    h = record g { temps = m.params ++ m.locals }
+    ++ (statements_faults (method_scope g m) m.body ++ (expression_faults (method_scope g m) 0 m.value
+    ++ (value_needs (method_scope g m) (Some m) m.value ++ statements_faults (behind_value (method_scope g m)) m.post))))))
 
 -- the faults of methods, after these names
 abbrev pub methods_faults : Scope → List ℕ → List MethodTree → List Fault
@@ -386,7 +396,7 @@ methods_faults g before (m ∷ ms) =
 
 -- where the body of a class stands
 abbrev pub class_scope : ProgramTree → ClassTree → Scope
-class_scope p k = record { program = p; class = k.name.name.0; own = Some k; temps = []; object_class = λ n. None; under_way = false }
+class_scope p k = record { program = p; class = k.name.name.0; own = Some k; temps = []; object_class = λ n. None; under_way = false; held = 0 }
 
 -- the faults of classes, after these names
 abbrev pub classes_faults : ProgramTree → List ℕ → List ClassTree → List Fault

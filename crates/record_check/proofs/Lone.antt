@@ -67,7 +67,7 @@ same_action p o q x = by (statements_redex [] x.term) refl
     at (R.Loop e ss) u = inl refl
     at (R.Accept names) u = inl refl
     at (R.Choose cs) u = inl refl
-    at (R.Finish k v) u = inl refl
+    at (R.Finish k v work) u = inl refl
 
     by : (f : Found (Unit {0})) → statements_redex [] x.term ≡ f → (action p o x ≡ action p q x) ⊎ (local (action p o x) ≡ true)
     by (Evaluated done) e = inl (rw e refl)

@@ -1244,3 +1244,179 @@ fault 0 NoOpenGuard -> fault NilOperand
 fault 0 NilOperand
 0 ? faulted
 "##;
+
+/// Post sections, behind a value for a caller, in an own call and after an asynchronous message.
+pub const POSTS: &str = r##"# A caller has its value before the post statements are executed.
+class Server method f(n : Int) : Int begin result n + 1 post write n end body answer(f) end
+class Main var s : Server body s := new Server; write s ! f(4) end
+root 0
+new 0 1 Server
+local 0 2
+0 ? send 1 f 4
+answer 1 0 f 4
+write 1 4 -> local
+local 1 2
+1 ? return 5
+local 1 -> return 5
+write 1 4 -> return 5
+0 ? waits 1
+return 1 0 5
+0 ? write 5
+1 ? local
+return 1 0 5 -> local
+write 0 5
+0 ? finished
+local 1
+1 ? write 4
+write 1 4
+1 ? local
+return 1 0 5 -> local
+local 1
+1 ? finished
+local 1 -> finished
+
+# In an own call the post statements come before the value is handed over, and the value is kept.
+class Main var x : Int method twice(n : Int) : Int begin result n * 2 post write n; n := 7; x := n; write n end
+body write twice(4) + 1; write x end
+root 0
+local 0 3
+0 ? local
+write 0 9 -> local
+local 0
+0 ? write 4
+write 0 8 -> write 4
+write 0 9 -> write 4
+write 0 4
+local 0 3
+0 ? local
+write 0 9 -> local
+local 0
+0 ? write 7
+write 0 7
+0 ? local
+write 0 9 -> local
+local 0
+0 ? local
+local 0
+0 ? write 9
+write 0 9
+local 0
+0 ? write 7
+write 0 7
+0 ? finished
+
+# Own calls in a value and among post statements: each has its own section.
+class Main method inner(n : Int) : Int begin result n post write n end
+method outer() : Int begin result inner(1) + 1 post write inner(5) end
+body write outer() * 10 end
+root 0
+local 0 4
+0 ? write 1
+write 0 1
+local 0 2
+0 ? local
+local 0 3
+0 ? write 5
+write 0 5
+0 ? local
+local 0
+0 ? write 5
+write 0 5
+0 ? local
+local 0 2
+0 ? write 20
+write 0 20
+0 ? finished
+
+# After an asynchronous message the value is dropped, and the post statements are executed then.
+class Server method f(n : Int) : Int begin write 1 result n + 1 post write n end body answer(f); write 9 end
+class Main var s : Server body s := new Server; s !! f(4); write 5 end
+root 0
+new 0 1 Server
+local 0 2
+0 ? async 1 f 4
+send 0 1 f 4
+take 1 0 f 4
+1 ? write 1
+write 1 1
+local 1 2
+1 ? local
+return 1 0 5 -> local
+local 1
+1 ? write 4
+return 1 0 5 -> write 4
+write 1 4
+1 ? local
+local 1
+1 ? write 9
+write 1 9
+1 ? finished
+0 ? write 5
+write 0 5
+0 ? finished
+
+# A post section answers another call, which has a post section too.
+class Desk method book() : Int begin result 1 post answer(close) end
+method close(a : Int) : Int begin result a * 2 post write a end
+body answer(book); write 9 end
+class Main var d : Desk body d := new Desk; write d ! book(); write d ! close(3) end
+root 0
+new 0 1 Desk
+local 0 2
+0 ? send 1 book
+answer 1 0 book
+1 ? return 1
+answer 1 0 close 3 -> return 1
+return 1 0 1
+1 ? answer
+0 ? write 1
+answer 1 0 close 3 -> answer
+write 0 1
+local 0
+0 ? send 1 close 3
+answer 1 0 book -> answer
+answer 1 0 close 3
+0 ? waits 1
+1 ? local
+local 1 2
+1 ? return 6
+return 1 0 1 -> return 6
+return 1 0 6
+0 ? write 6
+1 ? local
+local 1
+1 ? write 3
+write 1 3
+local 1
+1 ? local
+local 1
+1 ? write 9
+write 1 9
+1 ? finished
+write 0 6
+0 ? finished
+
+# A method without result gives nil back, and then its post statements are executed; one without post statements is gone at once.
+class Server method quick() begin end method slow() begin post write 2 end body answer(slow); answer(quick); write 3 end
+class Main var s : Server body s := new Server; s ! slow(); s ! quick(); write 1 end
+root 0
+new 0 1 Server
+local 0 2
+answer 1 0 slow
+1 ? return nil
+return 1 0 nil
+1 ? write 2
+0 ? local
+local 0 2
+0 ? send 1 quick
+answer 1 0 quick -> write 2
+write 1 2
+1 ? local
+local 1
+1 ? answer
+answer 1 0 quick
+return 1 0 nil
+1 ? write 3
+local 0
+0 ? write 1
+"##;

@@ -1,5 +1,5 @@
 //! The plain stepper over rows of labels.
-use crate::rows::{ALONE, CALLS, CREATION, FAULTS, MESSAGES, SELECTS};
+use crate::rows::{ALONE, CALLS, CREATION, FAULTS, MESSAGES, POSTS, SELECTS};
 use class_check::check;
 use pool_lexer::tokens;
 use pool_parser::parse;
@@ -307,7 +307,7 @@ fn first_wrong_of(alloc: Global, runs: &'static str) -> Result<Option<&'static s
 
 #[test]
 fn labels_are_made_and_refused_as_the_rows_say(rt: HostRuntime) -> Result<(), Fail> {
-    for runs in [ALONE, CREATION, CALLS, MESSAGES, SELECTS, FAULTS] {
+    for runs in [ALONE, CREATION, CALLS, MESSAGES, SELECTS, FAULTS, POSTS] {
         assert_eq!(rt; first_wrong_of(rt.alloc(), runs)?, None);
     }
     Ok(())

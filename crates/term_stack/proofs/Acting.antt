@@ -1,6 +1,5 @@
 -- The action of an object, from what comes next in its work.
-use Rattle.std.proofs.Common.{◌≡◌, refl, ap, ℕ, suc, ◌-◌, List, [], ◌∷◌, ◌++◌, length, slice_get, Some, None, arith}
-use Rattle.pool_syntax.specs.declared.words.Value.TheVariants as V
+use Rattle.std.proofs.Common.{◌≡◌, refl, ap, ℕ, suc, ◌-◌, List, [], ◌∷◌, ◌++◌, length, slice_get, Option, Some, None, true, arith}
 use Rattle.pool_syntax.specs.Terms as T
 use Rattle.pool_syntax.specs.Terms.{Store, Statements, ProgramTree}
 use Rattle.pool_relation.specs.Reducible as R
@@ -14,9 +13,14 @@ use Rattle.term_stack.specs.declared.parts.Slot.{Slot}
 use Rattle.term_stack.specs.declared.parts.Task.{Task}
 use Rattle.term_stack.specs.declared.parts.Outer.{Outer}
 use Rattle.term_stack.specs.declared.parts.Outer.TheVariants as O
+use Rattle.term_stack.specs.declared.parts.Stage.{Stage}
+use Rattle.term_stack.specs.declared.parts.Stage.TheVariants as G
 use Rattle.term_stack.specs.declared.parts.Activation.{Activation}
-use Rattle.term_stack.specs.Parts.{operand, nested, ready, task, slotted, left, Content, Running, Valued, Over, inside, around, wrapped, layers, bottom}
-use Rattle.term_stack.specs.Reduced.{reduced, task_redex, end_redex, Finds, temps_at}
+use Rattle.term_stack.specs.declared.parts.Now.{Now}
+use Rattle.term_stack.specs.declared.parts.Now.TheVariants as N
+use Rattle.term_stack.specs.Parts.{operand, nested, ready, task, slotted, left, Running, stopped, caller_of, behind, inside, around, wrapped, layers, bottom}
+use Rattle.term_stack.specs.Reduced.{reduced, task_redex, end_redex, post_of, last_redex, Finds, temps_at}
+use Rattle.term_stack.specs.Changes.{is_end, end_value}
 use Rattle.term_stack.proofs.Layers.{found_nested, found_slotted, found_layers, found_bottom, found_ready, found_task, layers_more, temps_more}
 
 -- the last of a list
@@ -56,26 +60,46 @@ statement_next xs k ss =
     found_bottom (layers xs (Running (T.Then (task k) ss))) (task_redex k) (temps_at [] xs)
     (found_layers [] xs (Running (T.Then (task k) ss)) (task_redex k) (temps_at [] xs) (found_task (temps_at [] xs) k))
 
-found_end : (t : Store) (o : Outer) (m : ℕ) (u : Store) (v : _) (p : ℕ) → Finds t (around o m u (T.Done, T.Literal v p)) (end_redex o v) u
-found_end t (O.Expression ks s gs) m u v p = found_slotted t s (left gs.items) _ (R.Leave v) u (found_nested t ks.items _ (R.Leave v) u refl)
-found_end t (O.Statement k gs) m u v p = refl
+-- what is left in a method at its end
+pub at_end : (o : Outer) (st : Stage) (n : Now) → is_end n ≡ true
+    → inside o st (stopped n) ≡ (T.Done, operand (end_value st n), behind (caller_of st o) (post_of st))
+at_end o (G.Body e qs) (N.Value v) h = refl
+at_end o (G.Body e qs) N.Over h = refl
+at_end o (G.Post w) (N.Value v) h = refl
+at_end o (G.Post w) N.Over h = refl
+at_end o st (N.Statement k gs) h = absurd (grind arith)
+at_end o st (N.Expression r ks s gs) h = absurd (grind arith)
 
-end_next : (ys : List Activation) (a : Activation) (c : Content) (v : _) (p : ℕ) → ((e : _) → inside e c ≡ (T.Done, T.Literal v p)) → statements_redex [] (bottom (layers (ys ++ a ∷ []) c)) ≡ At (end_redex a.outer v) a.temps.items
-end_next ys a c v p h =
-    rw (layers_more ys a c)
-    (found_bottom (layers ys (wrapped a c)) _ _ (found_layers [] ys (wrapped a c) _ _ (rw (h _) (found_end (temps_at [] ys) a.outer a.method.0 a.temps.items v p))))
+pub for_no_one : (st : Stage) (ks : _) (s : Slot) (gs : _) → caller_of st (O.Expression ks s gs) ≡ None
+for_no_one (G.Body e qs) ks s gs = refl
+for_no_one (G.Post v) ks s gs = refl
 
-pub value_next : (xs : List Activation) (a : Activation) (v : Operand) → slice_get xs (length xs - 1) ≡ Some a → statements_redex [] (bottom (layers xs (Valued (operand v)))) ≡ At (end_redex a.outer v.value) a.temps.items
-value_next xs a v h = let s = last_split xs a h in rw s.1 (end_next s.0 a (Valued (operand v)) v.value v.pos (λ e. refl))
+found_end : (t : Store) (o : Outer) (st : Stage) (m : ℕ) (u : Store) (v : Operand) (qs : Statements)
+    → Finds t (around o (caller_of st o) m u (T.Done, operand v, behind (caller_of st o) qs)) (end_redex o (caller_of st o) m u v qs) u
+found_end t (O.Expression ks s gs) st m u v qs =
+    rw (for_no_one st ks s gs) (found_slotted t s (left gs.items) _ (R.Leave v.value) u (found_nested t ks.items _ (R.Leave v.value) u refl))
+found_end t (O.Statement j gs) st m u v qs = by (caller_of st (O.Statement j gs))
+  where
+    by : (k : Option ℕ) → Finds t (around (O.Statement j gs) k m u (T.Done, operand v, behind k qs)) (end_redex (O.Statement j gs) k m u v qs) u
+    by None = refl
+    by (Some k) = refl
 
-pub over_next : (xs : List Activation) (a : Activation) → slice_get xs (length xs - 1) ≡ Some a → statements_redex [] (bottom (layers xs Over)) ≡ At (end_redex a.outer V.Nil) a.temps.items
-over_next xs a h = let s = last_split xs a h in rw s.1 (end_next s.0 a Over V.Nil 0 (λ e. refl))
+pub end_next : (ys : List Activation) (a : Activation) (n : Now) → is_end n ≡ true
+    → statements_redex [] (bottom (layers (ys ++ a ∷ []) (stopped n))) ≡ At (last_redex a (end_value a.stage n)) a.temps.items
+end_next ys a n h =
+    rw (layers_more ys a (stopped n))
+    (found_bottom (layers ys (wrapped a (stopped n))) _ _ (found_layers [] ys (wrapped a (stopped n)) _ _
+    (rw (at_end a.outer a.stage n h) (found_end (temps_at [] ys) a.outer a.stage a.method.0 a.temps.items (end_value a.stage n) (post_of a.stage)))))
 
-pub value_at_bottom : (xs : List Activation) (v : Operand) → slice_get xs (length xs - 1) ≡ None → statements_redex [] (bottom (layers xs (Valued (operand v)))) ≡ At (R.Drop v.value) []
-value_at_bottom xs v h = rw (none_last xs h) refl
+pub last_next : (xs : List Activation) (a : Activation) (n : Now) → is_end n ≡ true → slice_get xs (length xs - 1) ≡ Some a
+    → statements_redex [] (bottom (layers xs (stopped n))) ≡ At (last_redex a (end_value a.stage n)) a.temps.items
+last_next xs a n h g = let s = last_split xs a g in rw s.1 (end_next s.0 a n h)
 
-pub over_at_bottom : (xs : List Activation) → slice_get xs (length xs - 1) ≡ None → statements_redex [] (bottom (layers xs Over)) ≡ Evaluated tt
-over_at_bottom xs h = rw (none_last xs h) refl
+pub end_at_bottom : (xs : List Activation) (n : Now) → is_end n ≡ true → slice_get xs (length xs - 1) ≡ None → statements_redex [] (bottom (layers xs (stopped n))) ≡ Evaluated tt
+end_at_bottom xs (N.Value v) h g = rw (none_last xs g) refl
+end_at_bottom xs N.Over h g = rw (none_last xs g) refl
+end_at_bottom xs (N.Statement k gs) h g = absurd (grind arith)
+end_at_bottom xs (N.Expression r ks s gs) h g = absurd (grind arith)
 
 -- the action at a redex
 pub action_at : (p : ProgramTree) (o : ℕ) (x : Object) (r : Reducible) (t : Store) → statements_redex [] x.term ≡ At r t → action p o x ≡ redex_action p o x t r

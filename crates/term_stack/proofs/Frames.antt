@@ -1,5 +1,5 @@
 -- The number of methods under way in a term of the stepper's form.
-use Rattle.std.proofs.Common.{◌≡◌, refl, ap, ap₂, ◌∙◌, ℕ, suc, ◌+◌, List, [], ◌∷◌, ◌++◌, length, arith}
+use Rattle.std.proofs.Common.{◌≡◌, refl, ap, ap₂, ◌∙◌, ℕ, suc, ◌+◌, List, [], ◌∷◌, ◌++◌, length, Option, Some, None, arith}
 use Rattle.pool_syntax.specs.declared.tree.Expr.{Expr, Int, Bool, Nil, Me, Var, New, Unary', Binary', Call', Send', Row_of-Expr, end_of-Expr, more_of-Expr}
 use Rattle.pool_syntax.specs.declared.tree.Stmt as S
 use Rattle.pool_syntax.specs.declared.tree.Stmt.{Stmt, Row_of-Alt, end_of-Alt, more_of-Alt}
@@ -18,8 +18,10 @@ use Rattle.term_stack.specs.declared.parts.Segment.{Segment}
 use Rattle.term_stack.specs.declared.parts.Segment.TheVariants as G
 use Rattle.term_stack.specs.declared.parts.Outer.{Outer}
 use Rattle.term_stack.specs.declared.parts.Outer.TheVariants as O
+use Rattle.term_stack.specs.declared.parts.Stage.{Stage}
+use Rattle.term_stack.specs.declared.parts.Stage.TheVariants as A
 use Rattle.term_stack.specs.declared.parts.Activation.{Activation}
-use Rattle.term_stack.specs.Parts.{operands, guarded, alternatives, placed, nested, segment, left, slotted, Content, Running, Valued, Over, inside, around, layers, bottom}
+use Rattle.term_stack.specs.Parts.{operands, guarded, alternatives, placed, nested, segment, left, slotted, Content, Running, Valued, Over, caller_at, caller_of, behind, inside, around, layers, bottom}
 
 -- nothing is under way in the text of a program
 mutual
@@ -113,7 +115,7 @@ in_nested (k ∷ ks) e = in_placed k (nested ks e) ∙ in_nested ks e
 abbrev pub in_content : Content → List Activity
 in_content (Running ss) = in_statements ss
 in_content (Valued e) = in_expression e
-in_content Over = []
+in_content (Over v) = []
 
 pub in_slotted : (s : Slot) (gs : List Segment) (e : Expression) → in_content (slotted s (left gs) e) ≡ in_expression e
 in_slotted (L.Assign n) gs e = ap (λ l. in_expression e ++ l) (quiet_left gs) ∙ no_more (in_expression e)
@@ -128,14 +130,28 @@ in_slotted (L.Guard done at more) gs e =
     ∙ no_more (in_expression e)
 in_slotted L.Value gs e = refl
 
-in_inside : (e : Expr) (c : Content) → in_statements (inside (expression_of e) c).0 ++ in_expression (inside (expression_of e) c).1 ≡ in_content c
-in_inside e (Running ss) = ap (λ l. in_statements ss ++ l) (quiet e) ∙ no_more (in_statements ss)
-in_inside e (Valued x) = refl
-in_inside e Over = refl
+-- the methods under way in what is left of one
+abbrev pub in_left : Statements × Expression × Statements → List Activity
+in_left b = in_statements b.0 ++ (in_expression b.1 ++ in_statements b.2)
 
-pub one_around : (o : Outer) (m : ℕ) (t : Store) (b : Statements × Expression) → length (in_content (around o m t b)) ≡ suc (length (in_statements b.0 ++ in_expression b.1))
-one_around (O.Expression ks s gs) m t b = ap length (in_slotted s gs.items (nested ks.items (T.Frame m t b.0 b.1)) ∙ in_nested ks.items (T.Frame m t b.0 b.1))
-one_around (O.Statement k gs) m t b = ap length (ap (λ l. (Serving m k ∷ (in_statements b.0 ++ in_expression b.1)) ++ l) (quiet_left gs.items) ∙ no_more (Serving m k ∷ (in_statements b.0 ++ in_expression b.1)))
+quiet_behind : (k : Option ℕ) (qs : List Stmt) → in_statements (behind k (statements_of qs)) ≡ []
+quiet_behind None qs = refl
+quiet_behind (Some k) qs = quiet_statements qs
+
+in_bottom : (c : Content) → in_statements (bottom c) ≡ in_content c
+in_bottom (Running ss) = refl
+in_bottom (Valued e) = no_more (in_expression e)
+in_bottom (Over v) = refl
+
+pub in_inside : (o : Outer) (st : Stage) (c : Content) → in_left (inside o st c) ≡ in_content c
+in_inside o (A.Body e qs) (Running ss) = ap₂ (λ k l. in_statements ss ++ (k ++ l)) (quiet e.now) (quiet_statements qs.now) ∙ no_more (in_statements ss)
+in_inside o (A.Body e qs) (Valued x) = ap (λ l. in_expression x ++ l) (quiet_statements qs.now) ∙ no_more (in_expression x)
+in_inside o (A.Body e qs) (Over v) = quiet_behind (caller_at o) qs.now
+in_inside o (A.Post v) c = in_bottom c
+
+pub one_around : (o : Outer) (k : Option ℕ) (m : ℕ) (t : Store) (b : Statements × Expression × Statements) → length (in_content (around o k m t b)) ≡ suc (length (in_left b))
+one_around (O.Expression ks s gs) k m t b = ap length (in_slotted s gs.items (nested ks.items (T.Frame m t b.0 b.1 b.2)) ∙ in_nested ks.items (T.Frame m t b.0 b.1 b.2))
+one_around (O.Statement j gs) k m t b = ap length (ap (λ l. (Serving m k ∷ in_left b) ++ l) (quiet_left gs.items) ∙ no_more (Serving m k ∷ in_left b))
 
 none_before : (n : ℕ) → n ≡ 0 + n
 none_before n = omega arith
@@ -146,14 +162,9 @@ one_before m n = omega arith
 in_layers : (xs : List Activation) (c : Content) → length (in_content (layers xs c)) ≡ length xs + length (in_content c)
 in_layers [] c = none_before (length (in_content c))
 in_layers (a ∷ xs) c =
-    one_around a.outer a.method.0 a.temps.items (inside (expression_of a.value.now) (layers xs c))
-    ∙ ap suc (ap length (in_inside a.value.now (layers xs c)) ∙ in_layers xs c)
+    one_around a.outer (caller_of a.stage a.outer) a.method.0 a.temps.items (inside a.outer a.stage (layers xs c))
+    ∙ ap suc (ap length (in_inside a.outer a.stage (layers xs c)) ∙ in_layers xs c)
     ∙ one_before (length xs) (length (in_content c))
-
-in_bottom : (c : Content) → in_statements (bottom c) ≡ in_content c
-in_bottom (Running ss) = refl
-in_bottom (Valued e) = no_more (in_expression e)
-in_bottom Over = refl
 
 -- as many methods are under way as there are activations, and those of the content
 pub frames_are : (xs : List Activation) (c : Content) → frames_of (bottom (layers xs c)) ≡ length xs + length (in_content c)

@@ -1,6 +1,6 @@
 -- The redex of a term in the stepper's form, and the term with another part in its place.
 use Rattle.std.proofs.Common.{◌≡◌, refl, ap, ◌∙◌, ℕ, List, [], ◌∷◌, ◌++◌, Option, true, false, arith}
-use Rattle.pool_syntax.specs.TreeOf.{expression_of, expressions_of, statements_of}
+use Rattle.pool_syntax.specs.TreeOf.{expressions_of, statements_of}
 use Rattle.pool_syntax.specs.Terms as T
 use Rattle.pool_syntax.specs.Terms.{Store, Expression, Expressions, Statement, Statements, Alternatives, append}
 use Rattle.pool_relation.specs.Reducible.{Reducible, Evaluated, At, Part, is_value, are_values, guards_are_values, as_expression, as_statements, assigned, fill_expression, fill_expressions, fill_statement, fill_statements, fill_guards, expression_redex, expressions_redex, statement_redex, statements_redex, guards_redex}
@@ -16,8 +16,10 @@ use Rattle.term_stack.specs.declared.parts.Task.{Task}
 use Rattle.term_stack.specs.declared.parts.Task.TheVariants as K
 use Rattle.term_stack.specs.declared.parts.Outer.{Outer}
 use Rattle.term_stack.specs.declared.parts.Outer.TheVariants as O
+use Rattle.term_stack.specs.declared.parts.Stage.{Stage}
+use Rattle.term_stack.specs.declared.parts.Stage.TheVariants as A
 use Rattle.term_stack.specs.declared.parts.Activation.{Activation}
-use Rattle.term_stack.specs.Parts.{operand, operands, guarded, placed, nested, ready, alternatives, task, slotted, left, Content, Running, Valued, Over, inside, around, wrapped, layers, bottom}
+use Rattle.term_stack.specs.Parts.{operand, operands, guarded, placed, nested, ready, alternatives, task, slotted, left, Content, Running, Valued, Over, inside, around, caller_of, wrapped, layers, bottom}
 use Rattle.term_stack.specs.Reduced.{values, choices, reduced, task_redex, Finds, temps_at, assigns, is_plain, refilled_content}
 
 -- evaluated parts come before what is found
@@ -53,21 +55,26 @@ found_slotted t (L.Guard done at more) ss e r u h = rw (found_in_guards t done.i
 found_slotted t L.Value ss e r u h = h
 
 -- a method under way around what is found
-found_around : (t : Store) (o : Outer) (m : ℕ) (u : Store) (v : Expression) (c : Content) (r : Reducible) (w : Store) → Finds u c r w → Finds t (around o m u (inside v c)) r w
-found_around t (O.Expression ks s gs) m u v (Running ss) r w h = found_slotted t s _ _ r w (found_nested t ks.items _ r w (rw h refl))
-found_around t (O.Expression ks s gs) m u v (Valued e) r w h = found_slotted t s _ _ r w (found_nested t ks.items _ r w (rw h refl))
-found_around t (O.Statement k gs) m u v (Running ss) r w h = rw h refl
-found_around t (O.Statement k gs) m u v (Valued e) r w h = rw h refl
-found_around t o m u v Over r w h = absurd h
+found_around : (t : Store) (o : Outer) (st : Stage) (m : ℕ) (u : Store) (c : Content) (r : Reducible) (w : Store) → Finds u c r w
+    → Finds t (around o (caller_of st o) m u (inside o st c)) r w
+found_around t (O.Expression ks s gs) (A.Body e qs) m u (Running ss) r w h = found_slotted t s _ _ r w (found_nested t ks.items _ r w (rw h refl))
+found_around t (O.Expression ks s gs) (A.Body e qs) m u (Valued x) r w h = found_slotted t s _ _ r w (found_nested t ks.items _ r w (rw h refl))
+found_around t (O.Expression ks s gs) (A.Post v) m u (Running ss) r w h = found_slotted t s _ _ r w (found_nested t ks.items _ r w (rw h refl))
+found_around t (O.Expression ks s gs) (A.Post v) m u (Valued x) r w h = found_slotted t s _ _ r w (found_nested t ks.items _ r w (rw h refl))
+found_around t (O.Statement k gs) (A.Body e qs) m u (Running ss) r w h = rw h refl
+found_around t (O.Statement k gs) (A.Body e qs) m u (Valued x) r w h = rw h refl
+found_around t (O.Statement k gs) (A.Post v) m u (Running ss) r w h = rw h refl
+found_around t (O.Statement k gs) (A.Post v) m u (Valued x) r w h = rw h refl
+found_around t o st m u (Over v) r w h = absurd h
 
 pub found_layers : (t : Store) (xs : List Activation) (c : Content) (r : Reducible) (u : Store) → Finds (temps_at t xs) c r u → Finds t (layers xs c) r u
 found_layers t [] c r u h = h
-found_layers t (a ∷ more) c r u h = found_around t a.outer a.method.0 a.temps.items _ (layers more c) r u (found_layers a.temps.items more c r u h)
+found_layers t (a ∷ more) c r u h = found_around t a.outer a.stage a.method.0 a.temps.items (layers more c) r u (found_layers a.temps.items more c r u h)
 
 pub found_bottom : (c : Content) (r : Reducible) (u : Store) → Finds [] c r u → statements_redex [] (bottom c) ≡ At r u
 found_bottom (Running ss) r u h = h
 found_bottom (Valued e) r u h = rw h refl
-found_bottom Over r u h = absurd h
+found_bottom (Over v) r u h = absurd h
 
 -- the parts that are the redex
 values_found : (t : Store) (vs : List Operand) → expressions_redex t (operands vs T.NoArgs) ≡ Evaluated (values vs)
@@ -173,42 +180,52 @@ assigned_none : (s : Statement) (ss : Statements) (t : Store) → assigns s ≡ 
 assigned_none (T.Assign n p (T.Literal v q)) ss t h = absurd (grind arith)
 assigned_none _ ss t h = refl
 
-pub plain_around : (o : Outer) (m : ℕ) (t : Store) (b : Statements × Expression) → is_plain (around o m t b) ≡ true
-plain_around (O.Expression ks s gs) m t b = plain_slotted s _ (nested ks.items (T.Frame m t b.0 b.1)) (open_nested ks.items _ refl)
-plain_around (O.Statement k gs) m t b = refl
+pub plain_around : (o : Outer) (k : Option ℕ) (m : ℕ) (t : Store) (b : Statements × Expression × Statements) → is_plain (around o k m t b) ≡ true
+plain_around (O.Expression ks s gs) k m t b = plain_slotted s _ (nested ks.items (T.Frame m t b.0 b.1 b.2)) (open_nested ks.items _ refl)
+plain_around (O.Statement j gs) k m t b = refl
 
-fill_frame : (m : ℕ) (t : Store) (v : Expression) (c : Content) (x : Part) → is_plain c ≡ true → fill_expression (T.Frame m t (inside v c).0 (inside v c).1) x ≡ T.Frame m t (inside v (refilled_content c x)).0 (inside v (refilled_content c x)).1
-fill_frame m t v (Running T.Done) x h = absurd (grind arith)
-fill_frame m t v (Running (T.Then s ss)) x h = rw (assigned_none s ss t (grind arith)) refl
-fill_frame m t v (Valued e) x h = let k : is_value e ≡ false = grind arith in rw k refl
-fill_frame m t v Over x h = absurd (grind arith)
+fill_frame : (o : Outer) (st : Stage) (m : ℕ) (t : Store) (c : Content) (x : Part) → is_plain c ≡ true
+    → fill_expression (T.Frame m t (inside o st c).0 (inside o st c).1 (inside o st c).2) x
+    ≡ T.Frame m t (inside o st (refilled_content c x)).0 (inside o st (refilled_content c x)).1 (inside o st (refilled_content c x)).2
+fill_frame o st m t (Running T.Done) x h = absurd (grind arith)
+fill_frame o (A.Body e qs) m t (Running (T.Then s ss)) x h = rw (assigned_none s ss t (grind arith)) refl
+fill_frame o (A.Post v) m t (Running (T.Then s ss)) x h = rw (assigned_none s ss t (grind arith)) refl
+fill_frame o (A.Body e qs) m t (Valued y) x h = let k : is_value y ≡ false = grind arith in rw k refl
+fill_frame o (A.Post v) m t (Valued y) x h = let k : is_value y ≡ false = grind arith in rw k refl
+fill_frame o st m t (Over v) x h = absurd (grind arith)
 
-fill_serve : (m : ℕ) (k : Option ℕ) (t : Store) (v : Expression) (c : Content) (x : Part) → is_plain c ≡ true → fill_statement (T.Serve m k t (inside v c).0 (inside v c).1) x ≡ T.Then (T.Serve m k t (inside v (refilled_content c x)).0 (inside v (refilled_content c x)).1) T.Done
-fill_serve m k t v (Running T.Done) x h = absurd (grind arith)
-fill_serve m k t v (Running (T.Then s ss)) x h = rw (assigned_none s ss t (grind arith)) refl
-fill_serve m k t v (Valued e) x h = let j : is_value e ≡ false = grind arith in rw j refl
-fill_serve m k t v Over x h = absurd (grind arith)
+fill_serve : (o : Outer) (st : Stage) (m : ℕ) (t : Store) (c : Content) (x : Part) → is_plain c ≡ true
+    → fill_statement (T.Serve m (caller_of st o) t (inside o st c).0 (inside o st c).1 (inside o st c).2) x
+    ≡ T.Then (T.Serve m (caller_of st o) t (inside o st (refilled_content c x)).0 (inside o st (refilled_content c x)).1 (inside o st (refilled_content c x)).2) T.Done
+fill_serve o st m t (Running T.Done) x h = absurd (grind arith)
+fill_serve o (A.Body e qs) m t (Running (T.Then s ss)) x h = rw (assigned_none s ss t (grind arith)) refl
+fill_serve o (A.Post v) m t (Running (T.Then s ss)) x h = rw (assigned_none s ss t (grind arith)) refl
+fill_serve o (A.Body e qs) m t (Valued y) x h = let j : is_value y ≡ false = grind arith in rw j refl
+fill_serve o (A.Post v) m t (Valued y) x h = let j : is_value y ≡ false = grind arith in rw j refl
+fill_serve o st m t (Over v) x h = absurd (grind arith)
 
-pub fill_around : (o : Outer) (m : ℕ) (t : Store) (v : Expression) (c : Content) (x : Part) → is_plain c ≡ true → refilled_content (around o m t (inside v c)) x ≡ around o m t (inside v (refilled_content c x))
-fill_around (O.Expression ks s gs) m t v c x h =
-    fill_slotted s (left gs.items) (nested ks.items (T.Frame m t (inside v c).0 (inside v c).1)) x (open_nested ks.items _ refl)
-    ∙ ap (slotted s (left gs.items)) (fill_nested ks.items (T.Frame m t (inside v c).0 (inside v c).1) x refl ∙ ap (nested ks.items) (fill_frame m t v c x h))
-fill_around (O.Statement k gs) m t v c x h = ap (λ ss. Running (append ss (left gs.items))) (fill_serve m k t v c x h)
+pub fill_around : (o : Outer) (st : Stage) (m : ℕ) (t : Store) (c : Content) (x : Part) → is_plain c ≡ true
+    → refilled_content (around o (caller_of st o) m t (inside o st c)) x ≡ around o (caller_of st o) m t (inside o st (refilled_content c x))
+fill_around (O.Expression ks s gs) st m t c x h =
+    let o = O.Expression ks s gs in
+    let f : Expression = T.Frame m t (inside o st c).0 (inside o st c).1 (inside o st c).2 in
+    fill_slotted s (left gs.items) (nested ks.items f) x (open_nested ks.items f refl)
+    ∙ ap (slotted s (left gs.items)) (fill_nested ks.items f x refl ∙ ap (nested ks.items) (fill_frame o st m t c x h))
+fill_around (O.Statement k gs) st m t c x h = ap (λ ss. Running (append ss (left gs.items))) (fill_serve (O.Statement k gs) st m t c x h)
 
 plain_layers : (xs : List Activation) (c : Content) → is_plain c ≡ true → is_plain (layers xs c) ≡ true
 plain_layers [] c h = h
-plain_layers (a ∷ more) c h = plain_around a.outer a.method.0 a.temps.items _
+plain_layers (a ∷ more) c h = plain_around a.outer (caller_of a.stage a.outer) a.method.0 a.temps.items _
 
 fill_layers : (xs : List Activation) (c : Content) (x : Part) → is_plain c ≡ true → refilled_content (layers xs c) x ≡ layers xs (refilled_content c x)
 fill_layers [] c x h = refl
 fill_layers (a ∷ more) c x h =
-    fill_around a.outer a.method.0 a.temps.items (expression_of a.value.now) (layers more c) x (plain_layers more c h)
-    ∙ ap (wrapped a) (fill_layers more c x h)
+    fill_around a.outer a.stage a.method.0 a.temps.items (layers more c) x (plain_layers more c h) ∙ ap (wrapped a) (fill_layers more c x h)
 
 fill_bottom : (c : Content) (x : Part) → is_plain c ≡ true → fill_statements (bottom c) x ≡ bottom (refilled_content c x)
 fill_bottom (Running ss) x h = refl
 fill_bottom (Valued e) x h = let j : is_value e ≡ false = grind arith in rw j refl
-fill_bottom Over x h = refl
+fill_bottom (Over v) x h = refl
 
 -- the term with another part in the place of its redex
 pub fill_term : (xs : List Activation) (c : Content) (x : Part) → is_plain c ≡ true → fill_statements (bottom (layers xs c)) x ≡ bottom (layers xs (refilled_content c x))

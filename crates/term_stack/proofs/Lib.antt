@@ -5,4 +5,5 @@ pub mod Views
 pub mod Lengths
 pub mod Acting
 pub mod Changing
+pub mod Coming
 pub mod Frames

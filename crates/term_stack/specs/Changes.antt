@@ -1,6 +1,5 @@
 -- What comes next, by its kind.
-use Rattle.std.specs.Prelude.{ℕ, ◌-◌, List, length, slice_get, Option, Some, None, Bool, true, false, not}
-use Rattle.pool_syntax.specs.declared.words.Value.TheVariants as V
+use Rattle.std.specs.Prelude.{ℕ, ◌-◌, List, length, slice_get, Option, Some, None, is_some, Bool, true, false, not}
 use Rattle.pool_syntax.specs.declared.words.Value.{Value}
 use Rattle.pool_syntax.specs.Terms as T
 use Rattle.pool_syntax.specs.Terms.{Statements}
@@ -12,10 +11,13 @@ use Rattle.term_stack.specs.declared.parts.Ready.{Ready}
 use Rattle.term_stack.specs.declared.parts.Ready.TheVariants as Y
 use Rattle.term_stack.specs.declared.parts.Outer.{Outer}
 use Rattle.term_stack.specs.declared.parts.Outer.TheVariants as O
+use Rattle.term_stack.specs.declared.parts.Operand.{Operand}
+use Rattle.term_stack.specs.declared.parts.Stage.{Stage}
+use Rattle.term_stack.specs.declared.parts.Stage.TheVariants as A
 use Rattle.term_stack.specs.declared.parts.Activation.{Activation}
 use Rattle.pool_relation.specs.Reducible.{Part, AsExpression, AsStatements}
 use Rattle.pool_relation.specs.Action.{literal}
-use Rattle.term_stack.specs.Parts.{Content, Running, task, slotted, nested, left}
+use Rattle.term_stack.specs.Parts.{Content, Running, nothing, task, slotted, nested, left, caller_of}
 use Rattle.term_stack.specs.Reduced.{assigns}
 
 -- whether an expression comes next
@@ -65,22 +67,32 @@ is_call (N.Expression r ks s gs) = is_call_ready r
 is_call _ = false
 
 -- the value of a method at its end
-abbrev pub end_value : Now → Value
-end_value (N.Value v) = v.value
-end_value _ = V.Nil
+abbrev pub end_value : Stage → Now → Operand
+end_value (A.Post v) n = v
+end_value (A.Body e qs) (N.Value v) = v
+end_value (A.Body e qs) _ = nothing
 
 -- what takes the place of a method that is left
 abbrev pub left_part : Outer → Value → Part
 left_part (O.Expression ks s gs) v = AsExpression (literal v)
 left_part (O.Statement k gs) v = AsStatements T.Done
 
-abbrev pub last_part : Option Activation → Value → Part
-last_part None v = AsStatements T.Done
-last_part (Some a) v = left_part a.outer v
+abbrev pub last_part : Option Activation → Now → Part
+last_part None n = AsStatements T.Done
+last_part (Some a) n = left_part a.outer (end_value a.stage n).value
 
--- what takes the place of the innermost method at its end, or of the value in a body
+-- what takes the place of the innermost method at its end
 abbrev pub end_part : List Activation → Now → Part
-end_part calls n = last_part (slice_get calls (length calls - 1)) (end_value n)
+end_part calls n = last_part (slice_get calls (length calls - 1)) n
+
+-- whether a caller waits for the value of this method
+abbrev pub last_awaited : Option Activation → Bool
+last_awaited None = false
+last_awaited (Some a) = is_some (caller_of a.stage a.outer)
+
+-- whether a caller waits for the value of the innermost method
+abbrev pub is_awaited : List Activation → Bool
+is_awaited calls = last_awaited (slice_get calls (length calls - 1))
 
 -- what is left where a method was left
 abbrev pub after_left : Outer → Value → Content

@@ -1,7 +1,9 @@
 -- What the plain stepper's contexts stand for.
-use Rattle.std.specs.Prelude.{◌≡◌, ℕ, ◌<◌, List, [], ◌∷◌, false}
+use Rattle.std.specs.Prelude.{◌≡◌, ℕ, ◌-◌, ◌<◌, List, [], ◌∷◌, length, slice_get, Option, Some, None, false}
+use denote.Bor.{Bor}
 use Rattle.pool_syntax.specs.declared.words.Value.TheVariants as V
 use Rattle.pool_syntax.specs.declared.tree.Alt.{Alt}
+use Rattle.pool_syntax.specs.declared.tree.Expr.{Expr}
 use Rattle.pool_syntax.specs.TreeOf.{expression_of, expressions_of, statements_of}
 use Rattle.pool_syntax.specs.Terms as T
 use Rattle.pool_syntax.specs.Terms.{Store, Expression, Expressions, Statement, Statements, Alternatives, append}
@@ -21,6 +23,8 @@ use Rattle.term_stack.specs.declared.parts.Now.{Now}
 use Rattle.term_stack.specs.declared.parts.Now.TheVariants as N
 use Rattle.term_stack.specs.declared.parts.Outer.{Outer}
 use Rattle.term_stack.specs.declared.parts.Outer.TheVariants as O
+use Rattle.term_stack.specs.declared.parts.Stage.{Stage}
+use Rattle.term_stack.specs.declared.parts.Stage.TheVariants as A
 use Rattle.term_stack.specs.declared.parts.Activation.{Activation}
 use Rattle.term_stack.specs.declared.parts.Work.{Work}
 use Rattle.term_stack.specs.declared.seek.Step.{Step}
@@ -91,11 +95,11 @@ guarded (g ∷ gs) alts = T.Alt (operand g.guard) g.alt.now.answer (statements_o
 abbrev pub loop_of : Expression → Statements → Statements
 loop_of e body = T.Then (T.While e body) T.Done
 
--- what is left in the body of an object or in a method under way: statements, or else the value alone, or nothing
+-- what is left in the body of an object or in a method under way: statements, or else the value alone, or nothing; the value is then evaluated
 pub data Content : Type 0 where
   Running : (ss : Statements) → Content
   Valued : (e : Expression) → Content
-  Over : Content
+  Over : (v : Operand) → Content
 
 -- a statement with this expression in its slot, and the statements after it
 abbrev pub slotted : Slot → Statements → Expression → Content
@@ -135,38 +139,86 @@ abbrev pub left : List Segment → Statements
 left [] = T.Done
 left (g ∷ gs) = append (left gs) (segment g)
 
+-- the value of a method that evaluated none
+abbrev pub nothing : Operand
+nothing = record { value = V.Nil; pos = 0 }
+
 -- what comes next and after it
 abbrev pub content : Now → Content
 content (N.Expression r ks s gs) = slotted s (left gs.items) (nested ks.items (ready r))
 content (N.Statement t gs) = Running (T.Then (task t) (left gs.items))
 content (N.Value v) = Valued (operand v)
-content N.Over = Over
+content N.Over = Over nothing
 
--- the statements that are left in a method under way whose value is e, and its value; nothing counts as nil
-abbrev pub inside : Expression → Content → Statements × Expression
-inside e (Running ss) = (ss, e)
-inside e (Valued x) = (T.Done, x)
-inside e Over = (T.Done, T.Literal V.Nil 0)
+-- the same where the object stands: an evaluated value is the end
+abbrev pub stopped : Now → Content
+stopped (N.Value v) = Over v
+stopped n = content n
 
--- a method under way, where it stands
-abbrev pub around : Outer → ℕ → Store → Statements × Expression → Content
-around (O.Expression ks s gs) m t b = slotted s (left gs.items) (nested ks.items (T.Frame m t b.0 b.1))
-around (O.Statement k gs) m t b = Running (T.Then (T.Serve m k t b.0 b.1) (left gs.items))
+-- the statements, and where none is left the value, if one is wanted
+abbrev pub ahead : Option Expression → Statements → Content
+ahead e (T.Then s ss) = Running (T.Then s ss)
+ahead (Some e) T.Done = Valued e
+ahead None T.Done = Over nothing
+
+-- as the body of an object, or as post statements; a value that is evaluated there would be dropped
+abbrev pub bottom : Content → Statements
+bottom (Running ss) = ss
+bottom (Valued e) = T.Then (T.Do e) T.Done
+bottom (Over v) = T.Done
+
+-- for whom a method was begun; an own one is for no caller
+abbrev pub caller_at : Outer → Option ℕ
+caller_at (O.Expression ks s gs) = None
+caller_at (O.Statement k gs) = k
+
+-- whom it serves: while its post statements are under way no one
+abbrev pub caller_of : Stage → Outer → Option ℕ
+caller_of (A.Body e qs) o = caller_at o
+caller_of (A.Post v) o = None
+
+-- the post statements behind an evaluated value; only one that a caller waits for has any, since elsewhere they are begun at once
+abbrev pub behind : Option ℕ → Statements → Statements
+behind (Some k) qs = qs
+behind None qs = T.Done
+
+-- the statements, the value and the post statements that are left in a method under way
+abbrev pub inside : Outer → Stage → Content → Statements × Expression × Statements
+inside o (A.Body e qs) (Running ss) = (ss, expression_of e.now, statements_of qs.now)
+inside o (A.Body e qs) (Valued x) = (T.Done, x, statements_of qs.now)
+inside o (A.Body e qs) (Over v) = (T.Done, operand v, behind (caller_at o) (statements_of qs.now))
+inside o (A.Post v) c = (T.Done, operand v, bottom c)
+
+-- a method under way for this caller, where it stands
+abbrev pub around : Outer → Option ℕ → ℕ → Store → Statements × Expression × Statements → Content
+around (O.Expression ks s gs) k m t b = slotted s (left gs.items) (nested ks.items (T.Frame m t b.0 b.1 b.2))
+around (O.Statement j gs) k m t b = Running (T.Then (T.Serve m k t b.0 b.1 b.2) (left gs.items))
 
 abbrev pub wrapped : Activation → Content → Content
-wrapped a c = around a.outer a.method.0 a.temps.items (inside (expression_of a.value.now) c)
+wrapped a c = around a.outer (caller_of a.stage a.outer) a.method.0 a.temps.items (inside a.outer a.stage c)
 
 -- in all methods under way, the innermost last
 abbrev pub layers : List Activation → Content → Content
 layers [] c = c
 layers (a ∷ more) c = wrapped a (layers more c)
 
--- as the body of an object; a value there would be dropped
-abbrev pub bottom : Content → Statements
-bottom (Running ss) = ss
-bottom (Valued e) = T.Then (T.Do e) T.Done
-bottom Over = T.Done
+-- the value that is wanted where the statements are done: that of the innermost method, unless it has it
+abbrev pub value_of_stage : Stage → Option Expression
+value_of_stage (A.Body e qs) = Some (expression_of e.now)
+value_of_stage (A.Post v) = None
+
+abbrev pub value_of_last : Option Activation → Option Expression
+value_of_last None = None
+value_of_last (Some a) = value_of_stage a.stage
+
+abbrev pub wanted : List Activation → Option Expression
+wanted calls = value_of_last (slice_get calls (length calls - 1))
+
+-- an expression of the program, if there is one
+abbrev pub expression_seen : Option (Bor Expr) → Option Expression
+expression_seen None = None
+expression_seen (Some e) = Some (expression_of e.now)
 
 -- the term
 abbrev pub term_of : Work → Statements
-term_of w = bottom (layers w.calls.items (content w.next))
+term_of w = bottom (layers w.calls.items (stopped w.next))

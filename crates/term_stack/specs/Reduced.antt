@@ -1,12 +1,12 @@
 -- The redex that the stepper's parts stand for, and the content with another part in its place.
-use Rattle.std.specs.Prelude.{◌≡◌, List, [], ◌∷◌, Bool, true, false, not}
+use Rattle.std.specs.Prelude.{◌≡◌, ℕ, List, [], ◌∷◌, Option, Bool, true, false, not}
 use Rattle.pool_syntax.specs.declared.words.Value.{Value}
 use Rattle.pool_syntax.specs.declared.words.Item.TheVariants as I
 use Rattle.pool_syntax.specs.TreeOf.{expression_of, statements_of}
 use Rattle.pool_syntax.specs.Terms as T
 use Rattle.pool_syntax.specs.Terms.{Store, Expression, Statement, Statements, append}
 use Rattle.pool_relation.specs.Reducible as R
-use Rattle.pool_relation.specs.Reducible.{Choice, Reducible, Found, Evaluated, At, Part, is_value, fill_expression, fill_statements, expression_redex, statements_redex}
+use Rattle.pool_relation.specs.Reducible.{Choice, Reducible, Found, Evaluated, At, Part, is_value, fill_expression, fill_statements, expression_redex, statements_redex, left_served}
 use Rattle.term_stack.specs.declared.parts.Operand.{Operand}
 use Rattle.term_stack.specs.declared.parts.Guarded.{Guarded}
 use Rattle.term_stack.specs.declared.parts.Ready.{Ready}
@@ -16,7 +16,9 @@ use Rattle.term_stack.specs.declared.parts.Task.TheVariants as K
 use Rattle.term_stack.specs.declared.parts.Outer.{Outer}
 use Rattle.term_stack.specs.declared.parts.Outer.TheVariants as O
 use Rattle.term_stack.specs.declared.parts.Activation.{Activation}
-use Rattle.term_stack.specs.Parts.{Content, Running, Valued, Over, loop_of}
+use Rattle.term_stack.specs.declared.parts.Stage.{Stage}
+use Rattle.term_stack.specs.declared.parts.Stage.TheVariants as A
+use Rattle.term_stack.specs.Parts.{Content, Running, Valued, Over, operand, loop_of, caller_of}
 
 -- the values of operands
 abbrev pub values : List Operand → List Value
@@ -60,7 +62,7 @@ task_redex (K.Select gs) = R.Choose (choices gs.items)
 abbrev pub Finds : Store → Content → Reducible → Store → Type 0
 Finds t (Running ss) r u = statements_redex t ss ≡ At r u
 Finds t (Valued e) r u = expression_redex t e ≡ At r u
-Finds t Over r u = ⊥
+Finds t (Over v) r u = ⊥
 
 -- the temps at hand inside these methods under way
 abbrev pub temps_at : Store → List Activation → Store
@@ -77,15 +79,24 @@ abbrev pub is_plain : Content → Bool
 is_plain (Running T.Done) = false
 is_plain (Running (T.Then s ss)) = not (assigns s)
 is_plain (Valued e) = not (is_value e)
-is_plain Over = false
+is_plain (Over v) = false
 
 -- a content with another part in the place of its redex
 abbrev pub refilled_content : Content → Part → Content
 refilled_content (Running ss) x = Running (fill_statements ss x)
 refilled_content (Valued e) x = Valued (fill_expression e x)
-refilled_content Over x = Over
+refilled_content (Over v) x = Over v
 
--- the redex at the end of a method
-abbrev pub end_redex : Outer → Value → Reducible
-end_redex (O.Expression ks s gs) v = R.Leave v
-end_redex (O.Statement k gs) v = R.Finish k v
+-- the redex at the end of a method with these temps and this value, behind which these post statements come
+abbrev pub end_redex : Outer → Option ℕ → ℕ → Store → Operand → Statements → Reducible
+end_redex (O.Expression ks s gs) k m t v qs = R.Leave v.value
+end_redex (O.Statement j gs) k m t v qs = R.Finish k v.value (left_served k m t T.Done (operand v) qs)
+
+-- the post statements that are not begun
+abbrev pub post_of : Stage → Statements
+post_of (A.Body e qs) = statements_of qs.now
+post_of (A.Post v) = T.Done
+
+-- the redex at the end of this method, with its value
+abbrev pub last_redex : Activation → Operand → Reducible
+last_redex a v = end_redex a.outer (caller_of a.stage a.outer) a.method.0 a.temps.items v (post_of a.stage)

@@ -13,7 +13,7 @@ abbrev mutual
   weight (T.Infix op l r p) = suc (weight l + weight r)
   weight (T.Call m es p) = suc (weights es)
   weight (T.Send e m es p) = suc (weight e + weights es)
-  weight (T.Frame m t ss e) = 1
+  weight (T.Frame m t ss e qs) = 1
   weight (T.Wait b m) = 1
 
   pub weights : Expressions → ℕ

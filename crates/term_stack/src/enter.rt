@@ -3,7 +3,7 @@ ghost use Rattle.std.specs.Prelude.{◌≡◌, [], ◌∷◌, ◌++◌, IfOk, If
 ghost use Rattle.pool_syntax.specs.TreeOf.{expression_of, expressions_of, statement_of, statements_of};
 ghost use Rattle.pool_syntax.specs.Terms as T;
 ghost use Rattle.pool_relation.specs.Reducible.{is_value};
-ghost use Rattle.term_stack.specs.Parts.{operand, operands, placed, nested, stepped, ready, guarded, alternatives, slotted, left, content, inside, bottom, Running, IsOpen};
+ghost use Rattle.term_stack.specs.Parts.{operand, operands, placed, nested, stepped, ready, guarded, alternatives, slotted, left, content, ahead, expression_seen, Running, IsOpen};
 ghost use Rattle.pool_syntax.specs.Terms.{append};
 
 use crate::parts::{Guarded, Now, Operand, Place, Ready, Segment, Slot, Task};
@@ -343,15 +343,14 @@ pub fn before<'a>(
     Ok(rest)
 }
 
-/// Goes on with what follows: the statements of the last segment, and at the end the value of the method, if it is in one.
+/// Goes on with what follows: the statements of the last segment, and at the end this value, if one is wanted.
 #[tactic(auto, using(crate::proofs::Plugged::left_more, crate::proofs::Plugged::nothing_left))]
 pub fn advance<'a>(
     alloc: Global,
     rest: Vec<Segment<'a>>,
     value: Option<&'a Expr>,
 ) -> Result<Now<'a>, AllocError>
-    ensures method { IfOk result (λ n. IfSome value.entry (λ e. inside (expression_of e.now) (content n) ≡ inside (expression_of e.now) (Running (left rest.entry.items)))) }
-    ensures body { IfOk result (λ n. IfNone value.entry (bottom (content n) ≡ left rest.entry.items)) }
+    ensures { IfOk result (λ n. content n ≡ ahead (expression_seen value.entry) (left rest.entry.items)) }
 {
     let mut rest = rest;
     while let Some(segment) = rest.pop() {

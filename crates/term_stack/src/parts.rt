@@ -196,7 +196,7 @@ pub enum Now<'a> {
         task: Task<'a>,
         rest: Vec<Segment<'a>>,
     },
-    /// The statements are done, and the value is evaluated.
+    /// The statements are done, and the value is evaluated; a caller waits for it.
     Value {
         value: Operand,
     },
@@ -219,13 +219,22 @@ pub enum Outer<'a> {
     },
 }
 
+/// How far a method under way is.
+#[derive(Clone, Copy)]
+pub enum Stage<'a> {
+    /// Its statements are under way, or its value. The post statements come behind it.
+    Body { value: &'a Expr, post: &'a [Stmt] },
+    /// Its post statements are under way, for no caller. Its value is held.
+    Post { value: Operand },
+}
+
 /// A method under way.
 #[derive(Drop)]
 pub struct Activation<'a> {
     pub outer: Outer<'a>,
     pub method: NameId,
     pub temps: Vec<Binding>,
-    pub value: &'a Expr,
+    pub stage: Stage<'a>,
 }
 
 /// All that an object has still to do: the methods under way, the innermost last, and what comes next.

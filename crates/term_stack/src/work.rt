@@ -3,15 +3,18 @@ ghost use Rattle.std.specs.Prelude.{◌≡◌, [], ◌∷◌, ◌++◌, Some, On
 ghost use Rattle.pool_syntax.specs.TreeOf.{expression_of, statements_of, method_tree};
 ghost use Rattle.pool_syntax.specs.Terms as T;
 ghost use Rattle.pool_syntax.specs.Terms.{append};
-ghost use Rattle.pool_relation.specs.Reducible.{AsExpression, AsStatements, set_value, fill_statements};
+ghost use Rattle.pool_relation.specs.Reducible.{AsExpression, AsStatements, set_value, fill_statements, statements_redex};
+ghost use Rattle.pool_relation.specs.Transition.{work_left};
 ghost use Rattle.pool_relation.specs.Action.{literal, bind, nil_store, temps_of};
-ghost use Rattle.term_stack.specs.Parts.{left, around, layers, bottom, Running, loop_of, term_of};
+ghost use Rattle.term_stack.specs.Parts.{left, around, layers, bottom, content, stopped, operand, Running, Valued, loop_of, term_of, wanted, expression_seen, caller_at, caller_of};
 ghost use Rattle.term_stack.specs.Reduced.{values};
 ghost use Rattle.term_stack.specs.Arguments.{now_args};
-ghost use Rattle.term_stack.specs.Changes.{is_expression, is_statement, is_call, is_end, next_assigns, end_part, after_left, rest_of, keeps_temps};
+ghost use Rattle.term_stack.specs.Changes.{is_expression, is_statement, is_call, is_end, is_awaited, next_assigns, end_part, end_value, after_left, rest_of, keeps_temps};
 
 use crate::enter::{advance, before, enter, settle};
-use crate::parts::{Activation, Binding, Now, Operand, Outer, Ready, Segment, Slot, Work};
+use crate::parts::{
+    Activation, Binding, Now, Operand, Outer, Ready, Segment, Slot, Stage, Task, Work,
+};
 use pool_syntax::{Expr, Method, NameId, Stmt, Value, Var};
 use std::alloc::{AllocError, Global};
 use std::mem;
@@ -95,9 +98,63 @@ fn temps_for(alloc: Global, method: &Method, args: &[Value]) -> Result<Vec<Bindi
     Ok(temps)
 }
 
+/// A value that no method wants: it would be dropped.
+fn dropped<'a>(alloc: Global, value: Operand) -> Now<'a>
+    ensures { stopped result ≡ Running (T.Then (T.Do (operand value)) T.Done) }
+{
+    Now::Statement {
+        task: Task::Do { value },
+        rest: Vec::new(alloc),
+    }
+}
+
+/// The value that is wanted where the statements are done: that of the innermost method, unless it has it.
+fn wanted<'a>(calls: &[Activation<'a>]) -> Option<&'a Expr>
+    ensures { expression_seen result ≡ wanted calls.now }
+{
+    match calls.last() {
+        None => None,
+        Some(call) => match call.stage {
+            Stage::Body { value, .. } => Some(value),
+            Stage::Post { .. } => None,
+        },
+    }
+}
+
+impl<'a> Activation<'a> {
+    /// Whom the method serves; while its post statements are under way no one.
+    pub fn caller(&self) -> Option<u32>
+        ensures { result ≡ caller_of self.now.stage self.now.outer }
+    {
+        match self.stage {
+            Stage::Post { .. } => None,
+            Stage::Body { .. } => match &self.outer {
+                Outer::Expression { .. } => None,
+                Outer::Statement { caller, .. } => *caller,
+            },
+        }
+    }
+
+    /// The value of the method at its end, where this comes next.
+    pub fn end_value(&self, next: &Now<'_>) -> Operand
+        ensures { result ≡ end_value self.now.stage next.now }
+    {
+        match self.stage {
+            Stage::Post { value } => value,
+            Stage::Body { .. } => match next {
+                Now::Value { value } => *value,
+                _ => Operand {
+                    value: Value::Nil,
+                    pos: 0,
+                },
+            },
+        }
+    }
+}
+
 impl<'a> Work<'a> {
     /// The body of a new object.
-    #[tactic(auto, using(crate::proofs::Plugged::append_nothing))]
+    #[tactic(auto, using(crate::proofs::Plugged::append_nothing, crate::proofs::Coming::body_ahead))]
     pub fn make(alloc: Global, body: &'a [Stmt]) -> Result<Work<'a>, AllocError>
         ensures { IfOk result (λ w. term_of w ≡ statements_of body.now) }
     {
@@ -109,17 +166,80 @@ impl<'a> Work<'a> {
         })
     }
 
+    /// The post statements of the method begin; its value is held.
+    #[tactic(auto, using(crate::proofs::Coming::post_ahead, crate::proofs::Plugged::append_nothing))]
+    fn begin_post(
+        &mut self,
+        alloc: Global,
+        call: Activation<'a>,
+        value: Operand,
+        post: &'a [Stmt],
+    ) -> Result<(), AllocError>
+        ensures { OnOk result (term_of self.new ≡ bottom (layers self.old.calls.items (around call.entry.outer None call.entry.method.0 call.entry.temps.items (T.Done, operand value, statements_of post.now)))) }
+    {
+        let mut call = call;
+        call.stage = Stage::Post { value };
+        self.calls.push(call)?;
+        let rest = before(post, Vec::new(alloc))?;
+        self.next = advance(alloc, rest, None)?;
+        Ok(())
+    }
+
+    /// Stands in this method.
+    fn stand(&mut self, call: Activation<'a>, next: Now<'a>) -> Result<(), AllocError>
+        ensures { OnOk result ((self.new.calls.items ≡ self.old.calls.items ++ call.entry ∷ []) × (self.new.next ≡ next.entry)) }
+    {
+        self.next = next;
+        self.calls.push(call)?;
+        Ok(())
+    }
+
+    /// Comes to an evaluated value in this method. Where a caller waits for it, the object stands there; else the post statements begin.
+    #[tactic(auto, using(crate::proofs::Coming::value_for_caller, crate::proofs::Coming::value_for_no_one, crate::proofs::Coming::value_in_post))]
+    fn pass_in(
+        &mut self,
+        alloc: Global,
+        call: Activation<'a>,
+        value: Operand,
+    ) -> Result<(), AllocError>
+        ensures { OnOk result (term_of self.new ≡ bottom (layers (self.old.calls.items ++ call.entry ∷ []) (Valued (operand value)))) }
+    {
+        match call.stage {
+            Stage::Body { post, .. } => match call.caller() {
+                Some(_) => self.stand(call, Now::Value { value }),
+                None => self.begin_post(alloc, call, value, post),
+            },
+            Stage::Post { .. } => self.stand(call, dropped(alloc, value)),
+        }
+    }
+
+    /// Comes to what is next. An evaluated value is passed where no caller waits for it.
+    fn come_to(&mut self, alloc: Global, next: Now<'a>) -> Result<(), AllocError>
+        ensures { OnOk result (term_of self.new ≡ bottom (layers self.old.calls.items (content next.entry))) }
+    {
+        match next {
+            Now::Value { value } => match self.calls.pop() {
+                Some(call) => self.pass_in(alloc, call, value),
+                None => {
+                    self.next = dropped(alloc, value);
+                    Ok(())
+                }
+            },
+            other => {
+                self.next = other;
+                Ok(())
+            }
+        }
+    }
+
     /// Goes on with these statements, after the redex.
-    #[tactic(auto, using(crate::proofs::Changing::same_inside, crate::proofs::Changing::same_bottom))]
+    #[tactic(auto, using(crate::proofs::Coming::all_ahead))]
     fn go_on(&mut self, alloc: Global, rest: Vec<Segment<'a>>) -> Result<(), AllocError>
         ensures { OnOk result (term_of self.new ≡ bottom (layers self.old.calls.items (Running (left rest.entry.items)))) }
     {
-        let value = match self.calls.as_slice().last() {
-            None => None,
-            Some(call) => Some(call.value),
-        };
-        self.next = advance(alloc, rest, value)?;
-        Ok(())
+        let value = wanted(self.calls.as_slice());
+        let next = advance(alloc, rest, value)?;
+        self.come_to(alloc, next)
     }
 
     /// The expression that is the redex becomes this value.
@@ -136,8 +256,8 @@ impl<'a> Work<'a> {
                 rest,
             } => {
                 let operand = Operand { value, pos: 0 };
-                self.next = settle(alloc, operand, places, slot, rest)?;
-                Ok(())
+                let next = settle(alloc, operand, places, slot, rest)?;
+                self.come_to(alloc, next)
             }
             _ => unreachable!(),
         }
@@ -208,8 +328,8 @@ impl<'a> Work<'a> {
         ensures { OnOk result (term_of self.new ≡ fill_statements (term_of self.old) (AsStatements (T.Then (T.If (expression_of cond.now) (append (statements_of body.now) (loop_of (expression_of cond.now) (statements_of body.now))) T.Done) T.Done))) }
     {
         let rest = self.take();
-        self.next = enter(alloc, cond, Slot::Loop { cond, body }, rest)?;
-        Ok(())
+        let next = enter(alloc, cond, Slot::Loop { cond, body }, rest)?;
+        self.come_to(alloc, next)
     }
 
     /// The assignment that is the redex is done; the variable gets the value where it is one of the innermost method.
@@ -240,14 +360,17 @@ impl<'a> Work<'a> {
         method: &'a Method,
         args: &[Value],
     ) -> Result<(), AllocError>
-        ensures { OnOk result (term_of self.new ≡ bottom (layers self.old.calls.items (around outer.entry method.now.name.name.0 (temps_of (method_tree method.now) args.now) (statements_of method.now.body, expression_of method.now.value)))) }
+        ensures { OnOk result (term_of self.new ≡ bottom (layers self.old.calls.items (around outer.entry (caller_at outer.entry) method.now.name.name.0 (temps_of (method_tree method.now) args.now) (statements_of method.now.body, expression_of method.now.value, statements_of method.now.post)))) }
     {
         let temps = temps_for(alloc, method, args)?;
         self.calls.push(Activation {
             outer,
             method: method.name.name,
             temps,
-            value: &method.value,
+            stage: Stage::Body {
+                value: &method.value,
+                post: method.post.items(),
+            },
         })?;
         let body = before(method.body.items(), Vec::new(alloc))?;
         self.go_on(alloc, body)
@@ -257,7 +380,7 @@ impl<'a> Work<'a> {
     #[tactic(auto, using(crate::proofs::Changing::expression_filled))]
     pub fn call(&mut self, alloc: Global, method: &'a Method) -> Result<(), AllocError>
         requires { IsTrue (is_call self.old.next) }
-        ensures { OnOk result (term_of self.new ≡ fill_statements (term_of self.old) (AsExpression (T.Frame method.now.name.name.0 (temps_of (method_tree method.now) (now_args self.old.next)) (statements_of method.now.body) (expression_of method.now.value)))) }
+        ensures { OnOk result (term_of self.new ≡ fill_statements (term_of self.old) (AsExpression (T.Frame method.now.name.name.0 (temps_of (method_tree method.now) (now_args self.old.next)) (statements_of method.now.body) (expression_of method.now.value) (statements_of method.now.post)))) }
     {
         match mem::replace(&mut self.next, Now::Over) {
             Now::Expression {
@@ -283,16 +406,40 @@ impl<'a> Work<'a> {
         requires { IsTrue (is_end self.old.next) }
         ensures { OnOk result (term_of self.new ≡ fill_statements (term_of self.old) (end_part self.old.calls.items self.old.next)) }
     {
-        let value = match &self.next {
-            Now::Value { value } => value.value,
-            _ => Value::Nil,
-        };
         match self.calls.pop() {
             None => {
                 self.next = Now::Over;
                 Ok(())
             }
-            Some(call) => self.leave_to(alloc, call, value),
+            Some(call) => {
+                let value = call.end_value(&self.next);
+                self.leave_to(alloc, call, value.value)
+            }
+        }
+    }
+
+    /// The value of the method that is at its end was given to its caller: its post statements come next, or it is left where it has none.
+    #[tactic(auto, using(crate::proofs::Changing::returned_left, crate::proofs::Changing::returned_post))]
+    pub fn hand_over(&mut self, alloc: Global) -> Result<(), AllocError>
+        requires end { IsTrue (is_end self.old.next) }
+        requires awaited { IsTrue (is_awaited self.old.calls.items) }
+        ensures { OnOk result (term_of self.new ≡ fill_statements (term_of self.old) (AsStatements (work_left (statements_redex [] (term_of self.old))))) }
+    {
+        match self.calls.pop() {
+            None => unreachable!(),
+            Some(call) => {
+                let value = call.end_value(&self.next);
+                match call.stage {
+                    Stage::Body { post, .. } => {
+                        if post.is_empty() {
+                            self.leave_to(alloc, call, value.value)
+                        } else {
+                            self.begin_post(alloc, call, value, post)
+                        }
+                    }
+                    Stage::Post { .. } => unreachable!(),
+                }
+            }
         }
     }
 
@@ -309,13 +456,13 @@ impl<'a> Work<'a> {
             outer,
             method: _,
             temps: _,
-            value: _,
+            stage: _,
         } = call;
         match outer {
             Outer::Expression { places, slot, rest } => {
                 let operand = Operand { value, pos: 0 };
-                self.next = settle(alloc, operand, places, slot, rest)?;
-                Ok(())
+                let next = settle(alloc, operand, places, slot, rest)?;
+                self.come_to(alloc, next)
             }
             Outer::Statement { caller: _, rest } => self.go_on(alloc, rest),
         }
@@ -333,7 +480,7 @@ impl<'a> Work<'a> {
     ) -> Result<(), AllocError>
         requires statement { IsTrue (is_statement self.old.next) }
         requires plain { IsTrue (keeps_temps self.old.next) }
-        ensures { OnOk result (term_of self.new ≡ fill_statements (term_of self.old) (AsStatements (T.Then (T.Serve method.now.name.name.0 caller (temps_of (method_tree method.now) args.now) (statements_of method.now.body) (expression_of method.now.value)) (statements_of after.now)))) }
+        ensures { OnOk result (term_of self.new ≡ fill_statements (term_of self.old) (AsStatements (T.Then (T.Serve method.now.name.name.0 caller (temps_of (method_tree method.now) args.now) (statements_of method.now.body) (expression_of method.now.value) (statements_of method.now.post)) (statements_of after.now)))) }
     {
         let rest = before(after, self.take())?;
         self.begin(alloc, Outer::Statement { caller, rest }, method, args)

@@ -114,6 +114,8 @@ module _ (P : Value → Type 0) (plain : HoldsOfPlain IsInRange P) where
     send_at b m args (Some (I.Branch a)) e q = absurd (branch_never f (λ x. x ≡ K.Send b m args) (λ z. grind (arith, z)) (λ x z. grind (arith, z)) q)
     send_at b m args (Some I.Ret) e q =
         absurd (return_never (λ x. x ≡ K.Send b m args) f.serves (top f.operands) (λ z. grind (arith, z)) (λ a d z. grind (arith, z)) q)
+    send_at b m args (Some I.Post) e q =
+        absurd (return_never (λ x. x ≡ K.Send b m args) f.serves (top f.operands) (λ z. grind (arith, z)) (λ a d z. grind (arith, z)) q)
     send_at b m args (Some (I.Select alts)) e q =
         absurd (select_never f (λ x. x ≡ K.Send b m args) (λ z. grind (arith, z)) (λ x z. grind (arith, z)) alts (taken (length alts) f.operands []) (λ os z. grind (arith, z)) q)
     send_at b m args _ e q = absurd (grind (arith, q))
@@ -128,12 +130,15 @@ module _ (P : Value → Type 0) (plain : HoldsOfPlain IsInRange P) where
     async_at b m args (Some (I.Branch a)) e q = absurd (branch_never f (λ x. x ≡ K.Async b m args) (λ z. grind (arith, z)) (λ x z. grind (arith, z)) q)
     async_at b m args (Some I.Ret) e q =
         absurd (return_never (λ x. x ≡ K.Async b m args) f.serves (top f.operands) (λ z. grind (arith, z)) (λ a d z. grind (arith, z)) q)
+    async_at b m args (Some I.Post) e q =
+        absurd (return_never (λ x. x ≡ K.Async b m args) f.serves (top f.operands) (λ z. grind (arith, z)) (λ a d z. grind (arith, z)) q)
     async_at b m args (Some (I.Select alts)) e q =
         absurd (select_never f (λ x. x ≡ K.Async b m args) (λ z. grind (arith, z)) (λ x z. grind (arith, z)) alts (taken (length alts) f.operands []) (λ os z. grind (arith, z)) q)
     async_at b m args _ e q = absurd (grind (arith, q))
 
     return_at : (a n : ℕ) (v : Value) (i : Option Instr) → slice_get (code_of (Some k) f.method) f.at ≡ i → instr_kind f i ≡ K.Return a n v → P v
     return_at a n v (Some I.Ret) e q = return_by a n v f.serves (top f.operands) (at_top 0) q
+    return_at a n v (Some I.Post) e q = return_by a n v f.serves (top f.operands) (at_top 0) q
     return_at a n v (Some (I.Send l m)) e q =
         absurd (sent_never (λ x. x ≡ K.Return a n v) (top (dropped m f.operands)) (λ d. K.Send d l (taken m f.operands [])) (λ d z. grind (arith, z)) (λ x z. grind (arith, z)) q)
     return_at a n v (Some (I.Async l m)) e q =
@@ -170,6 +175,8 @@ module _ (P : Value → Type 0) (plain : HoldsOfPlain IsInRange P) where
     new_at d (Some (I.Branch b)) e q = absurd (branch_never f (λ x. x ≡ K.New d) (λ z. grind (arith, z)) (λ x z. grind (arith, z)) q)
     new_at d (Some I.Ret) e q =
         absurd (return_never (λ x. x ≡ K.New d) f.serves (top f.operands) (λ z. grind (arith, z)) (λ a b z. grind (arith, z)) q)
+    new_at d (Some I.Post) e q =
+        absurd (return_never (λ x. x ≡ K.New d) f.serves (top f.operands) (λ z. grind (arith, z)) (λ a b z. grind (arith, z)) q)
     new_at d (Some (I.Select alts)) e q =
         absurd (select_never f (λ x. x ≡ K.New d) (λ z. grind (arith, z)) (λ x z. grind (arith, z)) alts (taken (length alts) f.operands []) (λ os z. grind (arith, z)) q)
     new_at d _ e q = absurd (grind (arith, q))
@@ -184,6 +191,8 @@ module _ (P : Value → Type 0) (plain : HoldsOfPlain IsInRange P) where
     answer_at names (Some (I.Oper op)) e q = absurd (outcome_never (λ x. x ≡ K.Answer names) (λ z. grind (arith, z)) (λ x z. grind (arith, z)) (operated op f.operands) q)
     answer_at names (Some (I.Branch b)) e q = absurd (branch_never f (λ x. x ≡ K.Answer names) (λ z. grind (arith, z)) (λ x z. grind (arith, z)) q)
     answer_at names (Some I.Ret) e q =
+        absurd (return_never (λ x. x ≡ K.Answer names) f.serves (top f.operands) (λ z. grind (arith, z)) (λ a b z. grind (arith, z)) q)
+    answer_at names (Some I.Post) e q =
         absurd (return_never (λ x. x ≡ K.Answer names) f.serves (top f.operands) (λ z. grind (arith, z)) (λ a b z. grind (arith, z)) q)
     answer_at names (Some (I.Select alts)) e q =
         absurd (select_never f (λ x. x ≡ K.Answer names) (λ z. grind (arith, z)) (λ x z. grind (arith, z)) alts (taken (length alts) f.operands []) (λ os z. grind (arith, z)) q)
@@ -210,6 +219,8 @@ module _ (P : Value → Type 0) (plain : HoldsOfPlain IsInRange P) where
     select_at os (Some (I.Oper op)) e q = absurd (outcome_never (λ x. x ≡ K.Select os) (λ z. grind (arith, z)) (λ x z. grind (arith, z)) (operated op f.operands) q)
     select_at os (Some (I.Branch b)) e q = absurd (branch_never f (λ x. x ≡ K.Select os) (λ z. grind (arith, z)) (λ x z. grind (arith, z)) q)
     select_at os (Some I.Ret) e q =
+        absurd (return_never (λ x. x ≡ K.Select os) f.serves (top f.operands) (λ z. grind (arith, z)) (λ a b z. grind (arith, z)) q)
+    select_at os (Some I.Post) e q =
         absurd (return_never (λ x. x ≡ K.Select os) f.serves (top f.operands) (λ z. grind (arith, z)) (λ a b z. grind (arith, z)) q)
     select_at os _ e q = absurd (grind (arith, q))
 

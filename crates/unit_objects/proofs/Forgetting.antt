@@ -16,11 +16,16 @@ use Rattle.object_code.specs.declared.unit.ClassCode.{ClassCode}
 use Rattle.object_code.specs.declared.unit.Unit.{Unit as Code}
 use Rattle.object_code.specs.declared.unit.Frame.{Frame}
 use Rattle.object_code.specs.declared.unit.CodeObject.{CodeObject}
-use Rattle.object_code.specs.Frames.{code_of, silent, go_on_with, settled_within, settled, next, top, taken, dropped}
+use Rattle.object_code.specs.Frames.{code_of, post_passed, silent, go_on_with, settled_within, settled, next, top, taken, dropped}
 use Rattle.object_code.specs.Kinds as K
 use Rattle.object_code.specs.Kinds.{Kind, Offered, operated, arity, instr_kind, frames_kind, code_kind, outcome_kind, sent_kind, select_kind, return_kind, offers}
 use Rattle.object_code.specs.Step.{Numbered, at_rest, padded, method_named, begun, called, handed, left, is_own, instr_stepped, frames_stepped, code_stepped, frames_given, code_given, instr_gone_on, frames_gone_on, code_gone_on, at_alternative, after_choice, frames_picked, code_picked, frames_serving, method_serving, code_serving, placed_of, code_placed}
 use Rattle.unit_objects.specs.OfUnit.{IsFrameOf, StandsAfterCall, missing_under, serves_of, StandsUnder, AreFramesOf, IsObjectOf, IsAtStepOf, IsAtStep, forget_serves, forget_frame, forget, forget_kind}
+
+passed_forgets : (f : Frame) (s : Serves) → post_passed (forget_frame f) (forget_serves s) ≡ option_map forget_frame (post_passed f s)
+passed_forgets f S.Own = refl
+passed_forgets f S.Sender = refl
+passed_forgets f (S.Caller k n) = refl
 
 -- one silent instruction
 forget_silent : (f : Frame) (i : Option Instr) → silent (forget_frame f) i ≡ option_map forget_frame (silent f i)
@@ -28,6 +33,7 @@ forget_silent f (Some (I.PushInt z)) = refl
 forget_silent f (Some (I.PushBool b)) = refl
 forget_silent f (Some I.PushNil) = refl
 forget_silent f (Some (I.Jump a)) = refl
+forget_silent f (Some I.Post) = passed_forgets f f.serves
 forget_silent f _ = refl
 
 forget_go : (f : Frame) (go : Frame → Frame) (s : Option Frame) → ((g : Frame) → forget_frame (go g) ≡ go (forget_frame g))
@@ -112,6 +118,7 @@ gone_instr k x f fs (Some I.Write) = forget_rest k x _ _
 gone_instr k x f fs (Some (I.WriteText s)) = forget_rest k x _ _
 gone_instr k x f fs (Some (I.Async m n)) = forget_rest k x _ _
 gone_instr k x f fs (Some I.Ret) = forget_left k x fs
+gone_instr k x f fs (Some I.Post) = forget_rest k x (next (record f { serves = S.Sender }) f.operands) fs
 gone_instr k x f fs _ = refl
 
 gone_frames : (k : Option ClassCode) (x : CodeObject) (fs : List Frame) → forget (frames_gone_on k x fs) ≡ frames_gone_on k (forget x) (map forget_frame fs)
@@ -202,6 +209,7 @@ instr_forgets : (f : Frame) (i : Option Instr) → instr_kind (forget_frame f) i
 instr_forgets f (Some (I.Oper op)) = outcome_forgets (operated op f.operands)
 instr_forgets f (Some (I.Branch a)) = if_forgets (is_bool (top f.operands)) K.Local (K.Fault NilOperand) refl refl
 instr_forgets f (Some I.Ret) = return_forgets f.serves (top f.operands)
+instr_forgets f (Some I.Post) = return_forgets f.serves (top f.operands)
 instr_forgets f (Some (I.New c)) = refl
 instr_forgets f (Some (I.Send m n)) = sent_forgets (top (dropped n f.operands)) _ (λ b. refl)
 instr_forgets f (Some (I.Async m n)) = sent_forgets (top (dropped n f.operands)) _ (λ b. refl)

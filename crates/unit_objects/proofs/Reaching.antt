@@ -1,8 +1,10 @@
 -- Frames of a proper unit: what is at hand, and where an instruction leads.
-use Rattle.std.proofs.Common.{◌≡◌, inl, inr, refl, sym, ap, ◌∙◌, subst, IsTrue, ℕ, zero, suc, ◌+◌, ℤ, List, [], ◌∷◌, length, Option, Some, None, is_some, arith}
+use Rattle.std.proofs.Common.{◌≡◌, inl, inr, refl, sym, ap, ◌∙◌, subst, IsTrue, ℕ, zero, suc, ◌+◌, ℤ, List, [], ◌∷◌, length, Option, Some, None, is_some, arith, true, false}
 use Rattle.std.specs.Prelude.{slice_get}
 use Rattle.pool_syntax.specs.declared.words.Value.{Value}
 use Rattle.pool_syntax.specs.declared.words.Value.TheVariants as V
+use Rattle.pool_syntax.specs.declared.words.Serves.{Serves}
+use Rattle.pool_syntax.specs.declared.words.Serves.TheVariants as S
 use Rattle.object_code.specs.declared.unit.Instr.{Instr}
 use Rattle.object_code.specs.declared.unit.Instr.TheVariants as I
 use Rattle.object_code.specs.declared.unit.ClassCode.{ClassCode}
@@ -14,7 +16,7 @@ use Rattle.object_code.specs.Proper.{takes, leaves, nexts, IsAmong, Reached, IsP
 use Rattle.object_code.specs.Step.{at_rest, is_own}
 use Rattle.mesh_semantics.specs.Sound.{Each}
 use Rattle.unit_objects.specs.OfUnit.{HasTemps, IsFrameOf, StandsAfterCall, missing_under, serves_of, StandsUnder, AreFramesOf, IsObjectOf, HoldsOfPlain, IsInRange, IsMadeBy, IsMadeIn, IsAtStepOf, IsAtStep}
-use Rattle.unit_objects.proofs.Resting.{same_some, settled_rests}
+use Rattle.unit_objects.proofs.Resting.{same_some, settled_rests, passed_is}
 
 -- the place after an instruction is reached
 pub reached_next : (k : Option ClassCode) (c : List Instr) (b h : ℕ) (i : Instr) (at held : ℕ) → Reached k c b h → slice_get c b ≡ Some i → IsAmong at (nexts b i)
@@ -32,6 +34,11 @@ proper_code u k fine None temps h = subst (λ n. IsProperCode u (Some k) n k.bod
 proper_code u k fine (Some m) temps h =
     subst (λ o. IsProperCode u (Some k) (length temps) (method_code o)) (sym h.1)
     (subst (λ n. IsProperCode u (Some k) n h.0.code) (sym h.2) (fine.methods m h.0 h.1).4)
+
+pub missing_else : (s : Serves) → is_own s ≡ false → missing_under (Some s) ≡ 0
+missing_else S.Own e = absurd (grind (arith, e))
+missing_else (S.Caller k n) e = refl
+missing_else S.Sender e = refl
 
 module _ (k : ClassCode) (P : Value → Type 0) where
   -- the frame after an instruction
@@ -67,6 +74,8 @@ module _ (k : ClassCode) (P : Value → Type 0) where
     silent_of n f g (Some I.PushNil) t e h = silent_pushed n f g I.PushNil V.Nil t e (inl refl) refl refl plain.2 (same_some _ _ h)
     silent_of n f g (Some (I.Jump a)) t e h =
         subst (IsFrameOf k P n) (same_some _ _ h) (moved n n f (I.Jump a) a f.temps f.operands t e (inl refl) (omega arith) refl t.temps t.operands)
+    silent_of n f g (Some I.Post) t e h =
+        subst (IsFrameOf k P n) (passed_is f g f.serves h) (moved n n f I.Post (suc f.at) f.temps f.operands t e (inl refl) (omega arith) refl t.temps t.operands)
     silent_of n f g _ t e h = absurd (grind (arith, h))
 
     -- whom the frame serves, and whose it is, stay
@@ -80,6 +89,7 @@ module _ (k : ClassCode) (P : Value → Type 0) where
     silent_method f g (Some (I.PushBool b)) e = let s = sym (same_some _ _ e) in (ap (λ x. x.method) s, ap (λ x. x.serves) s)
     silent_method f g (Some I.PushNil) e = let s = sym (same_some _ _ e) in (ap (λ x. x.method) s, ap (λ x. x.serves) s)
     silent_method f g (Some (I.Jump a)) e = let s = sym (same_some _ _ e) in (ap (λ x. x.method) s, ap (λ x. x.serves) s)
+    silent_method f g (Some I.Post) e = let s = sym (passed_is f g f.serves e) in (ap (λ x. x.method) s, ap (λ x. x.serves) s)
     silent_method f g _ e = absurd (grind (arith, e))
 
     follows_by : (n : ℕ) (f : Frame) (go : Frame → Frame) (s : Option Frame) → silent f (slice_get (code_of (Some k) f.method) f.at) ≡ s → IsFrameOf k P n f
@@ -126,6 +136,25 @@ module _ (k : ClassCode) (P : Value → Type 0) where
       → g.method ≡ f.method → g.serves ≡ f.serves → AreFramesOf k P b (g ∷ fs)
   in_place a b f g [] h t d m s = (t, d, m ∙ h.2, s ∙ h.3)
   in_place a b f g (e ∷ fs) h t d m s = (t, d, subst (λ x. IsTrue (is_some x)) (sym m) h.2, under_same f g (e ∷ fs) m s h.3)
+
+  -- frames under one that serves another are frames under one that serves no one
+  under_no_own : (a b : Frame) (f : Frame) → is_own a.serves ≡ false → is_own b.serves ≡ false → IsFrameOf k P (missing_under (Some a.serves)) f
+      → IsFrameOf k P (missing_under (Some b.serves)) f × StandsUnder k (Some b) f
+  under_no_own a b f p q t = (
+    subst (λ n. IsFrameOf k P n f) (missing_else a.serves p ∙ sym (missing_else b.serves q)) t,
+    λ o. absurd (let z : is_own b.serves ≡ true = o in grind (arith, q, z)),
+  )
+
+  under_other : (a b : Frame) (fs : List Frame) → is_own a.serves ≡ false → is_own b.serves ≡ false → AreFramesOf k P (Some a) fs → AreFramesOf k P (Some b) fs
+  under_other a b [] p q h = h
+  under_other a b (f ∷ []) p q h = let u = under_no_own a b f p q h.0 in (u.0, u.1, h.2, h.3)
+  under_other a b (f ∷ g ∷ fs) p q h = let u = under_no_own a b f p q h.0 in (u.0, u.1, h.2, h.3)
+
+  -- the frame on top that served a caller, and now serves no one
+  pub for_no_one : (f g : Frame) (fs : List Frame) → AreFramesOf k P None (f ∷ fs) → IsFrameOf k P 0 g → g.method ≡ f.method → is_own f.serves ≡ false → g.serves ≡ S.Sender
+      → AreFramesOf k P None (g ∷ fs)
+  for_no_one f g [] h t m p s = (t, tt, m ∙ h.2, s)
+  for_no_one f g (e ∷ fs) h t m p s = (t, tt, subst (λ x. IsTrue (is_some x)) (sym m) h.2, under_other f g (e ∷ fs) p (ap is_own s) h.3)
 
 -- an object and its frames before it is brought to a step instruction
 pub record IsReady (u : Code) (P : Value → Type 0) (k : ClassCode) (x : CodeObject) (fs : List Frame) : Type 0 where

@@ -2,15 +2,23 @@
 use Rattle.std.proofs.Common.{◌≡◌, ◌⊎◌, inl, inr, refl, sym, ap, ◌∙◌, subst, ℕ, zero, suc, ◌+◌, ◌<◌, List, length, Option, Some, None, arith}
 use Rattle.std.specs.Prelude.{slice_get}
 use Rattle.std.proofs.lemmas.Option.{slice_get_within}
+use Rattle.pool_syntax.specs.declared.words.Serves.{Serves}
+use Rattle.pool_syntax.specs.declared.words.Serves.TheVariants as S
 use Rattle.object_code.specs.declared.unit.Instr.{Instr}
 use Rattle.object_code.specs.declared.unit.Instr.TheVariants as I
 use Rattle.object_code.specs.declared.unit.Frame.{Frame}
-use Rattle.object_code.specs.Frames.{silent, go_on_with, settled_within, settled}
+use Rattle.object_code.specs.Frames.{next, post_passed, silent, go_on_with, settled_within, settled}
 use Rattle.object_code.specs.Proper.{silent_to, Chain}
 use Rattle.unit_objects.proofs.Pigeons.{pigeons, Meets}
 
 pub same_some : {X : Type 0} (a b : X) → Some a ≡ Some b → a ≡ b
 same_some a b e = ap (λ o. elim o as (λ _. _) [ None ↦ a | Some x ↦ x ]) e
+
+-- a frame that passes the end of a method's value serves no caller, and goes on
+pub passed_is : (f g : Frame) (s : Serves) → post_passed f s ≡ Some g → next f f.operands ≡ g
+passed_is f g S.Own e = same_some _ _ e
+passed_is f g S.Sender e = same_some _ _ e
+passed_is f g (S.Caller k n) e = absurd (grind (arith, e))
 
 -- the place after a silent instruction
 abbrev place_or : ℕ → Option ℕ → ℕ
@@ -65,6 +73,7 @@ module _ (c : List Instr) where
     place_same f g (Some (I.PushBool b)) e = ap (λ o. elim o as (λ _. Option ℕ) [ None ↦ None | Some x ↦ Some x.at ]) e
     place_same f g (Some I.PushNil) e = ap (λ o. elim o as (λ _. Option ℕ) [ None ↦ None | Some x ↦ Some x.at ]) e
     place_same f g (Some (I.Jump a)) e = ap (λ o. elim o as (λ _. Option ℕ) [ None ↦ None | Some x ↦ Some x.at ]) e
+    place_same f g (Some I.Post) e = ap (λ x. Some x.at) (passed_is f g f.serves e)
     place_same f g _ e = absurd (grind (arith, e))
 
     -- it is at a step instruction, or this many silent ones stand there

@@ -26,7 +26,7 @@ use Rattle.mesh_semantics.specs.Sound.{Each}
 use Rattle.unit_objects.specs.OfUnit.{IsFrameOf, missing_under, StandsUnder, AreFramesOf, HoldsOfPlain, IsMadeIn, IsAsking, IsChoosing, IsGoingOn}
 use Rattle.unit_objects.proofs.Elements.{length_dropped, length_padded, length_set, each_dropped, each_take, each_set, each_top, each_nth, each_taken, each_padded, operated_names}
 use Rattle.unit_objects.proofs.Resting.{same_some}
-use Rattle.unit_objects.proofs.Reaching.{plain_range, proper_code, moved, with_missing, frame_on_top, in_place, IsReady}
+use Rattle.unit_objects.proofs.Reaching.{plain_range, proper_code, moved, with_missing, frame_on_top, in_place, IsReady, missing_else, for_no_one}
 
 -- a method of a name stands at its place
 pub found_from : (n : ℕ) (ms : List MethodCode) (m : NameId) (r : Numbered) → method_from n ms m ≡ Some r
@@ -76,11 +76,6 @@ missing_own : (s : Serves) → is_own s ≡ true → missing_under (Some s) ≡ 
 missing_own S.Own e = refl
 missing_own (S.Caller k n) e = absurd (grind (arith, e))
 missing_own S.Sender e = absurd (grind (arith, e))
-
-missing_else : (s : Serves) → is_own s ≡ false → missing_under (Some s) ≡ 0
-missing_else S.Own e = absurd (grind (arith, e))
-missing_else (S.Caller k n) e = refl
-missing_else S.Sender e = refl
 
 -- a value that is returned is another's
 for_another : (s : Serves) (v : Value) → IsGoingOn (return_kind s v) → is_own s ≡ false
@@ -220,6 +215,7 @@ module _ (u : Code) (proper : IsProper u) (P : Value → Type 0) (plain : HoldsO
     given_at v p (Some (I.Oper op)) e a = absurd (outcome_never IsAsking (λ z. z) (λ _ z. z) (operated op f.operands) a)
     given_at v p (Some (I.Branch b)) e a = absurd (if_never IsAsking (is_bool (top f.operands)) K.Local (K.Fault NilOperand) (λ z. z) (λ z. z) a)
     given_at v p (Some I.Ret) e a = absurd (return_never IsAsking f.serves (top f.operands) (λ z. z) (λ _ _ z. z) a)
+    given_at v p (Some I.Post) e a = absurd (return_never IsAsking f.serves (top f.operands) (λ z. z) (λ _ _ z. z) a)
     given_at v p (Some (I.Async m n)) e a = absurd (sent_never IsAsking (top (dropped n f.operands)) _ (λ _ z. z) (λ _ z. z) a)
     given_at v p (Some (I.Select alts)) e a =
         let gs = taken (length alts) f.operands [] in
@@ -233,6 +229,11 @@ module _ (u : Code) (proper : IsProper u) (P : Value → Type 0) (plain : HoldsO
     gone_at same (Some (I.Async m n)) e a =
         goes (I.Async m n) (dropped (suc n) f.operands) e (inl refl) (omega (arith, drops (I.Async m n) (suc n) e refl)) (each_left (suc n))
     gone_at same (Some I.Ret) e a = leaves_off f fs h (for_another f.serves (top f.operands) a) same
+    gone_at same (Some I.Post) e a =
+        let g : Frame = next (record f { serves = S.Sender }) f.operands in
+        let t = moved k P 0 0 f I.Post (suc f.at) f.temps f.operands on_top e (inl refl) (omega arith) refl on_top.temps on_top.operands in
+        lands x g fs (here (g ∷ fs) (for_no_one k P f g fs h (record { reached = t.reached; has_temps = t.has_temps; temps = t.temps; operands = t.operands }) refl
+        (for_another f.serves (top f.operands) a) refl))
     gone_at same _ e a = same
 
     -- the frame after a choice
@@ -254,6 +255,7 @@ module _ (u : Code) (proper : IsProper u) (P : Value → Type 0) (plain : HoldsO
     choice_frame i (Some (I.Oper op)) e a = absurd (outcome_never IsChoosing (λ z. z) (λ _ z. z) (operated op f.operands) a)
     choice_frame i (Some (I.Branch b)) e a = absurd (if_never IsChoosing (is_bool (top f.operands)) K.Local (K.Fault NilOperand) (λ z. z) (λ z. z) a)
     choice_frame i (Some I.Ret) e a = absurd (return_never IsChoosing f.serves (top f.operands) (λ z. z) (λ _ _ z. z) a)
+    choice_frame i (Some I.Post) e a = absurd (return_never IsChoosing f.serves (top f.operands) (λ z. z) (λ _ _ z. z) a)
     choice_frame i (Some (I.Send m n)) e a = absurd (sent_never IsChoosing (top (dropped n f.operands)) _ (λ _ z. z) (λ _ z. z) a)
     choice_frame i (Some (I.Async m n)) e a = absurd (sent_never IsChoosing (top (dropped n f.operands)) _ (λ _ z. z) (λ _ z. z) a)
     choice_frame i _ e a = absurd a

@@ -1,6 +1,6 @@
 -- The code of a body and of a method without class faults is well sorted.
 use Rattle.std.proofs.Common.{◌≡◌, ◌⊎◌, inl, inr, refl, sym, ap, subst, ◌∙◌, IsTrue, ℕ, zero, suc, ◌+◌, ◌<◌, ◌≤◌, List, [], ◌∷◌, ◌++◌, length, Option, Some, None, is_some, true, false, arith, length-append, append_assoc}
-use Rattle.std.specs.Prelude.{slice_get, ◌^◌, if◌then◌else◌}
+use Rattle.std.specs.Prelude.{slice_get, ◌^◌, Bool, nat_le, if◌then◌else◌}
 use Rattle.pool_syntax.specs.Tokens.{Text}
 use Rattle.pool_syntax.specs.declared.words.Value.TheVariants as V
 use Rattle.pool_syntax.specs.declared.tree.Var.{Var}
@@ -106,6 +106,7 @@ module _ (names : List Text) (p : ProgramTree) (known : (c : ℕ) → Known p (c
   text_of (I.Answer ns) h = tt
   text_of (I.Select alts) h = tt
   text_of I.Halt h = absurd h
+  text_of I.Post h = absurd h
 
   first_stack : (g : CodeScope) (c : List Instr) → S g c 0 ≡ Some []
   first_stack g [] = refl
@@ -140,8 +141,12 @@ module _ (names : List Text) (p : ProgramTree) (known : (c : ℕ) → Known p (c
       let plain = statements_plain names n kt.body 0 s in
       sorted_code cg c ok some (statements_words kt.body) (class_code kt).body.frame_words
       (join_at_most cg c ok some (statements_words kt.body) 0 first (I.Halt ∷ []) x.within (x.last, tt)) x.met (omega arith) short
-      (λ at i e. (proper.exists at i e, text_at first I.Halt i at plain tt (at_of first I.Halt at i e)))
-      (last_of first I.Halt, λ at e. never_at first I.Halt I.Ret at plain (λ h. h) (λ i. let z : I.Halt ≡ I.Ret = i in cc) (at_of first I.Halt at I.Ret e)) proper.no_circle
+      (λ at i e. (proper.exists at i e, text_at first I.Halt i at plain tt (at_of first I.Halt at i e))) (
+        last_of first I.Halt,
+        λ at e. never_at first I.Halt I.Ret at plain (λ h. h) (λ i. let z : I.Halt ≡ I.Ret = i in cc) (at_of first I.Halt at I.Ret e),
+        λ at e. never_at first I.Halt I.Post at plain (λ h. h) (λ i. let z : I.Halt ≡ I.Post = i in cc) (at_of first I.Halt at I.Post e),
+      )
+      proper.no_circle
 
   -- the value of a method stands alone before its Ret
   value_fits : (mt : MethodTree) (s : Sort) (e : Expression) (g : Typing.Scope) → g.program ≡ p → OutcomeKnown p mt.outcome → is_broken (sort_of g e) ≡ false
@@ -169,18 +174,33 @@ module _ (names : List Text) (p : ProgramTree) (known : (c : ℕ) → Known p (c
     kinds_length [] = refl
     kinds_length (v ∷ vs) = ap suc (kinds_length vs)
 
-    pub method_sorted : TypedStatements Nothing (G names p known kt own temps tk q refl) mt.body → TypedExpression Nothing (G names p known kt own temps tk q refl) 0 mt.value
+    -- the code and the words with these post statements
+    abbrev code_with : Statements → List Instr
+    code_with qs = method_instrs (num names p known kt own temps tk q refl) mt.body mt.value qs
+
+    abbrev words_with : Statements → ℕ
+    words_with qs = length temps + more (statements_words mt.body) (more (expression_words mt.value) (suc (statements_words qs)))
+
+    one_at_least : (n : ℕ) → 1 ≤ n → more n 1 ≡ n
+    one_at_least n h = by (nat_le n 1) refl
+      where
+        by : (b : Bool) → nat_le n 1 ≡ b → (if b then 1 else n) ≡ n
+        by true e = let z : n ≤ 1 = grind (arith, e) in omega (arith, h, z)
+        by false e = refl
+
+    -- of a method without post statements
+    bare_sorted : TypedStatements Nothing (G names p known kt own temps tk q refl) mt.body → TypedExpression Nothing (G names p known kt own temps tk q refl) 0 mt.value
         → OutcomeKnown p mt.outcome → IsTrue (gives p (Some mt) (sort_of (G names p known kt own temps tk q refl) mt.value)) → IsTrue (is_value_for mt.outcome mt.value)
-        → IsTrue (have_choices mt.body) → are_spelled_statements names mt.body ≡ true → length (method_code_of (names_of kt.vars) mt).code ≤ 2 ^ 32
-        → IsProperCode (file_of names p).unit (Some (class_code kt)) (length temps) (method_code_of (names_of kt.vars) mt).code
-        → IsWellSorted (CG names p known kt own temps tk q refl) (method_code_of (names_of kt.vars) mt).frame_words (method_code_of (names_of kt.vars) mt).code
-    method_sorted t v kn it valued k s short proper =
+        → IsTrue (have_choices mt.body) → are_spelled_statements names mt.body ≡ true → length (code_with T.Done) ≤ 2 ^ 32
+        → IsProperCode (file_of names p).unit (Some (class_code kt)) (length temps) (code_with T.Done)
+        → IsWellSorted (CG names p known kt own temps tk q refl) (words_with T.Done) (code_with T.Done)
+    bare_sorted t v kn it valued k s short proper =
         let n = num names p known kt own temps tk q refl in
         let g = G names p known kt own temps tk q refl in
         let cg = CG names p known kt own temps tk q refl in
         let first = statements_code n 0 mt.body in
         let value = expression_code n mt.value in
-        let c = method_instrs n mt.body mt.value in
+        let c = method_instrs n mt.body mt.value T.Done in
         let l = length-append first (value ++ I.Ret ∷ []) in
         let l2 = length-append value (I.Ret ∷ []) in
         let ff = front c 0 first (value ++ I.Ret ∷ []) (has_all c) in
@@ -206,11 +226,12 @@ module _ (names : List Text) (p : ProgramTree) (known : (c : ℕ) → Known p (c
         let plain = plain_append names first value (statements_plain names n mt.body 0 s) (expression_plain names n mt.value) in
         let same : first ++ (value ++ I.Ret ∷ []) ≡ (first ++ value) ++ I.Ret ∷ [] = sym (append_assoc first value (I.Ret ∷ [])) in
         let kl = kinds_length temps in
-        sorted_code cg c ok some m (method_code_of (names_of kt.vars) mt).frame_words
+        let one = one_at_least (expression_words mt.value) (w.last (sort_of g mt.value ∷ []) y.1) in
+        sorted_code cg c ok some m (words_with T.Done)
         (join_at_most cg c ok some m 0 first (value ++ I.Ret ∷ []) (more_at_most cg c ok some (statements_words mt.body) m 0 first o.0 x.within)
         (join_at_most cg c ok some m (0 + length first) value (I.Ret ∷ []) most
         ((λ a b. let z = w.last a b in let i = o.1 in omega (arith, z, i)), tt)))
-        both.met (ap (λ z. z + m) (sym kl)) short
+        both.met (ap (λ d. length temps + more (statements_words mt.body) d) one ∙ ap (λ z. z + m) (sym kl)) short
         (λ at i e. (
           subst (λ z. Exists (file_of names p).unit (Some (class_code kt)) z c i) (sym kl) (proper.exists at i e),
           text_at (first ++ value) I.Ret i at plain tt (at_of (first ++ value) I.Ret at i (subst (λ z. slice_get z at ≡ Some i) same e)),
@@ -219,3 +240,13 @@ module _ (names : List Text) (p : ProgramTree) (known : (c : ℕ) → Known p (c
           λ at e. never_at (first ++ value) I.Ret I.Halt at plain (λ h. h) (λ i. let z : I.Ret ≡ I.Halt = i in cc) (at_of (first ++ value) I.Ret at I.Halt (subst (λ z. slice_get z at ≡ Some I.Halt) same e)),
         )
         proper.no_circle
+
+    pub method_sorted : TypedStatements Nothing (G names p known kt own temps tk q refl) mt.body → TypedExpression Nothing (G names p known kt own temps tk q refl) 0 mt.value
+        → OutcomeKnown p mt.outcome → IsTrue (gives p (Some mt) (sort_of (G names p known kt own temps tk q refl) mt.value)) → IsTrue (is_value_for mt.outcome mt.value)
+        → IsTrue (have_choices mt.body) → are_spelled_statements names mt.body ≡ true → length (method_code_of (names_of kt.vars) mt).code ≤ 2 ^ 32
+        → IsProperCode (file_of names p).unit (Some (class_code kt)) (length temps) (method_code_of (names_of kt.vars) mt).code → mt.post ≡ T.Done
+        → IsWellSorted (CG names p known kt own temps tk q refl) (method_code_of (names_of kt.vars) mt).frame_words (method_code_of (names_of kt.vars) mt).code
+    method_sorted t v kn it valued k s short proper bare =
+        subst (λ qs. IsWellSorted (CG names p known kt own temps tk q refl) (words_with qs) (code_with qs)) (sym bare)
+        (bare_sorted t v kn it valued k s (subst (λ qs. length (code_with qs) ≤ 2 ^ 32) bare short)
+        (subst (λ qs. IsProperCode (file_of names p).unit (Some (class_code kt)) (length temps) (code_with qs)) bare proper))

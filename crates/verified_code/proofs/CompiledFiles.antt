@@ -5,13 +5,14 @@ use Rattle.pool_syntax.specs.Tokens.{Text}
 use Rattle.pool_syntax.specs.declared.tree.Var.{Var}
 use Rattle.pool_syntax.specs.declared.tree.Kind.{Kind}
 use Rattle.pool_syntax.specs.declared.tree.Kind.TheVariants as K
-use Rattle.pool_syntax.specs.Terms.{MethodTree, ClassTree, ProgramTree}
+use Rattle.pool_syntax.specs.Terms.{Statements, Done, Then, MethodTree, ClassTree, ProgramTree}
 use Rattle.pool_syntax.specs.Classes.{class_of, named_method}
 use Rattle.pool_syntax.specs.Spelled.{is_name, is_outcome, are_variables, is_spelled_expression, are_spelled_statements, are_spelled_methods, is_spelled}
 use Rattle.pool_syntax.specs.Typing as Typing
 use Rattle.pool_syntax.specs.Typing.{Scope, contains, fault_if, classes_faults, methods_faults, class_scope, faults}
 use Rattle.mesh_semantics.proofs.Laws.{first, second, equals, same_some}
 use Rattle.mesh_semantics.specs.Sound.{Each}
+use Rattle.pool_relation.specs.Reducible.{is_done}
 use Rattle.pool_relation.specs.Written.{is_written}
 use Rattle.pool_relation.proofs.Laws.{is_broken, AllKnown, OutcomeKnown, Known, class_known}
 use Rattle.pool_relation.proofs.typing.Checked.{CheckedMethod, CheckedClass, class_checked}
@@ -28,7 +29,7 @@ use Rattle.pool_compile.proofs.Limits.{method_parts}
 use Rattle.pool_compile.proofs.Limits.{class_parts as parts_of_class}
 use Rattle.verified_code.specs.Sorts.{Declared, declared_at, scope_by}
 use Rattle.verified_code.specs.Verified.{KindExists, ResultExists, IsMethodHeading, IsHeading, HasWellSorted, IsWellSorted, IsVerified}
-use Rattle.verified_code.specs.DeclaredKinds.{kinds_of, method_kinds, class_kinds, file_of}
+use Rattle.verified_code.specs.DeclaredKinds.{kinds_of, method_kinds, class_kinds, file_of, methods_have_no_posts, program_has_no_posts}
 use Rattle.verified_code.proofs.Shaped.{class_parts}
 use Rattle.verified_code.proofs.Found.{map_at, map_back, declared_of, class_from_there}
 use Rattle.verified_code.proofs.CompiledStacks.{have_choices}
@@ -144,7 +145,8 @@ spelled_method_at : (names : List Text) (ms : List MethodTree) (j : ℕ) (m : Me
     → (is_name names m.name.name.0 ≡ true) × (are_spelled_statements names m.body ≡ true)
 spelled_method_at names [] j m h e = absurd (let z : None ≡ Some m = e in cc)
 spelled_method_at names (x ∷ ms) zero m h e =
-    let s1 = first _ (are_spelled_methods names ms) h in
+    let s0 = first _ (are_spelled_methods names ms) h in
+    let s1 = first _ (are_spelled_statements names x.post) s0 in
     let s2 = first _ (is_spelled_expression names x.value) s1 in
     let s3 = first _ (are_spelled_statements names x.body) s2 in
     let s4 = first _ (is_outcome names x.outcome) s3 in
@@ -176,6 +178,20 @@ chosen_method_at [] j m h e = absurd (let z : None ≡ Some m = e in cc)
 chosen_method_at (x ∷ ms) zero m h e = subst (λ (y : MethodTree). have_choices y.body ≡ true) (same_some e) (first (have_choices x.body) (methods_have_choices ms) h)
 chosen_method_at (x ∷ ms) (suc j) m h e = chosen_method_at ms j m (second (have_choices x.body) (methods_have_choices ms) h) e
 
+bare_at : (ks : ProgramTree) (j : ℕ) (k : ClassTree) → program_has_no_posts ks ≡ true → slice_get ks j ≡ Some k → methods_have_no_posts k.methods ≡ true
+bare_at [] j k h e = absurd (let z : None ≡ Some k = e in cc)
+bare_at (x ∷ ks) zero k h e = subst (λ (y : ClassTree). methods_have_no_posts y.methods ≡ true) (same_some e) (first (methods_have_no_posts x.methods) (program_has_no_posts ks) h)
+bare_at (x ∷ ks) (suc j) k h e = bare_at ks j k (second (methods_have_no_posts x.methods) (program_has_no_posts ks) h) e
+
+done_is : (qs : Statements) → is_done qs ≡ true → qs ≡ Done
+done_is Done h = refl
+done_is (Then s ss) h = absurd (let z : false ≡ true = h in cc)
+
+bare_method_at : (ms : List MethodTree) (j : ℕ) (m : MethodTree) → methods_have_no_posts ms ≡ true → slice_get ms j ≡ Some m → m.post ≡ Done
+bare_method_at [] j m h e = absurd (let z : None ≡ Some m = e in cc)
+bare_method_at (x ∷ ms) zero m h e = subst (λ (y : MethodTree). y.post ≡ Done) (same_some e) (done_is x.post (first (is_done x.post) (methods_have_no_posts ms) h))
+bare_method_at (x ∷ ms) (suc j) m h e = bare_method_at ms j m (second (is_done x.post) (methods_have_no_posts ms) h) e
+
 both_known : (p : ProgramTree) (vs ws : List Var) → AllKnown p vs → AllKnown p ws → AllKnown p (vs ++ ws)
 both_known p [] ws a b = b
 both_known p (v ∷ vs) ws a b = (a.0, both_known p vs ws a.1 b)
@@ -199,7 +215,8 @@ module _ (names : List Text) (p : ProgramTree) where
   result_there None h = tt
   result_there (Some k) h = kind_there k h
 
-  module _ (some : p ≢ []) (none : faults p ≡ []) (written : IsTrue (is_written p)) (spelled : is_spelled names p ≡ true) (short : AreShort (code p)) (chosen : program_has_choices p ≡ true) where
+  module _ (some : p ≢ []) (none : faults p ≡ []) (written : IsTrue (is_written p)) (spelled : is_spelled names p ≡ true) (short : AreShort (code p)) (chosen : program_has_choices p ≡ true)
+      (bare : program_has_no_posts p ≡ true) where
     proper : IsProper (file_of names p).unit
     proper = program_proper p (file_of names p).unit refl none written some spelled short
 
@@ -247,6 +264,7 @@ module _ (names : List Text) (p : ProgramTree) where
             let s = short_method_at (names_of k.vars) k.methods i m (short_at p j k short at).1 e in
             method_sorted names p known k own m (both_known p m.params m.locals c.params c.locals) c.body c.value c.outcome c.gives_it c.valued
             (chosen_method_at k.methods i m (chosen_at p j k chosen at).1 e) (spelled_method_at names k.methods i m words.methods e).1 (omega (arith, s)) l.4
+            (bare_method_at k.methods i m (bare_at p j k bare at) e)
 
       heading : IsHeading (file_of names p) j (class_code k) (class_kinds k)
       heading =

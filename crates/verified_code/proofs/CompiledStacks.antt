@@ -236,7 +236,7 @@ module _ (names : List Text) (p : ProgramTree) (known : (c : ℕ) → Known p (c
   whole (T.Send e m es o) h t =
       let d = destination_is G (sort_of G e) m (size es) refl (whole e h t.1) t.2 in
       ap (λ s. is_broken (Typing.send_sort p s m)) d.2 ∙ outcome_whole (named_method (methods_of p d.0) m) d.1 ((known d.0).methods m) d.3
-  whole (T.Frame m ts ss e) h t = absurd (let z : false ≡ true = t.0 in cc)
+  whole (T.Frame m ts ss e qs) h t = absurd (let z : false ≡ true = t.0 in cc)
   whole (T.Wait b m) h t = absurd (let z : false ≡ true = t.0 in cc)
 
   -- the sorts of expressions
@@ -370,7 +370,7 @@ module _ (names : List Text) (p : ProgramTree) (known : (c : ℕ) → Known p (c
     first_room (T.Infix op a b o) h t = t.0
     first_room (T.Call m es o) h t = t.0
     first_room (T.Send e m es o) h t = t.0
-    first_room (T.Frame m ts ss e) h t = absurd (let z : false ≡ true = t.0 in cc)
+    first_room (T.Frame m ts ss e qs) h t = absurd (let z : false ≡ true = t.0 in cc)
     first_room (T.Wait b m) h t = absurd (let z : false ≡ true = t.0 in cc)
 
     pub none_is : (P : Holds → Type 0) (b : Bool) → P (past b Nothing) → P Nothing
@@ -425,7 +425,7 @@ module _ (names : List Text) (p : ProgramTree) (known : (c : ℕ) → Known p (c
           (good_one CG c _ (I.Send (name m) (size es)) (onto (sorts_of es) (sort_of G e ∷ s)) (Typing.send_sort p (sort_of G e) m ∷ s) (omega (arith, n, z, y, l))
           (ap (λ z. z >>= λ s1. push_sort (result_sort s1.outcome) (pop_sent (onto (sorts_of es) (sort_of G e ∷ s)) s1)) d.1
           ∙ ap (push_sort (result_sort d.0.outcome)) d.2 ∙ ap (λ z. Some (z ∷ s)) (sym d.3)) refl))
-      expression_good (T.Frame m ts ss e) at h s l t = absurd (let z : false ≡ true = t.0 in cc)
+      expression_good (T.Frame m ts ss e qs) at h s l t = absurd (let z : false ≡ true = t.0 in cc)
       expression_good (T.Wait b m) at h s l t = absurd (let z : false ≡ true = t.0 in cc)
 
       pub expressions_good : (vs : List Var) (es : Expressions) (at h : ℕ) (s : Stack) → length s ≡ h → TypedArguments Nothing G h vs es
@@ -594,7 +594,7 @@ module _ (names : List Text) (p : ProgramTree) (known : (c : ℕ) → Known p (c
                 (record { before = onto (guards_sorts alts) []; is_before = s.1; few = omega (arith, bound, size_is, size_too); after = []; is_after = pop; led = led_empty targets w.1 }, w.0),
             ap (S CG c) (let v : at + length (gs ++ i ∷ works) ≡ last = omega (arith, l1, l2) in v) ∙ e,
           )
-      statement_good (T.Serve m w ts ss e) at t = absurd (let z : false ≡ true = t.0 in cc)
+      statement_good (T.Serve m w ts ss e qs) at t = absurd (let z : false ≡ true = t.0 in cc)
 
       pub statements_good : (ss : Statements) (at : ℕ) → TypedStatements Nothing G ss → Gets at (statements_code num at ss) [] []
       statements_good T.Done at t = good_nil CG c at []
@@ -797,7 +797,7 @@ module _ (names : List Text) (p : ProgramTree) (known : (c : ℕ) → Known p (c
             as_span at (dc ++ (ec ++ i ∷ [])) (h + more (expression_words e) (1 + expressions_words es)) (h + more (expression_words e) (suc (expressions_words es)))
             (ap (λ k. h + more (expression_words e) k) (let u : 1 + expressions_words es ≡ suc (expressions_words es) = omega arith in u))
             (two_spans at h (expression_words e) 1 (expressions_words es) dc (ec ++ i ∷ []) x w)
-        expression_span (T.Frame m ts ss e) at h s l t has z lt a = absurd (let z : false ≡ true = t.0 in cc)
+        expression_span (T.Frame m ts ss e qs) at h s l t has z lt a = absurd (let z : false ≡ true = t.0 in cc)
         expression_span (T.Wait b m) at h s l t has z lt a = absurd (let z : false ≡ true = t.0 in cc)
 
         pub expressions_span : (vs : List Var) (es : Expressions) (at h : ℕ) (s : Stack) → length s ≡ h → TypedArguments Nothing G h vs es → Has c at (expressions_code num es) → S CG c at ≡ Some s
@@ -1035,7 +1035,7 @@ module _ (names : List Text) (p : ProgramTree) (known : (c : ℕ) → Known p (c
               ends = subst (Comes CG c ok some) end some_work.1;
               met = met_more (guards_words alts) (works_words alts) x.met some_work.0;
             }
-        statement_span (T.Serve m w ts ss e) at t k has z lt a = absurd (let z : false ≡ true = t.0 in cc)
+        statement_span (T.Serve m w ts ss e qs) at t k has z lt a = absurd (let z : false ≡ true = t.0 in cc)
 
         pub statements_span : (ss : Statements) (at : ℕ) → TypedStatements Nothing G ss → IsTrue (have_choices ss) → Has c at (statements_code num at ss) → S CG c at ≡ Some []
             → at + length (statements_code num at ss) < length c → Arrives at → Spans at (statements_code num at ss) (statements_words ss)

@@ -74,9 +74,10 @@ rule_chosen (r.more_classes ks) = ((λ k w all f v. f (classes_last ks k v w)), 
 rule_chosen r.class = λ n u m v vs x ms f i y ss w j z. b.both _ _ (b.both _ _ w (f refl)) refl
 rule_chosen (r.more_methods ms) = ((λ m w all f v. f (methods_last ms m v w)), (λ v. v))
 rule_chosen r.method = (
-  (λ i u n v ps x ls y j z ss w k t. b.both _ _ w refl),
-  (λ i u n v ps x j y k z ls t l a ss w m c e d q f. b.both _ _ w refl),
+  (λ i u n v ps x ls y j z ss w qs q k t. b.both _ _ w refl),
+  (λ i u n v ps x j y k z ls t l a ss w m c e d qs g q f. b.both _ _ w refl),
 )
+rule_chosen r.post = ((λ i u ss w. tt), tt)
 rule_chosen r.stmts = ((λ s w ss f. f (b.both _ _ w refl)), refl)
 rule_chosen (r.more_stmts ss) = ((λ i u s w all f v. f (statements_last ss s v w)), (λ v. v))
 rule_chosen r.stmt = (

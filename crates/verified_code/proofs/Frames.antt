@@ -4,18 +4,19 @@ use Rattle.std.specs.Prelude.{slice_get}
 use Rattle.pool_syntax.specs.declared.words.Value.{Value}
 use Rattle.pool_syntax.specs.declared.words.Value.TheVariants as V
 use Rattle.pool_syntax.specs.declared.words.Serves.{Serves}
+use Rattle.pool_syntax.specs.declared.words.Serves.TheVariants as S
 use Rattle.pool_syntax.specs.Typing.{IntSort, BoolSort, NilSort}
-use Rattle.mesh_semantics.proofs.Laws.{same_some}
+use Rattle.mesh_semantics.proofs.Laws.{same_some, given_by}
 use Rattle.object_code.specs.declared.unit.Instr.{Instr}
 use Rattle.object_code.specs.declared.unit.Instr.TheVariants as I
 use Rattle.object_code.specs.declared.unit.Frame.{Frame}
 use Rattle.object_code.specs.declared.file.UnitFile.{UnitFile}
-use Rattle.object_code.specs.Frames.{method_code, code_of, silent, go_on_with, settled_within, settled}
+use Rattle.object_code.specs.Frames.{method_code, code_of, next, post_passed, silent, go_on_with, settled_within, settled}
 use Rattle.object_code.specs.Proper.{nexts, IsAmong}
 use Rattle.object_code.specs.Shaped.{IsShaped}
 use Rattle.object_code.specs.Step.{is_own}
 use Rattle.unit_objects.specs.OfUnit.{HasTemps}
-use Rattle.verified_code.specs.Sorts.{Stack, Declared, declared_at, scope_by, left_by}
+use Rattle.verified_code.specs.Sorts.{Stack, Declared, declared_at, scope_by, left_by, pop_returned}
 use Rattle.verified_code.specs.Verified.{IsWellSorted, IsVerified}
 use Rattle.verified_code.specs.TypedCode.{Classes, AreOfSorts, AreOfKinds, kinds_of_frame, left_sort, frame_scope, IsSortedFrame, AreSortedFrames}
 use Rattle.verified_code.proofs.Shaped.{class_shaped, kinds_of_method}
@@ -74,6 +75,18 @@ module _ (f : UnitFile) (shaped : IsShaped f) (good : IsVerified f) (j : ℕ) (k
         subst (IsSortedFrame f at k []) (same_some h) (moves [] x t I.PushNil e (suc x.at) [] x.temps (V.Nil ∷ x.operands) (NilSort ∷ t.stack) refl (inl refl) (tt, t.operands) refl t.temps)
     silent_sorted x y (Some (I.Jump a)) t e h =
         subst (IsSortedFrame f at k []) (same_some h) (moves [] x t (I.Jump a) e a [] x.temps x.operands t.stack refl (inl refl) t.operands refl t.temps)
+    silent_sorted x y (Some I.Post) t e h = by x.serves h
+      where
+        stays : IsSortedFrame f at k [] (next x x.operands)
+        stays =
+            let l = leaves_stack [] x t I.Post e in
+            let a = given_by (pop_returned (frame_scope f k x.method).value t.stack) (λ rest. Some t.stack) l.0 l.1 in
+            moves [] x t I.Post e (suc x.at) [] x.temps x.operands t.stack (l.1 ∙ sym a.2) (inl refl) t.operands refl t.temps
+
+        by : (w : Serves) → post_passed x w ≡ Some y → IsSortedFrame f at k [] y
+        by (S.Caller o n) h = absurd (let z : None ≡ Some y = h in cc)
+        by S.Own h = subst (IsSortedFrame f at k []) (same_some h) stays
+        by S.Sender h = subst (IsSortedFrame f at k []) (same_some h) stays
     silent_sorted x y _ t e h = absurd (let z : None ≡ Some y = h in cc)
 
     silent_same : (x y : Frame) (i : Option Instr) → silent x i ≡ Some y → (y.method ≡ x.method) × (y.serves ≡ x.serves)
@@ -81,6 +94,12 @@ module _ (f : UnitFile) (shaped : IsShaped f) (good : IsVerified f) (j : ℕ) (k
     silent_same x y (Some (I.PushBool b)) e = let s = sym (same_some e) in (ap (λ (q : Frame). q.method) s, ap (λ (q : Frame). q.serves) s)
     silent_same x y (Some I.PushNil) e = let s = sym (same_some e) in (ap (λ (q : Frame). q.method) s, ap (λ (q : Frame). q.serves) s)
     silent_same x y (Some (I.Jump a)) e = let s = sym (same_some e) in (ap (λ (q : Frame). q.method) s, ap (λ (q : Frame). q.serves) s)
+    silent_same x y (Some I.Post) e = by x.serves e
+      where
+        by : (w : Serves) → post_passed x w ≡ Some y → (y.method ≡ x.method) × (y.serves ≡ x.serves)
+        by (S.Caller o n) e = absurd (let z : None ≡ Some y = e in cc)
+        by S.Own e = let s = sym (same_some e) in (ap (λ (q : Frame). q.method) s, ap (λ (q : Frame). q.serves) s)
+        by S.Sender e = let s = sym (same_some e) in (ap (λ (q : Frame). q.method) s, ap (λ (q : Frame). q.serves) s)
     silent_same x y _ e = absurd (let z : None ≡ Some y = e in cc)
 
     -- a frame that follows by silent instructions
@@ -109,6 +128,12 @@ module _ (f : UnitFile) (shaped : IsShaped f) (good : IsVerified f) (j : ℕ) (k
 
     abbrev missing_by : Option ℕ → Serves → Stack
     missing_by m w = if is_own w then left_sort (kinds_of_frame k m) ∷ [] else []
+
+    -- frames under another one, of the same method, where both serve no object itself
+    pub under_no_own : (a b : Frame) (xs : List Frame) → b.method ≡ a.method → is_own b.serves ≡ is_own a.serves → AreSortedFrames f at k (Some a) xs → AreSortedFrames f at k (Some b) xs
+    under_no_own a b [] m s h = tt
+    under_no_own a b (x ∷ xs) m s h =
+        (subst (λ q. IsSortedFrame f at k q x) (sym (ap (λ w. if w then left_sort (kinds_of_frame k b.method) ∷ [] else []) s ∙ ap (λ q. missing_by q a.serves) m)) h.0, h.1)
 
     -- frames under another one, of the same method and for the same caller
     pub under_same : (a b : Frame) (xs : List Frame) → b.method ≡ a.method → b.serves ≡ a.serves → AreSortedFrames f at k (Some a) xs → AreSortedFrames f at k (Some b) xs

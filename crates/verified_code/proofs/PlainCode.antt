@@ -17,6 +17,7 @@ module _ (names : List Text) where
   abbrev pub IsPlain : Instr → Type 0
   IsPlain I.Halt = ⊥
   IsPlain I.Ret = ⊥
+  IsPlain I.Post = ⊥
   IsPlain (I.WriteText s) = IsTrue (is_string_number names s.0)
   IsPlain _ = Unit {0}
 
@@ -67,7 +68,7 @@ module _ (names : List Text) where
       expression_plain (T.Send e m es p) =
           plain_append (expression_code g e) (expressions_code g es ++ I.Send (name m) (size es) ∷ []) (expression_plain e)
           (plain_append (expressions_code g es) (I.Send (name m) (size es) ∷ []) (expressions_plain es) (tt, tt))
-      expression_plain (T.Frame m t ss e) = tt
+      expression_plain (T.Frame m t ss e qs) = tt
       expression_plain (T.Wait b m) = tt
 
       expressions_plain : (es : Expressions) → ArePlain (expressions_code g es)
@@ -110,7 +111,7 @@ module _ (names : List Text) where
           let go = suc (at + length (guards_code g alts)) in
           let last = go + length (alternatives_code g go 0 alts) in
           plain_append (guards_code g alts) (I.Select (alternatives_at g go alts) ∷ alternatives_code g go last alts) (guards_plain alts) (tt, works_plain alts go last s)
-      statement_plain (T.Serve m k t ss e) at s = tt
+      statement_plain (T.Serve m k t ss e qs) at s = tt
 
       pub statements_plain : (ss : Statements) (at : ℕ) → are_spelled_statements names ss ≡ true → ArePlain (statements_code g at ss)
       statements_plain T.Done at s = tt

@@ -200,6 +200,10 @@ module _ (f : UnitFile) (shaped : IsShaped f) (good : IsVerified f) (j : ℕ) (k
         let c = length_replicate (length alts) D.Bool in
         (omega (arith, a, c), omega (arith, a, c))
     counts I.Halt ss r e = as_many ss r e
+    counts I.Post ss r e =
+        let a = given_by (pop_returned (value_by q) ss) (λ rest. Some ss) r e in
+        let t = returned_count (value_by q) ss a.0 a.1 in
+        let same : length ss ≡ length r = ap (λ (z : Stack). length z) (same_some a.2) in (omega (arith, t.0), omega (arith, t.0, same))
 
     module _ (words : ℕ) (c : List Instr) (w : IsWellSorted (scope_by f k q) words c) where
       -- a place that is reached with so many operands is reached with a stack of as many sorts

@@ -271,6 +271,7 @@ module _ (g : CodeScope) (c : List Instr) where
   next_count at (I.Answer ns) = refl
   next_count at (I.Select alts) = refl
   next_count at I.Halt = refl
+  next_count at I.Post = refl
 
   -- code with one stack at each place, which its instruction takes, has a table
   module _ (one : (at : ℕ) (s r : Stack) → Reached g c at s → Reached g c at r → s ≡ r)

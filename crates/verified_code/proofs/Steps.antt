@@ -35,7 +35,7 @@ use Rattle.verified_code.proofs.Operands.{if_some, push_some, of_fitting, of_res
 use Rattle.verified_code.proofs.Operators.{operated_makes, operated_left}
 use Rattle.verified_code.proofs.Shaped.{class_shaped, kinds_of_method}
 use Rattle.verified_code.proofs.Sent.{asks_class, Asks, sent_operands, asks_object}
-use Rattle.verified_code.proofs.Frames.{leaves_stack, moves, settled_sorted, under_same}
+use Rattle.verified_code.proofs.Frames.{leaves_stack, moves, settled_sorted, under_same, under_no_own}
 
 -- a value at the end of a method fits what its call leaves
 returned_fits : (at : Classes) (q : Option MethodKinds) (vs : List Value) (ss r : Stack) → AreOfSorts at vs ss → pop_returned (value_by q) ss ≡ Some r → IsOfSort at (top vs) (left_sort q)
@@ -281,6 +281,12 @@ module _ (f : UnitFile) (shaped : IsShaped f) (good : IsVerified f) (x : CodeObj
     kept_return S.Own v e p local gone = local
     kept_return S.Sender v e p local gone = local
 
+    kept_post : (w : Serves) (v : Value) → a.serves ≡ w → IsOfSort at v (left_sort (kinds_of_frame k a.method)) → KeptBy (Some I.Post) C.Local
+        → (is_own w ≡ false → Sorted (instr_gone_on (Some k.code) x a fs (Some I.Post))) → KeptBy (Some I.Post) (return_kind w v)
+    kept_post (S.Caller c n) v e p local gone = (e, p, gone refl)
+    kept_post S.Own v e p local gone = local
+    kept_post S.Sender v e p local gone = local
+
     -- the frame after a choice fits, and is of the same method and for the same caller
     abbrev ChoiceFits : ℕ → Option Instr → Type 0
     ChoiceFits n i = IsSortedFrame f at k [] (after_choice a n i) × ((after_choice a n i).method ≡ a.method) × ((after_choice a n i).serves ≡ a.serves)
@@ -351,6 +357,14 @@ module _ (f : UnitFile) (shaped : IsShaped f) (good : IsVerified f) (x : CodeObj
     kept_at (Some (I.Answer names)) e = chooses (Some (I.Answer names)) (answer_fits names e)
     kept_at (Some (I.Select alts)) e = kept_select (Some (I.Select alts)) alts (taken (length alts) a.operands []) (chooses (Some (I.Select alts)) (select_fits alts e))
     kept_at (Some I.Halt) e = tt
+    kept_at (Some I.Post) e =
+        let l = stack_of I.Post e in
+        let r = given_by (pop_returned (frame_scope f k a.method).value t.stack) (λ rest. Some t.stack) l.0 l.1 in
+        let m = moves f shaped good x.class k is_class at [] a t I.Post e (suc a.at) [] a.temps a.operands t.stack (l.1 ∙ sym r.2) (inl refl) t.operands refl t.temps in
+        kept_post a.serves (top a.operands) refl (returned_fits at (kinds_of_frame k a.method) a.operands t.stack r.0 t.operands r.1) (kept_local (Some I.Post) e)
+        (λ own. lands x (next (record a { serves = S.Sender }) a.operands) fs refl vars
+        (record { stack = m.stack; reached = m.reached; operands = m.operands; has_temps = m.has_temps; temps = m.temps })
+        (under_no_own f shaped good x.class k is_class at a (next (record a { serves = S.Sender }) a.operands) fs refl (sym own) under))
     kept_at None e = tt
     kept_at (Some (I.PushInt z)) e = kept_local (Some (I.PushInt z)) e
     kept_at (Some (I.PushBool b)) e = kept_local (Some (I.PushBool b)) e

@@ -13,7 +13,7 @@ use Rattle.object_code.specs.Proper.{AreOwn, AnswerOwn, AltsExist, Exists, silen
 use Rattle.unit_objects.proofs.Pigeons.{pigeons}
 use Rattle.verified_code.specs.Sorts.{Stack, CodeScope}
 use Rattle.verified_code.specs.Verified.{Reached, IsText, last_instr, EndsRight, IsWellSorted}
-use Rattle.verified_code.specs.Verdict.{Table, most, is_own, answers_exist, alternative_exists, does_exist, is_ret, is_halt, is_last, ends_right, silence_ends, has_no_circle, has_table, table_of, is_well_sorted}
+use Rattle.verified_code.specs.Verdict.{Table, most, is_own, answers_exist, alternative_exists, does_exist, is_ret, is_halt, is_last, ends_right, silence_ends, has_no_circle, has_table, table_of, is_well_sorted, is_post}
 use Rattle.verified_code.proofs.ProperUnits.{passes_below}
 use Rattle.verified_code.proofs.Spreading.{shown_comes, comes_shown, table_is_one, table_taken, table_exists}
 
@@ -91,10 +91,15 @@ module _ (g : CodeScope) (c : List Instr) where
   exist_is (I.Answer ms) h = (own_are ms h, tt)
   exist_is (I.Select alts) h = (alts_are alts h, tt)
   exist_is I.Halt h = (tt, tt)
+  exist_is I.Post h = (tt, tt)
 
   halt_is : (i : Instr) → is_halt i ≡ true → i ≡ I.Halt
   halt_is I.Halt h = refl
   halt_is _ h = absurd (let z : false ≡ true = h in cc)
+
+  post_is : (i : Instr) → is_post i ≡ true → i ≡ I.Post
+  post_is I.Post h = refl
+  post_is _ h = absurd (let z : false ≡ true = h in cc)
 
   ret_is : (i : Instr) → is_ret i ≡ true → i ≡ I.Ret
   ret_is I.Ret h = refl
@@ -106,10 +111,12 @@ module _ (g : CodeScope) (c : List Instr) where
   last_is p d f (i ∷ j ∷ is) h = last_is p d f (j ∷ is) h
 
   ends_are : (v : Option Sort) → ends_right v c ≡ true → EndsRight v c
-  ends_are None h = (
-    last_is is_halt I.Halt halt_is c (first (is_last is_halt c) (not (list_any is_ret c)) h),
-    λ at e. let z : true ≡ false = none_at is_ret c at I.Ret (not_true (list_any is_ret c) (second (is_last is_halt c) (not (list_any is_ret c)) h)) e in cc,
-  )
+  ends_are None h =
+      let none = second (is_last is_halt c) (not (list_any is_ret c) && not (list_any is_post c)) h in (
+        last_is is_halt I.Halt halt_is c (first (is_last is_halt c) (not (list_any is_ret c) && not (list_any is_post c)) h),
+        λ at e. let z : true ≡ false = none_at is_ret c at I.Ret (not_true (list_any is_ret c) (first (not (list_any is_ret c)) (not (list_any is_post c)) none)) e in cc,
+        λ at e. let z : true ≡ false = none_at is_post c at I.Post (not_true (list_any is_post c) (second (not (list_any is_ret c)) (not (list_any is_post c)) none)) e in cc,
+      )
   ends_are (Some s) h = (
     last_is is_ret I.Ret ret_is c (first (is_last is_ret c) (not (list_any is_halt c)) h),
     λ at e. let z : true ≡ false = none_at is_halt c at I.Halt (not_true (list_any is_halt c) (second (is_last is_ret c) (not (list_any is_halt c)) h)) e in cc,
@@ -288,10 +295,15 @@ module _ (g : CodeScope) (c : List Instr) where
   is_exist (I.Answer ms) h = are_own ms h.0
   is_exist (I.Select alts) h = are_alts alts h.0
   is_exist I.Halt h = refl
+  is_exist I.Post h = refl
 
   no_halt : (i : Instr) → i ≢ I.Halt → is_halt i ≡ false
   no_halt I.Halt h = absurd (h refl)
   no_halt _ h = refl
+
+  no_post : (i : Instr) → i ≢ I.Post → is_post i ≡ false
+  no_post I.Post h = absurd (h refl)
+  no_post _ h = refl
 
   no_ret : (i : Instr) → i ≢ I.Ret → is_ret i ≡ false
   no_ret I.Ret h = absurd (h refl)
@@ -304,8 +316,9 @@ module _ (g : CodeScope) (c : List Instr) where
 
   are_ends : (v : Option Sort) → EndsRight v c → ends_right v c ≡ true
   are_ends None h =
-      both_are (is_last is_halt c) (not (list_any is_ret c)) (is_last_of is_halt I.Halt refl c h.0)
-      (ap not (any_of is_ret c (λ n i e. no_ret i (λ q. h.1 n (e ∙ ap Some q)))))
+      both_are (is_last is_halt c) (not (list_any is_ret c) && not (list_any is_post c)) (is_last_of is_halt I.Halt refl c h.0)
+      (both_are (not (list_any is_ret c)) (not (list_any is_post c)) (ap not (any_of is_ret c (λ n i e. no_ret i (λ q. h.1 n (e ∙ ap Some q)))))
+      (ap not (any_of is_post c (λ n i e. no_post i (λ q. h.2 n (e ∙ ap Some q))))))
   are_ends (Some s) h =
       both_are (is_last is_ret c) (not (list_any is_halt c)) (is_last_of is_ret I.Ret refl c h.0)
       (ap not (any_of is_halt c (λ n i e. no_halt i (λ q. h.1 n (e ∙ ap Some q)))))

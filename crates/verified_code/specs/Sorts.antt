@@ -149,7 +149,7 @@ asked_of f _ m n = None
 abbrev pub pop_sent : Stack → Signature → Option Stack
 pop_sent ss s = pop_arguments s.params ss >>= λ rest. pop_any rest
 
--- a method's value stands alone at its end
+-- a method's value stands alone at its end, and where it is given back before post statements
 abbrev pub pop_returned : Option Sort → Stack → Option Stack
 pop_returned (Some need) (s ∷ []) = if fits_sort s need then Some [] else None
 pop_returned _ _ = None
@@ -179,3 +179,5 @@ left_by g (I.WriteText s) ss = Some ss
 left_by g (I.Answer ms) ss = Some ss
 left_by g (I.Select alts) ss = pop_arguments (replicate (length alts) K.Bool) ss
 left_by g I.Halt ss = Some ss
+-- the value stays
+left_by g I.Post ss = pop_returned g.value ss >>= λ rest. Some ss

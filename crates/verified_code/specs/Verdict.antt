@@ -115,6 +115,10 @@ abbrev pub is_ret : Instr → Bool
 is_ret I.Ret = true
 is_ret _ = false
 
+abbrev pub is_post : Instr → Bool
+is_post I.Post = true
+is_post _ = false
+
 abbrev pub is_halt : Instr → Bool
 is_halt I.Halt = true
 is_halt _ = false
@@ -124,9 +128,9 @@ is_last p [] = false
 is_last p (i ∷ []) = p i
 is_last p (i ∷ j ∷ c) = is_last p (j ∷ c)
 
--- a body ends in Halt and has no Ret; a method ends in Ret and has no Halt
+-- a body ends in Halt and has no Ret and no Post; a method ends in Ret and has no Halt
 abbrev pub ends_right : Option Sort → List Instr → Bool
-ends_right None c = is_last is_halt c && not (list_any is_ret c)
+ends_right None c = is_last is_halt c && (not (list_any is_ret c) && not (list_any is_post c))
 ends_right (Some s) c = is_last is_ret c && not (list_any is_halt c)
 
 -- whether n silent instructions from here end

@@ -35,9 +35,9 @@ last_instr [] = None
 last_instr (i ∷ []) = Some i
 last_instr (i ∷ j ∷ c) = last_instr (j ∷ c)
 
--- a body ends in Halt and has no Ret; a method ends in Ret and has no Halt
+-- a body ends in Halt and has no Ret and no Post; a method ends in Ret and has no Halt
 abbrev pub EndsRight : Option Sort → List Instr → Type 0
-EndsRight None c = (last_instr c ≡ Some I.Halt) × ((at : ℕ) → slice_get c at ≢ Some I.Ret)
+EndsRight None c = (last_instr c ≡ Some I.Halt) × ((at : ℕ) → slice_get c at ≢ Some I.Ret) × ((at : ℕ) → slice_get c at ≢ Some I.Post)
 EndsRight (Some s) c = (last_instr c ≡ Some I.Ret) × ((at : ℕ) → slice_get c at ≢ Some I.Halt)
 
 -- the most operands that stand at a place

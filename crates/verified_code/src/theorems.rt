@@ -22,7 +22,7 @@ ghost use Rattle.pool_compile.specs.Small.{AreShort};
 ghost use Rattle.placed_terms.specs.Terms.{terms};
 ghost use Rattle.coded_objects.specs.Coded.{Placed, coded};
 ghost use Rattle.verified_code.specs.CodeRun.{IsCodeRun};
-ghost use Rattle.verified_code.specs.DeclaredKinds.{file_of};
+ghost use Rattle.verified_code.specs.DeclaredKinds.{file_of, program_has_no_posts};
 ghost use Rattle.verified_code.specs.Faults.{IsBadHeading, IsBadCode};
 ghost use Rattle.verified_code.specs.TypedCode.{IsTypedCode, GoesWrong};
 ghost use Rattle.verified_code.specs.Verdict.{Good, Header, Code, verdict};
@@ -67,8 +67,8 @@ pub fn records_of_verified_code_are_runs()
 /// The file of a program of the grammar without class faults is shaped and verified, so the verdict on it is good.
 pub fn files_of_programs_are_verified()
     ensures shaped { (names : List Text) (p : ProgramTree) → IsShaped (file_of names p) }
-    ensures verified { (names : List Text) (p : ProgramTree) → ∥ IsGrammatical p ∥₁ → faults p ≡ [] → is_spelled names p ≡ true → AreShort (code p) → IsVerified (file_of names p) }
-    ensures good { (names : List Text) (p : ProgramTree) → ∥ IsGrammatical p ∥₁ → faults p ≡ [] → is_spelled names p ≡ true → AreShort (code p) → verdict (file_of names p) ≡ Good }
+    ensures verified { (names : List Text) (p : ProgramTree) → ∥ IsGrammatical p ∥₁ → faults p ≡ [] → is_spelled names p ≡ true → AreShort (code p) → program_has_no_posts p ≡ true → IsVerified (file_of names p) }
+    ensures good { (names : List Text) (p : ProgramTree) → ∥ IsGrammatical p ∥₁ → faults p ≡ [] → is_spelled names p ≡ true → AreShort (code p) → program_has_no_posts p ≡ true → verdict (file_of names p) ≡ Good }
 {}
 
 /// The bytes of a file whose names are distinct say that file.

@@ -48,14 +48,14 @@ ServesNone b = (q : ℕ) → served_for q b.now ≡ []
 module _ (p : ProgramTree) (f : ℕ → Option ℕ) (x : Object) (r : Reducible) (u : Store) (replacement : ReplacementAt p f x r u) (activities : ActivitiesAt p f x r) (none : ServesNone activities) where
   -- an expression in the place of the redex
   pub expression_step : (f' : ℕ → Option ℕ) (w : Grows f f') (e : Expression) → is_statement r ≡ false
-      → Suits Methods (at (place p f' x) (replacement Methods f' refl w).temps) r (AsExpression e)
+      → Suits Methods (at (place p f' x) (replacement Methods f' refl w).spot) r (AsExpression e)
       → ((q : ℕ) → served_for q (in_part (AsExpression e)) ≡ [])
       → Steps p f' x (fill_statements x.term (AsExpression e))
   expression_step f' w e i s n = ((replacement Methods f' refl w).filled (AsExpression e) s, λ q. served_kept q activities (AsExpression e) i (none q ∙ sym (n q)))
 
   -- statements
   pub statements_step : (ss : Statements) → is_statement r ≡ true
-      → Suits Methods (at (place p f x) (replacement Methods f refl (grows_itself f)).temps) r (AsStatements ss)
+      → Suits Methods (at (place p f x) (replacement Methods f refl (grows_itself f)).spot) r (AsStatements ss)
       → ((q : ℕ) → serves q ss ≡ []) → Steps p f x (fill_statements x.term (AsStatements ss))
   statements_step ss i s n = ((replacement Methods f refl (grows_itself f)).filled (AsStatements ss) s, λ q. served_kept q activities (AsStatements ss) i (none q ∙ sym (n q)))
 

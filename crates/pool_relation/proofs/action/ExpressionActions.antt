@@ -3,11 +3,10 @@ use Rattle.std.proofs.Common.{◌≡◌, refl, ap, IsTrue, ℕ, List, [], ◌∷
 use Rattle.pool_syntax.specs.declared.words.Value.{Value}
 use Rattle.pool_syntax.specs.declared.words.Value.TheVariants as V
 use Rattle.pool_syntax.specs.declared.words.Op.{Op}
-use Rattle.pool_syntax.specs.declared.tree.Var.{Var}
 use Rattle.pool_syntax.specs.Terms as T
 use Rattle.pool_syntax.specs.Terms.{Store, Expression, Statements, MethodTree, ClassTree, ProgramTree, append}
 use Rattle.pool_syntax.specs.Classes.{class_of, named_method}
-use Rattle.pool_syntax.specs.Typing.{Sort, IntSort, BoolSort, ClassSort, NilSort, BrokenSort, is_open, is_same_sort, methods_of, methods_of_class, params_of, sent_method, own_sort, inside, Scope, value_sort, object_sort, is_dangling, send_sort, vars_of_class, faults, op_sort, name_sort}
+use Rattle.pool_syntax.specs.Typing.{Sort, IntSort, BoolSort, ClassSort, NilSort, BrokenSort, is_open, is_same_sort, methods_of, methods_of_class, params_of, sent_method, own_sort, inside, behind_value, Scope, value_sort, object_sort, is_dangling, send_sort, vars_of_class, faults, op_sort, name_sort}
 use Rattle.pool_syntax.specs.Values.{Outcome, Gives, Fails, WrongSort, prefix_value, infix_value}
 use Rattle.pool_relation.specs.Reducible as R
 use Rattle.pool_relation.specs.Reducible.{Choice, Reducible, Found, Evaluated, At, Part, AsExpression, AsStatements, fill_statements, statements_redex}
@@ -20,7 +19,7 @@ use Rattle.pool_relation.proofs.typing.Sorts.{MayBecome, Stays, Opens}
 use Rattle.pool_relation.proofs.typing.Begun.{running_scope, method_begins, call_begun}
 use Rattle.pool_relation.proofs.typing.Declared.{Valued, Has, Lacks, valued, fits_parts}
 use Rattle.mesh_semantics.proofs.Laws.{equal, true_not}
-use Rattle.pool_relation.proofs.redex.TypedRedex.{at, FitValues, AnExpression, Suits, Replacement, NewStatements}
+use Rattle.pool_relation.proofs.redex.TypedRedex.{Spot, at, FitValues, AnExpression, Suits, Replacement, NewStatements}
 use Rattle.pool_relation.proofs.redex.AsWait.{statements_wait}
 use Rattle.pool_relation.proofs.typing.Outcomes.{HasOutcome, prefix_has, infix_has}
 use Rattle.pool_relation.proofs.action.TypedAction.{place, VarsFit, CanReceive, TypedAction}
@@ -32,7 +31,7 @@ pub own_name_typed : (p : ProgramTree) (f : ℕ → Option ℕ) (x : Object) (o 
     → ReplacementAt p f x R.OwnName u → ActivitiesAt p f x R.OwnName → TypedAction p f x (redex_action p o x u R.OwnName)
 own_name_typed p f x o u vars here replacement activities = (
   expression_step p f x R.OwnName u replacement activities (λ q. rw activities.ends refl) f (grows_itself f) (literal (V.Ref o)) refl
-      (a_value (at (place p f x) (replacement Methods f refl (grows_itself f)).temps) (ClassSort x.class) (V.Ref o) (rw here refl) (Stays (rw here refl))) (λ q. refl),
+      (a_value (at (place p f x) (replacement Methods f refl (grows_itself f)).spot) (ClassSort x.class) (V.Ref o) (rw here refl) (Stays (rw here refl))) (λ q. refl),
   vars,
 )
 
@@ -46,24 +45,24 @@ fit_becomes s need h = absurd (grind (arith, h))
 
 pub read_typed : (p : ProgramTree) (f : ℕ → Option ℕ) (x : Object) (o n : ℕ) (u : Store) → VarsFit p f x x.vars
     → ReplacementAt p f x (R.Read n) u → ActivitiesAt p f x (R.Read n) → TypedAction p f x (redex_action p o x u (R.Read n))
-read_typed p f x o n u vars replacement activities = by (valued (place p f x) sp.temps u n sp.store) (valued (place p f x) (vars_of_class (class_of p x.class)) x.vars n vars)
+read_typed p f x o n u vars replacement activities = by (valued (place p f x) sp.spot.temps u n sp.store) (valued (place p f x) (vars_of_class (class_of p x.class)) x.vars n vars)
   where
     sp : Replacement Methods (place p f x) (R.Read n) u (NewStatements Methods (place p f x) x.term)
     sp = replacement Methods f refl (grows_itself f)
 
     value : (v : Value) → is_dangling (place p f x) v ≡ false
-        → MayBecome (name_sort (at (place p f x) sp.temps) n) (value_sort (place p f x) v) → TypedAction p f x (becomes_value x v)
-    value v d b = (expression_step p f x (R.Read n) u replacement activities (λ q. rw activities.ends refl) f (grows_itself f) (literal v) refl (a_value (at (place p f x) sp.temps) (name_sort (at (place p f x) sp.temps) n) v d b) (λ q. refl), vars)
+        → MayBecome (name_sort (at (place p f x) sp.spot) n) (value_sort (place p f x) v) → TypedAction p f x (becomes_value x v)
+    value v d b = (expression_step p f x (R.Read n) u replacement activities (λ q. rw activities.ends refl) f (grows_itself f) (literal v) refl (a_value (at (place p f x) sp.spot) (name_sort (at (place p f x) sp.spot) n) v d b) (λ q. refl), vars)
 
-    by : Valued (place p f x) sp.temps u n → Valued (place p f x) (vars_of_class (class_of p x.class)) x.vars n
+    by : Valued (place p f x) sp.spot.temps u n → Valued (place p f x) (vars_of_class (class_of p x.class)) x.vars n
         → TypedAction p f x (read x (value_of u n) (value_of x.vars n))
     by (Has y v e i fit) own =
         let a = fits_parts (place p f x) v y fit in
-        let b : MayBecome (name_sort (at (place p f x) sp.temps) n) (value_sort (place p f x) v) = rw e (fit_becomes _ _ a.1) in
+        let b : MayBecome (name_sort (at (place p f x) sp.spot) n) (value_sort (place p f x) v) = rw e (fit_becomes _ _ a.1) in
         rw i (value v a.0 b)
     by (Lacks e i) (Has y v k l fit) =
         let a = fits_parts (place p f x) v y fit in
-        let b : MayBecome (name_sort (at (place p f x) sp.temps) n) (value_sort (place p f x) v) = rw (e, k) (fit_becomes _ _ a.1) in
+        let b : MayBecome (name_sort (at (place p f x) sp.spot) n) (value_sort (place p f x) v) = rw (e, k) (fit_becomes _ _ a.1) in
         rw (i, l) (value v a.0 b)
     by (Lacks e i) (Lacks k l) = absurd (grind (arith, rw (e, k) at sp.typed))
 
@@ -74,16 +73,16 @@ make_typed p f x o c u replacement activities =
     rw known (
       known,
       (λ f' n w e. expression_step p f x (R.Make c) u replacement activities (λ q. rw activities.ends refl) f' w (literal (V.Ref n)) refl
-          (a_value (at (place p f' x) (replacement Methods f' refl w).temps) (ClassSort c) (V.Ref n) (rw e refl) (Stays (rw e refl))) (λ q. refl)),
+          (a_value (at (place p f' x) (replacement Methods f' refl w).spot) (ClassSort c) (V.Ref n) (rw e refl) (Stays (rw e refl))) (λ q. refl)),
     )
 
 pub outcome_typed : (p : ProgramTree) (f : ℕ → Option ℕ) (x : Object) (r : Reducible) (u : Store) (s : Sort) (a : Outcome)
     → VarsFit p f x x.vars
     → (replacement : ReplacementAt p f x r u) (activities : ActivitiesAt p f x r) → ServesNone activities → is_statement r ≡ false
-    → ((v : Value) → AnExpression Methods (at (place p f x) (replacement Methods f refl (grows_itself f)).temps) s (AsExpression (literal v)) → Suits Methods (at (place p f x) (replacement Methods f refl (grows_itself f)).temps) r (AsExpression (literal v)))
+    → ((v : Value) → AnExpression Methods (at (place p f x) (replacement Methods f refl (grows_itself f)).spot) s (AsExpression (literal v)) → Suits Methods (at (place p f x) (replacement Methods f refl (grows_itself f)).spot) r (AsExpression (literal v)))
     → HasOutcome (place p f x) s a → TypedAction p f x (on_outcome x a)
 outcome_typed p f x r u s (Gives v) vars replacement activities none i suits h =
-    (expression_step p f x r u replacement activities none f (grows_itself f) (literal v) i (suits v (a_value (at (place p f x) (replacement Methods f refl (grows_itself f)).temps) s v h.0 (Stays h.1))) (λ q. refl), vars)
+    (expression_step p f x r u replacement activities none f (grows_itself f) (literal v) i (suits v (a_value (at (place p f x) (replacement Methods f refl (grows_itself f)).spot) s v h.0 (Stays h.1))) (λ q. refl), vars)
 outcome_typed p f x r u s (Fails e) vars replacement activities none i suits h = tt
 outcome_typed p f x r u s WrongSort vars replacement activities none i suits h = h
 
@@ -116,31 +115,31 @@ has_method p c m n h = by (class_of p c) h
     by None i = absurd (grind (arith, i))
     by (Some k) i = counted (named_method k.methods m) i
 
-pub served_own : (q m : ℕ) (a b : List Activity) → a ≡ [] → b ≡ [] → served_for q (Own m ∷ (a ++ b)) ≡ []
-served_own q m a b e i = rw (e, i) refl
+pub served_own : (q m : ℕ) (a b c : List Activity) → a ≡ [] → b ≡ [] → c ≡ [] → served_for q (Own m ∷ (a ++ (b ++ c))) ≡ []
+served_own q m a b c e i j = rw (e, i, j) refl
 
 pub invoke_typed : (p : ProgramTree) (f : ℕ → Option ℕ) (x : Object) (o m : ℕ) (args : List Value) (u : Store) → faults p ≡ []
     → IsTrue (is_written p) → VarsFit p f x x.vars
     → ReplacementAt p f x (R.Invoke m args) u → ActivitiesAt p f x (R.Invoke m args) → TypedAction p f x (redex_action p o x u (R.Invoke m args))
 invoke_typed p f x o m args u none written vars replacement activities =
     let sp = replacement Methods f refl (grows_itself f) in
-    let g : Scope = at (place p f x) sp.temps in
+    let g : Scope = at (place p f x) sp.spot in
     let t = has_method p x.class m (length args) sp.typed.0 in
     let b = method_begins p x.class f m (length args) t.0 none written t.1 in
     let fit : FitValues g t.0.params args = rw t.2 at sp.typed.1 in
     let i = inside (place p f x) m in
-    let whole : (h : ℕ) → IsTrue (has_room h) → TypedExpression Methods g h (T.Frame t.0.name.name.0 (temps_of t.0 args) t.0.body t.0.value) =
-    λ h room. call_begun p x.class f sp.temps h m t.0 args b.0 b.1 fit room in
+    let whole : (h : ℕ) → IsTrue (has_room h) → TypedExpression Methods g h (T.Frame t.0.name.name.0 (temps_of t.0 args) t.0.body t.0.value t.0.post) =
+    λ h room. call_begun p x.class f sp.spot h m t.0 args b.0 b.1 fit room in
     let sort : own_sort g t.0.name.name.0 ≡ own_sort g m = ap (own_sort g) b.0.named in
     rw t.1 (
-      expression_step p f x (R.Invoke m args) u replacement activities (λ q. rw activities.ends refl) f (grows_itself f) (T.Frame t.0.name.name.0 (temps_of t.0 args) t.0.body t.0.value) refl
-          (T.Frame t.0.name.name.0 (temps_of t.0 args) t.0.body t.0.value, refl, whole, Stays sort)
-          (λ q. served_own q t.0.name.name.0 _ _ (statements_idle i t.0.body b.0.body) (expression_idle i 0 t.0.value b.0.value)),
+      expression_step p f x (R.Invoke m args) u replacement activities (λ q. rw activities.ends refl) f (grows_itself f) (T.Frame t.0.name.name.0 (temps_of t.0 args) t.0.body t.0.value t.0.post) refl
+          (T.Frame t.0.name.name.0 (temps_of t.0 args) t.0.body t.0.value t.0.post, refl, whole, Stays sort)
+          (λ q. served_own q t.0.name.name.0 _ _ _ (statements_idle i t.0.body b.0.body) (expression_idle i 0 t.0.value b.0.value) (statements_idle (behind_value i) t.0.post b.0.post)),
       vars,
     )
 
 -- the receiver of a typed send
-pub receiver : (p : ProgramTree) (f : ℕ → Option ℕ) (c : ℕ) (ts : List Var) (b m : ℕ) (args : List Value)
+pub receiver : (p : ProgramTree) (f : ℕ → Option ℕ) (c : ℕ) (ts : Spot) (b m : ℕ) (args : List Value)
     → is_dangling (running_scope p c f) (V.Ref b) ≡ false
     → IsTrue (is_destination (at (running_scope p c f) ts) (object_sort (f b)) m (length args))
     → FitValues (at (running_scope p c f) ts) (params_of (sent_method (at (running_scope p c f) ts) (object_sort (f b)) m)) args
@@ -170,7 +169,7 @@ request_typed p f x o (V.Ref b) m args u q replacement activities =
     let sp = replacement Waits f refl (grows_itself f) in
     let there : IsTrue (is_some (f b)) = true_not _ sp.typed.0 in
     let w = statements_wait b m (R.Request (V.Ref b) m args) u refl [] x.term q [] in (
-      receiver p f x.class sp.temps b m args sp.typed.0 sp.typed.1 sp.typed.2,
+      receiver p f x.class sp.spot b m args sp.typed.0 sp.typed.1 sp.typed.2,
       sp.filled (AsExpression (T.Wait b m)) (T.Wait b m, refl, (λ h room. (refl, room, there)), Stays refl),
       (λ n. served_kept n activities (AsExpression (T.Wait b m)) refl (rw activities.ends refl)),
       (λ n. rw w.1 refl),
@@ -183,7 +182,7 @@ pub post_typed : (p : ProgramTree) (f : ℕ → Option ℕ) (x : Object) (o : �
     → ReplacementAt p f x (R.Post v m args) u → ActivitiesAt p f x (R.Post v m args) → TypedAction p f x (redex_action p o x u (R.Post v m args))
 post_typed p f x o (V.Ref b) m args u replacement activities =
     let sp = replacement Methods f refl (grows_itself f) in (
-      receiver p f x.class sp.temps b m args sp.typed.0 sp.typed.1 sp.typed.2,
+      receiver p f x.class sp.spot b m args sp.typed.0 sp.typed.1 sp.typed.2,
       statements_step p f x (R.Post (V.Ref b) m args) u replacement activities (λ q. rw activities.ends refl) T.Done refl (T.Done, refl, tt) (λ q. refl),
     )
 post_typed p f x o V.Nil m args u replacement activities = tt
@@ -196,7 +195,7 @@ waiting_typed p f x o b m u replacement activities =
     let sp = replacement Methods f refl (grows_itself f) in (
       sp.typed,
       (λ v d k. expression_step p f x (R.Waiting b m) u replacement activities (λ q. rw activities.ends refl) f (grows_itself f) (literal v) refl
-          (a_value (at (place p f x) sp.temps) (send_sort p (object_sort (f b)) m) v d k) (λ q. refl)),
+          (a_value (at (place p f x) sp.spot) (send_sort p (object_sort (f b)) m) v d k) (λ q. refl)),
     )
 
 pub leave_typed : (p : ProgramTree) (f : ℕ → Option ℕ) (x : Object) (o : ℕ) (v : Value) (u : Store) → VarsFit p f x x.vars

@@ -40,7 +40,7 @@ redex_action_typed p f x o (R.Branch v these those) u none written here known va
 redex_action_typed p f x o (R.Loop e ss) u none written here known vars q replacement activities = loop_typed p f x o e ss u vars replacement activities
 redex_action_typed p f x o (R.Accept names) u none written here known vars q replacement activities = accept_typed p f x o names u replacement activities
 redex_action_typed p f x o (R.Choose cs) u none written here known vars q replacement activities = choose_typed p f x o cs u replacement activities
-redex_action_typed p f x o (R.Finish c v) u none written here known vars q replacement activities = finish_typed p f x o c v u vars replacement activities
+redex_action_typed p f x o (R.Finish c v work) u none written here known vars q replacement activities = finish_typed p f x o c v work u vars q replacement activities
 
 -- the next action of a typed object
 pub action_typed : (p : ProgramTree) (f : ℕ → Option ℕ) (x : Object) (o : ℕ) → faults p ≡ [] → IsTrue (is_written p)

@@ -77,8 +77,8 @@ waits_only p o x u r b m e = by r (ap is_waits e) e
     by (R.Choose cs) i k =
         absurd (no _ i (chosen_waits (list_any (λ c. is_nil c.guard) cs) (A.Fault NilOperand) _ refl
         (chosen_waits (list_any (λ c. not_bool c.guard) cs) A.Stuck _ refl (chosen_waits (list_any (λ c. is_true c.guard) cs) (A.Select cs) (A.Fault NoOpenGuard) refl refl))))
-    by (R.Finish None v) i k = absurd (grind (arith, i))
-    by (R.Finish (Some c) v) i k = absurd (grind (arith, i))
+    by (R.Finish None v work) i k = absurd (grind (arith, i))
+    by (R.Finish (Some c) v work) i k = absurd (grind (arith, i))
 
 -- an object in whose term no wait stands does not wait
 pub does_not_wait : (p : ProgramTree) (f : ℕ → Option ℕ) (o : ℕ) (x : Object) → TypedStatements Methods (place p f x) x.term

@@ -2,7 +2,6 @@
 use Rattle.std.proofs.Common.{◌≡◌, IsTrue, ℕ, List, [], ◌∷◌, ◌++◌, length, Option, Some, is_some, false}
 use Rattle.pool_syntax.specs.declared.words.Value.{Value}
 use Rattle.pool_syntax.specs.declared.words.Value.TheVariants as V
-use Rattle.pool_syntax.specs.declared.tree.Var.{Var}
 use Rattle.pool_syntax.specs.Terms as T
 use Rattle.pool_syntax.specs.Terms.{Store, Statements, MethodTree, ProgramTree}
 use Rattle.pool_syntax.specs.Classes.{class_of}
@@ -11,13 +10,13 @@ use Rattle.pool_relation.specs.Reducible.{AsExpression, AsStatements}
 use Rattle.pool_relation.specs.Action as A
 use Rattle.pool_relation.specs.Action.{Object, Action, action, method_of}
 use Rattle.pool_relation.specs.Typed.{is_store_of}
-use Rattle.pool_relation.specs.Transition.{refilled, done, given}
+use Rattle.pool_relation.specs.Transition.{refilled, done, returned, given}
 use Rattle.pool_relation.specs.UnderWay.{Activity, Serving, served_for, serves}
 use Rattle.pool_relation.proofs.typing.TypedTerm.{Methods, Waits, gives, TypedStatements}
 use Rattle.pool_relation.proofs.typing.Sorts.{MayBecome}
 use Rattle.pool_relation.proofs.typing.Grown.{Grows}
 use Rattle.pool_relation.proofs.typing.Begun.{running_scope}
-use Rattle.pool_relation.proofs.redex.TypedRedex.{at, FitValues, TypedChoices}
+use Rattle.pool_relation.proofs.redex.TypedRedex.{Spot, at, FitValues, TypedChoices}
 
 -- where the term of the object stands
 abbrev pub place : ProgramTree → (ℕ → Option ℕ) → Object → Scope
@@ -36,8 +35,8 @@ CanReceive p f b m args =
 abbrev pub Steps : ProgramTree → (ℕ → Option ℕ) → Object → Statements → Type 0
 Steps p f x ss = TypedStatements Methods (place p f x) ss × ((q : ℕ) → serves q ss ≡ serves q x.term)
 
--- typed statements may take the place of what the object does next, inside a method with these temps
-abbrev pub TakesStatements : ProgramTree → (ℕ → Option ℕ) → Object → List Var → Type 0
+-- typed statements may take the place of what the object does next, at this spot of a method
+abbrev pub TakesStatements : ProgramTree → (ℕ → Option ℕ) → Object → Spot → Type 0
 TakesStatements p f x ts =
     ((ss : Statements) → TypedStatements Methods (at (place p f x) ts) ss → TypedStatements Methods (place p f x) (refilled x (AsStatements ss)).term)
     × ((ss : Statements) (q : ℕ) → serves q (refilled x (AsStatements ss)).term ≡ serves q x.term ++ serves q ss)
@@ -57,12 +56,12 @@ TypedAction p f x (A.Send b m args) =
     × ((o : ℕ) → action p o (refilled x (AsExpression (T.Wait b m))) ≡ A.Waits b m)
 TypedAction p f x (A.Async b m args) = CanReceive p f b m args × Steps p f x (done x).term
 TypedAction p f x (A.Write item) = Steps p f x (done x).term
-TypedAction p f x (A.Answer names) = (ts : List Var) × TakesStatements p f x ts
-TypedAction p f x (A.Select cs) = (ts : List Var) × TypedChoices (at (place p f x) ts) cs × TakesStatements p f x ts
+TypedAction p f x (A.Answer names) = (ts : Spot) × TakesStatements p f x ts
+TypedAction p f x (A.Select cs) = (ts : Spot) × TypedChoices (at (place p f x) ts) cs × TakesStatements p f x ts
 TypedAction p f x (A.Return k v) =
-    (m : ℕ) × (before : List Activity) × TypedStatements Methods (place p f x) (done x).term
+    (m : ℕ) × (before : List Activity) × TypedStatements Methods (place p f x) (returned x).term
     × ((q : ℕ) → serves q x.term ≡ served_for q before ++ served_for q (Serving m (Some k) ∷ []))
-    × ((q : ℕ) → serves q (done x).term ≡ served_for q before)
+    × ((q : ℕ) → serves q (returned x).term ≡ served_for q before)
     × (is_dangling (place p f x) v ≡ false) × IsTrue (gives p (own_method (place p f x) m) (value_sort (place p f x) v))
 TypedAction p f x (A.Waits b m) =
     IsTrue (is_some (f b))

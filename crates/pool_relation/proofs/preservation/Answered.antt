@@ -3,7 +3,6 @@ use Rattle.std.proofs.Common.{◌≡◌, refl, sym, ap, ◌∙◌, subst, IsTrue
 use Rattle.pool_syntax.specs.declared.words.Value.{Value}
 use Rattle.pool_syntax.specs.declared.words.NameId.{NameId}
 use Rattle.pool_syntax.specs.declared.words.Label.TheVariants as L
-use Rattle.pool_syntax.specs.declared.tree.Var.{Var}
 use Rattle.pool_syntax.specs.Terms as T
 use Rattle.pool_syntax.specs.Terms.{MethodTree, ProgramTree}
 use Rattle.pool_syntax.specs.Typing.{faults}
@@ -18,7 +17,7 @@ use Rattle.pool_relation.specs.Typed.{class_at}
 use Rattle.pool_relation.specs.Written.{is_written}
 use Rattle.mesh_semantics.proofs.Laws.{first, second, equal, equals, decide, differ, same_some, given_by, required, same_values}
 use Rattle.pool_relation.proofs.typing.TypedTerm.{Nothing, Methods, TypedStatements}
-use Rattle.pool_relation.proofs.redex.TypedRedex.{at, FitValues}
+use Rattle.pool_relation.proofs.redex.TypedRedex.{Spot, at, FitValues}
 use Rattle.pool_relation.proofs.action.TypedAction.{place, CanReceive, TakesStatements, TypedAction}
 use Rattle.pool_relation.proofs.Lookup.{objects_in_order}
 use Rattle.pool_relation.proofs.Invariant.{classes, Invariant}
@@ -65,7 +64,7 @@ module _ (p : ProgramTree) (none : faults p ≡ []) (written : IsTrue (is_writte
       sends : TypedAction p (classes c) x (A.Send b m args)
       sends = subst (TypedAction p (classes c) x) a (object_typed_at p none written c o x g h)
 
-      offered : (ts : List Var) × TypedStatements Nothing (at (place p (classes c) y) ts) v.work × TakesStatements p (classes c) y ts × (is_waits (action p b y) ≡ false)
+      offered : (ts : Spot) × TypedStatements Nothing (at (place p (classes c) y) ts) v.work × TakesStatements p (classes c) y ts × (is_waits (action p b y) ≡ false)
       offered = offers p none written (classes c) y (action p b y) m v (object_typed_at p none written c b y g i) off
 
       can : CanReceive p (classes c) b m args

@@ -8,7 +8,7 @@ use Rattle.pool_syntax.specs.declared.tree.Named.{Named}
 use Rattle.pool_syntax.specs.declared.tree.Var.{Var}
 use Rattle.pool_syntax.specs.Terms as T
 use Rattle.pool_syntax.specs.Terms.{Store, Statements, MethodTree, ProgramTree}
-use Rattle.pool_syntax.specs.Typing.{Sort, IntSort, BoolSort, ClassSort, NilSort, NoSort, BrokenSort, Scope, faults, kind_sort, value_sort, is_open, is_same_sort, inside}
+use Rattle.pool_syntax.specs.Typing.{Sort, IntSort, BoolSort, ClassSort, NilSort, NoSort, BrokenSort, Scope, faults, kind_sort, value_sort, is_open, is_same_sort, inside, behind_value}
 use Rattle.pool_relation.specs.Action as A
 use Rattle.pool_relation.specs.Action.{Object, Action, action, method_of, temps_of}
 use Rattle.pool_syntax.specs.Values.{is_true}
@@ -25,7 +25,7 @@ use Rattle.mesh_semantics.proofs.Laws.{first, second, both, equal, same_some, th
 use Rattle.pool_relation.proofs.typing.TypedTerm.{Nothing, Methods, has_no_sort, fits_need, TypedStatements}
 use Rattle.pool_relation.proofs.typing.Declared.{AllKnown, fits_var, fits_parts}
 use Rattle.pool_relation.proofs.typing.Begun.{method_begins, serve_begun}
-use Rattle.pool_relation.proofs.redex.TypedRedex.{at, FitValues, TypedChoices}
+use Rattle.pool_relation.proofs.redex.TypedRedex.{Spot, at, FitValues, TypedChoices}
 use Rattle.pool_relation.proofs.redex.Idle.{statements_idle, expression_idle}
 use Rattle.pool_relation.proofs.action.TypedAction.{place, CanReceive, TakesStatements, TypedAction}
 use Rattle.pool_relation.proofs.Lookup.{objects_in_order, messages_in_order, no_empty_messages, PutMessages, NewMessages, OldMessages, put_messages_cases}
@@ -123,7 +123,7 @@ module _ (p : ProgramTree) (none : faults p ≡ []) (written : IsTrue (is_writte
 
   -- what is offered may be followed by its work, and takes statements
   pub offers : (f : ℕ → Option ℕ) (y : Object) (k : Action) (m : ℕ) (v : Offer) → TypedAction p f y k → offer k m ≡ Some v
-      → (ts : List Var) × TypedStatements Nothing (at (place p f y) ts) v.work × TakesStatements p f y ts × (is_waits k ≡ false)
+      → (ts : Spot) × TypedStatements Nothing (at (place p f y) ts) v.work × TakesStatements p f y ts × (is_waits k ≡ false)
   offers f y (A.Answer names) m v typed e =
       let a = required (names_method names m) (Some (record { names = names; work = T.Done })) v e in
       let same : record { names = names; work = T.Done } ≡ v = cc in
@@ -131,22 +131,23 @@ module _ (p : ProgramTree) (none : faults p ≡ []) (written : IsTrue (is_writte
   offers f y (A.Select cs) m v typed e = (typed.0, chosen_work (at (place p f y) typed.0) cs m v typed.1 e, typed.2, refl)
   offers f y _ m v typed e = absurd (grind (arith, e))
 
-  one_serving : (q : ℕ) (a : Activity) (b v w : List Activity) → b ≡ [] → v ≡ [] → w ≡ []
-      → served_for q ((a ∷ (b ++ v)) ++ w) ≡ served_for q (a ∷ [])
-  one_serving q a b v w e f g = rw (e, f, g) refl
+  one_serving : (q : ℕ) (a : Activity) (b v s w : List Activity) → b ≡ [] → v ≡ [] → s ≡ [] → w ≡ []
+      → served_for q ((a ∷ (b ++ (v ++ s))) ++ w) ≡ served_for q (a ∷ [])
+  one_serving q a b v s w e f h g = rw (e, f, h, g) refl
 
   -- an object that begins to serve a method
-  pub serving_typed : (f : ℕ → Option ℕ) (y : Object) (ts : List Var) (m : ℕ) (t : MethodTree) (caller : Option ℕ) (args : List Value) (work : Statements)
+  pub serving_typed : (f : ℕ → Option ℕ) (y : Object) (ts : Spot) (m : ℕ) (t : MethodTree) (caller : Option ℕ) (args : List Value) (work : Statements)
       → method_of p y.class m (length args) ≡ Some t
       → FitValues (place p f y) t.params args → TypedStatements Nothing (at (place p f y) ts) work → TakesStatements p f y ts
       → TypedStatements Methods (place p f y) (serving y t caller args work).term × ((q : ℕ) → serves q (serving y t caller args work).term ≡ serves q y.term ++ served_for q (Serving m caller ∷ []))
   serving_typed f y ts m t caller args work e fit d takes =
       let b = method_begins p y.class f m (length args) t none written e in
-      let whole : Statements = T.Then (T.Serve t.name.name.0 caller (temps_of t args) t.body t.value) work in
+      let whole : Statements = T.Then (T.Serve t.name.name.0 caller (temps_of t args) t.body t.value t.post) work in
       let i = inside (place p f y) m in (
         takes.0 whole (serve_begun p y.class f ts m t caller args b.0 b.1 fit, d),
         (λ q. takes.1 whole q ∙ ap (λ l. serves q y.term ++ l)
-            (one_serving q (Serving t.name.name.0 caller) (in_statements t.body) (in_expression t.value) (in_statements work) (statements_idle i t.body b.0.body) (expression_idle i 0 t.value b.0.value) (statements_idle (at (place p f y) ts) work d)
+            (one_serving q (Serving t.name.name.0 caller) (in_statements t.body) (in_expression t.value) (in_statements t.post) (in_statements work) (statements_idle i t.body b.0.body) (expression_idle i 0 t.value b.0.value)
+            (statements_idle (behind_value i) t.post b.0.post) (statements_idle (at (place p f y) ts) work d)
             ∙ ap (λ n. served_for q (Serving n caller ∷ [])) b.0.named)),
       )
 

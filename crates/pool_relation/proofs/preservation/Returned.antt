@@ -9,7 +9,7 @@ use Rattle.pool_syntax.specs.Values.{is_same}
 use Rattle.pool_relation.specs.Action as A
 use Rattle.pool_relation.specs.Action.{Object, Action, action, method_of}
 use Rattle.pool_relation.specs.Configuration.{Configuration, object_of, put_object}
-use Rattle.pool_relation.specs.Transition.{running, returns, waits_on, done, given, transition}
+use Rattle.pool_relation.specs.Transition.{running, returns, waits_on, returned, given, transition}
 use Rattle.pool_relation.specs.UnderWay.{served_for, serves}
 use Rattle.pool_relation.specs.Typed.{class_at}
 use Rattle.pool_relation.specs.Written.{is_written}
@@ -36,7 +36,7 @@ module _ (p : ProgramTree) (none : faults p ≡ []) (written : IsTrue (is_writte
 
   return_step : (c : Configuration) (o b m : ℕ) (x y : Object) (v : Value) → Invariant p c → object_of c o ≡ Some x → x.fault ≡ None
       → object_of c b ≡ Some y → y.fault ≡ None
-      → action p b y ≡ A.Return o v → action p o x ≡ A.Waits b m → Invariant p (put_object (put_object c b (done y)) o (given x v))
+      → action p b y ≡ A.Return o v → action p o x ≡ A.Waits b m → Invariant p (put_object (put_object c b (returned y)) o (given x v))
   return_step c o b m x y v g h hf i jf a w0 =
       record {
         order = record { objects = objects_in_order (put_object c b y') o x' (objects_in_order c b y' g.order.objects); messages = g.order.messages; no_empty = g.order.no_empty };
@@ -49,7 +49,7 @@ module _ (p : ProgramTree) (none : faults p ≡ []) (written : IsTrue (is_writte
       x' = given x v
 
       y' : Object
-      y' = done y
+      y' = returned y
 
       d : Configuration
       d = put_object (put_object c b y') o x'
@@ -181,16 +181,16 @@ module _ (p : ProgramTree) (none : faults p ≡ []) (written : IsTrue (is_writte
       let a = given_by (running c o) _ d i.2 in
       let r = running_is c o a.0 a.1 in
       let q = required (returns (action p b i.0) o v && waits_on (action p o a.0) b) _ d a.2 in
-      let act = returned (action p b i.0) o v (first _ (waits_on (action p o a.0) b) q.0) in
+      let act = gives (action p b i.0) o v (first _ (waits_on (action p o a.0) b) q.0) in
       let w = waited (action p o a.0) b (second (returns (action p b i.0) o v) _ q.0) in
       subst (Invariant p) (same_some q.1) (return_step c o b w.0 a.0 i.0 v g r.0 r.1 s.0 s.1 act w.1)
     where
-      returned : (k : Action) (o : ℕ) (w : Value) → IsTrue (returns k o w) → k ≡ A.Return o w
-      returned (A.Return o' w') o w h =
+      gives : (k : Action) (o : ℕ) (w : Value) → IsTrue (returns k o w) → k ≡ A.Return o w
+      gives (A.Return o' w') o w h =
           let e : o' ≡ o = equal o' o (first (o' == o) (is_same w' w) h) in
           let f : w' ≡ w = same_value w' w (second (o' == o) (is_same w' w) h) in
           cc
-      returned _ o w h = absurd (grind (arith, h))
+      gives _ o w h = absurd (grind (arith, h))
 
       waited : (k : Action) (b : ℕ) → IsTrue (waits_on k b) → (m : ℕ) × (k ≡ A.Waits b m)
       waited (A.Waits b' m) b h = (m, ap (λ j. A.Waits j m) (equal b' b h))

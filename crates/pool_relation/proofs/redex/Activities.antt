@@ -3,12 +3,13 @@ use Rattle.std.proofs.Common.{◌≡◌, refl, sym, ap, ◌∙◌, subst, IsTrue
 use Rattle.pool_syntax.specs.Terms.{Store, Expression, Expressions, Statement, Statements, Done, Then, Alternatives, append}
 use Rattle.pool_syntax.specs.Typing.{Scope, value_sort, own_method}
 use Rattle.pool_relation.specs.Reducible.{Reducible, At, OwnName, Read, Make, Unary, Binary, Invoke, Request, Leave, Waiting, Finish, Part, AsExpression, AsStatements, as_expression, as_statements, fill_expression, fill_expressions, fill_statement, fill_statements, fill_guards, expression_redex, expressions_redex, statement_redex, statements_redex, guards_redex}
-use Rattle.pool_relation.specs.UnderWay.{Activity, Own, Serving, in_expression, in_expressions, in_statement, in_statements, in_guards}
+use Rattle.pool_relation.specs.UnderWay.{Activity, Own, Serving, in_expression, in_expressions, in_statement, in_statements, in_guards, serves}
 use Rattle.pool_relation.proofs.typing.TypedTerm.{gives}
 
 -- what the redex ends: a served method, an own one, or nothing
 abbrev pub Ends : Scope → Reducible → List Activity → Type 0
-Ends g (Finish c v) now = (m : ℕ) × (now ≡ Serving m c ∷ []) × IsTrue (gives g.program (own_method g m) (value_sort g v))
+Ends g (Finish c v work) now =
+    (m : ℕ) × (now ≡ Serving m c ∷ []) × IsTrue (gives g.program (own_method g m) (value_sort g v)) × ((o : ℕ) → serves o work ≡ [])
 Ends g (Leave v) now = (m : ℕ) × (now ≡ Own m ∷ [])
 Ends g _ now = now ≡ []
 

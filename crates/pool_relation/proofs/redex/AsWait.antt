@@ -1,12 +1,12 @@
 -- A term in which a wait took the place of a send waits next.
-use Rattle.std.proofs.Common.{◌≡◌, refl, sym, ap, ℕ, List, [], ◌∷◌, Option, Bool, true, false, ◌⊎◌, inl, inr, arith}
+use Rattle.std.proofs.Common.{◌≡◌, refl, sym, ap, ℕ, List, [], ◌∷◌, Option, None, Bool, true, false, ◌⊎◌, inl, inr, arith}
 use Rattle.pool_syntax.specs.declared.words.Value.{Value}
 use Rattle.pool_syntax.specs.declared.words.Op.{Op}
 use Rattle.pool_syntax.specs.declared.words.Item.TheVariants as I
 use Rattle.pool_syntax.specs.declared.tree.Named.{Named}
 use Rattle.pool_syntax.specs.Terms.{Store, Expression, Literal, Me, Variable, Create, Prefix, Infix, Call, Send, Frame, Wait, Expressions, NoArgs, Arg, Statement, Assign, Write, WriteText, Do, Async, If, While, Answer, Select, Serve, Statements, Done, Then, Alternatives, NoAlts, Alt, append}
-use Rattle.pool_relation.specs.Reducible.{Choice, Reducible, Found, Evaluated, At, and_then, OwnName, Read, Make, Unary, Binary, Invoke, Request, Leave, Waiting, Set, Print, Drop, Post, Branch, Loop, Accept, Choose, Finish, Part, AsExpression, is_value, assigned, fill_expression, fill_expressions, fill_statement, fill_statements, fill_guards, expression_redex, expressions_redex, statement_redex, statements_redex, guards_redex}
-use Rattle.pool_relation.proofs.redex.RedexSearch.{split, split_last, split_more, literal_is, not_value, not_values, not_guards, arguments_are, done_is, not_done, at_is_no_value}
+use Rattle.pool_relation.specs.Reducible.{Choice, Reducible, Found, Evaluated, At, and_then, OwnName, Read, Make, Unary, Binary, Invoke, Request, Leave, Waiting, Set, Print, Drop, Post, Branch, Loop, Accept, Choose, Finish, left_served, Part, AsExpression, is_value, assigned, fill_expression, fill_expressions, fill_statement, fill_statements, fill_guards, expression_redex, expressions_redex, statement_redex, statements_redex, guards_redex}
+use Rattle.pool_relation.proofs.redex.RedexSearch.{split, split_last, split_more, literal_is, not_value, not_values, not_guards, arguments_are, at_is_no_value, InMethod, InBody, InValue, InPost, AtEnd, in_method}
 
 abbrev is_request : Reducible → Bool
 is_request (Request v m vs) = true
@@ -89,22 +89,18 @@ module _ (b m : ℕ) (r : Reducible) (u : Store) (is : is_request r ≡ true) wh
       by (inl k) = let i = to k t' in (i.0, rw (not_value t e r u k) (rw i.1 refl))
       by (inr k) = behind k.0 k.1 (split_last (expressions_redex t es) (λ vs. Request k.0 n vs) t r u k.2)
 
-  frame_waits : (t : Store) (n : ℕ) (a : Store) (ss : Statements) (e : Expression)
+  frame_waits : (t : Store) (n : ℕ) (a : Store) (ss : Statements) (e : Expression) (qs : Statements)
       → (statements_redex a ss ≡ At r u → NowWaits b m statements_redex (fill_statements ss x))
       → (expression_redex a e ≡ At r u → NowWaits b m expression_redex (fill_expression e x))
-      → expression_redex t (Frame n a ss e) ≡ At r u → NowWaits b m expression_redex (fill_expression (Frame n a ss e) x)
-  frame_waits t n a ss e body value q t' = by (split (statements_redex a ss) _ r u q)
+      → (statements_redex a qs ≡ At r u → NowWaits b m statements_redex (fill_statements qs x))
+      → expression_redex t (Frame n a ss e qs) ≡ At r u → NowWaits b m expression_redex (fill_expression (Frame n a ss e qs) x)
+  frame_waits t n a ss e qs body value post q t' = by (in_method None a ss e qs Leave r u q)
     where
-      behind : (v : Unit {0}) → statements_redex a ss ≡ Evaluated v
-          → (expression_redex a e ≡ At r u) ⊎ ((c : Value) × (expression_redex a e ≡ Evaluated c) × (Leave c ≡ r) × (a ≡ u))
-          → (w : Store) × (expression_redex t' (fill_expression (Frame n a ss e) x) ≡ At (Waiting b m) w)
-      behind v d (inl k) = let i = value k a in (i.0, rw (done_is a ss v d, not_value a e r u k) (rw i.1 refl))
-      behind v d (inr k) = absurd (grind (arith, is, k.2))
-
-      by : (statements_redex a ss ≡ At r u) ⊎ ((v : Unit {0}) × (statements_redex a ss ≡ Evaluated v) × (and_then {B = Value} (expression_redex a e) (λ c. At (Leave c) a) ≡ At r u))
-          → (w : Store) × (expression_redex t' (fill_expression (Frame n a ss e) x) ≡ At (Waiting b m) w)
-      by (inl k) = let i = body k (assigned ss a) in (i.0, rw (not_done a ss r u k) (rw i.1 refl))
-      by (inr k) = behind k.0 k.1 (split_last (expression_redex a e) Leave a r u k.2)
+      by : InMethod None a ss e qs Leave r u → (w : Store) × (expression_redex t' (fill_expression (Frame n a ss e qs) x) ≡ At (Waiting b m) w)
+      by (InBody k f) = let i = body k (assigned ss a) in (i.0, rw f (rw i.1 refl))
+      by (InValue d k f) = let i = value k a in (i.0, rw (d, f) (rw i.1 refl))
+      by (InPost d v k f c p o) = let i = post p (assigned qs a) in (i.0, rw (d, f, o) (rw (literal_again a (assigned qs a) e v k, i.1) refl))
+      by (AtEnd d v k f o s w) = absurd (grind (arith, is, s))
 
   argument_waits : (t : Store) (e : Expression) (es : Expressions)
       → (expression_redex t e ≡ At r u → NowWaits b m expression_redex (fill_expression e x))
@@ -205,22 +201,19 @@ module _ (b m : ℕ) (r : Reducible) (u : Store) (is : is_request r ≡ true) wh
       by (inl k) = let i = to k t' in (i.0, rw (not_value t e r u k) (rw i.1 refl))
       by (inr k) = behind k.0 k.1 (split_last (expressions_redex t es) (λ vs. Post k.0 n vs) t r u k.2)
 
-  serve_waits : (t : Store) (n : ℕ) (c : Option ℕ) (a : Store) (ss : Statements) (e : Expression)
+  serve_waits : (t : Store) (n : ℕ) (c : Option ℕ) (a : Store) (ss : Statements) (e : Expression) (qs : Statements)
       → (statements_redex a ss ≡ At r u → NowWaits b m statements_redex (fill_statements ss x))
       → (expression_redex a e ≡ At r u → NowWaits b m expression_redex (fill_expression e x))
-      → statement_redex t (Serve n c a ss e) ≡ At r u → OneWaits (Serve n c a ss e)
-  serve_waits t n c a ss e body value q rest t' = by (split (statements_redex a ss) _ r u q)
+      → (statements_redex a qs ≡ At r u → NowWaits b m statements_redex (fill_statements qs x))
+      → statement_redex t (Serve n c a ss e qs) ≡ At r u → OneWaits (Serve n c a ss e qs)
+  serve_waits t n c a ss e qs body value post q rest t' = by (in_method c a ss e qs (λ v. Finish c v (left_served c n a ss e qs)) r u q)
     where
-      behind : (v : Unit {0}) → statements_redex a ss ≡ Evaluated v
-          → (expression_redex a e ≡ At r u) ⊎ ((o : Value) × (expression_redex a e ≡ Evaluated o) × (Finish c o ≡ r) × (a ≡ u))
-          → (w : Store) × (statements_redex t' (append (fill_statement (Serve n c a ss e) x) rest) ≡ At (Waiting b m) w)
-      behind v d (inl k) = let i = value k a in (i.0, rw (done_is a ss v d, not_value a e r u k) (rw i.1 refl))
-      behind v d (inr k) = absurd (grind (arith, is, k.2))
-
-      by : (statements_redex a ss ≡ At r u) ⊎ ((v : Unit {0}) × (statements_redex a ss ≡ Evaluated v) × (and_then {B = Unit {0}} (expression_redex a e) (λ o. At (Finish c o) a) ≡ At r u))
-          → (w : Store) × (statements_redex t' (append (fill_statement (Serve n c a ss e) x) rest) ≡ At (Waiting b m) w)
-      by (inl k) = let i = body k (assigned ss a) in (i.0, rw (not_done a ss r u k) (rw i.1 refl))
-      by (inr k) = behind k.0 k.1 (split_last (expression_redex a e) (Finish c) a r u k.2)
+      by : InMethod c a ss e qs (λ v. Finish c v (left_served c n a ss e qs)) r u
+          → (w : Store) × (statements_redex t' (append (fill_statement (Serve n c a ss e qs) x) rest) ≡ At (Waiting b m) w)
+      by (InBody k f) = let i = body k (assigned ss a) in (i.0, rw f (rw i.1 refl))
+      by (InValue d k f) = let i = value k a in (i.0, rw (d, f) (rw i.1 refl))
+      by (InPost d v k f z p o) = let i = post p (assigned qs a) in (i.0, rw (d, f, o) (rw (literal_again a (assigned qs a) e v k, z, i.1) refl))
+      by (AtEnd d v k f o s w) = absurd (grind (arith, is, s))
 
   mutual
     expression_waits : (t : Store) (e : Expression) → expression_redex t e ≡ At r u → NowWaits b m expression_redex (fill_expression e x)
@@ -232,7 +225,7 @@ module _ (b m : ℕ) (r : Reducible) (u : Store) (is : is_request r ≡ true) wh
     expression_waits t (Infix op l n p) q = infix_waits t op l n p (expression_waits t l) (expression_waits t n) q
     expression_waits t (Call n es p) q = call_waits t n es p (arguments_wait t es) q
     expression_waits t (Send e n es p) q = send_waits t e n es p (expression_waits t e) (arguments_wait t es) q
-    expression_waits t (Frame n a ss e) q = frame_waits t n a ss e (statements_wait a ss) (expression_waits a e) q
+    expression_waits t (Frame n a ss e qs) q = frame_waits t n a ss e qs (statements_wait a ss) (expression_waits a e) (statements_wait a qs) q
     expression_waits t (Wait c n) q = absurd (at_no_request (Waiting c n) t r u is refl q)
 
     arguments_wait : (t : Store) (es : Expressions) → expressions_redex t es ≡ At r u
@@ -250,7 +243,7 @@ module _ (b m : ℕ) (r : Reducible) (u : Store) (is : is_request r ≡ true) wh
     statement_waits t (While e ss) q = absurd (at_no_request (Loop e ss) t r u is refl q)
     statement_waits t (Answer names) q = absurd (at_no_request (Accept names) t r u is refl q)
     statement_waits t (Select alts) q = select_waits t alts (alternatives_wait t alts) q
-    statement_waits t (Serve n c a ss e) q = serve_waits t n c a ss e (statements_wait a ss) (expression_waits a e) q
+    statement_waits t (Serve n c a ss e qs) q = serve_waits t n c a ss e qs (statements_wait a ss) (expression_waits a e) (statements_wait a qs) q
 
     pub statements_wait : (t : Store) (ss : Statements) → statements_redex t ss ≡ At r u
         → NowWaits b m statements_redex (fill_statements ss x)

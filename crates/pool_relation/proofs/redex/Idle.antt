@@ -28,7 +28,7 @@ mutual
       let a = expression_idle g h e t.1 in
       let b = arguments_idle g (h + 1) ps es (arguments_weaker (past (is_value e) Nothing) Nothing g (h + 1) ps es (past_below_all (is_value e) Nothing) t.3) in
       rw (a, b) refl
-  expression_idle g h (Frame m u ss e) t = absurd (grind (arith, t.0))
+  expression_idle g h (Frame m u ss e qs) t = absurd (grind (arith, t.0))
   expression_idle g h (Wait b m) t = refl
 
   pub arguments_idle : (g : Scope) (h : ℕ) (vs : List Var) (es : Expressions) → TypedArguments Nothing g h vs es → in_expressions es ≡ []
@@ -43,20 +43,20 @@ mutual
       rw (a, b) refl
 
   pub statement_idle : (g : Scope) (s : Statement) → TypedStatement Nothing g s → in_statement s ≡ []
-  statement_idle g (Assign x p e) t = expression_idle g 0 e t.1
-  statement_idle g (Write e) t = expression_idle g 0 e t.0
+  statement_idle g (Assign x p e) t = expression_idle g g.held e t.1
+  statement_idle g (Write e) t = expression_idle g g.held e t.0
   statement_idle g (WriteText s) t = refl
-  statement_idle g (Do e) t = expression_idle g 0 e t
+  statement_idle g (Do e) t = expression_idle g g.held e t
   statement_idle g (Async e m p es) t =
       let ps = params_of (sent_method g (sort_of g e) m) in
-      let a = expression_idle g 0 e t.0 in
-      let b = arguments_idle g 1 ps es (arguments_weaker (past (is_value e) Nothing) Nothing g 1 ps es (past_below_all (is_value e) Nothing) t.2) in
+      let a = expression_idle g g.held e t.0 in
+      let b = arguments_idle g (g.held + 1) ps es (arguments_weaker (past (is_value e) Nothing) Nothing g (g.held + 1) ps es (past_below_all (is_value e) Nothing) t.2) in
       rw (a, b) refl
-  statement_idle g (If e these those) t = expression_idle g 0 e t.0
+  statement_idle g (If e these those) t = expression_idle g g.held e t.0
   statement_idle g (While e ss) t = refl
   statement_idle g (Answer names) t = refl
-  statement_idle g (Select alts) t = alternatives_idle g 0 alts t
-  statement_idle g (Serve m o u ss e) t = absurd (grind (arith, t.0))
+  statement_idle g (Select alts) t = alternatives_idle g g.held alts t
+  statement_idle g (Serve m o u ss e qs) t = absurd (grind (arith, t.0))
 
   pub statements_idle : (g : Scope) (ss : Statements) → TypedStatements Nothing g ss → in_statements ss ≡ []
   statements_idle g Done t = refl

@@ -1,10 +1,10 @@
 -- A part in which no wait stands does not wait next.
-use Rattle.std.proofs.Common.{◌≡◌, refl, sym, ℕ, ◌+◌, List, [], ◌∷◌, Bool, true, false, arith}
+use Rattle.std.proofs.Common.{◌≡◌, refl, sym, ℕ, ◌+◌, List, [], ◌∷◌, Option, Some, None, is_none, Bool, true, false, arith}
 use Rattle.pool_syntax.specs.declared.words.Item.TheVariants as I
 use Rattle.pool_syntax.specs.declared.tree.Var.{Var}
 use Rattle.pool_syntax.specs.Terms.{Store, Expression, Literal, Me, Variable, Create, Prefix, Infix, Call, Send, Frame, Wait, Expressions, NoArgs, Arg, Statement, Assign, Write, WriteText, Do, Async, If, While, Answer, Select, Serve, Statements, Done, Then, Alternatives, NoAlts, Alt}
-use Rattle.pool_syntax.specs.Typing.{Scope, sort_of, inside, own_method, params_of, sent_method}
-use Rattle.pool_relation.specs.Reducible.{Reducible, Found, Evaluated, At, and_then, OwnName, Read, Make, Unary, Binary, Invoke, Request, Leave, Waiting, Set, Print, Drop, Post, Branch, Loop, Accept, Choose, Finish, is_value, is_done, expression_redex, expressions_redex, statement_redex, statements_redex, guards_redex}
+use Rattle.pool_syntax.specs.Typing.{Scope, sort_of, inside, behind_value, own_method, params_of, sent_method}
+use Rattle.pool_relation.specs.Reducible.{Reducible, Found, Evaluated, At, and_then, OwnName, Read, Make, Unary, Binary, Invoke, Request, Leave, Waiting, Set, Print, Drop, Post, Branch, Loop, Accept, Choose, Finish, in_post, left_served, is_value, is_done, expression_redex, expressions_redex, statement_redex, statements_redex, guards_redex}
 use Rattle.pool_relation.proofs.typing.TypedTerm.{Holds, has_waits, past, TypedExpression, TypedArguments, TypedStatement, TypedStatements, TypedAlternatives}
 use Rattle.pool_relation.proofs.redex.RedexSearch.{at_is_no_value}
 
@@ -31,6 +31,10 @@ last_no_wait : {A B : Type 0} (f : Found A) (k : A → Reducible) (t : Store) �
     → NoWait {A = B} (and_then f (λ a. At (k a) t))
 last_no_wait f k t p w = both_no_wait f (λ a. At (k a) t) p (λ a. at_no_wait (k a) t (w a))
 
+post_no_wait : (c : Option ℕ) (f : Found (Unit {0})) → NoWait f → NoWait (in_post c f)
+post_no_wait None f p = p
+post_no_wait (Some k) f p = value_no_wait tt
+
 past_no_waits : (b : Bool) (k : Holds) → has_waits k ≡ false → has_waits (past b k) ≡ false
 past_no_waits true k w = w
 past_no_waits false k w = refl
@@ -50,9 +54,11 @@ mutual
   expression_no_wait k g h t (Send e m es p) w d =
       both_no_wait (expression_redex t e) _ (expression_no_wait k g h t e w d.1)
       (λ v. last_no_wait (expressions_redex t es) (λ vs. Request v m vs) t (arguments_no_wait (past (is_value e) k) g (h + 1) (params_of (sent_method g (sort_of g e) m)) t es (past_no_waits (is_value e) k w) d.3) (λ a. refl))
-  expression_no_wait k g h t (Frame m u ss e) w d =
+  expression_no_wait k g h t (Frame m u ss e qs) w d =
       both_no_wait (statements_redex u ss) _ (statements_no_wait k (inside g m) u ss w d.3)
-      (λ v. last_no_wait (expression_redex u e) Leave u (expression_no_wait (past (is_done ss) k) (inside g m) 0 u e (past_no_waits (is_done ss) k w) d.4) (λ a. refl))
+      (λ done. both_no_wait (expression_redex u e) _ (expression_no_wait (past (is_done ss) k) (inside g m) 0 u e (past_no_waits (is_done ss) k w) d.4)
+      (λ v. last_no_wait (in_post None (statements_redex u qs)) (λ over. Leave v) u (statements_no_wait (past (is_done ss) (past (is_value e) k)) (behind_value (inside g m)) u qs
+      (past_no_waits (is_done ss) (past (is_value e) k) (past_no_waits (is_value e) k w)) d.7) (λ over. refl)))
   expression_no_wait k g h t (Wait b m) w d = absurd (grind (arith, w, d.0))
 
   arguments_no_wait : (k : Holds) (g : Scope) (h : ℕ) (vs : List Var) (t : Store) (es : Expressions) → has_waits k ≡ false
@@ -67,20 +73,23 @@ mutual
 
   statement_no_wait : (k : Holds) (g : Scope) (t : Store) (s : Statement) → has_waits k ≡ false → TypedStatement k g s
       → NoWait (statement_redex t s)
-  statement_no_wait k g t (Assign x p e) w d = last_no_wait (expression_redex t e) (Set x) t (expression_no_wait k g 0 t e w d.1) (λ v. refl)
-  statement_no_wait k g t (Write e) w d = last_no_wait (expression_redex t e) (λ v. Print (I.Value v)) t (expression_no_wait k g 0 t e w d.0) (λ v. refl)
+  statement_no_wait k g t (Assign x p e) w d = last_no_wait (expression_redex t e) (Set x) t (expression_no_wait k g g.held t e w d.1) (λ v. refl)
+  statement_no_wait k g t (Write e) w d = last_no_wait (expression_redex t e) (λ v. Print (I.Value v)) t (expression_no_wait k g g.held t e w d.0) (λ v. refl)
   statement_no_wait k g t (WriteText s) w d = at_no_wait (Print (I.Text (record { 0 = s }))) t refl
-  statement_no_wait k g t (Do e) w d = last_no_wait (expression_redex t e) Drop t (expression_no_wait k g 0 t e w d) (λ v. refl)
+  statement_no_wait k g t (Do e) w d = last_no_wait (expression_redex t e) Drop t (expression_no_wait k g g.held t e w d) (λ v. refl)
   statement_no_wait k g t (Async e m p es) w d =
-      both_no_wait (expression_redex t e) _ (expression_no_wait k g 0 t e w d.0)
-      (λ v. last_no_wait (expressions_redex t es) (λ vs. Post v m vs) t (arguments_no_wait (past (is_value e) k) g 1 (params_of (sent_method g (sort_of g e) m)) t es (past_no_waits (is_value e) k w) d.2) (λ a. refl))
-  statement_no_wait k g t (If e these those) w d = last_no_wait (expression_redex t e) (λ v. Branch v these those) t (expression_no_wait k g 0 t e w d.0) (λ v. refl)
+      both_no_wait (expression_redex t e) _ (expression_no_wait k g g.held t e w d.0)
+      (λ v. last_no_wait (expressions_redex t es) (λ vs. Post v m vs) t (arguments_no_wait (past (is_value e) k) g (g.held + 1) (params_of (sent_method g (sort_of g e) m)) t es (past_no_waits (is_value e) k w) d.2) (λ a. refl))
+  statement_no_wait k g t (If e these those) w d = last_no_wait (expression_redex t e) (λ v. Branch v these those) t (expression_no_wait k g g.held t e w d.0) (λ v. refl)
   statement_no_wait k g t (While e ss) w d = at_no_wait (Loop e ss) t refl
   statement_no_wait k g t (Answer names) w d = at_no_wait (Accept names) t refl
-  statement_no_wait k g t (Select alts) w d = last_no_wait (guards_redex t alts) Choose t (alternatives_no_wait k g 0 t alts w d) (λ v. refl)
-  statement_no_wait k g t (Serve m c u ss e) w d =
+  statement_no_wait k g t (Select alts) w d = last_no_wait (guards_redex t alts) Choose t (alternatives_no_wait k g g.held t alts w d) (λ v. refl)
+  statement_no_wait k g t (Serve m c u ss e qs) w d =
       both_no_wait (statements_redex u ss) _ (statements_no_wait k (inside g m) u ss w d.2)
-      (λ v. last_no_wait (expression_redex u e) (Finish c) u (expression_no_wait (past (is_done ss) k) (inside g m) 0 u e (past_no_waits (is_done ss) k w) d.3) (λ a. refl))
+      (λ done. both_no_wait (expression_redex u e) _ (expression_no_wait (past (is_done ss) k) (inside g m) 0 u e (past_no_waits (is_done ss) k w) d.3)
+      (λ v. last_no_wait (in_post c (statements_redex u qs)) (λ over. Finish c v (left_served c m u ss e qs)) u
+      (post_no_wait c (statements_redex u qs) (statements_no_wait (past (is_done ss) (past (is_value e) (past (is_none c) k))) (behind_value (inside g m)) u qs
+      (past_no_waits (is_done ss) (past (is_value e) (past (is_none c) k)) (past_no_waits (is_value e) (past (is_none c) k) (past_no_waits (is_none c) k w))) d.6)) (λ over. refl)))
 
   pub statements_no_wait : (k : Holds) (g : Scope) (t : Store) (ss : Statements) → has_waits k ≡ false → TypedStatements k g ss
       → NoWait (statements_redex t ss)

@@ -1,17 +1,17 @@
 -- What is under way in a part, by what is under way in the parts inside.
-use Rattle.std.proofs.Common.{◌≡◌, refl, ap, ◌∙◌, ℕ, ◌+◌, List, [], ◌∷◌, ◌++◌, append-nil, Option, true, false, ◌⊎◌, inl, inr}
+use Rattle.std.proofs.Common.{◌≡◌, refl, ap, ◌∙◌, ℕ, ◌+◌, List, [], ◌∷◌, ◌++◌, append-nil, Option, Some, None, is_none, true, false, ◌⊎◌, inl, inr, arith}
 use Rattle.pool_syntax.specs.declared.words.Value.{Value}
 use Rattle.pool_syntax.specs.declared.words.Op.{Op}
 use Rattle.pool_syntax.specs.declared.words.Item.TheVariants as I
 use Rattle.pool_syntax.specs.declared.tree.Named.{Named}
 use Rattle.pool_syntax.specs.declared.tree.Var.{Var}
-use Rattle.pool_syntax.specs.Terms.{Store, Expression, Prefix, Infix, Call, Send, Frame, Expressions, Arg, Assign, Write, Do, Async, If, Select, Serve, Statements, Done, Alternatives, Alt}
-use Rattle.pool_syntax.specs.Typing.{Scope, sort_of, value_sort, inside, params_of, sent_method}
-use Rattle.pool_relation.specs.Reducible.{Choice, Reducible, Evaluated, At, and_then, Unary, Binary, Invoke, Request, Leave, Set, Print, Drop, Post, Branch, Choose, Finish, Part, is_value, is_done, fill_expression, fill_expressions, fill_statement, fill_statements, fill_guards, expression_redex, expressions_redex, statements_redex, guards_redex}
-use Rattle.pool_relation.specs.UnderWay.{Activity, Own, Serving, in_expression, in_expressions, in_statement, in_statements, in_guards}
-use Rattle.pool_relation.proofs.typing.TypedTerm.{Waits, TypedExpression, TypedArguments, TypedStatement, TypedAlternatives}
-use Rattle.pool_relation.proofs.redex.RedexSearch.{split, split_last, split_more, literal_is, not_value, not_values, not_guards, arguments_are, guards_are, done_is, not_done}
-use Rattle.pool_relation.proofs.redex.Idle.{expression_idle, arguments_idle, alternatives_idle, value_idle, values_idle, guards_idle}
+use Rattle.pool_syntax.specs.Terms.{Store, Expression, Prefix, Infix, Call, Send, Frame, Expressions, Arg, Assign, Write, Do, Async, If, Select, Serve, Statements, Done, Then, Alternatives, Alt}
+use Rattle.pool_syntax.specs.Typing.{Scope, sort_of, value_sort, inside, behind_value, params_of, sent_method}
+use Rattle.pool_relation.specs.Reducible.{Choice, Reducible, Evaluated, At, and_then, Unary, Binary, Invoke, Request, Leave, Set, Print, Drop, Post, Branch, Choose, Finish, left_served, is_over, Part, is_value, is_done, fill_expression, fill_expressions, fill_statement, fill_statements, fill_guards, expression_redex, expressions_redex, guards_redex}
+use Rattle.pool_relation.specs.UnderWay.{Activity, Own, Serving, in_expression, in_expressions, in_statement, in_statements, in_guards, serves}
+use Rattle.pool_relation.proofs.typing.TypedTerm.{Waits, past, TypedExpression, TypedArguments, TypedStatement, TypedStatements, TypedAlternatives}
+use Rattle.pool_relation.proofs.redex.RedexSearch.{split, split_last, split_more, literal_is, not_value, not_values, not_guards, arguments_are, guards_are, InMethod, InBody, InValue, InPost, AtEnd, in_method}
+use Rattle.pool_relation.proofs.redex.Idle.{expression_idle, statements_idle, arguments_idle, alternatives_idle, value_idle, values_idle, guards_idle}
 use Rattle.pool_relation.proofs.redex.Activities.{Activities, same, behind_one, at_once, placed_expression, placed_statement, ExpressionActivities, ArgumentsActivities, StatementActivities, StatementsActivities, AlternativesActivities}
 
 pub prefix_activities : (g : Scope) (t : Store) (op : Op) (e : Expression) (p : ℕ) → ExpressionActivities g t e → ExpressionActivities g t (Prefix op e p)
@@ -85,29 +85,37 @@ pub outer : {g : Scope} {r : Reducible} {old : List Activity} {new : Part → Li
     → Activities g r old new
 outer m b = record { before = b.before; now = b.now; old_is = b.old_is; new_is = b.new_is; ends = b.ends }
 
-pub frame_activities : (g : Scope) (h : ℕ) (t : Store) (m : ℕ) (w : Store) (ss : Statements) (e : Expression)
-    → TypedExpression Waits g h (Frame m w ss e) → StatementsActivities (inside g m) w ss → ExpressionActivities (inside g m) w e
-    → ExpressionActivities g t (Frame m w ss e)
-frame_activities g h t m w ss e d body value r u q = by (split (statements_redex w ss) _ r u q)
-  where
-    behind : (v : Unit {0}) → statements_redex w ss ≡ Evaluated v
-        → (expression_redex w e ≡ At r u) ⊎ ((a : Value) × (expression_redex w e ≡ Evaluated a) × (Leave a ≡ r) × (w ≡ u))
-        → Activities g r (in_expression (Frame m w ss e)) (λ x. in_expression (fill_expression (Frame m w ss e) x))
-    behind v k (inl i) =
-        let is : ss ≡ Done = done_is w ss v k in
-        behind_one (Own m) (outer m (value r u i)) (rw is refl) (λ x. rw (is, not_value w e r u i) refl)
-    behind v k (inr i) =
-        let is : ss ≡ Done = done_is w ss v k in
-        let j : in_expression e ≡ [] = value_idle w e i.0 i.1 in
-        at_once (Leave i.0) r i.2 (m, rw (is, j) refl) (λ x a. rw (is, ap is_value (literal_is w e i.0 i.1).1) (placed_expression (Leave i.0) x (Frame m w Done e) refl a))
+pub outer_post : {g : Scope} {r : Reducible} {old : List Activity} {new : Part → List Activity} (m : ℕ) → Activities (behind_value (inside g m)) r old new
+    → Activities g r old new
+outer_post m b = record { before = b.before; now = b.now; old_is = b.old_is; new_is = b.new_is; ends = b.ends }
 
-    by : (statements_redex w ss ≡ At r u) ⊎ ((v : Unit {0}) × (statements_redex w ss ≡ Evaluated v) × (and_then {B = Value} (expression_redex w e) (λ a. At (Leave a) w) ≡ At r u))
-        → Activities g r (in_expression (Frame m w ss e)) (λ x. in_expression (fill_expression (Frame m w ss e) x))
-    by (inl k) =
-        let f : is_done ss ≡ false = not_done w ss r u k in
+over_is : (qs : Statements) → is_done qs ≡ true → qs ≡ Done
+over_is Done h = refl
+over_is (Then s qs) h = absurd (grind (arith, h))
+
+pub frame_activities : (g : Scope) (h : ℕ) (t : Store) (m : ℕ) (w : Store) (ss : Statements) (e : Expression) (qs : Statements)
+    → TypedExpression Waits g h (Frame m w ss e qs) → StatementsActivities (inside g m) w ss → ExpressionActivities (inside g m) w e
+    → StatementsActivities (behind_value (inside g m)) w qs → ExpressionActivities g t (Frame m w ss e qs)
+frame_activities g h t m w ss e qs d body value post r u q = by (in_method None w ss e qs Leave r u q)
+  where
+    by : InMethod None w ss e qs Leave r u
+        → Activities g r (in_expression (Frame m w ss e qs)) (λ x. in_expression (fill_expression (Frame m w ss e qs) x))
+    by (InBody k f) =
         let i : in_expression e ≡ [] = expression_idle (inside g m) 0 e (rw f at d.4) in
-        behind_one (Own m) (outer m (body r u k)) (rw i (ap (λ l. Own m ∷ l) (append-nil (in_statements ss)))) (λ x. rw f (rw i (ap (λ l. Own m ∷ l) (append-nil (in_statements (fill_statements ss x))))))
-    by (inr k) = behind k.0 k.1 (split_last (expression_redex w e) Leave w r u k.2)
+        let j : in_statements qs ≡ [] = statements_idle (behind_value (inside g m)) qs (rw f at d.7) in
+        behind_one (Own m) (outer m (body r u k)) (rw (i, j) (ap (λ l. Own m ∷ l) (append-nil (in_statements ss))))
+        (λ x. rw f (rw (i, j) (ap (λ l. Own m ∷ l) (append-nil (in_statements (fill_statements ss x))))))
+    by (InValue is k f) =
+        let j : in_statements qs ≡ [] = statements_idle (behind_value (inside g m)) qs (rw (is, f) at d.7) in
+        behind_one (Own m) (outer m (value r u k)) (rw (is, j) (ap (λ l. Own m ∷ l) (append-nil (in_expression e))))
+        (λ x. rw (is, f) (rw j (ap (λ l. Own m ∷ l) (append-nil (in_expression (fill_expression e x))))))
+    by (InPost is v k f c p o) =
+        let i : in_expression e ≡ [] = value_idle w e v k in
+        behind_one (Own m) (outer_post m (post r u p)) (rw (is, i) refl) (λ x. rw (is, f, o) (rw i refl))
+    by (AtEnd is v k f o s z) =
+        let i : in_expression e ≡ [] = value_idle w e v k in
+        let j : in_statements qs ≡ [] = ap in_statements (over_is qs o) in
+        at_once (Leave v) r s (m, rw (is, i, j) refl) (λ x a. rw (is, f, o) (placed_expression (Leave v) x (Frame m w Done e qs) refl a))
 
 pub later_idle : (g : Scope) (h : ℕ) (vs : List Var) (e : Expression) (es : Expressions) → is_value e ≡ false
     → TypedArguments Waits g h vs (Arg e es) → in_expressions es ≡ []
@@ -207,32 +215,49 @@ async_activities g t e m p es d to rest r u q = by (split (expression_redex t e)
         → Activities g r (in_statement (Async e m p es)) (λ x. in_statements (fill_statement (Async e m p es) x))
     by (inl k) =
         let f : is_value e ≡ false = not_value t e r u k in
-        let i : in_expressions es ≡ [] = arguments_idle g 1 (params_of (sent_method g (sort_of g e) m)) es (rw f at d.2) in
+        let i : in_expressions es ≡ [] = arguments_idle g (g.held + 1) (params_of (sent_method g (sort_of g e) m)) es (rw f at d.2) in
         same (to r u k) (rw i (append-nil (in_expression e))) (λ x. rw f (rw i (append-nil (in_expression (fill_expression e x) ++ []) ∙ append-nil (in_expression (fill_expression e x)))))
     by (inr k) = behind k.0 k.1 (split_last (expressions_redex t es) (λ vs. Post k.0 m vs) t r u k.2)
 
-pub serve_activities : (g : Scope) (t : Store) (m : ℕ) (c : Option ℕ) (w : Store) (ss : Statements) (e : Expression)
-    → TypedStatement Waits g (Serve m c w ss e) → StatementsActivities (inside g m) w ss → ExpressionActivities (inside g m) w e
-    → StatementActivities g t (Serve m c w ss e)
-serve_activities g t m c w ss e d body value r u q = by (split (statements_redex w ss) _ r u q)
-  where
-    behind : (v : Unit {0}) → statements_redex w ss ≡ Evaluated v
-        → (expression_redex w e ≡ At r u) ⊎ ((a : Value) × (expression_redex w e ≡ Evaluated a) × (Finish c a ≡ r) × (w ≡ u))
-        → Activities g r (in_statement (Serve m c w ss e)) (λ x. in_statements (fill_statement (Serve m c w ss e) x))
-    behind v k (inl i) =
-        let is : ss ≡ Done = done_is w ss v k in
-        behind_one (Serving m c) (outer m (value r u i)) (rw is refl) (λ x. rw (is, not_value w e r u i) (ap (λ l. Serving m c ∷ l) (append-nil (in_expression (fill_expression e x)))))
-    behind v k (inr i) =
-        let is : ss ≡ Done = done_is w ss v k in
-        let j : in_expression e ≡ [] = value_idle w e i.0 i.1 in
-        let sort : sort_of (inside g m) e ≡ value_sort g i.0 = ap (sort_of (inside g m)) (literal_is w e i.0 i.1).1 in
-        at_once (Finish c i.0) r i.2 (m, rw (is, j) refl, rw sort at d.4) (λ x a. rw (is, ap is_value (literal_is w e i.0 i.1).1) (placed_statement (Finish c i.0) x (Serve m c w Done e) refl a))
+-- no post statement that comes next has anything under way
+post_idle : (g : Scope) (c : Option ℕ) (ss : Statements) (e : Expression) (qs : Statements) → TypedStatements (past (is_done ss) (past (is_value e) (past (is_none c) Waits))) g qs
+    → ss ≡ Done → is_value e ≡ true → is_over c qs ≡ true → in_statements qs ≡ []
+post_idle g None ss e qs d is f o = ap in_statements (over_is qs o)
+post_idle g (Some k) ss e qs d is f o = statements_idle g qs (rw (is, f) at d)
 
-    by : (statements_redex w ss ≡ At r u) ⊎ ((v : Unit {0}) × (statements_redex w ss ≡ Evaluated v) × (and_then {B = Unit {0}} (expression_redex w e) (λ a. At (Finish c a) w) ≡ At r u))
-        → Activities g r (in_statement (Serve m c w ss e)) (λ x. in_statements (fill_statement (Serve m c w ss e) x))
-    by (inl k) =
-        let f : is_done ss ≡ false = not_done w ss r u k in
+-- what is left of a served method serves no one
+left_silent : (c : Option ℕ) (m : ℕ) (w : Store) (ss : Statements) (e : Expression) (qs : Statements) (o : ℕ) → ss ≡ Done → in_expression e ≡ []
+    → in_statements qs ≡ [] → serves o (left_served c m w ss e qs) ≡ []
+left_silent None m w ss e qs o is i j = refl
+left_silent (Some k) m w ss e Done o is i j = refl
+left_silent (Some k) m w ss e (Then s qs) o is i j = rw (is, i, j) refl
+
+pub serve_activities : (g : Scope) (t : Store) (m : ℕ) (c : Option ℕ) (w : Store) (ss : Statements) (e : Expression) (qs : Statements)
+    → TypedStatement Waits g (Serve m c w ss e qs) → StatementsActivities (inside g m) w ss → ExpressionActivities (inside g m) w e
+    → StatementsActivities (behind_value (inside g m)) w qs → StatementActivities g t (Serve m c w ss e qs)
+serve_activities g t m c w ss e qs d body value post r u q = by (in_method c w ss e qs end r u q)
+  where
+    end : Value → Reducible
+    end v = Finish c v (left_served c m w ss e qs)
+
+    by : InMethod c w ss e qs end r u
+        → Activities g r (in_statement (Serve m c w ss e qs)) (λ x. in_statements (fill_statement (Serve m c w ss e qs) x))
+    by (InBody k f) =
         let i : in_expression e ≡ [] = expression_idle (inside g m) 0 e (rw f at d.3) in
-        behind_one (Serving m c) (outer m (body r u k)) (rw i (ap (λ l. Serving m c ∷ l) (append-nil (in_statements ss))))
-        (λ x. rw f (rw i (ap (λ l. Serving m c ∷ l) (append-nil (in_statements (fill_statements ss x) ++ []) ∙ append-nil (in_statements (fill_statements ss x))))))
-    by (inr k) = behind k.0 k.1 (split_last (expression_redex w e) (Finish c) w r u k.2)
+        let j : in_statements qs ≡ [] = statements_idle (behind_value (inside g m)) qs (rw f at d.6) in
+        behind_one (Serving m c) (outer m (body r u k)) (rw (i, j) (ap (λ l. Serving m c ∷ l) (append-nil (in_statements ss))))
+        (λ x. rw f (rw (i, j) (ap (λ l. Serving m c ∷ l) (append-nil (in_statements (fill_statements ss x) ++ []) ∙ append-nil (in_statements (fill_statements ss x))))))
+    by (InValue is k f) =
+        let j : in_statements qs ≡ [] = statements_idle (behind_value (inside g m)) qs (rw (is, f) at d.6) in
+        behind_one (Serving m c) (outer m (value r u k)) (rw (is, j) (ap (λ l. Serving m c ∷ l) (append-nil (in_expression e))))
+        (λ x. rw (is, f) (rw j (ap (λ l. Serving m c ∷ l) (append-nil (in_expression (fill_expression e x) ++ []) ∙ append-nil (in_expression (fill_expression e x))))))
+    by (InPost is v k f n p o) =
+        let i : in_expression e ≡ [] = value_idle w e v k in
+        behind_one (Serving m c) (outer_post m (post r u p)) (rw (is, i) refl)
+        (λ x. rw (is, f, o) (rw i (ap (λ l. Serving m c ∷ l) (append-nil (in_statements (fill_statements qs x))))))
+    by (AtEnd is v k f o s z) =
+        let i : in_expression e ≡ [] = value_idle w e v k in
+        let j : in_statements qs ≡ [] = post_idle (behind_value (inside g m)) c ss e qs d.6 is f o in
+        let sort : sort_of (inside g m) e ≡ value_sort g v = ap (sort_of (inside g m)) (literal_is w e v k).1 in
+        at_once (end v) r s (m, rw (is, i, j) refl, rw sort at d.4, (λ n. left_silent c m w ss e qs n is i j))
+        (λ x a. rw (is, f, o) (placed_statement (Finish c v (left_served c m w Done e qs)) x (Serve m c w Done e qs) refl a))

@@ -31,7 +31,7 @@ placed j g h s x old room a = rw a.1 (a.2 h room, a.3)
 pub here : {j : Holds} {g : Scope} {After : Part → Type 0} (a : Reducible) (t : Store) (r : Reducible) (u : Store) → a ≡ r → t ≡ u
     → IsTrue (is_store_of g g.temps t) → TypedRedex g a → ((x : Part) → Suits j g a x → After x) → Replacement j g r u After
 here {j} {g} {After} a t r u e i s d f =
-    subst (λ (b : Reducible). Replacement j g b u After) e (subst (λ (w : Store). Replacement j g a w After) i (record { temps = g.temps; store = s; typed = d; filled = f }))
+    subst (λ (b : Reducible). Replacement j g b u After) e (subst (λ (w : Store). Replacement j g a w After) i (record { spot = record { temps = g.temps; held = g.held }; store = s; typed = d; filled = f }))
 
 -- the part in the place of a statement
 pub placed_statements : (j : Holds) (g : Scope) (x : Part) (old : Statement) → SomeStatements j g x

@@ -1,9 +1,9 @@
 -- The search for the redex: where it ends, and what has none.
-use Rattle.std.proofs.Common.{◌≡◌, refl, sym, ap, ◌∙◌, ℕ, List, [], ◌∷◌, Bool, true, false, ◌⊎◌, inl, inr, arith}
+use Rattle.std.proofs.Common.{◌≡◌, refl, sym, ap, ◌∙◌, ℕ, List, [], ◌∷◌, Option, Some, None, Bool, true, false, ◌⊎◌, inl, inr, arith}
 use Rattle.pool_syntax.specs.declared.words.Value.{Value}
 use Rattle.pool_syntax.specs.declared.words.Item.TheVariants as I
 use Rattle.pool_syntax.specs.Terms.{Store, Expression, Literal, Me, Variable, Create, Prefix, Infix, Call, Send, Frame, Wait, Expressions, NoArgs, Arg, Statement, Assign, Write, WriteText, Do, Async, If, While, Answer, Select, Serve, Statements, Done, Then, Alternatives, NoAlts, Alt}
-use Rattle.pool_relation.specs.Reducible.{Choice, Reducible, Found, Evaluated, At, and_then, Unary, Binary, Invoke, Request, Leave, Set, Print, Drop, Post, Branch, Choose, Finish, is_value, are_values, guards_are_values, is_done, expression_redex, expressions_redex, statement_redex, statements_redex, guards_redex}
+use Rattle.pool_relation.specs.Reducible.{Choice, Reducible, Found, Evaluated, At, and_then, Unary, Binary, Invoke, Request, Leave, Set, Print, Drop, Post, Branch, Choose, Finish, in_post, left_served, is_over, is_value, are_values, guards_are_values, is_done, expression_redex, expressions_redex, statement_redex, statements_redex, guards_redex}
 
 pub at_is_no_value : {A : Type 0} (r : Reducible) (t : Store) (v : A) → ¬ (At r t ≡ Evaluated v)
 at_is_no_value r t v h = grind arith
@@ -43,6 +43,10 @@ never_twice : {A B C : Type 0} (f : Found A) (g : Found B) (r : A → B → Redu
     → ¬ (and_then f (λ a. and_then g (λ b. At (r a b) t)) ≡ Evaluated v)
 never_twice f g r t v = never f (λ a. and_then g (λ b. At (r a b) t)) v (λ a. never g (λ b. At (r a b) t) v (λ b. at_is_no_value (r a b) t v))
 
+never_thrice : {A B C D : Type 0} (f : Found A) (g : Found B) (h : Found C) (r : B → Reducible) (t : Store) (v : D)
+    → ¬ (and_then f (λ a. and_then g (λ b. and_then h (λ c. At (r b) t))) ≡ Evaluated v)
+never_thrice f g h r t v = never f (λ a. and_then g (λ b. and_then h (λ c. At (r b) t))) v (λ a. never_twice g h (λ b c. r b) t v)
+
 -- an expression without redex is a literal
 pub literal_is : (t : Store) (e : Expression) (v : Value) → expression_redex t e ≡ Evaluated v → (p : ℕ) × (e ≡ Literal v p)
 literal_is t (Literal w p) v h = (p, grind arith)
@@ -53,7 +57,7 @@ literal_is t (Prefix op e p) v h = absurd (never (expression_redex t e) (λ a. A
 literal_is t (Infix op l r p) v h = absurd (never_twice (expression_redex t l) (expression_redex t r) (Binary op) t v h)
 literal_is t (Call m es p) v h = absurd (never (expressions_redex t es) (λ a. At (Invoke m a) t) v (λ a. at_is_no_value _ _ v) h)
 literal_is t (Send e m es p) v h = absurd (never_twice (expression_redex t e) (expressions_redex t es) (λ a. Request a m) t v h)
-literal_is t (Frame m u ss e) v h = absurd (never_twice (statements_redex u ss) (expression_redex u e) (λ a. Leave) u v h)
+literal_is t (Frame m u ss e qs) v h = absurd (never_thrice (statements_redex u ss) (expression_redex u e) (in_post None (statements_redex u qs)) Leave u v h)
 literal_is t (Wait b m) v h = absurd (at_is_no_value _ _ v h)
 
 -- an expression with a redex is no value
@@ -106,7 +110,7 @@ statement_at t (If e these those) v h = never (expression_redex t e) (λ a. At (
 statement_at t (While e ss) v h = at_is_no_value _ _ v h
 statement_at t (Answer names) v h = at_is_no_value _ _ v h
 statement_at t (Select alts) v h = never (guards_redex t alts) (λ a. At (Choose a) t) v (λ a. at_is_no_value _ _ v) h
-statement_at t (Serve m k u ss e) v h = never_twice (statements_redex u ss) (expression_redex u e) (λ a. Finish k) u v h
+statement_at t (Serve m k u ss e qs) v h = never_thrice (statements_redex u ss) (expression_redex u e) (in_post k (statements_redex u qs)) (λ a. Finish k a (left_served k m u ss e qs)) u v h
 
 pub done_is : (t : Store) (ss : Statements) (v : Unit {0}) → statements_redex t ss ≡ Evaluated v → ss ≡ Done
 done_is t Done v h = refl
@@ -115,6 +119,40 @@ done_is t (Then s ss) v h = absurd (statement_at t s v h)
 pub not_done : (t : Store) (ss : Statements) (r : Reducible) (u : Store) → statements_redex t ss ≡ At r u → is_done ss ≡ false
 not_done t Done r u h = absurd (at_is_no_value r u _ (sym h))
 not_done t (Then s ss) r u h = refl
+
+-- where the search in a method for the caller, or for no one, ends: in its statements, in its value, in its post statements, or behind them
+pub data InMethod (c : Option ℕ) (t : Store) (ss : Statements) (e : Expression) (qs : Statements) (end : Value → Reducible) (r : Reducible) (u : Store) : Type 0 where
+  InBody : statements_redex t ss ≡ At r u → is_done ss ≡ false → InMethod c t ss e qs end r u
+  InValue : ss ≡ Done → expression_redex t e ≡ At r u → is_value e ≡ false → InMethod c t ss e qs end r u
+  InPost : ss ≡ Done → (v : Value) → expression_redex t e ≡ Evaluated v → is_value e ≡ true → c ≡ None → statements_redex t qs ≡ At r u → is_over c qs ≡ false
+      → InMethod c t ss e qs end r u
+  AtEnd : ss ≡ Done → (v : Value) → expression_redex t e ≡ Evaluated v → is_value e ≡ true → is_over c qs ≡ true → end v ≡ r → t ≡ u
+      → InMethod c t ss e qs end r u
+
+pub in_method : {B : Type 0} (c : Option ℕ) (t : Store) (ss : Statements) (e : Expression) (qs : Statements) (end : Value → Reducible) (r : Reducible) (u : Store)
+    → and_then {B = B} (statements_redex t ss) (λ done. and_then (expression_redex t e) (λ v. and_then (in_post c (statements_redex t qs)) (λ over. At (end v) t))) ≡ At r u
+    → InMethod c t ss e qs end r u
+in_method {B} c t ss e qs end r u q = by (split (statements_redex t ss) _ r u q)
+  where
+    end_or_post : (c' : Option ℕ) → c ≡ c' → ss ≡ Done → (v : Value) → expression_redex t e ≡ Evaluated v
+        → and_then {B = B} (in_post c' (statements_redex t qs)) (λ over. At (end v) t) ≡ At r u → InMethod c t ss e qs end r u
+    end_or_post None n d v k p = last (split_last (statements_redex t qs) (λ over. end v) t r u p)
+      where
+        last : (statements_redex t qs ≡ At r u) ⊎ ((o : Unit {0}) × (statements_redex t qs ≡ Evaluated o) × (end v ≡ r) × (t ≡ u)) → InMethod c t ss e qs end r u
+        last (inl i) = InPost d v k (ap is_value (literal_is t e v k).1) n i (rw (n, not_done t qs r u i) refl)
+        last (inr i) = AtEnd d v k (ap is_value (literal_is t e v k).1) (rw (n, done_is t qs i.0 i.1) refl) i.2 i.3
+    end_or_post (Some o) n d v k p = AtEnd d v k (ap is_value (literal_is t e v k).1) (rw n refl) (cc) (cc)
+
+    behind : (d : Unit {0}) → statements_redex t ss ≡ Evaluated d
+        → (expression_redex t e ≡ At r u) ⊎ ((v : Value) × (expression_redex t e ≡ Evaluated v) × (and_then {B = B} (in_post c (statements_redex t qs)) (λ over. At (end v) t) ≡ At r u))
+        → InMethod c t ss e qs end r u
+    behind d i (inl k) = InValue (done_is t ss d i) k (not_value t e r u k)
+    behind d i (inr k) = end_or_post c refl (done_is t ss d i) k.0 k.1 k.2
+
+    by : (statements_redex t ss ≡ At r u) ⊎ ((d : Unit {0}) × (statements_redex t ss ≡ Evaluated d) × (and_then {B = B} (expression_redex t e) (λ v. and_then (in_post c (statements_redex t qs)) (λ over. At (end v) t)) ≡ At r u))
+        → InMethod c t ss e qs end r u
+    by (inl k) = InBody k (not_done t ss r u k)
+    by (inr k) = behind k.0 k.1 (split (expression_redex t e) _ r u k.2)
 
 -- arguments without redex are literals of these values
 pub arguments_are : (t : Store) (es : Expressions) (vs : List Value) → expressions_redex t es ≡ Evaluated vs → are_values es ≡ true

@@ -2,8 +2,7 @@
 use Rattle.std.proofs.Common.{◌≡◌, IsTrue, ℕ, List, [], ◌∷◌, length, is_some, false}
 use Rattle.pool_syntax.specs.declared.words.Value.{Value}
 use Rattle.pool_syntax.specs.declared.tree.Var.{Var}
-use Rattle.pool_syntax.specs.Terms as T
-use Rattle.pool_syntax.specs.Terms.{Store, Expression, Expressions, Statement, Statements, Alternatives, MethodTree, ProgramTree}
+use Rattle.pool_syntax.specs.Terms.{Store, Expression, Expressions, Statement, Statements, Alternatives}
 use Rattle.pool_syntax.specs.Classes.{class_of}
 use Rattle.pool_syntax.specs.Typing.{Sort, BoolSort, ClassSort, Scope, kind_sort, name_sort, value_sort, object_sort, is_dangling, op_sort, operand_sort, sort_of, own_sort, send_sort, is_broken_name, own_method, params_of, sent_method, names_faults, answer_faults, size}
 use Rattle.pool_relation.specs.Reducible.{Choice, Reducible, OwnName, Read, Make, Unary, Binary, Invoke, Request, Leave, Waiting, Set, Print, Drop, Post, Branch, Loop, Accept, Choose, Finish, Part, AsExpression, AsStatements, fill_expression, fill_expressions, fill_statement, fill_statements, fill_guards, At, expression_redex, expressions_redex, statement_redex, statements_redex, guards_redex}
@@ -13,9 +12,17 @@ use Rattle.pool_relation.specs.Written.{is_prefix}
 use Rattle.pool_relation.proofs.typing.TypedTerm.{Holds, Nothing, fits_need, fit_operands, takes, is_destination, TypedExpression, TypedArguments, TypedStatements, TypedAlternatives}
 use Rattle.pool_relation.proofs.typing.Sorts.{MayBecome}
 
--- the scope with other temps
-abbrev pub at : Scope → List Var → Scope
-at g vs = record g { temps = vs }
+-- where a part stands in a method: its temps, and how many operands are held before an outermost expression
+pub record Spot : Type 0 where
+  pub temps : List Var
+  pub held : ℕ
+
+abbrev pub spot : List Var → ℕ → Spot
+spot vs h = record { temps = vs; held = h }
+
+-- the scope at another spot
+abbrev pub at : Scope → Spot → Scope
+at g s = record g { temps = s.temps; held = s.held }
 
 -- values that fit the parameters, as far as there are any
 abbrev pub FitValues : Scope → List Var → List Value → Type 0
@@ -58,10 +65,10 @@ TypedRedex g (Branch v these those) =
     (is_dangling g v ≡ false) × IsTrue (fits_need (value_sort g v) BoolSort) × TypedStatements Nothing g these
     × TypedStatements Nothing g those
 TypedRedex g (Loop e ss) =
-    TypedExpression Nothing g 0 e × IsTrue (fits_need (sort_of g e) BoolSort) × TypedStatements Nothing g ss
+    TypedExpression Nothing g g.held e × IsTrue (fits_need (sort_of g e) BoolSort) × TypedStatements Nothing g ss
 TypedRedex g (Accept names) = names_faults g [] names ≡ []
 TypedRedex g (Choose cs) = TypedChoices g cs
-TypedRedex g (Finish c v) = is_dangling g v ≡ false
+TypedRedex g (Finish c v work) = is_dangling g v ≡ false
 
 -- an expression that may take the place of one of this sort
 abbrev pub AnExpression : Holds → Scope → Sort → Part → Type 0
@@ -84,20 +91,20 @@ Suits j g (Invoke m vs) x = AnExpression j g (own_sort g m) x
 Suits j g (Request v m vs) x = AnExpression j g (send_sort g.program (value_sort g v) m) x
 Suits j g (Leave v) x = x ≡ AsExpression (literal v)
 Suits j g (Waiting b m) x = AnExpression j g (send_sort g.program (object_sort (g.object_class b)) m) x
-Suits j g (Finish c v) x = x ≡ AsStatements T.Done
+Suits j g (Finish c v work) x = x ≡ AsStatements work
 Suits j g _ x = SomeStatements j g x
 
--- a redex with the temps of the nearest method, and what holds after a suitable part took its place
+-- a redex and where it stands, and what holds after a suitable part took its place
 pub record Replacement (j : Holds) (g : Scope) (r : Reducible) (u : Store) (After : Part → Type 0) : Type 0 where
-  pub temps : List Var
-  pub store : IsTrue (is_store_of g temps u)
-  pub typed : TypedRedex (at g temps) r
-  pub filled : (x : Part) → Suits j (at g temps) r x → After x
+  pub spot : Spot
+  pub store : IsTrue (is_store_of g spot.temps u)
+  pub typed : TypedRedex (at g spot) r
+  pub filled : (x : Part) → Suits j (at g spot) r x → After x
 
 -- more holds after it
 pub wider : {j : Holds} {g : Scope} {r : Reducible} {u : Store} {A B : Part → Type 0} → Replacement j g r u A
     → ((x : Part) → A x → B x) → Replacement j g r u B
-wider s f = record { temps = s.temps; store = s.store; typed = s.typed; filled = λ x t. f x (s.filled x t) }
+wider s f = record { spot = s.spot; store = s.store; typed = s.typed; filled = λ x t. f x (s.filled x t) }
 
 -- what holds after the redex was replaced in a part
 abbrev pub NewExpression : Holds → Scope → ℕ → Expression → Part → Type 0

@@ -1,11 +1,11 @@
 -- Bodies and methods as they begin in an object.
-use Rattle.std.proofs.Common.{◌≡◌, refl, sym, ap, subst, IsTrue, ℕ, List, [], ◌∷◌, ◌++◌, length, Option, Some, None, Bool, true, false, ◌==◌, arith}
+use Rattle.std.proofs.Common.{◌≡◌, refl, sym, ap, subst, IsTrue, ℕ, List, [], ◌∷◌, ◌++◌, length, Option, Some, None, is_none, Bool, true, false, ◌==◌, arith}
 use Rattle.pool_syntax.specs.declared.words.Value.{Value}
 use Rattle.pool_syntax.specs.declared.tree.Var.{Var}
 use Rattle.pool_syntax.specs.Terms.{Store, Frame, Serve, MethodTree, ClassTree, ProgramTree}
 use Rattle.pool_syntax.specs.Classes.{class_of, named_method}
-use Rattle.pool_syntax.specs.Typing.{Scope, sort_of, class_scope, faults, own_method, temps_of_method, inside}
-use Rattle.pool_relation.specs.Reducible.{is_done}
+use Rattle.pool_syntax.specs.Typing.{Scope, sort_of, class_scope, faults, own_method, temps_of_method, inside, behind_value}
+use Rattle.pool_relation.specs.Reducible.{is_value, is_done}
 use Rattle.pool_relation.specs.Action.{bind, nil_store, temps_of, with_count, method_in, method_of}
 use Rattle.pool_relation.specs.Typed.{is_store_of, has_room}
 use Rattle.pool_relation.specs.Written.{is_value_for, is_written}
@@ -15,26 +15,26 @@ use Rattle.pool_relation.proofs.typing.Weaker.{nothing_below, expression_weaker,
 use Rattle.pool_relation.proofs.typing.Grown.{Grows, grown, expression_grown, statements_grown, sort_grown}
 use Rattle.pool_relation.proofs.typing.Declared.{AllKnown, fits_var}
 use Rattle.pool_relation.proofs.typing.Checked.{class_checked}
-use Rattle.pool_relation.proofs.redex.TypedRedex.{at, FitValues}
+use Rattle.pool_relation.proofs.redex.TypedRedex.{Spot, spot, at, FitValues}
 
 -- where the term of an object of the class c stands, among objects of these classes
 abbrev pub running_scope : ProgramTree → ℕ → (ℕ → Option ℕ) → Scope
-running_scope p c f = record { program = p; class = c; own = class_of p c; temps = []; object_class = f; under_way = true }
+running_scope p c f = record { program = p; class = c; own = class_of p c; temps = []; object_class = f; under_way = true; held = 0 }
 
 none_grows : (f : ℕ → Option ℕ) → Grows (λ n. None) f
 none_grows f = record { kept = λ n c e. absurd (grind (arith, e)) }
 
-same_scope : (p : ProgramTree) (c : ℕ) (k : ClassTree) (f : ℕ → Option ℕ) (vs ws : List Var) → class_of p c ≡ Some k
+same_scope : (p : ProgramTree) (c : ℕ) (k : ClassTree) (f : ℕ → Option ℕ) (vs ws : List Var) (h : ℕ) → class_of p c ≡ Some k
     → k.name.name.0 ≡ c → vs ≡ ws
-    → grown (at (class_scope p k) vs) f ≡ at (running_scope p c f) ws
-same_scope p c k f vs ws e n s = λ i. record { program = p; class = n i; own = sym e i; temps = s i; object_class = f; under_way = true }
+    → grown (at (class_scope p k) (spot vs h)) f ≡ at (running_scope p c f) (spot ws h)
+same_scope p c k f vs ws h e n s = λ i. record { program = p; class = n i; own = sym e i; temps = s i; object_class = f; under_way = true; held = h }
 
 pub body_begun : (p : ProgramTree) (c : ℕ) (k : ClassTree) (f : ℕ → Option ℕ) → faults p ≡ [] → IsTrue (is_written p)
     → class_of p c ≡ Some k → TypedStatements Nothing (running_scope p c f) k.body
 body_begun p c k f h w e =
     let a = class_checked p c k h w e in
     let b = statements_grown Nothing (class_scope p k) f k.body (none_grows f) a.0.body in
-    subst (λ (g : Scope). TypedStatements Nothing g k.body) (same_scope p c k f [] [] e a.1 refl) b
+    subst (λ (g : Scope). TypedStatements Nothing g k.body) (same_scope p c k f [] [] 0 e a.1 refl) b
 
 -- a method that an object of the class c has, as its own calls and its served calls run it
 pub record Begins (p : ProgramTree) (c : ℕ) (f : ℕ → Option ℕ) (m : ℕ) (t : MethodTree) : Type 0 where
@@ -45,6 +45,7 @@ pub record Begins (p : ProgramTree) (c : ℕ) (f : ℕ → Option ℕ) (m : ℕ)
   pub value : TypedExpression Nothing (inside (running_scope p c f) m) 0 t.value
   pub gives_it : IsTrue (gives p (own_method (running_scope p c f) m) (sort_of (inside (running_scope p c f) m) t.value))
   pub valued : IsTrue (is_value_for t.outcome t.value)
+  pub post : TypedStatements Nothing (behind_value (inside (running_scope p c f) m)) t.post
 
 counted_method : (n : ℕ) (o : Option MethodTree) (t : MethodTree) → with_count n o ≡ Some t → (o ≡ Some t) × (length t.params ≡ n)
 counted_method n None t h = absurd (grind (arith, h))
@@ -67,19 +68,23 @@ method_begins p c f m n t h w e =
     let k = class_checked p c a.0 h w a.1 in
     let r = k.0.methods m t a.2 in
     let own : own_method (running_scope p c f) m ≡ Some t = rw a.1 a.2 in
-    let s = same_scope p c a.0 f (t.params ++ t.locals) (temps_of_method (own_method (running_scope p c f) m)) a.1 k.1 (ap temps_of_method (sym own)) in
-    let b = statements_grown Nothing (at (class_scope p a.0) (t.params ++ t.locals)) f t.body (none_grows f) r.0.body in
-    let v = expression_grown Nothing (at (class_scope p a.0) (t.params ++ t.locals)) f 0 t.value (none_grows f) r.0.value in
-    let q = sort_grown Nothing (at (class_scope p a.0) (t.params ++ t.locals)) f 0 t.value (none_grows f) r.0.value in
-    let z : IsTrue (gives p (Some t) (sort_of (grown (at (class_scope p a.0) (t.params ++ t.locals)) f) t.value)) = rw q r.0.gives_it in (
+    let ts = t.params ++ t.locals in
+    let same = λ (h : ℕ). same_scope p c a.0 f ts (temps_of_method (own_method (running_scope p c f) m)) h a.1 k.1 (ap temps_of_method (sym own)) in
+    let s = same 0 in
+    let b = statements_grown Nothing (at (class_scope p a.0) (spot ts 0)) f t.body (none_grows f) r.0.body in
+    let v = expression_grown Nothing (at (class_scope p a.0) (spot ts 0)) f 0 t.value (none_grows f) r.0.value in
+    let q = sort_grown Nothing (at (class_scope p a.0) (spot ts 0)) f 0 t.value (none_grows f) r.0.value in
+    let w = statements_grown Nothing (at (class_scope p a.0) (spot ts 1)) f t.post (none_grows f) r.0.post in
+    let z : IsTrue (gives p (Some t) (sort_of (grown (at (class_scope p a.0) (spot ts 0)) f) t.value)) = rw q r.0.gives_it in (
       record {
         is = own;
         named = r.1;
         params = r.0.params;
         body = subst (λ (g : Scope). TypedStatements Nothing g t.body) s b;
-        value = subst (λ (g : Scope). TypedExpression Nothing g 0 t.value) s v;
+        value = subst (λ (g : Scope). TypedExpression Nothing g g.held t.value) s v;
         gives_it = subst (λ (o : Option MethodTree). IsTrue (gives p o (sort_of (inside (running_scope p c f) m) t.value))) (sym own) (subst (λ (g : Scope). IsTrue (gives p (Some t) (sort_of g t.value))) s z);
         valued = r.0.valued;
+        post = subst (λ (g : Scope). TypedStatements Nothing g t.post) (same 1) w;
       },
       a.3,
     )
@@ -104,7 +109,7 @@ joined_fits g (v ∷ vs) ws (x ∷ s) t a b = let c : IsTrue (is_store_of g vs s
 joined_fits g [] ws (x ∷ s) t a b = absurd (grind (arith, a))
 joined_fits g (v ∷ vs) ws [] t a b = absurd (grind (arith, a))
 
-temps_fit : (p : ProgramTree) (c : ℕ) (f : ℕ → Option ℕ) (m : ℕ) (t : MethodTree) (ts : List Var) (args : List Value)
+temps_fit : (p : ProgramTree) (c : ℕ) (f : ℕ → Option ℕ) (m : ℕ) (t : MethodTree) (ts : Spot) (args : List Value)
     → Begins p c f m t → length t.params ≡ length args
     → FitValues (at (running_scope p c f) ts) t.params args
     → IsTrue (is_store_of (at (running_scope p c f) ts) (temps_of_method (own_method (running_scope p c f) m)) (temps_of t args))
@@ -113,13 +118,13 @@ temps_fit p c f m t ts args b e d =
     rw b.is (joined_fits g t.params t.locals (bind t.params args) (nil_store t.locals) (bound_fits g t.params args b.params d e) (nil_fits g t.locals))
 
 -- an own call becomes the method under way
-pub call_begun : (p : ProgramTree) (c : ℕ) (f : ℕ → Option ℕ) (ts : List Var) (h m : ℕ) (t : MethodTree) (args : List Value)
+pub call_begun : (p : ProgramTree) (c : ℕ) (f : ℕ → Option ℕ) (ts : Spot) (h m : ℕ) (t : MethodTree) (args : List Value)
     → Begins p c f m t → length t.params ≡ length args
     → FitValues (at (running_scope p c f) ts) t.params args → IsTrue (has_room h)
-    → TypedExpression Methods (at (running_scope p c f) ts) h (Frame t.name.name.0 (temps_of t args) t.body t.value)
+    → TypedExpression Methods (at (running_scope p c f) ts) h (Frame t.name.name.0 (temps_of t args) t.body t.value t.post)
 call_begun p c f ts h m t args b e d r =
     let i = inside (running_scope p c f) m in
-    let whole : TypedExpression Methods (at (running_scope p c f) ts) h (Frame m (temps_of t args) t.body t.value) = (
+    let whole : TypedExpression Methods (at (running_scope p c f) ts) h (Frame m (temps_of t args) t.body t.value t.post) = (
       refl,
       r,
       temps_fit p c f m t ts args b e d,
@@ -127,22 +132,24 @@ call_begun p c f ts h m t args b e d r =
       expression_weaker Nothing (past (is_done t.body) Methods) i 0 t.value (nothing_below _) b.value,
       b.gives_it,
       rw b.is b.valued,
+      statements_weaker Nothing (past (is_done t.body) (past (is_value t.value) Methods)) (behind_value i) t.post (nothing_below _) b.post,
     ) in
-    subst (λ (n : ℕ). TypedExpression Methods (at (running_scope p c f) ts) h (Frame n (temps_of t args) t.body t.value)) (sym b.named) whole
+    subst (λ (n : ℕ). TypedExpression Methods (at (running_scope p c f) ts) h (Frame n (temps_of t args) t.body t.value t.post)) (sym b.named) whole
 
 -- and a served one
-pub serve_begun : (p : ProgramTree) (c : ℕ) (f : ℕ → Option ℕ) (ts : List Var) (m : ℕ) (t : MethodTree) (caller : Option ℕ) (args : List Value)
+pub serve_begun : (p : ProgramTree) (c : ℕ) (f : ℕ → Option ℕ) (ts : Spot) (m : ℕ) (t : MethodTree) (caller : Option ℕ) (args : List Value)
     → Begins p c f m t → length t.params ≡ length args
     → FitValues (at (running_scope p c f) ts) t.params args
-    → TypedStatement Methods (at (running_scope p c f) ts) (Serve t.name.name.0 caller (temps_of t args) t.body t.value)
+    → TypedStatement Methods (at (running_scope p c f) ts) (Serve t.name.name.0 caller (temps_of t args) t.body t.value t.post)
 serve_begun p c f ts m t caller args b e d =
     let i = inside (running_scope p c f) m in
-    let whole : TypedStatement Methods (at (running_scope p c f) ts) (Serve m caller (temps_of t args) t.body t.value) = (
+    let whole : TypedStatement Methods (at (running_scope p c f) ts) (Serve m caller (temps_of t args) t.body t.value t.post) = (
       refl,
       temps_fit p c f m t ts args b e d,
       statements_weaker Nothing Methods i t.body (nothing_below Methods) b.body,
       expression_weaker Nothing (past (is_done t.body) Methods) i 0 t.value (nothing_below _) b.value,
       b.gives_it,
       rw b.is b.valued,
+      statements_weaker Nothing (past (is_done t.body) (past (is_value t.value) (past (is_none caller) Methods))) (behind_value i) t.post (nothing_below _) b.post,
     ) in
-    subst (λ (n : ℕ). TypedStatement Methods (at (running_scope p c f) ts) (Serve n caller (temps_of t args) t.body t.value)) (sym b.named) whole
+    subst (λ (n : ℕ). TypedStatement Methods (at (running_scope p c f) ts) (Serve n caller (temps_of t args) t.body t.value t.post)) (sym b.named) whole

@@ -5,14 +5,13 @@ use Rattle.pool_syntax.specs.declared.tree.Kind.TheVariants as K
 use Rattle.pool_syntax.specs.declared.tree.Var.{Var}
 use Rattle.pool_syntax.specs.Terms.{MethodTree, ClassTree, ProgramTree}
 use Rattle.pool_syntax.specs.Classes.{class_of, named_method}
-use Rattle.pool_syntax.specs.Typing.{Scope, kind_sort, sort_of, vars_faults, kind_faults, outcome_faults, method_tree_faults, methods_faults, class_scope, classes_faults, faults}
+use Rattle.pool_syntax.specs.Typing.{Scope, kind_sort, sort_of, vars_faults, kind_faults, outcome_faults, method_tree_faults, methods_faults, behind_value, method_scope, class_scope, classes_faults, faults}
 use Rattle.pool_relation.specs.Written.{are_source_statements, is_source, is_value_for, are_written, is_written}
 use Rattle.mesh_semantics.proofs.Laws.{first, second, equal, true_not}
 use Rattle.pool_relation.proofs.typing.TypedTerm.{Nothing, is_broken, gives, TypedExpression, TypedStatements}
 use Rattle.pool_relation.proofs.typing.Faults.{none2, none3, none4, no_fault_if, gives_of_none}
 use Rattle.pool_relation.proofs.typing.Written.{expression_written, statements_written}
 use Rattle.pool_relation.proofs.typing.Declared.{AllKnown, OutcomeKnown, MethodKnown, Known}
-use Rattle.pool_relation.proofs.redex.TypedRedex.{at}
 
 kind_known : (p : ProgramTree) (k : Kind) (n : ℕ) → kind_faults p k n ≡ [] → is_broken (kind_sort p k) ≡ false
 kind_known p K.Int n h = refl
@@ -40,28 +39,30 @@ pub record CheckedMethod (g : Scope) (m : MethodTree) : Type 0 where
   pub params : AllKnown g.program m.params
   pub locals : AllKnown g.program m.locals
   pub outcome : OutcomeKnown g.program m.outcome
-  pub body : TypedStatements Nothing (at g (m.params ++ m.locals)) m.body
-  pub value : TypedExpression Nothing (at g (m.params ++ m.locals)) 0 m.value
-  pub gives_it : IsTrue (gives g.program (Some m) (sort_of (at g (m.params ++ m.locals)) m.value))
+  pub body : TypedStatements Nothing (method_scope g m) m.body
+  pub value : TypedExpression Nothing (method_scope g m) 0 m.value
+  pub gives_it : IsTrue (gives g.program (Some m) (sort_of (method_scope g m) m.value))
   pub valued : IsTrue (is_value_for m.outcome m.value)
+  pub post : TypedStatements Nothing (behind_value (method_scope g m)) m.post
 
 method_checked : (g : Scope) (m : MethodTree) → method_tree_faults g m ≡ [] → IsTrue (are_source_statements m.body)
-    → IsTrue (is_source m.value) → IsTrue (is_value_for m.outcome m.value) → CheckedMethod g m
-method_checked g m h s t v =
+    → IsTrue (is_source m.value) → IsTrue (is_value_for m.outcome m.value) → IsTrue (are_source_statements m.post) → CheckedMethod g m
+method_checked g m h s t v q =
     let a = none2 h in
     let b = none2 a.1 in
     let c = none2 b.1 in
     let d = none2 c.1 in
-    let e = none3 d.1 in
+    let e = none4 d.1 in
     let known = vars_known g.program 5 [] (m.params ++ m.locals) a.0 in
     record {
       params = front_known g.program m.params m.locals known;
       locals = back_known g.program m.params m.locals known;
       outcome = outcome_known g.program m.outcome m.outcome_pos d.0;
-      body = statements_written (at g (m.params ++ m.locals)) m.body e.0 s;
-      value = expression_written (at g (m.params ++ m.locals)) 0 m.value e.1 t;
-      gives_it = gives_of_none (at g (m.params ++ m.locals)) (Some m) m.value e.2;
+      body = statements_written (method_scope g m) m.body e.0 s;
+      value = expression_written (method_scope g m) 0 m.value e.1 t;
+      gives_it = gives_of_none (method_scope g m) (Some m) m.value e.2;
       valued = v;
+      post = statements_written (behind_value (method_scope g m)) m.post e.3 q;
     }
 
 pub methods_checked : (g : Scope) (before : List ℕ) (ms : List MethodTree) (n : ℕ) (m : MethodTree)
@@ -70,10 +71,12 @@ pub methods_checked : (g : Scope) (before : List ℕ) (ms : List MethodTree) (n 
 methods_checked g before [] n m h w e = absurd (grind (arith, e))
 methods_checked g before (k ∷ ms) n m h w e =
     let a = none4 h in
-    let w3 = first _ (are_written ms) w in
+    let w4 = first _ (are_written ms) w in
+    let w3 = first _ (are_source_statements k.post) w4 in
     let w2 = first _ (is_value_for k.outcome k.value) w3 in
     by (k.name.name.0 == n) refl
-    (method_checked g k a.2 (first (are_source_statements k.body) (is_source k.value) w2) (second (are_source_statements k.body) (is_source k.value) w2) (second (are_source_statements k.body && is_source k.value) (is_value_for k.outcome k.value) w3))
+    (method_checked g k a.2 (first (are_source_statements k.body) (is_source k.value) w2) (second (are_source_statements k.body) (is_source k.value) w2) (second (are_source_statements k.body && is_source k.value) (is_value_for k.outcome k.value) w3)
+    (second (are_source_statements k.body && is_source k.value && is_value_for k.outcome k.value) (are_source_statements k.post) w4))
     (methods_checked g (k.name.name.0 ∷ before) ms n m a.3 (second _ (are_written ms) w))
   where
     by : (b : Bool) → (k.name.name.0 == n) ≡ b → CheckedMethod g k

@@ -1,11 +1,11 @@
 -- A typed part stays typed where objects are added.
-use Rattle.std.proofs.Common.{◌≡◌, refl, sym, ap, ◌∙◌, ℕ, ◌+◌, List, [], ◌∷◌, Option, Some, None, is_some, true, false, arith}
+use Rattle.std.proofs.Common.{◌≡◌, refl, sym, ap, ◌∙◌, ℕ, ◌+◌, List, [], ◌∷◌, Option, Some, None, is_some, is_none, true, false, arith}
 use Rattle.pool_syntax.specs.declared.words.Value.{Value}
 use Rattle.pool_syntax.specs.declared.words.Value.TheVariants as V
 use Rattle.pool_syntax.specs.declared.tree.Named.{Named}
 use Rattle.pool_syntax.specs.declared.tree.Var.{Var}
 use Rattle.pool_syntax.specs.Terms.{Store, Expression, Literal, Me, Variable, Create, Prefix, Infix, Call, Send, Frame, Wait, Expressions, NoArgs, Arg, Statement, Assign, Write, WriteText, Do, Async, If, While, Answer, Select, Serve, Statements, Done, Then, Alternatives, NoAlts, Alt}
-use Rattle.pool_syntax.specs.Typing.{Sort, IntSort, BoolSort, ClassSort, NilSort, NoSort, BrokenSort, Scope, value_sort, object_sort, is_dangling, sort_of, send_sort, inside, names_faults, answer_faults, own_method, size, params_of, sent_method, temps_of_method}
+use Rattle.pool_syntax.specs.Typing.{Sort, IntSort, BoolSort, ClassSort, NilSort, NoSort, BrokenSort, Scope, value_sort, object_sort, is_dangling, sort_of, send_sort, inside, behind_value, names_faults, answer_faults, own_method, size, params_of, sent_method, temps_of_method}
 use Rattle.pool_relation.specs.Reducible.{is_value, is_done}
 use Rattle.pool_relation.specs.Typed.{fits, is_store_of}
 use Rattle.pool_relation.proofs.typing.TypedTerm.{Holds, Nothing, past, is_destination, TypedExpression, TypedArguments, TypedStatement, TypedStatements, TypedAlternatives}
@@ -98,7 +98,7 @@ mutual
         rw same (destination_grown g f (sort_of g e) m (size es) t.2),
         rw same (arguments_grown (past (is_value e) k) g f (h + 1) (params_of (sent_method g (sort_of g e) m)) es w t.3),
       )
-  expression_grown k g f h (Frame m u ss e) w t = (
+  expression_grown k g f h (Frame m u ss e qs) w t = (
     t.0,
     t.1,
     store_grown g f (temps_of_method (own_method g m)) u w t.2,
@@ -106,6 +106,7 @@ mutual
     expression_grown (past (is_done ss) k) (inside g m) f 0 e w t.4,
     rw (sort_grown (past (is_done ss) k) (inside g m) f 0 e w t.4) t.5,
     t.6,
+    statements_grown (past (is_done ss) (past (is_value e) k)) (behind_value (inside g m)) f qs w t.7,
   )
   expression_grown k g f h (Wait b m) w t = (t.0, t.1, rw (object_kept g.object_class f b w t.2) t.2)
 
@@ -125,33 +126,34 @@ mutual
 
   pub statement_grown : (k : Holds) (g : Scope) (f : ℕ → Option ℕ) (s : Statement) → Grows g.object_class f
       → TypedStatement k g s → TypedStatement k (grown g f) s
-  statement_grown k g f (Assign x p e) w t = (t.0, expression_grown k g f 0 e w t.1, rw (sort_grown k g f 0 e w t.1) t.2)
-  statement_grown k g f (Write e) w t = (expression_grown k g f 0 e w t.0, rw (sort_grown k g f 0 e w t.0) t.1)
+  statement_grown k g f (Assign x p e) w t = (t.0, expression_grown k g f g.held e w t.1, rw (sort_grown k g f g.held e w t.1) t.2)
+  statement_grown k g f (Write e) w t = (expression_grown k g f g.held e w t.0, rw (sort_grown k g f g.held e w t.0) t.1)
   statement_grown k g f (WriteText s) w t = tt
-  statement_grown k g f (Do e) w t = expression_grown k g f 0 e w t
+  statement_grown k g f (Do e) w t = expression_grown k g f g.held e w t
   statement_grown k g f (Async e m p es) w t =
-      let same : sort_of (grown g f) e ≡ sort_of g e = sort_grown k g f 0 e w t.0 in (
-        expression_grown k g f 0 e w t.0,
+      let same : sort_of (grown g f) e ≡ sort_of g e = sort_grown k g f g.held e w t.0 in (
+        expression_grown k g f g.held e w t.0,
         rw same (destination_grown g f (sort_of g e) m (size es) t.1),
-        rw same (arguments_grown (past (is_value e) k) g f 1 (params_of (sent_method g (sort_of g e) m)) es w t.2),
+        rw same (arguments_grown (past (is_value e) k) g f (g.held + 1) (params_of (sent_method g (sort_of g e) m)) es w t.2),
       )
   statement_grown k g f (If e these those) w t = (
-    expression_grown k g f 0 e w t.0,
-    rw (sort_grown k g f 0 e w t.0) t.1,
+    expression_grown k g f g.held e w t.0,
+    rw (sort_grown k g f g.held e w t.0) t.1,
     statements_grown Nothing g f these w t.2,
     statements_grown Nothing g f those w t.3,
   )
   statement_grown k g f (While e ss) w t =
-      (expression_grown Nothing g f 0 e w t.0, rw (sort_grown Nothing g f 0 e w t.0) t.1, statements_grown Nothing g f ss w t.2)
+      (expression_grown Nothing g f g.held e w t.0, rw (sort_grown Nothing g f g.held e w t.0) t.1, statements_grown Nothing g f ss w t.2)
   statement_grown k g f (Answer names) w t = rw (names_faults_grown g f [] names) t
-  statement_grown k g f (Select alts) w t = alternatives_grown k g f 0 alts w t
-  statement_grown k g f (Serve m o u ss e) w t = (
+  statement_grown k g f (Select alts) w t = alternatives_grown k g f g.held alts w t
+  statement_grown k g f (Serve m o u ss e qs) w t = (
     t.0,
     store_grown g f (temps_of_method (own_method g m)) u w t.1,
     statements_grown k (inside g m) f ss w t.2,
     expression_grown (past (is_done ss) k) (inside g m) f 0 e w t.3,
     rw (sort_grown (past (is_done ss) k) (inside g m) f 0 e w t.3) t.4,
     t.5,
+    statements_grown (past (is_done ss) (past (is_value e) (past (is_none o) k))) (behind_value (inside g m)) f qs w t.6,
   )
 
   pub statements_grown : (k : Holds) (g : Scope) (f : ℕ → Option ℕ) (ss : Statements) → Grows g.object_class f

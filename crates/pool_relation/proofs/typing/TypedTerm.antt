@@ -1,12 +1,12 @@
 -- One test for a typed part of a term: its faults, its form, and what may be under way in it.
-use Rattle.std.proofs.Common.{◌≡◌, IsTrue, ℕ, ◌+◌, List, [], ◌∷◌, length, Option, Some, None, is_some, Bool, true, false, not, ◌&&◌, ◌||◌, ◌==◌, if◌then◌else◌}
+use Rattle.std.proofs.Common.{◌≡◌, IsTrue, ℕ, ◌+◌, List, [], ◌∷◌, length, Option, Some, None, is_some, is_none, Bool, true, false, not, ◌&&◌, ◌||◌, ◌==◌, if◌then◌else◌}
 use Rattle.pool_syntax.specs.declared.words.Op.{Op}
 use Rattle.pool_syntax.specs.declared.words.Op.TheVariants as O
 use Rattle.pool_syntax.specs.declared.tree.Kind.{Kind}
 use Rattle.pool_syntax.specs.declared.tree.Var.{Var}
 use Rattle.pool_syntax.specs.Terms.{Expression, Literal, Me, Variable, Create, Prefix, Infix, Call, Send, Frame, Wait, Expressions, NoArgs, Arg, Statement, Assign, Write, WriteText, Do, Async, If, While, Answer, Select, Serve, Statements, Done, Then, Alternatives, NoAlts, Alt, MethodTree, ProgramTree}
 use Rattle.pool_syntax.specs.Classes.{class_of, named_method}
-use Rattle.pool_syntax.specs.Typing.{Sort, BoolSort, ClassSort, NilSort, NoSort, BrokenSort, Scope, kind_sort, name_sort, is_dangling, operand_sort, sort_of, is_same_sort, is_open, is_broken_name, is_comparable, params_of, size, sent_method, methods_of, own_method, temps_of_method, inside, names_faults, answer_faults}
+use Rattle.pool_syntax.specs.Typing.{Sort, BoolSort, ClassSort, NilSort, NoSort, BrokenSort, Scope, kind_sort, name_sort, is_dangling, operand_sort, sort_of, is_same_sort, is_open, is_broken_name, is_comparable, params_of, size, sent_method, methods_of, own_method, temps_of_method, inside, behind_value, names_faults, answer_faults}
 use Rattle.pool_relation.specs.Reducible.{is_value, is_done}
 use Rattle.pool_relation.specs.Typed.{is_store_of, has_room, is_value_of}
 use Rattle.pool_relation.specs.Written.{is_prefix}
@@ -85,10 +85,11 @@ abbrev mutual
   TypedExpression k g h (Send e m es p) =
       IsTrue (has_room h) × TypedExpression k g h e × IsTrue (is_destination g (sort_of g e) m (size es))
       × TypedArguments (past (is_value e) k) g (h + 1) (params_of (sent_method g (sort_of g e) m)) es
-  TypedExpression k g h (Frame m t ss e) =
+  TypedExpression k g h (Frame m t ss e qs) =
       IsTrue (has_methods k) × IsTrue (has_room h) × IsTrue (is_store_of g (temps_of_method (own_method g m)) t)
       × TypedStatements k (inside g m) ss × TypedExpression (past (is_done ss) k) (inside g m) 0 e
       × IsTrue (gives g.program (own_method g m) (sort_of (inside g m) e)) × IsTrue (is_value_of (own_method g m) e)
+      × TypedStatements (past (is_done ss) (past (is_value e) k)) (behind_value (inside g m)) qs
   TypedExpression k g h (Wait b m) = IsTrue (has_waits k) × IsTrue (has_room h) × IsTrue (is_some (g.object_class b))
 
   pub TypedArguments : Holds → Scope → ℕ → List Var → Expressions → Type 0
@@ -101,24 +102,25 @@ abbrev mutual
 
   pub TypedStatement : Holds → Scope → Statement → Type 0
   TypedStatement k g (Assign x p e) =
-      (is_broken_name g x ≡ false) × TypedExpression k g 0 e × IsTrue (fits_need (sort_of g e) (name_sort g x))
-  TypedStatement k g (Write e) = TypedExpression k g 0 e × (has_no_sort (sort_of g e) ≡ false)
+      (is_broken_name g x ≡ false) × TypedExpression k g g.held e × IsTrue (fits_need (sort_of g e) (name_sort g x))
+  TypedStatement k g (Write e) = TypedExpression k g g.held e × (has_no_sort (sort_of g e) ≡ false)
   TypedStatement k g (WriteText s) = Unit {0}
-  TypedStatement k g (Do e) = TypedExpression k g 0 e
+  TypedStatement k g (Do e) = TypedExpression k g g.held e
   TypedStatement k g (Async e m p es) =
-      TypedExpression k g 0 e × IsTrue (is_destination g (sort_of g e) m (size es))
-      × TypedArguments (past (is_value e) k) g 1 (params_of (sent_method g (sort_of g e) m)) es
+      TypedExpression k g g.held e × IsTrue (is_destination g (sort_of g e) m (size es))
+      × TypedArguments (past (is_value e) k) g (g.held + 1) (params_of (sent_method g (sort_of g e) m)) es
   TypedStatement k g (If e these those) =
-      TypedExpression k g 0 e × IsTrue (fits_need (sort_of g e) BoolSort) × TypedStatements Nothing g these
+      TypedExpression k g g.held e × IsTrue (fits_need (sort_of g e) BoolSort) × TypedStatements Nothing g these
       × TypedStatements Nothing g those
   TypedStatement k g (While e ss) =
-      TypedExpression Nothing g 0 e × IsTrue (fits_need (sort_of g e) BoolSort) × TypedStatements Nothing g ss
+      TypedExpression Nothing g g.held e × IsTrue (fits_need (sort_of g e) BoolSort) × TypedStatements Nothing g ss
   TypedStatement k g (Answer names) = names_faults g [] names ≡ []
-  TypedStatement k g (Select alts) = TypedAlternatives k g 0 alts
-  TypedStatement k g (Serve m c t ss e) =
+  TypedStatement k g (Select alts) = TypedAlternatives k g g.held alts
+  TypedStatement k g (Serve m c t ss e qs) =
       IsTrue (has_methods k) × IsTrue (is_store_of g (temps_of_method (own_method g m)) t) × TypedStatements k (inside g m) ss
       × TypedExpression (past (is_done ss) k) (inside g m) 0 e × IsTrue (gives g.program (own_method g m) (sort_of (inside g m) e))
       × IsTrue (is_value_of (own_method g m) e)
+      × TypedStatements (past (is_done ss) (past (is_value e) (past (is_none c) k))) (behind_value (inside g m)) qs
 
   pub TypedStatements : Holds → Scope → Statements → Type 0
   TypedStatements k g Done = Unit {0}

@@ -1,8 +1,8 @@
 -- A typed part in which less is under way is typed where more may be; parts behind parts without redex.
-use Rattle.std.proofs.Common.{◌≡◌, IsTrue, ℕ, ◌+◌, List, [], ◌∷◌, Bool, true, false, arith}
+use Rattle.std.proofs.Common.{◌≡◌, IsTrue, ℕ, ◌+◌, List, [], ◌∷◌, is_none, Bool, true, false, arith}
 use Rattle.pool_syntax.specs.declared.tree.Var.{Var}
 use Rattle.pool_syntax.specs.Terms.{Expression, Literal, Me, Variable, Create, Prefix, Infix, Call, Send, Frame, Wait, Expressions, NoArgs, Arg, Statement, Assign, Write, WriteText, Do, Async, If, While, Answer, Select, Serve, Statements, Done, Then, Alternatives, NoAlts, Alt, append}
-use Rattle.pool_syntax.specs.Typing.{Scope, sort_of, inside, own_method, params_of, sent_method}
+use Rattle.pool_syntax.specs.Typing.{Scope, sort_of, inside, behind_value, own_method, params_of, sent_method}
 use Rattle.pool_relation.specs.Reducible.{is_value, is_done}
 use Rattle.pool_relation.proofs.typing.TypedTerm.{Holds, Nothing, has_methods, has_waits, past, TypedExpression, TypedArguments, TypedStatement, TypedStatements, TypedAlternatives}
 
@@ -21,6 +21,14 @@ past_below false j k w = nothing_below Nothing
 pub past_below_all : (b : Bool) (k : Holds) → Below (past b k) k
 past_below_all true k = record { methods = λ h. h; waits = λ h. h }
 past_below_all false k = nothing_below k
+
+pub below_twice : (a b : Bool) (k : Holds) → Below (past a (past b k)) k
+below_twice true b k = past_below_all b k
+below_twice false b k = nothing_below k
+
+pub below_thrice : (a b c : Bool) (k : Holds) → Below (past a (past b (past c k))) k
+below_thrice true b c k = below_twice b c k
+below_thrice false b c k = nothing_below k
 
 mutual
   pub expression_weaker : (j k : Holds) (g : Scope) (h : ℕ) (e : Expression) → Below j k → TypedExpression j g h e
@@ -44,7 +52,7 @@ mutual
     t.2,
     arguments_weaker (past (is_value e) j) (past (is_value e) k) g (h + 1) (params_of (sent_method g (sort_of g e) m)) es (past_below (is_value e) j k w) t.3,
   )
-  expression_weaker j k g h (Frame m u ss e) w t = (
+  expression_weaker j k g h (Frame m u ss e qs) w t = (
     w.methods t.0,
     t.1,
     t.2,
@@ -52,6 +60,8 @@ mutual
     expression_weaker (past (is_done ss) j) (past (is_done ss) k) (inside g m) 0 e (past_below (is_done ss) j k w) t.4,
     t.5,
     t.6,
+    statements_weaker (past (is_done ss) (past (is_value e) j)) (past (is_done ss) (past (is_value e) k)) (behind_value (inside g m)) qs
+        (past_below (is_done ss) (past (is_value e) j) (past (is_value e) k) (past_below (is_value e) j k w)) t.7,
   )
   expression_weaker j k g h (Wait b m) w t = (w.waits t.0, t.1, t.2)
 
@@ -70,26 +80,29 @@ mutual
   )
 
   pub statement_weaker : (j k : Holds) (g : Scope) (s : Statement) → Below j k → TypedStatement j g s → TypedStatement k g s
-  statement_weaker j k g (Assign x p e) w t = (t.0, expression_weaker j k g 0 e w t.1, t.2)
-  statement_weaker j k g (Write e) w t = (expression_weaker j k g 0 e w t.0, t.1)
+  statement_weaker j k g (Assign x p e) w t = (t.0, expression_weaker j k g g.held e w t.1, t.2)
+  statement_weaker j k g (Write e) w t = (expression_weaker j k g g.held e w t.0, t.1)
   statement_weaker j k g (WriteText s) w t = tt
-  statement_weaker j k g (Do e) w t = expression_weaker j k g 0 e w t
+  statement_weaker j k g (Do e) w t = expression_weaker j k g g.held e w t
   statement_weaker j k g (Async e m p es) w t = (
-    expression_weaker j k g 0 e w t.0,
+    expression_weaker j k g g.held e w t.0,
     t.1,
-    arguments_weaker (past (is_value e) j) (past (is_value e) k) g 1 (params_of (sent_method g (sort_of g e) m)) es (past_below (is_value e) j k w) t.2,
+    arguments_weaker (past (is_value e) j) (past (is_value e) k) g (g.held + 1) (params_of (sent_method g (sort_of g e) m)) es (past_below (is_value e) j k w) t.2,
   )
-  statement_weaker j k g (If e these those) w t = (expression_weaker j k g 0 e w t.0, t.1, t.2, t.3)
+  statement_weaker j k g (If e these those) w t = (expression_weaker j k g g.held e w t.0, t.1, t.2, t.3)
   statement_weaker j k g (While e ss) w t = t
   statement_weaker j k g (Answer names) w t = t
-  statement_weaker j k g (Select alts) w t = alternatives_weaker j k g 0 alts w t
-  statement_weaker j k g (Serve m o u ss e) w t = (
+  statement_weaker j k g (Select alts) w t = alternatives_weaker j k g g.held alts w t
+  statement_weaker j k g (Serve m o u ss e qs) w t = (
     w.methods t.0,
     t.1,
     statements_weaker j k (inside g m) ss w t.2,
     expression_weaker (past (is_done ss) j) (past (is_done ss) k) (inside g m) 0 e (past_below (is_done ss) j k w) t.3,
     t.4,
     t.5,
+    statements_weaker (past (is_done ss) (past (is_value e) (past (is_none o) j))) (past (is_done ss) (past (is_value e) (past (is_none o) k))) (behind_value (inside g m)) qs
+        (past_below (is_done ss) (past (is_value e) (past (is_none o) j)) (past (is_value e) (past (is_none o) k))
+        (past_below (is_value e) (past (is_none o) j) (past (is_none o) k) (past_below (is_none o) j k w))) t.6,
   )
 
   pub statements_weaker : (j k : Holds) (g : Scope) (ss : Statements) → Below j k → TypedStatements j g ss → TypedStatements k g ss

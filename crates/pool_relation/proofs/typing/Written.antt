@@ -45,7 +45,7 @@ mutual
         destination_of_none g (sort_of g e) m (size es) p (position e) n.2,
         arguments_weaker Nothing (past (is_value e) Nothing) g (h + 1) ps es (nothing_below _) y,
       )
-  expression_written g h (Frame m t ss e) f s = absurd (grind (arith, s))
+  expression_written g h (Frame m t ss e qs) f s = absurd (grind (arith, s))
   expression_written g h (Wait b m) f s = absurd (grind (arith, s))
 
   pub arguments_written : (g : Scope) (h : ℕ) (vs : List Var) (es : Expressions) → arguments_faults g h vs es ≡ []
@@ -68,35 +68,35 @@ mutual
 
   statement_written : (g : Scope) (s : Statement) → statement_faults g s ≡ [] → IsTrue (is_source_statement s) → TypedStatement Nothing g s
   statement_written g (Assign x p e) f s =
-      let n = none3 f in (no_fault_if _ _ _ n.0, expression_written g 0 e n.1 s, fits_of_none (sort_of g e) (name_sort g x) (position e) n.2)
-  statement_written g (Write e) f s = let n = none2 f in (expression_written g 0 e n.0 s, sort_of_none (sort_of g e) (position e) n.1)
+      let n = none3 f in (no_fault_if _ _ _ n.0, expression_written g g.held e n.1 s, fits_of_none (sort_of g e) (name_sort g x) (position e) n.2)
+  statement_written g (Write e) f s = let n = none2 f in (expression_written g g.held e n.0 s, sort_of_none (sort_of g e) (position e) n.1)
   statement_written g (WriteText t) f s = tt
-  statement_written g (Do e) f s = expression_written g 0 e f s
+  statement_written g (Do e) f s = expression_written g g.held e f s
   statement_written g (Async e m p es) f s =
       let n = none3 f in
       let ps = params_of (sent_method g (sort_of g e) m) in
-      let y = arguments_written g 1 ps es n.2 (second (is_source e) (are_source es) s) in (
-        expression_written g 0 e n.0 (first (is_source e) (are_source es) s),
+      let y = arguments_written g (g.held + 1) ps es n.2 (second (is_source e) (are_source es) s) in (
+        expression_written g g.held e n.0 (first (is_source e) (are_source es) s),
         destination_of_none g (sort_of g e) m (size es) p (position e) n.1,
-        arguments_weaker Nothing (past (is_value e) Nothing) g 1 ps es (nothing_below _) y,
+        arguments_weaker Nothing (past (is_value e) Nothing) g (g.held + 1) ps es (nothing_below _) y,
       )
   statement_written g (If e these those) f s =
       let n = none4 f in
       let x = first _ (are_source_statements those) s in (
-        expression_written g 0 e n.0 (first (is_source e) (are_source_statements these) x),
+        expression_written g g.held e n.0 (first (is_source e) (are_source_statements these) x),
         fits_of_none (sort_of g e) BoolSort (position e) n.1,
         statements_written g these n.2 (second (is_source e) (are_source_statements these) x),
         statements_written g those n.3 (second _ (are_source_statements those) s),
       )
   statement_written g (While e ss) f s =
       let n = none3 f in (
-        expression_written g 0 e n.0 (first (is_source e) (are_source_statements ss) s),
+        expression_written g g.held e n.0 (first (is_source e) (are_source_statements ss) s),
         fits_of_none (sort_of g e) BoolSort (position e) n.1,
         statements_written g ss n.2 (second (is_source e) (are_source_statements ss) s),
       )
   statement_written g (Answer names) f s = f
-  statement_written g (Select alts) f s = alternatives_written g 0 alts f s
-  statement_written g (Serve m k t ss e) f s = absurd (grind (arith, s))
+  statement_written g (Select alts) f s = alternatives_written g g.held alts f s
+  statement_written g (Serve m k t ss e qs) f s = absurd (grind (arith, s))
 
   pub statements_written : (g : Scope) (ss : Statements) → statements_faults g ss ≡ [] → IsTrue (are_source_statements ss) → TypedStatements Nothing g ss
   statements_written g Done f s = tt

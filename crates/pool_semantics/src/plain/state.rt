@@ -170,7 +170,7 @@ impl<'a> State<'a> {
         if !waits.waits_for(receiver) {
             return Ok(false);
         }
-        update(self.alloc, &mut self.objects, receiver, &Change::End)?;
+        update(self.alloc, &mut self.objects, receiver, &Change::Returned)?;
         update(
             self.alloc,
             &mut self.objects,

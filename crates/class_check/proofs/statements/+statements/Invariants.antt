@@ -1,4 +1,4 @@
-use Rattle.std.proofs.Common.{◌≡◌, min, drop}
+use Rattle.std.proofs.Common.{◌≡◌, ◌+◌, min, drop}
 use Rattle.pool_syntax.specs.TreeOf.{statements_of}
 use Rattle.pool_syntax.specs.Typing.{statements_faults, alternatives_faults}
 use Rattle.class_check.specs.Least.{noted}
@@ -15,6 +15,6 @@ invariant-statements-loop-stmt l =
 
 abbrev pub invariant-alternatives-loop-alt : goal.invariant-alternatives-loop-alt
 invariant-alternatives-loop-alt l =
-    (l.held ≡ min l.alt-index 64)
-    × (noted (found_of l.first) (alternatives_faults (scope_of l.scope) l.alt-index (alternatives_of (drop l.alt-index l.alts)))
-    ≡ noted (found_of l.initial.first) (alternatives_faults (scope_of l.scope) 0 (alternatives_of l.alts)))
+    (l.held ≡ min ((scope_of l.scope).held + l.alt-index) 64)
+    × (noted (found_of l.first) (alternatives_faults (scope_of l.scope) ((scope_of l.scope).held + l.alt-index) (alternatives_of (drop l.alt-index l.alts)))
+    ≡ noted (found_of l.initial.first) (alternatives_faults (scope_of l.scope) (scope_of l.scope).held (alternatives_of l.alts)))

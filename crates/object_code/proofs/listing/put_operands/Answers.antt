@@ -72,3 +72,6 @@ returns-in-Select g c = same _ _ _ _ (ap (alternatives_text c.args.names.now) c.
 
 pub returns-in-Halt : goal.returns-in-Halt
 returns-in-Halt g c = same _ _ _ _ (ap (operands_text c.args.names.now) (sym c.in-Halt.is)) c.put-in-Halt.ensures
+
+pub returns-in-Post : goal.returns-in-Post
+returns-in-Post g c = same _ _ _ _ (ap (operands_text c.args.names.now) (sym c.in-Post.is)) c.put-in-Post.ensures

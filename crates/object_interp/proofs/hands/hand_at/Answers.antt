@@ -1,6 +1,8 @@
-use Rattle.std.proofs.Common.{◌∙◌, ap, length, Some, arith}
+use Rattle.std.proofs.Common.{◌≡◌, ◌⊎◌, inl, inr, ◌∙◌, ap, ◌<◌, length, Some, arith}
 use Rattle.object_code.specs.declared.unit.Instr.TheVariants as I
-use Rattle.node_heap.specs.Heaps.{object_at}
+use Rattle.object_code.specs.declared.unit.CodeObject.{CodeObject}
+use Rattle.object_code.specs.declared.unit.Unit.{Unit as Code}
+use Rattle.node_heap.specs.Heaps.{object_at, top_in}
 use Rattle.object_interp.proofs.Acting.{instr_known}
 use Rattle.object_interp.proofs.hands.hand_at.Goals as goal
 
@@ -17,10 +19,17 @@ value_at-requires-clause-place c =
     omega (arith, known.enough)
 
 pub value_at-requires-in-Ret-clause-place : goal.value_at-requires-in-Ret-clause-place
-value_at-requires-in-Ret-clause-place c =
-    let x = object_at c.args.heap.now c.args.slot in
-    let known = instr_known c.args.unit.now c.requires.proper x c.requires.top (I.Ret) (c.requires.at ∙ ap Some c.in-Ret.is) in
-    omega (arith, known.enough)
+value_at-requires-in-Ret-clause-place c = by c.in-Ret.is
+  where
+    u : Code
+    u = c.args.unit.now
+
+    x : CodeObject
+    x = object_at c.args.heap.now c.args.slot
+
+    by : (c.args.instr.now ≡ I.Ret) ⊎ (c.args.instr.now ≡ I.Post) → 0 < length (top_in x.frames).operands
+    by (inl e) = let known = instr_known u c.requires.proper x c.requires.top I.Ret (c.requires.at ∙ ap Some e) in omega (arith, known.enough)
+    by (inr e) = let known = instr_known u c.requires.proper x c.requires.top I.Post (c.requires.at ∙ ap Some e) in omega (arith, known.enough)
 
 pub value_at-requires-in-Send-clause-place : goal.value_at-requires-in-Send-clause-place
 value_at-requires-in-Send-clause-place c =

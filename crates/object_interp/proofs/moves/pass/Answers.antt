@@ -1,4 +1,5 @@
 use Rattle.std.proofs.Common.{◌≡◌, ◌+◌, sym, ap, ◌∙◌, suc, arith}
+use Rattle.pool_syntax.specs.declared.words.Serves.TheVariants as S
 use Rattle.object_code.specs.Frames.{dropped, next}
 use Rattle.node_heap.specs.Heaps.{object_at, put_object, top_in, top_at, under_top}
 use Rattle.object_interp.specs.Moves.{gone}
@@ -18,3 +19,13 @@ returns-in-Async c =
     (λ y. with_top y (next (top_in y.frames) (top_in y.frames).operands)) c.requires.slot c.drop_operands.ensures c.advance-in-Async.ensures
     ∙ ap (λ m. put_object h s (with_top x (next f (dropped m f.operands)))) more
     ∙ ap (λ i. put_object h s (gone x f (under_top x.frames) i)) (sym c.in-Async.is)
+
+pub returns-in-Post : goal.returns-in-Post
+returns-in-Post c =
+    let h = c.args.heap.now in
+    let s = c.args.slot in
+    let x = object_at h s in
+    let f = top_at h s in
+    put_then h c.set_serves.new.self c.advance-in-Post.new.heap s (with_top x (record f { serves = S.Sender }))
+    (λ y. with_top y (next (top_in y.frames) (top_in y.frames).operands)) c.requires.slot c.set_serves.ensures c.advance-in-Post.ensures
+    ∙ ap (λ i. put_object h s (gone x f (under_top x.frames) i)) (sym c.in-Post.is)

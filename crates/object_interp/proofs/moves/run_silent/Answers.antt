@@ -1,4 +1,4 @@
-use Rattle.std.proofs.Common.{◌∷◌, ap, Some, arith}
+use Rattle.std.proofs.Common.{◌∷◌, ◌∙◌, ap, Some, arith}
 use Rattle.pool_syntax.specs.declared.words.Value.TheVariants as V
 use Rattle.object_code.specs.Frames.{next, silent}
 use Rattle.node_heap.specs.Heaps.{top_at}
@@ -36,3 +36,8 @@ push_next-requires-in-PushNil-clause-room c =
     let f = top_at c.args.heap.now c.args.slot in
     let few = (c.requires.next (next f (V.Nil ∷ f.operands)) (ap (λ i. silent f (Some i)) c.in-PushNil.is)).1 in
     omega (arith, few)
+
+pub pass_value-requires-clause-next : goal.pass_value-requires-clause-next
+pass_value-requires-clause-next c g e =
+    let f = top_at c.args.heap.now c.args.slot in
+    (c.requires.next g (ap (λ i. silent f (Some i)) c.in-Post.is ∙ e)).0

@@ -7,7 +7,7 @@ use Rattle.pool_node.proofs.acts.return_turn.Goals as goal
 
 pub returns-then-caller-parts : goal.returns-then-caller-parts
 returns-then-caller-parts c = λ q.
-    return_here c.args.unit.now c.args.placement.now c.args.leaving c.args.parts.now c.requires.set c.args.slot c.requires.slot c.args.caller c.args.number c.args.value c.requires.kind q c.end_method.new.parts c.settle_if_out.new.parts c.step.result (omega arith) c.end_method.ensures c.settle_if_out.ensures
+    return_here c.args.unit.now c.args.placement.now c.args.leaving c.args.parts.now c.requires.set c.args.slot c.requires.slot c.args.caller c.args.number c.args.value c.requires.kind q c.return_in.new.parts c.settle_if_out.new.parts c.step.result (omega arith) c.return_in.ensures c.settle_if_out.ensures
     (c.step.ensures ∙ ap (λ o. W.Step (L.Return o c.args.caller c.args.value) 1) c.name_of-receiver.ensures)
 
 pub returns-then-no_cell : goal.returns-then-no_cell
@@ -15,5 +15,5 @@ returns-then-no_cell c = λ q. return_full c.args.unit.now c.args.placement.now 
 
 pub returns : goal.returns
 returns c = λ q.
-    return_away c.args.unit.now c.args.placement.now c.args.leaving c.args.parts.now c.requires.set c.args.slot c.requires.slot c.args.caller c.args.number c.args.value c.requires.kind q c.end_method-2.new.parts c.step-2.result (grind (arith, nat_tests)) c.end_method-2.ensures (sym c.if-no_cell.false ∙ c.no_cell.ensures)
+    return_away c.args.unit.now c.args.placement.now c.args.leaving c.args.parts.now c.requires.set c.args.slot c.requires.slot c.args.caller c.args.number c.args.value c.requires.kind q c.return_in-2.new.parts c.step-2.result (grind (arith, nat_tests)) c.return_in-2.ensures (sym c.if-no_cell.false ∙ c.no_cell.ensures)
     (c.step-2.ensures ∙ ap (λ o. W.Step (L.Return o c.args.caller c.args.value) 1) c.name_of-receiver.ensures)

@@ -3,8 +3,8 @@ use Rattle.pool_syntax.specs.TreeOf.{method_tree}
 use Rattle.pool_parser.proofs.Exits.{exit, passed_on, unexpected}
 use Rattle.pool_parser.proofs.Reading.{reads_inner, reads_refused}
 use Rattle.pool_parser.proofs.Parts.{clear_any, sign_read, word_read, word_there, word_missing}
-use Rattle.pool_parser.proofs.Bodies.{ends_statements, ends_value}
-use Rattle.pool_parser.proofs.Declaring.{ends_locals}
+use Rattle.pool_parser.proofs.Bodies.{ends_statements}
+use Rattle.pool_parser.proofs.Declaring.{ends_locals, after_value, ends_post}
 use Rattle.pool_parser.proofs.declarations.with_result.Goals as goal
 
 pub returns-in_err-kind-clause-parses : goal.returns-in_err-kind-clause-parses
@@ -31,13 +31,18 @@ returns-in_err-expect-2-clause-parses c = exit _ _ _ _ method_tree _ _ c.from_re
 pub returns-in_err-value-clause-parses : goal.returns-in_err-value-clause-parses
 returns-in_err-value-clause-parses c = exit _ _ _ _ method_tree _ _ c.from_residual-in_err-value.ensures.1
     (passed_on (λ u R. sign_read c.requires.colon (reads_inner c.in_ok-kind.ensures.parses (λ z. clear_any (λ t u. u)) (reads_inner c.in_ok-locals.ensures.parses (λ z. ends_locals) (word_read c.in_ok-expect.ensures.ok
-    (reads_inner c.in_ok-body.ensures.parses (λ z. ends_statements refl refl) (word_read c.in_ok-expect-2.ensures.ok (reads_refused R (λ z. ends_value refl)))))))) _ c.in_err-value.ensures.parses)
+    (reads_inner c.in_ok-body.ensures.parses (λ z. ends_statements refl refl) (word_read c.in_ok-expect-2.ensures.ok (reads_refused R (λ z. after_value)))))))) _ c.in_err-value.ensures.parses)
+
+pub returns-in_err-post-clause-parses : goal.returns-in_err-post-clause-parses
+returns-in_err-post-clause-parses c = exit _ _ _ _ method_tree _ _ c.from_residual-in_err-post.ensures.1
+    (passed_on (λ u R. sign_read c.requires.colon (reads_inner c.in_ok-kind.ensures.parses (λ z. clear_any (λ t u. u)) (reads_inner c.in_ok-locals.ensures.parses (λ z. ends_locals) (word_read c.in_ok-expect.ensures.ok
+    (reads_inner c.in_ok-body.ensures.parses (λ z. ends_statements refl refl) (word_read c.in_ok-expect-2.ensures.ok (reads_inner c.in_ok-value.ensures.parses (λ z. after_value) (reads_refused R (λ z. ends_post))))))))) _ c.in_err-post.ensures.parses)
 
 pub returns-in_err-expect-3-clause-parses : goal.returns-in_err-expect-3-clause-parses
 returns-in_err-expect-3-clause-parses c = exit _ _ _ _ method_tree _ _ c.from_residual-in_err-expect-3.ensures.1
     (unexpected _ _ _ _ _ _ c.in_err-expect-3.ensures.err.0 (sign_read c.requires.colon (reads_inner c.in_ok-kind.ensures.parses (λ z. clear_any (λ t u. u)) (reads_inner c.in_ok-locals.ensures.parses (λ z. ends_locals) (word_read c.in_ok-expect.ensures.ok
-    (reads_inner c.in_ok-body.ensures.parses (λ z. ends_statements refl refl) (word_read c.in_ok-expect-2.ensures.ok (reads_inner c.in_ok-value.ensures.parses (λ z. ends_value refl) (word_missing c.in_err-expect-3.ensures.err.1)))))))))
+    (reads_inner c.in_ok-body.ensures.parses (λ z. ends_statements refl refl) (word_read c.in_ok-expect-2.ensures.ok (reads_inner c.in_ok-value.ensures.parses (λ z. after_value) (reads_inner c.in_ok-post.ensures.parses (λ z. ends_post) (word_missing c.in_err-expect-3.ensures.err.1))))))))))
 
 pub returns-clause-parses : goal.returns-clause-parses
 returns-clause-parses c = sign_read c.requires.colon (reads_inner c.in_ok-kind.ensures.parses (λ z. clear_any (λ t u. u)) (reads_inner c.in_ok-locals.ensures.parses (λ z. ends_locals) (word_read c.in_ok-expect.ensures.ok
-    (reads_inner c.in_ok-body.ensures.parses (λ z. ends_statements refl refl) (word_read c.in_ok-expect-2.ensures.ok (reads_inner c.in_ok-value.ensures.parses (λ z. ends_value refl) (word_there c.in_ok-expect-3.ensures.ok)))))))
+    (reads_inner c.in_ok-body.ensures.parses (λ z. ends_statements refl refl) (word_read c.in_ok-expect-2.ensures.ok (reads_inner c.in_ok-value.ensures.parses (λ z. after_value) (reads_inner c.in_ok-post.ensures.parses (λ z. ends_post) (word_there c.in_ok-expect-3.ensures.ok))))))))

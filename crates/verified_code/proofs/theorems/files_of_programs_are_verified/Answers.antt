@@ -8,7 +8,7 @@ pub returns-clause-shaped : goal.returns-clause-shaped
 returns-clause-shaped c = λ names p. file_is_shaped names p
 
 pub returns-clause-verified : goal.returns-clause-verified
-returns-clause-verified c = λ names p m none spelled short. grammatical_verified names p m none spelled short
+returns-clause-verified c = λ names p m none spelled short bare. grammatical_verified names p m none spelled short bare
 
 pub returns-clause-good : goal.returns-clause-good
-returns-clause-good c = λ names p m none spelled short. verified_is_good (file_of names p) (grammatical_verified names p m none spelled short)
+returns-clause-good c = λ names p m none spelled short bare. verified_is_good (file_of names p) (grammatical_verified names p m none spelled short bare)

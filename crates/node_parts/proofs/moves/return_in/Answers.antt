@@ -1,6 +1,6 @@
 use Rattle.node_parts.proofs.Changing.{slot_real}
 use Rattle.node_parts.proofs.Moving.{by_heap, returned_changed}
-use Rattle.node_parts.proofs.moves.end_method.Goals as goal
+use Rattle.node_parts.proofs.moves.return_in.Goals as goal
 
 pub go_on-requires-clause-fits : goal.go_on-requires-clause-fits
 go_on-requires-clause-fits c = (slot_real c.args.unit.now c.args.parts.now c.requires.unit c.args.slot c.requires.slot).fits
