@@ -1,13 +1,9 @@
 -- A sink that gathers bytes in front of another one, as contracts see it.
-use Rattle.std.specs.Prelude.{◌≡◌, ℕ, ◌≤◌, Bool, true, List, ◌++◌, length, take, Option, Some, option_map, nat_le, IsTrue}
+use Rattle.std.specs.Prelude.{ℕ, Bool, true, List, ◌++◌, length, Option, Some, option_map, nat_le, IsTrue}
 
 -- what a sink has, and then the bytes that are gathered for it
 abbrev pub gathered : Option (List ℕ) → List ℕ → Option (List ℕ)
 gathered written bytes = option_map (λ w. w ++ bytes) written
-
--- what a sink has is what it had and a front of the text
-abbrev pub IsFront : Option (List ℕ) → List ℕ → Option (List ℕ) → Type 0
-IsFront start text written = (n : ℕ) × (n ≤ length text) × (written ≡ option_map (λ w. w ++ take n text) start)
 
 -- there are no fewer bytes now than at the start, where both are known
 abbrev pub has_grown : Option (List ℕ) → Option (List ℕ) → Bool

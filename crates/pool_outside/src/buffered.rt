@@ -1,8 +1,8 @@
 // A sink that gathers pieces in front of another one.
 ghost use Rattle.std.specs.Prelude.{◌≡◌, List, ℕ, ◌+◌, ◌-◌, ◌<◌, ◌≤◌, ◌++◌, [], Option, None, length, take, drop, option_map, OnOk, OnErr};
 ghost use Rattle.std.specs.Borrow.{GName};
-ghost use Rattle.pool_outside.specs.Outside.{Rose};
-ghost use Rattle.pool_outside.specs.Gathered.{gathered, IsFront, HasGrown};
+ghost use Rattle.pool_outside.specs.Outside.{Rose, IsProperFront};
+ghost use Rattle.pool_outside.specs.Gathered.{gathered, HasGrown};
 
 use crate::calls::{WriteFault, write_all_of};
 use crate::outside::{Failed, Sink};
@@ -113,11 +113,11 @@ impl<'a, K: Sink, B: Behind> Buffered<'a, K, B> {
         }
     }
 
-    /// Hands on what is left, and gives the sink back. It then has all, and on a fault a front of it.
+    /// Hands on what is left, and gives the sink back. It then has all, and on a fault a proper front of it.
     pub fn finish(self) -> (&'a mut K, Result<(), WriteFault>)
         ensures same_reference { result.0.ghost_name ≡ B.name }
         ensures whole { OnOk result.1 (K.written result.0.now ≡ gathered (K.written self.entry.sink.now) self.entry.bytes) }
-        ensures front { OnErr result.1 ((text : List ℕ) → gathered (K.written self.entry.sink.now) self.entry.bytes ≡ option_map (λ w. w ++ text) B.start → IsFront B.start text (K.written result.0.now)) }
+        ensures front { OnErr result.1 ((text : List ℕ) → gathered (K.written self.entry.sink.now) self.entry.bytes ≡ option_map (λ w. w ++ text) B.start → IsProperFront B.start text (K.written result.0.now)) }
         ensures failed { OnErr result.1 (Rose (K.faults self.entry.sink.now) (K.faults result.0.now)) }
         ensures no_fault { OnOk result.1 (K.faults result.0.now ≡ K.faults self.entry.sink.now) }
         ensures faults_stay_or_rise { K.faults self.entry.sink.now ≤ K.faults result.0.now }
@@ -131,7 +131,7 @@ impl<'a, K: Sink, B: Behind> Buffered<'a, K, B> {
     pub fn abandon(self) -> &'a mut K
         ensures same_reference { result.ghost_name ≡ B.name }
         ensures same { result.now ≡ self.entry.sink.now }
-        ensures front { (text : List ℕ) → IsFront B.start text (gathered (K.written self.entry.sink.now) self.entry.bytes) → IsFront B.start text (K.written result.now) }
+        ensures front { (text : List ℕ) → IsProperFront B.start text (gathered (K.written self.entry.sink.now) self.entry.bytes) → IsProperFront B.start text (K.written result.now) }
     {
         let Buffered {
             sink,
@@ -182,7 +182,7 @@ pub trait Text {
     fn write_to<S: Sink>(&self, sink: &mut S) -> Result<(), WriteFault>
         requires { writable self.now }
         ensures whole { OnOk result (S.written sink.new ≡ option_map (λ w. w ++ bytes self.now) (S.written sink.old)) }
-        ensures front { OnErr result ((n : ℕ) × (n ≤ length (bytes self.now)) × (S.written sink.new ≡ option_map (λ w. w ++ take n (bytes self.now)) (S.written sink.old))) }
+        ensures front { OnErr result (IsProperFront (S.written sink.old) (bytes self.now) (S.written sink.new)) }
         ensures failed { OnErr result (Rose (S.faults sink.old) (S.faults sink.new)) }
         ensures no_fault { OnOk result (S.faults sink.new ≡ S.faults sink.old) }
         ensures faults_stay_or_rise { S.faults sink.old ≤ S.faults sink.new };
@@ -198,7 +198,7 @@ fn gather<'a, T: Text, K: Sink, B: Behind>(
     requires start { K.written out.old ≡ B.start }
     ensures same_reference { result.0.ghost_name ≡ B.name }
     ensures whole { OnOk result.1 (K.written result.0.now ≡ option_map (λ w. w ++ T.bytes text.now) B.start) }
-    ensures front { OnErr result.1 (IsFront B.start (T.bytes text.now) (K.written result.0.now)) }
+    ensures front { OnErr result.1 (IsProperFront B.start (T.bytes text.now) (K.written result.0.now)) }
     ensures failed { OnErr result.1 (Rose (K.faults out.entry.now) (K.faults result.0.now)) }
     ensures no_fault { OnOk result.1 (K.faults result.0.now ≡ K.faults out.entry.now) }
     ensures faults_stay_or_rise { K.faults out.entry.now ≤ K.faults result.0.now }
@@ -210,11 +210,11 @@ fn gather<'a, T: Text, K: Sink, B: Behind>(
     }
 }
 
-/// Writes the text to the sink through a buffer of 4096 bytes. After a failed write what is still gathered is dropped.
+/// Writes the text to the sink through a buffer of 4096 bytes. After a failed write, which leaves a proper front of the text, what is still gathered is dropped.
 pub fn write_gathered<T: Text, K: Sink>(text: &T, out: &mut K) -> Result<(), WriteFault>
     requires { T.writable text.now }
     ensures whole { OnOk result (K.written out.new ≡ option_map (λ w. w ++ T.bytes text.now) (K.written out.old)) }
-    ensures front { OnErr result ((n : ℕ) × (n ≤ length (T.bytes text.now)) × (K.written out.new ≡ option_map (λ w. w ++ take n (T.bytes text.now)) (K.written out.old))) }
+    ensures front { OnErr result (IsProperFront (K.written out.old) (T.bytes text.now) (K.written out.new)) }
     ensures failed { OnErr result (Rose (K.faults out.old) (K.faults out.new)) }
     ensures no_fault { OnOk result (K.faults out.new ≡ K.faults out.old) }
     ensures faults_stay_or_rise { K.faults out.old ≤ K.faults out.new }

@@ -1,6 +1,6 @@
 // Reading a text whole, and writing a piece whole.
 ghost use Rattle.std.specs.Prelude.{◌≡◌, ℕ, ◌+◌, ◌-◌, ◌^◌, ◌<◌, ◌≤◌, ◌++◌, ◌↔◌, true, false, length, take, option_map, IsTrue, IfOk, OnOk, OnErr, IfSome, IsErrOf};
-ghost use Rattle.pool_outside.specs.Outside.{Rose};
+ghost use Rattle.pool_outside.specs.Outside.{Rose, IsProperFront};
 ghost use Rattle.pool_outside.specs.declared.calls.ReadFault.TheVariants.{Failed as ReadFailed, Memory};
 
 use crate::outside::{Failed, Files, Sink};
@@ -98,7 +98,7 @@ pub fn read_whole<F: Files>(
 /// Writes the piece whole, in as many writes as the sink needs. An empty piece needs none.
 pub fn write_all_of<K: Sink>(sink: &mut K, piece: &[u8]) -> Result<(), WriteFault>
     ensures whole { OnOk result (K.written sink.new ≡ option_map (λ w. w ++ piece.now) (K.written sink.old)) }
-    ensures front { OnErr result ((n : ℕ) × (n ≤ length piece.now) × (K.written sink.new ≡ option_map (λ w. w ++ take n piece.now) (K.written sink.old))) }
+    ensures front { OnErr result (IsProperFront (K.written sink.old) piece.now (K.written sink.new)) }
     ensures failed { OnErr result (Rose (K.faults sink.old) (K.faults sink.new)) }
     ensures no_fault { OnOk result (K.faults sink.new ≡ K.faults sink.old) }
     ensures faults_stay_or_rise { K.faults sink.old ≤ K.faults sink.new }

@@ -1,6 +1,6 @@
 -- What a sink was given, as long as no write failed and after one did.
 use Rattle.std.specs.Prelude.{◌≡◌, ℕ, zero, suc, ◌≤◌, List, [], ◌∷◌, ◌++◌, length, take, Bool, true, false, Option, Some, option_map}
-use Rattle.pool_outside.specs.Outside.{Rose}
+use Rattle.pool_outside.specs.Outside.{Rose, IsProperFront}
 use Rattle.pool_syntax.specs.Tokens.{Text}
 use Rattle.pool_syntax.specs.declared.token.Tok.{Tok}
 use Rattle.pool_printer.specs.declared.saying.Progress.{Progress}
@@ -16,11 +16,10 @@ pub record State : Type 0 where
 abbrev pub state : Progress → Option Text → ℕ → State
 state p w n = record { last = p.last; failed = p.failed; written = w; faults = n }
 
--- The text was written whole, or a front of it up to a failed write, or nothing of it since a write had failed before.
+-- The text was written whole, or a proper front of it up to a failed write, or nothing of it since a write had failed before.
 pub data Puts (text : Text) (a b : State) : Type 0 where
   whole : (a.failed ≡ false) → (b.failed ≡ false) → (b.written ≡ option_map (λ w. w ++ text) a.written) → (b.faults ≡ a.faults) → Puts text a b
-  cut : (n : ℕ) → (a.failed ≡ false) → (b.failed ≡ true) → (n ≤ length text) → (b.written ≡ option_map (λ w. w ++ take n text) a.written)
-      → (a.faults ≤ b.faults) → Rose a.faults b.faults → Puts text a b
+  cut : (a.failed ≡ false) → (b.failed ≡ true) → IsProperFront a.written text b.written → (a.faults ≤ b.faults) → Rose a.faults b.faults → Puts text a b
   idle : (a.failed ≡ true) → (b.failed ≡ true) → (b.written ≡ a.written) → (b.faults ≡ a.faults) → Puts text a b
 
 -- the last token after more tokens

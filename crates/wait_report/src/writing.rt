@@ -1,6 +1,6 @@
 //! The report.
 ghost use Rattle.std.specs.Prelude.{◌≡◌, ◌≤◌, ℕ, ◌++◌, length, take, option_map, Err, IfOk, OnOk};
-ghost use Rattle.pool_outside.specs.Outside.{Rose};
+ghost use Rattle.pool_outside.specs.Outside.{Rose, IsProperFront};
 ghost use Rattle.wait_report.specs.Calls.{names_of, AreNext, Rising};
 ghost use Rattle.wait_report.specs.Cycles.{AreStarts};
 ghost use Rattle.wait_report.specs.Report.{cycles_in, cycles_text, report_text, rows_text, AreKnown};
@@ -87,7 +87,7 @@ pub fn report<K: Sink>(
     requires rising { Rising (names_of objects.now) }
     requires known { AreKnown names.now objects.now }
     ensures whole { OnOk result (K.written sink.new ≡ option_map (λ w. w ++ report_text names.now objects.now) (K.written sink.old)) }
-    ensures front { result ≡ Err SinkFailed → (n : ℕ) × (n ≤ length (report_text names.now objects.now)) × (K.written sink.new ≡ option_map (λ w. w ++ take n (report_text names.now objects.now)) (K.written sink.old)) }
+    ensures front { result ≡ Err SinkFailed → IsProperFront (K.written sink.old) (report_text names.now objects.now) (K.written sink.new) }
     ensures failed { result ≡ Err SinkFailed → Rose (K.faults sink.old) (K.faults sink.new) }
     ensures memory { result ≡ Err NoMemory → (K.written sink.new ≡ K.written sink.old) × (K.faults sink.new ≡ K.faults sink.old) }
     ensures no_fault { OnOk result (K.faults sink.new ≡ K.faults sink.old) }

@@ -4,5 +4,4 @@ use Rattle.pool_printer.proofs.saying.put.Goals as goal
 
 pub returns-in-Err-clause-text : goal.returns-in-Err-clause-text
 returns-in-Err-clause-text g c =
-    let f = c.in-Err.ensures.front in
-    cut f.0 c.if-not-progress.true refl f.1 f.2 c.write_all_of.ensures.faults_stay_or_rise c.in-Err.ensures.failed
+    cut c.if-not-progress.true refl c.in-Err.ensures.front c.write_all_of.ensures.faults_stay_or_rise c.in-Err.ensures.failed
