@@ -85,6 +85,7 @@ few_at k f (Some I.Halt) h = omega arith
 few_at k f (Some (I.Oper op)) h = outcome_few (operated op f.operands)
 few_at k f (Some (I.Branch a)) h = if_few (is_bool (top f.operands)) C.Local (C.Fault NilOperand) (omega arith) (omega arith)
 few_at k f (Some I.Ret) h = return_few f.serves (top f.operands)
+few_at k f (Some I.Post) h = return_few f.serves (top f.operands)
 few_at k f (Some (I.Select alts)) h =
     let gs = taken (length alts) f.operands [] in
     if_few (list_any not_bool gs) (C.Fault NilOperand) (if list_any is_true gs then C.Select (offers alts gs) else C.Fault NoOpenGuard) (omega arith)

@@ -122,6 +122,7 @@ module _ (u : Code) where
   said_at j k f e (Some (I.Oper op)) h = outcome_said (operated op f.operands)
   said_at j k f e (Some (I.Branch a)) h = if_said (is_bool (top f.operands)) C.Local (C.Fault NilOperand) tt tt
   said_at j k f e (Some I.Ret) h = return_said f.serves (top f.operands)
+  said_at j k f e (Some I.Post) h = return_said f.serves (top f.operands)
   said_at j k f e (Some (I.Select alts)) h =
       let gs = taken (length alts) f.operands [] in
       if_said (list_any not_bool gs) (C.Fault NilOperand) (if list_any is_true gs then C.Select (offers alts gs) else C.Fault NoOpenGuard) tt

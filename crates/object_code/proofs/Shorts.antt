@@ -73,6 +73,7 @@ instr_short (I.Async m n) h = tt
 instr_short I.Write h = tt
 instr_short (I.WriteText s) h = tt
 instr_short I.Halt h = tt
+instr_short I.Post h = tt
 
 code_short : (c : List Instr) → IsListOf InstrIsNumbered c → IsListOf InstrIsShort c
 code_short c h = list_is InstrIsNumbered InstrIsShort instr_short c h
@@ -146,6 +147,7 @@ instr_numbered (I.Async m v) h n = n
 instr_numbered I.Write h n = tt
 instr_numbered (I.WriteText s) h n = n
 instr_numbered I.Halt h n = tt
+instr_numbered I.Post h n = tt
 
 code_numbered : (c : List Instr) → IsListOf InstrIsShort c → Each InstrHasNumbers c → IsListOf InstrIsNumbered c
 code_numbered c h n = (h.0, both InstrIsShort InstrHasNumbers InstrIsNumbered instr_numbered c h.1 n)

@@ -279,12 +279,12 @@ past [] i h = refl
 past (x ∷ xs) zero h = absurd (let z : suc (length xs) ≤ 0 = h in omega (arith, z))
 past (x ∷ xs) (suc i) h = past xs i (let z : suc (length xs) ≤ suc i = h in omega (arith, z))
 
-pub no_instr : (b : ℕ) (bs all : Text) → all ≡ b ∷ bs → (0 < b → 23 < b) → read_instr all ≡ Stop (length all)
+pub no_instr : (b : ℕ) (bs all : Text) → all ≡ b ∷ bs → (0 < b → 24 < b) → read_instr all ≡ Stop (length all)
 no_instr b bs all e h = ap read_instr e ∙ by b h ∙ ap Stop (ap length (sym e))
   where
     chosen : Option (Reader Instr) → Read Instr
     chosen o = elim o as (λ r. Read Instr) [ None ↦ Stop (suc (length bs)) | Some r ↦ r bs ]
 
-    by : (b : ℕ) → (0 < b → 23 < b) → read_instr (b ∷ bs) ≡ Stop (suc (length bs))
+    by : (b : ℕ) → (0 < b → 24 < b) → read_instr (b ∷ bs) ≡ Stop (suc (length bs))
     by zero h = refl
     by (suc b) h = ap chosen (past instr_readers (suc b) (let z = h (omega arith) in omega (arith, z)))

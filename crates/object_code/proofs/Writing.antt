@@ -4,7 +4,8 @@ use Rattle.std.specs.List.{All, AllByRecursion as Each}
 use Rattle.std.proofs.lemmas.Grind.{common_steps}
 use Rattle.std.proofs.lemmas.List.{at_drop_more}
 use Rattle.std.proofs.lemmas.List.Elements.{All-get_or}
-use Rattle.pool_outside.specs.Outside.{Rose}
+use Rattle.pool_outside.specs.Outside.{Rose, IsProperFront}
+use Rattle.pool_outside.proofs.Laws.{cut_first, cut_second}
 use Rattle.pool_syntax.specs.Tokens.{Text}
 use Rattle.object_code.specs.declared.unit.Instr.{Instr}
 use Rattle.object_code.specs.declared.unit.MethodCode.{MethodCode}
@@ -20,16 +21,6 @@ joined : (s t : Text) (a b c : Option Text) → b ≡ option_map (λ w. w ++ s) 
 joined s t None b c e f = f ∙ ap (option_map (λ w. w ++ t)) e
 joined s t (Some w) b c e f = f ∙ ap (option_map (λ w. w ++ t)) e ∙ ap Some (append_assoc w s t)
 
-same_text : (s t : Text) (a b : Option Text) → s ≡ t → b ≡ option_map (λ w. w ++ s) a → b ≡ option_map (λ w. w ++ t) a
-same_text s t a b e f = f ∙ ap (λ u. option_map (λ w. w ++ u) a) e
-
-front_of_first : (n : ℕ) (s t : Text) → n ≤ length s → take n s ≡ take n (s ++ t)
-front_of_first n s t h = grind (arith, common_steps)
-
-front_of_second : (n : ℕ) (s t : Text) → s ++ take n t ≡ take (length s + n) (s ++ t)
-front_of_second n [] t = let e : 0 + n ≡ n = omega arith in rw e refl
-front_of_second n (x ∷ s) t = let e : suc (length s) + n ≡ suc (length s + n) = omega arith in rw e (ap (λ u. x ∷ u) (front_of_second n s t))
-
 rose_later : (a b c : ℕ) → a ≤ b → Rose b c → Rose a c
 rose_later a b c h (inl r) = inl (omega arith)
 rose_later a b c h (inr r) = inr r
@@ -41,15 +32,14 @@ rose_before a b c (inr r) e = inr (omega arith)
 -- one text and then another
 pub then : (s t : Text) (a b c : State) → Writes s a b → Writes t b c → Writes (s ++ t) a c
 then s t a b c (whole o p w f) (whole o2 p2 w2 f2) = whole o p2 (joined s t _ _ _ w w2) (f2 ∙ f)
-then s t a b c (whole o p w f) (cut n o2 p2 h w2 f2 r) =
-    cut (length s + n) o p2 (grind (arith, common_steps)) (same_text _ _ _ _ (front_of_second n s t) (joined s (take n t) _ _ _ w w2)) (omega arith) (rose_later _ _ _ (omega arith) r)
+then s t a b c (whole o p w f) (cut o2 p2 h f2 r) = cut o p2 (cut_second a.written b.written c.written s t w h) (omega arith) (rose_later _ _ _ (omega arith) r)
 then s t a b c (whole o p w f) (idle o2 p2 w2 f2) = absurd (cc)
-then s t a b c (cut n o p h w f r) (whole o2 p2 w2 f2) = absurd (cc)
-then s t a b c (cut n o p h w f r) (cut m o2 p2 h2 w2 f2 r2) = absurd (cc)
-then s t a b c (cut n o p h w f r) (idle o2 p2 w2 f2) =
-    cut n o p2 (grind (arith, common_steps)) (same_text _ _ _ _ (front_of_first n s t h) (w2 ∙ w)) (omega arith) (rose_before _ _ _ r (sym f2))
+then s t a b c (cut o p h f r) (whole o2 p2 w2 f2) = absurd (cc)
+then s t a b c (cut o p h f r) (cut o2 p2 h2 f2 r2) = absurd (cc)
+then s t a b c (cut o p h f r) (idle o2 p2 w2 f2) =
+    cut o p2 (subst (IsProperFront a.written (s ++ t)) (sym w2) (cut_first a.written b.written s t h)) (omega arith) (rose_before _ _ _ r (sym f2))
 then s t a b c (idle o p w f) (whole o2 p2 w2 f2) = absurd (cc)
-then s t a b c (idle o p w f) (cut n o2 p2 h w2 f2 r) = absurd (cc)
+then s t a b c (idle o p w f) (cut o2 p2 h f2 r) = absurd (cc)
 then s t a b c (idle o p w f) (idle o2 p2 w2 f2) = idle o p2 (w2 ∙ w) (f2 ∙ f)
 
 append_nothing : (a : Option Text) → a ≡ option_map (λ w. w ++ []) a
@@ -96,24 +86,24 @@ holds_at P xs i x within at h = subst P (sym at) (All-get_or P xs i x within h)
 
 -- what a text that was written says of the end
 
-pub front : (t : Text) (a b : State) → Writes t a b → a.failed ≡ false → b.failed ≡ true → (n : ℕ) × (n ≤ length t) × (b.written ≡ option_map (λ w. w ++ take n t) a.written)
+pub front : (t : Text) (a b : State) → Writes t a b → a.failed ≡ false → b.failed ≡ true → IsProperFront a.written t b.written
 front t a b (whole o p w f) g h = absurd (cc)
-front t a b (cut n o p l w f r) g h = (n, l, w)
+front t a b (cut o p l f r) g h = l
 front t a b (idle o p w f) g h = absurd (cc)
 
 pub rose : (t : Text) (a b : State) → Writes t a b → a.failed ≡ false → b.failed ≡ true → Rose a.faults b.faults
 rose t a b (whole o p w f) g h = absurd (cc)
-rose t a b (cut n o p l w f r) g h = r
+rose t a b (cut o p l f r) g h = r
 rose t a b (idle o p w f) g h = absurd (cc)
 
 pub in_full : (t : Text) (a b : State) → Writes t a b → b.failed ≡ false → b.written ≡ option_map (λ w. w ++ t) a.written
 in_full t a b (whole o p w f) h = w
-in_full t a b (cut n o p l w f r) h = absurd (cc)
+in_full t a b (cut o p l f r) h = absurd (cc)
 in_full t a b (idle o p w f) h = absurd (cc)
 
 pub faults : (t : Text) (a b : State) → Writes t a b → a.faults ≤ b.faults
 faults t a b (whole o p w f) = omega arith
-faults t a b (cut n o p l w f r) = f
+faults t a b (cut o p l f r) = f
 faults t a b (idle o p w f) = omega arith
 
 -- the same of a part that is read with a default
@@ -135,7 +125,7 @@ lines_at names is i x within at =
 
 pub no_fault : (t : Text) (a b : State) → Writes t a b → b.failed ≡ false → b.faults ≡ a.faults
 no_fault t a b (whole o p w f) h = f
-no_fault t a b (cut n o p l w f r) h = absurd (cc)
+no_fault t a b (cut o p l f r) h = absurd (cc)
 no_fault t a b (idle o p w f) h = absurd (cc)
 
 -- what holds of each, by recursion, holds of the one at a place

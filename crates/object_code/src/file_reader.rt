@@ -212,6 +212,7 @@ impl Listed for Instr {
             21 => made!(names = take_list(alloc, rest) => Instr::Answer { names }),
             22 => made!(alts = take_list(alloc, rest) => Instr::Select { alts }),
             23 => Ok((Instr::Halt, rest)),
+            24 => Ok((Instr::Post, rest)),
             _ => Err(Unread::BadByte { left: bytes.len() }),
         }
     }

@@ -1,6 +1,6 @@
 //! The bytes of an object code file.
 ghost use Rattle.std.specs.Prelude.{◌≡◌, ◌≤◌, ◌<◌, ◌^◌, ℕ, [], ◌∷◌, ◌++◌, length, take, option_map, OnOk, OnErr};
-ghost use Rattle.pool_outside.specs.Outside.{Rose};
+ghost use Rattle.pool_outside.specs.Outside.{Rose, IsProperFront};
 ghost use Rattle.pool_syntax.specs.Tokens.{Text};
 ghost use Rattle.object_code.specs.FileBytes.{alternative_bytes, class_bytes, code_bytes, file_bytes, instr_bytes, integer_bytes, items_bytes, kind_bytes, list_bytes, method_bytes, name_bytes, number_bytes, operator_byte, option_bytes, pairs, text_bytes, truth_byte};
 ghost use Rattle.object_code.specs.Shaped.{AlternativeIsShort, AreShapedClasses, AreShapedMethods, ClassIsShort, ClassKindsAreShort, InstrIsShort, IsListOf, IsNumber, IsOptionOf, IsShaped, IsShort, IsShortList, MethodIsShort, MethodKindsAreShort};
@@ -178,6 +178,7 @@ impl Item for Instr {
             Instr::Answer { names } => put_listed(sink, failed, 21, names.items()),
             Instr::Select { alts } => put_listed(sink, failed, 22, alts.items()),
             Instr::Halt => put_byte(sink, failed, 23),
+            Instr::Post => put_byte(sink, failed, 24),
         }
     }
 }
@@ -306,7 +307,7 @@ pub fn encode<K: Sink>(file: &UnitFile, sink: &mut K) -> Result<(), WriteFault>
     requires shaped { IsShaped file.now }
     requires short { IsShort file.now }
     ensures whole { OnOk result (K.written sink.new ≡ option_map (λ w. w ++ file_bytes file.now) (K.written sink.old)) }
-    ensures front { OnErr result ((n : ℕ) × (n ≤ length (file_bytes file.now)) × (K.written sink.new ≡ option_map (λ w. w ++ take n (file_bytes file.now)) (K.written sink.old))) }
+    ensures front { OnErr result (IsProperFront (K.written sink.old) (file_bytes file.now) (K.written sink.new)) }
     ensures failed { OnErr result (Rose (K.faults sink.old) (K.faults sink.new)) }
     ensures no_fault { OnOk result (K.faults sink.new ≡ K.faults sink.old) }
     ensures faults_stay_or_rise { K.faults sink.old ≤ K.faults sink.new }

@@ -2,7 +2,7 @@
 ghost use Rattle.std.specs.Prelude.{◌≡◌, ◌≤◌, ◌++◌, ℕ, length, take, option_map, OnOk, OnErr, codes, decimal};
 ghost use Rattle.std.specs.Fmt.{signed_decimal};
 ghost use Rattle.std.specs.List.{All};
-ghost use Rattle.pool_outside.specs.Outside.{Rose};
+ghost use Rattle.pool_outside.specs.Outside.{Rose, IsProperFront};
 ghost use Rattle.object_code.specs.Known.{AlternativeIsKnown, AnswerIsKnown, ClassIsKnown, InstrIsKnown, IsKnown, IsKnownUnit, MethodIsKnown};
 ghost use Rattle.object_code.specs.Listing.{alternative_text, alternatives_text, answer_text, body_text, class_text, classes_text, joined_text, led_by_commas, line_text, lines_text, listing, method_text, methods_text, mnemonic_text, name_text, number_text, operands_text, operator_text, quoted_text, spaced_text, text_at, truth_text, word_text};
 ghost use Rattle.object_code.specs.Written.{Writes, state};
@@ -321,7 +321,7 @@ fn put_classes<K: Sink>(names: &Names, sink: &mut K, failed: &mut bool, classes:
 pub fn list_code<K: Sink>(unit: &Unit, sink: &mut K) -> Result<(), WriteFault>
     requires known { IsKnownUnit unit.now }
     ensures whole { OnOk result (K.written sink.new ≡ option_map (λ w. w ++ listing unit.now) (K.written sink.old)) }
-    ensures front { OnErr result ((n : ℕ) × (n ≤ length (listing unit.now)) × (K.written sink.new ≡ option_map (λ w. w ++ take n (listing unit.now)) (K.written sink.old))) }
+    ensures front { OnErr result (IsProperFront (K.written sink.old) (listing unit.now) (K.written sink.new)) }
     ensures failed { OnErr result (Rose (K.faults sink.old) (K.faults sink.new)) }
     ensures no_fault { OnOk result (K.faults sink.new ≡ K.faults sink.old) }
     ensures faults_stay_or_rise { K.faults sink.old ≤ K.faults sink.new }

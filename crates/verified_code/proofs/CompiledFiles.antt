@@ -5,14 +5,13 @@ use Rattle.pool_syntax.specs.Tokens.{Text}
 use Rattle.pool_syntax.specs.declared.tree.Var.{Var}
 use Rattle.pool_syntax.specs.declared.tree.Kind.{Kind}
 use Rattle.pool_syntax.specs.declared.tree.Kind.TheVariants as K
-use Rattle.pool_syntax.specs.Terms.{Statements, Done, Then, MethodTree, ClassTree, ProgramTree}
+use Rattle.pool_syntax.specs.Terms.{MethodTree, ClassTree, ProgramTree}
 use Rattle.pool_syntax.specs.Classes.{class_of, named_method}
 use Rattle.pool_syntax.specs.Spelled.{is_name, is_outcome, are_variables, is_spelled_expression, are_spelled_statements, are_spelled_methods, is_spelled}
 use Rattle.pool_syntax.specs.Typing as Typing
 use Rattle.pool_syntax.specs.Typing.{Scope, contains, fault_if, classes_faults, methods_faults, class_scope, faults}
 use Rattle.mesh_semantics.proofs.Laws.{first, second, equals, same_some}
 use Rattle.mesh_semantics.specs.Sound.{Each}
-use Rattle.pool_relation.specs.Reducible.{is_done}
 use Rattle.pool_relation.specs.Written.{is_written}
 use Rattle.pool_relation.proofs.Laws.{is_broken, AllKnown, OutcomeKnown, Known, class_known}
 use Rattle.pool_relation.proofs.typing.Checked.{CheckedMethod, CheckedClass, class_checked}
@@ -27,9 +26,9 @@ use Rattle.pool_compile.proofs.Laws.{program_proper}
 use Rattle.pool_compile.proofs.Counted.{nil_left, no_fault}
 use Rattle.pool_compile.proofs.Limits.{method_parts}
 use Rattle.pool_compile.proofs.Limits.{class_parts as parts_of_class}
-use Rattle.verified_code.specs.Sorts.{Declared, declared_at, scope_by}
-use Rattle.verified_code.specs.Verified.{KindExists, ResultExists, IsMethodHeading, IsHeading, HasWellSorted, IsWellSorted, IsVerified}
-use Rattle.verified_code.specs.DeclaredKinds.{kinds_of, method_kinds, class_kinds, file_of, methods_have_no_posts, program_has_no_posts}
+use Rattle.code_verdict.specs.Sorts.{Declared, declared_at, scope_by}
+use Rattle.code_verdict.specs.Verified.{KindExists, ResultExists, IsMethodHeading, IsHeading, HasWellSorted, IsWellSorted, IsVerified}
+use Rattle.verified_code.specs.DeclaredKinds.{kinds_of, method_kinds, class_kinds, file_of}
 use Rattle.verified_code.proofs.Shaped.{class_parts}
 use Rattle.verified_code.proofs.Found.{map_at, map_back, declared_of, class_from_there}
 use Rattle.verified_code.proofs.CompiledStacks.{have_choices}
@@ -38,7 +37,7 @@ use Rattle.verified_code.proofs.CompiledCode.{body_sorted, method_sorted}
 -- each select of the program has an alternative
 abbrev pub methods_have_choices : List MethodTree → Bool
 methods_have_choices [] = true
-methods_have_choices (m ∷ ms) = have_choices m.body && methods_have_choices ms
+methods_have_choices (m ∷ ms) = have_choices m.body && have_choices m.post && methods_have_choices ms
 
 abbrev pub program_has_choices : ProgramTree → Bool
 program_has_choices [] = true
@@ -142,7 +141,7 @@ spelled_at names (x ∷ ks) zero k h e =
 spelled_at names (x ∷ ks) (suc j) k h e = spelled_at names ks j k (second _ (is_spelled names ks) h) e
 
 spelled_method_at : (names : List Text) (ms : List MethodTree) (j : ℕ) (m : MethodTree) → are_spelled_methods names ms ≡ true → slice_get ms j ≡ Some m
-    → (is_name names m.name.name.0 ≡ true) × (are_spelled_statements names m.body ≡ true)
+    → (is_name names m.name.name.0 ≡ true) × (are_spelled_statements names m.body ≡ true) × (are_spelled_statements names m.post ≡ true)
 spelled_method_at names [] j m h e = absurd (let z : None ≡ Some m = e in cc)
 spelled_method_at names (x ∷ ms) zero m h e =
     let s0 = first _ (are_spelled_methods names ms) h in
@@ -151,8 +150,8 @@ spelled_method_at names (x ∷ ms) zero m h e =
     let s3 = first _ (are_spelled_statements names x.body) s2 in
     let s4 = first _ (is_outcome names x.outcome) s3 in
     let s5 = first _ (are_variables names x.locals) s4 in
-    subst (λ (y : MethodTree). (is_name names y.name.name.0 ≡ true) × (are_spelled_statements names y.body ≡ true)) (same_some e)
-    (first (is_name names x.name.name.0) (are_variables names x.params) s5, second _ (are_spelled_statements names x.body) s2)
+    subst (λ (y : MethodTree). (is_name names y.name.name.0 ≡ true) × (are_spelled_statements names y.body ≡ true) × (are_spelled_statements names y.post ≡ true)) (same_some e)
+    (first (is_name names x.name.name.0) (are_variables names x.params) s5, second _ (are_spelled_statements names x.body) s2, second _ (are_spelled_statements names x.post) s0)
 spelled_method_at names (x ∷ ms) (suc j) m h e = spelled_method_at names ms j m (second _ (are_spelled_methods names ms) h) e
 
 short_at : (ks : ProgramTree) (j : ℕ) (k : ClassTree) → AreShort (code ks) → slice_get ks j ≡ Some k → IsShortClass (class_code k)
@@ -173,24 +172,12 @@ chosen_at (x ∷ ks) zero k h e =
     (first (have_choices x.body) (methods_have_choices x.methods) a, second (have_choices x.body) (methods_have_choices x.methods) a)
 chosen_at (x ∷ ks) (suc j) k h e = chosen_at ks j k (second _ (program_has_choices ks) h) e
 
-chosen_method_at : (ms : List MethodTree) (j : ℕ) (m : MethodTree) → methods_have_choices ms ≡ true → slice_get ms j ≡ Some m → have_choices m.body ≡ true
+chosen_method_at : (ms : List MethodTree) (j : ℕ) (m : MethodTree) → methods_have_choices ms ≡ true → slice_get ms j ≡ Some m → (have_choices m.body ≡ true) × (have_choices m.post ≡ true)
 chosen_method_at [] j m h e = absurd (let z : None ≡ Some m = e in cc)
-chosen_method_at (x ∷ ms) zero m h e = subst (λ (y : MethodTree). have_choices y.body ≡ true) (same_some e) (first (have_choices x.body) (methods_have_choices ms) h)
-chosen_method_at (x ∷ ms) (suc j) m h e = chosen_method_at ms j m (second (have_choices x.body) (methods_have_choices ms) h) e
-
-bare_at : (ks : ProgramTree) (j : ℕ) (k : ClassTree) → program_has_no_posts ks ≡ true → slice_get ks j ≡ Some k → methods_have_no_posts k.methods ≡ true
-bare_at [] j k h e = absurd (let z : None ≡ Some k = e in cc)
-bare_at (x ∷ ks) zero k h e = subst (λ (y : ClassTree). methods_have_no_posts y.methods ≡ true) (same_some e) (first (methods_have_no_posts x.methods) (program_has_no_posts ks) h)
-bare_at (x ∷ ks) (suc j) k h e = bare_at ks j k (second (methods_have_no_posts x.methods) (program_has_no_posts ks) h) e
-
-done_is : (qs : Statements) → is_done qs ≡ true → qs ≡ Done
-done_is Done h = refl
-done_is (Then s ss) h = absurd (let z : false ≡ true = h in cc)
-
-bare_method_at : (ms : List MethodTree) (j : ℕ) (m : MethodTree) → methods_have_no_posts ms ≡ true → slice_get ms j ≡ Some m → m.post ≡ Done
-bare_method_at [] j m h e = absurd (let z : None ≡ Some m = e in cc)
-bare_method_at (x ∷ ms) zero m h e = subst (λ (y : MethodTree). y.post ≡ Done) (same_some e) (done_is x.post (first (is_done x.post) (methods_have_no_posts ms) h))
-bare_method_at (x ∷ ms) (suc j) m h e = bare_method_at ms j m (second (is_done x.post) (methods_have_no_posts ms) h) e
+chosen_method_at (x ∷ ms) zero m h e =
+    let a = first _ (methods_have_choices ms) h in
+    subst (λ (y : MethodTree). (have_choices y.body ≡ true) × (have_choices y.post ≡ true)) (same_some e) (first (have_choices x.body) (have_choices x.post) a, second (have_choices x.body) (have_choices x.post) a)
+chosen_method_at (x ∷ ms) (suc j) m h e = chosen_method_at ms j m (second _ (methods_have_choices ms) h) e
 
 both_known : (p : ProgramTree) (vs ws : List Var) → AllKnown p vs → AllKnown p ws → AllKnown p (vs ++ ws)
 both_known p [] ws a b = b
@@ -215,8 +202,7 @@ module _ (names : List Text) (p : ProgramTree) where
   result_there None h = tt
   result_there (Some k) h = kind_there k h
 
-  module _ (some : p ≢ []) (none : faults p ≡ []) (written : IsTrue (is_written p)) (spelled : is_spelled names p ≡ true) (short : AreShort (code p)) (chosen : program_has_choices p ≡ true)
-      (bare : program_has_no_posts p ≡ true) where
+  module _ (some : p ≢ []) (none : faults p ≡ []) (written : IsTrue (is_written p)) (spelled : is_spelled names p ≡ true) (short : AreShort (code p)) (chosen : program_has_choices p ≡ true) where
     proper : IsProper (file_of names p).unit
     proper = program_proper p (file_of names p).unit refl none written some spelled short
 
@@ -262,9 +248,10 @@ module _ (names : List Text) (p : ProgramTree) where
             let l = proper_class.methods i (method_code_of (names_of k.vars) m) (map_at (method_code_of (names_of k.vars)) k.methods i m e) in
             let c = m_checked in
             let s = short_method_at (names_of k.vars) k.methods i m (short_at p j k short at).1 e in
-            method_sorted names p known k own m (both_known p m.params m.locals c.params c.locals) c.body c.value c.outcome c.gives_it c.valued
-            (chosen_method_at k.methods i m (chosen_at p j k chosen at).1 e) (spelled_method_at names k.methods i m words.methods e).1 (omega (arith, s)) l.4
-            (bare_method_at k.methods i m (bare_at p j k bare at) e)
+            let choices = chosen_method_at k.methods i m (chosen_at p j k chosen at).1 e in
+            let spell = spelled_method_at names k.methods i m words.methods e in
+            method_sorted names p known k own m (both_known p m.params m.locals c.params c.locals) c.body c.value c.post c.outcome c.gives_it c.valued choices.0 choices.1 spell.1 spell.2
+            (omega (arith, s)) l.4
 
       heading : IsHeading (file_of names p) j (class_code k) (class_kinds k)
       heading =

@@ -1,4 +1,4 @@
--- The code of an expression without class faults leaves one operand, of its sort; that of statements leaves none; and how many operands stand at once.
+-- The code of an expression without class faults leaves one operand more, of its sort; that of statements leaves the operands that stand below them, at most one; and how many stand at once.
 use Rattle.std.proofs.Common.{◌≡◌, ◌⊎◌, inl, inr, refl, sym, ap, subst, ◌∙◌, IsTrue, ℕ, zero, suc, ◌+◌, ◌==◌, ◌<◌, ◌≤◌, List, [], ◌∷◌, ◌++◌, length, Option, Some, None, is_some, Bool, true, false, not, ◌&&◌, ◌||◌, arith, length-append}
 use Rattle.std.specs.Prelude.{slice_get, map, replicate, nat_le, if◌then◌else◌}
 use Rattle.pool_syntax.specs.Tokens.{Text}
@@ -27,7 +27,7 @@ use Rattle.pool_compile.specs.Code.{more, expression_words, expressions_words, g
 use Rattle.object_code.specs.Proper.{nexts, IsAmong}
 use Rattle.verified_code.proofs.Spans.{more_is, Comes, comes_stack, comes_next, AtMost, AllAtMost, more_at_most, join_at_most, Met, Span, span_nil, span_seq, span_one, span_tail}
 use Rattle.pool_compile.proofs.Coded.{Has, front, back, works_length}
-use Rattle.verified_code.specs.Sorts.{Stack, CodeScope, kind_sort, result_sort, temps_by, scope_by, has_value, fits_sort, is_alike, pop_fitting, pop_alike, pop_value, pop_arguments, pop_any, pop_sent, push_sort, asked_of, operated_sorts, is_comparison, left_by}
+use Rattle.code_verdict.specs.Sorts.{Stack, CodeScope, kind_sort, result_sort, temps_by, scope_by, has_value, fits_sort, is_alike, pop_fitting, pop_alike, pop_value, pop_arguments, pop_any, pop_sent, push_sort, asked_of, operated_sorts, is_comparison, left_by}
 use Rattle.verified_code.specs.DeclaredKinds.{kinds_of, file_of}
 use Rattle.verified_code.proofs.Stacks.{S, Led, AllFine, join, after_one, Good, good_seq, good_one, good_nil, good_as}
 use Rattle.verified_code.proofs.Found.{class_from_there, declared_of, signature_of_tree, declared_found, signature_found, var_found, var_missing, known_sort, known_outcome}
@@ -155,10 +155,10 @@ kinds_length [] = refl
 kinds_length (v ∷ vs) = ap suc (kinds_length vs)
 
 module _ (names : List Text) (p : ProgramTree) (known : (c : ℕ) → Known p (class_of p c)) (kt : ClassTree) (own : Known p (Some kt)) (temps : List Var) (temps_known : AllKnown p temps)
-    (q : Option MethodKinds) (same_temps : temps_by q ≡ kinds_of temps) where
-  -- where the source stands, and where its code does
+    (q : Option MethodKinds) (same_temps : temps_by q ≡ kinds_of temps) (base : Stack) (small : length base ≤ 1) where
+  -- where the source stands, with these operands below its statements, and where its code does
   abbrev pub G : Scope
-  G = record (class_scope p kt) { temps = temps }
+  G = record (class_scope p kt) { temps = temps; held = length base }
 
   abbrev pub CG : CodeScope
   CG = scope_by (file_of names p) (declared_of kt) q
@@ -473,45 +473,45 @@ module _ (names : List Text) (p : ProgramTree) (known : (c : ℕ) → Known p (c
     count_at T.NoAlts at = refl
     count_at (T.Alt e n ss alts) at = ap suc (count_at alts _)
 
-    -- places without operands
-    abbrev Empty : List AltCode → Type 0
-    Empty [] = Unit {0}
-    Empty (a ∷ alts) = (S CG c a.at ≡ Some []) × (a.at < length c) × Empty alts
+    -- places with these operands alone
+    abbrev Bare : List AltCode → Type 0
+    Bare [] = Unit {0}
+    Bare (a ∷ alts) = (S CG c a.at ≡ Some base) × (a.at < length c) × Bare alts
 
-    led_empty : (alts : List AltCode) → Empty alts → Led CG c [] (map (λ a. a.at) alts)
-    led_empty [] z = tt
-    led_empty (a ∷ alts) z = (z.0, z.1, led_empty alts z.2)
+    led_bare : (alts : List AltCode) → Bare alts → Led CG c base (map (λ a. a.at) alts)
+    led_bare [] z = tt
+    led_bare (a ∷ alts) z = (z.0, z.1, led_bare alts z.2)
 
-    bool_left : (t : Sort) → fits_sort t BoolSort ≡ true → pop_fitting BoolSort (t ∷ []) ≡ Some []
-    bool_left t f = ap (λ b. if b then Some [] else None) f
+    bool_left : (t : Sort) → fits_sort t BoolSort ≡ true → pop_fitting BoolSort (t ∷ base) ≡ Some base
+    bool_left t f = ap (λ b. if b then Some base else None) f
 
-    value_left : (t : Sort) → has_value t ≡ true → pop_value (t ∷ []) ≡ Some []
-    value_left t f = ap (λ b. if b then Some [] else None) f
+    value_left : (t : Sort) → has_value t ≡ true → pop_value (t ∷ base) ≡ Some base
+    value_left t f = ap (λ b. if b then Some base else None) f
 
     -- the places of works, from the typing of alternatives
     mutual
-      statement_good : (st : Statement) (at : ℕ) → TypedStatement Nothing G st → Gets at (statement_code num at st) [] []
+      statement_good : (st : Statement) (at : ℕ) → TypedStatement Nothing G st → Gets at (statement_code num at st) base base
       statement_good (T.Assign x o e) at t =
           let n = name_found x t.0 in
-          good_seq CG c at (expression_code num e) (store num x ∷ []) [] (sort_of G e ∷ []) [] (expression_good e at 0 [] refl t.1)
-          (store_good _ x (sort_of G e) [] (omega arith) n (fits_of_need (sort_of G e) (name_sort G x) (whole e 0 t.1) (found_whole x n) t.2))
+          good_seq CG c at (expression_code num e) (store num x ∷ []) base (sort_of G e ∷ base) base (expression_good e at (length base) base refl t.1)
+          (store_good _ x (sort_of G e) base (omega (arith, small)) n (fits_of_need (sort_of G e) (name_sort G x) (whole e (length base) t.1) (found_whole x n) t.2))
       statement_good (T.Write e) at t =
-          good_seq CG c at (expression_code num e) (I.Write ∷ []) [] (sort_of G e ∷ []) [] (expression_good e at 0 [] refl t.0)
-          (good_one CG c _ I.Write (sort_of G e ∷ []) [] (omega arith) (value_left (sort_of G e) (value_of_sort (sort_of G e) (whole e 0 t.0) t.1)) refl)
-      statement_good (T.WriteText n) at t = good_one CG c at (I.WriteText (name n)) [] [] (omega arith) refl refl
+          good_seq CG c at (expression_code num e) (I.Write ∷ []) base (sort_of G e ∷ base) base (expression_good e at (length base) base refl t.0)
+          (good_one CG c _ I.Write (sort_of G e ∷ base) base (omega (arith, small)) (value_left (sort_of G e) (value_of_sort (sort_of G e) (whole e (length base) t.0) t.1)) refl)
+      statement_good (T.WriteText n) at t = good_one CG c at (I.WriteText (name n)) base base (omega (arith, small)) refl refl
       statement_good (T.Do e) at t =
-          good_seq CG c at (expression_code num e) (I.Pop ∷ []) [] (sort_of G e ∷ []) [] (expression_good e at 0 [] refl t) (good_one CG c _ I.Pop (sort_of G e ∷ []) [] (omega arith) refl refl)
+          good_seq CG c at (expression_code num e) (I.Pop ∷ []) base (sort_of G e ∷ base) base (expression_good e at (length base) base refl t) (good_one CG c _ I.Pop (sort_of G e ∷ base) base (omega (arith, small)) refl refl)
       statement_good (T.Async e m o es) at t =
-          let args = none_is (λ z. TypedArguments z G 1 (params_of (sent_method G (sort_of G e) m)) es) _ t.2 in
-          let d = asked_left e m es 0 1 [] t.0 t.1 args in
-          let a = expressions_good (params_of (sent_method G (sort_of G e) m)) es (at + length (expression_code num e)) 1 (sort_of G e ∷ []) refl args in
-          let n = a.1 (omega arith) in
-          let z = onto_length (sorts_of es) (sort_of G e ∷ []) in
+          let args = none_is (λ z. TypedArguments z G (length base + 1) (params_of (sent_method G (sort_of G e) m)) es) _ t.2 in
+          let d = asked_left e m es (length base) (length base + 1) base t.0 t.1 args in
+          let a = expressions_good (params_of (sent_method G (sort_of G e) m)) es (at + length (expression_code num e)) (length base + 1) (sort_of G e ∷ base) (omega arith) args in
+          let n = a.1 (omega (arith, small)) in
+          let z = onto_length (sorts_of es) (sort_of G e ∷ base) in
           let y = sorts_length es in
-          good_seq CG c at (expression_code num e) (expressions_code num es ++ I.Async (name m) (size es) ∷ []) [] (sort_of G e ∷ []) [] (expression_good e at 0 [] refl t.0)
-          (good_seq CG c _ (expressions_code num es) (I.Async (name m) (size es) ∷ []) (sort_of G e ∷ []) (onto (sorts_of es) (sort_of G e ∷ [])) [] a.0
-          (good_one CG c _ (I.Async (name m) (size es)) (onto (sorts_of es) (sort_of G e ∷ [])) [] (omega (arith, n, z, y))
-          (ap (λ z. z >>= λ s1. pop_sent (onto (sorts_of es) (sort_of G e ∷ [])) s1) d.1 ∙ d.2) refl))
+          good_seq CG c at (expression_code num e) (expressions_code num es ++ I.Async (name m) (size es) ∷ []) base (sort_of G e ∷ base) base (expression_good e at (length base) base refl t.0)
+          (good_seq CG c _ (expressions_code num es) (I.Async (name m) (size es) ∷ []) (sort_of G e ∷ base) (onto (sorts_of es) (sort_of G e ∷ base)) base a.0
+          (good_one CG c _ (I.Async (name m) (size es)) (onto (sorts_of es) (sort_of G e ∷ base)) base (omega (arith, n, z, y, small))
+          (ap (λ z. z >>= λ s1. pop_sent (onto (sorts_of es) (sort_of G e ∷ base)) s1) d.1 ∙ d.2) refl))
       statement_good (T.If e these those) at t = λ has z lt.
           let test = expression_code num e in
           let m = at + length test in
@@ -526,16 +526,16 @@ module _ (names : List Text) (p : ProgramTree) (known : (c : ℕ) → Known p (c
           let l2 = length-append first (jump ∷ second) in
           let b = back c at test (branch ∷ (first ++ jump ∷ second)) has in
           let d = back c yes first (jump ∷ second) b.1 in
-          let x = expression_good e at 0 [] refl t.0 (front c at test (branch ∷ (first ++ jump ∷ second)) has) z (omega (arith, lt, l1)) in
-          let pop = bool_left (sort_of G e) (fits_of_need (sort_of G e) BoolSort (whole e 0 t.0) refl t.1) in
-          let zy = after_one CG c m branch (sort_of G e ∷ []) [] b.0 x.1 pop in
+          let x = expression_good e at (length base) base refl t.0 (front c at test (branch ∷ (first ++ jump ∷ second)) has) z (omega (arith, lt, l1)) in
+          let pop = bool_left (sort_of G e) (fits_of_need (sort_of G e) BoolSort (whole e (length base) t.0) refl t.1) in
+          let zy = after_one CG c m branch (sort_of G e ∷ base) base b.0 x.1 pop in
           let f = statements_good these yes t.2 (front c yes first (jump ∷ second) b.1) zy (omega (arith, lt, l1, l2)) in
-          let zo = after_one CG c j jump [] [] d.0 f.1 refl in
+          let zo = after_one CG c j jump base base d.0 f.1 refl in
           let s = statements_good those other t.3 d.1 zo (omega (arith, lt, l1, l2)) in (
             join CG c at test (branch ∷ (first ++ jump ∷ second)) x.0 (
-              record { before = sort_of G e ∷ []; is_before = x.1; few = omega arith; after = []; is_after = pop; led = (zy, omega (arith, lt, l1, l2), (zo, omega (arith, lt, l1, l2), tt)) },
+              record { before = sort_of G e ∷ base; is_before = x.1; few = omega (arith, small); after = base; is_after = pop; led = (zy, omega (arith, lt, l1, l2), (zo, omega (arith, lt, l1, l2), tt)) },
               join CG c yes first (jump ∷ second) f.0
-                  (record { before = []; is_before = f.1; few = omega arith; after = []; is_after = refl; led = (s.1, omega (arith, lt, l1, l2), tt) }, s.0),
+                  (record { before = base; is_before = f.1; few = omega (arith, small); after = base; is_after = refl; led = (s.1, omega (arith, lt, l1, l2), tt) }, s.0),
             ),
             ap (S CG c) (let w : at + length (test ++ branch ∷ (first ++ jump ∷ second)) ≡ other + length second = omega (arith, l1, l2) in w) ∙ s.1,
           )
@@ -551,23 +551,23 @@ module _ (names : List Text) (p : ProgramTree) (known : (c : ℕ) → Known p (c
           let l2 = length-append turn (jump ∷ []) in
           let b = back c (suc at) test (branch ∷ (turn ++ jump ∷ [])) has.1 in
           let d = back c go turn (jump ∷ []) b.1 in
-          let z1 = after_one CG c at I.Loop [] [] has.0 z refl in
-          let x = expression_good e (suc at) 0 [] refl t.0 (front c (suc at) test (branch ∷ (turn ++ jump ∷ [])) has.1) z1 (omega (arith, lt, l1)) in
-          let pop = bool_left (sort_of G e) (fits_of_need (sort_of G e) BoolSort (whole e 0 t.0) refl t.1) in
-          let zg = after_one CG c m branch (sort_of G e ∷ []) [] b.0 x.1 pop in
+          let z1 = after_one CG c at I.Loop base base has.0 z refl in
+          let x = expression_good e (suc at) (length base) base refl t.0 (front c (suc at) test (branch ∷ (turn ++ jump ∷ [])) has.1) z1 (omega (arith, lt, l1)) in
+          let pop = bool_left (sort_of G e) (fits_of_need (sort_of G e) BoolSort (whole e (length base) t.0) refl t.1) in
+          let zg = after_one CG c m branch (sort_of G e ∷ base) base b.0 x.1 pop in
           let f = statements_good ss go t.2 (front c go turn (jump ∷ []) b.1) zg (omega (arith, lt, l1, l2)) in
-          let zj = after_one CG c j jump [] [] d.0 f.1 refl in (
+          let zj = after_one CG c j jump base base d.0 f.1 refl in (
             (
-              record { before = []; is_before = z; few = omega arith; after = []; is_after = refl; led = (z1, omega (arith, lt, l1), tt) },
+              record { before = base; is_before = z; few = omega (arith, small); after = base; is_after = refl; led = (z1, omega (arith, lt, l1), tt) },
               join CG c (suc at) test (branch ∷ (turn ++ jump ∷ [])) x.0 (
-                record { before = sort_of G e ∷ []; is_before = x.1; few = omega arith; after = []; is_after = pop; led = (zg, omega (arith, lt, l1, l2), (zj, omega (arith, lt, l1, l2), tt)) },
+                record { before = sort_of G e ∷ base; is_before = x.1; few = omega (arith, small); after = base; is_after = pop; led = (zg, omega (arith, lt, l1, l2), (zj, omega (arith, lt, l1, l2), tt)) },
                 join CG c go turn (jump ∷ []) f.0
-                    (record { before = []; is_before = f.1; few = omega arith; after = []; is_after = refl; led = (z, omega (arith, lt, l1, l2), tt) }, tt),
+                    (record { before = base; is_before = f.1; few = omega (arith, small); after = base; is_after = refl; led = (z, omega (arith, lt, l1, l2), tt) }, tt),
               ),
             ),
             ap (S CG c) (let w : at + length (I.Loop ∷ (test ++ branch ∷ (turn ++ jump ∷ []))) ≡ suc j = omega (arith, l1, l2) in w) ∙ zj,
           )
-      statement_good (T.Answer ns) at t = good_one CG c at (I.Answer (map (λ n. n.name) ns)) [] [] (omega arith) refl refl
+      statement_good (T.Answer ns) at t = good_one CG c at (I.Answer (map (λ n. n.name) ns)) base base (omega (arith, small)) refl refl
       statement_good (T.Select alts) at t = λ has z lt.
           let gs = guards_code num alts in
           let m = at + length gs in
@@ -579,33 +579,33 @@ module _ (names : List Text) (p : ProgramTree) (known : (c : ℕ) → Known p (c
           let l1 = length-append gs (i ∷ works) in
           let l2 = works_length (Some (class_code kt)) c num alts go 0 last in
           let b = back c at gs (i ∷ works) has in
-          let a = guards_good alts at 0 [] refl t in
+          let a = guards_good alts at (length base) base refl t in
           let s = a.0 (front c at gs (i ∷ works) has) z (omega (arith, lt, l1)) in
           let n = count_at alts go in
-          let bound = a.1 (omega arith) in
-          let size_is = onto_length (guards_sorts alts) [] in
+          let bound = a.1 (omega (arith, small)) in
+          let size_is = onto_length (guards_sorts alts) base in
           let size_too = guards_count alts in
-          let pop : left_by CG i (onto (guards_sorts alts) []) ≡ Some [] = ap (λ n. pop_arguments (replicate n K.Bool) (onto (guards_sorts alts) [])) n ∙ guards_fit alts 0 [] t in
-          let zg = after_one CG c m i (onto (guards_sorts alts) []) [] b.0 s.1 pop in
-          let e : S CG c last ≡ Some [] =
-          ap (S CG c) (let w : last ≡ go + length works = omega (arith, l2) in w) ∙ works_end alts 0 go last t b.1 zg (omega (arith, lt, l1)) in
-          let w = works_good alts 0 go last t b.1 zg (omega (arith, lt, l1)) e (omega (arith, lt, l1, l2)) in (
+          let pop : left_by CG i (onto (guards_sorts alts) base) ≡ Some base = ap (λ n. pop_arguments (replicate n K.Bool) (onto (guards_sorts alts) base)) n ∙ guards_fit alts (length base) base t in
+          let zg = after_one CG c m i (onto (guards_sorts alts) base) base b.0 s.1 pop in
+          let e : S CG c last ≡ Some base =
+          ap (S CG c) (let w : last ≡ go + length works = omega (arith, l2) in w) ∙ works_end alts (length base) go last t b.1 zg (omega (arith, lt, l1)) in
+          let w = works_good alts (length base) go last t b.1 zg (omega (arith, lt, l1)) e (omega (arith, lt, l1, l2)) in (
             join CG c at gs (i ∷ works) s.0
-                (record { before = onto (guards_sorts alts) []; is_before = s.1; few = omega (arith, bound, size_is, size_too); after = []; is_after = pop; led = led_empty targets w.1 }, w.0),
+                (record { before = onto (guards_sorts alts) base; is_before = s.1; few = omega (arith, bound, size_is, size_too); after = base; is_after = pop; led = led_bare targets w.1 }, w.0),
             ap (S CG c) (let v : at + length (gs ++ i ∷ works) ≡ last = omega (arith, l1, l2) in v) ∙ e,
           )
       statement_good (T.Serve m w ts ss e qs) at t = absurd (let z : false ≡ true = t.0 in cc)
 
-      pub statements_good : (ss : Statements) (at : ℕ) → TypedStatements Nothing G ss → Gets at (statements_code num at ss) [] []
-      statements_good T.Done at t = good_nil CG c at []
+      pub statements_good : (ss : Statements) (at : ℕ) → TypedStatements Nothing G ss → Gets at (statements_code num at ss) base base
+      statements_good T.Done at t = good_nil CG c at base
       statements_good (T.Then st ss) at t =
-          good_seq CG c at (statement_code num at st) (statements_code num (at + length (statement_code num at st)) ss) [] [] []
+          good_seq CG c at (statement_code num at st) (statements_code num (at + length (statement_code num at st)) ss) base base base
           (statement_good st at t.0) (statements_good ss (at + length (statement_code num at st)) t.1)
 
-      -- after the lists no operand is left
-      works_end : (alts : Alternatives) (h at last : ℕ) → TypedAlternatives Nothing G h alts → Has c at (alternatives_code num at last alts) → S CG c at ≡ Some []
-          → at + length (alternatives_code num at last alts) < length c → S CG c (at + length (alternatives_code num at last alts)) ≡ Some []
-      works_end T.NoAlts h at last t has z lt = ap (S CG c) (let w : at + 0 ≡ at = omega arith in w) ∙ z
+      -- after the lists the operands below are left
+      works_end : (alts : Alternatives) (h at last : ℕ) → TypedAlternatives Nothing G h alts → Has c at (alternatives_code num at last alts) → S CG c at ≡ Some base
+          → at + length (alternatives_code num at last alts) < length c → S CG c (at + length (alternatives_code num at last alts)) ≡ Some base
+      works_end T.NoAlts h at last t has z lt = ap (S CG c) (let w : at + 0 ≡ at = omega (arith, small) in w) ∙ z
       works_end (T.Alt e n ss alts) h at last t has z lt =
           let w = statements_code num at ss in
           let j = at + length w in
@@ -613,13 +613,13 @@ module _ (names : List Text) (p : ProgramTree) (known : (c : ℕ) → Known p (c
           let l1 = length-append w (I.Jump last ∷ rest) in
           let b = back c at w (I.Jump last ∷ rest) has in
           let f = statements_good ss at t.3 (front c at w (I.Jump last ∷ rest) has) z (omega (arith, lt, l1)) in
-          let zj = after_one CG c j (I.Jump last) [] [] b.0 f.1 refl in
+          let zj = after_one CG c j (I.Jump last) base base b.0 f.1 refl in
           ap (S CG c) (let v : at + length (w ++ I.Jump last ∷ rest) ≡ suc j + length rest = omega (arith, l1) in v)
           ∙ works_end alts (h + 1) (suc j) last (none_is (λ z. TypedAlternatives z G (h + 1) alts) _ t.4) b.1 zj (omega (arith, lt, l1))
 
-      works_good : (alts : Alternatives) (h at last : ℕ) → TypedAlternatives Nothing G h alts → Has c at (alternatives_code num at last alts) → S CG c at ≡ Some []
-          → at + length (alternatives_code num at last alts) < length c → S CG c last ≡ Some [] → last < length c
-          → AllFine CG c at (alternatives_code num at last alts) × Empty (alternatives_at num at alts)
+      works_good : (alts : Alternatives) (h at last : ℕ) → TypedAlternatives Nothing G h alts → Has c at (alternatives_code num at last alts) → S CG c at ≡ Some base
+          → at + length (alternatives_code num at last alts) < length c → S CG c last ≡ Some base → last < length c
+          → AllFine CG c at (alternatives_code num at last alts) × Bare (alternatives_at num at alts)
       works_good T.NoAlts h at last t has z lt e in_range = (tt, tt)
       works_good (T.Alt a n ss alts) h at last t has z lt e in_range =
           let w = statements_code num at ss in
@@ -628,10 +628,10 @@ module _ (names : List Text) (p : ProgramTree) (known : (c : ℕ) → Known p (c
           let l1 = length-append w (I.Jump last ∷ rest) in
           let b = back c at w (I.Jump last ∷ rest) has in
           let f = statements_good ss at t.3 (front c at w (I.Jump last ∷ rest) has) z (omega (arith, lt, l1)) in
-          let zj = after_one CG c j (I.Jump last) [] [] b.0 f.1 refl in
+          let zj = after_one CG c j (I.Jump last) base base b.0 f.1 refl in
           let r = works_good alts (h + 1) (suc j) last (none_is (λ z. TypedAlternatives z G (h + 1) alts) _ t.4) b.1 zj (omega (arith, lt, l1)) e in_range in (
             join CG c at w (I.Jump last ∷ rest) f.0
-                (record { before = []; is_before = f.1; few = omega arith; after = []; is_after = refl; led = (e, in_range, tt) }, r.0),
+                (record { before = base; is_before = f.1; few = omega (arith, small); after = base; is_after = refl; led = (e, in_range, tt) }, r.0),
             (z, omega (arith, lt), r.1),
           )
 
@@ -826,28 +826,23 @@ module _ (names : List Text) (p : ProgramTree) (known : (c : ℕ) → Known p (c
             let zx = (expression_good e at h s l t.0 f z (omega (arith, lt, n1))).1 in
             arg_join e es at h x (expressions_span vs es (at + length dc) (h + 1) (sort_of G e ∷ s) (omega (arith, l)) args b zx (omega (arith, lt, n1)) x.ends)
 
-      plain_span : (e : Expression) (at : ℕ) → TypedExpression Nothing G 0 e → Has c at (expression_code num e) → S CG c at ≡ Some [] → at + length (expression_code num e) < length c → Arrives at
-          → Spans at (expression_code num e) (expression_words e)
-      plain_span e at t has z lt a =
-          as_span at (expression_code num e) (0 + expression_words e) (expression_words e) (let u : 0 + expression_words e ≡ expression_words e = omega arith in u) (expression_span e at 0 [] refl t has z lt a)
-
       -- an expression and an instruction that takes its value
-      taking_span : (e : Expression) (at : ℕ) (i : Instr) → TypedExpression Nothing G 0 e → nexts (at + length (expression_code num e)) i ≡ suc (at + length (expression_code num e)) ∷ []
-          → Gets at (expression_code num e ++ i ∷ []) [] [] → Has c at (expression_code num e ++ i ∷ []) → S CG c at ≡ Some [] → at + length (expression_code num e ++ i ∷ []) < length c → Arrives at
-          → Spans at (expression_code num e ++ i ∷ []) (expression_words e)
+      taking_span : (e : Expression) (at : ℕ) (i : Instr) → TypedExpression Nothing G (length base) e → nexts (at + length (expression_code num e)) i ≡ suc (at + length (expression_code num e)) ∷ []
+          → Gets at (expression_code num e ++ i ∷ []) base base → Has c at (expression_code num e ++ i ∷ []) → S CG c at ≡ Some base → at + length (expression_code num e ++ i ∷ []) < length c → Arrives at
+          → Spans at (expression_code num e ++ i ∷ []) (length base + expression_words e)
       taking_span e at i t next good has z lt a =
           let code = expression_code num e in
           let n = length-append code (i ∷ []) in
-          let x = plain_span e at t (front c at code (i ∷ []) has) z (omega (arith, lt, n)) a in
-          span_tail CG c ok some at code i (expression_words e) [] x (back c at code (i ∷ []) has).0 next (good has z lt).1 (omega arith)
+          let x = expression_span e at (length base) base refl t (front c at code (i ∷ []) has) z (omega (arith, lt, n)) a in
+          span_tail CG c ok some at code i (length base + expression_words e) base x (back c at code (i ∷ []) has).0 next (good has z lt).1 (omega arith)
 
-      empty_span : (at : ℕ) (i : Instr) → slice_get c at ≡ Some i → nexts at i ≡ suc at ∷ [] → S CG c at ≡ Some [] → S CG c (at + 1) ≡ Some [] → Arrives at → Spans at (i ∷ []) 0
-      empty_span at i e next z after a =
-          span_one CG c ok some at i [] [] 0 e next z (ap (S CG c) (let w : suc at ≡ at + 1 = omega arith in w) ∙ after) a (omega arith) (omega arith) (inl refl)
+      bare_span : (at : ℕ) (i : Instr) → slice_get c at ≡ Some i → nexts at i ≡ suc at ∷ [] → S CG c at ≡ Some base → S CG c (at + 1) ≡ Some base → Arrives at → Spans at (i ∷ []) (length base + 0)
+      bare_span at i e next z after a =
+          span_one CG c ok some at i base base (length base + 0) e next z (ap (S CG c) (let w : suc at ≡ at + 1 = omega arith in w) ∙ after) a (omega arith) (omega arith) (inl (let w : length base + 0 ≡ length base = omega arith in w))
 
-      -- no operands at a place
-      none_at : (n q : ℕ) → S CG c q ≡ Some [] → AtMost CG c ok some n q
-      none_at n q z t e = let y : 0 ≡ length t = ap (λ (x : Stack). length x) (same_some (sym z ∙ e)) in omega (arith, y)
+      -- at a place with the operands below alone
+      base_at : (n q : ℕ) → S CG c q ≡ Some base → AtMost CG c ok some (length base + n) q
+      base_at n q z t e = let y : length base ≡ length t = ap (λ (x : Stack). length x) (same_some (sym z ∙ e)) in omega (arith, y)
 
       guards_span : (alts : Alternatives) (at h : ℕ) (s : Stack) → length s ≡ h → TypedAlternatives Nothing G h alts → Has c at (guards_code num alts) → S CG c at ≡ Some s
           → at + length (guards_code num alts) < length c → Arrives at → Spans at (guards_code num alts) (h + guards_words alts)
@@ -868,38 +863,38 @@ module _ (names : List Text) (p : ProgramTree) (known : (c : ℕ) → Known p (c
           (two_spans at h (expression_words e) 1 (guards_words alts) dc ec x y)
 
       -- the greater of two is met where both are
-      met_more : (m n : ℕ) → Met CG c ok some m → Met CG c ok some n → Met CG c ok some (more m n)
-      met_more m n x y = by (more_is m n).2
+      met_more : (m n : ℕ) → Met CG c ok some (length base + m) → Met CG c ok some (length base + n) → Met CG c ok some (length base + more m n)
+      met_more m n x y = by (most_of (length base) m n)
         where
-          by : (more m n ≡ m) ⊎ (more m n ≡ n) → Met CG c ok some (more m n)
+          by : (length base + more m n ≡ length base + m) ⊎ (length base + more m n ≡ length base + n) → Met CG c ok some (length base + more m n)
           by (inl e) = subst (Met CG c ok some) (sym e) x
           by (inr e) = subst (Met CG c ok some) (sym e) y
 
       abbrev Works : ℕ → Alternatives → Type 0
       Works last T.NoAlts = Unit {0}
-      Works last (T.Alt e n ss alts) = Met CG c ok some (works_words (T.Alt e n ss alts)) × Arrives last
+      Works last (T.Alt e n ss alts) = Met CG c ok some (length base + works_words (T.Alt e n ss alts)) × Arrives last
 
-      at_least : (alts : Alternatives) (last : ℕ) → IsTrue (is_some_alternative alts) → Works last alts → Met CG c ok some (works_words alts) × Arrives last
+      at_least : (alts : Alternatives) (last : ℕ) → IsTrue (is_some_alternative alts) → Works last alts → Met CG c ok some (length base + works_words alts) × Arrives last
       at_least T.NoAlts last k w = absurd (let z : false ≡ true = k in cc)
       at_least (T.Alt e n ss alts) last k w = w
 
-      work_met : (w last : ℕ) (alts : Alternatives) → Met CG c ok some w → Works last alts → Met CG c ok some (more w (works_words alts))
+      work_met : (w last : ℕ) (alts : Alternatives) → Met CG c ok some (length base + w) → Works last alts → Met CG c ok some (length base + more w (works_words alts))
       work_met w last T.NoAlts x y = by (more_is w 0).2
         where
-          by : (more w 0 ≡ w) ⊎ (more w 0 ≡ 0) → Met CG c ok some (more w 0)
-          by (inl e) = subst (Met CG c ok some) (sym e) x
-          by (inr e) = let k = (more_is w 0).0 in subst (Met CG c ok some) (let u : w ≡ more w 0 = omega (arith, k, e) in u) x
+          by : (more w 0 ≡ w) ⊎ (more w 0 ≡ 0) → Met CG c ok some (length base + more w 0)
+          by (inl e) = subst (Met CG c ok some) (ap (λ k. length base + k) (sym e)) x
+          by (inr e) = let k = (more_is w 0).0 in subst (Met CG c ok some) (let u : length base + w ≡ length base + more w 0 = omega (arith, k, e) in u) x
       work_met w last (T.Alt e n ss alts) x y = met_more w (works_words (T.Alt e n ss alts)) x y.0
 
       mutual
-        statement_span : (st : Statement) (at : ℕ) → TypedStatement Nothing G st → IsTrue (has_choices st) → Has c at (statement_code num at st) → S CG c at ≡ Some []
-            → at + length (statement_code num at st) < length c → Arrives at → Spans at (statement_code num at st) (statement_words st)
+        statement_span : (st : Statement) (at : ℕ) → TypedStatement Nothing G st → IsTrue (has_choices st) → Has c at (statement_code num at st) → S CG c at ≡ Some base
+            → at + length (statement_code num at st) < length c → Arrives at → Spans at (statement_code num at st) (length base + statement_words st)
         statement_span (T.Assign x o e) at t k has z lt a = taking_span e at (store num x) t.1 (store_next _ x) (statement_good (T.Assign x o e) at t) has z lt a
         statement_span (T.Write e) at t k has z lt a = taking_span e at I.Write t.0 refl (statement_good (T.Write e) at t) has z lt a
-        statement_span (T.WriteText n) at t k has z lt a = empty_span at (I.WriteText (name n)) has.0 refl z (statement_good (T.WriteText n) at t has z lt).1 a
+        statement_span (T.WriteText n) at t k has z lt a = bare_span at (I.WriteText (name n)) has.0 refl z (statement_good (T.WriteText n) at t has z lt).1 a
         statement_span (T.Do e) at t k has z lt a = taking_span e at I.Pop t refl (statement_good (T.Do e) at t) has z lt a
         statement_span (T.Async e m o es) at t k has z lt a =
-            let args = none_is (λ z. TypedArguments z G 1 (params_of (sent_method G (sort_of G e) m)) es) _ t.2 in
+            let args = none_is (λ z. TypedArguments z G (length base + 1) (params_of (sent_method G (sort_of G e) m)) es) _ t.2 in
             let vs = params_of (sent_method G (sort_of G e) m) in
             let dc = expression_code num e in
             let ec = expressions_code num es in
@@ -910,17 +905,15 @@ module _ (names : List Text) (p : ProgramTree) (known : (c : ℕ) → Known p (c
             let b = back c at dc (ec ++ i ∷ []) has in
             let f2 = front c (at + length dc) ec (i ∷ []) b in
             let b2 = back c (at + length dc) ec (i ∷ []) b in
-            let x = expression_span e at 0 [] refl t.0 f z (omega (arith, lt, n1)) a in
-            let zx = (expression_good e at 0 [] refl t.0 f z (omega (arith, lt, n1))).1 in
-            let y = expressions_span vs es (at + length dc) 1 (sort_of G e ∷ []) refl args f2 zx (omega (arith, lt, n1, n2)) x.ends in
+            let x = expression_span e at (length base) base refl t.0 f z (omega (arith, lt, n1)) a in
+            let zx = (expression_good e at (length base) base refl t.0 f z (omega (arith, lt, n1))).1 in
+            let y = expressions_span vs es (at + length dc) (length base + 1) (sort_of G e ∷ base) (omega arith) args f2 zx (omega (arith, lt, n1, n2)) x.ends in
             let after = ap (S CG c) (let u : at + length dc + length (ec ++ i ∷ []) ≡ at + length (dc ++ (ec ++ i ∷ [])) = omega (arith, n1) in u)
             ∙ (statement_good (T.Async e m o es) at t has z lt).1 in
-            let w = span_tail CG c ok some (at + length dc) ec i (1 + expressions_words es) [] y b2.0 refl after (omega arith) in
-            let w2 = as_span (at + length dc) (ec ++ i ∷ []) (1 + expressions_words es) (0 + 1 + expressions_words es) (let u : 1 + expressions_words es ≡ 0 + 1 + expressions_words es = omega arith in u) w in
-            as_span at (dc ++ (ec ++ i ∷ [])) (0 + more (expression_words e) (1 + expressions_words es)) (more (expression_words e) (suc (expressions_words es)))
-            ((let u : 0 + more (expression_words e) (1 + expressions_words es) ≡ more (expression_words e) (1 + expressions_words es) = omega arith in u)
-            ∙ ap (λ k. more (expression_words e) k) (let u : 1 + expressions_words es ≡ suc (expressions_words es) = omega arith in u))
-            (two_spans at 0 (expression_words e) 1 (expressions_words es) dc (ec ++ i ∷ []) x w2)
+            let w = span_tail CG c ok some (at + length dc) ec i (length base + 1 + expressions_words es) base y b2.0 refl after (omega arith) in
+            as_span at (dc ++ (ec ++ i ∷ [])) (length base + more (expression_words e) (1 + expressions_words es)) (length base + more (expression_words e) (suc (expressions_words es)))
+            (ap (λ k. length base + more (expression_words e) k) (let u : 1 + expressions_words es ≡ suc (expressions_words es) = omega arith in u))
+            (two_spans at (length base) (expression_words e) 1 (expressions_words es) dc (ec ++ i ∷ []) x w)
         statement_span (T.If e these those) at t k has z lt a =
             let test = expression_code num e in
             let m = at + length test in
@@ -936,17 +929,17 @@ module _ (names : List Text) (p : ProgramTree) (known : (c : ℕ) → Known p (c
             let b = back c at test (branch ∷ (first ++ jump ∷ second)) has in
             let d = back c yes first (jump ∷ second) b.1 in
             let fx = front c at test (branch ∷ (first ++ jump ∷ second)) has in
-            let g = expression_good e at 0 [] refl t.0 fx z (omega (arith, lt, l1)) in
-            let x = plain_span e at t.0 fx z (omega (arith, lt, l1)) a in
-            let pop = bool_left (sort_of G e) (fits_of_need (sort_of G e) BoolSort (whole e 0 t.0) refl t.1) in
-            let zy = after_one CG c m branch (sort_of G e ∷ []) [] b.0 g.1 pop in
+            let g = expression_good e at (length base) base refl t.0 fx z (omega (arith, lt, l1)) in
+            let x = expression_span e at (length base) base refl t.0 fx z (omega (arith, lt, l1)) a in
+            let pop = bool_left (sort_of G e) (fits_of_need (sort_of G e) BoolSort (whole e (length base) t.0) refl t.1) in
+            let zy = after_one CG c m branch (sort_of G e ∷ base) base b.0 g.1 pop in
             let cy : Comes CG c ok some yes = comes_next CG c ok some m branch yes x.ends b.0 (inl refl) in
             let co : Comes CG c ok some other = comes_next CG c ok some m branch other x.ends b.0 (inr (inl refl)) in
             let ff = front c yes first (jump ∷ second) b.1 in
             let k2 = both_true (have_choices these) (have_choices those) k in
             let f = statements_span these yes t.2 k2.0 ff zy (omega (arith, lt, l1, l2)) cy in
             let gf = statements_good these yes t.2 ff zy (omega (arith, lt, l1, l2)) in
-            let zo = after_one CG c j jump [] [] d.0 gf.1 refl in
+            let zo = after_one CG c j jump base base d.0 gf.1 refl in
             let s = statements_span those other t.3 k2.1 d.1 zo (omega (arith, lt, l1, l2)) co in
             let inner = more_is (statements_words these) (statements_words those) in
             let outer = more_is (expression_words e) (more (statements_words these) (statements_words those)) in
@@ -956,12 +949,12 @@ module _ (names : List Text) (p : ProgramTree) (known : (c : ℕ) → Known p (c
             let o1 = outer.1 in
             let end : other + length second ≡ at + length (test ++ branch ∷ (first ++ jump ∷ second)) = omega (arith, l1, l2) in
             record {
-              within = join_at_most CG c ok some n at test (branch ∷ (first ++ jump ∷ second)) (more_at_most CG c ok some (expression_words e) n at test outer.0 x.within) (
+              within = join_at_most CG c ok some (length base + n) at test (branch ∷ (first ++ jump ∷ second)) (more_at_most CG c ok some (length base + expression_words e) (length base + n) at test (let o = outer.0 in omega (arith, o)) x.within) (
                 λ u v. let y = x.last u v in let o = outer.0 in omega (arith, y, o),
-                join_at_most CG c ok some n yes first (jump ∷ second) (more_at_most CG c ok some (statements_words these) n yes first (omega (arith, i0, o1)) f.within)
-                    (none_at n j gf.1, more_at_most CG c ok some (statements_words those) n other second (omega (arith, i1, o1)) s.within),
+                join_at_most CG c ok some (length base + n) yes first (jump ∷ second) (more_at_most CG c ok some (length base + statements_words these) (length base + n) yes first (omega (arith, i0, o1)) f.within)
+                    (base_at n j gf.1, more_at_most CG c ok some (length base + statements_words those) (length base + n) other second (omega (arith, i1, o1)) s.within),
               );
-              last = subst (AtMost CG c ok some n) end (λ u v. let y = s.last u v in omega (arith, y, i1, o1));
+              last = subst (AtMost CG c ok some (length base + n)) end (λ u v. let y = s.last u v in omega (arith, y, i1, o1));
               ends = subst (Comes CG c ok some) end s.ends;
               met = met_more (expression_words e) (more (statements_words these) (statements_words those)) x.met (met_more (statements_words these) (statements_words those) f.met s.met);
             }
@@ -977,13 +970,13 @@ module _ (names : List Text) (p : ProgramTree) (known : (c : ℕ) → Known p (c
             let l2 = length-append turn (jump ∷ []) in
             let b = back c (suc at) test (branch ∷ (turn ++ jump ∷ [])) has.1 in
             let d = back c go turn (jump ∷ []) b.1 in
-            let z1 = after_one CG c at I.Loop [] [] has.0 z refl in
+            let z1 = after_one CG c at I.Loop base base has.0 z refl in
             let c1 : Comes CG c ok some (suc at) = comes_next CG c ok some at I.Loop (suc at) a has.0 (inl refl) in
             let fx = front c (suc at) test (branch ∷ (turn ++ jump ∷ [])) has.1 in
-            let g = expression_good e (suc at) 0 [] refl t.0 fx z1 (omega (arith, lt, l1)) in
-            let x = plain_span e (suc at) t.0 fx z1 (omega (arith, lt, l1)) c1 in
-            let pop = bool_left (sort_of G e) (fits_of_need (sort_of G e) BoolSort (whole e 0 t.0) refl t.1) in
-            let zg = after_one CG c m branch (sort_of G e ∷ []) [] b.0 g.1 pop in
+            let g = expression_good e (suc at) (length base) base refl t.0 fx z1 (omega (arith, lt, l1)) in
+            let x = expression_span e (suc at) (length base) base refl t.0 fx z1 (omega (arith, lt, l1)) c1 in
+            let pop = bool_left (sort_of G e) (fits_of_need (sort_of G e) BoolSort (whole e (length base) t.0) refl t.1) in
+            let zg = after_one CG c m branch (sort_of G e ∷ base) base b.0 g.1 pop in
             let cg : Comes CG c ok some go = comes_next CG c ok some m branch go x.ends b.0 (inl refl) in
             let cj : Comes CG c ok some (suc j) = comes_next CG c ok some m branch (suc j) x.ends b.0 (inr (inl refl)) in
             let ff = front c go turn (jump ∷ []) b.1 in
@@ -994,17 +987,17 @@ module _ (names : List Text) (p : ProgramTree) (known : (c : ℕ) → Known p (c
             let end : suc j ≡ at + length (I.Loop ∷ (test ++ branch ∷ (turn ++ jump ∷ []))) = omega (arith, l1, l2) in
             record {
               within = (
-                none_at n at z,
-                join_at_most CG c ok some n (suc at) test (branch ∷ (turn ++ jump ∷ [])) (more_at_most CG c ok some (expression_words e) n (suc at) test outer.0 x.within) (
+                base_at n at z,
+                join_at_most CG c ok some (length base + n) (suc at) test (branch ∷ (turn ++ jump ∷ [])) (more_at_most CG c ok some (length base + expression_words e) (length base + n) (suc at) test (let o = outer.0 in omega (arith, o)) x.within) (
                   λ u v. let y = x.last u v in let o = outer.0 in omega (arith, y, o),
-                  join_at_most CG c ok some n go turn (jump ∷ []) (more_at_most CG c ok some (statements_words ss) n go turn outer.1 f.within) (none_at n j gf.1, tt),
+                  join_at_most CG c ok some (length base + n) go turn (jump ∷ []) (more_at_most CG c ok some (length base + statements_words ss) (length base + n) go turn (let o = outer.1 in omega (arith, o)) f.within) (base_at n j gf.1, tt),
                 ),
               );
-              last = λ u v. none_at n (at + length (I.Loop ∷ (test ++ branch ∷ (turn ++ jump ∷ [])))) (statement_good (T.While e ss) at t has z lt).1 u v;
+              last = λ u v. base_at n (at + length (I.Loop ∷ (test ++ branch ∷ (turn ++ jump ∷ [])))) (statement_good (T.While e ss) at t has z lt).1 u v;
               ends = subst (Comes CG c ok some) end cj;
               met = met_more (expression_words e) (statements_words ss) x.met f.met;
             }
-        statement_span (T.Answer ns) at t k has z lt a = empty_span at (I.Answer (map (λ n. n.name) ns)) has.0 refl z (statement_good (T.Answer ns) at t has z lt).1 a
+        statement_span (T.Answer ns) at t k has z lt a = bare_span at (I.Answer (map (λ n. n.name) ns)) has.0 refl z (statement_good (T.Answer ns) at t has z lt).1 a
         statement_span (T.Select alts) at t k has z lt a =
             let gs = guards_code num alts in
             let m = at + length gs in
@@ -1017,30 +1010,30 @@ module _ (names : List Text) (p : ProgramTree) (known : (c : ℕ) → Known p (c
             let l2 = works_length (Some (class_code kt)) c num alts go 0 last in
             let b = back c at gs (i ∷ works) has in
             let fg = front c at gs (i ∷ works) has in
-            let gg = (guards_good alts at 0 [] refl t).0 fg z (omega (arith, lt, l1)) in
-            let x0 = guards_span alts at 0 [] refl t fg z (omega (arith, lt, l1)) a in
-            let x = as_span at gs (0 + guards_words alts) (guards_words alts) (let u : 0 + guards_words alts ≡ guards_words alts = omega arith in u) x0 in
-            let pop : left_by CG i (onto (guards_sorts alts) []) ≡ Some [] = ap (λ n. pop_arguments (replicate n K.Bool) (onto (guards_sorts alts) [])) (count_at alts go) ∙ guards_fit alts 0 [] t in
-            let zg = after_one CG c m i (onto (guards_sorts alts) []) [] b.0 gg.1 pop in
+            let gg = (guards_good alts at (length base) base refl t).0 fg z (omega (arith, lt, l1)) in
+            let x = guards_span alts at (length base) base refl t fg z (omega (arith, lt, l1)) a in
+            let pop : left_by CG i (onto (guards_sorts alts) base) ≡ Some base = ap (λ n. pop_arguments (replicate n K.Bool) (onto (guards_sorts alts) base)) (count_at alts go) ∙ guards_fit alts (length base) base t in
+            let zg = after_one CG c m i (onto (guards_sorts alts) base) base b.0 gg.1 pop in
             let k2 = both_true (is_some_alternative alts) (works_have_choices alts) k in
-            let w = works_span alts 0 go last t k2.1 b.1 zg (omega (arith, lt, l1)) (λ to h. comes_next CG c ok some m i to x.ends b.0 h) in
+            let w = works_span alts (length base) go last t k2.1 b.1 zg (omega (arith, lt, l1)) (λ to h. comes_next CG c ok some m i to x.ends b.0 h) in
             let outer = more_is (guards_words alts) (works_words alts) in
             let n = more (guards_words alts) (works_words alts) in
             let some_work = at_least alts last k2.0 w.1 in
             let end : last ≡ at + length (gs ++ i ∷ works) = omega (arith, l1, l2) in
             record {
-              within = join_at_most CG c ok some n at gs (i ∷ works) (more_at_most CG c ok some (guards_words alts) n at gs outer.0 x.within)
-                  (λ u v. let y = x.last u v in let o = outer.0 in omega (arith, y, o), more_at_most CG c ok some (works_words alts) n go works outer.1 w.0);
-              last = λ u v. none_at n (at + length (gs ++ i ∷ works)) (statement_good (T.Select alts) at t has z lt).1 u v;
+              within = join_at_most CG c ok some (length base + n) at gs (i ∷ works) (more_at_most CG c ok some (length base + guards_words alts) (length base + n) at gs (let o = outer.0 in omega (arith, o)) x.within)
+                  (λ u v. let y = x.last u v in let o = outer.0 in omega (arith, y, o), more_at_most CG c ok some (length base + works_words alts) (length base + n) go works (let o = outer.1 in omega (arith, o)) w.0);
+              last = λ u v. base_at n (at + length (gs ++ i ∷ works)) (statement_good (T.Select alts) at t has z lt).1 u v;
               ends = subst (Comes CG c ok some) end some_work.1;
               met = met_more (guards_words alts) (works_words alts) x.met some_work.0;
             }
         statement_span (T.Serve m w ts ss e qs) at t k has z lt a = absurd (let z : false ≡ true = t.0 in cc)
 
-        pub statements_span : (ss : Statements) (at : ℕ) → TypedStatements Nothing G ss → IsTrue (have_choices ss) → Has c at (statements_code num at ss) → S CG c at ≡ Some []
-            → at + length (statements_code num at ss) < length c → Arrives at → Spans at (statements_code num at ss) (statements_words ss)
+        pub statements_span : (ss : Statements) (at : ℕ) → TypedStatements Nothing G ss → IsTrue (have_choices ss) → Has c at (statements_code num at ss) → S CG c at ≡ Some base
+            → at + length (statements_code num at ss) < length c → Arrives at → Spans at (statements_code num at ss) (length base + statements_words ss)
         statements_span T.Done at t k has z lt a =
-            as_span at [] (length a.0) 0 (ap (λ (y : Stack). length y) (same_some (sym (comes_stack CG c ok some at a) ∙ z))) (span_nil CG c ok some at a)
+            as_span at [] (length a.0) (length base + 0)
+            (ap (λ (y : Stack). length y) (same_some (sym (comes_stack CG c ok some at a) ∙ z)) ∙ (let u : length base ≡ length base + 0 = omega arith in u)) (span_nil CG c ok some at a)
         statements_span (T.Then st ss) at t k has z lt a =
             let dc = statement_code num at st in
             let ec = statements_code num (at + length dc) ss in
@@ -1052,11 +1045,12 @@ module _ (names : List Text) (p : ProgramTree) (known : (c : ℕ) → Known p (c
             let zx = (statement_good st at t.0 f z (omega (arith, lt, n1))).1 in
             let y = statements_span ss (at + length dc) t.1 k2.1 b zx (omega (arith, lt, n1)) x.ends in
             let o = more_is (statement_words st) (statements_words ss) in
-            span_seq CG c ok some at dc ec (statement_words st) (statements_words ss) (more (statement_words st) (statements_words ss)) x y o.0 o.1 o.2
+            span_seq CG c ok some at dc ec (length base + statement_words st) (length base + statements_words ss) (length base + more (statement_words st) (statements_words ss)) x y
+            (let u = o.0 in omega (arith, u)) (let u = o.1 in omega (arith, u)) (most_of (length base) (statement_words st) (statements_words ss))
 
-        works_span : (alts : Alternatives) (h at last : ℕ) → TypedAlternatives Nothing G h alts → IsTrue (works_have_choices alts) → Has c at (alternatives_code num at last alts) → S CG c at ≡ Some []
+        works_span : (alts : Alternatives) (h at last : ℕ) → TypedAlternatives Nothing G h alts → IsTrue (works_have_choices alts) → Has c at (alternatives_code num at last alts) → S CG c at ≡ Some base
             → at + length (alternatives_code num at last alts) < length c → ((to : ℕ) → IsAmong to (map (λ a. a.at) (alternatives_at num at alts)) → Arrives to)
-            → AllAtMost CG c ok some (works_words alts) at (alternatives_code num at last alts) × Works last alts
+            → AllAtMost CG c ok some (length base + works_words alts) at (alternatives_code num at last alts) × Works last alts
         works_span T.NoAlts h at last t k has z lt come = (tt, tt)
         works_span (T.Alt e n ss alts) h at last t k has z lt come =
             let w = statements_code num at ss in
@@ -1068,11 +1062,11 @@ module _ (names : List Text) (p : ProgramTree) (known : (c : ℕ) → Known p (c
             let k2 = both_true (have_choices ss) (works_have_choices alts) k in
             let f = statements_span ss at t.3 k2.0 ff z (omega (arith, lt, l1)) (come at (inl refl)) in
             let gf = statements_good ss at t.3 ff z (omega (arith, lt, l1)) in
-            let zj = after_one CG c j (I.Jump last) [] [] b.0 gf.1 refl in
+            let zj = after_one CG c j (I.Jump last) base base b.0 gf.1 refl in
             let r = works_span alts (h + 1) (suc j) last (none_is (λ z. TypedAlternatives z G (h + 1) alts) _ t.4) k2.1 b.1 zj (omega (arith, lt, l1)) (λ to x. come to (inr x)) in
             let o = more_is (statements_words ss) (works_words alts) in
             let n = more (statements_words ss) (works_words alts) in (
-              join_at_most CG c ok some n at w (I.Jump last ∷ rest) (more_at_most CG c ok some (statements_words ss) n at w o.0 f.within)
-                  (none_at n j gf.1, more_at_most CG c ok some (works_words alts) n (suc j) rest o.1 r.0),
+              join_at_most CG c ok some (length base + n) at w (I.Jump last ∷ rest) (more_at_most CG c ok some (length base + statements_words ss) (length base + n) at w (let u = o.0 in omega (arith, u)) f.within)
+                  (base_at n j gf.1, more_at_most CG c ok some (length base + works_words alts) (length base + n) (suc j) rest (let u = o.1 in omega (arith, u)) r.0),
               (work_met (statements_words ss) last alts f.met r.1, comes_next CG c ok some j (I.Jump last) last f.ends b.0 (inl refl)),
             )

@@ -10,7 +10,7 @@ use Rattle.mesh_semantics.specs.Message.{Message}
 use Rattle.mesh_semantics.specs.Partial.{◌>>=◌}
 use Rattle.mesh_semantics.specs.Sound.{Each}
 use Rattle.coded_objects.specs.Coded.{Placed, class_number}
-use Rattle.verified_code.specs.Sorts.{declared_at}
+use Rattle.code_verdict.specs.Sorts.{declared_at}
 use Rattle.verified_code.specs.TypedCode.{IsSortedObject, class_in, IsMessageFor}
 use Rattle.verified_code.proofs.Operands.{sorts_grow}
 use Rattle.verified_code.proofs.Objects.{object_grows}

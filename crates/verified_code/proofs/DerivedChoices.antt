@@ -21,6 +21,7 @@ IsChosen (r.more_classes before) ks = IsTrue (program_has_choices before) → Is
 IsChosen r.class k = IsTrue (program_has_choices (k ∷ []))
 IsChosen (r.more_methods before) ms = IsTrue (methods_have_choices before) → IsTrue (methods_have_choices ms)
 IsChosen r.method m = IsTrue (methods_have_choices (m ∷ []))
+IsChosen r.post ss = IsTrue (have_choices ss)
 IsChosen r.stmts ss = IsTrue (have_choices ss)
 IsChosen (r.more_stmts before) ss = IsTrue (have_choices before) → IsTrue (have_choices ss)
 IsChosen r.stmt s = IsTrue (has_choices s)
@@ -52,7 +53,7 @@ classes_last (l ∷ ks) k w v = b.both _ _ (b.first _ (program_has_choices ks) w
 methods_last : (ms : List MethodTree) (m : MethodTree) → IsTrue (methods_have_choices ms) → IsTrue (methods_have_choices (m ∷ []))
     → IsTrue (methods_have_choices (ms ++ m ∷ []))
 methods_last [] m w v = v
-methods_last (n ∷ ms) m w v = b.both _ _ (b.first (have_choices n.body) (methods_have_choices ms) w) (methods_last ms m (b.second (have_choices n.body) (methods_have_choices ms) w) v)
+methods_last (n ∷ ms) m w v = b.both _ _ (b.first _ (methods_have_choices ms) w) (methods_last ms m (b.second _ (methods_have_choices ms) w) v)
 
 statements_last : (ss : Statements) (s : Statement) → IsTrue (have_choices ss) → IsTrue (has_choices s) → IsTrue (have_choices (then_last ss s))
 statements_last Done s w v = b.both _ _ v refl
@@ -74,10 +75,10 @@ rule_chosen (r.more_classes ks) = ((λ k w all f v. f (classes_last ks k v w)), 
 rule_chosen r.class = λ n u m v vs x ms f i y ss w j z. b.both _ _ (b.both _ _ w (f refl)) refl
 rule_chosen (r.more_methods ms) = ((λ m w all f v. f (methods_last ms m v w)), (λ v. v))
 rule_chosen r.method = (
-  (λ i u n v ps x ls y j z ss w qs q k t. b.both _ _ w refl),
-  (λ i u n v ps x j y k z ls t l a ss w m c e d qs g q f. b.both _ _ w refl),
+  (λ i u n v ps x ls y j z ss w qs q k t. b.both _ _ (b.both _ _ w q) refl),
+  (λ i u n v ps x j y k z ls t l a ss w m c e d qs g q f. b.both _ _ (b.both _ _ w g) refl),
 )
-rule_chosen r.post = ((λ i u ss w. tt), tt)
+rule_chosen r.post = ((λ i u ss w. w), refl)
 rule_chosen r.stmts = ((λ s w ss f. f (b.both _ _ w refl)), refl)
 rule_chosen (r.more_stmts ss) = ((λ i u s w all f v. f (statements_last ss s v w)), (λ v. v))
 rule_chosen r.stmt = (

@@ -12,7 +12,7 @@ use Rattle.mesh_semantics.proofs.Laws.{same_some}
 use Rattle.pool_relation.proofs.Laws.{is_broken, OutcomeKnown}
 use Rattle.object_code.specs.Step.{method_from, class_from}
 use Rattle.pool_compile.specs.Code.{name, names_of, number_of, method_code_of, class_code, code}
-use Rattle.verified_code.specs.Sorts.{Declared, Signature, kind_sort, result_sort, declared_named, signature_named}
+use Rattle.code_verdict.specs.Sorts.{Declared, Signature, kind_sort, result_sort, declared_named, signature_named}
 use Rattle.verified_code.specs.DeclaredKinds.{kinds_of, method_kinds, class_kinds, file_of}
 
 pub map_at : {A B : Type 0} (f : A → B) (xs : List A) (j : ℕ) (x : A) → slice_get xs j ≡ Some x → slice_get (map f xs) j ≡ Some (f x)

@@ -16,8 +16,8 @@ use Rattle.object_code.specs.Proper.{nexts, IsAmong}
 use Rattle.object_code.specs.Shaped.{IsShaped}
 use Rattle.object_code.specs.Step.{is_own}
 use Rattle.unit_objects.specs.OfUnit.{HasTemps}
-use Rattle.verified_code.specs.Sorts.{Stack, Declared, declared_at, scope_by, left_by, pop_returned}
-use Rattle.verified_code.specs.Verified.{IsWellSorted, IsVerified}
+use Rattle.code_verdict.specs.Sorts.{Stack, Declared, declared_at, scope_by, left_by, pop_returned}
+use Rattle.code_verdict.specs.Verified.{IsWellSorted, IsVerified}
 use Rattle.verified_code.specs.TypedCode.{Classes, AreOfSorts, AreOfKinds, kinds_of_frame, left_sort, frame_scope, IsSortedFrame, AreSortedFrames}
 use Rattle.verified_code.proofs.Shaped.{class_shaped, kinds_of_method}
 

@@ -34,8 +34,8 @@ use Rattle.coded_objects.specs.OfCode.{Names, is_for, method_number, number_in, 
 use Rattle.coded_objects.proofs.Laws.{code_lawful}
 use Rattle.coded_objects.proofs.LawfulCode.{first_there}
 use Rattle.coded_objects.proofs.Tested.{Chooses, local_is, new_is, send_is, async_is, return_is, wait_is, write_is, offered_is, pick_is}
-use Rattle.verified_code.specs.Sorts.{Declared, Signature, declared_at, declared_named, signature_named, result_sort}
-use Rattle.verified_code.specs.Verified.{IsVerified}
+use Rattle.code_verdict.specs.Sorts.{Declared, Signature, declared_at, declared_named, signature_named, result_sort}
+use Rattle.code_verdict.specs.Verified.{IsVerified}
 use Rattle.verified_code.specs.TypedCode.{IsOfSort, AreOfKinds, kinds_of_frame, left_sort, IsSortedFrame, AreSortedFrames, IsSortedObject, class_in, IsMessageFor, IsTypedCode}
 use Rattle.verified_code.proofs.Shaped.{class_shaped, kinds_of_method}
 use Rattle.verified_code.proofs.Sent.{Asks}

@@ -1,7 +1,5 @@
 pub mod Laws
-pub mod Propositions
 pub mod Rows
-pub mod OnlyFaults
 pub mod Operands
 pub mod Operators
 pub mod Shaped
@@ -22,8 +20,3 @@ pub mod CompiledCode
 pub mod CompiledFiles
 pub mod DerivedChoices
 pub mod Loads
-pub mod Spreading
-pub mod Verdicts
-pub mod WholeVerdict
-pub mod FirstFaults
-pub mod FirstCodes

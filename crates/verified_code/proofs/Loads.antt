@@ -31,8 +31,8 @@ use Rattle.pool_compile.proofs.Laws.{written, some_class}
 use Rattle.pool_syntax.specs.Typing.{faults}
 use Rattle.verified_code.proofs.DerivedChoices.{derived_choices}
 use Rattle.verified_code.specs.CodeRun.{IsCodeRun}
-use Rattle.verified_code.specs.DeclaredKinds.{file_of, program_has_no_posts}
-use Rattle.verified_code.specs.Verified.{IsVerified}
+use Rattle.verified_code.specs.DeclaredKinds.{file_of}
+use Rattle.code_verdict.specs.Verified.{IsVerified}
 use Rattle.verified_code.proofs.CompiledFiles.{program_has_choices, file_is_shaped, file_is_verified}
 use Rattle.verified_code.proofs.Runs.{record_is_code_run}
 
@@ -81,16 +81,16 @@ read_back f w d = decode_encode f w ∙ ap (unless_twice f) (no_text_twice 0 [] 
 
 -- the file of a checked program is verified
 pub program_verified : (names : List Text) (p : ProgramTree) → IsCheckedProgram p → p ≢ [] → is_spelled names p ≡ true → AreShort (code p) → program_has_choices p ≡ true
-    → program_has_no_posts p ≡ true → IsVerified (file_of names p)
-program_verified names p c some spelled short chosen bare = file_is_verified names p some c.faultless c.written spelled short chosen bare
+    → IsVerified (file_of names p)
+program_verified names p c some spelled short chosen = file_is_verified names p some c.faultless c.written spelled short chosen
 
 -- the record of its code has the lines of the program's, and is a run of the relation over code
 pub loads_as_recorded : (names : List Text) (p : ProgramTree) (l : Placement) (q : ℕ) (es : List Event) → IsCheckedProgram p → p ≢ [] → is_spelled names p ≡ true → AreShort (code p)
-    → program_has_choices p ≡ true → program_has_no_posts p ≡ true → Suits l (file_of names p).unit
+    → program_has_choices p ≡ true → Suits l (file_of names p).unit
     → ((record_of (terms p) l q es).lines ≡ (record_of (coded (file_of names p).unit) l q es).lines)
     × ((c : Config Placed) × (start (coded (file_of names p).unit) l ≡ Some c) × IsCodeRun (file_of names p) l c (record_of (coded (file_of names p).unit) l q es))
-loads_as_recorded names p l q es c some spelled short chosen bare suits =
-    let good = program_verified names p c some spelled short chosen bare in (
+loads_as_recorded names p l q es c some spelled short chosen suits =
+    let good = program_verified names p c some spelled short chosen in (
       (code_record p (file_of names p).unit c refl l q es (suits_fits p (file_of names p).unit l refl suits)).lines,
       record_is_code_run (file_of names p) (file_is_shaped names p) good l q es (code_fits (file_of names p).unit l suits),
     )
@@ -103,9 +103,9 @@ grammatical_choices : (p : ProgramTree) → ∥ IsGrammatical p ∥₁ → progr
 grammatical_choices p m = ∥∥₁_elim m (hlevel props) (λ g. derived_choices g.0 p g.2)
 
 -- the same of a program of the grammar without class faults
-pub grammatical_verified : (names : List Text) (p : ProgramTree) → ∥ IsGrammatical p ∥₁ → faults p ≡ [] → is_spelled names p ≡ true → AreShort (code p) → program_has_no_posts p ≡ true → IsVerified (file_of names p)
-grammatical_verified names p m none spelled short bare =
-    program_verified names p (grammatical_checked p m none) (some_class p m) spelled short (grammatical_choices p m) bare
+pub grammatical_verified : (names : List Text) (p : ProgramTree) → ∥ IsGrammatical p ∥₁ → faults p ≡ [] → is_spelled names p ≡ true → AreShort (code p) → IsVerified (file_of names p)
+grammatical_verified names p m none spelled short =
+    program_verified names p (grammatical_checked p m none) (some_class p m) spelled short (grammatical_choices p m)
 
 pub grammatical_loads : (names : List Text) (p : ProgramTree) (l : Placement) (q : ℕ) (es : List Event) → ∥ IsGrammatical p ∥₁ → faults p ≡ []
     → Suits l (file_of names p).unit → (record_of (terms p) l q es).lines ≡ (record_of (coded (file_of names p).unit) l q es).lines

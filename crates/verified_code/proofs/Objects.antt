@@ -17,8 +17,8 @@ use Rattle.object_code.specs.Kinds.{frames_kind, code_kind}
 use Rattle.object_code.specs.Shaped.{IsShaped}
 use Rattle.object_code.specs.Step.{Numbered, method_named, method_serving, code_serving, frames_given, code_given, padded, placed_of, code_placed, placed_at, class_from, code_made, is_own}
 use Rattle.coded_objects.specs.Coded.{class_number}
-use Rattle.verified_code.specs.Sorts.{Declared, Signature, declared_at, declared_named, signature_named}
-use Rattle.verified_code.specs.Verified.{IsVerified}
+use Rattle.code_verdict.specs.Sorts.{Declared, Signature, declared_at, declared_named, signature_named}
+use Rattle.code_verdict.specs.Verified.{IsVerified}
 use Rattle.verified_code.specs.TypedCode.{Classes, AreOfKinds, IsSortedFrame, AreSortedFrames, IsSortedObject}
 use Rattle.verified_code.proofs.Operands.{nils_of_kinds, sorts_grow}
 use Rattle.verified_code.proofs.Shaped.{class_parts, class_shaped, class_there}

@@ -8,7 +8,7 @@ use Rattle.pool_syntax.specs.Typing.{Sort, IntSort, BoolSort, ClassSort, NilSort
 use Rattle.mesh_semantics.proofs.Laws.{equal, same_some, given_by}
 use Rattle.object_code.specs.Frames.{top, below, taken, dropped}
 use Rattle.object_code.specs.Step.{nth, padded}
-use Rattle.verified_code.specs.Sorts.{Stack, kind_sort, result_sort, value_sort, has_value, fits_sort, is_alike, pop_fitting, pop_value, pop_any, pop_alike, pop_arguments, push_sort}
+use Rattle.code_verdict.specs.Sorts.{Stack, kind_sort, result_sort, value_sort, has_value, fits_sort, is_alike, pop_fitting, pop_value, pop_any, pop_alike, pop_arguments, push_sort}
 use Rattle.verified_code.specs.TypedCode.{Classes, IsOfSort, AreOfSorts, AreOfKinds}
 
 pub if_some : {A : Type 0} (t : Bool) (x : A) (a : A) → (if t then Some x else None) ≡ Some a → (t ≡ true) × (x ≡ a)

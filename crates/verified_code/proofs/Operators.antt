@@ -12,7 +12,7 @@ use Rattle.mesh_semantics.specs.Partial.{◌>>=◌}
 use Rattle.object_code.specs.Frames.{top, below, dropped}
 use Rattle.object_code.specs.Kinds.{operated, arity}
 use Rattle.object_code.specs.Step.{outcome_value}
-use Rattle.verified_code.specs.Sorts.{Stack, pop_fitting, pop_alike, push_sort, operated_sorts}
+use Rattle.code_verdict.specs.Sorts.{Stack, pop_fitting, pop_alike, push_sort, operated_sorts}
 use Rattle.verified_code.specs.TypedCode.{Classes, IsOfSort, AreOfSorts}
 use Rattle.verified_code.proofs.Operands.{push_some, popped, popped_alike}
 

@@ -1,13 +1,13 @@
 -- The unit of a verified file is proper.
-use Rattle.std.proofs.Common.{◌≡◌, refl, sym, ap, subst, ◌∙◌, IsTrue, ℕ, zero, suc, ◌+◌, ◌-◌, ◌≤◌, ◌<◌, List, [], ◌∷◌, length, Option, Some, None, is_some, Bool, true, false, arith}
+use Rattle.code_verdict.proofs.Passing.{passes_below, slice_get_below}
+use Rattle.std.proofs.Common.{◌≡◌, refl, sym, ap, subst, ◌∙◌, IsTrue, ℕ, zero, suc, ◌+◌, ◌-◌, ◌≤◌, ◌<◌, List, [], ◌∷◌, length, Option, Some, None, is_some, true, false, arith}
 use Rattle.std.specs.Prelude.{slice_get, replicate}
-use Rattle.pool_syntax.specs.Tokens.{Text}
 use Rattle.pool_syntax.specs.declared.words.NameId.{NameId}
 use Rattle.pool_syntax.specs.declared.words.Op.{Op}
 use Rattle.pool_syntax.specs.declared.words.Op.TheVariants as O
 use Rattle.pool_syntax.specs.declared.tree.Kind.{Kind}
 use Rattle.pool_syntax.specs.declared.tree.Kind.TheVariants as D
-use Rattle.pool_syntax.specs.Spelled.{is_name_text, text_passes}
+use Rattle.pool_syntax.specs.Spelled.{is_name_text}
 use Rattle.pool_syntax.specs.Typing.{Sort, BoolSort, ClassSort, op_sort, operand_sort}
 use Rattle.mesh_semantics.proofs.Laws.{same_some, given_by, required}
 use Rattle.mesh_semantics.specs.Partial.{◌>>=◌}
@@ -22,8 +22,8 @@ use Rattle.object_code.specs.Proper.{params_of, takes, leaves, IsProperCode, IsP
 use Rattle.object_code.specs.Shaped.{IsShaped}
 use Rattle.object_code.specs.Step.{Numbered, method_named}
 use Rattle.unit_objects.proofs.Laws.{found_named}
-use Rattle.verified_code.specs.Sorts.{Stack, Declared, Signature, declared_at, signature_named, kind_sort, result_sort, scope_by, value_by, fits_sort, has_value, is_alike, pop_fitting, pop_value, pop_any, pop_alike, pop_arguments, push_sort, pop_sent, pop_returned, asked_of, operated_sorts, left_by}
-use Rattle.verified_code.specs.Verified.{ReachedBy, IsWellSorted, IsVerified}
+use Rattle.code_verdict.specs.Sorts.{Stack, Declared, Signature, declared_at, signature_named, kind_sort, result_sort, scope_by, value_by, fits_sort, has_value, is_alike, pop_fitting, pop_value, pop_any, pop_alike, pop_arguments, push_sort, pop_sent, pop_returned, asked_of, operated_sorts, left_by}
+use Rattle.code_verdict.specs.Verified.{ReachedBy, IsWellSorted, IsVerified}
 use Rattle.verified_code.proofs.Operands.{if_some, push_some}
 use Rattle.verified_code.proofs.Shaped.{class_shaped, class_there, kinds_of_method}
 use Rattle.verified_code.proofs.Sent.{asks_class}
@@ -127,18 +127,6 @@ slice_get_there : {X : Type 0} (xs : List X) (n : ℕ) → n < length xs → (x 
 slice_get_there [] n h = absurd (omega (arith, h))
 slice_get_there (x ∷ xs) zero h = (x, refl)
 slice_get_there (x ∷ xs) (suc n) h = slice_get_there xs n (omega (arith, h))
-
-slice_get_below : {X : Type 0} (xs : List X) (n : ℕ) (x : X) → slice_get xs n ≡ Some x → n < length xs
-slice_get_below [] n x e = absurd (let z : None ≡ Some x = e in cc)
-slice_get_below (y ∷ xs) zero x e = omega arith
-slice_get_below (y ∷ xs) (suc n) x e = let h = slice_get_below xs n x e in omega (arith, h)
-
-pub passes_below : (test : Text → Bool) (names : List Text) (n : ℕ) → IsTrue (text_passes test (slice_get names n)) → n < length names
-passes_below test names n h = by (slice_get names n) refl
-  where
-    by : (w : Option Text) → slice_get names n ≡ w → n < length names
-    by None e = let z : false ≡ true = subst (λ q. IsTrue (text_passes test q)) e h in absurd (cc)
-    by (Some w) e = slice_get_below names n w e
 
 module _ (f : UnitFile) (shaped : IsShaped f) (good : IsVerified f) (j : ℕ) (k : Declared) (is_class : declared_at f j ≡ Some k) where
   call_counts : (m : NameId) (ss r : Stack) → (signature_named k m >>= λ s. push_sort (result_sort s.outcome) (pop_arguments s.params ss)) ≡ Some r

@@ -18,7 +18,7 @@ use Rattle.object_code.specs.Decode.{Decoded, Says, BadBytes, decode}
 use Rattle.mesh_semantics.specs.Record.{record_of}
 use Rattle.coded_objects.specs.Coded.{coded}
 use Rattle.verified_code.specs.DeclaredKinds.{file_of}
-use Rattle.verified_code.specs.Verdict.{Verdict, Good, Header, Code, verdict}
+use Rattle.code_verdict.specs.Verdict.{Verdict, Good, Header, Code, verdict}
 
 -- class Main body write 1 end
 abbrev writes_one : ProgramTree

@@ -27,8 +27,8 @@ use Rattle.unit_objects.specs.OfUnit.{AreFramesOf}
 use Rattle.coded_objects.specs.Coded.{Placed, placed, kind_of, unless_served, class_number, last_code, coded}
 use Rattle.coded_objects.specs.OfCode.{Names}
 use Rattle.coded_objects.proofs.Laws.{start_of_code, start_there, root_rests}
-use Rattle.verified_code.specs.Sorts.{Signature}
-use Rattle.verified_code.specs.Verified.{IsVerified}
+use Rattle.code_verdict.specs.Sorts.{Signature}
+use Rattle.code_verdict.specs.Verified.{IsVerified}
 use Rattle.verified_code.specs.TypedCode.{Classes, AreOfKinds, frame_scope, AreSortedFrames, IsSortedObject, class_in, FitInstr, FitFrames, TakesOperands, HasMethod, IsMessageFor, DoesWrong, GoesWrong, IsTypedCode}
 use Rattle.verified_code.specs.CodeRun.{IsRightCode, GoesBy, IsCodeRun}
 use Rattle.verified_code.proofs.Sent.{Asks}

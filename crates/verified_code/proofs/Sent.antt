@@ -8,7 +8,7 @@ use Rattle.pool_syntax.specs.Typing.{Sort, IntSort, BoolSort, ClassSort, NilSort
 use Rattle.mesh_semantics.proofs.Laws.{equal, same_some, given_by, required}
 use Rattle.object_code.specs.declared.file.UnitFile.{UnitFile}
 use Rattle.object_code.specs.Frames.{top, taken, dropped}
-use Rattle.verified_code.specs.Sorts.{Stack, Declared, Signature, declared_named, signature_named, asked_of, pop_arguments, pop_sent}
+use Rattle.code_verdict.specs.Sorts.{Stack, Declared, Signature, declared_named, signature_named, asked_of, pop_arguments, pop_sent}
 use Rattle.verified_code.specs.TypedCode.{Classes, IsOfSort, AreOfSorts, AreOfKinds}
 use Rattle.verified_code.proofs.Operands.{popped_arguments, popped_any, dropped_suc}
 

@@ -8,7 +8,7 @@ use Rattle.object_code.specs.declared.file.ClassKinds.{ClassKinds}
 use Rattle.object_code.specs.declared.file.MethodKinds.{MethodKinds}
 use Rattle.object_code.specs.Shaped.{AreShapedMethods, AreShapedClasses, IsShaped}
 use Rattle.mesh_semantics.proofs.Laws.{same_some, given_by}
-use Rattle.verified_code.specs.Sorts.{Declared, declared_at}
+use Rattle.code_verdict.specs.Sorts.{Declared, declared_at}
 
 pub kinds_of_method : (ms : List MethodCode) (ss : List MethodKinds) (i : ℕ) (m : MethodCode) → AreShapedMethods ms ss → slice_get ms i ≡ Some m
     → (s : MethodKinds) × (slice_get ss i ≡ Some s) × (m.temps ≡ length s.temps)

@@ -5,8 +5,8 @@ use Rattle.mesh_semantics.proofs.Laws.{same_some}
 use Rattle.object_code.specs.declared.unit.Instr.{Instr}
 use Rattle.object_code.specs.Proper.{nexts, IsAmong}
 use Rattle.pool_compile.specs.Code.{more}
-use Rattle.verified_code.specs.Sorts.{Stack, CodeScope, left_by}
-use Rattle.verified_code.specs.Verified.{Reached}
+use Rattle.code_verdict.specs.Sorts.{Stack, CodeScope, left_by}
+use Rattle.code_verdict.specs.Verified.{Reached}
 use Rattle.verified_code.proofs.Stacks.{S, AllFine, fine_here, reached_is}
 
 pub more_is : (m n : ℕ) → (m ≤ more m n) × (n ≤ more m n) × ((more m n ≡ m) ⊎ (more m n ≡ n))

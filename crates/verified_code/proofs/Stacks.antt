@@ -6,8 +6,8 @@ use Rattle.mesh_semantics.specs.Partial.{◌>>=◌}
 use Rattle.object_code.specs.declared.unit.Instr.{Instr}
 use Rattle.object_code.specs.Proper.{nexts, IsAmong}
 use Rattle.pool_compile.proofs.Coded.{Has, front, back}
-use Rattle.verified_code.specs.Sorts.{Stack, CodeScope, left_by}
-use Rattle.verified_code.specs.Verified.{ReachedBy}
+use Rattle.code_verdict.specs.Sorts.{Stack, CodeScope, left_by}
+use Rattle.code_verdict.specs.Verified.{ReachedBy}
 
 -- the stack before a place, where each instruction goes on to the next of the list
 abbrev pub stack_at : CodeScope → Option Stack → List Instr → ℕ → Option Stack

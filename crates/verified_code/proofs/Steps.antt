@@ -28,8 +28,8 @@ use Rattle.object_code.specs.Proper.{nexts, IsAmong}
 use Rattle.object_code.specs.Shaped.{IsShaped}
 use Rattle.object_code.specs.Step.{Numbered, at_rest, nth, padded, outcome_value, method_named, begun, called, handed, left, is_own, instr_stepped, asked, instr_gone_on, at_alternative, after_choice, frames_stepped, frames_given, frames_gone_on, frames_picked, frames_serving}
 use Rattle.unit_objects.proofs.Laws.{found_named, length_padded, length_set}
-use Rattle.verified_code.specs.Sorts.{Stack, Declared, Signature, declared_at, signature_named, kind_sort, result_sort, value_sort, temps_by, value_by, signature_of, left_by, pop_fitting, pop_returned, pop_arguments, push_sort, pop_sent, asked_of, fits_sort}
-use Rattle.verified_code.specs.Verified.{IsVerified}
+use Rattle.code_verdict.specs.Sorts.{Stack, Declared, Signature, declared_at, signature_named, kind_sort, result_sort, value_sort, temps_by, value_by, signature_of, left_by, pop_fitting, pop_returned, pop_arguments, push_sort, pop_sent, asked_of, fits_sort}
+use Rattle.code_verdict.specs.Verified.{IsVerified}
 use Rattle.verified_code.specs.TypedCode.{Classes, IsOfSort, AreOfSorts, AreOfKinds, kinds_of_frame, left_sort, frame_scope, missing_sorts, IsSortedFrame, AreSortedFrames, IsSortedObject}
 use Rattle.verified_code.proofs.Operands.{if_some, push_some, of_fitting, of_result, popped, popped_any, popped_value, popped_arguments, nth_of_kinds, set_of_kinds, padded_of_kinds}
 use Rattle.verified_code.proofs.Operators.{operated_makes, operated_left}

@@ -1,10 +1,9 @@
 -- The file of a program: its code, and the kinds that it declares.
-use Rattle.std.specs.Prelude.{List, [], ◌∷◌, map, ◌++◌, Bool, true, ◌&&◌}
+use Rattle.std.specs.Prelude.{List, map, ◌++◌}
 use Rattle.pool_syntax.specs.Tokens.{Text}
 use Rattle.pool_syntax.specs.declared.tree.Kind.{Kind}
 use Rattle.pool_syntax.specs.declared.tree.Var.{Var}
 use Rattle.pool_syntax.specs.Terms.{MethodTree, ClassTree, ProgramTree}
-use Rattle.pool_relation.specs.Reducible.{is_done}
 use Rattle.object_code.specs.declared.file.UnitFile.{UnitFile}
 use Rattle.object_code.specs.declared.file.ClassKinds.{ClassKinds}
 use Rattle.object_code.specs.declared.file.MethodKinds.{MethodKinds}
@@ -23,12 +22,3 @@ class_kinds k = record { vars = kinds_of k.vars; methods = map method_kinds k.me
 -- with the table of its names
 abbrev pub file_of : List Text → ProgramTree → UnitFile
 file_of names p = record { unit = record { names = names; classes = code p }; kinds = record { classes = map class_kinds p } }
-
--- no method has post statements
-abbrev pub methods_have_no_posts : List MethodTree → Bool
-methods_have_no_posts [] = true
-methods_have_no_posts (m ∷ ms) = is_done m.post && methods_have_no_posts ms
-
-abbrev pub program_has_no_posts : ProgramTree → Bool
-program_has_no_posts [] = true
-program_has_no_posts (k ∷ ks) = methods_have_no_posts k.methods && program_has_no_posts ks

@@ -21,8 +21,8 @@ use Rattle.mesh_semantics.specs.Sound.{Each}
 use Rattle.unit_objects.specs.OfUnit.{HasTemps}
 use Rattle.coded_objects.specs.Coded.{Placed, class_number, coded}
 use Rattle.coded_objects.specs.OfCode.{IsOfCode}
-use Rattle.verified_code.specs.Sorts.{Stack, CodeScope, Declared, Signature, kind_sort, result_sort, declared_at, signature_named, scope_by, left_by}
-use Rattle.verified_code.specs.Verified.{Reached}
+use Rattle.code_verdict.specs.Sorts.{Stack, CodeScope, Declared, Signature, kind_sort, result_sort, declared_at, signature_named, scope_by, left_by}
+use Rattle.code_verdict.specs.Verified.{Reached}
 
 -- the class of each object, by its name
 abbrev pub Classes : Type 0

@@ -1,5 +1,5 @@
 //! Laws of verified object code files: each is the contract of a function that does nothing.
-ghost use Rattle.std.specs.Prelude.{◌≡◌, ◌⊎◌, ℕ, List, [], length, Some, true};
+ghost use Rattle.std.specs.Prelude.{◌≡◌, ℕ, List, [], Some, true};
 ghost use Rattle.pool_syntax.specs.Spelled.{IsGrammatical, is_spelled};
 ghost use Rattle.pool_syntax.specs.Table.{is_distinct};
 ghost use Rattle.pool_syntax.specs.Terms.{ProgramTree};
@@ -22,23 +22,10 @@ ghost use Rattle.pool_compile.specs.Small.{AreShort};
 ghost use Rattle.placed_terms.specs.Terms.{terms};
 ghost use Rattle.coded_objects.specs.Coded.{Placed, coded};
 ghost use Rattle.verified_code.specs.CodeRun.{IsCodeRun};
-ghost use Rattle.verified_code.specs.DeclaredKinds.{file_of, program_has_no_posts};
-ghost use Rattle.verified_code.specs.Faults.{IsBadHeading, IsBadCode};
+ghost use Rattle.verified_code.specs.DeclaredKinds.{file_of};
 ghost use Rattle.verified_code.specs.TypedCode.{IsTypedCode, GoesWrong};
-ghost use Rattle.verified_code.specs.Verdict.{Good, Header, Code, verdict};
-ghost use Rattle.verified_code.specs.Verified.{IsVerified};
-
-/// The computed verdict on a file is good exactly where it is verified. It is a heading exactly where this is the first that breaks a rule, or where there is no class, with 0; and a
-/// code exactly where no heading breaks a rule and this is the first code that is not well sorted.
-pub fn the_verdict_is_exact()
-    ensures verified { (f : UnitFile) → verdict f ≡ Good → IsVerified f }
-    ensures good { (f : UnitFile) → IsVerified f → verdict f ≡ Good }
-    ensures header { (f : UnitFile) (j : ℕ) → verdict f ≡ Header j → ((length f.unit.classes ≡ 0) × (j ≡ 0)) ⊎ IsBadHeading f j }
-    ensures no_class { (f : UnitFile) → length f.unit.classes ≡ 0 → verdict f ≡ Header 0 }
-    ensures first_header { (f : UnitFile) (j : ℕ) → IsBadHeading f j → verdict f ≡ Header j }
-    ensures code { (f : UnitFile) (j i : ℕ) → verdict f ≡ Code j i → IsBadCode f j i }
-    ensures first_code { (f : UnitFile) (j i : ℕ) → IsBadCode f j i → verdict f ≡ Code j i }
-{}
+ghost use Rattle.code_verdict.specs.Verdict.{Good, verdict};
+ghost use Rattle.code_verdict.specs.Verified.{IsVerified};
 
 /// The unit of a verified file is proper.
 pub fn verified_units_are_proper()
@@ -67,8 +54,8 @@ pub fn records_of_verified_code_are_runs()
 /// The file of a program of the grammar without class faults is shaped and verified, so the verdict on it is good.
 pub fn files_of_programs_are_verified()
     ensures shaped { (names : List Text) (p : ProgramTree) → IsShaped (file_of names p) }
-    ensures verified { (names : List Text) (p : ProgramTree) → ∥ IsGrammatical p ∥₁ → faults p ≡ [] → is_spelled names p ≡ true → AreShort (code p) → program_has_no_posts p ≡ true → IsVerified (file_of names p) }
-    ensures good { (names : List Text) (p : ProgramTree) → ∥ IsGrammatical p ∥₁ → faults p ≡ [] → is_spelled names p ≡ true → AreShort (code p) → program_has_no_posts p ≡ true → verdict (file_of names p) ≡ Good }
+    ensures verified { (names : List Text) (p : ProgramTree) → ∥ IsGrammatical p ∥₁ → faults p ≡ [] → is_spelled names p ≡ true → AreShort (code p) → IsVerified (file_of names p) }
+    ensures good { (names : List Text) (p : ProgramTree) → ∥ IsGrammatical p ∥₁ → faults p ≡ [] → is_spelled names p ≡ true → AreShort (code p) → verdict (file_of names p) ≡ Good }
 {}
 
 /// The bytes of a file whose names are distinct say that file.

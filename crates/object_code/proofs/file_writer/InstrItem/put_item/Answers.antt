@@ -74,6 +74,9 @@ returns-in-Select g c = same _ _ _ _ (ap (λ alts. 22 ∷ list_bytes alternative
 pub returns-in-Halt : goal.returns-in-Halt
 returns-in-Halt g c = same _ _ _ _ (ap instr_bytes (sym c.in-Halt.is)) c.put_byte-in-Halt.ensures
 
+pub returns-in-Post : goal.returns-in-Post
+returns-in-Post g c = same _ _ _ _ (ap instr_bytes (sym c.in-Post.is)) c.put_byte-in-Post.ensures
+
 pub put_listed-requires : goal.put_listed-requires
 put_listed-requires g c =
     let short : IsShortList c.in-Answer.names = subst InstrIsShort c.in-Answer.is c.requires in

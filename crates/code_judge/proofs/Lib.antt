@@ -1,0 +1,4 @@
+pub mod VerdictSteps
+pub mod ToldLaws
+pub mod Words
+pub mod AnswerLaws

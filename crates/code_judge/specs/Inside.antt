@@ -1,0 +1,7 @@
+-- The bytes of names.
+use Rattle.std.specs.Prelude.{ℕ, Bool, ◌||◌}
+use Rattle.pool_syntax.specs.Tokens.{is_letter, is_digit}
+
+-- a byte of a name behind its first
+abbrev pub in_a_name : ℕ → Bool
+in_a_name b = is_letter b || is_digit b

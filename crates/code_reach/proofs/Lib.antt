@@ -1,0 +1,3 @@
+pub mod SilentLaws
+pub mod Stepping
+pub mod Turns

@@ -1,0 +1,5 @@
+pub mod Effects
+pub mod Indexed
+pub mod Scopes
+pub mod Silent
+pub mod Spreads

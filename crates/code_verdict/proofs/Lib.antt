@@ -1,0 +1,9 @@
+pub mod Laws
+pub mod Passing
+pub mod Spreading
+pub mod Verdicts
+pub mod WholeVerdict
+pub mod FirstFaults
+pub mod FirstCodes
+pub mod OnlyFaults
+pub mod Propositions

@@ -1,0 +1,4 @@
+pub mod Sorts
+pub mod Verified
+pub mod Verdict
+pub mod Faults

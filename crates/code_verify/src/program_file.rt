@@ -1,0 +1,86 @@
+//! The file of a program.
+ghost use Rattle.std.specs.Prelude.{◌≡◌, ◌++◌, map, IfOk, OnOk};
+ghost use Rattle.pool_syntax.specs.TreeOf.{class_tree, method_tree, program_of};
+ghost use Rattle.object_code.specs.Shaped.{IsShaped};
+ghost use Rattle.pool_compile.specs.Small.{AreShort};
+ghost use Rattle.verified_code.specs.DeclaredKinds.{class_kinds, file_of, kinds_of, method_kinds};
+ghost use Rattle.code_verdict.specs.Verdict.{Good, verdict};
+
+use class_check::Checked;
+use object_code::{ClassKinds, Kinds, MethodKinds, UnitFile};
+use pool_compile::compile;
+use pool_syntax::{ClassDecl, Kind, List, Method, Var};
+use std::alloc::{AllocError, Global};
+
+/// Adds the kinds of variables.
+fn push_kinds(kinds: &mut List<Kind>, vars: &[Var]) -> Result<(), AllocError>
+    ensures { OnOk result (kinds.new ≡ kinds.old ++ kinds_of vars.now) }
+{
+    for var in vars {
+        if let Err(_) = kinds.push(var.kind) {
+            return Err(AllocError);
+        }
+    }
+    Ok(())
+}
+
+/// The kinds of a method's parameters and locals, and of its result.
+fn method_kinds(alloc: Global, method: &Method) -> Result<MethodKinds, AllocError>
+    ensures { IfOk result (λ k. k ≡ method_kinds (method_tree method.now)) }
+{
+    let mut temps = List::make(alloc);
+    push_kinds(&mut temps, method.params.items())?;
+    push_kinds(&mut temps, method.locals.items())?;
+    Ok(MethodKinds {
+        temps,
+        result: method.result,
+    })
+}
+
+/// The kinds of a class's variables, and of its methods.
+fn class_kinds(alloc: Global, class: &ClassDecl) -> Result<ClassKinds, AllocError>
+    ensures { IfOk result (λ k. k ≡ class_kinds (class_tree class.now)) }
+{
+    let mut vars = List::make(alloc);
+    push_kinds(&mut vars, class.vars.items())?;
+    let mut methods = List::make(alloc);
+    for method in class.methods.items() {
+        let kinds = method_kinds(alloc, method)?;
+        if let Err(_) = methods.push(kinds) {
+            return Err(AllocError);
+        }
+    }
+    Ok(ClassKinds { vars, methods })
+}
+
+/// The kinds of each class.
+fn kinds_of(alloc: Global, classes: &[ClassDecl]) -> Result<List<ClassKinds>, AllocError>
+    ensures { IfOk result (λ list. list ≡ map class_kinds (map class_tree classes.now)) }
+{
+    let mut list = List::make(alloc);
+    for class in classes {
+        let kinds = class_kinds(alloc, class)?;
+        if let Err(_) = list.push(kinds) {
+            return Err(AllocError);
+        }
+    }
+    Ok(list)
+}
+
+/// The code of a program, with the kinds that it declares and a copy of its names. The verdict on it is good, so `verify`
+/// refuses it for memory alone.
+pub fn file_of(alloc: Global, program: &Checked<'_>) -> Result<UnitFile, AllocError>
+    ensures file { IfOk result (λ f. f ≡ file_of program.now.names.now (program_of program.now.program.now)) }
+    ensures shaped { IfOk result (λ f. IsShaped f) }
+    ensures short { IfOk result (λ f. AreShort f.unit.classes) }
+    ensures good { IfOk result (λ f. verdict f ≡ Good) }
+{
+    let Ok(unit) = compile(alloc, program) else {
+        return Err(AllocError);
+    };
+    let classes = kinds_of(alloc, program.program.classes.items())?;
+    Ok(UnitFile {
+        unit,
+        kinds: Kinds { classes },
+    })
+}
