@@ -8,7 +8,7 @@ use Rattle.pool_syntax.specs.Tokens.{Text, kept_text, texts_after}
 use Rattle.pool_syntax.specs.Terms.{ProgramTree}
 use Rattle.pool_syntax.specs.Programs.{IsParsed}
 use Rattle.run_record.specs.Numbered.{lines_after}
-use Rattle.record_laws.specs.Readable.{IsRecord}
+use Rattle.run_record.specs.Readable.{IsRecord}
 use Rattle.readable_records.specs.ReadsBack.{ReadsBack}
 use Rattle.record_laws.proofs.Names.{lines_back, record_placed}
 use Rattle.record_laws.proofs.Reading.{text_read}

@@ -18,7 +18,7 @@ use Rattle.mesh_semantics.specs.Record.{record_of, record_on_wires}
 use Rattle.mesh_semantics.specs.Sound.{Each}
 use Rattle.placed_terms.specs.Terms.{terms}
 use Rattle.placed_code.proofs.Laws.{code_record, code_record_on_wires, parsed_checked, suits_fits}
-use Rattle.record_laws.specs.Readable.{IsReadableEvent, IsRecord}
+use Rattle.run_record.specs.Readable.{IsReadableEvent, IsRecord}
 use Rattle.readable_records.proofs.SpelledCode.{code_is_spelled}
 use Rattle.readable_records.proofs.ReadableRuns.{record_reads, record_reads_on_wires}
 

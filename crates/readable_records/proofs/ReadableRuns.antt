@@ -33,7 +33,7 @@ use Rattle.coded_objects.specs.Made.{IsMade, AreMadeArgs, IsMadeMessage, IsMadeI
 use Rattle.coded_objects.specs.Tells.{IsBurst, HasSender, HasMessage, IsAtCall, IsWireNumber, Tells}
 use Rattle.coded_objects.specs.LabelThere.{LabelThere}
 use Rattle.coded_objects.proofs.Laws.{code_fits, start_there, IsMessageOf, made_lawful, made_start_sound, label_made, call_made, class_made, label_there, call_names, DueHas, IsTold, act_told, HandsAtMost, ActHands, act_hands}
-use Rattle.record_laws.specs.Readable.{IsCount, IsNamed, IsReadableValue, AreReadableValues, AreReadableArgs, IsReadableItem, IsReadableMessage, IsReadableStep, IsReadableWhat, IsReadableEvent, IsRecordFrom, IsRecord}
+use Rattle.run_record.specs.Readable.{IsCount, IsNamed, IsReadableValue, AreReadableValues, AreReadableArgs, IsReadableItem, IsReadableMessage, IsReadableStep, IsReadableWhat, IsReadableEvent, IsRecordFrom, IsRecord}
 use Rattle.readable_records.specs.SpelledUnit.{IsSpelledUnit}
 
 module _ (u : Code) (proper : IsProper u) (spelled : IsSpelledUnit u) (l : Placement) (suits : Suits l u) (q : ℕ) (most : q ≤ 10000) where

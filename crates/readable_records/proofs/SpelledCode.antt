@@ -16,13 +16,13 @@ use Rattle.object_code.specs.declared.unit.MethodCode.{MethodCode}
 use Rattle.object_code.specs.declared.unit.ClassCode.{ClassCode}
 use Rattle.object_code.specs.declared.unit.Unit.{Unit as Code}
 use Rattle.object_code.specs.Frames.{code_of, method_code}
-use Rattle.pool_compile.specs.Code.{Numbering, name, push, load, store, number_of, names_of, expression_code, expressions_code, guards_code, statement_code, statements_code, alternatives_code, alternatives_at, method_code_of, class_code, code}
+use Rattle.pool_compile.specs.Code.{Numbering, name, push, load, store, number_of, names_of, post_code, expression_code, expressions_code, guards_code, statement_code, statements_code, alternatives_code, alternatives_at, method_code_of, class_code, code}
 use Rattle.mesh_semantics.proofs.Laws.{first, second}
 use Rattle.mesh_semantics.specs.Act.{id}
 use Rattle.record_lines.specs.RecordText.{text_or_none}
-use Rattle.run_record.specs.Fields as F
+use Rattle.line_reader.specs.Fields as F
 use Rattle.coded_objects.specs.Made.{HasInstr, IsNamedIn}
-use Rattle.record_laws.specs.Readable.{IsNamed, IsString}
+use Rattle.run_record.specs.Readable.{IsNamed, IsString}
 use Rattle.readable_records.specs.SpelledUnit.{IsSpelledUnit}
 
 -- texts of names and of strings
@@ -141,7 +141,7 @@ module _ (names : List Text) where
         say_append (expression_code g e) (expressions_code g es ++ I.Send (name m) (size es) ∷ []) (expression_says g e (first (is_spelled_expression names e) (is_name names m) a))
         (say_append (expressions_code g es) (I.Send (name m) (size es) ∷ []) (expressions_say g es (second (is_spelled_expression names e && is_name names m) (are_spelled_expressions names es) h))
         (named_reads names m (second (is_spelled_expression names e) (is_name names m) a), tt))
-    expression_says g (T.Frame m t ss e) h = tt
+    expression_says g (T.Frame m t ss e qs) h = tt
     expression_says g (T.Wait b m) h = tt
 
     expressions_say : (g : Numbering) (es : Expressions) → are_spelled_expressions names es ≡ true → AllSay (expressions_code g es)
@@ -206,7 +206,7 @@ module _ (names : List Text) where
         let go = suc (at + length (guards_code g alts)) in
         say_append (guards_code g alts) (I.Select (alternatives_at g go alts) ∷ alternatives_code g go (go + length (alternatives_code g go 0 alts)) alts) (guards_say g alts h)
         (tt, alternatives_say g go (go + length (alternatives_code g go 0 alts)) alts h)
-    statement_says g at (T.Serve m k t ss e) h = tt
+    statement_says g at (T.Serve m k t ss e qs) h = tt
 
     statements_say : (g : Numbering) (at : ℕ) (ss : Statements) → are_spelled_statements names ss ≡ true → AllSay (statements_code g at ss)
     statements_say g at T.Done h = tt
@@ -222,6 +222,10 @@ module _ (names : List Text) where
         let next = suc (at + length (statements_code g at ss)) in
         say_append (statements_code g at ss) (I.Jump end ∷ alternatives_code g next end alts) (statements_say g at ss p.work) (tt, alternatives_say g next end alts p.rest)
 
+  post_says : (g : Numbering) (at : ℕ) (qs : Statements) → are_spelled_statements names qs ≡ true → AllSay (post_code g at qs)
+  post_says g at T.Done h = (tt, tt)
+  post_says g at (T.Then s qs) h = (tt, say_append (statements_code g (suc at) (T.Then s qs)) (I.Ret ∷ []) (statements_say g (suc at) (T.Then s qs) h) (tt, tt))
+
   -- the codes of a class
   record ClassSays (k : ClassCode) : Type 0 where
     body : AllSay k.body.code
@@ -231,12 +235,15 @@ module _ (names : List Text) where
   methods_say vars [] h i m e = absurd (cc)
   methods_say vars (x ∷ ms) h zero m e =
       let s1 = first _ (are_spelled_methods names ms) h in
-      let s2 = first _ (is_spelled_expression names x.value) s1 in
+      let s2 = first _ (are_spelled_statements names x.post) s1 in
+      let s3 = first _ (is_spelled_expression names x.value) s2 in
       let g : Numbering = record { temps = names_of (x.params ++ x.locals); vars = vars } in
+      let at = 0 + length (statements_code g 0 x.body) + length (expression_code g x.value) in
       let same : method_code_of vars x ≡ m = grind (arith, e) in
       subst (λ (z : MethodCode). AllSay z.code) same
-      (say_append (statements_code g 0 x.body) (expression_code g x.value ++ I.Ret ∷ []) (statements_say g 0 x.body (second _ (are_spelled_statements names x.body) s2))
-      (say_append (expression_code g x.value) (I.Ret ∷ []) (expression_says g x.value (second _ (is_spelled_expression names x.value) s1)) (tt, tt)))
+      (say_append (statements_code g 0 x.body) (expression_code g x.value ++ post_code g at x.post) (statements_say g 0 x.body (second _ (are_spelled_statements names x.body) s3))
+      (say_append (expression_code g x.value) (post_code g at x.post) (expression_says g x.value (second _ (is_spelled_expression names x.value) s2))
+      (post_says g at x.post (second _ (are_spelled_statements names x.post) s1))))
   methods_say vars (x ∷ ms) h (suc i) m e = methods_say vars ms (second _ (are_spelled_methods names ms) h) i m e
 
   classes_say : (ks : ProgramTree) → is_spelled names ks ≡ true → (j : ℕ) (k : ClassCode) → slice_get (code ks) j ≡ Some k → ClassSays k

@@ -5,7 +5,7 @@ use Rattle.object_code.specs.declared.unit.Instr.TheVariants as I
 use Rattle.object_code.specs.declared.unit.Unit.{Unit as Code}
 use Rattle.mesh_semantics.specs.Act.{id}
 use Rattle.coded_objects.specs.Made.{HasInstr, IsNamedIn, IsTextIn}
-use Rattle.record_laws.specs.Readable.{IsNamed, IsString}
+use Rattle.run_record.specs.Readable.{IsNamed, IsString}
 
 pub record IsSpelledUnit (u : Code) : Type 0 where
   pub named : (n : ℕ) → IsNamedIn u n → IsNamed u.names (id n)

@@ -16,7 +16,7 @@ ghost use Rattle.object_code.specs.Suits.{Suits};
 ghost use Rattle.mesh_semantics.specs.Record.{record_of, record_on_wires};
 ghost use Rattle.mesh_semantics.specs.Sound.{Each};
 ghost use Rattle.coded_objects.specs.Coded.{coded};
-ghost use Rattle.record_laws.specs.Readable.{IsReadableEvent, IsRecord};
+ghost use Rattle.run_record.specs.Readable.{IsReadableEvent, IsRecord};
 ghost use Rattle.readable_records.specs.ReadsBack.{ReadsBack};
 ghost use Rattle.readable_records.specs.SpelledUnit.{IsSpelledUnit};
 

@@ -7,3 +7,4 @@ pub mod Shows
 pub mod Reading
 pub mod SecondReading
 pub mod Names
+pub mod Ordered

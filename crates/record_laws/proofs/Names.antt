@@ -15,11 +15,11 @@ use Rattle.pool_syntax.specs.declared.words.Event.{Event}
 use Rattle.pool_syntax.specs.declared.words.Line.{Line}
 use Rattle.pool_syntax.specs.declared.words.Line.TheVariants as R
 use Rattle.record_lines.specs.RecordText.{text_at, text_or_none}
-use Rattle.record_lines.specs.Writable.{id_of_item, id_of_label, id_of_line, id_of_what}
+use Rattle.record_lines.specs.Writable.{AreShort, id_of_item, id_of_label, id_of_line, id_of_what}
 use Rattle.run_record.specs.Numbered.{line_with, lines_after, names_after, numbered, numbered_by, with_name}
-use Rattle.run_record.specs.Shown.{no_number}
-use Rattle.record_laws.specs.Readable.{IsReadableItem, IsReadableStep, IsReadableWhat, IsRecordFrom}
-use Rattle.record_laws.proofs.Reading.{told_of}
+use Rattle.line_reader.specs.Shown.{no_number}
+use Rattle.run_record.specs.Readable.{IsReadableWhat, IsRecordFrom}
+use Rattle.run_record.proofs.Laws.{told_of, what_short}
 
 -- the table
 
@@ -59,38 +59,13 @@ names_stay names (Some id) h = ap (λ q. elim q as (λ b. List Text) [ true ↦ 
 
 -- the names of readable lines
 
--- a readable string has a place
-item_placed : (names : List Text) (item : Item) → IsReadableItem names item → IsPlaced names (id_of_item item)
-item_placed names (I.Value v) h = tt
-item_placed names (I.Text id) h = h.0
+-- a name that can be written has a place
+short_placed : (names : List Text) (o : Option NameId) → AreShort names o → IsPlaced names o
+short_placed names None h = tt
+short_placed names (Some id) h = h.0
 
--- the name of a readable transition has a place
-label_placed : (names : List Text) (label : Label) (times : ℕ) → IsReadableStep names label times → IsPlaced names (id_of_label label)
-label_placed names (L.Local o) times h = tt
-label_placed names (L.New o p c) times h = h.2.0
-label_placed names (L.Answer p o m args) times h = h.0.2.0
-label_placed names (L.Return p o v) times h = tt
-label_placed names (L.Send o p m args) times h = h.0.2.0
-label_placed names (L.Take p o m args) times h = h.0.2.0
-label_placed names (L.Write o item) times h = item_placed names item h.1
-label_placed names (L.Pick o i) times h = tt
-label_placed names (L.Fault o e) times h = tt
-
--- the name of what a readable line shows has a place
 what_placed : (names : List Text) (w : What) → IsReadableWhat names w → IsPlaced names (id_of_what w)
-what_placed names (W.Step label times) h = label_placed names label times h
-what_placed names (W.PostCreate o c n) h = h.1.0
-what_placed names (W.PostCall o p m args) h = h.2.0
-what_placed names (W.Arrive o p m) h = h.2.0
-what_placed names (W.Created o p) h = tt
-what_placed names (W.Result o v) h = tt
-what_placed names W.Pass h = tt
-what_placed names W.Idle h = tt
-what_placed names (W.Frame k) h = tt
-what_placed names (W.Lost k) h = tt
-what_placed names (W.Stale k) h = tt
-what_placed names (W.Acked k) h = tt
-what_placed names (W.Late k) h = tt
+what_placed names w h = short_placed names (id_of_what w) (what_short names w h)
 
 -- the text's number, put into a line with a name, gives the line
 

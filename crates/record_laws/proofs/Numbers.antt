@@ -8,7 +8,7 @@ use Rattle.std.proofs.lemmas.Str.Parse.{IsNumeralModel, numerals_by_fold}
 use Rattle.pool_syntax.specs.Tokens.{Text, every, is_digit, is_integer, value_of}
 use Rattle.pool_lexer.specs.declared.places.Decimal.TheVariants.{Value as Spelled}
 use Rattle.pool_lexer.specs.Lines.{decimal_of}
-use Rattle.run_record.specs.Fields.{count_of, number_of, only_if, positive_of, spelled_below, then_some}
+use Rattle.line_reader.specs.Fields.{count_of, number_of, only_if, positive_of, spelled_below, then_some}
 use Rattle.record_laws.proofs.Splitting.{every_weaker, is_dark}
 
 -- the tests and the number of digits are those of the standard library

@@ -5,7 +5,7 @@ use Rattle.std.proofs.lemmas.Bool.{and_parts}
 use Rattle.std.proofs.lemmas.Bool.Decides.{nat_tests}
 use Rattle.pool_syntax.specs.Tokens.{Text, every, is_digit}
 use Rattle.record_lines.specs.RecordText.{object_text}
-use Rattle.run_record.specs.Fields.{halves_of, number_of, object_of, point_from, then_some}
+use Rattle.line_reader.specs.Fields.{halves_of, number_of, object_of, point_from, then_some}
 use Rattle.record_laws.proofs.Splitting.{every_append, is_dark}
 use Rattle.record_laws.proofs.Numbers.{decimal_dark, decimal_digits, number_read}
 

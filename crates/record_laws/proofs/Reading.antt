@@ -1,5 +1,5 @@
 -- The lines of a record are read back, one after another.
-use Rattle.std.proofs.Common.{◌≡◌, refl, sym, ap, ◌∙◌, ℕ, ◌+◌, ◌<◌, ◌≤◌, true, false, not, nat_eq, nat_le, bytes_eq, codes, List, [], ◌∷◌, ◌++◌, length, map, Option, Some, None, option_map, decimal, arith, eq-eqb, le-leb}
+use Rattle.std.proofs.Common.{◌≡◌, refl, sym, ap, ◌∙◌, ℕ, ◌+◌, ◌<◌, ◌≤◌, true, false, not, nat_eq, nat_le, bytes_eq, codes, List, [], ◌∷◌, ◌++◌, length, map, Option, Some, None, decimal, arith, eq-eqb, le-leb}
 use Rattle.std.proofs.lemmas.Bool.{and_from, and_parts}
 use Rattle.std.proofs.lemmas.Bool.Decides.{nat_tests}
 use Rattle.std.proofs.lemmas.Fmt.{decimal_nonempty}
@@ -20,21 +20,18 @@ use Rattle.run_record.specs.declared.fault.RecordFault.TheVariants as fault
 use Rattle.run_record.specs.declared.row.Form.{Form}
 use Rattle.run_record.specs.declared.row.Form.TheVariants as form
 use Rattle.record_lines.specs.SecondForm.{form_text}
-use Rattle.record_lines.specs.RecordText.{event_words, full_text, joined, led, line_text, line_words, record_text, text_at, what_words}
-use Rattle.record_lines.specs.Writable.{id_of_line}
-use Rattle.run_record.specs.Fields.{begins_with, count_of, fields, parts, then_some}
-use Rattle.run_record.specs.Numbered.{line_with, what_with}
-use Rattle.run_record.specs.Records.{Row, Rows, Told, order_fault, record_of, row_of, rows_of, unnumbered, done_of, end_of, event_of, follows, full_of, ends, happened, is_end, kind_of, last_after, line_of, link_from, side_of, wire_from, wire_of, row_fault, rows, with_told}
-use Rattle.run_record.specs.Shown.{either, no_number, what_of}
-use Rattle.run_record.proofs.Laws.{parts_length, rows_step}
-use Rattle.record_laws.specs.Readable.{IsCount, IsReadableEnd, IsReadableEvent, IsReadableWhat, IsRecord, IsRecordFrom}
+use Rattle.record_lines.specs.RecordText.{event_words, full_text, joined, led, line_text, line_words, record_text, what_words}
+use Rattle.line_reader.specs.Fields.{begins_with, count_of, fields, parts, then_some}
+use Rattle.run_record.specs.Numbered.{what_with}
+use Rattle.line_reader.specs.Lines.{Told, end_of, event_of, full_of, ends, happened, kind_of, line_of, link_from, side_of, wire_from, wire_of}
+use Rattle.run_record.specs.Records.{Row, Rows, order_fault, record_of, row_of, rows_of, unnumbered, done_of, follows, is_end, last_after, row_fault, rows, with_told}
+use Rattle.line_reader.specs.Shown.{either, no_number, what_of}
+use Rattle.line_reader.proofs.Laws.{parts_length}
+use Rattle.run_record.proofs.Laws.{IsReadableLine, rows_step, told_of}
+use Rattle.run_record.specs.Readable.{IsCount, IsReadableEnd, IsReadableEvent, IsReadableWhat, IsRecord, IsRecordFrom}
 use Rattle.record_laws.proofs.Splitting.{AreDark, AreShown, dark_field, dark_fields, fields_append, fields_joined, fields_of, is_dark, line_part, shown_append, shown_word, shown_words}
 use Rattle.record_laws.proofs.Numbers.{count_read, decimal_dark, decimal_digits, differs}
 use Rattle.record_laws.proofs.Shows.{what_read}
-
--- what is read where this line was written
-abbrev pub told_of : List Text → Line → Told
-told_of names l = record { line = line_with no_number l; text = option_map (text_at names) (id_of_line l) }
 
 -- events
 
@@ -95,10 +92,6 @@ event_fields names n e w small h =
 abbrev pub number_of : Line → ℕ
 number_of (R.Event n e w) = n
 number_of (R.End end) = done_of end
-
-abbrev pub IsReadableLine : List Text → Line → Type 0
-IsReadableLine names (R.Event n e w) = IsReadableEvent e × IsReadableWhat names w
-IsReadableLine names (R.End end) = IsReadableEnd end
 
 -- These words have no bytes below the space, and a line of them is read as this.
 pub record IsReadAs (ws : List Text) (t : Told) : Type 0 where

@@ -17,16 +17,18 @@ use Rattle.record_lines.specs.SecondForm.{ask_words, form_text, lines_text2, tex
 use Rattle.run_record.specs.declared.fault.RecordFault.{RecordFault}
 use Rattle.run_record.specs.declared.fault.RecordFault.TheVariants as fault
 use Rattle.run_record.specs.declared.row.Form.TheVariants as form
-use Rattle.run_record.specs.declared.shown.Message.TheVariants as M
-use Rattle.run_record.specs.Fields.{fields, name_of_word, object_of, only_if, parts, then_some, value_of, values_within}
+use Rattle.line_reader.specs.declared.shown.Message.TheVariants as M
+use Rattle.line_reader.specs.Fields.{fields, name_of_word, object_of, only_if, parts, then_some, value_of, values_within}
 use Rattle.run_record.specs.Numbered.{line_with, what_with}
-use Rattle.run_record.specs.Records.{Row, ask_fault, asked_by, asked_for, done_of, follows, happened, line_of, record_of, row_fault, rows, rows_of, second_of, unasked, with_told}
-use Rattle.run_record.specs.Shown.{Shown, created_of, either, for_more, for_three, for_two, message_from, message_of, new_of, no_number, of_pair, result_of, return_of, what_of}
-use Rattle.run_record.proofs.Laws.{asked_words, parts_joint, parts_length, what_more}
-use Rattle.record_laws.specs.Readable.{IsRecord, IsRecordFrom}
+use Rattle.line_reader.specs.Lines.{happened, line_of}
+use Rattle.run_record.specs.Records.{Row, ask_fault, asked_by, asked_for, done_of, follows, record_of, row_fault, rows, rows_of, second_of, unasked, with_told}
+use Rattle.line_reader.specs.Shown.{Shown, created_of, either, for_more, for_three, for_two, message_from, message_of, new_of, no_number, of_pair, result_of, return_of, what_of}
+use Rattle.line_reader.proofs.Laws.{parts_joint, parts_length, what_more}
+use Rattle.run_record.proofs.Laws.{IsReadableLine, asked_words, told_of}
+use Rattle.run_record.specs.Readable.{IsRecord, IsRecordFrom}
 use Rattle.record_laws.proofs.Splitting.{AreDark, AreShown, dark_fields, fields_append, fields_joined, fields_of, shown_append, shown_words}
 use Rattle.record_laws.proofs.Numbers.{count_read, decimal_dark}
-use Rattle.record_laws.proofs.Reading.{IsReadableLine, IsReadAs, event_fields, event_follows, event_read, in_order, line_back, number_first, number_of, row_read, told_of, whole}
+use Rattle.record_laws.proofs.Reading.{IsReadAs, event_fields, event_follows, event_read, in_order, line_back, number_first, number_of, row_read, whole}
 
 -- a line without the number of its name answers the request that it answers with it
 

@@ -9,16 +9,16 @@ use Rattle.pool_syntax.specs.declared.words.Label.{Label}
 use Rattle.pool_syntax.specs.declared.words.Label.TheVariants as L
 use Rattle.pool_syntax.specs.declared.words.What.{What}
 use Rattle.pool_syntax.specs.declared.words.What.TheVariants as W
-use Rattle.run_record.specs.declared.shown.Message.{Message}
-use Rattle.run_record.specs.declared.shown.Message.TheVariants as M
+use Rattle.line_reader.specs.declared.shown.Message.{Message}
+use Rattle.line_reader.specs.declared.shown.Message.TheVariants as M
 use Rattle.record_lines.specs.RecordText.{error_text, item_text, label_words, object_text, text_at, value_text, what_words}
 use Rattle.record_lines.specs.Writable.{id_of_what}
-use Rattle.run_record.specs.Fields.{count_of, error_of, fields, name_of_word, object_of, positive_of, string_of, then_some, value_of, values_within}
+use Rattle.line_reader.specs.Fields.{count_of, error_of, fields, name_of_word, object_of, positive_of, string_of, then_some, value_of, values_within}
 use Rattle.run_record.specs.Numbered.{what_with}
 use Rattle.pool_syntax.specs.declared.words.Error.{Error}
-use Rattle.run_record.specs.Shown.{Shown, delay_of, either, item_of, making, message_of, named, no_number, of_pair, once, plain, step_of, what_of}
-use Rattle.run_record.proofs.Laws.{write_rest}
-use Rattle.record_laws.specs.Readable.{IsCount, IsNamed, IsReadableItem, IsReadableMessage, IsReadableStep, IsReadableValue, IsReadableWhat}
+use Rattle.line_reader.specs.Shown.{Shown, delay_of, either, item_of, making, message_of, named, no_number, of_pair, once, plain, step_of, what_of}
+use Rattle.line_reader.proofs.Laws.{write_rest}
+use Rattle.run_record.specs.Readable.{IsCount, IsNamed, IsReadableItem, IsReadableMessage, IsReadableStep, IsReadableValue, IsReadableWhat}
 use Rattle.record_laws.proofs.Splitting.{AreDark, AreShown, dark_field, dark_fields, fields_of, is_shown, shown_word, shown_words}
 use Rattle.record_laws.proofs.Numbers.{count_read, decimal_dark, positive_read}
 use Rattle.record_laws.proofs.Objects.{object_dark, object_read}

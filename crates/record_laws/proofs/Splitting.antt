@@ -4,8 +4,8 @@ use Rattle.std.proofs.lemmas.Bool.{and_from, and_parts}
 use Rattle.pool_syntax.specs.Tokens.{Text, every}
 use Rattle.pool_lexer.specs.Lines.{at_front}
 use Rattle.record_lines.specs.RecordText.{joined, led}
-use Rattle.run_record.specs.Fields.{fields, parts}
-use Rattle.run_record.proofs.Laws.{parts_joint}
+use Rattle.line_reader.specs.Fields.{fields, parts}
+use Rattle.line_reader.proofs.Laws.{parts_joint}
 
 -- a byte above the space
 abbrev pub is_dark : ℕ → Bool

@@ -4,7 +4,7 @@ use Rattle.std.proofs.Math.Seq.{take-append_seam}
 use Rattle.std.proofs.lemmas.Bool.{and_from, and_parts}
 use Rattle.std.proofs.lemmas.Bool.Decides.{nat_tests}
 use Rattle.pool_syntax.specs.Tokens.{Text, every, is_digit, is_inner, is_letter, is_word, keywords, lookup}
-use Rattle.run_record.specs.Fields.{is_name, name_of_word, only_if, string_of}
+use Rattle.line_reader.specs.Fields.{is_name, name_of_word, only_if, string_of}
 use Rattle.record_laws.proofs.Splitting.{every_append, every_weaker, is_dark, is_shown}
 
 -- the text of a name is read

@@ -14,8 +14,8 @@ use Rattle.pool_syntax.specs.declared.words.Value.TheVariants as V
 use Rattle.pool_syntax.specs.declared.words.Error.{Error}
 use Rattle.pool_syntax.specs.declared.words.Error.TheVariants as error
 use Rattle.record_lines.specs.RecordText.{error_text, object_text, value_text}
-use Rattle.run_record.specs.Fields.{begins_with, error_of, integer_of, name_or_integer, negative_of, number_of, object_of, only_if, halves_of, then_some, value_of, values_within}
-use Rattle.record_laws.specs.Readable.{AreReadableValues, IsReadableValue}
+use Rattle.line_reader.specs.Fields.{begins_with, error_of, integer_of, name_or_integer, negative_of, number_of, object_of, only_if, halves_of, then_some, value_of, values_within}
+use Rattle.run_record.specs.Readable.{AreReadableValues, IsReadableValue}
 use Rattle.record_laws.proofs.Splitting.{AreDark, is_dark}
 use Rattle.record_laws.proofs.Numbers.{decimal_dark, decimal_digits, decimal_number, differs, number_read}
 use Rattle.record_laws.proofs.Objects.{no_point, object_dark, object_read}

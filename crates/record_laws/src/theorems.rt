@@ -7,7 +7,8 @@ ghost use Rattle.record_lines.specs.RecordText.{record_text};
 ghost use Rattle.record_lines.specs.SecondForm.{text2};
 ghost use Rattle.run_record.specs.Numbered.{lines_after, names_after};
 ghost use Rattle.run_record.specs.Records.{record_of};
-ghost use Rattle.record_laws.specs.Readable.{IsRecord};
+ghost use Rattle.run_record.specs.Readable.{IsRecord};
+ghost use Rattle.record_laws.specs.Converted.{converted};
 
 /// The text of the lines of a record, read with the table of names with which it was written, has no fault and gives these lines, and no name is new.
 pub fn the_text_of_a_record_is_read_as_its_lines()
@@ -28,4 +29,16 @@ pub fn a_record_is_carried_over()
     ensures text { (names : List Text) (ls : List Line) → is_distinct names ≡ true → IsRecord names ls
         → text2 (names_after names (record_of (record_text names ls)).told) (lines_after names (record_of (record_text names ls)).told) ≡ text2 names ls }
     ensures lines { (names : List Text) (ls : List Line) → IsRecord names ls → (record_of (text2 names ls)).told ≡ (record_of (record_text names ls)).told }
+{}
+
+/// The lines of a text without fault, whoever wrote it, are the lines of a record with the table after reading: the premise of the laws above is met by whatever was read.
+pub fn what_is_read_is_readable()
+    ensures { (s : Text) (names : List Text) → (record_of s).fault ≡ None → IsRecord (names_after names (record_of s).told) (lines_after names (record_of s).told) }
+{}
+
+/// What a text without fault is carried over to is read without fault, says the same, and so is carried over to itself.
+pub fn converting_twice_is_converting_once()
+    ensures faultless { (s : Text) → (record_of s).fault ≡ None → (record_of (converted s)).fault ≡ None }
+    ensures same { (s : Text) → (record_of s).fault ≡ None → (record_of (converted s)).told ≡ (record_of s).told }
+    ensures once { (s : Text) → (record_of s).fault ≡ None → converted (converted s) ≡ converted s }
 {}

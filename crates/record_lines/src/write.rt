@@ -1,7 +1,7 @@
 //! Writes a line.
 ghost use Rattle.std.specs.Prelude.{◌≡◌, ℕ, ◌+◌, ◌<◌, ◌≤◌, [], ◌∷◌, ◌++◌, length, take, decimal, option_map, OnOk, OnErr};
 ghost use Rattle.arrayvec.specs.ArrayVec.{array_vec_len};
-ghost use Rattle.pool_outside.specs.Outside.{Rose};
+ghost use Rattle.pool_outside.specs.Outside.{Rose, IsProperFront};
 ghost use Rattle.mesh_semantics.specs.Asks.{asker_by, asker_of, is_asked};
 ghost use Rattle.record_lines.specs.RecordText.{bare_text, end_words, event_words, full_text, joined, led, line_text, line_words, wire_words};
 ghost use Rattle.record_lines.specs.SecondForm.{ask_words, form_text, line_text2};
@@ -135,7 +135,7 @@ fn put_line(text: &mut LineText, line: &Line, names: &Names)
 pub fn write_line<K: Sink>(line: &Line, names: &Names, sink: &mut K) -> Result<(), WriteFault>
     requires { IsWritable names.now line.now }
     ensures whole { OnOk result (K.written sink.new ≡ option_map (λ w. w ++ line_text names.now line.now) (K.written sink.old)) }
-    ensures front { OnErr result ((n : ℕ) × (n ≤ length (line_text names.now line.now)) × (K.written sink.new ≡ option_map (λ w. w ++ take n (line_text names.now line.now)) (K.written sink.old))) }
+    ensures front { OnErr result (IsProperFront (K.written sink.old) (line_text names.now line.now) (K.written sink.new)) }
     ensures failed { OnErr result (Rose (K.faults sink.old) (K.faults sink.new)) }
     ensures no_fault { OnOk result (K.faults sink.new ≡ K.faults sink.old) }
     ensures faults_stay_or_rise { K.faults sink.old ≤ K.faults sink.new }
@@ -181,7 +181,7 @@ pub fn write_line2<K: Sink>(
 ) -> Result<(), WriteFault>
     requires { IsWritable names.now line.now }
     ensures whole { OnOk result (K.written sink.new ≡ option_map (λ w. w ++ line_text2 names.now line.now ask) (K.written sink.old)) }
-    ensures front { OnErr result ((n : ℕ) × (n ≤ length (line_text2 names.now line.now ask)) × (K.written sink.new ≡ option_map (λ w. w ++ take n (line_text2 names.now line.now ask)) (K.written sink.old))) }
+    ensures front { OnErr result (IsProperFront (K.written sink.old) (line_text2 names.now line.now ask) (K.written sink.new)) }
     ensures failed { OnErr result (Rose (K.faults sink.old) (K.faults sink.new)) }
     ensures no_fault { OnOk result (K.faults sink.new ≡ K.faults sink.old) }
     ensures faults_stay_or_rise { K.faults sink.old ≤ K.faults sink.new }
@@ -197,7 +197,7 @@ pub fn write_line2<K: Sink>(
 /// piece was then written. Takes no memory.
 pub fn write_form<K: Sink>(sink: &mut K) -> Result<(), WriteFault>
     ensures whole { OnOk result (K.written sink.new ≡ option_map (λ w. w ++ (form_text ++ 10 ∷ [])) (K.written sink.old)) }
-    ensures front { OnErr result ((n : ℕ) × (n ≤ length (form_text ++ 10 ∷ [])) × (K.written sink.new ≡ option_map (λ w. w ++ take n (form_text ++ 10 ∷ [])) (K.written sink.old))) }
+    ensures front { OnErr result (IsProperFront (K.written sink.old) (form_text ++ 10 ∷ []) (K.written sink.new)) }
     ensures failed { OnErr result (Rose (K.faults sink.old) (K.faults sink.new)) }
     ensures no_fault { OnOk result (K.faults sink.new ≡ K.faults sink.old) }
     ensures faults_stay_or_rise { K.faults sink.old ≤ K.faults sink.new }
@@ -210,7 +210,7 @@ pub fn write_form<K: Sink>(sink: &mut K) -> Result<(), WriteFault>
 pub fn write_item<K: Sink>(item: Item, names: &Names, sink: &mut K) -> Result<(), WriteFault>
     requires { AreShort names.now (id_of_item item) }
     ensures whole { OnOk result (K.written sink.new ≡ option_map (λ w. w ++ (bare_text names.now item ++ 10 ∷ [])) (K.written sink.old)) }
-    ensures front { OnErr result ((n : ℕ) × (n ≤ length (bare_text names.now item ++ 10 ∷ [])) × (K.written sink.new ≡ option_map (λ w. w ++ take n (bare_text names.now item ++ 10 ∷ [])) (K.written sink.old))) }
+    ensures front { OnErr result (IsProperFront (K.written sink.old) (bare_text names.now item ++ 10 ∷ []) (K.written sink.new)) }
     ensures failed { OnErr result (Rose (K.faults sink.old) (K.faults sink.new)) }
     ensures no_fault { OnOk result (K.faults sink.new ≡ K.faults sink.old) }
     ensures faults_stay_or_rise { K.faults sink.old ≤ K.faults sink.new }

@@ -1,7 +1,5 @@
-pub mod Asking
+pub mod Carried
 pub mod Fitting
 pub mod Laws
-pub mod Parting
-pub mod Places
 pub mod Rows
 mod WireRows

@@ -5,19 +5,20 @@ use Rattle.std.specs.Prelude.{option_map}
 use Rattle.pool_syntax.specs.Tokens.{Text}
 use Rattle.pool_syntax.specs.declared.words.Line.{Line}
 use Rattle.mesh_semantics.proofs.Laws.{equal}
-use Rattle.run_record.specs.declared.fields.Front.{Front}
+use Rattle.line_reader.specs.declared.fields.Front.{Front}
 use Rattle.run_record.specs.declared.row.Form.{Form}
 use Rattle.run_record.specs.declared.row.Form.TheVariants as form
 use Rattle.record_lines.specs.SecondForm.{form_text}
-use Rattle.run_record.proofs.Parting.{parts_length}
-use Rattle.run_record.specs.Parted.{IsCut}
+use Rattle.line_reader.proofs.Laws.{parts_length}
+use Rattle.line_reader.specs.Parted.{IsCut}
 use Rattle.run_record.specs.declared.fault.RecordFault.{RecordFault}
 use Rattle.run_record.specs.declared.fault.RecordFault.TheVariants as fault
-use Rattle.run_record.specs.Fields.{fields, parts, parts_left}
-use Rattle.run_record.specs.declared.posts.Posts.{Posts}
-use Rattle.run_record.specs.Posts.{HasPosts}
+use Rattle.line_reader.specs.Fields.{fields, parts, parts_left}
+use Rattle.request_numbers.specs.declared.posts.Posts.{Posts}
+use Rattle.request_numbers.specs.Posts.{HasPosts}
 use Rattle.run_record.specs.Numbered.{HasFront, IsTable, IsTold, lines_after, names_after, with_name}
-use Rattle.run_record.specs.Records.{Row, Told, by_fault, is_empty, is_end, last_after, record_of, refused, row_fault, row_of, row_then, rows, rows_of, Rows, with_told}
+use Rattle.line_reader.specs.Lines.{Told}
+use Rattle.run_record.specs.Records.{Row, by_fault, is_empty, is_end, last_after, record_of, refused, row_fault, row_of, row_then, rows, rows_of, Rows, with_told}
 
 -- the text that is left is the line and what stands behind it
 pub behind_cut : (t : Text) (f : Front) (left : Bor Text) → IsCut 10 (parts 10 t) f → f.rest ≡ Some left → parts 10 t ≡ f.first.now ∷ parts 10 left.now

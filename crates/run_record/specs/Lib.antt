@@ -1,11 +1,5 @@
-pub mod Fields
 pub mod Numbered
-pub mod Parted
-pub mod Posts
+pub mod Readable
 pub mod Records
 pub mod RowBy
-pub mod Shown
-pub mod ShownBy
 pub mod Steps
-pub mod Table
-pub mod ToldBy

@@ -13,7 +13,7 @@ use Rattle.pool_syntax.specs.declared.words.Line.{Line}
 use Rattle.pool_syntax.specs.declared.words.Line.TheVariants as R
 use Rattle.run_record.specs.declared.fault.RecordFault.{RecordFault}
 use Rattle.run_record.specs.declared.fault.RecordFault.TheVariants as fault
-use Rattle.run_record.specs.Records.{Told}
+use Rattle.line_reader.specs.Lines.{Told}
 
 -- the same with this number of its name, if it has one
 abbrev pub item_with : NameId → Item → Item

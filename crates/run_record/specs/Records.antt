@@ -1,110 +1,19 @@
 -- What a record's text says, in either form: its lines, each with the text of its name, and the first fault.
 use Rattle.std.specs.Prelude.{ℕ, ◌+◌, List, [], ◌∷◌, Option, Some, None, Bool, true, false, ◌&&◌, not, nat_eq, nat_le, bytes_eq, codes}
 use Rattle.pool_syntax.specs.Tokens.{Text}
-use Rattle.pool_syntax.specs.declared.words.FullKind.{FullKind}
-use Rattle.pool_syntax.specs.declared.words.FullKind.TheVariants as full
-use Rattle.pool_syntax.specs.declared.words.WireAct.{WireAct}
-use Rattle.pool_syntax.specs.declared.words.WireAct.TheVariants as A
-use Rattle.pool_syntax.specs.declared.words.Event.{Event}
-use Rattle.pool_syntax.specs.declared.words.Event.TheVariants as E
 use Rattle.pool_syntax.specs.declared.words.End.{End}
 use Rattle.pool_syntax.specs.declared.words.End.TheVariants as F
 use Rattle.pool_syntax.specs.declared.words.Line.{Line}
 use Rattle.pool_syntax.specs.declared.words.Line.TheVariants as R
 use Rattle.mesh_semantics.specs.Asks.{ask_of, is_asked}
 use Rattle.record_lines.specs.SecondForm.{form_text}
+use Rattle.line_reader.specs.Fields.{count_of, fields, only_if, parts, then_some}
+use Rattle.line_reader.specs.Lines.{Told, line_of}
+use Rattle.line_reader.specs.Shown.{either}
 use Rattle.run_record.specs.declared.fault.RecordFault.{RecordFault}
 use Rattle.run_record.specs.declared.fault.RecordFault.TheVariants as fault
 use Rattle.run_record.specs.declared.row.Form.{Form}
 use Rattle.run_record.specs.declared.row.Form.TheVariants as form
-use Rattle.run_record.specs.Fields.{count_of, fields, only_if, parts, then_some}
-use Rattle.run_record.specs.Shown.{Shown, either, what_of}
-
--- a line, the number 0 standing for that of its name, and the name's text, if it has one
-pub record Told : Type 0 where
-  pub line : Line
-  pub text : Option Text
-
-abbrev pub ends : End → Option Told
-ends e = Some (record { line = R.End e; text = None })
-
-abbrev pub end_of_two : Text → Text → Option Told
-end_of_two how k = then_some (count_of k) (λ n. elim (bytes_eq how (codes "quiet")) [
-  | true ↦ ends (F.Quiet n)
-  | false ↦ only_if (bytes_eq how (codes "schedule")) (ends (F.Schedule n))
-])
-
-abbrev pub kind_of : Text → Option FullKind
-kind_of w = elim (bytes_eq w (codes "heap")) [
-  | true ↦ Some full.Heap
-  | false ↦ elim (bytes_eq w (codes "frames")) [ true ↦ Some full.Frames | false ↦ only_if (bytes_eq w (codes "cells")) (Some full.Cells) ]
-]
-
-abbrev pub full_of : Text → Text → Text → Option Told
-full_of kind node k = then_some (kind_of kind) (λ f. then_some (count_of node) (λ n. then_some (count_of k) (λ done. ends (F.Full f n done))))
-
--- behind `end`: `quiet K`, `schedule K`, `full heap N K` and its like
-abbrev pub end_of : List Text → Option Told
-end_of [] = None
-end_of (a ∷ []) = None
-end_of (a ∷ b ∷ []) = end_of_two a b
-end_of (a ∷ b ∷ c ∷ []) = None
-end_of (a ∷ b ∷ c ∷ d ∷ []) = only_if (bytes_eq a (codes "full")) (full_of b c d)
-end_of (a ∷ b ∷ c ∷ d ∷ e ∷ ws) = None
-
-abbrev pub happened : ℕ → Event → Option Shown → Option Told
-happened n e None = None
-happened n e (Some s) = Some (record { line = R.Event n e s.what; text = s.text })
-
-abbrev pub turn_of : ℕ → List Text → Option Told
-turn_of n [] = None
-turn_of n (a ∷ ws) = then_some (count_of a) (λ node. happened n (E.Turn node) (what_of ws))
-
-abbrev pub link_from : ℕ → ℕ → List Text → Option Told
-link_from n from [] = None
-link_from n from (b ∷ ws) = then_some (count_of b) (λ to. happened n (E.Link from to) (what_of ws))
-
-abbrev pub link_of : ℕ → List Text → Option Told
-link_of n [] = None
-link_of n (a ∷ ws) = then_some (count_of a) (λ from. link_from n from ws)
-
-abbrev pub wire_from : ℕ → WireAct → ℕ → List Text → Option Told
-wire_from n act from [] = None
-wire_from n act from (b ∷ ws) = then_some (count_of b) (λ to. happened n (E.Wire act from to) (what_of ws))
-
-abbrev pub wire_of : ℕ → WireAct → List Text → Option Told
-wire_of n act [] = None
-wire_of n act (a ∷ ws) = then_some (count_of a) (λ from. wire_from n act from ws)
-
--- of one side of a wire, or of the side of the acknowledgements where the word `ack` says so
-abbrev pub side_of : ℕ → WireAct → WireAct → List Text → Option Told
-side_of n act other [] = None
-side_of n act other (w ∷ ws) = elim (bytes_eq w (codes "ack")) [ true ↦ wire_of n other ws | false ↦ wire_of n act (w ∷ ws) ]
-
--- what happens on a wire, by its first word
-abbrev pub wire_event : ℕ → Text → List Text → Option Told
-wire_event n w ws = elim (bytes_eq w (codes "send")) [
-  | true ↦ wire_of n A.Send ws
-  | false ↦ elim (bytes_eq w (codes "ack")) [
-    | true ↦ wire_of n A.Ack ws
-    | false ↦ elim (bytes_eq w (codes "lose")) [
-      | true ↦ side_of n A.Lose A.LoseAck ws
-      | false ↦ elim (bytes_eq w (codes "twice")) [
-        | true ↦ side_of n A.Twice A.TwiceAck ws
-        | false ↦ only_if (bytes_eq w (codes "late")) (side_of n A.Late A.LateAck ws)
-      ]
-    ]
-  ]
-]
-
-abbrev pub event_of : ℕ → List Text → Option Told
-event_of n [] = None
-event_of n (w ∷ ws) = elim (bytes_eq w (codes "turn")) [ true ↦ turn_of n ws | false ↦ elim (bytes_eq w (codes "link")) [ true ↦ link_of n ws | false ↦ wire_event n w ws ] ]
-
--- the form of a line without its line feed
-abbrev pub line_of : List Text → Option Told
-line_of [] = None
-line_of (w ∷ ws) = elim (bytes_eq w (codes "end")) [ true ↦ end_of ws | false ↦ then_some (count_of w) (λ n. event_of n ws) ]
 
 -- a line with the request number that it carries, if it carries one
 pub record Row : Type 0 where

@@ -3,9 +3,9 @@ use Rattle.std.specs.Prelude.{ℕ, List}
 use Rattle.pool_syntax.specs.Tokens.{Text}
 use Rattle.run_record.specs.declared.row.Carried.{Carried}
 use Rattle.run_record.specs.declared.row.ReadRow.{ReadRow}
-use Rattle.run_record.specs.Fields.{fields}
+use Rattle.line_reader.specs.Fields.{fields}
 use Rattle.run_record.specs.Records.{Row}
-use Rattle.run_record.specs.ToldBy.{told}
+use Rattle.line_reader.specs.ToldBy.{told}
 
 abbrev pub row : ReadRow → Row
 row r = record { told = told r.read; ask = r.ask }

@@ -1,9 +1,9 @@
 //! Lines with the numbers of their names.
 ghost use Rattle.std.specs.Prelude.{◌≡◌, ◌+◌, ◌<◌, ◌≤◌, ◌^◌, length, IfOk, OnErr, OnOk};
 ghost use Rattle.run_record.specs.Numbered.{item_with, label_with, line_with, numbered, what_with, with_name};
-ghost use Rattle.run_record.specs.ToldBy.{told};
+ghost use Rattle.line_reader.specs.ToldBy.{told};
 
-use crate::line::ReadLine;
+use line_reader::ReadLine;
 use pool_syntax::{Item, Label, Line, NameId, Names, What};
 use std::alloc::AllocError;
 

@@ -4,19 +4,19 @@ ghost use Rattle.std.specs.List.{All};
 ghost use Rattle.pool_syntax.specs.declared.words.Line.{Line};
 ghost use Rattle.record_lines.specs.Writable.{IsWritable};
 ghost use Rattle.mesh_semantics.specs.Asks.{ask_of};
-ghost use Rattle.run_record.specs.Fields.{fields, parts};
+ghost use Rattle.line_reader.specs.Fields.{fields, parts};
 ghost use Rattle.run_record.specs.Numbered.{IsTable, IsTold, lines_after, names_after};
-ghost use Rattle.run_record.specs.Posts.{HasPosts};
+ghost use Rattle.request_numbers.specs.Posts.{HasPosts};
 ghost use Rattle.run_record.specs.Records.{done_of, follows, is_empty, is_end, last_after, record_of, row_fault, row_of, rows, rows_of, tail_row};
 ghost use Rattle.run_record.specs.RowBy.{row};
-ghost use Rattle.run_record.specs.ToldBy.{told};
+ghost use Rattle.line_reader.specs.ToldBy.{told};
 
 use crate::fault::RecordFault;
-use crate::fields::cut;
 use crate::numbered::numbered;
-use crate::posts::Posts;
 use crate::row::{Form, ReadRow, row_in};
+use line_reader::cut;
 use pool_syntax::{End, Line, List, Names};
+use request_numbers::Posts;
 use std::alloc::Global;
 
 fn done_of(end: End) -> u32

@@ -1,12 +1,12 @@
 //! A line with the request number that it carries.
 ghost use Rattle.std.specs.Prelude.{◌≡◌, [], ◌∷◌, ◌++◌, option_map, IfSome, IfNone};
-ghost use Rattle.run_record.specs.Fields.{count_of, fields, only_if, parts, then_some};
-ghost use Rattle.run_record.specs.Records.{asked_by, asked_for, line_of, row_of, second_of, unasked, unnumbered};
+ghost use Rattle.line_reader.specs.Fields.{count_of, fields, only_if, parts, then_some};
+ghost use Rattle.line_reader.specs.Lines.{line_of};
+ghost use Rattle.run_record.specs.Records.{asked_by, asked_for, row_of, second_of, unasked, unnumbered};
 ghost use Rattle.run_record.specs.RowBy.{carried, row};
-ghost use Rattle.run_record.specs.ToldBy.{told};
+ghost use Rattle.line_reader.specs.ToldBy.{told};
 
-use crate::line::{ReadLine, line_in};
-use crate::spelled::count;
+use line_reader::{ReadLine, count, line_in};
 use record_lines::is_asked;
 
 /// The two forms of a record.
@@ -38,7 +38,7 @@ pub struct Carried<'a> {
 }
 
 /// Cuts a text at its last space.
-#[tactic(auto, using(crate::proofs::Parting::last_cut))]
+#[tactic(auto, using(crate::proofs::Carried::last_cut))]
 fn cut_last(text: &[u8]) -> Option<Back<'_>>
     ensures some { IfSome result (λ b. fields text.now ≡ fields b.front.now ++ b.last.now ∷ []) }
     ensures none { IfNone result (fields text.now ≡ text.now ∷ []) }
@@ -57,7 +57,7 @@ fn cut_last(text: &[u8]) -> Option<Back<'_>>
 }
 
 /// What stands before ` by` and a number, and the number.
-#[tactic(auto, using(crate::proofs::Parting::asked_one, crate::proofs::Parting::asked_two, crate::proofs::Parting::carried_not, crate::proofs::Parting::carried_is))]
+#[tactic(auto, using(crate::proofs::Carried::asked_one, crate::proofs::Carried::asked_two, crate::proofs::Carried::carried_not, crate::proofs::Carried::carried_is))]
 fn carried_in(line: &[u8]) -> Option<Carried<'_>>
     ensures { option_map carried result ≡ asked_by (fields line.now) }
 {

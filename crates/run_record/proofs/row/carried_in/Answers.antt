@@ -1,5 +1,5 @@
 use Rattle.std.proofs.Common.{◌≡◌, sym, true, None, Some, bytes_eq, codes, rules}
-use Rattle.run_record.proofs.Parting.{carried_is}
+use Rattle.run_record.proofs.Carried.{carried_is}
 use Rattle.run_record.proofs.row.carried_in.Goals as goal
 
 pub returns-in-None : goal.returns-in-None

@@ -1,5 +1,5 @@
 use Rattle.std.proofs.Common.{◌≡◌, ◌≤◌, [], ◌∷◌, length, drop}
-use Rattle.run_record.specs.Fields.{parts}
+use Rattle.line_reader.specs.Fields.{parts}
 use Rattle.run_record.proofs.row.cut_last.Given as goal
 
 -- what is behind has no space

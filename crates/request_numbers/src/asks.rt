@@ -1,0 +1,96 @@
+//! The request numbers of lines as they are made.
+ghost use Rattle.std.specs.Prelude.{◌≡◌, ◌≤◌, ◌<◌, ◌*◌, ℕ, [], ◌∷◌, List, get_or, length, IfOk, Some};
+ghost use Rattle.pool_syntax.specs.declared.words.Line.{Line};
+ghost use Rattle.mesh_semantics.specs.Asks.{ask_of, asker};
+
+use pool_syntax::Line;
+use record_lines::{asker, poster};
+use std::alloc::{AllocError, Global};
+
+/// For each object of some nodes, with so many objects at most a node, the number of its latest post.
+#[derive(Drop)]
+pub struct Asks {
+    nodes: u32,
+    objects: u32,
+    last: Vec<u32>,
+    ghost size: { length last.items ≡ nodes * objects },
+    ghost few_nodes: { nodes ≤ 64 },
+    ghost few_objects: { objects ≤ 4096 },
+}
+
+impl Asks {
+    ghost use Rattle.request_numbers.specs.Table.{AreInTable, HasLast, InTable, place_of, posts_at};
+
+    /// Nothing was posted.
+    pub fn make(alloc: Global, nodes: u32, objects: u32) -> Result<Asks, AllocError>
+        requires nodes { (1 ≤ nodes) × (nodes ≤ 64) }
+        requires objects { (1 ≤ objects) × (objects ≤ 4096) }
+        ensures size { IfOk result (λ a. (a.nodes ≡ nodes) × (a.objects ≡ objects)) }
+        ensures none { IfOk result (λ a. HasLast a []) }
+    {
+        let mut last = Vec::new(alloc);
+        last.resize(nodes as usize * objects as usize, 0)?;
+        Ok(Asks {
+            nodes,
+            objects,
+            last,
+        })
+    }
+
+    /// The place of an object in the table.
+    fn place(&self, object: u32) -> usize
+        requires { InTable self.now object }
+        ensures place { result ≡ place_of self.now object }
+        ensures inside { result < length self.now.last.items }
+    {
+        (object / 65536) as usize * self.objects as usize + (object % 65536) as usize
+    }
+
+    /// The request number of a line behind those given so far.
+    fn number(&self, line: &Line) -> u32
+        requires { AreInTable self.now line.now }
+        ensures { (earlier : List Line) → HasLast self.now earlier → result ≡ ask_of earlier line.now }
+    {
+        match asker(line) {
+            None => 0,
+            Some(object) => self.last[self.place(object)],
+        }
+    }
+
+    /// Keeps the number of an object's post.
+    fn put(&mut self, object: u32, number: u32)
+        requires { InTable self.old object }
+        ensures posted { get_or self.new.last.items (place_of self.new object) 0 ≡ number }
+        ensures others { (o : ℕ) → InTable self.new o → (o ≡ object → ⊥) → get_or self.new.last.items (place_of self.new o) 0 ≡ get_or self.old.last.items (place_of self.old o) 0 }
+        ensures size { (self.new.nodes ≡ self.old.nodes) × (self.new.objects ≡ self.old.objects) }
+    {
+        let place = self.place(object);
+        self.last[place] = number;
+    }
+
+    /// Keeps a line.
+    fn keep(&mut self, line: &Line)
+        requires { AreInTable self.old line.now }
+        ensures kept { (earlier : List Line) → HasLast self.old earlier → HasLast self.new (line.now ∷ earlier) }
+        ensures size { (self.new.nodes ≡ self.old.nodes) × (self.new.objects ≡ self.old.objects) }
+    {
+        match line {
+            Line::End(_) => {}
+            Line::Event { number, what, .. } => match poster(what) {
+                None => {}
+                Some(object) => self.put(object, *number),
+            },
+        }
+    }
+
+    /// The request number of a line behind those given so far, among which it is from now on. Takes no memory.
+    pub fn of(&mut self, line: &Line) -> u32
+        requires { AreInTable self.old line.now }
+        ensures number { (earlier : List Line) → HasLast self.old earlier → (result ≡ ask_of earlier line.now) × HasLast self.new (line.now ∷ earlier) }
+        ensures size { (self.new.nodes ≡ self.old.nodes) × (self.new.objects ≡ self.old.objects) }
+    {
+        let ask = self.number(line);
+        self.keep(line);
+        ask
+    }
+}

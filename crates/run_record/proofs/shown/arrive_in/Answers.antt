@@ -1,6 +1,0 @@
-use Rattle.run_record.specs.Fields.{fields}
-use Rattle.run_record.proofs.Parting.{not_three}
-use Rattle.run_record.proofs.shown.arrive_in.Goals as goal
-
-pub returns-in_default : goal.returns-in_default
-returns-in_default c = not_three (fields c.args.words.now) c.few_fields.result _ c.few_fields.ensures c.in_default.not-Three

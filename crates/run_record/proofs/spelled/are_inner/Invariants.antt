@@ -1,7 +1,0 @@
-use Rattle.std.proofs.Common.{◌≡◌, drop}
-use Rattle.pool_syntax.specs.Tokens.{every, is_inner}
-use Rattle.run_record.proofs.spelled.are_inner.Given as goal
-
--- each byte so far passes
-abbrev pub invariant-loop-byte : goal.invariant-loop-byte
-invariant-loop-byte l = every is_inner (drop l.byte-index l.bytes) ≡ every is_inner l.bytes
