@@ -117,7 +117,7 @@ fn calls_answer_what_stands_in_the_rows(rt: HostRuntime) -> Result<(), Fail> {
 
 #[test]
 fn runs_end_with_the_sum_on_every_mesh_with_routes(rt: HostRuntime) -> Result<(), Fail> {
-    for number in 0..200_u64 {
+    for number in 0..1000_u64 {
         assert!(rt; sums(rt.alloc(), number)?, "{number}");
     }
     Ok(())

@@ -26,7 +26,7 @@ data_put old new b n p h room e i fits =
     let l = frames_length old h in
     let less : nat_lt (length (frames_in old)) 16 ≡ true = grind (arith, l, room) in (
       ap frames_in e ∙ frames_behind old b n p h read ∙ rw less refl,
-      subst (Each IsData) (sym e) (each_append IsData old b h (n, p, read)),
+      subst (Each IsData) (sym e) (each_append IsData old b h (n, p, read, i)),
     )
 
 pub data_full : (old : List (ArrayVec ℕ)) (n : ℕ) (p : Packet) → Each IsData old → length old ≡ 16 → frames_in old ≡ push_within (n, p) (frames_in old)
@@ -48,7 +48,7 @@ ack_put old new b n h room e i fits =
     let l = acks_length old h in
     let less : nat_lt (length (acks_in old)) 16 ≡ true = grind (arith, l, room) in (
       ap acks_in e ∙ acks_behind old b n h read ∙ rw less refl,
-      subst (Each IsAck) (sym e) (each_append IsAck old b h (n, read)),
+      subst (Each IsAck) (sym e) (each_append IsAck old b h (n, read, i)),
     )
 
 pub ack_full : (old : List (ArrayVec ℕ)) (n : ℕ) → Each IsAck old → length old ≡ 16 → acks_in old ≡ push_within n (acks_in old)

@@ -18,7 +18,7 @@ use Rattle.wire_link.specs.declared.wire.Sent.{Sent}
 use Rattle.wire_link.specs.declared.wire.Sent.TheVariants as S
 use Rattle.wire_link.specs.declared.wire.Arrived.{Arrived}
 use Rattle.wire_link.specs.declared.wire.Arrived.TheVariants as R
-use Rattle.wire_link.specs.Bytes.{decoded}
+use Rattle.wire_link.specs.Bytes.{decoded, encoding}
 
 -- the frame of these bytes, where it is one of data
 abbrev pub data_in : Option Frame → List (Numbered Packet)
@@ -40,11 +40,12 @@ abbrev pub acks_in : List (ArrayVec ℕ) → List ℕ
 acks_in [] = []
 acks_in (b ∷ bs) = ack_in (decoded b.items) ++ acks_in bs
 
+-- the bytes are the encoding of a frame of data, and are read as it; or of an acknowledgement
 abbrev pub IsData : ArrayVec ℕ → Type 0
-IsData b = (n : ℕ) × (p : Packet) × (decoded b.items ≡ Some (F.Data n p))
+IsData b = (n : ℕ) × (p : Packet) × (decoded b.items ≡ Some (F.Data n p)) × (b.items ≡ encoding (F.Data n p))
 
 abbrev pub IsAck : ArrayVec ℕ → Type 0
-IsAck b = (n : ℕ) × (decoded b.items ≡ Some (F.Ack n))
+IsAck b = (n : ℕ) × (decoded b.items ≡ Some (F.Ack n)) × (b.items ≡ encoding (F.Ack n))
 
 abbrev pub view_of : (handed acked next sent : ℕ) → List Packet → List (ArrayVec ℕ) → List (ArrayVec ℕ) → KeptWire Packet
 view_of handed acked next sent copies frames acks =

@@ -5,7 +5,7 @@ ghost use Rattle.mesh_semantics.specs.Tables.{Each};
 ghost use Rattle.mesh_semantics.specs.Wire.{capacity, coming_in, greater, push_within};
 ghost use Rattle.mesh_semantics.specs.KeptWire.{Carries, empty_kept, kept_coming, kept_act, kept_hear, kept_send, kept_take, kept_wanted, with_fresh};
 ghost use Rattle.rendezvous_protocol.specs.declared.packet.Packet.{Packet as AnyPacket};
-ghost use Rattle.wire_link.specs.Bytes.{decoded};
+ghost use Rattle.wire_link.specs.Bytes.{decoded, encoding};
 ghost use Rattle.wire_link.specs.Wires.{IsData, IsWanted, arrived_of, data_in, frames_in, front_of, late_of, lose_of, told_of, twice_of};
 
 use crate::frame::{Frame, FrameBytes};
@@ -37,7 +37,11 @@ pub enum Arrived {
     Next { packet: Packet },
 }
 
-/// What is kept of a link as a wire: it keeps numbers, copies of the packets that were sent and not acknowledged, and the frames under way as bytes. It takes no memory.
+/// What is kept of a link as a wire: it keeps numbers, copies of the at most eight packets that were sent and not acknowledged, and the frames under way as bytes, at most 16 on each side. No call takes memory.
+///
+/// A wire keeps no list of what entered; it *carries* lists (`Carries` of `mesh_semantics`). What the calls say of what is kept holds of every list that is carried: of each call that changes the wire by a clause
+/// of the law `theorems::each_call_carries_what_was_carried`, which says that the list is carried after it, that the same is told and that the change is that of the wire; of the others by
+/// `a_kept_wire_does_what_its_wire_does` of `mesh_semantics`, where a wire that carries a list also carries every longer one that begins with it.
 #[derive(Drop)]
 pub struct Wire {
     handed: u32,
@@ -63,7 +67,7 @@ impl Model for Wire {
 }
 
 impl Wire {
-    /// A wire on which nothing was put.
+    /// A wire on which nothing was put. It carries the empty list (`a_kept_wire_does_what_its_wire_does`, `empty`).
     pub fn make() -> Wire
         ensures { result ≡ empty_kept }
     {
@@ -78,28 +82,29 @@ impl Wire {
         }
     }
 
-    /// How many packets were acknowledged.
+    /// How many packets were acknowledged, which is the same for every list that is carried.
     pub fn acked(&self) -> u32
         ensures { result ≡ self.now.acked }
     {
         self.acked
     }
 
-    /// How many packets were handed out.
+    /// How many packets were handed out: of every list that is carried so many of its first ones.
     pub fn handed(&self) -> u32
         ensures { result ≡ self.now.handed }
     {
         self.handed
     }
 
-    /// How many packets were sent at least once.
+    /// How many packets were sent at least once, which is the same for every list that is carried.
     pub fn sent(&self) -> u32
         ensures { result ≡ self.now.sent }
     {
         self.sent
     }
 
-    /// The number that is wanted where so many packets entered. None exactly where all are acknowledged.
+    /// The number that is wanted where so many packets entered. None exactly where all are acknowledged. Of every list of this length that is carried it is what its wire wants
+    /// (`a_kept_wire_does_what_its_wire_does`, `wanted`); some list is carried.
     pub fn wants(&self, put: u32) -> Option<u32>
         ensures wanted { result ≡ kept_wanted self.now put }
         ensures carries { (put : List AnyPacket) × Carries self.now put }
@@ -114,7 +119,7 @@ impl Wire {
         }
     }
 
-    /// What comes to the far end.
+    /// What comes to the far end, as on the wire of every list that is carried (`a_kept_wire_does_what_its_wire_does`, `coming`).
     pub fn peek(&self) -> Arrived
         ensures { result ≡ arrived_of (kept_coming self.now) }
     {
@@ -124,7 +129,8 @@ impl Wire {
         }
     }
 
-    /// A number that is wanted for a list that the wire carries is sent, with its packet exactly where it was never sent.
+    /// A number that is wanted for a list that the wire carries is sent, with its packet exactly where it was never sent. Lost exactly where 16 frames are under way. Every list for which
+    /// the number is wanted, and the packet comes as said, is carried after it (`each_call_carries_what_was_carried`, `send`).
     pub fn send(&mut self, number: u32, fresh: Option<Packet>) -> Sent
         requires narrow { number + 1 < 2 ^ 32 }
         requires wanted { IsWanted self.old number fresh }
@@ -143,7 +149,8 @@ impl Wire {
         }
     }
 
-    /// The first frame comes to the far end: the next packet is handed out, another one is dropped, and the far end tells how many it has handed out.
+    /// The first frame comes to the far end: the next packet is handed out, another one is dropped, and the far end tells how many it has handed out, unless 16 such numbers are under way.
+    /// Every list is carried after it as before (`each_call_carries_what_was_carried`, `arrive`).
     pub fn arrive(&mut self) -> Arrived
         ensures arrived { result ≡ arrived_of (kept_coming self.old) }
         ensures change { self.new ≡ kept_take self.old }
@@ -163,7 +170,8 @@ impl Wire {
         }
     }
 
-    /// The first acknowledgement comes back: the copies of what it acknowledges are dropped. None exactly where there is none.
+    /// The first acknowledgement comes back: the copies of what it acknowledges are dropped. None exactly where there is none. Every list is carried after it as before
+    /// (`each_call_carries_what_was_carried`, `ack`).
     pub fn ack(&mut self) -> Option<u32>
         ensures heard { option_map (λ n. (W.Acked n, self.new)) result ≡ kept_hear self.old }
         ensures none { result ≡ None → self.new ≡ self.old }
@@ -176,7 +184,7 @@ impl Wire {
         Some(number)
     }
 
-    /// The first frame of a side is lost. None exactly where there is none.
+    /// The first frame of a side is lost. None exactly where there is none. Every list is carried after it as before (`each_call_carries_what_was_carried`, `lose`).
     pub fn lose(&mut self, side: Side) -> Option<u32>
         ensures lost { option_map (λ n. (W.Lost n, self.new)) result ≡ kept_act (lose_of side) [] self.old }
         ensures none { result ≡ None → self.new ≡ self.old }
@@ -190,7 +198,8 @@ impl Wire {
         }
     }
 
-    /// The first frame of a side comes twice: a copy of it goes last. None exactly where there is none or the side is full.
+    /// The first frame of a side comes twice: a copy of it goes last. None exactly where there is none or the side holds 16. Every list is carried after it as before
+    /// (`each_call_carries_what_was_carried`, `twice`).
     pub fn twice(&mut self, side: Side) -> Option<u32>
         ensures doubled { option_map (λ n. (W.Frame n, self.new)) result ≡ kept_act (twice_of side) [] self.old }
         ensures none { result ≡ None → self.new ≡ self.old }
@@ -219,9 +228,10 @@ impl Wire {
         }
     }
 
-    /// The bytes of the first frame of a side. None exactly where there is none.
+    /// The bytes of the first frame of a side, which are its encoding, at most 96; they are those of the wire of every list that is carried, since no frame depends on it. None exactly where there is none.
     pub fn front(&self, side: Side) -> Option<&FrameBytes>
-        ensures { option_map (λ b. decoded b.now.items) result ≡ option_map Some (front_of side self.now) }
+        ensures bytes { option_map (λ b. b.now.items) result ≡ option_map encoding (front_of side self.now) }
+        ensures read { option_map (λ b. decoded b.now.items) result ≡ option_map Some (front_of side self.now) }
     {
         match side {
             Side::Data => self.frames.as_slice().first(),
@@ -229,7 +239,7 @@ impl Wire {
         }
     }
 
-    /// The first frame of a side falls behind the others. None exactly where there is none.
+    /// The first frame of a side falls behind the others. None exactly where there is none. Every list is carried after it as before (`each_call_carries_what_was_carried`, `late`).
     pub fn late(&mut self, side: Side) -> Option<u32>
         ensures late { option_map (λ n. (W.Late n, self.new)) result ≡ kept_act (late_of side) [] self.old }
         ensures none { result ≡ None → self.new ≡ self.old }
