@@ -93,6 +93,8 @@ module _ (u : Code) (p : Parts) (whole : IsWhole p) (room : length p.heap.object
     ready = length-set p.ready n (can_go (coded u) p.id (n, slot_at more n)) ∙ whole.ready;
     objects = let e = length_push p.heap.objects y in omega (arith, e, room);
     few = whole.few;
+    room = whole.room;
+    frames = whole.frames;
     no_box = λ j l. whole.no_box j (above j l);
     no_request = λ j l. whole.no_request j (above j l);
     no_fault = λ j l. whole.no_fault j (above j l);

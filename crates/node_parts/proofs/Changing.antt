@@ -109,6 +109,8 @@ module _ (u : Code) (p : Parts) (whole : IsWhole p) (i : ℕ) (h : i < length p.
     ready = length-set p.ready i (can_go (coded u) p.id (i, slot_at (put_all p i y r f g b) i)) ∙ whole.ready;
     objects = let e = length-set p.heap.objects i y in let k = whole.objects in omega (arith, e, k);
     few = whole.few;
+    room = whole.room;
+    frames = whole.frames;
     no_box = λ j l. get_or-set_other p.mailbox.boxes i j b [] (other j l) ∙ whole.no_box j (above j l);
     no_request = λ j l. get_or-set_other p.outstanding i j r None (other j l) ∙ whole.no_request j (above j l);
     no_fault = λ j l. get_or-set_other p.faults i j f None (other j l) ∙ whole.no_fault j (above j l);

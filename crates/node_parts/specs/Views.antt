@@ -102,6 +102,9 @@ pub record IsWhole (p : Parts) : Type 0 where
   pub ready : length p.ready ≡ p.heap.most_objects
   pub objects : length p.heap.objects ≤ p.heap.most_objects
   pub few : p.heap.most_objects ≤ 4096
+  -- there may be an object, and a frame
+  pub room : 1 ≤ p.heap.most_objects
+  pub frames : 1 ≤ p.heap.most_frames
   pub no_box : (i : ℕ) → length p.heap.objects ≤ i → box_of p.mailbox i ≡ []
   pub no_request : (i : ℕ) → length p.heap.objects ≤ i → get_or p.outstanding i None ≡ None
   pub no_fault : (i : ℕ) → length p.heap.objects ≤ i → get_or p.faults i None ≡ None

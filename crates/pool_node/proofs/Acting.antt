@@ -112,6 +112,8 @@ module _ (u : Code) (l : Placement) (leaving : ℕ) (p : Parts) (whole : IsWhole
     ready = w.ready;
     objects = w.objects;
     few = w.few;
+    room = w.room;
+    frames = w.frames;
     no_box = w.no_box;
     no_request = w.no_request;
     no_fault = w.no_fault;

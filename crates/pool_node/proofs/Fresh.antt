@@ -41,10 +41,10 @@ same_at (suc n) a zero = refl
 same_at (suc n) a (suc i) = same_at n a i
 
 -- the parts of a new node fit together
-pub fresh_whole : (p : Parts) (objects : ℕ) → p.heap.node ≡ p.id → p.heap.most_objects ≡ objects → p.heap.objects ≡ [] → objects ≤ 4096
+pub fresh_whole : (p : Parts) (objects : ℕ) → p.heap.node ≡ p.id → p.heap.most_objects ≡ objects → p.heap.objects ≡ [] → objects ≤ 4096 → 1 ≤ objects → 1 ≤ p.heap.most_frames
     → p.mailbox ≡ mail (replicate objects []) p.cells → p.outstanding ≡ replicate objects None → p.faults ≡ replicate objects None → p.goals ≡ replicate objects 0
     → p.ready ≡ replicate objects false → IsWhole p
-fresh_whole p objects node most none few mailbox requests faults goals ready = record {
+fresh_whole p objects node most none few room frames mailbox requests faults goals ready = record {
   node = node;
   cells = ap (λ (m : Mail Message). m.cells) mailbox;
   boxes = ap (λ (m : Mail Message). length m.boxes) mailbox ∙ length-replicate objects [] ∙ sym most;
@@ -54,6 +54,8 @@ fresh_whole p objects node most none few mailbox requests faults goals ready = r
   ready = ap length ready ∙ length-replicate objects false ∙ sym most;
   objects = subst (λ (n : ℕ). n ≤ p.heap.most_objects) (sym (ap length none)) (omega arith);
   few = subst (λ (n : ℕ). n ≤ 4096) (sym most) few;
+  room = subst (λ (n : ℕ). 1 ≤ n) (sym most) room;
+  frames = frames;
   no_box = λ i h. ap (λ (m : Mail Message). box_of m i) mailbox ∙ same_at objects [] i;
   no_request = λ i h. ap (λ (xs : List (Option ℕ)). get_or xs i None) requests ∙ same_at objects None i;
   no_fault = λ i h. ap (λ (xs : List (Option Error)). get_or xs i None) faults ∙ same_at objects None i;

@@ -49,8 +49,6 @@ pub(crate) fn most_vars_of(unit: &Unit) -> u32
 pub(crate) fn start_in(unit: &Unit, parts: &mut Parts) -> u32
     requires whole { IsWhole parts.old }
     requires unit { IsOfUnit unit.now (node_of parts.old) }
-    requires room { 1 ≤ parts.old.heap.most_objects }
-    requires frames { 1 ≤ parts.old.heap.most_frames }
     requires empty { slots_of parts.old ≡ [] }
     ensures name { result ≡ name_at parts.old.id 0 }
     ensures root { (y : Placed) × ((coded unit.now).root ≡ Some y) × IsAdded unit.now parts.old parts.new y }

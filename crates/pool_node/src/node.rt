@@ -94,8 +94,6 @@ impl Node {
     /// Places the root object, of the last class of the unit, in slot 0, and tells its name.
     pub fn start_root(&mut self, unit: &Unit) -> u32
         requires unit { IsOfUnit unit.now self.old }
-        requires room { 1 ≤ self.old.most_objects }
-        requires frames { 1 ≤ self.old.most_frames }
         requires empty { self.old.state.slots ≡ [] }
         ensures name { result ≡ name_at self.old.id 0 }
         ensures root { (y : Placed) × ((coded unit.now).root ≡ Some y) × (self.new ≡ record self.old { state = record self.old.state { slots = fresh_slot y ∷ [] }; ready = self.new.ready }) }

@@ -14,8 +14,8 @@ pub returns-in-Some-clause-root : goal.returns-in-Some-clause-root
 returns-in-Some-clause-root c =
     let n = ap (λ (xs : List CodeObject). length xs) (nothing_there c.args.parts.now c.requires.empty) in
     let f : frames_of c.args.parts.now.heap.objects ≡ 0 = ap frames_of (nothing_there c.args.parts.now c.requires.empty) in
-    let ok = ok_of c.add_in.result (λ z. let w = c.add_in.ensures.objects.0 z in let r = c.requires.room in omega (arith, w, n, r))
-    (λ z. let w = c.add_in.ensures.frames.0 z in let r = c.requires.frames in let v = w.1 in omega (arith, v, f, r)) in
+    let ok = ok_of c.add_in.result (λ z. let w = c.add_in.ensures.objects.0 z in let r = c.requires.whole.room in omega (arith, w, n, r))
+    (λ z. let w = c.add_in.ensures.frames.0 z in let r = c.requires.whole.frames in let v = w.1 in omega (arith, v, f, r)) in
     let a = on_ok c.add_in.result _ c.add_in.ensures.added ok in
     (placed a.0, root_is c.args.unit.now c.items-classes.result.now c.index-classes-classes.result c.requires.unit.proper.classes.0 c.items-classes.ensures c.in-Some.place a.0 (sym c.class_named.ensures ∙ c.in-Some.is) a.1, a.2)
 

@@ -28,24 +28,6 @@ start_root-requires-clause-unit c =
     let node = c.in-Ok.ensures.each c.root_of-root.result c.index_mut.result.now here in
     node.node.of_unit
 
-pub start_root-requires-clause-room : goal.start_root-requires-clause-room
-start_root-requires-clause-room c =
-    let root : c.root_of-root.result ≡ root_node (last_place c.args.placement.now.places) = c.root_of-root.ensures ∙ ap (λ (ps : List Place). root_node (last_place ps)) c.items.ensures in
-    let below : c.root_of-root.result < length c.in-Ok.nodes.items =
-    subst (λ i. i < length c.in-Ok.nodes.items) (sym root) (subst (λ n. root_node (last_place c.args.placement.now.places) < n) (sym c.in-Ok.ensures.count) (root_inside c.args.unit.now c.args.placement.now c.requires.suits)) in
-    let here = element c.in-Ok.nodes.items c.root_of-root.result c.index_mut.result.now below c.index_mut.ensures.value in
-    let node = c.in-Ok.ensures.each c.root_of-root.result c.index_mut.result.now here in
-    subst (λ n. 1 ≤ n) (sym node.node.of_placement.objects) c.requires.suits.objects.0
-
-pub start_root-requires-clause-frames : goal.start_root-requires-clause-frames
-start_root-requires-clause-frames c =
-    let root : c.root_of-root.result ≡ root_node (last_place c.args.placement.now.places) = c.root_of-root.ensures ∙ ap (λ (ps : List Place). root_node (last_place ps)) c.items.ensures in
-    let below : c.root_of-root.result < length c.in-Ok.nodes.items =
-    subst (λ i. i < length c.in-Ok.nodes.items) (sym root) (subst (λ n. root_node (last_place c.args.placement.now.places) < n) (sym c.in-Ok.ensures.count) (root_inside c.args.unit.now c.args.placement.now c.requires.suits)) in
-    let here = element c.in-Ok.nodes.items c.root_of-root.result c.index_mut.result.now below c.index_mut.ensures.value in
-    let node = c.in-Ok.ensures.each c.root_of-root.result c.index_mut.result.now here in
-    subst (λ n. 1 ≤ n) (sym node.node.of_placement.frames) c.requires.suits.frames.0
-
 pub start_root-requires-clause-empty : goal.start_root-requires-clause-empty
 start_root-requires-clause-empty c =
     let root : c.root_of-root.result ≡ root_node (last_place c.args.placement.now.places) = c.root_of-root.ensures ∙ ap (λ (ps : List Place). root_node (last_place ps)) c.items.ensures in

@@ -1,4 +1,4 @@
-use Rattle.std.proofs.Common.{arith, ◌∙◌, ap, refl, List, [], None, replicate, length}
+use Rattle.std.proofs.Common.{ℕ, ◌≤◌, arith, ◌∙◌, ap, refl, sym, subst, List, [], None, replicate, length}
 use Rattle.coded_objects.specs.Coded.{coded}
 use Rattle.node_semantics.specs.Machine.{empty_node}
 use Rattle.object_code.specs.declared.unit.ClassCode.{ClassCode}
@@ -42,5 +42,6 @@ returns-clause-empty c =
 pub invariant_of-result : goal.invariant_of-result
 invariant_of-result c =
     fresh_whole _ c.args.placement.now.objects (ap (λ (h : HeapOf). h.node) c.in_ok-make.ensures) (ap (λ (h : HeapOf). h.most_objects) c.in_ok-make.ensures)
-    (ap (λ (h : HeapOf). h.objects) c.in_ok-make.ensures) c.requires.suits.objects.1 c.in_ok-make-2.ensures c.in_ok-make-3.ensures c.in_ok-filled.ensures c.in_ok-filled-2.ensures
+    (ap (λ (h : HeapOf). h.objects) c.in_ok-make.ensures) c.requires.suits.objects.1 c.requires.suits.objects.0
+    (subst (λ (n : ℕ). 1 ≤ n) (sym (ap (λ (h : HeapOf). h.most_frames) c.in_ok-make.ensures)) c.requires.suits.frames.0) c.in_ok-make-2.ensures c.in_ok-make-3.ensures c.in_ok-filled.ensures c.in_ok-filled-2.ensures
     c.in_ok-make-4.ensures
