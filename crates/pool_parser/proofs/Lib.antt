@@ -19,3 +19,4 @@ pub mod Results
 pub mod Depths
 pub mod Unique
 pub mod Spelling
+pub mod Exact

@@ -102,6 +102,13 @@ pub fn parse(alloc: Global, tokens: &Tokens) -> Result<Program, SyntaxFault>
     // A token that stands too deep is the first one, and the tokens up to it begin a program.
     ensures too_deep { (t : ℕ) → result ≡ Err (SyntaxFault.TooDeep t) → IsFirstTooDeep (toks tokens.now.list) t × Begins (toks tokens.now.list) program_phrase (rule program_phrase) 0 (t + 1) }
 
+    // Where memory is not wanting, each of the two is told where it stands: of the tokens the first unexpected one, before which none stands too deep, and the first
+    // that stands too deep, up to which the tokens begin a program.
+    ensures unexpected_there { (t : ℕ) → t < length (toks tokens.now.list) → IsFirstUnexpected (toks tokens.now.list) t → IsShallowBelow (toks tokens.now.list) t
+        → (result ≡ Err (SyntaxFault.Unexpected t)) ⊎ (result ≡ Err Memory) }
+    ensures too_deep_there { (t : ℕ) → IsFirstTooDeep (toks tokens.now.list) t → Begins (toks tokens.now.list) program_phrase (rule program_phrase) 0 (t + 1)
+        → (result ≡ Err (SyntaxFault.TooDeep t)) ⊎ (result ≡ Err Memory) }
+
     // Tokens with a program are refused for want of memory alone, and have no other.
     ensures only { (p : ProgramTree) → HasProgram (toks tokens.now.list) p → MatchResult result (λ q. program_of q ≡ p) (λ f. f ≡ Memory) }
 
