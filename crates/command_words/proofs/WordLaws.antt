@@ -12,7 +12,7 @@ use Rattle.clap.specs.declared.error.ErrorKind.{ErrorKind}
 use Rattle.clap.specs.declared.error.ErrorKind.TheVariants as kind
 use Rattle.clap.proofs.OnLiterals.{clap_on_literals}
 use Rattle.command_words.specs.Commands.{ask_of, is_option, request_of, show_of}
-use Rattle.command_words.specs.CommandLine.{files_app, matched_request, pool_app, word_app}
+use Rattle.command_words.specs.CommandLine.{checked_app, files_app, matched_request, pool_app, word_app}
 use Rattle.command_words.specs.declared.command.Ask.{Ask}
 use Rattle.command_words.specs.declared.command.Show.{Show}
 use Rattle.command_words.specs.declared.command.Ask.TheVariants as As
@@ -29,7 +29,10 @@ files_shape name = built_leaf (inherited pool.top (files_app name).top)
 abbrev pub word_shape : Text → Text → Shape
 word_shape name id = built_leaf (inherited pool.top (word_app name id).top)
 
-subs_are : pool.subs ≡ files_shape (codes "record") ∷ files_shape (codes "run") ∷ files_shape (codes "why") ∷ word_shape (codes "print") (codes "program") ∷ word_shape (codes "code") (codes "program") ∷ word_shape (codes "ring") (codes "cells") ∷ word_shape (codes "convert") (codes "record") ∷ []
+abbrev pub checked_shape : Text → Shape
+checked_shape name = built_leaf (inherited pool.top (checked_app name).top)
+
+subs_are : pool.subs ≡ files_shape (codes "record") ∷ files_shape (codes "run") ∷ files_shape (codes "why") ∷ word_shape (codes "print") (codes "program") ∷ word_shape (codes "code") (codes "program") ∷ word_shape (codes "ring") (codes "cells") ∷ word_shape (codes "convert") (codes "record") ∷ checked_shape (codes "check") ∷ []
 subs_are = refl
 
 -- the faults of a command's own level, of its walk and the walk's own faults
@@ -107,6 +110,10 @@ pub enters_convert : Enters (codes "convert") (word_shape (codes "convert") (cod
 unfolding clap_on_literals
 enters_convert = record { first = refl; turn = refl; found = refl }
 
+pub enters_check : Enters (codes "check") (checked_shape (codes "check"))
+unfolding clap_on_literals
+enters_check = record { first = refl; turn = refl; found = refl }
+
 -- what stands between the words of a subcommand
 
 level_by : (s : Shape) (rest : List Text) (end : Walk) (walking : Kinds) → walk s.rules [] nothing_held rest ≡ end
@@ -173,6 +180,52 @@ module _ (name : Text) where
   below_4 p l x y rest e f g h =
       level_by (files_shape name) (p ∷ l ∷ x ∷ y ∷ rest) (walk files [] nothing_held (p ∷ l ∷ x ∷ y ∷ rest)) (kind.UnknownArgument ∷ []) refl
       (fault_3 p l x (y ∷ rest) e f g ∙ fault_plain (files_shape name) (three p l x).held 4 y rest h)
+
+-- a program and a record
+
+module _ (name : Text) where
+  abbrev both : List Rule
+  both = (checked_shape name).rules
+
+  abbrev one_of : Text → Walk
+  one_of p = next_walk both nothing_held 1 p
+
+  abbrev two_of : Text → Text → Walk
+  two_of p r = next_walk both (one_of p).held 2 r
+
+  both_1 : (p : Text) (rest : List Text) → is_option p ≡ false → walk both [] nothing_held (p ∷ rest) ≡ fold (walked both []) (one_of p) rest
+  both_1 p rest e = fold_plain both nothing_held 1 p rest e
+
+  pub both_2 : (p r : Text) (rest : List Text) → is_option p ≡ false → is_option r ≡ false
+      → walk both [] nothing_held (p ∷ r ∷ rest) ≡ fold (walked both []) (two_of p r) rest
+  both_2 p r rest e f = both_1 p (r ∷ rest) e ∙ fold_plain both (one_of p).held 2 r rest f
+
+  both_fault_1 : (p : Text) (rest : List Text) → is_option p ≡ false
+      → walk_fault (checked_shape name) [] (walk_from nothing_held) (p ∷ rest) ≡ walk_fault (checked_shape name) [] (one_of p) rest
+  both_fault_1 p rest e = fault_plain (checked_shape name) nothing_held 1 p rest e
+
+  both_fault_2 : (p r : Text) (rest : List Text) → is_option p ≡ false → is_option r ≡ false
+      → walk_fault (checked_shape name) [] (walk_from nothing_held) (p ∷ r ∷ rest) ≡ walk_fault (checked_shape name) [] (two_of p r) rest
+  both_fault_2 p r rest e f = both_fault_1 p (r ∷ rest) e ∙ fault_plain (checked_shape name) (one_of p).held 2 r rest f
+
+  pub both_below_0 : below (checked_shape name) [] ≡ kind.MissingRequiredArgument ∷ []
+  unfolding walk_fault defaults_fault
+  both_below_0 = refl
+
+  pub both_below_1 : (p : Text) → is_option p ≡ false → below (checked_shape name) (p ∷ []) ≡ kind.MissingRequiredArgument ∷ []
+  unfolding walk_fault defaults_fault
+  both_below_1 p e = level_by (checked_shape name) (p ∷ []) (one_of p) [] (both_1 p [] e) (both_fault_1 p [] e)
+
+  pub both_below_2 : (p r : Text) → is_option p ≡ false → is_option r ≡ false → below (checked_shape name) (p ∷ r ∷ []) ≡ []
+  unfolding walk_fault defaults_fault
+  both_below_2 p r e f = level_by (checked_shape name) (p ∷ r ∷ []) (two_of p r) [] (both_2 p r [] e f) (both_fault_2 p r [] e f)
+
+  pub both_below_3 : (p r x : Text) (rest : List Text) → is_option p ≡ false → is_option r ≡ false → is_option x ≡ false
+      → below (checked_shape name) (p ∷ r ∷ x ∷ rest) ≡ kind.UnknownArgument ∷ []
+  unfolding walk_fault defaults_fault
+  both_below_3 p r x rest e f g =
+      level_by (checked_shape name) (p ∷ r ∷ x ∷ rest) (walk both [] nothing_held (p ∷ r ∷ x ∷ rest)) (kind.UnknownArgument ∷ []) refl
+      (both_fault_2 p r (x ∷ rest) e f ∙ fault_plain (checked_shape name) (two_of p r).held 3 x rest g)
 
 -- one word
 
@@ -244,18 +297,20 @@ neither true b e = absurd (true≢false e)
 neither false b e = (refl, e)
 
 pub files_judged : (name : Text) (show : Show) → Enters name (files_shape name) → show_of name ≡ Some show → ask_of name ≡ None
-    → bytes_eq name (codes "ring") ≡ false → bytes_eq name (codes "convert") ≡ false → (rest : List Text) → list_any is_option rest ≡ false → Judged (name ∷ rest)
-files_judged name show enters shows asks rings converts [] plain =
+    → bytes_eq name (codes "ring") ≡ false → bytes_eq name (codes "convert") ≡ false → bytes_eq name (codes "check") ≡ false → (rest : List Text) → list_any is_option rest ≡ false
+    → Judged (name ∷ rest)
+files_judged name show enters shows asks rings converts checks [] plain =
     by_fault (name ∷ []) kind.MissingRequiredArgument [] (entered_faults name _ [] enters ∙ below_0 name) refl
-files_judged name show enters shows asks rings converts (p ∷ []) plain =
+files_judged name show enters shows asks rings converts checks (p ∷ []) plain =
     let a = neither _ _ plain in
     by_fault (name ∷ p ∷ []) kind.MissingRequiredArgument [] (entered_faults name _ (p ∷ []) enters ∙ below_1 name p a.0)
     (rw (a.0, asks, rings, converts) refl)
-files_judged name show enters shows asks rings converts (p ∷ l ∷ []) plain =
+files_judged name show enters shows asks rings converts checks (p ∷ l ∷ []) plain =
     let a = neither _ _ plain in
     let b = neither _ _ a.1 in
-    by_fault (name ∷ p ∷ l ∷ []) kind.MissingRequiredArgument [] (entered_faults name _ (p ∷ l ∷ []) enters ∙ below_2 name p l a.0 b.0) refl
-files_judged name show enters shows asks rings converts (p ∷ l ∷ x ∷ []) plain =
+    by_fault (name ∷ p ∷ l ∷ []) kind.MissingRequiredArgument [] (entered_faults name _ (p ∷ l ∷ []) enters ∙ below_2 name p l a.0 b.0)
+    (rw (a.0, b.0, checks) refl)
+files_judged name show enters shows asks rings converts checks (p ∷ l ∷ x ∷ []) plain =
     let a = neither _ _ plain in
     let b = neither _ _ a.1 in
     let d = neither _ _ b.1 in
@@ -263,7 +318,7 @@ files_judged name show enters shows asks rings converts (p ∷ l ∷ x ∷ []) p
     ∙ ap (λ w. Some (name, finished (files name) w.held)) (walk_3 name p l x [] a.0 b.0 d.0) in
     by_matches (name ∷ p ∷ l ∷ x ∷ []) (entered_faults name _ (p ∷ l ∷ x ∷ []) enters ∙ below_3 name p l x a.0 b.0 d.0)
     (ap matched_request rows ∙ rw (a.0, b.0, d.0, shows) refl)
-files_judged name show enters shows asks rings converts (p ∷ l ∷ x ∷ y ∷ rest) plain =
+files_judged name show enters shows asks rings converts checks (p ∷ l ∷ x ∷ y ∷ rest) plain =
     let a = neither _ _ plain in
     let b = neither _ _ a.1 in
     let d = neither _ _ b.1 in
@@ -271,31 +326,37 @@ files_judged name show enters shows asks rings converts (p ∷ l ∷ x ∷ y ∷
     by_fault (name ∷ p ∷ l ∷ x ∷ y ∷ rest) kind.UnknownArgument []
     (entered_faults name _ (p ∷ l ∷ x ∷ y ∷ rest) enters ∙ below_4 name p l x y rest a.0 b.0 d.0 e.0) refl
 
--- two words or more after a word that is no command of three inputs
-no_more : (name p q : Text) (rest : List Text) → show_of name ≡ None → is_option p ≡ false → is_option q ≡ false → list_any is_option rest ≡ false
+-- two words or more after a word that is no command of three inputs and none of two
+no_more : (name p q : Text) (rest : List Text) → show_of name ≡ None → bytes_eq name (codes "check") ≡ false → is_option p ≡ false → is_option q ≡ false → list_any is_option rest ≡ false
     → request_of (name ∷ p ∷ q ∷ rest) ≡ None
-no_more name p q [] shows e f plain = refl
-no_more name p q (r ∷ []) shows e f plain =
+no_more name p q [] shows checks e f plain = rw (e, f, checks) refl
+no_more name p q (r ∷ []) shows checks e f plain =
     let last = neither (is_option r) _ plain in
     rw (e, f, last.0, shows) refl
-no_more name p q (r ∷ t ∷ rest) shows e f plain = refl
+no_more name p q (r ∷ t ∷ rest) shows checks e f plain = refl
 
-pub program_judged : (name : Text) (ask : Ask) → Enters name (word_shape name (codes "program")) → show_of name ≡ None → ask_of name ≡ Some ask
+-- and three words or more
+no_show : (name p q x : Text) (rest : List Text) → show_of name ≡ None → is_option p ≡ false → is_option q ≡ false → is_option x ≡ false → list_any is_option rest ≡ false
+    → request_of (name ∷ p ∷ q ∷ x ∷ rest) ≡ None
+no_show name p q x [] shows e f g plain = rw (e, f, g, shows) refl
+no_show name p q x (r ∷ rest) shows e f g plain = refl
+
+pub program_judged : (name : Text) (ask : Ask) → Enters name (word_shape name (codes "program")) → show_of name ≡ None → ask_of name ≡ Some ask → bytes_eq name (codes "check") ≡ false
     → (rest : List Text) → list_any is_option rest ≡ false → Judged (name ∷ rest)
-program_judged name ask enters shows asks [] plain =
+program_judged name ask enters shows asks checks [] plain =
     by_fault (name ∷ []) kind.MissingRequiredArgument [] (entered_faults name _ [] enters ∙ word_below_0 name (codes "program")) refl
-program_judged name ask enters shows asks (p ∷ []) plain =
+program_judged name ask enters shows asks checks (p ∷ []) plain =
     let a = neither _ _ plain in
     let rows = entered_rows name _ (p ∷ []) enters
     ∙ ap (λ w. Some (name, finished (word_rules name (codes "program")) w.held)) (word_walk name (codes "program") p a.0) in
     by_matches (name ∷ p ∷ []) (entered_faults name _ (p ∷ []) enters ∙ program_below_1 name p a.0)
     (ap matched_request rows ∙ rw (a.0, shows, asks) refl)
-program_judged name ask enters shows asks (p ∷ q ∷ rest) plain =
+program_judged name ask enters shows asks checks (p ∷ q ∷ rest) plain =
     let a = neither _ _ plain in
     let b = neither _ _ a.1 in
     by_fault (name ∷ p ∷ q ∷ rest) kind.UnknownArgument []
     (entered_faults name _ (p ∷ q ∷ rest) enters ∙ word_below_2 name (codes "program") p q rest a.0 b.0)
-    (no_more name p q rest shows a.0 b.0 b.1)
+    (no_more name p q rest shows checks a.0 b.0 b.1)
 
 pub ring_judged : (rest : List Text) → list_any is_option rest ≡ false → Judged (codes "ring" ∷ rest)
 ring_judged [] plain =
@@ -311,7 +372,7 @@ ring_judged (p ∷ q ∷ rest) plain =
     let b = neither _ _ a.1 in
     by_fault (codes "ring" ∷ p ∷ q ∷ rest) kind.UnknownArgument []
     (entered_faults (codes "ring") _ (p ∷ q ∷ rest) enters_ring ∙ word_below_2 (codes "ring") (codes "cells") p q rest a.0 b.0)
-    (no_more (codes "ring") p q rest refl a.0 b.0 b.1)
+    (no_more (codes "ring") p q rest refl refl a.0 b.0 b.1)
 
 pub convert_judged : (rest : List Text) → list_any is_option rest ≡ false → Judged (codes "convert" ∷ rest)
 convert_judged [] plain =
@@ -327,7 +388,29 @@ convert_judged (p ∷ q ∷ rest) plain =
     let b = neither _ _ a.1 in
     by_fault (codes "convert" ∷ p ∷ q ∷ rest) kind.UnknownArgument []
     (entered_faults (codes "convert") _ (p ∷ q ∷ rest) enters_convert ∙ word_below_2 (codes "convert") (codes "record") p q rest a.0 b.0)
-    (no_more (codes "convert") p q rest refl a.0 b.0 b.1)
+    (no_more (codes "convert") p q rest refl refl a.0 b.0 b.1)
+
+pub check_judged : (rest : List Text) → list_any is_option rest ≡ false → Judged (codes "check" ∷ rest)
+check_judged [] plain =
+    by_fault (codes "check" ∷ []) kind.MissingRequiredArgument [] (entered_faults (codes "check") _ [] enters_check ∙ both_below_0 (codes "check")) refl
+check_judged (p ∷ []) plain =
+    let a = neither _ _ plain in
+    by_fault (codes "check" ∷ p ∷ []) kind.MissingRequiredArgument [] (entered_faults (codes "check") _ (p ∷ []) enters_check ∙ both_below_1 (codes "check") p a.0)
+    (rw a.0 refl)
+check_judged (p ∷ r ∷ []) plain =
+    let a = neither _ _ plain in
+    let b = neither _ _ a.1 in
+    let rows = entered_rows (codes "check") _ (p ∷ r ∷ []) enters_check
+    ∙ ap (λ w. Some (codes "check", finished (both (codes "check")) w.held)) (both_2 (codes "check") p r [] a.0 b.0) in
+    by_matches (codes "check" ∷ p ∷ r ∷ []) (entered_faults (codes "check") _ (p ∷ r ∷ []) enters_check ∙ both_below_2 (codes "check") p r a.0 b.0)
+    (ap matched_request rows ∙ rw (a.0, b.0) refl)
+check_judged (p ∷ r ∷ x ∷ rest) plain =
+    let a = neither _ _ plain in
+    let b = neither _ _ a.1 in
+    let d = neither _ _ b.1 in
+    by_fault (codes "check" ∷ p ∷ r ∷ x ∷ rest) kind.UnknownArgument []
+    (entered_faults (codes "check") _ (p ∷ r ∷ x ∷ rest) enters_check ∙ both_below_3 (codes "check") p r x rest a.0 b.0 d.0)
+    (no_show (codes "check") p r x rest refl a.0 b.0 d.0 d.1)
 
 -- a word that is no subcommand's name
 
@@ -336,6 +419,7 @@ pub record IsNoName (w : Text) : Type 0 where
   pub asks : ask_of w ≡ None
   pub rings : bytes_eq w (codes "ring") ≡ false
   pub converts : bytes_eq w (codes "convert") ≡ false
+  pub checks : bytes_eq w (codes "check") ≡ false
   pub met : subcommand_met (names_of pool) idle w ≡ None
 
 no_request : (w : Text) (rest : List Text) → IsNoName w → list_any is_option rest ≡ false → request_of (w ∷ rest) ≡ None
@@ -346,7 +430,7 @@ no_request w (p ∷ []) other plain =
 no_request w (p ∷ q ∷ rest) other plain =
     let a = neither _ _ plain in
     let b = neither _ _ a.1 in
-    no_more w p q rest other.shows a.0 b.0 b.1
+    no_more w p q rest other.shows other.checks a.0 b.0 b.1
 
 no_name_fault : (w : Text) (rest : List Text) → IsNoName w → is_option w ≡ false
     → walk_fault pool.top (names_of pool) (walk_from nothing_held) (w ∷ rest) ≡ kind.UnknownArgument ∷ kind.InvalidSubcommand ∷ []
@@ -379,26 +463,30 @@ judged [] plain = no_words_judged
 judged (w ∷ rest) plain =
     let a = neither _ _ plain in
     elim (decided w (codes "record")) [
-      | inl e ↦ subst (λ n. Judged (n ∷ rest)) (sym e) (files_judged (codes "record") Sh.Record enters_record refl refl refl refl rest a.1)
+      | inl e ↦ subst (λ n. Judged (n ∷ rest)) (sym e) (files_judged (codes "record") Sh.Record enters_record refl refl refl refl refl rest a.1)
       | inr record_no ↦ elim (decided w (codes "run")) [
-        | inl e ↦ subst (λ n. Judged (n ∷ rest)) (sym e) (files_judged (codes "run") Sh.Writes enters_run refl refl refl refl rest a.1)
+        | inl e ↦ subst (λ n. Judged (n ∷ rest)) (sym e) (files_judged (codes "run") Sh.Writes enters_run refl refl refl refl refl rest a.1)
         | inr run_no ↦ elim (decided w (codes "why")) [
-          | inl e ↦ subst (λ n. Judged (n ∷ rest)) (sym e) (files_judged (codes "why") Sh.Report enters_why refl refl refl refl rest a.1)
+          | inl e ↦ subst (λ n. Judged (n ∷ rest)) (sym e) (files_judged (codes "why") Sh.Report enters_why refl refl refl refl refl rest a.1)
           | inr why_no ↦ elim (decided w (codes "print")) [
-            | inl e ↦ subst (λ n. Judged (n ∷ rest)) (sym e) (program_judged (codes "print") As.Canonical enters_print refl refl rest a.1)
+            | inl e ↦ subst (λ n. Judged (n ∷ rest)) (sym e) (program_judged (codes "print") As.Canonical enters_print refl refl refl rest a.1)
             | inr print_no ↦ elim (decided w (codes "code")) [
-              | inl e ↦ subst (λ n. Judged (n ∷ rest)) (sym e) (program_judged (codes "code") As.Listing enters_code refl refl rest a.1)
+              | inl e ↦ subst (λ n. Judged (n ∷ rest)) (sym e) (program_judged (codes "code") As.Listing enters_code refl refl refl rest a.1)
               | inr code_no ↦ elim (decided w (codes "ring")) [
                 | inl e ↦ subst (λ n. Judged (n ∷ rest)) (sym e) (ring_judged rest a.1)
                 | inr ring_no ↦ elim (decided w (codes "convert")) [
                   | inl e ↦ subst (λ n. Judged (n ∷ rest)) (sym e) (convert_judged rest a.1)
-                  | inr convert_no ↦ no_name_judged w rest (record {
-                    shows = rw (record_no.0, run_no.0, why_no.0) refl;
-                    asks = rw (print_no.0, code_no.0) refl;
-                    rings = ring_no.0;
-                    converts = convert_no.0;
-                    met = rw (record_no.1, run_no.1, why_no.1, print_no.1, code_no.1, ring_no.1, convert_no.1) refl;
-                  }) a.0 a.1
+                  | inr convert_no ↦ elim (decided w (codes "check")) [
+                    | inl e ↦ subst (λ n. Judged (n ∷ rest)) (sym e) (check_judged rest a.1)
+                    | inr check_no ↦ no_name_judged w rest (record {
+                      shows = rw (record_no.0, run_no.0, why_no.0) refl;
+                      asks = rw (print_no.0, code_no.0) refl;
+                      rings = ring_no.0;
+                      converts = convert_no.0;
+                      checks = check_no.0;
+                      met = rw (record_no.1, run_no.1, why_no.1, print_no.1, code_no.1, ring_no.1, convert_no.1, check_no.1) refl;
+                    }) a.0 a.1
+                  ]
                 ]
               ]
             ]

@@ -4,7 +4,7 @@ use Rattle.pool_syntax.specs.Tokens.{Text}
 use Rattle.pool_lexer.specs.Lines.{decimal_of}
 use Rattle.clap.specs.Words.{App, Row, Rule, Shape, first_of, new_app, new_rule, with_rule, with_subcommand}
 use Rattle.clap.specs.Simple.{on_top}
-use Rattle.command_words.specs.Commands.{Request, ask_of, of_convert, of_program, of_ring, of_run, ring_size, show_of}
+use Rattle.command_words.specs.Commands.{Request, ask_of, of_check, of_convert, of_program, of_ring, of_run, ring_size, show_of}
 use Rattle.command_words.specs.declared.command.Ask.{Ask}
 use Rattle.command_words.specs.declared.command.Show.{Show}
 
@@ -20,16 +20,21 @@ files_app name = with_rule (with_rule (with_rule (new_app name) (positional (cod
 abbrev pub word_app : Text → Text → App
 word_app name id = with_rule (new_app name) (positional id)
 
+-- a command of a program and a record
+abbrev pub checked_app : Text → App
+checked_app name = with_rule (with_rule (new_app name) (positional (codes "program"))) (positional (codes "record"))
+
 -- no program's name stands before the words, nothing asks for help, and there must be a subcommand
 abbrev pub settings : Shape → Shape
 settings s = record s { no_binary_name = true; disable_help_flag = true; disable_help_subcommand = true; subcommand_required = true }
 
 abbrev pub pool_app : App
 pool_app =
-    with_subcommand (with_subcommand (with_subcommand (with_subcommand (with_subcommand (with_subcommand (with_subcommand (on_top settings (new_app (codes "pool")))
+    with_subcommand (with_subcommand (with_subcommand (with_subcommand (with_subcommand (with_subcommand (with_subcommand (with_subcommand (on_top settings (new_app (codes "pool")))
     (files_app (codes "record")).top) (files_app (codes "run")).top) (files_app (codes "why")).top)
     (word_app (codes "print") (codes "program")).top) (word_app (codes "code") (codes "program")).top)
-    (word_app (codes "ring") (codes "cells")).top) (word_app (codes "convert") (codes "record")).top
+    (word_app (codes "ring") (codes "cells")).top) (word_app (codes "convert") (codes "record")).top)
+    (checked_app (codes "check")).top
 
 -- what the matches of a subcommand ask for
 
@@ -49,10 +54,18 @@ ring_request rows = option_and_then (λ k. option_map of_ring (ring_size (decima
 abbrev pub convert_request : List Row → Option Request
 convert_request rows = option_map of_convert (first_of (codes "record") rows)
 
+abbrev pub with_record : Option Text → Option Text → Option Request
+with_record (Some p) (Some r) = Some (of_check p r)
+with_record _ _ = None
+
+abbrev pub check_request : List Row → Option Request
+check_request rows = with_record (first_of (codes "program") rows) (first_of (codes "record") rows)
+
 abbrev pub other_request : Option Ask → Text → List Row → Option Request
 other_request (Some ask) name rows = program_request ask rows
 other_request None name rows =
-    if bytes_eq name (codes "ring") then ring_request rows else (if bytes_eq name (codes "convert") then convert_request rows else None)
+    if bytes_eq name (codes "ring") then ring_request rows else (if bytes_eq name (codes "convert") then convert_request rows
+    else (if bytes_eq name (codes "check") then check_request rows else None))
 
 abbrev pub named_request : Option Show → Text → List Row → Option Request
 named_request (Some show) name rows = run_request show rows

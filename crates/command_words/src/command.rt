@@ -38,4 +38,6 @@ pub enum Command<'a> {
     Ring { cells: u32 },
     /// With the name of a record.
     Convert { name: &'a str },
+    /// With the names of a program and of a record that is judged by it.
+    Check { program: &'a str, record: &'a str },
 }

@@ -4,7 +4,7 @@ ghost use Rattle.std.specs.List.{list_any};
 ghost use Rattle.clap.specs.Words.{app_of, first_of, found_of, rows_of, rule_of, subcommand_rows_of};
 ghost use Rattle.clap.specs.declared.builder.Command.TheViews.{out-Command as fields_of};
 ghost use Rattle.command_words.specs.Commands.{IsSized, is_option, request, request_of, ring_size, texts_of};
-ghost use Rattle.command_words.specs.CommandLine.{convert_request, files_app, matched_request, pool_app, positional, program_request, ring_request, run_request, word_app};
+ghost use Rattle.command_words.specs.CommandLine.{check_request, checked_app, convert_request, files_app, matched_request, pool_app, positional, program_request, ring_request, run_request, word_app};
 ghost use Rattle.pool_lexer.specs.Lines.{decimal_of};
 
 use crate::command::{Ask, Command, Files, Show};
@@ -66,6 +66,16 @@ fn of_word<'a>(alloc: Global, name: &'a str, id: &'a str) -> Result<clap::Comman
     clap::Command::new(alloc, name).arg(positional(alloc, id))
 }
 
+/// A subcommand of the names of a program and a record.
+fn of_record<'a>(alloc: Global, name: &'a str) -> Result<clap::Command<'a>, AllocError>
+    ensures app { IfOk result (λ c. app_of c ≡ checked_app name.entry.now) }
+    ensures local { IfOk result (λ c. (fields_of c).has_globals ≡ false) }
+{
+    clap::Command::new(alloc, name)
+        .arg(positional(alloc, "program"))?
+        .arg(positional(alloc, "record"))
+}
+
 /// The command line.
 fn command_line<'a>(alloc: Global) -> Result<clap::Command<'a>, AllocError>
     ensures { IfOk result (λ c. app_of c ≡ pool_app) }
@@ -81,7 +91,8 @@ fn command_line<'a>(alloc: Global) -> Result<clap::Command<'a>, AllocError>
         .subcommand(of_word(alloc, "print", "program")?)?
         .subcommand(of_word(alloc, "code", "program")?)?
         .subcommand(of_word(alloc, "ring", "cells")?)?
-        .subcommand(of_word(alloc, "convert", "record")?)
+        .subcommand(of_word(alloc, "convert", "record")?)?
+        .subcommand(of_record(alloc, "check")?)
 }
 
 /// The first value of an argument.
@@ -164,6 +175,19 @@ fn convert<'a>(matches: &ArgMatches<'a>) -> Option<Command<'a>>
     }
 }
 
+/// The record of this name, judged by the program of this name.
+fn check<'a>(matches: &ArgMatches<'a>) -> Option<Command<'a>>
+    ensures request { option_map request result ≡ check_request (rows_of (found_of matches.now)) }
+    ensures sized { IfSome result IsSized }
+{
+    let program = value(matches, "program");
+    let record = value(matches, "record");
+    match (program, record) {
+        (Some(program), Some(record)) => Some(Command::Check { program, record }),
+        _ => None,
+    }
+}
+
 /// The command of the matches.
 fn command<'a>(matches: &ArgMatches<'a>) -> Option<Command<'a>>
     ensures request { option_map request result ≡ matched_request (subcommand_rows_of matches.now) }
@@ -178,6 +202,7 @@ fn command<'a>(matches: &ArgMatches<'a>) -> Option<Command<'a>>
         "code" => program(Ask::Listing, matches),
         "ring" => ring(matches),
         "convert" => convert(matches),
+        "check" => check(matches),
         _ => None,
     }
 }

@@ -7,7 +7,8 @@ ghost use Rattle.std.specs.Vec.Iter.{into_iter_items};
 ghost use Rattle.std.specs.IoError.{error_kind};
 ghost use Rattle.pool_outside.specs.Outside.{Rose};
 ghost use Rattle.pool_driver.specs.Commands.{Request, request_of, texts_of};
-ghost use Rattle.pool_driver.specs.Ends.{Ends, StaysWithin, code_of};
+ghost use Rattle.pool_driver.specs.Ends.{Ends, StaysWithin};
+ghost use Rattle.run_driver.specs.Statuses.{code_of};
 ghost use Rattle.pool_driver.specs.Inputs.{IsServable, MayOpen};
 ghost use Rattle.pool_driver.specs.Outputs.{IsWhole};
 

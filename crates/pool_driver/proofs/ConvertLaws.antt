@@ -5,8 +5,8 @@ use Rattle.pool_syntax.specs.Tokens.{Text}
 use Rattle.pool_syntax.specs.declared.words.Line.{Line}
 use Rattle.mesh_semantics.specs.Asks.{asks, asks_from}
 use Rattle.record_lines.specs.SecondForm.{form_text, line_text2, lines_text2, text2}
-use Rattle.pool_driver.specs.Ends.{Writing, Wrote, WroteFront}
-use Rattle.pool_driver.proofs.DriveLaws.{Follows, front_of_both, front_of_first, then, wrote_both}
+use Rattle.run_driver.specs.Writing.{Writing, Wrote, WroteFront}
+use Rattle.run_driver.proofs.Laws.{Follows, front_of_both, front_of_first, then, wrote_both}
 
 -- so many lines were written, and the rest is left
 pub record IsShowing (names : List Text) (lines : List Line) (numbers : List ℕ) (place : ℕ) (k : Writing) : Type 0 where
@@ -68,10 +68,6 @@ form_front names ls numbers j k e follows a b =
 -- where the first line is cut off
 pub first_front : (names : List Text) (ls : List Line) (k : Writing) → WroteFront k (form_text ++ 10 ∷ []) → WroteFront k (text2 names ls)
 first_front names ls k a = subst (WroteFront k) (form_then names ls (asks ls) refl) (front_of_first (form_text ++ 10 ∷ []) (lines_text2 names ls (asks ls)) k a)
-
--- by its parts
-pub as_front : (k : Writing) (s : Text) → WroteFront k s → (n : ℕ) × (n ≤ length s) × (k.after ≡ option_map (λ w. w ++ take n s) k.before)
-as_front k s h = (h.count, h.within, h.front)
 
 -- what holds after an error
 pub on_err : {A E P Q : Type 0} (r : Result A E) → OnErr r P → (P → Q) → OnErr r Q

@@ -7,24 +7,30 @@ use Rattle.pool_syntax.specs.declared.words.End.{End}
 use Rattle.pool_syntax.specs.declared.words.End.TheVariants as F
 use Rattle.pool_syntax.specs.declared.words.Line.{Line}
 use Rattle.pool_syntax.specs.declared.words.Line.TheVariants as R
-use Rattle.pool_driver.specs.declared.status.Status.{Status}
-use Rattle.pool_driver.specs.declared.status.Status.TheVariants as S
+use Rattle.run_driver.specs.declared.status.Status.{Status}
+use Rattle.run_driver.specs.declared.status.Status.TheVariants as S
 use Rattle.fault_lines.specs.declared.fault.Input.{Input}
 use Rattle.fault_lines.specs.declared.fault.Fault.{Fault}
 use Rattle.fault_lines.specs.declared.fault.Stop.{Stop}
 use Rattle.fault_lines.specs.declared.fault.Stop.TheVariants as T
 use Rattle.pool_driver.specs.declared.outputs.Output.{Output}
-use Rattle.command_words.specs.Commands.{Request, of_run, of_program, of_ring, of_convert}
+use Rattle.command_words.specs.Commands.{Request, of_run, of_program, of_ring, of_convert, of_check}
 use Rattle.fault_lines.specs.FaultText.{refusal_line, unread_line, usage_line}
 use Rattle.pool_driver.specs.Inputs.{Told, inputs, limit_of, IsAccepted, HasFault, WereAccepted, AreAccepted, AreServed, IsServable, StopAt}
 use Rattle.pool_gen.specs.Ring.{ring_placement, ring_program, ring_schedule}
 use Rattle.fault_lines.specs.declared.fault.Input.TheVariants as I
-use Rattle.pool_driver.specs.Outputs.{IsOutput, IsWhole}
-use Rattle.pool_driver.specs.Runs.{record_of, ended, shows_fault, status_after}
+use Rattle.pool_driver.specs.Outputs.{IsOutput, IsWhole, status_of_verdict}
+use Rattle.record_check.specs.declared.lead.Verdict.{Verdict}
+use Rattle.record_check.specs.declared.lead.Verdict.TheVariants as V
+use Rattle.pool_driver.specs.Runs.{record_of}
+use Rattle.run_driver.specs.Shown.{ended, shows_fault, status_after}
 use Rattle.pool_driver.specs.Ends as E
-use Rattle.pool_driver.specs.Ends.{Reading, Writing, AllRead, Stops, too_long, faulty, IsRefused, IsRingRefused, IsUnread, IsMade, Says, IsIdle, Wrote, WroteFront, Ends}
+use Rattle.pool_driver.specs.Ends.{Reading, AllRead, Stops, too_long, faulty, IsRefused, IsRingRefused, IsUnread, IsMade, Says, Ends}
+use Rattle.run_driver.specs.Writing.{Writing, IsIdle, Wrote, WroteFront}
 use Rattle.pool_driver.specs.Readers as D
-use Rattle.pool_driver.specs.Readers.{Makes, Writes, Delivers, Tells, text_of, status_of_output}
+use Rattle.run_driver.specs.Writing as W
+use Rattle.pool_driver.specs.Readers.{Makes, Tells, text_of, status_of_output}
+use Rattle.run_driver.specs.Writing.{Writes, Delivers}
 
 -- what was asked for, or a front of it, or nothing for want of memory
 pub text_ends : (words : Option Request) (k : Reading) (out err : Writing) (r : Request) (o : Output) (status : Status) → words ≡ Some r → Makes k r (Ok o)
@@ -32,9 +38,9 @@ pub text_ends : (words : Option Request) (k : Reading) (out err : Writing) (r : 
 text_ends words k out err r o status is (D.made p e made printable) w idle = let same : p ≡ o = cc in by w (subst (λ (x : Output). IsMade k r (text_of x) (status_of_output x)) same made)
   where
     by : Delivers out (text_of o) (status_of_output o) status → IsMade k r (text_of o) (status_of_output o) → Ends words k out err status
-    by (D.written (D.whole wrote e)) made = E.whole r (text_of o) is (subst (λ (s : Status). IsMade k r (text_of o) s) (sym e) made) wrote idle
-    by (D.written (D.cut front e)) made = E.cut r (text_of o) (status_of_output o) is made front idle e
-    by (D.nothing quiet e) made = E.no_memory quiet idle e
+    by (W.written (W.whole wrote e)) made = E.whole r (text_of o) is (subst (λ (s : Status). IsMade k r (text_of o) s) (sym e) made) wrote idle
+    by (W.written (W.cut front e)) made = E.cut r (text_of o) (status_of_output o) is made front idle e
+    by (W.nothing quiet e) made = E.no_memory quiet idle e
 text_ends words k out err r o status is (D.refused input f e h) w idle = absurd (cc)
 text_ends words k out err r o status is (D.ring_refused input f e h) w idle = absurd (cc)
 text_ends words k out err r o status is (D.unread input e h) w idle = absurd (cc)
@@ -47,8 +53,8 @@ writes_as k s t planned status e h = subst (λ (x : Text). Writes k x planned st
 -- a line, or a front of it
 line_ends : (words : Option Request) (k : Reading) (out err : Writing) (line : Text) (planned status : Status) → Says k words line planned → Writes err line planned status → IsIdle out
     → Ends words k out err status
-line_ends words k out err line planned status says (D.whole wrote e) idle = E.said line (subst (Says k words line) (sym e) says) wrote idle
-line_ends words k out err line planned status says (D.cut front e) idle = E.line_cut line planned says front idle e
+line_ends words k out err line planned status says (W.whole wrote e) idle = E.said line (subst (Says k words line) (sym e) says) wrote idle
+line_ends words k out err line planned status says (W.cut front e) idle = E.line_cut line planned says front idle e
 
 pub usage_ends : (words : Option Request) (k : Reading) (out err : Writing) (status : Status) → words ≡ None → k.opened ≡ k.opens → AllRead k → Writes err usage_line S.Usage status → IsIdle out
     → Ends words k out err status
@@ -98,6 +104,11 @@ status_whole b [] = inl refl
 status_whole b (R.Event number e what ∷ ls) = status_whole (b || shows_fault what) ls
 status_whole b (R.End e ∷ ls) = ended_whole b e
 
+verdict_whole : (v : Verdict) → IsWhole (status_of_verdict v)
+verdict_whole V.Yes = inl refl
+verdict_whole (V.No number redex) = inr (inl refl)
+verdict_whole (V.Moving o) = inr (inl refl)
+
 output_whole : (r : Request) (texts : List Text) (text : Text) (s : Status) → IsOutput r texts text s → IsWhole s
 output_whole (of_run show names) [] text s h = absurd h
 output_whole (of_run show names) (p ∷ []) text s h = absurd h
@@ -112,6 +123,10 @@ output_whole (of_ring k) (p ∷ ps) text s h = absurd h
 output_whole (of_convert name) [] text s h = absurd h
 output_whole (of_convert name) (p ∷ []) text s h = inl h.1
 output_whole (of_convert name) (p ∷ l ∷ ls) text s h = absurd h
+output_whole (of_check name other) [] text s h = absurd h
+output_whole (of_check name other) (p ∷ []) text s h = absurd h
+output_whole (of_check name other) (p ∷ t ∷ []) text s h = subst IsWhole (sym h.ended) (verdict_whole h.verdict)
+output_whole (of_check name other) (p ∷ t ∷ u ∷ us) text s h = absurd h
 
 -- An input that is told, within the limit and accepted, does not stop a call.
 
@@ -138,6 +153,7 @@ served_inputs told (of_run show names) h = h
 served_inputs told (of_program ask name) h = h
 served_inputs told (of_ring k) h = tt
 served_inputs told (of_convert name) h = h
+served_inputs told (of_check name other) h = h
 
 never_stopped : (p l s : Text) (i : Input) (f : Fault) → AreAccepted p l s → StopAt p l s i f → ⊥
 never_stopped p l s I.Program f h w = w.1 h.0

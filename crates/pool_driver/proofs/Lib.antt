@@ -1,14 +1,7 @@
 pub mod ReadLaws
 pub mod EndLaws
-pub mod RowLaws
-pub mod WhyLaws
-pub mod KnownRows
-pub mod CycleLaws
 pub mod RunLaws
 pub mod OutputLaws
-pub mod AskerLaws
-pub mod DriveLaws
 pub mod ConvertLaws
-pub mod PlanLaws
 pub mod ReadableLaws
 pub mod TextLaws

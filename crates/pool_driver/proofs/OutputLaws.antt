@@ -1,6 +1,11 @@
 -- What a request makes of its inputs, one after another.
-use Rattle.std.proofs.Common.{◌≡◌, ◌∙◌, ◌+◌, ◌≤◌, ℕ, zero, suc, [], ◌∷◌, Option, None, Some, Bool, IsTrue, slice_get, Result, Ok, Err, false, refl, sym, ap, subst, arith}
+use Rattle.std.proofs.Common.{◌≡◌, ◌∙◌, ◌+◌, ◌≤◌, ℕ, zero, suc, List, [], ◌∷◌, length, Option, None, Some, Bool, IsTrue, slice_get, Result, Ok, Err, false, refl, sym, ap, subst, arith}
 use Rattle.pool_syntax.specs.Tokens.{Text}
+use Rattle.pool_syntax.specs.TreeOf.{program_of}
+use Rattle.pool_syntax.specs.Typing.{faults}
+use Rattle.pool_syntax.specs.declared.words.Line.{Line}
+use Rattle.pool_driver.specs.declared.program.Parsed.{Parsed}
+use Rattle.record_check.specs.Verdicts.{Judged}
 use Rattle.pool_syntax.specs.declared.words.Placement.{Placement}
 use Rattle.object_code.specs.declared.unit.Unit.{Unit as Code}
 use Rattle.placement_reader.specs.Placements.{placement_of}
@@ -12,14 +17,14 @@ use Rattle.fault_lines.specs.declared.fault.Input.{Input}
 use Rattle.fault_lines.specs.declared.fault.Input.TheVariants as I
 use Rattle.fault_lines.specs.declared.fault.Stop.{Stop}
 use Rattle.pool_driver.specs.declared.outputs.Output.{Output}
-use Rattle.command_words.specs.Commands.{FileNames, Request, of_run, of_program, of_ring, of_convert}
+use Rattle.command_words.specs.Commands.{FileNames, Request, of_run, of_program, of_ring, of_convert, of_check}
 use Rattle.pool_driver.specs.Inputs.{inputs, limit_of, most_bytes, most_of_record, one_read, MayOpen, IsAccepted, HasFault, IsPlacementOf, IsReadAs}
-use Rattle.pool_driver.specs.Ends.{Reading, Reaches, StaysWithin}
+use Rattle.pool_driver.specs.Ends.{AllRead, Reading, Reaches, StaysWithin}
 use Rattle.fault_lines.specs.declared.fault.Stop.TheVariants as T
-use Rattle.pool_driver.specs.declared.outputs.Loaded.{Loaded}
+use Rattle.run_driver.specs.declared.loaded.Loaded.{Loaded}
 use Rattle.pool_gen.specs.Ring.{ring_placement, ring_program, ring_schedule}
 use Rattle.pool_driver.specs.Readers as D
-use Rattle.pool_driver.specs.Readers.{HasPlacementFault, HasRecordFault, HasScheduleFault, HasTypedFault, IsAcceptedPlacement, IsAcceptedSchedule, IsPlacedAs, IsScheduledAs, IsTypedProgram, IsUnitOf, Judges, Loads, Makes, Rings}
+use Rattle.pool_driver.specs.Readers.{AreLinesOf, HasPlacementFault, HasRecordFault, HasScheduleFault, HasTypedFault, IsAcceptedPlacement, IsAcceptedSchedule, IsPlacedAs, IsProgramOf, IsScheduledAs, IsTypedProgram, IsUnitOf, Judges, Loads, Makes, Rings, Decides}
 
 -- for the same request
 pub makes_for : (k : Reading) (q r : Request) (result : Result Output Stop) → q ≡ r → Makes k q result → Makes k r result
@@ -68,6 +73,17 @@ reaches_schedule k show names s t read accepted read_second placed h = record {
 abbrev pub reaches_record : (k : Reading) (name : Text) → k.opened ≡ k.opens + 1 → Reaches k (of_convert name) I.Record name
 reaches_record k name h = record { before = []; behind = []; texts = []; place = refl; accepted = tt; opened = h }
 
+abbrev pub reaches_judge : (k : Reading) (name other : Text) → k.opened ≡ k.opens + 1 → Reaches k (of_check name other) I.Program name
+reaches_judge k name other h = record { before = []; behind = (I.Record, other) ∷ []; texts = []; place = refl; accepted = tt; opened = h }
+
+abbrev pub reaches_judged : (k : Reading) (name other s : Text) → IsReadAs k.told I.Program name s → IsAccepted [] I.Program s → k.opened ≡ k.opens + 2
+    → Reaches k (of_check name other) I.Record other
+reaches_judged k name other s read accepted h =
+    record { before = (I.Program, name) ∷ []; behind = []; texts = s ∷ []; place = refl; accepted = (read, accepted, tt); opened = h }
+
+pub judged_fault : (source s : Text) (f : Fault) → HasRecordFault s f → HasFault (source ∷ []) I.Record s f
+judged_fault source s f h = subst (λ (x : Fault). HasFault (source ∷ []) I.Record s x) (sym h.1) h.2
+
 -- a record that is refused
 pub record_fault : (s : Text) (f : Fault) → HasRecordFault s f → HasFault [] I.Record s f
 record_fault s f h = subst (λ (x : Fault). HasFault [] I.Record s x) (sym h.1) h.2
@@ -101,6 +117,16 @@ module _ (opens opened given : ℕ) where
   pub convert_within : (name : Text) → given ≤ most_of_record + one_read → Within opens opened given (of_convert name)
   convert_within named h zero input name e n = within_limit given input I.Record name named e h
   convert_within named h (suc place) input name e n = absurd (cc)
+
+  pub judge_within : (name other : Text) → opened ≡ opens + 1 → given ≤ most_bytes + one_read → Within opens opened given (of_check name other)
+  judge_within named other one h zero input name e n = within_limit given input I.Program name named e h
+  judge_within named other one h (suc zero) input name e n = absurd (omega (arith, one, n))
+  judge_within named other one h (suc (suc place)) input name e n = absurd (cc)
+
+  pub judged_within : (name other : Text) → opened ≡ opens + 2 → given ≤ most_of_record + one_read → Within opens opened given (of_check name other)
+  judged_within named other two h zero input name e n = absurd (omega (arith, two, n))
+  judged_within named other two h (suc zero) input name e n = within_limit given input I.Record name other e h
+  judged_within named other two h (suc (suc place)) input name e n = absurd (cc)
 
   pub stays_for : (q r : Request) → q ≡ r → Within opens opened given q → Within opens opened given r
   stays_for q r e h = subst (Within opens opened given) e h
@@ -184,3 +210,29 @@ ring_makes k cells result opened ended calm (D.rings o e is printable) =
     D.made o e (record { texts = []; accepted = tt; opened = opened ∙ none_opened k.opens; given = tt; ended = ended; calm = calm; output = is }) printable
 ring_makes k cells result opened ended calm (D.stops i f e w) = D.ring_refused i f e (record { cells = cells; ring = refl; why = w; opened = opened; calm = calm })
 ring_makes k cells result opened ended calm (D.lacks e) = D.memory e
+
+-- what comes of a program and a record, one after the other
+pub check_makes : (k : Reading) (name other s t : Text) (read : Parsed) (ls : List Line) (result : Result Output Stop) → IsReadAs k.told I.Program name s → IsProgramOf s read
+    → faults (program_of read.program) ≡ [] → IsReadAs k.told I.Record other t → AreLinesOf read.names t ls → k.opened ≡ k.opens + 2 → length t ≡ k.given → k.live ≡ false → AllRead k
+    → Decides read.names (program_of read.program) ls result → Makes k (of_check name other) result
+check_makes k name other s t read ls result first is typed second lines opened given ended calm (D.decides o v e j only text status printable) = D.made o e (record {
+  texts = s ∷ t ∷ [];
+  accepted = (first, (program_of read.program, ((read.names, is.parsed), typed)), (second, lines.0, tt));
+  opened = opened;
+  given = given;
+  ended = ended;
+  calm = calm;
+  output = record {
+    names = read.names;
+    program = program_of read.program;
+    parsed = is.parsed;
+    typed = typed;
+    faultless = lines.0;
+    verdict = v;
+    judged = subst (λ (xs : List Line). Judged (program_of read.program) xs v) lines.1 j;
+    only = λ w h. only w (subst (λ (xs : List Line). Judged (program_of read.program) xs w) (sym lines.1) h);
+    written = text;
+    ended = status;
+  };
+}) printable
+check_makes k name other s t read ls result first is typed second lines opened given ended calm (D.lacks e) = D.memory e

@@ -32,7 +32,7 @@ use Rattle.command_words.specs.Commands.{Request}
 use Rattle.pool_driver.specs.Inputs.{Told, IsAccepted, HasFault, unit_of}
 use Rattle.pool_driver.specs.Ends.{Reading, AllRead, WasRead, Stops, too_long, faulty, Reaches}
 use Rattle.pool_driver.specs.Readers as R
-use Rattle.pool_driver.specs.Readers.{HasPlacementFault, HasRecordFault, HasScheduleFault, HasTypedFault, IsAcceptedPlacement, IsAcceptedRecord, IsAcceptedSchedule, IsAnyProgram, IsPlacedAs, IsProgramOf, IsRecordOf, IsScheduledAs, IsTypedProgram, IsUnitOf, Judges, Reads, Makes, stop_of_placement, stop_of_record, stop_of_schedule}
+use Rattle.pool_driver.specs.Readers.{HasPlacementFault, HasRecordFault, HasScheduleFault, HasTypedFault, IsAcceptedPlacement, IsAcceptedRecord, IsAcceptedSchedule, IsAnyProgram, IsPlacedAs, IsProgramOf, IsScheduledAs, IsTypedProgram, IsUnitOf, Judges, Reads, Makes, stop_of_placement, stop_of_record, stop_of_schedule}
 
 -- what is accepted and what is a fault, by other words
 stops_as : (k : Reading) (input : Input) (name : Text) (P Q : Text → Type 0) (F G : Text → Fault → Type 0) (f : Fault) → ((s : Text) (f : Fault) → F s f → G s f) → ((s : Text) → Q s → P s)
@@ -159,15 +159,16 @@ schedule_refused l s Timed.Memory stop e told = R.forgets (ap Err e)
 
 -- and the reader of a record
 
-record_fails : (s : Text) (f : RecordFault) (stop : Stop) → stop ≡ T.Refused I.Record (Why.Record f) → (Rec.record_of s).fault ≡ Some f
-    → Judges I.Record IsAcceptedRecord HasRecordFault IsRecordOf s (Err stop)
-record_fails s f stop e told = R.fails (Why.Record f) (ap Err e) (f, refl, told) (λ q. let z : None ≡ Some f = sym q ∙ told in cc)
+module _ {A : Type 0} (To : Text → A → Type 0) where
+  record_fails : (s : Text) (f : RecordFault) (stop : Stop) → stop ≡ T.Refused I.Record (Why.Record f) → (Rec.record_of s).fault ≡ Some f
+      → Judges I.Record IsAcceptedRecord HasRecordFault To s (Err stop)
+  record_fails s f stop e told = R.fails (Why.Record f) (ap Err e) (f, refl, told) (λ q. let z : None ≡ Some f = sym q ∙ told in cc)
 
-pub record_refused : (s : Text) (f : RecordFault) (stop : Stop) → stop ≡ stop_of_record f → IsTold f (Rec.record_of s).fault → Judges I.Record IsAcceptedRecord HasRecordFault IsRecordOf s (Err stop)
-record_refused s (Lines.BadLine line) stop e told = record_fails s (Lines.BadLine line) stop e told
-record_refused s (Lines.OutOfOrder line) stop e told = record_fails s (Lines.OutOfOrder line) stop e told
-record_refused s (Lines.WrongAsk line) stop e told = record_fails s (Lines.WrongAsk line) stop e told
-record_refused s Lines.Memory stop e told = R.forgets (ap Err e)
+  pub record_refused : (s : Text) (f : RecordFault) (stop : Stop) → stop ≡ stop_of_record f → IsTold f (Rec.record_of s).fault → Judges I.Record IsAcceptedRecord HasRecordFault To s (Err stop)
+  record_refused s (Lines.BadLine line) stop e told = record_fails s (Lines.BadLine line) stop e told
+  record_refused s (Lines.OutOfOrder line) stop e told = record_fails s (Lines.OutOfOrder line) stop e told
+  record_refused s (Lines.WrongAsk line) stop e told = record_fails s (Lines.WrongAsk line) stop e told
+  record_refused s Lines.Memory stop e told = R.forgets (ap Err e)
 
 -- the same reading, counted from an earlier moment
 pub since : {A : Type 0} (k : Reading) (told : Told) (opens faults : ℕ) (input : Input) (name : Text) (P : Text → Type 0) (F : Text → Fault → Type 0) (Is : Text → A → Type 0) (result : Result A Stop)

@@ -8,7 +8,7 @@ use Rattle.object_code.specs.Suits.{Suits}
 use Rattle.mesh_semantics.specs.Sound.{Each}
 use Rattle.mesh_semantics.specs.Paths.{IsLink}
 use Rattle.schedule_reader.specs.Plans.{IsEventOn}
-use Rattle.record_laws.specs.Readable.{IsReadableEvent}
+use Rattle.run_record.specs.Readable.{IsReadableEvent}
 
 module _ (u : Code) (l : Placement) (suits : Suits l u) where
   few_nodes : (n : ℕ) → n < l.width * l.height → n < 4294967296

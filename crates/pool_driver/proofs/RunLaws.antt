@@ -11,7 +11,7 @@ use Rattle.object_code.specs.declared.unit.Unit.{Unit as Code}
 use Rattle.object_code.specs.declared.unit.ClassCode.{ClassCode}
 use Rattle.object_code.specs.Proper.{IsProper}
 use Rattle.object_code.specs.Suits.{Suits}
-use Rattle.record_laws.specs.Readable.{IsRecord}
+use Rattle.run_record.specs.Readable.{IsRecord}
 use Rattle.readable_records.proofs.Laws.{program_reads, program_reads_on_wires}
 use Rattle.pool_compile.specs.Code.{code}
 use Rattle.mesh_semantics.specs.Config.{Config}
@@ -34,8 +34,8 @@ use Rattle.placed_code.specs.Matches.{Matches}
 use Rattle.placed_terms.specs.RunOf.{IsRunFrom, TypedTerms}
 use Rattle.wait_report.specs.declared.rows.ObjectRow.{ObjectRow}
 use Rattle.wait_report.specs.Report.{report_text}
-use Rattle.pool_driver.specs.Reports.{row_in, row_of, rows_in, rows_of, standing_word}
-use Rattle.pool_driver.specs.declared.outputs.Loaded.{Loaded}
+use Rattle.run_driver.specs.Reports.{row_in, row_of, rows_in, rows_of, standing_word}
+use Rattle.run_driver.specs.declared.loaded.Loaded.{Loaded}
 use Rattle.placement_reader.specs.Placements.{placement_of}
 use Rattle.schedule_reader.specs.Schedules.{Plan}
 use Rattle.record_lines.specs.SecondForm.{form_text, line_text2, lines_text2, text2}
@@ -43,11 +43,13 @@ use Rattle.mesh_semantics.specs.Asks.{EachAnswersPost, ask_of, asks_from}
 use Rattle.pool_machine.specs.Answers.{nothing_sent}
 use Rattle.command_words.specs.declared.command.Show.{Show}
 use Rattle.command_words.specs.declared.command.Show.TheVariants as Sh
-use Rattle.pool_driver.specs.Driving.{AreShortTexts, IsLoaded, IsPlanOn, shown_lines, shown_record}
+use Rattle.run_driver.specs.Driving.{AreShortTexts, IsLoaded, IsPlanOn, shown_lines, shown_record}
 use Rattle.pool_driver.specs.Outputs.{IsRunOf, shown_text}
-use Rattle.pool_driver.specs.Readers.{IsPlacedAs, IsScheduledAs, IsUnitOf, lines_of, run_of, run_text}
-use Rattle.pool_driver.specs.Runs.{Meaning, ShowsRun, ends_text, record_of, ring_text, status_of, writes_of, writes_text}
-use Rattle.pool_driver.proofs.PlanLaws.{plan_is_on}
+use Rattle.pool_driver.specs.Readers.{IsPlacedAs, IsScheduledAs, IsUnitOf}
+use Rattle.run_driver.specs.Loading.{lines_of, run_of, run_text}
+use Rattle.pool_driver.specs.Runs.{Meaning, ShowsRun, record_of}
+use Rattle.run_driver.specs.Shown.{ends_text, ring_text, status_of, writes_of, writes_text}
+use Rattle.run_driver.proofs.Laws.{plan_is_on}
 use Rattle.pool_driver.proofs.ReadableLaws.{events_read}
 use Rattle.pool_driver.proofs.TextLaws.{parsed_short}
 

@@ -1,15 +1,15 @@
--- No text of the table of a parsed program has more than 256 bytes.
-use Rattle.std.proofs.Common.{◌≡◌, ◌∙◌, ◌≤◌, ◌-◌, ℕ, zero, suc, Bool, true, false, nat_le, List, [], ◌∷◌, ◌++◌, length, take, drop, slice_get, Option, Some, None, inl, inr, refl, sym, subst, arith}
+-- No text of the table of a parsed program has more than 256 bytes, and there are no more of them than the program has bytes.
+use Rattle.std.proofs.Common.{◌≡◌, ◌∙◌, ◌≤◌, ◌+◌, ◌-◌, ℕ, zero, suc, Bool, true, false, nat_le, List, [], ◌∷◌, ◌++◌, length, take, drop, slice_get, Option, Some, None, inl, inr, refl, sym, subst, arith}
 use Rattle.std.proofs.lemmas.Bool.{cases_Bool}
 use Rattle.std.proofs.lemmas.Bool.Decides.{nat_tests}
-use Rattle.std.proofs.lemmas.List.{length-take}
+use Rattle.std.proofs.lemmas.List.{length-append, length-drop, length-take}
 use Rattle.pool_syntax.specs.declared.token.LexFault.{LexFault}
-use Rattle.pool_syntax.specs.Tokens.{Text, IsFaultless, is_integer, is_listed, is_string, is_word, kept_text, keywords, piece_fault, texts_after}
+use Rattle.pool_syntax.specs.Tokens.{Text, IsFaultless, IsPieces, is_integer, is_listed, is_string, is_word, kept_text, keywords, longest, piece_fault, texts_after}
 use Rattle.pool_syntax.specs.Table.{is_among, with_text}
 use Rattle.pool_syntax.specs.Terms.{ProgramTree}
 use Rattle.pool_syntax.specs.Programs.{IsParsed}
 use Rattle.record_lines.specs.RecordText.{text_at, text_or_none}
-use Rattle.pool_driver.specs.Driving.{AreShortTexts}
+use Rattle.run_driver.specs.Driving.{AreShortTexts}
 
 -- each text has at most 256 bytes
 abbrev AllShort : List Text → Type 0
@@ -82,3 +82,35 @@ pub parsed_short : (s : Text) (names : List Text) (p : ProgramTree) → IsParsed
 parsed_short s names p h = λ id.
     let all = texts_short [] h.1.0 tt h.1.2 in
     subst (λ (ns : List Text). length (text_at ns id) ≤ 256) (sym h.1.3) (short_at (texts_after [] h.1.0) id.0 all)
+
+-- each piece is one byte or more
+
+pieces_count : (s : Text) (ws : List Text) → IsPieces s ws [] → length ws ≤ length s
+pieces_count s [] p = omega arith
+pieces_count [] (w ∷ ws) p = absurd (omega (arith, p.0))
+pieces_count (b ∷ bs) (w ∷ ws) p =
+    let others = pieces_count (drop (longest (b ∷ bs)) (b ∷ bs)) ws p.2 in
+    let long = length-drop (longest (b ∷ bs)) (b ∷ bs) in
+    omega (arith, p.0)
+
+-- and adds one text at most
+
+with_one : (names : List Text) (x : Text) → length (with_text names x) ≤ length names + 1
+with_one names x = elim (cases_Bool (is_among names x)) [
+  | inl old ↦ rw (with_text, old) (omega arith)
+  | inr new ↦ let l = length-append names (x ∷ []) in rw (with_text, new) (omega (arith, l))
+]
+
+texts_count : (seen : List Text) (ws : List Text) → length (texts_after seen ws) ≤ length seen + length ws
+texts_count seen [] = omega arith
+texts_count seen (w ∷ ws) = by (kept_text w) refl (λ names. texts_count names ws)
+  where
+    by : (o : Option Text) → kept_text w ≡ o → ((names : List Text) → length (texts_after names ws) ≤ length names + length ws) → length (texts_after seen (w ∷ ws)) ≤ length seen + length (w ∷ ws)
+    by None e go = let others = go seen in rw (texts_after, e) (omega (arith, others))
+    by (Some x) e go = let others = go (with_text seen x) in let one = with_one seen x in rw (texts_after, e) (omega (arith, others, one))
+
+pub parsed_few : (s : Text) (names : List Text) (p : ProgramTree) → IsParsed s names p → length names ≤ length s
+parsed_few s names p h =
+    let texts = texts_count [] h.1.0 in
+    let pieces = pieces_count s h.1.0 h.1.1 in
+    subst (λ (ns : List Text). length ns ≤ length s) (sym h.1.3) (omega (arith, texts, pieces))

@@ -1,9 +1,10 @@
 -- How a call of `pool` ends: what came of its inputs, and what was written.
-use Rattle.std.specs.Prelude.{◌≡◌, ℕ, ◌+◌, ◌<◌, ◌≤◌, List, [], ◌∷◌, ◌++◌, length, slice_get, take, Option, Some, None, option_map, Bool, true, false, IfSome}
+use Rattle.std.specs.Prelude.{◌≡◌, ℕ, ◌+◌, ◌<◌, ◌≤◌, List, [], ◌∷◌, ◌++◌, length, slice_get, Option, Some, None, Bool, true, false, IfSome}
 use Rattle.pool_outside.specs.Outside.{Rose}
 use Rattle.pool_syntax.specs.Tokens.{Text}
-use Rattle.pool_driver.specs.declared.status.Status.{Status}
-use Rattle.pool_driver.specs.declared.status.Status.TheVariants as S
+use Rattle.run_driver.specs.declared.status.Status.{Status}
+use Rattle.run_driver.specs.declared.status.Status.TheVariants as S
+use Rattle.run_driver.specs.Writing.{Writing, IsIdle, Wrote, WroteFront}
 use Rattle.fault_lines.specs.declared.fault.Input.{Input}
 use Rattle.fault_lines.specs.declared.fault.Fault.{Fault}
 use Rattle.fault_lines.specs.declared.fault.Fault.TheVariants as F
@@ -12,18 +13,6 @@ use Rattle.pool_gen.specs.Ring.{ring_placement, ring_program, ring_schedule}
 use Rattle.fault_lines.specs.FaultText.{refusal_line, unread_line, usage_line}
 use Rattle.pool_driver.specs.Inputs.{Told, inputs, limit_of, one_read, IsReadAs, IsAccepted, HasFault, StopAt, WereAccepted}
 use Rattle.pool_driver.specs.Outputs.{IsOutput}
-
--- the exit status of each
-abbrev pub code_of : Status → ℕ
-code_of S.Done = 0
-code_of S.DoneFaulted = 1
-code_of S.Refused = 2
-code_of S.ScheduleOver = 3
-code_of S.Full = 4
-code_of S.ReadFault = 5
-code_of S.WriteFault = 6
-code_of S.Memory = 7
-code_of S.Usage = 64
 
 -- What a call did with the files: the texts that are told; the number of opens before and after it; the bytes given since the last open, and whether its text
 -- goes on; the number of faults before and after it.
@@ -36,19 +25,9 @@ pub record Reading : Type 0 where
   pub faults : ℕ
   pub failed : ℕ
 
--- what a call did with a sink: the bytes that it holds before and after, where they are known, and the number of faults before and after
-pub record Writing : Type 0 where
-  pub before : Option Text
-  pub after : Option Text
-  pub faults : ℕ
-  pub failed : ℕ
-
--- no read failed, and no write did
+-- no read failed
 abbrev pub AllRead : Reading → Type 0
 AllRead k = k.failed ≡ k.faults
-
-abbrev pub AllWrote : Writing → Type 0
-AllWrote k = k.failed ≡ k.faults
 
 -- what was read last was read to its end, and is this text
 abbrev pub WasRead : Reading → Input → Text → Text → Type 0
@@ -129,21 +108,6 @@ pub data Says (k : Reading) (words : Option Request) (line : Text) (status : Sta
   refusal : (r : Request) (input : Input) (fault : Fault) → words ≡ Some r → IsRefused k r input fault → line ≡ refusal_line input fault → status ≡ S.Refused → Says k words line status
   ring_refusal : (r : Request) (input : Input) (fault : Fault) → words ≡ Some r → IsRingRefused k r input fault → line ≡ refusal_line input fault → status ≡ S.Refused → Says k words line status
   unread : (r : Request) (input : Input) → words ≡ Some r → IsUnread k r input → line ≡ unread_line input → status ≡ S.ReadFault → Says k words line status
-
--- nothing was written, and no write failed
-abbrev pub IsIdle : Writing → Type 0
-IsIdle k = (k.after ≡ k.before) × AllWrote k
-
--- the text was written whole behind what was there, and no write failed
-abbrev pub Wrote : Writing → Text → Type 0
-Wrote k s = (k.after ≡ option_map (λ w. w ++ s) k.before) × AllWrote k
-
--- a front of the text was written, and then a write failed
-pub record WroteFront (k : Writing) (s : Text) : Type 0 where
-  pub count : ℕ
-  pub within : count ≤ length s
-  pub front : k.after ≡ option_map (λ w. w ++ take count s) k.before
-  pub rose : Rose k.faults k.failed
 
 -- How a call ends. What is asked for was written whole on the output; or a line on the error sink, and nothing on the output; or one of the two was cut off by a
 -- failed write; or memory ran out before anything was written, of words of a command and of others alike, since reading the words takes memory too.

@@ -16,7 +16,7 @@ use Rattle.fault_lines.specs.declared.fault.Input.TheVariants as I
 use Rattle.fault_lines.specs.declared.fault.Fault.{Fault}
 use Rattle.fault_lines.specs.declared.fault.Fault.TheVariants as F
 use Rattle.run_record.specs.Records.{record_of}
-use Rattle.command_words.specs.Commands.{Request, of_run, of_program, of_ring, of_convert}
+use Rattle.command_words.specs.Commands.{Request, of_run, of_program, of_ring, of_convert, of_check}
 use Rattle.pool_driver.specs.Programs.{IsParsed, IsTextOf, IsTypedText, IsFaultOfText, IsFaultOfClasses}
 
 -- the inputs of a request with their names, in the order in which they are read
@@ -25,6 +25,7 @@ inputs (of_run show names) = (I.Program, names.program) ∷ (I.Placement, names.
 inputs (of_program ask name) = (I.Program, name) ∷ []
 inputs (of_ring k) = []
 inputs (of_convert name) = (I.Record, name) ∷ []
+inputs (of_check name record_name) = (I.Program, name) ∷ (I.Record, record_name) ∷ []
 
 -- the most bytes of an input: of a record, and of another
 abbrev pub most_bytes : ℕ
@@ -74,12 +75,13 @@ pub record IsPlacementOf (source s : Text) (l : Placement) : Type 0 where
   pub placed : placement_of unit s ≡ Ok l
 
 -- The text is accepted as this input, behind these: a program that has no class fault; a placement for the classes of the program; a schedule for the mesh of the placement;
--- and, behind none, a record of either form.
+-- and, behind none or a program, a record of either form.
 abbrev pub IsAccepted : List Text → Input → Text → Type 0
 IsAccepted [] I.Program s = (p : ProgramTree) × IsTypedText s p
 IsAccepted (source ∷ []) I.Placement s = (l : Placement) × IsPlacementOf source s l
 IsAccepted (source ∷ place ∷ []) I.Schedule s = (l : Placement) × (plan : Plan) × IsPlacementOf source place l × (schedule_of l.width l.height l.cuts s ≡ Ok plan)
 IsAccepted [] I.Record s = (record_of s).fault ≡ None
+IsAccepted (source ∷ []) I.Record s = (record_of s).fault ≡ None
 IsAccepted _ _ s = ⊥
 
 -- The text has this fault as this input, behind these: a program its first of tokens, grammar and classes; a placement, a schedule or a record that of its first faulty line.
@@ -88,6 +90,7 @@ HasFault [] I.Program s f = IsFaultOfText s f ⊎ ((p : ProgramTree) × IsTextOf
 HasFault (source ∷ []) I.Placement s (F.Placement f) = (u : Code) × IsCodeOf source u × (P.fault_in (placement_of u s) ≡ Some f)
 HasFault (source ∷ place ∷ []) I.Schedule s (F.Schedule f) = (l : Placement) × IsPlacementOf source place l × (S.fault_in (schedule_of l.width l.height l.cuts s) ≡ Some f)
 HasFault [] I.Record s (F.Record f) = (record_of s).fault ≡ Some f
+HasFault (source ∷ []) I.Record s (F.Record f) = (record_of s).fault ≡ Some f
 HasFault _ _ s f = ⊥
 
 -- these texts were read under the names of these inputs, behind others, and each is accepted
@@ -122,4 +125,5 @@ abbrev pub IsServable : Told → Request → Type 0
 IsServable told (of_run show names) = AreServed told [] (inputs (of_run show names))
 IsServable told (of_program ask name) = AreServed told [] (inputs (of_program ask name))
 IsServable told (of_convert name) = AreServed told [] (inputs (of_convert name))
+IsServable told (of_check name record_name) = AreServed told [] (inputs (of_check name record_name))
 IsServable told (of_ring k) = AreAccepted (ring_program k) ring_placement (ring_schedule k)

@@ -2,8 +2,6 @@ pub mod Commands
 pub mod Programs
 pub mod Inputs
 pub mod Runs
-pub mod Reports
 pub mod Outputs
 pub mod Ends
 pub mod Readers
-pub mod Driving

@@ -6,21 +6,26 @@ use Rattle.pool_syntax.specs.Typing.{faults}
 use Rattle.object_code.specs.Listing.{listing}
 use Rattle.pool_printer.specs.Canonical.{canonical}
 use Rattle.record_lines.specs.SecondForm.{text2}
-use Rattle.pool_driver.specs.declared.status.Status.{Status}
-use Rattle.pool_driver.specs.declared.status.Status.TheVariants as S
+use Rattle.run_driver.specs.declared.status.Status.{Status}
+use Rattle.run_driver.specs.declared.status.Status.TheVariants as S
 use Rattle.command_words.specs.declared.command.Show.{Show}
 use Rattle.command_words.specs.declared.command.Show.TheVariants as Sh
 use Rattle.command_words.specs.declared.command.Ask.{Ask}
 use Rattle.command_words.specs.declared.command.Ask.TheVariants as As
 use Rattle.run_record.specs.Numbered.{lines_after, names_after}
 use Rattle.run_record.specs.Records as Rec
-use Rattle.command_words.specs.Commands.{Request, of_run, of_program, of_ring, of_convert}
+use Rattle.command_words.specs.Commands.{Request, of_run, of_program, of_ring, of_convert, of_check}
 use Rattle.pool_driver.specs.Inputs.{unit_of}
 use Rattle.pool_driver.specs.Programs.{IsParsed}
-use Rattle.pool_driver.specs.Reports.{rows_of}
-use Rattle.pool_driver.specs.Runs.{Meaning, ShowsRun, ends_text, record_of, ring_text, status_of, writes_text}
+use Rattle.run_driver.specs.Reports.{rows_of}
+use Rattle.pool_driver.specs.Runs.{Meaning, ShowsRun, record_of}
+use Rattle.run_driver.specs.Shown.{ends_text, ring_text, status_of, writes_text}
 use Rattle.pool_gen.specs.Ring.{ring_placement, ring_program, ring_schedule}
 use Rattle.wait_report.specs.Report.{report_text}
+use Rattle.record_check.specs.declared.lead.Verdict.{Verdict}
+use Rattle.record_check.specs.declared.lead.Verdict.TheVariants as V
+use Rattle.record_check.specs.Verdicts.{Judged}
+use Rattle.verdict_lines.specs.VerdictText.{verdict_text}
 
 -- what is shown of the run of the three texts
 abbrev pub shown_text : {source place plan : Text} → Show → Meaning source place plan → Text
@@ -60,12 +65,33 @@ pub record IsCarriedOver (s text : Text) : Type 0 where
   pub faultless : (Rec.record_of s).fault ≡ None
   pub written : text ≡ text2 (names_after [] (Rec.record_of s).told) (lines_after [] (Rec.record_of s).told)
 
+-- a record is a run, or is none
+abbrev pub status_of_verdict : Verdict → Status
+status_of_verdict V.Yes = S.Done
+status_of_verdict (V.No number redex) = S.DoneFaulted
+status_of_verdict (V.Moving o) = S.DoneFaulted
+
+-- The program has no class faults and the record no fault; its lines, read with the program's names, have this verdict and no other; and this is the verdict's line, with its
+-- status.
+pub record IsVerdictOn (source s : Text) (text : Text) (status : Status) : Type 0 where
+  pub names : List Text
+  pub program : ProgramTree
+  pub parsed : IsParsed source names program
+  pub typed : faults program ≡ []
+  pub faultless : (Rec.record_of s).fault ≡ None
+  pub verdict : Verdict
+  pub judged : Judged program (lines_after names (Rec.record_of s).told) verdict
+  pub only : (v : Verdict) → Judged program (lines_after names (Rec.record_of s).told) v → v ≡ verdict
+  pub written : text ≡ verdict_text names verdict
+  pub ended : status ≡ status_of_verdict verdict
+
 -- what is made of the texts of the inputs, in their order
 abbrev pub IsOutput : Request → List Text → Text → Status → Type 0
 IsOutput (of_run show names) (program ∷ placement ∷ schedule ∷ []) text status = IsRunOf show program placement schedule text status
 IsOutput (of_program ask name) (program ∷ []) text status = IsTextFor ask program text × (status ≡ S.Done)
 IsOutput (of_ring k) [] text status = IsRingOf k text status
 IsOutput (of_convert name) (s ∷ []) text status = IsCarriedOver s text × (status ≡ S.Done)
+IsOutput (of_check name record_name) (program ∷ s ∷ []) text status = IsVerdictOn program s text status
 IsOutput r _ text status = ⊥
 
 -- the status says that a text was written whole

@@ -1,5 +1,5 @@
 -- What comes of reading inputs, for the functions below the top call.
-use Rattle.std.specs.Prelude.{◌≡◌, ℕ, ◌≤◌, List, [], ◌++◌, true, Some, None, Result, Ok, Err, ◌⊎◌}
+use Rattle.std.specs.Prelude.{◌≡◌, ℕ, ◌≤◌, List, [], true, Some, None, Result, Ok, Err, ◌⊎◌}
 use Rattle.pool_outside.specs.Outside.{Rose}
 use Rattle.pool_syntax.specs.Tokens.{Text}
 use Rattle.pool_syntax.specs.Spelled.{IsGrammatical, is_spelled}
@@ -15,12 +15,6 @@ use Rattle.object_code.specs.declared.unit.Unit.{Unit as Code}
 use Rattle.object_code.specs.Listing.{listing}
 use Rattle.object_code.specs.Proper.{IsProper}
 use Rattle.object_code.specs.Suits.{Suits}
-use Rattle.mesh_semantics.specs.Record.{Record}
-use Rattle.coded_objects.specs.Coded.{Placed, coded}
-use Rattle.wait_report.specs.Report.{report_text}
-use Rattle.pool_driver.specs.Reports.{rows_in}
-use Rattle.command_words.specs.declared.command.Show.{Show}
-use Rattle.command_words.specs.declared.command.Show.TheVariants as Sh
 use Rattle.placement_reader.specs.declared.fault.PlacementFault.{PlacementFault}
 use Rattle.placement_reader.specs.declared.fault.PlacementFault.TheVariants as Place
 use Rattle.placement_reader.specs.Placements as P
@@ -38,7 +32,7 @@ use Rattle.run_record.specs.declared.fault.RecordFault.TheVariants as RecordFaul
 use Rattle.run_record.specs.Numbered.{lines_after, names_after}
 use Rattle.run_record.specs.Records as Rec
 use Rattle.pool_driver.specs.declared.converted.Recorded.{Recorded}
-use Rattle.pool_driver.specs.declared.outputs.Loaded.{Loaded}
+use Rattle.run_driver.specs.declared.loaded.Loaded.{Loaded}
 use Rattle.fault_lines.specs.declared.fault.Input.{Input}
 use Rattle.fault_lines.specs.declared.fault.Input.TheVariants as I
 use Rattle.fault_lines.specs.declared.fault.Fault.{Fault}
@@ -47,20 +41,25 @@ use Rattle.fault_lines.specs.declared.fault.Stop.{Stop}
 use Rattle.fault_lines.specs.declared.fault.Stop.TheVariants as T
 use Rattle.pool_driver.specs.declared.outputs.Output.{Output}
 use Rattle.pool_driver.specs.declared.outputs.Output.TheVariants as O
-use Rattle.pool_driver.specs.declared.status.Status.{Status}
-use Rattle.pool_driver.specs.declared.status.Status.TheVariants as S
+use Rattle.run_driver.specs.declared.status.Status.{Status}
+use Rattle.run_driver.specs.declared.status.Status.TheVariants as S
 use Rattle.command_words.specs.Commands.{Request}
 use Rattle.fault_lines.specs.FaultText.{refusal_line, unread_line}
 use Rattle.pool_driver.specs.Inputs.{limit_of, IsCodeOf, StopAt}
-use Rattle.pool_driver.specs.Driving.{shown_record, IsLoaded}
-use Rattle.pool_driver.specs.Runs.{ends_text, record_over, ring_text, status_of}
-use Rattle.pool_driver.specs.Outputs.{IsRingOf}
+use Rattle.run_driver.specs.Driving.{IsLoaded}
+use Rattle.run_driver.specs.Shown.{ring_text, status_of}
+use Rattle.run_driver.specs.Loading.{lines_of, run_text}
+use Rattle.pool_driver.specs.Outputs.{IsRingOf, status_of_verdict}
+use Rattle.record_check.specs.declared.lead.Verdict.{Verdict}
+use Rattle.record_check.specs.Verdicts.{Judged}
+use Rattle.verdict_lines.specs.VerdictText.{verdict_text}
 use Rattle.pool_gen.specs.Ring.{ring_placement, ring_program, ring_schedule}
 use Rattle.pool_driver.specs.Programs.{IsParsed, IsTextOf, IsTypedText, IsFaultOfText, IsFaultOfClasses}
 use Rattle.pool_driver.specs.declared.program.Parsed.{Parsed}
 use Rattle.pool_syntax.specs.Terms.{ProgramTree}
 use Rattle.pool_syntax.specs.Typing.{faults}
-use Rattle.pool_driver.specs.Ends.{Reading, Writing, AllRead, WasRead, Stops, IsRefused, IsRingRefused, IsUnread, IsMade, IsIdle, Wrote, WroteFront}
+use Rattle.pool_driver.specs.Ends.{Reading, AllRead, WasRead, Stops, IsRefused, IsRingRefused, IsUnread, IsMade}
+use Rattle.run_driver.specs.Writing.{Writing, IsIdle, Writes}
 
 -- want of memory is no fault of the text
 
@@ -162,6 +161,10 @@ pub record IsRecordOf (s : Text) (r : Recorded) : Type 0 where
   pub names : r.names ≡ names_after [] (Rec.record_of s).told
   pub showable : IsShowable r
 
+-- the lines of a record, read with these names
+abbrev pub AreLinesOf : List Text → Text → List Line → Type 0
+AreLinesOf names s ls = ((Rec.record_of s).fault ≡ None) × (ls ≡ lines_after names (Rec.record_of s).told)
+
 -- What a judge says of a text: what it is, or why it is refused as this input and not accepted, or that memory ran out.
 pub data Judges {A : Type 0} (input : Input) (Accepted : Text → Type 0) (Faulty : Text → Fault → Type 0) (Is : Text → A → Type 0) (s : Text) (result : Result A Stop) : Type 0 where
   fits : (a : A) → result ≡ Ok a → Is s a → Judges input Accepted Faulty Is s result
@@ -175,20 +178,6 @@ pub data Reads {A : Type 0} (k : Reading) (input : Input) (name : Text) (Accepte
   unread : result ≡ Err (T.Unread input) → Rose k.faults k.failed → k.given ≤ limit_of input → Reads k input name Accepted Faulty Is result
   memory : result ≡ Err T.Memory → Reads k input name Accepted Faulty Is result
 
--- the record of a run
-abbrev pub run_of : Loaded → Record Placed
-run_of r = record_over (coded r.unit) r.placement r.schedule
-
--- its lines
-abbrev pub lines_of : Loaded → List Line
-lines_of r = (run_of r).lines
-
--- what is shown of a run: its lines, or where its objects stand at its end, and then the end line
-abbrev pub run_text : Show → Loaded → Text
-run_text Sh.Record r = shown_record Sh.Record r.unit.names (lines_of r)
-run_text Sh.Writes r = shown_record Sh.Writes r.unit.names (lines_of r)
-run_text Sh.Report r = report_text r.unit.names (rows_in (coded r.unit) (run_of r).delay (run_of r).last.objects) ++ ends_text r.unit.names (lines_of r)
-
 -- the text of an output, and its status
 abbrev pub text_of : Output → Text
 text_of (O.Run show loaded) = run_text show loaded
@@ -196,6 +185,7 @@ text_of (O.Ring loaded) = ring_text loaded.unit.names (lines_of loaded)
 text_of (O.Canonical parsed) = canonical parsed.names (program_of parsed.program)
 text_of (O.Listing unit) = listing unit
 text_of (O.Converted r) = text2 r.names r.lines
+text_of (O.Verdict line status) = line.items
 
 abbrev pub status_of_output : Output → Status
 status_of_output (O.Run show loaded) = status_of (lines_of loaded)
@@ -203,6 +193,7 @@ status_of_output (O.Ring loaded) = status_of (lines_of loaded)
 status_of_output (O.Canonical parsed) = S.Done
 status_of_output (O.Listing unit) = S.Done
 status_of_output (O.Converted r) = S.Done
+status_of_output (O.Verdict line status) = status
 
 -- What can be written: a run whose parts fit one another; a program whose names are those of its table; proper code; lines with their request numbers.
 abbrev pub IsPrintable : Output → Type 0
@@ -211,6 +202,7 @@ IsPrintable (O.Ring loaded) = IsLoaded loaded.unit loaded.placement loaded.sched
 IsPrintable (O.Canonical parsed) = is_spelled parsed.names (program_of parsed.program) ≡ true
 IsPrintable (O.Listing unit) = IsProper unit
 IsPrintable (O.Converted r) = IsShowable r
+IsPrintable (O.Verdict line status) = Unit {0}
 
 -- What comes of three texts: what is loaded of them; or the first that is not accepted, with its fault; or memory ran out.
 pub data Loads (program placement schedule : Text) (result : Result Loaded Stop) : Type 0 where
@@ -224,6 +216,11 @@ pub data Rings (k : ℕ) (result : Result Output Stop) : Type 0 where
   stops : (input : Input) (f : Fault) → result ≡ Err (T.Refused input f) → StopAt (ring_program k) ring_placement (ring_schedule k) input f → Rings k result
   lacks : result ≡ Err T.Memory → Rings k result
 
+-- what comes of the lines of a record that are judged by a program with these names
+pub data Decides (names : List Text) (p : ProgramTree) (ls : List Line) (result : Result Output Stop) : Type 0 where
+  decides : (o : Output) (v : Verdict) → result ≡ Ok o → Judged p ls v → ((w : Verdict) → Judged p ls w → w ≡ v) → text_of o ≡ verdict_text names v → status_of_output o ≡ status_of_verdict v → IsPrintable o → Decides names p ls result
+  lacks : result ≡ Err T.Memory → Decides names p ls result
+
 -- what comes of all inputs of a request
 pub data Makes (k : Reading) (r : Request) (result : Result Output Stop) : Type 0 where
   made : (o : Output) → result ≡ Ok o → IsMade k r (text_of o) (status_of_output o) → IsPrintable o → Makes k r result
@@ -231,16 +228,6 @@ pub data Makes (k : Reading) (r : Request) (result : Result Output Stop) : Type 
   ring_refused : (input : Input) (f : Fault) → result ≡ Err (T.Refused input f) → IsRingRefused k r input f → Makes k r result
   unread : (input : Input) → result ≡ Err (T.Unread input) → IsUnread k r input → Makes k r result
   memory : result ≡ Err T.Memory → Makes k r result
-
--- a text was written whole, with this status, or a front of it
-pub data Writes (k : Writing) (text : Text) (planned status : Status) : Type 0 where
-  whole : Wrote k text → status ≡ planned → Writes k text planned status
-  cut : WroteFront k text → status ≡ S.WriteFault → Writes k text planned status
-
--- and so for an output, of which nothing is written where memory is not had
-pub data Delivers (k : Writing) (text : Text) (planned status : Status) : Type 0 where
-  written : Writes k text planned status → Delivers k text planned status
-  nothing : IsIdle k → status ≡ S.Memory → Delivers k text planned status
 
 -- a line for the reason was written, whole or a front of it; or nothing for want of memory
 pub data Tells (k : Writing) (stop : Stop) (status : Status) : Type 0 where

@@ -1,10 +1,10 @@
 //! Records in either form, read, and written in the second form.
-ghost use Rattle.std.specs.Prelude.{◌≡◌, ◌≤◌, length, OnErr, OnOk};
+ghost use Rattle.std.specs.Prelude.{◌≡◌, ◌<◌, ◌^◌, ◌≤◌, length, OnErr, OnOk};
 ghost use Rattle.std.specs.List.{All};
 ghost use Rattle.record_lines.specs.SecondForm.{lines_text2, text2};
 ghost use Rattle.record_lines.specs.Writable.{IsWritable};
-ghost use Rattle.pool_driver.specs.Ends.{Wrote, WroteFront};
-ghost use Rattle.pool_driver.specs.Readers.{HasRecordFault, IsAcceptedRecord, IsRecordOf, IsShowable, Judges, stop_of_record};
+ghost use Rattle.run_driver.specs.Writing.{Wrote, WroteFront};
+ghost use Rattle.pool_driver.specs.Readers.{AreLinesOf, HasRecordFault, IsAcceptedRecord, IsRecordOf, IsShowable, Judges, stop_of_record};
 
 use fault_lines::{Fault, Input, Stop};
 use pool_outside::{Sink, Text, WriteFault};
@@ -46,6 +46,22 @@ pub fn judge_record(alloc: Global, bytes: &[u8]) -> Result<Recorded, Stop>
     match asks_of(alloc, &lines) {
         Ok(asks) => Ok(Recorded { lines, asks, names }),
         Err(AllocError) => Err(Stop::Memory),
+    }
+}
+
+/// Judges the text of a record that is read with a copy of these names: its lines.
+pub fn judge_lines(alloc: Global, bytes: &[u8], names: &Names) -> Result<List<Line>, Stop>
+    requires small { length bytes.now ≤ 67108864 }
+    requires few { length names.now < 2 ^ 31 }
+    ensures { Judges Input.Record IsAcceptedRecord HasRecordFault (AreLinesOf names.now) bytes.now result }
+{
+    let mut copy = match names.copy() {
+        Ok(copy) => copy,
+        Err(AllocError) => return Err(Stop::Memory),
+    };
+    match read_record(alloc, bytes, &mut copy) {
+        Ok(lines) => Ok(lines),
+        Err(fault) => Err(record_stop(fault)),
     }
 }
 

@@ -2,16 +2,16 @@
 ghost use Rattle.std.specs.Prelude.{◌≡◌, ◌<◌, ◌+◌, ◌-◌, ◌^◌, ◌≤◌, IsTrue, length, true};
 ghost use Rattle.pool_driver.specs.Inputs.{limit_of, most_bytes, most_of_record, one_read};
 ghost use Rattle.pool_driver.specs.Programs.{IsFaultOfText};
-ghost use Rattle.pool_driver.specs.Readers.{HasNoFault, HasPlacementFault, HasRecordFault, HasScheduleFault, HasTypedFault, IsAcceptedPlacement, IsAcceptedRecord, IsAcceptedSchedule, IsAnyProgram, IsAnyText, IsPlacedAs, IsProgramOf, IsRecordOf, IsScheduledAs, IsTypedProgram, IsTypedProgramOf, IsUnitOf, Judges, Loads, Reads, stop_of_placement, stop_of_schedule};
+ghost use Rattle.pool_driver.specs.Readers.{AreLinesOf, HasNoFault, HasPlacementFault, HasRecordFault, HasScheduleFault, HasTypedFault, IsAcceptedPlacement, IsAcceptedRecord, IsAcceptedSchedule, IsAnyProgram, IsAnyText, IsPlacedAs, IsProgramOf, IsRecordOf, IsScheduledAs, IsTypedProgram, IsTypedProgramOf, IsUnitOf, Judges, Loads, Reads, stop_of_placement, stop_of_schedule};
 
-use crate::converted::{Recorded, judge_record};
-use crate::outputs::Loaded;
+use crate::converted::{Recorded, judge_lines, judge_record};
 use crate::program::{Parsed, code_of, judge_classes, read_program};
 use fault_lines::{Fault, Input, Stop};
 use object_code::Unit;
 use placement_reader::{PlacementFault, read_placement};
 use pool_outside::{Files, ReadFault, read_whole};
-use pool_syntax::Placement;
+use pool_syntax::{Line, List, Names, Placement};
+use run_driver::Loaded;
 use schedule_reader::{Schedule, ScheduleFault, read_schedule};
 use std::alloc::Global;
 
@@ -144,6 +144,29 @@ pub fn read_recorded<F: Files>(alloc: Global, files: &mut F, name: &str) -> Resu
         Err(stop) => return Err(stop),
     };
     judge_record(alloc, &text)
+}
+
+/// Reads the lines of a record of either form with a copy of these names.
+pub fn read_lines<F: Files>(
+    alloc: Global,
+    files: &mut F,
+    name: &str,
+    names: &Names,
+) -> Result<List<Line>, Stop>
+    requires allowed { IsTrue (F.may files.old (F.opens files.old) name.now) }
+    requires countable { F.opens files.old < 2 ^ 64 - 1 }
+    requires few { length names.now < 2 ^ 31 }
+    ensures reads { Reads (record { told = F.told files.old; opens = F.opens files.old; opened = F.opens files.new; given = F.given files.new; live = F.live files.new; faults = F.faults files.old; failed = F.faults files.new }) Input.Record name.now IsAcceptedRecord HasRecordFault (AreLinesOf names.now) result }
+    ensures opened_once { F.opens files.new ≡ F.opens files.old + 1 }
+    ensures unread_within { F.given files.new ≤ most_of_record + one_read }
+    ensures same_texts { F.told files.new ≡ F.told files.old }
+    ensures same_leave { F.may files.new ≡ F.may files.old }
+{
+    let text = match read_input(alloc, files, Input::Record, name) {
+        Ok(text) => text,
+        Err(stop) => return Err(stop),
+    };
+    judge_lines(alloc, &text, names)
 }
 
 /// Reads a program.

@@ -2,15 +2,13 @@
 #![tactic(auto)]
 
 mod converted;
-mod drive;
 mod inputs;
+mod judged;
 pub mod laws;
 mod outputs;
 mod program;
-mod status;
 mod texts;
 mod top;
-mod why;
 
-pub use status::Status;
+pub use run_driver::Status;
 pub use top::pool;

@@ -1,31 +1,24 @@
 //! What a command makes of its inputs: each is read and judged before the next is opened.
 ghost use Rattle.std.specs.Prelude.{◌≡◌, ◌<◌, false, ◌+◌, ◌-◌, ◌^◌, ◌≤◌};
-ghost use Rattle.command_words.specs.Commands.{IsSized, names_of, of_convert, of_program, of_run, request};
+ghost use Rattle.command_words.specs.Commands.{IsSized, names_of, of_check, of_convert, of_program, of_run, request};
 ghost use Rattle.pool_driver.specs.Ends.{StaysWithin};
 ghost use Rattle.pool_driver.specs.Inputs.{MayOpen, most_bytes, most_of_record, one_read};
 ghost use Rattle.pool_driver.specs.Readers.{Makes, Rings};
 
 use crate::converted::Recorded;
 use crate::inputs::{
-    load_texts, read_placed, read_recorded, read_scheduled, read_typed, read_unit,
+    load_texts, read_lines, read_parsed, read_placed, read_recorded, read_scheduled, read_typed,
+    read_unit,
 };
-use crate::program::Parsed;
+use crate::judged::judge;
+use crate::program::{Parsed, judge_classes};
 use command_words::{Ask, Command, Files as FileNames, Show};
 use fault_lines::Stop;
 use object_code::Unit;
 use pool_gen::ring;
 use pool_outside::Files;
-use pool_syntax::Placement;
-use schedule_reader::Schedule;
+use run_driver::{Loaded, Status};
 use std::alloc::Global;
-
-/// The code of a program, a placement of its classes, and a schedule on the placement's mesh.
-#[derive(Drop)]
-pub struct Loaded {
-    pub unit: Unit,
-    pub placement: Placement,
-    pub schedule: Schedule,
-}
 
 /// What is asked for, made or loaded and not yet written.
 #[derive(Drop)]
@@ -39,6 +32,8 @@ pub enum Output {
     Listing(Unit),
     /// The record that is asked for in the second form.
     Converted(Recorded),
+    /// The line of the verdict on a record, with its status.
+    Verdict { line: Vec<u8>, status: Status },
 }
 
 /// The run of the program, the placement and the schedule of these names.
@@ -130,6 +125,33 @@ fn convert_output<F: Files>(alloc: Global, files: &mut F, name: &str) -> Result<
     }
 }
 
+/// The verdict on the record of one name, the claim, by the program of the other, which is read and judged first.
+fn check_output<F: Files>(
+    alloc: Global,
+    files: &mut F,
+    program: &str,
+    claim: &str,
+) -> Result<Output, Stop>
+    requires countable { F.opens files.old ≤ 2 ^ 64 - 5 }
+    requires allowed { MayOpen (F.may files.old) (F.opens files.old) (of_check program.now claim.now) }
+    ensures makes { Makes (record { told = F.told files.old; opens = F.opens files.old; opened = F.opens files.new; given = F.given files.new; live = F.live files.new; faults = F.faults files.old; failed = F.faults files.new }) (of_check program.now claim.now) result }
+    ensures unread_within { StaysWithin (record { told = F.told files.old; opens = F.opens files.old; opened = F.opens files.new; given = F.given files.new; live = F.live files.new; faults = F.faults files.old; failed = F.faults files.new }) (of_check program.now claim.now) }
+{
+    let parsed = match read_parsed(alloc, files, program) {
+        Ok(parsed) => parsed,
+        Err(stop) => return Err(stop),
+    };
+    let checked = match judge_classes(alloc, &parsed) {
+        Ok(checked) => checked,
+        Err(stop) => return Err(stop),
+    };
+    let lines = match read_lines(alloc, files, claim, &parsed.names) {
+        Ok(lines) => lines,
+        Err(stop) => return Err(stop),
+    };
+    judge(alloc, &checked, &parsed.names, &lines)
+}
+
 /// The run of the ring of so many cells.
 fn ring_output(alloc: Global, cells: u32) -> Result<Output, Stop>
     requires { (2 ≤ cells) × (cells ≤ 1000) }
@@ -168,5 +190,6 @@ pub fn make_output<F: Files>(
         Command::Program { ask, name } => program_output(alloc, files, ask, name),
         Command::Ring { cells } => ring_output(alloc, cells),
         Command::Convert { name } => convert_output(alloc, files, name),
+        Command::Check { program, record } => check_output(alloc, files, program, record),
     }
 }

@@ -1,30 +1,25 @@
 //! The top call.
-ghost use Rattle.std.specs.Prelude.{◌≡◌, ◌⊎◌, ◌+◌, ◌-◌, ◌^◌, ◌≤◌, ◌<◌, Some, false, IfSome, IfOk, ◌++◌};
+ghost use Rattle.std.specs.Prelude.{◌≡◌, ◌⊎◌, ◌+◌, ◌-◌, ◌^◌, ◌≤◌, ◌<◌, Some, false, IfSome};
 ghost use Rattle.pool_outside.specs.Outside.{Rose};
 ghost use Rattle.command_words.specs.Commands.{Request, request_of, texts_of};
 ghost use Rattle.pool_driver.specs.Ends.{Ends, StaysWithin};
 ghost use Rattle.pool_driver.specs.Inputs.{IsServable, MayOpen};
-ghost use Rattle.pool_driver.specs.Driving.{IsLoaded, shown_record};
 ghost use Rattle.pool_driver.specs.Outputs.{IsWhole};
-ghost use Rattle.pool_driver.specs.Runs.{counts_text, end_text, ended, ring_text, status_of};
-ghost use Rattle.pool_driver.specs.Readers.{Delivers, IsPrintable, Tells, Writes, lines_of, run_text, status_of_output, text_of};
+ghost use Rattle.run_driver.specs.Writing.{Delivers, Writes};
+ghost use Rattle.pool_driver.specs.Readers.{IsPrintable, Tells, status_of_output, text_of};
 
 use crate::converted::SecondForm;
-use crate::drive::{Ended, drive, finish, make_table};
-use crate::outputs::{Loaded, Output, make_output};
-use crate::status::Status;
+use crate::outputs::{Output, make_output};
 use crate::texts::{CanonicalText, Listing};
-use crate::why::write_report;
 use command_words::{Show, read_words};
-use fault_lines::{Stop, line_of_refusal, line_of_unread, push_count, push_place};
-use pool_machine::{Machine, OpenFault};
-use pool_outside::{Files, Sink, Text, WriteFault, write_all_of, write_gathered};
-use pool_syntax::{Line, Names};
+use fault_lines::{Stop, line_of_refusal, line_of_unread};
+use pool_outside::{Files, Sink, Text, write_all_of, write_gathered};
+use run_driver::{Status, write_ring, write_run, write_why};
 use std::alloc::{AllocError, Global};
 
 /// The usage line.
 const USAGE: &[u8] =
-    b"usage: pool record|run|why P L S, pool print|code P, pool ring K, pool convert R\n";
+    b"usage: pool record|run|why P L S, pool print|code P, pool ring K, pool convert R, pool check P R\n";
 
 /// Writes a piece, and answers the status, or that a write failed.
 fn say<K: Sink>(sink: &mut K, piece: &[u8], status: Status) -> Status
@@ -33,118 +28,6 @@ fn say<K: Sink>(sink: &mut K, piece: &[u8], status: Status) -> Status
     match write_all_of(sink, piece) {
         Ok(()) => status,
         Err(_) => Status::WriteFault,
-    }
-}
-
-/// Makes a run and writes it; all its memory is taken before the first byte is written.
-fn write_run<K: Sink>(alloc: Global, out: &mut K, show: Show, loaded: &Loaded) -> Status
-    requires { IsLoaded loaded.now.unit loaded.now.placement loaded.now.schedule }
-    ensures { Delivers (record { before = K.written out.old; after = K.written out.new; faults = K.faults out.old; failed = K.faults out.new }) (shown_record show loaded.now.unit.names (lines_of loaded.now)) (status_of (lines_of loaded.now)) result }
-{
-    let mut asks = match make_table(alloc, loaded) {
-        Ok(asks) => asks,
-        Err(AllocError) => return Status::Memory,
-    };
-    let lossy = loaded.schedule.lossy();
-    match Machine::make(alloc, &loaded.unit, &loaded.placement, lossy) {
-        Ok(mut machine) => match drive(
-            &mut machine,
-            &mut asks,
-            &loaded.unit.names,
-            &loaded.schedule,
-            show,
-            out,
-        ) {
-            Ok(last) => finish(show, last, &loaded.unit.names, out),
-            Err(WriteFault) => Status::WriteFault,
-        },
-        Err(OpenFault::Memory) => Status::Memory,
-    }
-}
-
-/// Makes a run, and writes where its objects stand at its end; all memory is taken before the first byte is written.
-fn write_why<K: Sink>(alloc: Global, out: &mut K, loaded: &Loaded) -> Status
-    requires { IsLoaded loaded.now.unit loaded.now.placement loaded.now.schedule }
-    ensures { Delivers (record { before = K.written out.old; after = K.written out.new; faults = K.faults out.old; failed = K.faults out.new }) (run_text Show.Report loaded.now) (status_of (lines_of loaded.now)) result }
-{
-    let names = &loaded.unit.names;
-    let mut asks = match make_table(alloc, loaded) {
-        Ok(asks) => asks,
-        Err(AllocError) => return Status::Memory,
-    };
-    let lossy = loaded.schedule.lossy();
-    match Machine::make(alloc, &loaded.unit, &loaded.placement, lossy) {
-        Ok(mut machine) => match drive(
-            &mut machine,
-            &mut asks,
-            names,
-            &loaded.schedule,
-            Show::Report,
-            out,
-        ) {
-            Ok(last) => write_report(alloc, &machine, &loaded.placement, names, last, out),
-            Err(WriteFault) => Status::WriteFault,
-        },
-        Err(OpenFault::Memory) => Status::Memory,
-    }
-}
-
-/// The lines of the counts of a run.
-fn counts_of(alloc: Global, machine: &Machine<'_>) -> Result<Vec<u8>, AllocError>
-    ensures { IfOk result (λ t. t.items ≡ counts_text machine.now.done machine.now.transitions machine.now.moves) }
-{
-    let mut text = Vec::new(alloc);
-    push_place(&mut text, b"events ", machine.done())?;
-    push_count(&mut text, b"\ntransitions ", machine.transitions())?;
-    push_count(&mut text, b"\nmoves ", machine.moves())?;
-    text.extend_from_slice(b"\n")?;
-    Ok(text)
-}
-
-/// Writes the counts of a run that has ended, and the end line.
-fn write_counts<K: Sink>(
-    alloc: Global,
-    machine: &Machine<'_>,
-    names: &Names,
-    last: Ended,
-    out: &mut K,
-) -> Status
-    ensures { Delivers (record { before = K.written out.old; after = K.written out.new; faults = K.faults out.old; failed = K.faults out.new }) (counts_text machine.now.done machine.now.transitions machine.now.moves ++ end_text names.now (Line.End last.end)) (ended last.faulted last.end) result }
-{
-    let counts = match counts_of(alloc, machine) {
-        Ok(counts) => counts,
-        Err(AllocError) => return Status::Memory,
-    };
-    match write_all_of(out, &counts) {
-        Ok(()) => finish(Show::Report, last, names, out),
-        Err(WriteFault) => Status::WriteFault,
-    }
-}
-
-/// Makes a run, and writes its counts and its end line; all memory is taken before the first byte is written.
-fn write_ring<K: Sink>(alloc: Global, out: &mut K, loaded: &Loaded) -> Status
-    requires { IsLoaded loaded.now.unit loaded.now.placement loaded.now.schedule }
-    ensures { Delivers (record { before = K.written out.old; after = K.written out.new; faults = K.faults out.old; failed = K.faults out.new }) (ring_text loaded.now.unit.names (lines_of loaded.now)) (status_of (lines_of loaded.now)) result }
-{
-    let names = &loaded.unit.names;
-    let mut asks = match make_table(alloc, loaded) {
-        Ok(asks) => asks,
-        Err(AllocError) => return Status::Memory,
-    };
-    let lossy = loaded.schedule.lossy();
-    match Machine::make(alloc, &loaded.unit, &loaded.placement, lossy) {
-        Ok(mut machine) => match drive(
-            &mut machine,
-            &mut asks,
-            names,
-            &loaded.schedule,
-            Show::Report,
-            out,
-        ) {
-            Ok(last) => write_counts(alloc, &machine, names, last, out),
-            Err(WriteFault) => Status::WriteFault,
-        },
-        Err(OpenFault::Memory) => Status::Memory,
     }
 }
 
@@ -173,6 +56,7 @@ fn write_output<K: Sink>(alloc: Global, out: &mut K, output: &Output) -> Status
         Output::Canonical(parsed) => write_text(&CanonicalText { parsed }, out),
         Output::Listing(unit) => write_text(&Listing { unit }, out),
         Output::Converted(record) => write_text(&SecondForm { record }, out),
+        Output::Verdict { line, status } => say(out, line, *status),
     }
 }
 

@@ -31,7 +31,7 @@ module _ (p : ProgramTree) (none : faults p ≡ []) (written : IsTrue (is_writte
       let k = given_by (last_class p) (λ k. Some (alone n (new_object k))) c e in
       (new_object k.0, sym (same_some k.2), refl, λ q. ap (λ z. z >>= λ k. Some (alone q (new_object k))) k.1)
 
-  told : (l : Placement) (q : ℕ) (c : Configuration) (d : Delay) (r : Record Object) → start p (root_name l) ≡ Some c → IsRunFrom p l q c d r → IsRunOf p r.lines
+  pub told : (l : Placement) (q : ℕ) (c : Configuration) (d : Delay) (r : Record Object) → start p (root_name l) ≡ Some c → IsRunFrom p l q c d r → IsRunOf p r.lines
   told l q c d r e t = by (labels r.lines) refl t.leads
     where
       b : (x : Object) × (c ≡ alone (root_name l) x) × (x.fault ≡ None) × ((q : ℕ) → start p q ≡ Some (alone q x))

@@ -7,14 +7,19 @@ ghost use Rattle.pool_syntax.specs.Typing.{faults};
 ghost use Rattle.pool_syntax.specs.declared.words.Event.{Event};
 ghost use Rattle.pool_syntax.specs.declared.words.Line.{Line};
 ghost use Rattle.pool_syntax.specs.declared.words.Placement.{Placement};
+ghost use Rattle.pool_relation.specs.Action.{Object};
+ghost use Rattle.pool_relation.specs.Configuration.{Configuration};
+ghost use Rattle.pool_relation.specs.Transition.{start};
 ghost use Rattle.pool_relation.specs.Written.{is_written};
+ghost use Rattle.mesh_semantics.specs.Delay.{Delay};
 ghost use Rattle.mesh_semantics.specs.FitFor.{FitFor};
-ghost use Rattle.mesh_semantics.specs.Record.{record_of, record_on_wires};
+ghost use Rattle.mesh_semantics.specs.Record.{Record, record_of, record_on_wires, root_name};
+ghost use Rattle.placed_terms.specs.RunOf.{IsRunFrom};
 ghost use Rattle.placed_terms.specs.Terms.{terms};
 ghost use Rattle.record_lines.specs.SecondForm.{text2};
 ghost use Rattle.run_record.specs.Numbered.{lines_after};
 ghost use Rattle.run_record.specs.Records.{record_of as read_of};
-ghost use Rattle.record_laws.specs.Readable.{IsRecord};
+ghost use Rattle.run_record.specs.Readable.{IsRecord};
 ghost use Rattle.record_check.specs.declared.lead.Verdict.{Verdict as Verdicts};
 ghost use Rattle.record_check.specs.declared.lead.Verdict.TheVariants.{Yes};
 ghost use Rattle.record_check.specs.Judged.{IsRunOf};
@@ -26,6 +31,12 @@ pub fn a_written_record_is_a_run()
         → IsRunOf p (record_of (terms p) l q es).lines }
     ensures on_wires { (p : ProgramTree) (l : Placement) (q : ℕ) (es : List Event) → faults p ≡ [] → IsTrue (is_written p) → FitFor (terms p) l → (p ≡ [] → ⊥)
         → IsRunOf p (record_on_wires (terms p) l q es).lines }
+{}
+
+/// Lines that show a run from the start, on any mesh and over any delay, are a run of the program, told by them alone.
+pub fn shown_runs_are_runs()
+    ensures { (p : ProgramTree) (l : Placement) (q : ℕ) (c : Configuration) (d : Delay) (r : Record Object) → faults p ≡ [] → IsTrue (is_written p) → start p (root_name l) ≡ Some c
+        → IsRunFrom p l q c d r → IsRunOf p r.lines }
 {}
 
 /// A record that is a run has the verdict yes and no other.

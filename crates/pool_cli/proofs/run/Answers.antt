@@ -1,6 +1,6 @@
 -- The ends of `pool`, at the numbers of the statuses.
 use Rattle.std.proofs.Common.{◌∙◌, inl, inr, ap}
-use Rattle.pool_driver.specs.Ends.{code_of}
+use Rattle.run_driver.specs.Statuses.{code_of}
 use Rattle.pool_cli.proofs.run.Goals as goal
 
 pub returns-clause-ends : goal.returns-clause-ends

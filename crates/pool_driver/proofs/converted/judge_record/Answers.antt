@@ -3,6 +3,7 @@ use Rattle.pool_syntax.specs.Tokens.{Text}
 use Rattle.run_record.specs.Numbered.{lines_after, names_after}
 use Rattle.run_record.specs.Records.{record_of}
 use Rattle.pool_driver.specs.Readers as R
+use Rattle.pool_driver.specs.Readers.{IsRecordOf}
 use Rattle.pool_driver.proofs.ReadLaws.{record_refused}
 use Rattle.pool_driver.proofs.converted.judge_record.Goals as goal
 
@@ -19,7 +20,7 @@ returns-in-Ok-asks_of c =
     })
 
 pub returns-in-Err : goal.returns-in-Err
-returns-in-Err c = record_refused c.args.bytes.now c.in-Err.fault c.record_stop.result c.record_stop.ensures c.in-Err.ensures.fault
+returns-in-Err c = record_refused IsRecordOf c.args.bytes.now c.in-Err.fault c.record_stop.result c.record_stop.ensures c.in-Err.ensures.fault
 
 pub returns-in-Err-asks_of : goal.returns-in-Err-asks_of
 returns-in-Err-asks_of c = R.forgets refl

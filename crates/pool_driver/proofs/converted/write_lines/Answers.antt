@@ -23,4 +23,4 @@ returns-in-Err-clause-cut g c =
     shows_front c.args.names.now lines asks place c.index-lines-place.result (get_or asks place 0)
     (left_at lines place c.index-lines-place.result (omega arith) c.index-lines-place.is)
     (drop_more asks place 0 (omega (arith, c.requires.many)))
-    _ _ (refl, refl) c.loop-place.invariant (record { count = h.front.0; within = h.front.1; front = h.front.2; rose = h.failed })
+    _ _ (refl, refl) c.loop-place.invariant (record { front = h.front; rose = h.failed })

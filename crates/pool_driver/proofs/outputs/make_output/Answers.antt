@@ -38,3 +38,12 @@ returns-in-Ring-clause-unread_within g c = stays_for _ _ _ _ _ (sym (ap request 
 
 pub returns-in-Convert-clause-unread_within : goal.returns-in-Convert-clause-unread_within
 returns-in-Convert-clause-unread_within g c = stays_for _ _ _ _ _ (sym (ap request c.in-Convert.is)) (convert_within _ _ _ c.in-Convert.name.now c.convert_output.ensures.unread_within)
+
+pub check_output-requires-clause-allowed : goal.check_output-requires-clause-allowed
+check_output-requires-clause-allowed g c = subst (MayOpen (g.F.Files.may c.args.files.now) (g.F.Files.opens c.args.files.now)) (ap request c.in-Check.is) c.requires.allowed
+
+pub returns-in-Check-clause-makes : goal.returns-in-Check-clause-makes
+returns-in-Check-clause-makes g c = makes_for _ _ _ c.check_output.result (sym (ap request c.in-Check.is)) c.check_output.ensures.makes
+
+pub returns-in-Check-clause-unread_within : goal.returns-in-Check-clause-unread_within
+returns-in-Check-clause-unread_within g c = stays_for _ _ _ _ _ (sym (ap request c.in-Check.is)) c.check_output.ensures.unread_within

@@ -1,7 +1,22 @@
-use Rattle.std.proofs.Common.{subst}
+use Rattle.std.proofs.Common.{◌∙◌, ap, subst, sym}
 use Rattle.object_code.proofs.Laws.{proper_known}
-use Rattle.pool_driver.specs.Readers.{IsPrintable}
+use Rattle.command_words.specs.declared.command.Show.{Show}
+use Rattle.pool_driver.specs.declared.outputs.Output.{Output}
+use Rattle.pool_driver.specs.declared.outputs.Output.TheVariants as O
+use Rattle.pool_driver.specs.Readers.{IsPrintable, status_of_output, text_of}
+use Rattle.run_driver.specs.Writing.{Delivers, Writing, written}
+use Rattle.pool_driver.proofs.EndLaws.{writes_as}
 use Rattle.pool_driver.proofs.top.write_output.Goals as goal
 
 pub write_text-requires-in-Listing : goal.write_text-requires-in-Listing
 write_text-requires-in-Listing g c = proper_known c.in-Listing.unit (subst IsPrintable c.in-Listing.is c.requires)
+
+pub returns-in-Verdict : goal.returns-in-Verdict
+returns-in-Verdict g c =
+    let k : Writing = record { before = g.K.Sink.written c.args.out.now; after = g.K.Sink.written c.say.new.sink; faults = g.K.Sink.faults c.args.out.now; failed = g.K.Sink.faults c.say.new.sink } in
+    subst (λ (o : Output). Delivers k (text_of o) (status_of_output o) c.say.result) (sym c.in-Verdict.is) (written (writes_as k _ _ _ c.say.result c.deref.ensures.value c.say.ensures))
+
+pub returns-in-Report : goal.returns-in-Report
+returns-in-Report g c =
+    let k : Writing = record { before = g.K.Sink.written c.args.out.now; after = g.K.Sink.written c.write_why.new.out; faults = g.K.Sink.faults c.args.out.now; failed = g.K.Sink.faults c.write_why.new.out } in
+    subst (λ (o : Output). Delivers k (text_of o) (status_of_output o) c.write_why.result) (sym (c.in-Run.is ∙ ap (λ (s : Show). O.Run s c.in-Run.loaded) c.in-Report.is)) c.write_why.ensures

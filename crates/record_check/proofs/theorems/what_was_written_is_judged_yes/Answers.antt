@@ -7,7 +7,7 @@ use Rattle.pool_syntax.specs.declared.words.Line.{Line}
 use Rattle.record_lines.specs.SecondForm.{text2}
 use Rattle.run_record.specs.Numbered.{lines_after}
 use Rattle.run_record.specs.Records.{record_of}
-use Rattle.record_laws.specs.Readable.{IsRecord}
+use Rattle.run_record.specs.Readable.{IsRecord}
 use Rattle.record_laws.proofs.Names.{lines_back, record_placed}
 use Rattle.record_laws.proofs.SecondReading.{text2_read}
 use Rattle.record_check.specs.declared.lead.Verdict.{Verdict}

@@ -1,7 +1,7 @@
 use Rattle.std.proofs.Common.{◌∙◌, ℕ, List, length, ap, ap₂, refl, subst, sym}
 use Rattle.record_lines.specs.SecondForm.{lines_text2}
-use Rattle.pool_driver.specs.Ends.{Writing, WroteFront}
-use Rattle.pool_driver.proofs.ConvertLaws.{as_front, asks_long, first_front, form_front, on_err}
+use Rattle.run_driver.specs.Writing.{Writing, WroteFront}
+use Rattle.pool_driver.proofs.ConvertLaws.{asks_long, first_front, form_front, on_err}
 use Rattle.pool_driver.proofs.converted.SecondFormText.write_to.Goals as goal
 
 pub write_lines-requires-clause-many : goal.write_lines-requires-clause-many
@@ -15,12 +15,12 @@ returns-in-Ok-clause-front g c =
     let j : Writing = record { before = g.S.Sink.written c.args.sink.now; after = g.S.Sink.written c.write_form.new.sink; faults = g.S.Sink.faults c.args.sink.now; failed = g.S.Sink.faults c.write_form.new.sink } in
     let k : Writing = record { before = g.S.Sink.written c.write_form.new.sink; after = g.S.Sink.written c.write_lines.new.out; faults = g.S.Sink.faults c.write_form.new.sink; failed = g.S.Sink.faults c.write_lines.new.out } in
     on_err c.write_lines.result c.write_lines.ensures.cut (λ w.
-    as_front _ _ (form_front r.names r.lines r.asks j k c.requires.asked (refl, refl) (c.in-Ok.ensures.whole, c.in-Ok.ensures.no_fault)
-    (subst (WroteFront k) (ap₂ (lines_text2 r.names) c.items.ensures c.items-in-Ok.ensures) w)))
+    (form_front r.names r.lines r.asks j k c.requires.asked (refl, refl) (c.in-Ok.ensures.whole, c.in-Ok.ensures.no_fault)
+    (subst (WroteFront k) (ap₂ (lines_text2 r.names) c.items.ensures c.items-in-Ok.ensures) w)).front)
 
 pub returns-in-Err-clause-front : goal.returns-in-Err-clause-front
 returns-in-Err-clause-front g c =
     let r = c.args.self.now.record.now in
     let h = c.in-Err.ensures in
     let k : Writing = record { before = g.S.Sink.written c.args.sink.now; after = g.S.Sink.written c.write_form.new.sink; faults = g.S.Sink.faults c.args.sink.now; failed = g.S.Sink.faults c.write_form.new.sink } in
-    as_front k _ (first_front r.names r.lines k (record { count = h.front.0; within = h.front.1; front = h.front.2; rose = h.failed }))
+    (first_front r.names r.lines k (record { front = h.front; rose = h.failed })).front

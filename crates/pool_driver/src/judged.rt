@@ -1,0 +1,48 @@
+//! The verdict on a record, as what is asked for.
+ghost use Rattle.std.specs.Prelude.{◌≡◌, IfOk};
+ghost use Rattle.pool_syntax.specs.TreeOf.{program_of};
+ghost use Rattle.pool_driver.specs.Outputs.{status_of_verdict};
+ghost use Rattle.pool_driver.specs.Readers.{Decides};
+
+use crate::outputs::Output;
+use class_check::Checked;
+use fault_lines::Stop;
+use pool_syntax::{Line, List, Names};
+use record_check::theorems::a_record_has_one_verdict;
+use record_check::{Verdict, check_record};
+use run_driver::Status;
+use std::alloc::{AllocError, Global};
+use verdict_lines::verdict_line;
+
+/// The status with which a verdict is written.
+fn status_of_verdict(verdict: &Verdict) -> Status
+    ensures { result ≡ status_of_verdict verdict.now }
+{
+    match verdict {
+        Verdict::Yes => Status::Done,
+        Verdict::No { .. } | Verdict::Moving { .. } => Status::DoneFaulted,
+    }
+}
+
+/// Judges the lines of a record by a program, whose names are these.
+pub fn judge(
+    alloc: Global,
+    program: &Checked<'_>,
+    names: &Names,
+    lines: &List<Line>,
+) -> Result<Output, Stop>
+    ensures { Decides names.now (program_of program.now.program.now) lines.now result }
+{
+    a_record_has_one_verdict();
+    let verdict = match check_record(alloc, program, lines) {
+        Ok(verdict) => verdict,
+        Err(AllocError) => return Err(Stop::Memory),
+    };
+    match verdict_line(alloc, &verdict, names) {
+        Ok(line) => Ok(Output::Verdict {
+            line,
+            status: status_of_verdict(&verdict),
+        }),
+        Err(AllocError) => Err(Stop::Memory),
+    }
+}

@@ -1,0 +1,191 @@
+use Rattle.std.proofs.Common.{◌≡◌, ◌≤◌, ℕ, Bool, length, refl, sym, subst, true, false, arith}
+use Rattle.pool_syntax.specs.declared.words.Placement.{Placement}
+use Rattle.mesh_semantics.specs.Act.{act}
+use Rattle.coded_objects.specs.Coded.{coded}
+use Rattle.pool_machine.specs.Answers.{IsOfMesh, IsOutcome, IsServed}
+use Rattle.pool_machine.specs.declared.words.Outcome.{Outcome}
+use Rattle.pool_machine.specs.declared.words.Outcome.TheVariants as O
+use Rattle.run_driver.proofs.DriveLaws.{Keeps, begins, fills_up, first_cut, goes, in_table, named_cut, named_line, named_on, none_after, outcome_at, quiet_after, quiet_at}
+use Rattle.run_driver.proofs.PlanLaws.{is_served, of_mesh}
+use Rattle.run_driver.proofs.drive.drive.Goals as goal
+
+-- behind the last event
+
+at_end : (done last len all : ℕ) → done ≤ last → last ≤ done → last ≡ all → len ≡ all → done ≡ len
+at_end done last len all h n a b = omega (arith, h, n, a, b)
+
+all_done : (done len all : ℕ) → done ≡ len → len ≡ all → all ≤ done
+all_done done len all a b = omega (arith, a, b)
+
+pub loop-done-init : goal.loop-done-init
+loop-done-init g c = λ c' d s.
+    begins c.args.show c.args.machine.now.unit c.args.machine.now.placement c.args.schedule.now c' d c.args.machine.now c.args.asks.now _ refl refl c.requires.wired c.requires.fresh c.requires.unmoved c.requires.still s
+    c.requires.posts c.in-Ok.ensures.whole
+
+pub returns-then-is_quiet : goal.returns-then-is_quiet
+returns-then-is_quiet g c = λ c' d s.
+    let u = c.args.machine.now.unit in
+    let l = c.args.machine.now.placement in
+    let plan = c.args.schedule.now in
+    let show = c.args.show in
+    let m = c.loop-done.machine in
+    let done = c.loop-done.done in
+    let go = c.loop-done.invariant c' d s in
+    let quiet = quiet_at show u l plan c' d m c.loop-done.asks done c.loop-done.faulted _ c.is_quiet.result true go (c.is_quiet.ensures go.config go.delay go.stands) c.if-is_quiet.true in
+    quiet_after show u l plan c' d m c.loop-done.asks done done c.loop-done.faulted _ go quiet refl
+
+pub event-requires-in-loop-done-clause-mesh : goal.event-requires-in-loop-done-clause-mesh
+event-requires-in-loop-done-clause-mesh g c =
+    let under = c.requires.under_way in
+    let go = c.loop-done.invariant under.config under.delay under.stands in
+    let on = c.requires.loaded.planned.events c.loop-done.done c.event.result c.event.ensures in
+    subst (λ (x : Placement). IsOfMesh x c.event.result) (sym go.placement) (of_mesh c.args.machine.now.placement c.args.schedule.now.lossy c.event.result on)
+
+pub event-requires-in-loop-done-clause-served : goal.event-requires-in-loop-done-clause-served
+event-requires-in-loop-done-clause-served g c =
+    let under = c.requires.under_way in
+    let go = c.loop-done.invariant under.config under.delay under.stands in
+    let on = c.requires.loaded.planned.events c.loop-done.done c.event.result c.event.ensures in
+    subst (λ (b : Bool). IsServed b c.event.result) (sym go.wired) (is_served c.args.machine.now.placement c.args.schedule.now.lossy c.event.result on)
+
+pub event-requires-in-loop-done-clause-few : goal.event-requires-in-loop-done-clause-few
+event-requires-in-loop-done-clause-few g c =
+    let under = c.requires.under_way in
+    let made = (c.loop-done.invariant under.config under.delay under.stands).made in
+    let most = c.len-done-end.type_inv in
+    let within = c.loop-done-test.true in
+    omega (arith, made, most, within)
+
+pub show_line-requires : goal.show_line-requires
+show_line-requires g c =
+    let u = c.args.machine.now.unit in
+    let l = c.args.machine.now.placement in
+    let plan = c.args.schedule.now in
+    let show = c.args.show in
+    let m = c.loop-done.machine in
+    let done = c.loop-done.done in
+    let under = c.requires.under_way in
+    let c' = under.config in
+    let d = under.delay in
+    let go = c.loop-done.invariant under.config under.delay under.stands in
+    let busy = quiet_at show u l plan c' d m c.loop-done.asks done c.loop-done.faulted _ c.is_quiet.result false go (c.is_quiet.ensures go.config go.delay go.stands) c.if-is_quiet.false in
+    let e = c.event.result in
+    let n = c.event-in-loop-done.new.self in
+    let out = outcome_at show u l plan c' d m n c.loop-done.asks done c.loop-done.faulted _ c.quantum.result e (O.Line c.in-Line.line) go c.quantum.ensures
+    (subst (λ (r : Outcome). IsOutcome e m r n (act (coded m.unit) m.placement c.quantum.result go.config go.delay e)) c.in-Line.is (c.event-in-loop-done.ensures go.config go.delay go.stands)) in
+    let line = c.in-Line.line in
+    let h = goes show u l plan c' d m n c.loop-done.asks done c.loop-done.faulted _ e line go c.event.ensures busy out in
+    named_line show u l plan c' d c.args.names.now c.requires.table m n c.loop-done.asks done c.loop-done.faulted _ e line go h c.requires.loaded
+
+pub of-ask-requires : goal.of-ask-requires
+of-ask-requires g c =
+    let u = c.args.machine.now.unit in
+    let l = c.args.machine.now.placement in
+    let plan = c.args.schedule.now in
+    let show = c.args.show in
+    let m = c.loop-done.machine in
+    let done = c.loop-done.done in
+    let under = c.requires.under_way in
+    let c' = under.config in
+    let d = under.delay in
+    let go = c.loop-done.invariant under.config under.delay under.stands in
+    let busy = quiet_at show u l plan c' d m c.loop-done.asks done c.loop-done.faulted _ c.is_quiet.result false go (c.is_quiet.ensures go.config go.delay go.stands) c.if-is_quiet.false in
+    let e = c.event.result in
+    let n = c.event-in-loop-done.new.self in
+    let out = outcome_at show u l plan c' d m n c.loop-done.asks done c.loop-done.faulted _ c.quantum.result e (O.Line c.in-Line.line) go c.quantum.ensures
+    (subst (λ (r : Outcome). IsOutcome e m r n (act (coded m.unit) m.placement c.quantum.result go.config go.delay e)) c.in-Line.is (c.event-in-loop-done.ensures go.config go.delay go.stands)) in
+    let line = c.in-Line.line in
+    let h = goes show u l plan c' d m n c.loop-done.asks done c.loop-done.faulted _ e line go c.event.ensures busy out in
+    in_table show u l plan c' d m n c.loop-done.asks done c.loop-done.faulted _ e line go h c.requires.loaded
+
+pub returns-in-Err-show_line : goal.returns-in-Err-show_line
+returns-in-Err-show_line g c = λ c' d s.
+    let u = c.args.machine.now.unit in
+    let l = c.args.machine.now.placement in
+    let plan = c.args.schedule.now in
+    let show = c.args.show in
+    let m = c.loop-done.machine in
+    let done = c.loop-done.done in
+    let go = c.loop-done.invariant c' d s in
+    let busy = quiet_at show u l plan c' d m c.loop-done.asks done c.loop-done.faulted _ c.is_quiet.result false go (c.is_quiet.ensures go.config go.delay go.stands) c.if-is_quiet.false in
+    let e = c.event.result in
+    let n = c.event-in-loop-done.new.self in
+    let out = outcome_at show u l plan c' d m n c.loop-done.asks done c.loop-done.faulted _ c.quantum.result e (O.Line c.in-Line.line) go c.quantum.ensures
+    (subst (λ (r : Outcome). IsOutcome e m r n (act (coded m.unit) m.placement c.quantum.result go.config go.delay e)) c.in-Line.is (c.event-in-loop-done.ensures go.config go.delay go.stands)) in
+    let line = c.in-Line.line in
+    let h = goes show u l plan c' d m n c.loop-done.asks done c.loop-done.faulted _ e line go c.event.ensures busy out in
+    let kept : Keeps show u l plan c' d c.loop-done.asks c.of-ask.new.self line c.of-ask.result = record { number = c.of-ask.ensures.number; size = c.of-ask.ensures.size } in
+    named_cut show u l plan c' d c.args.names.now c.requires.table m n c.loop-done.asks _ done c.loop-done.faulted _ _ e line c.of-ask.result c.in-Err-show_line.fault go h (refl, refl) kept c.in-Err-show_line.ensures.cut
+
+pub returns-in-Full : goal.returns-in-Full
+returns-in-Full g c = λ c' d s.
+    let u = c.args.machine.now.unit in
+    let l = c.args.machine.now.placement in
+    let plan = c.args.schedule.now in
+    let show = c.args.show in
+    let m = c.loop-done.machine in
+    let done = c.loop-done.done in
+    let go = c.loop-done.invariant c' d s in
+    let busy = quiet_at show u l plan c' d m c.loop-done.asks done c.loop-done.faulted _ c.is_quiet.result false go (c.is_quiet.ensures go.config go.delay go.stands) c.if-is_quiet.false in
+    let e = c.event.result in
+    let n = c.event-in-loop-done.new.self in
+    let out = outcome_at show u l plan c' d m n c.loop-done.asks done c.loop-done.faulted _ c.quantum.result e (O.Full c.in-Full.kind c.in-Full.node) go c.quantum.ensures
+    (subst (λ (r : Outcome). IsOutcome e m r n (act (coded m.unit) m.placement c.quantum.result go.config go.delay e)) c.in-Full.is (c.event-in-loop-done.ensures go.config go.delay go.stands)) in
+    fills_up show u l plan c' d m n c.loop-done.asks done c.loop-done.faulted _ e c.in-Full.kind c.in-Full.node go c.event.ensures busy out
+
+pub loop-done-preserved : goal.loop-done-preserved
+loop-done-preserved g c = λ c' d s.
+    let u = c.args.machine.now.unit in
+    let l = c.args.machine.now.placement in
+    let plan = c.args.schedule.now in
+    let show = c.args.show in
+    let m = c.loop-done.machine in
+    let done = c.loop-done.done in
+    let go = c.loop-done.invariant c' d s in
+    let busy = quiet_at show u l plan c' d m c.loop-done.asks done c.loop-done.faulted _ c.is_quiet.result false go (c.is_quiet.ensures go.config go.delay go.stands) c.if-is_quiet.false in
+    let e = c.event.result in
+    let n = c.event-in-loop-done.new.self in
+    let out = outcome_at show u l plan c' d m n c.loop-done.asks done c.loop-done.faulted _ c.quantum.result e (O.Line c.in-Line.line) go c.quantum.ensures
+    (subst (λ (r : Outcome). IsOutcome e m r n (act (coded m.unit) m.placement c.quantum.result go.config go.delay e)) c.in-Line.is (c.event-in-loop-done.ensures go.config go.delay go.stands)) in
+    let line = c.in-Line.line in
+    let h = goes show u l plan c' d m n c.loop-done.asks done c.loop-done.faulted _ e line go c.event.ensures busy out in
+    let kept : Keeps show u l plan c' d c.loop-done.asks c.of-ask.new.self line c.of-ask.result = record { number = c.of-ask.ensures.number; size = c.of-ask.ensures.size } in
+    named_on show u l plan c' d c.args.names.now c.requires.table m n c.loop-done.asks _ done c.loop-done.faulted c.fault_so_far-faulted.result _ _ e line c.of-ask.result go h (refl, refl) kept c.in-Ok-show_line.ensures.whole c.fault_so_far-faulted.ensures
+
+pub returns-then-is_quiet-2 : goal.returns-then-is_quiet-2
+returns-then-is_quiet-2 g c = λ c' d s.
+    let u = c.args.machine.now.unit in
+    let l = c.args.machine.now.placement in
+    let plan = c.args.schedule.now in
+    let show = c.args.show in
+    let m = c.loop-done.machine in
+    let done = c.loop-done.done in
+    let go = c.loop-done.invariant c' d s in
+    let quiet = quiet_at show u l plan c' d m c.loop-done.asks done c.loop-done.faulted _ c.is_quiet-2.result true go (c.is_quiet-2.ensures go.config go.delay go.stands) c.if-is_quiet-2.true in
+    let same = at_end done c.len-done-end.result c.len-done.result (length plan.events) c.loop-done.auto.done-end c.loop-done-test.false c.len-done-end.ensures c.len-done.ensures in
+    quiet_after show u l plan c' d m c.loop-done.asks done c.len-done.result c.loop-done.faulted _ go quiet same
+
+pub returns : goal.returns
+returns g c = λ c' d s.
+    let u = c.args.machine.now.unit in
+    let l = c.args.machine.now.placement in
+    let plan = c.args.schedule.now in
+    let show = c.args.show in
+    let m = c.loop-done.machine in
+    let done = c.loop-done.done in
+    let go = c.loop-done.invariant c' d s in
+    let busy = quiet_at show u l plan c' d m c.loop-done.asks done c.loop-done.faulted _ c.is_quiet-2.result false go (c.is_quiet-2.ensures go.config go.delay go.stands) c.if-is_quiet-2.false in
+    let same = at_end done c.len-done-end.result c.len-done.result (length plan.events) c.loop-done.auto.done-end c.loop-done-test.false c.len-done-end.ensures c.len-done.ensures in
+    let none = all_done done c.len-done.result (length plan.events) same c.len-done.ensures in
+    none_after show u l plan c' d m c.loop-done.asks done c.len-done.result c.loop-done.faulted _ go none busy same
+
+pub event-requires : goal.event-requires
+event-requires g c = let a = c.len-done-end.ensures in let b = c.loop-done-test.true in omega (arith, a, b)
+
+pub event-requires-in-loop-done-clause-quantum : goal.event-requires-in-loop-done-clause-quantum
+event-requires-in-loop-done-clause-quantum g c =
+    subst (λ (q : ℕ). (1 ≤ q) × (q ≤ 10000)) (sym c.quantum.ensures) c.requires.loaded.planned.quantum
+
+pub returns-in-Err : goal.returns-in-Err
+returns-in-Err g c = λ c' d s.
+    first_cut c.args.show c.args.machine.now.unit c.args.machine.now.placement c.args.schedule.now c' d c.args.machine.now _ c.in-Err.fault c.in-Err.ensures.cut

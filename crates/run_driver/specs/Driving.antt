@@ -1,0 +1,145 @@
+-- What is written of a run while it is made, and from what a run is made.
+use Rattle.std.specs.Prelude.{◌≡◌, ℕ, ◌+◌, ◌*◌, ◌≤◌, List, [], ◌∷◌, ◌++◌, length, drop, slice_get, Option, Some, None, Result, Ok, Err, Bool, false, is_some}
+use Rattle.pool_syntax.specs.Tokens.{Text}
+use Rattle.pool_syntax.specs.declared.words.NameId.{NameId}
+use Rattle.pool_syntax.specs.declared.words.Item.{Item}
+use Rattle.pool_syntax.specs.declared.words.Label.TheVariants as L
+use Rattle.pool_syntax.specs.declared.words.Event.{Event}
+use Rattle.pool_syntax.specs.declared.words.What.{What}
+use Rattle.pool_syntax.specs.declared.words.What.TheVariants as W
+use Rattle.pool_syntax.specs.declared.words.Line.{Line}
+use Rattle.pool_syntax.specs.declared.words.Line.TheVariants as R
+use Rattle.pool_syntax.specs.declared.words.Placement.{Placement}
+use Rattle.object_code.specs.declared.unit.Unit.{Unit as Code}
+use Rattle.object_code.specs.Proper.{IsProper}
+use Rattle.object_code.specs.Suits.{Suits}
+use Rattle.mesh_semantics.specs.Config.{Config}
+use Rattle.mesh_semantics.specs.Delay.{Delay}
+use Rattle.mesh_semantics.specs.Record.{Record, labels, record_from}
+use Rattle.coded_objects.specs.Coded.{Placed, coded}
+use Rattle.pool_machine.specs.MachineOf.{MachineOf}
+use Rattle.pool_machine.specs.Answers.{Stands}
+use Rattle.schedule_reader.specs.Plans.{IsEventOn}
+use Rattle.schedule_reader.specs.Schedules.{Plan}
+use Rattle.mesh_semantics.specs.Asks.{ask_of}
+use Rattle.record_lines.specs.RecordText.{text_at}
+use Rattle.record_lines.specs.SecondForm.{form_text, line_text2}
+use Rattle.request_numbers.specs.declared.asks.Asks.{Asks}
+use Rattle.request_numbers.specs.Table.{HasLast}
+use Rattle.command_words.specs.declared.command.Show.{Show}
+use Rattle.command_words.specs.declared.command.Show.TheVariants as Sh
+use Rattle.run_driver.specs.declared.drive.Ended.{Ended}
+use Rattle.pool_outside.specs.declared.calls.WriteFault.{WriteFault}
+use Rattle.run_driver.specs.Writing.{Writing, Wrote, WroteFront}
+use Rattle.run_driver.specs.Shown.{ended, end_text, events_in, moves_in, shows_fault, status_after, status_of, writes_of}
+
+-- what is written by a step
+abbrev pub item_of : What → Option Item
+item_of (W.Step (L.Write o item) times) = Some item
+item_of _ = None
+
+-- whether a line tells a language error
+abbrev pub tells_fault : Line → Bool
+tells_fault (R.Event number e what) = shows_fault what
+tells_fault (R.End e) = false
+
+-- what is shown before the first line: of a record the line that names its form
+abbrev pub shown_first : Show → Text
+shown_first Sh.Record = form_text ++ 10 ∷ []
+shown_first Sh.Writes = []
+shown_first Sh.Report = []
+
+-- what is shown of a line with this request number
+abbrev pub shown_line : Show → List Text → ℕ → Line → Text
+shown_line Sh.Record names ask l = line_text2 names l ask
+shown_line Sh.Writes names ask l = writes_of names l
+shown_line Sh.Report names ask l = end_text names l
+
+-- of the lines that are left, behind these, of which the latest is the first
+abbrev pub shown_lines : Show → List Text → List Line → List Line → Text
+shown_lines show names earlier [] = []
+shown_lines show names earlier (l ∷ ls) = shown_line show names (ask_of earlier l) l ++ shown_lines show names (l ∷ earlier) ls
+
+-- and of all lines of a record
+abbrev pub shown_record : Show → List Text → List Line → Text
+shown_record show names ls = shown_first show ++ shown_lines show names [] ls
+
+-- no text of the table has more than 256 bytes
+abbrev pub AreShortTexts : List Text → Type 0
+AreShortTexts names = (id : NameId) → length (text_at names id) ≤ 256
+
+-- a quantum of a turn, and events of the placement's mesh, at most 2,000,000, which are on wires only where links are wires
+pub record IsPlanOn (l : Placement) (plan : Plan) : Type 0 where
+  pub quantum : (1 ≤ plan.quantum) × (plan.quantum ≤ 10000)
+  pub events : (i : ℕ) (e : Event) → slice_get plan.events i ≡ Some e → IsEventOn l plan.lossy e
+  pub count : length plan.events ≤ 2000000
+
+-- code, a placement and a schedule of which a run can be made
+pub record IsLoaded (u : Code) (l : Placement) (plan : Plan) : Type 0 where
+  pub proper : IsProper u
+  pub suits : Suits l u
+  pub short : AreShortTexts u.names
+  pub planned : IsPlanOn l plan
+
+-- a table for the objects of the placement's nodes, which has the latest posts of these lines
+pub record IsTableOf (l : Placement) (asks : Asks) (earlier : List Line) : Type 0 where
+  pub nodes : asks.nodes ≡ l.width * l.height
+  pub objects : asks.objects ≡ l.objects
+  pub last : HasLast asks earlier
+
+-- a machine that stands for some configuration
+pub record IsUnderWay (m : MachineOf) : Type 0 where
+  pub config : Config Placed
+  pub delay : Delay
+  pub stands : Stands m config delay
+
+-- the record of a run from c and d, where so many events were made before
+abbrev pub run_from : Code → Placement → Plan → Config Placed → Delay → ℕ → List Event → Record Placed
+run_from u l plan c d done es = record_from (coded u) l plan.quantum c d done es
+
+-- What is the same of two records: their ends, and the counts of their lines, where the second has these fewer.
+pub record GoesTo (a b : Record Placed) (made moving changes : ℕ) : Type 0 where
+  pub last : a.last ≡ b.last
+  pub delay : a.delay ≡ b.delay
+  pub events : events_in a.lines ≡ made + events_in b.lines
+  pub moves : moves_in a.lines ≡ moving + moves_in b.lines
+  pub transitions : length (labels a.lines) ≡ changes + length (labels b.lines)
+
+-- A run from c and d under way, after so many events: the machine has wires where the schedule is lossy, and stands for what is after the events; the table has the posts of
+-- their lines, their text was written, and what is shown of all lines is this text and then what is shown of the lines of the events that are left. A report shows nothing of
+-- these lines.
+pub record IsGoing (show : Show) (u : Code) (l : Placement) (plan : Plan) (c : Config Placed) (d : Delay) (m : MachineOf) (asks : Asks) (done : ℕ) (faulted : Bool) (k : Writing) : Type 0 where
+  pub unit : m.unit ≡ u
+  pub placement : m.placement ≡ l
+  pub wired : is_some m.wires ≡ plan.lossy
+  pub made : m.done ≡ done
+  pub config : Config Placed
+  pub delay : Delay
+  pub stands : Stands m config delay
+  pub earlier : List Line
+  pub table : IsTableOf l asks earlier
+  pub text : Text
+  pub wrote : Wrote k text
+  pub silent : show ≡ Sh.Report → text ≡ []
+  pub lines : shown_record show u.names (run_from u l plan c d 0 plan.events).lines ≡ text ++ shown_lines show u.names earlier (run_from u l plan config delay done (drop done plan.events)).lines
+  pub status : status_after false (run_from u l plan c d 0 plan.events).lines ≡ status_after faulted (run_from u l plan config delay done (drop done plan.events)).lines
+  pub goes : GoesTo (run_from u l plan c d 0 plan.events) (run_from u l plan config delay done (drop done plan.events)) done m.moves m.transitions
+
+-- A run from c and d that has ended so: the machine stands for the last configuration of its record and has its counts, and all that is shown was written but for the end line.
+pub record HasRun (show : Show) (u : Code) (l : Placement) (plan : Plan) (c : Config Placed) (d : Delay) (m : MachineOf) (k : Writing) (e : Ended) : Type 0 where
+  pub unit : m.unit ≡ u
+  pub placement : m.placement ≡ l
+  pub stands : Stands m (run_from u l plan c d 0 plan.events).last (run_from u l plan c d 0 plan.events).delay
+  pub text : Text
+  pub wrote : Wrote k text
+  pub silent : show ≡ Sh.Report → text ≡ []
+  pub lines : shown_record show u.names (run_from u l plan c d 0 plan.events).lines ≡ text ++ (shown_line show u.names 0 (R.End e.end) ++ [])
+  pub status : status_of (run_from u l plan c d 0 plan.events).lines ≡ ended e.faulted e.end
+  pub events : events_in (run_from u l plan c d 0 plan.events).lines ≡ m.done
+  pub moves : moves_in (run_from u l plan c d 0 plan.events).lines ≡ m.moves
+  pub transitions : length (labels (run_from u l plan c d 0 plan.events).lines) ≡ m.transitions
+
+-- a run has ended, or a write failed, and a front of what is shown was written, of a report nothing
+pub data Drives (show : Show) (u : Code) (l : Placement) (plan : Plan) (c : Config Placed) (d : Delay) (m : MachineOf) (k : Writing) (result : Result Ended WriteFault) : Type 0 where
+  run : (e : Ended) → result ≡ Ok e → HasRun show u l plan c d m k e → Drives show u l plan c d m k result
+  stopped : (f : WriteFault) → result ≡ Err f → WroteFront k (shown_record show u.names (run_from u l plan c d 0 plan.events).lines) → (show ≡ Sh.Report → WroteFront k []) → Drives show u l plan c d m k result
