@@ -67,7 +67,7 @@ fn runs_show_what_stands_in_the_rows(rt: HostRuntime) -> Result<(), Fail> {
         assert!(rt; holds(rt.alloc(), row)?, "{row}");
         rows = rows.saturating_add(1);
     }
-    assert_eq!(rt; rows, 60);
+    assert_eq!(rt; rows, 66);
     Ok(())
 }
 

@@ -1,5 +1,5 @@
 //! Whole calls over placements of one and more nodes.
-use crate::call_rows::{RECORDS, REFUSALS, RUNS, TEXTS};
+use crate::call_rows::{JUDGED, RECORDS, REFUSALS, RUNS, TEXTS};
 use crate::calls::{answer, as_row, world_of};
 use crate::faults::bytes_of;
 use std::alloc::{AllocError, Global};
@@ -74,6 +74,14 @@ fn texts_of_programs_are_written(rt: HostRuntime) -> Result<(), Fail> {
 #[test]
 fn records_are_carried_over(rt: HostRuntime) -> Result<(), Fail> {
     for row in RECORDS.lines() {
+        assert!(rt; holds(rt.alloc(), row)?, "{row}");
+    }
+    Ok(())
+}
+
+#[test]
+fn records_are_judged(rt: HostRuntime) -> Result<(), Fail> {
+    for row in JUDGED.lines() {
         assert!(rt; holds(rt.alloc(), row)?, "{row}");
     }
     Ok(())

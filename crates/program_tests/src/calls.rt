@@ -88,44 +88,52 @@ pub fn printed(alloc: Global, program: &[u8]) -> Result<Outcome, AllocError> {
 /// Words, then what they are answered on one node: the status, the output and the error line, with `;` for each line feed.
 const LINES: &str = r"record P L S | 0 | record 2;1 turn 0 write 0.0 1;end quiet 1; | 
 print P | 0 | class Main;body write 1 end; | 
- | 64 |  | usage: pool record|run|why P L S, pool print|code P, pool ring K, pool convert R;
-record P L | 64 |  | usage: pool record|run|why P L S, pool print|code P, pool ring K, pool convert R;
-record P L S S | 64 |  | usage: pool record|run|why P L S, pool print|code P, pool ring K, pool convert R;
-print | 64 |  | usage: pool record|run|why P L S, pool print|code P, pool ring K, pool convert R;
-print P L | 64 |  | usage: pool record|run|why P L S, pool print|code P, pool ring K, pool convert R;
---help | 64 |  | usage: pool record|run|why P L S, pool print|code P, pool ring K, pool convert R;
-record -P L S | 64 |  | usage: pool record|run|why P L S, pool print|code P, pool ring K, pool convert R;
-record P L -S | 64 |  | usage: pool record|run|why P L S, pool print|code P, pool ring K, pool convert R;
-print -P | 64 |  | usage: pool record|run|why P L S, pool print|code P, pool ring K, pool convert R;
-Record P L S | 64 |  | usage: pool record|run|why P L S, pool print|code P, pool ring K, pool convert R;
+ | 64 |  | usage: pool record|run|why P L S, pool print|code P, pool ring K, pool convert R, pool check P R;
+record P L | 64 |  | usage: pool record|run|why P L S, pool print|code P, pool ring K, pool convert R, pool check P R;
+record P L S S | 64 |  | usage: pool record|run|why P L S, pool print|code P, pool ring K, pool convert R, pool check P R;
+print | 64 |  | usage: pool record|run|why P L S, pool print|code P, pool ring K, pool convert R, pool check P R;
+print P L | 64 |  | usage: pool record|run|why P L S, pool print|code P, pool ring K, pool convert R, pool check P R;
+--help | 64 |  | usage: pool record|run|why P L S, pool print|code P, pool ring K, pool convert R, pool check P R;
+record -P L S | 64 |  | usage: pool record|run|why P L S, pool print|code P, pool ring K, pool convert R, pool check P R;
+record P L -S | 64 |  | usage: pool record|run|why P L S, pool print|code P, pool ring K, pool convert R, pool check P R;
+print -P | 64 |  | usage: pool record|run|why P L S, pool print|code P, pool ring K, pool convert R, pool check P R;
+Record P L S | 64 |  | usage: pool record|run|why P L S, pool print|code P, pool ring K, pool convert R, pool check P R;
 record N L S | 5 |  | pool: program: read fault;
 record P N S | 5 |  | pool: placement: read fault;
 record P L N | 5 |  | pool: schedule: read fault;
 print N | 5 |  | pool: program: read fault;
 record L L S | 2 |  | pool: program: Unexpected at token 0;
-convert P P | 64 |  | usage: pool record|run|why P L S, pool print|code P, pool ring K, pool convert R;
+convert P P | 64 |  | usage: pool record|run|why P L S, pool print|code P, pool ring K, pool convert R, pool check P R;
 convert N | 5 |  | pool: record: read fault;
 convert P | 2 |  | pool: record: BadLine at line 1;
+check P | 64 |  | usage: pool record|run|why P L S, pool print|code P, pool ring K, pool convert R, pool check P R;
+check P L S | 64 |  | usage: pool record|run|why P L S, pool print|code P, pool ring K, pool convert R, pool check P R;
+check -P L | 64 |  | usage: pool record|run|why P L S, pool print|code P, pool ring K, pool convert R, pool check P R;
+check P -L | 64 |  | usage: pool record|run|why P L S, pool print|code P, pool ring K, pool convert R, pool check P R;
+check N L | 5 |  | pool: program: read fault;
+check P N | 5 |  | pool: record: read fault;
+check P L | 2 |  | pool: record: BadLine at line 1;
+check S N | 2 |  | pool: program: Unexpected at token 0;
 record P P S | 2 |  | pool: placement: BadLine at line 1;
 record P S S | 2 |  | pool: placement: BadLine at line 1;
 record P L L | 2 |  | pool: schedule: BadLine at line 1;
 run P L S | 0 | 1;end quiet 1; | 
-run P L | 64 |  | usage: pool record|run|why P L S, pool print|code P, pool ring K, pool convert R;
-run P -L S | 64 |  | usage: pool record|run|why P L S, pool print|code P, pool ring K, pool convert R;
+run P L | 64 |  | usage: pool record|run|why P L S, pool print|code P, pool ring K, pool convert R, pool check P R;
+run P -L S | 64 |  | usage: pool record|run|why P L S, pool print|code P, pool ring K, pool convert R, pool check P R;
 run N L S | 5 |  | pool: program: read fault;
 code P | 0 | class Main 0;body 1;0 PushInt 1;1 Write;2 Halt; | 
-code P L | 64 |  | usage: pool record|run|why P L S, pool print|code P, pool ring K, pool convert R;
-code -P | 64 |  | usage: pool record|run|why P L S, pool print|code P, pool ring K, pool convert R;
+code P L | 64 |  | usage: pool record|run|why P L S, pool print|code P, pool ring K, pool convert R, pool check P R;
+code -P | 64 |  | usage: pool record|run|why P L S, pool print|code P, pool ring K, pool convert R, pool check P R;
 code N | 5 |  | pool: program: read fault;
 code S | 2 |  | pool: program: Unexpected at token 0;
 why P L S | 0 | 0.0 Main finished;end quiet 1; | 
-why P L | 64 |  | usage: pool record|run|why P L S, pool print|code P, pool ring K, pool convert R;
-why P L -S | 64 |  | usage: pool record|run|why P L S, pool print|code P, pool ring K, pool convert R;
-ring | 64 |  | usage: pool record|run|why P L S, pool print|code P, pool ring K, pool convert R;
-ring 1 | 64 |  | usage: pool record|run|why P L S, pool print|code P, pool ring K, pool convert R;
-ring 1001 | 64 |  | usage: pool record|run|why P L S, pool print|code P, pool ring K, pool convert R;
-ring two | 64 |  | usage: pool record|run|why P L S, pool print|code P, pool ring K, pool convert R;
-ring 2 2 | 64 |  | usage: pool record|run|why P L S, pool print|code P, pool ring K, pool convert R;
+why P L | 64 |  | usage: pool record|run|why P L S, pool print|code P, pool ring K, pool convert R, pool check P R;
+why P L -S | 64 |  | usage: pool record|run|why P L S, pool print|code P, pool ring K, pool convert R, pool check P R;
+ring | 64 |  | usage: pool record|run|why P L S, pool print|code P, pool ring K, pool convert R, pool check P R;
+ring 1 | 64 |  | usage: pool record|run|why P L S, pool print|code P, pool ring K, pool convert R, pool check P R;
+ring 1001 | 64 |  | usage: pool record|run|why P L S, pool print|code P, pool ring K, pool convert R, pool check P R;
+ring two | 64 |  | usage: pool record|run|why P L S, pool print|code P, pool ring K, pool convert R, pool check P R;
+ring 2 2 | 64 |  | usage: pool record|run|why P L S, pool print|code P, pool ring K, pool convert R, pool check P R;
 print S | 2 |  | pool: program: Unexpected at token 0;";
 
 /// A text with `;` for each line feed.

@@ -445,6 +445,11 @@ class A method m() : Int begin result (007) end body end | class A~method m ( ) 
 class A method m() : A begin result (-x) ! m() end body end | class A~method m ( ) : A begin result ( - x ) ! m ( ) end~body end
 class A method m(p : Int, q : B) : Bool local r, s : Int local t : B begin r := (p); s := 1 result ((r == s) == (t)) end body end | class A~method m ( p : Int , q : B ) : Bool local r : Int local s : Int local t : B begin r := p ;~s := 1 result ( r == s ) == t end~body end
 class A method m() begin end method n() begin if a then else fi end body m(); n() end | class A~method m ( ) begin end~method n ( ) begin if a then fi end~body m ( ) ;~n ( ) end
+-- Post statements: they stand behind the result, and an empty list of them is left out.
+class A method m():Int begin result 1 post write 2 end body end | class A~method m ( ) : Int begin result 1 post write 2 end~body end
+class A method m() begin post write 1; write (2) end body end | class A~method m ( ) begin post write 1 ;~write 2 end~body end
+class A method m() begin write 1 post m() end body end | class A~method m ( ) begin write 1 post m ( ) end~body end
+class A method m() begin post end method n() : Bool begin result (true) post end body end | class A~method m ( ) begin end~method n ( ) : Bool begin result true end~body end
 -- More than one class.
 class A body end class B body end | class A~body end~class B~body end
 class A var x : B method m() begin end body x := new B end class B body end class C var y, z : A body (y) !! m(); write 1 end | class A~var x : B~method m ( ) begin end~body x := new B end~class B~body end~class C~var y : A~var z : A~body y !! m ( ) ;~write 1 end

@@ -16,7 +16,7 @@ fn id_of(names: &Names, text: &str) -> NameId {
     }
 }
 
-fn number(word: &str) -> Option<u32> {
+pub fn number(word: &str) -> Option<u32> {
     word.parse().ok()
 }
 
@@ -24,7 +24,7 @@ fn integer(word: &str) -> Option<i64> {
     word.parse().ok()
 }
 
-fn value(word: &str) -> Option<Value> {
+pub fn value(word: &str) -> Option<Value> {
     match word {
         "nil" => Some(Value::Nil),
         "true" => Some(Value::Bool(true)),
@@ -139,7 +139,7 @@ fn label_of_message(kind: &str, object: u32, message: (u32, NameId, Args)) -> Op
     }
 }
 
-fn label_of(names: &Names, words: &[&str]) -> Option<Label> {
+pub fn label_of(names: &Names, words: &[&str]) -> Option<Label> {
     match words {
         [kind, object, rest @ ..] => label(names, kind, number(object)?, rest),
         _ => None,
@@ -181,12 +181,12 @@ fn redex(names: &Names, kind: &str, words: &[&str]) -> Option<Redex> {
     }
 }
 
-fn redex_of(names: &Names, words: &[&str]) -> Option<Redex> {
+pub fn redex_of(names: &Names, words: &[&str]) -> Option<Redex> {
     let (kind, rest) = words.split_first()?;
     redex(names, kind, rest)
 }
 
-fn words_of(alloc: Global, text: &str) -> Result<Vec<&str>, AllocError> {
+pub fn words_of(alloc: Global, text: &str) -> Result<Vec<&str>, AllocError> {
     let mut words = Vec::new(alloc);
     for word in text.split(' ') {
         words.push(word)?;
@@ -195,7 +195,7 @@ fn words_of(alloc: Global, text: &str) -> Result<Vec<&str>, AllocError> {
 }
 
 /// How often a label is made: as often as the word behind the object of `local` says, else once.
-fn times_of(words: &[&str]) -> Option<u32> {
+pub fn times_of(words: &[&str]) -> Option<u32> {
     match words {
         [kind, _, times] if *kind == "local" => number(times),
         _ => Some(1),
