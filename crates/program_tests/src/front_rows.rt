@@ -45,15 +45,18 @@ class A method m ( ) local p , q : | KIND
 class A method m ( ) local p , q : Int | local begin
 class A method m ( ) local p : B local | NAME
 class A method m ( ) : Int local p : B | local begin
-class A method m ( ) begin | STATEMENT end
-class A method m ( ) begin m ( ) | ! !! ; end
+class A method m ( ) begin | STATEMENT post end
+class A method m ( ) begin m ( ) | ! !! ; post end
+class A method m ( ) begin post | STATEMENT end
+class A method m ( ) begin post m ( ) | ! !! ; end
 class A method m ( ) begin end | method body
 class A method m ( ) begin end method | NAME
 class A method m ( ) : Int begin | STATEMENT result
 class A method m ( ) : Int begin m ( ) | ! !! ; result
 class A method m ( ) : Int begin m ( ) ; | STATEMENT
 class A method m ( ) : Int begin result | EXPRESSION
-class A method m ( ) : Int begin result 1 | OPERATOR end
+class A method m ( ) : Int begin result 1 | OPERATOR post end
+class A method m ( ) : Int begin result 1 post | STATEMENT end
 class A method m ( ) : Int begin result 1 end | method body
 class A var x : Int method m ( ) begin end | method body
 -- statements
