@@ -1,7 +1,7 @@
 -- Bytes that are gathered in front of a sink.
 use Rattle.pool_outside.specs.Outside.{IsProperFront}
 use Rattle.pool_outside.specs.Gathered.{gathered, HasGrown}
-use Rattle.std.proofs.Common.{◌≡◌, ℕ, ◌+◌, ◌-◌, ◌<◌, ◌≤◌, List, ◌++◌, length, take, drop, Option, None, Some, option_map, ap, sym, ◌∙◌, append_assoc, arith, zero-add, length-drop, length-take, length-append, refl, rules}
+use Rattle.std.proofs.Common.{◌≡◌, ℕ, ◌+◌, ◌-◌, ◌≤◌, List, ◌++◌, length, take, drop, Option, None, Some, option_map, ap, sym, ◌∙◌, append_assoc, arith, zero-add, length-drop, length-take, length-append, refl, rules}
 use Rattle.std.proofs.lemmas.List.{drop-take, take-append-drop, take-take}
 use Rattle.std.proofs.lemmas.List.Edits.{take-paste}
 use Rattle.std.proofs.Math.Seq.{paste, take-append_seam, take-append-add, take-length}

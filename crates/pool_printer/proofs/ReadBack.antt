@@ -1,9 +1,7 @@
 -- The canonical text is read back as the program's tokens.
-use Rattle.std.proofs.Common.{◌≡◌, refl, sym, ap, subst, ◌∙◌, ℕ, suc, ◌+◌, Bool, true, false, ◌||◌, map, List, [], ◌∷◌, ◌++◌, length, slice_get, bytes_eq, Some, None, append_assoc, if◌then◌else◌, codes, arith}
+use Rattle.std.proofs.Common.{◌≡◌, refl, sym, ap, subst, ◌∙◌, ℕ, ◌+◌, Bool, true, false, ◌||◌, map, List, [], ◌∷◌, ◌++◌, length, Some, None, append_assoc, if◌then◌else◌, codes, arith}
 use Rattle.std.specs.List.{AllByRecursion, prefix_len}
 use Rattle.std.proofs.lemmas.List.{take_at, drop_at}
-use Rattle.std.proofs.lemmas.Slice.Eq.{bytes_eq-Decides}
-use Rattle.pool_syntax.specs.Table.{is_among, name_of}
 use Rattle.pool_syntax.specs.Tokens.{Text, longest, is_space, piece_fault, IsPieces, IsFaultless, texts_after, token_of, tokens_from}
 use Rattle.pool_syntax.specs.Spelled.{is_spelled}
 use Rattle.pool_syntax.specs.Terms.{ProgramTree}

@@ -1,11 +1,10 @@
 -- What the canonical text of a program is read back as: the program's tokens, with the same texts.
-use Rattle.std.specs.Prelude.{◌≡◌, ℕ, List, [], ◌∷◌, ◌++◌, map, Bool, true, ◌&&◌, pos, negsuc, nat_le}
+use Rattle.std.specs.Prelude.{◌≡◌, ℕ, List, [], ◌∷◌, ◌++◌, map}
 use Rattle.std.specs.List.{AllByRecursion}
 use Rattle.pool_syntax.specs.Table.{name_of}
 use Rattle.pool_syntax.specs.Tokens.{Text, HasTokens}
 use Rattle.pool_syntax.specs.Terms.{ProgramTree}
-use Rattle.pool_syntax.specs.declared.token.Tok.{Tok}
-use Rattle.pool_syntax.specs.declared.token.Tok.TheVariants.{Word, Name, Int, Str, Sign, End}
+use Rattle.pool_syntax.specs.declared.token.Tok.TheVariants.{End}
 use Rattle.pool_syntax.specs.declared.token.Token.{Token}
 use Rattle.pool_printer.specs.Canonical.{canonical, program_tokens}
 use Rattle.pool_printer.specs.Renumbered.{token_by}

@@ -1,4 +1,4 @@
-use Rattle.std.proofs.Common.{◌≡◌, ◌<◌, ◌≤◌, List, [], refl, sym, ap, ap₂, ◌*◌, subst, ◌∙◌, length, arith}
+use Rattle.std.proofs.Common.{◌≡◌, ◌<◌, List, [], refl, sym, ap, ap₂, ◌*◌, subst, ◌∙◌, length, arith}
 use Rattle.pool_syntax.specs.declared.words.Place.{Place}
 use Rattle.mesh_semantics.specs.Record.{last_place, root_node}
 use Rattle.node_semantics.specs.Node.{NodeState}
