@@ -1,7 +1,6 @@
 //! The verifier of object code files, and the file of a program.
 #![tactic(auto)]
 
-mod program_file;
 mod verified;
 mod verifier;
 

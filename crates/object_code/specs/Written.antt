@@ -1,5 +1,5 @@
 -- What a sink was given, as long as no write failed and after one did.
-use Rattle.std.specs.Prelude.{◌≡◌, ℕ, ◌≤◌, ◌++◌, length, take, Bool, true, false, Option, option_map}
+use Rattle.std.specs.Prelude.{◌≡◌, ℕ, ◌≤◌, ◌++◌, Bool, true, false, Option, option_map}
 use Rattle.pool_outside.specs.Outside.{Rose, IsProperFront}
 use Rattle.pool_syntax.specs.Tokens.{Text}
 

@@ -1,8 +1,7 @@
-//! The file of a program.
+//! The object code file of a program: its code, and the kinds that it declares.
 ghost use Rattle.std.specs.Prelude.{◌≡◌, ◌++◌, map, IfOk, OnOk};
 ghost use Rattle.pool_syntax.specs.TreeOf.{class_tree, method_tree, program_of};
-ghost use Rattle.object_code.specs.Shaped.{IsShaped};
-ghost use Rattle.pool_compile.specs.Small.{AreShort};
+ghost use Rattle.object_code.specs.Shaped.{IsListOf, IsShaped, IsShort, IsShortList};
 ghost use Rattle.verified_code.specs.DeclaredKinds.{class_kinds, file_of, kinds_of, method_kinds};
 ghost use Rattle.code_verdict.specs.Verdict.{Good, verdict};
 
@@ -67,12 +66,13 @@ fn kinds_of(alloc: Global, classes: &[ClassDecl]) -> Result<List<ClassKinds>, Al
     Ok(list)
 }
 
-/// The code of a program, with the kinds that it declares and a copy of its names. The verdict on it is good, so `verify`
-/// refuses it for memory alone.
+/// The code of a program, with a copy of its names and the kinds that it declares. The verdict on it is good, so its verifier
+/// refuses it for memory alone. Time and memory are in proportion to the program.
 pub fn file_of(alloc: Global, program: &Checked<'_>) -> Result<UnitFile, AllocError>
     ensures file { IfOk result (λ f. f ≡ file_of program.now.names.now (program_of program.now.program.now)) }
     ensures shaped { IfOk result (λ f. IsShaped f) }
-    ensures short { IfOk result (λ f. AreShort f.unit.classes) }
+    // It can be written where its table of names and each name of it have fewer than 2^32 items.
+    ensures short { IsListOf IsShortList program.now.names.now → IfOk result (λ f. IsShort f) }
     ensures good { IfOk result (λ f. verdict f ≡ Good) }
 {
     let Ok(unit) = compile(alloc, program) else {
