@@ -5,5 +5,7 @@ pub mod SidesKept
 pub mod WiresMemory
 pub mod Carried
 pub mod Wanting
+mod Fronts
+mod Rings
 mod Rows
 pub mod Laws

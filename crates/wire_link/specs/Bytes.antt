@@ -1,6 +1,7 @@
 -- The bytes of frames, and the frame that bytes are of, if they are of one. Numbers have four bytes, the high byte first.
 use Rattle.std.specs.Prelude.{◌≡◌, ℕ, suc, zero, ◌^◌, ◌<◌, ◌≤◌, ◌==◌, List, [], ◌∷◌, ◌++◌, length, Option, Some, None, true, false, if◌then◌else◌, nat_le}
 use Rattle.std.specs.Int.{w32, w64, to_be_bytes, from_be_bytes, cast_unsigned, cast_signed}
+use Rattle.arrayvec.specs.ArrayVec.{ArrayVec}
 use Rattle.pool_syntax.specs.declared.words.Value.{Value}
 use Rattle.pool_syntax.specs.declared.words.Value.TheVariants as V
 use Rattle.mesh_semantics.specs.Partial.{◌>>=◌}
@@ -43,6 +44,10 @@ packet_bytes (P.Async from to method args) = 5 ∷ (number_bytes from ++ (number
 abbrev pub encoding : Frame → List ℕ
 encoding (F.Data number packet) = 1 ∷ (number_bytes number ++ packet_bytes packet)
 encoding (F.Ack number) = 2 ∷ number_bytes number
+
+-- the bytes of a frame as they are kept
+abbrev pub bytes_of : Frame → ArrayVec ℕ
+bytes_of f = record { items = encoding f }
 
 -- what is read: something, and the bytes behind it
 
@@ -141,6 +146,13 @@ all_read x (b ∷ bs) = None
 -- the frame of which these are the bytes, if they are of one
 abbrev pub decoded : List ℕ → Option Frame
 decoded bs = read_frame bs >>= λ r. all_read r.0 r.1
+
+-- the frame of data with a number and the packet that was read, where no byte is left
+abbrev pub with_number : ℕ → Read Packet → Read Frame
+with_number number o = o >>= λ s. Some (F.Data number s.0, s.1)
+
+abbrev pub data_frame : ℕ → Read Packet → Option Frame
+data_frame number o = with_number number o >>= λ r. all_read r.0 r.1
 
 -- what has an encoding: numbers of 32 bits, integers of 64, and at most eight values
 

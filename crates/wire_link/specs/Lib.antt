@@ -1,2 +1,3 @@
 pub mod Bytes
+pub mod Rings
 pub mod Wires

@@ -3,6 +3,7 @@
 
 mod frame;
 mod reading;
+mod ring;
 mod sides;
 pub mod theorems;
 mod wire;

@@ -1,6 +1,6 @@
 //! The frame that bytes are of.
-ghost use Rattle.std.specs.Prelude.{◌≡◌, option_map};
-ghost use Rattle.wire_link.specs.Bytes.{decoded, read_args, read_async, read_byte, read_create, read_created, read_frame, read_integer, read_number, read_packet, read_request, read_result, read_truth, read_value};
+ghost use Rattle.std.specs.Prelude.{◌≡◌, [], option_map};
+ghost use Rattle.wire_link.specs.Bytes.{data_frame, decoded, read_args, read_async, read_byte, read_create, read_created, read_integer, read_number, read_packet, read_request, read_result, read_truth, read_value};
 
 use crate::frame::{Frame, FrameBytes};
 use pool_syntax::{Args, NameId, Value};
@@ -63,139 +63,149 @@ fn value(bytes: &[u8]) -> Option<(Value, &[u8])>
     }
 }
 
-fn args(bytes: &[u8]) -> Option<(Args, &[u8])>
-    ensures { option_map (λ r. (r.0, r.1.now)) result ≡ read_args bytes.now }
+/// Reads values into what has none.
+fn args<'a>(bytes: &'a [u8], args: &mut Args) -> Option<&'a [u8]>
+    requires { args.old ≡ [] }
+    ensures { option_map (λ r. (args.new, r.now)) result ≡ read_args bytes.now }
 {
     let (count, rest) = byte(bytes)?;
     if count > 8 {
         return None;
     }
-    let mut args = Args::make();
     let mut left = rest;
     for _ in 0..count {
         let (value, rest) = value(left)?;
         args.add(value);
         left = rest;
     }
-    Some((args, left))
+    Some(left)
 }
 
-fn create(bytes: &[u8]) -> Option<(Packet, &[u8])>
-    ensures { option_map (λ r. (r.0, r.1.now)) result ≡ read_create bytes.now }
+/// The frame with the packet that asks for an object.
+#[inline(never)]
+fn create(place: u32, bytes: &[u8]) -> Option<Frame>
+    ensures { result ≡ data_frame place (read_create bytes.now) }
 {
     let (request, rest) = number(bytes)?;
     let (from, rest) = number(rest)?;
     let (node, rest) = number(rest)?;
     let (class, rest) = number(rest)?;
-    let packet = Packet::Create {
-        number: request,
-        from,
-        node,
-        class: NameId(class),
-    };
-    Some((packet, rest))
+    if !rest.is_empty() {
+        return None;
+    }
+    Some(Frame::Data {
+        number: place,
+        packet: Packet::Create {
+            number: request,
+            from,
+            node,
+            class: NameId(class),
+        },
+    })
 }
 
-fn created(bytes: &[u8]) -> Option<(Packet, &[u8])>
-    ensures { option_map (λ r. (r.0, r.1.now)) result ≡ read_created bytes.now }
+/// The frame with the packet that tells of a new object.
+#[inline(never)]
+fn created(place: u32, bytes: &[u8]) -> Option<Frame>
+    ensures { result ≡ data_frame place (read_created bytes.now) }
 {
     let (request, rest) = number(bytes)?;
     let (to, rest) = number(rest)?;
     let (name, rest) = number(rest)?;
-    let packet = Packet::Created {
-        number: request,
-        to,
-        name,
-    };
-    Some((packet, rest))
+    if !rest.is_empty() {
+        return None;
+    }
+    Some(Frame::Data {
+        number: place,
+        packet: Packet::Created {
+            number: request,
+            to,
+            name,
+        },
+    })
 }
 
-fn request(bytes: &[u8]) -> Option<(Packet, &[u8])>
-    ensures { option_map (λ r. (r.0, r.1.now)) result ≡ read_request bytes.now }
+/// The frame with a call.
+#[inline(never)]
+fn request(place: u32, bytes: &[u8]) -> Option<Frame>
+    ensures { result ≡ data_frame place (read_request bytes.now) }
 {
     let (request, rest) = number(bytes)?;
     let (from, rest) = number(rest)?;
     let (to, rest) = number(rest)?;
     let (method, rest) = number(rest)?;
-    match args(rest) {
-        Some((args, rest)) => {
-            let packet = Packet::Request {
+    let mut values = Args::make();
+    match args(rest, &mut values) {
+        Some([]) => Some(Frame::Data {
+            number: place,
+            packet: Packet::Request {
                 number: request,
                 from,
                 to,
                 method: NameId(method),
-                args,
-            };
-            Some((packet, rest))
-        }
-        None => None,
-    }
-}
-
-fn outcome(bytes: &[u8]) -> Option<(Packet, &[u8])>
-    ensures { option_map (λ r. (r.0, r.1.now)) result ≡ read_result bytes.now }
-{
-    let (request, rest) = number(bytes)?;
-    let (to, rest) = number(rest)?;
-    let (value, rest) = value(rest)?;
-    let packet = Packet::Result {
-        number: request,
-        to,
-        value,
-    };
-    Some((packet, rest))
-}
-
-fn message(bytes: &[u8]) -> Option<(Packet, &[u8])>
-    ensures { option_map (λ r. (r.0, r.1.now)) result ≡ read_async bytes.now }
-{
-    let (from, rest) = number(bytes)?;
-    let (to, rest) = number(rest)?;
-    let (method, rest) = number(rest)?;
-    match args(rest) {
-        Some((args, rest)) => {
-            let packet = Packet::Async {
-                from,
-                to,
-                method: NameId(method),
-                args,
-            };
-            Some((packet, rest))
-        }
-        None => None,
-    }
-}
-
-fn packet(bytes: &[u8]) -> Option<(Packet, &[u8])>
-    ensures { option_map (λ r. (r.0, r.1.now)) result ≡ read_packet bytes.now }
-{
-    let (kind, rest) = byte(bytes)?;
-    match kind {
-        1 => create(rest),
-        2 => created(rest),
-        3 => request(rest),
-        4 => outcome(rest),
-        5 => message(rest),
+                args: values,
+            },
+        }),
         _ => None,
     }
 }
 
-fn frame(bytes: &[u8]) -> Option<(Frame, &[u8])>
-    ensures { option_map (λ r. (r.0, r.1.now)) result ≡ read_frame bytes.now }
+/// The frame with the value of a call.
+#[inline(never)]
+fn outcome(place: u32, bytes: &[u8]) -> Option<Frame>
+    ensures { result ≡ data_frame place (read_result bytes.now) }
+{
+    let (request, rest) = number(bytes)?;
+    let (to, rest) = number(rest)?;
+    let (value, rest) = value(rest)?;
+    if !rest.is_empty() {
+        return None;
+    }
+    Some(Frame::Data {
+        number: place,
+        packet: Packet::Result {
+            number: request,
+            to,
+            value,
+        },
+    })
+}
+
+/// The frame with an asynchronous message.
+#[inline(never)]
+fn message(place: u32, bytes: &[u8]) -> Option<Frame>
+    ensures { result ≡ data_frame place (read_async bytes.now) }
+{
+    let (from, rest) = number(bytes)?;
+    let (to, rest) = number(rest)?;
+    let (method, rest) = number(rest)?;
+    let mut values = Args::make();
+    let rest = args(rest, &mut values)?;
+    if !rest.is_empty() {
+        return None;
+    }
+    Some(Frame::Data {
+        number: place,
+        packet: Packet::Async {
+            from,
+            to,
+            method: NameId(method),
+            args: values,
+        },
+    })
+}
+
+/// The frame of data with a number, and the packet that bytes are of.
+fn data(place: u32, bytes: &[u8]) -> Option<Frame>
+    ensures { result ≡ data_frame place (read_packet bytes.now) }
 {
     let (kind, rest) = byte(bytes)?;
     match kind {
-        1 => {
-            let (number, rest) = number(rest)?;
-            match packet(rest) {
-                Some((packet, rest)) => Some((Frame::Data { number, packet }, rest)),
-                None => None,
-            }
-        }
-        2 => {
-            let (number, rest) = number(rest)?;
-            Some((Frame::Ack { number }, rest))
-        }
+        1 => create(place, rest),
+        2 => created(place, rest),
+        3 => request(place, rest),
+        4 => outcome(place, rest),
+        5 => message(place, rest),
         _ => None,
     }
 }
@@ -204,8 +214,20 @@ fn frame(bytes: &[u8]) -> Option<(Frame, &[u8])>
 pub fn decode(bytes: &FrameBytes) -> Option<Frame>
     ensures { result ≡ decoded bytes.now.items }
 {
-    match frame(bytes.as_slice()) {
-        Some((frame, rest)) => { if rest.is_empty() { Some(frame) } else { None } }
-        None => None,
+    let (kind, rest) = byte(bytes.as_slice())?;
+    match kind {
+        1 => {
+            let (place, rest) = number(rest)?;
+            data(place, rest)
+        }
+        2 => {
+            let (number, rest) = number(rest)?;
+            if rest.is_empty() {
+                Some(Frame::Ack { number })
+            } else {
+                None
+            }
+        }
+        _ => None,
     }
 }

@@ -3,29 +3,25 @@ ghost use Rattle.std.specs.Prelude.{◌≡◌, length, nat_lt};
 ghost use Rattle.mesh_semantics.specs.Tables.{Each};
 ghost use Rattle.mesh_semantics.specs.Act.{first_of};
 ghost use Rattle.mesh_semantics.specs.Wire.{capacity, push_within};
-ghost use Rattle.wire_link.specs.Wires.{IsAck, IsData, TakesAck, TakesData, acks_in, frames_in};
+ghost use Rattle.wire_link.specs.Wires.{IsAck, IsData, TakesAck, TakesData, ack_in, acks_in, data_in, frames_in};
 
-use crate::frame::{Frame, FrameBytes};
+use crate::frame::Frame;
 use crate::reading::decode;
-use crate::writing::encode;
-use arrayvec::ArrayVec;
+use crate::ring::{Frames, write_ack, write_data};
 use rendezvous_protocol::Packet;
-
-/// The frames under way on one side.
-pub type Frames = ArrayVec<FrameBytes, 16>;
 
 /// Takes the first frame of data off its side.
 pub fn take_data(frames: &mut Frames) -> Option<(u32, Packet)>
     requires { Each IsData frames.old.items }
     ensures { TakesData frames.old.items frames.new.items result }
 {
-    if frames.is_empty() {
-        return None;
-    }
-    let first = frames.remove(0);
-    match decode(&first) {
-        Some(Frame::Data { number, packet }) => Some((number, packet)),
-        _ => None,
+    match frames.get(0) {
+        None => None,
+        Some(first) => {
+            let frame = decode(first);
+            frames.skip(1);
+            data_of(frame)
+        }
     }
 }
 
@@ -34,13 +30,13 @@ pub fn take_ack(acks: &mut Frames) -> Option<u32>
     requires { Each IsAck acks.old.items }
     ensures { TakesAck acks.old.items acks.new.items result }
 {
-    if acks.is_empty() {
-        return None;
-    }
-    let first = acks.remove(0);
-    match decode(&first) {
-        Some(Frame::Ack { number }) => Some(number),
-        _ => None,
+    match acks.get(0) {
+        None => None,
+        Some(first) => {
+            let frame = decode(first);
+            acks.skip(1);
+            ack_of(frame)
+        }
     }
 }
 
@@ -49,12 +45,9 @@ pub fn first_data(frames: &Frames) -> Option<(u32, Packet)>
     requires { Each IsData frames.now.items }
     ensures { result ≡ first_of (frames_in frames.now.items) }
 {
-    match frames.as_slice() {
-        [] => None,
-        [first, ..] => match decode(first) {
-            Some(Frame::Data { number, packet }) => Some((number, packet)),
-            _ => None,
-        },
+    match frames.get(0) {
+        None => None,
+        Some(first) => data_of(decode(first)),
     }
 }
 
@@ -63,26 +56,23 @@ pub fn first_ack(acks: &Frames) -> Option<u32>
     requires { Each IsAck acks.now.items }
     ensures { result ≡ first_of (acks_in acks.now.items) }
 {
-    match acks.as_slice() {
-        [] => None,
-        [first, ..] => match decode(first) {
-            Some(Frame::Ack { number }) => Some(number),
-            _ => None,
-        },
+    match acks.get(0) {
+        None => None,
+        Some(first) => ack_of(decode(first)),
     }
 }
 
 /// Puts a frame of data last, unless the side is full, and says whether it did.
-pub fn put_data(frames: &mut Frames, number: u32, packet: Packet) -> bool
+pub fn put_data(frames: &mut Frames, number: u32, packet: &Packet) -> bool
     requires { Each IsData frames.old.items }
-    ensures frames { frames_in frames.new.items ≡ push_within (number, packet) (frames_in frames.old.items) }
+    ensures frames { frames_in frames.new.items ≡ push_within (number, packet.now) (frames_in frames.old.items) }
     ensures kept { Each IsData frames.new.items }
     ensures put { result ≡ nat_lt (length (frames_in frames.old.items)) capacity }
 {
     if frames.is_full() {
         return false;
     }
-    frames.push(encode(&Frame::Data { number, packet }));
+    write_data(frames, number, packet);
     true
 }
 
@@ -96,6 +86,26 @@ pub fn put_ack(acks: &mut Frames, number: u32) -> bool
     if acks.is_full() {
         return false;
     }
-    acks.push(encode(&Frame::Ack { number }));
+    write_ack(acks, number);
     true
+}
+
+/// What a frame of data has.
+fn data_of(frame: Option<Frame>) -> Option<(u32, Packet)>
+    ensures { result ≡ first_of (data_in frame) }
+{
+    match frame {
+        Some(Frame::Data { number, packet }) => Some((number, packet)),
+        _ => None,
+    }
+}
+
+/// What an acknowledgement has.
+fn ack_of(frame: Option<Frame>) -> Option<u32>
+    ensures { result ≡ first_of (ack_in frame) }
+{
+    match frame {
+        Some(Frame::Ack { number }) => Some(number),
+        _ => None,
+    }
 }

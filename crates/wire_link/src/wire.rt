@@ -10,8 +10,8 @@ ghost use Rattle.wire_link.specs.Wires.{IsData, IsWanted, arrived_of, data_in, f
 
 use crate::frame::{Frame, FrameBytes};
 use crate::reading::decode;
-use crate::sides::{Frames, first_ack, first_data, put_ack, put_data, take_ack, take_data};
-use arrayvec::ArrayVec;
+use crate::ring::{Frames, Ring};
+use crate::sides::{first_ack, first_data, put_ack, put_data, take_ack, take_data};
 use rendezvous_protocol::Packet;
 use std::marker::Model;
 
@@ -48,7 +48,7 @@ pub struct Wire {
     acked: u32,
     next: u32,
     sent: u32,
-    copies: ArrayVec<Packet, 8>,
+    copies: Ring<Packet, 8>,
     frames: Frames,
     acks: Frames,
 }
@@ -76,9 +76,9 @@ impl Wire {
             acked: 0,
             next: 0,
             sent: 0,
-            copies: ArrayVec::new(),
-            frames: ArrayVec::new(),
-            acks: ArrayVec::new(),
+            copies: Ring::make(),
+            frames: Ring::make(),
+            acks: Ring::make(),
         }
     }
 
@@ -123,9 +123,9 @@ impl Wire {
     pub fn peek(&self) -> Arrived
         ensures { result ≡ arrived_of (kept_coming self.now) }
     {
-        match self.frames.as_slice() {
-            [] => Arrived::Empty,
-            [first, ..] => coming(decode(first), self.handed),
+        match self.frames.get(0) {
+            None => Arrived::Empty,
+            Some(first) => coming(decode(first), self.handed),
         }
     }
 
@@ -140,11 +140,8 @@ impl Wire {
         self.next = number + 1;
         self.sent = later(self.sent, number + 1);
         let place = number - self.acked;
-        match self.copies.as_slice().get(place as usize) {
-            Some(packet) => {
-                let packet = *packet;
-                launch(&mut self.frames, number, packet)
-            }
+        match self.copies.get(place as usize) {
+            Some(packet) => launch(&mut self.frames, number, packet),
             None => Sent::Lost,
         }
     }
@@ -207,7 +204,7 @@ impl Wire {
         match side {
             Side::Data => match first_data(&self.frames) {
                 Some((number, packet)) => {
-                    if put_data(&mut self.frames, number, packet) {
+                    if put_data(&mut self.frames, number, &packet) {
                         Some(number)
                     } else {
                         None
@@ -234,8 +231,14 @@ impl Wire {
         ensures read { option_map (λ b. decoded b.now.items) result ≡ option_map Some (front_of side self.now) }
     {
         match side {
-            Side::Data => self.frames.as_slice().first(),
-            Side::Ack => self.acks.as_slice().first(),
+            Side::Data => match self.frames.get(0) {
+                None => None,
+                Some(first) => Some(first),
+            },
+            Side::Ack => match self.acks.get(0) {
+                None => None,
+                Some(first) => Some(first),
+            },
         }
     }
 
@@ -247,7 +250,7 @@ impl Wire {
         match side {
             Side::Data => match take_data(&mut self.frames) {
                 Some((number, packet)) => {
-                    put_data(&mut self.frames, number, packet);
+                    put_data(&mut self.frames, number, &packet);
                     Some(number)
                 }
                 None => None,
@@ -271,9 +274,9 @@ fn later(a: u32, b: u32) -> u32
 }
 
 /// Puts a frame of data on its side; where that is full it is lost.
-fn launch(frames: &mut Frames, number: u32, packet: Packet) -> Sent
+fn launch(frames: &mut Frames, number: u32, packet: &Packet) -> Sent
     requires { Each IsData frames.old.items }
-    ensures frames { frames_in frames.new.items ≡ push_within (number, packet) (frames_in frames.old.items) }
+    ensures frames { frames_in frames.new.items ≡ push_within (number, packet.now) (frames_in frames.old.items) }
     ensures kept { Each IsData frames.new.items }
     ensures told { told_of number result ≡ (if nat_lt (length (frames_in frames.old.items)) capacity then W.Frame number else W.Lost number) }
 {
@@ -285,7 +288,7 @@ fn launch(frames: &mut Frames, number: u32, packet: Packet) -> Sent
 }
 
 /// Keeps one copy more, if there is one.
-fn keep(copies: &mut ArrayVec<Packet, 8>, fresh: Option<Packet>)
+fn keep(copies: &mut Ring<Packet, 8>, fresh: Option<Packet>)
     requires { (p : AnyPacket) → fresh ≡ Some p → length copies.old.items < 8 }
     ensures { copies.new.items ≡ with_fresh fresh copies.old.items }
 {
@@ -295,13 +298,11 @@ fn keep(copies: &mut ArrayVec<Packet, 8>, fresh: Option<Packet>)
 }
 
 /// Drops the first so many copies.
-fn forget(copies: &mut ArrayVec<Packet, 8>, count: u32)
+fn forget(copies: &mut Ring<Packet, 8>, count: u32)
     requires { count ≤ length copies.old.items }
     ensures { copies.new.items ≡ drop count copies.old.items }
 {
-    for _ in 0..count {
-        copies.remove(0);
-    }
+    copies.skip(count as usize);
 }
 
 /// What a frame is where so many packets were handed out.

@@ -1,7 +1,8 @@
 //! The bytes of a frame.
-ghost use Rattle.std.specs.Prelude.{◌≡◌, ◌+◌, ◌≤◌, ◌++◌, length};
+ghost use Rattle.std.specs.Prelude.{◌≡◌, ◌+◌, ◌≤◌, [], ◌++◌, length};
 ghost use Rattle.arrayvec.specs.ArrayVec.{array_vec_len};
 ghost use Rattle.wire_link.specs.Bytes.{ArgsFit, FrameFits, IsNumber, PacketFits, ValueFits, args_bytes, encoding, number_bytes, packet_bytes, value_bytes};
+ghost use Rattle.wire_link.specs.declared.frame.Frame.TheVariants as F;
 
 use crate::frame::{Frame, FrameBytes};
 use arrayvec::ArrayVec;
@@ -126,6 +127,27 @@ fn put_packet(bytes: &mut FrameBytes, packet: &Packet)
     }
 }
 
+/// Puts the bytes of a frame of data where no bytes are.
+pub fn put_data_frame(bytes: &mut FrameBytes, number: u32, packet: &Packet)
+    requires { bytes.old.items ≡ [] }
+    ensures items { bytes.new.items ≡ encoding (F.Data number packet.now) }
+    ensures fits { FrameFits (F.Data number packet.now) }
+{
+    bytes.push(1);
+    put_number(bytes, number);
+    put_packet(bytes, packet);
+}
+
+/// Puts the bytes of an acknowledgement where no bytes are.
+pub fn put_ack_frame(bytes: &mut FrameBytes, number: u32)
+    requires { bytes.old.items ≡ [] }
+    ensures items { bytes.new.items ≡ encoding (F.Ack number) }
+    ensures fits { FrameFits (F.Ack number) }
+{
+    bytes.push(2);
+    put_number(bytes, number);
+}
+
 /// The encoding of a frame; each frame has one.
 pub fn encode(frame: &Frame) -> FrameBytes
     ensures items { result.items ≡ encoding frame.now }
@@ -133,15 +155,8 @@ pub fn encode(frame: &Frame) -> FrameBytes
 {
     let mut bytes = ArrayVec::new();
     match frame {
-        Frame::Data { number, packet } => {
-            bytes.push(1);
-            put_number(&mut bytes, *number);
-            put_packet(&mut bytes, packet);
-        }
-        Frame::Ack { number } => {
-            bytes.push(2);
-            put_number(&mut bytes, *number);
-        }
+        Frame::Data { number, packet } => put_data_frame(&mut bytes, *number, packet),
+        Frame::Ack { number } => put_ack_frame(&mut bytes, *number),
     }
     bytes
 }
