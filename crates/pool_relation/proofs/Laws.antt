@@ -38,3 +38,5 @@ pub use Rattle.pool_relation.proofs.redex.RedexSearch.{passed, literal_is, not_v
 pub use Rattle.pool_relation.proofs.redex.Idle.{statements_idle}
 pub use Rattle.pool_relation.proofs.redex.Activities.{Ends, is_statement}
 pub use Rattle.pool_relation.proofs.redex.TermActivities.{statements_activities}
+-- objects and messages of a configuration after one was put
+pub use Rattle.pool_relation.proofs.Lookup.{Put, New, Old, put_cases, objects_in_order, PutMessages, NewMessages, OldMessages, put_messages_cases, messages_in_order}

@@ -1,0 +1,22 @@
+pub mod RenamedRedex
+pub mod RenamedFill
+pub mod RenamedAction
+pub mod RenamedTransition
+pub mod RenamedRun
+pub mod Arranged
+pub mod Complete
+pub mod Nameless
+pub mod Reduced
+pub mod NextName
+pub mod OneLabel
+pub mod Orders
+pub mod Aside
+pub mod Steps
+pub mod Settling
+pub mod SettledSearch
+pub mod KeptOnTheWay
+pub mod Faults
+pub mod Laws
+pub mod AllLabels
+pub mod Tried
+mod Rows

@@ -1,0 +1,171 @@
+-- Worked rows, computed: a program that is stuck, and one that has three configurations to keep and is never stuck or faulty.
+use Rattle.std.proofs.Common.{◌≡◌, inl, inr, refl, sym, ap, ◌∙◌, subst, ℕ, pos, List, [], ◌∷◌, ◌++◌, Option, Some, None}
+use Rattle.pool_syntax.specs.declared.words.Value.{Value}
+use Rattle.pool_syntax.specs.declared.words.Value.TheVariants as V
+use Rattle.pool_syntax.specs.declared.words.NameId.{NameId}
+use Rattle.pool_syntax.specs.declared.words.Item.TheVariants as I
+use Rattle.pool_syntax.specs.declared.words.Op.TheVariants as O
+use Rattle.pool_syntax.specs.declared.words.Label.{Label}
+use Rattle.pool_syntax.specs.declared.words.Label.TheVariants as L
+use Rattle.pool_syntax.specs.declared.tree.Kind.{Kind}
+use Rattle.pool_syntax.specs.declared.tree.Kind.TheVariants as K
+use Rattle.pool_syntax.specs.declared.tree.Named.{Named}
+use Rattle.pool_syntax.specs.declared.tree.Var.{Var}
+use Rattle.pool_syntax.specs.Terms.{Expression, Literal, Me, Variable, Create, Infix, Send, NoArgs, Arg, Assign, Write, Answer, Done, Then, MethodTree, ClassTree, ProgramTree}
+use Rattle.mesh_semantics.specs.Partial.{◌>>=◌}
+use Rattle.mesh_semantics.proofs.Laws.{same_some}
+use Rattle.pool_relation.specs.Configuration.{Configuration}
+use Rattle.pool_relation.specs.Transition.{transition, run, start}
+use Rattle.search_laws.specs.Search.{IsNameless, IsReached, IsStuck, IsFaulty, WaitsAt, IsIn, Settles, Settled}
+use Rattle.search_laws.specs.Labels.{labels_to_try, IsTried}
+use Rattle.search_laws.proofs.AllLabels.{at_end_by_trying}
+use Rattle.search_laws.proofs.Settling.{never_stuck_after_settling}
+use Rattle.search_laws.proofs.Tried.{settles_by, whole_by_trying, nobody_waits, nobody_faulty}
+use Rattle.search_laws.proofs.KeptOnTheWay.{never_faulty_after_settling}
+
+abbrev name : ℕ → NameId
+name n = record { 0 = n }
+
+abbrev named : ℕ → Named
+named n = record { name = name n; pos = 0 }
+
+abbrev var : ℕ → Kind → Var
+var n k = record { name = name n; kind = k; pos = 0; kind_pos = 0 }
+
+abbrev num : ℕ → Expression
+num n = Literal (V.Int (pos n)) 0
+
+abbrev read : ℕ → Expression
+read n = Variable n 0
+
+abbrev int : ℕ → Value
+int n = V.Int (pos n)
+
+-- where the labels lead from the start, or nothing
+abbrev nothing : Configuration
+nothing = record { objects = []; messages = [] }
+
+abbrev got : Option Configuration → Configuration
+got None = nothing
+got (Some c) = c
+
+abbrev reached : ProgramTree → List Label → Configuration
+reached p ls = got (start p 0 >>= λ c. run p c ls)
+
+-- Main 0, ask 1: an object that calls itself
+abbrev ask : MethodTree
+ask = record { name = named 1; params = []; locals = []; outcome = Some K.Int; outcome_pos = 0; body = Done; value = num 7; post = Done }
+
+abbrev itself : ProgramTree
+itself = record { name = named 0; vars = []; methods = ask ∷ []; body = Then (Write (Send (Me 0) 1 NoArgs 0)) Done } ∷ []
+
+calls_itself : labels_to_try itself 1 (reached itself (L.Local 0 ∷ [])) ≡ L.Answer 0 0 (name 1) [] ∷ []
+calls_itself = refl
+
+is_reached : IsReached itself (reached itself (L.Local 0 ∷ []))
+is_reached = record { root = 0; first = reached itself []; labels = L.Local 0 ∷ []; starts = refl; leads = refl }
+
+is_stuck : IsStuck itself (reached itself (L.Local 0 ∷ []))
+is_stuck = record {
+  at_end = at_end_by_trying itself (reached itself (L.Local 0 ∷ [])) 1 refl (refl, tt);
+  name = 0;
+  waits = record { object = _; there = refl; sound = refl; waits = refl };
+}
+
+-- Server 0, twice 1, n 2, Main 3, s 4: a call, and a post statement that writes 7 once the value is given
+abbrev twice : MethodTree
+twice = record {
+  name = named 1;
+  params = var 2 K.Int ∷ [];
+  locals = [];
+  outcome = Some K.Int;
+  outcome_pos = 0;
+  body = Done;
+  value = Infix O.Add (read 2) (read 2) 0;
+  post = Then (Write (num 7)) Done;
+}
+
+abbrev server : ClassTree
+server = record { name = named 0; vars = []; methods = twice ∷ []; body = Then (Answer (named 1 ∷ [])) Done }
+
+abbrev main : ClassTree
+main = record {
+  name = named 3;
+  vars = var 4 (K.Class (name 0)) ∷ [];
+  methods = [];
+  body = Then (Assign 4 0 (Create 0 0)) (Then (Write (Send (read 4) 1 (Arg (num 21) NoArgs) 0)) Done);
+}
+
+abbrev program : ProgramTree
+program = server ∷ main ∷ []
+
+abbrev creates : Label
+creates = L.New 0 1 (name 0)
+
+abbrev asks : List Label
+asks = L.Local 0 ∷ L.Local 0 ∷ []
+
+abbrev answers : Label
+answers = L.Answer 1 0 (name 1) (int 21 ∷ [])
+
+abbrev finishes : List Label
+finishes =
+    L.Local 1 ∷ L.Local 1 ∷ L.Local 1 ∷ L.Return 1 0 (int 42) ∷ L.Write 1 (I.Value (int 7)) ∷ L.Local 1 ∷ L.Write 0 (I.Value (int 42)) ∷ []
+
+-- what a search keeps: the start, before the call is answered, and the end
+abbrev first : Configuration
+first = reached program []
+
+abbrev second : Configuration
+second = reached program (creates ∷ asks)
+
+abbrev third : Configuration
+third = reached program (creates ∷ (asks ++ answers ∷ finishes))
+
+abbrev kept : List (ℕ × Configuration)
+kept = (1, first) ∷ (2, second) ∷ (2, third) ∷ []
+
+first_labels : labels_to_try program 1 first ≡ creates ∷ []
+first_labels = refl
+
+second_labels : labels_to_try program 2 second ≡ answers ∷ []
+second_labels = refl
+
+third_labels : labels_to_try program 2 third ≡ []
+third_labels = refl
+
+is_tried : IsTried program kept
+is_tried = record {
+  begins = λ c e. (first, subst (λ (x : Configuration). Settles program x first) (same_some e) Settled, inl (refl, refl));
+  tried = (
+    (refl, refl),
+    (inr (record { next = reached program (creates ∷ []); step = refl; to = second; settles = settles_by program _ second asks refl refl; is_in = inr (inl (refl, refl)) }), tt),
+    (
+      (refl, refl),
+      (inr (record { next = reached program (creates ∷ (asks ++ answers ∷ [])); step = refl; to = third; settles = settles_by program _ third finishes refl refl; is_in = inr (inr (inl (refl, refl))) }), tt),
+      ((refl, refl), tt, tt),
+    ),
+  );
+}
+
+none_stuck : (n : ℕ) (c : Configuration) → IsIn n c kept → ¬ (IsStuck program c)
+none_stuck n c (inl i) s = absurd (let z = ap (λ d. transition program d creates) i.1 ∙ s.at_end creates in cc)
+none_stuck n c (inr (inl i)) s = absurd (let z = ap (λ d. transition program d answers) i.1 ∙ s.at_end answers in cc)
+none_stuck n c (inr (inr (inl i))) s = nobody_waits program third s.name (refl, (refl, tt)) (subst (λ (d : Configuration). WaitsAt program d s.name) (sym i.1) s.waits)
+none_stuck n c (inr (inr (inr i))) s = absurd i
+
+none_faulty : (n : ℕ) (c : Configuration) → IsIn n c kept → ¬ (IsFaulty c)
+none_faulty n c (inl i) f = nobody_faulty first (refl, tt) (subst IsFaulty (sym i.1) f)
+none_faulty n c (inr (inl i)) f = nobody_faulty second (refl, (refl, tt)) (subst IsFaulty (sym i.1) f)
+none_faulty n c (inr (inr (inl i))) f = nobody_faulty third (refl, (refl, tt)) (subst IsFaulty (sym i.1) f)
+none_faulty n c (inr (inr (inr i))) f = absurd i
+
+nameless : IsNameless program
+nameless f = refl
+
+-- no run of the program leads to a stuck configuration, nor to a faulty one
+never_stuck : (d : Configuration) → IsReached program d → ¬ (IsStuck program d)
+never_stuck = never_stuck_after_settling program kept nameless (whole_by_trying program kept is_tried) none_stuck
+
+never_faulty : (d : Configuration) → IsReached program d → ¬ (IsFaulty d)
+never_faulty = never_faulty_after_settling program kept nameless (whole_by_trying program kept is_tried) none_faulty

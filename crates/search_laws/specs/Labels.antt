@@ -1,0 +1,75 @@
+-- The labels that a search has to try.
+use Rattle.std.specs.Prelude.{◌≡◌, ◌⊎◌, ℕ, suc, List, [], ◌∷◌, ◌++◌, Some, None}
+use Rattle.pool_syntax.specs.declared.words.Label.{Label}
+use Rattle.pool_syntax.specs.declared.words.Label.TheVariants as L
+use Rattle.pool_syntax.specs.Terms.{ProgramTree}
+use Rattle.mesh_semantics.specs.Message.{Message}
+use Rattle.mesh_semantics.specs.Tables.{Pair}
+use Rattle.pool_relation.specs.Reducible.{Choice}
+use Rattle.pool_relation.specs.Action as A
+use Rattle.pool_relation.specs.Action.{Object, Action, action}
+use Rattle.pool_relation.specs.Configuration.{Configuration}
+use Rattle.pool_relation.specs.Transition.{transition, start}
+use Rattle.search_laws.specs.Search.{after, IsIn, IsInOrder, Settles}
+
+-- a label is in a list
+abbrev pub IsAmong : Label → List Label → Type 0
+IsAmong l [] = ⊥
+IsAmong l (k ∷ ks) = (k ≡ l) ⊎ IsAmong l ks
+
+-- the alternatives from this number on
+abbrev pub picks : ℕ → ℕ → List Choice → List Label
+picks o i [] = []
+picks o i (c ∷ cs) = L.Pick o i ∷ picks o (suc i) cs
+
+-- what the object o can do at this action, and the call that it makes, where n is the next name
+abbrev pub own_labels : ℕ → ℕ → Action → List Label
+own_labels n o (A.Local term vars) = L.Local o ∷ []
+own_labels n o (A.Fault e) = L.Fault o e ∷ []
+own_labels n o (A.New k) = L.New o n (record { 0 = k }) ∷ []
+own_labels n o (A.Send b m args) = L.Answer b o (record { 0 = m }) args ∷ []
+own_labels n o (A.Async b m args) = L.Send o b (record { 0 = m }) args ∷ []
+own_labels n o (A.Write item) = L.Write o item ∷ []
+own_labels n o (A.Select choices) = picks o 1 choices
+own_labels n o (A.Return k v) = L.Return o k v ∷ []
+own_labels n o _ = []
+
+abbrev pub object_labels : ProgramTree → ℕ → List (ℕ × Object) → List Label
+object_labels p n [] = []
+object_labels p n (e ∷ es) = own_labels n e.0 (action p e.0 e.1) ++ object_labels p n es
+
+-- the messages of a pair, taken
+abbrev pub takes : Pair → List Message → List Label
+takes k [] = []
+takes k (m ∷ ms) = L.Take k.1 k.0 (record { 0 = m.method }) m.args ∷ takes k ms
+
+abbrev pub message_labels : List (Pair × List Message) → List Label
+message_labels [] = []
+message_labels (e ∷ es) = takes e.0 e.1 ++ message_labels es
+
+-- of each object the labels of its action, and each message taken
+abbrev pub labels_to_try : ProgramTree → ℕ → Configuration → List Label
+labels_to_try p n c = object_labels p n c.objects ++ message_labels c.messages
+
+-- where one of those leads: into the list, after some transitions that need no choice
+pub record LeadsInto (p : ProgramTree) (es : List (ℕ × Configuration)) (n : ℕ) (c : Configuration) (l : Label) : Type 0 where
+  pub next : Configuration
+  pub step : transition p c l ≡ Some next
+  pub to : Configuration
+  pub settles : Settles p next to
+  pub is_in : IsIn (after n l) to es
+
+-- each of these is not possible, or leads into the list
+abbrev pub AllLeadInto : ProgramTree → List (ℕ × Configuration) → ℕ → Configuration → List Label → Type 0
+AllLeadInto p es n c [] = Unit {0}
+AllLeadInto p es n c (l ∷ ls) = ((transition p c l ≡ None) ⊎ LeadsInto p es n c l) × AllLeadInto p es n c ls
+
+-- each label to try of each of these leads into the list
+abbrev pub AreTried : ProgramTree → List (ℕ × Configuration) → List (ℕ × Configuration) → Type 0
+AreTried p es [] = Unit {0}
+AreTried p es (e ∷ rest) = IsInOrder e.1 × AllLeadInto p es e.0 e.1 (labels_to_try p e.0 e.1) × AreTried p es rest
+
+-- what a search has done when it ends: from the start it came into the list, and of each of the list it tried all labels
+pub record IsTried (p : ProgramTree) (es : List (ℕ × Configuration)) : Type 0 where
+  pub begins : (c : Configuration) → start p 0 ≡ Some c → (e : Configuration) × Settles p c e × IsIn 1 e es
+  pub tried : AreTried p es es

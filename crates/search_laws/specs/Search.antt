@@ -1,0 +1,108 @@
+-- What a search over all runs is about: reached, stuck and faulty configurations, and sets that no step leaves.
+use Rattle.std.specs.Ordering.{nat_cmp}
+use Rattle.mesh_semantics.specs.Tables.{pair_cmp}
+use Rattle.std.specs.FinMap.Entries.{is_sorted}
+use Rattle.std.specs.Prelude.{◌≡◌, ◌≢◌, ◌⊎◌, ◌==◌, ℕ, suc, List, [], ◌∷◌, Some, None, Bool, true, false, IsTrue, ◌&&◌}
+use Rattle.pool_syntax.specs.declared.words.Label.{Label}
+use Rattle.pool_syntax.specs.declared.words.Label.TheVariants as L
+use Rattle.pool_syntax.specs.Terms.{ProgramTree}
+use Rattle.pool_relation.specs.Action as A
+use Rattle.pool_relation.specs.Action.{Object, Action, action}
+use Rattle.pool_relation.specs.Configuration.{Configuration, object_of}
+use Rattle.pool_relation.specs.Transition.{transition, run, start}
+use Rattle.search_laws.specs.Renamed.{renamed_program}
+
+-- no text names an object
+abbrev pub IsNameless : ProgramTree → Type 0
+IsNameless p = (f : ℕ → ℕ) → renamed_program f p ≡ p
+
+-- some run leads there from the start, whatever name the first object has
+pub record IsReached (p : ProgramTree) (d : Configuration) : Type 0 where
+  pub root : ℕ
+  pub first : Configuration
+  pub labels : List Label
+  pub starts : start p root ≡ Some first
+  pub leads : run p first labels ≡ Some d
+
+-- no label is possible
+abbrev pub IsAtEnd : ProgramTree → Configuration → Type 0
+IsAtEnd p c = (l : Label) → transition p c l ≡ None
+
+-- an object that has met no error is in a call, or is to make one
+abbrev pub is_in_call : Action → Bool
+is_in_call (A.Send b m args) = true
+is_in_call (A.Waits b m) = true
+is_in_call _ = false
+
+-- this object has met no error and is in a call, or is to make one
+pub record WaitsAt (p : ProgramTree) (c : Configuration) (o : ℕ) : Type 0 where
+  pub object : Object
+  pub there : object_of c o ≡ Some object
+  pub sound : object.fault ≡ None
+  pub waits : is_in_call (action p o object) ≡ true
+
+-- no label is possible, and an object waits in a call
+pub record IsStuck (p : ProgramTree) (c : Configuration) : Type 0 where
+  pub at_end : IsAtEnd p c
+  pub name : ℕ
+  pub waits : WaitsAt p c name
+
+-- an object has met a language error
+pub record IsFaulty (c : Configuration) : Type 0 where
+  pub name : ℕ
+  pub object : Object
+  pub there : object_of c name ≡ Some object
+  pub met : object.fault ≢ None
+
+-- the next name after a label, and whether a label gives a new object this name
+abbrev pub after : ℕ → Label → ℕ
+after n (L.New o m k) = suc n
+after n _ = n
+
+abbrev pub names_next : ℕ → Label → Bool
+names_next n (L.New o m k) = m == n
+names_next n _ = true
+
+-- new objects are named in the order of the numbers, from n
+abbrev pub in_order : ℕ → List Label → Bool
+in_order n [] = true
+in_order n (l ∷ ls) = names_next n l && in_order (after n l) ls
+
+-- a configuration with the next name is in a list
+abbrev pub IsIn : ℕ → Configuration → List (ℕ × Configuration) → Type 0
+IsIn n c [] = ⊥
+IsIn n c (e ∷ es) = ((e.0 ≡ n) × (e.1 ≡ c)) ⊎ IsIn n c es
+
+-- no step that names new objects in order leaves the list
+abbrev pub IsClosed : ProgramTree → List (ℕ × Configuration) → Type 0
+IsClosed p es = (n : ℕ) (c d : Configuration) (l : Label) → IsIn n c es → names_next n l ≡ true → transition p c l ≡ Some d → IsIn (after n l) d es
+
+-- all that a search has to see: the start is in the list, and no step leaves it
+pub record IsWhole (p : ProgramTree) (es : List (ℕ × Configuration)) : Type 0 where
+  pub begins : (c : Configuration) → start p 0 ≡ Some c → IsIn 1 c es
+  pub closed : IsClosed p es
+
+-- a transition whose place in a run does not matter: what an object does by itself but New and Pick, and a return
+abbrev pub needs_no_choice : Label → Bool
+needs_no_choice (L.Local o) = true
+needs_no_choice (L.Return b o v) = true
+needs_no_choice (L.Send o b m args) = true
+needs_no_choice (L.Write o item) = true
+needs_no_choice (L.Fault o e) = true
+needs_no_choice _ = false
+
+-- such transitions, one after another
+pub data Settles (p : ProgramTree) : Configuration → Configuration → Type 0 where
+  Settled : {c : Configuration} → Settles p c c
+  Goes : {c d e : Configuration} (l : Label) → needs_no_choice l ≡ true → transition p c l ≡ Some d → Settles p d e → Settles p c e
+
+-- both maps of a configuration are in order
+abbrev pub IsInOrder : Configuration → Type 0
+IsInOrder c = IsTrue (is_sorted nat_cmp c.objects) × IsTrue (is_sorted pair_cmp c.messages)
+
+-- the same as IsWhole for a search that follows such transitions, as many as it likes, and keeps only what is after them
+pub record IsWholeAfterSettling (p : ProgramTree) (es : List (ℕ × Configuration)) : Type 0 where
+  pub in_order : (n : ℕ) (c : Configuration) → IsIn n c es → IsInOrder c
+  pub begins : (c : Configuration) → start p 0 ≡ Some c → (e : Configuration) × Settles p c e × IsIn 1 e es
+  pub closed : (n : ℕ) (c d : Configuration) (l : Label) → IsIn n c es → names_next n l ≡ true → transition p c l ≡ Some d
+      → (e : Configuration) × Settles p d e × IsIn (after n l) e es

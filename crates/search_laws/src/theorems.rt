@@ -1,0 +1,56 @@
+//! The laws: each is the contract of a function that does nothing.
+ghost use Rattle.std.specs.Prelude.{◌≡◌, ℕ, List, None, Some, true};
+ghost use Rattle.pool_syntax.specs.declared.tree.Program.{Program};
+ghost use Rattle.pool_syntax.specs.declared.words.Label.{Label};
+ghost use Rattle.pool_syntax.specs.Terms.{ProgramTree};
+ghost use Rattle.pool_syntax.specs.TreeOf.{program_of};
+ghost use Rattle.pool_relation.specs.Configuration.{Configuration, object_of};
+ghost use Rattle.pool_relation.specs.Transition.{transition};
+ghost use Rattle.search_laws.specs.Renamed.{Renaming, renamed_program, renamed_label, IsRenamed};
+ghost use Rattle.search_laws.specs.Labels.{IsAmong, labels_to_try, IsTried};
+ghost use Rattle.search_laws.specs.Search.{IsNameless, IsReached, IsAtEnd, IsStuck, IsFaulty, IsIn, IsWhole, IsWholeAfterSettling, names_next};
+
+/// Under other names, one to one, the same labels are possible and lead to the same configurations.
+pub fn names_do_not_matter()
+    ensures leads { (f : Renaming) (p : ProgramTree) (c d e : Configuration) (l : Label) → IsRenamed f.to c d → transition p c l ≡ Some e
+        → (g : Configuration) × (transition (renamed_program f.to p) d (renamed_label f.to l) ≡ Some g) × IsRenamed f.to e g }
+    ensures none { (f : Renaming) (p : ProgramTree) (c d : Configuration) (l : Label) → IsRenamed f.to c d → transition p c l ≡ None
+        → transition (renamed_program f.to p) d (renamed_label f.to l) ≡ None }
+{}
+
+/// No program that was read names an object.
+pub fn no_text_names_an_object()
+    ensures { (p : Program) → IsNameless (program_of p) }
+{}
+
+/// Where no label is possible that would give a new object one name that none has, no label is possible: a search that tries one name sees the end.
+pub fn one_name_shows_the_end()
+    ensures { (p : ProgramTree) (c : Configuration) (n : ℕ) → object_of c n ≡ None
+        → ((l : Label) → names_next n l ≡ true → transition p c l ≡ None) → IsAtEnd p c }
+{}
+
+/// A list that has the start, and that no step leaves which names new objects in order, misses nothing: where none of it is stuck, or faulty, no run leads to what is.
+pub fn a_whole_list_misses_nothing()
+    ensures stuck { (p : ProgramTree) (es : List (ℕ × Configuration)) (d : Configuration) → IsNameless p → IsWhole p es
+        → ((n : ℕ) (c : Configuration) → IsIn n c es → ¬ (IsStuck p c)) → IsReached p d → ¬ (IsStuck p d) }
+    ensures faulty { (p : ProgramTree) (es : List (ℕ × Configuration)) (d : Configuration) → IsNameless p → IsWhole p es
+        → ((n : ℕ) (c : Configuration) → IsIn n c es → ¬ (IsFaulty c)) → IsReached p d → ¬ (IsFaulty d) }
+{}
+
+/// The same of a search that follows transitions which need no choice - local ones, writes, asynchronous sends, returns and errors - and keeps only what is after them: no other order has to be looked at.
+pub fn some_transitions_need_no_choice()
+    ensures stuck { (p : ProgramTree) (es : List (ℕ × Configuration)) (d : Configuration) → IsNameless p → IsWholeAfterSettling p es
+        → ((n : ℕ) (c : Configuration) → IsIn n c es → ¬ (IsStuck p c)) → IsReached p d → ¬ (IsStuck p d) }
+    ensures faulty { (p : ProgramTree) (es : List (ℕ × Configuration)) (d : Configuration) → IsNameless p → IsWholeAfterSettling p es
+        → ((n : ℕ) (c : Configuration) → IsIn n c es → ¬ (IsFaulty c)) → IsReached p d → ¬ (IsFaulty d) }
+{}
+
+/// The labels to try are enough: each label that is possible, and gives a new object the next name, is one of them.
+pub fn no_other_label_is_possible()
+    ensures { (p : ProgramTree) (c d : Configuration) (n : ℕ) (l : Label) → names_next n l ≡ true → transition p c l ≡ Some d → IsAmong l (labels_to_try p n c) }
+{}
+
+/// A list into which the start leads, and each label to try of each of its configurations, is whole.
+pub fn a_tried_list_is_whole()
+    ensures { (p : ProgramTree) (es : List (ℕ × Configuration)) → IsTried p es → IsWholeAfterSettling p es }
+{}
