@@ -32,7 +32,7 @@ word_shape name id = built_leaf (inherited pool.top (word_app name id).top)
 abbrev pub checked_shape : Text → Shape
 checked_shape name = built_leaf (inherited pool.top (checked_app name).top)
 
-subs_are : pool.subs ≡ files_shape (codes "record") ∷ files_shape (codes "run") ∷ files_shape (codes "why") ∷ word_shape (codes "print") (codes "program") ∷ word_shape (codes "code") (codes "program") ∷ word_shape (codes "ring") (codes "cells") ∷ word_shape (codes "convert") (codes "record") ∷ checked_shape (codes "check") ∷ []
+subs_are : pool.subs ≡ files_shape (codes "record") ∷ files_shape (codes "run") ∷ files_shape (codes "why") ∷ word_shape (codes "print") (codes "program") ∷ word_shape (codes "code") (codes "program") ∷ word_shape (codes "ring") (codes "cells") ∷ word_shape (codes "convert") (codes "record") ∷ checked_shape (codes "check") ∷ word_shape (codes "build") (codes "program") ∷ []
 subs_are = refl
 
 -- the faults of a command's own level, of its walk and the walk's own faults
@@ -113,6 +113,10 @@ enters_convert = record { first = refl; turn = refl; found = refl }
 pub enters_check : Enters (codes "check") (checked_shape (codes "check"))
 unfolding clap_on_literals
 enters_check = record { first = refl; turn = refl; found = refl }
+
+pub enters_build : Enters (codes "build") (word_shape (codes "build") (codes "program"))
+unfolding clap_on_literals
+enters_build = record { first = refl; turn = refl; found = refl }
 
 -- what stands between the words of a subcommand
 
@@ -478,14 +482,17 @@ judged (w ∷ rest) plain =
                   | inl e ↦ subst (λ n. Judged (n ∷ rest)) (sym e) (convert_judged rest a.1)
                   | inr convert_no ↦ elim (decided w (codes "check")) [
                     | inl e ↦ subst (λ n. Judged (n ∷ rest)) (sym e) (check_judged rest a.1)
-                    | inr check_no ↦ no_name_judged w rest (record {
-                      shows = rw (record_no.0, run_no.0, why_no.0) refl;
-                      asks = rw (print_no.0, code_no.0) refl;
-                      rings = ring_no.0;
-                      converts = convert_no.0;
-                      checks = check_no.0;
-                      met = rw (record_no.1, run_no.1, why_no.1, print_no.1, code_no.1, ring_no.1, convert_no.1, check_no.1) refl;
-                    }) a.0 a.1
+                    | inr check_no ↦ elim (decided w (codes "build")) [
+                      | inl e ↦ subst (λ n. Judged (n ∷ rest)) (sym e) (program_judged (codes "build") As.File enters_build refl refl refl rest a.1)
+                      | inr build_no ↦ no_name_judged w rest (record {
+                        shows = rw (record_no.0, run_no.0, why_no.0) refl;
+                        asks = rw (print_no.0, code_no.0, build_no.0) refl;
+                        rings = ring_no.0;
+                        converts = convert_no.0;
+                        checks = check_no.0;
+                        met = rw (record_no.1, run_no.1, why_no.1, print_no.1, code_no.1, ring_no.1, convert_no.1, check_no.1, build_no.1) refl;
+                      }) a.0 a.1
+                    ]
                   ]
                 ]
               ]

@@ -30,11 +30,11 @@ settings s = record s { no_binary_name = true; disable_help_flag = true; disable
 
 abbrev pub pool_app : App
 pool_app =
-    with_subcommand (with_subcommand (with_subcommand (with_subcommand (with_subcommand (with_subcommand (with_subcommand (with_subcommand (on_top settings (new_app (codes "pool")))
+    with_subcommand (with_subcommand (with_subcommand (with_subcommand (with_subcommand (with_subcommand (with_subcommand (with_subcommand (with_subcommand (on_top settings (new_app (codes "pool")))
     (files_app (codes "record")).top) (files_app (codes "run")).top) (files_app (codes "why")).top)
     (word_app (codes "print") (codes "program")).top) (word_app (codes "code") (codes "program")).top)
     (word_app (codes "ring") (codes "cells")).top) (word_app (codes "convert") (codes "record")).top)
-    (checked_app (codes "check")).top
+    (checked_app (codes "check")).top) (word_app (codes "build") (codes "program")).top
 
 -- what the matches of a subcommand ask for
 

@@ -41,7 +41,10 @@ show_of w =
 
 -- what a command asks of a program
 abbrev pub ask_of : Text → Option Ask
-ask_of w = if bytes_eq w (codes "print") then Some As.Canonical else (if bytes_eq w (codes "code") then Some As.Listing else None)
+ask_of w =
+    if bytes_eq w (codes "print") then Some As.Canonical
+    else (if bytes_eq w (codes "code") then Some As.Listing
+    else (if bytes_eq w (codes "build") then Some As.File else None))
 
 -- from 2 to 1000 cells
 abbrev pub ring_size : Decimal → Option ℕ

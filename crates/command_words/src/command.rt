@@ -18,6 +18,8 @@ pub enum Ask {
     Canonical,
     /// The listing of its code.
     Listing,
+    /// The bytes of its object code file.
+    File,
 }
 
 /// The names of the three inputs of a run.

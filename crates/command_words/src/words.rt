@@ -92,7 +92,8 @@ fn command_line<'a>(alloc: Global) -> Result<clap::Command<'a>, AllocError>
         .subcommand(of_word(alloc, "code", "program")?)?
         .subcommand(of_word(alloc, "ring", "cells")?)?
         .subcommand(of_word(alloc, "convert", "record")?)?
-        .subcommand(of_record(alloc, "check")?)
+        .subcommand(of_record(alloc, "check")?)?
+        .subcommand(of_word(alloc, "build", "program")?)
 }
 
 /// The first value of an argument.
@@ -200,6 +201,7 @@ fn command<'a>(matches: &ArgMatches<'a>) -> Option<Command<'a>>
         "why" => run(Show::Report, matches),
         "print" => program(Ask::Canonical, matches),
         "code" => program(Ask::Listing, matches),
+        "build" => program(Ask::File, matches),
         "ring" => ring(matches),
         "convert" => convert(matches),
         "check" => check(matches),

@@ -95,4 +95,4 @@ abbrev pub unread_line : Input → Text
 unread_line input = input_text input ++ codes "read fault\n"
 
 abbrev pub usage_line : Text
-usage_line = codes "usage: pool record|run|why P L S, pool print|code P, pool ring K, pool convert R, pool check P R\n"
+usage_line = codes "usage: pool record|run|why P L S, pool print|code P, pool ring K, pool convert R, pool check P R, pool build P\n"

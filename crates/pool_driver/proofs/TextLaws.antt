@@ -1,5 +1,6 @@
 -- No text of the table of a parsed program has more than 256 bytes, and there are no more of them than the program has bytes.
 use Rattle.std.proofs.Common.{◌≡◌, ◌∙◌, ◌≤◌, ◌+◌, ◌-◌, ℕ, zero, suc, Bool, true, false, nat_le, List, [], ◌∷◌, ◌++◌, length, take, drop, slice_get, Option, Some, None, inl, inr, refl, sym, subst, arith}
+use Rattle.std.specs.List.{AllByRecursion as Each}
 use Rattle.std.proofs.lemmas.Bool.{cases_Bool}
 use Rattle.std.proofs.lemmas.Bool.Decides.{nat_tests}
 use Rattle.std.proofs.lemmas.List.{length-append, length-drop, length-take}
@@ -8,6 +9,7 @@ use Rattle.pool_syntax.specs.Tokens.{Text, IsFaultless, IsPieces, is_integer, is
 use Rattle.pool_syntax.specs.Table.{is_among, with_text}
 use Rattle.pool_syntax.specs.Terms.{ProgramTree}
 use Rattle.pool_syntax.specs.Programs.{IsParsed}
+use Rattle.object_code.specs.Shaped.{IsListOf, IsShortList}
 use Rattle.record_lines.specs.RecordText.{text_at, text_or_none}
 use Rattle.run_driver.specs.Driving.{AreShortTexts}
 
@@ -114,3 +116,15 @@ parsed_few s names p h =
     let texts = texts_count [] h.1.0 in
     let pieces = pieces_count s h.1.0 h.1.1 in
     subst (λ (ns : List Text). length ns ≤ length s) (sym h.1.3) (omega (arith, texts, pieces))
+
+-- so the table of a program of at most 1,048,576 bytes can be written in an object code file
+
+each_short : (names : List Text) → AllShort names → Each IsShortList names
+each_short [] h = tt
+each_short (x ∷ xs) h = let l = h.0 in (omega (arith, l), each_short xs h.1)
+
+pub parsed_listed : (s : Text) (names : List Text) (p : ProgramTree) → IsParsed s names p → length s ≤ 1048576 → IsListOf IsShortList names
+parsed_listed s names p h small =
+    let few = parsed_few s names p h in
+    let all = subst AllShort (sym h.1.3) (texts_short [] h.1.0 tt h.1.2) in
+    (omega (arith, few, small), each_short names all)

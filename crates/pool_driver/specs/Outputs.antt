@@ -3,6 +3,7 @@ use Rattle.std.specs.Prelude.{◌≡◌, ℕ, List, [], ◌∷◌, ◌++◌, Non
 use Rattle.pool_syntax.specs.Tokens.{Text}
 use Rattle.pool_syntax.specs.Terms.{ProgramTree}
 use Rattle.pool_syntax.specs.Typing.{faults}
+use Rattle.object_code.specs.FileBytes.{file_bytes}
 use Rattle.object_code.specs.Listing.{listing}
 use Rattle.pool_printer.specs.Canonical.{canonical}
 use Rattle.record_lines.specs.SecondForm.{text2}
@@ -26,6 +27,7 @@ use Rattle.record_check.specs.declared.lead.Verdict.{Verdict}
 use Rattle.record_check.specs.declared.lead.Verdict.TheVariants as V
 use Rattle.record_check.specs.Verdicts.{Judged}
 use Rattle.verdict_lines.specs.VerdictText.{verdict_text}
+use Rattle.verified_code.specs.DeclaredKinds.{file_of}
 
 -- what is shown of the run of the three texts
 abbrev pub shown_text : {source place plan : Text} → Show → Meaning source place plan → Text
@@ -44,8 +46,9 @@ pub record IsRunOf (show : Show) (source place plan : Text) (text : Text) (statu
 abbrev pub asked_text : Ask → List Text → ProgramTree → Text
 asked_text As.Canonical names p = canonical names p
 asked_text As.Listing names p = listing (unit_of names p)
+asked_text As.File names p = file_bytes (file_of names p)
 
--- the canonical text or the code of a program, which has no class faults
+-- the canonical text, the listing of the code or the object code file of a program, which has no class faults
 pub record IsTextFor (ask : Ask) (source : Text) (text : Text) : Type 0 where
   pub names : List Text
   pub program : ProgramTree

@@ -12,8 +12,10 @@ use Rattle.pool_syntax.specs.declared.words.Line.{Line}
 use Rattle.pool_syntax.specs.declared.words.Placement.{Placement}
 use Rattle.pool_printer.specs.Canonical.{canonical}
 use Rattle.object_code.specs.declared.unit.Unit.{Unit as Code}
+use Rattle.object_code.specs.FileBytes.{file_bytes}
 use Rattle.object_code.specs.Listing.{listing}
 use Rattle.object_code.specs.Proper.{IsProper}
+use Rattle.object_code.specs.Shaped.{IsShaped, IsShort}
 use Rattle.object_code.specs.Suits.{Suits}
 use Rattle.placement_reader.specs.declared.fault.PlacementFault.{PlacementFault}
 use Rattle.placement_reader.specs.declared.fault.PlacementFault.TheVariants as Place
@@ -184,6 +186,7 @@ text_of (O.Run show loaded) = run_text show loaded
 text_of (O.Ring loaded) = ring_text loaded.unit.names (lines_of loaded)
 text_of (O.Canonical parsed) = canonical parsed.names (program_of parsed.program)
 text_of (O.Listing unit) = listing unit
+text_of (O.File file) = file_bytes file
 text_of (O.Converted r) = text2 r.names r.lines
 text_of (O.Verdict line status) = line.items
 
@@ -192,15 +195,17 @@ status_of_output (O.Run show loaded) = status_of (lines_of loaded)
 status_of_output (O.Ring loaded) = status_of (lines_of loaded)
 status_of_output (O.Canonical parsed) = S.Done
 status_of_output (O.Listing unit) = S.Done
+status_of_output (O.File file) = S.Done
 status_of_output (O.Converted r) = S.Done
 status_of_output (O.Verdict line status) = status
 
--- What can be written: a run whose parts fit one another; a program whose names are those of its table; proper code; lines with their request numbers.
+-- What can be written: a run whose parts fit one another; a program whose names are those of its table; proper code; a shaped and short file; lines with their request numbers.
 abbrev pub IsPrintable : Output → Type 0
 IsPrintable (O.Run show loaded) = IsLoaded loaded.unit loaded.placement loaded.schedule
 IsPrintable (O.Ring loaded) = IsLoaded loaded.unit loaded.placement loaded.schedule
 IsPrintable (O.Canonical parsed) = is_spelled parsed.names (program_of parsed.program) ≡ true
 IsPrintable (O.Listing unit) = IsProper unit
+IsPrintable (O.File file) = IsShaped file × IsShort file
 IsPrintable (O.Converted r) = IsShowable r
 IsPrintable (O.Verdict line status) = Unit {0}
 

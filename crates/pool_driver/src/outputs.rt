@@ -11,10 +11,10 @@ use crate::inputs::{
     read_unit,
 };
 use crate::judged::judge;
-use crate::program::{Parsed, judge_classes};
+use crate::program::{Parsed, file_of_parsed, judge_classes};
 use command_words::{Ask, Command, Files as FileNames, Show};
 use fault_lines::Stop;
-use object_code::Unit;
+use object_code::{Unit, UnitFile};
 use pool_gen::ring;
 use pool_outside::Files;
 use run_driver::{Loaded, Status};
@@ -30,6 +30,8 @@ pub enum Output {
     Canonical(Parsed),
     /// The code whose listing is asked for.
     Listing(Unit),
+    /// The object code file whose bytes are asked for.
+    File(UnitFile),
     /// The record that is asked for in the second form.
     Converted(Recorded),
     /// The line of the verdict on a record, with its status.
@@ -94,6 +96,23 @@ fn listing_output<F: Files>(alloc: Global, files: &mut F, name: &str) -> Result<
     }
 }
 
+/// The object code file of the program of this name.
+fn file_output<F: Files>(alloc: Global, files: &mut F, name: &str) -> Result<Output, Stop>
+    requires countable { F.opens files.old ≤ 2 ^ 64 - 5 }
+    requires allowed { MayOpen (F.may files.old) (F.opens files.old) (of_program Ask.File name.now) }
+    ensures makes { Makes (record { told = F.told files.old; opens = F.opens files.old; opened = F.opens files.new; given = F.given files.new; live = F.live files.new; faults = F.faults files.old; failed = F.faults files.new }) (of_program Ask.File name.now) result }
+    ensures unread_within { F.given files.new ≤ most_bytes + one_read }
+{
+    let parsed = match read_parsed(alloc, files, name) {
+        Ok(parsed) => parsed,
+        Err(stop) => return Err(stop),
+    };
+    match file_of_parsed(alloc, &parsed) {
+        Ok(file) => Ok(Output::File(file)),
+        Err(stop) => Err(stop),
+    }
+}
+
 /// What is asked of the program of this name.
 fn program_output<F: Files>(
     alloc: Global,
@@ -109,6 +128,7 @@ fn program_output<F: Files>(
     match ask {
         Ask::Canonical => canonical_output(alloc, files, name),
         Ask::Listing => listing_output(alloc, files, name),
+        Ask::File => file_output(alloc, files, name),
     }
 }
 

@@ -1,4 +1,4 @@
-//! Reads a program and judges it: its tokens, its grammar, its classes; and makes its code.
+//! Reads a program and judges it: its tokens, its grammar, its classes; and makes its code, and its object code file.
 ghost use Rattle.std.specs.Prelude.{◌≡◌, ◌≢◌, ◌≤◌, List, length, true, [], IfOk, MatchResult, IsOk, IsErr, Err};
 ghost use Rattle.pool_syntax.specs.Terms.{ProgramTree};
 ghost use Rattle.pool_syntax.specs.Tokens.{Text};
@@ -6,19 +6,22 @@ ghost use Rattle.pool_syntax.specs.TreeOf.{program_of};
 ghost use Rattle.pool_syntax.specs.Spelled.{IsGrammatical, is_spelled};
 ghost use Rattle.pool_syntax.specs.Typing.{faults};
 ghost use Rattle.object_code.specs.Proper.{IsProper};
+ghost use Rattle.object_code.specs.Shaped.{IsListOf, IsShaped, IsShort, IsShortList};
 ghost use Rattle.pool_driver.specs.Inputs.{unit_of};
 ghost use Rattle.pool_driver.specs.Readers.{stop_of_grammar, stop_of_tokens};
 ghost use Rattle.pool_driver.specs.Programs.{IsFaultOfClasses, IsFaultOfText, IsParsed};
+ghost use Rattle.verified_code.specs.DeclaredKinds.{file_of};
 ghost use Rattle.fault_lines.specs.declared.fault.Fault.{Fault as AnyFault};
 ghost use Rattle.fault_lines.specs.declared.fault.Input.{Input as AnyInput};
 
 use class_check::{Checked, ClassFault, check};
 use fault_lines::{Fault, Input, Stop};
-use object_code::Unit;
+use object_code::{Unit, UnitFile};
 use pool_compile::compile;
 use pool_lexer::tokens;
 use pool_parser::{SyntaxFault, parse};
 use pool_syntax::{LexFault, Names, Program};
+use program_file::file_of;
 use std::alloc::Global;
 
 /// A program, and the texts of its names and strings.
@@ -116,6 +119,29 @@ pub fn code_of(alloc: Global, parsed: &Parsed) -> Result<Unit, Stop>
     };
     match compile(alloc, &checked) {
         Ok(unit) => Ok(unit),
+        Err(_) => Err(Stop::Memory),
+    }
+}
+
+/// The object code file of a program that was read, with a copy of its names, once its classes are judged.
+pub fn file_of_parsed(alloc: Global, parsed: &Parsed) -> Result<UnitFile, Stop>
+    requires grammatical { IsGrammatical (program_of parsed.now.program) }
+    requires spelled { is_spelled parsed.now.names (program_of parsed.now.program) ≡ true }
+    requires few { IsListOf IsShortList parsed.now.names }
+    ensures file { IfOk result (λ f. f ≡ file_of parsed.now.names (program_of parsed.now.program)) }
+    ensures shaped { IfOk result (λ f. IsShaped f) }
+    ensures short { IfOk result (λ f. IsShort f) }
+    ensures typed { IsOk result → faults (program_of parsed.now.program) ≡ [] }
+    ensures only { faults (program_of parsed.now.program) ≡ [] → IsErr result → result ≡ Err Stop.Memory }
+    ensures refused { (i : AnyInput) (f : AnyFault) → result ≡ Err (Stop.Refused i f) → (i ≡ Input.Program) × IsFaultOfClasses (program_of parsed.now.program) f }
+    ensures no_read { (i : AnyInput) → result ≢ Err (Stop.Unread i) }
+{
+    let checked = match judge_classes(alloc, parsed) {
+        Ok(checked) => checked,
+        Err(stop) => return Err(stop),
+    };
+    match file_of(alloc, &checked) {
+        Ok(file) => Ok(file),
         Err(_) => Err(Stop::Memory),
     }
 }

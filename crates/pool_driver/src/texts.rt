@@ -1,13 +1,15 @@
 //! Texts that are written without memory, as `write_gathered` takes them.
 ghost use Rattle.std.specs.Prelude.{◌≡◌, true};
+ghost use Rattle.object_code.specs.FileBytes.{file_bytes};
 ghost use Rattle.object_code.specs.Known.{IsKnownUnit};
 ghost use Rattle.object_code.specs.Listing.{listing};
+ghost use Rattle.object_code.specs.Shaped.{IsShaped, IsShort};
 ghost use Rattle.pool_printer.specs.Canonical.{canonical};
 ghost use Rattle.pool_syntax.specs.Spelled.{is_spelled};
 ghost use Rattle.pool_syntax.specs.TreeOf.{program_of};
 
 use crate::program::Parsed;
-use object_code::{Unit, list_code};
+use object_code::{Unit, UnitFile, encode, list_code};
 use pool_outside::{Sink, Text, WriteFault};
 use pool_printer::print;
 
@@ -40,5 +42,21 @@ impl Text for Listing<'_> {
 
     fn write_to<S: Sink>(&self, sink: &mut S) -> Result<(), WriteFault> {
         list_code(self.unit, sink)
+    }
+}
+
+/// The bytes of an object code file.
+#[derive(Clone, Copy)]
+pub struct FileBytes<'a> {
+    pub file: &'a UnitFile,
+}
+
+impl Text for FileBytes<'_> {
+    ghost bytes = { λ b. file_bytes b.file.now };
+
+    ghost writable = { λ b. IsShaped b.file.now × IsShort b.file.now };
+
+    fn write_to<S: Sink>(&self, sink: &mut S) -> Result<(), WriteFault> {
+        encode(self.file, sink)
     }
 }

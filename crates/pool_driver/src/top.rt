@@ -10,7 +10,7 @@ ghost use Rattle.pool_driver.specs.Readers.{IsPrintable, Tells, status_of_output
 
 use crate::converted::SecondForm;
 use crate::outputs::{Output, make_output};
-use crate::texts::{CanonicalText, Listing};
+use crate::texts::{CanonicalText, FileBytes, Listing};
 use command_words::{Show, read_words};
 use fault_lines::{Stop, line_of_refusal, line_of_unread};
 use pool_outside::{Files, Sink, Text, write_all_of, write_gathered};
@@ -19,7 +19,7 @@ use std::alloc::{AllocError, Global};
 
 /// The usage line.
 const USAGE: &[u8] =
-    b"usage: pool record|run|why P L S, pool print|code P, pool ring K, pool convert R, pool check P R\n";
+    b"usage: pool record|run|why P L S, pool print|code P, pool ring K, pool convert R, pool check P R, pool build P\n";
 
 /// Writes a piece, and answers the status, or that a write failed.
 fn say<K: Sink>(sink: &mut K, piece: &[u8], status: Status) -> Status
@@ -55,6 +55,7 @@ fn write_output<K: Sink>(alloc: Global, out: &mut K, output: &Output) -> Status
         Output::Ring(loaded) => write_ring(alloc, out, loaded),
         Output::Canonical(parsed) => write_text(&CanonicalText { parsed }, out),
         Output::Listing(unit) => write_text(&Listing { unit }, out),
+        Output::File(file) => write_text(&FileBytes { file }, out),
         Output::Converted(record) => write_text(&SecondForm { record }, out),
         Output::Verdict { line, status } => say(out, line, *status),
     }

@@ -25,7 +25,7 @@ use Rattle.mesh_semantics.specs.Moves.{running, move}
 use Rattle.mesh_semantics.specs.Paths.{on_link, move_head}
 use Rattle.mesh_semantics.specs.Wire.{Wire, Coming, Empty, Stale, Next, coming, take, wire_act}
 use Rattle.mesh_semantics.specs.Delay as D
-use Rattle.mesh_semantics.specs.Delay.{Packet, Arrival, Wires, Delay, wire_at, node_of, arrive, arrived_at, hold, free, post, take_arrival, count_made, stepped_last, cell_count}
+use Rattle.mesh_semantics.specs.Delay.{Packet, Arrival, Wires, Delay, wire_at, node_of, arrived_at, hold, free, post, take_arrival, count_made, stepped_last, cell_count}
 use Rattle.mesh_semantics.specs.Act.{id, next_name, sent, Acted, Acts, Full, Nothing, act, within, shows, labelled, object_count, frame_count, local_steps, step_count, local_turn, goal_of, create_turn, first_arrival, accept_turn, chosen_turn, is_possible, choice_turn, object_turn, node_turn, turn_of, first_of, goal_node, received, passed, link_move, plain_act, on_wires, wire_move, wire_turn, act_over}
 use Rattle.mesh_semantics.specs.Sound.{IsPlaced, IsSound, IsThere}
 

@@ -1,5 +1,5 @@
 -- What was written on a sink in a call, and whether a write failed.
-use Rattle.std.specs.Prelude.{◌≡◌, ℕ, ◌≤◌, ◌++◌, length, take, Option, option_map}
+use Rattle.std.specs.Prelude.{◌≡◌, ℕ, ◌++◌, Option, option_map}
 use Rattle.pool_outside.specs.Outside.{Rose, IsProperFront}
 use Rattle.pool_syntax.specs.Tokens.{Text}
 use Rattle.run_driver.specs.declared.status.Status.{Status}

@@ -20,5 +20,6 @@ returns c =
     let five = c.in_ok-subcommand-5.ensures.shape c.in_ok-of_word-2.ensures.local ∙ ap₂ with_subcommand four (ap top c.in_ok-of_word-2.ensures.app) in
     let six = c.in_ok-subcommand-6.ensures.shape c.in_ok-of_word-3.ensures.local ∙ ap₂ with_subcommand five (ap top c.in_ok-of_word-3.ensures.app) in
     let seven = c.in_ok-subcommand-7.ensures.shape c.in_ok-of_word-4.ensures.local ∙ ap₂ with_subcommand six (ap top c.in_ok-of_word-4.ensures.app) in
-    IfOk-weaker c.subcommand-8.result _ _
-    (λ r h. h.shape c.in_ok-of_record.ensures.local ∙ ap₂ with_subcommand seven (ap top c.in_ok-of_record.ensures.app)) c.subcommand-8.ensures
+    let eight = c.in_ok-subcommand-8.ensures.shape c.in_ok-of_record.ensures.local ∙ ap₂ with_subcommand seven (ap top c.in_ok-of_record.ensures.app) in
+    IfOk-weaker c.subcommand-9.result _ _
+    (λ r h. h.shape c.in_ok-of_word-5.ensures.local ∙ ap₂ with_subcommand eight (ap top c.in_ok-of_word-5.ensures.app)) c.subcommand-9.ensures

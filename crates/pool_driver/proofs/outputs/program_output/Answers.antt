@@ -11,3 +11,7 @@ returns-in-Canonical-clause-makes g c =
 pub returns-in-Listing-clause-makes : goal.returns-in-Listing-clause-makes
 returns-in-Listing-clause-makes g c =
     makes_for _ _ _ c.listing_output.result (ap (λ (a : Ask). of_program a c.args.name.now) (sym c.in-Listing.is)) c.listing_output.ensures.makes
+
+pub returns-in-File-clause-makes : goal.returns-in-File-clause-makes
+returns-in-File-clause-makes g c =
+    makes_for _ _ _ c.file_output.result (ap (λ (a : Ask). of_program a c.args.name.now) (sym c.in-File.is)) c.file_output.ensures.makes
