@@ -1,6 +1,8 @@
-//! Tests of the top call over texts in memory: records, faults, canonical texts, failing calls, and the greatest inputs.
+//! Tests of the top call over texts in memory: records, faults, canonical texts, object code files, failing calls, and the greatest inputs.
 #![tactic(auto)]
 
+#[cfg(test)]
+mod built;
 #[cfg(test)]
 mod call_rows;
 #[cfg(test)]
