@@ -1,7 +1,7 @@
 -- What the parts of a heap say of the heap that contracts see.
-use Rattle.std.proofs.Common.{◌≡◌, refl, sym, ◌∙◌, ap, subst, ℕ, ◌+◌, ◌-◌, ◌*◌, ◌<◌, ◌≤◌, List, [], ◌∷◌, ◌++◌, length, map, get_or, set, take, drop, remove, slice_get, Some, arith, length-set}
+use Rattle.std.proofs.Common.{◌≡◌, refl, sym, ◌∙◌, ap, subst, ℕ, ◌+◌, ◌-◌, ◌*◌, ◌<◌, ◌≤◌, List, [], ◌∷◌, ◌++◌, length, map, get_or, set, take, drop, slice_get, Some, arith, length-set}
 use Rattle.std.specs.Vec.{vec_capacity, with_item}
-use Rattle.std.proofs.lemmas.List.{length-take, length-map}
+use Rattle.std.proofs.lemmas.List.{length-take, length-map, get_or-set_same, set-set}
 use Rattle.pool_syntax.specs.declared.words.Value.{Value}
 use Rattle.object_code.specs.declared.unit.Frame.{Frame}
 use Rattle.object_code.specs.declared.unit.CodeObject.{CodeObject}
@@ -40,13 +40,20 @@ set_head : (cs : List FrameCell) (new : FrameCell) → 0 < length cs → map fra
 set_head [] new h = absurd (omega arith)
 set_head (c ∷ cs) new h = refl
 
-without_head : (cs : List FrameCell) → map frame_of (remove cs 0) ≡ under_top (map frame_of cs)
+without_head : (cs : List FrameCell) → map frame_of (drop 1 cs) ≡ under_top (map frame_of cs)
 without_head [] = refl
 without_head (c ∷ cs) = refl
 
-length-without_head : (cs : List FrameCell) → length (remove cs 0) ≡ length cs - 1
+length-without_head : (cs : List FrameCell) → length (drop 1 cs) ≡ length cs - 1
 length-without_head [] = refl
 length-without_head (c ∷ cs) = omega arith
+
+-- a frame that came to the front, written anew
+pub over_front : (p : Pool FrameCell) (q : ℕ) (old new : FrameCell) → q < length p.lists
+    → with_list (with_list p q (old ∷ list_of p q)) q (set (list_of (with_list p q (old ∷ list_of p q)) q) 0 new) ≡ with_list p q (new ∷ list_of p q)
+over_front p q old new h =
+    ap (λ l. with_list (with_list p q (old ∷ list_of p q)) q (set l 0 new)) (get_or-set_same p.lists q (old ∷ list_of p q) [] h)
+    ∙ ap (λ (ls : List (List FrameCell)). record p { lists = ls }) (set-set p.lists q (old ∷ list_of p q) (new ∷ list_of p q))
 
 module _ (h : Inside) (ok : IsHeap h) (v : HeapOf) (e : heap_of h ≡ v) where
   pub count : length v.objects ≡ length h.slots.items
@@ -176,17 +183,17 @@ module _ (h : Inside) (ok : IsHeap h) (v : HeapOf) (e : heap_of h ≡ v) where
         ∙ ap (λ g. put_object v slot (record (object_at v slot) { frames = g ∷ map frame_of (queue_of h slot) })) same
         ∙ ap (λ fs. put_object v slot (record (object_at v slot) { frames = f ∷ fs })) (sym frames_at_are)
 
-    pub popped_kept : (p : Pool FrameCell) → 1 < length (object_at v slot).frames → p ≡ with_list h.frames slot (remove (queue_of h slot) 0) → IsHeap (record h { frames = p })
+    pub popped_kept : (p : Pool FrameCell) → 1 < length (object_at v slot).frames → p ≡ with_list h.frames slot (drop 1 (queue_of h slot)) → IsHeap (record h { frames = p })
     popped_kept p two is =
         let P : Pool FrameCell → Type 0 = λ q. IsHeap (record h { frames = q }) in
         let long : length (object_at v slot).frames ≡ length (queue_of h slot) = ap length frames_at_are ∙ length-map (queue_of h slot) frame_of in
-        subst P (sym is) (frames_kept (remove (queue_of h slot) 0) (omega (arith, length-without_head (queue_of h slot), long, two)))
+        subst P (sym is) (frames_kept (drop 1 (queue_of h slot)) (omega (arith, length-without_head (queue_of h slot), long, two)))
 
-    pub popped_put : (p : Pool FrameCell) → p ≡ with_list h.frames slot (remove (queue_of h slot) 0)
+    pub popped_put : (p : Pool FrameCell) → p ≡ with_list h.frames slot (drop 1 (queue_of h slot))
         → heap_of (record h { frames = p }) ≡ put_object v slot (record (object_at v slot) { frames = under_top (object_at v slot).frames })
     popped_put p is =
         ap (λ (q : Pool FrameCell). heap_of (record h { frames = q })) is
-        ∙ frames_put (remove (queue_of h slot) 0)
+        ∙ frames_put (drop 1 (queue_of h slot))
         ∙ ap (λ fs. put_object v slot (record (object_at v slot) { frames = fs })) (without_head (queue_of h slot))
         ∙ ap (λ fs. put_object v slot (record (object_at v slot) { frames = under_top fs })) (sym frames_at_are)
 

@@ -1,12 +1,11 @@
--- Values in the first of 32 places.
-use Rattle.std.proofs.Common.{◌≡◌, refl, sym, ◌∙◌, ap, ℕ, zero, suc, ◌+◌, ◌-◌, ◌<◌, ◌≤◌, List, [], ◌∷◌, ◌++◌, length, get_or, set, take, drop, replicate, arith, length-append, length-drop, length-set}
-use Rattle.std.proofs.Math.Seq.{take-set-lt}
-use Rattle.std.proofs.lemmas.List.{length-replicate, get_or_default, get_or-take, get_or-drop, set-append_left}
+-- The first values of an array.
+use Rattle.std.proofs.Common.{◌≡◌, refl, sym, ◌∙◌, ap, ℕ, zero, suc, ◌+◌, ◌<◌, ◌≤◌, List, [], ◌∷◌, length, get_or, set, take, drop, replicate, arith, length-drop, length-take-le}
+use Rattle.std.proofs.lemmas.List.{length-replicate, get_or_default, get_or-take, get_or-drop}
 use Rattle.pool_syntax.specs.declared.words.Value.{Value}
 use Rattle.pool_syntax.specs.declared.words.Value.TheVariants.{Nil}
+use Rattle.object_code.specs.Frames.{top, below}
 use Rattle.object_code.specs.Step.{nth}
 use Rattle.node_heap.specs.Heaps.{nils}
-use Rattle.node_heap.specs.Rows.{padded_row}
 
 pub nils-replicate : (n : ℕ) → nils n ≡ replicate n Nil
 nils-replicate zero = refl
@@ -22,40 +21,19 @@ take-replicate zero m v h = refl
 take-replicate (suc n) zero v h = absurd (omega arith)
 take-replicate (suc n) (suc m) v h = ap (λ l. v ∷ l) (take-replicate n m v (omega arith))
 
-replicate-add : (n m : ℕ) (v : Value) → replicate n v ++ replicate m v ≡ replicate (n + m) v
-replicate-add zero m v = let e : 0 + m ≡ m = omega arith in ap (λ k. replicate k v) (sym e)
-replicate-add (suc n) m v =
-    let e : suc n + m ≡ suc (n + m) = omega arith in
-    ap (λ l. v ∷ l) (replicate-add n m v) ∙ ap (λ k. replicate k v) (sym e)
+pub length-nils : (n : ℕ) → length (nils n) ≡ n
+length-nils n = ap length (nils-replicate n) ∙ length-replicate n Nil
 
--- nil temps
-pub begun_row : (n : ℕ) → n ≤ 32 → take n (replicate 32 Nil) ≡ nils n
-begun_row n h = take-replicate n 32 Nil h ∙ sym (nils-replicate n)
+-- one more place that holds nil
+pub nils_on : (vs : List Value) (k : ℕ) → k < length vs → take k vs ≡ nils k → take (suc k) (set vs k Nil) ≡ nils (suc k)
+nils_on [] k h e = absurd (omega arith)
+nils_on (v ∷ vs) zero h e = refl
+nils_on (v ∷ vs) (suc k) h e =
+    ap (λ w. w ∷ take (suc k) (set vs k Nil)) (ap top e) ∙ ap (λ l. Nil ∷ l) (nils_on vs k (omega arith) (ap below e))
 
-pub begun_length : (n : ℕ) → n ≤ 32 → length (take n (replicate 32 Nil)) ≡ n
-begun_length n h = ap length (take-replicate n 32 Nil h) ∙ length-replicate n Nil
-
-pub begun_full : (n : ℕ) → n ≤ 32 → padded_row (take n (replicate 32 Nil)) ≡ replicate 32 Nil
-begun_full n h =
-    let e : n + (32 - n) ≡ 32 = omega arith in
-    ap padded_row (take-replicate n 32 Nil h)
-    ∙ ap (λ k. replicate n Nil ++ replicate (32 - k) Nil) (length-replicate n Nil)
-    ∙ replicate-add n (32 - n) Nil
-    ∙ ap (λ k. replicate k Nil) e
-
-pub stored_full : (vs : List Value) (n k : ℕ) (v : Value) → k < n → padded_row (take n vs) ≡ vs → length (take n vs) ≡ n → padded_row (take n (set vs k v)) ≡ set vs k v
-stored_full vs n k v h full long =
-    ap padded_row (take-set-lt n vs k v h)
-    ∙ ap (λ m. set (take n vs) k v ++ replicate (32 - m) Nil) (length-set (take n vs) k v)
-    ∙ sym (set-append_left (take n vs) (replicate (32 - length (take n vs)) Nil) k v (omega arith))
-    ∙ ap (λ l. set l k v) full
-
-pub stored_length : (vs : List Value) (n k : ℕ) (v : Value) → k < n → length (take n vs) ≡ n → length (take n (set vs k v)) ≡ n
-stored_length vs n k v h long = ap length (take-set-lt n vs k v h) ∙ length-set (take n vs) k v ∙ long
-
-pub row_length : (d : List Value) → length d ≤ 32 → length (padded_row d) ≡ 32
-row_length d few =
-    length-append d (replicate (32 - length d) Nil) ∙ ap (λ m. length d + m) (length-replicate (32 - length d) Nil) ∙ omega arith
+-- the first values of an array of 32
+pub length-first : (vs : List Value) (n : ℕ) → n ≤ 32 → length vs ≡ 32 → length (take n vs) ≡ n
+length-first vs n h long = length-take-le n vs (omega arith)
 
 pub loaded : (vs : List Value) (n k : ℕ) (x : Value) → k < n → k < length vs → get_or vs k x ≡ nth (take n vs) k
 loaded vs n k x h lt =

@@ -1,6 +1,6 @@
 //! What stands in the cells of a heap.
 ghost use Rattle.std.specs.Prelude.{◌≡◌, ◌≤◌};
-ghost use Rattle.node_heap.specs.Heaps.{body_frame, frame_by, head_by};
+ghost use Rattle.node_heap.specs.Heaps.{frame_by, head_by};
 ghost use Rattle.node_heap.specs.Layout.{frame_of};
 
 use crate::operands::Operands;
@@ -17,7 +17,7 @@ pub struct Slot {
 
 /// A frame, as a cell holds it: its method's place in the class (a body has none), the place of the instruction at
 /// hand, its temps, its operands, and whom it serves.
-#[derive(Clone, Copy)]
+#[derive(Drop)]
 pub struct FrameCell {
     pub method: Option<u32>,
     pub at: u32,
@@ -26,30 +26,29 @@ pub struct FrameCell {
     pub serves: Serves,
 }
 
-impl FrameCell {
-    /// A frame that begins, with nil temps, of which there are at most 32.
-    pub fn begin(head: FrameHead) -> FrameCell
-        requires { head.temps ≤ 32 }
-        ensures { frame_of result ≡ frame_by head }
-    {
+impl Default for FrameCell {
+    fn default() -> FrameCell {
         FrameCell {
-            method: head.method,
+            method: None,
             at: 0,
-            temps: Temps::make(head.temps),
+            temps: Temps::make(),
             operands: Operands::make(),
-            serves: head.serves,
+            serves: Serves::Sender,
         }
     }
+}
 
-    /// The frame of a body that begins.
-    pub fn body() -> FrameCell
-        ensures { frame_of result ≡ body_frame }
+impl FrameCell {
+    /// Makes it a frame that begins, with nil temps, of which there are at most 32. Nothing else is written.
+    pub fn begin(&mut self, head: FrameHead)
+        requires { head.temps ≤ 32 }
+        ensures { frame_of self.new ≡ frame_by head }
     {
-        FrameCell::begin(FrameHead {
-            method: None,
-            temps: 0,
-            serves: Serves::Sender,
-        })
+        self.method = head.method;
+        self.at = 0;
+        self.temps.begin(head.temps);
+        self.operands.clear();
+        self.serves = head.serves;
     }
 
     /// The frame's method, its number of temps, and whom it serves.

@@ -1,8 +1,10 @@
 //! The objects of one node.
-ghost use Rattle.std.specs.Prelude.{◌≡◌, ◌<◌, ◌≤◌, ◌↔◌, [], ◌∷◌, ◌++◌, length, slice_set, Some, IfOk, OnErr, OnOk, Err};
+ghost use Rattle.std.specs.Prelude.{◌≡◌, ◌<◌, ◌≤◌, ◌↔◌, true, false, [], ◌∷◌, ◌++◌, length, slice_set, Some, IfOk, OnErr, OnOk, Err};
 ghost use Rattle.pool_syntax.specs.declared.words.Serves.TheVariants as S;
 ghost use Rattle.object_code.specs.Frames.{top, below};
 ghost use Rattle.object_code.specs.Step.{nth};
+ghost use Rattle.cell_pool.specs.Lists.{lengths, list_of, with_list, free_of};
+ghost use Rattle.node_heap.specs.Layout.{frame_of};
 ghost use Rattle.node_heap.specs.Heaps.{object_at, put_object, frames_used, unbegun, frame_by, head_by, top_in, under_top, top_at, put_top};
 
 use crate::cells::{FrameCell, Slot};
@@ -35,6 +37,23 @@ impl Model for Heap {
     ghost view = { heap_of };
 
     ghost invariant = { IsHeap };
+}
+
+/// Begins a frame at the front of a queue, in its cell, and tells whether a cell was free.
+fn begin_frame(frames: &mut CellPool<FrameCell>, queue: usize, head: FrameHead) -> bool
+    requires queue { queue < length frames.old.lists }
+    requires temps { head.temps ≤ 32 }
+    ensures full { (result ≡ false) ↔ (free_of frames.old ≡ 0) }
+    ensures within { lengths frames.old.lists ≤ frames.old.cells }
+    ensures begun { result ≡ true → (c : FrameCell) × (frame_of c ≡ frame_by head) × (frames.new ≡ with_list frames.old queue (c ∷ list_of frames.old queue)) }
+    ensures same { result ≡ false → frames.new ≡ frames.old }
+{
+    if !frames.push_front_stale(queue) {
+        return false;
+    }
+    let cell = frames.get_mut(queue, 0);
+    cell.begin(head);
+    true
 }
 
 impl Heap {
@@ -76,13 +95,16 @@ impl Heap {
         if slot == self.limits.objects as usize {
             return Err(HeapFull::Objects);
         }
-        match self.frames.push_front(slot, FrameCell::body()) {
-            Ok(()) => {
-                self.slots.push_reserved(Slot { class, vars });
-                Ok(slot as u32)
-            }
-            Err(_) => Err(HeapFull::Frames),
+        let head = FrameHead {
+            method: None,
+            temps: 0,
+            serves: Serves::Sender,
+        };
+        if !begin_frame(&mut self.frames, slot, head) {
+            return Err(HeapFull::Frames);
         }
+        self.slots.push_reserved(Slot { class, vars });
+        Ok(slot as u32)
     }
 
     /// Puts a frame on top of a slot's, at place 0, with nil temps and no operands. `Frames`, and nothing else, comes
@@ -94,12 +116,10 @@ impl Heap {
         ensures err { OnErr result ((result ≡ Err HeapFull.Frames) × (self.new ≡ self.old)) }
         ensures full { (result ≡ Err HeapFull.Frames) ↔ (frames_used self.old ≡ self.old.most_frames) }
     {
-        match self
-            .frames
-            .push_front(slot as usize, FrameCell::begin(frame))
-        {
-            Ok(()) => Ok(()),
-            Err(_) => Err(HeapFull::Frames),
+        if begin_frame(&mut self.frames, slot as usize, frame) {
+            Ok(())
+        } else {
+            Err(HeapFull::Frames)
         }
     }
 
@@ -110,7 +130,9 @@ impl Heap {
         ensures head { result ≡ head_by (top_at self.old slot) }
         ensures frames { self.new ≡ put_object self.old slot (record (object_at self.old slot) { frames = under_top (object_at self.old slot).frames }) }
     {
-        self.frames.remove(slot as usize, 0).head()
+        let head = self.head(slot);
+        self.frames.discard_front(slot as usize);
+        head
     }
 
     /// The head of a slot's top frame.

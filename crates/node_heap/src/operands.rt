@@ -6,8 +6,9 @@ ghost use Rattle.object_code.specs.Step.{nth};
 use pool_syntax::Value;
 use std::marker::Model;
 
-/// At most 64 values, which contracts see as a list with the last one first.
-#[derive(Clone, Copy)]
+/// At most 64 values, which contracts see as a list with the last one first. What stands behind them in the array is
+/// whatever was there.
+#[derive(Drop)]
 pub struct Operands {
     values: [Value; 64],
     count: u32,
@@ -16,17 +17,13 @@ pub struct Operands {
 impl Model for Operands {
     ghost use Rattle.std.specs.Prelude.{List as value_list, ◌≡◌, ◌≤◌, length};
     ghost use Rattle.pool_syntax.specs.declared.words.Value.{Value as OneValue};
-    ghost use Rattle.node_heap.specs.Rows.{stack, stack_row};
+    ghost use Rattle.node_heap.specs.Rows.{stack};
 
     ghost Value = { value_list OneValue };
 
     ghost view = { λ s. stack s.values s.count };
 
-    ghost invariant = { λ s. (s.count ≤ 64) × (stack_row (stack s.values s.count) ≡ s.values) × (length (stack s.values s.count) ≡ s.count) };
-
-    ghost inverse = { λ d. record { values = stack_row d; count = length d } };
-
-    ghost inverse_ok = { λ a h i. record { values = h.1 i; count = h.2 i } };
+    ghost invariant = { λ s. (s.count ≤ 64) × (length s.values ≡ 64) };
 }
 
 impl Operands {
@@ -38,6 +35,13 @@ impl Operands {
             values: [Value::Nil; 64],
             count: 0,
         }
+    }
+
+    /// Takes all operands.
+    pub fn clear(&mut self)
+        ensures { self.new ≡ [] }
+    {
+        self.count = 0;
     }
 
     /// Puts a value on the operands, which are fewer than 64.
@@ -56,10 +60,7 @@ impl Operands {
         ensures rest { self.new ≡ below self.old }
     {
         self.count -= 1;
-        let place = self.count as usize;
-        let value = self.values[place];
-        self.values[place] = Value::Nil;
-        value
+        self.values[self.count as usize]
     }
 
     /// The operand that has so many others above it.

@@ -1,13 +1,13 @@
 //! The temps of a frame.
-ghost use Rattle.std.specs.Prelude.{◌≡◌, ◌<◌, ◌≤◌, length, slice_set};
+ghost use Rattle.std.specs.Prelude.{◌≡◌, ◌<◌, ◌≤◌, [], length, slice_set};
 ghost use Rattle.object_code.specs.Step.{nth};
 ghost use Rattle.node_heap.specs.Heaps.{nils};
 
 use pool_syntax::Value;
 use std::marker::Model;
 
-/// At most 32 values, which contracts see as a list.
-#[derive(Clone, Copy)]
+/// At most 32 values, which contracts see as a list. What stands behind them in the array is whatever was there.
+#[derive(Drop)]
 pub struct Temps {
     values: [Value; 32],
     count: u32,
@@ -16,29 +16,34 @@ pub struct Temps {
 impl Model for Temps {
     ghost use Rattle.std.specs.Prelude.{List as value_list, ◌≡◌, ◌≤◌, length, take as first_of};
     ghost use Rattle.pool_syntax.specs.declared.words.Value.{Value as OneValue};
-    ghost use Rattle.node_heap.specs.Rows.{padded_row};
 
     ghost Value = { value_list OneValue };
 
     ghost view = { λ t. first_of t.count t.values };
 
-    ghost invariant = { λ t. (t.count ≤ 32) × (padded_row (first_of t.count t.values) ≡ t.values) × (length (first_of t.count t.values) ≡ t.count) };
-
-    ghost inverse = { λ d. record { values = padded_row d; count = length d } };
-
-    ghost inverse_ok = { λ a h i. record { values = h.1 i; count = h.2 i } };
+    ghost invariant = { λ t. (t.count ≤ 32) × (length t.values ≡ 32) };
 }
 
 impl Temps {
-    /// So many temps, all nil.
-    pub fn make(count: u32) -> Temps
-        requires { count ≤ 32 }
-        ensures { result ≡ nils count }
+    /// No temp.
+    pub fn make() -> Temps
+        ensures { result ≡ [] }
     {
         Temps {
             values: [Value::Nil; 32],
-            count,
+            count: 0,
         }
+    }
+
+    /// Makes them so many temps, all nil.
+    pub fn begin(&mut self, count: u32)
+        requires { count ≤ 32 }
+        ensures { self.new ≡ nils count }
+    {
+        for place in 0..count as usize {
+            self.values[place] = Value::Nil;
+        }
+        self.count = count;
     }
 
     /// The number of temps.

@@ -1,5 +1,5 @@
 -- What is known where an instruction is done: its operands are there, what it names is there, and the next place is one of the code.
-use Rattle.std.proofs.Common.{◌≡◌, inl, refl, sym, ap, ◌∙◌, subst, IsTrue, ℕ, zero, suc, ◌+◌, ◌-◌, ◌<◌, ◌≤◌, ◌^◌, List, [], ◌∷◌, length, Option, Some, None, is_some, get_or, arith}
+use Rattle.std.proofs.Common.{◌≡◌, inl, refl, sym, ap, ◌∙◌, subst, IsTrue, ℕ, zero, suc, ◌+◌, ◌-◌, ◌<◌, ◌≤◌, ◌^◌, List, [], ◌∷◌, length, Some, None, is_some, get_or, arith}
 use Rattle.std.specs.Prelude.{slice_get, slice_set}
 use Rattle.std.proofs.lemmas.Option.{get_or_from_slice_get}
 use Rattle.pool_syntax.specs.declared.words.NameId.{NameId}
@@ -19,7 +19,6 @@ use Rattle.node_heap.specs.Heaps.{HeapOf, object_at, put_object, no_object, fram
 use Rattle.unit_objects.specs.OfUnit.{IsFrameOf, AreFramesOf, missing_under, FitsUnit, AnyValue}
 use Rattle.unit_objects.proofs.Reaching.{proper_code, reached_next, frame_on_top}
 use Rattle.unit_objects.proofs.Resting.{same_some}
-use Rattle.object_interp.specs.Bursts.{deciding_count}
 use Rattle.object_interp.specs.Tops.{HasTop, class_in, instr_in}
 use Rattle.object_interp.proofs.Facts.{known}
 
@@ -50,15 +49,6 @@ instr_known u proper x t i e =
           let s = k.code.suffices at held next in
           (s.1, omega (arith, s.0, enough));
     }
-
-deciding_few : (k : Option ClassCode) (i : Instr) → deciding_count i ≤ takes k i
-deciding_few k (I.Oper op) = omega arith
-deciding_few k (I.Branch a) = omega arith
-deciding_few k _ = omega arith
-
--- the operands are there that decide whether it is a local step
-pub deciding_there : (u : Code) → IsProper u → (x : CodeObject) (t : HasTop u x) (i : Instr) → instr_in u x ≡ Some i → deciding_count i ≤ length (top_in x.frames).operands
-deciding_there u proper x t i e = omega (arith, deciding_few (Some t.class) i, (instr_known u proper x t i e).enough)
 
 -- an instruction that goes on to the next place
 pub next_place : (u : Code) → IsProper u → (x : CodeObject) (t : HasTop u x) (i : Instr) → instr_in u x ≡ Some i

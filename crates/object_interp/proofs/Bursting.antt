@@ -9,7 +9,7 @@ use Rattle.object_code.specs.declared.unit.ClassCode.{ClassCode}
 use Rattle.object_code.specs.declared.unit.Unit.{Unit as Code}
 use Rattle.object_code.specs.declared.unit.Frame.{Frame}
 use Rattle.object_code.specs.declared.unit.CodeObject.{CodeObject}
-use Rattle.object_code.specs.Kinds.{Kind, code_kind}
+use Rattle.object_code.specs.Kinds.{Kind, code_kind, instr_kind}
 use Rattle.object_code.specs.Kinds as C
 use Rattle.object_code.specs.Frames.{top}
 use Rattle.object_code.specs.Step.{Numbered, method_named, is_own, called, handed, left, instr_stepped, code_stepped}
@@ -146,6 +146,11 @@ module _ (u : Code) (proper : IsProper u) (now : HeapOf) (slot o : ℕ) (fits : 
   step_room (I.Select alts) e = no_call_room (I.Select alts) e (few (I.Select alts) tt)
   step_room I.Halt e = no_call_room I.Halt e (few I.Halt tt)
   step_room I.Post e = no_call_room I.Post e (few I.Post tt)
+
+-- a call is a local step
+pub call_local : (f : Frame) (h : HeapOf) (i : Instr) → call_fits h i ≡ false → is_local (instr_kind f (Some i)) ≡ true
+call_local f h (I.Call m) e = refl
+call_local f h _ e = absurd (grind (arith, e))
 
 full_of : (h : HeapOf) (i : Instr) → call_fits h i ≡ false → frames_used h ≤ h.most_frames → frames_used h ≡ h.most_frames
 full_of h (I.Call m) e within = let past = ltb-false (frames_used h) h.most_frames e in omega (arith, past, within)

@@ -1,9 +1,9 @@
 -- What a proper unit says of the innermost frame.
-use Rattle.std.proofs.Common.{◌≡◌, refl, sym, ap, ◌∙◌, ℕ, suc, ◌+◌, ◌<◌, ◌≤◌, ◌^◌, List, [], ◌∷◌, length, Some, None, drop, arith}
+use Rattle.std.proofs.Common.{◌≡◌, refl, sym, ap, ◌∙◌, ℕ, suc, ◌+◌, ◌<◌, ◌≤◌, ◌^◌, List, [], ◌∷◌, length, Some, None, get_or, drop, arith}
 use Rattle.std.specs.Prelude.{slice_get, if◌then◌else◌}
 use Rattle.std.proofs.Math.Seq.{drop-cons}
 use Rattle.std.proofs.lemmas.Bool.{eq-eqb}
-use Rattle.std.proofs.lemmas.Option.{slice_get_within, get_or_from_slice_get}
+use Rattle.std.proofs.lemmas.Option.{slice_get_within, slice_get_read, get_or_from_slice_get}
 use Rattle.pool_syntax.specs.declared.words.Value.{Value}
 use Rattle.pool_syntax.specs.declared.words.NameId.{NameId}
 use Rattle.pool_syntax.specs.declared.words.Serves.TheVariants as S
@@ -68,6 +68,18 @@ at_hand u proper x t =
     let f = top_in x.frames in
     let r = k.code.suffices f.at (0 + length f.operands) t.is_frame.reached in
     (r.2.0, ap (λ c. slice_get c f.at) k.same_code ∙ r.2.1)
+
+-- the place at hand is in the code, and the instruction there is the one at hand
+pub hand_within : (u : Code) → IsProper u → (x : CodeObject) → HasTop u x → (code : List Instr) (place : ℕ) → code ≡ code_in u x → place ≡ (top_in x.frames).at → place < length code
+hand_within u proper x t code place same at =
+    let i = at_hand u proper x t in
+    let there = slice_get_within (code_in u x) (top_in x.frames).at i.0 i.1 in
+    omega (arith, there, ap length same, at)
+
+pub hand_there : (u : Code) (x : CodeObject) (code : List Instr) (place : ℕ) (i : Instr) → code ≡ code_in u x → place ≡ (top_in x.frames).at → place < length code → i ≡ get_or code place i
+    → instr_in u x ≡ Some i
+hand_there u x code place i same at there e =
+    ap (slice_get (code_in u x)) (sym at) ∙ ap (λ c. slice_get c place) (sym same) ∙ slice_get_read code (length code) place i refl there e
 
 -- the method of this place, which has the name, is the first of those from there on
 pub method_first : (ms : List MethodCode) (n : ℕ) (k : MethodCode) (m : NameId) → slice_get ms n ≡ Some k → k.name.0 ≡ m.0

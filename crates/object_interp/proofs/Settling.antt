@@ -1,5 +1,5 @@
 -- The silent instructions at hand, one after the other.
-use Rattle.std.proofs.Common.{◌≡◌, refl, sym, ap, ◌∙◌, subst, ℕ, suc, ◌<◌, ◌≤◌, ◌^◌, List, ◌∷◌, length, Option, Some, None, true, false, get_or, arith}
+use Rattle.std.proofs.Common.{◌≡◌, refl, sym, ap, ◌∙◌, subst, ℕ, zero, suc, ◌<◌, ◌≤◌, ◌^◌, List, ◌∷◌, length, Option, Some, None, true, false, get_or, arith}
 use Rattle.std.specs.Prelude.{slice_get}
 use Rattle.std.proofs.lemmas.Option.{slice_get_within, slice_get_read}
 use Rattle.pool_syntax.specs.declared.words.Serves.{Serves}
@@ -11,7 +11,7 @@ use Rattle.object_code.specs.declared.unit.Frame.{Frame}
 use Rattle.object_code.specs.declared.unit.CodeObject.{CodeObject}
 use Rattle.object_code.specs.Frames.{code_of, next, post_passed, silent, go_on_with, settled_within, settled}
 use Rattle.object_code.specs.Proper.{IsProper}
-use Rattle.node_heap.specs.Heaps.{HeapOf, object_at, put_object, top_at, top_in, under_top}
+use Rattle.node_heap.specs.Heaps.{HeapOf, object_at, put_object, put_top, top_at, top_in, under_top}
 use Rattle.unit_objects.specs.OfUnit.{AnyValue}
 use Rattle.unit_objects.proofs.Laws.{plain_any, silent_of}
 use Rattle.unit_objects.proofs.Resting.{same_some, passed_is}
@@ -35,6 +35,14 @@ silent_method f g (Some (I.Jump a)) h = ap (λ y. y.method) (sym (same_some _ _ 
 silent_method f g (Some I.Post) h = ap (λ y. y.method) (sym (passed_is f g f.serves h))
 silent_method f g _ h = absurd (grind (arith, h))
 
+pub settled_method : (code : List Instr) (n : ℕ) (f : Frame) → (settled_within code n f).method ≡ f.method
+settled_method code zero f = refl
+settled_method code (suc n) f = by (λ g. settled_method code n g) (silent f (slice_get code f.at)) refl
+  where
+    by : ((g : Frame) → (settled_within code n g).method ≡ g.method) → (o : Option Frame) → silent f (slice_get code f.at) ≡ o → (go_on_with f (settled_within code n) o).method ≡ f.method
+    by same None e = refl
+    by same (Some g) e = same g ∙ silent_method f g (slice_get code f.at) e
+
 -- so far: the frame that is reached, and that settling the rest from there is settling all
 pub record Settling (u : Code) (h : HeapOf) (slot : ℕ) (left : ℕ) (now : HeapOf) : Type 0 where
   pub frame : Frame
@@ -49,6 +57,25 @@ same_top x e = ap (λ fs. record x { frames = fs }) (sym e)
 
 pub settled_top : (u : Code) (x : CodeObject) → x.frames ≡ top_in x.frames ∷ under_top x.frames → settled_at u x ≡ with_top x (settled (code_in u x) (top_in x.frames))
 settled_top u x e = ap (frames_settled (class_in u x) x) e
+
+-- the code of the innermost frame stays
+pub settled_code : (u : Code) (x : CodeObject) → x.frames ≡ top_in x.frames ∷ under_top x.frames → code_in u (settled_at u x) ≡ code_in u x
+settled_code u x e =
+    ap (code_in u) (settled_top u x e) ∙ ap (code_of (class_in u x)) (settled_method (code_in u x) (length (code_in u x)) (top_in x.frames))
+
+-- the same, said of the frame
+pub settled_in : (u : Code) (h : HeapOf) (slot : ℕ) (code : List Instr) → HasTop u (object_at h slot) → code ≡ code_in u (object_at h slot)
+    → put_object h slot (settled_at u (object_at h slot)) ≡ put_top h slot (settled code (top_at h slot))
+settled_in u h slot code t e =
+    ap (put_object h slot) (settled_top u (object_at h slot) t.some ∙ ap (λ c. with_top (object_at h slot) (settled c (top_at h slot))) (sym e))
+
+-- so far in a code that is the one of the innermost frame
+pub record SettlingIn (code : List Instr) (h : HeapOf) (slot : ℕ) (left : ℕ) (now : HeapOf) : Type 0 where
+  pub unit : Code
+  pub proper : IsProper unit
+  pub top : HasTop unit (object_at h slot)
+  pub is_code : code ≡ code_in unit (object_at h slot)
+  pub so_far : Settling unit h slot left now
 
 module _ (u : Code) (h : HeapOf) (slot : ℕ) where
   abbrev object : CodeObject

@@ -22,7 +22,7 @@ use Rattle.unit_objects.specs.OfUnit.{IsFrameOf, AreFramesOf, missing_under, Fit
 use Rattle.unit_objects.proofs.Reaching.{frame_on_top, with_missing}
 use Rattle.unit_objects.proofs.Laws as U
 use Rattle.unit_objects.proofs.Laws.{each_any, found_named, length_padded, settled_done}
-use Rattle.object_interp.specs.Moves.{entered, ended, handed_on, moved}
+use Rattle.object_interp.specs.Moves.{entered, ended, handed_on, moved, stays_in_frame}
 use Rattle.object_interp.specs.Rest.{settled_at}
 use Rattle.object_interp.specs.Tops.{HasTop, class_in, code_in, instr_in, over, with_top}
 use Rattle.object_interp.proofs.Facts.{has_top}
@@ -70,6 +70,21 @@ module _ (u : Code) (o : ℕ) (x : CodeObject) (rest : settled_at u x ≡ x) (f 
   settled_moved fs (I.Call m) = settled_call fs (method_named its m)
   settled_moved fs I.Ret = settled_ended fs (is_own f.serves) refl
   settled_moved fs _ = rest
+
+-- the code of the innermost frame stays where the frame does
+pub code_kept : (u : Code) (o : ℕ) (x : CodeObject) (i : Instr) → stays_in_frame i ≡ true → code_in u (moved (class_in u x) o x (top_in x.frames) (under_top x.frames) i) ≡ code_in u x
+code_kept u o x (I.LoadI n) h = refl
+code_kept u o x (I.LoadT n) h = refl
+code_kept u o x I.SelfRef h = refl
+code_kept u o x (I.StoreI n) h = refl
+code_kept u o x (I.StoreT n) h = refl
+code_kept u o x (I.Oper op) h = refl
+code_kept u o x I.Pop h = refl
+code_kept u o x (I.Branch a) h = refl
+code_kept u o x I.Loop h = refl
+code_kept u o x (I.Call m) h = absurd (grind (arith, h))
+code_kept u o x I.Ret h = absurd (grind (arith, h))
+code_kept u o x _ h = refl
 
 -- a method that begins
 pub begun_frame : (k : ClassCode) (m : NameId) (found : Numbered) (args : List Value) (s : Serves) → method_named (Some k) m ≡ Some found

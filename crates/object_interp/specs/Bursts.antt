@@ -1,11 +1,9 @@
 -- A burst: local steps of one object, one after the other.
 use Rattle.std.specs.Prelude.{◌≡◌, ℕ, zero, suc, ◌+◌, ◌-◌, ◌*◌, ◌<◌, length, Bool, true, false, ◌&&◌, if◌then◌else◌, nat_le}
-use Rattle.object_code.specs.declared.unit.Instr.{Instr}
-use Rattle.object_code.specs.declared.unit.Instr.TheVariants as I
 use Rattle.object_code.specs.declared.unit.CodeObject.{CodeObject}
 use Rattle.object_code.specs.declared.unit.Unit.{Unit as Code}
 use Rattle.object_code.specs.Kinds as C
-use Rattle.object_code.specs.Kinds.{Kind, arity, code_kind}
+use Rattle.object_code.specs.Kinds.{Kind, code_kind}
 use Rattle.object_code.specs.Step.{code_stepped}
 use Rattle.node_heap.specs.Heaps.{HeapOf, object_at, put_object, frames_used}
 use Rattle.object_interp.specs.declared.words.Burst.{Burst}
@@ -23,12 +21,6 @@ room_in h slot = h.most_frames + length (object_at h slot).frames - frames_used 
 abbrev pub is_local : Kind → Bool
 is_local C.Local = true
 is_local _ = false
-
--- how many operands of the frame decide whether an instruction is a local step
-abbrev pub deciding_count : Instr → ℕ
-deciding_count (I.Oper op) = arity op
-deciding_count (I.Branch a) = 1
-deciding_count _ = 0
 
 -- whether the object of the name o makes a local step, and has then no more frames than there is room for
 abbrev pub can_step : Code → ℕ → ℕ → CodeObject → Bool

@@ -53,6 +53,12 @@ moved k o x f fs (I.Call m) = entered x f fs (method_named k m)
 moved k o x f fs I.Ret = ended x f fs
 moved k o x f fs _ = x
 
+-- the frame is the same after the local step, or another one with the same code
+abbrev pub stays_in_frame : Instr → Bool
+stays_in_frame (I.Call m) = false
+stays_in_frame I.Ret = false
+stays_in_frame _ = true
+
 -- what goes on after it was done
 abbrev pub gone : CodeObject → Frame → List Frame → Instr → CodeObject
 gone x f fs I.Write = over x (next f (below f.operands)) fs

@@ -9,7 +9,6 @@ ghost use Rattle.object_code.specs.Kinds as C;
 ghost use Rattle.object_code.specs.Kinds.{arity, instr_kind, operated, outcome_kind, return_kind, select_kind};
 ghost use Rattle.object_code.specs.Proper.{IsProper};
 ghost use Rattle.node_heap.specs.Heaps.{object_at, top_at};
-ghost use Rattle.object_interp.specs.Bursts.{deciding_count, is_local};
 ghost use Rattle.object_interp.specs.Offers.{hand_of};
 ghost use Rattle.object_interp.specs.Tops.{HasTop, instr_in};
 
@@ -107,55 +106,6 @@ fn select_hand(heap: &Heap, slot: u32, count: u32) -> Hand
         Hand::At(Need::Select)
     } else {
         fault(Error::NoOpenGuard)
-    }
-}
-
-/// Whether an operator makes a local transition of its operands, and no error.
-fn operator_is_local(heap: &Heap, slot: u32, op: Op) -> bool
-    requires slot { slot < length heap.now.objects }
-    requires enough { arity op ≤ length (top_at heap.now slot).operands }
-    ensures { result ≡ is_local (outcome_kind (operated op (top_at heap.now slot).operands)) }
-{
-    match outcome(heap, slot, op) {
-        Answer::Gives(_) => true,
-        _ => false,
-    }
-}
-
-/// Whether a branch on this condition is a local transition, and no error.
-fn branch_is_local(condition: Value) -> bool
-    ensures { result ≡ is_bool condition }
-{
-    match condition {
-        Value::Bool(_) => true,
-        _ => false,
-    }
-}
-
-/// Whether the end of the value of a method that serves this one gives no value back to a caller.
-fn return_is_local(serves: Serves) -> bool
-    ensures { (value : _) → result ≡ is_local (return_kind serves value) }
-{
-    match serves {
-        Serves::Caller { .. } => false,
-        _ => true,
-    }
-}
-
-/// Whether the instruction at hand makes a local transition.
-pub(crate) fn is_local_at(heap: &Heap, slot: u32, instr: &Instr) -> bool
-    requires slot { slot < length heap.now.objects }
-    requires enough { deciding_count instr.now ≤ length (top_at heap.now slot).operands }
-    ensures { result ≡ is_local (instr_kind (top_at heap.now slot) (Some instr.now)) }
-{
-    match instr {
-        Instr::Oper(op) => operator_is_local(heap, slot, *op),
-        Instr::Branch(_) => branch_is_local(value_at(heap, slot, 0)),
-        Instr::Ret | Instr::Post => return_is_local(heap.head(slot).serves),
-        Instr::New(_) | Instr::Send { .. } | Instr::Async { .. } => false,
-        Instr::Write | Instr::WriteText(_) => false,
-        Instr::Answer { .. } | Instr::Select { .. } | Instr::Halt => false,
-        _ => true,
     }
 }
 

@@ -13,9 +13,9 @@ ghost use Rattle.object_interp.specs.Rest.{settled_at};
 ghost use Rattle.object_interp.specs.Tops.{HasTop, instr_in};
 
 use crate::choices::{choose, open_alt};
-use crate::hands::{hand_at, is_local_at};
+use crate::hands::hand_at;
 use crate::moves::{begin, frame_is_free, operands_asked, pass, replace, settle, step};
-use crate::read::{class_at, instr_at, method_place};
+use crate::read::{class_at, code_at, instr_at, method_place};
 use crate::words::{Burst, Hand};
 use node_heap::{Heap, HeapFull};
 use object_code::{Instr, Unit};
@@ -63,15 +63,16 @@ pub fn burst(unit: &Unit, heap: &mut Heap, slot: u32, quantum: u32) -> Burst
     ensures fits { FitsUnit unit.now (object_at heap.new slot) }
     ensures rests { IsAtStep unit.now (object_at heap.new slot) }
 {
+    let mut code = code_at(unit, heap, slot);
     for done in 0..quantum {
-        let instr = instr_at(unit, heap, slot);
-        if !is_local_at(heap, slot, instr) {
-            return stopped_at(unit, heap, slot, instr, done);
-        }
+        let instr = &code[heap.at(slot) as usize];
         if !frame_is_free(heap, instr) {
             return stopped_full(done);
         }
-        step(unit, heap, slot, instr);
+        match step(unit, heap, slot, code, instr) {
+            Some(next) => code = next,
+            None => return stopped_at(unit, heap, slot, instr, done),
+        }
     }
     Burst::Local { steps: quantum }
 }

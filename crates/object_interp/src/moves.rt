@@ -1,19 +1,20 @@
 //! One instruction, and the silent ones after it.
-ghost use Rattle.std.specs.Prelude.{◌≡◌, ◌<◌, ◌≤◌, ◌+◌, ◌^◌, ◌≢◌, true, suc, [], ◌∷◌, IsTrue, Some, None, is_some, length, slice_get, take};
-ghost use Rattle.pool_syntax.specs.Values.{is_true as holds};
+ghost use Rattle.std.specs.Prelude.{◌≡◌, ◌<◌, ◌≤◌, ◌+◌, ◌^◌, ◌≢◌, true, false, suc, [], ◌∷◌, IsTrue, Some, None, IfSome, IfNone, is_some, length, slice_get, take};
+ghost use Rattle.pool_syntax.specs.Values.{is_bool, is_true as holds};
 ghost use Rattle.value_operators.specs.Operated.{outcome_of};
 ghost use Rattle.object_code.specs.declared.unit.Frame.{Frame};
 ghost use Rattle.object_code.specs.declared.unit.MethodCode.{MethodCode};
-ghost use Rattle.object_code.specs.Frames.{top, below, dropped, next, post_passed, silent, go_on_with};
-ghost use Rattle.object_code.specs.Kinds.{operated, arity};
+ghost use Rattle.object_code.specs.Frames.{top, below, dropped, next, post_passed, silent, settled, go_on_with};
+ghost use Rattle.object_code.specs.Kinds.{operated, arity, instr_kind, outcome_kind, return_kind};
+ghost use Rattle.object_code.specs.declared.unit.Unit.{Unit as Code};
 ghost use Rattle.object_code.specs.Step.{asked, begun, code_stepped, is_own, method_named, outcome_value, padded};
 ghost use Rattle.object_code.specs.Proper.{IsProper};
 ghost use Rattle.unit_objects.specs.OfUnit.{FitsUnit, IsAtStep};
 ghost use Rattle.node_heap.specs.Heaps.{object_at, put_object, top_at, put_top, top_in, under_top, frames_used, nils};
-ghost use Rattle.object_interp.specs.Bursts.{name_in};
-ghost use Rattle.object_interp.specs.Moves.{Passes, RunsTo, branched, call_fits, ended, entered, gone, moved, replaced};
+ghost use Rattle.object_interp.specs.Bursts.{name_in, is_local};
+ghost use Rattle.object_interp.specs.Moves.{Passes, RunsTo, branched, call_fits, ended, entered, gone, moved, replaced, stays_in_frame};
 ghost use Rattle.object_interp.specs.Rest.{settled_at};
-ghost use Rattle.object_interp.specs.Tops.{HasTop, class_in, instr_in, over};
+ghost use Rattle.object_interp.specs.Tops.{HasTop, class_in, code_in, instr_in, over};
 
 use crate::read::{class_at, code_at, instr_at, last_values, method_place, name_at, value_at};
 use node_heap::{FrameHead, Heap, HeapFull};
@@ -91,7 +92,7 @@ pub(crate) fn is_true(value: Value) -> bool
 }
 
 /// Pops a condition, and goes to the next place where it is true, and else to the place `to`.
-fn branch(heap: &mut Heap, slot: u32, to: u32)
+fn go(heap: &mut Heap, slot: u32, to: u32)
     requires slot { slot < length heap.old.objects }
     requires place { suc (top_at heap.old slot).at < 2 ^ 32 }
     requires one { 0 < length (top_at heap.old slot).operands }
@@ -100,6 +101,24 @@ fn branch(heap: &mut Heap, slot: u32, to: u32)
     let condition = pop_next(heap, slot);
     if !is_true(condition) {
         heap.set_at(slot, to);
+    }
+}
+
+/// Goes where a branch leads, if its condition is a truth value, and tells whether it is.
+fn branch(heap: &mut Heap, slot: u32, to: u32) -> bool
+    requires slot { slot < length heap.old.objects }
+    requires place { suc (top_at heap.old slot).at < 2 ^ 32 }
+    requires one { 0 < length (top_at heap.old slot).operands }
+    ensures local { result ≡ is_bool (top (top_at heap.old slot).operands) }
+    ensures made { result ≡ true → heap.new ≡ put_top heap.old slot (branched (top_at heap.old slot) to) }
+    ensures same { result ≡ false → heap.new ≡ heap.old }
+{
+    match value_at(heap, slot, 0) {
+        Value::Bool(_) => {
+            go(heap, slot, to);
+            true
+        }
+        _ => false,
     }
 }
 
@@ -125,15 +144,23 @@ pub(crate) fn outcome(heap: &Heap, slot: u32, op: Op) -> Answer
     }
 }
 
-/// What an operator makes of the last operands, or nil where it fails.
-fn made_by(heap: &Heap, slot: u32, op: Op) -> Value
-    requires slot { slot < length heap.now.objects }
-    requires enough { arity op ≤ length (top_at heap.now slot).operands }
-    ensures { result ≡ outcome_value (operated op (top_at heap.now slot).operands) }
+/// Puts what an operator makes of the last operands in their place, if it makes a value, and tells whether it does.
+fn apply(heap: &mut Heap, slot: u32, op: Op) -> bool
+    requires slot { slot < length heap.old.objects }
+    requires frame { 0 < length (object_at heap.old slot).frames }
+    requires place { suc (top_at heap.old slot).at < 2 ^ 32 }
+    requires enough { arity op ≤ length (top_at heap.old slot).operands }
+    requires room { length (top_at heap.old slot).operands < 64 + arity op }
+    ensures local { result ≡ is_local (outcome_kind (operated op (top_at heap.old slot).operands)) }
+    ensures made { result ≡ true → heap.new ≡ put_top heap.old slot (replaced (top_at heap.old slot) (arity op) (outcome_value (operated op (top_at heap.old slot).operands))) }
+    ensures same { result ≡ false → heap.new ≡ heap.old }
 {
     match outcome(heap, slot, op) {
-        Answer::Gives(value) => value,
-        _ => Value::Nil,
+        Answer::Gives(value) => {
+            replace(heap, slot, operands_of(op), value);
+            true
+        }
+        _ => false,
     }
 }
 
@@ -213,6 +240,35 @@ pub(crate) fn end(heap: &mut Heap, slot: u32)
     }
 }
 
+/// Whether the end of a method's value in the innermost frame gives no value back to a caller.
+fn is_unserved(heap: &Heap, slot: u32) -> bool
+    requires slot { slot < length heap.now.objects }
+    ensures { (value : _) → result ≡ is_local (return_kind (top_at heap.now slot).serves value) }
+{
+    match heap.head(slot).serves {
+        Serves::Caller { name: _, number: _ } => false,
+        _ => true,
+    }
+}
+
+/// Leaves a method that is done, if it serves no caller, and tells whether it does.
+fn leave(heap: &mut Heap, slot: u32) -> bool
+    requires slot { slot < length heap.old.objects }
+    requires frames { 1 < length (object_at heap.old slot).frames }
+    requires one { 0 < length (top_at heap.old slot).operands }
+    requires room { IsTrue (is_own (top_at heap.old slot).serves) → length (top_in (under_top (object_at heap.old slot).frames)).operands < 64 }
+    ensures local { (value : _) → result ≡ is_local (return_kind (top_at heap.old slot).serves value) }
+    ensures made { result ≡ true → heap.new ≡ put_object heap.old slot (ended (object_at heap.old slot) (top_at heap.old slot) (under_top (object_at heap.old slot).frames)) }
+    ensures same { result ≡ false → heap.new ≡ heap.old }
+{
+    if is_unserved(heap, slot) {
+        end(heap, slot);
+        true
+    } else {
+        false
+    }
+}
+
 /// Whether the instruction is no call, or a frame is free.
 pub(crate) fn frame_is_free(heap: &Heap, instr: &Instr) -> bool
     ensures free { result ≡ call_fits heap.now instr.now }
@@ -225,14 +281,16 @@ pub(crate) fn frame_is_free(heap: &Heap, instr: &Instr) -> bool
     }
 }
 
-/// Does the local step of the instruction at hand.
-fn act(unit: &Unit, heap: &mut Heap, slot: u32, instr: &Instr)
+/// Does the local step of the instruction at hand, if it makes one, and tells whether it does.
+fn act(unit: &Unit, heap: &mut Heap, slot: u32, instr: &Instr) -> bool
     requires proper { IsProper unit.now }
     requires slot { slot < length heap.old.objects }
     requires fits { FitsUnit unit.now (object_at heap.old slot) }
     requires at { instr_in unit.now (object_at heap.old slot) ≡ Some instr.now }
     requires free { call_fits heap.old instr.now ≡ true }
-    ensures { heap.new ≡ put_object heap.old slot (moved (class_in unit.now (object_at heap.old slot)) (name_in heap.old slot) (object_at heap.old slot) (top_at heap.old slot) (under_top (object_at heap.old slot).frames) instr.now) }
+    ensures local { result ≡ is_local (instr_kind (top_at heap.old slot) (Some instr.now)) }
+    ensures made { result ≡ true → heap.new ≡ put_object heap.old slot (moved (class_in unit.now (object_at heap.old slot)) (name_in heap.old slot) (object_at heap.old slot) (top_at heap.old slot) (under_top (object_at heap.old slot).frames) instr.now) }
+    ensures same { result ≡ false → heap.new ≡ heap.old }
 {
     match instr {
         Instr::LoadI(var) => {
@@ -255,19 +313,21 @@ fn act(unit: &Unit, heap: &mut Heap, slot: u32, instr: &Instr)
             let value = pop_next(heap, slot);
             heap.store_temp(slot, *temp, value);
         }
-        Instr::Oper(op) => {
-            let value = made_by(heap, slot, *op);
-            replace(heap, slot, operands_of(*op), value);
-        }
+        Instr::Oper(op) => return apply(heap, slot, *op),
         Instr::Pop => {
             pop_next(heap, slot);
         }
-        Instr::Branch(to) => branch(heap, slot, *to),
+        Instr::Branch(to) => return branch(heap, slot, *to),
         Instr::Loop => advance(heap, slot),
         Instr::Call(name) => call(unit, heap, slot, *name),
-        Instr::Ret => end(heap, slot),
+        Instr::Ret => return leave(heap, slot),
+        Instr::Post => return is_unserved(heap, slot),
+        Instr::New(_) | Instr::Send { .. } | Instr::Async { .. } => return false,
+        Instr::Write | Instr::WriteText(_) => return false,
+        Instr::Answer { .. } | Instr::Select { .. } | Instr::Halt => return false,
         _ => {}
     }
+    true
 }
 
 /// Goes past the end of a method's value, and tells whether it does: where the frame serves no caller.
@@ -302,14 +362,12 @@ fn run_silent(heap: &mut Heap, slot: u32, instr: &Instr) -> bool
     true
 }
 
-/// Runs the silent instructions at hand.
-pub(crate) fn settle(unit: &Unit, heap: &mut Heap, slot: u32)
-    requires proper { IsProper unit.now }
+/// Runs the silent instructions at hand, in the code of the innermost frame.
+fn settle_in(heap: &mut Heap, slot: u32, code: &[Instr])
     requires slot { slot < length heap.old.objects }
-    requires top { HasTop unit.now (object_at heap.old slot) }
-    ensures { heap.new ≡ put_object heap.old slot (settled_at unit.now (object_at heap.old slot)) }
+    requires top { (u : Code) × IsProper u × HasTop u (object_at heap.old slot) × (code.now ≡ code_in u (object_at heap.old slot)) }
+    ensures { heap.new ≡ put_top heap.old slot (settled code.now (top_at heap.old slot)) }
 {
-    let code = code_at(unit, heap, slot);
     for _turn in 0..code.len() {
         let at = heap.at(slot);
         if !run_silent(heap, slot, &code[at as usize]) {
@@ -318,18 +376,62 @@ pub(crate) fn settle(unit: &Unit, heap: &mut Heap, slot: u32)
     }
 }
 
-/// Makes the local step at hand, and runs the silent instructions after it.
-pub(crate) fn step(unit: &Unit, heap: &mut Heap, slot: u32, instr: &Instr)
+/// Runs the silent instructions at hand.
+pub(crate) fn settle(unit: &Unit, heap: &mut Heap, slot: u32)
+    requires proper { IsProper unit.now }
+    requires slot { slot < length heap.old.objects }
+    requires top { HasTop unit.now (object_at heap.old slot) }
+    ensures { heap.new ≡ put_object heap.old slot (settled_at unit.now (object_at heap.old slot)) }
+{
+    let code = code_at(unit, heap, slot);
+    settle_in(heap, slot, code);
+}
+
+/// The code of the innermost frame after a local step, in a frame with this code before it.
+fn code_after<'a>(
+    unit: &'a Unit,
+    heap: &Heap,
+    slot: u32,
+    code: &'a [Instr],
+    instr: &Instr,
+) -> &'a [Instr]
+    requires slot { slot < length heap.now.objects }
+    requires top { HasTop unit.now (object_at heap.now slot) }
+    requires code { stays_in_frame instr.now ≡ true → code.now ≡ code_in unit.now (object_at heap.now slot) }
+    ensures { result.now ≡ code_in unit.now (object_at heap.now slot) }
+{
+    match instr {
+        Instr::Call(_) | Instr::Ret => code_at(unit, heap, slot),
+        _ => code,
+    }
+}
+
+/// Makes the local step at hand, if the instruction makes one, and runs the silent instructions after it. The answer is
+/// the code of the innermost frame then. None where the instruction makes no local step; nothing is then changed.
+pub(crate) fn step<'a>(
+    unit: &'a Unit,
+    heap: &mut Heap,
+    slot: u32,
+    code: &'a [Instr],
+    instr: &Instr,
+) -> Option<&'a [Instr]>
     requires proper { IsProper unit.now }
     requires slot { slot < length heap.old.objects }
     requires fits { FitsUnit unit.now (object_at heap.old slot) }
     requires rests { IsAtStep unit.now (object_at heap.old slot) }
+    requires code { code.now ≡ code_in unit.now (object_at heap.old slot) }
     requires at { instr_in unit.now (object_at heap.old slot) ≡ Some instr.now }
     requires free { call_fits heap.old instr.now ≡ true }
-    ensures { heap.new ≡ put_object heap.old slot (code_stepped unit.now (name_in heap.old slot) (object_at heap.old slot)) }
+    ensures local { is_some result ≡ is_local (instr_kind (top_at heap.old slot) (Some instr.now)) }
+    ensures made { IfSome result (λ c. (heap.new ≡ put_object heap.old slot (code_stepped unit.now (name_in heap.old slot) (object_at heap.old slot))) × (c.now ≡ code_in unit.now (object_at heap.new slot))) }
+    ensures same { IfNone result (heap.new ≡ heap.old) }
 {
-    act(unit, heap, slot, instr);
-    settle(unit, heap, slot);
+    if !act(unit, heap, slot, instr) {
+        return None;
+    }
+    let code = code_after(unit, heap, slot, code, instr);
+    settle_in(heap, slot, code);
+    Some(code)
 }
 
 /// How many operands a request for a new object or a call takes.

@@ -127,37 +127,29 @@ store_temp-requires-clause-place c =
     let e = object_then c.args.heap.now c.pop_next-value-in-StoreT.new.heap c.args.slot (with_top x (next f (below f.operands))) c.requires.slot c.pop_next-value-in-StoreT.ensures.rest in
     omega (arith, known.exists, ap (λ y. length (top_in y.frames).temps) e)
 
-pub made_by-value-requires-clause-enough : goal.made_by-value-requires-clause-enough
-made_by-value-requires-clause-enough c =
+pub apply-requires-clause-enough : goal.apply-requires-clause-enough
+apply-requires-clause-enough c =
     let u = c.args.unit.now in
     let x = object_at c.args.heap.now c.args.slot in
     let t = has_top u x c.requires.fits in
     let known = instr_known u c.requires.proper x t (I.Oper c.in-Oper.op) (c.requires.at ∙ ap Some c.in-Oper.is) in
     omega (arith, known.enough)
 
-pub replace-requires-clause-place : goal.replace-requires-clause-place
-replace-requires-clause-place c =
+pub apply-requires-clause-place : goal.apply-requires-clause-place
+apply-requires-clause-place c =
     let u = c.args.unit.now in
     let x = object_at c.args.heap.now c.args.slot in
     let t = has_top u x c.requires.fits in
     let known = instr_known u c.requires.proper x t (I.Oper c.in-Oper.op) (c.requires.at ∙ ap Some c.in-Oper.is) in
     (known.after (suc (top_in x.frames).at) (inl refl)).0
 
-pub replace-requires-clause-enough : goal.replace-requires-clause-enough
-replace-requires-clause-enough c =
+pub apply-requires-clause-room : goal.apply-requires-clause-room
+apply-requires-clause-room c =
     let u = c.args.unit.now in
     let x = object_at c.args.heap.now c.args.slot in
     let t = has_top u x c.requires.fits in
     let known = instr_known u c.requires.proper x t (I.Oper c.in-Oper.op) (c.requires.at ∙ ap Some c.in-Oper.is) in
-    omega (arith, known.enough, c.operands_of.ensures)
-
-pub replace-requires-clause-room : goal.replace-requires-clause-room
-replace-requires-clause-room c =
-    let u = c.args.unit.now in
-    let x = object_at c.args.heap.now c.args.slot in
-    let t = has_top u x c.requires.fits in
-    let known = instr_known u c.requires.proper x t (I.Oper c.in-Oper.op) (c.requires.at ∙ ap Some c.in-Oper.is) in
-    let after = known.after (suc (top_in x.frames).at) (inl refl) in omega (arith, after.1, c.operands_of.ensures)
+    let after = known.after (suc (top_in x.frames).at) (inl refl) in omega (arith, after.1)
 
 pub pop_next-requires-clause-place : goal.pop_next-requires-clause-place
 pop_next-requires-clause-place c =
@@ -199,32 +191,32 @@ advance-requires-clause-place c =
     let known = instr_known u c.requires.proper x t (I.Loop) (c.requires.at ∙ ap Some c.in-Loop.is) in
     (known.after (suc (top_in x.frames).at) (inl refl)).0
 
-pub end-requires-clause-one : goal.end-requires-clause-one
-end-requires-clause-one c =
+pub leave-requires-clause-one : goal.leave-requires-clause-one
+leave-requires-clause-one c =
     let u = c.args.unit.now in
     let x = object_at c.args.heap.now c.args.slot in
     let t = has_top u x c.requires.fits in
     let known = instr_known u c.requires.proper x t (I.Ret) (c.requires.at ∙ ap Some c.in-Ret.is) in
     omega (arith, known.enough)
 
-pub end-requires-clause-frames : goal.end-requires-clause-frames
-end-requires-clause-frames c =
+pub leave-requires-clause-frames : goal.leave-requires-clause-frames
+leave-requires-clause-frames c =
     let u = c.args.unit.now in
     let x = object_at c.args.heap.now c.args.slot in
     let t = has_top u x c.requires.fits in
     let known = instr_known u c.requires.proper x t (I.Ret) (c.requires.at ∙ ap Some c.in-Ret.is) in
     (ret_frames u c.requires.proper x c.requires.fits (c.requires.at ∙ ap Some c.in-Ret.is)).0
 
-pub end-requires-clause-room : goal.end-requires-clause-room
-end-requires-clause-room c =
+pub leave-requires-clause-room : goal.leave-requires-clause-room
+leave-requires-clause-room c =
     let u = c.args.unit.now in
     let x = object_at c.args.heap.now c.args.slot in
     let t = has_top u x c.requires.fits in
     let known = instr_known u c.requires.proper x t (I.Ret) (c.requires.at ∙ ap Some c.in-Ret.is) in
     (ret_frames u c.requires.proper x c.requires.fits (c.requires.at ∙ ap Some c.in-Ret.is)).1
 
-pub returns-in-StoreI : goal.returns-in-StoreI
-returns-in-StoreI c =
+pub returns-in-StoreI-clause-made : goal.returns-in-StoreI-clause-made
+returns-in-StoreI-clause-made c _ =
     let h = c.args.heap.now in
     let s = c.args.slot in
     let x = object_at h s in
@@ -236,8 +228,8 @@ returns-in-StoreI c =
     ∙ ap (λ v. put_object h s (record y { vars = slice_set y.vars n v })) c.pop_next-value.ensures.value
     ∙ ap (λ i. put_object h s (moved (class_in c.args.unit.now x) (name_in h s) x f (under_top x.frames) i)) (sym c.in-StoreI.is)
 
-pub returns-in-StoreT : goal.returns-in-StoreT
-returns-in-StoreT c =
+pub returns-in-StoreT-clause-made : goal.returns-in-StoreT-clause-made
+returns-in-StoreT-clause-made c _ =
     let h = c.args.heap.now in
     let s = c.args.slot in
     let x = object_at h s in

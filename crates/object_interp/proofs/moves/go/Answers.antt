@@ -5,7 +5,7 @@ use Rattle.object_code.specs.Frames.{top, below, next}
 use Rattle.node_heap.specs.Heaps.{object_at, put_object, top_in, top_at}
 use Rattle.object_interp.specs.Tops.{with_top}
 use Rattle.object_interp.proofs.Slots.{put_then}
-use Rattle.object_interp.proofs.moves.branch.Goals as goal
+use Rattle.object_interp.proofs.moves.go.Goals as goal
 
 pub returns-then-not-is_true : goal.returns-then-not-is_true
 returns-then-not-is_true c =
