@@ -1,5 +1,5 @@
 -- In a typed configuration each object shows something.
-use Rattle.std.proofs.Common.{◌≡◌, refl, ◌≤◌, ◌-◌, ℕ, List, length, Option, Some, None, true, false, arith, eq-eqb}
+use Rattle.std.proofs.Common.{◌≡◌, refl, ◌≤◌, ◌-◌, ℕ, List, length, Option, Some, None, is_some, true, false, arith, eq-eqb}
 use Rattle.pool_syntax.specs.declared.words.Value.{Value}
 use Rattle.pool_syntax.specs.declared.words.Error.{Error}
 use Rattle.pool_syntax.specs.Terms.{ProgramTree}
@@ -7,6 +7,7 @@ use Rattle.pool_relation.specs.Action as A
 use Rattle.pool_relation.specs.Action.{Object, Action, action, method_of}
 use Rattle.pool_relation.specs.Configuration.{Configuration, object_of}
 use Rattle.pool_relation.specs.Typed.{CanTake, GoesWrong}
+use Rattle.pool_semantics.specs.declared.plain.redex.Redex.{Redex}
 use Rattle.pool_semantics.specs.Sound.{Sound}
 use Rattle.pool_semantics.specs.Shown.{are_few, shown, shown_of, shown_if, shown_at}
 use Rattle.pool_relation.proofs.Laws.{few_parameters}
@@ -43,3 +44,11 @@ always_shown p c o s h = by (object_of c o) refl h
     by : (r : Option Object) → object_of c o ≡ r → shown_if p o r ≡ None → ⊥
     by None k j = grind arith
     by (Some x) k j = of_fault x x.fault k j
+
+-- whatever an object of it does next is shown
+pub can_be_shown : (p : ProgramTree) (c : Configuration) (o : ℕ) (x : Object) → Sound p c → object_of c o ≡ Some x → is_some (shown (action p o x)) ≡ true
+can_be_shown p c o x s k = by (shown (action p o x)) refl
+  where
+    by : (r : Option Redex) → shown (action p o x) ≡ r → is_some (shown (action p o x)) ≡ true
+    by (Some r) e = rw e refl
+    by None e = absurd (nobody_goes_wrong p c o x s k (hidden p c o (action p o x) s e))

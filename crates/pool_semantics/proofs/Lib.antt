@@ -11,3 +11,7 @@ pub mod NextFrames
 pub mod CanMove
 pub mod Least
 pub mod Searching
+pub mod Listing
+pub mod Alternatives
+pub mod Free
+pub mod InCalls

@@ -32,9 +32,10 @@ use Rattle.term_stack.specs.Arguments.{now_args, now_names, now_choices}
 use Rattle.pool_semantics.specs.declared.plain.mail.Mail.{Mail}
 use Rattle.pool_semantics.specs.Mails.{queued, posts}
 use Rattle.pool_semantics.specs.Sound.{Sound}
-use Rattle.pool_semantics.specs.Moving.{goes_alone, is_offered, would_answer, Takes, Answers, MovesBy, alone, answers, Tells, Moves, by_object, by_message, IsLeast}
+use Rattle.pool_semantics.specs.Moving.{goes_alone, is_offered, would_answer, Takes, Answers, MovesBy, alone, answers, Tells, Moves, by_object, by_message, IsLeast, lesser}
 use Rattle.pool_semantics.proofs.CanMove.{moves_of, possible_of}
 use Rattle.pool_semantics.proofs.Labels.{with_objects, running_none}
+use Rattle.pool_semantics.proofs.Least.{either_kind}
 use Rattle.pool_semantics.proofs.Posting.{list_found, list_missing}
 
 -- what an object does next gives at most one object that moves: who calls moves the one that answers
@@ -198,3 +199,8 @@ to_pair p c b (s, t) = ((s, b), (refl, t))
 pub moved_by_one : (p : ProgramTree) (c : Configuration) (b : ℕ) → Moves p c b → ((o : ℕ) × MovesBy p c o b) ⊎ ((s : ℕ) × Takes p c b (messages_of c s b))
 moved_by_one p c b (by_object o t) = inl (o, t)
 moved_by_one p c b (by_message s t) = inr (s, t)
+
+-- the least object that moves at all
+pub least_of_all : (p : ProgramTree) (c : Configuration) (l r : Option ℕ) → IsLeast (λ b. (o : ℕ) × MovesBy p c o b) l → IsLeast (λ b. (s : ℕ) × Takes p c b (messages_of c s b)) r → IsLeast (Moves p c) (lesser l r)
+least_of_all p c l r m n =
+    either_kind (λ b. (o : ℕ) × MovesBy p c o b) (λ b. (s : ℕ) × Takes p c b (messages_of c s b)) (Moves p c) l r (λ b t. by_object t.0 t.1) (λ b t. by_message t.0 t.1) (moved_by_one p c) m n

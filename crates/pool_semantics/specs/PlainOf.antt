@@ -10,6 +10,11 @@ use Rattle.pool_relation.specs.Transition.{transition}
 use Rattle.pool_relation.specs.UnderWay.{frames_of}
 use Rattle.pool_semantics.specs.Plains.{configuration}
 use Rattle.pool_semantics.specs.declared.plain.Plain.{Plain}
+use Rattle.pool_semantics.specs.declared.plain.state.State.{State}
+
+-- its program, objects and messages as the code has them
+abbrev pub state_of : Plain → State
+state_of s = s.state
 
 -- its program
 abbrev pub program_tree : Plain → ProgramTree

@@ -1,11 +1,13 @@
 //! The plain stepper: it makes the transitions of the relation, one label at a time.
 mod items;
+mod labels;
 mod mail;
 mod moving;
 mod objects;
 mod redex;
 mod state;
 mod steps;
+mod waits;
 
 ghost use Rattle.std.specs.Prelude.{◌≡◌, false};
 ghost use Rattle.pool_syntax.specs.TreeOf.{program_of};
@@ -13,9 +15,12 @@ ghost use Rattle.pool_semantics.specs.Plains.{configuration};
 ghost use Rattle.pool_semantics.specs.Sound.{Sound};
 ghost use Rattle.pool_relation.specs.Progress.{agent};
 
+pub use crate::plain::mail::Mail;
+use crate::plain::moving::lesser;
 use crate::plain::objects::add;
 pub use crate::plain::redex::Redex;
-use crate::plain::state::State;
+pub use crate::plain::state::State;
+pub use crate::plain::waits::Waiting;
 use class_check::Checked;
 use plain_object::act::Act;
 use plain_object::frames::frames_after;
@@ -64,7 +69,7 @@ impl<'a> Plain<'a> {
     ghost use Rattle.pool_syntax.specs.declared.words.Label.{Label};
     ghost use Rattle.pool_relation.specs.Action.{Object, action};
     ghost use Rattle.pool_relation.specs.Configuration.{object_of};
-    ghost use Rattle.pool_semantics.specs.PlainOf.{configuration_of, program_tree, is_spent, frames_next};
+    ghost use Rattle.pool_semantics.specs.PlainOf.{state_of, configuration_of, program_tree, is_spent, frames_next};
     ghost use Rattle.pool_relation.specs.Typed.{GoesWrong, Typed};
     ghost use Rattle.pool_relation.specs.Progress.{HasOwnTransition};
     ghost use Rattle.pool_relation.specs.Transition.{transition, start};
@@ -91,6 +96,26 @@ impl<'a> Plain<'a> {
             },
             spent: false,
         })
+    }
+
+    /// A typed configuration that was kept.
+    pub fn of(state: State<'a>) -> Plain<'a>
+        requires { ∥ Sound (program_of state.program.now) (configuration state) ∥₁ }
+        ensures state { state_of result ≡ state.entry }
+        ensures fresh { is_spent result ≡ false }
+    {
+        Plain {
+            state,
+            spent: false,
+        }
+    }
+
+    /// Its program, objects and messages.
+    pub fn state(&self) -> &State<'a>
+        ensures state { result.now ≡ state_of self.now }
+        ensures sound { is_spent self.now ≡ false → ∥ Sound (program_tree self.now) (configuration_of self.now) ∥₁ }
+    {
+        &self.state
     }
 
     /// What the object of this name does next.
@@ -128,7 +153,10 @@ impl<'a> Plain<'a> {
         ensures least { IfSome result (λ o. (lab : Label) → agent lab < o → transition (program_tree self.now) (configuration_of self.now) lab ≡ None) }
         ensures none { IfNone result ((lab : Label) → transition (program_tree self.now) (configuration_of self.now) lab ≡ None) }
     {
-        self.state.least_moving()
+        lesser(
+            self.state.least_by_objects(),
+            self.state.least_by_messages(),
+        )
     }
 
     /// Makes the label's transition.

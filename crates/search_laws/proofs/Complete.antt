@@ -12,14 +12,16 @@ use Rattle.pool_syntax.specs.declared.words.Item.TheVariants as I
 use Rattle.pool_syntax.specs.declared.words.Label.{Label}
 use Rattle.pool_syntax.specs.declared.words.Label.TheVariants as L
 use Rattle.pool_syntax.specs.Terms.{ProgramTree, ClassTree}
+use Rattle.mesh_semantics.specs.Message.{Message}
 use Rattle.mesh_semantics.specs.Partial.{◌>>=◌}
+use Rattle.mesh_semantics.specs.Tables.{has_some}
 use Rattle.mesh_semantics.proofs.Laws.{equal, equals}
 use Rattle.pool_relation.specs.Action as A
 use Rattle.pool_relation.specs.Action.{Object, Action, action}
-use Rattle.pool_relation.specs.Configuration.{Configuration, object_of}
+use Rattle.pool_relation.specs.Configuration.{Configuration, object_of, messages_of}
 use Rattle.pool_relation.specs.Transition.{new_object, transition, run, last_class, start}
-use Rattle.search_laws.specs.Renamed.{Renaming, renamed_value, renamed_item, renamed_class, renamed_program, renamed_object, renamed_label, IsRenamed}
-use Rattle.search_laws.specs.Search.{IsNameless, IsReached, IsAtEnd, is_in_call, IsStuck, IsFaulty, after, names_next, in_order, IsIn, IsClosed, IsWhole}
+use Rattle.search_laws.specs.Renamed.{Renaming, renamed_value, renamed_item, renamed_class, renamed_program, renamed_object, renamed_message, renamed_label, IsRenamed}
+use Rattle.search_laws.specs.Search.{IsNameless, IsReached, IsAtEnd, is_in_call, IsStuck, is_left_over, HasLeftOver, AnObject, AMessage, IsUnfinished, IsFaulty, after, names_next, in_order, IsIn, IsClosed, IsWhole}
 use Rattle.search_laws.proofs.RenamedAction.{renamed_action, action_renamed}
 use Rattle.search_laws.proofs.RenamedTransition.{Alike, Neither, Both, unequal, to_one, same_names, made, transition_renamed}
 use Rattle.search_laws.proofs.RenamedRun.{run_renamed}
@@ -211,6 +213,20 @@ call_kept f (A.Return k v) = refl
 call_kept f (A.Waits b m) = refl
 call_kept f A.Stuck = refl
 
+left_over_kept : (f : ℕ → ℕ) (a : Action) → is_left_over (renamed_action f a) ≡ is_left_over a
+left_over_kept f A.Finished = refl
+left_over_kept f (A.Local term vars) = refl
+left_over_kept f (A.Fault e) = refl
+left_over_kept f (A.New c) = refl
+left_over_kept f (A.Send b m args) = refl
+left_over_kept f (A.Async b m args) = refl
+left_over_kept f (A.Write i) = refl
+left_over_kept f (A.Answer names) = refl
+left_over_kept f (A.Select cs) = refl
+left_over_kept f (A.Return k v) = refl
+left_over_kept f (A.Waits b m) = refl
+left_over_kept f A.Stuck = refl
+
 pub stuck_kept : (f : Renaming) (p : ProgramTree) (d e : Configuration) → IsNameless p → IsRenamed f.to d e → IsStuck p d → IsStuck p e
 stuck_kept f p d e less same stuck =
     let w = stuck.waits in
@@ -227,6 +243,25 @@ stuck_kept f p d e less same stuck =
       };
     }
 
+some_kept : (f : ℕ → ℕ) (ms : List Message) → has_some (map (renamed_message f) ms) ≡ has_some ms
+some_kept f [] = refl
+some_kept f (m ∷ ms) = refl
+
+pub unfinished_kept : (f : Renaming) (p : ProgramTree) (d e : Configuration) → IsNameless p → IsRenamed f.to d e → IsUnfinished p d → IsUnfinished p e
+unfinished_kept f p d e less same unfinished = record { at_end = at_end_kept f p d e less same unfinished.at_end; left = by unfinished.left }
+  where
+    by : HasLeftOver p d → HasLeftOver p e
+    by (AnObject o s) =
+        AnObject (f.to o) (record {
+          object = renamed_object f.to s.object;
+          there = same.objects o ∙ ap (option_map (renamed_object f.to)) s.there;
+          sound = s.sound;
+          stays =
+              ap (λ q. is_left_over (action q (f.to o) (renamed_object f.to s.object))) (sym (less f.to))
+              ∙ ap is_left_over (action_renamed f.to (same_names f) p o s.object) ∙ left_over_kept f.to (action p o s.object) ∙ s.stays;
+        })
+    by (AMessage s r i) = AMessage (f.to s) (f.to r) (ap has_some (same.messages s r) ∙ some_kept f.to (messages_of d s r) ∙ i)
+
 pub fault_kept : (f : Renaming) (d e : Configuration) → IsRenamed f.to d e → IsFaulty d → IsFaulty e
 fault_kept f d e same faulty =
     record {
@@ -236,12 +271,18 @@ fault_kept f d e same faulty =
       met = faulty.met;
     }
 
--- where the list is whole and none of it is stuck, no run whatever leads to a stuck configuration
+-- where the list is whole and none of it is stuck, or unfinished, or faulty, no run whatever leads to such a configuration
 pub never_stuck : (p : ProgramTree) (es : List (ℕ × Configuration)) → IsNameless p → IsWhole p es → ((n : ℕ) (c : Configuration) → IsIn n c es → ¬ (IsStuck p c))
     → (d : Configuration) → IsReached p d → ¬ (IsStuck p d)
 never_stuck p es less whole none d reached stuck =
     let s = all_are_seen p es less whole d reached in
     none s.next s.seen s.is_in (stuck_kept s.names p d s.seen less s.same stuck)
+
+pub never_unfinished : (p : ProgramTree) (es : List (ℕ × Configuration)) → IsNameless p → IsWhole p es → ((n : ℕ) (c : Configuration) → IsIn n c es → ¬ (IsUnfinished p c))
+    → (d : Configuration) → IsReached p d → ¬ (IsUnfinished p d)
+never_unfinished p es less whole none d reached unfinished =
+    let s = all_are_seen p es less whole d reached in
+    none s.next s.seen s.is_in (unfinished_kept s.names p d s.seen less s.same unfinished)
 
 pub never_faulty : (p : ProgramTree) (es : List (ℕ × Configuration)) → IsNameless p → IsWhole p es → ((n : ℕ) (c : Configuration) → IsIn n c es → ¬ (IsFaulty c))
     → (d : Configuration) → IsReached p d → ¬ (IsFaulty d)

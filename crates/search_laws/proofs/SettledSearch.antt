@@ -1,15 +1,15 @@
--- A search that follows transitions which need no choice, and keeps only what stands after them, sees every stuck configuration.
+-- A search that follows transitions which need no choice, and keeps only what stands after them, sees every stuck configuration, and every unfinished one.
 use Rattle.std.proofs.Common.{◌≡◌, refl, sym, ap, ◌∙◌, subst, ℕ, List, length, map, Option, Some, None, arith}
 use Rattle.pool_syntax.specs.Terms.{ProgramTree, ClassTree}
 use Rattle.mesh_semantics.specs.Partial.{◌>>=◌}
 use Rattle.pool_relation.specs.Configuration.{Configuration}
 use Rattle.pool_relation.specs.Transition.{run, last_class, start}
 use Rattle.search_laws.specs.Renamed.{Renaming, renamed_program, renamed_label, IsRenamed}
-use Rattle.search_laws.specs.Search.{IsNameless, IsReached, IsAtEnd, IsStuck, IsIn}
+use Rattle.search_laws.specs.Search.{IsNameless, IsReached, IsAtEnd, IsStuck, IsUnfinished, IsIn}
 use Rattle.search_laws.proofs.RenamedTransition.{Alike, Neither, Both}
 use Rattle.search_laws.proofs.RenamedRun.{run_renamed}
 use Rattle.search_laws.proofs.Arranged.{swap_first, swapped, same_all, arranged}
-use Rattle.search_laws.proofs.Complete.{lone, below_start, lone_renamed, stuck_kept}
+use Rattle.search_laws.proofs.Complete.{lone, below_start, lone_renamed, stuck_kept, unfinished_kept}
 use Rattle.search_laws.proofs.Steps.{Alone, alone_makes_none, same_label, commutes}
 use Rattle.search_laws.proofs.Reduced.{Settles, IsClosedAfter, without_all, ends_are_in}
 
@@ -59,9 +59,15 @@ ends_are_seen p es less whole d reached ended = by (last_class p) refl reached.s
         let is : lone reached.root k ≡ reached.first = cc in
         go k i (ap (λ c. run p c reached.labels) is ∙ reached.leads)
 
--- where no configuration of the list is stuck, no run whatever leads to a stuck one
+-- where no configuration of the list is stuck, or unfinished, no run whatever leads to such a one
 pub never_stuck_after : (p : ProgramTree) (es : List (ℕ × Configuration)) → IsNameless p → IsWholeAfter p es → ((n : ℕ) (c : Configuration) → IsIn n c es → ¬ (IsStuck p c))
     → (d : Configuration) → IsReached p d → ¬ (IsStuck p d)
 never_stuck_after p es less whole none d reached stuck =
     let s = ends_are_seen p es less whole d reached (λ g x named. (stuck_kept g p d x less named stuck).at_end) in
     none s.2 s.1 s.4 (stuck_kept s.0 p d s.1 less s.3 stuck)
+
+pub never_unfinished_after : (p : ProgramTree) (es : List (ℕ × Configuration)) → IsNameless p → IsWholeAfter p es → ((n : ℕ) (c : Configuration) → IsIn n c es → ¬ (IsUnfinished p c))
+    → (d : Configuration) → IsReached p d → ¬ (IsUnfinished p d)
+never_unfinished_after p es less whole none d reached unfinished =
+    let s = ends_are_seen p es less whole d reached (λ g x named. (unfinished_kept g p d x less named unfinished).at_end) in
+    none s.2 s.1 s.4 (unfinished_kept s.0 p d s.1 less s.3 unfinished)

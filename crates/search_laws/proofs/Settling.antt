@@ -13,10 +13,10 @@ use Rattle.pool_relation.specs.Action.{method_of, action}
 use Rattle.pool_relation.specs.Configuration.{Configuration, object_of, put_object, messages_of}
 use Rattle.pool_relation.specs.Transition.{running, local_step, makes, calls, posts, returns, waits_on, writes, fails, picked, offer, has_message, first_message, without_first, refilled, done, returned, given, serving, new_object, last_class, transition, start}
 use Rattle.search_laws.specs.Search as S
-use Rattle.search_laws.specs.Search.{IsNameless, IsReached, IsStuck, IsIn, after, names_next, IsInOrder, IsWholeAfterSettling}
+use Rattle.search_laws.specs.Search.{IsNameless, IsReached, IsStuck, IsUnfinished, IsIn, after, names_next, IsInOrder, IsWholeAfterSettling}
 use Rattle.search_laws.proofs.Orders.{sorted_put, sorted_messages}
 use Rattle.search_laws.proofs.Reduced.{Settled, Goes}
-use Rattle.search_laws.proofs.SettledSearch.{SettlesAlone, IsWholeAfter, never_stuck_after}
+use Rattle.search_laws.proofs.SettledSearch.{SettlesAlone, IsWholeAfter, never_stuck_after, never_unfinished_after}
 
 -- each label keeps both maps in order
 data Sorts : Option Configuration → Type 0 where
@@ -66,15 +66,21 @@ settles p c e s (S.Goes {d = d} l kind i rest) = Goes (record { kind = kind; sor
 pub start_sorted : (p : ProgramTree) (c : Configuration) → start p 0 ≡ Some c → IsInOrder c
 start_sorted p c e = let all : Sorts (Some c) = subst Sorts e (each (last_class p) _ (λ k. SortsAll (refl, refl))) in elim all [ SortsAll h ↦ h ]
 
--- where a list is whole after such transitions and none of it is stuck, no run whatever leads to a stuck configuration
-pub never_stuck_after_settling : (p : ProgramTree) (es : List (ℕ × Configuration)) → IsNameless p → IsWholeAfterSettling p es
-    → ((n : ℕ) (c : Configuration) → IsIn n c es → ¬ (IsStuck p c)) → (d : Configuration) → IsReached p d → ¬ (IsStuck p d)
-never_stuck_after_settling p es less whole none d reached = never_stuck_after p es less all none d reached
-  where
-    all : IsWholeAfter p es
-    all = record {
+-- a whole list in the terms of that search
+whole_after : (p : ProgramTree) (es : List (ℕ × Configuration)) → IsWholeAfterSettling p es → IsWholeAfter p es
+whole_after p es whole =
+    record {
       begins = λ c i. let b = whole.begins c i in (b.0, settles p c b.0 (start_sorted p c i) b.1, b.2);
       closed = λ n c d l i j k.
           let b = whole.closed n c d l i j k in
           (b.0, settles p d b.0 (sorted_after p c d l (whole.in_order n c i) k) b.1, b.2);
     }
+
+-- where a list is whole after such transitions and none of it is stuck, or unfinished, no run whatever leads to such a configuration
+pub never_stuck_after_settling : (p : ProgramTree) (es : List (ℕ × Configuration)) → IsNameless p → IsWholeAfterSettling p es
+    → ((n : ℕ) (c : Configuration) → IsIn n c es → ¬ (IsStuck p c)) → (d : Configuration) → IsReached p d → ¬ (IsStuck p d)
+never_stuck_after_settling p es less whole none d reached = never_stuck_after p es less (whole_after p es whole) none d reached
+
+pub never_unfinished_after_settling : (p : ProgramTree) (es : List (ℕ × Configuration)) → IsNameless p → IsWholeAfterSettling p es
+    → ((n : ℕ) (c : Configuration) → IsIn n c es → ¬ (IsUnfinished p c)) → (d : Configuration) → IsReached p d → ¬ (IsUnfinished p d)
+never_unfinished_after_settling p es less whole none d reached = never_unfinished_after p es less (whole_after p es whole) none d reached

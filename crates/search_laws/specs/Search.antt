@@ -1,6 +1,6 @@
 -- What a search over all runs is about: reached, stuck and faulty configurations, and sets that no step leaves.
 use Rattle.std.specs.Ordering.{nat_cmp}
-use Rattle.mesh_semantics.specs.Tables.{pair_cmp}
+use Rattle.mesh_semantics.specs.Tables.{pair_cmp, has_some}
 use Rattle.std.specs.FinMap.Entries.{is_sorted}
 use Rattle.std.specs.Prelude.{◌≡◌, ◌≢◌, ◌⊎◌, ◌==◌, ℕ, suc, List, [], ◌∷◌, Some, None, Bool, true, false, IsTrue, ◌&&◌}
 use Rattle.pool_syntax.specs.declared.words.Label.{Label}
@@ -8,7 +8,7 @@ use Rattle.pool_syntax.specs.declared.words.Label.TheVariants as L
 use Rattle.pool_syntax.specs.Terms.{ProgramTree}
 use Rattle.pool_relation.specs.Action as A
 use Rattle.pool_relation.specs.Action.{Object, Action, action}
-use Rattle.pool_relation.specs.Configuration.{Configuration, object_of}
+use Rattle.pool_relation.specs.Configuration.{Configuration, object_of, messages_of}
 use Rattle.pool_relation.specs.Transition.{transition, run, start}
 use Rattle.search_laws.specs.Renamed.{renamed_program}
 
@@ -46,6 +46,31 @@ pub record IsStuck (p : ProgramTree) (c : Configuration) : Type 0 where
   pub at_end : IsAtEnd p c
   pub name : ℕ
   pub waits : WaitsAt p c name
+
+-- an object that has met no error is in a call, or is to make one, or stands at `answer` or `select`
+abbrev pub is_left_over : Action → Bool
+is_left_over (A.Send b m args) = true
+is_left_over (A.Waits b m) = true
+is_left_over (A.Answer names) = true
+is_left_over (A.Select choices) = true
+is_left_over _ = false
+
+-- this object has met no error and is in a call, or is to make one, or stands at `answer` or `select`
+pub record StaysAt (p : ProgramTree) (c : Configuration) (o : ℕ) : Type 0 where
+  pub object : Object
+  pub there : object_of c o ≡ Some object
+  pub sound : object.fault ≡ None
+  pub stays : is_left_over (action p o object) ≡ true
+
+-- there is such an object, or a message that nobody took
+pub data HasLeftOver (p : ProgramTree) (c : Configuration) : Type 0 where
+  AnObject : (o : ℕ) → StaysAt p c o → HasLeftOver p c
+  AMessage : (s r : ℕ) → has_some (messages_of c s r) ≡ true → HasLeftOver p c
+
+-- no label is possible, and something is left over
+pub record IsUnfinished (p : ProgramTree) (c : Configuration) : Type 0 where
+  pub at_end : IsAtEnd p c
+  pub left : HasLeftOver p c
 
 -- an object has met a language error
 pub record IsFaulty (c : Configuration) : Type 0 where

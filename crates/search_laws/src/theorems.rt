@@ -8,7 +8,7 @@ ghost use Rattle.pool_relation.specs.Configuration.{Configuration, object_of};
 ghost use Rattle.pool_relation.specs.Transition.{transition};
 ghost use Rattle.search_laws.specs.Renamed.{Renaming, renamed_program, renamed_label, IsRenamed};
 ghost use Rattle.search_laws.specs.Labels.{IsAmong, labels_to_try, IsTried};
-ghost use Rattle.search_laws.specs.Search.{IsNameless, IsReached, IsAtEnd, IsStuck, IsFaulty, IsIn, IsWhole, IsWholeAfterSettling, names_next};
+ghost use Rattle.search_laws.specs.Search.{IsNameless, IsReached, IsAtEnd, IsStuck, IsUnfinished, IsFaulty, IsIn, IsWhole, IsWholeAfterSettling, names_next};
 
 /// Under other names, one to one, the same labels are possible and lead to the same configurations.
 pub fn names_do_not_matter()
@@ -29,18 +29,23 @@ pub fn one_name_shows_the_end()
         → ((l : Label) → names_next n l ≡ true → transition p c l ≡ None) → IsAtEnd p c }
 {}
 
-/// A list that has the start, and that no step leaves which names new objects in order, misses nothing: where none of it is stuck, or faulty, no run leads to what is.
+/// A list that has the start, and that no step leaves which names new objects in order, misses nothing: where none of it is stuck, unfinished or faulty, no run leads to what is.
 pub fn a_whole_list_misses_nothing()
     ensures stuck { (p : ProgramTree) (es : List (ℕ × Configuration)) (d : Configuration) → IsNameless p → IsWhole p es
         → ((n : ℕ) (c : Configuration) → IsIn n c es → ¬ (IsStuck p c)) → IsReached p d → ¬ (IsStuck p d) }
+    ensures unfinished { (p : ProgramTree) (es : List (ℕ × Configuration)) (d : Configuration) → IsNameless p → IsWhole p es
+        → ((n : ℕ) (c : Configuration) → IsIn n c es → ¬ (IsUnfinished p c)) → IsReached p d → ¬ (IsUnfinished p d) }
     ensures faulty { (p : ProgramTree) (es : List (ℕ × Configuration)) (d : Configuration) → IsNameless p → IsWhole p es
         → ((n : ℕ) (c : Configuration) → IsIn n c es → ¬ (IsFaulty c)) → IsReached p d → ¬ (IsFaulty d) }
 {}
 
-/// The same of a search that follows transitions which need no choice - local ones, writes, asynchronous sends, returns and errors - and keeps only what is after them: no other order has to be looked at.
+/// The same of a search that follows transitions which need no choice - local ones, writes, asynchronous sends, returns and errors - and keeps only what is after them:
+/// no other order has to be looked at.
 pub fn some_transitions_need_no_choice()
     ensures stuck { (p : ProgramTree) (es : List (ℕ × Configuration)) (d : Configuration) → IsNameless p → IsWholeAfterSettling p es
         → ((n : ℕ) (c : Configuration) → IsIn n c es → ¬ (IsStuck p c)) → IsReached p d → ¬ (IsStuck p d) }
+    ensures unfinished { (p : ProgramTree) (es : List (ℕ × Configuration)) (d : Configuration) → IsNameless p → IsWholeAfterSettling p es
+        → ((n : ℕ) (c : Configuration) → IsIn n c es → ¬ (IsUnfinished p c)) → IsReached p d → ¬ (IsUnfinished p d) }
     ensures faulty { (p : ProgramTree) (es : List (ℕ × Configuration)) (d : Configuration) → IsNameless p → IsWholeAfterSettling p es
         → ((n : ℕ) (c : Configuration) → IsIn n c es → ¬ (IsFaulty c)) → IsReached p d → ¬ (IsFaulty d) }
 {}

@@ -1,27 +1,41 @@
 -- What a record shows, a run leads to.
-use Rattle.std.proofs.Common.{◌≡◌, refl, sym, ap, ◌∙◌, ℕ, [], ◌∷◌, ◌++◌, Some}
+use Rattle.std.proofs.Common.{◌≡◌, refl, sym, ap, ◌∙◌, ℕ, List, [], ◌∷◌, ◌++◌, Some}
 use Rattle.pool_syntax.specs.declared.words.Error.{Error}
+use Rattle.pool_syntax.specs.declared.words.Event.{Event}
 use Rattle.pool_syntax.specs.declared.words.Label.{Label}
 use Rattle.pool_syntax.specs.declared.words.Label.TheVariants as L
 use Rattle.pool_syntax.specs.declared.words.Placement.{Placement}
 use Rattle.pool_syntax.specs.Terms.{ProgramTree}
-use Rattle.mesh_semantics.specs.Delay.{Delay}
-use Rattle.mesh_semantics.specs.Record.{Record, labels, root_name}
+use Rattle.mesh_semantics.specs.Delay.{Delay, no_delay, no_delay_on_wires}
+use Rattle.mesh_semantics.specs.Record.{Record, labels, root_name, record_of, record_on_wires}
 use Rattle.mesh_semantics.proofs.Laws.{given_by, required, same_some}
 use Rattle.pool_relation.specs.Action.{Object, action}
 use Rattle.pool_relation.specs.Configuration.{Configuration, object_of, put_object}
-use Rattle.pool_relation.specs.Transition.{running, fails, transition, run, start}
+use Rattle.pool_relation.specs.Transition.{running, fails, transition, run}
 use Rattle.pool_relation.proofs.Laws.{joined, Put, New, Old, put_cases}
-use Rattle.placed_terms.specs.Terms.{plain}
+use Rattle.placed_terms.specs.Terms.{terms, plain}
 use Rattle.placed_terms.specs.RunOf.{IsRunFrom}
-use Rattle.search_laws.specs.Search.{IsReached, IsStuck, IsFaulty}
-use Rattle.search_records.specs.Ends.{EndsInACall, ShowsAnError}
+use Rattle.placed_terms.proofs.Laws.{runs_from, runs_from_on_wires}
+use Rattle.search_laws.specs.Search.{IsReached, IsStuck, IsUnfinished, IsFaulty}
+use Rattle.search_records.specs.Ends.{IsPlaced, EndsInACall, EndsUnfinished, ShowsAnError}
 
-module _ (p : ProgramTree) (l : Placement) (q : ℕ) (c : Configuration) (d : Delay) (r : Record Object) (starts : start p (root_name l) ≡ Some c) (run_of : IsRunFrom p l q c d r) where
+-- the record of a program that is placed is a run from its start
+pub as_run : (p : ProgramTree) (l : Placement) (q : ℕ) (es : List Event) (h : IsPlaced p l) → IsRunFrom p l q h.first no_delay (record_of (terms p) l q es)
+as_run p l q es h = runs_from p h.faultless h.written l h.fits q es h.first h.starts
+
+pub as_run_on_wires : (p : ProgramTree) (l : Placement) (q : ℕ) (es : List Event) (h : IsPlaced p l) → IsRunFrom p l q h.first no_delay_on_wires (record_on_wires (terms p) l q es)
+as_run_on_wires p l q es h = runs_from_on_wires p h.faultless h.written l h.fits q es h.first h.starts
+
+module _ (p : ProgramTree) (l : Placement) (q : ℕ) (h : IsPlaced p l) (d : Delay) (r : Record Object) (run_of : IsRunFrom p l q h.first d r) where
   pub never_in_a_call : ((e : Configuration) → IsReached p e → ¬ (IsStuck p e)) → ¬ (EndsInACall p r)
   never_in_a_call none ends =
-      none (plain r.last) (record { root = root_name l; first = c; labels = labels r.lines; starts = starts; leads = run_of.leads })
+      none (plain r.last) (record { root = root_name l; first = h.first; labels = labels r.lines; starts = h.starts; leads = run_of.leads })
       (record { at_end = run_of.rests ends.quiet; name = ends.name; waits = ends.waits })
+
+  pub never_left_over : ((e : Configuration) → IsReached p e → ¬ (IsUnfinished p e)) → ¬ (EndsUnfinished p r)
+  never_left_over none ends =
+      none (plain r.last) (record { root = root_name l; first = h.first; labels = labels r.lines; starts = h.starts; leads = run_of.leads })
+      (record { at_end = run_of.rests ends.quiet; left = ends.left })
 
   -- after its error an object is faulty
   faulty : (a b : Configuration) (o : ℕ) (e : Error) → transition p a (L.Fault o e) ≡ Some b → IsFaulty b
@@ -33,7 +47,7 @@ module _ (p : ProgramTree) (l : Placement) (q : ℕ) (c : Configuration) (d : De
         name = o;
         object = record x.0 { fault = Some e };
         there = ap (λ y. object_of y o) (sym is) ∙ put (put_cases a o (record x.0 { fault = Some e }) o);
-        met = λ h. absurd (cc);
+        met = λ i. absurd (cc);
       }
     where
       put : {y : Object} → Put a o y o → object_of (put_object a o y) o ≡ Some y
@@ -47,10 +61,10 @@ module _ (p : ProgramTree) (l : Placement) (q : ℕ) (c : Configuration) (d : De
       none step.0
       (record {
         root = root_name l;
-        first = c;
+        first = h.first;
         labels = shows.front ++ L.Fault shows.name shows.error ∷ [];
-        starts = starts;
-        leads = joined p c by.between shows.front (L.Fault shows.name shows.error ∷ []) by.to ∙ one by.between step.0 (L.Fault shows.name shows.error) step.1;
+        starts = h.starts;
+        leads = joined p h.first by.between shows.front (L.Fault shows.name shows.error ∷ []) by.to ∙ one by.between step.0 (L.Fault shows.name shows.error) step.1;
       })
       (faulty by.between step.0 shows.name shows.error step.1)
     where

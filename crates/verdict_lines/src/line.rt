@@ -3,7 +3,7 @@ ghost use Rattle.std.specs.Prelude.{◌≡◌, [], ◌∷◌, ◌++◌, IfOk, On
 ghost use Rattle.record_lines.specs.RecordText.{led, object_text, text_at, value_text};
 ghost use Rattle.verdict_lines.specs.VerdictText.{redex_words, verdict_text, verdict_words};
 
-use crate::words::{
+use line_words::{
     push_args, push_error, push_item, push_name, push_number, push_object, push_value, push_word,
 };
 use pool_semantics::Redex;

@@ -3,7 +3,8 @@ ghost use Rattle.std.specs.Prelude.{◌≡◌, ◌≢◌, ◌<◌, ◌++◌, ℕ
 ghost use Rattle.mesh_semantics.specs.Standing.{chase};
 ghost use Rattle.wait_report.specs.Cycles.{jump, cycle_at, least_from, AreWithin, AreStarts, IsMarked};
 
-use crate::text::{put, put_next};
+use crate::text::put;
+use line_words::push_object;
 use std::alloc::{AllocError, Global};
 
 /// Puts the line of the cycle that is told from this place on; nothing where none is.
@@ -22,7 +23,7 @@ pub fn put_cycle(
     put(text, b"cycle")?;
     let mut at = first;
     for _step in 0..next.len() {
-        put_next(text, numbers[at])?;
+        push_object(text, numbers[at])?;
         match next[at] {
             Some(place) if place == first => return put(text, b"\n"),
             Some(place) if place > first => at = place,

@@ -8,4 +8,5 @@ pub mod theorems;
 mod writing;
 
 pub use rows::ObjectRow;
-pub use writing::{ReportFault, report};
+pub use text::put_row;
+pub use writing::{ReportFault, put_each_cycle, report};

@@ -22,7 +22,6 @@ pub enum ReportFault {
 
 /// Puts the lines of the objects.
 fn put_rows(text: &mut Vec<u8>, names: &Names, rows: &[ObjectRow]) -> Result<(), AllocError>
-    requires { AreKnown names.now rows.now }
     ensures { OnOk result (text.new.items ≡ text.old.items ++ rows_text names.now rows.now) }
 {
     for row in rows {
@@ -54,24 +53,36 @@ fn put_cycles(
     Ok(())
 }
 
-/// The text of the report, in time linear in it but for a binary search for each object.
-fn text_of(alloc: Global, rows: &[ObjectRow], names: &Names) -> Result<Vec<u8>, AllocError>
-    requires rising { Rising (names_of rows.now) }
-    requires known { AreKnown names.now rows.now }
-    ensures { IfOk result (λ t. t.items ≡ report_text names.now rows.now) }
+/// Puts a line for each cycle of objects that each call the next, in rising order of its least name, in time linear in the objects but for a binary
+/// search for each.
+pub fn put_each_cycle(
+    alloc: Global,
+    text: &mut Vec<u8>,
+    rows: &[ObjectRow],
+) -> Result<(), AllocError>
+    requires { Rising (names_of rows.now) }
+    ensures { OnOk result (text.new.items ≡ text.old.items ++ cycles_text (cycles_in rows.now)) }
 {
     let numbers = numbers(alloc, rows)?;
     let next = callees(alloc, rows, numbers.as_slice())?;
     let starts = starts(alloc, next.as_slice())?;
-    let mut text = Vec::new(alloc);
-    put_rows(&mut text, names, rows)?;
     put_cycles(
-        &mut text,
+        text,
         rows,
         numbers.as_slice(),
         next.as_slice(),
         starts.as_slice(),
-    )?;
+    )
+}
+
+/// The text of the report.
+fn text_of(alloc: Global, rows: &[ObjectRow], names: &Names) -> Result<Vec<u8>, AllocError>
+    requires { Rising (names_of rows.now) }
+    ensures { IfOk result (λ t. t.items ≡ report_text names.now rows.now) }
+{
+    let mut text = Vec::new(alloc);
+    put_rows(&mut text, names, rows)?;
+    put_each_cycle(alloc, &mut text, rows)?;
     Ok(text)
 }
 

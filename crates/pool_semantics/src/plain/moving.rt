@@ -6,7 +6,7 @@ ghost use Rattle.pool_relation.specs.Configuration.{messages_of};
 ghost use Rattle.term_stack.specs.Arguments.{now_args, now_names, now_choices};
 ghost use Rattle.plain_object.specs.Acts.{acted};
 ghost use Rattle.pool_semantics.specs.Mails.{queued};
-ghost use Rattle.pool_semantics.specs.Moving.{lesser, goes_alone, would_answer, MovesBy, Takes, Moves, Tells, IsLeast};
+ghost use Rattle.pool_semantics.specs.Moving.{lesser, goes_alone, would_answer, MovesBy, Takes, Tells, IsLeast};
 ghost use Rattle.pool_semantics.specs.Plains.{configuration};
 
 use crate::plain::mail::{Mail, any_offered};
@@ -18,7 +18,7 @@ use std::collections::VecDeque;
 use term_stack::parts::Work;
 
 /// The lesser of two names, or the one that is there.
-fn lesser(left: Option<u32>, right: Option<u32>) -> Option<u32>
+pub fn lesser(left: Option<u32>, right: Option<u32>) -> Option<u32>
     ensures { result ≡ lesser left right }
 {
     match left {
@@ -84,7 +84,7 @@ impl<'a> State<'a> {
     }
 
     /// The least object that moves by what an object does next.
-    fn least_by_objects(&self) -> Option<u32>
+    pub fn least_by_objects(&self) -> Option<u32>
         ensures { IsLeast (λ b. (o : ℕ) × MovesBy (program_of self.now.program.now) (configuration self.now) o b) result }
     {
         let mut least = None;
@@ -95,7 +95,7 @@ impl<'a> State<'a> {
     }
 
     /// The least object that takes a message.
-    fn least_by_messages(&self) -> Option<u32>
+    pub fn least_by_messages(&self) -> Option<u32>
         ensures { IsLeast (λ b. (s : ℕ) × Takes (program_of self.now.program.now) (configuration self.now) b (messages_of (configuration self.now) s b)) result }
     {
         let mut least = None;
@@ -103,12 +103,5 @@ impl<'a> State<'a> {
             least = lesser(least, self.taker(pair.1, queue));
         }
         least
-    }
-
-    /// The least object that moves.
-    pub fn least_moving(&self) -> Option<u32>
-        ensures { IsLeast (Moves (program_of self.now.program.now) (configuration self.now)) result }
-    {
-        lesser(self.least_by_objects(), self.least_by_messages())
     }
 }

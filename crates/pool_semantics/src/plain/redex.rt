@@ -48,7 +48,7 @@ fn few(operands: &[Operand]) -> Option<Args>
 }
 
 /// The arguments of the redex, if they are at most 8.
-fn few_args(work: &Work<'_>) -> Option<Args>
+pub fn few_args(work: &Work<'_>) -> Option<Args>
     ensures some { IfSome result (λ a. a ≡ now_args work.now.next) }
     ensures few { IfSome result (λ _. are_few (now_args work.now.next) ≡ true) }
     ensures many { IfNone result (are_few (now_args work.now.next) ≡ false) }

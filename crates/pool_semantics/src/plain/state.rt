@@ -4,6 +4,11 @@ ghost use Rattle.pool_syntax.specs.TreeOf.{program_of};
 ghost use Rattle.plain_object.specs.declared.thing.Thing.{Thing};
 ghost use Rattle.pool_relation.specs.Transition.{transition, running};
 ghost use Rattle.mesh_semantics.specs.Same.{error_number};
+ghost use Rattle.pool_relation.specs.Action.{action};
+ghost use Rattle.pool_relation.specs.Configuration.{object_of};
+ghost use Rattle.plain_object.specs.Acts.{acted};
+ghost use Rattle.plain_object.specs.Things.{thing_object};
+ghost use Rattle.term_stack.specs.Arguments.{now_args, now_names, now_choices};
 ghost use Rattle.pool_semantics.specs.Shown.{shown_at};
 ghost use Rattle.pool_semantics.specs.Plains.{Doing, Stepped, configuration};
 
@@ -41,6 +46,17 @@ impl<'a> State<'a> {
                 Some(_) => None,
                 None => Some((thing, thing.act(self.program, object))),
             },
+        }
+    }
+
+    /// What an object does next, or would do if it had no fault, if it is there.
+    pub fn next_of(&self, object: u32) -> Option<(&Thing<'a>, Act<'a>)>
+        ensures some { IfSome result (λ r. (object_of (configuration self.now) object ≡ Some (thing_object r.0.now)) × (action (program_of self.now.program.now) object (thing_object r.0.now) ≡ acted (thing_object r.0.now) (now_args r.0.now.work.next) (now_names r.0.now.work.next) (now_choices r.0.now.work.next) r.1)) }
+        ensures none { IfNone result (object_of (configuration self.now) object ≡ None) }
+    {
+        match self.objects.get(&object) {
+            None => None,
+            Some(thing) => Some((thing, thing.act(self.program, object))),
         }
     }
 

@@ -1,8 +1,11 @@
-use Rattle.search_laws.proofs.Complete.{never_stuck, never_faulty}
+use Rattle.search_laws.proofs.Complete.{never_stuck, never_unfinished, never_faulty}
 use Rattle.search_laws.proofs.theorems.a_whole_list_misses_nothing.Goals as goal
 
 pub returns-clause-stuck : goal.returns-clause-stuck
 returns-clause-stuck c = λ p es d less whole none reached. never_stuck p es less whole none d reached
+
+pub returns-clause-unfinished : goal.returns-clause-unfinished
+returns-clause-unfinished c = λ p es d less whole none reached. never_unfinished p es less whole none d reached
 
 pub returns-clause-faulty : goal.returns-clause-faulty
 returns-clause-faulty c = λ p es d less whole none reached. never_faulty p es less whole none d reached

@@ -24,6 +24,14 @@ pub fn push_number(text: &mut Vec<u8>, number: u32) -> Result<(), AllocError>
     push_word(text, buffer.format(number).as_bytes())
 }
 
+/// Puts a space and a count.
+pub fn push_count(text: &mut Vec<u8>, count: usize) -> Result<(), AllocError>
+    ensures { OnOk result (text.new.items ≡ text.old.items ++ led (decimal count ∷ [])) }
+{
+    let mut buffer = Buffer::new();
+    push_word(text, buffer.format(count).as_bytes())
+}
+
 /// Puts a space and an integer.
 fn push_integer(text: &mut Vec<u8>, number: i64) -> Result<(), AllocError>
     ensures { OnOk result (text.new.items ≡ text.old.items ++ led (signed_decimal number ∷ [])) }
@@ -41,13 +49,21 @@ fn push_digits(text: &mut Vec<u8>, number: u32) -> Result<(), AllocError>
     Ok(())
 }
 
+/// Puts an object's name.
+pub fn push_object_name(text: &mut Vec<u8>, object: u32) -> Result<(), AllocError>
+    ensures { OnOk result (text.new.items ≡ text.old.items ++ object_text object) }
+{
+    push_digits(text, object / 65536)?;
+    text.extend_from_slice(b".")?;
+    push_digits(text, object % 65536)
+}
+
 /// Puts a space and an object's name.
 pub fn push_object(text: &mut Vec<u8>, object: u32) -> Result<(), AllocError>
     ensures { OnOk result (text.new.items ≡ text.old.items ++ led (object_text object ∷ [])) }
 {
-    push_number(text, object / 65536)?;
-    text.extend_from_slice(b".")?;
-    push_digits(text, object % 65536)
+    text.extend_from_slice(b" ")?;
+    push_object_name(text, object)
 }
 
 /// Puts a space and a value.

@@ -1,6 +1,6 @@
 use Rattle.std.proofs.Common.{◌≡◌, ◌++◌, map, drop}
 use Rattle.record_lines.specs.RecordText.{led, value_text}
-use Rattle.verdict_lines.proofs.words.push_args.Given as goal
+use Rattle.line_words.proofs.words.push_args.Given as goal
 
 -- the text so far and the arguments that are left are the text of all
 abbrev pub invariant-loop-value : goal.invariant-loop-value

@@ -1,0 +1,9 @@
+use Rattle.std.specs.Ordering.{nat_cmp}
+use Rattle.pool_syntax.specs.TreeOf.{program_of}
+use Rattle.pool_semantics.specs.Plains.{configuration}
+use Rattle.pool_semantics.specs.Trying.{WaitsFrom}
+use Rattle.pool_semantics.proofs.Least.{Searched}
+use Rattle.pool_semantics.proofs.plain.state.State.least_waiting.Given as goal
+
+abbrev pub invariant-loop-object : goal.invariant-loop-object
+invariant-loop-object l = Searched nat_cmp (WaitsFrom (program_of l.self.program.now) (configuration l.self) l.from) l.least l.object-iterator

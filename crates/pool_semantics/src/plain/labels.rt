@@ -1,0 +1,203 @@
+//! The labels that a search tries.
+ghost use Rattle.std.specs.Prelude.{◌≡◌, ◌≤◌, ℕ, ◌++◌, Some, None, length, is_some, IfSome, IfNone, OnOk, true, false};
+ghost use Rattle.pool_syntax.specs.TreeOf.{program_of};
+ghost use Rattle.pool_syntax.specs.declared.words.Label.{Label};
+ghost use Rattle.pool_relation.specs.Action.{Object, action};
+ghost use Rattle.pool_relation.specs.Configuration.{Configuration, object_of};
+ghost use Rattle.pool_relation.specs.Transition.{transition};
+ghost use Rattle.search_laws.specs.Labels.{own_labels, object_labels, message_labels, labels_to_try, picks, takes};
+ghost use Rattle.search_laws.specs.Search.{needs_no_choice};
+ghost use Rattle.term_stack.specs.Arguments.{now_args, now_names, now_choices};
+ghost use Rattle.plain_object.specs.Acts.{acted};
+ghost use Rattle.pool_semantics.specs.Mails.{queued};
+ghost use Rattle.pool_semantics.specs.PlainOf.{configuration_of, program_tree, is_spent};
+ghost use Rattle.pool_semantics.specs.Plains.{configuration};
+ghost use Rattle.pool_semantics.specs.Shown.{shown};
+ghost use Rattle.pool_semantics.specs.Sound.{Sound};
+ghost use Rattle.pool_semantics.specs.Trying.{free_label, free_at};
+
+use crate::plain::Plain;
+use crate::plain::mail::Mail;
+use crate::plain::redex::few_args;
+use crate::plain::state::State;
+use plain_object::act::Act;
+use pool_syntax::Label;
+use std::alloc::AllocError;
+use std::collections::VecDeque;
+use term_stack::parts::{Now, Task, Work};
+
+/// The label of an act that needs no choice.
+fn free_label(object: u32, work: &Work<'_>, act: &Act<'_>) -> Option<Label>
+    ensures { (x : Object) → is_some (shown (acted x (now_args work.now.next) (now_names work.now.next) (now_choices work.now.next) act.now)) ≡ true
+        → result ≡ free_label object (acted x (now_args work.now.next) (now_names work.now.next) (now_choices work.now.next) act.now) }
+{
+    match *act {
+        Act::Local(_) => Some(Label::Local { object }),
+        Act::Fault(error) => Some(Label::Fault { object, error }),
+        Act::Async { to, method } => match few_args(work) {
+            None => None,
+            Some(args) => Some(Label::Send {
+                object,
+                receiver: to,
+                method,
+                args,
+            }),
+        },
+        Act::Write(item) => Some(Label::Write { object, item }),
+        Act::Return { caller, value } => Some(Label::Return {
+            receiver: object,
+            caller,
+            value,
+        }),
+        _ => None,
+    }
+}
+
+/// Each alternative of what comes next, by its number.
+fn push_picks(into: &mut Vec<Label>, object: u32, work: &Work<'_>) -> Result<(), AllocError>
+    requires { length (now_choices work.now.next) ≤ 64 }
+    ensures { OnOk result (into.new.items ≡ into.old.items ++ picks object 1 (now_choices work.now.next)) }
+{
+    let Now::Statement {
+        task: Task::Select { guards },
+        ..
+    } = &work.next
+    else {
+        return Ok(());
+    };
+    let mut alt = 0;
+    while (alt as usize) < guards.len() {
+        alt += 1;
+        into.push(Label::Pick { object, alt })?;
+    }
+    Ok(())
+}
+
+/// What an object can do at this act, and the call that it makes; a new object gets this name.
+fn push_own(
+    into: &mut Vec<Label>,
+    name: u32,
+    object: u32,
+    work: &Work<'_>,
+    act: &Act<'_>,
+) -> Result<(), AllocError>
+    requires { length (now_choices work.now.next) ≤ 64 }
+    ensures { (x : Object) → is_some (shown (acted x (now_args work.now.next) (now_names work.now.next) (now_choices work.now.next) act.now)) ≡ true
+        → OnOk result (into.new.items ≡ into.old.items ++ own_labels name object (acted x (now_args work.now.next) (now_names work.now.next) (now_choices work.now.next) act.now)) }
+{
+    if let Some(label) = free_label(object, work, act) {
+        into.push(label)?;
+        return Ok(());
+    }
+    match *act {
+        Act::New(class) => {
+            into.push(Label::New {
+                object,
+                name,
+                class,
+            })?;
+            Ok(())
+        }
+        Act::Send { to, method } => match few_args(work) {
+            None => Ok(()),
+            Some(args) => {
+                into.push(Label::Answer {
+                    receiver: to,
+                    caller: object,
+                    method,
+                    args,
+                })?;
+                Ok(())
+            }
+        },
+        Act::Select => push_picks(into, object, work),
+        _ => Ok(()),
+    }
+}
+
+/// Each message of a pair, taken.
+fn push_takes(
+    into: &mut Vec<Label>,
+    sender: u32,
+    receiver: u32,
+    queue: &VecDeque<Mail>,
+) -> Result<(), AllocError>
+    ensures { OnOk result (into.new.items ≡ into.old.items ++ takes (sender, receiver) (queued queue.now)) }
+{
+    let mut at = 0;
+    while at < queue.len() {
+        into.push(Label::Take {
+            receiver,
+            sender,
+            method: queue[at].method,
+            args: queue[at].args,
+        })?;
+        at += 1;
+    }
+    Ok(())
+}
+
+impl<'a> State<'a> {
+    /// The labels of one object.
+    fn push_object(&self, object: u32, name: u32, into: &mut Vec<Label>) -> Result<(), AllocError>
+        requires { Sound (program_of self.now.program.now) (configuration self.now) }
+        ensures { (x : Object) → object_of (configuration self.now) object ≡ Some x → OnOk result (into.new.items ≡ into.old.items ++ own_labels name object (action (program_of self.now.program.now) object x)) }
+    {
+        match self.next_of(object) {
+            None => Ok(()),
+            Some((thing, act)) => push_own(into, name, object, &thing.work, &act),
+        }
+    }
+
+    /// The labels of all objects.
+    fn push_objects(&self, name: u32, into: &mut Vec<Label>) -> Result<(), AllocError>
+        requires { Sound (program_of self.now.program.now) (configuration self.now) }
+        ensures { OnOk result (into.new.items ≡ into.old.items ++ object_labels (program_of self.now.program.now) name (configuration self.now).objects) }
+    {
+        for (object, _thing) in &self.objects {
+            self.push_object(*object, name, into)?;
+        }
+        Ok(())
+    }
+
+    /// The label of what this object does next, where that needs no choice.
+    fn free_at(&self, object: u32) -> Option<Label>
+        requires { Sound (program_of self.now.program.now) (configuration self.now) }
+        ensures { result ≡ free_at (program_of self.now.program.now) (configuration self.now) object }
+    {
+        match self.acting(object) {
+            None => None,
+            Some((thing, act)) => free_label(object, &thing.work, &act),
+        }
+    }
+}
+
+impl<'a> Plain<'a> {
+    /// The labels that a search tries: what each object can do, and the messages that each can take. A new object gets this name.
+    pub fn labels(&self, next: u32, into: &mut Vec<Label>) -> Result<(), AllocError>
+        requires { is_spent self.now ≡ false }
+        ensures { OnOk result (into.new.items ≡ into.old.items ++ labels_to_try (program_tree self.now) next (configuration_of self.now)) }
+    {
+        self.state.push_objects(next, into)?;
+        for (pair, queue) in &self.state.messages {
+            push_takes(into, pair.0, pair.1, queue)?;
+        }
+        Ok(())
+    }
+
+    /// A transition that is possible and needs no choice: its place in a run does not matter.
+    pub fn without_choice(&self) -> Option<Label>
+        requires { is_spent self.now ≡ false }
+        ensures free { IfSome result (λ l. needs_no_choice l ≡ true) }
+        ensures possible { IfSome result (λ l. (d : Configuration) × (transition (program_tree self.now) (configuration_of self.now) l ≡ Some d)) }
+        ensures none { IfNone result ((l : Label) → needs_no_choice l ≡ true → transition (program_tree self.now) (configuration_of self.now) l ≡ None) }
+    {
+        for (object, _thing) in &self.state.objects {
+            let label = self.state.free_at(*object);
+            if label.is_some() {
+                return label;
+            }
+        }
+        None
+    }
+}
