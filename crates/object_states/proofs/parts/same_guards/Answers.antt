@@ -1,0 +1,12 @@
+use Rattle.std.proofs.Common.{◌≡◌, refl, [], ◌∷◌, true, arith}
+use Rattle.std.proofs.lemmas.Grind.{common_steps}
+use Rattle.term_stack.specs.Parts.{guarded}
+use Rattle.object_states.proofs.Folds.{rests_same, everywhere}
+use Rattle.object_states.proofs.parts.same_guards.Goals as goal
+
+pub loop-i-preserved : goal.loop-i-preserved
+loop-i-preserved c = λ rest.
+    let here : c.same_guard.result ≡ true = grind (arith, common_steps) in
+    c.loop-i.invariant (λ alts.
+    rests_same (λ gs. guarded gs alts) (λ g. guarded (g ∷ [])) (λ h b. h b) (λ g gs. refl) c.args.left.now c.args.right.now c.loop-i.i c.index-left-i.result c.index-right-i.result
+    (omega arith) (omega arith) c.index-left-i.is c.index-right-i.is (everywhere (c.same_guard.ensures here)) (rest alts))

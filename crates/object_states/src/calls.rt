@@ -1,0 +1,137 @@
+//! Whether two works are the same: the methods under way, and what comes next.
+ghost use Rattle.std.specs.Prelude.{◌≡◌, true};
+ghost use Rattle.term_stack.specs.Parts.{stopped, term_of};
+ghost use Rattle.object_states.specs.Alike.{AlikeCall, AlikeCalls, AlikeOuter, AlikeStage};
+
+use crate::parts::{same_operand, same_places, same_ready, same_rest, same_slot, same_task};
+use term_stack::parts::{Activation, Binding, Now, Outer, Stage, Work};
+use text_equality::{same_expression, same_statements};
+use value_operators::operators::same as same_value;
+
+#[tactic(auto, using(mesh_semantics::proofs::Laws::same_value))]
+fn same_binding(left: Binding, right: Binding) -> bool
+    ensures { result ≡ true → left ≡ right }
+{
+    left.0 == right.0 && same_value(left.1, right.1)
+}
+
+pub fn same_bindings(left: &[Binding], right: &[Binding]) -> bool
+    ensures { result ≡ true → left.now ≡ right.now }
+{
+    if left.len() != right.len() {
+        return false;
+    }
+    for (i, binding) in left.iter().enumerate() {
+        if !same_binding(*binding, right[i]) {
+            return false;
+        }
+    }
+    true
+}
+
+fn same_next(next: &Now<'_>, other: &Now<'_>) -> bool
+    ensures { result ≡ true → stopped next.now ≡ stopped other.now }
+{
+    match (next, other) {
+        (
+            Now::Expression {
+                redex,
+                places,
+                slot,
+                rest,
+            },
+            Now::Expression {
+                redex: d,
+                places: p,
+                slot: s,
+                rest: r,
+            },
+        ) => {
+            same_ready(redex, d)
+                && same_places(places.as_slice(), p.as_slice())
+                && same_slot(slot, s)
+                && same_rest(rest.as_slice(), r.as_slice())
+        }
+        (Now::Statement { task, rest }, Now::Statement { task: t, rest: r }) => {
+            same_task(task, t) && same_rest(rest.as_slice(), r.as_slice())
+        }
+        (Now::Value { value }, Now::Value { value: v }) => same_operand(*value, *v),
+        (Now::Over, Now::Over) => true,
+        _ => false,
+    }
+}
+
+fn same_caller(left: Option<u32>, right: Option<u32>) -> bool
+    ensures { result ≡ true → left ≡ right }
+{
+    match (left, right) {
+        (Some(name), Some(other)) => name == other,
+        (None, None) => true,
+        _ => false,
+    }
+}
+
+fn same_outer(outer: &Outer<'_>, other: &Outer<'_>) -> bool
+    ensures { result ≡ true → AlikeOuter outer.now other.now }
+{
+    match (outer, other) {
+        (
+            Outer::Expression { places, slot, rest },
+            Outer::Expression {
+                places: p,
+                slot: s,
+                rest: r,
+            },
+        ) => {
+            same_places(places.as_slice(), p.as_slice())
+                && same_slot(slot, s)
+                && same_rest(rest.as_slice(), r.as_slice())
+        }
+        (Outer::Statement { caller, rest }, Outer::Statement { caller: c, rest: r }) => {
+            same_caller(*caller, *c) && same_rest(rest.as_slice(), r.as_slice())
+        }
+        _ => false,
+    }
+}
+
+fn same_stage(stage: &Stage<'_>, other: &Stage<'_>) -> bool
+    ensures { result ≡ true → AlikeStage stage.now other.now }
+{
+    match (stage, other) {
+        (Stage::Body { value, post }, Stage::Body { value: v, post: p }) => {
+            same_expression(value, v) && same_statements(post, p)
+        }
+        (Stage::Post { value }, Stage::Post { value: v }) => same_operand(*value, *v),
+        _ => false,
+    }
+}
+
+fn same_call(call: &Activation<'_>, other: &Activation<'_>) -> bool
+    ensures { result ≡ true → AlikeCall call.now other.now }
+{
+    call.method.0 == other.method.0
+        && same_bindings(call.temps.as_slice(), other.temps.as_slice())
+        && same_stage(&call.stage, &other.stage)
+        && same_outer(&call.outer, &other.outer)
+}
+
+fn same_calls(left: &[Activation<'_>], right: &[Activation<'_>]) -> bool
+    ensures { result ≡ true → AlikeCalls left.now right.now }
+{
+    if left.len() != right.len() {
+        return false;
+    }
+    for (i, call) in left.iter().enumerate() {
+        if !same_call(call, &right[i]) {
+            return false;
+        }
+    }
+    true
+}
+
+/// Whether two works are the same.
+pub fn same_work(work: &Work<'_>, other: &Work<'_>) -> bool
+    ensures { result ≡ true → term_of work.now ≡ term_of other.now }
+{
+    same_next(&work.next, &other.next) && same_calls(work.calls.as_slice(), other.calls.as_slice())
+}

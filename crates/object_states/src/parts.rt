@@ -1,0 +1,374 @@
+//! Whether two parts of a term are the same.
+ghost use Rattle.std.specs.Prelude.{◌≡◌, [], ◌∷◌, true};
+ghost use Rattle.term_stack.specs.Parts.{left, ready, segment, task};
+ghost use Rattle.object_states.specs.Alike.{AlikeGuards, AlikePlace, AlikePlaces, AlikeSlot};
+
+use term_stack::parts::{Guarded, Operand, Place, Ready, Segment, Slot, Task};
+use text_equality::{
+    same_alternatives, same_answer, same_expression, same_expressions, same_named, same_names,
+    same_operator, same_statements,
+};
+use value_operators::operators::same as same_value;
+
+#[tactic(auto, using(mesh_semantics::proofs::Laws::same_value))]
+pub fn same_operand(left: Operand, right: Operand) -> bool
+    ensures { result ≡ true → left ≡ right }
+{
+    same_value(left.value, right.value) && left.pos == right.pos
+}
+
+pub fn same_operands(left: &[Operand], right: &[Operand]) -> bool
+    ensures { result ≡ true → left.now ≡ right.now }
+{
+    if left.len() != right.len() {
+        return false;
+    }
+    for (i, operand) in left.iter().enumerate() {
+        if !same_operand(*operand, right[i]) {
+            return false;
+        }
+    }
+    true
+}
+
+fn same_guard(left: &Guarded<'_>, right: &Guarded<'_>) -> bool
+    ensures { result ≡ true → AlikeGuards (left.now ∷ []) (right.now ∷ []) }
+{
+    same_operand(left.guard, right.guard)
+        && same_answer(&left.alt.answer, &right.alt.answer)
+        && same_statements(left.alt.work.items(), right.alt.work.items())
+}
+
+fn same_guards(left: &[Guarded<'_>], right: &[Guarded<'_>]) -> bool
+    ensures { result ≡ true → AlikeGuards left.now right.now }
+{
+    if left.len() != right.len() {
+        return false;
+    }
+    for (i, guarded) in left.iter().enumerate() {
+        if !same_guard(guarded, &right[i]) {
+            return false;
+        }
+    }
+    true
+}
+
+/// Whether two places behind evaluated arguments are the same.
+fn same_argument_place(place: &Place<'_>, other: &Place<'_>) -> bool
+    ensures { result ≡ true → AlikePlace place.now other.now }
+{
+    match (place, other) {
+        (
+            Place::CallArgument {
+                method,
+                done,
+                rest,
+                pos,
+            },
+            Place::CallArgument {
+                method: m,
+                done: d,
+                rest: r,
+                pos: p,
+            },
+        ) => {
+            method.0 == m.0 && *pos == *p && same_operands(done, d) && same_expressions(rest, r)
+        }
+        (
+            Place::SendArgument {
+                to,
+                method,
+                done,
+                rest,
+                pos,
+            },
+            Place::SendArgument {
+                to: t,
+                method: m,
+                done: d,
+                rest: r,
+                pos: p,
+            },
+        ) => {
+            method.0 == m.0
+                && *pos == *p
+                && same_operand(*to, *t)
+                && same_operands(done, d)
+                && same_expressions(rest, r)
+        }
+        _ => false,
+    }
+}
+
+fn same_place(place: &Place<'_>, other: &Place<'_>) -> bool
+    ensures { result ≡ true → AlikePlace place.now other.now }
+{
+    match (place, other) {
+        (Place::Prefix { op, pos }, Place::Prefix { op: o, pos: p }) => {
+            same_operator(*op, *o) && *pos == *p
+        }
+        (
+            Place::Left { op, right, pos },
+            Place::Left {
+                op: o,
+                right: r,
+                pos: p,
+            },
+        ) => { same_operator(*op, *o) && *pos == *p && same_expression(right, r) }
+        (
+            Place::Right { op, left, pos },
+            Place::Right {
+                op: o,
+                left: l,
+                pos: p,
+            },
+        ) => { same_operator(*op, *o) && *pos == *p && same_operand(*left, *l) }
+        (
+            Place::Destination { method, args, pos },
+            Place::Destination {
+                method: m,
+                args: a,
+                pos: p,
+            },
+        ) => { method.0 == m.0 && *pos == *p && same_expressions(args, a) }
+        _ => same_argument_place(place, other),
+    }
+}
+
+pub fn same_places(left: &[Place<'_>], right: &[Place<'_>]) -> bool
+    ensures { result ≡ true → AlikePlaces left.now right.now }
+{
+    if left.len() != right.len() {
+        return false;
+    }
+    for (i, place) in left.iter().enumerate() {
+        if !same_place(place, &right[i]) {
+            return false;
+        }
+    }
+    true
+}
+
+/// Whether two slots behind evaluated parts are the same.
+fn same_list_slot(slot: &Slot<'_>, other: &Slot<'_>) -> bool
+    ensures { result ≡ true → AlikeSlot slot.now other.now }
+{
+    match (slot, other) {
+        (
+            Slot::Argument {
+                to,
+                method,
+                done,
+                rest,
+            },
+            Slot::Argument {
+                to: t,
+                method: m,
+                done: d,
+                rest: r,
+            },
+        ) => {
+            same_named(*method, *m)
+                && same_operand(*to, *t)
+                && same_operands(done, d)
+                && same_expressions(rest, r)
+        }
+        (
+            Slot::Guard { done, at, rest },
+            Slot::Guard {
+                done: d,
+                at: a,
+                rest: r,
+            },
+        ) => {
+            same_guards(done, d)
+                && same_answer(&at.answer, &a.answer)
+                && same_statements(at.work.items(), a.work.items())
+                && same_alternatives(rest, r)
+        }
+        _ => false,
+    }
+}
+
+pub fn same_slot(slot: &Slot<'_>, other: &Slot<'_>) -> bool
+    ensures { result ≡ true → AlikeSlot slot.now other.now }
+{
+    match (slot, other) {
+        (Slot::Assign { target }, Slot::Assign { target: t }) => same_named(*target, *t),
+        (Slot::Write, Slot::Write) => true,
+        (Slot::Do, Slot::Do) => true,
+        (Slot::Destination { method, args }, Slot::Destination { method: m, args: a }) => {
+            same_named(*method, *m) && same_expressions(args, a)
+        }
+        (Slot::If { yes, no }, Slot::If { yes: y, no: n }) => {
+            same_statements(yes, y) && same_statements(no, n)
+        }
+        (Slot::Loop { cond, body }, Slot::Loop { cond: c, body: b }) => {
+            same_expression(cond, c) && same_statements(body, b)
+        }
+        (Slot::Value, Slot::Value) => true,
+        _ => same_list_slot(slot, other),
+    }
+}
+
+/// Whether two calls, sends or waits are the same.
+fn same_request(redex: &Ready, other: &Ready) -> bool
+    ensures { result ≡ true → ready redex.now ≡ ready other.now }
+{
+    match (redex, other) {
+        (
+            Ready::Call { method, args, pos },
+            Ready::Call {
+                method: m,
+                args: a,
+                pos: p,
+            },
+        ) => { method.0 == m.0 && *pos == *p && same_operands(args, a) }
+        (
+            Ready::Send {
+                to,
+                method,
+                args,
+                pos,
+            },
+            Ready::Send {
+                to: t,
+                method: m,
+                args: a,
+                pos: p,
+            },
+        ) => { method.0 == m.0 && *pos == *p && same_operand(*to, *t) && same_operands(args, a) }
+        (
+            Ready::Wait { receiver, method },
+            Ready::Wait {
+                receiver: r,
+                method: m,
+            },
+        ) => { *receiver == *r && method.0 == m.0 }
+        _ => false,
+    }
+}
+
+pub fn same_ready(redex: &Ready, other: &Ready) -> bool
+    ensures { result ≡ true → ready redex.now ≡ ready other.now }
+{
+    match (redex, other) {
+        (Ready::Me { pos }, Ready::Me { pos: p }) => *pos == *p,
+        (Ready::Variable { name, pos }, Ready::Variable { name: n, pos: p }) => {
+            name.0 == n.0 && *pos == *p
+        }
+        (Ready::Create { class, pos }, Ready::Create { class: c, pos: p }) => {
+            class.0 == c.0 && *pos == *p
+        }
+        (
+            Ready::Prefix { op, arg, pos },
+            Ready::Prefix {
+                op: o,
+                arg: a,
+                pos: p,
+            },
+        ) => { same_operator(*op, *o) && *pos == *p && same_operand(*arg, *a) }
+        (
+            Ready::Infix {
+                op,
+                left,
+                right,
+                pos,
+            },
+            Ready::Infix {
+                op: o,
+                left: l,
+                right: r,
+                pos: p,
+            },
+        ) => {
+            same_operator(*op, *o)
+                && *pos == *p
+                && same_operand(*left, *l)
+                && same_operand(*right, *r)
+        }
+        _ => same_request(redex, other),
+    }
+}
+
+/// Whether two statements that branch are the same.
+fn same_branch(redex: &Task<'_>, other: &Task<'_>) -> bool
+    ensures { result ≡ true → task redex.now ≡ task other.now }
+{
+    match (redex, other) {
+        (
+            Task::If { cond, yes, no },
+            Task::If {
+                cond: c,
+                yes: y,
+                no: n,
+            },
+        ) => { same_operand(*cond, *c) && same_statements(yes, y) && same_statements(no, n) }
+        (
+            Task::Loop { value, cond, body },
+            Task::Loop {
+                value: v,
+                cond: c,
+                body: b,
+            },
+        ) => { same_operand(*value, *v) && same_expression(cond, c) && same_statements(body, b) }
+        (Task::While { cond, body }, Task::While { cond: c, body: b }) => {
+            same_expression(cond, c) && same_statements(body, b)
+        }
+        _ => false,
+    }
+}
+
+pub fn same_task(redex: &Task<'_>, other: &Task<'_>) -> bool
+    ensures { result ≡ true → task redex.now ≡ task other.now }
+{
+    match (redex, other) {
+        (
+            Task::Assign { target, value },
+            Task::Assign {
+                target: t,
+                value: v,
+            },
+        ) => { same_named(*target, *t) && same_operand(*value, *v) }
+        (Task::Write { value }, Task::Write { value: v }) => same_operand(*value, *v),
+        (Task::WriteText { text }, Task::WriteText { text: t }) => text.0 == t.0,
+        (Task::Do { value }, Task::Do { value: v }) => same_operand(*value, *v),
+        (
+            Task::Async { to, method, args },
+            Task::Async {
+                to: t,
+                method: m,
+                args: a,
+            },
+        ) => { same_named(*method, *m) && same_operand(*to, *t) && same_operands(args, a) }
+        (Task::Answer { names }, Task::Answer { names: n }) => same_names(names, n),
+        (Task::Select { guards }, Task::Select { guards: g }) => { same_guards(guards, g) }
+        _ => same_branch(redex, other),
+    }
+}
+
+fn same_segment(part: &Segment<'_>, other: &Segment<'_>) -> bool
+    ensures { result ≡ true → segment part.now ≡ segment other.now }
+{
+    match (part, other) {
+        (Segment::Rest(statements), Segment::Rest(s)) => same_statements(statements, s),
+        (Segment::Again { cond, body }, Segment::Again { cond: c, body: b }) => {
+            same_expression(cond, c) && same_statements(body, b)
+        }
+        _ => false,
+    }
+}
+
+pub fn same_rest(rest: &[Segment<'_>], other: &[Segment<'_>]) -> bool
+    ensures { result ≡ true → left rest.now ≡ left other.now }
+{
+    if rest.len() != other.len() {
+        return false;
+    }
+    for (i, part) in rest.iter().enumerate() {
+        if !same_segment(part, &other[i]) {
+            return false;
+        }
+    }
+    true
+}

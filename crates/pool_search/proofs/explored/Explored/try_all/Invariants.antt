@@ -1,0 +1,18 @@
+use Rattle.std.proofs.Common.{◌≡◌, false, take}
+use Rattle.pool_semantics.specs.PlainOf.{configuration_of, program_tree, is_spent}
+use Rattle.search_laws.specs.Labels.{AllLeadInto}
+use Rattle.pool_search.specs.Entries.{entries, searched}
+use Rattle.pool_search.specs.Progress.{Grows}
+use Rattle.pool_search.proofs.explored.Explored.try_all.Given as goal
+
+-- the labels before the place were tried, and the stepper is at the entry
+abbrev pub invariant-loop-place : goal.invariant-loop-place
+invariant-loop-place l =
+    record {
+      program : searched l.self ≡ searched l.initial.self;
+      same_program : program_tree l.plain ≡ program_tree l.initial.plain;
+      fresh : is_spent l.plain ≡ false;
+      again : configuration_of l.plain ≡ configuration_of l.initial.plain;
+      grows : Grows l.most (entries l.initial.self) (entries l.self);
+      tried : AllLeadInto (searched l.initial.self) (entries l.self) l.next (configuration_of l.initial.plain) (take l.place l.labels);
+    }

@@ -1,0 +1,25 @@
+use Rattle.std.proofs.Common.{◌≡◌, subst, ap, ◌∙◌, Some}
+use Rattle.std.specs.Prelude.{IfSome}
+use Rattle.pool_syntax.specs.Terms.{ProgramTree}
+use Rattle.pool_relation.specs.Transition.{transition, run}
+use Rattle.pool_semantics.specs.PlainOf.{configuration_of, program_tree}
+use Rattle.pool_search.proofs.Settled.{run_more}
+use Rattle.pool_search.proofs.settling.settle_shown.Goals as goal
+
+pub loop-made-preserved : goal.loop-made-preserved
+loop-made-preserved c =
+    let l = c.loop-made in
+    let p = program_tree c.args.plain.now in
+    let from = configuration_of l.plain in
+    let to = configuration_of c.settle_once.new.plain in
+    let made = c.in-Ok-Some.label in
+    let step : transition (program_tree l.plain) from made ≡ Some to =
+    subst (λ o. IfSome o (λ k. transition (program_tree l.plain) from k ≡ Some to)) c.in-Ok-Some.field-0-is c.in-Ok-Some.ensures.made
+    in
+    record {
+      program = c.settle_once.ensures.program ∙ l.invariant.program;
+      fresh = c.in-Ok-Some.ensures.fresh;
+      leads = λ k h.
+          ap (run p k) c.in_ok-push-in-Ok-Some.ensures.items
+          ∙ run_more p k from to l.shown.items made (l.invariant.leads k h) (subst (λ (q : ProgramTree). transition q from made ≡ Some to) l.invariant.program step);
+    }

@@ -1,0 +1,123 @@
+//! The run that leads to an entry, made again from the start with every label that is applied.
+ghost use Rattle.std.specs.Prelude.{◌≡◌, Some, IfOk, IfSome, true, false};
+ghost use Rattle.pool_syntax.specs.TreeOf.{program_of};
+ghost use Rattle.pool_relation.specs.Configuration.{Configuration};
+ghost use Rattle.pool_relation.specs.Transition.{run};
+ghost use Rattle.pool_semantics.specs.PlainOf.{configuration_of, program_tree, is_spent};
+ghost use Rattle.pool_search.specs.Sought.{IsAnswer};
+
+use crate::explored::{Origin, name_after};
+use crate::judging::{Sight, judge};
+use crate::question::{Found, Question};
+use crate::settling::settle_shown;
+use class_check::Checked;
+use pool_semantics::{Plain, Refuse};
+use pool_syntax::Label;
+use std::alloc::{AllocError, Global};
+
+/// The places of the labels that lead to an entry, the last first. Nothing rests on them: the run is made again, and its end judged.
+pub fn way_to(alloc: Global, origins: &[Origin], at: u32) -> Result<Vec<u32>, AllocError> {
+    let mut way = Vec::new(alloc);
+    let mut at = at;
+    for _step in 0..origins.len() {
+        let Some(origin) = origins.get(at as usize) else {
+            break;
+        };
+        if at == 0 {
+            break;
+        }
+        way.push(origin.label)?;
+        at = origin.from;
+    }
+    Ok(way)
+}
+
+/// Applies a label, and then all that needs no choice; false where that is not possible.
+fn pass(plain: &mut Plain<'_>, label: &Label, shown: &mut Vec<Label>) -> Result<bool, AllocError>
+    requires { is_spent plain.old ≡ false }
+    ensures program { program_tree plain.new ≡ program_tree plain.old }
+    ensures fresh { IfOk result (λ _. is_spent plain.new ≡ false) }
+    ensures leads { IfOk result (λ _. (c : Configuration) → run (program_tree plain.old) c shown.old.items ≡ Some (configuration_of plain.old)
+        → run (program_tree plain.old) c shown.new.items ≡ Some (configuration_of plain.new)) }
+{
+    match plain.apply(label) {
+        Ok(()) => {}
+        Err(Refuse::NotPossible { .. }) => return Ok(false),
+        Err(Refuse::Memory) => return Err(AllocError),
+    }
+    shown.push(*label)?;
+    settle_shown(plain, shown)
+}
+
+/// The same with the label at a place among those to try; the next name after it.
+fn pass_at(
+    alloc: Global,
+    plain: &mut Plain<'_>,
+    next: u32,
+    place: u32,
+    shown: &mut Vec<Label>,
+) -> Result<Option<u32>, AllocError>
+    requires { is_spent plain.old ≡ false }
+    ensures program { program_tree plain.new ≡ program_tree plain.old }
+    ensures fresh { IfOk result (λ _. is_spent plain.new ≡ false) }
+    ensures leads { IfOk result (λ _. (c : Configuration) → run (program_tree plain.old) c shown.old.items ≡ Some (configuration_of plain.old)
+        → run (program_tree plain.old) c shown.new.items ≡ Some (configuration_of plain.new)) }
+{
+    let mut labels = Vec::new(alloc);
+    plain.labels(next, &mut labels)?;
+    let Some(label) = labels.get(place as usize) else {
+        return Ok(None);
+    };
+    if !pass(plain, label, shown)? {
+        return Ok(None);
+    }
+    Ok(name_after(next, label))
+}
+
+/// Goes a way from the start.
+fn retrace(
+    alloc: Global,
+    plain: &mut Plain<'_>,
+    way: &[u32],
+    shown: &mut Vec<Label>,
+) -> Result<bool, AllocError>
+    requires { is_spent plain.old ≡ false }
+    ensures program { program_tree plain.new ≡ program_tree plain.old }
+    ensures fresh { IfOk result (λ _. is_spent plain.new ≡ false) }
+    ensures leads { IfOk result (λ _. (c : Configuration) → run (program_tree plain.old) c shown.old.items ≡ Some (configuration_of plain.old)
+        → run (program_tree plain.old) c shown.new.items ≡ Some (configuration_of plain.new)) }
+{
+    if !settle_shown(plain, shown)? {
+        return Ok(false);
+    }
+    let mut next = 1;
+    for place in way.iter().rev() {
+        match pass_at(alloc, plain, next, *place, shown) {
+            Ok(Some(after)) => next = after,
+            Ok(None) => return Ok(false),
+            Err(_) => return Err(AllocError),
+        }
+    }
+    Ok(true)
+}
+
+/// The run of a way, if its end is what is asked for.
+pub fn show(
+    alloc: Global,
+    program: &Checked<'_>,
+    way: &[u32],
+    question: &Question,
+) -> Result<Option<Found>, AllocError>
+    ensures { IfOk result (λ r. IfSome r (λ f. IsAnswer (program_of program.now.program.now) question.now f)) }
+{
+    let mut plain = Plain::make(alloc, program, 0)?;
+    let mut shown = Vec::new(alloc);
+    if !retrace(alloc, &mut plain, way, &mut shown)? {
+        return Ok(None);
+    }
+    Ok(match judge(&plain, question) {
+        Sight::Stuck => Some(Found::Stuck(shown)),
+        Sight::Fault => Some(Found::Fault(shown)),
+        Sight::Neither => None,
+    })
+}

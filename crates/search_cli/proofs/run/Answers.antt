@@ -1,0 +1,14 @@
+-- The ends of `pool_search`, at the numbers of the statuses.
+use Rattle.std.proofs.Common.{◌∙◌, inl, inr, ap}
+use Rattle.search_driver.specs.Statuses.{code_of}
+use Rattle.search_cli.proofs.run.Goals as goal
+
+pub returns-clause-ends : goal.returns-clause-ends
+returns-clause-ends g c = (c.pool_search.result, c.from.ensures ∙ c.code.ensures, c.pool_search.ensures.ends)
+
+pub returns-clause-complete : goal.returns-clause-complete
+returns-clause-complete g c r words served read out err =
+    elim (c.pool_search.ensures.complete r words served read out err) [
+      | inl whole ↦ inl (c.pool_search.result, whole, c.from.ensures ∙ c.code.ensures)
+      | inr memory ↦ inr (c.from.ensures ∙ c.code.ensures ∙ ap code_of memory)
+    ]

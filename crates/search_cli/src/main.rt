@@ -1,0 +1,61 @@
+//! The program: the words of the command line, the files of the system, and the two standard sinks.
+#![tactic(auto)]
+
+ghost use Rattle.outside_calls.specs.Reading.{reading};
+ghost use Rattle.outside_calls.specs.Writing.{writing};
+ghost use Rattle.std.specs.Prelude.{◌≡◌, ◌⊎◌, ◌-◌, ◌^◌, ◌<◌, Some, false, IfSome, IsTrue};
+ghost use Rattle.std.specs.Process.{exit_status};
+ghost use Rattle.pool_outside.specs.Outside.{Rose};
+ghost use Rattle.search_driver.specs.Answers.{IsWhole};
+ghost use Rattle.search_driver.specs.Ends.{Ends, IsServed, StaysWithin};
+ghost use Rattle.search_driver.specs.Statuses.{code_of};
+ghost use Rattle.search_driver.specs.Words.{Search, search_of, texts_of};
+
+use cli_words::behind_name;
+use pool_outside::{Files, Sink, StdFiles, StdSink};
+use search_driver::{Status, pool_search};
+use std::alloc::Global;
+use std::env;
+use std::process::ExitCode;
+
+/// Runs the search of these words, and gives the exit status of the process.
+fn run<F: Files, K: Sink, E: Sink>(
+    alloc: Global,
+    words: &[String],
+    files: &mut F,
+    out: &mut K,
+    err: &mut E,
+) -> ExitCode
+    requires not_live { F.live files.old ≡ false }
+    requires countable { F.opens files.old < 2 ^ 64 - 1 }
+    requires allowed { IfSome (search_of (texts_of words.now)) (λ s. IsTrue (F.may files.old (F.opens files.old) s.name)) }
+
+    // The number is that of the status with which the call ends: each end has its cause, and what stands on the two sinks.
+    ensures ends { (status : Status) × (exit_status result ≡ code_of status) × Ends (search_of (texts_of words.now))
+        (reading F.told F.opens F.given F.live F.faults files.old files.new)
+        (writing K.written K.faults out.old out.new)
+        (writing E.written E.faults err.old err.new)
+        status }
+
+    // Of the program no more than its limit and one read was given.
+    ensures stops_reading { StaysWithin
+        (reading F.told F.opens F.given F.live F.faults files.old files.new) }
+
+    // Words of a search, an accepted program and no fault in this call give an answer whole, or nothing for want of memory.
+    ensures complete { (s : Search) → search_of (texts_of words.now) ≡ Some s → IsServed (F.told files.old) s
+        → ¬ (Rose (F.faults files.old) (F.faults files.new)) → ¬ (Rose (K.faults out.old) (K.faults out.new)) → ¬ (Rose (E.faults err.old) (E.faults err.new))
+        → ((status : Status) × IsWhole status × (exit_status result ≡ code_of status)) ⊎ (exit_status result ≡ 7) }
+{
+    ExitCode::from(pool_search(alloc, words, files, out, err).code())
+}
+
+fn main(rt: HostRuntime) -> ExitCode {
+    let alloc = rt.alloc();
+    let Ok(words) = behind_name(alloc, env::args(&rt)) else {
+        return ExitCode::from(Status::Memory.code());
+    };
+    let mut out = StdSink::make(rt.stdout());
+    let mut err = StdSink::make(rt.stderr());
+    let mut files = StdFiles::make(rt);
+    run(alloc, &words, &mut files, &mut out, &mut err)
+}

@@ -1,0 +1,5 @@
+pub mod Words
+pub mod Answers
+pub mod Statuses
+pub mod Ends
+pub mod Telling

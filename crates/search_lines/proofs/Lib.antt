@@ -1,0 +1,3 @@
+pub mod StepLaws
+pub mod Rising
+pub mod Laws
