@@ -32,7 +32,7 @@ word_shape name id = built_leaf (inherited pool.top (word_app name id).top)
 abbrev pub checked_shape : Text → Shape
 checked_shape name = built_leaf (inherited pool.top (checked_app name).top)
 
-subs_are : pool.subs ≡ files_shape (codes "record") ∷ files_shape (codes "run") ∷ files_shape (codes "why") ∷ word_shape (codes "print") (codes "program") ∷ word_shape (codes "code") (codes "program") ∷ word_shape (codes "ring") (codes "cells") ∷ word_shape (codes "convert") (codes "record") ∷ checked_shape (codes "check") ∷ word_shape (codes "build") (codes "program") ∷ []
+subs_are : pool.subs ≡ files_shape (codes "record") ∷ files_shape (codes "run") ∷ files_shape (codes "why") ∷ word_shape (codes "print") (codes "program") ∷ word_shape (codes "code") (codes "program") ∷ word_shape (codes "ring") (codes "cells") ∷ word_shape (codes "convert") (codes "record") ∷ checked_shape (codes "check") ∷ word_shape (codes "build") (codes "program") ∷ files_shape (codes "load") ∷ []
 subs_are = refl
 
 -- the faults of a command's own level, of its walk and the walk's own faults
@@ -117,6 +117,10 @@ enters_check = record { first = refl; turn = refl; found = refl }
 pub enters_build : Enters (codes "build") (word_shape (codes "build") (codes "program"))
 unfolding clap_on_literals
 enters_build = record { first = refl; turn = refl; found = refl }
+
+pub enters_load : Enters (codes "load") (files_shape (codes "load"))
+unfolding clap_on_literals
+enters_load = record { first = refl; turn = refl; found = refl }
 
 -- what stands between the words of a subcommand
 
@@ -331,36 +335,36 @@ files_judged name show enters shows asks rings converts checks (p ∷ l ∷ x �
     (entered_faults name _ (p ∷ l ∷ x ∷ y ∷ rest) enters ∙ below_4 name p l x y rest a.0 b.0 d.0 e.0) refl
 
 -- two words or more after a word that is no command of three inputs and none of two
-no_more : (name p q : Text) (rest : List Text) → show_of name ≡ None → bytes_eq name (codes "check") ≡ false → is_option p ≡ false → is_option q ≡ false → list_any is_option rest ≡ false
+no_more : (name p q : Text) (rest : List Text) → show_of name ≡ None → bytes_eq name (codes "check") ≡ false → bytes_eq name (codes "load") ≡ false → is_option p ≡ false → is_option q ≡ false → list_any is_option rest ≡ false
     → request_of (name ∷ p ∷ q ∷ rest) ≡ None
-no_more name p q [] shows checks e f plain = rw (e, f, checks) refl
-no_more name p q (r ∷ []) shows checks e f plain =
+no_more name p q [] shows checks loads e f plain = rw (e, f, checks) refl
+no_more name p q (r ∷ []) shows checks loads e f plain =
     let last = neither (is_option r) _ plain in
-    rw (e, f, last.0, shows) refl
-no_more name p q (r ∷ t ∷ rest) shows checks e f plain = refl
+    rw (e, f, last.0, shows, loads) refl
+no_more name p q (r ∷ t ∷ rest) shows checks loads e f plain = refl
 
 -- and three words or more
-no_show : (name p q x : Text) (rest : List Text) → show_of name ≡ None → is_option p ≡ false → is_option q ≡ false → is_option x ≡ false → list_any is_option rest ≡ false
+no_show : (name p q x : Text) (rest : List Text) → show_of name ≡ None → bytes_eq name (codes "load") ≡ false → is_option p ≡ false → is_option q ≡ false → is_option x ≡ false → list_any is_option rest ≡ false
     → request_of (name ∷ p ∷ q ∷ x ∷ rest) ≡ None
-no_show name p q x [] shows e f g plain = rw (e, f, g, shows) refl
-no_show name p q x (r ∷ rest) shows e f g plain = refl
+no_show name p q x [] shows loads e f g plain = rw (e, f, g, shows, loads) refl
+no_show name p q x (r ∷ rest) shows loads e f g plain = refl
 
-pub program_judged : (name : Text) (ask : Ask) → Enters name (word_shape name (codes "program")) → show_of name ≡ None → ask_of name ≡ Some ask → bytes_eq name (codes "check") ≡ false
+pub program_judged : (name : Text) (ask : Ask) → Enters name (word_shape name (codes "program")) → show_of name ≡ None → ask_of name ≡ Some ask → bytes_eq name (codes "check") ≡ false → bytes_eq name (codes "load") ≡ false
     → (rest : List Text) → list_any is_option rest ≡ false → Judged (name ∷ rest)
-program_judged name ask enters shows asks checks [] plain =
+program_judged name ask enters shows asks checks loads [] plain =
     by_fault (name ∷ []) kind.MissingRequiredArgument [] (entered_faults name _ [] enters ∙ word_below_0 name (codes "program")) refl
-program_judged name ask enters shows asks checks (p ∷ []) plain =
+program_judged name ask enters shows asks checks loads (p ∷ []) plain =
     let a = neither _ _ plain in
     let rows = entered_rows name _ (p ∷ []) enters
     ∙ ap (λ w. Some (name, finished (word_rules name (codes "program")) w.held)) (word_walk name (codes "program") p a.0) in
     by_matches (name ∷ p ∷ []) (entered_faults name _ (p ∷ []) enters ∙ program_below_1 name p a.0)
     (ap matched_request rows ∙ rw (a.0, shows, asks) refl)
-program_judged name ask enters shows asks checks (p ∷ q ∷ rest) plain =
+program_judged name ask enters shows asks checks loads (p ∷ q ∷ rest) plain =
     let a = neither _ _ plain in
     let b = neither _ _ a.1 in
     by_fault (name ∷ p ∷ q ∷ rest) kind.UnknownArgument []
     (entered_faults name _ (p ∷ q ∷ rest) enters ∙ word_below_2 name (codes "program") p q rest a.0 b.0)
-    (no_more name p q rest shows checks a.0 b.0 b.1)
+    (no_more name p q rest shows checks loads a.0 b.0 b.1)
 
 pub ring_judged : (rest : List Text) → list_any is_option rest ≡ false → Judged (codes "ring" ∷ rest)
 ring_judged [] plain =
@@ -376,7 +380,7 @@ ring_judged (p ∷ q ∷ rest) plain =
     let b = neither _ _ a.1 in
     by_fault (codes "ring" ∷ p ∷ q ∷ rest) kind.UnknownArgument []
     (entered_faults (codes "ring") _ (p ∷ q ∷ rest) enters_ring ∙ word_below_2 (codes "ring") (codes "cells") p q rest a.0 b.0)
-    (no_more (codes "ring") p q rest refl refl a.0 b.0 b.1)
+    (no_more (codes "ring") p q rest refl refl refl a.0 b.0 b.1)
 
 pub convert_judged : (rest : List Text) → list_any is_option rest ≡ false → Judged (codes "convert" ∷ rest)
 convert_judged [] plain =
@@ -392,7 +396,7 @@ convert_judged (p ∷ q ∷ rest) plain =
     let b = neither _ _ a.1 in
     by_fault (codes "convert" ∷ p ∷ q ∷ rest) kind.UnknownArgument []
     (entered_faults (codes "convert") _ (p ∷ q ∷ rest) enters_convert ∙ word_below_2 (codes "convert") (codes "record") p q rest a.0 b.0)
-    (no_more (codes "convert") p q rest refl refl a.0 b.0 b.1)
+    (no_more (codes "convert") p q rest refl refl refl a.0 b.0 b.1)
 
 pub check_judged : (rest : List Text) → list_any is_option rest ≡ false → Judged (codes "check" ∷ rest)
 check_judged [] plain =
@@ -414,7 +418,35 @@ check_judged (p ∷ r ∷ x ∷ rest) plain =
     let d = neither _ _ b.1 in
     by_fault (codes "check" ∷ p ∷ r ∷ x ∷ rest) kind.UnknownArgument []
     (entered_faults (codes "check") _ (p ∷ r ∷ x ∷ rest) enters_check ∙ both_below_3 (codes "check") p r x rest a.0 b.0 d.0)
-    (no_show (codes "check") p r x rest refl a.0 b.0 d.0 d.1)
+    (no_show (codes "check") p r x rest refl refl a.0 b.0 d.0 d.1)
+
+pub load_judged : (rest : List Text) → list_any is_option rest ≡ false → Judged (codes "load" ∷ rest)
+load_judged [] plain =
+    by_fault (codes "load" ∷ []) kind.MissingRequiredArgument [] (entered_faults (codes "load") _ [] enters_load ∙ below_0 (codes "load")) refl
+load_judged (p ∷ []) plain =
+    let a = neither _ _ plain in
+    by_fault (codes "load" ∷ p ∷ []) kind.MissingRequiredArgument [] (entered_faults (codes "load") _ (p ∷ []) enters_load ∙ below_1 (codes "load") p a.0)
+    (rw a.0 refl)
+load_judged (p ∷ l ∷ []) plain =
+    let a = neither _ _ plain in
+    let b = neither _ _ a.1 in
+    by_fault (codes "load" ∷ p ∷ l ∷ []) kind.MissingRequiredArgument [] (entered_faults (codes "load") _ (p ∷ l ∷ []) enters_load ∙ below_2 (codes "load") p l a.0 b.0)
+    (rw (a.0, b.0) refl)
+load_judged (p ∷ l ∷ x ∷ []) plain =
+    let a = neither _ _ plain in
+    let b = neither _ _ a.1 in
+    let d = neither _ _ b.1 in
+    let rows = entered_rows (codes "load") _ (p ∷ l ∷ x ∷ []) enters_load
+    ∙ ap (λ w. Some (codes "load", finished (files (codes "load")) w.held)) (walk_3 (codes "load") p l x [] a.0 b.0 d.0) in
+    by_matches (codes "load" ∷ p ∷ l ∷ x ∷ []) (entered_faults (codes "load") _ (p ∷ l ∷ x ∷ []) enters_load ∙ below_3 (codes "load") p l x a.0 b.0 d.0)
+    (ap matched_request rows ∙ rw (a.0, b.0, d.0) refl)
+load_judged (p ∷ l ∷ x ∷ y ∷ rest) plain =
+    let a = neither _ _ plain in
+    let b = neither _ _ a.1 in
+    let d = neither _ _ b.1 in
+    let e = neither _ _ d.1 in
+    by_fault (codes "load" ∷ p ∷ l ∷ x ∷ y ∷ rest) kind.UnknownArgument []
+    (entered_faults (codes "load") _ (p ∷ l ∷ x ∷ y ∷ rest) enters_load ∙ below_4 (codes "load") p l x y rest a.0 b.0 d.0 e.0) refl
 
 -- a word that is no subcommand's name
 
@@ -424,6 +456,7 @@ pub record IsNoName (w : Text) : Type 0 where
   pub rings : bytes_eq w (codes "ring") ≡ false
   pub converts : bytes_eq w (codes "convert") ≡ false
   pub checks : bytes_eq w (codes "check") ≡ false
+  pub loads : bytes_eq w (codes "load") ≡ false
   pub met : subcommand_met (names_of pool) idle w ≡ None
 
 no_request : (w : Text) (rest : List Text) → IsNoName w → list_any is_option rest ≡ false → request_of (w ∷ rest) ≡ None
@@ -434,7 +467,7 @@ no_request w (p ∷ []) other plain =
 no_request w (p ∷ q ∷ rest) other plain =
     let a = neither _ _ plain in
     let b = neither _ _ a.1 in
-    no_more w p q rest other.shows other.checks a.0 b.0 b.1
+    no_more w p q rest other.shows other.checks other.loads a.0 b.0 b.1
 
 no_name_fault : (w : Text) (rest : List Text) → IsNoName w → is_option w ≡ false
     → walk_fault pool.top (names_of pool) (walk_from nothing_held) (w ∷ rest) ≡ kind.UnknownArgument ∷ kind.InvalidSubcommand ∷ []
@@ -473,9 +506,9 @@ judged (w ∷ rest) plain =
         | inr run_no ↦ elim (decided w (codes "why")) [
           | inl e ↦ subst (λ n. Judged (n ∷ rest)) (sym e) (files_judged (codes "why") Sh.Report enters_why refl refl refl refl refl rest a.1)
           | inr why_no ↦ elim (decided w (codes "print")) [
-            | inl e ↦ subst (λ n. Judged (n ∷ rest)) (sym e) (program_judged (codes "print") As.Canonical enters_print refl refl refl rest a.1)
+            | inl e ↦ subst (λ n. Judged (n ∷ rest)) (sym e) (program_judged (codes "print") As.Canonical enters_print refl refl refl refl rest a.1)
             | inr print_no ↦ elim (decided w (codes "code")) [
-              | inl e ↦ subst (λ n. Judged (n ∷ rest)) (sym e) (program_judged (codes "code") As.Listing enters_code refl refl refl rest a.1)
+              | inl e ↦ subst (λ n. Judged (n ∷ rest)) (sym e) (program_judged (codes "code") As.Listing enters_code refl refl refl refl rest a.1)
               | inr code_no ↦ elim (decided w (codes "ring")) [
                 | inl e ↦ subst (λ n. Judged (n ∷ rest)) (sym e) (ring_judged rest a.1)
                 | inr ring_no ↦ elim (decided w (codes "convert")) [
@@ -483,15 +516,19 @@ judged (w ∷ rest) plain =
                   | inr convert_no ↦ elim (decided w (codes "check")) [
                     | inl e ↦ subst (λ n. Judged (n ∷ rest)) (sym e) (check_judged rest a.1)
                     | inr check_no ↦ elim (decided w (codes "build")) [
-                      | inl e ↦ subst (λ n. Judged (n ∷ rest)) (sym e) (program_judged (codes "build") As.File enters_build refl refl refl rest a.1)
-                      | inr build_no ↦ no_name_judged w rest (record {
-                        shows = rw (record_no.0, run_no.0, why_no.0) refl;
-                        asks = rw (print_no.0, code_no.0, build_no.0) refl;
-                        rings = ring_no.0;
-                        converts = convert_no.0;
-                        checks = check_no.0;
-                        met = rw (record_no.1, run_no.1, why_no.1, print_no.1, code_no.1, ring_no.1, convert_no.1, check_no.1, build_no.1) refl;
-                      }) a.0 a.1
+                      | inl e ↦ subst (λ n. Judged (n ∷ rest)) (sym e) (program_judged (codes "build") As.File enters_build refl refl refl refl rest a.1)
+                      | inr build_no ↦ elim (decided w (codes "load")) [
+                        | inl e ↦ subst (λ n. Judged (n ∷ rest)) (sym e) (load_judged rest a.1)
+                        | inr load_no ↦ no_name_judged w rest (record {
+                          shows = rw (record_no.0, run_no.0, why_no.0) refl;
+                          asks = rw (print_no.0, code_no.0, build_no.0) refl;
+                          rings = ring_no.0;
+                          converts = convert_no.0;
+                          checks = check_no.0;
+                          loads = load_no.0;
+                          met = rw (record_no.1, run_no.1, why_no.1, print_no.1, code_no.1, ring_no.1, convert_no.1, check_no.1, build_no.1, load_no.1) refl;
+                        }) a.0 a.1
+                      ]
                     ]
                   ]
                 ]

@@ -4,7 +4,7 @@ use Rattle.pool_syntax.specs.Tokens.{Text}
 use Rattle.pool_lexer.specs.Lines.{decimal_of}
 use Rattle.clap.specs.Words.{App, Row, Rule, Shape, first_of, new_app, new_rule, with_rule, with_subcommand}
 use Rattle.clap.specs.Simple.{on_top}
-use Rattle.command_words.specs.Commands.{Request, ask_of, of_check, of_convert, of_program, of_ring, of_run, ring_size, show_of}
+use Rattle.command_words.specs.Commands.{Request, ask_of, of_check, of_convert, of_load, of_program, of_ring, of_run, ring_size, show_of}
 use Rattle.command_words.specs.declared.command.Ask.{Ask}
 use Rattle.command_words.specs.declared.command.Show.{Show}
 
@@ -12,7 +12,7 @@ use Rattle.command_words.specs.declared.command.Show.{Show}
 abbrev pub positional : Text → Rule
 positional id = record (new_rule id) { required = true }
 
--- a command of three names
+-- a command of three names, of which the first is a program's or a unit file's
 abbrev pub files_app : Text → App
 files_app name = with_rule (with_rule (with_rule (new_app name) (positional (codes "program"))) (positional (codes "placement"))) (positional (codes "schedule"))
 
@@ -30,11 +30,11 @@ settings s = record s { no_binary_name = true; disable_help_flag = true; disable
 
 abbrev pub pool_app : App
 pool_app =
-    with_subcommand (with_subcommand (with_subcommand (with_subcommand (with_subcommand (with_subcommand (with_subcommand (with_subcommand (with_subcommand (on_top settings (new_app (codes "pool")))
+    with_subcommand (with_subcommand (with_subcommand (with_subcommand (with_subcommand (with_subcommand (with_subcommand (with_subcommand (with_subcommand (with_subcommand (on_top settings (new_app (codes "pool")))
     (files_app (codes "record")).top) (files_app (codes "run")).top) (files_app (codes "why")).top)
     (word_app (codes "print") (codes "program")).top) (word_app (codes "code") (codes "program")).top)
     (word_app (codes "ring") (codes "cells")).top) (word_app (codes "convert") (codes "record")).top)
-    (checked_app (codes "check")).top) (word_app (codes "build") (codes "program")).top
+    (checked_app (codes "check")).top) (word_app (codes "build") (codes "program")).top) (files_app (codes "load")).top
 
 -- what the matches of a subcommand ask for
 
@@ -61,11 +61,18 @@ with_record _ _ = None
 abbrev pub check_request : List Row → Option Request
 check_request rows = with_record (first_of (codes "program") rows) (first_of (codes "record") rows)
 
+abbrev pub with_unit : Option Text → Option Text → Option Text → Option Request
+with_unit (Some u) (Some l) (Some s) = Some (of_load u l s)
+with_unit _ _ _ = None
+
+abbrev pub load_request : List Row → Option Request
+load_request rows = with_unit (first_of (codes "program") rows) (first_of (codes "placement") rows) (first_of (codes "schedule") rows)
+
 abbrev pub other_request : Option Ask → Text → List Row → Option Request
 other_request (Some ask) name rows = program_request ask rows
 other_request None name rows =
     if bytes_eq name (codes "ring") then ring_request rows else (if bytes_eq name (codes "convert") then convert_request rows
-    else (if bytes_eq name (codes "check") then check_request rows else None))
+    else (if bytes_eq name (codes "check") then check_request rows else (if bytes_eq name (codes "load") then load_request rows else None)))
 
 abbrev pub named_request : Option Show → Text → List Row → Option Request
 named_request (Some show) name rows = run_request show rows

@@ -19,13 +19,14 @@ pub record FileNames : Type 0 where
   pub schedule : Text
 
 -- what the words ask for: a run of three inputs, and what of it is shown; something of a program of this name; the ring of so many cells; a record of this name in the
--- second form; or whether a record of this name is a run of a program of this name
+-- second form; whether a record of this name is a run of a program of this name; or the record of a unit file, a placement and a schedule of these names
 pub data Request : Type 0 where
   of_run : (show : Show) (names : FileNames) → Request
   of_program : (ask : Ask) (name : Text) → Request
   of_ring : (k : ℕ) → Request
   of_convert : (record_name : Text) → Request
   of_check : (name record_name : Text) → Request
+  of_load : (unit_name placement_name schedule_name : Text) → Request
 
 -- a word that begins with `-`
 abbrev pub is_option : Text → Bool
@@ -64,11 +65,18 @@ program_or_other None c w = other_of c w
 abbrev pub check_of : Text → Text → Text → Option Request
 check_of c p r = if bytes_eq c (codes "check") then Some (of_check p r) else None
 
+abbrev pub load_of : Text → Text → Text → Text → Option Request
+load_of c u l s = if bytes_eq c (codes "load") then Some (of_load u l s) else None
+
+abbrev pub run_or_load : Option Show → Text → Text → Text → Text → Option Request
+run_or_load (Some show) c p l s = Some (of_run show (record { program = p; placement = l; schedule = s }))
+run_or_load None c u l s = load_of c u l s
+
 -- a command of three inputs, one of a program, `ring` and a number, `convert` and a record, or `check`, a program and a record; no word begins with `-`
 abbrev pub request_of : List Text → Option Request
 request_of (c ∷ p ∷ l ∷ s ∷ []) =
     if not (is_option p) && (not (is_option l) && not (is_option s))
-    then option_map (λ show. of_run show (record { program = p; placement = l; schedule = s })) (show_of c)
+    then run_or_load (show_of c) c p l s
     else None
 request_of (c ∷ p ∷ r ∷ []) = if not (is_option p) && not (is_option r) then check_of c p r else None
 request_of (c ∷ p ∷ []) = if not (is_option p) then program_or_other (ask_of c) c p else None
@@ -87,6 +95,7 @@ request (C.Program ask name) = of_program ask name.now
 request (C.Ring cells) = of_ring cells
 request (C.Convert name) = of_convert name.now
 request (C.Check program record_name) = of_check program.now record_name.now
+request (C.Load unit placement schedule) = of_load unit.now placement.now schedule.now
 
 -- a ring has from 2 to 1000 cells
 abbrev pub IsSized : Command → Type 0
@@ -95,3 +104,4 @@ IsSized (C.Program ask name) = Unit {0}
 IsSized (C.Ring cells) = (2 ≤ cells) × (cells ≤ 1000)
 IsSized (C.Convert name) = Unit {0}
 IsSized (C.Check program record_name) = Unit {0}
+IsSized (C.Load unit placement schedule) = Unit {0}

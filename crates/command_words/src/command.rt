@@ -33,13 +33,32 @@ pub struct Files<'a> {
 /// A command.
 #[derive(Clone, Copy)]
 pub enum Command<'a> {
-    Run { show: Show, files: Files<'a> },
+    Run {
+        show: Show,
+        files: Files<'a>,
+    },
     /// With the name of a program.
-    Program { ask: Ask, name: &'a str },
+    Program {
+        ask: Ask,
+        name: &'a str,
+    },
     /// With the number of cells.
-    Ring { cells: u32 },
+    Ring {
+        cells: u32,
+    },
     /// With the name of a record.
-    Convert { name: &'a str },
+    Convert {
+        name: &'a str,
+    },
     /// With the names of a program and of a record that is judged by it.
-    Check { program: &'a str, record: &'a str },
+    Check {
+        program: &'a str,
+        record: &'a str,
+    },
+    /// With the names of a unit file, a placement and a schedule.
+    Load {
+        unit: &'a str,
+        placement: &'a str,
+        schedule: &'a str,
+    },
 }

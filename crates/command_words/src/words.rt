@@ -4,7 +4,7 @@ ghost use Rattle.std.specs.List.{list_any};
 ghost use Rattle.clap.specs.Words.{app_of, first_of, found_of, rows_of, rule_of, subcommand_rows_of};
 ghost use Rattle.clap.specs.declared.builder.Command.TheViews.{out-Command as fields_of};
 ghost use Rattle.command_words.specs.Commands.{IsSized, is_option, request, request_of, ring_size, texts_of};
-ghost use Rattle.command_words.specs.CommandLine.{check_request, checked_app, convert_request, files_app, matched_request, pool_app, positional, program_request, ring_request, run_request, word_app};
+ghost use Rattle.command_words.specs.CommandLine.{check_request, checked_app, convert_request, files_app, load_request, matched_request, pool_app, positional, program_request, ring_request, run_request, word_app};
 ghost use Rattle.pool_lexer.specs.Lines.{decimal_of};
 
 use crate::command::{Ask, Command, Files, Show};
@@ -47,7 +47,7 @@ fn positional<'a>(alloc: Global, id: &'a str) -> Arg<'a>
     Arg::new(alloc, id).required(true)
 }
 
-/// A subcommand of the names of three inputs.
+/// A subcommand of the names of three inputs, of which the first is a program or a unit file.
 fn of_files<'a>(alloc: Global, name: &'a str) -> Result<clap::Command<'a>, AllocError>
     ensures app { IfOk result (λ c. app_of c ≡ files_app name.entry.now) }
     ensures local { IfOk result (λ c. (fields_of c).has_globals ≡ false) }
@@ -93,7 +93,8 @@ fn command_line<'a>(alloc: Global) -> Result<clap::Command<'a>, AllocError>
         .subcommand(of_word(alloc, "ring", "cells")?)?
         .subcommand(of_word(alloc, "convert", "record")?)?
         .subcommand(of_record(alloc, "check")?)?
-        .subcommand(of_word(alloc, "build", "program")?)
+        .subcommand(of_word(alloc, "build", "program")?)?
+        .subcommand(of_files(alloc, "load")?)
 }
 
 /// The first value of an argument.
@@ -189,6 +190,24 @@ fn check<'a>(matches: &ArgMatches<'a>) -> Option<Command<'a>>
     }
 }
 
+/// The run of the unit file of the first of three names.
+fn load<'a>(matches: &ArgMatches<'a>) -> Option<Command<'a>>
+    ensures request { option_map request result ≡ load_request (rows_of (found_of matches.now)) }
+    ensures sized { IfSome result IsSized }
+{
+    let unit = value(matches, "program");
+    let placement = value(matches, "placement");
+    let schedule = value(matches, "schedule");
+    match (unit, placement, schedule) {
+        (Some(unit), Some(placement), Some(schedule)) => Some(Command::Load {
+            unit,
+            placement,
+            schedule,
+        }),
+        _ => None,
+    }
+}
+
 /// The command of the matches.
 fn command<'a>(matches: &ArgMatches<'a>) -> Option<Command<'a>>
     ensures request { option_map request result ≡ matched_request (subcommand_rows_of matches.now) }
@@ -205,6 +224,7 @@ fn command<'a>(matches: &ArgMatches<'a>) -> Option<Command<'a>>
         "ring" => ring(matches),
         "convert" => convert(matches),
         "check" => check(matches),
+        "load" => load(matches),
         _ => None,
     }
 }

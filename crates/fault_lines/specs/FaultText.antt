@@ -13,13 +13,15 @@ use Rattle.schedule_reader.specs.declared.fault.ScheduleFault.{ScheduleFault}
 use Rattle.schedule_reader.specs.declared.fault.ScheduleFault.TheVariants as Plan
 use Rattle.run_record.specs.declared.fault.RecordFault.{RecordFault}
 use Rattle.run_record.specs.declared.fault.RecordFault.TheVariants as Rec
+use Rattle.fault_lines.specs.declared.fault.UnitFault.{UnitFault}
+use Rattle.fault_lines.specs.declared.fault.UnitFault.TheVariants as Bad
 use Rattle.fault_lines.specs.declared.fault.Input.{Input}
 use Rattle.fault_lines.specs.declared.fault.Input.TheVariants as I
 use Rattle.fault_lines.specs.declared.fault.Fault.{Fault}
 use Rattle.fault_lines.specs.declared.fault.Fault.TheVariants as F
 
 -- A fault of the lexer stands at a byte, those of the parser and the checker at a token, and those of a placement, a schedule and a record at a line, or they tell a number
--- that is too large; want of memory is no fault of an input.
+-- that is too large; of an object code file the faults tell a byte, or the places of a name, a class and a method; want of memory is no fault of an input.
 
 abbrev pub lex_fault_text : LexFault → Text
 lex_fault_text (Lex.BadByte at) = codes "BadByte at byte " ++ decimal at
@@ -73,6 +75,13 @@ record_fault_text (Rec.OutOfOrder line) = codes "OutOfOrder at line " ++ decimal
 record_fault_text (Rec.WrongAsk line) = codes "WrongAsk at line " ++ decimal line
 record_fault_text Rec.Memory = []
 
+abbrev pub unit_fault_text : UnitFault → Text
+unit_fault_text (Bad.BadBytes at) = codes "BadBytes at byte " ++ decimal at
+unit_fault_text (Bad.NameTwice place) = codes "NameTwice " ++ decimal place
+unit_fault_text (Bad.Header class) = codes "Header " ++ decimal class
+unit_fault_text (Bad.Code class method) = codes "Code " ++ decimal class ++ codes " " ++ decimal method
+unit_fault_text Bad.Memory = []
+
 abbrev pub fault_text : Fault → Text
 fault_text F.TooLong = codes "TooLong"
 fault_text (F.Lex f) = lex_fault_text f
@@ -81,12 +90,14 @@ fault_text (F.Class f) = class_fault_text f
 fault_text (F.Placement f) = placement_fault_text f
 fault_text (F.Schedule f) = schedule_fault_text f
 fault_text (F.Record f) = record_fault_text f
+fault_text (F.Unit f) = unit_fault_text f
 
 abbrev pub input_text : Input → Text
 input_text I.Program = codes "pool: program: "
 input_text I.Placement = codes "pool: placement: "
 input_text I.Schedule = codes "pool: schedule: "
 input_text I.Record = codes "pool: record: "
+input_text I.Unit = codes "pool: unit: "
 
 abbrev pub refusal_line : Input → Fault → Text
 refusal_line input fault = input_text input ++ (fault_text fault ++ codes "\n")
@@ -95,4 +106,4 @@ abbrev pub unread_line : Input → Text
 unread_line input = input_text input ++ codes "read fault\n"
 
 abbrev pub usage_line : Text
-usage_line = codes "usage: pool record|run|why P L S, pool print|code P, pool ring K, pool convert R, pool check P R, pool build P\n"
+usage_line = codes "usage: pool record|run|why P L S, pool print|code P, pool ring K, pool convert R, pool check P R, pool build P, pool load U L S\n"

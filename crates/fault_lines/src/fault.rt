@@ -1,6 +1,6 @@
 //! Why an input was refused, and the line that says so.
 ghost use Rattle.std.specs.Prelude.{◌≡◌, ◌++◌, OnOk, IfOk, decimal};
-ghost use Rattle.fault_lines.specs.FaultText.{class_fault_text, fault_text, input_text, lex_fault_text, placement_fault_text, record_fault_text, refusal_line, schedule_fault_text, syntax_fault_text, unread_line};
+ghost use Rattle.fault_lines.specs.FaultText.{class_fault_text, fault_text, input_text, lex_fault_text, placement_fault_text, record_fault_text, refusal_line, schedule_fault_text, syntax_fault_text, unit_fault_text, unread_line};
 
 use class_check::ClassFault;
 use itoa::Buffer;
@@ -18,12 +18,29 @@ pub enum Input {
     Placement,
     Schedule,
     Record,
+    /// An object code file.
+    Unit,
+}
+
+/// Why an object code file is refused.
+#[derive(Clone, Copy)]
+pub enum UnitFault {
+    /// Its bytes do not have the form, and this is the place of the first that is not allowed, or their number where they end too early.
+    BadBytes { at: u32 },
+    /// The place, from 0, of the first name that equals an earlier one.
+    NameTwice { place: u32 },
+    /// The place, from 0, of the first class whose heading breaks a rule; 0 where there is no class.
+    Header { class: u32 },
+    /// The first code that is not well sorted: the place of its class, and of its method there; that of a body is the number of methods.
+    Code { class: u32, method: u32 },
+    /// Out of memory.
+    Memory,
 }
 
 /// Why an input was refused.
 #[derive(Clone, Copy)]
 pub enum Fault {
-    /// It has more bytes than its limit: 1,048,576, and of a record 67,108,864.
+    /// It has more bytes than its limit: 1,048,576, of a record 67,108,864, and of an object code file 16,777,216.
     TooLong,
     /// The first fault of a program's tokens.
     Lex(LexFault),
@@ -37,6 +54,8 @@ pub enum Fault {
     Schedule(ScheduleFault),
     /// The first fault of a record.
     Record(RecordFault),
+    /// The first fault of an object code file.
+    Unit(UnitFault),
 }
 
 /// Why nothing is made of the inputs.
@@ -159,6 +178,21 @@ fn push_record_fault(text: &mut Vec<u8>, fault: RecordFault) -> Result<(), Alloc
     }
 }
 
+fn push_unit_fault(text: &mut Vec<u8>, fault: UnitFault) -> Result<(), AllocError>
+    ensures { OnOk result (text.new.items ≡ text.old.items ++ unit_fault_text fault) }
+{
+    match fault {
+        UnitFault::BadBytes { at } => push_place(text, b"BadBytes at byte ", at),
+        UnitFault::NameTwice { place } => push_place(text, b"NameTwice ", place),
+        UnitFault::Header { class } => push_place(text, b"Header ", class),
+        UnitFault::Code { class, method } => {
+            push_place(text, b"Code ", class)?;
+            push_place(text, b" ", method)
+        }
+        UnitFault::Memory => Ok(()),
+    }
+}
+
 fn push_fault(text: &mut Vec<u8>, fault: Fault) -> Result<(), AllocError>
     ensures { OnOk result (text.new.items ≡ text.old.items ++ fault_text fault) }
 {
@@ -170,6 +204,7 @@ fn push_fault(text: &mut Vec<u8>, fault: Fault) -> Result<(), AllocError>
         Fault::Placement(fault) => push_placement_fault(text, fault),
         Fault::Schedule(fault) => push_schedule_fault(text, fault),
         Fault::Record(fault) => push_record_fault(text, fault),
+        Fault::Unit(fault) => push_unit_fault(text, fault),
     }
 }
 
@@ -182,6 +217,7 @@ fn line_about(alloc: Global, input: Input) -> Result<Vec<u8>, AllocError>
         Input::Placement => b"pool: placement: ".to_vec(alloc),
         Input::Schedule => b"pool: schedule: ".to_vec(alloc),
         Input::Record => b"pool: record: ".to_vec(alloc),
+        Input::Unit => b"pool: unit: ".to_vec(alloc),
     }
 }
 

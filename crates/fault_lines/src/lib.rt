@@ -3,4 +3,6 @@
 
 mod fault;
 
-pub use fault::{Fault, Input, Stop, line_of_refusal, line_of_unread, push_count, push_place};
+pub use fault::{
+    Fault, Input, Stop, UnitFault, line_of_refusal, line_of_unread, push_count, push_place,
+};

@@ -1,4 +1,5 @@
 pub mod Fine
 mod Faultless
 pub mod Most
+pub mod Suiting
 mod Rows

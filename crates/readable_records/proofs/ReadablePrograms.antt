@@ -19,8 +19,8 @@ use Rattle.mesh_semantics.specs.Sound.{Each}
 use Rattle.placed_terms.specs.Terms.{terms}
 use Rattle.placed_code.proofs.Laws.{code_record, code_record_on_wires, parsed_checked, suits_fits}
 use Rattle.run_record.specs.Readable.{IsReadableEvent, IsRecord}
-use Rattle.readable_records.proofs.SpelledCode.{code_is_spelled}
-use Rattle.readable_records.proofs.ReadableRuns.{record_reads, record_reads_on_wires}
+use Rattle.readable_records.proofs.SpelledCode.{code_is_spelled, code_sends_names}
+use Rattle.readable_records.proofs.NamedCode.{code_reads, code_reads_on_wires}
 
 -- the names of a parsed program are names, its strings strings, and its integers those of literals
 pub parsed_spelled : (s : Text) (names : List Text) (p : ProgramTree) → IsParsed s names p → is_spelled names p ≡ true
@@ -31,15 +31,17 @@ pub program_reads : (s : Text) (names : List Text) (p : ProgramTree) (l : Placem
     → IsRecord names (record_of (terms p) l q es).lines
 program_reads s names p l q es parsed none proper suits most few each =
     let u : Code = record { names = names; classes = code p } in
+    let spelled = parsed_spelled s names p parsed in
     let same = code_record p u (parsed_checked s names p parsed none) refl l q es (suits_fits p u l refl suits) in
     subst (λ (ls : List Line). IsRecord names ls) (sym same.lines)
-    (record_reads u proper (code_is_spelled u p refl (parsed_spelled s names p parsed)) l suits q most es few each)
+    (code_reads u proper (code_is_spelled u p refl spelled) (code_sends_names u p refl spelled) l suits q most es few each)
 
 pub program_reads_on_wires : (s : Text) (names : List Text) (p : ProgramTree) (l : Placement) (q : ℕ) (es : List Event) → IsParsed s names p → faults p ≡ []
     → IsProper (record { names = names; classes = code p }) → Suits l (record { names = names; classes = code p }) → q ≤ 10000 → length es ≤ 2000000 → Each IsReadableEvent es
     → IsRecord names (record_on_wires (terms p) l q es).lines
 program_reads_on_wires s names p l q es parsed none proper suits most few each =
     let u : Code = record { names = names; classes = code p } in
+    let spelled = parsed_spelled s names p parsed in
     let same = code_record_on_wires p u (parsed_checked s names p parsed none) refl l q es (suits_fits p u l refl suits) in
     subst (λ (ls : List Line). IsRecord names ls) (sym same.lines)
-    (record_reads_on_wires u proper (code_is_spelled u p refl (parsed_spelled s names p parsed)) l suits q most es few each)
+    (code_reads_on_wires u proper (code_is_spelled u p refl spelled) (code_sends_names u p refl spelled) l suits q most es few each)

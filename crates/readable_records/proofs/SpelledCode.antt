@@ -21,9 +21,9 @@ use Rattle.mesh_semantics.proofs.Laws.{first, second}
 use Rattle.mesh_semantics.specs.Act.{id}
 use Rattle.record_lines.specs.RecordText.{text_or_none}
 use Rattle.line_reader.specs.Fields as F
-use Rattle.coded_objects.specs.Made.{HasInstr, IsNamedIn}
+use Rattle.coded_objects.specs.Made.{HasInstr}
 use Rattle.run_record.specs.Readable.{IsNamed, IsString}
-use Rattle.readable_records.specs.SpelledUnit.{IsSpelledUnit}
+use Rattle.readable_records.specs.SpelledUnit.{IsSpelledUnit, SendsNames}
 
 -- texts of names and of strings
 
@@ -57,14 +57,14 @@ some_below [] n w h = absurd (cc)
 some_below (x ∷ names) zero w h = omega arith
 some_below (x ∷ names) (suc n) w h = let t = some_below names n w h in omega (arith, t)
 
-named_reads : (names : List Text) (n : ℕ) → is_name names n ≡ true → IsNamed names (id n)
+pub named_reads : (names : List Text) (n : ℕ) → is_name names n ≡ true → IsNamed names (id n)
 named_reads names n h = by (slice_get names n) refl h
   where
     by : (o : Option Text) → slice_get names n ≡ o → text_passes is_name_text o ≡ true → IsNamed names (id n)
     by None e p = absurd (let z : false ≡ true = p in cc)
     by (Some w) e p = (some_below names n w e, ap (λ (o : Option Text). F.is_name (text_or_none o)) e ∙ name_reads w p)
 
-string_reads : (names : List Text) (n : ℕ) → is_string_number names n ≡ true → IsString names (id n)
+pub string_reads : (names : List Text) (n : ℕ) → is_string_number names n ≡ true → IsString names (id n)
 string_reads names n h = by (slice_get names n) refl h
   where
     by : (o : Option Text) → slice_get names n ≡ o → text_passes is_string_text o ≡ true → IsString names (id n)
@@ -274,11 +274,10 @@ module _ (u : Code) (p : ProgramTree) (same : u.classes ≡ code p) (h : is_spel
           on None q r = absurd (cc)
           on (Some c) q r = say_at u.names c.code at i (k_says.methods n c q) r
 
-  -- the code of a spelled program is spelled
+  -- the code of a spelled program is spelled, and sends to names alone
   pub code_is_spelled : IsSpelledUnit u
-  code_is_spelled = record { named = named; strings = λ n t. instr_says (I.WriteText (id n)) t; numbers = λ z t. instr_says (I.PushInt z) t }
-    where
-      named : (n : ℕ) → IsNamedIn u n → IsNamed u.names (id n)
-      named n (inl t) = instr_says (I.New (id n)) t
-      named n (inr (inl t)) = instr_says (I.Send (id n) t.0) t.1
-      named n (inr (inr t)) = instr_says (I.Async (id n) t.0) t.1
+  code_is_spelled = record { classes = λ n t. instr_says (I.New (id n)) t; strings = λ n t. instr_says (I.WriteText (id n)) t; numbers = λ z t. instr_says (I.PushInt z) t }
+
+  pub code_sends_names : SendsNames u
+  code_sends_names n a (inl t) = instr_says (I.Send (id n) a) t
+  code_sends_names n a (inr t) = instr_says (I.Async (id n) a) t

@@ -18,14 +18,14 @@ ghost use Rattle.mesh_semantics.specs.Sound.{Each};
 ghost use Rattle.coded_objects.specs.Coded.{coded};
 ghost use Rattle.run_record.specs.Readable.{IsReadableEvent, IsRecord};
 ghost use Rattle.readable_records.specs.ReadsBack.{ReadsBack};
-ghost use Rattle.readable_records.specs.SpelledUnit.{IsSpelledUnit};
+ghost use Rattle.readable_records.specs.SpelledUnit.{IsSpelledUnit, SendsNames};
 
-/// The record of spelled code on a placement that suits it, over at most 2,000,000 events and with turns of at most 10,000 transitions, is one whose text is read back, with
+/// The record of spelled code that sends to names alone, on a placement that suits it, over at most 2,000,000 events and with turns of at most 10,000 transitions, is one whose text is read back, with
 /// or without wires.
 pub fn records_of_code_are_readable()
-    ensures records { (u : Code) (l : Placement) (q : ℕ) (es : List Event) → IsProper u → IsSpelledUnit u → Suits l u → q ≤ 10000 → length es ≤ 2000000 → Each IsReadableEvent es
+    ensures records { (u : Code) (l : Placement) (q : ℕ) (es : List Event) → IsProper u → IsSpelledUnit u → SendsNames u → Suits l u → q ≤ 10000 → length es ≤ 2000000 → Each IsReadableEvent es
         → IsRecord u.names (record_of (coded u) l q es).lines }
-    ensures on_wires { (u : Code) (l : Placement) (q : ℕ) (es : List Event) → IsProper u → IsSpelledUnit u → Suits l u → q ≤ 10000 → length es ≤ 2000000 → Each IsReadableEvent es
+    ensures on_wires { (u : Code) (l : Placement) (q : ℕ) (es : List Event) → IsProper u → IsSpelledUnit u → SendsNames u → Suits l u → q ≤ 10000 → length es ≤ 2000000 → Each IsReadableEvent es
         → IsRecord u.names (record_on_wires (coded u) l q es).lines }
 {}
 

@@ -7,3 +7,5 @@ pub use Rattle.verified_code.proofs.Loads.{grammatical_verified, read_back}
 pub use Rattle.verified_code.proofs.ProperUnits.{verified_is_proper}
 pub use Rattle.verified_code.proofs.KeptTyped.{verified_lawful}
 pub use Rattle.verified_code.proofs.Runs.{nobody_goes_wrong, start_typed, record_is_code_run, record_is_code_run_on_wires}
+-- each line of its record has the number of the post that it answers
+pub use Rattle.verified_code.proofs.WaitingCode.{code_answers, code_answers_on_wires}

@@ -20,3 +20,4 @@ pub mod CompiledCode
 pub mod CompiledFiles
 pub mod DerivedChoices
 pub mod Loads
+pub mod WaitingCode

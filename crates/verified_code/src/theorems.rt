@@ -7,6 +7,7 @@ ghost use Rattle.pool_syntax.specs.Tokens.{Text};
 ghost use Rattle.pool_syntax.specs.Typing.{faults};
 ghost use Rattle.pool_syntax.specs.declared.words.Event.{Event};
 ghost use Rattle.pool_syntax.specs.declared.words.Placement.{Placement};
+ghost use Rattle.mesh_semantics.specs.Asks.{EachAnswersPost};
 ghost use Rattle.mesh_semantics.specs.Config.{Config, object_of};
 ghost use Rattle.mesh_semantics.specs.FitFor.{FitFor};
 ghost use Rattle.mesh_semantics.specs.Lawful.{Lawful};
@@ -49,6 +50,13 @@ pub fn records_of_verified_code_are_runs()
         → (c : Config Placed) × (start (coded f.unit) l ≡ Some c) × IsCodeRun f l c (record_of (coded f.unit) l q es) }
     ensures on_wires { (f : UnitFile) (l : Placement) (q : ℕ) (es : List Event) → IsShaped f → IsVerified f → FitFor (coded f.unit) l
         → (c : Config Placed) × (start (coded f.unit) l ≡ Some c) × IsCodeRun f l c (record_on_wires (coded f.unit) l q es) }
+{}
+
+/// Each line of the record of code of a verified file that answers a request has the number of a line above 0, which posts this request: of the same object, for the class or
+/// the call that the line names.
+pub fn each_line_answers_its_post()
+    ensures answers { (f : UnitFile) (l : Placement) (q : ℕ) (es : List Event) → IsShaped f → IsVerified f → FitFor (coded f.unit) l → EachAnswersPost (record_of (coded f.unit) l q es).lines }
+    ensures on_wires { (f : UnitFile) (l : Placement) (q : ℕ) (es : List Event) → IsShaped f → IsVerified f → FitFor (coded f.unit) l → EachAnswersPost (record_on_wires (coded f.unit) l q es).lines }
 {}
 
 /// The file of a program of the grammar without class faults is shaped and verified, so the verdict on it is good.

@@ -21,5 +21,6 @@ returns c =
     let six = c.in_ok-subcommand-6.ensures.shape c.in_ok-of_word-3.ensures.local ∙ ap₂ with_subcommand five (ap top c.in_ok-of_word-3.ensures.app) in
     let seven = c.in_ok-subcommand-7.ensures.shape c.in_ok-of_word-4.ensures.local ∙ ap₂ with_subcommand six (ap top c.in_ok-of_word-4.ensures.app) in
     let eight = c.in_ok-subcommand-8.ensures.shape c.in_ok-of_record.ensures.local ∙ ap₂ with_subcommand seven (ap top c.in_ok-of_record.ensures.app) in
-    IfOk-weaker c.subcommand-9.result _ _
-    (λ r h. h.shape c.in_ok-of_word-5.ensures.local ∙ ap₂ with_subcommand eight (ap top c.in_ok-of_word-5.ensures.app)) c.subcommand-9.ensures
+    let nine = c.in_ok-subcommand-9.ensures.shape c.in_ok-of_word-5.ensures.local ∙ ap₂ with_subcommand eight (ap top c.in_ok-of_word-5.ensures.app) in
+    IfOk-weaker c.subcommand-10.result _ _
+    (λ r h. h.shape c.in_ok-of_files-4.ensures.local ∙ ap₂ with_subcommand nine (ap top c.in_ok-of_files-4.ensures.app)) c.subcommand-10.ensures
