@@ -1,36 +1,25 @@
 //! The program: the words of the command line, the files of the system, and the two standard sinks.
 #![tactic(auto)]
 
-ghost use Rattle.std.specs.Prelude.{◌≡◌, ◌≢◌, ◌⊎◌, ◌+◌, ◌-◌, ◌^◌, ◌≤◌, ◌<◌, [], drop, Some, false, IfOk, IfErr, IsErr, IsOkAnd, IfSome};
+ghost use Rattle.run_driver.specs.Writing.{writing};
+ghost use Rattle.std.specs.Prelude.{◌≡◌, ◌⊎◌, ◌-◌, ◌^◌, ◌≤◌, ◌<◌, ◌++◌, [], ◌∷◌};
+ghost use Rattle.std.specs.Prelude.{Some, false, codes, option_map, IfSome};
+ghost use Rattle.pool_syntax.specs.Tokens.{Text};
 ghost use Rattle.std.specs.Process.{exit_status};
-ghost use Rattle.std.specs.Vec.Iter.{into_iter_items};
-ghost use Rattle.std.specs.IoError.{error_kind};
 ghost use Rattle.pool_outside.specs.Outside.{Rose};
 ghost use Rattle.pool_driver.specs.Commands.{Request, request_of, texts_of};
-ghost use Rattle.pool_driver.specs.Ends.{Ends, StaysWithin};
+ghost use Rattle.pool_driver.specs.Ends.{Ends, StaysWithin, reading};
 ghost use Rattle.run_driver.specs.Statuses.{code_of};
+ghost use Rattle.pool_driver.specs.Headline.{ShowsOneRun};
 ghost use Rattle.pool_driver.specs.Inputs.{IsServable, MayOpen};
 ghost use Rattle.pool_driver.specs.Outputs.{IsWhole};
 
+use cli_words::behind_name;
 use pool_driver::{Status, pool};
 use pool_outside::{Files, Sink, StdFiles, StdSink};
-use std::alloc::{AllocError, Global};
-use std::io::ErrorKind;
+use std::alloc::Global;
+use std::env;
 use std::process::ExitCode;
-use std::{env, io};
-
-/// The words behind the program's name. Arguments that are not text are no command's, and give none.
-fn behind_name(alloc: Global, args: io::Result<env::Args>) -> Result<Vec<String>, AllocError>
-    ensures words { IfOk args (λ a. IfOk result (λ words. words.items ≡ drop 1 (into_iter_items a))) }
-    ensures not_text { IfErr args (λ e. error_kind e ≢ ErrorKind.OutOfMemory → IsOkAnd result (λ words. words.items ≡ [])) }
-    ensures memory { IfErr args (λ e. error_kind e ≡ ErrorKind.OutOfMemory → IsErr result) }
-{
-    match args {
-        Ok(args) => args.skip(1).collect(alloc),
-        Err(error) if error.kind() == ErrorKind::OutOfMemory => Err(AllocError),
-        Err(_) => Ok(Vec::new(alloc)),
-    }
-}
 
 /// Runs the command of these words, and gives the exit status of the process.
 fn run<F: Files, K: Sink, E: Sink>(
@@ -46,19 +35,24 @@ fn run<F: Files, K: Sink, E: Sink>(
 
     // The number is that of the status with which the call ends: each end has its cause, and what stands on the two sinks.
     ensures ends { (status : Status) × (exit_status result ≡ code_of status) × Ends (request_of (texts_of words.now))
-        (record { told = F.told files.old; opens = F.opens files.old; opened = F.opens files.new; given = F.given files.new; live = F.live files.new; faults = F.faults files.old; failed = F.faults files.new })
-        (record { before = K.written out.old; after = K.written out.new; faults = K.faults out.old; failed = K.faults out.new })
-        (record { before = E.written err.old; after = E.written err.new; faults = E.faults err.old; failed = E.faults err.new })
+        (reading F.told F.opens F.given F.live F.faults files.old files.new)
+        (writing K.written K.faults out.old out.new)
+        (writing E.written E.faults err.old err.new)
         status }
 
     // Of the input that was opened last no more than its limit and one read was given.
     ensures stops_reading { (r : Request) → request_of (texts_of words.now) ≡ Some r → StaysWithin
-        (record { told = F.told files.old; opens = F.opens files.old; opened = F.opens files.new; given = F.given files.new; live = F.live files.new; faults = F.faults files.old; failed = F.faults files.new }) r }
+        (reading F.told F.opens F.given F.live F.faults files.old files.new) r }
 
     // Words of a command, accepted inputs and no fault in this call give the text whole, or nothing for want of memory.
     ensures complete { (r : Request) → request_of (texts_of words.now) ≡ Some r → IsServable (F.told files.old) r
         → ¬ (Rose (F.faults files.old) (F.faults files.new)) → ¬ (Rose (K.faults out.old) (K.faults out.new)) → ¬ (Rose (E.faults err.old) (E.faults err.new))
         → ((status : Status) × IsWhole status × (exit_status result ≡ code_of status)) ⊎ (exit_status result ≡ 7) }
+
+    // The headline, by itself: where `record` ends with the number of a record, what it wrote is the text of lines that show one run of the program.
+    ensures headline { (p l s : Text) → texts_of words.now ≡ codes "record" ∷ p ∷ l ∷ s ∷ [] → (status : Status) → IsWhole status → exit_status result ≡ code_of status
+        → (source : Text) × (bytes : Text) × IfSome (F.told files.old p) (λ t. source ≡ t)
+        × (K.written out.new ≡ option_map (λ w. w ++ bytes) (K.written out.old)) × ShowsOneRun source bytes }
 {
     ExitCode::from(pool(alloc, words, files, out, err).code())
 }

@@ -14,19 +14,23 @@ use Rattle.fault_lines.specs.declared.fault.Fault.{Fault}
 use Rattle.fault_lines.specs.declared.fault.Stop.{Stop}
 use Rattle.fault_lines.specs.declared.fault.Stop.TheVariants as T
 use Rattle.pool_driver.specs.declared.outputs.Output.{Output}
-use Rattle.command_words.specs.Commands.{Request, of_run, of_program, of_ring, of_convert, of_check}
+use Rattle.command_words.specs.Commands.{Request, of_run, of_program, of_ring, of_convert, of_check, of_load}
 use Rattle.fault_lines.specs.FaultText.{refusal_line, unread_line, usage_line}
-use Rattle.pool_driver.specs.Inputs.{Told, inputs, limit_of, IsAccepted, HasFault, WereAccepted, AreAccepted, AreServed, IsServable, StopAt}
+use Rattle.pool_driver.specs.Inputs.{inputs, IsAccepted, HasFault, WereAccepted, AreAccepted, AreServed, IsServable, StopAt}
+use Rattle.outside_calls.specs.Reading.{Told}
+use Rattle.program_input.specs.Inputs.{limit_of}
 use Rattle.pool_gen.specs.Ring.{ring_placement, ring_program, ring_schedule}
 use Rattle.fault_lines.specs.declared.fault.Input.TheVariants as I
 use Rattle.pool_driver.specs.Outputs.{IsOutput, IsWhole, status_of_verdict}
 use Rattle.record_check.specs.declared.lead.Verdict.{Verdict}
 use Rattle.record_check.specs.declared.lead.Verdict.TheVariants as V
-use Rattle.pool_driver.specs.Runs.{record_of}
+use Rattle.pool_driver.specs.Runs.{code_record_of, record_of}
 use Rattle.run_driver.specs.Shown.{ended, shows_fault, status_after}
 use Rattle.pool_driver.specs.Ends as E
-use Rattle.pool_driver.specs.Ends.{Reading, AllRead, Stops, too_long, faulty, IsRefused, IsRingRefused, IsUnread, IsMade, Says, Ends}
-use Rattle.run_driver.specs.Writing.{Writing, IsIdle, Wrote, WroteFront}
+use Rattle.pool_driver.specs.Ends.{IsRefused, IsRingRefused, IsUnread, IsMade, Says, Ends}
+use Rattle.outside_calls.specs.Reading.{Reading, AllRead}
+use Rattle.program_input.specs.Readers.{Stops, too_long, faulty}
+use Rattle.run_driver.specs.Writing.{Writing, IsIdle}
 use Rattle.pool_driver.specs.Readers as D
 use Rattle.run_driver.specs.Writing as W
 use Rattle.pool_driver.specs.Readers.{Makes, Tells, text_of, status_of_output}
@@ -127,6 +131,11 @@ output_whole (of_check name other) [] text s h = absurd h
 output_whole (of_check name other) (p ∷ []) text s h = absurd h
 output_whole (of_check name other) (p ∷ t ∷ []) text s h = subst IsWhole (sym h.ended) (verdict_whole h.verdict)
 output_whole (of_check name other) (p ∷ t ∷ u ∷ us) text s h = absurd h
+output_whole (of_load file place plan) [] text s h = absurd h
+output_whole (of_load file place plan) (p ∷ []) text s h = absurd h
+output_whole (of_load file place plan) (p ∷ l ∷ []) text s h = absurd h
+output_whole (of_load file place plan) (p ∷ l ∷ t ∷ []) text s h = subst IsWhole (sym h.ended) (status_whole false (code_record_of h.meaning).lines)
+output_whole (of_load file place plan) (p ∷ l ∷ t ∷ u ∷ us) text s h = absurd h
 
 -- An input that is told, within the limit and accepted, does not stop a call.
 
@@ -154,12 +163,14 @@ served_inputs told (of_program ask name) h = h
 served_inputs told (of_ring k) h = tt
 served_inputs told (of_convert name) h = h
 served_inputs told (of_check name other) h = h
+served_inputs told (of_load file place plan) h = h
 
 never_stopped : (p l s : Text) (i : Input) (f : Fault) → AreAccepted p l s → StopAt p l s i f → ⊥
 never_stopped p l s I.Program f h w = w.1 h.0
 never_stopped p l s I.Placement f h w = w.2 h.1
 never_stopped p l s I.Schedule f h w = w.3 h.2
 never_stopped p l s I.Record f h w = absurd w
+never_stopped p l s I.Unit f h w = absurd w
 
 never_ring : (k : Reading) (r : Request) (i : Input) (f : Fault) → IsServable k.told r → IsRingRefused k r i f → ⊥
 never_ring k r i f served h =

@@ -5,3 +5,6 @@ pub mod OutputLaws
 pub mod ConvertLaws
 pub mod ReadableLaws
 pub mod TextLaws
+pub mod HeadlineLaws
+pub mod BuiltFiles
+pub mod BuiltLaws

@@ -4,7 +4,7 @@ use Rattle.pool_syntax.specs.Tokens.{Text}
 use Rattle.pool_syntax.specs.TreeOf.{program_of}
 use Rattle.pool_syntax.specs.Typing.{faults}
 use Rattle.pool_syntax.specs.declared.words.Line.{Line}
-use Rattle.pool_driver.specs.declared.program.Parsed.{Parsed}
+use Rattle.program_input.specs.declared.program.Parsed.{Parsed}
 use Rattle.record_check.specs.Verdicts.{Judged}
 use Rattle.pool_syntax.specs.declared.words.Placement.{Placement}
 use Rattle.object_code.specs.declared.unit.Unit.{Unit as Code}
@@ -17,14 +17,21 @@ use Rattle.fault_lines.specs.declared.fault.Input.{Input}
 use Rattle.fault_lines.specs.declared.fault.Input.TheVariants as I
 use Rattle.fault_lines.specs.declared.fault.Stop.{Stop}
 use Rattle.pool_driver.specs.declared.outputs.Output.{Output}
-use Rattle.command_words.specs.Commands.{FileNames, Request, of_run, of_program, of_ring, of_convert, of_check}
-use Rattle.pool_driver.specs.Inputs.{inputs, limit_of, most_bytes, most_of_record, one_read, MayOpen, IsAccepted, HasFault, IsPlacementOf, IsReadAs}
-use Rattle.pool_driver.specs.Ends.{AllRead, Reading, Reaches, StaysWithin}
+use Rattle.command_words.specs.Commands.{FileNames, Request, of_run, of_program, of_ring, of_convert, of_check, of_load}
+use Rattle.pool_driver.specs.Inputs.{Gives, by_file, by_program, inputs, MayOpen, IsAccepted, HasFault, IsPlacementOf}
+use Rattle.program_input.specs.Inputs.{limit_of, most_bytes, most_of_record, most_of_unit, one_read, IsReadAs}
+use Rattle.unit_inputs.specs.UnitFiles.{IsUnitOfFile}
+use Rattle.unit_inputs.proofs.Laws.{no_program, said_once}
+use Rattle.object_code.specs.declared.file.UnitFile.{UnitFile}
+use Rattle.pool_driver.specs.Ends.{Reaches, StaysWithin}
+use Rattle.outside_calls.specs.Reading.{AllRead, Reading}
 use Rattle.fault_lines.specs.declared.fault.Stop.TheVariants as T
 use Rattle.run_driver.specs.declared.loaded.Loaded.{Loaded}
 use Rattle.pool_gen.specs.Ring.{ring_placement, ring_program, ring_schedule}
 use Rattle.pool_driver.specs.Readers as D
-use Rattle.pool_driver.specs.Readers.{AreLinesOf, HasPlacementFault, HasRecordFault, HasScheduleFault, HasTypedFault, IsAcceptedPlacement, IsAcceptedSchedule, IsPlacedAs, IsProgramOf, IsScheduledAs, IsTypedProgram, IsUnitOf, Judges, Loads, Makes, Rings, Decides}
+use Rattle.program_input.specs.Readers as J
+use Rattle.pool_driver.specs.Readers.{AreLinesOf, HasPlacementFault, HasRecordFault, HasScheduleFault, HasUnitFault, IsAcceptedPlacement, IsAcceptedSchedule, IsPlacedAs, IsScheduledAs, IsUnitOf, Loads, Makes, Rings, Decides}
+use Rattle.program_input.specs.Readers.{HasTypedFault, IsProgramOf, IsTypedProgram, Judges}
 
 -- for the same request
 pub makes_for : (k : Reading) (q r : Request) (result : Result Output Stop) → q ≡ r → Makes k q result → Makes k r result
@@ -81,6 +88,30 @@ abbrev pub reaches_judged : (k : Reading) (name other s : Text) → IsReadAs k.t
 reaches_judged k name other s read accepted h =
     record { before = (I.Program, name) ∷ []; behind = []; texts = s ∷ []; place = refl; accepted = (read, accepted, tt); opened = h }
 
+abbrev pub reaches_file : (k : Reading) (file place plan : Text) → k.opened ≡ k.opens + 1 → Reaches k (of_load file place plan) I.Unit file
+reaches_file k file place plan h =
+    record { before = []; behind = (I.Placement, place) ∷ (I.Schedule, plan) ∷ []; texts = []; place = refl; accepted = tt; opened = h }
+
+abbrev pub reaches_file_placement : (k : Reading) (file place plan s : Text) → IsReadAs k.told I.Unit file s → IsAccepted [] I.Unit s → k.opened ≡ k.opens + 2
+    → Reaches k (of_load file place plan) I.Placement place
+reaches_file_placement k file place plan s read accepted h =
+    record { before = (I.Unit, file) ∷ []; behind = (I.Schedule, plan) ∷ []; texts = s ∷ []; place = refl; accepted = (read, accepted, tt); opened = h }
+
+abbrev pub reaches_file_schedule : (k : Reading) (file place plan s t : Text) → IsReadAs k.told I.Unit file s → IsAccepted [] I.Unit s
+    → IsReadAs k.told I.Placement place t → IsAccepted (s ∷ []) I.Placement t → k.opened ≡ k.opens + 3 → Reaches k (of_load file place plan) I.Schedule plan
+reaches_file_schedule k file place plan s t read accepted read_second placed h = record {
+  before = (I.Unit, file) ∷ (I.Placement, place) ∷ [];
+  behind = [];
+  texts = s ∷ t ∷ [];
+  place = refl;
+  accepted = (read, accepted, (read_second, placed, tt));
+  opened = h;
+}
+
+-- a file that is refused
+pub file_fault : (s : Text) (f : Fault) → HasUnitFault s f → HasFault [] I.Unit s f
+file_fault s f h = subst (λ (x : Fault). HasFault [] I.Unit s x) (sym h.1) h.2
+
 pub judged_fault : (source s : Text) (f : Fault) → HasRecordFault s f → HasFault (source ∷ []) I.Record s f
 judged_fault source s f h = subst (λ (x : Fault). HasFault (source ∷ []) I.Record s x) (sym h.1) h.2
 
@@ -111,6 +142,18 @@ module _ (opens opened given : ℕ) where
   program_within ask named h zero input name e n = within_limit given input I.Program name named e h
   program_within ask named h (suc place) input name e n = absurd (cc)
 
+  pub file_within : (file place plan : Text) → opened ≡ opens + 1 → given ≤ most_of_unit + one_read → Within opens opened given (of_load file place plan)
+  file_within file place plan one h zero input name e n = within_limit given input I.Unit name file e h
+  file_within file place plan one h (suc zero) input name e n = absurd (omega (arith, one, n))
+  file_within file place plan one h (suc (suc zero)) input name e n = absurd (omega (arith, one, n))
+  file_within file place plan one h (suc (suc (suc at))) input name e n = absurd (cc)
+
+  pub load_within : (file place plan : Text) → given ≤ most_bytes + one_read → Within opens opened given (of_load file place plan)
+  load_within file place plan h zero input name e n = within_limit given input I.Unit name file e (omega (arith, h))
+  load_within file place plan h (suc zero) input name e n = within_limit given input I.Placement name place e h
+  load_within file place plan h (suc (suc zero)) input name e n = within_limit given input I.Schedule name plan e h
+  load_within file place plan h (suc (suc (suc at))) input name e n = absurd (cc)
+
   pub ring_within : (cells : ℕ) → Within opens opened given (of_ring cells)
   ring_within cells place input name e n = absurd (cc)
 
@@ -139,54 +182,107 @@ module _ (opens opened given : ℕ) where
 pub accepts : (s : Text) (u : Code) → IsUnitOf s u → IsAccepted [] I.Program s
 accepts s u is = (is.code.program, ((is.code.names, is.code.parsed), is.code.typed))
 
--- a placement that was read for it
-module _ (s : Text) (u : Code) (is : IsUnitOf s u) where
-  pub places : (t : Text) (l : Placement) → placement_of u t ≡ Ok l → IsPlacementOf s t l
-  places t l e = record { unit = u; code = is.code; placed = e }
+-- a placement that was read for the code that a text gives, and no other
+module _ (s : Text) (u : Code) (gives : Gives s u) (only : (v : Code) → Gives s v → v ≡ u) where
+  placed_for : (t : Text) (l : Placement) → placement_of u t ≡ Ok l → IsPlacementOf s t l
+  placed_for t l e = record { unit = u; code = gives; placed = e }
 
-  pub placement_fault : (t : Text) (f : Fault) → HasPlacementFault u t f → HasFault (s ∷ []) I.Placement t f
-  placement_fault t f h = subst (λ (x : Fault). HasFault (s ∷ []) I.Placement t x) (sym h.1) (u, is.code, h.2)
+  placement_fault_for : (t : Text) (f : Fault) → HasPlacementFault u t f → HasFault (s ∷ []) I.Placement t f
+  placement_fault_for t f h = subst (λ (x : Fault). HasFault (s ∷ []) I.Placement t x) (sym h.1) (u, gives, h.2)
 
   -- and no other is
   placed_by : (t : Text) (l : Placement) → IsPlacementOf s t l → placement_of u t ≡ Ok l
-  placed_by t l h = subst (λ (v : Code). placement_of v t ≡ Ok l) (is.only h.unit h.code) h.placed
+  placed_by t l h = subst (λ (v : Code). placement_of v t ≡ Ok l) (only h.unit h.code) h.placed
 
-  pub placement_accepted : (t : Text) → IsAccepted (s ∷ []) I.Placement t → IsAcceptedPlacement u t
-  placement_accepted t q = (q.0, placed_by t q.0 q.1)
+  placement_accepted_for : (t : Text) → IsAccepted (s ∷ []) I.Placement t → IsAcceptedPlacement u t
+  placement_accepted_for t q = (q.0, placed_by t q.0 q.1)
 
   module _ (t : Text) (l : Placement) (placed : placement_of u t ≡ Ok l) where
-    pub schedule_fault : (v : Text) (f : Fault) → HasScheduleFault l v f → HasFault (s ∷ t ∷ []) I.Schedule v f
-    schedule_fault v f h = subst (λ (x : Fault). HasFault (s ∷ t ∷ []) I.Schedule v x) (sym h.1) (l, places t l placed, h.2)
+    schedule_fault_for : (v : Text) (f : Fault) → HasScheduleFault l v f → HasFault (s ∷ t ∷ []) I.Schedule v f
+    schedule_fault_for v f h = subst (λ (x : Fault). HasFault (s ∷ t ∷ []) I.Schedule v x) (sym h.1) (l, placed_for t l placed, h.2)
 
-    pub schedule_accepted : (v : Text) → IsAccepted (s ∷ t ∷ []) I.Schedule v → IsAcceptedSchedule l v
-    schedule_accepted v q =
+    schedule_accepted_for : (v : Text) → IsAccepted (s ∷ t ∷ []) I.Schedule v → IsAcceptedSchedule l v
+    schedule_accepted_for v q =
         let z : Ok q.0 ≡ Ok l = sym (placed_by t q.0 q.2) ∙ placed in
         let same : q.0 ≡ l = cc in
         (q.1, subst (λ (x : Placement). schedule_of x.width x.height x.cuts v ≡ Ok q.1) same q.3)
+
+-- for a program
+module _ (s : Text) (u : Code) (is : IsUnitOf s u) where
+  program_gives : Gives s u
+  program_gives = by_program is.code
+
+  program_only : (v : Code) → Gives s v → v ≡ u
+  program_only v (by_program c) = is.only v c
+  program_only v (by_file f h e) = absurd (no_program s f is.code.names is.code.parsed.0 h.said is.code.parsed.1)
+
+  pub places : (t : Text) (l : Placement) → placement_of u t ≡ Ok l → IsPlacementOf s t l
+  places t l e = placed_for s u program_gives program_only t l e
+
+  pub placement_fault : (t : Text) (f : Fault) → HasPlacementFault u t f → HasFault (s ∷ []) I.Placement t f
+  placement_fault t f h = placement_fault_for s u program_gives program_only t f h
+
+  pub placement_accepted : (t : Text) → IsAccepted (s ∷ []) I.Placement t → IsAcceptedPlacement u t
+  placement_accepted t q = placement_accepted_for s u program_gives program_only t q
+
+  module _ (t : Text) (l : Placement) (placed : placement_of u t ≡ Ok l) where
+    pub schedule_fault : (v : Text) (f : Fault) → HasScheduleFault l v f → HasFault (s ∷ t ∷ []) I.Schedule v f
+    schedule_fault v f h = schedule_fault_for s u program_gives program_only t l placed v f h
+
+    pub schedule_accepted : (v : Text) → IsAccepted (s ∷ t ∷ []) I.Schedule v → IsAcceptedSchedule l v
+    schedule_accepted v q = schedule_accepted_for s u program_gives program_only t l placed v q
+
+-- for an object code file
+module _ (s : Text) (u : Code) (is : IsUnitOfFile s u) where
+  file_gives : Gives s u
+  file_gives = by_file is.file is.is_file is.is_unit
+
+  file_only : (v : Code) → Gives s v → v ≡ u
+  file_only v (by_program c) = absurd (no_program s is.file c.names c.parsed.0 is.is_file.said c.parsed.1)
+  file_only v (by_file f h e) = e ∙ ap (λ (x : UnitFile). x.unit) (said_once s f is.file h.said is.is_file.said) ∙ sym is.is_unit
+
+  pub file_accepted : IsAccepted [] I.Unit s
+  file_accepted = (is.file, is.is_file)
+
+  pub file_places : (t : Text) (l : Placement) → placement_of u t ≡ Ok l → IsPlacementOf s t l
+  file_places t l e = placed_for s u file_gives file_only t l e
+
+  pub file_placement_fault : (t : Text) (f : Fault) → HasPlacementFault u t f → HasFault (s ∷ []) I.Placement t f
+  file_placement_fault t f h = placement_fault_for s u file_gives file_only t f h
+
+  pub file_placement_accepted : (t : Text) → IsAccepted (s ∷ []) I.Placement t → IsAcceptedPlacement u t
+  file_placement_accepted t q = placement_accepted_for s u file_gives file_only t q
+
+  module _ (t : Text) (l : Placement) (placed : placement_of u t ≡ Ok l) where
+    pub file_schedule_fault : (v : Text) (f : Fault) → HasScheduleFault l v f → HasFault (s ∷ t ∷ []) I.Schedule v f
+    file_schedule_fault v f h = schedule_fault_for s u file_gives file_only t l placed v f h
+
+    pub file_schedule_accepted : (v : Text) → IsAccepted (s ∷ t ∷ []) I.Schedule v → IsAcceptedSchedule l v
+    file_schedule_accepted v q = schedule_accepted_for s u file_gives file_only t l placed v q
 
 -- what comes of three texts, one after another
 
 module _ (p l s : Text) (stop : Stop) where
   pub loads_program : Judges I.Program IsTypedProgram HasTypedFault IsUnitOf p (Err stop) → Loads p l s (Err stop)
-  loads_program (D.fits b e i) = absurd (cc)
-  loads_program (D.fails f e x n) = let same : stop ≡ T.Refused I.Program f = cc in D.stops I.Program f (ap Err same) (x, n)
-  loads_program (D.forgets e) = let same : stop ≡ T.Memory = cc in D.lacks (ap Err same)
+  loads_program (J.fits b e i) = absurd (cc)
+  loads_program (J.fails f e x n) = let same : stop ≡ T.Refused I.Program f = cc in D.stops I.Program f (ap Err same) (x, n)
+  loads_program (J.forgets e) = let same : stop ≡ T.Memory = cc in D.lacks (ap Err same)
 
   pub loads_placement : (u : Code) → IsUnitOf p u → Judges I.Placement (IsAcceptedPlacement u) (HasPlacementFault u) (IsPlacedAs u) l (Err stop) → Loads p l s (Err stop)
-  loads_placement u is (D.fits b e i) = absurd (cc)
-  loads_placement u is (D.fails f e x n) =
+  loads_placement u is (J.fits b e i) = absurd (cc)
+  loads_placement u is (J.fails f e x n) =
       let same : stop ≡ T.Refused I.Placement f = cc in
       D.stops I.Placement f (ap Err same) (accepts p u is, placement_fault p u is l f x, λ q. n (placement_accepted p u is l q))
-  loads_placement u is (D.forgets e) = let same : stop ≡ T.Memory = cc in D.lacks (ap Err same)
+  loads_placement u is (J.forgets e) = let same : stop ≡ T.Memory = cc in D.lacks (ap Err same)
 
   pub loads_schedule : (u : Code) (place : Placement) → IsUnitOf p u → IsPlacedAs u l place → Judges I.Schedule (IsAcceptedSchedule place) (HasScheduleFault place) (IsScheduledAs place) s (Err stop)
       → Loads p l s (Err stop)
-  loads_schedule u place is placed (D.fits b e i) = absurd (cc)
-  loads_schedule u place is placed (D.fails f e x n) =
+  loads_schedule u place is placed (J.fits b e i) = absurd (cc)
+  loads_schedule u place is placed (J.fails f e x n) =
       let same : stop ≡ T.Refused I.Schedule f = cc in
       D.stops I.Schedule f (ap Err same)
       (accepts p u is, (place, places p u is l place placed.0), schedule_fault p u is l place placed.0 s f x, λ q. n (schedule_accepted p u is l place placed.0 s q))
-  loads_schedule u place is placed (D.forgets e) = let same : stop ≡ T.Memory = cc in D.lacks (ap Err same)
+  loads_schedule u place is placed (J.forgets e) = let same : stop ≡ T.Memory = cc in D.lacks (ap Err same)
 
 -- the same of texts that equal these
 pub loads_of : (p l s p' l' s' : Text) (result : Result Loaded Stop) → p ≡ p' → l ≡ l' → s ≡ s' → Loads p l s result → Loads p' l' s' result

@@ -12,7 +12,7 @@ use Rattle.object_code.specs.declared.unit.ClassCode.{ClassCode}
 use Rattle.object_code.specs.Proper.{IsProper}
 use Rattle.object_code.specs.Suits.{Suits}
 use Rattle.run_record.specs.Readable.{IsRecord}
-use Rattle.readable_records.proofs.Laws.{program_reads, program_reads_on_wires}
+use Rattle.readable_records.proofs.Laws.{program_reads, program_reads_on_wires, record_writable}
 use Rattle.pool_compile.specs.Code.{code}
 use Rattle.mesh_semantics.specs.Config.{Config}
 use Rattle.mesh_semantics.specs.Record as M
@@ -24,6 +24,17 @@ use Rattle.std.proofs.lemmas.List.{append_assoc}
 use Rattle.placed_code.specs.CheckedProgram.{IsCheckedProgram}
 use Rattle.placed_code.proofs.Laws.{code_record, code_record_on_wires, code_simulates, parsed_checked, suits_fits}
 use Rattle.coded_objects.specs.Coded.{Placed, coded}
+use Rattle.coded_objects.proofs.Laws.{code_fits}
+use Rattle.verified_code.specs.CodeRun.{IsCodeRun}
+use Rattle.verified_code.proofs.Laws.{code_answers, code_answers_on_wires, record_is_code_run, record_is_code_run_on_wires, verified_is_proper}
+use Rattle.unit_inputs.specs.UnitFiles.{IsUnitOfFile, IsVerifiedFile}
+use Rattle.unit_inputs.proofs.Laws.{file_reads, file_reads_on_wires}
+use Rattle.object_code.specs.declared.file.UnitFile.{UnitFile}
+use Rattle.object_code.specs.Shaped as File
+use Rattle.object_code.specs.Shaped.{IsShaped}
+use Rattle.mesh_semantics.specs.Language.{Language}
+use Rattle.std.specs.List.{AllByRecursion}
+use Rattle.record_lines.specs.Writable.{IsWritable}
 use Rattle.mesh_semantics.specs.Act.{id}
 use Rattle.mesh_semantics.specs.Delay.{Delay, no_delay, no_delay_on_wires}
 use Rattle.mesh_semantics.specs.Simulates.{SameRecord, Zipped}
@@ -43,15 +54,15 @@ use Rattle.mesh_semantics.specs.Asks.{EachAnswersPost, ask_of, asks_from}
 use Rattle.pool_machine.specs.Answers.{nothing_sent}
 use Rattle.command_words.specs.declared.command.Show.{Show}
 use Rattle.command_words.specs.declared.command.Show.TheVariants as Sh
-use Rattle.run_driver.specs.Driving.{AreShortTexts, IsLoaded, IsPlanOn, shown_lines, shown_record}
-use Rattle.pool_driver.specs.Outputs.{IsRunOf, shown_text}
+use Rattle.run_driver.specs.Driving.{IsLoaded, IsPlanOn, shown_lines, shown_record}
+use Rattle.pool_driver.specs.Outputs.{IsLoadOf, IsRunOf, shown_text}
+use Rattle.pool_driver.specs.Inputs.{unit_of}
 use Rattle.pool_driver.specs.Readers.{IsPlacedAs, IsScheduledAs, IsUnitOf}
 use Rattle.run_driver.specs.Loading.{lines_of, run_of, run_text}
-use Rattle.pool_driver.specs.Runs.{Meaning, ShowsRun, record_of}
+use Rattle.pool_driver.specs.Runs.{CodeMeaning, Meaning, ShowsCodeRun, ShowsRun, record_of}
 use Rattle.run_driver.specs.Shown.{ends_text, ring_text, status_of, writes_of, writes_text}
 use Rattle.run_driver.proofs.Laws.{plan_is_on}
 use Rattle.pool_driver.proofs.ReadableLaws.{events_read}
-use Rattle.pool_driver.proofs.TextLaws.{parsed_short}
 
 -- a program of which there is code has a last class, and starts
 last_there : (p : ProgramTree) → 0 < length (code p) → (k : ClassTree) × (last_class p ≡ Some k)
@@ -115,20 +126,41 @@ module _ (p : ProgramTree) (u : Code) (checked : IsCheckedProgram p) (unit : u.c
       ∙ ap (λ (rows : List ObjectRow). row_in (coded u) d f ∷ rows) (same_rows es fs z.2)
 
 -- what holds of links that are wires and of those that are not
-with_wires_or_not : (P : Delay → Type 0) (lossy : Bool) → P no_delay → P no_delay_on_wires → P (nothing_sent lossy)
+pub with_wires_or_not : (P : Delay → Type 0) (lossy : Bool) → P no_delay → P no_delay_on_wires → P (nothing_sent lossy)
 with_wires_or_not P true plain wired = wired
 with_wires_or_not P false plain wired = plain
 
 -- at the end of a record each wire has handed out a front of what entered it
-ends_kept : (p : ProgramTree) (l : Placement) (plan : Plan) → KeepsWires (record_at (terms p) l plan.quantum (M.start (terms p) l) (nothing_sent plan.lossy) plan.events).delay
-ends_kept p l plan = by (M.start (terms p) l)
+ends_kept : {S : Type 0} (g : Language S) (l : Placement) (plan : Plan) → KeepsWires (record_at g l plan.quantum (M.start g l) (nothing_sent plan.lossy) plan.events).delay
+ends_kept {S} g l plan = by (M.start g l)
   where
     kept : KeepsWires (nothing_sent plan.lossy)
     kept = with_wires_or_not KeepsWires plan.lossy tt no_wires_kept
 
-    by : (z : Option (Config Object)) → KeepsWires (record_at (terms p) l plan.quantum z (nothing_sent plan.lossy) plan.events).delay
+    by : (z : Option (Config S)) → KeepsWires (record_at g l plan.quantum z (nothing_sent plan.lossy) plan.events).delay
     by None = kept
-    by (Some c) = (record_keeps_wires (terms p) l plan.quantum plan.events c (nothing_sent plan.lossy) 0 kept).0
+    by (Some c) = (record_keeps_wires g l plan.quantum plan.events c (nothing_sent plan.lossy) 0 kept).0
+
+-- the record of three texts with a meaning shows a run, where its lines are readable
+pub program_shows : (source place text : Text) (m : Meaning source place text) → Suits m.layout (unit_of m.names m.program) → 0 < length (code m.program) → IsRecord m.names (record_of m).lines
+    → ShowsRun m
+program_shows source place text m suits there reads =
+    let p = m.program in
+    let l = m.layout in
+    let plan = m.schedule in
+    let checked = parsed_checked source m.names p m.parsed m.typed in
+    let fits = suits_fits p (unit_of m.names p) l refl suits in
+    let first = starts p (root_name l) there in
+    record {
+      first = first.0;
+      starts = first.1;
+      run = with_wires_or_not (λ d. IsRunFrom p l plan.quantum first.0 d (record_at (terms p) l plan.quantum (M.start (terms p) l) d plan.events)) plan.lossy
+          (runs_from p m.typed checked.written l fits plan.quantum plan.events first.0 first.1) (runs_from_on_wires p m.typed checked.written l fits plan.quantum plan.events first.0 first.1);
+      readable = reads;
+      answers = with_wires_or_not (λ d. EachAnswersPost (record_at (terms p) l plan.quantum (M.start (terms p) l) d plan.events).lines) plan.lossy
+          (answers p m.typed checked.written l fits plan.quantum plan.events) (answers_on_wires p m.typed checked.written l fits plan.quantum plan.events);
+      wires = ends_kept (terms p) l plan;
+    }
 
 module _ (source place text : Text) (u : Code) (l : Placement) (plan : Plan) (is : IsUnitOf source u) (placed : IsPlacedAs u place l) (scheduled : IsScheduledAs l text plan) where
   abbrev pub means : Meaning source place text
@@ -179,25 +211,13 @@ module _ (source place text : Text) (u : Code) (l : Placement) (plan : Plan) (is
   shows =
       let p = is.code.program in
       let names = is.code.names in
-      let fits = suits_fits p u l classes placed.1 in
       let proper = subst IsProper is.code.coded is.proper in
       let suits = subst (Suits l) is.code.coded placed.1 in
       let read = events_read u l placed.1 plan.lossy plan.events on.events in
       let there : 0 < length (code is.code.program) = subst (λ (ks : List ClassCode). 0 < length ks) classes is.proper.classes.0 in
-      let first = starts is.code.program (root_name l) there in
-      record {
-        first = first.0;
-        starts = first.1;
-        run = with_wires_or_not (λ d. IsRunFrom p l plan.quantum first.0 d (terms_over d)) plan.lossy
-            (runs_from p is.code.typed checked.written l fits plan.quantum plan.events first.0 first.1)
-            (runs_from_on_wires p is.code.typed checked.written l fits plan.quantum plan.events first.0 first.1);
-        readable = with_wires_or_not (λ d. IsRecord names (terms_over d).lines) plan.lossy
-            (program_reads source names p l plan.quantum plan.events is.code.parsed is.code.typed proper suits on.quantum.1 on.count read)
-            (program_reads_on_wires source names p l plan.quantum plan.events is.code.parsed is.code.typed proper suits on.quantum.1 on.count read);
-        answers = with_wires_or_not (λ d. EachAnswersPost (terms_over d).lines) plan.lossy
-            (answers p is.code.typed checked.written l fits plan.quantum plan.events) (answers_on_wires p is.code.typed checked.written l fits plan.quantum plan.events);
-        wires = ends_kept p l plan;
-      }
+      program_shows source place text means suits there (with_wires_or_not (λ d. IsRecord names (terms_over d).lines) plan.lossy
+      (program_reads source names p l plan.quantum plan.events is.code.parsed is.code.typed proper suits on.quantum.1 on.count read)
+      (program_reads_on_wires source names p l plan.quantum plan.events is.code.parsed is.code.typed proper suits on.quantum.1 on.count read))
 
   pub run_is : (show : Show) → IsRunOf show source place text (run_text show made) (status_of (lines_of made))
   run_is show = record {
@@ -223,6 +243,74 @@ module _ (source place text : Text) (u : Code) (l : Placement) (plan : Plan) (is
   loaded = record {
     proper = is.proper;
     suits = placed.1;
-    short = subst (λ (v : Code). AreShortTexts v.names) (sym is.code.coded) (parsed_short source is.code.names is.code.program is.code.parsed);
+    writable = subst (λ (v : Code). AllByRecursion (IsWritable v.names) (lines_of made)) (sym is.code.coded)
+        (subst (λ (ls : List Line). AllByRecursion (IsWritable is.code.names) ls) (sym same_lines) (record_writable is.code.names 0 (record_of means).lines shows.readable));
     planned = plan_is_on l text plan scheduled;
   }
+
+-- An object code file with a placement and a schedule: their record is a run of the relation over objects of code, and it can be made and written.
+
+module _ (source place text : Text) (f : UnitFile) (l : Placement) (plan : Plan) (is : IsVerifiedFile source f) (shaped : IsShaped f) (placed : IsPlacedAs f.unit place l)
+    (scheduled : IsScheduledAs l text plan) where
+  abbrev file_means : CodeMeaning source place text
+  file_means = record { file = f; is_file = is; layout = l; placed = placed.0; schedule = plan; scheduled = scheduled }
+
+  abbrev file_made : Loaded
+  file_made = record { unit = f.unit; placement = l; schedule = plan }
+
+  -- the record of the code from this delay
+  abbrev code_over : Delay → M.Record Placed
+  code_over d = record_at (coded f.unit) l plan.quantum (M.start (coded f.unit) l) d plan.events
+
+  abbrev IsCodeRunOver : Delay → Type 0
+  IsCodeRunOver d = (c : Config Placed) × (M.start (coded f.unit) l ≡ Some c) × IsCodeRun f l c (code_over d)
+
+  file_on : IsPlanOn l plan
+  file_on = plan_is_on l text plan scheduled
+
+  file_readable : File.IsWritable f → IsRecord f.unit.names (lines_of file_made)
+  file_readable writable =
+      let read = events_read f.unit l placed.1 plan.lossy plan.events file_on.events in
+      with_wires_or_not (λ d. IsRecord f.unit.names (code_over d).lines) plan.lossy
+      (file_reads f shaped is.verified writable l placed.1 plan.quantum file_on.quantum.1 plan.events file_on.count read)
+      (file_reads_on_wires f shaped is.verified writable l placed.1 plan.quantum file_on.quantum.1 plan.events file_on.count read)
+
+  pub file_shows : IsRecord f.unit.names (lines_of file_made) → ShowsCodeRun file_means
+  file_shows reads =
+      let fits = code_fits f.unit l placed.1 in
+      let run = with_wires_or_not IsCodeRunOver plan.lossy
+      (record_is_code_run f shaped is.verified l plan.quantum plan.events fits) (record_is_code_run_on_wires f shaped is.verified l plan.quantum plan.events fits) in
+      record {
+        first = run.0;
+        starts = run.1;
+        run = run.2;
+        readable = reads;
+        answers = with_wires_or_not (λ d. EachAnswersPost (code_over d).lines) plan.lossy
+            (code_answers f shaped is.verified l fits plan.quantum plan.events) (code_answers_on_wires f shaped is.verified l fits plan.quantum plan.events);
+        wires = ends_kept (coded f.unit) l plan;
+      }
+
+  file_load_is : File.IsWritable f → IsLoadOf source place text (run_text Sh.Record file_made) (status_of (lines_of file_made))
+  file_load_is writable = record { meaning = file_means; written = record_is f.unit.names (lines_of file_made); ended = refl; run = file_shows (file_readable writable) }
+
+  file_loaded : File.IsWritable f → IsLoaded f.unit l plan
+  file_loaded writable = record {
+    proper = verified_is_proper f shaped is.verified;
+    suits = placed.1;
+    writable = record_writable f.unit.names 0 (lines_of file_made) (file_readable writable);
+    planned = file_on;
+  }
+
+-- by the unit that was read
+module _ (source place text : Text) (u : Code) (l : Placement) (plan : Plan) (is : IsUnitOfFile source u) (placed : IsPlacedAs u place l) (scheduled : IsScheduledAs l text plan) where
+  placed_in_file : IsPlacedAs is.file.unit place l
+  placed_in_file = subst (λ (v : Code). IsPlacedAs v place l) is.is_unit placed
+
+  pub load_is : IsLoadOf source place text (run_text Sh.Record (record { unit = u; placement = l; schedule = plan })) (status_of (lines_of (record { unit = u; placement = l; schedule = plan })))
+  load_is =
+      subst (λ (v : Code). IsLoadOf source place text (run_text Sh.Record (record { unit = v; placement = l; schedule = plan })) (status_of (lines_of (record { unit = v; placement = l; schedule = plan }))))
+      (sym is.is_unit) (file_load_is source place text is.file l plan is.is_file is.shaped placed_in_file scheduled is.writable)
+
+  pub file_is_loaded : IsLoaded u l plan
+  file_is_loaded =
+      subst (λ (v : Code). IsLoaded v l plan) (sym is.is_unit) (file_loaded source place text is.file l plan is.is_file is.shaped placed_in_file scheduled is.writable)

@@ -1,33 +1,39 @@
--- No text of the table of a parsed program has more than 256 bytes, and there are no more of them than the program has bytes.
-use Rattle.std.proofs.Common.{◌≡◌, ◌∙◌, ◌≤◌, ◌+◌, ◌-◌, ℕ, zero, suc, Bool, true, false, nat_le, List, [], ◌∷◌, ◌++◌, length, take, drop, slice_get, Option, Some, None, inl, inr, refl, sym, subst, arith}
+-- No text of the table of a parsed program has more than 256 bytes, each of them a byte, and there are no more of them than the program has bytes.
+use Rattle.std.proofs.Common.{◌≡◌, ◌∙◌, ◌⊎◌, ◌<◌, ◌≤◌, ◌+◌, ◌-◌, ℕ, zero, suc, Bool, true, false, not, ◌&&◌, ◌||◌, nat_eq, nat_le, List, [], ◌∷◌, ◌++◌, length, take, drop, slice_get, Option, Some, None, inl, inr, refl, sym, subst, arith}
 use Rattle.std.specs.List.{AllByRecursion as Each}
 use Rattle.std.proofs.lemmas.Bool.{cases_Bool}
 use Rattle.std.proofs.lemmas.Bool.Decides.{nat_tests}
 use Rattle.std.proofs.lemmas.List.{length-append, length-drop, length-take}
 use Rattle.pool_syntax.specs.declared.token.LexFault.{LexFault}
-use Rattle.pool_syntax.specs.Tokens.{Text, IsFaultless, IsPieces, is_integer, is_listed, is_string, is_word, kept_text, keywords, longest, piece_fault, texts_after}
+use Rattle.pool_syntax.specs.Tokens.{Text, IsFaultless, IsPieces, every, is_digit, is_inner, is_integer, is_letter, is_listed, is_rest_of_string, is_string, is_word, kept_text, keywords, longest, piece_fault, texts_after}
 use Rattle.pool_syntax.specs.Table.{is_among, with_text}
 use Rattle.pool_syntax.specs.Terms.{ProgramTree}
 use Rattle.pool_syntax.specs.Programs.{IsParsed}
 use Rattle.object_code.specs.Shaped.{IsListOf, IsShortList}
-use Rattle.record_lines.specs.RecordText.{text_at, text_or_none}
-use Rattle.run_driver.specs.Driving.{AreShortTexts}
+use Rattle.mesh_semantics.proofs.Laws.{first, second}
 
--- each text has at most 256 bytes
-abbrev AllShort : List Text → Type 0
-AllShort [] = Unit {0}
-AllShort (x ∷ xs) = (length x ≤ 256) × AllShort xs
+-- what holds of each text of a table
 
-all_short_and : (xs : List Text) (x : Text) → AllShort xs → length x ≤ 256 → AllShort (xs ++ x ∷ [])
-all_short_and [] x h l = (l, tt)
-all_short_and (y ∷ ys) x h l = (h.0, all_short_and ys x h.1 l)
+each_and : (P : Text → Type 0) (xs : List Text) (x : Text) → Each P xs → P x → Each P (xs ++ x ∷ [])
+each_and P [] x h l = (l, tt)
+each_and P (y ∷ ys) x h l = (h.0, each_and P ys x h.1 l)
 
-with_short : (names : List Text) (x : Text) → AllShort names → length x ≤ 256 → AllShort (with_text names x)
-with_short names x h l = by (is_among names x) refl
+with_each : (P : Text → Type 0) (names : List Text) (x : Text) → Each P names → P x → Each P (with_text names x)
+with_each P names x h l = by (is_among names x) refl
   where
-    by : (b : Bool) → is_among names x ≡ b → AllShort (with_text names x)
-    by true e = subst (λ (b : Bool). AllShort (elim b as (λ _. List Text) [ true ↦ names | false ↦ names ++ x ∷ [] ])) (sym e) h
-    by false e = subst (λ (b : Bool). AllShort (elim b as (λ _. List Text) [ true ↦ names | false ↦ names ++ x ∷ [] ])) (sym e) (all_short_and names x h l)
+    by : (b : Bool) → is_among names x ≡ b → Each P (with_text names x)
+    by true e = subst (λ (b : Bool). Each P (elim b as (λ _. List Text) [ true ↦ names | false ↦ names ++ x ∷ [] ])) (sym e) h
+    by false e = subst (λ (b : Bool). Each P (elim b as (λ _. List Text) [ true ↦ names | false ↦ names ++ x ∷ [] ])) (sym e) (each_and P names x h l)
+
+texts_each : (P : Text → Type 0) → ((w x : Text) → piece_fault 0 w ≡ None → kept_text w ≡ Some x → P x) → (seen ws : List Text) → Each P seen → IsFaultless ws → Each P (texts_after seen ws)
+texts_each P kept seen [] h f = h
+texts_each P kept seen (w ∷ ws) h f = by (kept_text w) refl (λ names s. texts_each P kept names ws s f.1)
+  where
+    by : (o : Option Text) → kept_text w ≡ o → ((names : List Text) → Each P names → Each P (texts_after names ws)) → Each P (texts_after seen (w ∷ ws))
+    by None e go = subst (λ (o : Option Text). Each P (elim o as (λ _. List Text) [ None ↦ texts_after seen ws | Some x ↦ texts_after (with_text seen x) ws ])) (sym e) (go seen h)
+    by (Some x) e go =
+        subst (λ (o : Option Text). Each P (elim o as (λ _. List Text) [ None ↦ texts_after seen ws | Some x ↦ texts_after (with_text seen x) ws ])) (sym e)
+        (go (with_text seen x) (with_each P seen x h (kept w x f.0 e)))
 
 -- a piece without fault is no longer than it may be
 within : (limit n : ℕ) (fault : LexFault) → elim (nat_le n limit) as (λ b. Option LexFault) [ true ↦ None | false ↦ Some fault ] ≡ None → nat_le n limit ≡ true
@@ -65,25 +71,85 @@ kept_short w x fine kept = elim (cases_Bool (is_word w)) [
   ]
 ]
 
-texts_short : (seen : List Text) (ws : List Text) → AllShort seen → IsFaultless ws → AllShort (texts_after seen ws)
-texts_short seen [] h f = h
-texts_short seen (w ∷ ws) h f = by (kept_text w) refl (λ names s. texts_short names ws s f.1)
+-- and its bytes are bytes
+
+either : (a b : Bool) → (a || b) ≡ true → (a ≡ true) ⊎ (b ≡ true)
+either true b h = inl refl
+either false b h = inr h
+
+below_end : (low high b : ℕ) → high < 256 → (nat_le low b && nat_le b high) ≡ true → b < 256
+below_end low high b l h = let k : nat_le b high ≡ true = second (nat_le low b) (nat_le b high) h in let m : b ≤ high = grind (arith, nat_tests, k) in omega (arith, l, m)
+
+letter_is_byte : (b : ℕ) → is_letter b ≡ true → b < 256
+letter_is_byte b h = by (either (nat_le 65 b && nat_le b 90) _ h)
   where
-    by : (o : Option Text) → kept_text w ≡ o → ((names : List Text) → AllShort names → AllShort (texts_after names ws)) → AllShort (texts_after seen (w ∷ ws))
-    by None e go = subst (λ (o : Option Text). AllShort (elim o as (λ _. List Text) [ None ↦ texts_after seen ws | Some x ↦ texts_after (with_text seen x) ws ])) (sym e) (go seen h)
-    by (Some x) e go =
-        subst (λ (o : Option Text). AllShort (elim o as (λ _. List Text) [ None ↦ texts_after seen ws | Some x ↦ texts_after (with_text seen x) ws ])) (sym e)
-        (go (with_text seen x) (with_short seen x h (kept_short w x f.0 e)))
+    by : ((nat_le 65 b && nat_le b 90) ≡ true) ⊎ (((nat_le 97 b && nat_le b 122) || nat_eq b 95) ≡ true) → b < 256
+    by (inl k) = below_end 65 90 b (omega arith) k
+    by (inr k) = on (either (nat_le 97 b && nat_le b 122) (nat_eq b 95) k)
+      where
+        on : ((nat_le 97 b && nat_le b 122) ≡ true) ⊎ (nat_eq b 95 ≡ true) → b < 256
+        on (inl i) = below_end 97 122 b (omega arith) i
+        on (inr i) = let e : b ≡ 95 = grind (arith, nat_tests, i) in omega (arith, e)
 
-short_at : (names : List Text) (n : ℕ) → AllShort names → length (text_or_none (slice_get names n)) ≤ 256
-short_at [] n h = omega arith
-short_at (x ∷ xs) zero h = h.0
-short_at (x ∷ xs) (suc n) h = short_at xs n h.1
+later_is_byte : (b : ℕ) → (is_letter b || is_digit b) ≡ true → b < 256
+later_is_byte b h = by (either (is_letter b) (is_digit b) h)
+  where
+    by : (is_letter b ≡ true) ⊎ (is_digit b ≡ true) → b < 256
+    by (inl k) = letter_is_byte b k
+    by (inr k) = below_end 48 57 b (omega arith) k
 
-pub parsed_short : (s : Text) (names : List Text) (p : ProgramTree) → IsParsed s names p → AreShortTexts names
-parsed_short s names p h = λ id.
-    let all = texts_short [] h.1.0 tt h.1.2 in
-    subst (λ (ns : List Text). length (text_at ns id) ≤ 256) (sym h.1.3) (short_at (texts_after [] h.1.0) id.0 all)
+inner_is_byte : (b : ℕ) → is_inner b ≡ true → b < 256
+inner_is_byte b h = below_end 32 126 b (omega arith) (first (nat_le 32 b && nat_le b 126) (not (nat_eq b 34)) h)
+
+quote_is_byte : (b : ℕ) → nat_eq b 34 ≡ true → b < 256
+quote_is_byte b h = let e : b ≡ 34 = grind (arith, nat_tests, h) in omega (arith, e)
+
+every_byte : (p : ℕ → Bool) → ((b : ℕ) → p b ≡ true → b < 256) → (bs : Text) → every p bs ≡ true → Each (λ b. b < 256) bs
+every_byte p byte [] h = tt
+every_byte p byte (b ∷ bs) h = (byte b (first (p b) (every p bs) h), every_byte p byte bs (second (p b) (every p bs) h))
+
+word_bytes : (w : Text) → is_word w ≡ true → Each (λ b. b < 256) w
+word_bytes [] h = tt
+word_bytes (b ∷ bs) h =
+    (letter_is_byte b (first (is_letter b) _ h), every_byte (λ c. is_letter c || is_digit c) later_is_byte bs (second (is_letter b) (every (λ c. is_letter c || is_digit c) bs) h))
+
+rest_bytes : (bs : Text) → is_rest_of_string bs ≡ true → Each (λ b. b < 256) bs
+rest_bytes [] h = tt
+rest_bytes (b ∷ []) h = (quote_is_byte b h, tt)
+rest_bytes (b ∷ c ∷ bs) h = (inner_is_byte b (first (is_inner b) (is_rest_of_string (c ∷ bs)) h), rest_bytes (c ∷ bs) (second (is_inner b) (is_rest_of_string (c ∷ bs)) h))
+
+string_bytes : (w : Text) → is_string w ≡ true → Each (λ b. b < 256) w
+string_bytes [] h = tt
+string_bytes (b ∷ bs) h = (quote_is_byte b (first (nat_eq b 34) (is_rest_of_string bs) h), rest_bytes bs (second (nat_eq b 34) (is_rest_of_string bs) h))
+
+behind_bytes : (n : ℕ) (bs : Text) → Each (λ b. b < 256) bs → Each (λ b. b < 256) (drop n bs)
+behind_bytes zero bs h = h
+behind_bytes (suc n) [] h = tt
+behind_bytes (suc n) (b ∷ bs) h = behind_bytes n bs h.1
+
+front_bytes : (n : ℕ) (bs : Text) → Each (λ b. b < 256) bs → Each (λ b. b < 256) (take n bs)
+front_bytes zero bs h = tt
+front_bytes (suc n) [] h = tt
+front_bytes (suc n) (b ∷ bs) h = (h.0, front_bytes n bs h.1)
+
+kept_bytes : (w x : Text) → piece_fault 0 w ≡ None → kept_text w ≡ Some x → Each (λ b. b < 256) x
+kept_bytes w x fine kept = elim (cases_Bool (is_word w)) [
+  | inl word ↦ elim (cases_Bool (is_listed keywords w)) [
+    | inl listed ↦ absurd (let nothing : kept_text w ≡ None = rw (kept_text, word, listed) in cc)
+    | inr free ↦
+        let same : w ≡ x = some_same (sym (rw (kept_text, word, free)) ∙ kept) in
+        subst (λ (z : Text). Each (λ b. b < 256) z) same (word_bytes w word)
+  ]
+  | inr no_word ↦ elim (cases_Bool (is_string w)) [
+    | inl quotes ↦
+        let same : take (length w - 2) (drop 1 w) ≡ x = some_same (sym (rw (kept_text, no_word, quotes)) ∙ kept) in
+        subst (λ (z : Text). Each (λ b. b < 256) z) same (front_bytes (length w - 2) (drop 1 w) (behind_bytes 1 w (string_bytes w quotes)))
+    | inr none ↦ absurd (let nothing : kept_text w ≡ None = rw (kept_text, no_word, none) in cc)
+  ]
+]
+
+pub parsed_bytes : (s : Text) (names : List Text) (p : ProgramTree) → IsParsed s names p → Each (λ t. Each (λ b. b < 256) t) names
+parsed_bytes s names p h = subst (Each (λ (t : Text). Each (λ b. b < 256) t)) (sym h.1.3) (texts_each (λ t. Each (λ b. b < 256) t) kept_bytes [] h.1.0 tt h.1.2)
 
 -- each piece is one byte or more
 
@@ -119,12 +185,12 @@ parsed_few s names p h =
 
 -- so the table of a program of at most 1,048,576 bytes can be written in an object code file
 
-each_short : (names : List Text) → AllShort names → Each IsShortList names
+each_short : (names : List Text) → Each (λ x. length x ≤ 256) names → Each IsShortList names
 each_short [] h = tt
 each_short (x ∷ xs) h = let l = h.0 in (omega (arith, l), each_short xs h.1)
 
 pub parsed_listed : (s : Text) (names : List Text) (p : ProgramTree) → IsParsed s names p → length s ≤ 1048576 → IsListOf IsShortList names
 parsed_listed s names p h small =
     let few = parsed_few s names p h in
-    let all = subst AllShort (sym h.1.3) (texts_short [] h.1.0 tt h.1.2) in
+    let all = subst (Each (λ (x : Text). length x ≤ 256)) (sym h.1.3) (texts_each (λ x. length x ≤ 256) kept_short [] h.1.0 tt h.1.2) in
     (omega (arith, few, small), each_short names all)

@@ -1,48 +1,26 @@
 -- How a call of `pool` ends: what came of its inputs, and what was written.
-use Rattle.std.specs.Prelude.{◌≡◌, ℕ, ◌+◌, ◌<◌, ◌≤◌, List, [], ◌∷◌, ◌++◌, length, slice_get, Option, Some, None, Bool, true, false, IfSome}
+use Rattle.std.specs.Prelude.{◌≡◌, ℕ, ◌+◌, ◌≤◌, List, [], ◌∷◌, ◌++◌, length, slice_get, Option, Some, None, false}
 use Rattle.pool_outside.specs.Outside.{Rose}
 use Rattle.pool_syntax.specs.Tokens.{Text}
 use Rattle.run_driver.specs.declared.status.Status.{Status}
 use Rattle.run_driver.specs.declared.status.Status.TheVariants as S
-use Rattle.run_driver.specs.Writing.{Writing, IsIdle, Wrote, WroteFront}
+use Rattle.outside_calls.specs.Reading.{Reading, AllRead}
+pub use Rattle.outside_calls.specs.Reading.{reading}
+use Rattle.outside_calls.specs.Writing.{Writing, IsIdle, Wrote, WroteFront}
 use Rattle.fault_lines.specs.declared.fault.Input.{Input}
 use Rattle.fault_lines.specs.declared.fault.Fault.{Fault}
-use Rattle.fault_lines.specs.declared.fault.Fault.TheVariants as F
 use Rattle.command_words.specs.Commands.{Request, of_ring}
 use Rattle.pool_gen.specs.Ring.{ring_placement, ring_program, ring_schedule}
 use Rattle.fault_lines.specs.FaultText.{refusal_line, unread_line, usage_line}
-use Rattle.pool_driver.specs.Inputs.{Told, inputs, limit_of, one_read, IsReadAs, IsAccepted, HasFault, StopAt, WereAccepted}
+use Rattle.program_input.specs.Inputs.{limit_of, one_read}
+use Rattle.program_input.specs.Readers.{Stops}
+use Rattle.pool_driver.specs.Inputs.{inputs, IsAccepted, HasFault, StopAt, WereAccepted}
 use Rattle.pool_driver.specs.Outputs.{IsOutput}
-
--- What a call did with the files: the texts that are told; the number of opens before and after it; the bytes given since the last open, and whether its text
--- goes on; the number of faults before and after it.
-pub record Reading : Type 0 where
-  pub told : Told
-  pub opens : ℕ
-  pub opened : ℕ
-  pub given : ℕ
-  pub live : Bool
-  pub faults : ℕ
-  pub failed : ℕ
-
--- no read failed
-abbrev pub AllRead : Reading → Type 0
-AllRead k = k.failed ≡ k.faults
-
--- what was read last was read to its end, and is this text
-abbrev pub WasRead : Reading → Input → Text → Text → Type 0
-WasRead k input name s = IsReadAs k.told input name s × (length s ≡ k.given) × (k.live ≡ false)
 
 -- of the input that was opened last, the one at this place of the request's, no more than its limit and one read was given
 abbrev pub StaysWithin : Reading → Request → Type 0
 StaysWithin k r =
     (place : ℕ) (input : Input) (name : Text) → slice_get (inputs r) place ≡ Some (input, name) → k.opened ≡ k.opens + (place + 1) → k.given ≤ limit_of input + one_read
-
--- The input stops the call for this fault: more bytes than its limit were given, and its text goes on; or it was read whole, and its text has the fault
--- and is not accepted.
-pub data Stops (k : Reading) (input : Input) (name : Text) (Accepted : Text → Type 0) (Faulty : Text → Fault → Type 0) (fault : Fault) : Type 0 where
-  too_long : fault ≡ F.TooLong → limit_of input < k.given → k.live ≡ true → IfSome (k.told name) (λ s. k.given ≤ length s) → Stops k input name Accepted Faulty fault
-  faulty : (s : Text) → WasRead k input name s → Faulty s fault → (Accepted s → ⊥) → Stops k input name Accepted Faulty fault
 
 -- The inputs of the request up to this one were opened, each once and in their order; those before it were read, and are accepted.
 pub record Reaches (k : Reading) (r : Request) (input : Input) (name : Text) : Type 0 where

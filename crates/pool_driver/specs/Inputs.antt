@@ -1,10 +1,12 @@
 -- The inputs of a request: their order, names and limits, what is read of them, and when the text of one is accepted or has a fault.
-use Rattle.std.specs.Prelude.{◌≡◌, ℕ, ◌+◌, ◌≤◌, List, [], ◌∷◌, ◌++◌, length, slice_get, Option, Some, None, Ok, Bool, IsTrue, IfSome, ◌⊎◌}
+use Rattle.std.specs.Prelude.{◌≡◌, ℕ, ◌+◌, ◌≤◌, List, [], ◌∷◌, ◌++◌, length, slice_get, Some, None, Ok, Bool, IsTrue, ◌⊎◌}
 use Rattle.pool_syntax.specs.Tokens.{Text}
 use Rattle.pool_syntax.specs.Terms.{ProgramTree}
 use Rattle.pool_syntax.specs.Typing.{faults}
 use Rattle.pool_syntax.specs.declared.words.Placement.{Placement}
+use Rattle.object_code.specs.declared.file.UnitFile.{UnitFile}
 use Rattle.object_code.specs.declared.unit.Unit.{Unit as Code}
+use Rattle.unit_inputs.specs.UnitFiles.{IsUnitFault, IsVerifiedFile}
 use Rattle.pool_compile.specs.Code.{code}
 use Rattle.placement_reader.specs.Placements as P
 use Rattle.placement_reader.specs.Placements.{placement_of}
@@ -16,8 +18,10 @@ use Rattle.fault_lines.specs.declared.fault.Input.TheVariants as I
 use Rattle.fault_lines.specs.declared.fault.Fault.{Fault}
 use Rattle.fault_lines.specs.declared.fault.Fault.TheVariants as F
 use Rattle.run_record.specs.Records.{record_of}
-use Rattle.command_words.specs.Commands.{Request, of_run, of_program, of_ring, of_convert, of_check}
-use Rattle.pool_driver.specs.Programs.{IsParsed, IsTextOf, IsTypedText, IsFaultOfText, IsFaultOfClasses}
+use Rattle.command_words.specs.Commands.{Request, of_run, of_program, of_ring, of_convert, of_check, of_load}
+use Rattle.outside_calls.specs.Reading.{Told}
+use Rattle.program_input.specs.Inputs.{limit_of, IsReadAs}
+use Rattle.program_input.specs.Programs.{IsParsed, IsTextOf, IsTypedText, IsFaultOfText, IsFaultOfClasses}
 
 -- the inputs of a request with their names, in the order in which they are read
 abbrev pub inputs : Request → List (Input × Text)
@@ -26,35 +30,11 @@ inputs (of_program ask name) = (I.Program, name) ∷ []
 inputs (of_ring k) = []
 inputs (of_convert name) = (I.Record, name) ∷ []
 inputs (of_check name record_name) = (I.Program, name) ∷ (I.Record, record_name) ∷ []
-
--- the most bytes of an input: of a record, and of another
-abbrev pub most_bytes : ℕ
-most_bytes = 1048576
-
-abbrev pub most_of_record : ℕ
-most_of_record = 67108864
-
-abbrev pub limit_of : Input → ℕ
-limit_of I.Program = most_bytes
-limit_of I.Placement = most_bytes
-limit_of I.Schedule = most_bytes
-limit_of I.Record = most_of_record
-
--- the most bytes of one read
-abbrev pub one_read : ℕ
-one_read = 65536
+inputs (of_load unit_name place_name plan_name) = (I.Unit, unit_name) ∷ (I.Placement, place_name) ∷ (I.Schedule, plan_name) ∷ []
 
 -- each open from now on may be of the name of the input at its place
 abbrev pub MayOpen : (ℕ → Text → Bool) → ℕ → Request → Type 0
 MayOpen may opens r = (place : ℕ) (input : Input) (name : Text) → slice_get (inputs r) place ≡ Some (input, name) → IsTrue (may (opens + place) name)
-
--- texts by their names, where they are told
-abbrev pub Told : Type 0
-Told = Text → Option Text
-
--- the text was read under the name of this input: it is the one that is told, where one is told, and it is within the limit
-abbrev pub IsReadAs : Told → Input → Text → Text → Type 0
-IsReadAs told input name s = IfSome (told name) (λ t. s ≡ t) × (length s ≤ limit_of input)
 
 -- the code of a program, with the table of its names
 abbrev pub unit_of : List Text → ProgramTree → Code
@@ -68,26 +48,34 @@ pub record IsCodeOf (source : Text) (u : Code) : Type 0 where
   pub typed : faults program ≡ []
   pub coded : u ≡ unit_of names program
 
--- a text that is a placement for the program of another text
+-- What a text gives the code of: a program without class faults, or a verified object code file. No text is both.
+pub data Gives (source : Text) (u : Code) : Type 0 where
+  by_program : IsCodeOf source u → Gives source u
+  by_file : (f : UnitFile) → IsVerifiedFile source f → u ≡ f.unit → Gives source u
+
+-- a text that is a placement for the code that another text gives
 pub record IsPlacementOf (source s : Text) (l : Placement) : Type 0 where
   pub unit : Code
-  pub code : IsCodeOf source unit
+  pub code : Gives source unit
   pub placed : placement_of unit s ≡ Ok l
 
--- The text is accepted as this input, behind these: a program that has no class fault; a placement for the classes of the program; a schedule for the mesh of the placement;
--- and, behind none or a program, a record of either form.
+-- The text is accepted as this input, behind these: a program that has no class fault; an object code file that is verified; a placement for the classes of the program or the
+-- file; a schedule for the mesh of the placement; and, behind none or a program, a record of either form.
 abbrev pub IsAccepted : List Text → Input → Text → Type 0
 IsAccepted [] I.Program s = (p : ProgramTree) × IsTypedText s p
 IsAccepted (source ∷ []) I.Placement s = (l : Placement) × IsPlacementOf source s l
 IsAccepted (source ∷ place ∷ []) I.Schedule s = (l : Placement) × (plan : Plan) × IsPlacementOf source place l × (schedule_of l.width l.height l.cuts s ≡ Ok plan)
+IsAccepted [] I.Unit s = (f : UnitFile) × IsVerifiedFile s f
 IsAccepted [] I.Record s = (record_of s).fault ≡ None
 IsAccepted (source ∷ []) I.Record s = (record_of s).fault ≡ None
 IsAccepted _ _ s = ⊥
 
--- The text has this fault as this input, behind these: a program its first of tokens, grammar and classes; a placement, a schedule or a record that of its first faulty line.
+-- The text has this fault as this input, behind these: a program its first of tokens, grammar and classes; an object code file its first of bytes, names, headings and codes;
+-- a placement, a schedule or a record that of its first faulty line.
 abbrev pub HasFault : List Text → Input → Text → Fault → Type 0
 HasFault [] I.Program s f = IsFaultOfText s f ⊎ ((p : ProgramTree) × IsTextOf s p × IsFaultOfClasses p f)
-HasFault (source ∷ []) I.Placement s (F.Placement f) = (u : Code) × IsCodeOf source u × (P.fault_in (placement_of u s) ≡ Some f)
+HasFault [] I.Unit s (F.Unit f) = IsUnitFault s f
+HasFault (source ∷ []) I.Placement s (F.Placement f) = (u : Code) × Gives source u × (P.fault_in (placement_of u s) ≡ Some f)
 HasFault (source ∷ place ∷ []) I.Schedule s (F.Schedule f) = (l : Placement) × IsPlacementOf source place l × (S.fault_in (schedule_of l.width l.height l.cuts s) ≡ Some f)
 HasFault [] I.Record s (F.Record f) = (record_of s).fault ≡ Some f
 HasFault (source ∷ []) I.Record s (F.Record f) = (record_of s).fault ≡ Some f
@@ -119,6 +107,7 @@ StopAt program placement schedule I.Schedule f =
     IsAccepted [] I.Program program × IsAccepted (program ∷ []) I.Placement placement × HasFault (program ∷ placement ∷ []) I.Schedule schedule f
     × (IsAccepted (program ∷ placement ∷ []) I.Schedule schedule → ⊥)
 StopAt program placement schedule I.Record f = ⊥
+StopAt program placement schedule I.Unit f = ⊥
 
 -- the inputs of a request are served so; of a ring, which has none, the texts are accepted
 abbrev pub IsServable : Told → Request → Type 0
@@ -126,4 +115,5 @@ IsServable told (of_run show names) = AreServed told [] (inputs (of_run show nam
 IsServable told (of_program ask name) = AreServed told [] (inputs (of_program ask name))
 IsServable told (of_convert name) = AreServed told [] (inputs (of_convert name))
 IsServable told (of_check name record_name) = AreServed told [] (inputs (of_check name record_name))
+IsServable told (of_load unit_name place_name plan_name) = AreServed told [] (inputs (of_load unit_name place_name plan_name))
 IsServable told (of_ring k) = AreAccepted (ring_program k) ring_placement (ring_schedule k)

@@ -1,7 +1,7 @@
 pub mod Commands
-pub mod Programs
 pub mod Inputs
 pub mod Runs
 pub mod Outputs
 pub mod Ends
+pub mod Headline
 pub mod Readers

@@ -15,11 +15,11 @@ use Rattle.command_words.specs.declared.command.Ask.{Ask}
 use Rattle.command_words.specs.declared.command.Ask.TheVariants as As
 use Rattle.run_record.specs.Numbered.{lines_after, names_after}
 use Rattle.run_record.specs.Records as Rec
-use Rattle.command_words.specs.Commands.{Request, of_run, of_program, of_ring, of_convert, of_check}
+use Rattle.command_words.specs.Commands.{Request, of_run, of_program, of_ring, of_convert, of_check, of_load}
 use Rattle.pool_driver.specs.Inputs.{unit_of}
-use Rattle.pool_driver.specs.Programs.{IsParsed}
+use Rattle.program_input.specs.Programs.{IsParsed}
 use Rattle.run_driver.specs.Reports.{rows_of}
-use Rattle.pool_driver.specs.Runs.{Meaning, ShowsRun, record_of}
+use Rattle.pool_driver.specs.Runs.{CodeMeaning, Meaning, ShowsCodeRun, ShowsRun, code_record_of, record_of}
 use Rattle.run_driver.specs.Shown.{ends_text, ring_text, status_of, writes_text}
 use Rattle.pool_gen.specs.Ring.{ring_placement, ring_program, ring_schedule}
 use Rattle.wait_report.specs.Report.{report_text}
@@ -28,6 +28,7 @@ use Rattle.record_check.specs.declared.lead.Verdict.TheVariants as V
 use Rattle.record_check.specs.Verdicts.{Judged}
 use Rattle.verdict_lines.specs.VerdictText.{verdict_text}
 use Rattle.verified_code.specs.DeclaredKinds.{file_of}
+use Rattle.unit_inputs.specs.UnitFiles.{IsVerifiedFile}
 
 -- what is shown of the run of the three texts
 abbrev pub shown_text : {source place plan : Text} → Show → Meaning source place plan → Text
@@ -48,6 +49,12 @@ asked_text As.Canonical names p = canonical names p
 asked_text As.Listing names p = listing (unit_of names p)
 asked_text As.File names p = file_bytes (file_of names p)
 
+-- what was built is an object code file that is verified: that of the program
+abbrev pub IsBuilt : Ask → List Text → ProgramTree → Text → Type 0
+IsBuilt As.Canonical names p text = Unit {0}
+IsBuilt As.Listing names p text = Unit {0}
+IsBuilt As.File names p text = IsVerifiedFile text (file_of names p)
+
 -- the canonical text, the listing of the code or the object code file of a program, which has no class faults
 pub record IsTextFor (ask : Ask) (source : Text) (text : Text) : Type 0 where
   pub names : List Text
@@ -55,6 +62,7 @@ pub record IsTextFor (ask : Ask) (source : Text) (text : Text) : Type 0 where
   pub parsed : IsParsed source names program
   pub typed : faults program ≡ []
   pub written : text ≡ asked_text ask names program
+  pub built : IsBuilt ask names program text
 
 -- the texts of a ring have a meaning, and these are the counts of their run and its end line
 pub record IsRingOf (k : ℕ) (text : Text) (status : Status) : Type 0 where
@@ -88,6 +96,14 @@ pub record IsVerdictOn (source s : Text) (text : Text) (status : Status) : Type 
   pub written : text ≡ verdict_text names verdict
   pub ended : status ≡ status_of_verdict verdict
 
+-- The three texts have a meaning, the first as an object code file, and this is the text of the lines of their record in the second form, with the status of the record; and
+-- the lines show one run of the relation over objects of code.
+pub record IsLoadOf (source place plan : Text) (text : Text) (status : Status) : Type 0 where
+  pub meaning : CodeMeaning source place plan
+  pub written : text ≡ text2 meaning.file.unit.names (code_record_of meaning).lines
+  pub ended : status ≡ status_of (code_record_of meaning).lines
+  pub run : ShowsCodeRun meaning
+
 -- what is made of the texts of the inputs, in their order
 abbrev pub IsOutput : Request → List Text → Text → Status → Type 0
 IsOutput (of_run show names) (program ∷ placement ∷ schedule ∷ []) text status = IsRunOf show program placement schedule text status
@@ -95,6 +111,7 @@ IsOutput (of_program ask name) (program ∷ []) text status = IsTextFor ask prog
 IsOutput (of_ring k) [] text status = IsRingOf k text status
 IsOutput (of_convert name) (s ∷ []) text status = IsCarriedOver s text × (status ≡ S.Done)
 IsOutput (of_check name record_name) (program ∷ s ∷ []) text status = IsVerdictOn program s text status
+IsOutput (of_load unit_name place_name plan_name) (source ∷ placement ∷ schedule ∷ []) text status = IsLoadOf source placement schedule text status
 IsOutput r _ text status = ⊥
 
 -- the status says that a text was written whole

@@ -1,13 +1,8 @@
 -- What comes of reading inputs, for the functions below the top call.
-use Rattle.std.specs.Prelude.{◌≡◌, ℕ, ◌≤◌, List, [], true, Some, None, Result, Ok, Err, ◌⊎◌}
-use Rattle.pool_outside.specs.Outside.{Rose}
+use Rattle.std.specs.Prelude.{◌≡◌, ℕ, List, [], true, Some, None, Result, Ok, Err}
 use Rattle.pool_syntax.specs.Tokens.{Text}
-use Rattle.pool_syntax.specs.Spelled.{IsGrammatical, is_spelled}
+use Rattle.pool_syntax.specs.Spelled.{is_spelled}
 use Rattle.pool_syntax.specs.TreeOf.{program_of}
-use Rattle.pool_syntax.specs.declared.token.LexFault.{LexFault}
-use Rattle.pool_syntax.specs.declared.token.LexFault.TheVariants as Lex
-use Rattle.pool_parser.specs.declared.fault.SyntaxFault.{SyntaxFault}
-use Rattle.pool_parser.specs.declared.fault.SyntaxFault.TheVariants as Syntax
 use Rattle.pool_syntax.specs.declared.words.Line.{Line}
 use Rattle.pool_syntax.specs.declared.words.Placement.{Placement}
 use Rattle.pool_printer.specs.Canonical.{canonical}
@@ -47,7 +42,11 @@ use Rattle.run_driver.specs.declared.status.Status.{Status}
 use Rattle.run_driver.specs.declared.status.Status.TheVariants as S
 use Rattle.command_words.specs.Commands.{Request}
 use Rattle.fault_lines.specs.FaultText.{refusal_line, unread_line}
-use Rattle.pool_driver.specs.Inputs.{limit_of, IsCodeOf, StopAt}
+use Rattle.pool_driver.specs.Inputs.{IsCodeOf, StopAt}
+use Rattle.unit_inputs.specs.UnitFiles.{IsUnitFault, IsVerifiedFile}
+use Rattle.object_code.specs.declared.file.UnitFile.{UnitFile}
+use Rattle.fault_lines.specs.declared.fault.UnitFault.{UnitFault}
+use Rattle.fault_lines.specs.declared.fault.UnitFault.TheVariants as Filed
 use Rattle.run_driver.specs.Driving.{IsLoaded}
 use Rattle.run_driver.specs.Shown.{ring_text, status_of}
 use Rattle.run_driver.specs.Loading.{lines_of, run_text}
@@ -56,22 +55,12 @@ use Rattle.record_check.specs.declared.lead.Verdict.{Verdict}
 use Rattle.record_check.specs.Verdicts.{Judged}
 use Rattle.verdict_lines.specs.VerdictText.{verdict_text}
 use Rattle.pool_gen.specs.Ring.{ring_placement, ring_program, ring_schedule}
-use Rattle.pool_driver.specs.Programs.{IsParsed, IsTextOf, IsTypedText, IsFaultOfText, IsFaultOfClasses}
-use Rattle.pool_driver.specs.declared.program.Parsed.{Parsed}
 use Rattle.pool_syntax.specs.Terms.{ProgramTree}
-use Rattle.pool_syntax.specs.Typing.{faults}
-use Rattle.pool_driver.specs.Ends.{Reading, AllRead, WasRead, Stops, IsRefused, IsRingRefused, IsUnread, IsMade}
+use Rattle.outside_calls.specs.Reading.{Reading}
+use Rattle.pool_driver.specs.Ends.{IsRefused, IsRingRefused, IsUnread, IsMade}
 use Rattle.run_driver.specs.Writing.{Writing, IsIdle, Writes}
 
 -- want of memory is no fault of the text
-
-abbrev pub stop_of_tokens : LexFault → Stop
-stop_of_tokens Lex.Memory = T.Memory
-stop_of_tokens f = T.Refused I.Program (F.Lex f)
-
-abbrev pub stop_of_grammar : SyntaxFault → Stop
-stop_of_grammar Syntax.Memory = T.Memory
-stop_of_grammar f = T.Refused I.Program (F.Syntax f)
 
 abbrev pub stop_of_placement : PlacementFault → Stop
 stop_of_placement Place.Memory = T.Memory
@@ -85,13 +74,9 @@ abbrev pub stop_of_schedule : ScheduleFault → Stop
 stop_of_schedule Timed.Memory = T.Memory
 stop_of_schedule f = T.Refused I.Schedule (F.Schedule f)
 
--- A text of an input before it is judged: any is accepted, and none has a fault.
-
-abbrev pub IsAnyText : Text → Type 0
-IsAnyText s = Unit {0}
-
-abbrev pub HasNoFault : Text → Fault → Type 0
-HasNoFault s f = ⊥
+abbrev pub stop_of_unit : UnitFault → Stop
+stop_of_unit Filed.Memory = T.Memory
+stop_of_unit f = T.Refused I.Unit (F.Unit f)
 
 -- a placement of a unit
 
@@ -115,34 +100,20 @@ HasScheduleFault l s f = (g : ScheduleFault) × (f ≡ F.Schedule g) × (Sch.fau
 abbrev pub IsScheduledAs : Placement → Text → Plan → Type 0
 IsScheduledAs l s plan = schedule_of l.width l.height l.cuts s ≡ Ok plan
 
--- a program before its classes are judged, which is the only one of its text
-
-abbrev pub IsAnyProgram : Text → Type 0
-IsAnyProgram s = (p : ProgramTree) × IsTextOf s p
-
-pub record IsProgramOf (s : Text) (read : Parsed) : Type 0 where
-  pub parsed : IsParsed s read.names (program_of read.program)
-  pub grammatical : IsGrammatical (program_of read.program)
-  pub spelled : is_spelled read.names (program_of read.program) ≡ true
-  pub only : (names : List Text) (p : ProgramTree) → IsParsed s names p → (read.names ≡ names) × (program_of read.program ≡ p)
-
--- and after that
-
-abbrev pub IsTypedProgram : Text → Type 0
-IsTypedProgram s = (p : ProgramTree) × IsTypedText s p
-
-abbrev pub HasTypedFault : Text → Fault → Type 0
-HasTypedFault s f = IsFaultOfText s f ⊎ ((p : ProgramTree) × IsTextOf s p × IsFaultOfClasses p f)
-
-abbrev pub IsTypedProgramOf : Text → Parsed → Type 0
-IsTypedProgramOf s parsed = IsProgramOf s parsed × (faults (program_of parsed.program) ≡ [])
-
--- and its code, which is the only one of its text
+-- the code of a program, which is the only one of its text
 
 pub record IsUnitOf (s : Text) (u : Code) : Type 0 where
   pub code : IsCodeOf s u
   pub proper : IsProper u
   pub only : (v : Code) → IsCodeOf s v → v ≡ u
+
+-- an object code file that is verified
+
+abbrev pub IsAcceptedUnit : Text → Type 0
+IsAcceptedUnit s = (f : UnitFile) × IsVerifiedFile s f
+
+abbrev pub HasUnitFault : Text → Fault → Type 0
+HasUnitFault s f = (g : UnitFault) × (f ≡ F.Unit g) × IsUnitFault s g
 
 -- a record of either form: its lines, with the table of the texts that they name
 
@@ -166,19 +137,6 @@ pub record IsRecordOf (s : Text) (r : Recorded) : Type 0 where
 -- the lines of a record, read with these names
 abbrev pub AreLinesOf : List Text → Text → List Line → Type 0
 AreLinesOf names s ls = ((Rec.record_of s).fault ≡ None) × (ls ≡ lines_after names (Rec.record_of s).told)
-
--- What a judge says of a text: what it is, or why it is refused as this input and not accepted, or that memory ran out.
-pub data Judges {A : Type 0} (input : Input) (Accepted : Text → Type 0) (Faulty : Text → Fault → Type 0) (Is : Text → A → Type 0) (s : Text) (result : Result A Stop) : Type 0 where
-  fits : (a : A) → result ≡ Ok a → Is s a → Judges input Accepted Faulty Is s result
-  fails : (f : Fault) → result ≡ Err (T.Refused input f) → Faulty s f → (Accepted s → ⊥) → Judges input Accepted Faulty Is s result
-  forgets : result ≡ Err T.Memory → Judges input Accepted Faulty Is s result
-
--- What comes of one input: it was read whole and is something; or it stops the call; or a read failed; or memory ran out.
-pub data Reads {A : Type 0} (k : Reading) (input : Input) (name : Text) (Accepted : Text → Type 0) (Faulty : Text → Fault → Type 0) (Is : Text → A → Type 0) (result : Result A Stop) : Type 0 where
-  read : (s : Text) (a : A) → result ≡ Ok a → WasRead k input name s → Is s a → AllRead k → Reads k input name Accepted Faulty Is result
-  refused : (f : Fault) → result ≡ Err (T.Refused input f) → Stops k input name Accepted Faulty f → AllRead k → Reads k input name Accepted Faulty Is result
-  unread : result ≡ Err (T.Unread input) → Rose k.faults k.failed → k.given ≤ limit_of input → Reads k input name Accepted Faulty Is result
-  memory : result ≡ Err T.Memory → Reads k input name Accepted Faulty Is result
 
 -- the text of an output, and its status
 abbrev pub text_of : Output → Text

@@ -1,4 +1,4 @@
--- What a program, a placement and a schedule mean together, and that their record shows a run.
+-- What a program, a placement and a schedule mean together, and that their record shows a run; and the same of an object code file in place of a program.
 use Rattle.std.specs.Prelude.{◌≡◌, List, [], Ok, Some}
 use Rattle.pool_syntax.specs.Tokens.{Text}
 use Rattle.pool_syntax.specs.Terms.{ProgramTree}
@@ -19,7 +19,12 @@ use Rattle.schedule_reader.specs.Schedules.{Plan, schedule_of}
 use Rattle.run_record.specs.Readable.{IsRecord}
 use Rattle.run_driver.specs.Shown.{record_over}
 use Rattle.pool_driver.specs.Inputs.{unit_of}
-use Rattle.pool_driver.specs.Programs.{IsParsed}
+use Rattle.program_input.specs.Programs.{IsParsed}
+use Rattle.object_code.specs.declared.file.UnitFile.{UnitFile}
+use Rattle.coded_objects.specs.Coded.{Placed, coded}
+use Rattle.verified_code.specs.CodeRun.{IsCodeRun}
+use Rattle.unit_inputs.specs.UnitFiles.{IsVerifiedFile}
+use Rattle.mesh_semantics.specs.Config.{Config}
 
 -- the meaning of the three texts: a program without class faults with the table of its names, a placement of its classes, and a quantum and events on the placement's mesh,
 -- whose links are wires or not
@@ -46,3 +51,27 @@ pub record ShowsRun {source place plan : Text} (m : Meaning source place plan) :
   pub readable : IsRecord m.names (record_of m).lines
   pub answers : EachAnswersPost (record_of m).lines
   pub wires : KeepsWires (record_of m).delay
+
+-- the meaning of an object code file with a placement and a schedule: a verified file, a placement of its classes, and a quantum and events on the placement's mesh
+pub record CodeMeaning (source place plan : Text) : Type 0 where
+  pub file : UnitFile
+  pub is_file : IsVerifiedFile source file
+  pub layout : Placement
+  pub placed : placement_of file.unit place ≡ Ok layout
+  pub schedule : Plan
+  pub scheduled : schedule_of layout.width layout.height layout.cuts plan ≡ Ok schedule
+
+-- their record: the record of the code on the mesh of the placement, over the schedule
+abbrev pub code_record_of : {source place plan : Text} → CodeMeaning source place plan → M.Record Placed
+code_record_of m = record_over (coded m.file.unit) m.layout m.schedule
+
+-- The lines show one run of the relation over objects of code from the start, in which no object goes wrong, and their text is one that is read back. Each line that answers a
+-- request has the number, above 0, of a line that posts this request. Where links are wires, at the end each has handed out a front of what entered it, in order. No program is
+-- named.
+pub record ShowsCodeRun {source place plan : Text} (m : CodeMeaning source place plan) : Type 0 where
+  pub first : Config Placed
+  pub starts : M.start (coded m.file.unit) m.layout ≡ Some first
+  pub run : IsCodeRun m.file m.layout first (code_record_of m)
+  pub readable : IsRecord m.file.unit.names (code_record_of m).lines
+  pub answers : EachAnswersPost (code_record_of m).lines
+  pub wires : KeepsWires (code_record_of m).delay

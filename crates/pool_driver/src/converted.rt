@@ -3,8 +3,9 @@ ghost use Rattle.std.specs.Prelude.{◌≡◌, ◌<◌, ◌^◌, ◌≤◌, leng
 ghost use Rattle.std.specs.List.{All};
 ghost use Rattle.record_lines.specs.SecondForm.{lines_text2, text2};
 ghost use Rattle.record_lines.specs.Writable.{IsWritable};
-ghost use Rattle.run_driver.specs.Writing.{Wrote, WroteFront};
-ghost use Rattle.pool_driver.specs.Readers.{AreLinesOf, HasRecordFault, IsAcceptedRecord, IsRecordOf, IsShowable, Judges, stop_of_record};
+ghost use Rattle.run_driver.specs.Writing.{Wrote, WroteFront, writing};
+ghost use Rattle.pool_driver.specs.Readers.{AreLinesOf, HasRecordFault, IsAcceptedRecord, IsRecordOf, IsShowable, stop_of_record};
+ghost use Rattle.program_input.specs.Readers.{Judges};
 
 use fault_lines::{Fault, Input, Stop};
 use pool_outside::{Sink, Text, WriteFault};
@@ -74,8 +75,8 @@ fn write_lines<K: Sink>(
 ) -> Result<(), WriteFault>
     requires writable { All (IsWritable names.now) lines.now }
     requires many { length asks.now ≡ length lines.now }
-    ensures whole { OnOk result (Wrote (record { before = K.written out.old; after = K.written out.new; faults = K.faults out.old; failed = K.faults out.new }) (lines_text2 names.now lines.now asks.now)) }
-    ensures cut { OnErr result (WroteFront (record { before = K.written out.old; after = K.written out.new; faults = K.faults out.old; failed = K.faults out.new }) (lines_text2 names.now lines.now asks.now)) }
+    ensures whole { OnOk result (Wrote (writing K.written K.faults out.old out.new) (lines_text2 names.now lines.now asks.now)) }
+    ensures cut { OnErr result (WroteFront (writing K.written K.faults out.old out.new) (lines_text2 names.now lines.now asks.now)) }
     ensures faults_stay_or_rise { K.faults out.old ≤ K.faults out.new }
 {
     for place in 0..lines.len() {

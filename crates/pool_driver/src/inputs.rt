@@ -1,55 +1,24 @@
 //! Reads the inputs, each once, and judges each.
+ghost use Rattle.pool_driver.specs.Ends.{reading};
 ghost use Rattle.std.specs.Prelude.{◌≡◌, ◌<◌, ◌+◌, ◌-◌, ◌^◌, ◌≤◌, IsTrue, length, true};
-ghost use Rattle.pool_driver.specs.Inputs.{limit_of, most_bytes, most_of_record, one_read};
-ghost use Rattle.pool_driver.specs.Programs.{IsFaultOfText};
-ghost use Rattle.pool_driver.specs.Readers.{AreLinesOf, HasNoFault, HasPlacementFault, HasRecordFault, HasScheduleFault, HasTypedFault, IsAcceptedPlacement, IsAcceptedRecord, IsAcceptedSchedule, IsAnyProgram, IsAnyText, IsPlacedAs, IsProgramOf, IsRecordOf, IsScheduledAs, IsTypedProgram, IsTypedProgramOf, IsUnitOf, Judges, Loads, Reads, stop_of_placement, stop_of_schedule};
+ghost use Rattle.program_input.specs.Inputs.{most_bytes, most_of_record, most_of_unit, one_read};
+ghost use Rattle.unit_inputs.specs.UnitFiles.{IsUnitOfFile};
+ghost use Rattle.pool_driver.specs.Readers.{AreLinesOf, HasPlacementFault, HasRecordFault, HasScheduleFault, HasUnitFault, IsAcceptedPlacement, IsAcceptedRecord, IsAcceptedSchedule, IsAcceptedUnit};
+ghost use Rattle.pool_driver.specs.Readers.{IsPlacedAs, IsRecordOf, IsScheduledAs, IsUnitOf, Loads, stop_of_placement, stop_of_schedule, stop_of_unit};
+ghost use Rattle.program_input.specs.Readers.{HasTypedFault, IsTypedProgram, Judges, Reads};
 
 use crate::converted::{Recorded, judge_lines, judge_record};
-use crate::program::{Parsed, code_of, judge_classes, read_program};
-use fault_lines::{Fault, Input, Stop};
+use crate::program::code_of;
+use fault_lines::{Fault, Input, Stop, UnitFault};
 use object_code::Unit;
 use placement_reader::{PlacementFault, read_placement};
-use pool_outside::{Files, ReadFault, read_whole};
+use pool_outside::Files;
 use pool_syntax::{Line, List, Names, Placement};
+use program_input::{read_input, read_parsed, read_program};
 use run_driver::Loaded;
 use schedule_reader::{Schedule, ScheduleFault, read_schedule};
 use std::alloc::Global;
-
-/// The most bytes of an input.
-fn limit_of(input: Input) -> usize
-    ensures { result ≡ limit_of input }
-{
-    match input {
-        Input::Program | Input::Placement | Input::Schedule => 1048576,
-        Input::Record => 67108864,
-    }
-}
-
-/// Reads an input whole.
-fn read_input<F: Files>(
-    alloc: Global,
-    files: &mut F,
-    input: Input,
-    name: &str,
-) -> Result<Vec<u8>, Stop>
-    requires allowed { IsTrue (F.may files.old (F.opens files.old) name.now) }
-    requires countable { F.opens files.old < 2 ^ 64 - 1 }
-    ensures reads { Reads (record { told = F.told files.old; opens = F.opens files.old; opened = F.opens files.new; given = F.given files.new; live = F.live files.new; faults = F.faults files.old; failed = F.faults files.new }) input name.now IsAnyText HasNoFault (λ s text. text.items ≡ s) result }
-    ensures opened_once { F.opens files.new ≡ F.opens files.old + 1 }
-    ensures unread_within { F.given files.new ≤ limit_of input + one_read }
-    ensures same_texts { F.told files.new ≡ F.told files.old }
-    ensures same_leave { F.may files.new ≡ F.may files.old }
-{
-    match read_whole(alloc, files, name, limit_of(input)) {
-        Ok(text) => Ok(text),
-        Err(ReadFault::Failed) => Err(Stop::Unread { input }),
-        Err(ReadFault::TooLong) => Err(Stop::Refused {
-            input,
-            fault: Fault::TooLong,
-        }),
-        Err(ReadFault::Memory) => Err(Stop::Memory),
-    }
-}
+use unit_inputs::read_unit as read_verified;
 
 /// Why a text is no placement.
 fn placement_stop(fault: PlacementFault) -> Stop
@@ -77,6 +46,39 @@ fn schedule_stop(fault: ScheduleFault) -> Stop
     }
 }
 
+/// Why a text is no verified object code file.
+fn unit_stop(fault: UnitFault) -> Stop
+    ensures { result ≡ stop_of_unit fault }
+{
+    match fault {
+        UnitFault::Memory => Stop::Memory,
+        _ => Stop::Refused {
+            input: Input::Unit,
+            fault: Fault::Unit(fault),
+        },
+    }
+}
+
+/// Reads an object code file, and verifies it: its unit.
+pub fn read_file<F: Files>(alloc: Global, files: &mut F, name: &str) -> Result<Unit, Stop>
+    requires allowed { IsTrue (F.may files.old (F.opens files.old) name.now) }
+    requires countable { F.opens files.old < 2 ^ 64 - 1 }
+    ensures reads { Reads (reading F.told F.opens F.given F.live F.faults files.old files.new) Input.Unit name.now IsAcceptedUnit HasUnitFault IsUnitOfFile result }
+    ensures opened_once { F.opens files.new ≡ F.opens files.old + 1 }
+    ensures unread_within { F.given files.new ≤ most_of_unit + one_read }
+    ensures same_texts { F.told files.new ≡ F.told files.old }
+    ensures same_leave { F.may files.new ≡ F.may files.old }
+{
+    let text = match read_input(alloc, files, Input::Unit, name) {
+        Ok(text) => text,
+        Err(stop) => return Err(stop),
+    };
+    match read_verified(alloc, &text) {
+        Ok(unit) => Ok(unit),
+        Err(fault) => Err(unit_stop(fault)),
+    }
+}
+
 /// Reads the placement of a unit.
 pub fn read_placed<F: Files>(
     alloc: Global,
@@ -86,7 +88,8 @@ pub fn read_placed<F: Files>(
 ) -> Result<Placement, Stop>
     requires allowed { IsTrue (F.may files.old (F.opens files.old) name.now) }
     requires countable { F.opens files.old < 2 ^ 64 - 1 }
-    ensures reads { Reads (record { told = F.told files.old; opens = F.opens files.old; opened = F.opens files.new; given = F.given files.new; live = F.live files.new; faults = F.faults files.old; failed = F.faults files.new }) Input.Placement name.now (IsAcceptedPlacement unit.now) (HasPlacementFault unit.now) (IsPlacedAs unit.now) result }
+    ensures reads { Reads (reading F.told F.opens F.given F.live F.faults files.old files.new) Input.Placement name.now
+        (IsAcceptedPlacement unit.now) (HasPlacementFault unit.now) (IsPlacedAs unit.now) result }
     ensures opened_once { F.opens files.new ≡ F.opens files.old + 1 }
     ensures unread_within { F.given files.new ≤ most_bytes + one_read }
     ensures same_texts { F.told files.new ≡ F.told files.old }
@@ -113,7 +116,8 @@ pub fn read_scheduled<F: Files>(
     requires countable { F.opens files.old < 2 ^ 64 - 1 }
     requires width { (1 ≤ placement.now.width) × (placement.now.width ≤ 8) }
     requires height { (1 ≤ placement.now.height) × (placement.now.height ≤ 8) }
-    ensures reads { Reads (record { told = F.told files.old; opens = F.opens files.old; opened = F.opens files.new; given = F.given files.new; live = F.live files.new; faults = F.faults files.old; failed = F.faults files.new }) Input.Schedule name.now (IsAcceptedSchedule placement.now) (HasScheduleFault placement.now) (IsScheduledAs placement.now) result }
+    ensures reads { Reads (reading F.told F.opens F.given F.live F.faults files.old files.new) Input.Schedule name.now
+        (IsAcceptedSchedule placement.now) (HasScheduleFault placement.now) (IsScheduledAs placement.now) result }
     ensures opened_once { F.opens files.new ≡ F.opens files.old + 1 }
     ensures unread_within { F.given files.new ≤ most_bytes + one_read }
     ensures same_texts { F.told files.new ≡ F.told files.old }
@@ -133,7 +137,7 @@ pub fn read_scheduled<F: Files>(
 pub fn read_recorded<F: Files>(alloc: Global, files: &mut F, name: &str) -> Result<Recorded, Stop>
     requires allowed { IsTrue (F.may files.old (F.opens files.old) name.now) }
     requires countable { F.opens files.old < 2 ^ 64 - 1 }
-    ensures reads { Reads (record { told = F.told files.old; opens = F.opens files.old; opened = F.opens files.new; given = F.given files.new; live = F.live files.new; faults = F.faults files.old; failed = F.faults files.new }) Input.Record name.now IsAcceptedRecord HasRecordFault IsRecordOf result }
+    ensures reads { Reads (reading F.told F.opens F.given F.live F.faults files.old files.new) Input.Record name.now IsAcceptedRecord HasRecordFault IsRecordOf result }
     ensures opened_once { F.opens files.new ≡ F.opens files.old + 1 }
     ensures unread_within { F.given files.new ≤ most_of_record + one_read }
     ensures same_texts { F.told files.new ≡ F.told files.old }
@@ -156,7 +160,7 @@ pub fn read_lines<F: Files>(
     requires allowed { IsTrue (F.may files.old (F.opens files.old) name.now) }
     requires countable { F.opens files.old < 2 ^ 64 - 1 }
     requires few { length names.now < 2 ^ 31 }
-    ensures reads { Reads (record { told = F.told files.old; opens = F.opens files.old; opened = F.opens files.new; given = F.given files.new; live = F.live files.new; faults = F.faults files.old; failed = F.faults files.new }) Input.Record name.now IsAcceptedRecord HasRecordFault (AreLinesOf names.now) result }
+    ensures reads { Reads (reading F.told F.opens F.given F.live F.faults files.old files.new) Input.Record name.now IsAcceptedRecord HasRecordFault (AreLinesOf names.now) result }
     ensures opened_once { F.opens files.new ≡ F.opens files.old + 1 }
     ensures unread_within { F.given files.new ≤ most_of_record + one_read }
     ensures same_texts { F.told files.new ≡ F.told files.old }
@@ -169,49 +173,11 @@ pub fn read_lines<F: Files>(
     judge_lines(alloc, &text, names)
 }
 
-/// Reads a program.
-pub fn read_parsed<F: Files>(alloc: Global, files: &mut F, name: &str) -> Result<Parsed, Stop>
-    requires allowed { IsTrue (F.may files.old (F.opens files.old) name.now) }
-    requires countable { F.opens files.old < 2 ^ 64 - 1 }
-    ensures reads { Reads (record { told = F.told files.old; opens = F.opens files.old; opened = F.opens files.new; given = F.given files.new; live = F.live files.new; faults = F.faults files.old; failed = F.faults files.new }) Input.Program name.now IsAnyProgram IsFaultOfText IsProgramOf result }
-    ensures opened_once { F.opens files.new ≡ F.opens files.old + 1 }
-    ensures unread_within { F.given files.new ≤ most_bytes + one_read }
-    ensures same_texts { F.told files.new ≡ F.told files.old }
-    ensures same_leave { F.may files.new ≡ F.may files.old }
-{
-    let text = match read_input(alloc, files, Input::Program, name) {
-        Ok(text) => text,
-        Err(stop) => return Err(stop),
-    };
-    read_program(alloc, &text)
-}
-
-/// Reads a program whose classes have no fault.
-pub fn read_typed<F: Files>(alloc: Global, files: &mut F, name: &str) -> Result<Parsed, Stop>
-    requires allowed { IsTrue (F.may files.old (F.opens files.old) name.now) }
-    requires countable { F.opens files.old < 2 ^ 64 - 1 }
-    ensures reads { Reads (record { told = F.told files.old; opens = F.opens files.old; opened = F.opens files.new; given = F.given files.new; live = F.live files.new; faults = F.faults files.old; failed = F.faults files.new }) Input.Program name.now IsTypedProgram HasTypedFault IsTypedProgramOf result }
-    ensures opened_once { F.opens files.new ≡ F.opens files.old + 1 }
-    ensures unread_within { F.given files.new ≤ most_bytes + one_read }
-    ensures same_texts { F.told files.new ≡ F.told files.old }
-    ensures same_leave { F.may files.new ≡ F.may files.old }
-{
-    let parsed = match read_parsed(alloc, files, name) {
-        Ok(parsed) => parsed,
-        Err(stop) => return Err(stop),
-    };
-    match judge_classes(alloc, &parsed) {
-        Ok(_) => {}
-        Err(stop) => return Err(stop),
-    }
-    Ok(parsed)
-}
-
 /// Reads a program whose classes have no fault, and makes its code.
 pub fn read_unit<F: Files>(alloc: Global, files: &mut F, name: &str) -> Result<Unit, Stop>
     requires allowed { IsTrue (F.may files.old (F.opens files.old) name.now) }
     requires countable { F.opens files.old < 2 ^ 64 - 1 }
-    ensures reads { Reads (record { told = F.told files.old; opens = F.opens files.old; opened = F.opens files.new; given = F.given files.new; live = F.live files.new; faults = F.faults files.old; failed = F.faults files.new }) Input.Program name.now IsTypedProgram HasTypedFault IsUnitOf result }
+    ensures reads { Reads (reading F.told F.opens F.given F.live F.faults files.old files.new) Input.Program name.now IsTypedProgram HasTypedFault IsUnitOf result }
     ensures opened_once { F.opens files.new ≡ F.opens files.old + 1 }
     ensures unread_within { F.given files.new ≤ most_bytes + one_read }
     ensures same_texts { F.told files.new ≡ F.told files.old }

@@ -1,22 +1,23 @@
 //! What a command makes of its inputs: each is read and judged before the next is opened.
 ghost use Rattle.std.specs.Prelude.{◌≡◌, ◌<◌, false, ◌+◌, ◌-◌, ◌^◌, ◌≤◌};
-ghost use Rattle.command_words.specs.Commands.{IsSized, names_of, of_check, of_convert, of_program, of_run, request};
-ghost use Rattle.pool_driver.specs.Ends.{StaysWithin};
-ghost use Rattle.pool_driver.specs.Inputs.{MayOpen, most_bytes, most_of_record, one_read};
+ghost use Rattle.command_words.specs.Commands.{IsSized, names_of, of_check, of_convert, of_load, of_program, of_run, request};
+ghost use Rattle.pool_driver.specs.Ends.{StaysWithin, reading};
+ghost use Rattle.pool_driver.specs.Inputs.{MayOpen};
+ghost use Rattle.program_input.specs.Inputs.{most_bytes, most_of_record, one_read};
 ghost use Rattle.pool_driver.specs.Readers.{Makes, Rings};
 
 use crate::converted::Recorded;
 use crate::inputs::{
-    load_texts, read_lines, read_parsed, read_placed, read_recorded, read_scheduled, read_typed,
-    read_unit,
+    load_texts, read_file, read_lines, read_placed, read_recorded, read_scheduled, read_unit,
 };
 use crate::judged::judge;
-use crate::program::{Parsed, file_of_parsed, judge_classes};
+use crate::program::file_of_parsed;
 use command_words::{Ask, Command, Files as FileNames, Show};
 use fault_lines::Stop;
 use object_code::{Unit, UnitFile};
 use pool_gen::ring;
 use pool_outside::Files;
+use program_input::{Parsed, judge_classes, read_parsed, read_typed};
 use run_driver::{Loaded, Status};
 use std::alloc::Global;
 
@@ -47,7 +48,7 @@ fn run_output<F: Files>(
 ) -> Result<Output, Stop>
     requires countable { F.opens files.old ≤ 2 ^ 64 - 5 }
     requires allowed { MayOpen (F.may files.old) (F.opens files.old) (of_run show (names_of names)) }
-    ensures makes { Makes (record { told = F.told files.old; opens = F.opens files.old; opened = F.opens files.new; given = F.given files.new; live = F.live files.new; faults = F.faults files.old; failed = F.faults files.new }) (of_run show (names_of names.entry)) result }
+    ensures makes { Makes (reading F.told F.opens F.given F.live F.faults files.old files.new) (of_run show (names_of names.entry)) result }
     ensures unread_within { F.given files.new ≤ most_bytes + one_read }
 {
     let unit = match read_unit(alloc, files, names.program) {
@@ -74,7 +75,7 @@ fn run_output<F: Files>(
 fn canonical_output<F: Files>(alloc: Global, files: &mut F, name: &str) -> Result<Output, Stop>
     requires countable { F.opens files.old ≤ 2 ^ 64 - 5 }
     requires allowed { MayOpen (F.may files.old) (F.opens files.old) (of_program Ask.Canonical name.now) }
-    ensures makes { Makes (record { told = F.told files.old; opens = F.opens files.old; opened = F.opens files.new; given = F.given files.new; live = F.live files.new; faults = F.faults files.old; failed = F.faults files.new }) (of_program Ask.Canonical name.now) result }
+    ensures makes { Makes (reading F.told F.opens F.given F.live F.faults files.old files.new) (of_program Ask.Canonical name.now) result }
     ensures unread_within { F.given files.new ≤ most_bytes + one_read }
 {
     match read_typed(alloc, files, name) {
@@ -87,7 +88,7 @@ fn canonical_output<F: Files>(alloc: Global, files: &mut F, name: &str) -> Resul
 fn listing_output<F: Files>(alloc: Global, files: &mut F, name: &str) -> Result<Output, Stop>
     requires countable { F.opens files.old ≤ 2 ^ 64 - 5 }
     requires allowed { MayOpen (F.may files.old) (F.opens files.old) (of_program Ask.Listing name.now) }
-    ensures makes { Makes (record { told = F.told files.old; opens = F.opens files.old; opened = F.opens files.new; given = F.given files.new; live = F.live files.new; faults = F.faults files.old; failed = F.faults files.new }) (of_program Ask.Listing name.now) result }
+    ensures makes { Makes (reading F.told F.opens F.given F.live F.faults files.old files.new) (of_program Ask.Listing name.now) result }
     ensures unread_within { F.given files.new ≤ most_bytes + one_read }
 {
     match read_unit(alloc, files, name) {
@@ -100,7 +101,7 @@ fn listing_output<F: Files>(alloc: Global, files: &mut F, name: &str) -> Result<
 fn file_output<F: Files>(alloc: Global, files: &mut F, name: &str) -> Result<Output, Stop>
     requires countable { F.opens files.old ≤ 2 ^ 64 - 5 }
     requires allowed { MayOpen (F.may files.old) (F.opens files.old) (of_program Ask.File name.now) }
-    ensures makes { Makes (record { told = F.told files.old; opens = F.opens files.old; opened = F.opens files.new; given = F.given files.new; live = F.live files.new; faults = F.faults files.old; failed = F.faults files.new }) (of_program Ask.File name.now) result }
+    ensures makes { Makes (reading F.told F.opens F.given F.live F.faults files.old files.new) (of_program Ask.File name.now) result }
     ensures unread_within { F.given files.new ≤ most_bytes + one_read }
 {
     let parsed = match read_parsed(alloc, files, name) {
@@ -122,7 +123,7 @@ fn program_output<F: Files>(
 ) -> Result<Output, Stop>
     requires countable { F.opens files.old ≤ 2 ^ 64 - 5 }
     requires allowed { MayOpen (F.may files.old) (F.opens files.old) (of_program ask name.now) }
-    ensures makes { Makes (record { told = F.told files.old; opens = F.opens files.old; opened = F.opens files.new; given = F.given files.new; live = F.live files.new; faults = F.faults files.old; failed = F.faults files.new }) (of_program ask name.now) result }
+    ensures makes { Makes (reading F.told F.opens F.given F.live F.faults files.old files.new) (of_program ask name.now) result }
     ensures unread_within { F.given files.new ≤ most_bytes + one_read }
 {
     match ask {
@@ -136,7 +137,7 @@ fn program_output<F: Files>(
 fn convert_output<F: Files>(alloc: Global, files: &mut F, name: &str) -> Result<Output, Stop>
     requires countable { F.opens files.old ≤ 2 ^ 64 - 5 }
     requires allowed { MayOpen (F.may files.old) (F.opens files.old) (of_convert name.now) }
-    ensures makes { Makes (record { told = F.told files.old; opens = F.opens files.old; opened = F.opens files.new; given = F.given files.new; live = F.live files.new; faults = F.faults files.old; failed = F.faults files.new }) (of_convert name.now) result }
+    ensures makes { Makes (reading F.told F.opens F.given F.live F.faults files.old files.new) (of_convert name.now) result }
     ensures unread_within { F.given files.new ≤ most_of_record + one_read }
 {
     match read_recorded(alloc, files, name) {
@@ -154,8 +155,8 @@ fn check_output<F: Files>(
 ) -> Result<Output, Stop>
     requires countable { F.opens files.old ≤ 2 ^ 64 - 5 }
     requires allowed { MayOpen (F.may files.old) (F.opens files.old) (of_check program.now claim.now) }
-    ensures makes { Makes (record { told = F.told files.old; opens = F.opens files.old; opened = F.opens files.new; given = F.given files.new; live = F.live files.new; faults = F.faults files.old; failed = F.faults files.new }) (of_check program.now claim.now) result }
-    ensures unread_within { StaysWithin (record { told = F.told files.old; opens = F.opens files.old; opened = F.opens files.new; given = F.given files.new; live = F.live files.new; faults = F.faults files.old; failed = F.faults files.new }) (of_check program.now claim.now) }
+    ensures makes { Makes (reading F.told F.opens F.given F.live F.faults files.old files.new) (of_check program.now claim.now) result }
+    ensures unread_within { StaysWithin (reading F.told F.opens F.given F.live F.faults files.old files.new) (of_check program.now claim.now) }
 {
     let parsed = match read_parsed(alloc, files, program) {
         Ok(parsed) => parsed,
@@ -170,6 +171,42 @@ fn check_output<F: Files>(
         Err(stop) => return Err(stop),
     };
     judge(alloc, &checked, &parsed.names, &lines)
+}
+
+/// The run of the object code file, the placement and the schedule of these names.
+fn load_output<F: Files>(
+    alloc: Global,
+    files: &mut F,
+    file: &str,
+    place: &str,
+    plan: &str,
+) -> Result<Output, Stop>
+    requires countable { F.opens files.old ≤ 2 ^ 64 - 5 }
+    requires allowed { MayOpen (F.may files.old) (F.opens files.old) (of_load file.now place.now plan.now) }
+    ensures makes { Makes (reading F.told F.opens F.given F.live F.faults files.old files.new) (of_load file.now place.now plan.now) result }
+    ensures unread_within { StaysWithin (reading F.told F.opens F.given F.live F.faults files.old files.new) (of_load file.now place.now plan.now) }
+{
+    let unit = match read_file(alloc, files, file) {
+        Ok(unit) => unit,
+        Err(stop) => return Err(stop),
+    };
+    let placement = match read_placed(alloc, files, place, &unit) {
+        Ok(placement) => placement,
+        Err(stop) => return Err(stop),
+    };
+    let schedule = match read_scheduled(alloc, files, plan, &placement) {
+        Ok(schedule) => schedule,
+        Err(stop) => return Err(stop),
+    };
+    let loaded = Loaded {
+        unit,
+        placement,
+        schedule,
+    };
+    Ok(Output::Run {
+        show: Show::Record,
+        loaded,
+    })
 }
 
 /// The run of the ring of so many cells.
@@ -202,8 +239,8 @@ pub fn make_output<F: Files>(
     requires allowed { MayOpen (F.may files.old) (F.opens files.old) (request command) }
     requires not_live { F.live files.old ≡ false }
     requires sized { IsSized command }
-    ensures makes { Makes (record { told = F.told files.old; opens = F.opens files.old; opened = F.opens files.new; given = F.given files.new; live = F.live files.new; faults = F.faults files.old; failed = F.faults files.new }) (request command.entry) result }
-    ensures unread_within { StaysWithin (record { told = F.told files.old; opens = F.opens files.old; opened = F.opens files.new; given = F.given files.new; live = F.live files.new; faults = F.faults files.old; failed = F.faults files.new }) (request command.entry) }
+    ensures makes { Makes (reading F.told F.opens F.given F.live F.faults files.old files.new) (request command.entry) result }
+    ensures unread_within { StaysWithin (reading F.told F.opens F.given F.live F.faults files.old files.new) (request command.entry) }
 {
     match command {
         Command::Run { show, files: names } => run_output(alloc, files, show, names),
@@ -211,5 +248,10 @@ pub fn make_output<F: Files>(
         Command::Ring { cells } => ring_output(alloc, cells),
         Command::Convert { name } => convert_output(alloc, files, name),
         Command::Check { program, record } => check_output(alloc, files, program, record),
+        Command::Load {
+            unit,
+            placement,
+            schedule,
+        } => load_output(alloc, files, unit, placement, schedule),
     }
 }

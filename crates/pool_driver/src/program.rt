@@ -1,106 +1,23 @@
-//! Reads a program and judges it: its tokens, its grammar, its classes; and makes its code, and its object code file.
-ghost use Rattle.std.specs.Prelude.{◌≡◌, ◌≢◌, ◌≤◌, List, length, true, [], IfOk, MatchResult, IsOk, IsErr, Err};
-ghost use Rattle.pool_syntax.specs.Terms.{ProgramTree};
-ghost use Rattle.pool_syntax.specs.Tokens.{Text};
+//! Makes the code of a program that was read, and its object code file.
+ghost use Rattle.std.specs.Prelude.{◌≡◌, ◌≢◌, true, [], IfOk, IsOk, IsErr, Err};
 ghost use Rattle.pool_syntax.specs.TreeOf.{program_of};
 ghost use Rattle.pool_syntax.specs.Spelled.{IsGrammatical, is_spelled};
 ghost use Rattle.pool_syntax.specs.Typing.{faults};
 ghost use Rattle.object_code.specs.Proper.{IsProper};
 ghost use Rattle.object_code.specs.Shaped.{IsListOf, IsShaped, IsShort, IsShortList};
 ghost use Rattle.pool_driver.specs.Inputs.{unit_of};
-ghost use Rattle.pool_driver.specs.Readers.{stop_of_grammar, stop_of_tokens};
-ghost use Rattle.pool_driver.specs.Programs.{IsFaultOfClasses, IsFaultOfText, IsParsed};
+ghost use Rattle.program_input.specs.Programs.{IsFaultOfClasses};
+ghost use Rattle.code_verdict.specs.Verdict.{Good, verdict};
 ghost use Rattle.verified_code.specs.DeclaredKinds.{file_of};
 ghost use Rattle.fault_lines.specs.declared.fault.Fault.{Fault as AnyFault};
 ghost use Rattle.fault_lines.specs.declared.fault.Input.{Input as AnyInput};
 
-use class_check::{Checked, ClassFault, check};
-use fault_lines::{Fault, Input, Stop};
+use fault_lines::{Input, Stop};
 use object_code::{Unit, UnitFile};
 use pool_compile::compile;
-use pool_lexer::tokens;
-use pool_parser::{SyntaxFault, parse};
-use pool_syntax::{LexFault, Names, Program};
 use program_file::file_of;
+use program_input::{Parsed, judge_classes};
 use std::alloc::Global;
-
-/// A program, and the texts of its names and strings.
-#[derive(Drop)]
-pub struct Parsed {
-    pub program: Program,
-    pub names: Names,
-}
-
-/// A program that is refused.
-fn refuse(fault: Fault) -> Stop
-    ensures { result ≡ Stop.Refused Input.Program fault }
-{
-    Stop::Refused {
-        input: Input::Program,
-        fault,
-    }
-}
-
-/// Why a text has no tokens.
-fn lex_stop(fault: LexFault) -> Stop
-    ensures { result ≡ stop_of_tokens fault }
-{
-    match fault {
-        LexFault::Memory => Stop::Memory,
-        _ => refuse(Fault::Lex(fault)),
-    }
-}
-
-/// Why a text has no program.
-fn syntax_stop(fault: SyntaxFault) -> Stop
-    ensures { result ≡ stop_of_grammar fault }
-{
-    match fault {
-        SyntaxFault::Memory => Stop::Memory,
-        _ => refuse(Fault::Syntax(fault)),
-    }
-}
-
-/// The program that the text has.
-pub fn read_program(alloc: Global, bytes: &[u8]) -> Result<Parsed, Stop>
-    requires { length bytes.now ≤ 1048576 }
-    ensures ok { IfOk result (λ p. IsParsed bytes.now p.names (program_of p.program)) }
-    ensures grammatical { IfOk result (λ p. IsGrammatical (program_of p.program)) }
-    ensures spelled { IfOk result (λ p. is_spelled p.names (program_of p.program) ≡ true) }
-    ensures refused { (i : AnyInput) (f : AnyFault) → result ≡ Err (Stop.Refused i f) → (i ≡ Input.Program) × IsFaultOfText bytes.now f }
-    ensures no_read { (i : AnyInput) → result ≢ Err (Stop.Unread i) }
-    ensures only { (names : List Text) (p : ProgramTree) → IsParsed bytes.now names p
-        → MatchResult result (λ q. (q.names ≡ names) × (program_of q.program ≡ p)) (λ r. r ≡ Stop.Memory) }
-{
-    let tokens = match tokens(alloc, bytes) {
-        Ok(tokens) => tokens,
-        Err(fault) => return Err(lex_stop(fault)),
-    };
-    match parse(alloc, &tokens) {
-        Ok(program) => Ok(Parsed {
-            program,
-            names: tokens.names,
-        }),
-        Err(fault) => Err(syntax_stop(fault)),
-    }
-}
-
-/// Judges the classes of a program that was read.
-pub fn judge_classes<'a>(alloc: Global, parsed: &'a Parsed) -> Result<Checked<'a>, Stop>
-    requires grammatical { IsGrammatical (program_of parsed.now.program) }
-    requires spelled { is_spelled parsed.now.names (program_of parsed.now.program) ≡ true }
-    ensures same { IfOk result (λ c. (c.program.now ≡ parsed.now.program) × (c.names.now ≡ parsed.now.names)) }
-    ensures typed { IsOk result → faults (program_of parsed.now.program) ≡ [] }
-    ensures only { faults (program_of parsed.now.program) ≡ [] → IsErr result → result ≡ Err Stop.Memory }
-    ensures refused { (i : AnyInput) (f : AnyFault) → result ≡ Err (Stop.Refused i f) → (i ≡ Input.Program) × IsFaultOfClasses (program_of parsed.now.program) f }
-    ensures no_read { (i : AnyInput) → result ≢ Err (Stop.Unread i) }
-{
-    match check(alloc, &parsed.program, &parsed.names) {
-        Ok(checked) => Ok(checked),
-        Err(ClassFault::Memory) => Err(Stop::Memory),
-        Err(fault) => Err(refuse(Fault::Class(fault))),
-    }
-}
 
 /// The code of a program that was read, with a copy of its names, once its classes are judged.
 pub fn code_of(alloc: Global, parsed: &Parsed) -> Result<Unit, Stop>
@@ -131,6 +48,7 @@ pub fn file_of_parsed(alloc: Global, parsed: &Parsed) -> Result<UnitFile, Stop>
     ensures file { IfOk result (λ f. f ≡ file_of parsed.now.names (program_of parsed.now.program)) }
     ensures shaped { IfOk result (λ f. IsShaped f) }
     ensures short { IfOk result (λ f. IsShort f) }
+    ensures good { IfOk result (λ f. verdict f ≡ Good) }
     ensures typed { IsOk result → faults (program_of parsed.now.program) ≡ [] }
     ensures only { faults (program_of parsed.now.program) ≡ [] → IsErr result → result ≡ Err Stop.Memory }
     ensures refused { (i : AnyInput) (f : AnyFault) → result ≡ Err (Stop.Refused i f) → (i ≡ Input.Program) × IsFaultOfClasses (program_of parsed.now.program) f }

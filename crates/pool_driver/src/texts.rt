@@ -8,10 +8,10 @@ ghost use Rattle.pool_printer.specs.Canonical.{canonical};
 ghost use Rattle.pool_syntax.specs.Spelled.{is_spelled};
 ghost use Rattle.pool_syntax.specs.TreeOf.{program_of};
 
-use crate::program::Parsed;
 use object_code::{Unit, UnitFile, encode, list_code};
 use pool_outside::{Sink, Text, WriteFault};
 use pool_printer::print;
+use program_input::Parsed;
 
 /// The canonical text of a program.
 #[derive(Clone, Copy)]

@@ -1,11 +1,13 @@
 //! The top call.
-ghost use Rattle.std.specs.Prelude.{◌≡◌, ◌⊎◌, ◌+◌, ◌-◌, ◌^◌, ◌≤◌, ◌<◌, Some, false, IfSome};
+ghost use Rattle.std.specs.Prelude.{◌≡◌, ◌⊎◌, ◌+◌, ◌-◌, ◌^◌, ◌≤◌, ◌<◌, ◌++◌, [], ◌∷◌, Some, codes, false, option_map, IfSome};
+ghost use Rattle.pool_syntax.specs.Tokens.{Text};
 ghost use Rattle.pool_outside.specs.Outside.{Rose};
 ghost use Rattle.command_words.specs.Commands.{Request, request_of, texts_of};
-ghost use Rattle.pool_driver.specs.Ends.{Ends, StaysWithin};
+ghost use Rattle.pool_driver.specs.Ends.{Ends, StaysWithin, reading};
+ghost use Rattle.pool_driver.specs.Headline.{ShowsOneRun};
 ghost use Rattle.pool_driver.specs.Inputs.{IsServable, MayOpen};
 ghost use Rattle.pool_driver.specs.Outputs.{IsWhole};
-ghost use Rattle.run_driver.specs.Writing.{Delivers, Writes};
+ghost use Rattle.run_driver.specs.Writing.{Delivers, Writes, writing};
 ghost use Rattle.pool_driver.specs.Readers.{IsPrintable, Tells, status_of_output, text_of};
 
 use crate::converted::SecondForm;
@@ -19,11 +21,11 @@ use std::alloc::{AllocError, Global};
 
 /// The usage line.
 const USAGE: &[u8] =
-    b"usage: pool record|run|why P L S, pool print|code P, pool ring K, pool convert R, pool check P R, pool build P\n";
+    b"usage: pool record|run|why P L S, pool print|code P, pool ring K, pool convert R, pool check P R, pool build P, pool load U L S\n";
 
 /// Writes a piece, and answers the status, or that a write failed.
 fn say<K: Sink>(sink: &mut K, piece: &[u8], status: Status) -> Status
-    ensures { Writes (record { before = K.written sink.old; after = K.written sink.new; faults = K.faults sink.old; failed = K.faults sink.new }) piece.now status result }
+    ensures { Writes (writing K.written K.faults sink.old sink.new) piece.now status result }
 {
     match write_all_of(sink, piece) {
         Ok(()) => status,
@@ -34,7 +36,7 @@ fn say<K: Sink>(sink: &mut K, piece: &[u8], status: Status) -> Status
 /// Writes a text that takes no memory, in pieces of 4096 bytes.
 fn write_text<T: Text, K: Sink>(text: &T, out: &mut K) -> Status
     requires { T.writable text.now }
-    ensures { Writes (record { before = K.written out.old; after = K.written out.new; faults = K.faults out.old; failed = K.faults out.new }) (T.bytes text.now) Status.Done result }
+    ensures { Writes (writing K.written K.faults out.old out.new) (T.bytes text.now) Status.Done result }
 {
     match write_gathered(text, out) {
         Ok(()) => Status::Done,
@@ -45,7 +47,7 @@ fn write_text<T: Text, K: Sink>(text: &T, out: &mut K) -> Status
 /// Writes what was asked for.
 fn write_output<K: Sink>(alloc: Global, out: &mut K, output: &Output) -> Status
     requires { IsPrintable output.now }
-    ensures { Delivers (record { before = K.written out.old; after = K.written out.new; faults = K.faults out.old; failed = K.faults out.new }) (text_of output.now) (status_of_output output.now) result }
+    ensures { Delivers (writing K.written K.faults out.old out.new) (text_of output.now) (status_of_output output.now) result }
 {
     match output {
         Output::Run { show, loaded } => match show {
@@ -63,7 +65,7 @@ fn write_output<K: Sink>(alloc: Global, out: &mut K, output: &Output) -> Status
 
 /// Writes on the error sink why nothing was made of the inputs.
 fn say_stop<E: Sink>(alloc: Global, err: &mut E, stop: Stop) -> Status
-    ensures { Tells (record { before = E.written err.old; after = E.written err.new; faults = E.faults err.old; failed = E.faults err.new }) stop result }
+    ensures { Tells (writing E.written E.faults err.old err.new) stop result }
 {
     match stop {
         Stop::Memory => Status::Memory,
@@ -92,19 +94,24 @@ pub fn pool<F: Files, K: Sink, E: Sink>(
 
     // The call ends in one of the ways that the definition lists, each with its cause, and with what stands on the two sinks.
     ensures ends { Ends (request_of (texts_of words.now))
-        (record { told = F.told files.old; opens = F.opens files.old; opened = F.opens files.new; given = F.given files.new; live = F.live files.new; faults = F.faults files.old; failed = F.faults files.new })
-        (record { before = K.written out.old; after = K.written out.new; faults = K.faults out.old; failed = K.faults out.new })
-        (record { before = E.written err.old; after = E.written err.new; faults = E.faults err.old; failed = E.faults err.new })
+        (reading F.told F.opens F.given F.live F.faults files.old files.new)
+        (writing K.written K.faults out.old out.new)
+        (writing E.written E.faults err.old err.new)
         result }
 
     // Of the input that was opened last no more than its limit and one read was given.
     ensures stops_reading { (r : Request) → request_of (texts_of words.now) ≡ Some r → StaysWithin
-        (record { told = F.told files.old; opens = F.opens files.old; opened = F.opens files.new; given = F.given files.new; live = F.live files.new; faults = F.faults files.old; failed = F.faults files.new }) r }
+        (reading F.told F.opens F.given F.live F.faults files.old files.new) r }
 
     // Words of a command, accepted inputs and no fault in this call give the text whole, or nothing for want of memory.
     ensures complete { (r : Request) → request_of (texts_of words.now) ≡ Some r → IsServable (F.told files.old) r
         → ¬ (Rose (F.faults files.old) (F.faults files.new)) → ¬ (Rose (K.faults out.old) (K.faults out.new)) → ¬ (Rose (E.faults err.old) (E.faults err.new))
         → IsWhole result ⊎ (result ≡ Status.Memory) }
+
+    // The headline, by itself: where `record` ends with the status of a record, what it wrote is the text of lines that show one run of the program.
+    ensures headline { (p l s : Text) → texts_of words.now ≡ codes "record" ∷ p ∷ l ∷ s ∷ [] → IsWhole result
+        → (source : Text) × (bytes : Text) × IfSome (F.told files.old p) (λ t. source ≡ t)
+        × (K.written out.new ≡ option_map (λ w. w ++ bytes) (K.written out.old)) × ShowsOneRun source bytes }
 {
     let asked = match read_words(alloc, words) {
         Ok(asked) => asked,

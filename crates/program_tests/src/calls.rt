@@ -88,28 +88,28 @@ pub fn printed(alloc: Global, program: &[u8]) -> Result<Outcome, AllocError> {
 /// Words, then what they are answered on one node: the status, the output and the error line, with `;` for each line feed.
 const LINES: &str = r"record P L S | 0 | record 2;1 turn 0 write 0.0 1;end quiet 1; | 
 print P | 0 | class Main;body write 1 end; | 
- | 64 |  | usage: pool record|run|why P L S, pool print|code P, pool ring K, pool convert R, pool check P R, pool build P;
-record P L | 64 |  | usage: pool record|run|why P L S, pool print|code P, pool ring K, pool convert R, pool check P R, pool build P;
-record P L S S | 64 |  | usage: pool record|run|why P L S, pool print|code P, pool ring K, pool convert R, pool check P R, pool build P;
-print | 64 |  | usage: pool record|run|why P L S, pool print|code P, pool ring K, pool convert R, pool check P R, pool build P;
-print P L | 64 |  | usage: pool record|run|why P L S, pool print|code P, pool ring K, pool convert R, pool check P R, pool build P;
---help | 64 |  | usage: pool record|run|why P L S, pool print|code P, pool ring K, pool convert R, pool check P R, pool build P;
-record -P L S | 64 |  | usage: pool record|run|why P L S, pool print|code P, pool ring K, pool convert R, pool check P R, pool build P;
-record P L -S | 64 |  | usage: pool record|run|why P L S, pool print|code P, pool ring K, pool convert R, pool check P R, pool build P;
-print -P | 64 |  | usage: pool record|run|why P L S, pool print|code P, pool ring K, pool convert R, pool check P R, pool build P;
-Record P L S | 64 |  | usage: pool record|run|why P L S, pool print|code P, pool ring K, pool convert R, pool check P R, pool build P;
+ | 64 |  | usage: pool record|run|why P L S, pool print|code P, pool ring K, pool convert R, pool check P R, pool build P, pool load U L S;
+record P L | 64 |  | usage: pool record|run|why P L S, pool print|code P, pool ring K, pool convert R, pool check P R, pool build P, pool load U L S;
+record P L S S | 64 |  | usage: pool record|run|why P L S, pool print|code P, pool ring K, pool convert R, pool check P R, pool build P, pool load U L S;
+print | 64 |  | usage: pool record|run|why P L S, pool print|code P, pool ring K, pool convert R, pool check P R, pool build P, pool load U L S;
+print P L | 64 |  | usage: pool record|run|why P L S, pool print|code P, pool ring K, pool convert R, pool check P R, pool build P, pool load U L S;
+--help | 64 |  | usage: pool record|run|why P L S, pool print|code P, pool ring K, pool convert R, pool check P R, pool build P, pool load U L S;
+record -P L S | 64 |  | usage: pool record|run|why P L S, pool print|code P, pool ring K, pool convert R, pool check P R, pool build P, pool load U L S;
+record P L -S | 64 |  | usage: pool record|run|why P L S, pool print|code P, pool ring K, pool convert R, pool check P R, pool build P, pool load U L S;
+print -P | 64 |  | usage: pool record|run|why P L S, pool print|code P, pool ring K, pool convert R, pool check P R, pool build P, pool load U L S;
+Record P L S | 64 |  | usage: pool record|run|why P L S, pool print|code P, pool ring K, pool convert R, pool check P R, pool build P, pool load U L S;
 record N L S | 5 |  | pool: program: read fault;
 record P N S | 5 |  | pool: placement: read fault;
 record P L N | 5 |  | pool: schedule: read fault;
 print N | 5 |  | pool: program: read fault;
 record L L S | 2 |  | pool: program: Unexpected at token 0;
-convert P P | 64 |  | usage: pool record|run|why P L S, pool print|code P, pool ring K, pool convert R, pool check P R, pool build P;
+convert P P | 64 |  | usage: pool record|run|why P L S, pool print|code P, pool ring K, pool convert R, pool check P R, pool build P, pool load U L S;
 convert N | 5 |  | pool: record: read fault;
 convert P | 2 |  | pool: record: BadLine at line 1;
-check P | 64 |  | usage: pool record|run|why P L S, pool print|code P, pool ring K, pool convert R, pool check P R, pool build P;
-check P L S | 64 |  | usage: pool record|run|why P L S, pool print|code P, pool ring K, pool convert R, pool check P R, pool build P;
-check -P L | 64 |  | usage: pool record|run|why P L S, pool print|code P, pool ring K, pool convert R, pool check P R, pool build P;
-check P -L | 64 |  | usage: pool record|run|why P L S, pool print|code P, pool ring K, pool convert R, pool check P R, pool build P;
+check P | 64 |  | usage: pool record|run|why P L S, pool print|code P, pool ring K, pool convert R, pool check P R, pool build P, pool load U L S;
+check P L S | 64 |  | usage: pool record|run|why P L S, pool print|code P, pool ring K, pool convert R, pool check P R, pool build P, pool load U L S;
+check -P L | 64 |  | usage: pool record|run|why P L S, pool print|code P, pool ring K, pool convert R, pool check P R, pool build P, pool load U L S;
+check P -L | 64 |  | usage: pool record|run|why P L S, pool print|code P, pool ring K, pool convert R, pool check P R, pool build P, pool load U L S;
 check N L | 5 |  | pool: program: read fault;
 check P N | 5 |  | pool: record: read fault;
 check P L | 2 |  | pool: record: BadLine at line 1;
@@ -118,27 +118,27 @@ record P P S | 2 |  | pool: placement: BadLine at line 1;
 record P S S | 2 |  | pool: placement: BadLine at line 1;
 record P L L | 2 |  | pool: schedule: BadLine at line 1;
 run P L S | 0 | 1;end quiet 1; | 
-run P L | 64 |  | usage: pool record|run|why P L S, pool print|code P, pool ring K, pool convert R, pool check P R, pool build P;
-run P -L S | 64 |  | usage: pool record|run|why P L S, pool print|code P, pool ring K, pool convert R, pool check P R, pool build P;
+run P L | 64 |  | usage: pool record|run|why P L S, pool print|code P, pool ring K, pool convert R, pool check P R, pool build P, pool load U L S;
+run P -L S | 64 |  | usage: pool record|run|why P L S, pool print|code P, pool ring K, pool convert R, pool check P R, pool build P, pool load U L S;
 run N L S | 5 |  | pool: program: read fault;
 code P | 0 | class Main 0;body 1;0 PushInt 1;1 Write;2 Halt; | 
-code P L | 64 |  | usage: pool record|run|why P L S, pool print|code P, pool ring K, pool convert R, pool check P R, pool build P;
-code -P | 64 |  | usage: pool record|run|why P L S, pool print|code P, pool ring K, pool convert R, pool check P R, pool build P;
+code P L | 64 |  | usage: pool record|run|why P L S, pool print|code P, pool ring K, pool convert R, pool check P R, pool build P, pool load U L S;
+code -P | 64 |  | usage: pool record|run|why P L S, pool print|code P, pool ring K, pool convert R, pool check P R, pool build P, pool load U L S;
 code N | 5 |  | pool: program: read fault;
 code S | 2 |  | pool: program: Unexpected at token 0;
-build | 64 |  | usage: pool record|run|why P L S, pool print|code P, pool ring K, pool convert R, pool check P R, pool build P;
-build P L | 64 |  | usage: pool record|run|why P L S, pool print|code P, pool ring K, pool convert R, pool check P R, pool build P;
-build -P | 64 |  | usage: pool record|run|why P L S, pool print|code P, pool ring K, pool convert R, pool check P R, pool build P;
+build | 64 |  | usage: pool record|run|why P L S, pool print|code P, pool ring K, pool convert R, pool check P R, pool build P, pool load U L S;
+build P L | 64 |  | usage: pool record|run|why P L S, pool print|code P, pool ring K, pool convert R, pool check P R, pool build P, pool load U L S;
+build -P | 64 |  | usage: pool record|run|why P L S, pool print|code P, pool ring K, pool convert R, pool check P R, pool build P, pool load U L S;
 build N | 5 |  | pool: program: read fault;
 build S | 2 |  | pool: program: Unexpected at token 0;
 why P L S | 0 | 0.0 Main finished;end quiet 1; | 
-why P L | 64 |  | usage: pool record|run|why P L S, pool print|code P, pool ring K, pool convert R, pool check P R, pool build P;
-why P L -S | 64 |  | usage: pool record|run|why P L S, pool print|code P, pool ring K, pool convert R, pool check P R, pool build P;
-ring | 64 |  | usage: pool record|run|why P L S, pool print|code P, pool ring K, pool convert R, pool check P R, pool build P;
-ring 1 | 64 |  | usage: pool record|run|why P L S, pool print|code P, pool ring K, pool convert R, pool check P R, pool build P;
-ring 1001 | 64 |  | usage: pool record|run|why P L S, pool print|code P, pool ring K, pool convert R, pool check P R, pool build P;
-ring two | 64 |  | usage: pool record|run|why P L S, pool print|code P, pool ring K, pool convert R, pool check P R, pool build P;
-ring 2 2 | 64 |  | usage: pool record|run|why P L S, pool print|code P, pool ring K, pool convert R, pool check P R, pool build P;
+why P L | 64 |  | usage: pool record|run|why P L S, pool print|code P, pool ring K, pool convert R, pool check P R, pool build P, pool load U L S;
+why P L -S | 64 |  | usage: pool record|run|why P L S, pool print|code P, pool ring K, pool convert R, pool check P R, pool build P, pool load U L S;
+ring | 64 |  | usage: pool record|run|why P L S, pool print|code P, pool ring K, pool convert R, pool check P R, pool build P, pool load U L S;
+ring 1 | 64 |  | usage: pool record|run|why P L S, pool print|code P, pool ring K, pool convert R, pool check P R, pool build P, pool load U L S;
+ring 1001 | 64 |  | usage: pool record|run|why P L S, pool print|code P, pool ring K, pool convert R, pool check P R, pool build P, pool load U L S;
+ring two | 64 |  | usage: pool record|run|why P L S, pool print|code P, pool ring K, pool convert R, pool check P R, pool build P, pool load U L S;
+ring 2 2 | 64 |  | usage: pool record|run|why P L S, pool print|code P, pool ring K, pool convert R, pool check P R, pool build P, pool load U L S;
 print S | 2 |  | pool: program: Unexpected at token 0;";
 
 /// A text with `;` for each line feed.

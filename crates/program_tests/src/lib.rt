@@ -20,6 +20,8 @@ mod front_rows;
 #[cfg(test)]
 mod greatest;
 #[cfg(test)]
+mod loaded;
+#[cfg(test)]
 mod print_rows;
 #[cfg(test)]
 mod printed;

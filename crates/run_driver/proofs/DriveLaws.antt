@@ -4,16 +4,11 @@ use Rattle.std.proofs.lemmas.List.{append-nil, append_assoc, drop_more, drop_all
 use Rattle.std.proofs.lemmas.Option.{slice_get_within, get_or_from_slice_get}
 use Rattle.pool_outside.specs.Outside.{Rose, IsProperFront}
 use Rattle.pool_outside.proofs.Laws.{cut_first, cut_second}
+use Rattle.std.specs.List.{AllByRecursion}
 use Rattle.pool_syntax.specs.Tokens.{Text}
-use Rattle.pool_syntax.specs.declared.words.NameId.{NameId}
 use Rattle.pool_syntax.specs.declared.words.Event.{Event}
 use Rattle.pool_syntax.specs.declared.words.FullKind.{FullKind}
-use Rattle.pool_syntax.specs.declared.words.Item.{Item}
-use Rattle.pool_syntax.specs.declared.words.Item.TheVariants as I
-use Rattle.pool_syntax.specs.declared.words.Label.{Label}
-use Rattle.pool_syntax.specs.declared.words.Label.TheVariants as L
 use Rattle.pool_syntax.specs.declared.words.What.{What}
-use Rattle.pool_syntax.specs.declared.words.What.TheVariants as W
 use Rattle.pool_syntax.specs.declared.words.End.{End}
 use Rattle.pool_syntax.specs.declared.words.End.TheVariants as E
 use Rattle.pool_syntax.specs.declared.words.Line.{Line}
@@ -24,26 +19,25 @@ use Rattle.mesh_semantics.specs.Config.{Config}
 use Rattle.mesh_semantics.specs.Delay.{Delay, node_of}
 use Rattle.mesh_semantics.specs.Asks.{ask_of}
 use Rattle.mesh_semantics.specs.Act.{Acted, Acts, Full, Nothing, act, is_quiet, object_count}
-use Rattle.mesh_semantics.specs.Record.{Record, after, ends, labels, labels_of, record_from, shown, with_line}
+use Rattle.mesh_semantics.specs.Record.{Record, after, ends, labels, labels_of, record_at, record_from, shown, start, with_line}
 use Rattle.mesh_semantics.specs.Sound.{IsSound, IsThere}
 use Rattle.coded_objects.specs.Coded.{Placed, coded}
 use Rattle.coded_objects.specs.OfCode.{IsOfCode}
-use Rattle.coded_objects.specs.Known.{IsKnownIn, IsKnownItem, IsKnownLabel}
-use Rattle.coded_objects.proofs.Laws.{acts_known, code_fits, code_lawful}
+use Rattle.coded_objects.proofs.Laws.{code_fits, code_lawful}
 use Rattle.mesh_semantics.proofs.Laws.{fit_of}
 use Rattle.pool_machine.specs.MachineOf.{MachineOf}
-use Rattle.pool_machine.specs.Answers.{IsAfter, IsOutcome, IsStart, Stands, moved}
+use Rattle.pool_machine.specs.Answers.{IsAfter, IsOutcome, IsStart, Stands, moved, nothing_sent}
 use Rattle.pool_machine.specs.declared.words.Outcome.{Outcome}
 use Rattle.pool_machine.specs.declared.words.Outcome.TheVariants as O
 use Rattle.schedule_reader.specs.Schedules.{Plan}
-use Rattle.record_lines.specs.Writable.{AreShort, IsWritable, id_of_item, id_of_label, id_of_what}
+use Rattle.record_lines.specs.Writable.{IsWritable}
 use Rattle.request_numbers.specs.declared.asks.Asks.{Asks}
 use Rattle.request_numbers.specs.Table.{AreInTable, HasLast, InTable}
 use Rattle.command_words.specs.declared.command.Show.{Show}
 use Rattle.command_words.specs.declared.command.Show.TheVariants as Sh
 use Rattle.run_driver.specs.declared.status.Status.{Status}
 use Rattle.run_driver.specs.declared.status.Status.TheVariants as S
-use Rattle.run_driver.specs.Driving.{AreShortTexts, Drives, GoesTo, HasRun, IsGoing, IsLoaded, run, run_from, shown_first, shown_line, shown_lines, shown_record, stopped, tells_fault, IsTableOf}
+use Rattle.run_driver.specs.Driving.{Drives, GoesTo, HasRun, IsGoing, IsLoaded, run, run_from, shown_first, shown_line, shown_lines, shown_record, stopped, tells_fault, IsTableOf}
 use Rattle.pool_outside.specs.declared.calls.WriteFault.{WriteFault}
 use Rattle.run_driver.specs.Writing.{Writing, IsIdle, Wrote, WroteFront}
 use Rattle.run_driver.specs.Writing as D
@@ -54,42 +48,6 @@ use Rattle.wait_report.specs.declared.rows.ObjectRow.{ObjectRow}
 use Rattle.wait_report.specs.Report.{report_text}
 use Rattle.run_driver.specs.Reports.{rows_in}
 use Rattle.run_driver.specs.Shown.{counts_text, end_text, ended, ends_text, events_in, moves_in, one_event, one_move, ring_text, status_after, status_of}
-
--- the name of an event's line is a place of the table
-
-known_item : (count : ℕ) (item : Item) → IsKnownItem count item → IfSome (id_of_item item) (λ id. id.0 < count)
-known_item count (I.Value v) h = tt
-known_item count (I.Text id) h = h
-
-known_label : (count : ℕ) (label : Label) → IsKnownLabel count label → IfSome (id_of_label label) (λ id. id.0 < count)
-known_label count (L.Local o) h = tt
-known_label count (L.New o p c) h = h
-known_label count (L.Answer p o m args) h = h
-known_label count (L.Return p o v) h = tt
-known_label count (L.Send o p m args) h = h
-known_label count (L.Take p o m args) h = h
-known_label count (L.Write o item) h = known_item count item h
-known_label count (L.Pick o i) h = tt
-known_label count (L.Fault o e) h = tt
-
-known_what : (count : ℕ) (w : What) → IsKnownIn count w → IfSome (id_of_what w) (λ id. id.0 < count)
-known_what count (W.Step label times) h = known_label count label h
-known_what count (W.PostCreate o c n) h = h
-known_what count (W.PostCall o p m args) h = h
-known_what count (W.Arrive o p m) h = h
-known_what count (W.Created o p) h = tt
-known_what count (W.Result o v) h = tt
-known_what count W.Pass h = tt
-known_what count W.Idle h = tt
-known_what count (W.Frame k) h = tt
-known_what count (W.Lost k) h = tt
-known_what count (W.Stale k) h = tt
-known_what count (W.Acked k) h = tt
-known_what count (W.Late k) h = tt
-
-short_name : (names : List Text) (id : Option NameId) → AreShortTexts names → IfSome id (λ id. id.0 < length names) → AreShort names id
-short_name names None short h = tt
-short_name names (Some id) short h = (h, short id)
 
 -- two pieces of writing, one after the other
 
@@ -204,6 +162,7 @@ module _ (show : Show) (u : Code) (l : Placement) (plan : Plan) where
       wrote = wrote;
       silent = λ h. ap shown_first h;
       lines = refl;
+      writable = λ can. can;
       status = refl;
       goes = record {
         last = refl;
@@ -314,13 +273,18 @@ module _ (show : Show) (u : Code) (l : Placement) (plan : Plan) where
         by (Full k o) i h = absurd h
         by Nothing i h = absurd h
 
-    pub writable : (m n : MachineOf) (a : Asks) (done : ℕ) (faulted : Bool) (j : Writing) (e : Event) (line : Line) (g : Going m a done faulted j) → Goes m n done e line g.config g.delay → IsLoaded u l plan
-        → IsWritable u.names line
-    writable m n a done faulted j e line g h loaded =
-        let sound = subst (λ (x : Placement). IsSound (coded u) (IsOfCode u) x g.config g.delay) g.placement
-        (subst (λ (x : Code). IsSound (coded x) (IsOfCode x) m.placement g.config g.delay) g.unit g.stands.sound) in
-        let named = known_what (length u.names) h.what (acts_known u loaded.proper l g.config g.delay sound plan.quantum e h.what h.config h.delay (code_fits u l loaded.suits) h.acts) in
-        subst (IsWritable u.names) (sym h.is) (short_name u.names (id_of_what h.what) loaded.short named)
+    -- the first of the lines that are left can be written, and so can the others
+
+    abbrev CanWrite : List Line → Type 0
+    CanWrite ls = AllByRecursion (IsWritable u.names) ls
+
+    pub lines_left : (m n : MachineOf) (a : Asks) (done : ℕ) (faulted : Bool) (j : Writing) (e : Event) (line : Line) (g : Going m a done faulted j) (h : Goes m n done e line g.config g.delay)
+        → CanWrite all.lines → CanWrite (line ∷ (rest h.config h.delay (done + 1) (drop (done + 1) plan.events)).lines)
+    lines_left m n a done faulted j e line g h can = subst (λ (r : Record Placed). CanWrite r.lines) h.rests (g.writable can)
+
+    pub writable : (m n : MachineOf) (a : Asks) (done : ℕ) (faulted : Bool) (j : Writing) (e : Event) (line : Line) (g : Going m a done faulted j) → Goes m n done e line g.config g.delay
+        → CanWrite all.lines → IsWritable u.names line
+    writable m n a done faulted j e line g h can = (lines_left m n a done faulted j e line g h can).0
 
     -- who asks and who posts in the line has a place in the table
     pub in_table : (m n : MachineOf) (a : Asks) (done : ℕ) (faulted : Bool) (j : Writing) (e : Event) (line : Line) (g : Going m a done faulted j) → Goes m n done e line g.config g.delay → IsLoaded u l plan
@@ -404,6 +368,7 @@ module _ (show : Show) (u : Code) (l : Placement) (plan : Plan) where
           lines = g.lines ∙ ap (λ (r : Record Placed). g.text ++ shown_lines show u.names g.earlier r.lines) h.rests
               ∙ ap (λ n. g.text ++ (shown_line show u.names n line ++ shown_lines show u.names (line ∷ g.earlier) later.lines)) (sym asked)
               ∙ sym (append_assoc g.text (shown_line show u.names ask line) (shown_lines show u.names (line ∷ g.earlier) later.lines));
+          writable = λ can. (lines_left m n a done faulted j e line g h can).1;
           status = g.status ∙ ap (λ (r : Record Placed). status_after faulted r.lines) h.rests ∙ status_goes faulted line (done + 1) e h.what later.lines h.is
               ∙ ap (λ (b : Bool). status_after b later.lines) (sym told);
           goes = goes_further m n a done faulted j e line g h;
@@ -454,9 +419,9 @@ module _ (show : Show) (u : Code) (l : Placement) (plan : Plan) where
           let front = subst (λ (t : List Text). WroteFront k (shown_line show t ask line)) table w in
           stopped fault refl (cut_off m n a b done faulted j k e line ask g h f kept front) (λ z. silent_cut j k g.text ask line (done + 1) e h.what h.is f (g.silent z) g.wrote z front)
 
-      pub named_line : (m n : MachineOf) (a : Asks) (done : ℕ) (faulted : Bool) (j : Writing) (e : Event) (line : Line) (g : Going m a done faulted j) → Goes m n done e line g.config g.delay → IsLoaded u l plan
-          → IsWritable names line
-      named_line m n a done faulted j e line g h loaded = subst (λ (t : List Text). IsWritable t line) (sym table) (writable m n a done faulted j e line g h loaded)
+      pub named_line : (m n : MachineOf) (a : Asks) (done : ℕ) (faulted : Bool) (j : Writing) (e : Event) (line : Line) (g : Going m a done faulted j) → Goes m n done e line g.config g.delay
+          → CanWrite all.lines → IsWritable names line
+      named_line m n a done faulted j e line g h can = subst (λ (t : List Text). IsWritable t line) (sym table) (writable m n a done faulted j e line g h can)
 
       pub named_on : (m n : MachineOf) (a b : Asks) (done : ℕ) (faulted now : Bool) (j k : Writing) (e : Event) (line : Line) (ask : ℕ) (g : Going m a done faulted j) → Goes m n done e line g.config g.delay
           → Follows j k → Keeps a b line ask → Wrote k (shown_line show names ask line) → now ≡ after_line faulted line → Going n b (done + 1) now (then j k)
@@ -484,6 +449,12 @@ module _ (show : Show) (u : Code) (l : Placement) (plan : Plan) (c : Config Plac
   pub cut_writes : (fault : WriteFault) → Drives show u l plan c d m j (Err fault) → Writes j (shown_record show u.names whole.lines) (status_of whole.lines) S.WriteFault
   cut_writes fault (run e is h) = absurd (cc)
   cut_writes fault (stopped f is h z) = D.cut h refl
+
+-- the record of what was loaded, by its start
+pub can_from_start : (u : Code) (l : Placement) (plan : Plan) (c : Config Placed) → start (coded u) l ≡ Some c → IsLoaded u l plan
+    → AllByRecursion (IsWritable u.names) (run_from u l plan c (nothing_sent plan.lossy) 0 plan.events).lines
+can_from_start u l plan c starts loaded =
+    subst (λ (o : Option (Config Placed)). AllByRecursion (IsWritable u.names) (record_at (coded u) l plan.quantum o (nothing_sent plan.lossy) plan.events).lines) starts loaded.writable
 
 -- a machine that was made with wires where the schedule is lossy
 pub made_of : (u : Code) (l : Placement) (lossy : Bool) (plan : Plan) (m : MachineOf) → lossy ≡ plan.lossy → IsStart u l lossy m → IsStart u l plan.lossy m

@@ -1,7 +1,7 @@
 -- What is written of a run while it is made, and from what a run is made.
 use Rattle.std.specs.Prelude.{◌≡◌, ℕ, ◌+◌, ◌*◌, ◌≤◌, List, [], ◌∷◌, ◌++◌, length, drop, slice_get, Option, Some, None, Result, Ok, Err, Bool, false, is_some}
+use Rattle.std.specs.List.{AllByRecursion}
 use Rattle.pool_syntax.specs.Tokens.{Text}
-use Rattle.pool_syntax.specs.declared.words.NameId.{NameId}
 use Rattle.pool_syntax.specs.declared.words.Item.{Item}
 use Rattle.pool_syntax.specs.declared.words.Label.TheVariants as L
 use Rattle.pool_syntax.specs.declared.words.Event.{Event}
@@ -15,14 +15,14 @@ use Rattle.object_code.specs.Proper.{IsProper}
 use Rattle.object_code.specs.Suits.{Suits}
 use Rattle.mesh_semantics.specs.Config.{Config}
 use Rattle.mesh_semantics.specs.Delay.{Delay}
-use Rattle.mesh_semantics.specs.Record.{Record, labels, record_from}
+use Rattle.mesh_semantics.specs.Record.{Record, labels, record_from, start}
 use Rattle.coded_objects.specs.Coded.{Placed, coded}
 use Rattle.pool_machine.specs.MachineOf.{MachineOf}
-use Rattle.pool_machine.specs.Answers.{Stands}
+use Rattle.pool_machine.specs.Answers.{Stands, nothing_sent}
 use Rattle.schedule_reader.specs.Plans.{IsEventOn}
 use Rattle.schedule_reader.specs.Schedules.{Plan}
 use Rattle.mesh_semantics.specs.Asks.{ask_of}
-use Rattle.record_lines.specs.RecordText.{text_at}
+use Rattle.record_lines.specs.Writable.{IsWritable}
 use Rattle.record_lines.specs.SecondForm.{form_text, line_text2}
 use Rattle.request_numbers.specs.declared.asks.Asks.{Asks}
 use Rattle.request_numbers.specs.Table.{HasLast}
@@ -31,7 +31,7 @@ use Rattle.command_words.specs.declared.command.Show.TheVariants as Sh
 use Rattle.run_driver.specs.declared.drive.Ended.{Ended}
 use Rattle.pool_outside.specs.declared.calls.WriteFault.{WriteFault}
 use Rattle.run_driver.specs.Writing.{Writing, Wrote, WroteFront}
-use Rattle.run_driver.specs.Shown.{ended, end_text, events_in, moves_in, shows_fault, status_after, status_of, writes_of}
+use Rattle.run_driver.specs.Shown.{ended, end_text, events_in, moves_in, record_over, shows_fault, status_after, status_of, writes_of}
 
 -- what is written by a step
 abbrev pub item_of : What → Option Item
@@ -64,21 +64,17 @@ shown_lines show names earlier (l ∷ ls) = shown_line show names (ask_of earlie
 abbrev pub shown_record : Show → List Text → List Line → Text
 shown_record show names ls = shown_first show ++ shown_lines show names [] ls
 
--- no text of the table has more than 256 bytes
-abbrev pub AreShortTexts : List Text → Type 0
-AreShortTexts names = (id : NameId) → length (text_at names id) ≤ 256
-
 -- a quantum of a turn, and events of the placement's mesh, at most 2,000,000, which are on wires only where links are wires
 pub record IsPlanOn (l : Placement) (plan : Plan) : Type 0 where
   pub quantum : (1 ≤ plan.quantum) × (plan.quantum ≤ 10000)
   pub events : (i : ℕ) (e : Event) → slice_get plan.events i ≡ Some e → IsEventOn l plan.lossy e
   pub count : length plan.events ≤ 2000000
 
--- code, a placement and a schedule of which a run can be made
+-- code, a placement and a schedule of which a run can be made, and each line of its record can be written
 pub record IsLoaded (u : Code) (l : Placement) (plan : Plan) : Type 0 where
   pub proper : IsProper u
   pub suits : Suits l u
-  pub short : AreShortTexts u.names
+  pub writable : AllByRecursion (IsWritable u.names) (record_over (coded u) l plan).lines
   pub planned : IsPlanOn l plan
 
 -- a table for the objects of the placement's nodes, which has the latest posts of these lines
@@ -93,6 +89,12 @@ pub record IsUnderWay (m : MachineOf) : Type 0 where
   pub delay : Delay
   pub stands : Stands m config delay
 
+-- a machine that stands for the start, with nothing on its way
+pub record HasBegun (m : MachineOf) (plan : Plan) : Type 0 where
+  pub config : Config Placed
+  pub starts : start (coded m.unit) m.placement ≡ Some config
+  pub stands : Stands m config (nothing_sent plan.lossy)
+
 -- the record of a run from c and d, where so many events were made before
 abbrev pub run_from : Code → Placement → Plan → Config Placed → Delay → ℕ → List Event → Record Placed
 run_from u l plan c d done es = record_from (coded u) l plan.quantum c d done es
@@ -106,7 +108,7 @@ pub record GoesTo (a b : Record Placed) (made moving changes : ℕ) : Type 0 whe
   pub transitions : length (labels a.lines) ≡ changes + length (labels b.lines)
 
 -- A run from c and d under way, after so many events: the machine has wires where the schedule is lossy, and stands for what is after the events; the table has the posts of
--- their lines, their text was written, and what is shown of all lines is this text and then what is shown of the lines of the events that are left. A report shows nothing of
+-- their lines, their text was written, the lines that are left can be written where all lines can, and what is shown of all lines is this text and then what is shown of the lines of the events that are left. A report shows nothing of
 -- these lines.
 pub record IsGoing (show : Show) (u : Code) (l : Placement) (plan : Plan) (c : Config Placed) (d : Delay) (m : MachineOf) (asks : Asks) (done : ℕ) (faulted : Bool) (k : Writing) : Type 0 where
   pub unit : m.unit ≡ u
@@ -122,6 +124,7 @@ pub record IsGoing (show : Show) (u : Code) (l : Placement) (plan : Plan) (c : C
   pub wrote : Wrote k text
   pub silent : show ≡ Sh.Report → text ≡ []
   pub lines : shown_record show u.names (run_from u l plan c d 0 plan.events).lines ≡ text ++ shown_lines show u.names earlier (run_from u l plan config delay done (drop done plan.events)).lines
+  pub writable : AllByRecursion (IsWritable u.names) (run_from u l plan c d 0 plan.events).lines → AllByRecursion (IsWritable u.names) (run_from u l plan config delay done (drop done plan.events)).lines
   pub status : status_after false (run_from u l plan c d 0 plan.events).lines ≡ status_after faulted (run_from u l plan config delay done (drop done plan.events)).lines
   pub goes : GoesTo (run_from u l plan c d 0 plan.events) (run_from u l plan config delay done (drop done plan.events)) done m.moves m.transitions
 

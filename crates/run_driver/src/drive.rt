@@ -5,8 +5,8 @@ ghost use Rattle.mesh_semantics.specs.Delay.{Delay};
 ghost use Rattle.coded_objects.specs.Coded.{Placed};
 ghost use Rattle.pool_machine.specs.Answers.{Stands};
 ghost use Rattle.record_lines.specs.Writable.{IsWritable};
-ghost use Rattle.run_driver.specs.Driving.{Drives, IsLoaded, IsTableOf, IsUnderWay, item_of, shown_first, shown_line, tells_fault};
-ghost use Rattle.run_driver.specs.Writing.{Wrote, WroteFront};
+ghost use Rattle.run_driver.specs.Driving.{Drives, HasBegun, IsLoaded, IsTableOf, item_of, shown_first, shown_line, tells_fault};
+ghost use Rattle.run_driver.specs.Writing.{Wrote, WroteFront, writing};
 ghost use Rattle.run_driver.specs.Writing.{Writes};
 ghost use Rattle.run_driver.specs.Shown.{end_text, ended, writes_of};
 
@@ -43,8 +43,8 @@ fn item_of(what: &What) -> Option<Item>
 /// Writes what a line shows of writes: the item that was written, without quotes; or the end line.
 fn show_writes<K: Sink>(line: &Line, names: &Names, out: &mut K) -> Result<(), WriteFault>
     requires { IsWritable names.now line.now }
-    ensures whole { OnOk result (Wrote (record { before = K.written out.old; after = K.written out.new; faults = K.faults out.old; failed = K.faults out.new }) (writes_of names.now line.now)) }
-    ensures cut { OnErr result (WroteFront (record { before = K.written out.old; after = K.written out.new; faults = K.faults out.old; failed = K.faults out.new }) (writes_of names.now line.now)) }
+    ensures whole { OnOk result (Wrote (writing K.written K.faults out.old out.new) (writes_of names.now line.now)) }
+    ensures cut { OnErr result (WroteFront (writing K.written K.faults out.old out.new) (writes_of names.now line.now)) }
 {
     match line {
         Line::Event { what, .. } => match item_of(what) {
@@ -58,8 +58,8 @@ fn show_writes<K: Sink>(line: &Line, names: &Names, out: &mut K) -> Result<(), W
 /// Writes the end line, and nothing of another.
 fn show_end<K: Sink>(line: &Line, names: &Names, out: &mut K) -> Result<(), WriteFault>
     requires { IsWritable names.now line.now }
-    ensures whole { OnOk result (Wrote (record { before = K.written out.old; after = K.written out.new; faults = K.faults out.old; failed = K.faults out.new }) (end_text names.now line.now)) }
-    ensures cut { OnErr result (WroteFront (record { before = K.written out.old; after = K.written out.new; faults = K.faults out.old; failed = K.faults out.new }) (end_text names.now line.now)) }
+    ensures whole { OnOk result (Wrote (writing K.written K.faults out.old out.new) (end_text names.now line.now)) }
+    ensures cut { OnErr result (WroteFront (writing K.written K.faults out.old out.new) (end_text names.now line.now)) }
 {
     match line {
         Line::Event { .. } => Ok(()),
@@ -69,8 +69,8 @@ fn show_end<K: Sink>(line: &Line, names: &Names, out: &mut K) -> Result<(), Writ
 
 /// Writes what is shown before the first line.
 fn show_first<K: Sink>(show: Show, out: &mut K) -> Result<(), WriteFault>
-    ensures whole { OnOk result (Wrote (record { before = K.written out.old; after = K.written out.new; faults = K.faults out.old; failed = K.faults out.new }) (shown_first show)) }
-    ensures cut { OnErr result (WroteFront (record { before = K.written out.old; after = K.written out.new; faults = K.faults out.old; failed = K.faults out.new }) (shown_first show)) }
+    ensures whole { OnOk result (Wrote (writing K.written K.faults out.old out.new) (shown_first show)) }
+    ensures cut { OnErr result (WroteFront (writing K.written K.faults out.old out.new) (shown_first show)) }
 {
     match show {
         Show::Record => write_form(out),
@@ -87,8 +87,8 @@ fn show_line<K: Sink>(
     out: &mut K,
 ) -> Result<(), WriteFault>
     requires { IsWritable names.now line.now }
-    ensures whole { OnOk result (Wrote (record { before = K.written out.old; after = K.written out.new; faults = K.faults out.old; failed = K.faults out.new }) (shown_line show names.now ask line.now)) }
-    ensures cut { OnErr result (WroteFront (record { before = K.written out.old; after = K.written out.new; faults = K.faults out.old; failed = K.faults out.new }) (shown_line show names.now ask line.now)) }
+    ensures whole { OnOk result (Wrote (writing K.written K.faults out.old out.new) (shown_line show names.now ask line.now)) }
+    ensures cut { OnErr result (WroteFront (writing K.written K.faults out.old out.new) (shown_line show names.now ask line.now)) }
 {
     match show {
         Show::Record => write_line2(line, ask, names, out),
@@ -134,7 +134,7 @@ fn status_of_end(faulted: bool, end: End) -> Status
 
 /// Writes what is shown of the end line, and answers the status of the run.
 pub fn finish<K: Sink>(show: Show, last: Ended, names: &Names, out: &mut K) -> Status
-    ensures { Writes (record { before = K.written out.old; after = K.written out.new; faults = K.faults out.old; failed = K.faults out.new }) (shown_line show names.now 0 (Line.End last.end)) (ended last.faulted last.end) result }
+    ensures { Writes (writing K.written K.faults out.old out.new) (shown_line show names.now 0 (Line.End last.end)) (ended last.faulted last.end) result }
 {
     match show_line(show, &Line::End(last.end), 0, names, out) {
         Ok(()) => status_of_end(last.faulted, last.end),
@@ -167,11 +167,11 @@ pub fn drive<K: Sink>(
     requires unmoved { machine.old.moves ≡ 0 }
     requires still { machine.old.transitions ≡ 0 }
     requires wired { is_some machine.old.wires ≡ schedule.now.lossy }
-    requires under_way { IsUnderWay machine.old }
+    requires begun { HasBegun machine.old schedule.now }
     requires posts { IsTableOf machine.old.placement asks.old [] }
     ensures { (c : Config Placed) (d : Delay) → Stands machine.old c d
         → Drives show machine.old.unit machine.old.placement schedule.now c d machine.new
-        (record { before = K.written out.old; after = K.written out.new; faults = K.faults out.old; failed = K.faults out.new }) result }
+        (writing K.written K.faults out.old out.new) result }
 {
     match show_first(show, out) {
         Ok(()) => {}

@@ -4,7 +4,7 @@ ghost use Rattle.run_driver.specs.Driven.{HasDriven};
 ghost use Rattle.run_driver.specs.Driving.{IsLoaded, shown_record};
 ghost use Rattle.run_driver.specs.Loading.{lines_of, run_text};
 ghost use Rattle.run_driver.specs.Shown.{counts_text, end_text, ended, ring_text, status_of};
-ghost use Rattle.run_driver.specs.Writing.{Delivers};
+ghost use Rattle.run_driver.specs.Writing.{Delivers, writing};
 
 use crate::drive::{Ended, drive, finish, make_table};
 use crate::loaded::Loaded;
@@ -33,7 +33,7 @@ fn run_loaded<'a, K: Sink>(
     loaded: &'a Loaded,
 ) -> Result<Ran<'a>, Status>
     requires { IsLoaded loaded.now.unit loaded.now.placement loaded.now.schedule }
-    ensures { HasDriven show loaded.now (record { before = K.written out.old; after = K.written out.new; faults = K.faults out.old; failed = K.faults out.new }) result }
+    ensures { HasDriven show loaded.now (writing K.written K.faults out.old out.new) result }
 {
     let mut asks = match make_table(alloc, loaded) {
         Ok(asks) => asks,
@@ -59,7 +59,7 @@ fn run_loaded<'a, K: Sink>(
 /// Makes a run and writes it; all its memory is taken before the first byte is written.
 pub fn write_run<K: Sink>(alloc: Global, out: &mut K, show: Show, loaded: &Loaded) -> Status
     requires { IsLoaded loaded.now.unit loaded.now.placement loaded.now.schedule }
-    ensures { Delivers (record { before = K.written out.old; after = K.written out.new; faults = K.faults out.old; failed = K.faults out.new }) (shown_record show loaded.now.unit.names (lines_of loaded.now)) (status_of (lines_of loaded.now)) result }
+    ensures { Delivers (writing K.written K.faults out.old out.new) (shown_record show loaded.now.unit.names (lines_of loaded.now)) (status_of (lines_of loaded.now)) result }
 {
     match run_loaded(alloc, out, show, loaded) {
         Ok(ran) => finish(show, ran.last, &loaded.unit.names, out),
@@ -70,7 +70,7 @@ pub fn write_run<K: Sink>(alloc: Global, out: &mut K, show: Show, loaded: &Loade
 /// Makes a run, and writes where its objects stand at its end; all memory is taken before the first byte is written.
 pub fn write_why<K: Sink>(alloc: Global, out: &mut K, loaded: &Loaded) -> Status
     requires { IsLoaded loaded.now.unit loaded.now.placement loaded.now.schedule }
-    ensures { Delivers (record { before = K.written out.old; after = K.written out.new; faults = K.faults out.old; failed = K.faults out.new }) (run_text Show.Report loaded.now) (status_of (lines_of loaded.now)) result }
+    ensures { Delivers (writing K.written K.faults out.old out.new) (run_text Show.Report loaded.now) (status_of (lines_of loaded.now)) result }
 {
     match run_loaded(alloc, out, Show::Report, loaded) {
         Ok(ran) => write_report(
@@ -105,7 +105,8 @@ fn write_counts<K: Sink>(
     last: Ended,
     out: &mut K,
 ) -> Status
-    ensures { Delivers (record { before = K.written out.old; after = K.written out.new; faults = K.faults out.old; failed = K.faults out.new }) (counts_text machine.now.done machine.now.transitions machine.now.moves ++ end_text names.now (Line.End last.end)) (ended last.faulted last.end) result }
+    ensures { Delivers (writing K.written K.faults out.old out.new)
+        (counts_text machine.now.done machine.now.transitions machine.now.moves ++ end_text names.now (Line.End last.end)) (ended last.faulted last.end) result }
 {
     let counts = match counts_of(alloc, machine) {
         Ok(counts) => counts,
@@ -120,7 +121,7 @@ fn write_counts<K: Sink>(
 /// Makes a run, and writes its counts and its end line; all memory is taken before the first byte is written.
 pub fn write_ring<K: Sink>(alloc: Global, out: &mut K, loaded: &Loaded) -> Status
     requires { IsLoaded loaded.now.unit loaded.now.placement loaded.now.schedule }
-    ensures { Delivers (record { before = K.written out.old; after = K.written out.new; faults = K.faults out.old; failed = K.faults out.new }) (ring_text loaded.now.unit.names (lines_of loaded.now)) (status_of (lines_of loaded.now)) result }
+    ensures { Delivers (writing K.written K.faults out.old out.new) (ring_text loaded.now.unit.names (lines_of loaded.now)) (status_of (lines_of loaded.now)) result }
 {
     match run_loaded(alloc, out, Show::Report, loaded) {
         Ok(ran) => write_counts(alloc, &ran.machine, &loaded.unit.names, ran.last, out),

@@ -8,7 +8,7 @@ ghost use Rattle.object_code.specs.Suits.{Suits};
 ghost use Rattle.pool_machine.specs.Answers.{Stands};
 ghost use Rattle.wait_report.specs.Report.{report_text};
 ghost use Rattle.run_driver.specs.Driving.{IsUnderWay};
-ghost use Rattle.run_driver.specs.Writing.{Delivers};
+ghost use Rattle.run_driver.specs.Writing.{Delivers, writing};
 ghost use Rattle.run_driver.specs.Reports.{row_at, rows_below, rows_in};
 ghost use Rattle.run_driver.specs.Shown.{ended, end_text};
 
@@ -93,7 +93,7 @@ pub fn write_report<K: Sink>(
     requires table { names.now ≡ machine.now.unit.names }
     requires under_way { IsUnderWay machine.now }
     ensures { (c : Config Placed) (d : Delay) → Stands machine.now c d
-        → Delivers (record { before = K.written out.old; after = K.written out.new; faults = K.faults out.old; failed = K.faults out.new })
+        → Delivers (writing K.written K.faults out.old out.new)
         (report_text names.now (rows_in (coded machine.now.unit) d c.objects) ++ end_text names.now (Line.End last.end)) (ended last.faulted last.end) result }
 {
     let rows = match rows_in(alloc, machine, placement) {

@@ -1,8 +1,10 @@
 use Rattle.std.proofs.Common.{inl}
 use Rattle.fault_lines.specs.declared.fault.Input.TheVariants as I
-use Rattle.pool_driver.specs.Programs.{IsFaultOfText}
-use Rattle.pool_driver.specs.Readers.{HasTypedFault, IsAnyProgram, IsProgramOf, IsTypedProgram, IsUnitOf}
-use Rattle.pool_driver.proofs.ReadLaws.{fits_is, judge_passed, program_judged, unit_judged}
+use Rattle.program_input.specs.Programs.{IsFaultOfText}
+use Rattle.pool_driver.specs.Readers.{IsUnitOf}
+use Rattle.program_input.specs.Readers.{HasTypedFault, IsAnyProgram, IsProgramOf, IsTypedProgram}
+use Rattle.pool_driver.proofs.ReadLaws.{unit_judged}
+use Rattle.program_input.proofs.Laws.{fits_is, judge_passed, program_judged}
 use Rattle.pool_driver.proofs.inputs.judge_program.Goals as goal
 
 pub returns-in-Err : goal.returns-in-Err

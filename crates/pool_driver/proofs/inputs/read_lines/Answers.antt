@@ -1,7 +1,8 @@
 use Rattle.std.proofs.Common.{◌∙◌, ℕ, List, subst}
 use Rattle.fault_lines.specs.declared.fault.Input.TheVariants as I
-use Rattle.pool_driver.specs.Readers.{AreLinesOf, Judges, HasRecordFault, IsAcceptedRecord}
-use Rattle.pool_driver.proofs.ReadLaws.{passed_on, judged}
+use Rattle.pool_driver.specs.Readers.{AreLinesOf, HasRecordFault, IsAcceptedRecord}
+use Rattle.program_input.specs.Readers.{Judges}
+use Rattle.program_input.proofs.Laws.{passed_on, judged}
 use Rattle.pool_driver.proofs.inputs.read_lines.Goals as goal
 
 pub returns-in-Err-clause-reads : goal.returns-in-Err-clause-reads

@@ -1,8 +1,9 @@
 use Rattle.std.proofs.Common.{◌≡◌, ◌∙◌, ℕ, List, Ok, refl, subst}
 use Rattle.placement_reader.specs.Placements as Pl
 use Rattle.placement_reader.specs.Placements.{placement_of}
-use Rattle.pool_driver.specs.Readers as R
-use Rattle.pool_driver.proofs.ReadLaws.{passed_on, judged, placement_refused}
+use Rattle.program_input.specs.Readers as R
+use Rattle.pool_driver.proofs.ReadLaws.{placement_refused}
+use Rattle.program_input.proofs.Laws.{passed_on, judged}
 use Rattle.pool_driver.proofs.inputs.read_placed.Goals as goal
 
 pub returns-in-Err-clause-reads : goal.returns-in-Err-clause-reads

@@ -1,8 +1,9 @@
 use Rattle.std.proofs.Common.{◌≡◌, ◌∙◌, ℕ, List, Ok, refl, subst}
 use Rattle.schedule_reader.specs.Schedules as Sch
 use Rattle.schedule_reader.specs.Schedules.{schedule_of}
-use Rattle.pool_driver.specs.Readers as R
-use Rattle.pool_driver.proofs.ReadLaws.{passed_on, judged, schedule_refused}
+use Rattle.program_input.specs.Readers as R
+use Rattle.pool_driver.proofs.ReadLaws.{schedule_refused}
+use Rattle.program_input.proofs.Laws.{passed_on, judged}
 use Rattle.pool_driver.proofs.inputs.read_scheduled.Goals as goal
 
 pub returns-in-Err-clause-reads : goal.returns-in-Err-clause-reads

@@ -7,7 +7,8 @@ use Rattle.command_words.specs.Commands.{of_program}
 use Rattle.pool_driver.specs.Inputs.{IsAccepted}
 use Rattle.pool_driver.specs.Readers as R
 use Rattle.pool_driver.proofs.OutputLaws.{may_at, none_opened, reaches_asked}
-use Rattle.pool_driver.proofs.ReadLaws.{stops_at, was_read}
+use Rattle.pool_driver.proofs.ReadLaws.{stops_at}
+use Rattle.program_input.proofs.Laws.{was_read}
 use Rattle.pool_driver.proofs.outputs.canonical_output.Goals as goal
 
 pub read_typed-requires-clause-allowed : goal.read_typed-requires-clause-allowed
@@ -27,7 +28,7 @@ returns-in-Ok-clause-makes g c =
       given = w.1.1;
       ended = w.1.2;
       calm = w.3;
-      output = (record { names = parsed.names; program = program_of parsed.program; parsed = is.parsed; typed = w.2.1; written = refl }, refl);
+      output = (record { names = parsed.names; program = program_of parsed.program; parsed = is.parsed; typed = w.2.1; written = refl; built = tt }, refl);
     }) is.spelled
 
 pub returns-in-Err-clause-makes : goal.returns-in-Err-clause-makes

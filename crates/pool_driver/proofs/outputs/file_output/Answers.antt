@@ -9,9 +9,11 @@ use Rattle.pool_driver.specs.declared.outputs.Output.TheVariants as O
 use Rattle.command_words.specs.Commands.{of_program}
 use Rattle.pool_driver.specs.Inputs.{IsAccepted}
 use Rattle.pool_driver.specs.Readers as R
-use Rattle.pool_driver.specs.Readers.{HasTypedFault, IsTypedProgram, IsTypedProgramOf}
+use Rattle.program_input.specs.Readers.{HasTypedFault, IsTypedProgram, IsTypedProgramOf}
 use Rattle.pool_driver.proofs.OutputLaws.{may_at, none_opened, reaches_asked}
-use Rattle.pool_driver.proofs.ReadLaws.{judged, judges_refusal, stops_at, was_read}
+use Rattle.pool_driver.proofs.ReadLaws.{stops_at}
+use Rattle.program_input.proofs.Laws.{judged, judges_refusal, was_read}
+use Rattle.pool_driver.proofs.BuiltFiles.{file_is_built}
 use Rattle.pool_driver.proofs.TextLaws.{parsed_listed}
 use Rattle.pool_driver.proofs.outputs.file_output.Goals as goal
 
@@ -53,6 +55,7 @@ returns-in-Ok-file_of_parsed-clause-makes g c =
     let w = was_read _ _ _ _ _ _ parsed c.in-Ok.ensures.reads in
     let typed = h.typed refl in
     let accepted : IsAccepted [] I.Program w.0 = (program_of parsed.program, ((parsed.names, w.2.parsed), typed)) in
+    let built = file_is_built w.0 parsed.names (program_of parsed.program) file w.2.parsed w.2.spelled h.file h.shaped h.short h.good in
     R.made (O.File file) refl (record {
       texts = w.0 ∷ [];
       accepted = (w.1.0, accepted, tt);
@@ -60,5 +63,5 @@ returns-in-Ok-file_of_parsed-clause-makes g c =
       given = w.1.1;
       ended = w.1.2;
       calm = w.3;
-      output = (record { names = parsed.names; program = program_of parsed.program; parsed = w.2.parsed; typed = typed; written = ap file_bytes h.file }, refl);
+      output = (record { names = parsed.names; program = program_of parsed.program; parsed = w.2.parsed; typed = typed; written = ap file_bytes h.file; built = built }, refl);
     }) (h.shaped, h.short)

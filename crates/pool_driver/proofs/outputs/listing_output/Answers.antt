@@ -6,7 +6,8 @@ use Rattle.pool_driver.specs.declared.outputs.Output.TheVariants as O
 use Rattle.command_words.specs.Commands.{of_program}
 use Rattle.pool_driver.specs.Readers as R
 use Rattle.pool_driver.proofs.OutputLaws.{accepts, may_at, none_opened, reaches_asked}
-use Rattle.pool_driver.proofs.ReadLaws.{stops_at, was_read}
+use Rattle.pool_driver.proofs.ReadLaws.{stops_at}
+use Rattle.program_input.proofs.Laws.{was_read}
 use Rattle.pool_driver.proofs.outputs.listing_output.Goals as goal
 
 pub read_unit-requires-clause-allowed : goal.read_unit-requires-clause-allowed
@@ -25,7 +26,7 @@ returns-in-Ok-clause-makes g c =
       given = w.1.1;
       ended = w.1.2;
       calm = w.3;
-      output = (record { names = is.code.names; program = is.code.program; parsed = is.code.parsed; typed = is.code.typed; written = ap listing is.code.coded }, refl);
+      output = (record { names = is.code.names; program = is.code.program; parsed = is.code.parsed; typed = is.code.typed; written = ap listing is.code.coded; built = tt }, refl);
     }) is.proper
 
 pub returns-in-Err-clause-makes : goal.returns-in-Err-clause-makes

@@ -47,3 +47,12 @@ returns-in-Check-clause-makes g c = makes_for _ _ _ c.check_output.result (sym (
 
 pub returns-in-Check-clause-unread_within : goal.returns-in-Check-clause-unread_within
 returns-in-Check-clause-unread_within g c = stays_for _ _ _ _ _ (sym (ap request c.in-Check.is)) c.check_output.ensures.unread_within
+
+pub load_output-requires-clause-allowed : goal.load_output-requires-clause-allowed
+load_output-requires-clause-allowed g c = subst (MayOpen (g.F.Files.may c.args.files.now) (g.F.Files.opens c.args.files.now)) (ap request c.in-Load.is) c.requires.allowed
+
+pub returns-in-Load-clause-makes : goal.returns-in-Load-clause-makes
+returns-in-Load-clause-makes g c = makes_for _ _ _ c.load_output.result (sym (ap request c.in-Load.is)) c.load_output.ensures.makes
+
+pub returns-in-Load-clause-unread_within : goal.returns-in-Load-clause-unread_within
+returns-in-Load-clause-unread_within g c = stays_for _ _ _ _ _ (sym (ap request c.in-Load.is)) c.load_output.ensures.unread_within

@@ -2,6 +2,7 @@ use Rattle.std.proofs.Common.{◌≡◌, ◌∙◌, Some, option_map, ap, sym, r
 use Rattle.command_words.specs.Commands.{Request, request}
 use Rattle.pool_driver.specs.Ends as E
 use Rattle.pool_driver.proofs.EndLaws.{stop_completes, stop_ends, text_completes, text_ends, usage_ends}
+use Rattle.pool_driver.proofs.HeadlineLaws.{headline}
 use Rattle.pool_driver.proofs.OutputLaws.{none_within, stays_for}
 use Rattle.pool_driver.proofs.top.pool.Goals as goal
 
@@ -51,3 +52,15 @@ returns-in-Err-make_output-clause-stops_reading g c r words =
 
 pub returns-in-None-clause-stops_reading : goal.returns-in-None-clause-stops_reading
 returns-in-None-clause-stops_reading g c r words = none_within _ _ _ r refl
+
+pub returns-in-Err-clause-headline : goal.returns-in-Err-clause-headline
+returns-in-Err-clause-headline g c p l s words whole = headline _ _ _ _ _ (returns-in-Err-clause-ends g c) p l s words whole
+
+pub returns-in-Ok-make_output-clause-headline : goal.returns-in-Ok-make_output-clause-headline
+returns-in-Ok-make_output-clause-headline g c p l s words whole = headline _ _ _ _ _ (returns-in-Ok-make_output-clause-ends g c) p l s words whole
+
+pub returns-in-Err-make_output-clause-headline : goal.returns-in-Err-make_output-clause-headline
+returns-in-Err-make_output-clause-headline g c p l s words whole = headline _ _ _ _ _ (returns-in-Err-make_output-clause-ends g c) p l s words whole
+
+pub returns-in-None-clause-headline : goal.returns-in-None-clause-headline
+returns-in-None-clause-headline g c p l s words whole = headline _ _ _ _ _ (returns-in-None-clause-ends g c) p l s words whole

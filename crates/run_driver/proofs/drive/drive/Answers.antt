@@ -2,10 +2,10 @@ use Rattle.std.proofs.Common.{◌≡◌, ◌≤◌, ℕ, Bool, length, refl, sym
 use Rattle.pool_syntax.specs.declared.words.Placement.{Placement}
 use Rattle.mesh_semantics.specs.Act.{act}
 use Rattle.coded_objects.specs.Coded.{coded}
-use Rattle.pool_machine.specs.Answers.{IsOfMesh, IsOutcome, IsServed}
+use Rattle.pool_machine.specs.Answers.{IsOfMesh, IsOutcome, IsServed, nothing_sent}
 use Rattle.pool_machine.specs.declared.words.Outcome.{Outcome}
 use Rattle.pool_machine.specs.declared.words.Outcome.TheVariants as O
-use Rattle.run_driver.proofs.DriveLaws.{Keeps, begins, fills_up, first_cut, goes, in_table, named_cut, named_line, named_on, none_after, outcome_at, quiet_after, quiet_at}
+use Rattle.run_driver.proofs.DriveLaws.{Keeps, begins, can_from_start, fills_up, first_cut, goes, in_table, named_cut, named_line, named_on, none_after, outcome_at, quiet_after, quiet_at}
 use Rattle.run_driver.proofs.PlanLaws.{is_served, of_mesh}
 use Rattle.run_driver.proofs.drive.drive.Goals as goal
 
@@ -36,22 +36,22 @@ returns-then-is_quiet g c = λ c' d s.
 
 pub event-requires-in-loop-done-clause-mesh : goal.event-requires-in-loop-done-clause-mesh
 event-requires-in-loop-done-clause-mesh g c =
-    let under = c.requires.under_way in
-    let go = c.loop-done.invariant under.config under.delay under.stands in
+    let under = c.requires.begun in
+    let go = c.loop-done.invariant under.config (nothing_sent c.args.schedule.now.lossy) under.stands in
     let on = c.requires.loaded.planned.events c.loop-done.done c.event.result c.event.ensures in
     subst (λ (x : Placement). IsOfMesh x c.event.result) (sym go.placement) (of_mesh c.args.machine.now.placement c.args.schedule.now.lossy c.event.result on)
 
 pub event-requires-in-loop-done-clause-served : goal.event-requires-in-loop-done-clause-served
 event-requires-in-loop-done-clause-served g c =
-    let under = c.requires.under_way in
-    let go = c.loop-done.invariant under.config under.delay under.stands in
+    let under = c.requires.begun in
+    let go = c.loop-done.invariant under.config (nothing_sent c.args.schedule.now.lossy) under.stands in
     let on = c.requires.loaded.planned.events c.loop-done.done c.event.result c.event.ensures in
     subst (λ (b : Bool). IsServed b c.event.result) (sym go.wired) (is_served c.args.machine.now.placement c.args.schedule.now.lossy c.event.result on)
 
 pub event-requires-in-loop-done-clause-few : goal.event-requires-in-loop-done-clause-few
 event-requires-in-loop-done-clause-few g c =
-    let under = c.requires.under_way in
-    let made = (c.loop-done.invariant under.config under.delay under.stands).made in
+    let under = c.requires.begun in
+    let made = (c.loop-done.invariant under.config (nothing_sent c.args.schedule.now.lossy) under.stands).made in
     let most = c.len-done-end.type_inv in
     let within = c.loop-done-test.true in
     omega (arith, made, most, within)
@@ -64,10 +64,10 @@ show_line-requires g c =
     let show = c.args.show in
     let m = c.loop-done.machine in
     let done = c.loop-done.done in
-    let under = c.requires.under_way in
+    let under = c.requires.begun in
     let c' = under.config in
-    let d = under.delay in
-    let go = c.loop-done.invariant under.config under.delay under.stands in
+    let d = nothing_sent plan.lossy in
+    let go = c.loop-done.invariant under.config (nothing_sent c.args.schedule.now.lossy) under.stands in
     let busy = quiet_at show u l plan c' d m c.loop-done.asks done c.loop-done.faulted _ c.is_quiet.result false go (c.is_quiet.ensures go.config go.delay go.stands) c.if-is_quiet.false in
     let e = c.event.result in
     let n = c.event-in-loop-done.new.self in
@@ -75,7 +75,7 @@ show_line-requires g c =
     (subst (λ (r : Outcome). IsOutcome e m r n (act (coded m.unit) m.placement c.quantum.result go.config go.delay e)) c.in-Line.is (c.event-in-loop-done.ensures go.config go.delay go.stands)) in
     let line = c.in-Line.line in
     let h = goes show u l plan c' d m n c.loop-done.asks done c.loop-done.faulted _ e line go c.event.ensures busy out in
-    named_line show u l plan c' d c.args.names.now c.requires.table m n c.loop-done.asks done c.loop-done.faulted _ e line go h c.requires.loaded
+    named_line show u l plan c' d c.args.names.now c.requires.table m n c.loop-done.asks done c.loop-done.faulted _ e line go h (can_from_start u l plan c' under.starts c.requires.loaded)
 
 pub of-ask-requires : goal.of-ask-requires
 of-ask-requires g c =
@@ -85,10 +85,10 @@ of-ask-requires g c =
     let show = c.args.show in
     let m = c.loop-done.machine in
     let done = c.loop-done.done in
-    let under = c.requires.under_way in
+    let under = c.requires.begun in
     let c' = under.config in
-    let d = under.delay in
-    let go = c.loop-done.invariant under.config under.delay under.stands in
+    let d = nothing_sent plan.lossy in
+    let go = c.loop-done.invariant under.config (nothing_sent c.args.schedule.now.lossy) under.stands in
     let busy = quiet_at show u l plan c' d m c.loop-done.asks done c.loop-done.faulted _ c.is_quiet.result false go (c.is_quiet.ensures go.config go.delay go.stands) c.if-is_quiet.false in
     let e = c.event.result in
     let n = c.event-in-loop-done.new.self in

@@ -2,6 +2,8 @@ use Rattle.std.proofs.Common.{◌∙◌, [], refl, sym, ap, subst}
 use Rattle.pool_syntax.specs.declared.words.Placement.{Placement}
 use Rattle.object_code.specs.declared.unit.Unit.{Unit as Code}
 use Rattle.pool_machine.specs.Answers.{nothing_sent}
+use Rattle.coded_objects.specs.Coded.{coded}
+use Rattle.mesh_semantics.specs.Record.{start}
 use Rattle.coded_objects.proofs.Laws.{start_there}
 use Rattle.run_driver.specs.Driven as R
 use Rattle.run_driver.specs.Driving.{IsLoaded, IsTableOf}
@@ -33,10 +35,17 @@ drive-requires-clause-unmoved g c = c.in-Ok-make.ensures.moves
 pub drive-requires-clause-still : goal.drive-requires-clause-still
 drive-requires-clause-still g c = c.in-Ok-make.ensures.transitions
 
-pub drive-requires-clause-under_way : goal.drive-requires-clause-under_way
-drive-requires-clause-under_way g c =
-    let first = start_there c.args.loaded.now.unit c.requires.proper c.args.loaded.now.placement in
-    record { config = first.0; delay = nothing_sent c.lossy-lossy.result; stands = c.in-Ok-make.ensures.stands first.0 first.1 }
+pub drive-requires-clause-begun : goal.drive-requires-clause-begun
+drive-requires-clause-begun g c =
+    let u = c.args.loaded.now.unit in
+    let l = c.args.loaded.now.placement in
+    let s = made_of u l c.lossy-lossy.result c.args.loaded.now.schedule c.in-Ok-make.machine c.lossy-lossy.ensures c.in-Ok-make.ensures in
+    let first = start_there u c.requires.proper l in
+    record {
+      config = first.0;
+      starts = ap (λ (v : Code). start (coded v) c.in-Ok-make.machine.placement) s.unit ∙ ap (λ (k : Placement). start (coded u) k) s.placement ∙ first.1;
+      stands = s.stands first.0 first.1;
+    }
 
 pub drive-requires-clause-wired : goal.drive-requires-clause-wired
 drive-requires-clause-wired g c = c.in-Ok-make.ensures.lossy ∙ c.lossy-lossy.ensures

@@ -1,0 +1,31 @@
+-- The headline by itself: what a call of `record` has written where it ended with the status of a record.
+use Rattle.std.specs.Prelude.{◌≡◌, ℕ, List, [], ◌++◌, Some, None, true}
+use Rattle.pool_syntax.specs.Tokens.{Text}
+use Rattle.pool_syntax.specs.Terms.{ProgramTree}
+use Rattle.pool_syntax.specs.Typing.{faults}
+use Rattle.pool_syntax.specs.Programs.{IsParsed}
+use Rattle.pool_syntax.specs.declared.words.Label.{Label}
+use Rattle.pool_syntax.specs.declared.words.Line.{Line}
+use Rattle.pool_relation.specs.Configuration.{Configuration}
+use Rattle.pool_relation.specs.Transition.{run, start, transition}
+use Rattle.placed_terms.specs.RunOf.{GoesBy}
+use Rattle.mesh_semantics.specs.Record.{EndsOnce, labels, ends_quiet}
+use Rattle.record_lines.specs.SecondForm.{text2}
+
+-- The source is a program without class faults, and the bytes are the text of lines: event lines and then one end line. Their labels, in order, are one run of the transition
+-- relation from the start; before and after each of them the configuration is typed, and no object goes wrong; and where the end is quiet no label is possible.
+pub record ShowsOneRun (source bytes : Text) : Type 0 where
+  pub names : List Text
+  pub program : ProgramTree
+  pub parsed : IsParsed source names program
+  pub typed : faults program ≡ []
+  pub lines : List Line
+  pub written : bytes ≡ text2 names lines
+  pub ended : EndsOnce lines
+  pub root : ℕ
+  pub first : Configuration
+  pub starts : start program root ≡ Some first
+  pub last : Configuration
+  pub leads : run program first (labels lines) ≡ Some last
+  pub right : (front rest : List Label) → front ++ rest ≡ labels lines → GoesBy program first last front rest
+  pub rests : ends_quiet lines ≡ true → (l : Label) → transition program last l ≡ None
