@@ -5,7 +5,8 @@ use Rattle.pool_syntax.specs.declared.tree.Expr.{Expr}
 use Rattle.pool_syntax.specs.declared.tree.Var.{Var}
 use Rattle.pool_syntax.specs.TreeOf.{expression_of, expressions_of}
 use Rattle.pool_syntax.specs.Terms.{Expressions, Expression, Arg}
-use Rattle.pool_syntax.specs.Typing.{Scope, Sort, expression_faults, arguments_faults, sort_of, position, size}
+use Rattle.pool_syntax.specs.Typing.{Scope, expression_faults, arguments_faults, sort_of, position, size}
+use Rattle.run_words.specs.Sorts.{Sort}
 use Rattle.class_check.specs.Stands.{argument_faults}
 use Rattle.class_check.specs.declared.fault.ClassFault.{ClassFault}
 use Rattle.class_check.specs.Least.{noted}

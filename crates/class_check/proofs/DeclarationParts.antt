@@ -9,7 +9,7 @@ use Rattle.pool_syntax.specs.Terms.{ProgramTree}
 use Rattle.pool_syntax.specs.TreeOf.{class_tree, method_tree, statements_of}
 use Rattle.pool_syntax.specs.FaultNumbers as N
 use Rattle.pool_syntax.specs.Limits as L
-use Rattle.pool_syntax.specs.Typing.{Scope, Fault, vars_faults, too_many, fault_if, kind_faults, method_tree_faults, methods_faults, classes_faults, class_scope, statements_faults}
+use Rattle.pool_syntax.specs.Typing.{Scope, FaultAt, vars_faults, too_many, fault_if, kind_faults, method_tree_faults, methods_faults, classes_faults, class_scope, statements_faults}
 use Rattle.class_check.specs.declared.fault.ClassFault.{ClassFault}
 use Rattle.class_check.specs.Least.{noted}
 use Rattle.class_check.specs.PairOf.{Notes, found_of}
@@ -37,7 +37,7 @@ pub both_variables : (p : ProgramTree) (number : ℕ) (names : List ℕ) (us vs 
 both_variables p number names [] vs = refl
 both_variables p number names (u ∷ us) vs = grind (arith, both_variables p number (u.name.0 ∷ names) us vs)
 
-limit_at : Option Var → List Fault
+limit_at : Option Var → List FaultAt
 limit_at None = []
 limit_at (Some v) = (v.pos, N.limit) ∷ []
 

@@ -1,11 +1,12 @@
 -- The faults of an expression are those of its parts, one after another.
 use Rattle.std.proofs.Common.{◌≡◌, refl, sym, ℕ, ◌+◌, min, List, length, Option, arith}
-use Rattle.pool_syntax.specs.declared.words.Op.{Op}
-use Rattle.pool_syntax.specs.declared.words.Op.TheVariants as O
+use Rattle.run_words.specs.declared.words.Op.{Op}
+use Rattle.run_words.specs.declared.words.Op.TheVariants as O
 use Rattle.pool_syntax.specs.declared.tree.Expr.{Expr}
 use Rattle.pool_syntax.specs.Terms.{Expression, Infix, Call, Send, MethodTree}
 use Rattle.pool_syntax.specs.TreeOf.{expressions_of}
-use Rattle.pool_syntax.specs.Typing.{Scope, Sort, limit, expression_faults, arguments_faults, method_faults, destination_faults, own_method, sent_method, params_of, needs_operands, sort_of, position}
+use Rattle.pool_syntax.specs.Typing.{Scope, limit_faults, expression_faults, arguments_faults, method_faults, destination_faults, own_method, sent_method, params_of, needs_operands, sort_of, position}
+use Rattle.run_words.specs.Sorts.{Sort}
 use Rattle.class_check.specs.declared.fault.ClassFault.{ClassFault}
 use Rattle.class_check.specs.PairOf.{Notes}
 use Rattle.class_check.specs.Stands.{operands_faults}
@@ -19,7 +20,7 @@ operands_needed g O.Differs l r = refl
 operands_needed g _ l r = refl
 
 pub binary_noted : (g : Scope) (h k : ℕ) (op : Op) (l r : Expression) (pos : ℕ) (s t : Sort) (a b c d e : Option ClassFault)
-    → Notes a b (limit h pos) → Notes b c (expression_faults g h l) → k ≡ min (h + 1) 64 → Notes c d (expression_faults g k r)
+    → Notes a b (limit_faults h pos) → Notes b c (expression_faults g h l) → k ≡ min (h + 1) 64 → Notes c d (expression_faults g k r)
     → s ≡ sort_of g l → t ≡ sort_of g r → Notes d e (operands_faults op s (position l) t (position r)) → Notes a e (expression_faults g h (Infix op l r pos))
 binary_noted g h k op l r pos s t a b c d e begun left more right is_left is_right fit =
     let more_held : expression_faults g k r ≡ expression_faults g (h + 1) r = same_faults g k (h + 1) r (omega arith) in
@@ -27,14 +28,14 @@ binary_noted g h k op l r pos s t a b c d e begun left more right is_left is_rig
     grind (arith, noted_append)
 
 pub call_noted : (g : Scope) (h m : ℕ) (es : List Expr) (pos : ℕ) (method : Option MethodTree) (a b c d : Option ClassFault)
-    → Notes a b (limit h pos) → method ≡ own_method g m → Notes b c (method_faults method (length es) pos)
+    → Notes a b (limit_faults h pos) → method ≡ own_method g m → Notes b c (method_faults method (length es) pos)
     → Notes c d (arguments_faults g h (params_of method) (expressions_of es)) → Notes a d (expression_faults g h (Call m (expressions_of es) pos))
 call_noted g h m es pos method a b c d begun found called rest =
     let count = size_of_all es in
     grind (arith, noted_append)
 
 pub send_noted : (g : Scope) (h k : ℕ) (to : Expression) (m : ℕ) (es : List Expr) (pos : ℕ) (s : Sort) (method : Option MethodTree) (a b c d e : Option ClassFault)
-    → Notes a b (limit h pos) → Notes b c (expression_faults g h to) → s ≡ sort_of g to → method ≡ sent_method g s m
+    → Notes a b (limit_faults h pos) → Notes b c (expression_faults g h to) → s ≡ sort_of g to → method ≡ sent_method g s m
     → Notes c d (destination_faults g s m (length es) pos (position to)) → k ≡ min (h + 1) 64
     → Notes d e (arguments_faults g k (params_of method) (expressions_of es)) → Notes a e (expression_faults g h (Send to m (expressions_of es) pos))
 send_noted g h k to m es pos s method a b c d e begun dest is_sort found sent more rest =

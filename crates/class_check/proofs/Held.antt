@@ -3,9 +3,9 @@ use Rattle.std.proofs.Common.{◌≡◌, refl, ℕ, ◌+◌, min, List, [], ◌�
 use Rattle.std.proofs.lemmas.Bool.Decides.{nat_tests}
 use Rattle.pool_syntax.specs.declared.tree.Var.{Var}
 use Rattle.pool_syntax.specs.Terms.{Expression, Literal, Me, Variable, Create, Prefix, Infix, Call, Send, Frame, Wait, Expressions, NoArgs, Arg}
-use Rattle.pool_syntax.specs.Typing.{Scope, limit, expression_faults, arguments_faults}
+use Rattle.pool_syntax.specs.Typing.{Scope, limit_faults, expression_faults, arguments_faults}
 
-same_limit : (h k at : ℕ) → min h 64 ≡ min k 64 → limit h at ≡ limit k at
+same_limit : (h k at : ℕ) → min h 64 ≡ min k 64 → limit_faults h at ≡ limit_faults k at
 same_limit h k at same = let e : nat_le 64 h ≡ nat_le 64 k = grind (arith, nat_tests) in rw e refl
 
 mutual

@@ -7,13 +7,13 @@ use Rattle.pool_syntax.specs.declared.tree.Stmt.{Stmt}
 use Rattle.pool_syntax.specs.declared.tree.Alt.{Alt, out-Alt}
 use Rattle.pool_syntax.specs.declared.tree.Named.{Named}
 use Rattle.pool_syntax.specs.Terms.{Expression, Async, Then, Alt as OneAlt, MethodTree}
-use Rattle.pool_syntax.specs.TreeOf.{expression_of, expressions_of, statement_of, statements_of}
+use Rattle.pool_syntax.specs.TreeOf.{expression_of, expressions_of, statement_of, statements_of, alternatives_of}
 use Rattle.pool_syntax.specs.FaultNumbers.{answer_name}
-use Rattle.pool_syntax.specs.Typing.{Scope, Sort, BoolSort, needs, expression_faults, arguments_faults, destination_faults, answer_faults, statement_faults, statements_faults, alternatives_faults, names_faults, fault_if, own_method, sent_method, params_of, sort_of, position}
+use Rattle.pool_syntax.specs.Typing.{Scope, needs, expression_faults, arguments_faults, destination_faults, answer_faults, statement_faults, statements_faults, alternatives_faults, names_faults, fault_if, own_method, sent_method, params_of, sort_of, position}
+use Rattle.run_words.specs.Sorts.{Sort, BoolSort}
 use Rattle.class_check.specs.declared.fault.ClassFault.{ClassFault}
 use Rattle.class_check.specs.Least.{noted}
 use Rattle.class_check.specs.PairOf.{Notes, found_of}
-use Rattle.pool_syntax.specs.TreeOf.{alternatives_of}
 use Rattle.class_check.specs.Before.{names_before}
 use Rattle.class_check.proofs.Noting.{noted_append}
 use Rattle.class_check.proofs.Held.{same_faults}

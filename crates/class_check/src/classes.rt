@@ -3,7 +3,8 @@ ghost use Rattle.std.specs.Prelude.{◌≡◌, length, IfOk};
 ghost use Rattle.class_check.specs.Index.{IsIndex, AreIndexes};
 
 use crate::index::{Index, places_of};
-use pool_syntax::{ClassDecl, Method, NameId};
+use pool_syntax::{ClassDecl, Method};
+use run_words::NameId;
 use std::alloc::{AllocError, Global};
 use std::collections::HashMap;
 

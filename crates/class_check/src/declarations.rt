@@ -4,7 +4,8 @@ ghost use Rattle.std.specs.List.{list_any};
 ghost use Rattle.pool_syntax.specs.FaultNumbers.{class_twice, limit, local_twice, method_twice, variable_twice};
 ghost use Rattle.pool_syntax.specs.Limits.{most_classes, most_locals, most_methods, most_params, most_variables};
 ghost use Rattle.pool_syntax.specs.TreeOf.{class_tree, expression_of, method_tree, statements_of};
-ghost use Rattle.pool_syntax.specs.Typing.{behind_value, class_scope, expression_faults, fault_if, faults, kind_faults, method_tree_faults, methods_faults, outcome_faults, statements_faults, too_many, value_needs, vars_faults};
+ghost use Rattle.pool_syntax.specs.Typing.{behind_value, class_scope, expression_faults, fault_if, faults, kind_faults, method_tree_faults, methods_faults, outcome_faults, statements_faults};
+ghost use Rattle.pool_syntax.specs.Typing.{too_many, value_needs, vars_faults};
 ghost use Rattle.class_check.specs.Before.{names_before};
 ghost use Rattle.class_check.specs.PairOf.{Notes, pair_of};
 ghost use Rattle.class_check.specs.Stands.{scope_of, twice_number};
@@ -16,7 +17,8 @@ use crate::index::{Index, places_of};
 use crate::scope::Scope;
 use crate::sort::{kind_sort, note_misfit};
 use crate::statements::statements;
-use pool_syntax::{ClassDecl, Kind, Method, NameId, Stmt, Var};
+use pool_syntax::{ClassDecl, Method, Stmt, Var};
+use run_words::{Kind, NameId};
 use std::alloc::{AllocError, Global};
 
 /// The most classes of a program.

@@ -3,7 +3,8 @@ ghost use Rattle.std.specs.Prelude.{◌≡◌, ◌≤◌, ◌+◌, ◌++◌, map
 ghost use Rattle.pool_syntax.specs.FaultNumbers.{unknown_variable};
 ghost use Rattle.pool_syntax.specs.Limits.{most_operands};
 ghost use Rattle.pool_syntax.specs.TreeOf.{class_tree, expression_of, expressions_of};
-ghost use Rattle.pool_syntax.specs.Typing.{arguments_faults, destination_faults, expression_faults, limit, method_faults, method_sort, name_sort, params_of, position, sent_method, send_sort, sort_of, is_broken_name, fault_if, no_result, is_comparable, counted};
+ghost use Rattle.pool_syntax.specs.Typing.{arguments_faults, destination_faults, expression_faults, limit_faults, method_faults, method_sort, name_sort, params_of, position, sent_method, send_sort};
+ghost use Rattle.pool_syntax.specs.Typing.{sort_of, is_broken_name, fault_if, no_result_faults, is_comparable, counted};
 ghost use Rattle.class_check.specs.PairOf.{Notes};
 ghost use Rattle.class_check.specs.Stands.{sort_tree, scope_of, method_of, argument_faults, operands_faults, creation_sort, creation_faults};
 
@@ -11,7 +12,8 @@ use crate::classes::Classes;
 use crate::fault::{ClassFault, note};
 use crate::scope::Scope;
 use crate::sort::{Placed, Sort, kind_sort, note_misfit, note_no_result, op_sort, operand_sort};
-use pool_syntax::{Expr, Method, NameId, Named, Op, Var};
+use pool_syntax::{Expr, Method, Named, Var};
+use run_words::{NameId, Op};
 
 /// The token of an expression.
 fn position(expr: &Expr) -> u32
@@ -43,7 +45,7 @@ pub fn one_more(held: u8) -> u8
 }
 
 fn note_limit(held: u8, token: u32, first: &mut Option<ClassFault>)
-    ensures { Notes first.old first.new (limit held token) }
+    ensures { Notes first.old first.new (limit_faults held token) }
 {
     if held >= MOST_OPERANDS {
         note(first, ClassFault::Limit { token });

@@ -1,7 +1,8 @@
 //! What is declared or listed by a name.
 ghost use Rattle.std.specs.Prelude.{◌≡◌, ℕ};
 
-use pool_syntax::{ClassDecl, Method, NameId, Named, Var};
+use pool_syntax::{ClassDecl, Method, Named, Var};
+use run_words::NameId;
 
 /// What has a name.
 pub trait HasName {

@@ -9,7 +9,8 @@ ghost use Rattle.class_check.specs.declared.fault.ClassFault.{ClassFault as AFau
 
 use crate::declarations::classes;
 use crate::fault::ClassFault;
-use pool_syntax::{Names, Program};
+use pool_syntax::Program;
+use run_words::Names;
 use std::alloc::Global;
 
 /// A program without class faults, and the table of its names.

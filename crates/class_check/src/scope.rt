@@ -4,7 +4,8 @@ ghost use Rattle.class_check.specs.Index.{IsIndex};
 
 use crate::classes::Classes;
 use crate::index::Index;
-use pool_syntax::{ClassDecl, Kind, Method, NameId, Var};
+use pool_syntax::{ClassDecl, Method, Var};
+use run_words::{Kind, NameId};
 use std::collections::HashMap;
 
 /// Where an expression or a statement stands: outside a method without parameters and locals.

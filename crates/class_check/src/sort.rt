@@ -2,13 +2,14 @@
 ghost use Rattle.std.specs.Prelude.{◌≡◌, ◌||◌, not, map};
 ghost use Rattle.pool_syntax.specs.Terms.{ClassTree};
 ghost use Rattle.pool_syntax.specs.TreeOf.{class_tree};
-ghost use Rattle.pool_syntax.specs.Typing.{kind_sort, op_sort, operand_sort, is_open, is_same_sort, is_comparable, counted, misfit, no_result};
+ghost use Rattle.pool_syntax.specs.Typing.{kind_sort, is_open, is_comparable, counted, misfit, no_result_faults};
+ghost use Rattle.run_words.specs.Sorts.{op_sort, operand_sort, is_same_sort};
 ghost use Rattle.class_check.specs.PairOf.{Notes};
 ghost use Rattle.class_check.specs.Stands.{sort_tree};
 
 use crate::classes::Classes;
 use crate::fault::{ClassFault, note};
-use pool_syntax::{Kind, NameId, Op};
+use run_words::{Kind, NameId, Op};
 
 /// The sort of an expression.
 #[derive(Clone, Copy)]
@@ -98,7 +99,7 @@ pub struct Placed {
 
 /// Notes an expression of no sort.
 pub fn note_no_result(at: Placed, first: &mut Option<ClassFault>)
-    ensures { Notes first.old first.new (no_result (sort_tree at.sort) at.token) }
+    ensures { Notes first.old first.new (no_result_faults (sort_tree at.sort) at.token) }
 {
     if let Sort::NoResult = at.sort {
         note(first, ClassFault::NoResult { token: at.token });

@@ -2,7 +2,8 @@
 ghost use Rattle.std.specs.Prelude.{◌≡◌, ◌≤◌, ◌++◌, ◌||◌, [], not, is_some, OnOk};
 ghost use Rattle.pool_syntax.specs.FaultNumbers.{answer_name as answer_name_number};
 ghost use Rattle.pool_syntax.specs.TreeOf.{alternatives_of, expression_of, statement_of, statements_of};
-ghost use Rattle.pool_syntax.specs.Typing.{BoolSort, alternatives_faults, answer_faults, expression_faults, fault_if, own_method, names_faults, needs, needs_any, statement_faults, statements_faults};
+ghost use Rattle.run_words.specs.Sorts.{BoolSort};
+ghost use Rattle.pool_syntax.specs.Typing.{alternatives_faults, answer_faults, expression_faults, fault_if, own_method, names_faults, needs, needs_any, statement_faults, statements_faults};
 ghost use Rattle.class_check.specs.PairOf.{Notes};
 ghost use Rattle.class_check.specs.Stands.{scope_of};
 
@@ -11,7 +12,8 @@ use crate::fault::{ClassFault, note};
 use crate::index::{Index, places_of};
 use crate::scope::Scope;
 use crate::sort::{Sort, note_misfit, note_no_result};
-use pool_syntax::{Alt, Expr, List, Named, Stmt};
+use pool_syntax::{Alt, Expr, Named, Stmt};
+use run_words::List;
 use std::alloc::{AllocError, Global};
 
 /// Notes a name of an answer list that is no method of the own class, or stands there again.

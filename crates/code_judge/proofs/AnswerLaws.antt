@@ -1,7 +1,7 @@
 -- The answer on a whole file.
 use Rattle.std.proofs.Common.{◌≡◌, ◌≢◌, ◌⊎◌, inl, inr, refl, sym, ap, ◌∙◌, ℕ, ◌==◌, length, Some, None, Bool, true, false, Result, Ok, Err}
-use Rattle.mesh_semantics.proofs.Laws.{equal, same_some}
-use Rattle.object_code.specs.declared.file.UnitFile.{UnitFile}
+use Rattle.run_words.proofs.Laws.{equal, same_some}
+use Rattle.code_semantics.specs.declared.file.UnitFile.{UnitFile}
 use Rattle.code_verdict.specs.Verdict.{Verdict, Good, Header, Code, bad_codes, bad_heading, fault_if, good_unless, or_else, verdict}
 use Rattle.code_verdict.proofs.Laws.{no_class}
 use Rattle.code_judge.specs.declared.fault.VerifyFault.{VerifyFault}

@@ -1,7 +1,7 @@
 -- What an answer tells of a verdict that is made of two.
 use Rattle.std.proofs.Common.{◌≡◌, refl, sym, ap, ◌∙◌, ℕ, Option, Some, None, Bool, true, false, not, length, Result, Ok, Err}
-use Rattle.mesh_semantics.proofs.Laws.{same_some}
-use Rattle.object_code.specs.declared.file.UnitFile.{UnitFile}
+use Rattle.run_words.proofs.Laws.{same_some}
+use Rattle.code_semantics.specs.declared.file.UnitFile.{UnitFile}
 use Rattle.code_verdict.specs.Sorts.{Declared, scope_by}
 use Rattle.code_verdict.specs.Verdict.{Verdict, Header, Code, bad_code, bad_method, fault_if, is_well_sorted, or_else}
 use Rattle.code_judge.specs.declared.fault.VerifyFault.{VerifyFault}

@@ -1,14 +1,14 @@
 -- The verdict, heading by heading and code by code.
 use Rattle.std.proofs.Common.{◌≡◌, refl, sym, ap, subst, ◌∙◌, ℕ, zero, suc, ◌+◌, ◌-◌, ◌<◌, ◌≤◌, List, [], ◌∷◌, length, drop, Some, None, Bool, true, false, not, arith}
 use Rattle.std.specs.Prelude.{get_or, slice_get}
-use Rattle.mesh_semantics.proofs.Laws.{same_some}
-use Rattle.object_code.specs.declared.unit.ClassCode.{ClassCode}
-use Rattle.object_code.specs.declared.unit.MethodCode.{MethodCode}
-use Rattle.object_code.specs.declared.file.ClassKinds.{ClassKinds}
-use Rattle.object_code.specs.declared.file.MethodKinds.{MethodKinds}
-use Rattle.object_code.specs.declared.file.UnitFile.{UnitFile}
-use Rattle.object_code.specs.Shaped.{AreShapedClasses, IsShaped}
-use Rattle.mesh_semantics.specs.Partial.{◌>>=◌}
+use Rattle.run_words.proofs.Laws.{same_some}
+use Rattle.code_semantics.specs.declared.unit.ClassCode.{ClassCode}
+use Rattle.code_semantics.specs.declared.unit.MethodCode.{MethodCode}
+use Rattle.code_semantics.specs.declared.file.ClassKinds.{ClassKinds}
+use Rattle.code_semantics.specs.declared.file.MethodKinds.{MethodKinds}
+use Rattle.code_semantics.specs.declared.file.UnitFile.{UnitFile}
+use Rattle.code_semantics.specs.Shaped.{AreShapedClasses, IsShaped}
+use Rattle.run_words.specs.Partial.{◌>>=◌}
 use Rattle.code_verdict.specs.Sorts.{Declared, declared_at, scope_by}
 use Rattle.code_verdict.specs.Verdict.{Verdict, Header, Code, bad_code, bad_codes, bad_heading, bad_method, fault_if, heading_right, is_well_sorted, or_else}
 use Rattle.code_verdict.proofs.Laws.{heading_is, no_bad_heading}

@@ -1,10 +1,10 @@
 -- Names, and the last instruction of a code.
 use Rattle.std.proofs.Common.{◌≡◌, refl, sym, ap, ◌∙◌, ℕ, suc, ◌-◌, ◌<◌, ◌≤◌, List, [], ◌∷◌, length, Some, None, Bool, true, false, not, ◌&&◌, ◌||◌, arith}
 use Rattle.std.specs.Prelude.{bytes_eq, is_none, nat_le, slice_get}
-use Rattle.mesh_semantics.proofs.Laws.{same_some}
-use Rattle.pool_syntax.specs.Spelled.{is_name_text}
-use Rattle.pool_syntax.specs.Tokens.{Text, is_listed, is_word, keywords, lookup}
-use Rattle.object_code.specs.declared.unit.Instr.{Instr}
+use Rattle.run_words.proofs.Laws.{same_some}
+use Rattle.run_words.specs.Keywords.{is_name_text, keywords}
+use Rattle.run_words.specs.Text.{Text, is_listed, is_word, lookup}
+use Rattle.code_semantics.specs.declared.unit.Instr.{Instr}
 use Rattle.code_verdict.specs.Verdict.{is_last}
 
 listed_is : {A : Type 0} (rows : List (Text × A)) (w : Text) → not (is_listed rows w) ≡ is_none (lookup rows w)

@@ -1,6 +1,6 @@
 -- The bytes of names.
 use Rattle.std.specs.Prelude.{ℕ, Bool, ◌||◌}
-use Rattle.pool_syntax.specs.Tokens.{is_letter, is_digit}
+use Rattle.run_words.specs.Text.{is_letter, is_digit}
 
 -- a byte of a name behind its first
 abbrev pub in_a_name : ℕ → Bool

@@ -1,6 +1,6 @@
 //! The codes of methods and bodies.
 ghost use Rattle.std.specs.Prelude.{◌≡◌, not, ◌<◌, ◌≤◌, ◌^◌, length, Some, None, IfOk};
-ghost use Rattle.object_code.specs.Shaped.{IsShaped};
+ghost use Rattle.code_semantics.specs.Shaped.{IsShaped};
 ghost use Rattle.code_verdict.specs.Verdict.{Code, bad_code, bad_codes, bad_heading, bad_method, fault_if, is_well_sorted};
 ghost use Rattle.code_reach.specs.Scopes.{declared_of, scope_of};
 ghost use Rattle.code_verdict.specs.Sorts.{declared_at, scope_by};
@@ -9,8 +9,8 @@ ghost use Rattle.code_judge.specs.Told.{Judged};
 use crate::existing::{do_exist, ends_right};
 use crate::fault::VerifyFault;
 use code_reach::{Class, Classes, Scope, has_no_circle, has_table, kinds_at};
-use code_sorts::value_sort;
-use object_code::{Instr, MethodCode, MethodKinds};
+use code_semantics::{Instr, MethodCode, MethodKinds};
+use code_verdict::value_sort;
 use std::alloc::{AllocError, Global};
 
 /// Whether a code is well sorted, and its frames have so many words.
@@ -103,7 +103,9 @@ fn check_body(
     class: &Class<'_>,
 ) -> Result<(), VerifyFault>
     requires { length class.now.code.now.methods ≤ 64 }
-    ensures { Judged result (fault_if (not (is_well_sorted (scope_by classes.now.file.now (declared_of class.now) None) class.now.code.now.body.frame_words class.now.code.now.body.code)) (Code place (length class.now.code.now.methods))) }
+    ensures { Judged result
+        (fault_if (not (is_well_sorted (scope_by classes.now.file.now (declared_of class.now) None) class.now.code.now.body.frame_words class.now.code.now.body.code))
+        (Code place (length class.now.code.now.methods))) }
 {
     if !is_body_sorted(alloc, classes, class)? {
         return Err(VerifyFault::Code {

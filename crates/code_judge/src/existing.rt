@@ -6,8 +6,8 @@ ghost use Rattle.code_reach.specs.Scopes.{scope_of};
 
 use crate::texts::{is_string_number, text_at};
 use code_reach::Scope;
-use object_code::{AltCode, Instr};
-use pool_syntax::NameId;
+use code_semantics::{AltCode, Instr};
+use run_words::NameId;
 
 /// The most arguments of a call.
 const MOST_ARGUMENTS: u32 = 8;

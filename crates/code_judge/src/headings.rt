@@ -1,16 +1,16 @@
 //! The headings of classes and methods.
 ghost use Rattle.std.specs.Prelude.{◌≡◌, ◌<◌, ◌≤◌, ◌&&◌, nat_le, length, Some, None, option_map, IfSome};
 ghost use Rattle.std.specs.List.{list_all};
-ghost use Rattle.pool_syntax.specs.Spelled.{is_name};
-ghost use Rattle.object_code.specs.Step.{class_from, method_named};
-ghost use Rattle.object_code.specs.Shaped.{IsShaped};
+ghost use Rattle.run_words.specs.Keywords.{is_name};
+ghost use Rattle.code_semantics.specs.Step.{class_from, method_named};
+ghost use Rattle.code_semantics.specs.Shaped.{IsShaped};
 ghost use Rattle.code_verdict.specs.Sorts.{declared_at};
 ghost use Rattle.code_verdict.specs.Verdict.{Header, bad_heading, heading_right, is_first, is_place, kind_exists, methods_right, result_exists};
 
 use crate::texts::is_name;
 use code_reach::{Class, Classes, method_place};
-use object_code::{ClassCode, MethodCode, MethodKinds};
-use pool_syntax::{Kind, NameId};
+use code_semantics::{ClassCode, MethodCode, MethodKinds};
+use run_words::{Kind, NameId};
 
 /// The most classes of a file.
 const MOST_CLASSES: usize = 256;

@@ -1,5 +1,5 @@
 //! The judgement on a file.
-ghost use Rattle.object_code.specs.Shaped.{IsShaped};
+ghost use Rattle.code_semantics.specs.Shaped.{IsShaped};
 ghost use Rattle.code_verdict.specs.Verdict.{verdict};
 ghost use Rattle.code_judge.specs.Told.{IsAnswer};
 
@@ -7,7 +7,7 @@ use crate::codes::check_codes;
 use crate::fault::VerifyFault;
 use crate::headings::bad_heading;
 use code_reach::{Classes, places_of};
-use object_code::UnitFile;
+use code_semantics::UnitFile;
 use std::alloc::Global;
 
 /// The headings in order, and then the codes; the first fault is told. Time is in proportion to the file and its logarithm.

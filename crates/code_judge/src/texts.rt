@@ -1,11 +1,10 @@
 //! Names and strings.
 ghost use Rattle.std.specs.Prelude.{◌≡◌, option_map, slice_get};
-ghost use Rattle.pool_syntax.specs.Spelled.{is_name, is_name_text, is_string_number, is_string_text};
-ghost use Rattle.pool_syntax.specs.Tokens.{every, is_digit, is_inner, is_letter, is_word};
+ghost use Rattle.run_words.specs.Keywords.{is_name, is_name_text, is_string_number, is_string_text};
+ghost use Rattle.run_words.specs.Text.{every, is_digit, is_inner, is_letter, is_word};
 ghost use Rattle.code_judge.specs.Inside.{in_a_name};
 
-use pool_lexer::keyword;
-use pool_syntax::{NameId, Names};
+use run_words::{NameId, Names, keyword};
 
 fn is_letter(byte: u8) -> bool
     ensures { result ≡ is_letter byte }

@@ -1,10 +1,10 @@
 -- The code of the verdict is the first that is not well sorted.
 use Rattle.std.proofs.Common.{◌≡◌, ◌⊎◌, inl, inr, refl, sym, ap, subst, ◌∙◌, ℕ, zero, suc, ◌+◌, ◌==◌, ◌<◌, List, [], ◌∷◌, length, Option, Some, None, Bool, true, false, not, arith}
 use Rattle.std.specs.Prelude.{slice_get}
-use Rattle.mesh_semantics.proofs.Laws.{same_some}
-use Rattle.object_code.specs.declared.unit.MethodCode.{MethodCode}
-use Rattle.object_code.specs.declared.file.UnitFile.{UnitFile}
-use Rattle.object_code.specs.declared.file.MethodKinds.{MethodKinds}
+use Rattle.run_words.proofs.Laws.{same_some}
+use Rattle.code_semantics.specs.declared.unit.MethodCode.{MethodCode}
+use Rattle.code_semantics.specs.declared.file.UnitFile.{UnitFile}
+use Rattle.code_semantics.specs.declared.file.MethodKinds.{MethodKinds}
 use Rattle.code_verdict.specs.Sorts.{Declared, declared_at, scope_by}
 use Rattle.code_verdict.specs.Verified.{IsWellSorted}
 use Rattle.code_verdict.specs.Faults.{MethodsBelow, IsBadMethod, IsBadCode}

@@ -1,4 +1,3 @@
-pub mod Laws
 pub mod Passing
 pub mod Spreading
 pub mod Verdicts
@@ -7,3 +6,7 @@ pub mod FirstFaults
 pub mod FirstCodes
 pub mod OnlyFaults
 pub mod Propositions
+pub mod Cells
+pub mod Tops
+pub mod Arguments
+pub mod Laws

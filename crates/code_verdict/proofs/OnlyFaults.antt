@@ -1,8 +1,9 @@
 -- A file has at most one fault of a kind, so a first fault of it is the one that the verdict tells.
-use Rattle.std.proofs.Common.{◌≡◌, ◌⊎◌, inl, inr, refl, sym, ap, subst, ◌∙◌, ℕ, zero, suc, ◌<◌, List, [], ◌∷◌, length, Some, None, arith}
-use Rattle.std.specs.Prelude.{slice_get, ◌==◌}
-use Rattle.mesh_semantics.proofs.Laws.{same_some}
-use Rattle.object_code.specs.declared.file.UnitFile.{UnitFile}
+use Rattle.std.proofs.Common.{◌≡◌, ◌⊎◌, inl, inr, refl, sym, ap, subst, ◌∙◌, ℕ, zero, suc, ◌<◌, length, Some, None, arith}
+use Rattle.std.specs.Prelude.{◌==◌}
+use Rattle.std.proofs.lemmas.Option.{slice_get_within}
+use Rattle.run_words.proofs.Laws.{same_some}
+use Rattle.code_semantics.specs.declared.file.UnitFile.{UnitFile}
 use Rattle.code_verdict.specs.Sorts.{Declared, declared_at, scope_by}
 use Rattle.code_verdict.specs.Verified.{IsWellSorted, HasWellSorted}
 use Rattle.code_verdict.specs.Faults.{IsBadHeading, MethodsBelow, IsBadMethod, IsBadCode}
@@ -27,11 +28,6 @@ compared (suc m) (suc n) = by (compared m n)
     by (less h) = less (omega (arith, h))
     by (same h) = same (ap suc h)
     by (more h) = more (omega (arith, h))
-
-within : {X : Type 0} (xs : List X) (n : ℕ) (x : X) → slice_get xs n ≡ Some x → n < length xs
-within [] n x e = absurd (let z : None ≡ Some x = e in cc)
-within (y ∷ xs) zero x e = omega arith
-within (y ∷ xs) (suc n) x e = let h = within xs n x e in omega (arith, h)
 
 -- without any class the verdict is on class 0
 pub no_class : (f : UnitFile) → length f.unit.classes ≡ 0 → verdict f ≡ Header 0
@@ -75,7 +71,7 @@ module _ (f : UnitFile) where
     -- a code behind one that is at fault is not the first
     not_behind : (i n : ℕ) → i < n → IsBadAt i → MethodsBelow f k n → IsBadAt n → ⊥
     not_behind i n h (inl b) below last = b.bad (below i b.method b.kinds h b.is_method b.has_kinds)
-    not_behind i n h (inr b) below (inl m) = let e = b.0 in let w = within k.code.methods n m.method m.is_method in omega (arith, h, e, w)
+    not_behind i n h (inr b) below (inl m) = let e = b.0 in let w = slice_get_within k.code.methods n m.method m.is_method in omega (arith, h, e, w)
     not_behind i n h (inr b) below (inr m) = let e = b.0 in let w = m.0 in omega (arith, h, e, w)
 
     one_method : (i n : ℕ) → IsBadAt i → MethodsBelow f k i → IsBadAt n → MethodsBelow f k n → i ≡ n

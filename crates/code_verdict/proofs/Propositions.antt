@@ -1,12 +1,12 @@
 -- Facts that have at most one proof.
 use Rattle.std.proofs.Common.{refl, List, [], ◌∷◌}
 use denote.Struct.Props.{props}
-use Rattle.object_code.specs.declared.unit.MethodCode.{MethodCode}
-use Rattle.object_code.specs.declared.unit.ClassCode.{ClassCode}
-use Rattle.object_code.specs.declared.file.UnitFile.{UnitFile}
-use Rattle.object_code.specs.declared.file.ClassKinds.{ClassKinds}
-use Rattle.object_code.specs.declared.file.MethodKinds.{MethodKinds}
-use Rattle.object_code.specs.Shaped.{AreShapedMethods, AreShapedClasses, IsShaped}
+use Rattle.code_semantics.specs.declared.unit.MethodCode.{MethodCode}
+use Rattle.code_semantics.specs.declared.unit.ClassCode.{ClassCode}
+use Rattle.code_semantics.specs.declared.file.UnitFile.{UnitFile}
+use Rattle.code_semantics.specs.declared.file.ClassKinds.{ClassKinds}
+use Rattle.code_semantics.specs.declared.file.MethodKinds.{MethodKinds}
+use Rattle.code_semantics.specs.Shaped.{AreShapedMethods, AreShapedClasses, IsShaped}
 
 methods_fact : (ms : List MethodCode) (ss : List MethodKinds) → IsProp (AreShapedMethods ms ss)
 methods_fact [] [] = λ x y. refl

@@ -1,13 +1,14 @@
 -- The table that is spread over code: it holds exactly the stacks with which places are reached, and there is one where code has one stack at each place, which its instruction can take.
 use Rattle.std.proofs.Common.{◌≡◌, ◌≢◌, ◌⊎◌, inl, inr, refl, sym, ap, subst, ◌∙◌, IsTrue, ℕ, zero, suc, ◌+◌, ◌<◌, ◌≤◌, List, [], ◌∷◌, ◌++◌, length, map, Option, Some, None, is_some, Bool, true, false, ◌&&◌, arith, length-append}
 use Rattle.std.specs.Prelude.{slice_get, slice_set, nat_le, replicate}
-use Rattle.pool_syntax.specs.Typing.{Sort, IntSort, BoolSort, ClassSort, NilSort, NoSort, BrokenSort}
-use Rattle.mesh_semantics.proofs.Laws.{first, second, equal, equals, decide, same_some, given_by, required}
-use Rattle.mesh_semantics.specs.Partial.{◌>>=◌, ◌>>◌, require}
-use Rattle.mesh_semantics.specs.Sound.{Each}
-use Rattle.object_code.specs.declared.unit.Instr.{Instr}
-use Rattle.object_code.specs.declared.unit.Instr.TheVariants as I
-use Rattle.object_code.specs.Proper.{nexts, IsAmong}
+use Rattle.std.proofs.lemmas.List.{length-map}
+use Rattle.run_words.specs.Sorts.{Sort, IntSort, BoolSort, ClassSort, NilSort, NoSort, BrokenSort}
+use Rattle.run_words.proofs.Laws.{first, second, equal, equals, decide, same_some, given_by, required, each_both}
+use Rattle.run_words.specs.Partial.{◌>>=◌, ◌>>◌, require}
+use Rattle.run_words.specs.Tables.{Each}
+use Rattle.code_semantics.specs.declared.unit.Instr.{Instr}
+use Rattle.code_semantics.specs.declared.unit.Instr.TheVariants as I
+use Rattle.code_semantics.specs.Proper.{nexts, IsAmong}
 use Rattle.code_verdict.specs.Sorts.{Stack, CodeScope, left_by}
 use Rattle.code_verdict.specs.Verified.{Reached, ReachedBy}
 use Rattle.code_verdict.specs.Verdict.{Table, Visit, sorts_equal, stacks_equal, followed, if_equal, if_taken, visited, spread, visits, table_of}
@@ -54,10 +55,6 @@ each_front P (x ∷ xs) ys h = (h.0, each_front P xs ys h.1)
 each_back : {X : Type 0} (P : X → Type 0) (xs ys : List X) → Each P (xs ++ ys) → Each P ys
 each_back P [] ys h = h
 each_back P (x ∷ xs) ys h = each_back P xs ys h.1
-
-each_both : {X : Type 0} (P : X → Type 0) (xs ys : List X) → Each P xs → Each P ys → Each P (xs ++ ys)
-each_both P [] ys h k = k
-each_both P (x ∷ xs) ys h k = (h.0, each_both P xs ys h.1 k)
 
 module _ (g : CodeScope) (c : List Instr) where
   -- the table has this stack at the place of a visit
@@ -243,10 +240,6 @@ module _ (g : CodeScope) (c : List Instr) where
   all_unset [] = refl
   all_unset (i ∷ is) = let r = all_unset is in omega (arith, r)
 
-  length_map : {A B : Type 0} (f : A → B) (xs : List A) → length (map f xs) ≡ length xs
-  length_map f [] = refl
-  length_map f (x ∷ xs) = ap suc (length_map f xs)
-
   pub next_count : (at : ℕ) (i : Instr) → length (nexts at i) ≡ length (nexts 0 i)
   next_count at (I.PushInt z) = refl
   next_count at (I.PushBool b) = refl
@@ -346,7 +339,7 @@ module _ (g : CodeScope) (c : List Instr) where
                   ∙ ap (λ z. if_equal z (λ u. spread n g c t vs)) eq ∙ x.1,
             )
         by None q known new =
-            let m : length (visit_all f.1 (nexts v.0 f.0)) ≡ length (nexts v.0 f.0) = length_map (λ b. visit f.1 b) (nexts v.0 f.0) in
+            let m : length (visit_all f.1 (nexts v.0 f.0)) ≡ length (nexts v.0 f.0) = length-map (nexts v.0 f.0) (λ b. visit f.1 b) in
             let k = next_count v.0 f.0 in
             let d = set_less t c v.0 v.1 f.0 q f.2 in
             let la = length-append (visit_all f.1 (nexts v.0 f.0)) vs in

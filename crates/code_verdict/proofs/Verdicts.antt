@@ -1,16 +1,15 @@
 -- The computed test of a code says that it is well sorted.
-use Rattle.std.proofs.Common.{◌≡◌, ◌≢◌, ◌⊎◌, inl, inr, refl, sym, ap, subst, ◌∙◌, ℕ, zero, suc, ◌+◌, ◌==◌, ◌<◌, ◌≤◌, List, [], ◌∷◌, length, Option, Some, None, Bool, true, false, not, ◌&&◌, ◌||◌, arith}
+use Rattle.std.proofs.Common.{◌≡◌, ◌≢◌, ◌⊎◌, inl, inr, refl, sym, ap, subst, ◌∙◌, ℕ, zero, suc, ◌+◌, ◌==◌, ◌<◌, ◌≤◌, List, [], ◌∷◌, length, Option, Some, None, Bool, true, false, not, ◌&&◌, ◌||◌, arith, ltb-true, leb-true}
 use Rattle.std.specs.Prelude.{slice_get, nat_le, nat_lt, max, drop, is_none, ◌^◌}
 use Rattle.std.specs.List.{list_all, list_any}
-use Rattle.pool_syntax.specs.declared.words.NameId.{NameId}
-use Rattle.pool_syntax.specs.Spelled.{is_string_text}
-use Rattle.pool_syntax.specs.Typing.{Sort}
-use Rattle.mesh_semantics.proofs.Laws.{first, second, equal, equals, same_some}
-use Rattle.object_code.specs.declared.unit.Instr.{Instr}
-use Rattle.object_code.specs.declared.unit.Instr.TheVariants as I
-use Rattle.object_code.specs.declared.unit.AltCode.{AltCode}
-use Rattle.object_code.specs.Proper.{AreOwn, AnswerOwn, AltsExist, Exists, silent_to, Chain}
-use Rattle.unit_objects.proofs.Pigeons.{pigeons}
+use Rattle.run_words.specs.declared.words.NameId.{NameId}
+use Rattle.run_words.specs.Keywords.{is_string_text}
+use Rattle.run_words.specs.Sorts.{Sort}
+use Rattle.run_words.proofs.Laws.{first, second, equal, equals, same_some, pigeons, not_true}
+use Rattle.code_semantics.specs.declared.unit.Instr.{Instr}
+use Rattle.code_semantics.specs.declared.unit.Instr.TheVariants as I
+use Rattle.code_semantics.specs.declared.unit.AltCode.{AltCode}
+use Rattle.code_semantics.specs.Proper.{AreOwn, AnswerOwn, AltsExist, Exists, silent_to, Chain}
 use Rattle.code_verdict.specs.Sorts.{Stack, CodeScope}
 use Rattle.code_verdict.specs.Verified.{Reached, IsText, last_instr, EndsRight, IsWellSorted}
 use Rattle.code_verdict.specs.Verdict.{Table, most, is_own, answers_exist, alternative_exists, does_exist, is_ret, is_halt, is_last, ends_right, silence_ends, has_no_circle, has_table, table_of, is_well_sorted, is_post}
@@ -36,16 +35,6 @@ none_at p (y ∷ xs) (suc n) x h e = none_at p xs n x (right (p y) (list_any p x
     right false b h = h
     right true b h = absurd (let z : true ≡ false = h in cc)
 
-not_true : (b : Bool) → not b ≡ true → b ≡ false
-not_true false h = refl
-not_true true h = absurd (let z : false ≡ true = h in cc)
-
-is_less : (m n : ℕ) → nat_lt m n ≡ true → m < n
-is_less m n h = grind (arith, h)
-
-is_at_most : (m n : ℕ) → nat_le m n ≡ true → m ≤ n
-is_at_most m n h = grind (arith, h)
-
 module _ (g : CodeScope) (c : List Instr) where
   own_are : (ms : List NameId) → list_all (is_own g) ms ≡ true → AreOwn (Some g.class.code) ms
   own_are [] h = tt
@@ -60,7 +49,7 @@ module _ (g : CodeScope) (c : List Instr) where
   alts_are (a ∷ alts) h =
       let x = first (alternative_exists g c a) (list_all (alternative_exists g c) alts) h in (
         answer_are a.answer (second (nat_lt a.at (length c)) (answers_exist g a.answer) x),
-        is_less a.at (length c) (first (nat_lt a.at (length c)) (answers_exist g a.answer) x),
+        ltb-true a.at (length c) (first (nat_lt a.at (length c)) (answers_exist g a.answer) x),
         alts_are alts (second (alternative_exists g c a) (list_all (alternative_exists g c) alts) h),
       )
 
@@ -69,23 +58,23 @@ module _ (g : CodeScope) (c : List Instr) where
   exist_is (I.PushInt z) h = (tt, tt)
   exist_is (I.PushBool b) h = (tt, tt)
   exist_is I.PushNil h = (tt, tt)
-  exist_is (I.Jump a) h = (is_less a (length c) h, tt)
-  exist_is (I.LoadI n) h = (is_less n g.class.code.vars h, tt)
-  exist_is (I.LoadT n) h = (is_less n (length g.temps) h, tt)
+  exist_is (I.Jump a) h = (ltb-true a (length c) h, tt)
+  exist_is (I.LoadI n) h = (ltb-true n g.class.code.vars h, tt)
+  exist_is (I.LoadT n) h = (ltb-true n (length g.temps) h, tt)
   exist_is I.SelfRef h = (tt, tt)
-  exist_is (I.StoreI n) h = (is_less n g.class.code.vars h, tt)
-  exist_is (I.StoreT n) h = (is_less n (length g.temps) h, tt)
+  exist_is (I.StoreI n) h = (ltb-true n g.class.code.vars h, tt)
+  exist_is (I.StoreT n) h = (ltb-true n (length g.temps) h, tt)
   exist_is (I.Oper op) h = (tt, tt)
   exist_is I.Pop h = (tt, tt)
-  exist_is (I.Branch a) h = (is_less a (length c) h, tt)
+  exist_is (I.Branch a) h = (ltb-true a (length c) h, tt)
   exist_is I.Loop h = (tt, tt)
   exist_is (I.Call m) h = ((h, tt), tt)
   exist_is I.Ret h = (tt, tt)
   exist_is (I.New k) h = (h, tt)
   exist_is (I.Send m n) h =
-      ((is_less m.0 (length g.file.unit.names) (first (nat_lt m.0 (length g.file.unit.names)) (nat_le n 8) h), is_at_most n 8 (second (nat_lt m.0 (length g.file.unit.names)) (nat_le n 8) h)), tt)
+      ((ltb-true m.0 (length g.file.unit.names) (first (nat_lt m.0 (length g.file.unit.names)) (nat_le n 8) h), leb-true n 8 (second (nat_lt m.0 (length g.file.unit.names)) (nat_le n 8) h)), tt)
   exist_is (I.Async m n) h =
-      ((is_less m.0 (length g.file.unit.names) (first (nat_lt m.0 (length g.file.unit.names)) (nat_le n 8) h), is_at_most n 8 (second (nat_lt m.0 (length g.file.unit.names)) (nat_le n 8) h)), tt)
+      ((ltb-true m.0 (length g.file.unit.names) (first (nat_lt m.0 (length g.file.unit.names)) (nat_le n 8) h), leb-true n 8 (second (nat_lt m.0 (length g.file.unit.names)) (nat_le n 8) h)), tt)
   exist_is I.Write h = (tt, tt)
   exist_is (I.WriteText s) h = (passes_below is_string_text g.file.unit.names s.0 h, h)
   exist_is (I.Answer ms) h = (own_are ms h, tt)
@@ -197,8 +186,8 @@ module _ (g : CodeScope) (c : List Instr) where
     where
       by : (b : Bool) → nat_le (length r) (most t) ≡ b → (most t ≡ 0) ⊎ ((at : ℕ) × (s : Stack) × (slice_get t at ≡ Some (Some s)) × (length s ≡ most t))
           → (max (length r) (most t) ≡ 0) ⊎ ((at : ℕ) × (s : Stack) × (slice_get (Some r ∷ t) at ≡ Some (Some s)) × (length s ≡ max (length r) (most t)))
-      by true q (inl e) = let le = is_at_most (length r) (most t) q in inl (omega (arith, e, le))
-      by true q (inr h) = let le = is_at_most (length r) (most t) q in let k = h.3 in inr (suc h.0, h.1, h.2, omega (arith, k, le))
+      by true q (inl e) = let le = leb-true (length r) (most t) q in inl (omega (arith, e, le))
+      by true q (inr h) = let le = leb-true (length r) (most t) q in let k = h.3 in inr (suc h.0, h.1, h.2, omega (arith, k, le))
       by false q h = let lt : most t < length r = grind (arith, q) in inr (0, r, refl, omega (arith, lt))
 
   none_past : (n : ℕ) (t : Table) (at : ℕ) (s : Stack) → list_all is_none (drop n t) ≡ true → slice_get t at ≡ Some (Some s) → at < n

@@ -1,18 +1,19 @@
 -- The computed verdict on a file is good exactly where it is verified.
-use Rattle.std.proofs.Common.{◌≡◌, refl, sym, ap, subst, ◌∙◌, ℕ, zero, suc, ◌+◌, ◌==◌, ◌<◌, ◌≤◌, List, [], ◌∷◌, length, Option, Some, None, Bool, true, false, not, ◌&&◌, arith}
+use Rattle.std.proofs.Common.{◌≡◌, refl, sym, ap, subst, ◌∙◌, ℕ, zero, suc, ◌+◌, ◌==◌, ◌<◌, ◌≤◌, List, [], ◌∷◌, length, Option, Some, None, Bool, true, false, not, ◌&&◌, arith, leb-true}
 use Rattle.std.specs.Prelude.{slice_get, nat_le, nat_lt}
 use Rattle.std.specs.List.{list_all}
-use Rattle.pool_syntax.specs.declared.tree.Kind.{Kind}
-use Rattle.pool_syntax.specs.declared.tree.Kind.TheVariants as K
-use Rattle.pool_syntax.specs.Spelled.{is_name}
-use Rattle.mesh_semantics.proofs.Laws.{first, second, equal, equals, same_some}
-use Rattle.mesh_semantics.specs.Sound.{Each}
-use Rattle.object_code.specs.declared.unit.ClassCode.{ClassCode}
-use Rattle.object_code.specs.declared.unit.MethodCode.{MethodCode}
-use Rattle.object_code.specs.declared.file.UnitFile.{UnitFile}
-use Rattle.object_code.specs.declared.file.MethodKinds.{MethodKinds}
-use Rattle.object_code.specs.Step.{Numbered, method_named, class_from}
-use Rattle.unit_objects.proofs.Laws.{found_named}
+use Rattle.std.proofs.lemmas.Option.{slice_get_within}
+use Rattle.run_words.specs.declared.words.Kind.{Kind}
+use Rattle.run_words.specs.declared.words.Kind.TheVariants as K
+use Rattle.run_words.specs.Keywords.{is_name}
+use Rattle.run_words.proofs.Laws.{first, second, equal, equals, same_some}
+use Rattle.run_words.specs.Tables.{Each}
+use Rattle.code_semantics.specs.declared.unit.ClassCode.{ClassCode}
+use Rattle.code_semantics.specs.declared.unit.MethodCode.{MethodCode}
+use Rattle.code_semantics.specs.declared.file.UnitFile.{UnitFile}
+use Rattle.code_semantics.specs.declared.file.MethodKinds.{MethodKinds}
+use Rattle.code_semantics.specs.Step.{Numbered, method_named, class_from}
+use Rattle.code_semantics.proofs.Laws.{found_named}
 use Rattle.code_verdict.specs.Sorts.{Declared, declared_at, scope_by}
 use Rattle.code_verdict.specs.Verified.{KindExists, ResultExists, IsMethodHeading, IsHeading, HasWellSorted, IsWellSorted, IsVerified}
 use Rattle.code_verdict.specs.Verdict.{Verdict, Good, Header, Code, kind_exists, result_exists, is_first, is_place, methods_right, heading_right, is_well_sorted, or_else, fault_if, bad_heading, bad_method, bad_code, bad_codes, good_unless, verdict}
@@ -21,16 +22,8 @@ use Rattle.code_verdict.proofs.Verdicts.{test_is_right, right_passes}
 both_are : (a b : Bool) → a ≡ true → b ≡ true → (a && b) ≡ true
 both_are a b x y = ap (λ z. z && b) x ∙ y
 
-at_most : (m n : ℕ) → nat_le m n ≡ true → m ≤ n
-at_most m n h = grind (arith, h)
-
 most_is : (m n : ℕ) → m ≤ n → nat_le m n ≡ true
 most_is m n h = grind (arith, h)
-
-below : {X : Type 0} (xs : List X) (n : ℕ) (x : X) → slice_get xs n ≡ Some x → n < length xs
-below [] n x e = absurd (let z : None ≡ Some x = e in cc)
-below (y ∷ xs) zero x e = omega arith
-below (y ∷ xs) (suc n) x e = let h = below xs n x e in omega (arith, h)
 
 module _ (f : UnitFile) where
   kind_is : (k : Kind) → kind_exists f k ≡ true → KindExists f k
@@ -87,7 +80,7 @@ module _ (f : UnitFile) where
         record {
           name = first (is_name f.unit.names m.name.0) (is_first i (method_named (Some k) m.name)) h2;
           first = first_is k i m e (second (is_name f.unit.names m.name.0) (is_first i (method_named (Some k) m.name)) h2);
-          limits = (at_most m.params 8 (second _ (nat_le m.params 8) h3), at_most m.temps 32 (second _ (nat_le m.temps 32) h4), at_most m.params m.temps (second _ (nat_le m.params m.temps) h5));
+          limits = (leb-true m.params 8 (second _ (nat_le m.params 8) h3), leb-true m.temps 32 (second _ (nat_le m.temps 32) h4), leb-true m.params m.temps (second _ (nat_le m.params m.temps) h5));
           kinds = (kinds_are s.temps (second _ (list_all (kind_exists f) s.temps) h6), result_is s.result (second _ (result_exists f s.result) h));
         }
 
@@ -136,7 +129,7 @@ module _ (f : UnitFile) where
       record {
         name = first (is_name f.unit.names k.code.name.0) (is_place j (class_from 0 f.unit.classes k.code.name)) h2;
         first = place_is j (class_from 0 f.unit.classes k.code.name) (second (is_name f.unit.names k.code.name.0) (is_place j (class_from 0 f.unit.classes k.code.name)) h2);
-        limits = (lt, at_most k.code.vars 64 (second _ (nat_le k.code.vars 64) h4), at_most (length k.code.methods) 64 (second _ (nat_le (length k.code.methods) 64) h5));
+        limits = (lt, leb-true k.code.vars 64 (second _ (nat_le k.code.vars 64) h4), leb-true (length k.code.methods) 64 (second _ (nat_le (length k.code.methods) 64) h5));
         kinds = kinds_are k.kinds.vars (second _ (list_all (kind_exists f) k.kinds.vars) h6);
         methods = λ i m s e g. subst (λ n. IsMethodHeading f k.code n m s) (let z : 0 + i ≡ i = omega arith in z)
             (methods_are k.code 0 k.code.methods k.kinds.methods (λ i m e. ap (slice_get k.code.methods) (let z : 0 + i ≡ i = omega arith in z) ∙ e)
@@ -237,7 +230,7 @@ module _ (f : UnitFile) where
     where
       by : (o : Option ClassCode) → slice_get f.unit.classes j ≡ o → j < length f.unit.classes
       by None q = absurd (let z : None ≡ Some k = rw q at e in cc)
-      by (Some x) q = below f.unit.classes j x q
+      by (Some x) q = slice_get_within f.unit.classes j x q
 
   none_of_all : (b : Bool) (n : ℕ) → (n == 0) ≡ b → b ≡ false → 0 < n
   none_of_all b n e h = let z : (n == 0) ≡ false = e ∙ h in grind (arith, z)

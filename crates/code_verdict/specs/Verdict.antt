@@ -1,21 +1,22 @@
 -- The verdict on a file, as a computation: the first heading that breaks a rule, or the first code that is not well sorted.
-use Rattle.std.specs.Prelude.{ℕ, zero, suc, ◌+◌, ◌^◌, ◌==◌, List, [], ◌∷◌, ◌++◌, length, map, Option, Some, None, is_some, Bool, true, false, not, ◌&&◌, nat_le, nat_lt, max, slice_get, slice_set, replicate, drop, is_none}
+use Rattle.std.specs.Prelude.{ℕ, zero, suc, ◌+◌, ◌^◌, ◌==◌, List, [], ◌∷◌, ◌++◌, length, map, Option, Some, None, is_some, Bool, true, false, not, ◌&&◌, nat_le, nat_lt, max, slice_get, slice_set}
+use Rattle.std.specs.Prelude.{replicate, drop, is_none}
 use Rattle.std.specs.List.{list_all, list_any}
-use Rattle.pool_syntax.specs.declared.words.NameId.{NameId}
-use Rattle.pool_syntax.specs.declared.tree.Kind.{Kind}
-use Rattle.pool_syntax.specs.declared.tree.Kind.TheVariants as K
-use Rattle.pool_syntax.specs.Spelled.{is_name, is_string_number}
-use Rattle.pool_syntax.specs.Typing.{Sort, IntSort, BoolSort, ClassSort, NilSort, NoSort, BrokenSort}
-use Rattle.mesh_semantics.specs.Partial.{◌>>=◌, ◌>>◌, require}
-use Rattle.object_code.specs.declared.unit.Instr.{Instr}
-use Rattle.object_code.specs.declared.unit.Instr.TheVariants as I
-use Rattle.object_code.specs.declared.unit.AltCode.{AltCode}
-use Rattle.object_code.specs.declared.unit.ClassCode.{ClassCode}
-use Rattle.object_code.specs.declared.unit.MethodCode.{MethodCode}
-use Rattle.object_code.specs.declared.file.UnitFile.{UnitFile}
-use Rattle.object_code.specs.declared.file.MethodKinds.{MethodKinds}
-use Rattle.object_code.specs.Proper.{nexts, silent_to}
-use Rattle.object_code.specs.Step.{Numbered, method_named, class_from}
+use Rattle.run_words.specs.declared.words.NameId.{NameId}
+use Rattle.run_words.specs.declared.words.Kind.{Kind}
+use Rattle.run_words.specs.declared.words.Kind.TheVariants as K
+use Rattle.run_words.specs.Keywords.{is_name, is_string_number}
+use Rattle.run_words.specs.Sorts.{Sort, IntSort, BoolSort, ClassSort, NilSort, NoSort, BrokenSort}
+use Rattle.run_words.specs.Partial.{◌>>=◌, ◌>>◌, require}
+use Rattle.code_semantics.specs.declared.unit.Instr.{Instr}
+use Rattle.code_semantics.specs.declared.unit.Instr.TheVariants as I
+use Rattle.code_semantics.specs.declared.unit.AltCode.{AltCode}
+use Rattle.code_semantics.specs.declared.unit.ClassCode.{ClassCode}
+use Rattle.code_semantics.specs.declared.unit.MethodCode.{MethodCode}
+use Rattle.code_semantics.specs.declared.file.UnitFile.{UnitFile}
+use Rattle.code_semantics.specs.declared.file.MethodKinds.{MethodKinds}
+use Rattle.code_semantics.specs.Proper.{nexts, silent_to}
+use Rattle.code_semantics.specs.Step.{Numbered, method_named, class_from}
 use Rattle.code_verdict.specs.Sorts.{CodeScope, Declared, Stack, declared_at, scope_by, left_by}
 
 -- equal sorts

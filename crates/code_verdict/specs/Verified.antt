@@ -1,19 +1,19 @@
 -- Verified files: their headings, and code in which each place is reached with one stack of sorts, which its instruction can take.
 use Rattle.std.specs.Prelude.{◌≡◌, ◌≢◌, ℕ, zero, suc, ◌+◌, ◌≤◌, ◌<◌, ◌^◌, List, [], ◌∷◌, length, Option, Some, None, is_some, IsTrue, slice_get}
-use Rattle.pool_syntax.specs.declared.tree.Kind.{Kind}
-use Rattle.pool_syntax.specs.declared.tree.Kind.TheVariants as K
-use Rattle.pool_syntax.specs.Spelled.{is_name, is_string_number}
-use Rattle.pool_syntax.specs.Typing.{Sort}
-use Rattle.mesh_semantics.specs.Sound.{Each}
-use Rattle.object_code.specs.declared.unit.Instr.{Instr}
-use Rattle.object_code.specs.declared.unit.Instr.TheVariants as I
-use Rattle.object_code.specs.declared.unit.ClassCode.{ClassCode}
-use Rattle.object_code.specs.declared.unit.MethodCode.{MethodCode}
-use Rattle.object_code.specs.declared.file.UnitFile.{UnitFile}
-use Rattle.object_code.specs.declared.file.ClassKinds.{ClassKinds}
-use Rattle.object_code.specs.declared.file.MethodKinds.{MethodKinds}
-use Rattle.object_code.specs.Proper.{Exists, IsAmong, Chain, nexts}
-use Rattle.object_code.specs.Step.{method_named, class_from}
+use Rattle.run_words.specs.declared.words.Kind.{Kind}
+use Rattle.run_words.specs.declared.words.Kind.TheVariants as K
+use Rattle.run_words.specs.Keywords.{is_name, is_string_number}
+use Rattle.run_words.specs.Sorts.{Sort}
+use Rattle.run_words.specs.Tables.{Each}
+use Rattle.code_semantics.specs.declared.unit.Instr.{Instr}
+use Rattle.code_semantics.specs.declared.unit.Instr.TheVariants as I
+use Rattle.code_semantics.specs.declared.unit.ClassCode.{ClassCode}
+use Rattle.code_semantics.specs.declared.unit.MethodCode.{MethodCode}
+use Rattle.code_semantics.specs.declared.file.UnitFile.{UnitFile}
+use Rattle.code_semantics.specs.declared.file.ClassKinds.{ClassKinds}
+use Rattle.code_semantics.specs.declared.file.MethodKinds.{MethodKinds}
+use Rattle.code_semantics.specs.Proper.{Exists, IsAmong, Chain, nexts}
+use Rattle.code_semantics.specs.Step.{method_named, class_from}
 use Rattle.code_verdict.specs.Sorts.{CodeScope, Declared, Stack, declared_at, scope_by, left_by}
 
 -- n instructions lead from the front to a place with this stack; none goes on from more than 64 operands

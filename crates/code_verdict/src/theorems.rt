@@ -1,6 +1,6 @@
 //! Laws of the verdict on object code files: each is the contract of a function that does nothing.
 ghost use Rattle.std.specs.Prelude.{◌≡◌, ◌⊎◌, ℕ, length};
-ghost use Rattle.object_code.specs.declared.file.UnitFile.{UnitFile};
+ghost use Rattle.code_semantics.specs.declared.file.UnitFile.{UnitFile};
 ghost use Rattle.code_verdict.specs.Faults.{IsBadHeading, IsBadCode};
 ghost use Rattle.code_verdict.specs.Verdict.{Good, Header, Code, verdict};
 ghost use Rattle.code_verdict.specs.Verified.{IsVerified};

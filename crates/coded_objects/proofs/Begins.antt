@@ -2,29 +2,30 @@
 use Rattle.std.proofs.Common.{◌≡◌, ◌≢◌, ◌⊎◌, inl, inr, refl, sym, ap, subst, ◌∙◌, IsTrue, ℕ, zero, suc, ◌*◌, ◌<◌, ◌≤◌, ◌==◌, List, [], ◌∷◌, length, Option, Some, None, is_some, Bool, true, false, arith}
 use Rattle.std.specs.Prelude.{slice_get}
 use Rattle.std.specs.List.{All}
-use Rattle.pool_syntax.specs.declared.words.NameId.{NameId}
-use Rattle.pool_syntax.specs.declared.words.Place.{Place}
-use Rattle.pool_syntax.specs.declared.words.Place.TheVariants as Pl
-use Rattle.pool_syntax.specs.declared.words.Placement.{Placement}
-use Rattle.object_code.specs.declared.unit.ClassCode.{ClassCode}
-use Rattle.object_code.specs.declared.unit.CodeObject.{CodeObject}
-use Rattle.object_code.specs.declared.unit.Unit.{Unit as Code}
-use Rattle.object_code.specs.Step.{class_from, placed_of, placed_at, code_made}
-use Rattle.object_code.specs.Proper.{IsProper}
-use Rattle.object_code.specs.Suits.{IsOfMesh, Suits}
-use Rattle.mesh_semantics.proofs.Laws.{equals, same_some, given_by, placed_start_sound}
+use Rattle.run_words.specs.declared.words.NameId.{NameId}
+use Rattle.run_words.specs.declared.words.Place.{Place}
+use Rattle.run_words.specs.declared.words.Place.TheVariants as Pl
+use Rattle.run_words.specs.declared.words.Placement.{Placement}
+use Rattle.code_semantics.specs.declared.unit.ClassCode.{ClassCode}
+use Rattle.run_words.specs.declared.frames.CodeObject.{CodeObject}
+use Rattle.code_semantics.specs.declared.unit.Unit.{Unit as Code}
+use Rattle.code_semantics.specs.Step.{class_from, placed_of, placed_at, code_made}
+use Rattle.code_semantics.specs.Proper.{IsProper}
+use Rattle.code_semantics.specs.Suits.{IsOfMesh, Suits}
+use Rattle.run_words.proofs.Laws.{equals, same_some, given_by}
+use Rattle.mesh_semantics.proofs.Laws.{placed_start_sound}
 use Rattle.mesh_semantics.specs.Act.{id}
-use Rattle.mesh_semantics.specs.Partial.{◌>>=◌}
+use Rattle.run_words.specs.Partial.{◌>>=◌}
 use Rattle.mesh_semantics.specs.Config.{Config, put_object}
 use Rattle.mesh_semantics.specs.Delay.{no_delay}
 use Rattle.mesh_semantics.specs.FitFor.{FitFor}
 use Rattle.mesh_semantics.specs.Record.{root_name, with_root, start}
 use Rattle.mesh_semantics.specs.Sound.{IsSound}
-use Rattle.mesh_semantics.specs.Ways.{In}
+use Rattle.run_words.specs.Ways.{In}
 use Rattle.coded_objects.specs.Coded.{Placed, placed, under_way, class_numbers, last_code, coded}
 use Rattle.coded_objects.specs.OfCode.{Names, IsOfCode}
 use Rattle.coded_objects.proofs.Configs.{plain_names, one_more}
-use Rattle.unit_objects.proofs.Laws.{made_is_of}
+use Rattle.code_semantics.proofs.Laws.{made_is_of}
 use Rattle.coded_objects.proofs.Inversions.{class_there}
 use Rattle.coded_objects.proofs.Methods.{made_methods}
 

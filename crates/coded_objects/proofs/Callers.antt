@@ -1,40 +1,37 @@
 -- The callers that code serves.
-use Rattle.std.proofs.Common.{◌≡◌, ◌⊎◌, inl, inr, refl, sym, ap, subst, ◌∙◌, ℕ, zero, suc, ◌==◌, List, [], ◌∷◌, length, Option, Some, None, Bool, true, false, if◌then◌else◌}
-use Rattle.std.specs.Prelude.{slice_get, slice_set}
+use Rattle.std.proofs.Common.{◌≡◌, ◌⊎◌, inl, inr, refl, sym, ap, subst, ◌∙◌, ℕ, suc, ◌==◌, List, [], ◌∷◌, length, Option, Some, None, Bool, true, false, if◌then◌else◌}
+use Rattle.std.specs.Prelude.{slice_get}
 use Rattle.std.specs.List.{list_any}
-use Rattle.pool_syntax.specs.declared.words.NameId.{NameId}
-use Rattle.pool_syntax.specs.declared.words.Value.{Value}
-use Rattle.pool_syntax.specs.declared.words.Value.TheVariants as V
-use Rattle.pool_syntax.specs.declared.words.Error.TheVariants.{NilOperand, NoOpenGuard}
-use Rattle.pool_syntax.specs.Values.{Outcome, Gives, Fails, WrongSort}
-use Rattle.pool_syntax.specs.Values.{is_bool, is_true, not_bool}
-use Rattle.mesh_semantics.specs.Partial.{◌>>=◌}
-use Rattle.mesh_semantics.proofs.Tests.{equal}
-use Rattle.mesh_semantics.proofs.Chains.{same_some}
-use Rattle.object_code.specs.declared.unit.CodeObject.{CodeObject}
-use Rattle.object_code.specs.declared.unit.Frame.{Frame}
-use Rattle.object_code.specs.declared.unit.Instr.{Instr}
-use Rattle.object_code.specs.declared.unit.Instr.TheVariants as I
-use Rattle.object_code.specs.declared.unit.AltCode.{AltCode}
-use Rattle.object_code.specs.declared.unit.ClassCode.{ClassCode}
-use Rattle.pool_syntax.specs.declared.words.Serves.{Serves}
-use Rattle.pool_syntax.specs.declared.words.Serves.TheVariants as S
-use Rattle.object_code.specs.declared.unit.Unit.{Unit as Code}
-use Rattle.object_code.specs.Frames.{code_of, top, below, dropped, taken, next, silent, go_on_with, settled_within, post_passed}
-use Rattle.object_code.specs.Kinds as C
-use Rattle.object_code.specs.Kinds.{Offered, operated, arity, outcome_kind, sent_kind, return_kind, offers, select_kind, instr_kind, frames_kind, code_kind}
-use Rattle.object_code.specs.Step.{Numbered, at_rest, nth, outcome_value, method_named, begun, called, handed, left, is_own, padded, instr_stepped, frames_stepped, asked, frames_given, instr_gone_on, frames_gone_on, at_alternative, after_choice, frames_picked, frames_serving, method_serving, placed_of, code_placed, class_from, placed_at, code_made}
+use Rattle.run_words.specs.declared.words.NameId.{NameId}
+use Rattle.run_words.specs.declared.words.Value.{Value}
+use Rattle.run_words.specs.declared.words.Value.TheVariants as V
+use Rattle.run_words.specs.declared.words.Error.TheVariants.{NilOperand, NoOpenGuard}
+use Rattle.run_words.specs.Values.{Outcome, Gives, Fails, WrongSort, is_bool, is_true, not_bool}
+use Rattle.run_words.specs.Partial.{◌>>=◌}
+use Rattle.run_words.proofs.Laws.{equal, equals, same_some}
+use Rattle.run_words.specs.declared.frames.CodeObject.{CodeObject}
+use Rattle.run_words.specs.declared.frames.Frame.{Frame}
+use Rattle.code_semantics.specs.declared.unit.Instr.{Instr}
+use Rattle.code_semantics.specs.declared.unit.Instr.TheVariants as I
+use Rattle.code_semantics.specs.declared.unit.ClassCode.{ClassCode}
+use Rattle.run_words.specs.declared.words.Serves.{Serves}
+use Rattle.run_words.specs.declared.words.Serves.TheVariants as S
+use Rattle.code_semantics.specs.declared.unit.Unit.{Unit as Code}
+use Rattle.code_semantics.specs.Frames.{code_of, next}
+use Rattle.run_words.specs.Operands.{top, dropped, taken, padded}
+use Rattle.code_semantics.specs.Kinds as C
+use Rattle.code_semantics.specs.Kinds.{Offered, operated, outcome_kind, sent_kind, return_kind, offers, instr_kind, frames_kind, code_kind}
+use Rattle.code_semantics.specs.Step.{Numbered, at_rest, method_named, left, frames_given, instr_gone_on, frames_gone_on, frames_serving, method_serving, placed_of, code_placed, class_from, placed_at, code_made}
 use Rattle.mesh_semantics.specs.Act.{id}
 use Rattle.mesh_semantics.specs.Kind as K
 use Rattle.mesh_semantics.specs.Kind.{Kind, Alternative}
-use Rattle.mesh_semantics.specs.Ways.{In}
+use Rattle.run_words.specs.Ways.{In}
 use Rattle.mesh_semantics.specs.Config.{Config, object_of}
-use Rattle.node_semantics.specs.Requests.{Requests, KeepsClassAndFault, is_at_once, with_caller}
-use Rattle.node_semantics.specs.Outstanding.{AreServed}
+use Rattle.mesh_semantics.specs.Requests.{Requests, KeepsClassAndFault, is_at_once, with_caller, AreServed}
 use Rattle.coded_objects.specs.Coded.{Placed, kind_of, unless_served, under_way, served_by, callers_of, class_numbers, class_number, last_code, serves_for, placed, coded}
-use Rattle.mesh_semantics.proofs.Tests.{equals}
-use Rattle.unit_objects.specs.OfUnit.{AreFramesOf}
+use Rattle.code_semantics.specs.OfUnit.{AreFramesOf}
 use Rattle.coded_objects.specs.OfCode.{IsOfCode, Names, is_for, methods_for, number_in}
+use Rattle.coded_objects.proofs.Serving.{Tells, rest_tells, given_tells, stepped_tells, done_tells, picked_tells, serving_tells}
 
 abbrev pub serves_caller : Serves → Bool
 serves_caller (S.Caller k n) = true
@@ -51,33 +48,11 @@ based_of k P above [] a = tt
 based_of k P above (f ∷ []) a = ap serves_caller a.3
 based_of k P above (f ∷ g ∷ fs) a = based_of k P (Some f) (g ∷ fs) a.3
 
-passed_serves : (code : List Instr) (n : ℕ) (f : Frame) → ((g : Frame) → (settled_within code n g).serves ≡ g.serves)
-    → (s : Serves) → (go_on_with f (settled_within code n) (post_passed f s)).serves ≡ f.serves
-passed_serves code n f r S.Own = r (next f f.operands)
-passed_serves code n f r S.Sender = r (next f f.operands)
-passed_serves code n f r (S.Caller k m) = refl
-
--- silent instructions change no one whom a frame serves
-silent_serves : (code : List Instr) (n : ℕ) (f : Frame) → ((g : Frame) → (settled_within code n g).serves ≡ g.serves)
-    → (i : Option Instr) → (go_on_with f (settled_within code n) (silent f i)).serves ≡ f.serves
-silent_serves code n f r (Some (I.PushInt z)) = r (next f (V.Int z ∷ f.operands))
-silent_serves code n f r (Some (I.PushBool b)) = r (next f (V.Bool b ∷ f.operands))
-silent_serves code n f r (Some I.PushNil) = r (next f (V.Nil ∷ f.operands))
-silent_serves code n f r (Some (I.Jump a)) = r (record f { at = a })
-silent_serves code n f r (Some I.Post) = passed_serves code n f r f.serves
-silent_serves code n f r _ = refl
-
-pub within_serves : (code : List Instr) (n : ℕ) (f : Frame) → (settled_within code n f).serves ≡ f.serves
-within_serves code zero f = refl
-within_serves code (suc n) f = silent_serves code n f (within_serves code n) (slice_get code f.at)
+told : Tells served_by callers_of
+told = record { more = λ f fs. refl; own = λ ks. refl; sender = λ ks. refl }
 
 rest_callers : (k : Option ClassCode) (x : CodeObject) (f : Frame) (fs : List Frame) → callers_of (at_rest k x f fs).frames ≡ served_by f.serves (callers_of fs)
-rest_callers k x f fs = ap (λ s. served_by s (callers_of fs)) (within_serves (code_of k f.method) (length (code_of k f.method)) f)
-
--- a value that has come
-pub given_callers : (k : Option ClassCode) (x : CodeObject) (v : Value) (fs : List Frame) → x.frames ≡ fs → callers_of (frames_given k x v fs).frames ≡ callers_of fs
-given_callers k x v [] e = ap callers_of e
-given_callers k x v (f ∷ fs) e = rest_callers k x (next f (v ∷ dropped (asked (slice_get (code_of k f.method) f.at)) f.operands)) fs
+rest_callers k x f fs = rest_tells served_by callers_of told k x f fs
 
 given_frames : (k : Option ClassCode) (x : CodeObject) (v : Value) (fs : List Frame) → x.frames ≡ fs → under_way (frames_given k x v fs).frames ≡ under_way fs
 given_frames k x v [] e = ap under_way e
@@ -86,69 +61,6 @@ given_frames k x v (f ∷ fs) e = refl
 given_class : (k : Option ClassCode) (x : CodeObject) (v : Value) (fs : List Frame) → (frames_given k x v fs).class ≡ x.class
 given_class k x v [] = refl
 given_class k x v (f ∷ fs) = refl
-
--- local steps
-called_callers : (k : Option ClassCode) (x : CodeObject) (f : Frame) (fs : List Frame) (m : Option Numbered) → x.frames ≡ f ∷ fs
-    → callers_of (called k x f fs m).frames ≡ callers_of (f ∷ fs)
-called_callers k x f fs None e = ap callers_of e
-called_callers k x f fs (Some m) e = rest_callers k x (begun m (taken m.code.params f.operands []) S.Own) (next f (dropped m.code.params f.operands) ∷ fs)
-
-handed_callers : (k : Option ClassCode) (x : CodeObject) (v : Value) (f : Frame) (fs : List Frame) → x.frames ≡ f ∷ fs → f.serves ≡ S.Own
-    → callers_of (handed k x v fs).frames ≡ callers_of fs
-handed_callers k x v f [] e s = ap callers_of e ∙ ap (λ t. served_by t []) s
-handed_callers k x v f (g ∷ gs) e s = rest_callers k x (record g { operands = v ∷ g.operands }) gs
-
-left_callers : (k : Option ClassCode) (x : CodeObject) (f : Frame) (fs : List Frame) → x.frames ≡ f ∷ fs → f.serves ≡ S.Sender
-    → callers_of (left k x fs).frames ≡ callers_of fs
-left_callers k x f [] e s = ap callers_of e ∙ ap (λ t. served_by t []) s
-left_callers k x f (g ∷ gs) e s = rest_callers k x g gs
-
-ret_callers : (k : Option ClassCode) (x : CodeObject) (v : Value) (f : Frame) (fs : List Frame) → x.frames ≡ f ∷ fs
-    → (s : Serves) → f.serves ≡ s → kind_of (return_kind s v) ≡ K.Local
-    → callers_of (if is_own s then handed k x v fs else left k x fs).frames ≡ served_by s (callers_of fs)
-ret_callers k x v f fs e S.Own s q = handed_callers k x v f fs e s
-ret_callers k x v f fs e (S.Caller c n) s q = absurd (cc)
-ret_callers k x v f fs e S.Sender s q = left_callers k x f fs e s
-
-step_callers : (k : Option ClassCode) (o : ℕ) (x : CodeObject) (f : Frame) (fs : List Frame) → x.frames ≡ f ∷ fs
-    → (i : Option Instr) → kind_of (instr_kind f i) ≡ K.Local → callers_of (instr_stepped k o x f fs i).frames ≡ callers_of (f ∷ fs)
-step_callers k o x f fs e (Some (I.LoadI n)) q = rest_callers k x (next f (nth x.vars n ∷ f.operands)) fs
-step_callers k o x f fs e (Some (I.LoadT n)) q = rest_callers k x (next f (nth f.temps n ∷ f.operands)) fs
-step_callers k o x f fs e (Some I.SelfRef) q = rest_callers k x (next f (V.Ref o ∷ f.operands)) fs
-step_callers k o x f fs e (Some (I.StoreI n)) q = rest_callers k x (next f (below f.operands)) fs
-step_callers k o x f fs e (Some (I.StoreT n)) q = rest_callers k x (next (record f { temps = slice_set f.temps n (top f.operands) }) (below f.operands)) fs
-step_callers k o x f fs e (Some (I.Oper op)) q = rest_callers k x (next f (outcome_value (operated op f.operands) ∷ dropped (arity op) f.operands)) fs
-step_callers k o x f fs e (Some I.Pop) q = rest_callers k x (next f (below f.operands)) fs
-step_callers k o x f fs e (Some (I.Branch a)) q = rest_callers k x (record f { at = if is_true (top f.operands) then suc f.at else a; operands = below f.operands }) fs
-step_callers k o x f fs e (Some I.Loop) q = rest_callers k x (next f f.operands) fs
-step_callers k o x f fs e (Some (I.Call m)) q = called_callers k x f fs (method_named k m) e
-step_callers k o x f fs e (Some I.Ret) q = ret_callers k x (top f.operands) f fs e f.serves refl q
-step_callers k o x f fs e _ q = ap callers_of e
-
-stepped_callers : (k : Option ClassCode) (o : ℕ) (x : CodeObject) (fs : List Frame) → x.frames ≡ fs → kind_of (frames_kind k fs) ≡ K.Local
-    → callers_of (frames_stepped k o x fs).frames ≡ callers_of fs
-stepped_callers k o x [] e q = ap callers_of e
-stepped_callers k o x (f ∷ fs) e q = step_callers k o x f fs e (slice_get (code_of k f.method) f.at) q
-
--- a statement that is done
-pub no_return_at_once : (s : Serves) (v : Value) → is_at_once (kind_of (return_kind s v)) ≡ true → ⊥
-no_return_at_once S.Own v q = absurd (cc)
-no_return_at_once (S.Caller k n) v q = absurd (cc)
-no_return_at_once S.Sender v q = absurd (cc)
-
-gone_callers : (k : Option ClassCode) (x : CodeObject) (f : Frame) (fs : List Frame) → x.frames ≡ f ∷ fs
-    → (i : Option Instr) → is_at_once (kind_of (instr_kind f i)) ≡ true → callers_of (instr_gone_on k x f fs i).frames ≡ callers_of (f ∷ fs)
-gone_callers k x f fs e (Some I.Write) q = rest_callers k x (next f (below f.operands)) fs
-gone_callers k x f fs e (Some (I.WriteText s)) q = rest_callers k x (next f f.operands) fs
-gone_callers k x f fs e (Some (I.Async m n)) q = rest_callers k x (next f (dropped (suc n) f.operands)) fs
-gone_callers k x f fs e (Some I.Ret) q = absurd (no_return_at_once f.serves (top f.operands) q)
-gone_callers k x f fs e (Some I.Post) q = absurd (no_return_at_once f.serves (top f.operands) q)
-gone_callers k x f fs e _ q = ap callers_of e
-
-done_callers : (k : Option ClassCode) (x : CodeObject) (fs : List Frame) → x.frames ≡ fs → is_at_once (kind_of (frames_kind k fs)) ≡ true
-    → callers_of (frames_gone_on k x fs).frames ≡ callers_of fs
-done_callers k x [] e q = ap callers_of e
-done_callers k x (f ∷ fs) e q = gone_callers k x f fs e (slice_get (code_of k f.method) f.at) q
 
 -- a value that is given back
 pub outcome_no_return : (w : Outcome) (c : ℕ) (v : Value) → kind_of (outcome_kind w) ≡ K.Return c v → ⊥
@@ -218,21 +130,6 @@ returned_callers : (k : Option ClassCode) (x : CodeObject) (fs : List Frame) →
 returned_callers k x [] b c v q = absurd (cc)
 returned_callers k x (f ∷ fs) b c v q = went_callers k x f fs b (slice_get (code_of k f.method) f.at) c v q
 
--- a choice
-alternative_serves : (f : Frame) (n : ℕ) (a : Option AltCode) → (at_alternative f n a).serves ≡ f.serves
-alternative_serves f n None = refl
-alternative_serves f n (Some a) = refl
-
-pub choice_serves : (f : Frame) (i : ℕ) (j : Option Instr) → (after_choice f i j).serves ≡ f.serves
-choice_serves f i (Some (I.Select alts)) = alternative_serves f (length alts) _
-choice_serves f i _ = refl
-
-picked_callers : (k : Option ClassCode) (x : CodeObject) (i : ℕ) (fs : List Frame) → x.frames ≡ fs → callers_of (frames_picked k x i fs).frames ≡ callers_of fs
-picked_callers k x i [] e = ap callers_of e
-picked_callers k x i (f ∷ fs) e =
-    rest_callers k x (after_choice f i (slice_get (code_of k f.method) f.at)) fs
-    ∙ ap (λ s. served_by s (callers_of fs)) (choice_serves f i (slice_get (code_of k f.method) f.at))
-
 for_callers : (caller : Option ℕ) (ks : List ℕ) → served_by (serves_for caller) ks ≡ with_caller caller ks
 for_callers None ks = refl
 for_callers (Some k) ks = refl
@@ -241,8 +138,7 @@ begun_callers : (k : Option ClassCode) (x : CodeObject) (i : ℕ) (m : Numbered)
     → kind_of (frames_kind k fs) ≡ K.Select alts → callers_of (frames_serving k x i m args (serves_for caller) fs).frames ≡ with_caller caller (callers_of fs)
 begun_callers k x i m args caller [] alts q = absurd (cc)
 begun_callers k x i m args caller (f ∷ fs) alts q =
-    rest_callers k x (begun m args (serves_for caller)) (after_choice f i (slice_get (code_of k f.method) f.at) ∷ fs)
-    ∙ (for_callers caller _ ∙ ap (λ s. with_caller caller (served_by s (callers_of fs))) (choice_serves f i (slice_get (code_of k f.method) f.at)))
+    serving_tells served_by callers_of told k x i m args (serves_for caller) f fs ∙ for_callers caller (callers_of (f ∷ fs))
 
 serving_callers : (k : Option ClassCode) (x : Placed) (i : ℕ) (m : Option Numbered) (args : List Value) (caller : Option ℕ) (alts : List Alternative) (z : Placed)
     → kind_of (frames_kind k x.object.frames) ≡ K.Select alts
@@ -352,11 +248,11 @@ code_requests u = record {
   waiting_callers = λ o s b m args q. refl;
   waiting_given = λ o s b m args v q. refl;
   given_frames = λ o s v q. given_frames (slice_get u.classes s.object.class) s.object v s.object.frames refl;
-  given_callers = λ o s v q. given_callers (slice_get u.classes s.object.class) s.object v s.object.frames refl;
-  stepped_callers = λ c o x w h q. stepped_callers (slice_get u.classes x.object.class) o x.object x.object.frames refl (no_wait_local x.served (kind_of (code_kind u x.object)) q);
-  done_callers = λ c o x w h q. done_callers (slice_get u.classes x.object.class) x.object x.object.frames refl (no_wait_once x.served (kind_of (code_kind u x.object)) q);
+  given_callers = λ o s v q. given_tells served_by callers_of told (slice_get u.classes s.object.class) s.object v s.object.frames refl;
+  stepped_callers = λ c o x w h q. stepped_tells served_by callers_of told (slice_get u.classes x.object.class) o x.object x.object.frames refl (no_wait_local x.served (kind_of (code_kind u x.object)) q);
+  done_callers = λ c o x w h q. done_tells served_by callers_of told (slice_get u.classes x.object.class) x.object x.object.frames refl (no_wait_once x.served (kind_of (code_kind u x.object)) q);
   returned_callers = λ c o x k v w h q. returned_callers (slice_get u.classes x.object.class) x.object x.object.frames (let t = w.of_unit o x h in based_of t.class (Names c) None x.object.frames t.frames) k v (no_wait_return x.served (kind_of (code_kind u x.object)) k v q);
-  picked_callers = λ c o x alts i w h q. picked_callers (slice_get u.classes x.object.class) x.object i x.object.frames refl;
+  picked_callers = λ c o x alts i w h q. picked_tells served_by callers_of told (slice_get u.classes x.object.class) x.object i x.object.frames refl;
   serving_callers = λ c o x alts i m caller args z w h q e. serving_callers (slice_get u.classes x.object.class) x i (method_named (slice_get u.classes x.object.class) (id m)) args caller alts z (no_wait_select x.served (kind_of (code_kind u x.object)) alts q) e;
   faulted_callers = λ c o x e w h q. refl;
   root_callers = λ y e. root_callers u (last_code u.classes) y e;

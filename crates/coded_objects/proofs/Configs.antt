@@ -2,25 +2,26 @@
 use Rattle.std.proofs.Common.{◌≡◌, ◌≢◌, ◌⊎◌, inl, inr, refl, sym, ap, subst, ◌∙◌, IsTrue, ℕ, ℤ, ◌<◌, List, [], ◌∷◌, length, Option, Some, None}
 use Rattle.std.specs.Ordering.{nat_cmp}
 use Rattle.std.specs.FinMap.{is_sorted}
-use Rattle.pool_syntax.specs.declared.words.Value.{Value}
-use Rattle.pool_syntax.specs.declared.words.Value.TheVariants as V
-use Rattle.pool_syntax.specs.declared.words.Error.{Error}
-use Rattle.object_code.specs.declared.unit.ClassCode.{ClassCode}
-use Rattle.object_code.specs.declared.unit.CodeObject.{CodeObject}
-use Rattle.object_code.specs.declared.unit.Frame.{Frame}
-use Rattle.object_code.specs.declared.unit.Unit.{Unit as Code}
-use Rattle.object_code.specs.Kinds as C
-use Rattle.object_code.specs.Kinds.{code_kind}
-use Rattle.mesh_semantics.proofs.Laws.{decide, same_some, each_map, find_put_same, find_put_other}
+use Rattle.run_words.specs.declared.words.Value.{Value}
+use Rattle.run_words.specs.declared.words.Value.TheVariants as V
+use Rattle.run_words.specs.declared.words.Error.{Error}
+use Rattle.code_semantics.specs.declared.unit.ClassCode.{ClassCode}
+use Rattle.run_words.specs.declared.frames.CodeObject.{CodeObject}
+use Rattle.run_words.specs.declared.frames.Frame.{Frame}
+use Rattle.code_semantics.specs.declared.unit.Unit.{Unit as Code}
+use Rattle.code_semantics.specs.Kinds as C
+use Rattle.code_semantics.specs.Kinds.{code_kind}
+use Rattle.run_words.proofs.Laws.{decide, same_some, find_put_same, find_put_other, each_map}
 use Rattle.mesh_semantics.proofs.Basics.{there_put}
 use Rattle.mesh_semantics.proofs.Shapes.{sorted_put}
-use Rattle.mesh_semantics.proofs.Maps.{messages_same, messages_other}
+use Rattle.mesh_semantics.proofs.MessageMaps.{messages_same, messages_other}
 use Rattle.mesh_semantics.specs.Act.{id}
 use Rattle.mesh_semantics.specs.Kind as K
-use Rattle.mesh_semantics.specs.Message.{Message}
+use Rattle.run_words.specs.Message.{Message}
 use Rattle.mesh_semantics.specs.Config.{Config, object_of, messages_of, put_object, put_messages}
-use Rattle.mesh_semantics.specs.Sound.{Each, IsThere}
-use Rattle.unit_objects.specs.OfUnit.{IsFrameOf, AreFramesOf, IsObjectOf, missing_under, serves_of, HoldsOfPlain}
+use Rattle.run_words.specs.Tables.{Each}
+use Rattle.mesh_semantics.specs.Sound.{IsThere}
+use Rattle.code_semantics.specs.OfUnit.{IsFrameOf, AreFramesOf, IsObjectOf, missing_under, serves_of, HoldsOfPlain}
 use Rattle.coded_objects.specs.Coded.{Placed, coded}
 use Rattle.coded_objects.specs.OfCode.{Names, serving_for, IsOfCode}
 

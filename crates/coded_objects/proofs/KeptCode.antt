@@ -1,38 +1,38 @@
 -- Each transition of code keeps what is kept of a configuration.
 use Rattle.std.proofs.Common.{◌≡◌, ◌≢◌, ◌⊎◌, inl, inr, refl, sym, ap, subst, ◌∙◌, ℕ, ◌==◌, ◌≤◌, List, [], ◌∷◌, ◌++◌, length, Option, Some, None, is_some, is_none, Bool, true, false, not, if◌then◌else◌}
 use Rattle.std.specs.Prelude.{◌&&◌}
-use Rattle.pool_syntax.specs.declared.words.NameId.{NameId}
-use Rattle.pool_syntax.specs.declared.words.Value.{Value}
-use Rattle.pool_syntax.specs.declared.words.Value.TheVariants as V
-use Rattle.pool_syntax.specs.declared.words.Item.{Item}
-use Rattle.pool_syntax.specs.declared.words.Error.{Error}
-use Rattle.pool_syntax.specs.declared.words.Label.{Label}
-use Rattle.pool_syntax.specs.declared.words.Label.TheVariants as L
-use Rattle.pool_syntax.specs.declared.words.Serves.TheVariants as S
-use Rattle.object_code.specs.declared.unit.CodeObject.{CodeObject}
-use Rattle.object_code.specs.declared.unit.Unit.{Unit as Code}
-use Rattle.object_code.specs.Kinds as C
-use Rattle.object_code.specs.Kinds.{code_kind}
-use Rattle.object_code.specs.Step.{code_serving, code_made}
-use Rattle.object_code.specs.Proper.{IsProper}
-use Rattle.node_semantics.specs.Requests.{is_at_once}
-use Rattle.mesh_semantics.proofs.Laws.{first, second, equals, decide, differ, same_some, given_by, required, same_values, each_map, each_append, find_put_same, find_put_other}
+use Rattle.run_words.specs.declared.words.NameId.{NameId}
+use Rattle.run_words.specs.declared.words.Value.{Value}
+use Rattle.run_words.specs.declared.words.Value.TheVariants as V
+use Rattle.run_words.specs.declared.words.Item.{Item}
+use Rattle.run_words.specs.declared.words.Error.{Error}
+use Rattle.run_words.specs.declared.words.Label.{Label}
+use Rattle.run_words.specs.declared.words.Label.TheVariants as L
+use Rattle.run_words.specs.declared.words.Serves.TheVariants as S
+use Rattle.run_words.specs.declared.frames.CodeObject.{CodeObject}
+use Rattle.code_semantics.specs.declared.unit.Unit.{Unit as Code}
+use Rattle.code_semantics.specs.Kinds as C
+use Rattle.code_semantics.specs.Kinds.{code_kind}
+use Rattle.code_semantics.specs.Step.{code_serving, code_made}
+use Rattle.code_semantics.specs.Proper.{IsProper}
+use Rattle.mesh_semantics.specs.Requests.{is_at_once}
+use Rattle.run_words.proofs.Laws.{first, second, equals, decide, differ, same_some, given_by, required, same_values, find_put_same, find_put_other, each_map, each_append}
 use Rattle.mesh_semantics.proofs.Basics.{running_gives, there_put}
 use Rattle.mesh_semantics.proofs.Shapes.{sorted_put}
 use Rattle.mesh_semantics.specs.Act.{id}
-use Rattle.mesh_semantics.specs.Same.{are_same}
-use Rattle.mesh_semantics.specs.Message.{Message}
+use Rattle.run_words.specs.Same.{are_same}
+use Rattle.run_words.specs.Message.{Message}
 use Rattle.mesh_semantics.specs.Kind as K
 use Rattle.mesh_semantics.specs.Kind.{Kind, is_local, makes, calls, posts, returns, waits_on, writes, fails, has_name, alternatives}
 use Rattle.mesh_semantics.specs.Config.{Config, object_of, messages_of, put_object, put_messages}
 use Rattle.mesh_semantics.specs.Moves.{running, offered, numbered, can_pick, has_message, first_message, without_message, move}
 use Rattle.mesh_semantics.specs.Lawful.{Lawful}
-use Rattle.mesh_semantics.specs.Sound.{Each}
-use Rattle.unit_objects.specs.OfUnit.{IsAsking, IsChoosing, IsGoingOn}
+use Rattle.run_words.specs.Tables.{Each}
+use Rattle.code_semantics.specs.OfUnit.{IsAsking, IsChoosing, IsGoingOn}
 use Rattle.coded_objects.specs.Coded.{Placed, placed, kind_of, coded}
 use Rattle.coded_objects.specs.OfCode.{Names, serving_for, IsOfCode}
 use Rattle.coded_objects.proofs.Callers.{based_of}
-use Rattle.unit_objects.proofs.Laws.{stepped_of, given_of, gone_on_of, picked_of, serving_of, made_is_of, async_values, send_values, return_value}
+use Rattle.code_semantics.proofs.Laws.{stepped_of, given_of, gone_on_of, picked_of, serving_of, made_is_of, async_values, send_values, return_value}
 use Rattle.coded_objects.proofs.Methods.{methods_of, stepped_methods, given_methods, done_methods, picked_methods, serving_methods, returned_methods, made_methods}
 use Rattle.coded_objects.proofs.Configs.{plain_names, ref_names, one_change, one_put, one_more, two_change, Free, At, Neither, ItServes, IsMessageOf, with_messages, IsServed, not_served}
 use Rattle.coded_objects.proofs.Naming.{name_of, object_named}

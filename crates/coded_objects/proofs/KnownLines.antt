@@ -1,38 +1,40 @@
 -- Each line of a run of code names a place of the unit's table of names, if it names anything.
 use Rattle.std.proofs.Common.{◌≡◌, ◌≢◌, inl, inr, refl, ap, subst, ℕ, zero, suc, ◌+◌, ◌<◌, ◌==◌, List, [], ◌∷◌, ◌++◌, length, Option, Some, None, is_some, is_none, Bool, true, false, if◌then◌else◌}
 use Rattle.std.specs.Prelude.{◌&&◌, nat_lt, flat_map}
-use Rattle.pool_syntax.specs.declared.words.Value.{Value}
-use Rattle.pool_syntax.specs.declared.words.Value.TheVariants as V
-use Rattle.pool_syntax.specs.declared.words.Item.{Item}
-use Rattle.pool_syntax.specs.declared.words.Item.TheVariants as It
-use Rattle.pool_syntax.specs.declared.words.Label.{Label}
-use Rattle.pool_syntax.specs.declared.words.Label.TheVariants as L
-use Rattle.pool_syntax.specs.declared.words.What.{What}
-use Rattle.pool_syntax.specs.declared.words.What.TheVariants as W
-use Rattle.pool_syntax.specs.declared.words.FullKind.TheVariants as F
-use Rattle.pool_syntax.specs.declared.words.Event.{Event}
-use Rattle.pool_syntax.specs.declared.words.Event.TheVariants as Ev
-use Rattle.pool_syntax.specs.declared.words.Line.{Line}
-use Rattle.pool_syntax.specs.declared.words.Line.TheVariants as R
-use Rattle.pool_syntax.specs.declared.words.Placement.{Placement}
-use Rattle.object_code.specs.declared.unit.Unit.{Unit as Code}
-use Rattle.object_code.specs.Proper.{IsProper}
-use Rattle.mesh_semantics.proofs.Laws.{first, second, equal, equals, same_some, given_by, required, each_head, moved_own, moved_some, fit_of, turn_there, act_kept, with_wires, IsOfWire, TellsOfWire, tells_of_wire}
+use Rattle.run_words.specs.declared.words.Value.{Value}
+use Rattle.run_words.specs.declared.words.Value.TheVariants as V
+use Rattle.run_words.specs.declared.words.Item.{Item}
+use Rattle.run_words.specs.declared.words.Item.TheVariants as It
+use Rattle.run_words.specs.declared.words.Label.{Label}
+use Rattle.run_words.specs.declared.words.Label.TheVariants as L
+use Rattle.run_words.specs.declared.words.What.{What}
+use Rattle.run_words.specs.declared.words.What.TheVariants as W
+use Rattle.run_words.specs.declared.words.FullKind.TheVariants as F
+use Rattle.run_words.specs.declared.words.Event.{Event}
+use Rattle.run_words.specs.declared.words.Event.TheVariants as Ev
+use Rattle.run_words.specs.declared.words.Line.{Line}
+use Rattle.run_words.specs.declared.words.Line.TheVariants as R
+use Rattle.run_words.specs.declared.words.Placement.{Placement}
+use Rattle.code_semantics.specs.declared.unit.Unit.{Unit as Code}
+use Rattle.code_semantics.specs.Proper.{IsProper}
+use Rattle.run_words.proofs.Laws.{first, second, equal, equals, same_some, given_by, required}
+use Rattle.mesh_semantics.proofs.Laws.{each_head, moved_own, moved_some, fit_of, turn_there, act_kept, with_wires, IsOfWire, TellsOfWire, tells_of_wire}
 use Rattle.mesh_semantics.proofs.Basics.{running_gives}
-use Rattle.mesh_semantics.specs.Same.{are_same}
-use Rattle.mesh_semantics.specs.Message.{Message}
+use Rattle.run_words.specs.Same.{are_same}
+use Rattle.run_words.specs.Message.{Message}
 use Rattle.std.specs.FinMap.{put}
-use Rattle.mesh_semantics.specs.Tables.{Pair, pair_cmp}
+use Rattle.run_words.specs.Tables.{Pair, pair_cmp, Each}
 use Rattle.mesh_semantics.specs.Kind as K
 use Rattle.mesh_semantics.specs.Kind.{Kind, Alternative, makes, calls, posts, writes, alternatives}
 use Rattle.mesh_semantics.specs.Config.{Config, object_of, messages_of}
 use Rattle.mesh_semantics.specs.Moves.{running, offered, first_message, move}
-use Rattle.mesh_semantics.specs.Paths.{path, along, on_link, move_head}
+use Rattle.run_words.specs.Paths.{path, along, on_link, move_head}
 use Rattle.mesh_semantics.specs.Wire.{Wire, Coming, Empty, Stale, Next, coming, take, wire_act}
 use Rattle.mesh_semantics.specs.Delay as D
-use Rattle.mesh_semantics.specs.Delay.{Packet, Arrival, Holding, Wires, Delay, wire_at, node_of, arrived_at, held, hold, free, post, take_arrival, count_made, stepped_last, cell_count}
+use Rattle.mesh_semantics.specs.Delay.{Packet, Arrival, Holding, Wires, Delay, wire_at, arrived_at, held, hold, free, post, take_arrival, count_made, stepped_last, cell_count}
+use Rattle.run_words.specs.ObjectNames.{node_of}
 use Rattle.mesh_semantics.specs.Act.{id, next_name, sent, Acted, Acts, Full, Nothing, act, within, shows, labelled, object_count, frame_count, local_steps, step_count, local_turn, goal_of, create_turn, first_arrival, accept_turn, chosen_turn, is_possible, choice_turn, object_turn, node_turn, turn_of, first_of, goal_node, received, passed, link_move, plain_act, on_wires, wire_move, wire_turn, act_over, is_quiet}
-use Rattle.mesh_semantics.specs.Sound.{Each, Entry, Sent, entries, Owns, OwnedAt, Letter, letter, letter_if, letters, letters_in, notes, Has, IsPlaced, IsSound}
+use Rattle.mesh_semantics.specs.Sound.{Entry, Sent, entries, Owns, OwnedAt, Letter, letter, letter_if, letters, letters_in, notes, Has, IsPlaced, IsSound}
 use Rattle.mesh_semantics.specs.FitFor.{FitFor}
 use Rattle.mesh_semantics.specs.Kept.{After}
 use Rattle.mesh_semantics.specs.Record.{start, after, record_from, record_at, record_of, record_on_wires}

@@ -2,37 +2,39 @@
 use Rattle.std.proofs.Common.{◌≡◌, refl, sym, ap, subst, ◌∙◌, ℕ, zero, suc, ◌+◌, ◌<◌, ◌≤◌, ◌==◌, List, [], ◌∷◌, length, Option, Some, None, is_some, Bool, true, false, arith}
 use Rattle.std.specs.Prelude.{◌&&◌, if◌then◌else◌, slice_get}
 use Rattle.std.specs.List.{list_any}
-use Rattle.pool_syntax.specs.declared.words.Value.{Value}
-use Rattle.pool_syntax.specs.declared.words.Value.TheVariants as V
-use Rattle.pool_syntax.specs.declared.words.Item.{Item}
-use Rattle.pool_syntax.specs.declared.words.Item.TheVariants as It
-use Rattle.pool_syntax.specs.declared.words.Label.{Label}
-use Rattle.pool_syntax.specs.declared.words.Label.TheVariants as L
-use Rattle.pool_syntax.specs.declared.words.Serves.{Serves}
-use Rattle.pool_syntax.specs.declared.words.Serves.TheVariants as S
-use Rattle.pool_syntax.specs.declared.words.Error.TheVariants.{NilOperand, NoOpenGuard}
-use Rattle.pool_syntax.specs.Values.{Outcome, Gives, Fails, WrongSort, is_true, is_bool, not_bool}
-use Rattle.object_code.specs.declared.unit.CodeObject.{CodeObject}
-use Rattle.object_code.specs.declared.unit.Frame.{Frame}
-use Rattle.object_code.specs.declared.unit.Instr.{Instr}
-use Rattle.object_code.specs.declared.unit.Instr.TheVariants as I
-use Rattle.object_code.specs.declared.unit.AltCode.{AltCode}
-use Rattle.object_code.specs.declared.unit.ClassCode.{ClassCode}
-use Rattle.object_code.specs.declared.unit.Unit.{Unit as Code}
-use Rattle.object_code.specs.Frames.{code_of, top, dropped, taken}
-use Rattle.object_code.specs.Kinds as C
-use Rattle.object_code.specs.Kinds.{Offered, operated, offers, outcome_kind, return_kind, sent_kind, instr_kind, frames_kind, code_kind}
-use Rattle.object_code.specs.Proper.{takes, IsProper}
-use Rattle.mesh_semantics.proofs.Laws.{first, second, same_some, given_by, required, same_value, same_values}
+use Rattle.run_words.specs.declared.words.Value.{Value}
+use Rattle.run_words.specs.declared.words.Value.TheVariants as V
+use Rattle.run_words.specs.declared.words.Item.{Item}
+use Rattle.run_words.specs.declared.words.Item.TheVariants as It
+use Rattle.run_words.specs.declared.words.Label.{Label}
+use Rattle.run_words.specs.declared.words.Label.TheVariants as L
+use Rattle.run_words.specs.declared.words.Serves.{Serves}
+use Rattle.run_words.specs.declared.words.Serves.TheVariants as S
+use Rattle.run_words.specs.declared.words.Error.TheVariants.{NilOperand, NoOpenGuard}
+use Rattle.run_words.specs.Values.{Outcome, Gives, Fails, WrongSort, is_true, is_bool, not_bool}
+use Rattle.run_words.specs.declared.frames.CodeObject.{CodeObject}
+use Rattle.run_words.specs.declared.frames.Frame.{Frame}
+use Rattle.code_semantics.specs.declared.unit.Instr.{Instr}
+use Rattle.code_semantics.specs.declared.unit.Instr.TheVariants as I
+use Rattle.code_semantics.specs.declared.unit.AltCode.{AltCode}
+use Rattle.code_semantics.specs.declared.unit.ClassCode.{ClassCode}
+use Rattle.code_semantics.specs.declared.unit.Unit.{Unit as Code}
+use Rattle.code_semantics.specs.Frames.{code_of}
+use Rattle.run_words.specs.Operands.{top, dropped, taken}
+use Rattle.code_semantics.specs.Kinds as C
+use Rattle.code_semantics.specs.Kinds.{Offered, operated, offers, outcome_kind, return_kind, sent_kind, instr_kind, frames_kind, code_kind}
+use Rattle.code_semantics.specs.Proper.{takes, IsProper}
+use Rattle.run_words.proofs.Laws.{first, second, same_some, given_by, required, same_value, same_values}
 use Rattle.mesh_semantics.proofs.Basics.{running_gives}
 use Rattle.mesh_semantics.specs.Act.{id}
-use Rattle.mesh_semantics.specs.Same.{are_same}
+use Rattle.run_words.specs.Same.{are_same}
 use Rattle.mesh_semantics.specs.Kind.{Alternative, calls, posts, returns, waits_on, writes, alternatives}
 use Rattle.mesh_semantics.specs.Config.{Config, object_of, messages_of}
 use Rattle.mesh_semantics.specs.Moves.{running, offered, numbered, can_pick, first_message, move}
-use Rattle.mesh_semantics.specs.Sound.{Each, IsThere}
-use Rattle.unit_objects.specs.OfUnit.{IsObjectOf, AreFramesOf, HoldsOfItem}
-use Rattle.unit_objects.proofs.Laws.{async_values, send_values, return_value, write_value, proper_code, top_frame}
+use Rattle.run_words.specs.Tables.{Each}
+use Rattle.mesh_semantics.specs.Sound.{IsThere}
+use Rattle.code_semantics.specs.OfUnit.{IsObjectOf, AreFramesOf, HoldsOfItem}
+use Rattle.code_semantics.proofs.Laws.{async_values, send_values, return_value, write_value, proper_code, top_frame}
 use Rattle.coded_objects.specs.Coded.{Placed, kind_of, unless_served, alternatives_of, coded}
 use Rattle.coded_objects.specs.OfCode.{Names, IsOfCode}
 use Rattle.coded_objects.specs.LabelThere.{LabelThere}

@@ -2,43 +2,41 @@
 use Rattle.std.proofs.Common.{◌≡◌, refl, sym, ap, subst, ◌∙◌, IsTrue, ℕ, ◌+◌, ◌<◌, ◌==◌, List, [], ◌∷◌, length, Option, Some, None, is_some, Bool, true, false, if◌then◌else◌, arith}
 use Rattle.std.specs.Prelude.{slice_get, ◌&&◌}
 use Rattle.std.specs.List.{list_any}
-use Rattle.pool_syntax.specs.declared.words.NameId.{NameId}
-use Rattle.pool_syntax.specs.declared.words.Value.{Value}
-use Rattle.pool_syntax.specs.declared.words.Value.TheVariants as V
-use Rattle.mesh_semantics.specs.Partial.{◌>>=◌}
-use Rattle.pool_syntax.specs.Values.{Outcome, Gives, Fails, WrongSort}
-use Rattle.pool_syntax.specs.Values.{is_true, is_bool, not_bool}
-use Rattle.mesh_semantics.proofs.Tests.{second, equal, equals}
-use Rattle.mesh_semantics.proofs.Chains.{same_some}
-use Rattle.object_code.specs.declared.unit.CodeObject.{CodeObject}
-use Rattle.object_code.specs.declared.unit.Frame.{Frame}
-use Rattle.object_code.specs.declared.unit.Instr.{Instr}
-use Rattle.object_code.specs.declared.unit.Instr.TheVariants as I
-use Rattle.object_code.specs.declared.unit.AltCode.{AltCode}
-use Rattle.pool_syntax.specs.declared.words.Serves.{Serves}
-use Rattle.pool_syntax.specs.declared.words.Serves.TheVariants as S
-use Rattle.object_code.specs.declared.unit.ClassCode.{ClassCode}
-use Rattle.object_code.specs.declared.unit.MethodCode.{MethodCode}
-use Rattle.object_code.specs.declared.unit.Unit.{Unit as Code}
-use Rattle.object_code.specs.Frames.{code_of, top, dropped, taken}
-use Rattle.object_code.specs.Kinds as C
-use Rattle.object_code.specs.Kinds.{Offered, offers, select_kind, sent_kind, return_kind, outcome_kind, operated, instr_kind, frames_kind, code_kind}
-use Rattle.object_code.specs.Step.{Numbered, method_named, class_from, code_given, frames_given, code_made}
-use Rattle.object_code.specs.Proper.{AreOwn, AnswerOwn, AltsExist, Exists, IsProper}
+use Rattle.run_words.specs.declared.words.NameId.{NameId}
+use Rattle.run_words.specs.declared.words.Value.{Value}
+use Rattle.run_words.specs.declared.words.Value.TheVariants as V
+use Rattle.run_words.specs.Partial.{◌>>=◌}
+use Rattle.run_words.specs.Values.{Outcome, Gives, Fails, WrongSort, is_true, is_bool, not_bool}
+use Rattle.run_words.proofs.Laws.{second, equal, equals, same_some}
+use Rattle.run_words.specs.declared.frames.CodeObject.{CodeObject}
+use Rattle.run_words.specs.declared.frames.Frame.{Frame}
+use Rattle.code_semantics.specs.declared.unit.Instr.{Instr}
+use Rattle.code_semantics.specs.declared.unit.Instr.TheVariants as I
+use Rattle.code_semantics.specs.declared.unit.AltCode.{AltCode}
+use Rattle.run_words.specs.declared.words.Serves.{Serves}
+use Rattle.run_words.specs.declared.words.Serves.TheVariants as S
+use Rattle.code_semantics.specs.declared.unit.ClassCode.{ClassCode}
+use Rattle.code_semantics.specs.declared.unit.MethodCode.{MethodCode}
+use Rattle.code_semantics.specs.declared.unit.Unit.{Unit as Code}
+use Rattle.code_semantics.specs.Frames.{code_of, method_code}
+use Rattle.run_words.specs.Operands.{top, dropped, taken}
+use Rattle.code_semantics.specs.Kinds as C
+use Rattle.code_semantics.specs.Kinds.{Offered, offers, select_kind, sent_kind, return_kind, outcome_kind, operated, instr_kind, frames_kind, code_kind}
+use Rattle.code_semantics.specs.Step.{Numbered, method_named, class_from, code_given, frames_given, code_made, frames_serving}
+use Rattle.code_semantics.specs.Proper.{AreOwn, AnswerOwn, AltsExist, Exists, IsProper}
 use Rattle.mesh_semantics.specs.Act.{id}
 use Rattle.mesh_semantics.specs.Kind as K
 use Rattle.mesh_semantics.specs.Kind.{Kind, Alternative, alternatives, has_name, answers}
-use Rattle.pool_syntax.specs.declared.words.Error.{Error}
-use Rattle.pool_syntax.specs.declared.words.Error.TheVariants.{NilOperand, NoOpenGuard}
-use Rattle.pool_syntax.specs.declared.words.Label.{Label}
-use Rattle.mesh_semantics.specs.Message.{Message}
-use Rattle.object_code.specs.Frames.{method_code}
-use Rattle.object_code.specs.Step.{frames_serving}
+use Rattle.run_words.specs.declared.words.Error.{Error}
+use Rattle.run_words.specs.declared.words.Error.TheVariants.{NilOperand, NoOpenGuard}
+use Rattle.run_words.specs.declared.words.Label.{Label}
+use Rattle.run_words.specs.Message.{Message}
 use Rattle.mesh_semantics.specs.Config.{Config, object_of, messages_of}
 use Rattle.mesh_semantics.specs.Lawful.{Lawful, CanServe}
 use Rattle.mesh_semantics.specs.Moves.{move, offered, first_message}
-use Rattle.mesh_semantics.specs.Sound.{Each, IsThere, is_wait}
-use Rattle.unit_objects.specs.OfUnit.{AreFramesOf, IsObjectOf}
+use Rattle.run_words.specs.Tables.{Each}
+use Rattle.mesh_semantics.specs.Sound.{IsThere, is_wait}
+use Rattle.code_semantics.specs.OfUnit.{AreFramesOf, IsObjectOf}
 use Rattle.coded_objects.specs.OfCode.{Names, is_for, number_in, methods_for, IsOfCode}
 use Rattle.coded_objects.proofs.Inversions.{makes_class, goes_to, goes_back, new_at, receiver_at, return_at, class_there}
 use Rattle.coded_objects.specs.Coded.{Placed, placed, numbers, answered, alternatives_of, kind_of, unless_served, under_way, serves_for, coded}

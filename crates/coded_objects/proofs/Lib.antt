@@ -9,9 +9,10 @@ pub mod KeptCode
 pub mod Named
 pub mod Begins
 pub mod KnownLines
-pub mod Laws
 pub mod MadeCode
 pub mod WireNumbers
 pub mod Telling
 pub mod LabelParts
 pub mod MadeStart
+pub mod Serving
+pub mod Laws

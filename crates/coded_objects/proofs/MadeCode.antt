@@ -2,45 +2,46 @@
 use Rattle.std.proofs.Common.{◌≡◌, ◌≢◌, ◌⊎◌, inl, inr, refl, sym, ap, subst, ◌∙◌, ℕ, ◌==◌, List, [], ◌∷◌, ◌++◌, length, Option, Some, None, is_some, is_none, Bool, true, false, not}
 use Rattle.std.specs.Prelude.{◌&&◌, if◌then◌else◌, slice_get}
 use Rattle.std.specs.List.{list_any}
-use Rattle.pool_syntax.specs.declared.words.NameId.{NameId}
-use Rattle.pool_syntax.specs.declared.words.Value.{Value}
-use Rattle.pool_syntax.specs.declared.words.Value.TheVariants as V
-use Rattle.pool_syntax.specs.declared.words.Item.{Item}
-use Rattle.pool_syntax.specs.declared.words.Item.TheVariants as It
-use Rattle.pool_syntax.specs.declared.words.Label.{Label}
-use Rattle.pool_syntax.specs.declared.words.Label.TheVariants as L
-use Rattle.pool_syntax.specs.declared.words.Serves.TheVariants as S
-use Rattle.pool_syntax.specs.declared.words.Serves.{Serves}
-use Rattle.pool_syntax.specs.declared.words.Error.TheVariants.{NilOperand, NoOpenGuard}
-use Rattle.pool_syntax.specs.Values.{Outcome, Gives, Fails, WrongSort, is_true, is_bool, not_bool}
-use Rattle.object_code.specs.declared.unit.CodeObject.{CodeObject}
-use Rattle.object_code.specs.declared.unit.Frame.{Frame}
-use Rattle.object_code.specs.declared.unit.Instr.{Instr}
-use Rattle.object_code.specs.declared.unit.Instr.TheVariants as I
-use Rattle.object_code.specs.declared.unit.ClassCode.{ClassCode}
-use Rattle.object_code.specs.Frames.{code_of, top, dropped, taken}
-use Rattle.object_code.specs.declared.unit.Unit.{Unit as Code}
-use Rattle.object_code.specs.Kinds as C
-use Rattle.object_code.specs.Kinds.{operated, offers, outcome_kind, return_kind, sent_kind, instr_kind, frames_kind, code_kind}
-use Rattle.object_code.specs.Step.{code_serving, code_made}
-use Rattle.object_code.specs.Proper.{IsProper}
-use Rattle.mesh_semantics.proofs.Laws.{first, second, equal, equals, values_itself, decide, same_some, given_by, required, same_value, same_values, each_append, find_put_same, find_put_other}
+use Rattle.run_words.specs.declared.words.NameId.{NameId}
+use Rattle.run_words.specs.declared.words.Value.{Value}
+use Rattle.run_words.specs.declared.words.Value.TheVariants as V
+use Rattle.run_words.specs.declared.words.Item.{Item}
+use Rattle.run_words.specs.declared.words.Item.TheVariants as It
+use Rattle.run_words.specs.declared.words.Label.{Label}
+use Rattle.run_words.specs.declared.words.Label.TheVariants as L
+use Rattle.run_words.specs.declared.words.Serves.TheVariants as S
+use Rattle.run_words.specs.declared.words.Serves.{Serves}
+use Rattle.run_words.specs.declared.words.Error.TheVariants.{NilOperand, NoOpenGuard}
+use Rattle.run_words.specs.Values.{Outcome, Gives, Fails, WrongSort, is_true, is_bool, not_bool}
+use Rattle.run_words.specs.declared.frames.CodeObject.{CodeObject}
+use Rattle.run_words.specs.declared.frames.Frame.{Frame}
+use Rattle.code_semantics.specs.declared.unit.Instr.{Instr}
+use Rattle.code_semantics.specs.declared.unit.Instr.TheVariants as I
+use Rattle.code_semantics.specs.declared.unit.ClassCode.{ClassCode}
+use Rattle.code_semantics.specs.Frames.{code_of}
+use Rattle.run_words.specs.Operands.{top, dropped, taken}
+use Rattle.code_semantics.specs.declared.unit.Unit.{Unit as Code}
+use Rattle.code_semantics.specs.Kinds as C
+use Rattle.code_semantics.specs.Kinds.{operated, offers, outcome_kind, return_kind, sent_kind, instr_kind, frames_kind, code_kind}
+use Rattle.code_semantics.specs.Step.{code_serving, code_made}
+use Rattle.code_semantics.specs.Proper.{IsProper}
+use Rattle.run_words.proofs.Laws.{first, second, equal, equals, decide, same_some, given_by, required, same_value, same_values, find_put_same, find_put_other, values_itself, each_append}
 use Rattle.mesh_semantics.proofs.Basics.{running_gives}
 use Rattle.mesh_semantics.specs.Act.{id}
-use Rattle.mesh_semantics.specs.Same.{are_same}
-use Rattle.mesh_semantics.specs.Message.{Message}
+use Rattle.run_words.specs.Same.{are_same}
+use Rattle.run_words.specs.Message.{Message}
 use Rattle.mesh_semantics.specs.Kind as K
 use Rattle.mesh_semantics.specs.Kind.{Kind, is_local, makes, calls, posts, returns, waits_on, writes, fails, alternatives}
 use Rattle.mesh_semantics.specs.Config.{Config, object_of, messages_of, put_object, put_messages}
 use Rattle.mesh_semantics.specs.Moves.{running, offered, numbered, can_pick, has_message, first_message, without_message, move}
 use Rattle.mesh_semantics.specs.Lawful.{Lawful}
-use Rattle.mesh_semantics.specs.Sound.{Each}
-use Rattle.unit_objects.specs.OfUnit.{IsObjectOf, IsMadeIn, HoldsOfPlain, IsAsking, IsGoingOn}
-use Rattle.unit_objects.proofs.Laws.{stepped_of, given_of, gone_on_of, picked_of, serving_of, made_is_of, async_values, send_values, return_value, write_value}
+use Rattle.run_words.specs.Tables.{Each}
+use Rattle.code_semantics.specs.OfUnit.{IsObjectOf, IsMadeIn, HoldsOfPlain, IsAsking, IsGoingOn}
+use Rattle.code_semantics.proofs.Laws.{stepped_of, given_of, gone_on_of, picked_of, serving_of, made_is_of, async_values, send_values, return_value, write_value}
 use Rattle.coded_objects.specs.Coded.{Placed, placed, kind_of, unless_served, coded}
 use Rattle.coded_objects.specs.OfCode.{IsOfCode}
 use Rattle.coded_objects.specs.Made.{IsNamedIn, IsTextIn, IsMade, AreMadeArgs, IsMadeMessage, IsMadeItem, HasMade, IsMadeLabel}
-use Rattle.mesh_semantics.proofs.Maps.{messages_same, messages_other}
+use Rattle.mesh_semantics.proofs.MessageMaps.{messages_same, messages_other}
 use Rattle.coded_objects.proofs.LawfulCode.{first_there}
 use Rattle.coded_objects.proofs.KeptCode.{each_left, code_kept, code_lawful}
 use Rattle.coded_objects.proofs.Tested.{new_is, send_is, async_is, return_is, wait_is, write_is, offered_is, pick_is}

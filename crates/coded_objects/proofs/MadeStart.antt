@@ -4,17 +4,19 @@ use Rattle.std.specs.Ordering.{nat_cmp}
 use Rattle.std.specs.FinMap.{find}
 use Rattle.std.specs.declared.cmp.Ordering.{Ordering}
 use Rattle.std.specs.declared.cmp.Ordering.TheVariants.{Less, Equal, Greater}
-use Rattle.pool_syntax.specs.declared.words.Placement.{Placement}
-use Rattle.object_code.specs.declared.unit.Unit.{Unit as Code}
-use Rattle.object_code.specs.Proper.{IsProper}
-use Rattle.mesh_semantics.proofs.Laws.{same_some, placed_start_sound}
+use Rattle.run_words.specs.declared.words.Placement.{Placement}
+use Rattle.code_semantics.specs.declared.unit.Unit.{Unit as Code}
+use Rattle.code_semantics.specs.Proper.{IsProper}
+use Rattle.run_words.proofs.Laws.{same_some}
+use Rattle.mesh_semantics.proofs.Laws.{placed_start_sound}
 use Rattle.mesh_semantics.specs.Config.{Config, object_of, messages_of}
 use Rattle.mesh_semantics.specs.Delay.{no_delay}
 use Rattle.mesh_semantics.specs.FitFor.{FitFor}
 use Rattle.mesh_semantics.specs.Record.{root_name, with_root, start}
-use Rattle.mesh_semantics.specs.Sound.{Each, IsSound}
-use Rattle.unit_objects.specs.OfUnit.{IsObjectOf}
-use Rattle.unit_objects.proofs.Laws.{made_is_of}
+use Rattle.run_words.specs.Tables.{Each}
+use Rattle.mesh_semantics.specs.Sound.{IsSound}
+use Rattle.code_semantics.specs.OfUnit.{IsObjectOf}
+use Rattle.code_semantics.proofs.Laws.{made_is_of}
 use Rattle.coded_objects.specs.Coded.{Placed, coded}
 use Rattle.coded_objects.specs.Made.{IsMade, IsMadeMessage, HasMade}
 use Rattle.coded_objects.proofs.Begins.{root_is, root_rests, root_there, start_of_code}

@@ -2,31 +2,33 @@
 use Rattle.std.proofs.Common.{◌≡◌, refl, sym, ap, ap₂, subst, ◌∙◌, ℕ, zero, suc, ◌+◌, ◌==◌, List, [], ◌∷◌, length, Option, Some, None, Bool, true, false, if◌then◌else◌, arith}
 use Rattle.std.specs.Prelude.{slice_get, slice_set}
 use Rattle.std.specs.List.{list_any}
-use Rattle.pool_syntax.specs.declared.words.NameId.{NameId}
-use Rattle.pool_syntax.specs.declared.words.Value.{Value}
-use Rattle.pool_syntax.specs.declared.words.Value.TheVariants as V
-use Rattle.pool_syntax.specs.declared.words.Serves.{Serves}
-use Rattle.pool_syntax.specs.declared.words.Serves.TheVariants as S
-use Rattle.pool_syntax.specs.Values.{is_bool, is_true, not_bool}
-use Rattle.mesh_semantics.proofs.Laws.{equal, same_some}
+use Rattle.run_words.specs.declared.words.NameId.{NameId}
+use Rattle.run_words.specs.declared.words.Value.{Value}
+use Rattle.run_words.specs.declared.words.Value.TheVariants as V
+use Rattle.run_words.specs.declared.words.Serves.{Serves}
+use Rattle.run_words.specs.declared.words.Serves.TheVariants as S
+use Rattle.run_words.specs.Values.{is_bool, is_true, not_bool}
+use Rattle.run_words.proofs.Laws.{equal, same_some}
 use Rattle.mesh_semantics.specs.Act.{id}
 use Rattle.mesh_semantics.specs.Kind as K
 use Rattle.mesh_semantics.specs.Kind.{Kind, Alternative}
-use Rattle.node_semantics.specs.Requests.{is_at_once}
-use Rattle.object_code.specs.declared.unit.CodeObject.{CodeObject}
-use Rattle.object_code.specs.declared.unit.Frame.{Frame}
-use Rattle.object_code.specs.declared.unit.Instr.{Instr}
-use Rattle.object_code.specs.declared.unit.Instr.TheVariants as I
-use Rattle.object_code.specs.declared.unit.AltCode.{AltCode}
-use Rattle.object_code.specs.declared.unit.ClassCode.{ClassCode}
-use Rattle.object_code.specs.declared.unit.MethodCode.{MethodCode}
-use Rattle.object_code.specs.declared.unit.Unit.{Unit as Code}
-use Rattle.object_code.specs.Frames.{code_of, top, below, dropped, taken, next, silent, go_on_with, settled_within, post_passed}
-use Rattle.object_code.specs.Kinds.{operated, arity, return_kind, offers, instr_kind, frames_kind, code_kind}
-use Rattle.object_code.specs.Step.{Numbered, at_rest, nth, outcome_value, method_from, method_named, begun, called, handed, left, is_own, padded, instr_stepped, frames_stepped, code_stepped, asked, frames_given, code_given, instr_gone_on, frames_gone_on, code_gone_on, at_alternative, after_choice, frames_picked, code_picked, frames_serving, method_serving, code_serving, placed_of, class_from, placed_at, code_made}
+use Rattle.mesh_semantics.specs.Requests.{is_at_once}
+use Rattle.run_words.specs.declared.frames.CodeObject.{CodeObject}
+use Rattle.run_words.specs.declared.frames.Frame.{Frame}
+use Rattle.code_semantics.specs.declared.unit.Instr.{Instr}
+use Rattle.code_semantics.specs.declared.unit.Instr.TheVariants as I
+use Rattle.code_semantics.specs.declared.unit.AltCode.{AltCode}
+use Rattle.code_semantics.specs.declared.unit.ClassCode.{ClassCode}
+use Rattle.code_semantics.specs.declared.unit.MethodCode.{MethodCode}
+use Rattle.code_semantics.specs.declared.unit.Unit.{Unit as Code}
+use Rattle.code_semantics.specs.Frames.{code_of, next, silent, go_on_with, settled_within, post_passed}
+use Rattle.run_words.specs.Operands.{top, below, dropped, taken, nth, padded}
+use Rattle.code_semantics.specs.Kinds.{operated, arity, return_kind, offers, instr_kind, frames_kind, code_kind}
+use Rattle.code_semantics.specs.Step.{Numbered, at_rest, outcome_value, method_from, method_named, begun, called, handed, left, is_own, instr_stepped, frames_stepped, code_stepped, asked, frames_given, code_given, instr_gone_on, frames_gone_on, code_gone_on, at_alternative, after_choice, frames_picked, code_picked, frames_serving, method_serving, code_serving, placed_of, class_from, placed_at, code_made}
 use Rattle.coded_objects.specs.Coded.{kind_of}
 use Rattle.coded_objects.specs.OfCode.{is_for, number_in, method_number, methods_for}
-use Rattle.coded_objects.proofs.Callers.{is_based, within_serves, choice_serves, no_return_at_once, no_base, outcome_no_return, branch_no_return, send_no_return, async_no_return, select_no_return}
+use Rattle.coded_objects.proofs.Callers.{is_based, no_base, outcome_no_return, branch_no_return, send_no_return, async_no_return, select_no_return}
+use Rattle.coded_objects.proofs.Serving.{within_serves, choice_serves, no_return_at_once}
 
 -- the methods with the one of a frame in front, if it is for p
 abbrev pub counted : Option ClassCode → ℕ → Serves → Option ℕ → List ℕ → List ℕ

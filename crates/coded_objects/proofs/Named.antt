@@ -1,35 +1,36 @@
 -- Each name in a value of code is an object's.
 use Rattle.std.proofs.Common.{◌≡◌, refl, sym, ap, subst, ℕ, zero, suc, List, [], ◌∷◌, length, Option, Some, None, true, false}
 use Rattle.std.specs.Prelude.{slice_get}
-use Rattle.pool_syntax.specs.declared.words.Value.{Value}
-use Rattle.pool_syntax.specs.declared.words.Value.TheVariants as V
-use Rattle.object_code.specs.declared.unit.CodeObject.{CodeObject}
-use Rattle.object_code.specs.declared.unit.Frame.{Frame}
-use Rattle.pool_syntax.specs.declared.words.Serves.{Serves}
-use Rattle.pool_syntax.specs.declared.words.Serves.TheVariants as S
-use Rattle.object_code.specs.declared.unit.Instr.{Instr}
-use Rattle.object_code.specs.declared.unit.Instr.TheVariants as I
-use Rattle.object_code.specs.declared.unit.ClassCode.{ClassCode}
-use Rattle.object_code.specs.declared.unit.Unit.{Unit as Code}
-use Rattle.object_code.specs.Frames.{code_of, next, silent, go_on_with, settled_within, settled, dropped, post_passed}
-use Rattle.object_code.specs.Kinds as C
-use Rattle.object_code.specs.Kinds.{frames_kind, code_kind}
-use Rattle.object_code.specs.Step.{asked, frames_given, code_given}
-use Rattle.object_code.specs.Proper.{IsProper}
-use Rattle.mesh_semantics.proofs.Laws.{each_map}
+use Rattle.run_words.specs.declared.words.Value.{Value}
+use Rattle.run_words.specs.declared.words.Value.TheVariants as V
+use Rattle.run_words.specs.declared.frames.CodeObject.{CodeObject}
+use Rattle.run_words.specs.declared.frames.Frame.{Frame}
+use Rattle.run_words.specs.declared.words.Serves.{Serves}
+use Rattle.run_words.specs.declared.words.Serves.TheVariants as S
+use Rattle.code_semantics.specs.declared.unit.Instr.{Instr}
+use Rattle.code_semantics.specs.declared.unit.Instr.TheVariants as I
+use Rattle.code_semantics.specs.declared.unit.ClassCode.{ClassCode}
+use Rattle.code_semantics.specs.declared.unit.Unit.{Unit as Code}
+use Rattle.code_semantics.specs.Frames.{code_of, next, silent, go_on_with, settled_within, settled, post_passed}
+use Rattle.run_words.specs.Operands.{dropped}
+use Rattle.code_semantics.specs.Kinds as C
+use Rattle.code_semantics.specs.Kinds.{frames_kind, code_kind}
+use Rattle.code_semantics.specs.Step.{asked, frames_given, code_given}
+use Rattle.code_semantics.specs.Proper.{IsProper}
+use Rattle.run_words.proofs.Laws.{each_map}
 use Rattle.mesh_semantics.specs.Act.{id}
 use Rattle.mesh_semantics.specs.Kind as K
 use Rattle.mesh_semantics.specs.Kind.{Kind}
-use Rattle.mesh_semantics.specs.Message.{Message}
+use Rattle.run_words.specs.Message.{Message}
 use Rattle.mesh_semantics.specs.Config.{Config, object_of, messages_of}
-use Rattle.mesh_semantics.specs.Sound.{Each, IsThere}
-use Rattle.node_semantics.specs.Receives.{KnownNames, names_in}
-use Rattle.node_semantics.specs.Requests.{posts_request}
-use Rattle.unit_objects.specs.OfUnit.{AreFramesOf, IsObjectOf}
+use Rattle.run_words.specs.Tables.{Each}
+use Rattle.mesh_semantics.specs.Sound.{IsThere}
+use Rattle.mesh_semantics.specs.Requests.{KnownNames, names_in, posts_request}
+use Rattle.code_semantics.specs.OfUnit.{AreFramesOf, IsObjectOf}
 use Rattle.coded_objects.specs.Coded.{Placed, kind_of, unless_served, coded}
 use Rattle.coded_objects.specs.OfCode.{Names, IsOfCode}
 use Rattle.coded_objects.proofs.Configs.{plain_names, IsMessageOf}
-use Rattle.unit_objects.proofs.Laws.{send_values}
+use Rattle.code_semantics.proofs.Laws.{send_values}
 use Rattle.coded_objects.proofs.LawfulCode.{first_operands}
 
 names_there : (c : Config Placed) (vs : List Value) → Each (Names c) vs → Each (IsThere c) (names_in vs)

@@ -2,30 +2,31 @@
 use Rattle.std.proofs.Common.{◌≡◌, refl, sym, subst, ◌∙◌, IsTrue, ℕ, suc, ◌<◌, ◌==◌, List, [], ◌∷◌, length, Option, Some, None, is_some, Bool, true, false}
 use Rattle.std.specs.Prelude.{slice_get, if◌then◌else◌}
 use Rattle.std.specs.List.{list_any}
-use Rattle.pool_syntax.specs.declared.words.Value.{Value}
-use Rattle.pool_syntax.specs.declared.words.Value.TheVariants as V
-use Rattle.pool_syntax.specs.declared.words.Item.{Item}
-use Rattle.pool_syntax.specs.declared.words.Item.TheVariants as It
-use Rattle.pool_syntax.specs.declared.words.Error.TheVariants.{NilOperand, NoOpenGuard}
-use Rattle.pool_syntax.specs.Values.{is_true, is_bool, not_bool}
-use Rattle.object_code.specs.declared.unit.CodeObject.{CodeObject}
-use Rattle.object_code.specs.declared.unit.Frame.{Frame}
-use Rattle.object_code.specs.declared.unit.Instr.{Instr}
-use Rattle.object_code.specs.declared.unit.Instr.TheVariants as I
-use Rattle.object_code.specs.declared.unit.ClassCode.{ClassCode}
-use Rattle.object_code.specs.declared.unit.Unit.{Unit as Code}
-use Rattle.object_code.specs.Frames.{code_of, top, dropped, taken}
-use Rattle.object_code.specs.Kinds as C
-use Rattle.object_code.specs.Kinds.{operated, offers, sent_kind, instr_kind, frames_kind, code_kind}
-use Rattle.object_code.specs.Step.{class_from}
-use Rattle.object_code.specs.Proper.{Exists, IsProper}
-use Rattle.mesh_semantics.proofs.Laws.{equal, same_some}
+use Rattle.run_words.specs.declared.words.Value.{Value}
+use Rattle.run_words.specs.declared.words.Value.TheVariants as V
+use Rattle.run_words.specs.declared.words.Item.{Item}
+use Rattle.run_words.specs.declared.words.Item.TheVariants as It
+use Rattle.run_words.specs.declared.words.Error.TheVariants.{NilOperand, NoOpenGuard}
+use Rattle.run_words.specs.Values.{is_true, is_bool, not_bool}
+use Rattle.run_words.specs.declared.frames.CodeObject.{CodeObject}
+use Rattle.run_words.specs.declared.frames.Frame.{Frame}
+use Rattle.code_semantics.specs.declared.unit.Instr.{Instr}
+use Rattle.code_semantics.specs.declared.unit.Instr.TheVariants as I
+use Rattle.code_semantics.specs.declared.unit.ClassCode.{ClassCode}
+use Rattle.code_semantics.specs.declared.unit.Unit.{Unit as Code}
+use Rattle.code_semantics.specs.Frames.{code_of}
+use Rattle.run_words.specs.Operands.{top, dropped, taken}
+use Rattle.code_semantics.specs.Kinds as C
+use Rattle.code_semantics.specs.Kinds.{operated, offers, sent_kind, instr_kind, frames_kind, code_kind}
+use Rattle.code_semantics.specs.Step.{class_from}
+use Rattle.code_semantics.specs.Proper.{Exists, IsProper}
+use Rattle.run_words.proofs.Laws.{equal, same_some}
 use Rattle.mesh_semantics.specs.Act.{id}
 use Rattle.mesh_semantics.specs.Kind as K
 use Rattle.mesh_semantics.specs.Kind.{Kind}
-use Rattle.unit_objects.specs.OfUnit.{AreFramesOf, IsObjectOf}
-use Rattle.unit_objects.proofs.Laws.{top_exists}
-use Rattle.unit_objects.proofs.Stepping.{outcome_never, if_never, return_never}
+use Rattle.code_semantics.specs.OfUnit.{AreFramesOf, IsObjectOf}
+use Rattle.code_semantics.proofs.Laws.{top_exists}
+use Rattle.code_semantics.proofs.Stepping.{outcome_never, if_never, return_never}
 use Rattle.coded_objects.specs.Coded.{kind_of, unless_served}
 
 abbrev pub name_of_item : Item → Option ℕ

@@ -2,32 +2,34 @@
 use Rattle.std.proofs.Common.{◌≡◌, ◌≢◌, ◌⊎◌, inl, inr, refl, sym, ap, subst, ◌∙◌, ℕ, zero, suc, ◌+◌, ◌*◌, ◌%◌, ◌<◌, ◌≤◌, ◌==◌, List, [], ◌∷◌, ◌++◌, length, Option, Some, None, is_some, Bool, true, false, if◌then◌else◌, slice_get, arith}
 use Rattle.std.specs.Prelude.{◌&&◌, nat_lt, flat_map}
 use Rattle.std.specs.FinMap.{put}
-use Rattle.pool_syntax.specs.declared.words.Value.{Value}
-use Rattle.pool_syntax.specs.declared.words.Value.TheVariants as V
-use Rattle.pool_syntax.specs.declared.words.Label.{Label}
-use Rattle.pool_syntax.specs.declared.words.Label.TheVariants as L
-use Rattle.pool_syntax.specs.declared.words.What.{What}
-use Rattle.pool_syntax.specs.declared.words.What.TheVariants as T
-use Rattle.pool_syntax.specs.declared.words.FullKind.TheVariants as F
-use Rattle.pool_syntax.specs.declared.words.Event.{Event}
-use Rattle.pool_syntax.specs.declared.words.Event.TheVariants as Ev
-use Rattle.pool_syntax.specs.declared.words.Place.{Place}
-use Rattle.pool_syntax.specs.declared.words.Place.TheVariants as Pl
-use Rattle.pool_syntax.specs.declared.words.Placement.{Placement}
-use Rattle.mesh_semantics.proofs.Laws.{equal, equals, decide, same_some, each_head, moved_own, moved_some, find_put_same, find_put_other, find_without_same, find_without_other}
-use Rattle.mesh_semantics.specs.Tables.{Pair, pair_cmp}
+use Rattle.run_words.specs.declared.words.Value.{Value}
+use Rattle.run_words.specs.declared.words.Value.TheVariants as V
+use Rattle.run_words.specs.declared.words.Label.{Label}
+use Rattle.run_words.specs.declared.words.Label.TheVariants as L
+use Rattle.run_words.specs.declared.words.What.{What}
+use Rattle.run_words.specs.declared.words.What.TheVariants as T
+use Rattle.run_words.specs.declared.words.FullKind.TheVariants as F
+use Rattle.run_words.specs.declared.words.Event.{Event}
+use Rattle.run_words.specs.declared.words.Event.TheVariants as Ev
+use Rattle.run_words.specs.declared.words.Place.{Place}
+use Rattle.run_words.specs.declared.words.Place.TheVariants as Pl
+use Rattle.run_words.specs.declared.words.Placement.{Placement}
+use Rattle.run_words.proofs.Laws.{equal, equals, decide, same_some, find_put_same, find_put_other, find_without_same, find_without_other}
+use Rattle.mesh_semantics.proofs.Laws.{each_head, moved_own, moved_some}
+use Rattle.run_words.specs.Tables.{Pair, pair_cmp, Each}
 use Rattle.mesh_semantics.specs.Kind as K
 use Rattle.mesh_semantics.specs.Kind.{Kind, Alternative}
 use Rattle.mesh_semantics.specs.Language.{Language}
 use Rattle.mesh_semantics.specs.Config.{Config, object_of, messages_of}
 use Rattle.mesh_semantics.specs.Moves.{move}
-use Rattle.mesh_semantics.specs.Paths.{path, along, on_link, move_head, under}
+use Rattle.run_words.specs.Paths.{path, along, on_link, move_head, under}
 use Rattle.mesh_semantics.specs.Wire.{Wire, window, Coming, Empty, Stale, Next, coming, take, wire_act}
 use Rattle.mesh_semantics.specs.Wired.{AreWiresOf, KeepsWires}
 use Rattle.mesh_semantics.specs.Delay as D
-use Rattle.mesh_semantics.specs.Delay.{Packet, Arrival, Holding, Wires, Delay, wire_at, node_of, arrived_at, arrive, held, hold, free, post, take_arrival, count_made, made_by, stepped_last, cell_count}
+use Rattle.mesh_semantics.specs.Delay.{Packet, Arrival, Holding, Wires, Delay, wire_at, arrived_at, arrive, held, hold, free, post, take_arrival, count_made, made_by, stepped_last, cell_count}
+use Rattle.run_words.specs.ObjectNames.{node_of}
 use Rattle.mesh_semantics.specs.Act.{id, next_name, sent, Acted, Acts, Full, Nothing, plain_act, on_wires, wire_move, wire_turn, act_over, act, within, shows, labelled, object_count, frame_count, local_steps, step_count, greatest, local_turn, class_place, goal_by, goal_of, create_turn, first_arrival, accept_turn, chosen_turn, is_possible, choice_turn, object_turn, node_turn, turn_of, first_of, goal_node, received, passed, link_move}
-use Rattle.mesh_semantics.specs.Sound.{Each, Entry, Sent, entries, Owns, OwnedAt, Letter, letter, letter_if, letters, letters_in, notes, Has, IsThere, IsPlaced, IsSound}
+use Rattle.mesh_semantics.specs.Sound.{Entry, Sent, entries, Owns, OwnedAt, Letter, letter, letter_if, letters, letters_in, notes, Has, IsThere, IsPlaced, IsSound}
 use Rattle.mesh_semantics.specs.Fit.{Fit}
 use Rattle.mesh_semantics.specs.Lawful.{Lawful}
 use Rattle.mesh_semantics.proofs.Owned.{moved}

@@ -1,19 +1,19 @@
 -- What code is at, from the tests of transitions.
 use Rattle.std.proofs.Common.{◌≡◌, refl, sym, ap, ◌∙◌, ℕ, zero, suc, ◌==◌, List, [], Option, Some, None, true, false}
 use Rattle.std.specs.Prelude.{◌&&◌}
-use Rattle.pool_syntax.specs.declared.words.Value.{Value}
-use Rattle.pool_syntax.specs.declared.words.Item.{Item}
-use Rattle.pool_syntax.specs.declared.words.Error.{Error}
-use Rattle.pool_syntax.specs.Values.{is_same}
-use Rattle.object_code.specs.Kinds as C
-use Rattle.mesh_semantics.proofs.Laws.{first, second, equal, same_value, same_values, same_error}
+use Rattle.run_words.specs.declared.words.Value.{Value}
+use Rattle.run_words.specs.declared.words.Item.{Item}
+use Rattle.run_words.specs.declared.words.Error.{Error}
+use Rattle.run_words.specs.Values.{is_same}
+use Rattle.code_semantics.specs.Kinds as C
+use Rattle.run_words.proofs.Laws.{first, second, equal, same_value, same_values, same_error}
 use Rattle.mesh_semantics.specs.Act.{id}
-use Rattle.mesh_semantics.specs.Same.{are_same}
+use Rattle.run_words.specs.Same.{are_same}
 use Rattle.mesh_semantics.specs.Kind as K
 use Rattle.mesh_semantics.specs.Kind.{Kind, Alternative, is_local, makes, calls, posts, returns, waits_on, writes, fails, alternatives}
 use Rattle.mesh_semantics.specs.Moves.{offered, numbered, can_pick}
 use Rattle.coded_objects.specs.Coded.{kind_of, unless_served}
-use Rattle.unit_objects.specs.OfUnit.{IsChoosing}
+use Rattle.code_semantics.specs.OfUnit.{IsChoosing}
 
 pub local_is : (s : Option (ℕ × ℕ)) (k : C.Kind) → is_local (unless_served s (kind_of k)) ≡ true → (s ≡ None) × (k ≡ C.Local)
 local_is (Some w) k h = absurd (let z : false ≡ true = h in cc)

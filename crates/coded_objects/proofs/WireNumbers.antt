@@ -2,17 +2,17 @@
 use Rattle.std.proofs.Common.{◌≡◌, refl, sym, ap, subst, ◌∙◌, ℕ, ◌+◌, ◌<◌, ◌≤◌, ◌==◌, List, [], ◌∷◌, ◌++◌, length, Option, Some, None, Bool, true, false, if◌then◌else◌, nat_lt, arith}
 use Rattle.std.specs.Prelude.{drop, slice_get}
 use Rattle.std.specs.FinMap.{put}
-use Rattle.pool_syntax.specs.declared.words.Event.{Event}
-use Rattle.pool_syntax.specs.declared.words.Event.TheVariants as Ev
-use Rattle.pool_syntax.specs.declared.words.What.{What}
-use Rattle.pool_syntax.specs.declared.words.What.TheVariants as W
-use Rattle.pool_syntax.specs.declared.words.WireAct.{WireAct}
-use Rattle.pool_syntax.specs.declared.words.WireAct.TheVariants as A
-use Rattle.pool_syntax.specs.declared.words.Placement.{Placement}
-use Rattle.mesh_semantics.specs.Tables.{Each, Pair, pair_cmp}
+use Rattle.run_words.specs.declared.words.Event.{Event}
+use Rattle.run_words.specs.declared.words.Event.TheVariants as Ev
+use Rattle.run_words.specs.declared.words.What.{What}
+use Rattle.run_words.specs.declared.words.What.TheVariants as W
+use Rattle.run_words.specs.declared.words.WireAct.{WireAct}
+use Rattle.run_words.specs.declared.words.WireAct.TheVariants as A
+use Rattle.run_words.specs.declared.words.Placement.{Placement}
+use Rattle.run_words.specs.Tables.{Each, Pair, pair_cmp}
 use Rattle.mesh_semantics.specs.Language.{Language}
 use Rattle.mesh_semantics.specs.Config.{Config}
-use Rattle.mesh_semantics.specs.Paths.{move_head}
+use Rattle.run_words.specs.Paths.{move_head}
 use Rattle.mesh_semantics.specs.Wire.{Frame, Wire, window, capacity, greater, enter, wanted, launch, send_number, Coming, Empty, Stale, Next, coming, coming_in, take, take_frame, hear_number, lose, twice, late, with_frames, with_acks, frame_number, ack_number, wire_act, WireFacts, changed}
 use Rattle.mesh_semantics.specs.Wired.{AreWiresOf, AreReached}
 use Rattle.mesh_semantics.specs.Delay.{Packet, Wires, Delay, wire_at, enter_all}

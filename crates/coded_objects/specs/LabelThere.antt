@@ -1,10 +1,11 @@
 -- What a label of code names: objects that are there, in its values too, and an alternative of at most 64.
 use Rattle.std.specs.Prelude.{◌<◌, ◌≤◌}
-use Rattle.pool_syntax.specs.declared.words.Label.{Label}
-use Rattle.pool_syntax.specs.declared.words.Label.TheVariants as L
+use Rattle.run_words.specs.declared.words.Label.{Label}
+use Rattle.run_words.specs.declared.words.Label.TheVariants as L
 use Rattle.mesh_semantics.specs.Config.{Config}
-use Rattle.mesh_semantics.specs.Sound.{Each, IsThere}
-use Rattle.unit_objects.specs.OfUnit.{HoldsOfItem}
+use Rattle.run_words.specs.Tables.{Each}
+use Rattle.mesh_semantics.specs.Sound.{IsThere}
+use Rattle.code_semantics.specs.OfUnit.{HoldsOfItem}
 use Rattle.coded_objects.specs.Coded.{Placed}
 use Rattle.coded_objects.specs.OfCode.{Names}
 

@@ -1,22 +1,22 @@
 -- Values that code makes: an integer is one of 64 bits, or is pushed by an instruction of the unit. And configurations and labels that have such values alone and name
 -- what an instruction names, with at most 8 arguments.
 use Rattle.std.specs.Prelude.{◌≡◌, ◌⊎◌, ℕ, ◌≤◌, List, length, Option, Some, slice_get}
-use Rattle.pool_syntax.specs.declared.words.Value.{Value}
-use Rattle.pool_syntax.specs.declared.words.Value.TheVariants as V
-use Rattle.pool_syntax.specs.declared.words.Item.{Item}
-use Rattle.pool_syntax.specs.declared.words.Item.TheVariants as It
-use Rattle.pool_syntax.specs.declared.words.Label.{Label}
-use Rattle.pool_syntax.specs.declared.words.Label.TheVariants as L
-use Rattle.object_code.specs.declared.unit.Instr.{Instr}
-use Rattle.object_code.specs.declared.unit.Instr.TheVariants as I
-use Rattle.object_code.specs.declared.unit.ClassCode.{ClassCode}
-use Rattle.object_code.specs.declared.unit.Unit.{Unit as Code}
-use Rattle.object_code.specs.Frames.{code_of}
+use Rattle.run_words.specs.declared.words.Value.{Value}
+use Rattle.run_words.specs.declared.words.Value.TheVariants as V
+use Rattle.run_words.specs.declared.words.Item.{Item}
+use Rattle.run_words.specs.declared.words.Item.TheVariants as It
+use Rattle.run_words.specs.declared.words.Label.{Label}
+use Rattle.run_words.specs.declared.words.Label.TheVariants as L
+use Rattle.code_semantics.specs.declared.unit.Instr.{Instr}
+use Rattle.code_semantics.specs.declared.unit.Instr.TheVariants as I
+use Rattle.code_semantics.specs.declared.unit.ClassCode.{ClassCode}
+use Rattle.code_semantics.specs.declared.unit.Unit.{Unit as Code}
+use Rattle.code_semantics.specs.Frames.{code_of}
 use Rattle.mesh_semantics.specs.Act.{id}
-use Rattle.mesh_semantics.specs.Message.{Message}
+use Rattle.run_words.specs.Message.{Message}
 use Rattle.mesh_semantics.specs.Config.{Config, object_of, messages_of}
-use Rattle.mesh_semantics.specs.Sound.{Each}
-use Rattle.unit_objects.specs.OfUnit.{IsObjectOf, IsMadeIn}
+use Rattle.run_words.specs.Tables.{Each}
+use Rattle.code_semantics.specs.OfUnit.{IsObjectOf, IsMadeIn}
 use Rattle.coded_objects.specs.Coded.{Placed}
 use Rattle.coded_objects.specs.OfCode.{IsOfCode}
 

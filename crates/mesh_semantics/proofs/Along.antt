@@ -1,12 +1,12 @@
 -- What is along a path, after a packet entered, went on, or left.
 use Rattle.std.proofs.Common.{◌≡◌, ◌≢◌, ◌⊎◌, inl, inr, refl, sym, ap, ap₂, subst, ◌∙◌, ℕ, ◌*◌, ◌<◌, List, [], ◌∷◌, ◌++◌, append_assoc, append-nil, Some, flat_map}
 use Rattle.std.proofs.lemmas.Grind.{flat_map-append}
-use Rattle.pool_syntax.specs.declared.words.Placement.{Placement}
-use Rattle.mesh_semantics.specs.Tables.{Pair}
-use Rattle.mesh_semantics.specs.Paths.{next, path, on_link, put_last, move_head, along}
+use Rattle.run_words.specs.declared.words.Placement.{Placement}
+use Rattle.run_words.specs.Tables.{Pair}
+use Rattle.run_words.specs.Paths.{next, path, on_link, put_last, move_head, along}
 use Rattle.mesh_semantics.specs.Act.{first_of}
 use Rattle.mesh_semantics.specs.Sound.{Has}
-use Rattle.mesh_semantics.specs.Ways.{Leads, In, Once, ends_of, Ways}
+use Rattle.run_words.specs.Ways.{Leads, In, Once, ends_of, Ways}
 use Rattle.mesh_semantics.proofs.Lists.{Same, Is, Not, same, on_put_same, on_put_other, on_moved_same, on_moved_other}
 
 -- no link is twice in the list

@@ -5,39 +5,39 @@ use Rattle.std.specs.Ordering.{nat_cmp}
 use Rattle.std.specs.declared.cmp.Ordering.{Ordering}
 use Rattle.std.specs.declared.cmp.Ordering.TheVariants.{Less, Equal, Greater}
 use Rattle.std.specs.FinMap.{find, put}
-use Rattle.pool_syntax.specs.declared.words.Value.{Value}
-use Rattle.pool_syntax.specs.declared.words.Value.TheVariants as V
-use Rattle.pool_syntax.specs.declared.words.NameId.{NameId}
-use Rattle.pool_syntax.specs.declared.words.Label.{Label}
-use Rattle.pool_syntax.specs.declared.words.Label.TheVariants as L
-use Rattle.pool_syntax.specs.declared.words.What.{What}
-use Rattle.pool_syntax.specs.declared.words.What.TheVariants as W'
-use Rattle.pool_syntax.specs.declared.words.Event.{Event}
-use Rattle.pool_syntax.specs.declared.words.Event.TheVariants as Ev
-use Rattle.pool_syntax.specs.declared.words.Line.{Line}
-use Rattle.pool_syntax.specs.declared.words.Line.TheVariants as R
-use Rattle.pool_syntax.specs.declared.words.Placement.{Placement}
-use Rattle.mesh_semantics.specs.Tables.{Pair, pair_cmp}
+use Rattle.run_words.specs.declared.words.Value.{Value}
+use Rattle.run_words.specs.declared.words.Value.TheVariants as V
+use Rattle.run_words.specs.declared.words.NameId.{NameId}
+use Rattle.run_words.specs.declared.words.Label.{Label}
+use Rattle.run_words.specs.declared.words.Label.TheVariants as L
+use Rattle.run_words.specs.declared.words.What.{What}
+use Rattle.run_words.specs.declared.words.What.TheVariants as W'
+use Rattle.run_words.specs.declared.words.Event.{Event}
+use Rattle.run_words.specs.declared.words.Event.TheVariants as Ev
+use Rattle.run_words.specs.declared.words.Line.{Line}
+use Rattle.run_words.specs.declared.words.Line.TheVariants as R
+use Rattle.run_words.specs.declared.words.Placement.{Placement}
+use Rattle.run_words.specs.Tables.{Pair, pair_cmp, Each}
 use Rattle.mesh_semantics.specs.Kind as K
 use Rattle.mesh_semantics.specs.Kind.{Kind, Alternative}
 use Rattle.mesh_semantics.specs.Language.{Language}
 use Rattle.mesh_semantics.specs.Config.{Config, object_of}
 use Rattle.mesh_semantics.specs.Moves.{move, moves}
-use Rattle.mesh_semantics.specs.Paths.{is_link, on_link, move_head}
+use Rattle.run_words.specs.Paths.{is_link, on_link, move_head}
 use Rattle.mesh_semantics.specs.Delay as D
 use Rattle.mesh_semantics.specs.Wire.{Wire, Coming, Empty, Stale, Next, coming, take, wire_act}
-use Rattle.mesh_semantics.specs.Delay.{Packet, Wires, Arrival, Delay, wire_at, no_delay, node_of, post, arrive, arrived_at, is_for, take_arrival, hold, free, count_made, stepped_last, cell_count}
+use Rattle.mesh_semantics.specs.Delay.{Packet, Wires, Arrival, Delay, wire_at, no_delay, post, arrive, arrived_at, is_for, take_arrival, hold, free, count_made, stepped_last, cell_count}
+use Rattle.run_words.specs.ObjectNames.{node_of}
 use Rattle.mesh_semantics.specs.Act.{Acted, Acts, Full, Nothing, id, within, shows, labelled, object_count, frame_count, first_of, first_arrival, next_name, is_possible, goal_of, create_turn, sent, call_turn, send_turn, return_turn, accept_turn, chosen_turn, choice_turn, local_steps, step_count, local_turn, object_turn, node_turn, turn_of, received, passed, link_move, goal_node, plain_act, on_wires, wire_move, wire_turn, act_over, act, is_quiet}
 use Rattle.mesh_semantics.specs.Record.{shown, start, with_root, root_name, after, record_from, record_at, record_of, record_on_wires}
-use Rattle.mesh_semantics.specs.Asks.{posts, latest_post, ask_of, asks_from, Shows, NewAnswers, WhatAnswers, AnswersPost, EachAnswersPost}
-use Rattle.mesh_semantics.specs.Sound.{Each, Sent, owns, sent_of, called_of, entries, IsSound}
+use Rattle.run_words.specs.Asks.{is_post_of, latest_post, request_number_of, asks_from, Shows, NewAnswers, WhatAnswers, AnswersPost, EachAnswersPost}
+use Rattle.mesh_semantics.specs.Sound.{Sent, owns, sent_of, called_of, entries, IsSound}
 use Rattle.mesh_semantics.specs.Fit.{Fit}
 use Rattle.mesh_semantics.specs.Lawful.{Lawful}
 use Rattle.mesh_semantics.specs.Waits.{IsAnswer, Waits}
 use Rattle.mesh_semantics.specs.Kept.{After}
-use Rattle.mesh_semantics.proofs.Tests.{equal, equals, decide, differ}
-use Rattle.mesh_semantics.proofs.Chains.{same_some, given_by}
-use Rattle.mesh_semantics.proofs.Basics.{each_map, each_append, each_without, each_head}
+use Rattle.run_words.proofs.Laws.{equal, equals, decide, differ, same_some, given_by, each_map, each_append}
+use Rattle.mesh_semantics.proofs.Basics.{each_without, each_head}
 use Rattle.mesh_semantics.proofs.Owned.{no_part, arrived}
 use Rattle.mesh_semantics.proofs.Shapes.{node_next}
 use Rattle.mesh_semantics.proofs.Turns.{owns_nothing}
@@ -51,7 +51,7 @@ use Rattle.mesh_semantics.proofs.Events.{turn_is, act_kept}
 -- the latest line that posts a request of the object
 abbrev latest : ℕ → List Line → Option Line
 latest o [] = None
-latest o (R.Event n e what ∷ ls) = if posts o what then Some (R.Event n e what) else latest o ls
+latest o (R.Event n e what ∷ ls) = if is_post_of o what then Some (R.Event n e what) else latest o ls
 latest o (R.End end ∷ ls) = latest o ls
 
 -- the latest post of the object shows this
@@ -81,9 +81,9 @@ at_onto (l ∷ es) rest i = ap (slice_get (onto es (l ∷ rest))) (let e : suc (
 shows_latest : (o : ℕ) (es rest : List Line) (n : ℕ) (e : Event) (what : What) → IsCounted es → latest o es ≡ Some (R.Event n e what) → Shows (onto es rest) n what
 shows_latest o [] rest n e what c h = absurd (cc)
 shows_latest o (R.End end ∷ es) rest n e what c h = absurd c
-shows_latest o (R.Event k f w ∷ es) rest n e what c h = by (posts o w) refl (shows_latest o es (R.Event k f w ∷ rest) n e what c.1)
+shows_latest o (R.Event k f w ∷ es) rest n e what c h = by (is_post_of o w) refl (shows_latest o es (R.Event k f w ∷ rest) n e what c.1)
   where
-    by : (b : Bool) → posts o w ≡ b → (latest o es ≡ Some (R.Event n e what) → Shows (onto es (R.Event k f w ∷ rest)) n what) → Shows (onto es (R.Event k f w ∷ rest)) n what
+    by : (b : Bool) → is_post_of o w ≡ b → (latest o es ≡ Some (R.Event n e what) → Shows (onto es (R.Event k f w ∷ rest)) n what) → Shows (onto es (R.Event k f w ∷ rest)) n what
     by false i again = again (rw i at h)
     by true i again =
         let same : R.Event k f w ≡ R.Event n e what = same_some (rw i at h) in
@@ -94,9 +94,9 @@ shows_latest o (R.Event k f w ∷ es) rest n e what c h = by (posts o w) refl (s
 number_latest : (o : ℕ) (es : List Line) (n : ℕ) (e : Event) (what : What) → latest o es ≡ Some (R.Event n e what) → latest_post o es ≡ n
 number_latest o [] n e what h = absurd (cc)
 number_latest o (R.End end ∷ es) n e what h = number_latest o es n e what h
-number_latest o (R.Event k f w ∷ es) n e what h = by (posts o w) refl (number_latest o es n e what)
+number_latest o (R.Event k f w ∷ es) n e what h = by (is_post_of o w) refl (number_latest o es n e what)
   where
-    by : (b : Bool) → posts o w ≡ b → (latest o es ≡ Some (R.Event n e what) → latest_post o es ≡ n) → latest_post o (R.Event k f w ∷ es) ≡ n
+    by : (b : Bool) → is_post_of o w ≡ b → (latest o es ≡ Some (R.Event n e what) → latest_post o es ≡ n) → latest_post o (R.Event k f w ∷ es) ≡ n
     by false i again = rw i (again (rw i at h))
     by true i again = let same : R.Event k f w ≡ R.Event n e what = same_some (rw i at h) in rw i (let number : k ≡ n = cc in number)
 
@@ -105,14 +105,14 @@ answers_it : (o : ℕ) (es rest : List Line) (what : What) → IsCounted es → 
 answers_it o es rest what c p = subst (λ n. Shows (onto es rest) n what) (sym (number_latest o es p.0 p.1 what p.2)) (shows_latest o es rest p.0 p.1 what c p.2)
 
 -- a line that is no post of the object leaves it the latest
-later : (n : ℕ) (e : Event) (w : What) (es : List Line) (o : ℕ) (what : What) → posts o w ≡ false → Posted es o what → Posted (R.Event n e w ∷ es) o what
+later : (n : ℕ) (e : Event) (w : What) (es : List Line) (o : ℕ) (what : What) → is_post_of o w ≡ false → Posted es o what → Posted (R.Event n e w ∷ es) o what
 later n e w es o what i p = (p.0, p.1, rw i p.2)
 
-later_call : (n : ℕ) (e : Event) (w : What) (es : List Line) (o b : ℕ) → posts o w ≡ false → HasCalled es o b → HasCalled (R.Event n e w ∷ es) o b
+later_call : (n : ℕ) (e : Event) (w : What) (es : List Line) (o b : ℕ) → is_post_of o w ≡ false → HasCalled es o b → HasCalled (R.Event n e w ∷ es) o b
 later_call n e w es o b i p = (p.0, p.1, later n e w es o (W'.PostCall o b p.0 p.1) i p.2)
 
 -- a line that posts is the latest
-now : (n : ℕ) (e : Event) (w : What) (es : List Line) (o : ℕ) → posts o w ≡ true → Posted (R.Event n e w ∷ es) o w
+now : (n : ℕ) (e : Event) (w : What) (es : List Line) (o : ℕ) → is_post_of o w ≡ true → Posted (R.Event n e w ∷ es) o w
 now n e w es o i = (n, e, rw i refl)
 
 -- what is on its way
@@ -152,12 +152,12 @@ WhatKnown es e _ = Unit {0}
 
 -- so its request number is that of the post
 module _ (es rest : List Line) (counted : IsCounted es) where
-  new_answers : (e : Event) (o : ℕ) (what : What) → NewKnown es e o what → (n : ℕ) → n ≡ ask_of es (R.Event 0 e (W'.Step (L.New o 0 (id 0)) 1)) → NewAnswers (onto es rest) e what n
+  new_answers : (e : Event) (o : ℕ) (what : What) → NewKnown es e o what → (n : ℕ) → n ≡ request_number_of es (R.Event 0 e (W'.Step (L.New o 0 (id 0)) 1)) → NewAnswers (onto es rest) e what n
   new_answers (Ev.Turn k) o what h n i = i
   new_answers (Ev.Wire w a b) o what h n i = i
   new_answers (Ev.Link a b) o what h n i = subst (λ m. Shows (onto es rest) m what) (sym i) (answers_it o es rest what counted h)
 
-  answers : (k : ℕ) (e : Event) (what : What) → WhatKnown es e what → WhatAnswers (onto es rest) e what (ask_of es (R.Event k e what))
+  answers : (k : ℕ) (e : Event) (what : What) → WhatKnown es e what → WhatAnswers (onto es rest) e what (request_number_of es (R.Event k e what))
   answers k e (W'.Step (L.New o p c) times) h = new_answers e o (W'.PostCreate o c (node_of p)) h _ refl
   answers k e (W'.Step (L.Answer p o m args) times) h = answers_it o es rest (W'.PostCall o p m args) counted h
   answers k e (W'.Step (L.Return p o v) times) h = (h.0, h.1, answers_it o es rest (W'.PostCall o p h.0 h.1) counted h.2)
@@ -183,14 +183,14 @@ module _ (es rest : List Line) (counted : IsCounted es) where
 -- lists of packets and messages
 
 -- a line that posts for no owner among them
-later_packet : (n : ℕ) (e : Event) (w : What) (es : List Line) (x : Packet) → ((o : ℕ) → owns o x ≡ true → posts o w ≡ false) → PacketKnown es x → PacketKnown (R.Event n e w ∷ es) x
+later_packet : (n : ℕ) (e : Event) (w : What) (es : List Line) (x : Packet) → ((o : ℕ) → owns o x ≡ true → is_post_of o w ≡ false) → PacketKnown es x → PacketKnown (R.Event n e w ∷ es) x
 later_packet n e w es (D.Create o goal class) i p = later n e w es o (W'.PostCreate o (id class) goal) (i o (equals o)) p
 later_packet n e w es (D.Created o name) i p = (p.0, later n e w es o (W'.PostCreate o p.0 (node_of name)) (i o (equals o)) p.1)
 later_packet n e w es (D.Request o r m args) i p = later n e w es o (W'.PostCall o r (id m) args) (i o (equals o)) p
 later_packet n e w es (D.Result o v) i p = (p.0, later_call n e w es o p.0 (i o (equals o)) p.1)
 later_packet n e w es (D.Async o r m args) i p = tt
 
-later_packets : (n : ℕ) (e : Event) (w : What) (es : List Line) (o : ℕ) (ls : List (Pair × Packet)) → ((q : ℕ) → q ≢ o → posts q w ≡ false) → sent_of o ls ≡ []
+later_packets : (n : ℕ) (e : Event) (w : What) (es : List Line) (o : ℕ) (ls : List (Pair × Packet)) → ((q : ℕ) → q ≢ o → is_post_of q w ≡ false) → sent_of o ls ≡ []
     → Each (λ x. PacketKnown es x.1) ls → Each (λ x. PacketKnown (R.Event n e w ∷ es) x.1) ls
 later_packets n e w es o [] i h k = tt
 later_packets n e w es o (x ∷ ls) i h k = by (owns o x.1) refl (later_packets n e w es o ls i)
@@ -203,7 +203,7 @@ later_packets n e w es o (x ∷ ls) i h k = by (owns o x.1) refl (later_packets 
       again (rw j at h) k.1,
     )
 
-later_calls : (n : ℕ) (e : Event) (w : What) (es : List Line) (o : ℕ) (ms : List (ℕ × Arrival)) → ((q : ℕ) → q ≢ o → posts q w ≡ false) → called_of o ms ≡ []
+later_calls : (n : ℕ) (e : Event) (w : What) (es : List Line) (o : ℕ) (ms : List (ℕ × Arrival)) → ((q : ℕ) → q ≢ o → is_post_of q w ≡ false) → called_of o ms ≡ []
     → Each (CallKnown es) ms → Each (CallKnown (R.Event n e w ∷ es)) ms
 later_calls n e w es o [] i h k = tt
 later_calls n e w es o (a ∷ ms) i h k = by a.1.is_call (a.1.sender == o) refl refl (later_calls n e w es o ms i)
@@ -219,7 +219,7 @@ later_calls n e w es o (a ∷ ms) i h k = by a.1.is_call (a.1.sender == o) refl 
 
 -- a line that is no post
 abbrev Silent : What → Type 0
-Silent w = (o : ℕ) → posts o w ≡ false
+Silent w = (o : ℕ) → is_post_of o w ≡ false
 
 known_later : (n : ℕ) (e : Event) (w : What) (es : List Line) (d : Delay) → Silent w → DelayKnown es d → DelayKnown (R.Event n e w ∷ es) d
 known_later n e w es d i k = (
@@ -228,7 +228,7 @@ known_later n e w es d i k = (
 )
 
 -- a post of an object that has nothing on its way
-known_posted : (n : ℕ) (e : Event) (w : What) (es : List Line) (o : ℕ) (d : Delay) → ((q : ℕ) → q ≢ o → posts q w ≡ false) → entries d o ≡ [] → DelayKnown es d → DelayKnown (R.Event n e w ∷ es) d
+known_posted : (n : ℕ) (e : Event) (w : What) (es : List Line) (o : ℕ) (d : Delay) → ((q : ℕ) → q ≢ o → is_post_of q w ≡ false) → entries d o ≡ [] → DelayKnown es d → DelayKnown (R.Event n e w ∷ es) d
 known_posted n e w es o d i h k =
     let r = no_part (sent_of o d.links) (called_of o d.arrived) h in
     (later_packets n e w es o d.links i r.0 k.0, later_calls n e w es o d.arrived i r.1 k.1)
@@ -256,7 +256,7 @@ module _ {S : Type 0} (g : Language S) (W : Config S → Type 0) (law : Lawful g
 
   -- who posts does not wait
   abbrev Calm : Config S → What → Type 0
-  Calm c w = (o b m : ℕ) (x : S) → posts o w ≡ true → object_of c o ≡ Some x → g.kind o x ≢ K.Waits b m
+  Calm c w = (o b m : ℕ) (x : S) → is_post_of o w ≡ true → object_of c o ≡ Some x → g.kind o x ≢ K.Waits b m
 
   calm_silent : (c : Config S) (w : What) → Silent w → Calm c w
   calm_silent c w i o b m x t f k = absurd (let z : false ≡ true = sym (i o) ∙ t in cc)
@@ -324,9 +324,9 @@ module _ {S : Type 0} (g : Language S) (W : Config S → Type 0) (law : Lawful g
   waiting_later es n e w c f d typed t go known calm o b m x i k = by w go known calm
     where
       same : (w : What) → c ≡ f → Calm c w → HasCalled (R.Event n e w ∷ es) o b
-      same w s y = let there : object_of c o ≡ Some x = ap (λ z. object_of z o) s ∙ i in at (posts o w) refl there
+      same w s y = let there : object_of c o ≡ Some x = ap (λ z. object_of z o) s ∙ i in at (is_post_of o w) refl there
         where
-          at : (t' : Bool) → posts o w ≡ t' → object_of c o ≡ Some x → HasCalled (R.Event n e w ∷ es) o b
+          at : (t' : Bool) → is_post_of o w ≡ t' → object_of c o ≡ Some x → HasCalled (R.Event n e w ∷ es) o b
           at true j there = absurd (y o b m x j there k)
           at false j there = later_call n e w es o b j (t.waiting o b m x there k)
 
@@ -358,7 +358,7 @@ module _ {S : Type 0} (g : Language S) (W : Config S → Type 0) (law : Lawful g
       knows = t.delay
 
       -- a post of o, which is not at a wait
-      posted : (w : What) (f : Delay) → posts o w ≡ true → ((p : ℕ) → p ≢ o → posts p w ≡ false) → ((b m : ℕ) → g.kind o x ≢ K.Waits b m) → WhatKnown es (Ev.Turn n) w
+      posted : (w : What) (f : Delay) → is_post_of o w ≡ true → ((p : ℕ) → p ≢ o → is_post_of p w ≡ false) → ((b m : ℕ) → g.kind o x ≢ K.Waits b m) → WhatKnown es (Ev.Turn n) w
           → DelayKnown (R.Event k (Ev.Turn n) w ∷ es) f → Goes es k (Ev.Turn n) c (Acts w c f)
       posted w f mine others still known h = (h, known, calm)
         where
@@ -563,7 +563,7 @@ module _ {S : Type 0} (g : Language S) (W : Config S → Type 0) (law : Lawful g
   -- the lines that are left, behind those so far, with their request numbers
   abbrev From : List Line → List Line → List Line → Type 0
   From all es [] = Unit {0}
-  From all es (x ∷ xs) = AnswersPost all x (ask_of es x) × From all (x ∷ es) xs
+  From all es (x ∷ xs) = AnswersPost all x (request_number_of es x) × From all (x ∷ es) xs
 
   tracked : (es : List Line) (n q : ℕ) (e : Event) (c : Config S) (d : Delay) → n ≡ length es → IsSound g W l c d → Tracked es c d → (w : What) (f : Config S) (h : Delay)
       → act g l q c d e ≡ Acts w f h → IsSound g W l f h × Tracked (R.Event (n + 1) e w ∷ es) f h × WhatKnown es e w
@@ -611,8 +611,8 @@ module _ {S : Type 0} (g : Language S) (W : Config S → Type 0) (law : Lawful g
   from_each all es [] h i n x a b = absurd (cc)
   from_each all es (y ∷ ys) h zero n x a b =
       let line : y ≡ x = same_some a in
-      let number : ask_of es y ≡ n = same_some b in
-      subst (λ z. AnswersPost all x z) number (subst (λ z. AnswersPost all z (ask_of es y)) line h.0)
+      let number : request_number_of es y ≡ n = same_some b in
+      subst (λ z. AnswersPost all x z) number (subst (λ z. AnswersPost all z (request_number_of es y)) line h.0)
   from_each all es (y ∷ ys) h (suc i) n x a b = from_each all (y ∷ es) ys h.1 i n x a b
 
   -- a record from the start, with these wires

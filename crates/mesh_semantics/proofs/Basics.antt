@@ -1,64 +1,24 @@
 -- What a change of one object leaves of a consistent state.
-use Rattle.std.proofs.Common.{◌≡◌, ◌≢◌, ◌⊎◌, inl, inr, refl, sym, ap, subst, ◌∙◌, IsTrue, ℕ, ℤ, pos, negsuc, ◌+◌, ◌*◌, ◌<◌, ◌≤◌, ◌==◌, List, [], ◌∷◌, ◌++◌, Option, Some, None, Bool, true, false, if◌then◌else◌, arith}
+use Rattle.std.proofs.Common.{◌≡◌, ◌≢◌, ◌⊎◌, inl, inr, refl, sym, ap, subst, ◌∙◌, IsTrue, ℕ, ◌+◌, ◌*◌, ◌<◌, ◌≤◌, ◌==◌, List, [], ◌∷◌, ◌++◌, Option, Some, None, Bool, true, false, if◌then◌else◌, arith}
 use Rattle.std.specs.Ordering.{nat_cmp}
 use Rattle.std.specs.FinMap.{find, put, is_sorted}
-use Rattle.pool_syntax.specs.declared.words.Value.{Value}
-use Rattle.pool_syntax.specs.declared.words.Value.TheVariants as V
-use Rattle.pool_syntax.specs.declared.words.Item.{Item}
-use Rattle.pool_syntax.specs.declared.words.Item.TheVariants as I
-use Rattle.pool_syntax.specs.declared.words.Error.{Error}
-use Rattle.pool_syntax.specs.declared.words.Placement.{Placement}
-use Rattle.mesh_semantics.specs.Tables.{Pair}
-use Rattle.pool_syntax.specs.Values.{is_same, is_same_int, is_same_bool}
-use Rattle.mesh_semantics.specs.Same.{are_same, is_same_item, error_number}
-use Rattle.mesh_semantics.proofs.Tests.{both, equals, decide, differ}
-use Rattle.mesh_semantics.proofs.Chains.{same_some}
+use Rattle.run_words.specs.declared.words.Error.{Error}
+use Rattle.run_words.specs.declared.words.Placement.{Placement}
+use Rattle.run_words.specs.Tables.{Pair, Each}
+use Rattle.run_words.proofs.Laws.{decide, differ, same_some, find_put_same, find_put_other, total_put, each_map}
 use Rattle.mesh_semantics.specs.Language.{Language}
 use Rattle.mesh_semantics.specs.Config.{Config, object_of, put_object}
 use Rattle.mesh_semantics.specs.Moves.{running}
-use Rattle.mesh_semantics.specs.Paths.{total, on_link, without_first}
-use Rattle.mesh_semantics.specs.Delay.{Packet, Arrival, node_of, slot_of}
+use Rattle.run_words.specs.Paths.{total, on_link, without_first}
+use Rattle.mesh_semantics.specs.Delay.{Packet, Arrival}
+use Rattle.run_words.specs.ObjectNames.{node_of, slot_of}
 use Rattle.mesh_semantics.specs.Act.{object_count, frame_count, first_of}
-use Rattle.mesh_semantics.specs.Sound.{Each, IsThere, IsPlaced}
-use Rattle.mesh_semantics.proofs.Maps.{find_put_same, find_put_other, total_put}
+use Rattle.mesh_semantics.specs.Sound.{IsThere, IsPlaced}
 use Rattle.mesh_semantics.proofs.Lists.{heads}
 
 -- equal words are told so
 
-int_itself : (x : ℤ) → is_same_int x x ≡ true
-int_itself (pos n) = equals n
-int_itself (negsuc n) = equals n
-
-bool_itself : (b : Bool) → is_same_bool b b ≡ true
-bool_itself true = refl
-bool_itself false = refl
-
-pub value_itself : (v : Value) → is_same v v ≡ true
-value_itself (V.Int x) = int_itself x
-value_itself (V.Bool b) = bool_itself b
-value_itself (V.Ref n) = equals n
-value_itself V.Nil = refl
-
-pub values_itself : (vs : List Value) → are_same vs vs ≡ true
-values_itself [] = refl
-values_itself (v ∷ vs) = both (is_same v v) (are_same vs vs) (value_itself v) (values_itself vs)
-
-pub item_itself : (i : Item) → is_same_item i i ≡ true
-item_itself (I.Value v) = value_itself v
-item_itself (I.Text s) = equals s.0
-
-pub error_itself : (e : Error) → (error_number e == error_number e) ≡ true
-error_itself e = equals (error_number e)
-
 -- lists of which each element has a property
-
-pub each_map : {X : Type 0} (P Q : X → Type 0) → ((x : X) → P x → Q x) → (xs : List X) → Each P xs → Each Q xs
-each_map P Q f [] h = tt
-each_map P Q f (x ∷ xs) h = (f x h.0, each_map P Q f xs h.1)
-
-pub each_append : {X : Type 0} (P : X → Type 0) (xs : List X) (y : X) → Each P xs → P y → Each P (xs ++ y ∷ [])
-each_append P [] y h p = (p, tt)
-each_append P (x ∷ xs) y h p = (h.0, each_append P xs y h.1 p)
 
 pub each_without : {X : Type 0} (P : X → Type 0) (t : X → Bool) (xs : List X) → Each P xs → Each P (without_first t xs)
 each_without P t [] h = tt

@@ -1,12 +1,11 @@
 -- A select takes its first possible alternative, and a turn of local transitions makes one after the other.
 use Rattle.std.proofs.Common.{◌≡◌, ◌≢◌, refl, sym, ap, subst, ◌∙◌, ℕ, zero, suc, ◌+◌, List, [], ◌∷◌, replicate, Option, Some, None, is_some, Bool, true, false, ◌&&◌, slice_get, nat_le, arith}
 use Rattle.std.specs.List.{list_any}
-use Rattle.pool_syntax.specs.declared.words.Label.{Label}
-use Rattle.pool_syntax.specs.declared.words.Label.TheVariants as L
-use Rattle.pool_syntax.specs.declared.words.Placement.{Placement}
-use Rattle.mesh_semantics.specs.Partial.{◌>>=◌, ◌>>◌, require}
-use Rattle.mesh_semantics.proofs.Tests.{first, second}
-use Rattle.mesh_semantics.proofs.Chains.{same_some, given_by, required}
+use Rattle.run_words.specs.declared.words.Label.{Label}
+use Rattle.run_words.specs.declared.words.Label.TheVariants as L
+use Rattle.run_words.specs.declared.words.Placement.{Placement}
+use Rattle.run_words.specs.Partial.{◌>>=◌, ◌>>◌, require}
+use Rattle.run_words.proofs.Laws.{first, second, same_some, given_by, required, find_put_same}
 use Rattle.mesh_semantics.specs.Kind as K
 use Rattle.mesh_semantics.specs.Kind.{Kind, Alternative, is_local, has_name, answered, answers, is_plain, alternatives}
 use Rattle.mesh_semantics.specs.Language.{Language}
@@ -18,7 +17,6 @@ use Rattle.mesh_semantics.specs.Sound.{Consistent, IsWithin, IsSound}
 use Rattle.mesh_semantics.specs.Fit.{Fit}
 use Rattle.mesh_semantics.specs.Lawful.{Lawful}
 use Rattle.mesh_semantics.proofs.Final.{has_arrived, answer_possible}
-use Rattle.mesh_semantics.proofs.Maps.{find_put_same}
 use Rattle.mesh_semantics.proofs.Basics.{running_gives}
 use Rattle.mesh_semantics.proofs.Turns.{Nearly, Acting, own_change, own_elsewhere, pick_turn}
 use Rattle.mesh_semantics.proofs.Takes.{arrived_named, answer_kept, take_kept}

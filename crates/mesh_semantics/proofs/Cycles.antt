@@ -1,17 +1,18 @@
 -- The listed cycles are the cycles: a chase gives one, and finds each that is not too long; and none is longer than there are objects.
-use Rattle.std.proofs.Common.{◌≡◌, ◌≢◌, ◌⊎◌, inl, inr, refl, sym, ap, subst, ◌∙◌, ℕ, zero, suc, ◌<◌, ◌≤◌, ◌==◌, List, [], ◌∷◌, length, Option, Some, None, Bool, true, false, if◌then◌else◌, nat_lt, arith}
+use Rattle.std.proofs.Common.{◌≡◌, ◌≢◌, ◌⊎◌, inl, inr, refl, sym, ap, subst, ◌∙◌, ℕ, zero, suc, ◌<◌, ◌≤◌, ◌==◌, List, [], ◌∷◌, length, Option, Some, None, Bool, true, false, if◌then◌else◌, nat_lt, arith, map}
 use Rattle.std.specs.Prelude.{filter_map}
 use Rattle.std.specs.Ordering.{nat_cmp}
 use Rattle.std.specs.declared.cmp.Ordering.{Ordering}
 use Rattle.std.specs.declared.cmp.Ordering.TheVariants.{Less, Equal, Greater}
 use Rattle.std.specs.FinMap.{find, nat_cmp-IsAntisymmetric}
-use Rattle.mesh_semantics.specs.Partial.{◌>>=◌}
-use Rattle.mesh_semantics.proofs.Tests.{equal, equals, differ}
-use Rattle.mesh_semantics.proofs.Chains.{same_some, given_by}
+use Rattle.std.specs.List.{cons_option}
+use Rattle.std.proofs.lemmas.List.{length-map}
+use Rattle.run_words.specs.Partial.{◌>>=◌}
+use Rattle.run_words.proofs.Laws.{equal, equals, differ, same_some, given_by}
 use Rattle.mesh_semantics.specs.Language.{Language}
 use Rattle.mesh_semantics.specs.Config.{Config, object_of}
 use Rattle.mesh_semantics.specs.Delay.{Delay}
-use Rattle.mesh_semantics.specs.Ways.{In, Once}
+use Rattle.run_words.specs.Ways.{In, Once}
 use Rattle.mesh_semantics.specs.Standing.{standing, called_in, called_by, Closes, IsCycle, Contained, chase, cycles}
 
 module _ (calls : ℕ → Option ℕ) (first : ℕ) where
@@ -81,7 +82,6 @@ module _ (calls : ℕ → Option ℕ) (first : ℕ) where
       again r = let s = determined o (b ∷ ns) r.0 p r.1 in let e : length (b ∷ ns) ≡ length r.0 = ap length s in let l = r.2 in omega (arith, e, l)
 
 -- distinct numbers of a list are no more than it has
-
 taken_out : (x : ℕ) (ys : List ℕ) → In x ys → (zs : List ℕ) × (length ys ≡ suc (length zs)) × ((y : ℕ) → y ≢ x → In y ys → In y zs)
 taken_out x [] i = absurd i
 taken_out x (y ∷ ys) (inl e) = (ys, refl, λ z n i. on z n i)
@@ -95,86 +95,83 @@ taken_out x (y ∷ ys) (inr i) = let r = taken_out x ys i in (y ∷ r.0, ap suc 
     on zs f z n (inl e) = inl e
     on zs f z n (inr k) = inr (f z n k)
 
-no_more : (xs ys : List ℕ) → Once xs → ((x : ℕ) → In x xs → In x ys) → length xs ≤ length ys
-no_more [] ys o f = omega arith
-no_more (x ∷ xs) ys o f =
+no_longer : (xs ys : List ℕ) → Once xs → ((x : ℕ) → In x xs → In x ys) → length xs ≤ length ys
+no_longer [] ys o f = omega arith
+no_longer (x ∷ xs) ys o f =
     let r = taken_out x ys (f x (inl refl)) in
-    let k = no_more xs r.0 o.1 (λ y i. r.2 y (λ e. o.0 (subst (λ z. In z xs) e i)) (f y (inr i))) in
+    let k = no_longer xs r.0 o.1 (λ y i. r.2 y (λ e. o.0 (subst (λ z. In z xs) e i)) (f y (inr i))) in
     let e = r.1 in omega (arith, k, e)
 
--- the names of entries
-abbrev names : {X : Type 0} → List (ℕ × X) → List ℕ
-names [] = []
-names (e ∷ es) = e.0 ∷ names es
+-- things with names, among which each caller is
+module _ {X : Type 0} (calls : ℕ → Option ℕ) (name : X → ℕ) (all : List X) (caller_there : (o b : ℕ) → calls o ≡ Some b → In o (map name all)) where
+  -- each name of a cycle is there
+  all_there : (first o : ℕ) (ns : List ℕ) → Closes calls first (o ∷ ns) → (x : ℕ) → In x (o ∷ ns) → In x (map name all)
+  all_there first o [] p x (inl e) = subst (λ z. In z (map name all)) e (caller_there o first p)
+  all_there first o [] p x (inr i) = absurd i
+  all_there first o (b ∷ ns) p x (inl e) = subst (λ z. In z (map name all)) e (caller_there o b p.0)
+  all_there first o (b ∷ ns) p x (inr i) = all_there first b ns p.2 x i
 
-name_found : {X : Type 0} (o : ℕ) (x : X) (es : List (ℕ × X)) → find nat_cmp o es ≡ Some x → In o (names es)
-name_found o x [] h = absurd (cc)
-name_found o x (e ∷ es) h = by (nat_cmp o e.0) refl (name_found o x es)
+  abbrev told : ℕ → List X → List (List ℕ)
+  told n es = filter_map (λ e. chase calls n (name e) (name e)) es
+
+  listed : (n o : ℕ) (ns : List ℕ) (es : List X) → In o (map name es) → chase calls n o o ≡ Some ns → Contained ns (told n es)
+  listed n o ns [] i h = absurd i
+  listed n o ns (e ∷ es) (inl s) h =
+      let k : chase calls n (name e) (name e) ≡ Some ns = subst (λ z. chase calls n z z ≡ Some ns) (sym s) h in
+      subst (λ z. Contained ns (cons_option z (told n es))) (sym k) (inl refl)
+  listed n o ns (e ∷ es) (inr i) h = by (chase calls n (name e) (name e)) (listed n o ns es i h)
+    where
+      by : (z : Option (List ℕ)) → Contained ns (told n es) → Contained ns (cons_option z (told n es))
+      by None m = m
+      by (Some ms) m = inr m
+
+  no_other : (n : ℕ) (ns : List ℕ) (es : List X) → Contained ns (told n es) → (o : ℕ) × Begun calls o o ns × Closes calls o ns
+  no_other n ns [] i = absurd i
+  no_other n ns (e ∷ es) i = by (chase calls n (name e) (name e)) refl i (no_other n ns es)
+    where
+      by : (z : Option (List ℕ)) → chase calls n (name e) (name e) ≡ z → Contained ns (cons_option z (told n es))
+          → (Contained ns (told n es) → (o : ℕ) × Begun calls o o ns × Closes calls o ns) → (o : ℕ) × Begun calls o o ns × Closes calls o ns
+      by None k j m = m j
+      by (Some ms) k (inl s) m = let r = chased calls (name e) n (name e) ns (k ∙ ap Some s) in (name e, r.0, r.1)
+      by (Some ms) k (inr j) m = m j
+
+  -- each cycle is listed
+  pub every_cycle_among : (ns : List ℕ) → IsCycle calls ns → Contained ns (told (length all) all)
+  every_cycle_among [] z = absurd z
+  every_cycle_among (o ∷ ns) z =
+      let few = no_longer (o ∷ ns) (map name all) z.0 (all_there o o ns z.1) in
+      let e = length-map all name in
+      let l : length ns < length all = omega (arith, few, e) in
+      listed (length all) o (o ∷ ns) all (all_there o o ns z.1 o (inl refl)) (found calls o (length all) o ns z.1 l)
+
+  -- and no other
+  pub is_cycle_among : (ns : List ℕ) → Contained ns (told (length all) all) → IsCycle calls ns
+  is_cycle_among ns i = let r = no_other (length all) ns all i in on r.0 r.1 r.2
+    where
+      on : (o : ℕ) → Begun calls o o ns → Closes calls o ns → IsCycle calls ns
+      on o (Is rest e) z =
+          let k : Closes calls o (o ∷ rest) = subst (Closes calls o) e z in
+          subst (IsCycle calls) (sym e) (distinct calls o o rest k, k)
+
+-- the name of an entry
+abbrev key : {X : Type 0} → ℕ × X → ℕ
+key e = e.0
+
+key_found : {X : Type 0} (o : ℕ) (x : X) (es : List (ℕ × X)) → find nat_cmp o es ≡ Some x → In o (map key es)
+key_found o x [] h = absurd (cc)
+key_found o x (e ∷ es) h = by (nat_cmp o e.0) refl (key_found o x es)
   where
-    by : (r : Ordering) → nat_cmp o e.0 ≡ r → (find nat_cmp o es ≡ Some x → In o (names es)) → In o (e.0 ∷ names es)
+    by : (r : Ordering) → nat_cmp o e.0 ≡ r → (find nat_cmp o es ≡ Some x → In o (map key es)) → In o (e.0 ∷ map key es)
     by Less i k = inr (k (rw i at h))
     by Equal i k = inl (sym (nat_cmp-IsAntisymmetric o e.0 i))
     by Greater i k = inr (k (rw i at h))
 
-count_names : {X : Type 0} (es : List (ℕ × X)) → length (names es) ≡ length es
-count_names [] = refl
-count_names (e ∷ es) = ap suc (count_names es)
-
 module _ {S : Type 0} (g : Language S) (c : Config S) (d : Delay) where
-  caller_there : (o b : ℕ) → called_by g c d o ≡ Some b → In o (names c.objects)
-  caller_there o b h = let a = given_by (object_of c o) (λ x. called_in (standing g d o x)) b h in name_found o a.0 c.objects a.1
-
-  -- each name of a cycle is an object's
-  all_there : (first o : ℕ) (ns : List ℕ) → Closes (called_by g c d) first (o ∷ ns) → (x : ℕ) → In x (o ∷ ns) → In x (names c.objects)
-  all_there first o [] p x (inl e) = subst (λ z. In z (names c.objects)) e (caller_there o first p)
-  all_there first o [] p x (inr i) = absurd i
-  all_there first o (b ∷ ns) p x (inl e) = subst (λ z. In z (names c.objects)) e (caller_there o b p.0)
-  all_there first o (b ∷ ns) p x (inr i) = all_there first b ns p.2 x i
-
-  listed : (n o : ℕ) (ns : List ℕ) (es : List (ℕ × S)) → In o (names es) → chase (called_by g c d) n o o ≡ Some ns → Contained ns (filter_map (λ e. chase (called_by g c d) n e.0 e.0) es)
-  listed n o ns [] i h = absurd i
-  listed n o ns (e ∷ es) (inl s) h = let k : chase (called_by g c d) n e.0 e.0 ≡ Some ns = subst (λ z. chase (called_by g c d) n z z ≡ Some ns) (sym s) h in rw k (inl refl)
-  listed n o ns (e ∷ es) (inr i) h = by (chase (called_by g c d) n e.0 e.0) refl (listed n o ns es i h)
-    where
-      by : (z : Option (List ℕ)) → chase (called_by g c d) n e.0 e.0 ≡ z → Contained ns (filter_map (λ e. chase (called_by g c d) n e.0 e.0) es) → Contained ns (filter_map (λ e. chase (called_by g c d) n e.0 e.0) (e ∷ es))
-      by None k m = rw k m
-      by (Some ms) k m = rw k (inr m)
-
-  -- each cycle is listed
-  each_cycle : (o : ℕ) (ns : List ℕ) → Closes (called_by g c d) o (o ∷ ns) → Contained (o ∷ ns) (cycles g c d)
-  each_cycle o ns p =
-      let few = no_more (o ∷ ns) (names c.objects) (distinct (called_by g c d) o o ns p) (all_there o o ns p) in
-      let e = count_names c.objects in
-      let l : length ns < length c.objects = omega (arith, few, e) in
-      listed (length c.objects) o (o ∷ ns) c.objects (all_there o o ns p o (inl refl)) (found (called_by g c d) o (length c.objects) o ns p l)
-
-  -- and no other
-  no_other : (n : ℕ) (ns : List ℕ) (es : List (ℕ × S)) → Contained ns (filter_map (λ e. chase (called_by g c d) n e.0 e.0) es)
-      → (o : ℕ) × Begun (called_by g c d) o o ns × Closes (called_by g c d) o ns
-  no_other n ns [] i = absurd i
-  no_other n ns (e ∷ es) i = by (chase (called_by g c d) n e.0 e.0) refl (no_other n ns es)
-    where
-      by : (z : Option (List ℕ)) → chase (called_by g c d) n e.0 e.0 ≡ z
-          → (Contained ns (filter_map (λ e. chase (called_by g c d) n e.0 e.0) es) → (o : ℕ) × Begun (called_by g c d) o o ns × Closes (called_by g c d) o ns)
-          → (o : ℕ) × Begun (called_by g c d) o o ns × Closes (called_by g c d) o ns
-      by None k m = m (rw k at i)
-      by (Some ms) k m = on (rw k at i)
-        where
-          on : (ms ≡ ns) ⊎ Contained ns (filter_map (λ e. chase (called_by g c d) n e.0 e.0) es) → (o : ℕ) × Begun (called_by g c d) o o ns × Closes (called_by g c d) o ns
-          on (inl s) = let r = chased (called_by g c d) e.0 n e.0 ns (k ∙ ap Some s) in (e.0, r.0, r.1)
-          on (inr j) = m j
-
-  only_cycles : (ns : List ℕ) → Contained ns (cycles g c d) → (o : ℕ) × Begun (called_by g c d) o o ns × Closes (called_by g c d) o ns
-  only_cycles ns i = no_other (length c.objects) ns c.objects i
+  caller_there : (o b : ℕ) → called_by g c d o ≡ Some b → In o (map key c.objects)
+  caller_there o b h = let a = given_by (object_of c o) (λ x. called_in (standing g d o x)) b h in key_found o a.0 c.objects a.1
 
   pub every_cycle : (ns : List ℕ) → IsCycle (called_by g c d) ns → Contained ns (cycles g c d)
-  every_cycle [] z = absurd z
-  every_cycle (o ∷ ns) z = each_cycle o ns z.1
+  every_cycle ns z = every_cycle_among (called_by g c d) key c.objects caller_there ns z
 
   pub is_cycle : (ns : List ℕ) → Contained ns (cycles g c d) → IsCycle (called_by g c d) ns
-  is_cycle ns i = let r = only_cycles ns i in on r.0 r.1 r.2
-    where
-      on : (o : ℕ) → Begun (called_by g c d) o o ns → Closes (called_by g c d) o ns → IsCycle (called_by g c d) ns
-      on o (Is rest e) z =
-          let k : Closes (called_by g c d) o (o ∷ rest) = subst (Closes (called_by g c d) o) e z in
-          subst (IsCycle (called_by g c d)) (sym e) (distinct (called_by g c d) o o rest k, k)
+  is_cycle ns i = is_cycle_among (called_by g c d) key c.objects caller_there ns i

@@ -1,19 +1,20 @@
 -- What an event puts on links stands behind what was there, where each link hands out its own head; and wires stay as they are.
 use Rattle.std.proofs.Common.{◌≡◌, refl, sym, ℕ, zero, suc, ◌+◌, ◌==◌, List, [], ◌∷◌, ◌++◌, append-nil, Option, Some, None, Bool, true, false, nat_lt, if◌then◌else◌}
-use Rattle.pool_syntax.specs.declared.words.Value.{Value}
-use Rattle.pool_syntax.specs.declared.words.Value.TheVariants as V
-use Rattle.pool_syntax.specs.declared.words.Label.{Label}
-use Rattle.pool_syntax.specs.declared.words.Label.TheVariants as L
-use Rattle.pool_syntax.specs.declared.words.Placement.{Placement}
-use Rattle.mesh_semantics.specs.Tables.{Pair}
+use Rattle.run_words.specs.declared.words.Value.{Value}
+use Rattle.run_words.specs.declared.words.Value.TheVariants as V
+use Rattle.run_words.specs.declared.words.Label.{Label}
+use Rattle.run_words.specs.declared.words.Label.TheVariants as L
+use Rattle.run_words.specs.declared.words.Placement.{Placement}
+use Rattle.run_words.specs.Tables.{Pair}
 use Rattle.mesh_semantics.specs.Kind as K
 use Rattle.mesh_semantics.specs.Kind.{Kind, Alternative}
 use Rattle.mesh_semantics.specs.Language.{Language}
 use Rattle.mesh_semantics.specs.Config.{Config}
 use Rattle.mesh_semantics.specs.Moves.{move}
-use Rattle.mesh_semantics.specs.Paths.{next, move_head}
+use Rattle.run_words.specs.Paths.{next, move_head}
 use Rattle.mesh_semantics.specs.Delay as D
-use Rattle.mesh_semantics.specs.Delay.{Packet, Arrival, Wires, Delay, node_of, stepped_last, arrived_at, cell_count, free, hold, count_made, take_arrival, post}
+use Rattle.mesh_semantics.specs.Delay.{Packet, Arrival, Wires, Delay, stepped_last, arrived_at, cell_count, free, hold, count_made, take_arrival, post}
+use Rattle.run_words.specs.ObjectNames.{node_of}
 use Rattle.mesh_semantics.specs.Act.{Acted, Acts, Full, Nothing, within, shows, labelled, local_steps, step_count, local_turn, goal_of, create_turn, accept_turn, chosen_turn, choice_turn, is_possible, first_arrival, object_turn, node_turn, received, passed, goal_node, link_move, object_count, frame_count, id, next_name, sent}
 
 -- on the links are these packets and more behind them, and the wires are these

@@ -6,27 +6,27 @@ use Rattle.std.specs.declared.cmp.Ordering.{Ordering}
 use Rattle.std.specs.declared.cmp.Ordering.TheVariants.{Less, Equal, Greater}
 use Rattle.std.specs.FinMap.{find, put, is_sorted}
 use Rattle.std.specs.FinMap.Entries.{below_all}
-use Rattle.pool_syntax.specs.declared.words.Error.{Error}
-use Rattle.pool_syntax.specs.declared.words.Event.{Event}
-use Rattle.pool_syntax.specs.declared.words.Event.TheVariants as Ev
-use Rattle.pool_syntax.specs.declared.words.Label.{Label}
-use Rattle.pool_syntax.specs.declared.words.What.{What}
-use Rattle.pool_syntax.specs.declared.words.What.TheVariants as W
-use Rattle.pool_syntax.specs.declared.words.Line.TheVariants as R
-use Rattle.pool_syntax.specs.declared.words.Line.{Line}
-use Rattle.pool_syntax.specs.declared.words.End.TheVariants as E
-use Rattle.pool_syntax.specs.declared.words.Placement.{Placement}
-use Rattle.mesh_semantics.proofs.Tests.{first, second, equal}
-use Rattle.mesh_semantics.proofs.Chains.{same_some, given_by}
+use Rattle.run_words.specs.declared.words.Error.{Error}
+use Rattle.run_words.specs.declared.words.Event.{Event}
+use Rattle.run_words.specs.declared.words.Event.TheVariants as Ev
+use Rattle.run_words.specs.declared.words.Label.{Label}
+use Rattle.run_words.specs.declared.words.What.{What}
+use Rattle.run_words.specs.declared.words.What.TheVariants as W
+use Rattle.run_words.specs.declared.words.Line.TheVariants as R
+use Rattle.run_words.specs.declared.words.Line.{Line}
+use Rattle.run_words.specs.declared.words.End.TheVariants as E
+use Rattle.run_words.specs.declared.words.Placement.{Placement}
+use Rattle.run_words.proofs.Laws.{first, second, equal, same_some, given_by, tied, untied}
 use Rattle.mesh_semantics.specs.Kind as K
 use Rattle.mesh_semantics.specs.Kind.{Kind}
 use Rattle.mesh_semantics.specs.Language.{Language}
 use Rattle.mesh_semantics.specs.Config.{Config, object_of}
 use Rattle.mesh_semantics.specs.Moves.{move, moves}
-use Rattle.mesh_semantics.specs.Tables.{Pair, pair_cmp}
-use Rattle.mesh_semantics.specs.Paths.{move_head}
+use Rattle.run_words.specs.Tables.{Pair, pair_cmp}
+use Rattle.run_words.specs.Paths.{move_head}
 use Rattle.mesh_semantics.specs.Wire.{Wire, Coming, Empty, Stale, Next, coming, take, wire_act}
-use Rattle.mesh_semantics.specs.Delay.{Packet, Wires, wire_at, enter_all, Delay, Holding, node_of, arrived_at, held, stepped_last}
+use Rattle.mesh_semantics.specs.Delay.{Packet, Wires, wire_at, enter_all, Delay, Holding, arrived_at, held, stepped_last}
+use Rattle.run_words.specs.ObjectNames.{node_of}
 use Rattle.mesh_semantics.specs.Act.{Acted, Acts, Full, Nothing, plain_act, on_wires, wire_move, wire_turn, act_over, act, node_turn, turn_of, ready_at, first_of, is_above, is_ready, can_step, object_turn, is_quiet}
 use Rattle.mesh_semantics.specs.Sound.{IsSound}
 use Rattle.mesh_semantics.specs.Fit.{Fit}
@@ -36,7 +36,6 @@ use Rattle.mesh_semantics.specs.Record.{EndsOnce, shown, after, record_from, lab
 use Rattle.mesh_semantics.proofs.Final.{no_transition}
 use Rattle.mesh_semantics.proofs.Started.{with_wires}
 use Rattle.mesh_semantics.proofs.WireLaws.{IsOfWire, TellsOfWire, tells_of_wire}
-use Rattle.mesh_semantics.proofs.Maps.{tied, untied}
 use Rattle.mesh_semantics.proofs.Turns.{Nearly, within_after, Acting, write_turn, fault_turn, call_posted}
 use Rattle.mesh_semantics.proofs.Meetings.{create_kept}
 use Rattle.mesh_semantics.proofs.Sends.{send_kept, return_kept}

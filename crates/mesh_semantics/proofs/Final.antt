@@ -1,30 +1,30 @@
 -- A sound configuration in which all is quiet has no transition.
-use Rattle.std.proofs.Common.{◌≡◌, ◌≢◌, inl, inr, refl, sym, ap, subst, ◌∙◌, ℕ, zero, suc, ◌+◌, ◌==◌, List, [], ◌∷◌, ◌++◌, Option, Some, None, is_some, Bool, true, false, not, ◌&&◌, ◌||◌, arith}
+use Rattle.std.proofs.Common.{◌≡◌, ◌≢◌, inl, inr, refl, sym, ap, subst, ◌∙◌, ℕ, zero, suc, ◌+◌, ◌==◌, List, [], ◌∷◌, ◌++◌, Option, Some, None, is_some, Bool, true, false, not, ◌&&◌, ◌||◌, arith, append-nil}
 use Rattle.std.specs.List.{list_any}
 use Rattle.std.specs.Ordering.{nat_cmp}
 use Rattle.std.specs.declared.cmp.Ordering.{Ordering}
 use Rattle.std.specs.declared.cmp.Ordering.TheVariants.{Less, Equal, Greater}
 use Rattle.std.specs.FinMap.{find, nat_cmp-IsAntisymmetric}
-use Rattle.pool_syntax.specs.declared.words.Value.{Value}
-use Rattle.pool_syntax.specs.declared.words.Item.{Item}
-use Rattle.pool_syntax.specs.declared.words.Error.{Error}
-use Rattle.pool_syntax.specs.declared.words.Label.{Label}
-use Rattle.pool_syntax.specs.declared.words.Label.TheVariants as L
-use Rattle.pool_syntax.specs.declared.words.Placement.{Placement}
-use Rattle.mesh_semantics.specs.Tables.{Pair}
-use Rattle.mesh_semantics.specs.Message.{Message}
-use Rattle.mesh_semantics.specs.Partial.{◌>>=◌}
-use Rattle.mesh_semantics.specs.Same.{are_same}
-use Rattle.mesh_semantics.proofs.Tests.{first, second, equal, equals}
-use Rattle.mesh_semantics.proofs.Chains.{same_some}
+use Rattle.run_words.specs.declared.words.Value.{Value}
+use Rattle.run_words.specs.declared.words.Item.{Item}
+use Rattle.run_words.specs.declared.words.Error.{Error}
+use Rattle.run_words.specs.declared.words.Label.{Label}
+use Rattle.run_words.specs.declared.words.Label.TheVariants as L
+use Rattle.run_words.specs.declared.words.Placement.{Placement}
+use Rattle.run_words.specs.Tables.{Pair}
+use Rattle.run_words.specs.Message.{Message}
+use Rattle.run_words.specs.Partial.{◌>>=◌}
+use Rattle.run_words.specs.Same.{are_same}
+use Rattle.run_words.proofs.Laws.{first, second, equal, equals, same_some}
 use Rattle.mesh_semantics.specs.Kind as K
 use Rattle.mesh_semantics.specs.Kind.{Kind, Alternative, is_local, makes, calls, posts, returns, writes, fails, has_name, answered, answers, is_plain, alternatives}
 use Rattle.mesh_semantics.specs.Language.{Language}
 use Rattle.mesh_semantics.specs.Config.{Config, object_of, messages_of}
 use Rattle.mesh_semantics.specs.Moves.{move, running, offered, numbered, can_pick, first_message}
-use Rattle.mesh_semantics.specs.Paths.{under, along, path}
+use Rattle.run_words.specs.Paths.{under, along, path}
 use Rattle.mesh_semantics.specs.Delay as D
-use Rattle.mesh_semantics.specs.Delay.{Packet, Arrival, Holding, Delay, node_of, arrived_at, held}
+use Rattle.mesh_semantics.specs.Delay.{Packet, Arrival, Holding, Delay, arrived_at, held}
+use Rattle.run_words.specs.ObjectNames.{node_of}
 use Rattle.mesh_semantics.specs.Act.{first_arrival, is_possible, can_step, is_ready, is_acknowledged, is_quiet}
 use Rattle.mesh_semantics.specs.Sound.{Sent, Called, sent_of, called_of, entries, call_by, Owns, OwnedAt, letters_in, letter, notes, IsSound}
 
@@ -252,12 +252,8 @@ module _ {S : Type 0} (g : Language S) (W : Config S → Type 0) (l : Placement)
       ks : List Pair
       ks = path l (node_of s) (node_of b)
 
-      to_end : {X : Type 0} (xs : List X) → xs ++ [] ≡ xs
-      to_end [] = refl
-      to_end (x ∷ xs) = rw (to_end xs) refl
-
       none : notes (letters_in s (arrived_at d b) ++ along (letter s b) [] ks) ≡ notes (letters_in s (arrived_at d b))
-      none = rw (none_along (letter s b) ks, to_end (letters_in s (arrived_at d b))) refl
+      none = rw (none_along (letter s b) ks, append-nil (letters_in s (arrived_at d b))) refl
 
   nothing : {A B : Type 0} (o : Option A) → ◌>>=◌ {A = A} {B = B} o (λ v. None) ≡ None
   nothing None = refl

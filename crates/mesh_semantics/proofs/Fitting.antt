@@ -1,5 +1,5 @@
 -- A placement that fits a program is one on whose paths the proofs stand.
-use Rattle.pool_syntax.specs.declared.words.Placement.{Placement}
+use Rattle.run_words.specs.declared.words.Placement.{Placement}
 use Rattle.mesh_semantics.specs.Language.{Language}
 use Rattle.mesh_semantics.specs.Fit.{Fit}
 use Rattle.mesh_semantics.specs.FitFor.{FitFor}

@@ -1,18 +1,18 @@
 -- Of each pair of nodes what has left the links is a prefix of what entered.
 use Rattle.std.proofs.Common.{◌≡◌, ◌≢◌, inl, refl, sym, ap, ap₂, subst, ◌∙◌, ℕ, ◌*◌, ◌<◌, ◌==◌, List, [], ◌∷◌, ◌++◌, append_assoc, append-nil, Option, Some, None, Bool, true, false, ◌&&◌, arith}
 use Rattle.std.proofs.lemmas.Grind.{flat_map-append}
-use Rattle.pool_syntax.specs.declared.words.Placement.{Placement}
-use Rattle.mesh_semantics.specs.Tables.{Pair}
-use Rattle.mesh_semantics.proofs.Tests.{first, second, equal, equals}
-use Rattle.mesh_semantics.specs.Paths.{next, path, is_link, on_link, put_last, move_head, along}
+use Rattle.run_words.specs.declared.words.Placement.{Placement}
+use Rattle.run_words.specs.Tables.{Pair, Each}
+use Rattle.run_words.proofs.Laws.{first, second, equal, equals, each_append}
+use Rattle.run_words.specs.Paths.{next, path, is_link, on_link, put_last, move_head, along}
 use Rattle.mesh_semantics.specs.Act.{first_of}
-use Rattle.mesh_semantics.specs.Sound.{Each, Has}
-use Rattle.mesh_semantics.specs.Ways.{Ways}
+use Rattle.mesh_semantics.specs.Sound.{Has}
+use Rattle.run_words.specs.Ways.{Ways}
 use Rattle.mesh_semantics.specs.Traffic.{Load, Change, Enter, Move, traffic, no_traffic, of_pair, between, Inside, IsPrefix}
 use Rattle.mesh_semantics.proofs.FlatTraffic.{Flat, goes_on, moved_on, happens, flat, no_flat, all_alike}
 use Rattle.mesh_semantics.proofs.Final.{none_along}
 use Rattle.mesh_semantics.proofs.Along.{Apart, IsLast, Follows, put_nothing, move_nothing, entered, left, gone_on, apart, Where, End, Before, where_is, second_there, Begins, begins}
-use Rattle.mesh_semantics.proofs.Basics.{each_append, each_without, each_head}
+use Rattle.mesh_semantics.proofs.Basics.{each_without, each_head}
 
 -- a load of the pair, or not
 data Pairs {X : Type 0} (a b : ℕ) (x : Load X) : Type 0 where

@@ -3,14 +3,14 @@ use Rattle.std.proofs.Common.{◌≡◌, refl, sym, ap, ap₂, subst, ◌∙◌,
 use Rattle.std.specs.Prelude.{slice_get, take as first_of_list, drop}
 use Rattle.std.proofs.lemmas.List.{drop-take, length-append, length-take-le, take-append-drop}
 use Rattle.std.proofs.Math.Seq.{drop-append_seam as behind, take-append_seam as front}
-use Rattle.pool_syntax.specs.declared.words.What.{What}
-use Rattle.pool_syntax.specs.declared.words.What.TheVariants as W
-use Rattle.pool_syntax.specs.declared.words.WireAct.{WireAct}
-use Rattle.pool_syntax.specs.declared.words.WireAct.TheVariants as A
-use Rattle.mesh_semantics.specs.Tables.{Each}
+use Rattle.run_words.specs.declared.words.What.{What}
+use Rattle.run_words.specs.declared.words.What.TheVariants as W
+use Rattle.run_words.specs.declared.words.WireAct.{WireAct}
+use Rattle.run_words.specs.declared.words.WireAct.TheVariants as A
+use Rattle.run_words.specs.Tables.{Each}
 use Rattle.mesh_semantics.specs.Wire.{Frame, Wire, empty_wire, WireFacts, greater, wanted_of, wanted, enter, launch, send_number, send, coming, take_frame, take, hear_number, hear, lose, twice, late, with_frames, with_acks, frame_number, ack_number, wire_act, changed}
 use Rattle.mesh_semantics.specs.KeptWire.{KeptWire, empty_kept, from_to, kept_of, whole, Carries, kept_wanted, with_fresh, kept_launch, kept_send, kept_send_number, kept_coming, hand_out, kept_take_frame, kept_take, kept_hear_number, kept_hear, with_kept_frames, with_kept_acks, kept_act, kept_result, Follows}
-use Rattle.mesh_semantics.proofs.Tests.{equal}
+use Rattle.run_words.proofs.Laws.{equal}
 use Rattle.mesh_semantics.proofs.WireLaws.{facts_empty, Greatest, greatest, Wanted, wanted_is, there, act_facts, take_facts, enter_facts, act_put, take_put}
 
 module _ {X : Type 0} where

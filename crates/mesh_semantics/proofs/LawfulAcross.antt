@@ -4,12 +4,12 @@ use Rattle.std.specs.Prelude.{◌&&◌, ◌||◌}
 use Rattle.std.specs.Ordering.{nat_cmp, is_lt}
 use Rattle.std.specs.FinMap.{is_sorted}
 use Rattle.std.specs.FinMap.Entries.{below_all}
-use Rattle.pool_syntax.specs.declared.words.Value.{Value}
-use Rattle.pool_syntax.specs.declared.words.Value.TheVariants as V
-use Rattle.pool_syntax.specs.declared.words.Error.{Error}
-use Rattle.pool_syntax.specs.declared.words.Label.{Label}
-use Rattle.pool_syntax.specs.declared.words.Label.TheVariants as L
-use Rattle.mesh_semantics.proofs.Tests.{equals, both}
+use Rattle.run_words.specs.declared.words.Value.{Value}
+use Rattle.run_words.specs.declared.words.Value.TheVariants as V
+use Rattle.run_words.specs.declared.words.Error.{Error}
+use Rattle.run_words.specs.declared.words.Label.{Label}
+use Rattle.run_words.specs.declared.words.Label.TheVariants as L
+use Rattle.run_words.proofs.Laws.{equals, both, find_put_same, value_itself, values_itself}
 use Rattle.mesh_semantics.specs.Kind as K
 use Rattle.mesh_semantics.specs.Kind.{Kind, makes, calls, posts, returns, waits_on, alternatives}
 use Rattle.mesh_semantics.specs.Language.{Language}
@@ -18,8 +18,6 @@ use Rattle.mesh_semantics.specs.Moves.{move, running, offered, first_message}
 use Rattle.mesh_semantics.specs.Sound.{is_wait}
 use Rattle.mesh_semantics.specs.Lawful.{Lawful, CanServe}
 use Rattle.mesh_semantics.specs.Simulates.{Both, IsCalled, Simulates, Zipped, Related, Corresponds}
-use Rattle.mesh_semantics.proofs.Maps.{find_put_same}
-use Rattle.mesh_semantics.proofs.Basics.{value_itself, values_itself}
 use Rattle.mesh_semantics.proofs.Simulated.{found, messages_same, move_same}
 
 module _ {S T : Type 0} (g : Language S) (h : Language T) (W : Config S → Type 0) (R : ℕ → S → T → Type 0) (law : Lawful g W) (sim : Simulates g h W R) where

@@ -1,16 +1,9 @@
--- The lemmas that other crates cite: on tests and chains of steps, on lists, maps and links after a change, on what an object owns, and the laws of placed machines over any
+-- The lemmas that other crates cite: on lists and links after a change, on what an object owns, and the laws of placed machines over any
 -- language of objects and any property that is kept.
-pub use Rattle.mesh_semantics.proofs.Tests.{first, second, both, equal, equals, not_true, true_not, decide, differ, T_true, true_T}
-pub use Rattle.mesh_semantics.proofs.Chains.{same_some, there_is, given_by, required, same_value, same_values, same_error}
-pub use Rattle.mesh_semantics.proofs.Basics.{value_itself, values_itself, item_itself, error_itself, runs, each_map, each_append, each_without, each_head}
-pub use Rattle.mesh_semantics.proofs.Maps.{find_pair_same, find_pair_other, tested, all_tested, untied, find_put_same, find_put_other, find_without_same, find_without_other, put_list_same, put_list_other, push_list_same, push_list_other}
+pub use Rattle.mesh_semantics.proofs.Basics.{runs, each_without, each_head}
 pub use Rattle.mesh_semantics.proofs.Owned.{no_part, one_part, is_call_of, moved_own, moved_some, taken_own, taken_some}
 pub use Rattle.mesh_semantics.proofs.Lists.{under-append, on_put_same, on_put_other, on_moved_same, on_moved_other}
 pub use Rattle.mesh_semantics.proofs.Taken.{under_taken, under_other, none_before, earliest}
-pub use Rattle.mesh_semantics.proofs.Neighbours.{neighbours}
-pub use Rattle.mesh_semantics.proofs.Meshes.{toward_beside, plain_ways}
-pub use Rattle.mesh_semantics.proofs.RoutedWays.{next_beside, routed_ways, ways_have_routes}
-pub use Rattle.mesh_semantics.proofs.Followed.{follow, followed}
 pub use Rattle.mesh_semantics.proofs.Fitting.{fit_of}
 pub use Rattle.mesh_semantics.proofs.InOrder.{in_order}
 pub use Rattle.mesh_semantics.proofs.Started.{placed_start_sound, with_wires}
@@ -21,7 +14,7 @@ pub use Rattle.mesh_semantics.proofs.Entering.{Behind, PutsBehind, turn_enters, 
 pub use Rattle.mesh_semantics.proofs.WiresKept.{at_same, at_other, enter_at, stale_handed, next_handed, act_handed, KeepsOn, act_keeps_wires, record_keeps_wires, no_wires_kept, acknowledged_at, quiet_acknowledged}
 pub use Rattle.mesh_semantics.proofs.Final.{no_transition}
 pub use Rattle.mesh_semantics.proofs.Idle.{idle_turn, idle_link, idle_wire, turn_idles, link_idles, wire_idles}
-pub use Rattle.mesh_semantics.proofs.Cycles.{every_cycle, is_cycle}
+pub use Rattle.mesh_semantics.proofs.Cycles.{every_cycle, is_cycle, every_cycle_among, is_cycle_among}
 pub use Rattle.mesh_semantics.proofs.Simulated.{there, found, move_same}
 pub use Rattle.mesh_semantics.proofs.SameActs.{act_same, quiet_same}
 pub use Rattle.mesh_semantics.proofs.SameRecords.{records_agree}

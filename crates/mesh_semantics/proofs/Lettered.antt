@@ -1,14 +1,15 @@
 -- What a pair has on the way, after a packet was posted, went on or left its link, or a message arrived or was taken.
 use Rattle.std.proofs.Common.{◌≡◌, ◌≢◌, refl, sym, ap, ap₂, subst, ◌∙◌, ℕ, ◌*◌, ◌<◌, ◌==◌, List, [], ◌∷◌, ◌++◌, append_assoc, append-nil, Some, Bool, true, false, ◌&&◌}
-use Rattle.pool_syntax.specs.declared.words.Placement.{Placement}
-use Rattle.mesh_semantics.specs.Tables.{Pair}
-use Rattle.mesh_semantics.proofs.Tests.{first, second, equal}
-use Rattle.mesh_semantics.specs.Paths.{next, path, under, on_link, put_last, move_head, along}
+use Rattle.run_words.specs.declared.words.Placement.{Placement}
+use Rattle.run_words.specs.Tables.{Pair}
+use Rattle.run_words.proofs.Laws.{first, second, equal}
+use Rattle.run_words.specs.Paths.{next, path, under, on_link, put_last, move_head, along}
 use Rattle.mesh_semantics.specs.Delay as D
-use Rattle.mesh_semantics.specs.Delay.{Packet, Arrival, Delay, node_of, post, arrived_at, arrive, is_for, take_arrival}
+use Rattle.mesh_semantics.specs.Delay.{Packet, Arrival, Delay, post, arrived_at, arrive, is_for, take_arrival}
+use Rattle.run_words.specs.ObjectNames.{node_of}
 use Rattle.mesh_semantics.specs.Act.{first_of, goal_node}
 use Rattle.mesh_semantics.specs.Sound.{Letter, letters_in, letter_if, letter, letters, sender_of, Has, OnPath}
-use Rattle.mesh_semantics.specs.Ways.{Leads, Once, ends_of, Ways}
+use Rattle.run_words.specs.Ways.{Leads, Once, ends_of, Ways}
 use Rattle.mesh_semantics.proofs.Lists.{under-append}
 use Rattle.mesh_semantics.proofs.Along.{put_nothing, move_nothing, entered, left, gone_on, apart, Where, End, Before, where_is, begins, stays}
 use Rattle.mesh_semantics.proofs.Owned.{moved}

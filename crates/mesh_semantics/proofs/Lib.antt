@@ -1,7 +1,4 @@
-pub mod Tests
-pub mod Chains
 pub mod Lists
-pub mod Maps
 pub mod Along
 pub mod Owned
 pub mod Lettered
@@ -24,10 +21,6 @@ pub mod Started
 pub mod Events
 pub mod Asked
 pub mod Idle
-pub mod Meshes
-pub mod Neighbours
-pub mod RoutedWays
-pub mod Followed
 pub mod Fitting
 pub mod FlatTraffic
 pub mod InOrder
@@ -38,4 +31,5 @@ pub mod Across
 pub mod LawfulAcross
 pub mod SameRecords
 pub mod SameStandings
+pub mod MessageMaps
 pub mod Laws

@@ -1,11 +1,9 @@
 -- What is on links, and what has arrived, after one was put or taken.
 use Rattle.std.proofs.Common.{◌≡◌, ◌≢◌, refl, sym, ap, subst, ◌∙◌, ◌==◌, List, [], ◌∷◌, ◌++◌, append-nil, Some, Bool, true, false, ◌&&◌, arith}
-use Rattle.mesh_semantics.specs.Tables.{Pair}
-use Rattle.mesh_semantics.proofs.Tests.{first, second, both, equal, equals}
-use Rattle.mesh_semantics.proofs.Chains.{same_some}
-use Rattle.mesh_semantics.specs.Paths.{is_link, under, without_first, on_link, put_last, move_head}
+use Rattle.run_words.specs.Tables.{Pair, Each}
+use Rattle.run_words.proofs.Laws.{first, second, both, equal, equals, same_some}
+use Rattle.run_words.specs.Paths.{is_link, under, without_first, on_link, put_last, move_head}
 use Rattle.mesh_semantics.specs.Act.{first_of}
-use Rattle.mesh_semantics.specs.Sound.{Each}
 
 -- two links are the same, or not
 pub data Same (j k : Pair) : Type 0 where

@@ -1,29 +1,30 @@
 -- The moves of links keep a consistent state so.
 use Rattle.std.proofs.Common.{◌≡◌, ◌≢◌, inl, inr, refl, sym, ap, subst, ◌∙◌, ℕ, ◌*◌, ◌<◌, ◌≤◌, ◌==◌, List, [], ◌∷◌, Option, Some, None, Bool, true, false, if◌then◌else◌, arith}
-use Rattle.pool_syntax.specs.declared.words.Value.{Value}
-use Rattle.pool_syntax.specs.declared.words.Value.TheVariants as V
-use Rattle.pool_syntax.specs.declared.words.Error.{Error}
-use Rattle.pool_syntax.specs.declared.words.Label.TheVariants as L
-use Rattle.pool_syntax.specs.declared.words.What.TheVariants as W'
-use Rattle.pool_syntax.specs.declared.words.Placement.{Placement}
-use Rattle.mesh_semantics.proofs.Tests.{equal, equals, differ}
+use Rattle.run_words.specs.declared.words.Value.{Value}
+use Rattle.run_words.specs.declared.words.Value.TheVariants as V
+use Rattle.run_words.specs.declared.words.Error.{Error}
+use Rattle.run_words.specs.declared.words.Label.TheVariants as L
+use Rattle.run_words.specs.declared.words.What.TheVariants as W'
+use Rattle.run_words.specs.declared.words.Placement.{Placement}
+use Rattle.run_words.proofs.Laws.{equal, equals, differ, find_put_same, find_without_same, find_without_other, each_append}
 use Rattle.mesh_semantics.specs.Kind as K
 use Rattle.mesh_semantics.specs.Kind.{Kind}
 use Rattle.mesh_semantics.specs.Language.{Language}
 use Rattle.mesh_semantics.specs.Config.{Config, object_of}
-use Rattle.mesh_semantics.specs.Paths.{next, path, is_link, on_link, move_head}
+use Rattle.run_words.specs.Paths.{next, path, is_link, on_link, move_head}
 use Rattle.mesh_semantics.specs.Delay as D
-use Rattle.mesh_semantics.specs.Delay.{Packet, Arrival, Holding, Delay, node_of, post, arrive, held, hold, free, cell_count}
+use Rattle.mesh_semantics.specs.Delay.{Packet, Arrival, Holding, Delay, post, arrive, held, hold, free, cell_count}
+use Rattle.run_words.specs.ObjectNames.{node_of}
 use Rattle.mesh_semantics.specs.Act.{id, Acts, first_of, next_name, goal_node, received, passed, link_move}
-use Rattle.mesh_semantics.specs.Sound.{Each, Entry, Sent, Called, entries, owns, call_by, Owns, OwnedAt, letter, letters, notes, CallsLast, sender_of, OnPath, Has, IsThere, IsPlaced, Consistent, IsWithin, IsSound}
+use Rattle.run_words.specs.Tables.{Each}
+use Rattle.mesh_semantics.specs.Sound.{Entry, Sent, Called, entries, owns, call_by, Owns, OwnedAt, letter, letters, notes, CallsLast, sender_of, OnPath, Has, IsThere, IsPlaced, Consistent, IsWithin, IsSound}
 use Rattle.mesh_semantics.specs.Fit.{Fit}
 use Rattle.mesh_semantics.specs.Lawful.{Lawful}
 use Rattle.mesh_semantics.specs.Kept.{After}
-use Rattle.mesh_semantics.proofs.Maps.{find_put_same, find_without_same, find_without_other}
 use Rattle.mesh_semantics.proofs.Along.{Where, End, Before, where_is, second_there}
 use Rattle.mesh_semantics.proofs.Owned.{moved, moved_other, moved_own, moved_some, post_other, post_own, arrive_other, arrive_own}
 use Rattle.mesh_semantics.proofs.Lettered.{letters_moved, letters_passed, letters_delivered}
-use Rattle.mesh_semantics.proofs.Basics.{each_append, each_without, each_head, total_less}
+use Rattle.mesh_semantics.proofs.Basics.{each_without, each_head, total_less}
 use Rattle.mesh_semantics.proofs.Posting.{posts_silent, cells_post, cells_arrive}
 use Rattle.mesh_semantics.proofs.Shapes.{Any, shape_of, of_shape, Shifts, shift, next_free}
 use Rattle.mesh_semantics.proofs.Turns.{Nearly, within_after, owned_is, one_label}

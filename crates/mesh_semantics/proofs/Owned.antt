@@ -1,11 +1,10 @@
 -- What an object owns, after a packet was posted or left its link, or a message arrived or was taken.
 use Rattle.std.proofs.Common.{◌≡◌, ◌≢◌, refl, sym, ap, ap₂, ◌∙◌, ℕ, ◌==◌, List, [], ◌∷◌, ◌++◌, append_assoc, append-nil, Some, Bool, true, false, ◌&&◌}
-use Rattle.pool_syntax.specs.declared.words.Placement.{Placement}
-use Rattle.mesh_semantics.specs.Tables.{Pair}
-use Rattle.mesh_semantics.proofs.Tests.{equal}
-use Rattle.mesh_semantics.proofs.Chains.{same_some}
+use Rattle.run_words.specs.declared.words.Placement.{Placement}
+use Rattle.run_words.specs.Tables.{Pair}
+use Rattle.run_words.proofs.Laws.{equal, same_some}
 use Rattle.mesh_semantics.specs.Kind.{has_name}
-use Rattle.mesh_semantics.specs.Paths.{next, under, without_first, on_link, put_last, move_head}
+use Rattle.run_words.specs.Paths.{next, under, without_first, on_link, put_last, move_head}
 use Rattle.mesh_semantics.specs.Delay.{Packet, Arrival, Delay, post, arrived_at, arrive, is_for, take_arrival}
 use Rattle.mesh_semantics.specs.Act.{first_of, first_arrival}
 use Rattle.mesh_semantics.specs.Sound.{Entry, Sent, Called, owns, sent_of, called_of, entries}

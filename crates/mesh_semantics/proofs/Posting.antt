@@ -1,20 +1,20 @@
 -- A packet or a call is put on its way.
 use Rattle.std.proofs.Common.{◌≡◌, ◌≢◌, inl, refl, sym, ap, subst, ◌∙◌, ℕ, ◌+◌, ◌*◌, ◌<◌, ◌==◌, List, [], ◌∷◌, ◌++◌, append-nil, Bool, true, false, ◌&&◌, if◌then◌else◌, flat_map, arith}
-use Rattle.pool_syntax.specs.declared.words.Value.{Value}
-use Rattle.pool_syntax.specs.declared.words.Placement.{Placement}
-use Rattle.mesh_semantics.specs.Tables.{Pair}
-use Rattle.mesh_semantics.proofs.Tests.{equals, differ}
+use Rattle.run_words.specs.declared.words.Value.{Value}
+use Rattle.run_words.specs.declared.words.Placement.{Placement}
+use Rattle.run_words.specs.Tables.{Pair, Each}
+use Rattle.run_words.proofs.Laws.{equals, differ, each_append, each_both}
 use Rattle.mesh_semantics.specs.Config.{Config}
-use Rattle.mesh_semantics.specs.Paths.{next, path, total, under, on_link, along}
+use Rattle.run_words.specs.Paths.{next, path, total, under, on_link, along}
 use Rattle.mesh_semantics.specs.Delay as D
-use Rattle.mesh_semantics.specs.Delay.{Packet, Arrival, Holding, Delay, node_of, post, arrived_at, arrive, cell_count}
+use Rattle.mesh_semantics.specs.Delay.{Packet, Arrival, Delay, post, arrived_at, arrive, cell_count}
+use Rattle.run_words.specs.ObjectNames.{node_of}
 use Rattle.mesh_semantics.specs.Act.{goal_node}
-use Rattle.mesh_semantics.specs.Sound.{Each, Entry, Sent, Called, owns, sent_of, called_of, entries, call_by, Letter, letters_in, letter_if, letter, letters, notes, CallsLast, Has, IsThere, IsPlaced}
-use Rattle.mesh_semantics.specs.Ways.{Ways}
+use Rattle.mesh_semantics.specs.Sound.{Entry, Sent, Called, owns, sent_of, called_of, entries, call_by, Letter, letters_in, letter_if, letter, letters, notes, CallsLast, Has, IsThere, IsPlaced}
+use Rattle.run_words.specs.Ways.{Ways}
 use Rattle.mesh_semantics.proofs.Along.{put_nothing, begins}
 use Rattle.mesh_semantics.proofs.Owned.{no_part, post_other, post_own, arrive_other, arrive_own}
 use Rattle.mesh_semantics.proofs.Lettered.{letters_post, letters_here, letter_of}
-use Rattle.mesh_semantics.proofs.Basics.{each_append}
 
 -- letters that are joined
 
@@ -48,10 +48,6 @@ note_alone true m args = (λ c. refl, tt)
 note_alone false m args = tt
 
 -- who owns nothing has no call among the letters
-
-each_join : {X : Type 0} (P : X → Type 0) (xs ys : List X) → Each P xs → Each P ys → Each P (xs ++ ys)
-each_join P [] ys h k = k
-each_join P (x ∷ xs) ys h k = (h.0, each_join P xs ys h.1 k)
 
 no_calls_in : (s r : ℕ) (es : List (ℕ × Arrival)) → called_of s es ≡ [] → Each (λ x. x.is_call ≡ false) (letters_in s (under (λ q. q == r) es))
 no_calls_in s r [] h = tt
@@ -87,18 +83,18 @@ no_calls_on s r k (e ∷ ls) h = by (owns s e.1) (e.0.0 == k.0 && e.0.1 == k.1) 
         → (sent_of s ls ≡ [] → Each (λ x. x.is_call ≡ false) (flat_map (letter s r) (on_link ls k)))
         → Each (λ x. x.is_call ≡ false) (flat_map (letter s r) (on_link (e ∷ ls) k))
     by true u i j m = absurd (let q : Sent e.1 ∷ sent_of s ls ≡ [] = rw i at h in cc)
-    by false true i j m = rw j (each_join (λ x. x.is_call ≡ false) (letter s r e.1) (flat_map (letter s r) (on_link ls k)) (no_call_letter s r e.1 i) (m (rw i at h)))
+    by false true i j m = rw j (each_both (λ x. x.is_call ≡ false) (letter s r e.1) (flat_map (letter s r) (on_link ls k)) (no_call_letter s r e.1 i) (m (rw i at h)))
     by false false i j m = rw j (m (rw i at h))
 
 no_calls_along : (s r : ℕ) (ls : List (Pair × Packet)) (ks : List Pair) → sent_of s ls ≡ [] → Each (λ x. x.is_call ≡ false) (along (letter s r) ls ks)
 no_calls_along s r ls [] h = tt
 no_calls_along s r ls (k ∷ ks) h =
-    each_join (λ x. x.is_call ≡ false) (along (letter s r) ls ks) (flat_map (letter s r) (on_link ls k)) (no_calls_along s r ls ks h) (no_calls_on s r k ls h)
+    each_both (λ x. x.is_call ≡ false) (along (letter s r) ls ks) (flat_map (letter s r) (on_link ls k)) (no_calls_along s r ls ks h) (no_calls_on s r k ls h)
 
 pub no_calls : (l : Placement) (d : Delay) (s r : ℕ) → entries d s ≡ [] → Each (λ x. x.is_call ≡ false) (letters l d s r)
 no_calls l d s r h =
     let n = no_part (sent_of s d.links) (called_of s d.arrived) h in
-    each_join (λ x. x.is_call ≡ false) (letters_in s (arrived_at d r)) (along (letter s r) d.links (path l (node_of s) (node_of r)))
+    each_both (λ x. x.is_call ≡ false) (letters_in s (arrived_at d r)) (along (letter s r) d.links (path l (node_of s) (node_of r)))
     (no_calls_in s r d.arrived n.1) (no_calls_along s r d.links (path l (node_of s) (node_of r)) n.0)
 
 -- sums

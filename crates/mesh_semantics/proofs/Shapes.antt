@@ -4,15 +4,15 @@ use Rattle.std.specs.Ordering.{nat_cmp}
 use Rattle.std.specs.Cmp.{nat_cmp_total}
 use Rattle.std.specs.FinMap.{is_sorted}
 use Rattle.std.specs.FinMap.Entries.{is_sorted-put}
-use Rattle.pool_syntax.specs.declared.words.Placement.{Placement}
-use Rattle.mesh_semantics.proofs.Tests.{equals, decide, differ}
-use Rattle.mesh_semantics.proofs.Tests.{T_true, true_T}
+use Rattle.run_words.specs.declared.words.Placement.{Placement}
+use Rattle.run_words.proofs.Laws.{equals, decide, differ, T_true, true_T, find_put_same, find_put_other, total_put_new}
 use Rattle.mesh_semantics.specs.Language.{Language}
 use Rattle.mesh_semantics.specs.Config.{Config, object_of, put_object}
-use Rattle.mesh_semantics.specs.Delay.{Delay, node_of, slot_of, held}
+use Rattle.mesh_semantics.specs.Delay.{Delay, held}
+use Rattle.run_words.specs.ObjectNames.{node_of, slot_of}
 use Rattle.mesh_semantics.specs.Act.{object_count, frame_count, next_name}
-use Rattle.mesh_semantics.specs.Sound.{Each, entries, OwnedAt, letters, notes, CallsLast, IsThere, IsPlaced, Consistent}
-use Rattle.mesh_semantics.proofs.Maps.{find_put_same, find_put_other, total_put_new}
+use Rattle.run_words.specs.Tables.{Each}
+use Rattle.mesh_semantics.specs.Sound.{entries, OwnedAt, letters, notes, CallsLast, IsThere, IsPlaced, Consistent}
 use Rattle.mesh_semantics.proofs.Basics.{there_put, placed_grow, arrivals_grow, names_put}
 
 -- nothing is asked of a configuration alone

@@ -1,20 +1,19 @@
 -- One object on a node of the mesh, and nothing on the way: a sound start.
 use Rattle.std.proofs.Common.{◌≡◌, ◌≢◌, ◌⊎◌, inl, inr, refl, sym, ap, subst, ◌∙◌, ℕ, suc, ◌+◌, ◌*◌, ◌<◌, ◌≤◌, ◌==◌, List, [], ◌∷◌, slice_get, Option, Some, None, Bool, true, false, arith}
-use Rattle.pool_syntax.specs.declared.words.Place.{Place}
-use Rattle.pool_syntax.specs.declared.words.Place.TheVariants as Pl
-use Rattle.pool_syntax.specs.declared.words.Placement.{Placement}
-use Rattle.mesh_semantics.proofs.Tests.{decide, equals}
+use Rattle.run_words.specs.declared.words.Place.{Place}
+use Rattle.run_words.specs.declared.words.Place.TheVariants as Pl
+use Rattle.run_words.specs.declared.words.Placement.{Placement}
+use Rattle.run_words.proofs.Laws.{decide, equals, same_some, untied}
 use Rattle.mesh_semantics.specs.Language.{Language}
 use Rattle.mesh_semantics.specs.Config.{Config, object_of}
-use Rattle.mesh_semantics.specs.Paths.{path}
-use Rattle.mesh_semantics.specs.Delay.{Delay, Wires, no_delay, node_of, slot_of}
+use Rattle.run_words.specs.Paths.{path}
+use Rattle.mesh_semantics.specs.Delay.{Delay, Wires, no_delay}
+use Rattle.run_words.specs.ObjectNames.{node_of, slot_of}
 use Rattle.mesh_semantics.specs.Act.{object_count, frame_count}
 use Rattle.mesh_semantics.specs.Record.{last_place, root_node, start}
 use Rattle.mesh_semantics.specs.FitFor.{FitFor}
 use Rattle.mesh_semantics.specs.Sound.{OwnedAt, letter, notes, CallsLast, IsThere, IsSound}
-use Rattle.mesh_semantics.proofs.Chains.{same_some}
 use Rattle.mesh_semantics.proofs.Final.{none_along}
-use Rattle.mesh_semantics.proofs.Maps.{untied}
 
 module _ {S : Type 0} (g : Language S) (W : Config S → Type 0) (l : Placement) (k : ℕ) (x : S) where
   abbrev pub one : Config S

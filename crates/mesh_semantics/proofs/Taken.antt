@@ -1,10 +1,9 @@
 -- The first arrived message on some methods is taken: what that is for the list of its pair.
 use Rattle.std.proofs.Common.{◌≡◌, ◌≢◌, refl, sym, ap, subst, ◌∙◌, ℕ, ◌==◌, List, [], ◌∷◌, ◌++◌, Some, Bool, true, false, ◌||◌, if◌then◌else◌}
-use Rattle.mesh_semantics.proofs.Tests.{equal, equals, differ}
-use Rattle.mesh_semantics.proofs.Chains.{same_some}
+use Rattle.run_words.proofs.Laws.{equal, equals, differ, same_some}
 use Rattle.mesh_semantics.specs.Kind.{has_name}
 use Rattle.mesh_semantics.specs.Moves.{has_message, first_message, without_message}
-use Rattle.mesh_semantics.specs.Paths.{under, without_first}
+use Rattle.run_words.specs.Paths.{under, without_first}
 use Rattle.mesh_semantics.specs.Delay.{Arrival, is_for}
 use Rattle.mesh_semantics.specs.Act.{first_arrival}
 use Rattle.mesh_semantics.specs.Sound.{Letter, letters_in, notes, CallsLast}

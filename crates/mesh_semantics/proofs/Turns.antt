@@ -2,28 +2,28 @@
 use Rattle.std.proofs.Common.{◌≡◌, ◌≢◌, ◌⊎◌, inl, inr, refl, sym, subst, ◌∙◌, IsTrue, ℕ, ◌*◌, ◌<◌, ◌≤◌, ◌==◌, List, [], ◌∷◌, Option, Some, None, Bool, true, false, nat_lt, arith}
 use Rattle.std.specs.Ordering.{nat_cmp}
 use Rattle.std.specs.FinMap.{is_sorted}
-use Rattle.pool_syntax.specs.declared.words.Value.{Value}
-use Rattle.pool_syntax.specs.declared.words.Item.{Item}
-use Rattle.pool_syntax.specs.declared.words.Error.{Error}
-use Rattle.pool_syntax.specs.declared.words.Label.{Label}
-use Rattle.pool_syntax.specs.declared.words.Label.TheVariants as L
-use Rattle.pool_syntax.specs.declared.words.Placement.{Placement}
-use Rattle.mesh_semantics.proofs.Tests.{equal, equals, decide}
+use Rattle.run_words.specs.declared.words.Value.{Value}
+use Rattle.run_words.specs.declared.words.Item.{Item}
+use Rattle.run_words.specs.declared.words.Error.{Error}
+use Rattle.run_words.specs.declared.words.Label.{Label}
+use Rattle.run_words.specs.declared.words.Label.TheVariants as L
+use Rattle.run_words.specs.declared.words.Placement.{Placement}
+use Rattle.run_words.proofs.Laws.{equal, equals, decide, find_put_same, find_put_other, item_itself, error_itself}
 use Rattle.mesh_semantics.specs.Kind as K
 use Rattle.mesh_semantics.specs.Kind.{Kind, Alternative, is_local, alternatives, is_plain}
 use Rattle.mesh_semantics.specs.Language.{Language}
 use Rattle.mesh_semantics.specs.Config.{Config, object_of, put_object}
 use Rattle.mesh_semantics.specs.Moves.{move, moves, numbered, can_pick}
 use Rattle.mesh_semantics.specs.Delay as D
-use Rattle.mesh_semantics.specs.Delay.{Packet, Arrival, Holding, Delay, node_of, slot_of, post, arrive, held, hold, free, count_made, stepped_last, cell_count}
+use Rattle.mesh_semantics.specs.Delay.{Packet, Arrival, Holding, Delay, post, arrive, held, hold, free, count_made, stepped_last, cell_count}
+use Rattle.run_words.specs.ObjectNames.{node_of, slot_of}
 use Rattle.mesh_semantics.specs.Act.{Acted, Acts, Full, Nothing, within, shows, labelled, object_count, frame_count, call_turn}
 use Rattle.mesh_semantics.specs.Sound.{Entry, Sent, Called, entries, call_by, Owns, OwnedAt, IsThere, Consistent, IsWithin, IsSound}
-use Rattle.mesh_semantics.specs.Ways.{Ways}
+use Rattle.run_words.specs.Ways.{Ways}
 use Rattle.mesh_semantics.specs.Lawful.{Lawful}
 use Rattle.mesh_semantics.specs.Kept.{After}
 use Rattle.mesh_semantics.specs.Record.{shown}
-use Rattle.mesh_semantics.proofs.Maps.{find_put_same, find_put_other}
-use Rattle.mesh_semantics.proofs.Basics.{item_itself, error_itself, there_put, runs, placed_grow, arrivals_grow, count_put, frames_elsewhere, names_put}
+use Rattle.mesh_semantics.proofs.Basics.{there_put, runs, placed_grow, arrivals_grow, count_put, frames_elsewhere, names_put}
 use Rattle.mesh_semantics.proofs.Posting.{Posts, posts_request, posts_call}
 
 not_over : (a b : ℕ) → nat_lt a b ≡ false → b ≤ a

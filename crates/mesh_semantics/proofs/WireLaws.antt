@@ -1,25 +1,20 @@
 -- Whatever happens on a wire keeps its facts: what was handed out is a front of what entered, each frame carries what has its number, and the numbers are in their bounds.
-use Rattle.std.proofs.Common.{◌≡◌, refl, sym, ap, subst, ◌∙◌, ℕ, zero, suc, ◌+◌, ◌<◌, ◌≤◌, ◌==◌, List, [], ◌∷◌, ◌++◌, append-nil, append_assoc, length, Option, Some, None, Bool, true, false, if◌then◌else◌, nat_lt, arith}
+use Rattle.std.proofs.Common.{◌≡◌, refl, sym, ap, subst, ◌∙◌, ℕ, zero, suc, ◌+◌, ◌<◌, ◌≤◌, ◌==◌, List, [], ◌∷◌, ◌++◌, append-nil, append_assoc, length, Option, Some, None, Bool, true, false, if◌then◌else◌, nat_lt, arith, ltb-true}
 use Rattle.std.specs.Prelude.{slice_get}
 use Rattle.std.proofs.lemmas.List.{length-append}
-use Rattle.pool_syntax.specs.declared.words.What.{What}
-use Rattle.pool_syntax.specs.declared.words.What.TheVariants as W
-use Rattle.pool_syntax.specs.declared.words.WireAct.{WireAct}
-use Rattle.pool_syntax.specs.declared.words.WireAct.TheVariants as A
-use Rattle.mesh_semantics.specs.Tables.{Each}
+use Rattle.run_words.specs.declared.words.What.{What}
+use Rattle.run_words.specs.declared.words.What.TheVariants as W
+use Rattle.run_words.specs.declared.words.WireAct.{WireAct}
+use Rattle.run_words.specs.declared.words.WireAct.TheVariants as A
+use Rattle.run_words.specs.Tables.{Each}
 use Rattle.mesh_semantics.specs.Act.{first_of}
 use Rattle.mesh_semantics.specs.Wire.{Frame, Wire, empty_wire, window, capacity, greater, push_within, wanted_of, wanted, enter, launch, send_number, Empty, Stale, Next, coming_in, coming, take_frame, take, hear_number, hear, lose, twice, late, with_frames, with_acks, frame_number, ack_number, wire_act, WireFacts, Happening, Enters, Comes, On, changed, happen, happened, entered}
-use Rattle.mesh_semantics.proofs.Tests.{equal}
-use Rattle.mesh_semantics.proofs.Chains.{same_some}
-use Rattle.mesh_semantics.proofs.Basics.{each_map, each_append}
-
--- the greater of two numbers is the least above both
-less : (a b : ℕ) → nat_lt a b ≡ true → a < b
-less a b h = grind (arith, h)
+use Rattle.run_words.proofs.Laws.{equal, same_some, each_map, each_append}
 
 not_less : (a b : ℕ) → nat_lt a b ≡ false → b ≤ a
 not_less a b h = grind (arith, h)
 
+-- the greater of two numbers is the least above both
 pub record Greatest (a b : ℕ) : Type 0 where
   pub left : a ≤ greater a b
   pub right : b ≤ greater a b
@@ -29,7 +24,7 @@ pub greatest : (a b : ℕ) → Greatest a b
 greatest a b = by (nat_lt a b) refl
   where
     by : (t : Bool) → nat_lt a b ≡ t → Greatest a b
-    by true h = let q = less a b h in record { left = rw h (omega (arith, q)); right = rw h (omega arith); least = λ n i j. rw h j }
+    by true h = let q = ltb-true a b h in record { left = rw h (omega (arith, q)); right = rw h (omega arith); least = λ n i j. rw h j }
     by false h = let q = not_less a b h in record { left = rw h (omega arith); right = rw h q; least = λ n i j. rw h i }
 
 -- places in a list
@@ -68,7 +63,7 @@ length_pushed : {F : Type 0} (f : F) (fs : List F) → length fs ≤ capacity �
 length_pushed f fs h = by (nat_lt (length fs) capacity) refl
   where
     by : (b : Bool) → nat_lt (length fs) capacity ≡ b → length (push_within f fs) ≤ capacity
-    by true e = rw e (let q = less (length fs) capacity e in let r = length-append fs (f ∷ []) in omega (arith, q, r))
+    by true e = rw e (let q = ltb-true (length fs) capacity e in let r = length-append fs (f ∷ []) in omega (arith, q, r))
     by false e = rw e h
 
 pub length_behind : {F : Type 0} (fs : List F) (f : F) → length (fs ++ f ∷ []) ≡ suc (length fs)
@@ -87,7 +82,7 @@ wanted_is acked next entered n below up h = by (acked == entered) (nat_lt next (
     by : (t u v : Bool) → (acked == entered) ≡ t → nat_lt next (acked + window) ≡ u → nat_lt next entered ≡ v → Wanted acked next entered n
     by true u v i j k = absurd (let q : None ≡ Some n = rw i at h in cc)
     by false true true i j k =
-        let same : next ≡ n = same_some (rw (i, j, k) at h) in let p = less next (acked + window) j in let q = less next entered k in
+        let same : next ≡ n = same_some (rw (i, j, k) at h) in let p = ltb-true next (acked + window) j in let q = ltb-true next entered k in
         record { low = omega (arith, same, up); high = omega (arith, same, p); there = omega (arith, same, q); is = omega (arith, same) }
     by false false v i j k = old i (same_some (rw (i, j) at h))
       where
@@ -262,7 +257,7 @@ module _ {X : Type 0} where
       by (f ∷ fs) c = on (nat_lt (length (f ∷ fs)) capacity) refl
         where
           on : (b : Bool) → nat_lt (length (f ∷ fs)) capacity ≡ b → WireFacts (changed w (with_frames w (twice frame_number (f ∷ fs))))
-          on true i = rw i (with_facts w ((f ∷ fs) ++ f ∷ []) s (each_append (Carries w) (f ∷ fs) f c c.0) (let q = less (length (f ∷ fs)) capacity i in let r = length_behind (f ∷ fs) f in omega (arith, q, r)))
+          on true i = rw i (with_facts w ((f ∷ fs) ++ f ∷ []) s (each_append (Carries w) (f ∷ fs) f c c.0) (let q = ltb-true (length (f ∷ fs)) capacity i in let r = length_behind (f ∷ fs) f in omega (arith, q, r)))
           on false i = rw i s
   act_facts A.Late w s = by w.frames s.carried s.capacities.0
     where
@@ -281,7 +276,7 @@ module _ {X : Type 0} where
       by (n ∷ ns) c = on (nat_lt (length (n ∷ ns)) capacity) refl
         where
           on : (b : Bool) → nat_lt (length (n ∷ ns)) capacity ≡ b → WireFacts (changed w (with_acks w (twice ack_number (n ∷ ns))))
-          on true i = rw i (with_told w ((n ∷ ns) ++ n ∷ []) s (each_append (λ n. n ≤ length w.handed) (n ∷ ns) n c c.0) (let q = less (length (n ∷ ns)) capacity i in let r = length_behind (n ∷ ns) n in omega (arith, q, r)))
+          on true i = rw i (with_told w ((n ∷ ns) ++ n ∷ []) s (each_append (λ n. n ≤ length w.handed) (n ∷ ns) n c c.0) (let q = ltb-true (length (n ∷ ns)) capacity i in let r = length_behind (n ∷ ns) n in omega (arith, q, r)))
           on false i = rw i s
   act_facts A.LateAck w s = by w.acks s.told s.capacities.1
     where

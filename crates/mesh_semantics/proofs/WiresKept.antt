@@ -5,24 +5,23 @@ use Rattle.std.specs.Option.{unwrap_or}
 use Rattle.std.specs.List.{list_any}
 use Rattle.std.specs.FinMap.{find, put}
 use Rattle.std.proofs.Math.Seq.{drop-append_seam}
-use Rattle.pool_syntax.specs.declared.words.Event.{Event}
-use Rattle.pool_syntax.specs.declared.words.Event.TheVariants as Ev
-use Rattle.pool_syntax.specs.declared.words.What.{What}
-use Rattle.pool_syntax.specs.declared.words.WireAct.{WireAct}
-use Rattle.pool_syntax.specs.declared.words.WireAct.TheVariants as A
-use Rattle.pool_syntax.specs.declared.words.Placement.{Placement}
-use Rattle.mesh_semantics.specs.Tables.{Pair, pair_cmp}
+use Rattle.run_words.specs.declared.words.Event.{Event}
+use Rattle.run_words.specs.declared.words.Event.TheVariants as Ev
+use Rattle.run_words.specs.declared.words.What.{What}
+use Rattle.run_words.specs.declared.words.WireAct.{WireAct}
+use Rattle.run_words.specs.declared.words.WireAct.TheVariants as A
+use Rattle.run_words.specs.declared.words.Placement.{Placement}
+use Rattle.run_words.specs.Tables.{Pair, pair_cmp}
 use Rattle.mesh_semantics.specs.Language.{Language}
 use Rattle.mesh_semantics.specs.Config.{Config}
-use Rattle.mesh_semantics.specs.Paths.{is_link, on_link, move_head}
+use Rattle.run_words.specs.Paths.{is_link, on_link, move_head}
 use Rattle.mesh_semantics.specs.Wire.{Frame, Wire, empty_wire, enter, wanted, launch, send_number, greater, Coming, Empty, Stale, Next, coming, coming_in, take, take_frame, hear_number, lose, twice, late, with_frames, with_acks, frame_number, ack_number, wire_act, is_done, WireFacts, Happening, Comes, On, changed, happen, happened, entered, enterings}
 use Rattle.mesh_semantics.specs.Delay.{Packet, Wires, Delay, no_delay_on_wires, wire_at, enter_all}
 use Rattle.mesh_semantics.specs.Act.{Acted, Acts, Full, Nothing, first_of, plain_act, link_move, turn_of, on_wires, wire_move, wire_turn, act_over, act, is_ready, is_acknowledged, is_quiet}
 use Rattle.mesh_semantics.specs.Wired.{IsWireOf, AreWiresOf, KeepsWires, IsReached, AreReached}
 use Rattle.mesh_semantics.specs.Record.{Record, after, record_from}
-use Rattle.mesh_semantics.proofs.Tests.{first, second, equal}
+use Rattle.run_words.proofs.Laws.{first, second, equal, find_pair_same, find_pair_other, tested}
 use Rattle.mesh_semantics.proofs.Lists.{Same, Is, Not, same, under-append, on_moved_same, on_moved_other}
-use Rattle.mesh_semantics.proofs.Maps.{find_pair_same, find_pair_other, tested}
 use Rattle.mesh_semantics.proofs.WireLaws.{happen_facts, happened_facts, happened_put, happened_more, act_put, take_put, next_is_head, facts_empty}
 use Rattle.mesh_semantics.proofs.Entering.{PutsBehind, turn_enters, move_enters}
 

@@ -1,35 +1,38 @@
 -- The counts of a node, which objects are ready, whose turn it is, what one event does to a configuration and its delay, and when all is quiet.
 -- One event is one turn of a node, one move of the head of a link, or, where links are wires, one of what else happens on a wire; nothing else happens at once.
 -- Throughout, g is a language, l a placement, q the most local transitions of a turn, c a configuration with its delay d, n a node, and o the name of the object whose turn it is.
-use Rattle.std.specs.Prelude.{ℕ, zero, suc, ◌+◌, ◌*◌, ◌%◌, ◌==◌, List, [], ◌∷◌, length, drop, filter, Option, Some, None, is_some, is_none, Bool, true, false, not, ◌&&◌, ◌||◌, if◌then◌else◌, nat_le, nat_lt, slice_get}
+use Rattle.std.specs.Prelude.{ℕ, zero, suc, ◌+◌, ◌*◌, ◌%◌, ◌==◌, List, [], ◌∷◌, length, drop, filter, Option, Some, None, is_some, is_none, Bool, true, false, not, ◌&&◌, ◌||◌, if◌then◌else◌, nat_le}
+use Rattle.std.specs.Prelude.{nat_lt, slice_get}
 use Rattle.std.specs.List.{list_any, list_all}
 use Rattle.std.specs.Ordering.{nat_cmp}
 use Rattle.std.specs.FinMap.{find, put}
-use Rattle.pool_syntax.specs.declared.words.Value.{Value}
-use Rattle.pool_syntax.specs.declared.words.Value.TheVariants as V
-use Rattle.pool_syntax.specs.declared.words.NameId.{NameId}
-use Rattle.pool_syntax.specs.declared.words.Label.{Label}
-use Rattle.pool_syntax.specs.declared.words.Label.TheVariants as L
-use Rattle.pool_syntax.specs.declared.words.What.{What}
-use Rattle.pool_syntax.specs.declared.words.What.TheVariants as W
-use Rattle.pool_syntax.specs.declared.words.Event.{Event}
-use Rattle.pool_syntax.specs.declared.words.Event.TheVariants as Ev
-use Rattle.pool_syntax.specs.declared.words.FullKind.{FullKind}
-use Rattle.pool_syntax.specs.declared.words.FullKind.TheVariants as F
-use Rattle.pool_syntax.specs.declared.words.Place.{Place}
-use Rattle.pool_syntax.specs.declared.words.Place.TheVariants as Pl
-use Rattle.pool_syntax.specs.declared.words.Placement.{Placement}
-use Rattle.mesh_semantics.specs.Partial.{◌>>=◌}
+use Rattle.std.specs.Option.{option_or}
+use Rattle.run_words.specs.declared.words.Value.{Value}
+use Rattle.run_words.specs.declared.words.Value.TheVariants as V
+use Rattle.run_words.specs.declared.words.NameId.{NameId}
+use Rattle.run_words.specs.declared.words.Label.{Label}
+use Rattle.run_words.specs.declared.words.Label.TheVariants as L
+use Rattle.run_words.specs.declared.words.What.{What}
+use Rattle.run_words.specs.declared.words.What.TheVariants as W
+use Rattle.run_words.specs.declared.words.Event.{Event}
+use Rattle.run_words.specs.declared.words.Event.TheVariants as Ev
+use Rattle.run_words.specs.declared.words.FullKind.{FullKind}
+use Rattle.run_words.specs.declared.words.FullKind.TheVariants as F
+use Rattle.run_words.specs.declared.words.Place.{Place}
+use Rattle.run_words.specs.declared.words.Place.TheVariants as Pl
+use Rattle.run_words.specs.declared.words.Placement.{Placement}
+use Rattle.run_words.specs.Partial.{◌>>=◌}
 use Rattle.mesh_semantics.specs.Kind as K
 use Rattle.mesh_semantics.specs.Kind.{Kind, Alternative, has_name, answered}
 use Rattle.mesh_semantics.specs.Language.{Language}
 use Rattle.mesh_semantics.specs.Config.{Config}
 use Rattle.mesh_semantics.specs.Moves.{move}
-use Rattle.mesh_semantics.specs.Tables.{Pair, pair_cmp}
-use Rattle.mesh_semantics.specs.Paths.{total, on_link, move_head}
+use Rattle.run_words.specs.Tables.{Pair, pair_cmp}
+use Rattle.run_words.specs.Paths.{total, on_link, move_head}
 use Rattle.mesh_semantics.specs.Wire.{Wire, Coming, Empty, Stale, Next, coming, take, wire_act, is_done}
 use Rattle.mesh_semantics.specs.Delay as D
-use Rattle.mesh_semantics.specs.Delay.{Packet, Arrival, Wires, Delay, wire_at, enter_all, node_of, slot_of, post, arrived_at, arrive, take_arrival, held, hold, free, made_by, count_made, stepped_last, cell_count}
+use Rattle.mesh_semantics.specs.Delay.{Packet, Arrival, Wires, Delay, wire_at, enter_all, post, arrived_at, arrive, take_arrival, held, hold, free, made_by, count_made, stepped_last, cell_count}
+use Rattle.run_words.specs.ObjectNames.{node_of, slot_of}
 
 -- a number as a name
 abbrev pub id : ℕ → NameId
@@ -73,11 +76,6 @@ abbrev pub first_of : {X : Type 0} → List X → Option X
 first_of [] = None
 first_of (x ∷ xs) = Some x
 
--- the one, or else the other
-abbrev pub or_else : {X : Type 0} → Option X → Option X → Option X
-or_else None y = y
-or_else (Some x) y = Some x
-
 -- whether a name is above the last slot
 abbrev pub is_above : Option ℕ → ℕ → Bool
 is_above None o = true
@@ -85,7 +83,7 @@ is_above (Some last) o = nat_lt last (slot_of o)
 
 -- the object whose turn it is at the node: the ready one of least slot above the last, else of least slot
 abbrev pub turn_of : {S : Type 0} → Language S → Config S → Delay → ℕ → Option (ℕ × S)
-turn_of g c d n = or_else (first_of (filter (λ e. is_above (find nat_cmp n d.last) e.0) (ready_at g c d n))) (first_of (ready_at g c d n))
+turn_of g c d n = option_or (first_of (filter (λ e. is_above (find nat_cmp n d.last) e.0) (ready_at g c d n))) (first_of (ready_at g c d n))
 
 -- what an event does: its line with what is after it, or the limit that it would pass, or nothing that it could do
 pub data Acted (S : Type 0) : Type 0 where

@@ -1,15 +1,16 @@
 -- The delay: what a machine of nodes adds to a configuration. It has the packets on links, the arrived messages, and what each object waits for,
 -- where links are wires the frames on them, and no request numbers. The node of a name is the name div 65536, its slot the name mod 65536.
-use Rattle.std.specs.Prelude.{ℕ, ◌+◌, ◌/◌, ◌%◌, ◌==◌, List, [], ◌∷◌, ◌++◌, Option, Some, None, Bool, ◌&&◌, if◌then◌else◌}
+use Rattle.std.specs.Prelude.{ℕ, ◌+◌, ◌==◌, List, [], ◌∷◌, ◌++◌, Option, Some, None, Bool, ◌&&◌, if◌then◌else◌}
 use Rattle.std.specs.Option.{unwrap_or}
 use Rattle.std.specs.Ordering.{nat_cmp}
 use Rattle.std.specs.FinMap.{find, put}
-use Rattle.pool_syntax.specs.declared.words.Value.{Value}
-use Rattle.pool_syntax.specs.declared.words.Placement.{Placement}
-use Rattle.mesh_semantics.specs.Tables.{Pair, pair_cmp, without}
+use Rattle.run_words.specs.declared.words.Value.{Value}
+use Rattle.run_words.specs.declared.words.Placement.{Placement}
+use Rattle.run_words.specs.Tables.{Pair, pair_cmp, without}
 use Rattle.mesh_semantics.specs.Kind.{has_name}
 use Rattle.mesh_semantics.specs.Wire.{Wire, empty_wire, enter}
-use Rattle.mesh_semantics.specs.Paths.{next, total, under, without_first, put_last}
+use Rattle.run_words.specs.Paths.{next, total, under, without_first, put_last}
+use Rattle.run_words.specs.ObjectNames.{node_of, slot_of}
 
 -- what travels on links
 pub data Packet : Type 0 where
@@ -69,14 +70,6 @@ abbrev pub enter_all : List (Pair × Packet) → Wires → Wires
 enter_all [] ws = ws
 enter_all (e ∷ es) ws = enter_all es (put pair_cmp e.0 (enter e.1 (wire_at ws e.0)) ws)
 
--- the node of a name
-abbrev pub node_of : ℕ → ℕ
-node_of name = name / 65536
-
--- the slot of a name
-abbrev pub slot_of : ℕ → ℕ
-slot_of name = name % 65536
-
 -- puts a packet last on the first link to its goal
 abbrev pub post : Placement → ℕ → ℕ → Packet → Delay → Delay
 post l from goal x d = record d { links = put_last (from, next l from goal) x d.links }
@@ -124,3 +117,8 @@ stepped_last n o d = record d { last = put nat_cmp n (slot_of o) d.last }
 -- the cells in use at a node: the messages arrived at its objects, and the packets on links that leave it
 abbrev pub cell_count : Delay → ℕ → ℕ
 cell_count d n = total (λ e. if node_of e.0 == n then 1 else 0) d.arrived + total (λ e. if e.0.0 == n then 1 else 0) d.links
+
+-- a packet with the number of the request that it belongs to; an asynchronous message belongs to none
+pub record NumberedPacket : Type 0 where
+  pub number : Option ℕ
+  pub packet : Packet

@@ -1,10 +1,10 @@
 -- What is kept of a wire where its link's packets are at hand: neither what entered nor what was handed out, but how many were, and copies of what was sent and is not
 -- acknowledged. X is the type of packets, and rest is what entered and was not handed out.
 use Rattle.std.specs.Prelude.{◌≡◌, ℕ, ◌+◌, ◌-◌, ◌≤◌, ◌==◌, List, [], ◌∷◌, ◌++◌, length, take as first_of_list, drop, Option, Some, None, if◌then◌else◌, nat_lt, slice_get}
-use Rattle.pool_syntax.specs.declared.words.What.{What}
-use Rattle.pool_syntax.specs.declared.words.What.TheVariants as W
-use Rattle.pool_syntax.specs.declared.words.WireAct.{WireAct}
-use Rattle.pool_syntax.specs.declared.words.WireAct.TheVariants as A
+use Rattle.run_words.specs.declared.words.What.{What}
+use Rattle.run_words.specs.declared.words.What.TheVariants as W
+use Rattle.run_words.specs.declared.words.WireAct.{WireAct}
+use Rattle.run_words.specs.declared.words.WireAct.TheVariants as A
 use Rattle.mesh_semantics.specs.Wire.{Frame, Wire, WireFacts, Coming, capacity, greater, push_within, wanted_of, coming_in, lose, twice, late, frame_number, ack_number}
 
 pub record KeptWire (X : Type 0) : Type 0 where

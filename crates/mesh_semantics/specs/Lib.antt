@@ -1,21 +1,13 @@
-pub mod Tables
-pub mod Message
-pub mod Partial
-pub mod Same
 pub mod Kind
 pub mod Language
 pub mod Config
 pub mod Moves
-pub mod Paths
-pub mod Ways
-pub mod Routes
 pub mod Traffic
 pub mod Wire
 pub mod KeptWire
 pub mod Delay
 pub mod Act
 pub mod Record
-pub mod Asks
 pub mod Standing
 pub mod Sound
 pub mod Fit
@@ -25,4 +17,4 @@ pub mod Kept
 pub mod Lawful
 pub mod Waits
 pub mod Simulates
-pub mod Given
+pub mod Requests

@@ -1,11 +1,11 @@
 -- Two languages whose objects correspond: what one does the other does, and what they become corresponds again. And what then agrees.
 use Rattle.std.specs.Prelude.{◌≡◌, ◌⊎◌, ℕ, ◌==◌, ◌&&◌, ◌||◌, List, [], ◌∷◌, Option, Some, None, true}
-use Rattle.pool_syntax.specs.declared.words.Value.{Value}
-use Rattle.pool_syntax.specs.declared.words.Error.{Error}
-use Rattle.pool_syntax.specs.declared.words.Value.TheVariants as V
-use Rattle.pool_syntax.specs.declared.words.Item.{Item}
-use Rattle.mesh_semantics.specs.Message.{Message}
-use Rattle.mesh_semantics.specs.Same.{are_same}
+use Rattle.run_words.specs.declared.words.Value.{Value}
+use Rattle.run_words.specs.declared.words.Error.{Error}
+use Rattle.run_words.specs.declared.words.Value.TheVariants as V
+use Rattle.run_words.specs.declared.words.Item.{Item}
+use Rattle.run_words.specs.Message.{Message}
+use Rattle.run_words.specs.Same.{are_same}
 use Rattle.mesh_semantics.specs.Kind.{is_local, makes, calls, posts, returns, waits_on, writes, fails, alternatives}
 use Rattle.mesh_semantics.specs.Language.{Language}
 use Rattle.mesh_semantics.specs.Config.{Config, object_of, messages_of}
@@ -45,13 +45,15 @@ pub record Simulates {S T : Type 0} (g : Language S) (h : Language T) (W : Confi
   pub given : (c d : Config S) (b o : ℕ) (u x : S) (y : T) (v : Value) → W c → W d → running g c b ≡ Some u → running g c o ≡ Some x → object_of d o ≡ Some (g.given x v)
       → R o x y → returns (g.kind b u) o v ≡ true → waits_on (g.kind o x) b ≡ true → R o (g.given x v) (h.given y v)
   -- while its call is served
-  pub waiting : (c : Config S) (o : ℕ) (x : S) (y : T) (b m : ℕ) (args : List Value) → W c → running g c o ≡ Some x → R o x y → calls (g.kind o x) b m args ≡ true → R o (g.waiting x b m) (h.waiting y b m)
+  pub waiting : (c : Config S) (o : ℕ) (x : S) (y : T) (b m : ℕ) (args : List Value) → W c → running g c o ≡ Some x → R o x y → calls (g.kind o x) b m args ≡ true
+      → R o (g.waiting x b m) (h.waiting y b m)
   -- after a send, a write, a return
   pub sent : (c : Config S) (o : ℕ) (x : S) (y : T) (b m : ℕ) (args : List Value) → W c → running g c o ≡ Some x → R o x y → posts (g.kind o x) b m args ≡ true → R o (g.done x) (h.done y)
   pub wrote : (c : Config S) (o : ℕ) (x : S) (y : T) (item : Item) → W c → running g c o ≡ Some x → R o x y → writes (g.kind o x) item ≡ true → R o (g.done x) (h.done y)
   pub returned : (c : Config S) (o : ℕ) (x : S) (y : T) (k : ℕ) (v : Value) → W c → running g c o ≡ Some x → R o x y → returns (g.kind o x) k v ≡ true → R o (g.returned x) (h.returned y)
   -- as an alternative is chosen, as a method begins to be served, and after an error
-  pub picked : (c : Config S) (o : ℕ) (x : S) (y : T) (i : ℕ) → W c → running g c o ≡ Some x → R o x y → can_pick (numbered (alternatives (g.kind o x)) i) ≡ true → R o (g.picked o x i) (h.picked o y i)
+  pub picked : (c : Config S) (o : ℕ) (x : S) (y : T) (i : ℕ) → W c → running g c o ≡ Some x → R o x y → can_pick (numbered (alternatives (g.kind o x)) i) ≡ true
+      → R o (g.picked o x i) (h.picked o y i)
   pub serving : (c : Config S) (o : ℕ) (x : S) (y : T) (i m : ℕ) (names : List ℕ) (caller : Option ℕ) (args : List Value) → W c → running g c o ≡ Some x → R o x y
       → offered 1 (alternatives (g.kind o x)) m ≡ Some (i, names) → IsCalled g c o m args → Both (R o) (g.serving o x i m caller args) (h.serving o y i m caller args)
   pub faulted : (c : Config S) (o : ℕ) (x : S) (y : T) (e : Error) → W c → running g c o ≡ Some x → R o x y → fails (g.kind o x) e ≡ true → R o (g.faulted x e) (h.faulted y e)

@@ -1,8 +1,8 @@
 -- Where each object stands, and the cycles of objects that each call the next.
 use Rattle.std.specs.Prelude.{◌≡◌, ◌⊎◌, ℕ, zero, suc, ◌<◌, ◌==◌, List, [], ◌∷◌, length, Option, Some, None, if◌then◌else◌, nat_lt, filter_map}
-use Rattle.pool_syntax.specs.declared.words.Error.{Error}
-use Rattle.mesh_semantics.specs.Tables.{Pair}
-use Rattle.mesh_semantics.specs.Partial.{◌>>=◌}
+use Rattle.run_words.specs.declared.words.Error.{Error}
+use Rattle.run_words.specs.Tables.{Pair}
+use Rattle.run_words.specs.Partial.{◌>>=◌}
 use Rattle.mesh_semantics.specs.Kind as K
 use Rattle.mesh_semantics.specs.Kind.{Kind}
 use Rattle.mesh_semantics.specs.Language.{Language}
@@ -10,7 +10,7 @@ use Rattle.mesh_semantics.specs.Config.{Config, object_of}
 use Rattle.mesh_semantics.specs.Delay as D
 use Rattle.mesh_semantics.specs.Delay.{Packet, Holding, Delay, held, arrived_at}
 use Rattle.mesh_semantics.specs.Act.{can_step}
-use Rattle.mesh_semantics.specs.Ways.{Once}
+use Rattle.run_words.specs.Ways.{Once}
 
 pub data Standing : Type 0 where
   Ready : Standing

@@ -1,8 +1,8 @@
 -- What goes over the links of a mesh, whatever it is: values enter at the first link of a path and move along it, each link a queue.
 use Rattle.std.specs.Prelude.{◌≡◌, ℕ, ◌*◌, ◌<◌, ◌==◌, List, [], ◌∷◌, ◌++◌, ◌&&◌, if◌then◌else◌, flat_map}
-use Rattle.pool_syntax.specs.declared.words.Placement.{Placement}
-use Rattle.mesh_semantics.specs.Tables.{Pair, pair_cmp, list_at, put_list, push_list}
-use Rattle.mesh_semantics.specs.Paths.{next}
+use Rattle.run_words.specs.declared.words.Placement.{Placement}
+use Rattle.run_words.specs.Tables.{Pair, pair_cmp, list_at, put_list, push_list}
+use Rattle.run_words.specs.Paths.{next}
 
 -- a value on its way between two nodes
 pub record Load (X : Type 0) : Type 0 where

@@ -1,11 +1,11 @@
 -- A link as a wire that may lose, repeat and reorder what goes over it. What enters gets a number; at most eight numbers are under way unacknowledged, what is not
 -- acknowledged is sent again from the first such number on, and the far end hands out only the number that is next (go-back-N). X is the type of packets.
 use Rattle.std.specs.Prelude.{◌≡◌, ℕ, ◌+◌, ◌<◌, ◌≤◌, ◌==◌, List, [], ◌∷◌, ◌++◌, length, Option, Some, None, Bool, ◌&&◌, if◌then◌else◌, nat_lt, slice_get}
-use Rattle.pool_syntax.specs.declared.words.What.{What}
-use Rattle.pool_syntax.specs.declared.words.What.TheVariants as W
-use Rattle.pool_syntax.specs.declared.words.WireAct.{WireAct}
-use Rattle.pool_syntax.specs.declared.words.WireAct.TheVariants as A
-use Rattle.mesh_semantics.specs.Tables.{Each}
+use Rattle.run_words.specs.declared.words.What.{What}
+use Rattle.run_words.specs.declared.words.What.TheVariants as W
+use Rattle.run_words.specs.declared.words.WireAct.{WireAct}
+use Rattle.run_words.specs.declared.words.WireAct.TheVariants as A
+use Rattle.run_words.specs.Tables.{Each}
 use Rattle.mesh_semantics.specs.Traffic.{IsPrefix}
 
 -- a number, and what has it

@@ -1,8 +1,8 @@
 -- What is kept of a delay whose links are wires: what is on a link is the rest of what entered its wire, behind what the wire has handed out.
 use Rattle.std.specs.Prelude.{◌≡◌, List, [], ◌++◌, Option, Some, None}
-use Rattle.pool_syntax.specs.declared.words.WireAct.{WireAct}
-use Rattle.mesh_semantics.specs.Tables.{Pair}
-use Rattle.mesh_semantics.specs.Paths.{on_link}
+use Rattle.run_words.specs.declared.words.WireAct.{WireAct}
+use Rattle.run_words.specs.Tables.{Pair}
+use Rattle.run_words.specs.Paths.{on_link}
 use Rattle.mesh_semantics.specs.Wire.{Happening, WireFacts, happened, wire_act}
 use Rattle.mesh_semantics.specs.Delay.{Packet, Wires, Delay, wire_at}
 

@@ -6,25 +6,25 @@ use Rattle.std.specs.Ordering.{nat_cmp, eq_by_cmp}
 use Rattle.std.specs.FinMap.{find, put}
 use Rattle.std.specs.FinMap.Entries.{find-put}
 use Rattle.std.proofs.lemmas.Option.{slice_get_past}
-use Rattle.pool_syntax.specs.declared.words.Placement.{Placement}
-use Rattle.mesh_semantics.specs.Tables.{Pair, pair_cmp, list_at}
-use Rattle.mesh_semantics.proofs.Laws.{decide, find_put_same, find_put_other}
+use Rattle.run_words.specs.declared.words.Placement.{Placement}
+use Rattle.run_words.specs.Tables.{Pair, pair_cmp, list_at}
+use Rattle.run_words.proofs.Laws.{decide, find_put_same, find_put_other, tied_pair, untied_pair, pair_total}
 use Rattle.mesh_semantics.specs.Language.{Language}
 use Rattle.mesh_semantics.specs.Config.{Config, object_of, put_object}
-use Rattle.mesh_semantics.specs.Paths.{on_link}
-use Rattle.mesh_semantics.specs.Delay.{Delay, node_of, slot_of, arrived_at, held, made_by, count_made}
+use Rattle.run_words.specs.Paths.{on_link}
+use Rattle.mesh_semantics.specs.Delay.{Delay, arrived_at, held, made_by, count_made}
+use Rattle.run_words.specs.ObjectNames.{node_of, slot_of}
 use Rattle.mesh_semantics.specs.Sound.{entries}
-use Rattle.mesh_semantics.specs.Ways.{In}
+use Rattle.run_words.specs.Ways.{In}
 use Rattle.node_semantics.specs.Node.{NodeState, set_at, name_at, made_here, add_slot, fresh_slot, count_one}
 use Rattle.node_semantics.specs.Machine.{Machine}
-use Rattle.node_semantics.specs.Requests.{Requests}
+use Rattle.mesh_semantics.specs.Requests.{Requests}
 use Rattle.node_semantics.specs.StandsFor.{slot_at, request_of, request_in, Free, AtName, HasSlot, AreNumbersOf, CountsMade, MachineStandsFor}
 use Rattle.mesh_semantics.specs.Act.{class_place}
 use Rattle.node_semantics.proofs.ClassPlaces.{class_at, same_place, as_long}
 use Rattle.node_semantics.proofs.NamesAndSlots.{set_same, set_other, set_length, last_there, front_there, whole_name, name_node, name_slot, at_node, elsewhere, before, after}
 use Rattle.node_semantics.proofs.KeptNumbers.{Same, same_slot}
 use Rattle.node_semantics.proofs.NamesAfterChange.{Spot, spot, Refers, refers_but, But, spot_kept, spot_same, link_kept}
-use Rattle.node_semantics.proofs.LinkMaps.{tied_pair, untied_pair, pair_total}
 use Rattle.node_semantics.proofs.StandsForParts.{assemble}
 use Rattle.node_semantics.proofs.SmallChanges.{aside_stands}
 

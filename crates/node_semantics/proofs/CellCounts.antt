@@ -5,18 +5,15 @@ use Rattle.std.specs.Option.{unwrap_or}
 use Rattle.std.specs.Ordering.{is_lt, is_eq, nat_cmp}
 use Rattle.std.specs.declared.cmp.Ordering.{Ordering}
 use Rattle.std.specs.declared.cmp.Ordering.TheVariants.{Less, Equal, Greater}
-use Rattle.std.specs.FinMap.{nat_cmp-IsAntisymmetric}
-use Rattle.std.specs.FinMap.{find}
+use Rattle.std.specs.FinMap.{nat_cmp-IsAntisymmetric, find}
 use Rattle.std.specs.FinMap.Entries.{is_sorted, below_all}
 use Rattle.std.proofs.lemmas.List.Sums.{sum_by-cons}
-use Rattle.mesh_semantics.specs.Tables.{Pair, pair_cmp, list_at}
-use Rattle.mesh_semantics.proofs.Laws.{decide, equal, equals, differ, first, second, both}
-use Rattle.mesh_semantics.specs.Paths.{total, under}
-use Rattle.mesh_semantics.specs.Delay.{Arrival, node_of, slot_of}
-use Rattle.mesh_semantics.specs.Paths.{is_link, on_link}
-use Rattle.mesh_semantics.specs.Delay.{Packet}
-use Rattle.node_semantics.specs.Node.{name_at, Slot, NumberedArrival, NumberedPacket, arrivals, message_count}
-use Rattle.node_semantics.specs.Machine.{leaving}
+use Rattle.run_words.specs.Tables.{Pair, pair_cmp, list_at, leaving}
+use Rattle.run_words.proofs.Laws.{decide, equal, equals, differ, first, second, both}
+use Rattle.run_words.specs.Paths.{total, under, is_link, on_link}
+use Rattle.mesh_semantics.specs.Delay.{Arrival, Packet, NumberedPacket}
+use Rattle.run_words.specs.ObjectNames.{node_of, slot_of}
+use Rattle.node_semantics.specs.Node.{name_at, Slot, NumberedArrival, arrivals, message_count}
 use Rattle.node_semantics.specs.StandsFor.{packets}
 use Rattle.node_semantics.proofs.PostedLinks.{decide_link}
 use Rattle.node_semantics.proofs.NamesAndSlots.{whole_name, name_node}

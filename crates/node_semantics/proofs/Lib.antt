@@ -2,7 +2,6 @@ pub mod ClassPlaces
 pub mod NamesAndSlots
 pub mod KeptNumbers
 pub mod NamesAfterChange
-pub mod LinkMaps
 pub mod PostedLinks
 pub mod SettledNumber
 pub mod StandsForParts

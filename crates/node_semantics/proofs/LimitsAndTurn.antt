@@ -3,27 +3,27 @@ use Rattle.std.proofs.Common.{◌≡◌, refl, sym, ap, ap₂, subst, ◌∙◌,
 use Rattle.std.specs.Prelude.{slice_get, filter}
 use Rattle.std.specs.Ordering.{nat_cmp}
 use Rattle.std.specs.FinMap.{find}
-use Rattle.pool_syntax.specs.declared.words.What.{What}
-use Rattle.pool_syntax.specs.declared.words.Placement.{Placement}
-use Rattle.mesh_semantics.specs.Tables.{Pair, pair_cmp, push_list}
-use Rattle.mesh_semantics.proofs.Laws.{equals, first}
+use Rattle.run_words.specs.declared.words.What.{What}
+use Rattle.run_words.specs.declared.words.Placement.{Placement}
+use Rattle.run_words.specs.Tables.{Pair, pair_cmp, push_list, leaving}
+use Rattle.run_words.proofs.Laws.{equals, first, pushed_sorted}
 use Rattle.mesh_semantics.specs.Kind as K
 use Rattle.mesh_semantics.specs.Kind.{Kind}
 use Rattle.mesh_semantics.specs.Language.{Language}
 use Rattle.mesh_semantics.specs.Config.{Config, object_of}
-use Rattle.mesh_semantics.specs.Paths.{total, next, put_last}
-use Rattle.mesh_semantics.specs.Delay.{Holding, Delay, arrived_at, held, cell_count}
+use Rattle.run_words.specs.Paths.{total, next, put_last}
+use Rattle.mesh_semantics.specs.Delay.{Holding, Delay, arrived_at, held, cell_count, NumberedPacket}
 use Rattle.mesh_semantics.specs.Act as A
-use Rattle.mesh_semantics.specs.Act.{Acted, within, object_count, frame_count, goal_node, is_ready, ready_at, turn_of, can_step, first_of, or_else}
+use Rattle.mesh_semantics.specs.Act.{Acted, within, object_count, frame_count, goal_node, is_ready, ready_at, turn_of, can_step, first_of}
+use Rattle.std.specs.Option.{option_or}
 use Rattle.mesh_semantics.specs.Lawful.{Lawful}
 use Rattle.node_semantics.specs.Node as N
-use Rattle.node_semantics.specs.Node.{Slot, NumberedPacket, NumberedArrival, NodeState, NodeActed, name_at, set_at, arrivals, frames_in, message_count, packet_count, within_node, can_go, ready_slots, slot_in_turn, placed}
-use Rattle.node_semantics.specs.Machine.{Machine, leaving, post_packet, after_node}
-use Rattle.node_semantics.specs.Requests.{Requests}
+use Rattle.node_semantics.specs.Node.{Slot, NumberedArrival, NodeState, NodeActed, name_at, set_at, arrivals, frames_in, message_count, packet_count, within_node, can_go, ready_slots, slot_in_turn, placed}
+use Rattle.node_semantics.specs.Machine.{Machine, post_packet, after_node}
+use Rattle.mesh_semantics.specs.Requests.{Requests}
 use Rattle.node_semantics.specs.StandsFor.{slot_at, SlotStandsFor, Free, Served, Posted, Due, IsOut, MachineStandsFor}
 use Rattle.node_semantics.specs.Agrees.{Agrees}
 use Rattle.node_semantics.proofs.NamesAndSlots.{set_same, name_slot}
-use Rattle.node_semantics.proofs.LinkMaps.{pushed_sorted}
 use Rattle.node_semantics.proofs.PostedLinks.{posted_links}
 use Rattle.node_semantics.proofs.SlotsOfObjects.{Picks, Neither, Both, picks, filter_and, at}
 use Rattle.node_semantics.proofs.CellCounts.{leaving_count}
@@ -131,7 +131,7 @@ module _ {S : Type 0} (g : Language S) (W : Config S → Type 0) (law : Lawful g
           by (Some z) e (Posted u v) = absurd (nothing_out s.request asks_nothing u)
           by (Some z) e (Due v u i k) = absurd (nothing_out s.request asks_nothing u)
 
-      or_one : (a b : Option (ℕ × S)) (u v : Option (ℕ × Slot S)) → Chosen a u → Chosen b v → Chosen (or_else a b) (or_else u v)
+      or_one : (a b : Option (ℕ × S)) (u v : Option (ℕ × Slot S)) → Chosen a u → Chosen b v → Chosen (option_or a b) (option_or u v)
       or_one None b None v NoOne h = h
       or_one None b (Some u) v k h = elim k [ ]
       or_one (Some a) b None v k h = elim k [ ]

@@ -1,24 +1,24 @@
 -- The move of a link's head.
-use Rattle.std.proofs.Common.{◌≡◌, refl, sym, ap, subst, ◌∙◌, ℕ, zero, suc, ◌+◌, ◌*◌, ◌<◌, ◌≤◌, ◌==◌, List, [], ◌∷◌, length, Some, Bool, true, false, if◌then◌else◌, nat_lt, arith}
+use Rattle.std.proofs.Common.{◌≡◌, refl, sym, ap, subst, ◌∙◌, ℕ, ◌+◌, ◌*◌, ◌<◌, ◌≤◌, ◌==◌, List, [], ◌∷◌, Some, Bool, true, false, if◌then◌else◌, nat_lt, arith}
 use Rattle.std.specs.Prelude.{slice_get}
-use Rattle.pool_syntax.specs.declared.words.Event.TheVariants as Ev
-use Rattle.pool_syntax.specs.declared.words.What.TheVariants as Wt
-use Rattle.pool_syntax.specs.declared.words.FullKind.TheVariants as F
-use Rattle.pool_syntax.specs.declared.words.Placement.{Placement}
-use Rattle.mesh_semantics.specs.Tables.{Pair, pair_cmp, list_at, put_list}
-use Rattle.mesh_semantics.proofs.Laws.{equal}
+use Rattle.run_words.specs.declared.words.Event.TheVariants as Ev
+use Rattle.run_words.specs.declared.words.What.TheVariants as Wt
+use Rattle.run_words.specs.declared.words.FullKind.TheVariants as F
+use Rattle.run_words.specs.declared.words.Placement.{Placement}
+use Rattle.run_words.specs.Tables.{Pair, pair_cmp, list_at, put_list, leaving}
+use Rattle.run_words.proofs.Laws.{equal, there_at}
 use Rattle.mesh_semantics.specs.Language.{Language}
 use Rattle.mesh_semantics.specs.Config.{Config}
-use Rattle.mesh_semantics.specs.Paths.{next, on_link, move_head}
-use Rattle.mesh_semantics.specs.Delay.{Delay, post, cell_count}
+use Rattle.run_words.specs.Paths.{next, on_link, move_head}
+use Rattle.mesh_semantics.specs.Delay.{Delay, post, cell_count, NumberedPacket}
 use Rattle.mesh_semantics.specs.Act as A
-use Rattle.mesh_semantics.specs.Act.{Acted, plain_act, within, passed, link_move, goal_node, first_of, object_count, frame_count}
+use Rattle.mesh_semantics.specs.Act.{plain_act, within, passed, link_move, goal_node, first_of, object_count, frame_count}
 use Rattle.mesh_semantics.specs.Sound.{IsSound}
 use Rattle.mesh_semantics.specs.Lawful.{Lawful}
-use Rattle.node_semantics.specs.Node.{NumberedPacket, NodeState, message_count}
+use Rattle.node_semantics.specs.Node.{NodeState, message_count}
 use Rattle.node_semantics.specs.Machine as M
-use Rattle.node_semantics.specs.Machine.{Machine, MachineActed, plain_machine_act, move_in, come, leaving, post_packet}
-use Rattle.node_semantics.specs.Requests.{Requests}
+use Rattle.node_semantics.specs.Machine.{Machine, plain_machine_act, move_in, come, post_packet}
+use Rattle.mesh_semantics.specs.Requests.{Requests}
 use Rattle.node_semantics.specs.StandsFor.{PacketFits, packets, MachineStandsFor}
 use Rattle.node_semantics.specs.Agrees.{Agrees}
 use Rattle.node_semantics.proofs.KeptNumbers.{fits_kept}
@@ -27,12 +27,6 @@ use Rattle.node_semantics.proofs.SmallChanges.{head_fits, head_stands, post_stan
 use Rattle.node_semantics.proofs.NodeCounts.{cells_count}
 use Rattle.node_semantics.proofs.LimitsAndTurn.{leaves, within_row}
 use Rattle.node_semantics.proofs.ReceiptsAgree.{receipt_row}
-
--- what is below a list's length is in it
-pub there_at : {X : Type 0} (xs : List X) (i : ℕ) → i < length xs → (x : X) × (slice_get xs i ≡ Some x)
-there_at [] i h = absurd (omega (arith, h))
-there_at (x ∷ xs) zero h = (x, refl)
-there_at (x ∷ xs) (suc i) h = there_at xs i (omega (arith, h))
 
 not_below : (a b : ℕ) → a ≤ b → nat_lt b a ≡ false
 not_below a b h = grind (arith, h)

@@ -5,17 +5,18 @@ use Rattle.std.specs.Ordering.{nat_cmp}
 use Rattle.std.specs.FinMap.{find}
 use Rattle.std.proofs.lemmas.List.Sums.{sum_by-cons}
 use Rattle.std.proofs.lemmas.Option.{slice_get_past, slice_get_within}
-use Rattle.pool_syntax.specs.declared.words.Placement.{Placement}
+use Rattle.run_words.specs.declared.words.Placement.{Placement}
 use Rattle.mesh_semantics.specs.Language.{Language}
 use Rattle.mesh_semantics.specs.Config.{Config, object_of}
-use Rattle.mesh_semantics.specs.Paths.{under}
-use Rattle.mesh_semantics.specs.Delay.{Holding, Delay, node_of, slot_of, arrived_at, held, cell_count}
+use Rattle.run_words.specs.Paths.{under}
+use Rattle.mesh_semantics.specs.Delay.{Holding, Delay, arrived_at, held, cell_count}
+use Rattle.run_words.specs.ObjectNames.{node_of, slot_of}
 use Rattle.mesh_semantics.specs.Act.{object_count, frame_count}
 use Rattle.mesh_semantics.specs.Lawful.{Lawful}
-use Rattle.mesh_semantics.specs.Sound.{Each}
+use Rattle.run_words.specs.Tables.{Each, leaving}
 use Rattle.node_semantics.specs.Node.{Slot, NodeState, name_at, arrivals, frames_in, message_count}
-use Rattle.node_semantics.specs.Machine.{Machine, leaving}
-use Rattle.node_semantics.specs.Requests.{Requests}
+use Rattle.node_semantics.specs.Machine.{Machine}
+use Rattle.mesh_semantics.specs.Requests.{Requests}
 use Rattle.node_semantics.specs.StandsFor.{slot_at, Occupied, SlotStandsFor, Free, Served, Posted, Due, AtName, MachineStandsFor}
 use Rattle.node_semantics.proofs.NamesAndSlots.{at_node, name_node, name_slot}
 use Rattle.node_semantics.proofs.SlotsOfObjects.{Rows, rows, rows_count, Meets, at}

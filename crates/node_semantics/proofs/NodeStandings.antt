@@ -1,25 +1,26 @@
 -- What a node says of an object is where it stands.
 use Rattle.std.proofs.Common.{◌≡◌, ◌≢◌, refl, sym, ap, ap₂, subst, ◌∙◌, ℕ, List, [], ◌∷◌, ◌++◌, Option, Some, None, Bool, true, false}
 use Rattle.std.specs.Prelude.{if◌then◌else◌, ◌==◌, ◌&&◌}
-use Rattle.pool_syntax.specs.declared.words.Error.{Error}
-use Rattle.pool_syntax.specs.declared.words.Placement.{Placement}
-use Rattle.mesh_semantics.specs.Tables.{Pair, pair_cmp, list_at}
-use Rattle.mesh_semantics.proofs.Laws.{equals, same_some, no_part, each_map}
+use Rattle.run_words.specs.declared.words.Error.{Error}
+use Rattle.run_words.specs.declared.words.Placement.{Placement}
+use Rattle.run_words.specs.Tables.{Pair, pair_cmp, list_at, Each}
+use Rattle.run_words.proofs.Laws.{equals, same_some, each_map}
+use Rattle.mesh_semantics.proofs.Laws.{no_part}
 use Rattle.mesh_semantics.specs.Kind as K
 use Rattle.mesh_semantics.specs.Kind.{Kind}
 use Rattle.mesh_semantics.specs.Language.{Language}
 use Rattle.mesh_semantics.specs.Config.{Config, object_of}
-use Rattle.mesh_semantics.specs.Paths.{on_link, is_link}
+use Rattle.run_words.specs.Paths.{on_link, is_link}
 use Rattle.mesh_semantics.specs.Delay as D
-use Rattle.mesh_semantics.specs.Delay.{Packet, Arrival, Holding, Delay, held, arrived_at}
+use Rattle.mesh_semantics.specs.Delay.{Packet, Arrival, Holding, Delay, held, arrived_at, NumberedPacket}
 use Rattle.mesh_semantics.specs.Act.{can_step}
-use Rattle.mesh_semantics.specs.Sound.{Each, Entry, Sent, Called, owns, sent_of, called_of, Owns, OwnedAt, entries, IsSound}
+use Rattle.mesh_semantics.specs.Sound.{Entry, Sent, Called, owns, sent_of, called_of, Owns, OwnedAt, entries, IsSound}
 use Rattle.mesh_semantics.specs.Standing as T
 use Rattle.mesh_semantics.specs.Standing.{created_at, goal_in, standing_of, standing}
 use Rattle.mesh_semantics.specs.Lawful.{Lawful}
-use Rattle.node_semantics.specs.Node.{Slot, NumberedPacket, arrivals}
+use Rattle.node_semantics.specs.Node.{Slot, arrivals}
 use Rattle.node_semantics.specs.Machine.{Machine}
-use Rattle.node_semantics.specs.Requests.{Requests, posts_request}
+use Rattle.mesh_semantics.specs.Requests.{Requests, posts_request}
 use Rattle.node_semantics.specs.StandsFor as St
 use Rattle.node_semantics.specs.StandsFor.{slot_at, SlotStandsFor, Free, Served, Posted, Due, packets, kept_goal_of, Knows, PacketFits, MachineStandsFor}
 use Rattle.node_semantics.specs.Standings.{slot_standing_by, slot_standing, IsRequest, SaysOf}

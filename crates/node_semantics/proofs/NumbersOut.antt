@@ -1,19 +1,20 @@
 -- The request numbers that are out are those of the objects that are posted, at a wait, or due.
 use Rattle.std.proofs.Common.{◌≡◌, ◌≢◌, inl, inr, refl, sym, ap, subst, ◌∙◌, ℕ, List, [], ◌∷◌, Option, Some, None, true}
-use Rattle.pool_syntax.specs.declared.words.Placement.{Placement}
+use Rattle.run_words.specs.declared.words.Placement.{Placement}
 use Rattle.mesh_semantics.specs.Kind as K
 use Rattle.mesh_semantics.specs.Kind.{Kind}
 use Rattle.mesh_semantics.specs.Language.{Language}
 use Rattle.mesh_semantics.specs.Config.{Config, object_of}
 use Rattle.mesh_semantics.specs.Delay as D
-use Rattle.mesh_semantics.specs.Delay.{Arrival, Holding, Delay, node_of, held, arrived_at}
+use Rattle.mesh_semantics.specs.Delay.{Arrival, Holding, Delay, held, arrived_at}
+use Rattle.run_words.specs.ObjectNames.{node_of}
 use Rattle.mesh_semantics.specs.Sound.{is_wait}
-use Rattle.mesh_semantics.specs.Ways.{In}
+use Rattle.run_words.specs.Ways.{In}
 use Rattle.node_semantics.specs.Node.{Slot}
 use Rattle.node_semantics.specs.Machine.{Machine}
-use Rattle.node_semantics.specs.Requests.{Requests}
+use Rattle.mesh_semantics.specs.Requests.{Requests, AreServed}
 use Rattle.node_semantics.specs.StandsFor.{slot_at, request_in, request_of, IsOut, SlotStandsFor, Free, Served, Posted, Due, AtName, AreNumbersOf, MachineStandsFor}
-use Rattle.node_semantics.specs.Outstanding.{IsWaiting, AreServed, Outstanding}
+use Rattle.node_semantics.specs.Outstanding.{IsWaiting, Outstanding}
 use Rattle.node_semantics.proofs.NamesAfterChange.{Found, found}
 
 wait_of : (k : Kind) → is_wait k ≡ true → (b : ℕ) × (m : ℕ) × (k ≡ K.Waits b m)

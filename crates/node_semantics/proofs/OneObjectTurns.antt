@@ -3,29 +3,31 @@ use Rattle.std.proofs.Common.{◌≡◌, ◌≢◌, ◌⊎◌, inl, inr, refl, s
 use Rattle.std.specs.Prelude.{slice_get}
 use Rattle.std.specs.Ordering.{nat_cmp}
 use Rattle.std.specs.FinMap.{find}
-use Rattle.pool_syntax.specs.declared.words.Item.{Item}
-use Rattle.pool_syntax.specs.declared.words.Error.{Error}
-use Rattle.pool_syntax.specs.declared.words.Label.{Label}
-use Rattle.pool_syntax.specs.declared.words.Label.TheVariants as L
-use Rattle.pool_syntax.specs.declared.words.What.TheVariants as Wt
-use Rattle.pool_syntax.specs.declared.words.Placement.{Placement}
-use Rattle.mesh_semantics.specs.Tables.{Pair, pair_cmp, list_at}
-use Rattle.mesh_semantics.proofs.Laws.{decide, find_put_same, find_put_other, item_itself, error_itself, runs}
+use Rattle.run_words.specs.declared.words.Item.{Item}
+use Rattle.run_words.specs.declared.words.Error.{Error}
+use Rattle.run_words.specs.declared.words.Label.{Label}
+use Rattle.run_words.specs.declared.words.Label.TheVariants as L
+use Rattle.run_words.specs.declared.words.What.TheVariants as Wt
+use Rattle.run_words.specs.declared.words.Placement.{Placement}
+use Rattle.run_words.specs.Tables.{Pair, pair_cmp, list_at, Each}
+use Rattle.run_words.proofs.Laws.{decide, find_put_same, find_put_other, item_itself, error_itself}
+use Rattle.mesh_semantics.proofs.Laws.{runs}
 use Rattle.mesh_semantics.specs.Kind as K
 use Rattle.mesh_semantics.specs.Kind.{Kind, Alternative}
 use Rattle.mesh_semantics.specs.Language.{Language}
 use Rattle.mesh_semantics.specs.Config.{Config, object_of, put_object}
 use Rattle.mesh_semantics.specs.Moves.{move, can_pick, numbered}
-use Rattle.mesh_semantics.specs.Paths.{on_link}
-use Rattle.mesh_semantics.specs.Delay.{Delay, node_of, slot_of, arrived_at, held, stepped_last}
+use Rattle.run_words.specs.Paths.{on_link}
+use Rattle.mesh_semantics.specs.Delay.{Delay, arrived_at, held, stepped_last, NumberedPacket}
+use Rattle.run_words.specs.ObjectNames.{node_of, slot_of}
 use Rattle.mesh_semantics.specs.Act as A
 use Rattle.mesh_semantics.specs.Act.{Acted, labelled, shows}
-use Rattle.mesh_semantics.specs.Sound.{Each, IsSound}
+use Rattle.mesh_semantics.specs.Sound.{IsSound}
 use Rattle.mesh_semantics.specs.Lawful.{Lawful}
 use Rattle.node_semantics.specs.Node as N
-use Rattle.node_semantics.specs.Node.{Slot, NumberedPacket, NumberedArrival, NodeState, NodeActed, set_at, name_at, put_state, arrivals}
+use Rattle.node_semantics.specs.Node.{Slot, NumberedArrival, NodeState, NodeActed, set_at, name_at, put_state, arrivals}
 use Rattle.node_semantics.specs.Machine.{Machine, post_packet}
-use Rattle.node_semantics.specs.Requests.{Requests}
+use Rattle.mesh_semantics.specs.Requests.{Requests}
 use Rattle.node_semantics.specs.StandsFor.{slot_at, Free, HasSlot, PacketFits, AreNumbersOf, MachineStandsFor}
 use Rattle.node_semantics.proofs.NamesAndSlots.{set_length, name_node, name_slot, changed_here, changed_there}
 use Rattle.node_semantics.proofs.KeptNumbers.{Same, same_slot}

@@ -1,14 +1,12 @@
 -- Links after a packet was put last on one, and after the head of one has left.
 use Rattle.std.proofs.Common.{◌≡◌, ◌≢◌, ◌⊎◌, inl, inr, refl, sym, ap, subst, ◌∙◌, List, [], ◌∷◌, ◌++◌, Some}
-use Rattle.mesh_semantics.specs.Tables.{Pair, pair_cmp, list_at, put_list, push_list}
-use Rattle.mesh_semantics.proofs.Laws.{decide, on_put_same, on_put_other, on_moved_same, on_moved_other}
-use Rattle.mesh_semantics.specs.Paths.{on_link, put_last, move_head}
-use Rattle.mesh_semantics.specs.Delay.{Packet}
+use Rattle.run_words.specs.Tables.{Pair, pair_cmp, list_at, put_list, push_list, Each}
+use Rattle.run_words.proofs.Laws.{decide, pushed_here, pushed_there, listed_here, listed_there}
+use Rattle.mesh_semantics.proofs.Laws.{on_put_same, on_put_other, on_moved_same, on_moved_other}
+use Rattle.run_words.specs.Paths.{on_link, put_last, move_head}
+use Rattle.mesh_semantics.specs.Delay.{Packet, NumberedPacket}
 use Rattle.mesh_semantics.specs.Act.{first_of}
-use Rattle.mesh_semantics.specs.Sound.{Each}
-use Rattle.node_semantics.specs.Node.{NumberedPacket}
 use Rattle.node_semantics.specs.StandsFor.{packets}
-use Rattle.node_semantics.proofs.LinkMaps.{pushed_here, pushed_there, listed_here, listed_there}
 
 -- two links are one, or not
 pub decide_link : (j k : Pair) → (j ≡ k) ⊎ (j ≢ k)

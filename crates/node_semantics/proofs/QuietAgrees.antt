@@ -7,24 +7,24 @@ use Rattle.std.specs.declared.cmp.Ordering.{Ordering}
 use Rattle.std.specs.declared.cmp.Ordering.TheVariants.{Less, Equal, Greater}
 use Rattle.std.specs.FinMap.{find}
 use Rattle.std.specs.FinMap.Entries.{is_sorted}
-use Rattle.pool_syntax.specs.declared.words.Placement.{Placement}
-use Rattle.mesh_semantics.specs.Tables.{Pair, pair_cmp, list_at, has_some}
-use Rattle.mesh_semantics.proofs.Laws.{equals, second}
+use Rattle.run_words.specs.declared.words.Placement.{Placement}
+use Rattle.run_words.specs.Tables.{Pair, pair_cmp, list_at, has_some}
+use Rattle.run_words.proofs.Laws.{equals, second, there_at}
 use Rattle.mesh_semantics.specs.Language.{Language}
 use Rattle.mesh_semantics.specs.Config.{Config}
-use Rattle.mesh_semantics.specs.Paths.{on_link}
-use Rattle.mesh_semantics.specs.Delay.{Packet, Delay, node_of}
+use Rattle.run_words.specs.Paths.{on_link}
+use Rattle.mesh_semantics.specs.Delay.{Packet, Delay, NumberedPacket}
+use Rattle.run_words.specs.ObjectNames.{node_of}
 use Rattle.mesh_semantics.specs.Act.{is_acknowledged, is_quiet, is_ready, ready_at, first_of}
 use Rattle.mesh_semantics.specs.Lawful.{Lawful}
 use Rattle.mesh_semantics.specs.Sound.{Consistent}
-use Rattle.node_semantics.specs.Node.{Slot, NumberedPacket, NodeState, ready_slots}
+use Rattle.node_semantics.specs.Node.{Slot, NodeState, ready_slots}
 use Rattle.node_semantics.specs.Machine.{Machine, are_acknowledged, any_ready, is_machine_quiet}
-use Rattle.node_semantics.specs.Requests.{Requests}
+use Rattle.mesh_semantics.specs.Requests.{Requests}
 use Rattle.node_semantics.specs.StandsFor.{packets, MachineStandsFor}
 use Rattle.node_semantics.proofs.LinkTests.{any_on_links}
 use Rattle.node_semantics.proofs.LimitsAndTurn as Lim
 use Rattle.node_semantics.proofs.LimitsAndTurn.{Chosen, NoOne, One}
-use Rattle.node_semantics.proofs.LinkMovesAgree.{there_at}
 
 -- Booleans that imply each other
 pub same_bool : (a b : Bool) → (a ≡ true → b ≡ true) → (b ≡ true → a ≡ true) → a ≡ b

@@ -4,30 +4,31 @@ use Rattle.std.specs.Prelude.{slice_get}
 use Rattle.std.specs.Ordering.{nat_cmp}
 use Rattle.std.specs.FinMap.{put}
 use Rattle.std.proofs.lemmas.Option.{slice_get_within}
-use Rattle.pool_syntax.specs.declared.words.Value.{Value}
-use Rattle.pool_syntax.specs.declared.words.Label.TheVariants as L
-use Rattle.pool_syntax.specs.declared.words.What.TheVariants as Wt
-use Rattle.pool_syntax.specs.declared.words.Placement.{Placement}
-use Rattle.mesh_semantics.specs.Tables.{Pair, pair_cmp, list_at, push_list}
-use Rattle.mesh_semantics.proofs.Laws.{decide, equal, equals, same_some, find_put_same, find_put_other, find_without_same, find_without_other, value_itself, runs}
+use Rattle.run_words.specs.declared.words.Value.{Value}
+use Rattle.run_words.specs.declared.words.Label.TheVariants as L
+use Rattle.run_words.specs.declared.words.What.TheVariants as Wt
+use Rattle.run_words.specs.declared.words.Placement.{Placement}
+use Rattle.run_words.specs.Tables.{Pair, pair_cmp, list_at, push_list, Each}
+use Rattle.run_words.proofs.Laws.{decide, equal, equals, same_some, find_put_same, find_put_other, find_without_same, find_without_other, value_itself, pushed_sorted}
+use Rattle.mesh_semantics.proofs.Laws.{runs}
 use Rattle.mesh_semantics.specs.Kind as K
 use Rattle.mesh_semantics.specs.Kind.{Kind, Alternative, returns, waits_on}
 use Rattle.mesh_semantics.specs.Language.{Language}
 use Rattle.mesh_semantics.specs.Config.{Config, object_of, put_object}
 use Rattle.mesh_semantics.specs.Moves.{move}
-use Rattle.mesh_semantics.specs.Paths.{next, on_link}
+use Rattle.run_words.specs.Paths.{next, on_link}
 use Rattle.mesh_semantics.specs.Delay as D
-use Rattle.mesh_semantics.specs.Delay.{Packet, Arrival, Holding, Delay, node_of, slot_of, arrived_at, held, hold, free, post, made_by, stepped_last}
+use Rattle.mesh_semantics.specs.Delay.{Packet, Arrival, Holding, Delay, arrived_at, held, hold, free, post, made_by, stepped_last, NumberedPacket}
+use Rattle.run_words.specs.ObjectNames.{node_of, slot_of}
 use Rattle.mesh_semantics.specs.Act.{shows, return_turn}
-use Rattle.mesh_semantics.specs.Sound.{Each, Owns, OwnedAt, entries}
-use Rattle.mesh_semantics.specs.Ways.{In}
-use Rattle.node_semantics.specs.Node.{Slot, NumberedPacket, NodeState, set_at, name_at, arrivals, settled, give_back, return_act}
+use Rattle.mesh_semantics.specs.Sound.{Owns, OwnedAt, entries}
+use Rattle.run_words.specs.Ways.{In}
+use Rattle.node_semantics.specs.Node.{Slot, NodeState, set_at, name_at, arrivals, settled, give_back, return_act}
 use Rattle.node_semantics.specs.Machine.{Machine}
 use Rattle.node_semantics.specs.StandsFor.{slot_at, request_of, request_in, SlotStandsFor, Free, Served, Due, HasSlot, PacketFits, IsNumberOf, AreNumbersOf, caller_of, MachineStandsFor}
 use Rattle.node_semantics.proofs.NamesAndSlots.{set_same, set_set, set_length, name_node, name_slot, at_node, changed_here, changed_there}
 use Rattle.node_semantics.proofs.KeptNumbers.{Same, same_slot, no_caller}
 use Rattle.node_semantics.proofs.NamesAfterChange.{Spot, spot, Found, found, Refers, refers_any, refers_but, Any, But, spot_kept, spot_same, link_kept, box_kept, served_kept}
-use Rattle.node_semantics.proofs.LinkMaps.{pushed_sorted}
 use Rattle.node_semantics.proofs.PostedLinks.{posted_links, posted_each}
 use Rattle.node_semantics.proofs.SettledNumber.{settled_is, given_to}
 use Rattle.node_semantics.proofs.StandsForParts.{assemble, fewer}

@@ -1,9 +1,7 @@
 -- What is asked of a language where a property is kept holds also where a property is kept that says more.
 use Rattle.mesh_semantics.specs.Language.{Language}
 use Rattle.mesh_semantics.specs.Config.{Config}
-use Rattle.node_semantics.specs.Requests.{Requests}
-use Rattle.node_semantics.specs.Receives.{KnownNames}
-use Rattle.node_semantics.specs.Outstanding.{AreServed}
+use Rattle.mesh_semantics.specs.Requests.{Requests, AreServed, KnownNames}
 
 module _ {S : Type 0} (g : Language S) (W V : Config S → Type 0) (more : (c : Config S) → V c → W c) where
   pub requests_within : Requests g W → Requests g V

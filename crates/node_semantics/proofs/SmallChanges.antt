@@ -3,21 +3,20 @@ use Rattle.std.proofs.Common.{◌≡◌, ◌≢◌, ◌⊎◌, inl, inr, refl, s
 use Rattle.std.specs.Prelude.{slice_get}
 use Rattle.std.specs.Ordering.{nat_cmp}
 use Rattle.std.specs.FinMap.{find}
-use Rattle.pool_syntax.specs.declared.words.Placement.{Placement}
-use Rattle.mesh_semantics.specs.Tables.{Pair, pair_cmp, list_at, put_list, push_list}
-use Rattle.mesh_semantics.proofs.Laws.{decide, find_put_same, find_put_other, each_map}
+use Rattle.run_words.specs.declared.words.Placement.{Placement}
+use Rattle.run_words.specs.Tables.{Pair, pair_cmp, list_at, put_list, push_list, Each}
+use Rattle.run_words.proofs.Laws.{decide, find_put_same, find_put_other, each_map, pushed_sorted, listed_sorted}
 use Rattle.mesh_semantics.specs.Language.{Language}
 use Rattle.mesh_semantics.specs.Config.{Config, object_of, put_object}
-use Rattle.mesh_semantics.specs.Paths.{under, on_link, put_last, move_head}
-use Rattle.mesh_semantics.specs.Delay.{Arrival, Holding, Delay, node_of, slot_of, arrived_at, held, made_by}
-use Rattle.mesh_semantics.specs.Sound.{Each}
-use Rattle.node_semantics.specs.Node.{Slot, NumberedPacket, NodeState, set_at}
+use Rattle.run_words.specs.Paths.{under, on_link, put_last, move_head}
+use Rattle.mesh_semantics.specs.Delay.{Arrival, Holding, Delay, arrived_at, held, made_by, NumberedPacket}
+use Rattle.run_words.specs.ObjectNames.{node_of, slot_of}
+use Rattle.node_semantics.specs.Node.{Slot, NodeState, set_at}
 use Rattle.node_semantics.specs.Machine.{Machine}
 use Rattle.node_semantics.specs.StandsFor.{slot_at, request_of, HasSlot, PacketFits, MachineStandsFor, CountsMade}
 use Rattle.node_semantics.proofs.NamesAndSlots.{set_set, set_length, elsewhere, before, after, changed_here, changed_there}
 use Rattle.node_semantics.proofs.KeptNumbers.{Same, same_slot, fits_kept}
 use Rattle.node_semantics.proofs.NamesAfterChange.{Spot, spot, Refers, refers_any, Any, But, spot_kept, spot_same, link_kept}
-use Rattle.node_semantics.proofs.LinkMaps.{pushed_sorted, listed_sorted}
 use Rattle.node_semantics.proofs.PostedLinks.{posted_links, posted_each, moved_links, moved_each}
 use Rattle.node_semantics.proofs.StandsForParts.{assemble}
 

@@ -2,25 +2,25 @@
 use Rattle.std.proofs.Common.{◌≡◌, ◌⊎◌, inl, inr, refl, sym, ap, subst, ◌∙◌, ℕ, zero, suc, ◌*◌, ◌<◌, ◌≤◌, List, [], ◌∷◌, length, replicate, Option, Some, None, arith}
 use Rattle.std.proofs.lemmas.List.{length-replicate}
 use Rattle.std.specs.Prelude.{slice_get}
-use Rattle.pool_syntax.specs.declared.words.Placement.{Placement}
-use Rattle.mesh_semantics.proofs.Laws.{same_some}
+use Rattle.run_words.specs.declared.words.Placement.{Placement}
+use Rattle.run_words.proofs.Laws.{same_some, there_at}
 use Rattle.mesh_semantics.specs.Language.{Language}
 use Rattle.mesh_semantics.specs.Config.{Config}
-use Rattle.mesh_semantics.specs.Delay.{no_delay, no_delay_on_wires, node_of, slot_of}
+use Rattle.mesh_semantics.specs.Delay.{no_delay, no_delay_on_wires}
+use Rattle.run_words.specs.ObjectNames.{node_of, slot_of}
 use Rattle.mesh_semantics.specs.Fit.{Fit}
-use Rattle.pool_syntax.specs.declared.words.Place.{Place}
-use Rattle.pool_syntax.specs.declared.words.Place.TheVariants as Pl
+use Rattle.run_words.specs.declared.words.Place.{Place}
+use Rattle.run_words.specs.declared.words.Place.TheVariants as Pl
 use Rattle.mesh_semantics.specs.Record.{start, last_place, root_name, root_node, with_root}
 use Rattle.node_semantics.specs.Node.{NodeState, name_at, set_at, fresh_slot}
 use Rattle.node_semantics.specs.Machine.{Machine, empty_node, machine_start, machine_start_on_wires, on_wires_from, start_with}
 use Rattle.node_semantics.specs.WiresStandFor.{StandsFor, StartAgrees}
-use Rattle.node_semantics.specs.Requests.{Requests}
+use Rattle.mesh_semantics.specs.Requests.{Requests}
 use Rattle.node_semantics.specs.StandsFor.{slot_at, slot_in, request_of, request_in, CountsMade, MachineStandsFor}
 use Rattle.node_semantics.proofs.WiresAgree.{starts_on_wires}
 use Rattle.node_semantics.proofs.AddedObject.{add_stands}
 use Rattle.mesh_semantics.specs.Act.{class_place}
 use Rattle.node_semantics.proofs.ClassPlaces.{zeros}
-use Rattle.node_semantics.proofs.LinkMovesAgree.{there_at}
 
 copy_is : {X : Type 0} (n : ℕ) (x y : X) (i : ℕ) → slice_get (replicate n x) i ≡ Some y → x ≡ y
 copy_is zero x y i h = absurd (cc)

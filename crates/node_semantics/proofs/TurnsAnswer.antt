@@ -2,18 +2,20 @@
 use Rattle.std.proofs.Common.{◌≡◌, ◌≢◌, refl, ap, sym, subst, ◌∙◌, ℕ, zero, suc, ◌+◌, List, [], ◌∷◌, Option, Some, None, is_none, is_some, Bool, true, false, ◌&&◌, ◌||◌, ◌==◌, arith}
 use Rattle.std.specs.Prelude.{slice_get, filter}
 use Rattle.std.specs.List.{list_any}
-use Rattle.pool_syntax.specs.declared.words.Value.{Value}
-use Rattle.pool_syntax.specs.declared.words.What.{What}
-use Rattle.pool_syntax.specs.declared.words.Placement.{Placement}
-use Rattle.mesh_semantics.proofs.Laws.{first, second, same_some}
+use Rattle.run_words.specs.declared.words.Value.{Value}
+use Rattle.run_words.specs.declared.words.What.{What}
+use Rattle.run_words.specs.declared.words.Placement.{Placement}
+use Rattle.run_words.proofs.Laws.{first, second, same_some}
 use Rattle.mesh_semantics.specs.Kind as K
 use Rattle.mesh_semantics.specs.Kind.{Kind, Alternative, answered}
 use Rattle.mesh_semantics.specs.Language.{Language}
-use Rattle.mesh_semantics.specs.Delay.{Arrival, Packet, node_of}
-use Rattle.mesh_semantics.specs.Act.{first_arrival, first_of, or_else, is_possible, can_step, greatest}
-use Rattle.mesh_semantics.specs.Sound.{Each}
+use Rattle.mesh_semantics.specs.Delay.{Arrival, Packet, NumberedPacket}
+use Rattle.run_words.specs.ObjectNames.{node_of}
+use Rattle.mesh_semantics.specs.Act.{first_arrival, first_of, is_possible, can_step, greatest}
+use Rattle.std.specs.Option.{option_or}
+use Rattle.run_words.specs.Tables.{Each}
 use Rattle.node_semantics.specs.Node as N
-use Rattle.node_semantics.specs.Node.{IsStep, NumberedPacket, NumberedArrival, Slot, NodeState, NodeActed, name_at, placed, arrivals, first_on, can_go, comes_after, ready_slots, slot_in_turn, local_state, local_act, room_for, steps_of, made_own, create_act, goal_here, count_one, message_act, taken_act, serve_act, chosen_act, choice_act, give_back, return_act, slot_act, turn_of_slot, turn_act, put_request, put_state}
+use Rattle.node_semantics.specs.Node.{IsStep, NumberedArrival, Slot, NodeState, NodeActed, name_at, placed, arrivals, first_on, can_go, comes_after, ready_slots, slot_in_turn, local_state, local_act, room_for, steps_of, made_own, create_act, goal_here, count_one, message_act, taken_act, serve_act, chosen_act, choice_act, give_back, return_act, slot_act, turn_of_slot, turn_act, put_request, put_state}
 use Rattle.node_semantics.specs.CanTurn.{CanAct, CanTurn}
 use Rattle.node_semantics.proofs.ReceiptsAnswer.{within_answers}
 use Rattle.node_semantics.proofs.SelectTurns.{none_same}
@@ -163,7 +165,7 @@ module _ {S : Type 0} (g : Language S) (n : ℕ) (x : NodeState S) where
   in_turn : (e : ℕ × Slot S) → slot_in_turn g n x ≡ Some e → IsReady e
   in_turn e = by (first_of (filter (λ e. comes_after x.last e.0) (ready_slots g n x))) refl
     where
-      by : (z : Option (ℕ × Slot S)) → first_of (filter (λ e. comes_after x.last e.0) (ready_slots g n x)) ≡ z → or_else z (first_of (ready_slots g n x)) ≡ Some e → IsReady e
+      by : (z : Option (ℕ × Slot S)) → first_of (filter (λ e. comes_after x.last e.0) (ready_slots g n x)) ≡ z → option_or z (first_of (ready_slots g n x)) ≡ Some e → IsReady e
       by None h i = each_first IsReady (ready_slots g n x) e i ready
       by (Some y) h i = (each_first (λ z. IsReady z × (comes_after x.last z.0 ≡ true)) (filter (λ z. comes_after x.last z.0) (ready_slots g n x)) e (h ∙ i)
           (each_filter IsReady (λ z. comes_after x.last z.0) (ready_slots g n x) ready)).0
@@ -172,7 +174,7 @@ module _ {S : Type 0} (g : Language S) (n : ℕ) (x : NodeState S) where
   no_turn : slot_in_turn g n x ≡ None → ready_slots g n x ≡ []
   no_turn h = by (ready_slots g n x) (first_of (filter (λ e. comes_after x.last e.0) (ready_slots g n x))) h
     where
-      by : (es : List (ℕ × Slot S)) (z : Option (ℕ × Slot S)) → or_else z (first_of es) ≡ None → es ≡ []
+      by : (es : List (ℕ × Slot S)) (z : Option (ℕ × Slot S)) → option_or z (first_of es) ≡ None → es ≡ []
       by [] z i = refl
       by (e ∷ es) None i = absurd (cc)
       by (e ∷ es) (Some y) i = absurd (cc)
@@ -190,4 +192,4 @@ module _ {S : Type 0} (g : Language S) (n : ℕ) (x : NodeState S) where
 
   pub turn_idles : (l : Placement) (q leaving fresh : ℕ) → ready_slots g n x ≡ [] → turn_act g l q n leaving fresh x ≡ N.Idle
   turn_idles l q leaving fresh none = ap (turn_of_slot g l q n leaving fresh x) (
-      ap (λ es. or_else (first_of (filter (λ e. comes_after x.last e.0) es)) (first_of es)) none)
+      ap (λ es. option_or (first_of (filter (λ e. comes_after x.last e.0) es)) (first_of es)) none)

@@ -1,8 +1,8 @@
 -- That a machine answers an event as what it stands for does, and stands for what is after it; and what is asked of an event and its number.
 use Rattle.std.specs.Prelude.{◌≡◌, ◌≢◌, ◌<◌, ◌*◌, ℕ, Some, slice_get}
-use Rattle.pool_syntax.specs.declared.words.Event.{Event}
-use Rattle.pool_syntax.specs.declared.words.Event.TheVariants as Ev
-use Rattle.pool_syntax.specs.declared.words.Placement.{Placement}
+use Rattle.run_words.specs.declared.words.Event.{Event}
+use Rattle.run_words.specs.declared.words.Event.TheVariants as Ev
+use Rattle.run_words.specs.declared.words.Placement.{Placement}
 use Rattle.mesh_semantics.specs.Language.{Language}
 use Rattle.mesh_semantics.specs.Act as A
 use Rattle.mesh_semantics.specs.Act.{Acted}

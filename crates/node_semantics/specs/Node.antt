@@ -3,31 +3,28 @@
 -- come, and until then its object stands in its slot as it stood when it posted the request, whatever has become of the request. What changes outside the node goes into one
 -- packet. Throughout, g is a language, l a placement, q the most local transitions of a turn, n the node with its state x, fresh the number that a request of this turn gets,
 -- i the number of a slot and s what is in it, and leaving the number of packets on the links that leave the node.
-use Rattle.std.specs.Prelude.{ℕ, zero, suc, ◌+◌, ◌-◌, ◌*◌, ◌%◌, ◌==◌, List, [], ◌∷◌, ◌++◌, length, sum_by, filter, Option, Some, None, is_some, is_none, Bool, true, false, ◌&&◌, if◌then◌else◌, nat_le, nat_lt, slice_get}
-use Rattle.std.specs.Option.{unwrap_or}
-use Rattle.pool_syntax.specs.declared.words.Value.{Value}
-use Rattle.pool_syntax.specs.declared.words.Value.TheVariants as V
-use Rattle.pool_syntax.specs.declared.words.Label.TheVariants as L
-use Rattle.pool_syntax.specs.declared.words.What.{What}
-use Rattle.pool_syntax.specs.declared.words.What.TheVariants as W
-use Rattle.pool_syntax.specs.declared.words.FullKind.{FullKind}
-use Rattle.pool_syntax.specs.declared.words.FullKind.TheVariants as F
-use Rattle.pool_syntax.specs.declared.words.Place.{Place}
-use Rattle.pool_syntax.specs.declared.words.Place.TheVariants as Pl
-use Rattle.pool_syntax.specs.declared.words.Placement.{Placement}
-use Rattle.mesh_semantics.specs.Partial.{◌>>=◌}
+use Rattle.std.specs.Prelude.{ℕ, zero, suc, ◌+◌, ◌-◌, ◌*◌, ◌%◌, ◌==◌, List, [], ◌∷◌, ◌++◌, length, sum_by, filter, Option, Some, None, is_some, is_none, Bool, true, false, ◌&&◌, if◌then◌else◌, nat_le}
+use Rattle.std.specs.Prelude.{nat_lt, slice_get}
+use Rattle.std.specs.Option.{unwrap_or, option_or}
+use Rattle.run_words.specs.declared.words.Value.{Value}
+use Rattle.run_words.specs.declared.words.Value.TheVariants as V
+use Rattle.run_words.specs.declared.words.Label.TheVariants as L
+use Rattle.run_words.specs.declared.words.What.{What}
+use Rattle.run_words.specs.declared.words.What.TheVariants as W
+use Rattle.run_words.specs.declared.words.FullKind.{FullKind}
+use Rattle.run_words.specs.declared.words.FullKind.TheVariants as F
+use Rattle.run_words.specs.declared.words.Place.{Place}
+use Rattle.run_words.specs.declared.words.Place.TheVariants as Pl
+use Rattle.run_words.specs.declared.words.Placement.{Placement}
+use Rattle.run_words.specs.Partial.{◌>>=◌}
 use Rattle.mesh_semantics.specs.Kind as K
 use Rattle.mesh_semantics.specs.Kind.{Kind, Alternative, answered, has_name, is_local}
 use Rattle.mesh_semantics.specs.Language.{Language}
-use Rattle.mesh_semantics.specs.Paths.{without_first}
+use Rattle.run_words.specs.Paths.{without_first}
 use Rattle.mesh_semantics.specs.Delay as D
-use Rattle.mesh_semantics.specs.Delay.{Packet, Arrival, node_of, slot_of}
-use Rattle.mesh_semantics.specs.Act.{id, first_of, or_else, is_possible, can_step, greatest, class_place}
-
--- a packet with the number of the request that it belongs to; an asynchronous message belongs to none
-pub record NumberedPacket : Type 0 where
-  pub number : Option ℕ
-  pub packet : Packet
+use Rattle.mesh_semantics.specs.Delay.{Packet, Arrival, NumberedPacket}
+use Rattle.run_words.specs.ObjectNames.{node_of, slot_of}
+use Rattle.mesh_semantics.specs.Act.{id, first_of, is_possible, can_step, greatest, class_place}
 
 -- a message that has arrived, with the number of the request if it is a call
 pub record NumberedArrival : Type 0 where
@@ -121,7 +118,7 @@ ready_slots g n x = filter (can_go g n) (placed 0 x.slots)
 
 -- the slot whose turn it is: the ready one of least number above the last, else of least number
 abbrev pub slot_in_turn : {S : Type 0} → Language S → ℕ → NodeState S → Option (ℕ × Slot S)
-slot_in_turn g n x = or_else (first_of (filter (λ e. comes_after x.last e.0) (ready_slots g n x))) (first_of (ready_slots g n x))
+slot_in_turn g n x = option_or (first_of (filter (λ e. comes_after x.last e.0) (ready_slots g n x))) (first_of (ready_slots g n x))
 
 -- frames in use: one for each object, and one for each method under way in it
 abbrev pub frames_in : {S : Type 0} → Language S → List (Slot S) → ℕ

@@ -1,11 +1,10 @@
 -- The request numbers that are out at a node: each is the number of one object, and these objects are exactly those of the node that are posted, at a wait, or due.
 use Rattle.std.specs.Prelude.{◌≡◌, ◌≢◌, ◌⊎◌, ℕ, Some, None, true}
-use Rattle.mesh_semantics.specs.Kind as K
 use Rattle.mesh_semantics.specs.Language.{Language}
 use Rattle.mesh_semantics.specs.Config.{Config, object_of}
-use Rattle.mesh_semantics.specs.Delay.{Delay, node_of, held}
+use Rattle.mesh_semantics.specs.Delay.{Delay, held}
+use Rattle.run_words.specs.ObjectNames.{node_of}
 use Rattle.mesh_semantics.specs.Sound.{is_wait}
-use Rattle.mesh_semantics.specs.Ways.{In}
 use Rattle.node_semantics.specs.Machine.{Machine}
 use Rattle.node_semantics.specs.StandsFor.{IsOut, request_of}
 
@@ -17,8 +16,3 @@ pub record Outstanding {S : Type 0} (g : Language S) (m : Machine S) (c : Config
   pub one : (o p k : ℕ) → node_of o ≡ n → node_of p ≡ n → request_of m o ≡ Some k → request_of m p ≡ Some k → o ≡ p
   pub waiting : (o k : ℕ) → node_of o ≡ n → request_of m o ≡ Some k → (x : S) × (object_of c o ≡ Some x) × IsWaiting g d o x
   pub out : (o : ℕ) (x : S) → node_of o ≡ n → object_of c o ≡ Some x → IsWaiting g d o x → IsOut (request_of m o)
-
--- asked of a language: whom an object waits for serves it; W is what is kept of a configuration
-abbrev pub AreServed : {S : Type 0} → Language S → (Config S → Type 0) → Type 0
-AreServed {S} g W = (c : Config S) (o : ℕ) (x : S) (b m : ℕ) → W c → object_of c o ≡ Some x → g.kind o x ≡ K.Waits b m
-    → (y : S) × (object_of c b ≡ Some y) × In o (g.callers y)

@@ -5,18 +5,18 @@ use Rattle.std.specs.Int.{w64, to_be_bytes, from_be_bytes, cast_signed, cast_uns
 use Rattle.std.proofs.lemmas.Nat.{from_be_bytes-to_be_bytes_8, be_bytes_8}
 use Rattle.std.proofs.lemmas.Int.{to_z-of_z, of_z-to_z}
 use Rattle.std.proofs.Math.Facts.{Fits-of_z, Fits-of_lt, Fits-lt-pow, sfits_to_z}
-use Rattle.pool_syntax.specs.Tokens.{Text}
-use Rattle.pool_syntax.specs.declared.words.NameId.{NameId}
-use Rattle.pool_syntax.specs.declared.words.Op.{Op}
-use Rattle.pool_syntax.specs.declared.words.Op.TheVariants as O
-use Rattle.pool_syntax.specs.declared.tree.Kind.{Kind}
-use Rattle.pool_syntax.specs.declared.tree.Kind.TheVariants as K
-use Rattle.object_code.specs.declared.unit.Instr.{Instr}
-use Rattle.object_code.specs.declared.unit.Instr.TheVariants as I
+use Rattle.run_words.specs.Text.{Text}
+use Rattle.run_words.specs.declared.words.NameId.{NameId}
+use Rattle.run_words.specs.declared.words.Op.{Op}
+use Rattle.run_words.specs.declared.words.Op.TheVariants as O
+use Rattle.run_words.specs.declared.words.Kind.{Kind}
+use Rattle.run_words.specs.declared.words.Kind.TheVariants as K
+use Rattle.code_semantics.specs.declared.unit.Instr.{Instr}
+use Rattle.code_semantics.specs.declared.unit.Instr.TheVariants as I
 use Rattle.object_code.specs.Read.{Got, Stop, Reader, read_nothing, read_as, read_number, read_list}
 use Rattle.object_code.specs.FileBytes.{number_bytes, integer_bytes, name_bytes, list_bytes, kind_bytes, option_bytes, truth_byte, operator_byte, alternative_bytes, instr_bytes}
 use Rattle.object_code.specs.Decode.{kind_readers, truth_readers, operator_readers, instr_readers, read_name, read_integer, read_kind, read_option, read_truth, read_operator, read_sent, read_alternative, read_instr}
-use Rattle.object_code.specs.Shaped.{IsNumber, NameIsNumbered, KindIsNumbered, IsOptionOf, IsListOf, AlternativeIsNumbered, InstrIsNumbered}
+use Rattle.code_semantics.specs.Shaped.{IsNumber, NameIsNumbered, KindIsNumbered, IsOptionOf, IsListOf, AlternativeIsNumbered, InstrIsNumbered}
 use Rattle.object_code.proofs.Formats.{AreBytes, all_front, IsFormat, EachWrote, got_value, got_rest, number_format, name_format, list_format, as_reads, two_read, two_wrote, Wrote, no_wrote, nothing_wrote, made_wrote, by_wrote}
 
 pub kind_format : IsFormat read_kind kind_bytes KindIsNumbered

@@ -1,6 +1,5 @@
 pub mod Writing
 pub mod ProperKnown
-pub mod Laws
 pub mod Formats
 pub mod FileFormat
 pub mod WholeFile
@@ -8,3 +7,4 @@ pub mod Fronts
 pub mod Ends
 pub mod Taking
 pub mod Shorts
+pub mod Laws

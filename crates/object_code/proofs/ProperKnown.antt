@@ -1,23 +1,19 @@
 -- The names and strings of a proper unit are in its table.
-use Rattle.std.proofs.Common.{◌≡◌, refl, IsTrue, ℕ, zero, suc, ◌==◌, ◌<◌, List, [], ◌∷◌, length, get_or, Option, Some, None, is_some, Bool, true, false, arith}
+use Rattle.std.proofs.Common.{◌≡◌, refl, IsTrue, ℕ, suc, ◌==◌, ◌<◌, List, [], ◌∷◌, length, get_or, Option, Some, None, is_some, Bool, true, false, arith}
 use Rattle.std.specs.Prelude.{slice_get}
 use Rattle.std.specs.List.{All}
 use Rattle.std.proofs.lemmas.List.Elements.{All-nil, All-cons}
-use Rattle.pool_syntax.specs.declared.words.NameId.{NameId}
-use Rattle.object_code.specs.declared.unit.Instr.{Instr}
-use Rattle.object_code.specs.declared.unit.Instr.TheVariants as I
-use Rattle.object_code.specs.declared.unit.AltCode.{AltCode}
-use Rattle.object_code.specs.declared.unit.MethodCode.{MethodCode}
-use Rattle.object_code.specs.declared.unit.ClassCode.{ClassCode}
-use Rattle.object_code.specs.declared.unit.Unit.{Unit as Code}
+use Rattle.std.proofs.lemmas.Option.{slice_get-get_or}
+use Rattle.run_words.specs.declared.words.NameId.{NameId}
+use Rattle.code_semantics.specs.declared.unit.Instr.{Instr}
+use Rattle.code_semantics.specs.declared.unit.Instr.TheVariants as I
+use Rattle.code_semantics.specs.declared.unit.AltCode.{AltCode}
+use Rattle.code_semantics.specs.declared.unit.MethodCode.{MethodCode}
+use Rattle.code_semantics.specs.declared.unit.ClassCode.{ClassCode}
+use Rattle.code_semantics.specs.declared.unit.Unit.{Unit as Code}
 use Rattle.object_code.specs.Known.{IsKnown, AnswerIsKnown, AlternativeIsKnown, InstrIsKnown, MethodIsKnown, IsKnownUnit}
-use Rattle.object_code.specs.Proper.{AreOwn, AnswerOwn, AltsExist, Exists, IsProperClass, IsProper}
-use Rattle.object_code.specs.Step.{method_from, class_from}
-
-there : {A : Type 0} (xs : List A) (k : ℕ) (d : A) → k < length xs → slice_get xs k ≡ Some (get_or xs k d)
-there [] k d h = absurd (omega (arith, h))
-there (x ∷ xs) zero d h = refl
-there (x ∷ xs) (suc k) d h = there xs k d (omega (arith, h))
+use Rattle.code_semantics.specs.Proper.{AreOwn, AnswerOwn, AltsExist, Exists, IsProperClass, IsProper}
+use Rattle.code_semantics.specs.Step.{method_from, class_from}
 
 same_number : (a b n : ℕ) → (a == b) ≡ true → a < n → b < n
 same_number a b n e h = let i : a ≡ b = grind (arith, e) in omega (arith, i, h)
@@ -67,12 +63,12 @@ module _ (u : Code) (proper : IsProper u) where
     instr_known temps c _ x = tt {0}
 
     code_known : (temps : ℕ) (c : List Instr) → ((at : ℕ) (i : Instr) → slice_get c at ≡ Some i → Exists u (Some k) temps c i) → All (InstrIsKnown u.names) c
-    code_known temps c h = λ j d lt. instr_known temps c (get_or c j d) (h j (get_or c j d) (there c j d lt))
+    code_known temps c h = λ j d lt. instr_known temps c (get_or c j d) (h j (get_or c j d) (slice_get-get_or c j d lt))
 
   pub proper_known : IsKnownUnit u
   proper_known = λ j d lt.
       let k = get_or u.classes j d in
-      let f = proper.each j k (there u.classes j d lt) in
+      let f = proper.each j k (slice_get-get_or u.classes j d lt) in
       let methods : All (MethodIsKnown u.names) k.methods =
-      λ i e in_range. let m = get_or k.methods i e in let g = f.methods i m (there k.methods i e in_range) in (g.0, code_known k f m.temps m.code g.4.exists) in
+      λ i e in_range. let m = get_or k.methods i e in let g = f.methods i m (slice_get-get_or k.methods i e in_range) in (g.0, code_known k f m.temps m.code g.4.exists) in
       (f.name, (methods, code_known k f 0 k.body.code f.body.exists))

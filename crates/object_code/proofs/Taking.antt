@@ -2,21 +2,22 @@
 use Rattle.std.proofs.Common.{◌≡◌, refl, sym, ap, subst, ◌∙◌, ℕ, zero, suc, ◌+◌, ◌-◌, ◌<◌, ◌≤◌, List, [], ◌∷◌, ◌++◌, length, drop, get_or, Option, Some, None, Bool, true, false, append_assoc, slice_get, arith}
 use Rattle.std.specs.Prelude.{is_some, if◌then◌else◌, ◌==◌, ◌||◌, bytes_eq}
 use Rattle.std.proofs.lemmas.List.{append-nil, at_drop_all, at_drop_more, length-append}
-use Rattle.pool_syntax.specs.Tokens.{Text}
-use Rattle.pool_syntax.specs.Table.{is_among, name_of, with_text}
+use Rattle.run_words.specs.Text.{Text}
+use Rattle.run_words.specs.Table.{is_among, name_of, with_text}
 use Rattle.object_code.specs.declared.code_fault.Unread.{Unread}
 use Rattle.object_code.specs.declared.code_fault.Unread.TheVariants as U
-use Rattle.pool_syntax.specs.declared.words.NameId.{NameId}
-use Rattle.pool_syntax.specs.declared.tree.Kind.{Kind}
-use Rattle.object_code.specs.declared.unit.Instr.{Instr}
-use Rattle.object_code.specs.declared.unit.BodyCode.{BodyCode}
-use Rattle.object_code.specs.declared.unit.MethodCode.{MethodCode}
-use Rattle.object_code.specs.declared.unit.ClassCode.{ClassCode}
-use Rattle.object_code.specs.declared.file.UnitFile.{UnitFile}
-use Rattle.object_code.specs.declared.file.ClassKinds.{ClassKinds}
-use Rattle.object_code.specs.declared.file.MethodKinds.{MethodKinds}
+use Rattle.run_words.specs.declared.words.NameId.{NameId}
+use Rattle.run_words.specs.declared.words.Kind.{Kind}
+use Rattle.code_semantics.specs.declared.unit.Instr.{Instr}
+use Rattle.code_semantics.specs.declared.unit.BodyCode.{BodyCode}
+use Rattle.code_semantics.specs.declared.unit.MethodCode.{MethodCode}
+use Rattle.code_semantics.specs.declared.unit.ClassCode.{ClassCode}
+use Rattle.code_semantics.specs.declared.file.UnitFile.{UnitFile}
+use Rattle.code_semantics.specs.declared.file.ClassKinds.{ClassKinds}
+use Rattle.code_semantics.specs.declared.file.MethodKinds.{MethodKinds}
 use Rattle.object_code.specs.Read.{Read, Got, Stop, Reader, then_read, read_as, read_number, read_items, read_list}
-use Rattle.object_code.specs.FileBytes.{head_bytes, pairs}
+use Rattle.object_code.specs.FileBytes.{head_bytes}
+use Rattle.code_semantics.specs.Shaped.{pairs}
 use Rattle.object_code.specs.Decode.{behind_class_name, behind_front, behind_methods, behind_names, behind_vars, class_of, file_of, first_twice, instr_readers, read_class, read_code, read_exactly, read_file, read_instr, read_kind, read_method, read_name, read_text, seconds}
 use Rattle.object_code.specs.Gives.{Stops, IsTable}
 use Rattle.object_code.proofs.WholeFile.{firsts_pairs, seconds_pairs}

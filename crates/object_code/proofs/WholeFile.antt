@@ -3,17 +3,17 @@ use Rattle.std.proofs.Common.{◌≡◌, refl, sym, ap, subst, ◌∙◌, ℕ, s
 use Rattle.std.specs.Prelude.{if◌then◌else◌}
 use Rattle.std.specs.List.{AllByRecursion as Each}
 use Rattle.std.proofs.lemmas.List.{append_assoc, append-nil}
-use Rattle.pool_syntax.specs.Tokens.{Text}
-use Rattle.object_code.specs.declared.unit.Instr.{Instr}
-use Rattle.object_code.specs.declared.unit.MethodCode.{MethodCode}
-use Rattle.object_code.specs.declared.unit.ClassCode.{ClassCode}
-use Rattle.object_code.specs.declared.file.UnitFile.{UnitFile}
-use Rattle.object_code.specs.declared.file.ClassKinds.{ClassKinds}
-use Rattle.object_code.specs.declared.file.MethodKinds.{MethodKinds}
+use Rattle.run_words.specs.Text.{Text}
+use Rattle.code_semantics.specs.declared.unit.Instr.{Instr}
+use Rattle.code_semantics.specs.declared.unit.MethodCode.{MethodCode}
+use Rattle.code_semantics.specs.declared.unit.ClassCode.{ClassCode}
+use Rattle.code_semantics.specs.declared.file.UnitFile.{UnitFile}
+use Rattle.code_semantics.specs.declared.file.ClassKinds.{ClassKinds}
+use Rattle.code_semantics.specs.declared.file.MethodKinds.{MethodKinds}
 use Rattle.object_code.specs.Read.{Read, Got, Stop, read_number, read_list}
-use Rattle.object_code.specs.FileBytes.{number_bytes, name_bytes, list_bytes, text_bytes, kind_bytes, option_bytes, instr_bytes, code_bytes, pairs, method_bytes, class_bytes, head_bytes, file_bytes}
+use Rattle.object_code.specs.FileBytes.{number_bytes, name_bytes, list_bytes, text_bytes, kind_bytes, option_bytes, instr_bytes, code_bytes, method_bytes, class_bytes, head_bytes, file_bytes}
+use Rattle.code_semantics.specs.Shaped.{pairs, AreShapedMethods, AreShapedClasses, IsShaped, IsNumber, IsListOf, IsShortText, NameIsNumbered, KindIsNumbered, IsOptionOf, InstrIsNumbered, CodeIsNumbered, MethodIsWritable, ClassIsWritable, IsWritable}
 use Rattle.object_code.specs.Decode.{read_name, read_text, read_kind, read_option, read_instr, read_code, method_of, behind_outcome, behind_temps, behind_params, behind_name, read_method, firsts, seconds, class_of, behind_methods, behind_vars, behind_class_name, read_class, read_exactly, file_of, behind_names, behind_front, read_file, first_twice, Decoded, Says, BadBytes, NameTwice, unless_twice, decoded, decode}
-use Rattle.object_code.specs.Shaped.{AreShapedMethods, AreShapedClasses, IsShaped, IsNumber, IsListOf, IsShortText, NameIsNumbered, KindIsNumbered, IsOptionOf, InstrIsNumbered, CodeIsNumbered, MethodIsWritable, ClassIsWritable, IsWritable}
 use Rattle.object_code.proofs.Formats.{AreBytes, IsFormat, got_rest, then_got, then_wrote, left_bytes, seq, number_format, name_format, list_format, text_format, as_reads, as_wrote, two_read, two_wrote}
 use Rattle.object_code.proofs.FileFormat.{kind_format, option_format, instr_format}
 
@@ -42,8 +42,8 @@ kinds_format : IsFormat (read_list read_kind) (list_bytes kind_bytes) (IsListOf 
 kinds_format = list_format read_kind kind_bytes KindIsNumbered kind_format
 
 -- code and the words of its frames
-code_format : IsFormat read_code (λ c. code_bytes c.0 c.1) (λ c. CodeIsNumbered c.0 c.1)
-code_format = record {
+object_code : IsFormat read_code (λ c. code_bytes c.0 c.1) (λ c. CodeIsNumbered c.0 c.1)
+object_code = record {
   reads = λ c h rest.
       two_read read_number (read_list read_instr) number_bytes (list_bytes instr_bytes) IsNumber (IsListOf InstrIsNumbered) number_format (list_format read_instr instr_bytes InstrIsNumbered instr_format)
       (λ words c. (words, c)) c.0 c.1 rest h.0 h.1;
@@ -70,7 +70,7 @@ method_format = record { reads = reads; wrote = wrote }
         (seq read_number (behind_params m.0.name) params (temps ++ (outcome ++ code)) m.0.params m rest (λ more. number_format.reads m.0.params h.1 more)
         (seq (read_list read_kind) (behind_temps m.0.name m.0.params) temps (outcome ++ code) m.1.temps m rest (λ more. kinds_format.reads m.1.temps h.3 more)
         (seq (read_option read_kind) (behind_outcome m.0.name m.0.params m.1.temps) outcome code m.1.result m rest (λ more. outcome_format.reads m.1.result h.4 more)
-        (as_reads read_code (λ c. code_bytes c.0 c.1) (λ c. CodeIsNumbered c.0 c.1) code_format (method_of m.0.name m.0.params m.1.temps m.1.result) (m.0.frame_words, m.0.code) rest h.5
+        (as_reads read_code (λ c. code_bytes c.0 c.1) (λ c. CodeIsNumbered c.0 c.1) object_code (method_of m.0.name m.0.params m.1.temps m.1.result) (m.0.frame_words, m.0.code) rest h.5
         ∙ ap (λ z. Got z rest) (own m h.2)))))
       where
         own : (m : MethodCode × MethodKinds) → m.0.temps ≡ length m.1.temps → method_of m.0.name m.0.params m.1.temps m.1.result (m.0.frame_words, m.0.code) ≡ m
@@ -82,7 +82,7 @@ method_format = record { reads = reads; wrote = wrote }
         let b = then_wrote read_number number_bytes IsNumber number_format (behind_params a.0) a.1 m rest a.4 a.5 in
         let c = then_wrote (read_list read_kind) (list_bytes kind_bytes) (IsListOf KindIsNumbered) kinds_format (behind_temps a.0 b.0) b.1 m rest b.4 b.5 in
         let d = then_wrote (read_option read_kind) (option_bytes kind_bytes) (IsOptionOf KindIsNumbered) outcome_format (behind_outcome a.0 b.0 c.0) c.1 m rest c.4 c.5 in
-        let f = as_wrote read_code (λ c. code_bytes c.0 c.1) (λ c. CodeIsNumbered c.0 c.1) code_format (method_of a.0 b.0 c.0 d.0) d.1 m rest d.4 d.5 in
+        let f = as_wrote read_code (λ c. code_bytes c.0 c.1) (λ c. CodeIsNumbered c.0 c.1) object_code (method_of a.0 b.0 c.0 d.0) d.1 m rest d.4 d.5 in
         let code = code_bytes f.0.0 f.0.1 in
         let outcome = option_bytes kind_bytes d.0 in
         let temps = list_bytes kind_bytes c.0 in
@@ -108,7 +108,7 @@ class_format = record { reads = reads; wrote = wrote }
         seq read_name behind_class_name (name_bytes k.0.name) (vars ++ (methods ++ code)) k.0.name k rest (λ more. name_format.reads k.0.name h.0 more)
         (seq (read_list read_kind) (behind_vars k.0.name) vars (methods ++ code) k.1.vars k rest (λ more. kinds_format.reads k.1.vars h.2 more)
         (seq (read_list read_method) (behind_methods k.0.name k.1.vars) methods code (pairs k.0.methods k.1.methods) k rest (λ more. methods_format.reads (pairs k.0.methods k.1.methods) h.4 more)
-        (as_reads read_code (λ c. code_bytes c.0 c.1) (λ c. CodeIsNumbered c.0 c.1) code_format (class_of k.0.name k.1.vars (pairs k.0.methods k.1.methods))
+        (as_reads read_code (λ c. code_bytes c.0 c.1) (λ c. CodeIsNumbered c.0 c.1) object_code (class_of k.0.name k.1.vars (pairs k.0.methods k.1.methods))
         (k.0.body.frame_words, k.0.body.code) rest h.5 ∙ ap (λ z. Got z rest) (own k h.1 h.3))))
       where
         own : (k : ClassCode × ClassKinds) → k.0.vars ≡ length k.1.vars → length k.0.methods ≡ length k.1.methods
@@ -123,7 +123,7 @@ class_format = record { reads = reads; wrote = wrote }
         let a = then_wrote read_name name_bytes NameIsNumbered name_format behind_class_name bs k rest h e in
         let b = then_wrote (read_list read_kind) (list_bytes kind_bytes) (IsListOf KindIsNumbered) kinds_format (behind_vars a.0) a.1 k rest a.4 a.5 in
         let c = then_wrote (read_list read_method) (list_bytes method_bytes) (IsListOf MethodIsWritable) methods_format (behind_methods a.0 b.0) b.1 k rest b.4 b.5 in
-        let f = as_wrote read_code (λ c. code_bytes c.0 c.1) (λ c. CodeIsNumbered c.0 c.1) code_format (class_of a.0 b.0 c.0) c.1 k rest c.4 c.5 in
+        let f = as_wrote read_code (λ c. code_bytes c.0 c.1) (λ c. CodeIsNumbered c.0 c.1) object_code (class_of a.0 b.0 c.0) c.1 k rest c.4 c.5 in
         let code = code_bytes f.0.0 f.0.1 in
         let methods = list_bytes method_bytes c.0 in
         let vars = list_bytes kind_bytes b.0 in

@@ -1,33 +1,21 @@
 -- Texts that are written one after another.
-use Rattle.std.proofs.Common.{◌≡◌, refl, sym, ap, ◌∙◌, ℕ, zero, suc, ◌+◌, ◌<◌, ◌≤◌, inl, inr, List, [], ◌∷◌, ◌++◌, length, drop, get_or, Bool, true, false, Option, Some, None, option_map, append_assoc, subst, slice_get, arith}
+use Rattle.std.proofs.Common.{◌≡◌, refl, sym, ap, ◌∙◌, ℕ, zero, suc, ◌+◌, ◌<◌, ◌≤◌, List, [], ◌∷◌, ◌++◌, length, drop, get_or, Bool, true, false, Some, option_map, subst, slice_get, arith}
 use Rattle.std.specs.List.{All, AllByRecursion as Each}
-use Rattle.std.proofs.lemmas.Grind.{common_steps}
 use Rattle.std.proofs.lemmas.List.{at_drop_more}
 use Rattle.std.proofs.lemmas.List.Elements.{All-get_or}
 use Rattle.pool_outside.specs.Outside.{Rose, IsProperFront}
-use Rattle.pool_outside.proofs.Laws.{cut_first, cut_second}
-use Rattle.pool_syntax.specs.Tokens.{Text}
-use Rattle.object_code.specs.declared.unit.Instr.{Instr}
-use Rattle.object_code.specs.declared.unit.MethodCode.{MethodCode}
-use Rattle.object_code.specs.declared.unit.ClassCode.{ClassCode}
-use Rattle.object_code.specs.declared.file.ClassKinds.{ClassKinds}
-use Rattle.object_code.specs.declared.file.MethodKinds.{MethodKinds}
-use Rattle.object_code.specs.FileBytes.{items_bytes, pairs}
-use Rattle.object_code.specs.Shaped.{AreShapedMethods, AreShapedClasses}
-use Rattle.object_code.specs.Listing.{line_text, lines_text, text_at, text_or_none}
+use Rattle.pool_outside.proofs.Laws.{cut_first, cut_second, joined, rose_later, rose_before, append_nothing}
+use Rattle.run_words.specs.Text.{Text}
+use Rattle.code_semantics.specs.declared.unit.Instr.{Instr}
+use Rattle.code_semantics.specs.declared.unit.MethodCode.{MethodCode}
+use Rattle.code_semantics.specs.declared.unit.ClassCode.{ClassCode}
+use Rattle.code_semantics.specs.declared.file.ClassKinds.{ClassKinds}
+use Rattle.code_semantics.specs.declared.file.MethodKinds.{MethodKinds}
+use Rattle.object_code.specs.FileBytes.{items_bytes}
+use Rattle.code_semantics.specs.Shaped.{pairs, AreShapedMethods, AreShapedClasses}
+use Rattle.object_code.specs.Listing.{line_text, lines_text}
+use Rattle.run_words.specs.Table.{text_at, text_or_none}
 use Rattle.object_code.specs.Written.{State, Writes, whole, cut, idle}
-
-joined : (s t : Text) (a b c : Option Text) → b ≡ option_map (λ w. w ++ s) a → c ≡ option_map (λ w. w ++ t) b → c ≡ option_map (λ w. w ++ (s ++ t)) a
-joined s t None b c e f = f ∙ ap (option_map (λ w. w ++ t)) e
-joined s t (Some w) b c e f = f ∙ ap (option_map (λ w. w ++ t)) e ∙ ap Some (append_assoc w s t)
-
-rose_later : (a b c : ℕ) → a ≤ b → Rose b c → Rose a c
-rose_later a b c h (inl r) = inl (omega arith)
-rose_later a b c h (inr r) = inr r
-
-rose_before : (a b c : ℕ) → Rose a b → b ≡ c → Rose a c
-rose_before a b c (inl r) e = inl (omega arith)
-rose_before a b c (inr r) e = inr (omega arith)
 
 -- one text and then another
 pub then : (s t : Text) (a b c : State) → Writes s a b → Writes t b c → Writes (s ++ t) a c
@@ -41,10 +29,6 @@ then s t a b c (cut o p h f r) (idle o2 p2 w2 f2) =
 then s t a b c (idle o p w f) (whole o2 p2 w2 f2) = absurd (cc)
 then s t a b c (idle o p w f) (cut o2 p2 h f2 r) = absurd (cc)
 then s t a b c (idle o p w f) (idle o2 p2 w2 f2) = idle o p2 (w2 ∙ w) (f2 ∙ f)
-
-append_nothing : (a : Option Text) → a ≡ option_map (λ w. w ++ []) a
-append_nothing None = refl
-append_nothing (Some w) = ap Some (grind (arith, common_steps))
 
 nothing_by : (a : State) (k : Bool) → a.failed ≡ k → Writes [] a a
 nothing_by a true e = idle e e refl refl

@@ -1,20 +1,21 @@
 -- The bytes of an object code file.
 use Rattle.std.specs.Prelude.{ℕ, ℤ, List, [], ◌∷◌, ◌++◌, length, codes, Option, Some, None, Bool, true, false}
 use Rattle.std.specs.Int.{w32, w64, to_be_bytes, cast_unsigned}
-use Rattle.pool_syntax.specs.Tokens.{Text}
-use Rattle.pool_syntax.specs.declared.words.NameId.{NameId}
-use Rattle.pool_syntax.specs.declared.words.Op.{Op}
-use Rattle.pool_syntax.specs.declared.words.Op.TheVariants as O
-use Rattle.pool_syntax.specs.declared.tree.Kind.{Kind}
-use Rattle.pool_syntax.specs.declared.tree.Kind.TheVariants as K
-use Rattle.object_code.specs.declared.unit.Instr.{Instr}
-use Rattle.object_code.specs.declared.unit.Instr.TheVariants as I
-use Rattle.object_code.specs.declared.unit.AltCode.{AltCode}
-use Rattle.object_code.specs.declared.unit.MethodCode.{MethodCode}
-use Rattle.object_code.specs.declared.unit.ClassCode.{ClassCode}
-use Rattle.object_code.specs.declared.file.UnitFile.{UnitFile}
-use Rattle.object_code.specs.declared.file.ClassKinds.{ClassKinds}
-use Rattle.object_code.specs.declared.file.MethodKinds.{MethodKinds}
+use Rattle.run_words.specs.Text.{Text}
+use Rattle.run_words.specs.declared.words.NameId.{NameId}
+use Rattle.run_words.specs.declared.words.Op.{Op}
+use Rattle.run_words.specs.declared.words.Op.TheVariants as O
+use Rattle.run_words.specs.declared.words.Kind.{Kind}
+use Rattle.run_words.specs.declared.words.Kind.TheVariants as K
+use Rattle.code_semantics.specs.declared.unit.Instr.{Instr}
+use Rattle.code_semantics.specs.declared.unit.Instr.TheVariants as I
+use Rattle.code_semantics.specs.declared.unit.AltCode.{AltCode}
+use Rattle.code_semantics.specs.declared.unit.MethodCode.{MethodCode}
+use Rattle.code_semantics.specs.declared.unit.ClassCode.{ClassCode}
+use Rattle.code_semantics.specs.declared.file.UnitFile.{UnitFile}
+use Rattle.code_semantics.specs.declared.file.ClassKinds.{ClassKinds}
+use Rattle.code_semantics.specs.declared.file.MethodKinds.{MethodKinds}
+use Rattle.code_semantics.specs.Shaped.{pairs}
 
 -- a number has four bytes, high byte first
 abbrev pub number_bytes : ℕ → Text
@@ -103,11 +104,6 @@ instr_bytes I.Post = 24 ∷ []
 -- the words of its frames, and its instructions
 abbrev pub code_bytes : ℕ → List Instr → Text
 code_bytes words c = number_bytes words ++ list_bytes instr_bytes c
-
--- the items of two lists, side by side
-abbrev pub pairs : {A B : Type 0} → List A → List B → List (A × B)
-pairs (x ∷ xs) (y ∷ ys) = (x, y) ∷ pairs xs ys
-pairs _ _ = []
 
 abbrev pub method_bytes : MethodCode × MethodKinds → Text
 method_bytes m =

@@ -1,11 +1,11 @@
 -- What a call that reads gives is what the definition reads, unless memory ran out.
 use Rattle.std.specs.Prelude.{◌≡◌, ℕ, List, [], Result, Ok, Err, Option, None}
-use Rattle.pool_syntax.specs.Tokens.{Text}
+use Rattle.run_words.specs.Text.{Text}
 use Rattle.object_code.specs.declared.code_fault.Unread.{Unread}
 use Rattle.object_code.specs.declared.code_fault.Unread.TheVariants as U
 use Rattle.object_code.specs.declared.code_fault.CodeFault.{CodeFault}
 use Rattle.object_code.specs.declared.code_fault.CodeFault.TheVariants as C
-use Rattle.object_code.specs.declared.file.UnitFile.{UnitFile}
+use Rattle.code_semantics.specs.declared.file.UnitFile.{UnitFile}
 use Rattle.object_code.specs.Read.{Read, Stop}
 use Rattle.object_code.specs.Decode.{first_twice, Decoded, BadBytes, NameTwice}
 

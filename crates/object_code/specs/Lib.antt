@@ -1,13 +1,7 @@
-pub mod Frames
-pub mod Kinds
-pub mod Step
-pub mod Proper
 pub mod Listing
 pub mod Known
 pub mod Written
-pub mod Suits
 pub mod Read
 pub mod FileBytes
 pub mod Decode
-pub mod Shaped
 pub mod Gives

@@ -1,17 +1,18 @@
 -- The listing of a unit: a line for each class, method and body, and for each instruction.
-use Rattle.std.specs.Prelude.{ℕ, suc, List, [], ◌∷◌, ◌++◌, Option, Some, None, Bool, true, false, codes, decimal, slice_get}
+use Rattle.std.specs.Prelude.{ℕ, suc, List, [], ◌∷◌, ◌++◌, Option, Some, None, codes, decimal}
 use Rattle.std.specs.Fmt.{signed_decimal}
-use Rattle.pool_syntax.specs.Tokens.{Text}
-use Rattle.pool_syntax.specs.declared.words.NameId.{NameId}
-use Rattle.pool_syntax.specs.declared.words.Op.{Op}
-use Rattle.pool_syntax.specs.declared.words.Op.TheVariants as O
-use Rattle.object_code.specs.declared.unit.Instr.{Instr}
-use Rattle.object_code.specs.declared.unit.Instr.TheVariants as I
-use Rattle.object_code.specs.declared.unit.AltCode.{AltCode}
-use Rattle.object_code.specs.declared.unit.BodyCode.{BodyCode}
-use Rattle.object_code.specs.declared.unit.MethodCode.{MethodCode}
-use Rattle.object_code.specs.declared.unit.ClassCode.{ClassCode}
-use Rattle.object_code.specs.declared.unit.Unit.{Unit as Code}
+use Rattle.run_words.specs.Table.{text_at}
+use Rattle.run_words.specs.Text.{Text, truth_text}
+use Rattle.run_words.specs.declared.words.NameId.{NameId}
+use Rattle.run_words.specs.declared.words.Op.{Op}
+use Rattle.run_words.specs.declared.words.Op.TheVariants as O
+use Rattle.code_semantics.specs.declared.unit.Instr.{Instr}
+use Rattle.code_semantics.specs.declared.unit.Instr.TheVariants as I
+use Rattle.code_semantics.specs.declared.unit.AltCode.{AltCode}
+use Rattle.code_semantics.specs.declared.unit.BodyCode.{BodyCode}
+use Rattle.code_semantics.specs.declared.unit.MethodCode.{MethodCode}
+use Rattle.code_semantics.specs.declared.unit.ClassCode.{ClassCode}
+use Rattle.code_semantics.specs.declared.unit.Unit.{Unit as Code}
 
 -- a word behind the first of its line
 abbrev pub word_text : Text → Text
@@ -36,10 +37,6 @@ operator_text O.Differs = codes "!="
 operator_text O.And = codes "and"
 operator_text O.Or = codes "or"
 operator_text O.Not = codes "not"
-
-abbrev pub truth_text : Bool → Text
-truth_text true = codes "true"
-truth_text false = codes "false"
 
 -- the name of an instruction
 abbrev pub mnemonic_text : Instr → Text
@@ -67,14 +64,6 @@ mnemonic_text (I.Answer ns) = codes "Answer"
 mnemonic_text (I.Select alts) = codes "Select"
 mnemonic_text I.Halt = codes "Halt"
 mnemonic_text I.Post = codes "Post"
-
-abbrev pub text_or_none : Option Text → Text
-text_or_none None = []
-text_or_none (Some t) = t
-
--- the text of this number in the table
-abbrev pub text_at : List Text → ℕ → Text
-text_at names n = text_or_none (slice_get names n)
 
 module _ (names : List Text) where
   abbrev pub name_text : NameId → Text

@@ -1,7 +1,7 @@
 -- What a sink was given, as long as no write failed and after one did.
 use Rattle.std.specs.Prelude.{◌≡◌, ℕ, ◌≤◌, ◌++◌, Bool, true, false, Option, option_map}
 use Rattle.pool_outside.specs.Outside.{Rose, IsProperFront}
-use Rattle.pool_syntax.specs.Tokens.{Text}
+use Rattle.run_words.specs.Text.{Text}
 
 -- whether a write failed, what was written where it is known, and how often a write failed
 pub record State : Type 0 where

@@ -1,20 +1,21 @@
 //! The object code file that bytes say.
 ghost use Rattle.std.specs.Prelude.{◌≡◌, ◌+◌, ◌-◌, ◌<◌, ◌≤◌, ◌^◌, ℕ, List as texts_list, [], ◌∷◌, ◌++◌, length, IfOk, IfErr};
-ghost use Rattle.pool_syntax.specs.Tokens.{Text};
-ghost use Rattle.pool_syntax.specs.declared.words.NameId.{NameId as Name};
+ghost use Rattle.run_words.specs.Text.{Text};
+ghost use Rattle.run_words.specs.declared.words.NameId.{NameId as Name};
 ghost use Rattle.object_code.specs.declared.code_fault.CodeFault.TheVariants.{BadBytes};
 ghost use Rattle.object_code.specs.declared.code_fault.Unread.TheVariants.{BadByte};
-ghost use Rattle.object_code.specs.declared.unit.Instr.{Instr as Instruction};
-ghost use Rattle.object_code.specs.Decode.{Says, decode as decoded_bytes, read_alternative, read_class, read_code, read_exactly, read_file, read_instr, read_integer, read_kind, read_method, read_name, read_operator, read_option, read_sent, read_text, read_truth};
-ghost use Rattle.object_code.specs.FileBytes.{pairs};
+ghost use Rattle.code_semantics.specs.declared.unit.Instr.{Instr as Instruction};
+ghost use Rattle.object_code.specs.Decode.{Says, decode as decoded_bytes, read_alternative, read_class, read_code, read_exactly, read_file, read_instr, read_integer, read_kind, read_method};
+ghost use Rattle.object_code.specs.Decode.{read_name, read_operator, read_option, read_sent, read_text, read_truth};
+ghost use Rattle.code_semantics.specs.Shaped.{pairs, IsShaped, IsShort};
 ghost use Rattle.object_code.specs.Gives.{Gives, IsTable, Stops, Tells, with_names};
 ghost use Rattle.object_code.specs.Read.{Got, Reader, read_list, read_number};
-ghost use Rattle.object_code.specs.Shaped.{IsShaped, IsShort};
 
 use crate::code_fault::{CodeFault, Unread};
-use crate::file::{ClassKinds, Kinds, MethodKinds, UnitFile};
-use crate::unit::{AltCode, BodyCode, ClassCode, Instr, MethodCode, Unit};
-use pool_syntax::{Kind, List, NameId, Names, Op};
+use code_semantics::{
+    AltCode, BodyCode, ClassCode, ClassKinds, Instr, Kinds, MethodCode, MethodKinds, Unit, UnitFile,
+};
+use run_words::{Kind, List, NameId, Names, Op};
 use std::alloc::{AllocError, Global};
 
 /// Something made of a part that is taken off the front, with what is left.

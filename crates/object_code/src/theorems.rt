@@ -1,15 +1,15 @@
 //! Laws of units: each is the contract of a function that does nothing.
 ghost use Rattle.std.specs.Prelude.{◌≡◌, ◌<◌, ℕ, suc, ◌++◌, [], length, take, None};
 ghost use Rattle.std.specs.List.{AllByRecursion};
-ghost use Rattle.pool_syntax.specs.Tokens.{Text};
-ghost use Rattle.object_code.specs.declared.file.UnitFile.{UnitFile};
+ghost use Rattle.run_words.specs.Text.{Text};
+ghost use Rattle.code_semantics.specs.declared.file.UnitFile.{UnitFile};
 ghost use Rattle.object_code.specs.Decode.{Says, BadBytes, decode, first_twice, unless_twice};
 ghost use Rattle.object_code.specs.FileBytes.{file_bytes};
 ghost use Rattle.object_code.specs.Known.{IsKnownUnit};
-ghost use Rattle.object_code.specs.Proper.{IsProper};
-ghost use Rattle.object_code.specs.Shaped.{HasNumbers, IsShaped, IsShort, IsWritable};
+ghost use Rattle.code_semantics.specs.Proper.{IsProper};
+ghost use Rattle.code_semantics.specs.Shaped.{HasNumbers, IsShaped, IsShort, IsWritable};
 
-use crate::unit::Unit;
+use code_semantics::Unit;
 
 /// The names and strings of a proper unit are in its table, so it can be listed.
 pub fn proper_units_can_be_listed(unit: &Unit)

@@ -1,21 +1,21 @@
 -- Typed objects in which no wait stands are neither stuck nor at a wait.
 use Rattle.std.proofs.Common.{◌≡◌, ◌≢◌, ◌⊎◌, inl, inr, refl, sym, ap, subst, ◌∙◌, IsTrue, ℕ, zero, suc, ◌==◌, List, [], ◌∷◌, length, Option, Some, None, is_none, Bool, true, false, if◌then◌else◌}
 use Rattle.std.specs.Prelude.{slice_get, ◌&&◌}
-use Rattle.pool_syntax.specs.declared.words.Value.{Value}
-use Rattle.pool_syntax.specs.declared.words.Value.TheVariants as V
-use Rattle.pool_syntax.specs.declared.words.Error.{Error}
+use Rattle.run_words.specs.declared.words.Value.{Value}
+use Rattle.run_words.specs.declared.words.Value.TheVariants as V
+use Rattle.run_words.specs.declared.words.Error.{Error}
 use Rattle.pool_syntax.specs.Terms.{Store, Statements, MethodTree, ProgramTree}
 use Rattle.pool_syntax.specs.Typing.{Scope, faults}
 use Rattle.pool_relation.specs.Reducible.{Choice, AsStatements}
 use Rattle.pool_relation.specs.Action as A
 use Rattle.pool_relation.specs.Action.{Object, Action, action, method_of}
-use Rattle.pool_syntax.specs.Values.{is_true}
+use Rattle.run_words.specs.Values.{is_true}
 use Rattle.pool_relation.specs.Written.{is_written}
 use Rattle.pool_relation.specs.Typed.{Typed, class_at}
 use Rattle.pool_relation.specs.Transition as X
 use Rattle.pool_relation.specs.Transition.{refilled, plain_choice}
-use Rattle.mesh_semantics.specs.Partial.{◌>>◌, require}
-use Rattle.mesh_semantics.proofs.Laws.{equals, decide, differ, same_some}
+use Rattle.run_words.specs.Partial.{◌>>◌, require}
+use Rattle.run_words.proofs.Laws.{equals, decide, differ, same_some}
 use Rattle.pool_relation.proofs.Laws.{Nothing, Methods, TypedStatements, statements_weaker, nothing_below, at, FitValues, TypedChoices, place, VarsFit, TypedAction, TypedObject, classes, invariant_of, object_grown, action_typed, does_not_wait, stepped, object_typed_at, offers, serving_typed}
 use Rattle.mesh_semantics.specs.Config.{Config, object_of}
 use Rattle.placed_terms.specs.Terms.{plain}

@@ -3,12 +3,11 @@ use Rattle.std.proofs.Common.{◌≡◌, refl, IsTrue, ℕ, List, [], ◌∷◌,
 use Rattle.pool_syntax.specs.declared.token.Tok.{Tok}
 use Rattle.pool_syntax.specs.Terms.{Expression, Expressions, NoArgs, Arg, Statement, Statements, Done, Then, Alternatives, NoAlts, Alt, MethodTree, ClassTree, ProgramTree}
 use Rattle.pool_syntax.specs.Rules as r
-use Rattle.pool_syntax.specs.Rules.{group, comparison, factor, postfix, primary, Phrase, Tree, Part, Gives, Rule, tree, then, either}
+use Rattle.pool_syntax.specs.Rules.{group, comparison, factor, postfix, primary, Phrase, Tree, Part, SemanticValue, Rule, tree, then, either}
 use Rattle.pool_syntax.specs.Grammar.{rule, arg_last, then_last, alt_last}
 use Rattle.pool_syntax.specs.Derives.{IsToken, Derives, nothing, token, inner, first, second, IsProgram}
-use Rattle.mesh_semantics.proofs.Laws as b
-use Rattle.pool_compile.proofs.Coded.{is_text, are_text, is_text_statement, are_text_statements, are_text_alternatives}
-use Rattle.pool_compile.proofs.Methods.{are_text_methods, is_text_program}
+use Rattle.run_words.proofs.Laws as b
+use Rattle.pool_compile.specs.TextPrograms.{is_text, are_text, is_text_statement, are_text_statements, are_text_alternatives, are_text_methods, is_text_program}
 
 -- parts of a text
 abbrev Plain : Expression → Type 0
@@ -48,17 +47,17 @@ IsText (r.more_args before) es = PlainArguments before → PlainArguments es
 IsText _ x = Unit {0}
 
 -- what a part of a rule gives
-abbrev GivesText : (part : Part) → Gives part → Type 0
+abbrev GivesText : (part : Part) → SemanticValue part → Type 0
 GivesText (r.phrase p) y = IsText p y
 GivesText _ y = Unit {0}
 
 -- a rule that makes a text from texts
 abbrev KeepsText : (p : Phrase) → Rule (Tree p) → Type 0
 KeepsText p (tree x) = IsText p x
-KeepsText p (then part rest) = (y : Gives part) → GivesText part y → KeepsText p (rest y)
+KeepsText p (then part rest) = (y : SemanticValue part) → GivesText part y → KeepsText p (rest y)
 KeepsText p (either a c) = KeepsText p a × KeepsText p c
 
-token_text : (ts : List Tok) (part : Part) (i : ℕ) (y : Gives part) → IsToken ts part i y → GivesText part y
+token_text : (ts : List Tok) (part : Part) (i : ℕ) (y : SemanticValue part) → IsToken ts part i y → GivesText part y
 token_text ts (r.phrase p) i y t = absurd t
 token_text ts _ i y t = tt
 

@@ -1,16 +1,16 @@
 -- The arguments of what is called fit the method.
 use Rattle.std.proofs.Common.{◌≡◌, inl, inr, refl, sym, ap, subst, ◌∙◌, IsTrue, ℕ, ◌==◌, List, [], ◌∷◌, length, Some, All, Bool, true, false}
 use Rattle.std.proofs.lemmas.List.Elements.{All-head, All-tail}
-use Rattle.pool_syntax.specs.declared.words.Value.{Value}
+use Rattle.run_words.specs.declared.words.Value.{Value}
 use Rattle.pool_syntax.specs.Terms.{MethodTree, ProgramTree}
 use Rattle.pool_syntax.specs.Typing.{faults}
 use Rattle.pool_relation.specs.Action as A
 use Rattle.pool_relation.specs.Action.{Object, action, method_of}
-use Rattle.mesh_semantics.specs.Message.{Message}
-use Rattle.mesh_semantics.specs.Same.{are_same}
+use Rattle.run_words.specs.Message.{Message}
+use Rattle.run_words.specs.Same.{are_same}
 use Rattle.pool_relation.specs.Written.{is_written}
 use Rattle.pool_relation.specs.Typed.{Typed, class_at, scope, all_fit}
-use Rattle.mesh_semantics.proofs.Laws.{first, second, equal, same_some, same_values}
+use Rattle.run_words.proofs.Laws.{first, second, equal, same_some, same_values}
 use Rattle.pool_relation.proofs.Laws.{FitValues, running_scope, place, CanReceive, FitsAt, classes, fit_values_of}
 use Rattle.mesh_semantics.specs.Kind as K
 use Rattle.mesh_semantics.specs.Kind.{calls}

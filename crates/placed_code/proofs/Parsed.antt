@@ -1,7 +1,7 @@
 -- A program that was parsed, and has no class faults, is as a text gives it.
 use Rattle.std.proofs.Common.{◌≡◌, List, []}
 use Rattle.pool_syntax.specs.Terms.{ProgramTree}
-use Rattle.pool_syntax.specs.Tokens.{Text}
+use Rattle.run_words.specs.Text.{Text}
 use Rattle.pool_syntax.specs.Typing.{faults}
 use Rattle.pool_syntax.specs.Programs.{IsParsed, toks}
 use Rattle.pool_relation.proofs.Laws.{derived_written}

@@ -1,21 +1,22 @@
 -- Beside each configuration that a run of a program reaches stands its code, which is of the unit.
 use Rattle.std.proofs.Common.{◌≡◌, refl, sym, ap, subst, ◌∙◌, List, [], ◌∷◌, Option, Some, None}
-use Rattle.pool_syntax.specs.declared.words.Label.{Label}
-use Rattle.pool_syntax.specs.declared.words.Placement.{Placement}
+use Rattle.run_words.specs.declared.words.Label.{Label}
+use Rattle.run_words.specs.declared.words.Placement.{Placement}
 use Rattle.pool_syntax.specs.Terms.{ProgramTree}
 use Rattle.pool_relation.specs.Action.{Object}
 use Rattle.pool_relation.specs.Configuration.{Configuration}
 use Rattle.pool_relation.specs.Transition as X
 use Rattle.pool_relation.specs.Transition.{run}
 use Rattle.pool_relation.proofs.Laws.{start_typed}
-use Rattle.object_code.specs.declared.unit.Unit.{Unit as Code}
-use Rattle.object_code.specs.Proper.{IsProper}
+use Rattle.code_semantics.specs.declared.unit.Unit.{Unit as Code}
+use Rattle.code_semantics.specs.Proper.{IsProper}
 use Rattle.pool_compile.specs.Code.{code}
 use Rattle.mesh_semantics.specs.Config.{Config}
 use Rattle.mesh_semantics.specs.Moves.{move, moves}
 use Rattle.mesh_semantics.specs.Record.{root_name, start}
 use Rattle.mesh_semantics.specs.Simulates.{Both, Related}
-use Rattle.mesh_semantics.proofs.Laws.{same_some, given_by, move_same, sound_across}
+use Rattle.run_words.proofs.Laws.{same_some, given_by}
+use Rattle.mesh_semantics.proofs.Laws.{move_same, sound_across}
 use Rattle.placed_terms.specs.Terms.{terms, plain, as_plain}
 use Rattle.placed_terms.specs.TypedTerms.{TypedTerms}
 use Rattle.placed_terms.proofs.Starting.{moves_are_run}

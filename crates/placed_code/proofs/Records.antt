@@ -1,10 +1,10 @@
 -- Over code of a program the placed machine starts, goes on and stands as it does over its terms.
 use Rattle.std.proofs.Common.{◌≡◌, refl, subst, ℕ, List, [], Option, Some, None}
-use Rattle.pool_syntax.specs.declared.words.Event.{Event}
-use Rattle.pool_syntax.specs.declared.words.Placement.{Placement}
+use Rattle.run_words.specs.declared.words.Event.{Event}
+use Rattle.run_words.specs.declared.words.Placement.{Placement}
 use Rattle.pool_syntax.specs.Terms.{ProgramTree}
 use Rattle.pool_relation.specs.Action.{Object}
-use Rattle.object_code.specs.declared.unit.Unit.{Unit as Code}
+use Rattle.code_semantics.specs.declared.unit.Unit.{Unit as Code}
 use Rattle.pool_compile.specs.Code.{code}
 use Rattle.mesh_semantics.specs.Config.{Config, object_of}
 use Rattle.mesh_semantics.specs.Delay.{Delay, no_delay, no_delay_on_wires}

@@ -1,9 +1,9 @@
 -- Records of code, computed: they have the lines of the records of terms.
 use Rattle.std.proofs.Common.{◌≡◌, refl, List, [], ◌∷◌, ◌++◌}
-use Rattle.pool_syntax.specs.declared.words.Event.{Event}
-use Rattle.pool_syntax.specs.declared.words.Event.TheVariants.{Turn, Link}
+use Rattle.run_words.specs.declared.words.Event.{Event}
+use Rattle.run_words.specs.declared.words.Event.TheVariants.{Turn, Link}
 use Rattle.pool_syntax.specs.Terms.{ProgramTree}
-use Rattle.object_code.specs.declared.unit.Unit.{Unit as Code}
+use Rattle.code_semantics.specs.declared.unit.Unit.{Unit as Code}
 use Rattle.pool_compile.specs.Code.{code}
 use Rattle.mesh_semantics.specs.Record.{record_of}
 use Rattle.placed_terms.specs.Terms.{terms}

@@ -1,18 +1,18 @@
 -- Kinds of actions and of code, as the machine sees them.
 use Rattle.std.proofs.Common.{◌≡◌, refl, sym, ap, subst, ◌∙◌, ℕ, suc, ◌+◌, ◌==◌, List, [], ◌∷◌, Option, Some, None, Bool, true, false, arith}
 use Rattle.std.specs.Prelude.{map, slice_get, ◌&&◌}
-use Rattle.pool_syntax.specs.declared.words.Value.{Value}
-use Rattle.pool_syntax.specs.declared.words.Item.{Item}
-use Rattle.pool_syntax.specs.declared.words.Error.{Error}
+use Rattle.run_words.specs.declared.words.Value.{Value}
+use Rattle.run_words.specs.declared.words.Item.{Item}
+use Rattle.run_words.specs.declared.words.Error.{Error}
 use Rattle.pool_syntax.specs.declared.tree.Named.{Named}
 use Rattle.pool_syntax.specs.Terms.{Store, Statements}
 use Rattle.pool_relation.specs.Reducible.{Choice}
 use Rattle.pool_relation.specs.Action as A
 use Rattle.pool_relation.specs.Action.{Action}
-use Rattle.pool_syntax.specs.Values.{is_true}
-use Rattle.mesh_semantics.specs.Same.{are_same}
-use Rattle.mesh_semantics.proofs.Laws.{first, second, equal, same_some, same_value, same_values, same_error}
-use Rattle.object_code.specs.Kinds as C
+use Rattle.run_words.specs.Values.{is_true}
+use Rattle.run_words.specs.Same.{are_same}
+use Rattle.run_words.proofs.Laws.{first, second, equal, same_some, same_value, same_values, same_error}
+use Rattle.code_semantics.specs.Kinds as C
 use Rattle.pool_compile.specs.Code.{answer_names}
 use Rattle.pool_compile.specs.Follows as F
 use Rattle.pool_compile.specs.Follows.{SameKind}

@@ -1,10 +1,10 @@
 -- Code of a program does what its terms do, as languages of the placed machine.
 use Rattle.std.proofs.Common.{◌≡◌, refl, sym, ap, subst, ◌∙◌, IsTrue, ℕ, suc, ◌==◌, List, [], ◌∷◌, length, Option, Some, None, Bool, true, false, arith}
 use Rattle.std.specs.Prelude.{slice_get}
-use Rattle.pool_syntax.specs.declared.words.Value.{Value}
-use Rattle.pool_syntax.specs.declared.words.Value.TheVariants as V
-use Rattle.pool_syntax.specs.declared.words.Error.{Error}
-use Rattle.pool_syntax.specs.declared.words.Item.{Item}
+use Rattle.run_words.specs.declared.words.Value.{Value}
+use Rattle.run_words.specs.declared.words.Value.TheVariants as V
+use Rattle.run_words.specs.declared.words.Error.{Error}
+use Rattle.run_words.specs.declared.words.Item.{Item}
 use Rattle.pool_syntax.specs.Terms as T
 use Rattle.pool_syntax.specs.Terms.{Store, Statements, MethodTree, ClassTree, ProgramTree}
 use Rattle.pool_syntax.specs.Classes.{class_of}
@@ -14,23 +14,24 @@ use Rattle.pool_relation.specs.Action as A
 use Rattle.pool_relation.specs.Action.{Object, Action, action, method_of}
 use Rattle.pool_relation.specs.Transition as X
 use Rattle.pool_relation.specs.Transition.{refilled, new_object, last_class}
-use Rattle.mesh_semantics.specs.Partial.{◌>>=◌, ◌>>◌, require}
+use Rattle.run_words.specs.Partial.{◌>>=◌, ◌>>◌, require}
 use Rattle.pool_relation.specs.UnderWay.{frames_of}
 use Rattle.pool_relation.specs.Written.{is_written}
 use Rattle.pool_relation.specs.Typed.{Typed}
-use Rattle.mesh_semantics.proofs.Laws.{same_some, there}
-use Rattle.pool_relation.proofs.Laws.{classes, FitValues, place, new_object_typed}
-use Rattle.object_code.specs.declared.unit.CodeObject.{CodeObject}
-use Rattle.object_code.specs.declared.unit.Frame.{Frame}
-use Rattle.object_code.specs.declared.unit.Unit.{Unit as Code}
-use Rattle.object_code.specs.Kinds as C
-use Rattle.object_code.specs.Kinds.{code_kind}
-use Rattle.object_code.specs.Step.{class_from, placed_at, code_made, code_stepped, code_given, code_gone_on, code_picked, code_serving}
+use Rattle.run_words.proofs.Laws.{same_some}
+use Rattle.mesh_semantics.proofs.Laws.{there}
+use Rattle.pool_relation.proofs.Laws.{classes, FitValues, place, new_object_typed, last_first}
+use Rattle.run_words.specs.declared.frames.CodeObject.{CodeObject}
+use Rattle.run_words.specs.declared.frames.Frame.{Frame}
+use Rattle.code_semantics.specs.declared.unit.Unit.{Unit as Code}
+use Rattle.code_semantics.specs.Kinds as C
+use Rattle.code_semantics.specs.Kinds.{code_kind}
+use Rattle.code_semantics.specs.Step.{class_from, placed_at, code_made, code_stepped, code_given, code_gone_on, code_picked, code_serving}
 use Rattle.pool_compile.specs.Code.{name, class_code, code}
 use Rattle.pool_compile.specs.Stands.{IsServing}
 use Rattle.pool_compile.specs.Follows.{Stands, Follows, SameKind}
 use Rattle.pool_compile.proofs.Laws.{follows, class_found, stands_new, frame_count}
-use Rattle.pool_compile.proofs.Methods.{is_text_program}
+use Rattle.pool_compile.specs.TextPrograms.{is_text_program}
 use Rattle.mesh_semantics.specs.Kind as K
 use Rattle.mesh_semantics.specs.Kind.{Kind, is_local, makes, calls, posts, returns, waits_on, writes, fails, alternatives}
 use Rattle.mesh_semantics.specs.Config.{Config, object_of}
@@ -40,7 +41,7 @@ use Rattle.mesh_semantics.specs.Simulates.{Both, IsCalled, Simulates}
 use Rattle.placed_terms.specs.RunOf.{TypedTerms}
 use Rattle.placed_terms.specs.Terms as M
 use Rattle.placed_terms.specs.Terms.{terms, plain, class_names, after_local, work_of}
-use Rattle.placed_terms.proofs.Laws.{Offering, Nothing, Something, offering, picked_is, lawful, last_first}
+use Rattle.placed_terms.proofs.Laws.{Offering, Nothing, Something, offering, picked_is, lawful}
 use Rattle.coded_objects.specs.Coded as D
 use Rattle.coded_objects.specs.Coded.{Placed, placed, unless_served, under_way, class_number, class_numbers, last_code, serves_for, coded}
 use Rattle.placed_code.specs.Matches.{Matches}

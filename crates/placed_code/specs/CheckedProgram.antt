@@ -3,7 +3,7 @@ use Rattle.std.specs.Prelude.{◌≡◌, [], true, IsTrue}
 use Rattle.pool_syntax.specs.Terms.{ProgramTree}
 use Rattle.pool_syntax.specs.Typing.{faults}
 use Rattle.pool_relation.specs.Written.{is_written}
-use Rattle.pool_compile.proofs.Methods.{is_text_program}
+use Rattle.pool_compile.specs.TextPrograms.{is_text_program}
 
 -- a program as a text gives it, without class faults
 pub record IsCheckedProgram (p : ProgramTree) : Type 0 where

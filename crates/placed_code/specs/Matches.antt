@@ -2,8 +2,8 @@
 use Rattle.std.specs.Prelude.{◌≡◌, ℕ}
 use Rattle.pool_syntax.specs.Terms.{ProgramTree}
 use Rattle.pool_relation.specs.Action.{Object, action}
-use Rattle.object_code.specs.declared.unit.Unit.{Unit as Code}
-use Rattle.object_code.specs.Kinds.{code_kind}
+use Rattle.code_semantics.specs.declared.unit.Unit.{Unit as Code}
+use Rattle.code_semantics.specs.Kinds.{code_kind}
 use Rattle.pool_compile.specs.Follows.{Stands}
 use Rattle.placed_terms.specs.Terms as T
 use Rattle.coded_objects.specs.Coded.{Placed, kind_of, unless_served}

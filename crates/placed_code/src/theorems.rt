@@ -1,19 +1,19 @@
 //! Laws of code on placed machines: each is the contract of a function that does nothing.
 ghost use Rattle.std.specs.Prelude.{◌≡◌, ℕ, List, [], Some};
 ghost use Rattle.pool_syntax.specs.Terms.{ProgramTree};
-ghost use Rattle.pool_syntax.specs.Tokens.{Text};
+ghost use Rattle.run_words.specs.Text.{Text};
 ghost use Rattle.pool_syntax.specs.Typing.{faults};
 ghost use Rattle.pool_syntax.specs.Programs.{IsParsed};
-ghost use Rattle.pool_syntax.specs.declared.words.Event.{Event};
-ghost use Rattle.pool_syntax.specs.declared.words.Label.{Label};
-ghost use Rattle.pool_syntax.specs.declared.words.Placement.{Placement};
+ghost use Rattle.run_words.specs.declared.words.Event.{Event};
+ghost use Rattle.run_words.specs.declared.words.Label.{Label};
+ghost use Rattle.run_words.specs.declared.words.Placement.{Placement};
 ghost use Rattle.pool_relation.specs.Action.{Object};
 ghost use Rattle.pool_relation.specs.Configuration.{Configuration};
 ghost use Rattle.pool_relation.specs.Transition as X;
 ghost use Rattle.pool_relation.specs.Transition.{run};
-ghost use Rattle.object_code.specs.declared.unit.Unit.{Unit as Code};
-ghost use Rattle.object_code.specs.Proper.{IsProper};
-ghost use Rattle.object_code.specs.Suits.{Suits};
+ghost use Rattle.code_semantics.specs.declared.unit.Unit.{Unit as Code};
+ghost use Rattle.code_semantics.specs.Proper.{IsProper};
+ghost use Rattle.code_semantics.specs.Suits.{Suits};
 ghost use Rattle.pool_compile.specs.Code.{code};
 ghost use Rattle.mesh_semantics.specs.Act.{act, is_quiet};
 ghost use Rattle.mesh_semantics.specs.Config.{Config, object_of};

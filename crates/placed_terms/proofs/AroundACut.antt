@@ -3,19 +3,19 @@
 -- class Child body write 7 end
 -- class Main var c : Child body c := new Child; write 1 end
 use Rattle.std.proofs.Common.{◌≡◌, inl, inr, refl, ℕ, [], ◌∷◌, Some, arith}
-use Rattle.pool_syntax.specs.declared.words.Label.TheVariants as L
-use Rattle.pool_syntax.specs.declared.words.What.TheVariants as W
-use Rattle.pool_syntax.specs.declared.words.Event.TheVariants.{Turn, Link}
-use Rattle.pool_syntax.specs.declared.words.End.TheVariants.{Quiet}
-use Rattle.pool_syntax.specs.declared.words.Place.TheVariants as P
-use Rattle.pool_syntax.specs.declared.words.Placement.{Placement}
+use Rattle.run_words.specs.declared.words.Label.TheVariants as L
+use Rattle.run_words.specs.declared.words.What.TheVariants as W
+use Rattle.run_words.specs.declared.words.Event.TheVariants.{Turn, Link}
+use Rattle.run_words.specs.declared.words.End.TheVariants.{Quiet}
+use Rattle.run_words.specs.declared.words.Place.TheVariants as P
+use Rattle.run_words.specs.declared.words.Placement.{Placement}
 use Rattle.pool_syntax.specs.Terms.{ProgramTree, Write}
 use Rattle.mesh_semantics.specs.Act.{id}
-use Rattle.mesh_semantics.specs.Paths.{path}
+use Rattle.run_words.specs.Paths.{path}
 use Rattle.mesh_semantics.specs.Record.{record_of}
-use Rattle.mesh_semantics.specs.Routes.{IsRouted, without_route}
-use Rattle.mesh_semantics.specs.Ways.{Ways}
-use Rattle.mesh_semantics.proofs.Laws.{routed_ways}
+use Rattle.run_words.specs.Routes.{IsRouted, without_route}
+use Rattle.run_words.specs.Ways.{Ways}
+use Rattle.run_words.proofs.Laws.{routed_ways}
 use Rattle.placed_terms.specs.Terms.{terms}
 use Rattle.placed_terms.proofs.Words.{var, object_of_class, class, block, number, new, set, mesh, turns, at, step, local, written, lines}
 

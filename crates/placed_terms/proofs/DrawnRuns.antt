@@ -1,19 +1,19 @@
 -- Five programs drawn at random, with drawn placements and schedules, and the lines of their runs. The lines were made by another program, which was written
 -- from the rules in words and shares nothing with the definitions; here they are what the definitions compute. Names are numbers, as they were drawn.
 use Rattle.std.proofs.Common.{◌≡◌, refl, negsuc, List, [], ◌∷◌, ◌++◌, Some, None, true, false}
-use Rattle.pool_syntax.specs.declared.words.Op.TheVariants.{Add, And, Differs, Div, Less, LessEq, More, MoreEq, Mul, Neg, Not, Or, Same, Sub}
-use Rattle.pool_syntax.specs.declared.words.Value.TheVariants as V
-use Rattle.pool_syntax.specs.declared.words.Item.TheVariants as I
-use Rattle.pool_syntax.specs.declared.words.Error.TheVariants as Er
-use Rattle.pool_syntax.specs.declared.words.Label.TheVariants as L
-use Rattle.pool_syntax.specs.declared.words.What.{What}
-use Rattle.pool_syntax.specs.declared.words.What.TheVariants as W
-use Rattle.pool_syntax.specs.declared.words.Event.{Event}
-use Rattle.pool_syntax.specs.declared.words.Event.TheVariants.{Turn, Link}
-use Rattle.pool_syntax.specs.declared.words.End.TheVariants as En
-use Rattle.pool_syntax.specs.declared.words.FullKind.TheVariants as F
-use Rattle.pool_syntax.specs.declared.words.Place.TheVariants as P
-use Rattle.pool_syntax.specs.declared.tree.Kind.TheVariants.{Int, Bool}
+use Rattle.run_words.specs.declared.words.Op.TheVariants.{Add, And, Differs, Div, Less, LessEq, More, MoreEq, Mul, Neg, Not, Or, Same, Sub}
+use Rattle.run_words.specs.declared.words.Value.TheVariants as V
+use Rattle.run_words.specs.declared.words.Item.TheVariants as I
+use Rattle.run_words.specs.declared.words.Error.TheVariants as Er
+use Rattle.run_words.specs.declared.words.Label.TheVariants as L
+use Rattle.run_words.specs.declared.words.What.{What}
+use Rattle.run_words.specs.declared.words.What.TheVariants as W
+use Rattle.run_words.specs.declared.words.Event.{Event}
+use Rattle.run_words.specs.declared.words.Event.TheVariants.{Turn, Link}
+use Rattle.run_words.specs.declared.words.End.TheVariants as En
+use Rattle.run_words.specs.declared.words.FullKind.TheVariants as F
+use Rattle.run_words.specs.declared.words.Place.TheVariants as P
+use Rattle.run_words.specs.declared.words.Kind.TheVariants.{Int, Bool}
 use Rattle.pool_syntax.specs.Terms.{ProgramTree, Write, WriteText, Do, If, While, Answer, Select, Alt, NoAlts}
 use Rattle.mesh_semantics.specs.Act.{id}
 use Rattle.mesh_semantics.specs.Record.{record_of}

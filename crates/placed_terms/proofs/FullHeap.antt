@@ -3,17 +3,17 @@
 -- class C body end
 -- class Main var a : C body a := new C; a := new C; a := new C end
 use Rattle.std.proofs.Common.{◌≡◌, refl, ℕ, List, [], ◌∷◌, ◌++◌}
-use Rattle.pool_syntax.specs.declared.words.Label.TheVariants as L
-use Rattle.pool_syntax.specs.declared.words.What.TheVariants as W
-use Rattle.pool_syntax.specs.declared.words.Event.{Event}
-use Rattle.pool_syntax.specs.declared.words.Event.TheVariants.{Turn, Link}
-use Rattle.pool_syntax.specs.declared.words.End.TheVariants.{Full}
-use Rattle.pool_syntax.specs.declared.words.FullKind.TheVariants.{Heap}
-use Rattle.pool_syntax.specs.declared.words.Place.TheVariants as P
-use Rattle.pool_syntax.specs.declared.words.Placement.{Placement}
+use Rattle.run_words.specs.declared.words.Label.TheVariants as L
+use Rattle.run_words.specs.declared.words.What.TheVariants as W
+use Rattle.run_words.specs.declared.words.Event.{Event}
+use Rattle.run_words.specs.declared.words.Event.TheVariants.{Turn, Link}
+use Rattle.run_words.specs.declared.words.End.TheVariants.{Full}
+use Rattle.run_words.specs.declared.words.FullKind.TheVariants.{Heap}
+use Rattle.run_words.specs.declared.words.Place.TheVariants as P
+use Rattle.run_words.specs.declared.words.Placement.{Placement}
 use Rattle.pool_syntax.specs.Terms.{ProgramTree}
 use Rattle.pool_relation.specs.Action.{Object}
-use Rattle.mesh_semantics.specs.Paths.{on_link}
+use Rattle.run_words.specs.Paths.{on_link}
 use Rattle.mesh_semantics.specs.Delay.{Create}
 use Rattle.mesh_semantics.specs.Act.{id}
 use Rattle.mesh_semantics.specs.Record.{Record, record_of}

@@ -1,25 +1,25 @@
 -- The relation over terms is the relation of the language of terms.
 use Rattle.std.proofs.Common.{◌≡◌, refl, sym, ap, ap₂, ◌∙◌, ℕ, zero, suc, ◌+◌, ◌==◌, List, [], ◌∷◌, ◌++◌, length, Option, Some, None, is_some, is_none, Bool, true, false, not, ◌&&◌, ◌||◌, if◌then◌else◌, slice_get, arith}
-use Rattle.pool_syntax.specs.declared.words.Value.{Value}
-use Rattle.pool_syntax.specs.declared.words.Value.TheVariants as V
-use Rattle.pool_syntax.specs.declared.words.Item.{Item}
-use Rattle.pool_syntax.specs.declared.words.Error.{Error}
-use Rattle.pool_syntax.specs.declared.words.Label.{Label}
-use Rattle.pool_syntax.specs.declared.words.Label.TheVariants as L
+use Rattle.run_words.specs.declared.words.Value.{Value}
+use Rattle.run_words.specs.declared.words.Value.TheVariants as V
+use Rattle.run_words.specs.declared.words.Item.{Item}
+use Rattle.run_words.specs.declared.words.Error.{Error}
+use Rattle.run_words.specs.declared.words.Label.{Label}
+use Rattle.run_words.specs.declared.words.Label.TheVariants as L
 use Rattle.pool_syntax.specs.declared.tree.Named.{Named}
 use Rattle.pool_syntax.specs.Terms as T
 use Rattle.pool_syntax.specs.Terms.{Statements, MethodTree, ProgramTree}
 use Rattle.pool_syntax.specs.Classes.{class_of}
 use Rattle.pool_relation.specs.Reducible.{Choice, AsExpression, AsStatements}
 use Rattle.pool_relation.specs.Action as A
-use Rattle.pool_syntax.specs.Values.{is_true}
+use Rattle.run_words.specs.Values.{is_true}
 use Rattle.pool_relation.specs.Action.{Object, Action, action, method_of}
 use Rattle.pool_relation.specs.Configuration as C
-use Rattle.mesh_semantics.specs.Message.{Message}
+use Rattle.run_words.specs.Message.{Message}
 use Rattle.pool_relation.specs.Configuration.{Configuration}
 use Rattle.pool_relation.specs.Transition as X
-use Rattle.mesh_semantics.specs.Same.{are_same}
-use Rattle.mesh_semantics.specs.Partial.{◌>>=◌, ◌>>◌, require}
+use Rattle.run_words.specs.Same.{are_same}
+use Rattle.run_words.specs.Partial.{◌>>=◌, ◌>>◌, require}
 use Rattle.pool_relation.specs.Transition.{Offer, transition, offer, names_method, refilled, local_step}
 use Rattle.mesh_semantics.specs.Kind.{is_local, makes, calls, posts, returns, waits_on, writes, fails, has_name, answered, answers, alternatives, is_plain}
 use Rattle.mesh_semantics.specs.Config.{Config, object_of, put_object, messages_of, put_messages}

@@ -3,16 +3,16 @@
 -- class S method note() begin end method f() : Int begin self !! note() result 5 end body answer(f) end
 -- class Main var s : S body s := new S; write s ! f() end
 use Rattle.std.proofs.Common.{◌≡◌, refl, ℕ, List, [], ◌∷◌, ◌++◌, Some, None}
-use Rattle.pool_syntax.specs.declared.words.Label.TheVariants as L
-use Rattle.pool_syntax.specs.declared.words.What.{What}
-use Rattle.pool_syntax.specs.declared.words.What.TheVariants as W
-use Rattle.pool_syntax.specs.declared.words.Event.{Event}
-use Rattle.pool_syntax.specs.declared.words.Event.TheVariants.{Turn, Link}
-use Rattle.pool_syntax.specs.declared.words.End.TheVariants.{Quiet, Full}
-use Rattle.pool_syntax.specs.declared.words.FullKind.TheVariants.{Cells}
-use Rattle.pool_syntax.specs.declared.words.Place.TheVariants as P
-use Rattle.pool_syntax.specs.declared.words.Placement.{Placement}
-use Rattle.pool_syntax.specs.declared.tree.Kind.TheVariants.{Int}
+use Rattle.run_words.specs.declared.words.Label.TheVariants as L
+use Rattle.run_words.specs.declared.words.What.{What}
+use Rattle.run_words.specs.declared.words.What.TheVariants as W
+use Rattle.run_words.specs.declared.words.Event.{Event}
+use Rattle.run_words.specs.declared.words.Event.TheVariants.{Turn, Link}
+use Rattle.run_words.specs.declared.words.End.TheVariants.{Quiet, Full}
+use Rattle.run_words.specs.declared.words.FullKind.TheVariants.{Cells}
+use Rattle.run_words.specs.declared.words.Place.TheVariants as P
+use Rattle.run_words.specs.declared.words.Placement.{Placement}
+use Rattle.run_words.specs.declared.words.Kind.TheVariants.{Int}
 use Rattle.pool_syntax.specs.Terms.{ProgramTree, Me, Write, Answer}
 use Rattle.mesh_semantics.specs.Act.{id}
 use Rattle.mesh_semantics.specs.Record.{record_of}

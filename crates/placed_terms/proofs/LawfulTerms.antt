@@ -2,11 +2,11 @@
 use Rattle.std.proofs.Common.{◌≡◌, ◌≢◌, ◌⊎◌, inl, inr, refl, sym, ap, subst, ◌∙◌, IsTrue, ℕ, ◌==◌, List, [], ◌∷◌, ◌++◌, length, Option, Some, None, is_some, All, Bool, true, false, if◌then◌else◌}
 use Rattle.std.proofs.lemmas.List.Elements.{All-head, All-tail}
 use Rattle.std.specs.List.{list_any}
-use Rattle.pool_syntax.specs.declared.words.Value.{Value}
-use Rattle.pool_syntax.specs.declared.words.Value.TheVariants as V
-use Rattle.pool_syntax.specs.declared.words.Error.{Error}
-use Rattle.pool_syntax.specs.declared.words.Error.TheVariants.{NilOperand, NoOpenGuard}
-use Rattle.pool_syntax.specs.declared.words.Label.TheVariants as L
+use Rattle.run_words.specs.declared.words.Value.{Value}
+use Rattle.run_words.specs.declared.words.Value.TheVariants as V
+use Rattle.run_words.specs.declared.words.Error.{Error}
+use Rattle.run_words.specs.declared.words.Error.TheVariants.{NilOperand, NoOpenGuard}
+use Rattle.run_words.specs.declared.words.Label.TheVariants as L
 use Rattle.pool_syntax.specs.Terms as T
 use Rattle.pool_syntax.specs.Terms.{Store, Expression, Statements, MethodTree, ProgramTree}
 use Rattle.pool_syntax.specs.Classes.{class_of}
@@ -14,17 +14,17 @@ use Rattle.pool_syntax.specs.Typing.{Scope, faults}
 use Rattle.pool_relation.specs.Reducible as R
 use Rattle.pool_relation.specs.Reducible.{Choice, Reducible, Found, Evaluated, At, AsExpression, AsStatements, statements_redex, set_value}
 use Rattle.pool_relation.specs.Action as A
-use Rattle.pool_syntax.specs.Values.{is_nil, not_bool, is_true}
+use Rattle.run_words.specs.Values.{is_nil, not_bool, is_true}
 use Rattle.pool_relation.specs.Action.{Object, Action, action, redex_action, literal, method_of, value_of}
-use Rattle.mesh_semantics.specs.Message.{Message}
+use Rattle.run_words.specs.Message.{Message}
 use Rattle.pool_relation.specs.UnderWay.{Activity, Serving, in_expression, in_statements, served_for, serves, frames_of}
-use Rattle.pool_relation.specs.Typed.{class_at}
+use Rattle.pool_relation.specs.Typed.{class_at, Typed}
 use Rattle.pool_relation.specs.Written.{is_written}
-use Rattle.pool_relation.specs.Typed.{Typed}
 use Rattle.pool_relation.specs.Transition as X
-use Rattle.mesh_semantics.specs.Partial.{◌>>=◌}
+use Rattle.run_words.specs.Partial.{◌>>=◌}
 use Rattle.pool_relation.specs.Transition.{transition, refilled, running}
-use Rattle.mesh_semantics.proofs.Laws.{equals, decide, differ, same_some, find_put_same, find_put_other, no_part, one_part, value_itself}
+use Rattle.run_words.proofs.Laws.{equals, decide, differ, same_some, find_put_same, find_put_other, value_itself}
+use Rattle.mesh_semantics.proofs.Laws.{no_part, one_part}
 use Rattle.pool_relation.proofs.Laws.{Ends, is_statement, statements_activities, place, TypedAction, TypedObject, FitsAt, classes, invariant_of, does_not_wait, object_typed_at, typed_kept}
 use Rattle.mesh_semantics.specs.Kind as K
 use Rattle.mesh_semantics.specs.Kind.{Kind}
@@ -79,7 +79,7 @@ at_meeting p o x u g (R.Make c) now h e = (refl, e)
 at_meeting p o x u g (R.Unary op v) now h e = (refl, e)
 at_meeting p o x u g (R.Binary op v w) now h e = (refl, e)
 at_meeting p o x u g (R.Invoke m args) now h e = (refl, e)
-at_meeting p o x u g (R.Request v m args) now h e = (refl, e)
+at_meeting p o x u g (R.SynchronousSend v m args) now h e = (refl, e)
 at_meeting p o x u g (R.Leave v) now h e = absurd (let z : false ≡ true = h in cc)
 at_meeting p o x u g (R.Waiting b m) now h e = (refl, e)
 at_meeting p o x u g (R.Set n v) now h e = absurd (never (redex_action p o x u (R.Set n v)) h (chosen (is_some (value_of u n)) _ _ refl (chosen (is_some (value_of x.vars n)) _ _ refl refl)))

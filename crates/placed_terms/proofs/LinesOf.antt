@@ -1,14 +1,14 @@
 -- Each line of a record is that of the act of its event, at a sound configuration to which the labels of the lines before it lead.
 use Rattle.std.proofs.Common.{◌≡◌, refl, subst, ◌∙◌, IsTrue, ℕ, ◌+◌, List, [], ◌∷◌, ◌++◌, Option, Some, None, Bool, true, false}
-use Rattle.pool_syntax.specs.declared.words.Event.{Event}
-use Rattle.pool_syntax.specs.declared.words.Event.TheVariants as Ev
-use Rattle.pool_syntax.specs.declared.words.What.{What}
-use Rattle.pool_syntax.specs.declared.words.What.TheVariants as W
-use Rattle.pool_syntax.specs.declared.words.End.{End}
-use Rattle.pool_syntax.specs.declared.words.End.TheVariants as E
-use Rattle.pool_syntax.specs.declared.words.Line.{Line}
-use Rattle.pool_syntax.specs.declared.words.Line.TheVariants as R
-use Rattle.pool_syntax.specs.declared.words.Placement.{Placement}
+use Rattle.run_words.specs.declared.words.Event.{Event}
+use Rattle.run_words.specs.declared.words.Event.TheVariants as Ev
+use Rattle.run_words.specs.declared.words.What.{What}
+use Rattle.run_words.specs.declared.words.What.TheVariants as W
+use Rattle.run_words.specs.declared.words.End.{End}
+use Rattle.run_words.specs.declared.words.End.TheVariants as E
+use Rattle.run_words.specs.declared.words.Line.{Line}
+use Rattle.run_words.specs.declared.words.Line.TheVariants as R
+use Rattle.run_words.specs.declared.words.Placement.{Placement}
 use Rattle.pool_syntax.specs.Terms.{ProgramTree}
 use Rattle.pool_syntax.specs.Typing.{faults}
 use Rattle.pool_relation.specs.Action.{Object}
@@ -24,7 +24,8 @@ use Rattle.mesh_semantics.specs.Sound.{IsSound}
 use Rattle.mesh_semantics.specs.Wired.{KeepsWires}
 use Rattle.mesh_semantics.specs.FitFor.{FitFor}
 use Rattle.mesh_semantics.specs.Record.{after, root_name, shown, start, record_at, record_of, record_on_wires, record_from, labels, labels_of}
-use Rattle.mesh_semantics.proofs.Laws.{same_some, idle_turn, idle_link, idle_wire, with_wires, KeepsOn, act_keeps_wires, no_wires_kept}
+use Rattle.run_words.proofs.Laws.{same_some}
+use Rattle.mesh_semantics.proofs.Laws.{idle_turn, idle_link, idle_wire, with_wires, KeepsOn, act_keeps_wires, no_wires_kept}
 use Rattle.placed_terms.specs.RunOf.{TypedTerms, AfterEvent}
 use Rattle.placed_terms.specs.Terms.{terms, plain, as_plain}
 use Rattle.placed_terms.specs.LineOf.{ActsLead, IsMadeAt, FindsNothing, AreMade, IsIdleAt}

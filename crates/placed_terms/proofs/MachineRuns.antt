@@ -3,12 +3,13 @@
 use Rattle.std.proofs.Common.{◌≡◌, refl, ℕ, zero, suc, ◌+◌, List, [], ◌∷◌, ◌++◌, Option, Some, None, true}
 use Rattle.std.specs.Prelude.{flat_map, slice_get, nat_lt, length, if◌then◌else◌}
 use Rattle.std.specs.List.{list_all}
-use Rattle.pool_syntax.specs.declared.words.Event.{Event}
-use Rattle.pool_syntax.specs.declared.words.Event.TheVariants.{Turn, Link, Wire}
+use Rattle.run_words.specs.declared.words.Event.{Event}
+use Rattle.run_words.specs.declared.words.Event.TheVariants.{Turn, Link, Wire}
 use Rattle.mesh_semantics.specs.Record.{record_of}
 use Rattle.mesh_semantics.specs.Standing.{Standing, Ready, Finished, Calls, Creates, Due}
 use Rattle.pool_relation.specs.Action.{Object}
-use Rattle.node_semantics.specs.Node.{Slot, NodeState, NumberedPacket}
+use Rattle.node_semantics.specs.Node.{Slot, NodeState}
+use Rattle.mesh_semantics.specs.Delay.{NumberedPacket}
 use Rattle.node_semantics.specs.Machine as M
 use Rattle.node_semantics.specs.Machine.{Machine, MachineActed, machine_act, machine_start}
 use Rattle.node_semantics.specs.StandsFor.{slot_at, request_of}

@@ -3,14 +3,14 @@
 -- class Box method a(n : Int) begin write n end method b(n : Int) begin write n end body answer(b) end
 -- class Main var x : Box body x := new Box; x !! a(1); x !! b(2); x !! a(3); x !! b(4) end
 use Rattle.std.proofs.Common.{◌≡◌, refl, ℕ, List, [], ◌∷◌, ◌++◌, length, None}
-use Rattle.pool_syntax.specs.declared.words.Label.TheVariants as L
-use Rattle.pool_syntax.specs.declared.words.What.TheVariants as W
-use Rattle.pool_syntax.specs.declared.words.Event.{Event}
-use Rattle.pool_syntax.specs.declared.words.Event.TheVariants.{Turn, Link}
-use Rattle.pool_syntax.specs.declared.words.End.TheVariants.{Quiet}
-use Rattle.pool_syntax.specs.declared.words.Place.TheVariants as P
-use Rattle.pool_syntax.specs.declared.words.Placement.{Placement}
-use Rattle.pool_syntax.specs.declared.tree.Kind.TheVariants.{Int}
+use Rattle.run_words.specs.declared.words.Label.TheVariants as L
+use Rattle.run_words.specs.declared.words.What.TheVariants as W
+use Rattle.run_words.specs.declared.words.Event.{Event}
+use Rattle.run_words.specs.declared.words.Event.TheVariants.{Turn, Link}
+use Rattle.run_words.specs.declared.words.End.TheVariants.{Quiet}
+use Rattle.run_words.specs.declared.words.Place.TheVariants as P
+use Rattle.run_words.specs.declared.words.Placement.{Placement}
+use Rattle.run_words.specs.declared.words.Kind.TheVariants.{Int}
 use Rattle.pool_syntax.specs.Terms.{ProgramTree, MethodTree, Write, Answer}
 use Rattle.pool_relation.specs.Action.{Object}
 use Rattle.mesh_semantics.specs.Config.{messages_of}

@@ -1,17 +1,17 @@
 -- Programs with post statements: the worked one, and three drawn at random with drawn placements and schedules. The lines of their runs were made by another program, which
 -- was written from the rules in words and shares nothing with the definitions; here they are what the definitions compute.
 use Rattle.std.proofs.Common.{◌≡◌, refl, ℕ, pos, negsuc, List, [], ◌∷◌, Option, Some, None, true, false}
-use Rattle.pool_syntax.specs.declared.words.Op.TheVariants.{Add, And, Differs, Div, Less, LessEq, More, MoreEq, Mul, Neg, Not, Or, Rem, Same, Sub}
-use Rattle.pool_syntax.specs.declared.words.Value.TheVariants as V
-use Rattle.pool_syntax.specs.declared.words.Item.TheVariants as I
-use Rattle.pool_syntax.specs.declared.words.Error.TheVariants as Er
-use Rattle.pool_syntax.specs.declared.words.Label.TheVariants as L
-use Rattle.pool_syntax.specs.declared.words.What.TheVariants as W
-use Rattle.pool_syntax.specs.declared.words.Event.TheVariants.{Turn, Link}
-use Rattle.pool_syntax.specs.declared.words.End.TheVariants as En
-use Rattle.pool_syntax.specs.declared.words.Place.TheVariants as P
-use Rattle.pool_syntax.specs.declared.tree.Kind.{Kind}
-use Rattle.pool_syntax.specs.declared.tree.Kind.TheVariants.{Int, Bool}
+use Rattle.run_words.specs.declared.words.Op.TheVariants.{Add, And, Differs, Div, Less, LessEq, More, MoreEq, Mul, Neg, Not, Or, Rem, Same, Sub}
+use Rattle.run_words.specs.declared.words.Value.TheVariants as V
+use Rattle.run_words.specs.declared.words.Item.TheVariants as I
+use Rattle.run_words.specs.declared.words.Error.TheVariants as Er
+use Rattle.run_words.specs.declared.words.Label.TheVariants as L
+use Rattle.run_words.specs.declared.words.What.TheVariants as W
+use Rattle.run_words.specs.declared.words.Event.TheVariants.{Turn, Link}
+use Rattle.run_words.specs.declared.words.End.TheVariants as En
+use Rattle.run_words.specs.declared.words.Place.TheVariants as P
+use Rattle.run_words.specs.declared.words.Kind.{Kind}
+use Rattle.run_words.specs.declared.words.Kind.TheVariants.{Int, Bool}
 use Rattle.pool_syntax.specs.declared.tree.Var.{Var}
 use Rattle.pool_syntax.specs.Terms.{Statements, Expression, MethodTree, ProgramTree, Write, WriteText, Do, If, While, Answer, Select, Alt, NoAlts}
 use Rattle.mesh_semantics.specs.Act.{id}

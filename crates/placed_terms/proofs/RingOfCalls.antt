@@ -4,11 +4,11 @@
 -- class Main var a, b, c : Peer body a := new Peer; b := new Peer; c := new Peer; a !! set(b); b !! set(c); c !! set(a) end
 use Rattle.std.proofs.Common.{◌≡◌, refl, ℕ, List, [], ◌∷◌, None}
 use Rattle.std.specs.Prelude.{map}
-use Rattle.pool_syntax.specs.declared.words.End.{End}
-use Rattle.pool_syntax.specs.declared.words.End.TheVariants.{Quiet}
-use Rattle.pool_syntax.specs.declared.words.Line.{Line}
-use Rattle.pool_syntax.specs.declared.words.Line.TheVariants as R
-use Rattle.pool_syntax.specs.declared.words.Place.TheVariants as P
+use Rattle.run_words.specs.declared.words.End.{End}
+use Rattle.run_words.specs.declared.words.End.TheVariants.{Quiet}
+use Rattle.run_words.specs.declared.words.Line.{Line}
+use Rattle.run_words.specs.declared.words.Line.TheVariants as R
+use Rattle.run_words.specs.declared.words.Place.TheVariants as P
 use Rattle.pool_syntax.specs.Terms.{ProgramTree, Do, Answer}
 use Rattle.pool_relation.specs.Action.{Object}
 use Rattle.mesh_semantics.specs.Record.{Record, record_of}

@@ -1,8 +1,8 @@
 -- The start of a program, and what each event of it keeps, in the relation's own words.
 use Rattle.std.proofs.Common.{◌≡◌, refl, sym, ap, ◌∙◌, IsTrue, List, [], ◌∷◌, ℕ, length, Option, Some, None}
-use Rattle.pool_syntax.specs.declared.words.Event.{Event}
-use Rattle.pool_syntax.specs.declared.words.Label.{Label}
-use Rattle.pool_syntax.specs.declared.words.Placement.{Placement}
+use Rattle.run_words.specs.declared.words.Event.{Event}
+use Rattle.run_words.specs.declared.words.Label.{Label}
+use Rattle.run_words.specs.declared.words.Placement.{Placement}
 use Rattle.pool_syntax.specs.Terms.{ClassTree, ProgramTree}
 use Rattle.pool_syntax.specs.Typing.{faults}
 use Rattle.pool_relation.specs.Action.{Object}
@@ -10,7 +10,7 @@ use Rattle.pool_relation.specs.UnderWay.{frames_of}
 use Rattle.pool_relation.specs.Transition as X
 use Rattle.pool_relation.specs.Transition.{transition, run, last_class, new_object}
 use Rattle.pool_relation.specs.Written.{is_written}
-use Rattle.pool_relation.proofs.Laws.{statements_idle, place, new_object_typed, start_typed}
+use Rattle.pool_relation.proofs.Laws.{statements_idle, place, new_object_typed, start_typed, last_first}
 use Rattle.mesh_semantics.specs.Config.{Config}
 use Rattle.mesh_semantics.specs.Moves.{move, moves}
 use Rattle.mesh_semantics.specs.Delay.{Delay, no_delay}
@@ -24,7 +24,6 @@ use Rattle.placed_terms.specs.RunOf.{TypedTerms, AfterEvent}
 use Rattle.placed_terms.specs.Terms.{terms, plain, as_plain}
 use Rattle.placed_terms.proofs.Instance.{move_is}
 use Rattle.placed_terms.proofs.LawfulTerms.{lawful}
-use Rattle.placed_terms.proofs.RootClass.{last_first}
 
 -- runs of the language of terms are runs of the relation
 pub moves_are_run : (p : ProgramTree) (c : Config Object) (ls : List Label) → as_plain (moves (terms p) c ls) ≡ run p (plain c) ls

@@ -1,9 +1,9 @@
 -- Delays with which the start of a program is not sound: the definition refuses each of them.
 use Rattle.std.proofs.Common.{◌≡◌, ◌⊎◌, inl, inr, refl, ℕ, List, [], ◌∷◌, Option, Some, None, true, false, arith}
-use Rattle.pool_syntax.specs.declared.words.Value.TheVariants as V
+use Rattle.run_words.specs.declared.words.Value.TheVariants as V
 use Rattle.pool_relation.specs.Action.{Object}
 use Rattle.mesh_semantics.specs.Config.{Config}
-use Rattle.mesh_semantics.specs.Tables.{Pair}
+use Rattle.run_words.specs.Tables.{Pair}
 use Rattle.mesh_semantics.specs.Delay.{Packet, Create, Created, Request, Result, Arrival, Holding, Posted, Due, Delay}
 use Rattle.mesh_semantics.specs.Sound.{Sent, IsSound}
 use Rattle.mesh_semantics.specs.Record.{start}

@@ -1,18 +1,18 @@
 -- A term waits only where its call was answered.
 use Rattle.std.proofs.Common.{◌≡◌, ◌≢◌, ◌⊎◌, inl, inr, refl, sym, ap, subst, ◌∙◌, IsTrue, ℕ, zero, suc, ◌==◌, List, [], ◌∷◌, length, Option, Some, None, is_none, is_some, true, false, not, ◌&&◌, slice_get}
-use Rattle.pool_syntax.specs.declared.words.Value.{Value}
-use Rattle.pool_syntax.specs.declared.words.Value.TheVariants as V
-use Rattle.pool_syntax.specs.declared.words.Item.{Item}
-use Rattle.pool_syntax.specs.declared.words.Error.{Error}
-use Rattle.pool_syntax.specs.declared.words.Label.{Label}
-use Rattle.pool_syntax.specs.declared.words.Label.TheVariants as L
-use Rattle.pool_syntax.specs.declared.words.Event.{Event}
-use Rattle.pool_syntax.specs.declared.words.Placement.{Placement}
+use Rattle.run_words.specs.declared.words.Value.{Value}
+use Rattle.run_words.specs.declared.words.Value.TheVariants as V
+use Rattle.run_words.specs.declared.words.Item.{Item}
+use Rattle.run_words.specs.declared.words.Error.{Error}
+use Rattle.run_words.specs.declared.words.Label.{Label}
+use Rattle.run_words.specs.declared.words.Label.TheVariants as L
+use Rattle.run_words.specs.declared.words.Event.{Event}
+use Rattle.run_words.specs.declared.words.Placement.{Placement}
 use Rattle.pool_syntax.specs.Terms as T
 use Rattle.pool_syntax.specs.Terms.{ClassTree, MethodTree, Statements, ProgramTree}
 use Rattle.pool_syntax.specs.Classes.{class_of}
 use Rattle.pool_syntax.specs.Typing.{Scope, faults}
-use Rattle.pool_syntax.specs.Values.{is_same, is_true}
+use Rattle.run_words.specs.Values.{is_same, is_true}
 use Rattle.pool_relation.specs.Reducible.{Choice, AsExpression, AsStatements}
 use Rattle.pool_relation.specs.Action as A
 use Rattle.pool_relation.specs.Action.{Object, Action, action, method_of}
@@ -22,23 +22,23 @@ use Rattle.pool_relation.specs.Transition as X
 use Rattle.pool_relation.specs.Transition.{Offer, transition, refilled, running, local_step, offer, new_object, last_class}
 use Rattle.pool_relation.specs.Written.{is_written}
 use Rattle.pool_relation.specs.Typed.{class_at, Typed}
-use Rattle.pool_relation.proofs.Laws.{Nothing, Methods, TypedStatements, TypedAction, FitsAt, Invariant, place, classes, invariant_of, is_waits, does_not_wait, object_typed_at, running_is, new_object_typed, nothing_below, statements_weaker, at, TypedChoices, offers, first_fits, taken_fit, serving_typed, running_scope, FitValues}
-use Rattle.mesh_semantics.specs.Same.{are_same}
+use Rattle.pool_relation.proofs.Laws.{Nothing, Methods, TypedStatements, TypedAction, FitsAt, Invariant, place, classes, invariant_of, is_waits, does_not_wait, object_typed_at, running_is, new_object_typed, nothing_below, statements_weaker, at, TypedChoices, offers, first_fits, taken_fit, serving_typed, running_scope, FitValues, last_first}
+use Rattle.run_words.specs.Same.{are_same}
 use Rattle.mesh_semantics.specs.Kind as K
 use Rattle.mesh_semantics.specs.Config.{Config, object_of}
 use Rattle.mesh_semantics.specs.Sound.{is_wait}
 use Rattle.mesh_semantics.specs.Waits.{IsAnswer, Waits}
 use Rattle.mesh_semantics.specs.Lawful.{Lawful}
 use Rattle.mesh_semantics.specs.FitFor.{FitFor}
-use Rattle.mesh_semantics.specs.Asks.{EachAnswersPost}
+use Rattle.run_words.specs.Asks.{EachAnswersPost}
 use Rattle.mesh_semantics.specs.Delay.{no_delay, no_delay_on_wires}
 use Rattle.mesh_semantics.specs.Record.{start, record_at, record_of, record_on_wires}
-use Rattle.mesh_semantics.proofs.Laws.{first, second, equal, decide, same_some, given_by, required, same_values, same_value, find_put_same, find_put_other, fit_of, each_answers_post, each_answers_post_on_wires}
+use Rattle.run_words.proofs.Laws.{first, second, equal, decide, same_some, given_by, required, same_values, same_value, find_put_same, find_put_other}
+use Rattle.mesh_semantics.proofs.Laws.{fit_of, each_answers_post, each_answers_post_on_wires}
 use Rattle.placed_terms.specs.Terms.{kind_of, terms, plain, as_plain}
 use Rattle.placed_terms.specs.RunOf.{TypedTerms}
 use Rattle.placed_terms.proofs.Instance.{move_is}
 use Rattle.placed_terms.proofs.LawfulTerms.{waits_is, lawful}
-use Rattle.placed_terms.proofs.RootClass.{last_first}
 use Rattle.placed_terms.proofs.Starting.{start_is_sound}
 
 -- an object that is not at a wait

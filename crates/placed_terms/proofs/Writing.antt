@@ -2,15 +2,15 @@
 use Rattle.std.proofs.Common.{◌≡◌, refl, sym, ap, ◌∙◌, IsTrue, ℕ, List, [], ◌++◌, length, Option, Some, None, Bool, true, false, if◌then◌else◌}
 use Rattle.std.specs.Prelude.{is_some}
 use Rattle.std.specs.List.{list_any}
-use Rattle.pool_syntax.specs.declared.words.Value.{Value}
-use Rattle.pool_syntax.specs.declared.words.Value.TheVariants as V
-use Rattle.pool_syntax.specs.declared.words.Error.TheVariants.{NilOperand, NoOpenGuard}
-use Rattle.pool_syntax.specs.declared.words.Item.{Item}
+use Rattle.run_words.specs.declared.words.Value.{Value}
+use Rattle.run_words.specs.declared.words.Value.TheVariants as V
+use Rattle.run_words.specs.declared.words.Error.TheVariants.{NilOperand, NoOpenGuard}
+use Rattle.run_words.specs.declared.words.Item.{Item}
 use Rattle.pool_syntax.specs.Terms as T
 use Rattle.pool_syntax.specs.Terms.{Store, Statements, MethodTree, ProgramTree}
 use Rattle.pool_syntax.specs.Classes.{class_of}
 use Rattle.pool_syntax.specs.Typing.{Scope, faults}
-use Rattle.pool_syntax.specs.Values.{Outcome, Gives, Fails, WrongSort, prefix_value, infix_value, is_true, is_nil, not_bool}
+use Rattle.run_words.specs.Values.{Outcome, Gives, Fails, WrongSort, prefix_value, infix_value, is_true, is_nil, not_bool}
 use Rattle.pool_relation.specs.Reducible as R
 use Rattle.pool_relation.specs.Reducible.{Choice, Reducible, Found, Evaluated, At, AsStatements, statements_redex}
 use Rattle.pool_relation.specs.Action as A
@@ -57,10 +57,10 @@ at_write p o x u g (R.Make c) now h e = never (redex_action p o x u (R.Make c)) 
 at_write p o x u g (R.Unary op v) now h e = never (redex_action p o x u (R.Unary op v)) h (no_outcome x (prefix_value op v))
 at_write p o x u g (R.Binary op v w) now h e = never (redex_action p o x u (R.Binary op v w)) h (no_outcome x (infix_value op v w))
 at_write p o x u g (R.Invoke m args) now h e = never (redex_action p o x u (R.Invoke m args)) h (no_call x args (method_of p x.class m (length args)))
-at_write p o x u g (R.Request (V.Ref b) m args) now h e = absurd (let z : false ≡ true = h in cc)
-at_write p o x u g (R.Request V.Nil m args) now h e = absurd (let z : false ≡ true = h in cc)
-at_write p o x u g (R.Request (V.Int i) m args) now h e = absurd (let z : false ≡ true = h in cc)
-at_write p o x u g (R.Request (V.Bool b) m args) now h e = absurd (let z : false ≡ true = h in cc)
+at_write p o x u g (R.SynchronousSend (V.Ref b) m args) now h e = absurd (let z : false ≡ true = h in cc)
+at_write p o x u g (R.SynchronousSend V.Nil m args) now h e = absurd (let z : false ≡ true = h in cc)
+at_write p o x u g (R.SynchronousSend (V.Int i) m args) now h e = absurd (let z : false ≡ true = h in cc)
+at_write p o x u g (R.SynchronousSend (V.Bool b) m args) now h e = absurd (let z : false ≡ true = h in cc)
 at_write p o x u g (R.Leave v) now h e = absurd (let z : false ≡ true = h in cc)
 at_write p o x u g (R.Waiting b m) now h e = absurd (let z : false ≡ true = h in cc)
 at_write p o x u g (R.Set n v) now h e = never (redex_action p o x u (R.Set n v)) h (chosen (is_some (value_of u n)) _ _ refl (chosen (is_some (value_of x.vars n)) _ _ refl refl))

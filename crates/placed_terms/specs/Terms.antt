@@ -6,12 +6,12 @@ use Rattle.pool_syntax.specs.Terms.{Statements, MethodTree, ClassTree, ProgramTr
 use Rattle.pool_syntax.specs.Classes.{class_of}
 use Rattle.pool_relation.specs.Reducible.{Choice, AsExpression, AsStatements}
 use Rattle.pool_relation.specs.Action as A
-use Rattle.pool_syntax.specs.Values.{is_true}
+use Rattle.run_words.specs.Values.{is_true}
 use Rattle.pool_relation.specs.Action.{Object, Action, action, method_of}
 use Rattle.pool_relation.specs.UnderWay.{Activity, Own, Serving, in_statements, frames_of}
 use Rattle.pool_relation.specs.Configuration.{Configuration}
 use Rattle.pool_relation.specs.Transition as X
-use Rattle.mesh_semantics.specs.Partial.{◌>>=◌}
+use Rattle.run_words.specs.Partial.{◌>>=◌}
 use Rattle.pool_relation.specs.Transition.{refilled, new_object}
 use Rattle.mesh_semantics.specs.Kind as K
 use Rattle.mesh_semantics.specs.Kind.{Kind, Alternative}

@@ -2,15 +2,15 @@
 ghost use Rattle.std.specs.Prelude.{◌≡◌, ◌≢◌, ◌++◌, ℕ, List, [], ◌∷◌, Some, None, true, IsTrue, slice_get};
 ghost use Rattle.pool_syntax.specs.Terms.{ClassTree, ProgramTree};
 ghost use Rattle.pool_syntax.specs.Typing.{faults};
-ghost use Rattle.pool_syntax.specs.declared.words.Event.{Event};
-ghost use Rattle.pool_syntax.specs.declared.words.Event.TheVariants as Ev;
-ghost use Rattle.pool_syntax.specs.declared.words.What.{What};
-ghost use Rattle.pool_syntax.specs.declared.words.What.TheVariants as W;
-ghost use Rattle.pool_syntax.specs.declared.words.WireAct.{WireAct};
-ghost use Rattle.pool_syntax.specs.declared.words.Line.{Line};
-ghost use Rattle.pool_syntax.specs.declared.words.Line.TheVariants as R;
-ghost use Rattle.pool_syntax.specs.declared.words.Label.{Label};
-ghost use Rattle.pool_syntax.specs.declared.words.Placement.{Placement};
+ghost use Rattle.run_words.specs.declared.words.Event.{Event};
+ghost use Rattle.run_words.specs.declared.words.Event.TheVariants as Ev;
+ghost use Rattle.run_words.specs.declared.words.What.{What};
+ghost use Rattle.run_words.specs.declared.words.What.TheVariants as W;
+ghost use Rattle.run_words.specs.declared.words.WireAct.{WireAct};
+ghost use Rattle.run_words.specs.declared.words.Line.{Line};
+ghost use Rattle.run_words.specs.declared.words.Line.TheVariants as R;
+ghost use Rattle.run_words.specs.declared.words.Label.{Label};
+ghost use Rattle.run_words.specs.declared.words.Placement.{Placement};
 ghost use Rattle.pool_relation.specs.Action.{Object};
 ghost use Rattle.pool_relation.specs.Configuration.{Configuration};
 ghost use Rattle.pool_relation.specs.Transition as X;
@@ -20,7 +20,7 @@ ghost use Rattle.mesh_semantics.specs.Config.{Config};
 ghost use Rattle.mesh_semantics.specs.Moves.{move, moves};
 ghost use Rattle.mesh_semantics.specs.Delay.{Delay, no_delay, no_delay_on_wires};
 ghost use Rattle.mesh_semantics.specs.Act.{Acts, Nothing, act, class_place, is_quiet, ready_at};
-ghost use Rattle.mesh_semantics.specs.Asks.{EachAnswersPost};
+ghost use Rattle.run_words.specs.Asks.{EachAnswersPost};
 ghost use Rattle.mesh_semantics.specs.Record.{last_place, root_name, record_of, record_on_wires, start};
 ghost use Rattle.mesh_semantics.specs.Standing.{IsCycle, Contained, called_by, cycles};
 ghost use Rattle.mesh_semantics.specs.Sound.{IsSound};
@@ -112,7 +112,8 @@ pub fn root_is_placed_by_its_class()
         → last_place l.places ≡ slice_get l.places (class_place (class_names p) k.name.name.0) }
 {}
 
-/// Each line of a record is that of the act of its event at a sound configuration with its delay, to which the acts of the events of the lines before it lead, and their labels. So an idle line was made
+/// Each line of a record is that of the act of its event at a sound configuration with its delay, to which the acts of the events of the lines before it lead,
+/// and their labels. So an idle line was made
 /// where no object of the node was ready, nothing came off the link, or nothing was to be done on the wire.
 pub fn each_line_is_made_where_the_lines_before_lead()
     ensures line { (p : ProgramTree) (l : Placement) (q : ℕ) (es : List Event) (c : Configuration) (before behind : List Line) (n : ℕ) (e : Event) (what : What)

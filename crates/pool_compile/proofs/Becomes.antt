@@ -1,28 +1,29 @@
 -- What the code makes of a value, of a step that another object has a part in, and of a call.
-use Rattle.object_code.specs.declared.unit.CodeObject.{CodeObject}
-use Rattle.object_code.specs.declared.unit.Frame.{Frame}
+use Rattle.run_words.specs.declared.frames.CodeObject.{CodeObject}
+use Rattle.run_words.specs.declared.frames.Frame.{Frame}
 use Rattle.std.proofs.Common.{◌≡◌, refl, sym, ap, ◌∙◌, subst, ℕ, zero, suc, ◌+◌, ◌-◌, List, [], ◌∷◌, ◌++◌, length, Option, Some, false, inl, arith, None, inr}
 use Rattle.std.specs.Prelude.{slice_get, map}
-use Rattle.pool_syntax.specs.declared.words.Value.{Value}
-use Rattle.pool_syntax.specs.declared.words.Value.TheVariants as V
-use Rattle.pool_syntax.specs.declared.words.Item.TheVariants as Item
-use Rattle.pool_syntax.specs.declared.words.NameId.{NameId}
+use Rattle.run_words.specs.declared.words.Value.{Value}
+use Rattle.run_words.specs.declared.words.Value.TheVariants as V
+use Rattle.run_words.specs.declared.words.Item.TheVariants as Item
+use Rattle.run_words.specs.declared.words.NameId.{NameId}
 use Rattle.pool_syntax.specs.declared.tree.Named.{Named}
 use Rattle.pool_syntax.specs.Terms as T
 use Rattle.pool_syntax.specs.Terms.{Store, Expression, Statement, Statements, MethodTree, ClassTree}
 use Rattle.pool_relation.specs.Reducible as R
-use Rattle.pool_relation.specs.Reducible.{Choice, Reducible, Part, AsExpression, AsStatements, fill_statements, is_done}
+use Rattle.pool_relation.specs.Reducible.{Choice, Reducible, Contractum, AsExpression, AsStatements, fill_statements, is_done}
 use Rattle.pool_relation.specs.Action.{literal, temps_of}
-use Rattle.object_code.specs.declared.unit.Instr.{Instr}
-use Rattle.object_code.specs.declared.unit.Instr.TheVariants as I
-use Rattle.object_code.specs.declared.unit.AltCode.{AltCode}
-use Rattle.pool_syntax.specs.declared.words.Serves.{Serves}
-use Rattle.pool_syntax.specs.declared.words.Serves.TheVariants as S
-use Rattle.object_code.specs.declared.unit.ClassCode.{ClassCode}
-use Rattle.object_code.specs.Frames.{code_of, taken, dropped, next}
-use Rattle.object_code.specs.Step.{Numbered, begun, called, at_rest, frames_stepped, asked, frames_given, instr_gone_on, frames_gone_on, after_choice, at_alternative, frames_picked, frames_serving}
+use Rattle.code_semantics.specs.declared.unit.Instr.{Instr}
+use Rattle.code_semantics.specs.declared.unit.Instr.TheVariants as I
+use Rattle.code_semantics.specs.declared.unit.AltCode.{AltCode}
+use Rattle.run_words.specs.declared.words.Serves.{Serves}
+use Rattle.run_words.specs.declared.words.Serves.TheVariants as S
+use Rattle.code_semantics.specs.declared.unit.ClassCode.{ClassCode}
+use Rattle.code_semantics.specs.Frames.{code_of, next}
+use Rattle.run_words.specs.Operands.{taken, dropped}
+use Rattle.code_semantics.specs.Step.{Numbered, begun, called, at_rest, frames_stepped, asked, frames_given, instr_gone_on, frames_gone_on, after_choice, at_alternative, frames_picked, frames_serving}
 use Rattle.pool_compile.specs.Code.{Numbering, name, names_of, class_code}
-use Rattle.pool_compile.specs.Stands.{Standing, Head, frame_of, fresh, IsServing, InMethod, push_all, Under, UnderStatements, as_value}
+use Rattle.pool_compile.specs.Stands.{Point, Head, frame_of, fresh, IsServing, InMethod, push_all, Under, UnderStatements, as_value}
 use Rattle.pool_compile.proofs.Focus.{is_inner, after, UnderPart, Focus, Stand, Lists, guards_of, Spot}
 use Rattle.pool_compile.proofs.KindLaws.{take_args, drop_args, dropped_all, lists_length}
 use Rattle.pool_compile.proofs.Methods.{Begins}
@@ -43,7 +44,7 @@ drop_call args base v =
     ap (λ n. dropped n (push_all args (v ∷ base))) (let e : suc (length args) ≡ length args + 1 = omega arith in e) ∙ dropped_all args 1 (v ∷ base)
 
 module _ (k : Option ClassCode) (h : Head) (g : Numbering) (none : g.temps ≡ []) (end : ℕ) (halt : slice_get (code_of k h.method) end ≡ Some I.Halt) (ss : Statements) (L : List Frame) where
-  abbrev Goal : List Frame → Part → Type 0
+  abbrev Goal : List Frame → Contractum → Type 0
   Goal = Target k h g none end halt ss L
 
   abbrev Got : CodeObject → List Value → Statements → CodeObject → Type 0
@@ -92,14 +93,14 @@ module _ (k : Option ClassCode) (h : Head) (g : Numbering) (none : g.temps ≡ [
       (given_here (R.Make c) u f y v f.base (I.New (name c)) f.stop f.spot.0 f.spot.2)
 
   -- a result, while the term is still at the send
-  pub answered : (y : CodeObject) (to : Value) (m : ℕ) (args : List Value) (v : Value) (u : Store) (f : Focus k g.vars L (R.Request to m args) u Goal)
+  pub answered : (y : CodeObject) (to : Value) (m : ℕ) (args : List Value) (v : Value) (u : Store) (f : Focus k g.vars L (R.SynchronousSend to m args) u Goal)
       → Got y y.vars (fill_statements ss (AsExpression (literal v))) (frames_given k y v L)
   answered y to m args v u f =
       let i = I.Send (name m) (length args) in
       let vs = push_all args (to ∷ f.base) in
-      value_lands k h g none end halt ss L (R.Request to m args) u f y _ vs i v refl refl f.spot.2
-      (given_here (R.Request to m args) u f y v vs i f.stop f.spot.0 f.spot.2
-      ∙ ap (λ l. at_rest k y (next (at_hand (R.Request to m args) u f vs) (v ∷ l)) f.rest) (drop_call args f.base to))
+      value_lands k h g none end halt ss L (R.SynchronousSend to m args) u f y _ vs i v refl refl f.spot.2
+      (given_here (R.SynchronousSend to m args) u f y v vs i f.stop f.spot.0 f.spot.2
+      ∙ ap (λ l. at_rest k y (next (at_hand (R.SynchronousSend to m args) u f vs) (v ∷ l)) f.rest) (drop_call args f.base to))
 
   -- a result, where the term waits
   pub resumed : (y : CodeObject) (b m : ℕ) (v : Value) (u : Store) (f : Focus k g.vars L (R.Waiting b m) u Goal)
@@ -113,11 +114,11 @@ module _ (k : Option ClassCode) (h : Head) (g : Numbering) (none : g.temps ≡ [
       ∙ ap (λ l. at_rest k y (next (at_hand (R.Waiting b m) u f vs) (v ∷ l)) f.rest) (drop_call args f.base (V.Ref b)))
 
   -- the frames of a send stand where the call is being served
-  pub waits : (b m : ℕ) (args : List Value) (u : Store) (f : Focus k g.vars L (R.Request (V.Ref b) m args) u Goal)
+  pub waits : (b m : ℕ) (args : List Value) (u : Store) (f : Focus k g.vars L (R.SynchronousSend (V.Ref b) m args) u Goal)
       → Term k h g none end halt ss L (fill_statements ss (AsExpression (T.Wait b m))) L
   waits b m args u f =
-      let z : Standing = record f.s { above = [] } in
-      subst (Term k h g none end halt ss L (fill_statements ss (AsExpression (T.Wait b m)))) (sym (frames_are (R.Request (V.Ref b) m args) u f f.spot.0))
+      let z : Point = record f.s { above = [] } in
+      subst (Term k h g none end halt ss L (fill_statements ss (AsExpression (T.Wait b m)))) (sym (frames_are (R.SynchronousSend (V.Ref b) m args) u f f.spot.0))
       (whole_of k h g none end halt ss L _ (AsExpression (T.Wait b m)) (f.rebuild (AsExpression (T.Wait b m)) z (args, refl, f.spot.2.0, f.spot.2.1)))
 
   -- a write
@@ -163,7 +164,7 @@ module _ (k : Option ClassCode) (h : Head) (g : Numbering) (none : g.temps ≡ [
           ap (frames_gone_on k y) (f.split ∙ ap (λ l. l ++ frame_of f.host f.own f.s ∷ f.rest) e.1)
           ∙ ap (instr_gone_on k y e.0 (frame_of f.host f.own f.s ∷ f.rest)) e.5 in
           let on : Frame = next (record e.0 { serves = S.Sender }) e.0.operands in
-          let z : Standing = record f.s { above = on ∷ [] } in (
+          let z : Point = record f.s { above = on ∷ [] } in (
             on,
             frame_of f.host f.own z ∷ f.rest,
             a,
@@ -212,7 +213,7 @@ module _ (tree : ClassTree) (h : Head) (end : ℕ) (halt : slice_get (code_of (S
       let vs = push_all args f.base in
       let F = now k h g refl end halt ss L (R.Invoke m args) u f vs in
       let t = temps_of mt args in
-      let z : Standing = record { at = suc f.s.at; operands = f.base; above = frame_of b.head t (fresh 0 []) ∷ [] } in
+      let z : Point = record { at = suc f.s.at; operands = f.base; above = frame_of b.head t (fresh 0 []) ∷ [] } in
       let part : Expression = T.Frame mt.name.name.0 t mt.body mt.value mt.post in
       let n : b.i.code.params ≡ length args = b.counts ∙ count in
       let e : frames_stepped k o y L ≡ at_rest k y (frame_of b.head t (fresh 0 [])) (frame_of f.host f.own z ∷ f.rest) =
@@ -240,7 +241,7 @@ module _ (tree : ClassTree) (h : Head) (end : ℕ) (halt : slice_get (code_of (S
       → Lands k h g refl end halt ss L y y.vars (fill_statements ss (AsStatements (Served mt caller args work))) x
   serving r u f m mt args caller w b serves inner same y x at work left e =
       let t = temps_of mt args in
-      let z : Standing = record { at = at; operands = f.base; above = frame_of b.head t (fresh 0 []) ∷ [] } in
+      let z : Point = record { at = at; operands = f.base; above = frame_of b.head t (fresh 0 []) ∷ [] } in
       let c = code_of k f.host.method in
       let st : UnderStatements k c f.g (Served mt caller args work) f.base z f.stop =
       (at, inl ((refl, refl), (b.head, fresh 0 [], names_of (mt.params ++ mt.locals), refl, b.of, subst (IsServing caller) (sym b.serves) serves, b.names, way_in caller m mt args w b f.g f.vars)), left) in

@@ -1,26 +1,28 @@
 -- Parts without class faults fit the counts of a proper unit.
-use Rattle.object_code.specs.declared.unit.ClassCode.{ClassCode}
+use Rattle.code_semantics.specs.declared.unit.ClassCode.{ClassCode}
 use Rattle.std.proofs.Common.{◌≡◌, refl, ap, ◌∙◌, subst, ℕ, suc, ◌+◌, ◌==◌, List, [], ◌∷◌, ◌++◌, length, Option, Some, None, Bool, true, false, arith}
 use Rattle.std.specs.Prelude.{nat_le, not, ◌&&◌}
 use Rattle.pool_syntax.specs.declared.tree.Var.{Var}
 use Rattle.pool_syntax.specs.Terms as T
 use Rattle.pool_syntax.specs.Terms.{Expression, Expressions, Statement, Statements, Alternatives, MethodTree, ClassTree}
 use Rattle.pool_syntax.specs.Classes.{named_method}
-use Rattle.pool_syntax.specs.Typing.{Fault, Scope, size, limit, fault_if, own_method, methods_of_class, method_faults, expression_faults, arguments_faults, statement_faults, statements_faults, alternatives_faults, answer_faults, is_broken_name, needs, BoolSort}
-use Rattle.pool_syntax.specs.Values.{is_prefix}
+use Rattle.pool_syntax.specs.Typing.{FaultAt, Scope, size, limit_faults, fault_if, own_method, methods_of_class, method_faults, expression_faults, arguments_faults, statement_faults, statements_faults, alternatives_faults, answer_faults}
+use Rattle.pool_syntax.specs.Typing.{is_broken_name, needs}
+use Rattle.run_words.specs.Sorts.{BoolSort}
+use Rattle.run_words.specs.Values.{is_prefix}
 use Rattle.pool_relation.specs.Typed.{has_room}
 use Rattle.pool_relation.specs.Written.{is_source, are_source, is_source_statement, are_source_statements, are_source_alternatives}
-use Rattle.object_code.specs.Proper as P
-use Rattle.object_code.specs.Step.{method_named}
+use Rattle.code_semantics.specs.Proper as P
+use Rattle.code_semantics.specs.Step.{method_named}
 use Rattle.pool_compile.specs.Code.{name, names_of, class_code}
 use Rattle.pool_compile.proofs.Methods.{code_found}
 use Rattle.pool_compile.proofs.Heights.{is_counted, are_counted, is_counted_statement, are_counted_statements, are_counted_guards, are_counted_works}
 
-pub nil_left : (a b : List Fault) → a ++ b ≡ [] → a ≡ []
+pub nil_left : (a b : List FaultAt) → a ++ b ≡ [] → a ≡ []
 nil_left [] b h = refl
 nil_left (x ∷ a) b h = absurd (grind (arith, h))
 
-pub nil_right : (a b : List Fault) → a ++ b ≡ [] → b ≡ []
+pub nil_right : (a b : List FaultAt) → a ++ b ≡ [] → b ≡ []
 nil_right [] b h = h
 nil_right (x ∷ a) b h = absurd (grind (arith, h))
 
@@ -28,10 +30,10 @@ pub no_fault : (b : Bool) (at n : ℕ) → fault_if b at n ≡ [] → b ≡ fals
 no_fault true at n h = absurd (grind (arith, h))
 no_fault false at n h = refl
 
-room_of : (h at : ℕ) (rest : List Fault) → limit h at ++ rest ≡ [] → has_room h ≡ true
-room_of h at rest f = ap not (no_fault (nat_le 64 h) at 12 (nil_left (limit h at) rest f))
+room_of : (h at : ℕ) (rest : List FaultAt) → limit_faults h at ++ rest ≡ [] → has_room h ≡ true
+room_of h at rest f = ap not (no_fault (nat_le 64 h) at 12 (nil_left (limit_faults h at) rest f))
 
-room_alone : (h at : ℕ) → limit h at ≡ [] → has_room h ≡ true
+room_alone : (h at : ℕ) → limit_faults h at ≡ [] → has_room h ≡ true
 room_alone h at f = ap not (no_fault (nat_le 64 h) at 12 f)
 
 pub three : (a b d : Bool) → (a && b && d) ≡ true → (a ≡ true) × (b ≡ true) × (d ≡ true)
@@ -68,23 +70,23 @@ module _ (kt : ClassTree) where
     counted g own h (T.Variable x p) w f = room_of h p _ f
     counted g own h (T.Create c p) w f = room_of h p _ f
     counted g own h (T.Prefix op e p) w f =
-        let r = nil_right (limit h p) _ f in
+        let r = nil_right (limit_faults h p) _ f in
         let ws = two (is_prefix op) (is_source e) w in
         rw (room_of h p _ f, ws.0) (counted g own h e ws.1 (nil_left (expression_faults g h e) _ r))
     counted g own h (T.Infix op l n p) w f =
-        let r = nil_right (limit h p) _ f in
+        let r = nil_right (limit_faults h p) _ f in
         let s = nil_right (expression_faults g h l) _ r in
         let ws = three (not (is_prefix op)) (is_source l) (is_source n) w in
         let j : h + 1 ≡ suc h = omega arith in
         rw (room_of h p _ f, ws.0, counted g own h l ws.1 (nil_left (expression_faults g h l) _ r))
         (subst (λ q. is_counted k q n ≡ true) j (counted g own (h + 1) n ws.2 (nil_left (expression_faults g (h + 1) n) _ s)))
     counted g own h (T.Call m es p) w f =
-        let r = nil_right (limit h p) _ f in
+        let r = nil_right (limit_faults h p) _ f in
         let c = counts g own m (size es) p (nil_left (method_faults (own_method g m) (size es) p) _ r) in
         let i : (size es == P.params_of (method_named k (name m))) ≡ true = grind (arith, c) in
         rw (room_of h p _ f, i) (counted_all g own h _ es w (nil_right (method_faults (own_method g m) (size es) p) _ r))
     counted g own h (T.Send e m es p) w f =
-        let r = nil_right (limit h p) _ f in
+        let r = nil_right (limit_faults h p) _ f in
         let s = nil_right (expression_faults g h e) _ r in
         let j : h + 1 ≡ suc h = omega arith in
         let ws = two (is_source e) (are_source es) w in

@@ -1,26 +1,25 @@
 -- As many frames stand above a place as methods are under way in the part that it stands for.
-use Rattle.object_code.specs.declared.unit.CodeObject.{CodeObject}
+use Rattle.run_words.specs.declared.frames.CodeObject.{CodeObject}
 use Rattle.std.proofs.Common.{◌≡◌, refl, sym, ap, ◌∙◌, ℕ, suc, ◌+◌, List, [], ◌∷◌, length, Option, Some, IsTrue, inl, inr, arith, length-append, None, ◌++◌}
-use Rattle.pool_syntax.specs.declared.words.Value.{Value}
+use Rattle.run_words.specs.declared.words.Value.{Value}
 use Rattle.pool_syntax.specs.Terms as T
-use Rattle.pool_syntax.specs.Terms.{Store, Expression, Expressions, Statement, Statements, Alternatives}
+use Rattle.pool_syntax.specs.Terms.{Store, Expression, Expressions, Statement, Statements, Alternatives, ProgramTree}
 use Rattle.pool_relation.specs.Reducible.{is_done}
 use Rattle.pool_relation.specs.UnderWay.{in_expression, in_expressions, in_statement, in_statements, in_guards, frames_of}
-use Rattle.object_code.specs.declared.unit.Instr.{Instr}
-use Rattle.object_code.specs.declared.unit.ClassCode.{ClassCode}
-use Rattle.object_code.specs.Frames.{code_of}
-use Rattle.pool_syntax.specs.Terms.{ProgramTree}
+use Rattle.code_semantics.specs.declared.unit.Instr.{Instr}
+use Rattle.code_semantics.specs.declared.unit.ClassCode.{ClassCode}
+use Rattle.code_semantics.specs.Frames.{code_of}
 use Rattle.pool_relation.specs.Action.{Object}
 use Rattle.pool_compile.specs.Code.{Numbering}
-use Rattle.pool_compile.specs.Stands.{Standing, Head, level, fresh, Led, as_value, Standings, InTurn, InMethod, Under, UnderAll, UnderStatement, UnderStatements, UnderGuards, StandsFor, Behind}
+use Rattle.pool_compile.specs.Stands.{Point, Head, level, fresh, Led, as_value, PointsOf, InTurn, InMethod, Under, UnderAll, UnderStatement, UnderStatements, UnderGuards, StandsFor, Behind}
 
-level_length : (h : Head) (t : Store) (a : Standing) → length (level h t a) ≡ suc (length a.above)
+level_length : (h : Head) (t : Store) (a : Point) → length (level h t a) ≡ suc (length a.above)
 level_length h t a = length-append a.above _ ∙ (let e : length a.above + 1 ≡ suc (length a.above) = omega arith in e)
 
 -- two parts in turn
-turn_count : (first : Standings) (value : Option Value) (second : Standings) (a b : ℕ) (base : List Value) (s : Standing) (end : ℕ)
-    → ((base : List Value) (s : Standing) (end : ℕ) → first base s end → length s.above ≡ a)
-    → ((base : List Value) (s : Standing) (end : ℕ) → second base s end → length s.above ≡ b)
+turn_count : (first : PointsOf) (value : Option Value) (second : PointsOf) (a b : ℕ) (base : List Value) (s : Point) (end : ℕ)
+    → ((base : List Value) (s : Point) (end : ℕ) → first base s end → length s.above ≡ a)
+    → ((base : List Value) (s : Point) (end : ℕ) → second base s end → length s.above ≡ b)
     → ((v : Value) → value ≡ Some v → a ≡ 0)
     → InTurn first value second base s end → length s.above ≡ a + b
 turn_count first value second a b base s end f g none (inl w) =
@@ -36,14 +35,14 @@ value_none : (e : Expression) (v : Value) → as_value e ≡ Some v → length (
 value_none (T.Literal w p) v h = refl
 value_none _ v h = absurd (grind (arith, h))
 
-empty : (s : Standing) → s.above ≡ [] → length s.above ≡ 0
+empty : (s : Point) → s.above ≡ [] → length s.above ≡ 0
 empty s e = ap length e
 
 -- a method under way: its statements, its value and its post statements
-method_count : (c : List Instr) (k : Option ClassCode) (g : Numbering) (caller : Option ℕ) (ss : Statements) (e : Expression) (qs : Statements) (a : Standing)
-    → ((base : List Value) (s : Standing) (end : ℕ) → UnderStatements k c g ss base s end → length s.above ≡ length (in_statements ss))
-    → ((base : List Value) (s : Standing) (end : ℕ) → Under k c g e base s end → length s.above ≡ length (in_expression e))
-    → ((base : List Value) (s : Standing) (end : ℕ) → UnderStatements k c g qs base s end → length s.above ≡ length (in_statements qs))
+method_count : (c : List Instr) (k : Option ClassCode) (g : Numbering) (caller : Option ℕ) (ss : Statements) (e : Expression) (qs : Statements) (a : Point)
+    → ((base : List Value) (s : Point) (end : ℕ) → UnderStatements k c g ss base s end → length s.above ≡ length (in_statements ss))
+    → ((base : List Value) (s : Point) (end : ℕ) → Under k c g e base s end → length s.above ≡ length (in_expression e))
+    → ((base : List Value) (s : Point) (end : ℕ) → UnderStatements k c g qs base s end → length s.above ≡ length (in_statements qs))
     → ((v : Value) → as_value e ≡ Some v → length (in_expression e) ≡ 0)
     → InMethod c caller (UnderStatements k c g ss []) (is_done ss) (Under k c g e []) (as_value e) (UnderStatements k c g qs) (is_done qs) a
     → length a.above ≡ length (in_statements ss) + (length (in_expression e) + length (in_statements qs))
@@ -75,15 +74,15 @@ method_count c k g caller ss e qs a f h fq value w = by w
         let x = value v is in
         omega (arith, m, o, x)
 
-led_count : (c : List Instr) (part : Standings) (n : ℕ) (base : List Value) (s : Standing) (end : ℕ)
-    → ((base : List Value) (s : Standing) (end : ℕ) → part base s end → length s.above ≡ n) → Led c part base s end → length s.above ≡ n
+led_count : (c : List Instr) (part : PointsOf) (n : ℕ) (base : List Value) (s : Point) (end : ℕ)
+    → ((base : List Value) (s : Point) (end : ℕ) → part base s end → length s.above ≡ n) → Led c part base s end → length s.above ≡ n
 led_count c part n base s end f (inl w) = f base s end w
 led_count c part n base s end f (inr w) =
     let x : length (fresh w.1.1 base).above ≡ n = f base (fresh w.1.1 base) end w.1.3 in
     ap length w.0.1 ∙ x
 
 mutual
-  pub expression_count : (k : Option ClassCode) (c : List Instr) (g : Numbering) (e : Expression) (base : List Value) (s : Standing) (end : ℕ)
+  pub expression_count : (k : Option ClassCode) (c : List Instr) (g : Numbering) (e : Expression) (base : List Value) (s : Point) (end : ℕ)
       → Under k c g e base s end → length s.above ≡ length (in_expression e)
   expression_count k c g (T.Literal v p) base s end u = empty s u.0
   expression_count k c g (T.Me p) base s end u = empty s u.0.1
@@ -106,7 +105,7 @@ mutual
       ap length u.1.3 ∙ level_length u.1.0 t u.1.1 ∙ ap suc (n ∙ sym (length-append (in_statements ss) (in_expression e ++ in_statements qs) ∙ ap (λ m. length (in_statements ss) + m) (length-append (in_expression e) (in_statements qs))))
   expression_count k c g (T.Wait b m) base s end u = empty s u.1
 
-  pub all_count : (k : Option ClassCode) (c : List Instr) (g : Numbering) (es : Expressions) (base : List Value) (s : Standing) (end : ℕ)
+  pub all_count : (k : Option ClassCode) (c : List Instr) (g : Numbering) (es : Expressions) (base : List Value) (s : Point) (end : ℕ)
       → UnderAll k c g es base s end → length s.above ≡ length (in_expressions es)
   all_count k c g T.NoArgs base s end u = empty s u.0.1
   all_count k c g (T.Arg e es) base s end u =
@@ -114,7 +113,7 @@ mutual
       (λ b z q w. expression_count k c g e b z q w) (λ b z q w. all_count k c g es b z q w) (value_none e) u
       ∙ sym (length-append (in_expression e) (in_expressions es))
 
-  pub statement_count : (k : Option ClassCode) (c : List Instr) (g : Numbering) (st : Statement) (base : List Value) (s : Standing) (end : ℕ)
+  pub statement_count : (k : Option ClassCode) (c : List Instr) (g : Numbering) (st : Statement) (base : List Value) (s : Point) (end : ℕ)
       → UnderStatement k c g st base s end → length s.above ≡ length (in_statement st)
   statement_count k c g (T.Assign x p e) base s end u = expression_count k c g e base s u.0 u.1
   statement_count k c g (T.Write e) base s end u = expression_count k c g e base s u.0 u.1
@@ -134,7 +133,7 @@ mutual
       let n = method_count d k i w ss e qs u.1.1 (λ b z q w. statements_count k d i ss b z q w) (λ b z q w. expression_count k d i e b z q w) (λ b z q w. statements_count k d i qs b z q w) (value_none e) u.1.7 in
       ap length u.1.3 ∙ level_length u.1.0 t u.1.1 ∙ ap suc (n ∙ sym (length-append (in_statements ss) (in_expression e ++ in_statements qs) ∙ ap (λ m. length (in_statements ss) + m) (length-append (in_expression e) (in_statements qs))))
 
-  pub statements_count : (k : Option ClassCode) (c : List Instr) (g : Numbering) (ss : Statements) (base : List Value) (s : Standing) (end : ℕ)
+  pub statements_count : (k : Option ClassCode) (c : List Instr) (g : Numbering) (ss : Statements) (base : List Value) (s : Point) (end : ℕ)
       → UnderStatements k c g ss base s end → length s.above ≡ length (in_statements ss)
   statements_count k c g T.Done base s end u = empty s u.0.1
   statements_count k c g (T.Then st ss) base s end u =
@@ -143,7 +142,7 @@ mutual
       x ∙ (let e : length (in_statement st) ≡ length (in_statement st) + length (in_statements ss) = omega (arith, y) in e)
       ∙ sym (length-append (in_statement st) (in_statements ss))
 
-  pub guards_count : (k : Option ClassCode) (c : List Instr) (g : Numbering) (alts : Alternatives) (base : List Value) (s : Standing) (end : ℕ)
+  pub guards_count : (k : Option ClassCode) (c : List Instr) (g : Numbering) (alts : Alternatives) (base : List Value) (s : Point) (end : ℕ)
       → UnderGuards k c g alts base s end → length s.above ≡ length (in_guards alts)
   guards_count k c g T.NoAlts base s end u = empty s u.0.1
   guards_count k c g (T.Alt e ns ss alts) base s end u =

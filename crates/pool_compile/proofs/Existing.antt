@@ -3,27 +3,29 @@ use Rattle.std.proofs.Common.{◌≡◌, refl, sym, ap, ◌∙◌, subst, IsTrue
 use Rattle.std.specs.Prelude.{slice_get, map, not, if◌then◌else◌}
 use Rattle.std.specs.List.{list_any}
 use Rattle.std.proofs.lemmas.Option.{slice_get_cases}
-use Rattle.pool_syntax.specs.declared.words.Value.TheVariants as V
-use Rattle.pool_syntax.specs.declared.words.Op.{Op}
-use Rattle.pool_syntax.specs.declared.words.Op.TheVariants as O
-use Rattle.pool_syntax.specs.declared.tree.Kind.{Kind}
+use Rattle.run_words.specs.declared.words.Value.TheVariants as V
+use Rattle.run_words.specs.declared.words.Op.{Op}
+use Rattle.run_words.specs.declared.words.Op.TheVariants as O
+use Rattle.run_words.specs.declared.words.Kind.{Kind}
 use Rattle.pool_syntax.specs.declared.tree.Named.{Named}
 use Rattle.pool_syntax.specs.declared.tree.Var.{Var}
-use Rattle.pool_syntax.specs.Tokens.{Text}
+use Rattle.run_words.specs.Text.{Text}
 use Rattle.pool_syntax.specs.Terms as T
 use Rattle.pool_syntax.specs.Terms.{Expression, Expressions, Statement, Statements, Alternatives, MethodTree, ClassTree, ProgramTree}
 use Rattle.pool_syntax.specs.Classes.{class_of, named_method}
-use Rattle.pool_syntax.specs.Spelled.{text_passes, is_name, are_answer_names, is_spelled_expression, are_spelled_expressions, is_spelled_statement, are_spelled_statements, are_spelled_alternatives}
-use Rattle.pool_syntax.specs.Typing.{Sort, IntSort, BoolSort, ClassSort, NilSort, NoSort, BrokenSort, Scope, kind_sort, outcome_sort, method_sort, var_sort, op_sort, sort_of, var_of, vars_of_class, methods_of, methods_of_class, own_method, params_of, size, contains, is_broken_name, fault_if, limit, needs, needs_any, position, method_faults, destination_faults, names_faults, answer_faults, expression_faults, arguments_faults, statement_faults, statements_faults, alternatives_faults}
-use Rattle.pool_relation.proofs.Laws.{is_broken}
-use Rattle.pool_relation.proofs.Laws.{AllKnown, OutcomeKnown, MethodKnown, Known}
-use Rattle.object_code.specs.declared.unit.Instr.{Instr}
-use Rattle.object_code.specs.declared.unit.Instr.TheVariants as I
-use Rattle.object_code.specs.declared.unit.AltCode.{AltCode}
-use Rattle.object_code.specs.declared.unit.ClassCode.{ClassCode}
-use Rattle.object_code.specs.declared.unit.Unit.{Unit as Code}
-use Rattle.object_code.specs.Proper.{AreOwn, AnswerOwn, Exists, AltsExist}
-use Rattle.object_code.specs.Step.{method_named, class_from}
+use Rattle.run_words.specs.Keywords.{text_passes, is_name}
+use Rattle.pool_syntax.specs.Spelled.{are_answer_names, is_spelled_expression, are_spelled_expressions, is_spelled_statement, are_spelled_statements, are_spelled_alternatives}
+use Rattle.run_words.specs.Sorts.{Sort, IntSort, BoolSort, ClassSort, NilSort, NoSort, BrokenSort, op_sort}
+use Rattle.pool_syntax.specs.Typing.{Scope, kind_sort, outcome_sort, method_sort, var_sort, sort_of, var_of, vars_of_class, methods_of, methods_of_class, own_method, params_of, size, contains, is_broken_name, fault_if, limit_faults, needs, needs_any, position, method_faults, destination_faults, names_faults, answer_faults, expression_faults, arguments_faults, statement_faults, statements_faults}
+use Rattle.pool_syntax.specs.Typing.{alternatives_faults}
+use Rattle.pool_relation.proofs.Laws.{is_broken, AllKnown, OutcomeKnown, MethodKnown, Known}
+use Rattle.code_semantics.specs.declared.unit.Instr.{Instr}
+use Rattle.code_semantics.specs.declared.unit.Instr.TheVariants as I
+use Rattle.code_semantics.specs.declared.unit.AltCode.{AltCode}
+use Rattle.code_semantics.specs.declared.unit.ClassCode.{ClassCode}
+use Rattle.code_semantics.specs.declared.unit.Unit.{Unit as Code}
+use Rattle.code_semantics.specs.Proper.{AreOwn, AnswerOwn, Exists, AltsExist}
+use Rattle.code_semantics.specs.Step.{method_named, class_from}
 use Rattle.pool_compile.specs.Code.{Numbering, name, push, load, store, number_of, names_of, answer_names, class_code, code, expression_code, expressions_code, guards_code, statement_code, statements_code, alternatives_code, alternatives_at}
 use Rattle.pool_compile.proofs.Counted.{nil_left, nil_right, no_fault, two, three}
 use Rattle.pool_compile.proofs.Heights.{Led, Fine}
@@ -134,7 +136,7 @@ method_is (Some mt) n at f =
     let q : not (length mt.params == n) ≡ false = no_fault (not (length mt.params == n)) at 8 f in
     (mt, refl, grind (arith, q))
 
-op_whole : (op : Op) → is_broken (op_sort op) ≡ false
+pub op_whole : (op : Op) → is_broken (op_sort op) ≡ false
 op_whole O.Add = refl
 op_whole O.Sub = refl
 op_whole O.Mul = refl
@@ -198,18 +200,18 @@ module _ (names : List Text) (g : Scope) (ground : Ground g) where
   whole (T.Literal V.Nil p) h s f = refl
   whole (T.Me p) h s f = refl
   whole (T.Variable x p) h s f =
-      name_whole g.program g.temps (vars_of_class g.own) x ground.temps ground.own.vars (no_fault (is_broken_name g x) p 6 (nil_right (limit h p) _ f))
+      name_whole g.program g.temps (vars_of_class g.own) x ground.temps ground.own.vars (no_fault (is_broken_name g x) p 6 (nil_right (limit_faults h p) _ f))
   whole (T.Create c p) h s f =
-      let q : not (is_some (class_of g.program c)) ≡ false = no_fault (not (is_some (class_of g.program c))) p 2 (nil_right (limit h p) _ f) in
+      let q : not (is_some (class_of g.program c)) ≡ false = no_fault (not (is_some (class_of g.program c))) p 2 (nil_right (limit_faults h p) _ f) in
       let i : is_some (class_of g.program c) ≡ true = grind (arith, q) in
       rw i refl
   whole (T.Prefix op e p) h s f = op_whole op
   whole (T.Infix op l r p) h s f = op_whole op
   whole (T.Call m es p) h s f =
-      method_whole g.program (own_method g m) (size es) p (ground.own.methods m) (nil_left (method_faults (own_method g m) (size es) p) _ (nil_right (limit h p) _ f))
+      method_whole g.program (own_method g m) (size es) p (ground.own.methods m) (nil_left (method_faults (own_method g m) (size es) p) _ (nil_right (limit_faults h p) _ f))
   whole (T.Send e m es p) h s f =
       let t = three (is_spelled_expression names e) (is_name names m) (are_spelled_expressions names es) s in
-      let r = nil_right (limit h p) _ f in
+      let r = nil_right (limit_faults h p) _ f in
       let q = nil_left (destination_faults g (sort_of g e) m (size es) p (position e)) _ (nil_right (expression_faults g h e) _ r) in
       let d = sent_to g (sort_of g e) m (size es) p (position e) ground.written (whole e h t.0 (nil_left (expression_faults g h e) _ r)) q in
       rw (d.2, d.3) (outcome_whole g.program d.1.outcome (let k : MethodKnown g.program (Some d.1) = subst (MethodKnown g.program) d.3 ((ground.all d.0).methods m) in k.2))
@@ -274,28 +276,28 @@ module _ (names : List Text) (g : Scope) (ground : Ground g) where
       pub expression_fits : (e : Expression) (h : ℕ) → is_spelled_expression names e ≡ true → expression_faults g h e ≡ [] → Fit (expression_code num e)
       expression_fits (T.Literal v p) h s f = push_fits v
       expression_fits (T.Me p) h s f = (tt {0}, tt {0})
-      expression_fits (T.Variable x p) h s f = load_fits x p 6 (nil_right (limit h p) _ f)
+      expression_fits (T.Variable x p) h s f = load_fits x p 6 (nil_right (limit_faults h p) _ f)
       expression_fits (T.Create c p) h s f =
-          let q : not (is_some (class_of g.program c)) ≡ false = no_fault (not (is_some (class_of g.program c))) p 2 (nil_right (limit h p) _ f) in
+          let q : not (is_some (class_of g.program c)) ≡ false = no_fault (not (is_some (class_of g.program c))) p 2 (nil_right (limit_faults h p) _ f) in
           let i : is_some (class_of g.program c) ≡ true = grind (arith, q) in
           (class_there g.program u c same i, tt {0})
       expression_fits (T.Prefix op e p) h s f =
-          both (expression_code num e) (I.Oper op ∷ []) (expression_fits e h s (nil_left (expression_faults g h e) _ (nil_right (limit h p) _ f))) (tt {0}, tt {0})
+          both (expression_code num e) (I.Oper op ∷ []) (expression_fits e h s (nil_left (expression_faults g h e) _ (nil_right (limit_faults h p) _ f))) (tt {0}, tt {0})
       expression_fits (T.Infix op l r p) h s f =
           let t = two (is_spelled_expression names l) (is_spelled_expression names r) s in
-          let a = nil_right (limit h p) _ f in
+          let a = nil_right (limit_faults h p) _ f in
           let b = nil_right (expression_faults g h l) _ a in
           both (expression_code num l) (expression_code num r ++ I.Oper op ∷ []) (expression_fits l h t.0 (nil_left (expression_faults g h l) _ a))
           (both (expression_code num r) (I.Oper op ∷ []) (expression_fits r (h + 1) t.1 (nil_left (expression_faults g (h + 1) r) _ b)) (tt {0}, tt {0}))
       expression_fits (T.Call m es p) h s f =
           let t = two (is_name names m) (are_spelled_expressions names es) s in
-          let a = nil_right (limit h p) _ f in
+          let a = nil_right (limit_faults h p) _ f in
           let i = method_is (own_method g m) (size es) p (nil_left (method_faults (own_method g m) (size es) p) _ a) in
           both (expressions_code num es) (I.Call (name m) ∷ []) (expressions_fit (params_of (own_method g m)) es h t.1 (nil_right (method_faults (own_method g m) (size es) p) _ a))
           (own_fits m (rw (i.1) refl), tt {0})
       expression_fits (T.Send e m es p) h s f =
           let t = three (is_spelled_expression names e) (is_name names m) (are_spelled_expressions names es) s in
-          let a = nil_right (limit h p) _ f in
+          let a = nil_right (limit_faults h p) _ f in
           let x = nil_left (expression_faults g h e) _ a in
           let b = nil_right (expression_faults g h e) _ a in
           let d = nil_left (destination_faults g (sort_of g e) m (size es) p (position e)) _ b in

@@ -1,22 +1,22 @@
 -- What frames that stand for a term say of its redex, and how another part takes the redex's place in both.
-use Rattle.object_code.specs.declared.unit.Frame.{Frame}
+use Rattle.run_words.specs.declared.frames.Frame.{Frame}
 use Rattle.std.proofs.Common.{◌≡◌, ap, ◌∙◌, subst, ℕ, suc, List, [], ◌∷◌, ◌++◌, length, Option, Some, is_some, IsTrue, Bool, true, false, ◌⊎◌, append_assoc}
 use Rattle.std.specs.Prelude.{slice_get, map}
-use Rattle.pool_syntax.specs.declared.words.Value.{Value}
-use Rattle.pool_syntax.specs.declared.words.Value.TheVariants as V
-use Rattle.pool_syntax.specs.declared.words.Item.TheVariants as Item
+use Rattle.run_words.specs.declared.words.Value.{Value}
+use Rattle.run_words.specs.declared.words.Value.TheVariants as V
+use Rattle.run_words.specs.declared.words.Item.TheVariants as Item
 use Rattle.pool_syntax.specs.Terms as T
 use Rattle.pool_syntax.specs.Terms.{Store, Expression, Expressions, Statement, Statements, Alternatives, append}
 use Rattle.pool_relation.specs.Reducible as R
-use Rattle.pool_relation.specs.Reducible.{Choice, Reducible, Found, Evaluated, At, Part, AsExpression, AsStatements, as_expression, as_statements, set_value, assigned, fill_expression, fill_expressions, fill_statement, fill_statements, fill_guards}
-use Rattle.object_code.specs.declared.unit.Instr.{Instr}
-use Rattle.object_code.specs.declared.unit.Instr.TheVariants as I
-use Rattle.object_code.specs.declared.unit.AltCode.{AltCode}
-use Rattle.pool_syntax.specs.declared.words.Serves.TheVariants as S
-use Rattle.object_code.specs.declared.unit.ClassCode.{ClassCode}
-use Rattle.object_code.specs.Frames.{code_of, next, silent}
+use Rattle.pool_relation.specs.Reducible.{Choice, Reducible, Found, Evaluated, At, Contractum, AsExpression, AsStatements, as_expression, as_statements, set_value, assigned, fill_expression, fill_expressions, fill_statement, fill_statements, fill_guards}
+use Rattle.code_semantics.specs.declared.unit.Instr.{Instr}
+use Rattle.code_semantics.specs.declared.unit.Instr.TheVariants as I
+use Rattle.code_semantics.specs.declared.unit.AltCode.{AltCode}
+use Rattle.run_words.specs.declared.words.Serves.TheVariants as S
+use Rattle.code_semantics.specs.declared.unit.ClassCode.{ClassCode}
+use Rattle.code_semantics.specs.Frames.{code_of, next, silent}
 use Rattle.pool_compile.specs.Code.{Numbering, name, load, store, answer_names}
-use Rattle.pool_compile.specs.Stands.{Standing, Head, keys, frame_of, fresh, Ends, Standings, IsServing, push_all, Under, UnderStatement, UnderStatements}
+use Rattle.pool_compile.specs.Stands.{Point, Head, keys, frame_of, fresh, Ends, PointsOf, IsServing, push_all, Under, UnderStatement, UnderStatements}
 
 -- whether a redex is an expression
 abbrev pub is_inner : Reducible → Bool
@@ -26,7 +26,7 @@ is_inner (R.Make c) = true
 is_inner (R.Unary op v) = true
 is_inner (R.Binary op v w) = true
 is_inner (R.Invoke m args) = true
-is_inner (R.Request v m args) = true
+is_inner (R.SynchronousSend v m args) = true
 is_inner (R.Leave v) = true
 is_inner (R.Waiting b m) = true
 is_inner _ = false
@@ -36,23 +36,23 @@ abbrev pub after : Reducible → Store → Store
 after (R.Set x v) t = set_value t x v
 after _ t = t
 
-abbrev pub UnderPart : Bool → Option ClassCode → List Instr → Numbering → Part → Standings
+abbrev pub UnderPart : Bool → Option ClassCode → List Instr → Numbering → Contractum → PointsOf
 UnderPart true k c g (AsExpression e) = Under k c g e
 UnderPart false k c g (AsStatements ss) = UnderStatements k c g ss
 UnderPart _ k c g part = λ base s end. ⊥
 
 -- an instruction at hand, with these operands
-abbrev pub Stand : Option ClassCode → Head → Standing → List Value → Instr → ℕ → Type 0
+abbrev pub Stand : Option ClassCode → Head → Point → List Value → Instr → ℕ → Type 0
 Stand k h s vs i stop = (s.operands ≡ vs) × Ends (code_of k h.method) s.at i stop
 
 -- a frame over a held one, at its end
-abbrev pub Ending : Option ClassCode → List Frame → List Value → Standing → ℕ → Value → Store → (Frame → Type 0) → Type 0
+abbrev pub Ending : Option ClassCode → List Frame → List Value → Point → ℕ → Value → Store → (Frame → Type 0) → Type 0
 Ending k over base s stop v u serves =
     (f : Frame) × (over ≡ f ∷ []) × serves f × (f.operands ≡ v ∷ []) × (slice_get (code_of k f.method) f.at ≡ Some I.Ret)
     × (s.operands ≡ base) × (s.at ≡ stop)
 
 -- a frame that serves a caller over a held one, before its post statements, and what is left of the served method once it has returned
-abbrev pub Returning : Option ClassCode → List Frame → Head → Numbering → List Value → Standing → ℕ → Option ℕ → Value → Statements → Type 0
+abbrev pub Returning : Option ClassCode → List Frame → Head → Numbering → List Value → Point → ℕ → Option ℕ → Value → Statements → Type 0
 Returning k over h g base s stop w v work =
     (f : Frame) × (over ≡ f ∷ []) × IsServing w f.serves × IsTrue (is_some w) × (f.operands ≡ v ∷ []) × (slice_get (code_of k f.method) f.at ≡ Some I.Post)
     × UnderStatements k (code_of k h.method) g work base (record s { above = next (record f { serves = S.Sender }) f.operands ∷ [] }) stop
@@ -72,14 +72,14 @@ guards_of cs = map (λ c. c.guard) cs
 abbrev pub Here : List Frame → Store → Store → Type 0 → Type 0
 Here over t u X = (over ≡ []) × (u ≡ t) × X
 
-abbrev pub Spot : Option ClassCode → List Frame → Head → Store → Numbering → List Value → Standing → ℕ → Reducible → Store → Type 0
+abbrev pub Spot : Option ClassCode → List Frame → Head → Store → Numbering → List Value → Point → ℕ → Reducible → Store → Type 0
 Spot k over h t g base s stop R.OwnName u = Here over t u (Stand k h s base I.SelfRef stop)
 Spot k over h t g base s stop (R.Read n) u = Here over t u (Stand k h s base (load g n) stop)
 Spot k over h t g base s stop (R.Make c) u = Here over t u (Stand k h s base (I.New (name c)) stop)
 Spot k over h t g base s stop (R.Unary op v) u = Here over t u (Stand k h s (v ∷ base) (I.Oper op) stop)
 Spot k over h t g base s stop (R.Binary op v w) u = Here over t u (Stand k h s (w ∷ v ∷ base) (I.Oper op) stop)
 Spot k over h t g base s stop (R.Invoke m args) u = Here over t u (Stand k h s (push_all args base) (I.Call (name m)) stop)
-Spot k over h t g base s stop (R.Request v m args) u =
+Spot k over h t g base s stop (R.SynchronousSend v m args) u =
     Here over t u (Stand k h s (push_all args (v ∷ base)) (I.Send (name m) (length args)) stop)
 Spot k over h t g base s stop (R.Leave v) u = Ending k over base s stop v u (λ f. f.serves ≡ S.Own)
 Spot k over h t g base s stop (R.Waiting b m) u =
@@ -104,12 +104,12 @@ Spot k over h t g base s stop (R.Finish w v work) u =
     (Ending k over base s stop v u (λ f. IsServing w f.serves) × (work ≡ T.Done)) ⊎ Returning k over h g base s stop w v work
 
 -- the redex r, its frames, and what becomes of all frames where another part takes its place
-pub record Focus (k : Option ClassCode) (V : List ℕ) (L : List Frame) (r : Reducible) (u : Store) (Target : List Frame → Part → Type 0) : Type 0 where
+pub record Focus (k : Option ClassCode) (V : List ℕ) (L : List Frame) (r : Reducible) (u : Store) (Target : List Frame → Contractum → Type 0) : Type 0 where
   pub host : Head
   pub own : Store
   pub g : Numbering
   pub base : List Value
-  pub s : Standing
+  pub s : Point
   pub stop : ℕ
   pub over : List Frame
   pub rest : List Frame
@@ -118,7 +118,7 @@ pub record Focus (k : Option ClassCode) (V : List ℕ) (L : List Frame) (r : Red
   -- the numbers of the object's variables are the same in all its frames
   pub vars : g.vars ≡ V
   pub spot : Spot k over host own g base s stop r u
-  pub rebuild : (part : Part) (z : Standing) → UnderPart (is_inner r) k (code_of k host.method) g part base z stop → Target (z.above ++ frame_of host (after r own) z ∷ rest) part
+  pub rebuild : (part : Contractum) (z : Point) → UnderPart (is_inner r) k (code_of k host.method) g part base z stop → Target (z.above ++ frame_of host (after r own) z ∷ rest) part
 
 -- a silent instruction at hand
 pub record Idle (k : Option ClassCode) (L : List Frame) (Same : List Frame → Type 0) : Type 0 where
@@ -130,14 +130,14 @@ pub record Idle (k : Option ClassCode) (L : List Frame) (Same : List Frame → T
   pub kept : Same (g ∷ rest)
 
 -- what is seen of a part: its value, its redex, or a silent instruction
-pub data Sight (k : Option ClassCode) (V : List ℕ) (L : List Frame) {A : Type 0} (found : Found A) (Finished : A → Type 0) (Target : List Frame → Part → Type 0) (Same : List Frame → Type 0) : Type 0 where
+pub data Sight (k : Option ClassCode) (V : List ℕ) (L : List Frame) {A : Type 0} (found : Found A) (Finished : A → Type 0) (Target : List Frame → Contractum → Type 0) (Same : List Frame → Type 0) : Type 0 where
   over : (a : A) → found ≡ Evaluated a → Finished a → Sight k V L found Finished Target Same
   redex : (r : Reducible) (u : Store) → found ≡ At r u → Focus k V L r u Target → Sight k V L found Finished Target Same
   idle : Idle k L Same → Sight k V L found Finished Target Same
 
 -- the same redex in a larger part
-pub within : (k : Option ClassCode) (V : List ℕ) (L : List Frame) (r : Reducible) (u : Store) (T T' : List Frame → Part → Type 0) → Focus k V L r u T
-    → ((fs : List Frame) (part : Part) → T fs part → T' fs part) → Focus k V L r u T'
+pub within : (k : Option ClassCode) (V : List ℕ) (L : List Frame) (r : Reducible) (u : Store) (T T' : List Frame → Contractum → Type 0) → Focus k V L r u T
+    → ((fs : List Frame) (part : Contractum) → T fs part → T' fs part) → Focus k V L r u T'
 within k V L r u T T' x f = record {
   host = x.host;
   own = x.own;
@@ -155,8 +155,8 @@ within k V L r u T T' x f = record {
 }
 
 -- the same in a frame over another one
-pub beneath : (k : Option ClassCode) (V : List ℕ) (L : List Frame) (r : Reducible) (u : Store) (T T' : List Frame → Part → Type 0) (f : Frame) → Focus k V L r u T
-    → ((fs : List Frame) (part : Part) → T fs part → T' (fs ++ f ∷ []) part) → Focus k V (L ++ f ∷ []) r u T'
+pub beneath : (k : Option ClassCode) (V : List ℕ) (L : List Frame) (r : Reducible) (u : Store) (T T' : List Frame → Contractum → Type 0) (f : Frame) → Focus k V L r u T
+    → ((fs : List Frame) (part : Contractum) → T fs part → T' (fs ++ f ∷ []) part) → Focus k V (L ++ f ∷ []) r u T'
 beneath k V L r u T T' f x go = record {
   host = x.host;
   own = x.own;

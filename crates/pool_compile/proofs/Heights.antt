@@ -1,21 +1,21 @@
 -- In compiled code each place has one number of operands.
-use Rattle.object_code.specs.declared.unit.ClassCode.{ClassCode}
+use Rattle.code_semantics.specs.declared.unit.ClassCode.{ClassCode}
 use Rattle.std.proofs.Common.{◌≡◌, refl, sym, ap, ◌∙◌, subst, ℕ, zero, suc, ◌+◌, ◌-◌, ◌<◌, ◌≤◌, List, [], ◌∷◌, ◌++◌, length, Option, Some, Bool, true, false, arith, length-append}
 use Rattle.std.specs.Prelude.{slice_get, map, nat_le, not, ◌&&◌, ◌==◌, if◌then◌else◌}
-use Rattle.pool_syntax.specs.declared.words.Value.{Value}
-use Rattle.pool_syntax.specs.declared.words.Value.TheVariants as V
-use Rattle.pool_syntax.specs.declared.words.Op.{Op}
+use Rattle.run_words.specs.declared.words.Value.{Value}
+use Rattle.run_words.specs.declared.words.Value.TheVariants as V
+use Rattle.run_words.specs.declared.words.Op.{Op}
 use Rattle.pool_syntax.specs.Terms as T
 use Rattle.pool_syntax.specs.Terms.{Expression, Expressions, Statement, Statements, Alternatives}
 use Rattle.pool_syntax.specs.Typing.{size, contains}
-use Rattle.pool_syntax.specs.Values.{is_prefix}
+use Rattle.run_words.specs.Values.{is_prefix}
 use Rattle.pool_relation.specs.Typed.{has_room}
-use Rattle.object_code.specs.declared.unit.Instr.{Instr}
-use Rattle.object_code.specs.declared.unit.Instr.TheVariants as I
-use Rattle.object_code.specs.declared.unit.AltCode.{AltCode}
-use Rattle.object_code.specs.Kinds.{arity}
-use Rattle.object_code.specs.Step.{method_named}
-use Rattle.object_code.specs.Proper.{takes, leaves, nexts, params_of}
+use Rattle.code_semantics.specs.declared.unit.Instr.{Instr}
+use Rattle.code_semantics.specs.declared.unit.Instr.TheVariants as I
+use Rattle.code_semantics.specs.declared.unit.AltCode.{AltCode}
+use Rattle.code_semantics.specs.Kinds.{arity}
+use Rattle.code_semantics.specs.Step.{method_named}
+use Rattle.code_semantics.specs.Proper.{takes, leaves, nexts, params_of}
 use Rattle.pool_compile.specs.Code.{Numbering, name, push, load, store, number_of, count, expression_code, expressions_code, guards_code, statement_code, statements_code, alternatives_code, alternatives_at}
 use Rattle.pool_compile.proofs.Coded.{Has, front, back, works_length}
 

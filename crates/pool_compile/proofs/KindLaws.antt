@@ -1,33 +1,32 @@
 -- The code's kind is the term's.
-use Rattle.object_code.specs.declared.unit.Frame.{Frame}
-use Rattle.std.proofs.Common.{◌≡◌, refl, sym, ap, ◌∙◌, subst, ℕ, suc, ◌+◌, List, [], ◌∷◌, ◌++◌, length, Option, Some, None, is_some, Bool, true, false, arith, inl, inr}
+use Rattle.run_words.specs.declared.frames.Frame.{Frame}
+use Rattle.std.proofs.Common.{◌≡◌, refl, sym, ap, ◌∙◌, subst, ℕ, suc, ◌+◌, List, [], ◌∷◌, ◌++◌, length, Option, Some, None, is_some, Bool, true, false, arith, inl, inr, append-nil}
 use Rattle.std.specs.Prelude.{map, if◌then◌else◌, ◌||◌}
 use Rattle.std.specs.List.{list_any}
-use Rattle.pool_syntax.specs.declared.words.Op.{Op}
-use Rattle.pool_syntax.specs.declared.words.Op.TheVariants as O
-use Rattle.pool_syntax.specs.declared.words.Value.{Value}
-use Rattle.pool_syntax.specs.declared.words.Value.TheVariants as V
-use Rattle.pool_syntax.specs.declared.words.Item.TheVariants as Item
-use Rattle.pool_syntax.specs.declared.words.Error.TheVariants.{NilOperand}
+use Rattle.run_words.specs.declared.words.Op.{Op}
+use Rattle.run_words.specs.declared.words.Op.TheVariants as O
+use Rattle.run_words.specs.declared.words.Value.{Value}
+use Rattle.run_words.specs.declared.words.Value.TheVariants as V
+use Rattle.run_words.specs.declared.words.Item.TheVariants as Item
+use Rattle.run_words.specs.declared.words.Error.TheVariants.{NilOperand}
 use Rattle.pool_syntax.specs.Terms as T
 use Rattle.pool_syntax.specs.Terms.{Store, ProgramTree, MethodTree, Statements}
 use Rattle.pool_syntax.specs.Classes.{class_of}
-use Rattle.pool_syntax.specs.Values.{Outcome, Gives, Fails, WrongSort, prefix_value, infix_value}
+use Rattle.run_words.specs.Values.{Outcome, Gives, Fails, WrongSort, prefix_value, infix_value, is_bool, is_nil, not_bool, is_true}
 use Rattle.pool_relation.specs.Reducible as R
-use Rattle.pool_relation.specs.Reducible.{Choice, Reducible, Part}
+use Rattle.pool_relation.specs.Reducible.{Choice, Reducible, Contractum}
 use Rattle.pool_relation.specs.Action as A
 use Rattle.pool_relation.specs.Action.{Object, Action, value_of, on_outcome, read, on_call, on_object, on_assignment, on_branch, on_select, method_of, redex_action}
-use Rattle.pool_syntax.specs.Values.{is_bool, is_nil, not_bool, is_true}
-use Rattle.object_code.specs.declared.unit.Instr.{Instr}
-use Rattle.object_code.specs.declared.unit.Instr.TheVariants as I
-use Rattle.object_code.specs.declared.unit.AltCode.{AltCode}
-use Rattle.object_code.specs.declared.unit.ClassCode.{ClassCode}
-use Rattle.object_code.specs.Frames.{top, taken, dropped}
-use Rattle.object_code.specs.Kinds as K
-use Rattle.object_code.specs.Kinds.{Kind, instr_kind, frames_kind, operated, outcome_kind, sent_kind, select_kind, return_kind, offers}
+use Rattle.code_semantics.specs.declared.unit.Instr.{Instr}
+use Rattle.code_semantics.specs.declared.unit.Instr.TheVariants as I
+use Rattle.code_semantics.specs.declared.unit.AltCode.{AltCode}
+use Rattle.code_semantics.specs.declared.unit.ClassCode.{ClassCode}
+use Rattle.run_words.specs.Operands.{top, taken, dropped}
+use Rattle.code_semantics.specs.Kinds as K
+use Rattle.code_semantics.specs.Kinds.{Kind, instr_kind, frames_kind, operated, outcome_kind, sent_kind, select_kind, return_kind, offers}
 use Rattle.pool_syntax.specs.Typing.{contains}
 use Rattle.pool_compile.specs.Code.{Numbering, name, load, store, number_of}
-use Rattle.pool_compile.specs.Stands.{Standing, Head, frame_of, push_all}
+use Rattle.pool_compile.specs.Stands.{Point, Head, frame_of, push_all}
 use Rattle.pool_compile.specs.Follows.{SameKind, offered}
 use Rattle.pool_compile.proofs.Focus.{Stand, Ending, Lists, guards_of, Focus, Spot, Returning}
 
@@ -47,23 +46,19 @@ taken_all (v ∷ vs) j base args =
 pub drop_args : (vs base : List Value) → dropped (length vs) (push_all vs base) ≡ base
 drop_args vs base = ap (λ n. dropped n (push_all vs base)) (let e : length vs ≡ length vs + 0 = omega arith in e) ∙ dropped_all vs 0 base
 
-append_nil : (vs : List Value) → vs ++ [] ≡ vs
-append_nil [] = refl
-append_nil (v ∷ vs) = ap (λ l. v ∷ l) (append_nil vs)
-
 pub take_args : (vs base : List Value) → taken (length vs) (push_all vs base) [] ≡ vs
 take_args vs base =
-    ap (λ n. taken n (push_all vs base) []) (let e : length vs ≡ length vs + 0 = omega arith in e) ∙ taken_all vs 0 base [] ∙ append_nil vs
+    ap (λ n. taken n (push_all vs base) []) (let e : length vs ≡ length vs + 0 = omega arith in e) ∙ taken_all vs 0 base [] ∙ append-nil vs
 
 -- the kind at an instruction at hand
-stand_kind : (k : Option ClassCode) (h : Head) (own : Store) (s : Standing) (vs : List Value) (i : Instr) (stop : ℕ) (rest : List Frame)
+stand_kind : (k : Option ClassCode) (h : Head) (own : Store) (s : Point) (vs : List Value) (i : Instr) (stop : ℕ) (rest : List Frame)
     → Stand k h s vs i stop
     → frames_kind k (frame_of h own s ∷ rest) ≡ instr_kind (frame_of h own (record s { operands = vs })) (Some i)
 stand_kind k h own s vs i stop rest st =
     ap (instr_kind (frame_of h own s)) st.1.0 ∙ ap (λ l. instr_kind (frame_of h own (record s { operands = l })) (Some i)) st.0
 
 -- what frames do that are as they are said to be
-here_kind : (k : Option ClassCode) (L over : List Frame) (h : Head) (own : Store) (s : Standing) (vs : List Value) (i : Instr) (stop : ℕ) (rest : List Frame)
+here_kind : (k : Option ClassCode) (L over : List Frame) (h : Head) (own : Store) (s : Point) (vs : List Value) (i : Instr) (stop : ℕ) (rest : List Frame)
     → L ≡ over ++ frame_of h own s ∷ rest → over ≡ [] → Stand k h s vs i stop
     → frames_kind k L ≡ instr_kind (frame_of h own (record s { operands = vs })) (Some i)
 here_kind k L over h own s vs i stop rest split empty st =
@@ -167,7 +162,7 @@ assignment_same : (x : Object) (u : Store) (n : ℕ) (v : Value) → SameKind (o
 assignment_same x u n v =
     if_same (is_some (value_of u n)) _ _ K.Local refl (if_same (is_some (value_of x.vars n)) _ A.Stuck K.Local refl tt)
 
-module _ (p : ProgramTree) (o : ℕ) (x : Object) (k : Option ClassCode) (W : List ℕ) (L : List Frame) (T : List Frame → Part → Type 0) where
+module _ (p : ProgramTree) (o : ℕ) (x : Object) (k : Option ClassCode) (W : List ℕ) (L : List Frame) (T : List Frame → Contractum → Type 0) where
   at : (r : Reducible) (u : Store) (f : Focus k W L r u T) (vs : List Value) (i : Instr) (stop : ℕ) → f.over ≡ [] → Stand k f.host f.s vs i stop
       → SameKind (redex_action p o x u r) (instr_kind (frame_of f.host f.own (record f.s { operands = vs })) (Some i))
       → SameKind (redex_action p o x u r) (frames_kind k L)
@@ -204,8 +199,8 @@ module _ (p : ProgramTree) (o : ℕ) (x : Object) (k : Option ClassCode) (W : Li
   kind_at (R.Binary op v w) u f = at (R.Binary op v w) u f _ _ _ f.spot.0 f.spot.2 (binary_same x op v w f.base)
   kind_at (R.Invoke m args) u f =
       at (R.Invoke m args) u f _ _ _ f.spot.0 f.spot.2 (call_same x args (method_of p x.class m (length args)))
-  kind_at (R.Request v m args) u f =
-      at (R.Request v m args) u f _ _ _ f.spot.0 f.spot.2
+  kind_at (R.SynchronousSend v m args) u f =
+      at (R.SynchronousSend v m args) u f _ _ _ f.spot.0 f.spot.2
       (rw (drop_args args (v ∷ f.base), take_args args (v ∷ f.base)) (sent_same (λ b. A.Send b m args) (λ b. K.Send b (name m) args) v (λ b. refl)))
   kind_at (R.Leave v) u f = ending (R.Leave v) u f v _ f.spot (rw f.spot.2 refl)
   kind_at (R.Waiting b m) u f =

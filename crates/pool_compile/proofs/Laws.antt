@@ -10,3 +10,4 @@ pub use Rattle.pool_compile.proofs.Texts.{program_is_text}
 -- the code of a program without class faults
 pub use Rattle.pool_compile.proofs.ProgramProper.{program_proper}
 pub use Rattle.pool_compile.proofs.Limits.{program_small, frames_small, written, some_class}
+pub use Rattle.pool_compile.proofs.Existing.{op_whole}

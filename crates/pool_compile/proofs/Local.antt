@@ -1,29 +1,30 @@
 -- A local step of the term is the code's.
-use Rattle.object_code.specs.declared.unit.CodeObject.{CodeObject}
+use Rattle.run_words.specs.declared.frames.CodeObject.{CodeObject}
 use Rattle.std.proofs.Common.{◌≡◌, refl, sym, ap, ◌∙◌, subst, ℕ, ◌==◌, List, [], length, Option, Some, None, is_some, Bool, true, false, arith}
 use Rattle.std.specs.Prelude.{slice_get, if◌then◌else◌}
-use Rattle.pool_syntax.specs.declared.words.Value.{Value}
-use Rattle.pool_syntax.specs.declared.words.Value.TheVariants as V
-use Rattle.pool_syntax.specs.declared.words.Error.{Error}
-use Rattle.pool_syntax.specs.declared.words.Error.TheVariants.{NilOperand, NoOpenGuard}
+use Rattle.run_words.specs.declared.words.Value.{Value}
+use Rattle.run_words.specs.declared.words.Value.TheVariants as V
+use Rattle.run_words.specs.declared.words.Error.{Error}
+use Rattle.run_words.specs.declared.words.Error.TheVariants.{NilOperand, NoOpenGuard}
 use Rattle.pool_syntax.specs.Terms as T
 use Rattle.pool_syntax.specs.Terms.{Store, Expression, Statement, Statements, MethodTree, ClassTree, ProgramTree}
 use Rattle.pool_syntax.specs.Classes.{class_of, named_method}
-use Rattle.pool_syntax.specs.Values.{Outcome, Gives, Fails, WrongSort, prefix_value, infix_value}
+use Rattle.run_words.specs.Values.{Outcome, Gives, Fails, WrongSort, prefix_value, infix_value}
 use Rattle.pool_relation.specs.Reducible as R
-use Rattle.pool_relation.specs.Reducible.{Choice, Reducible, Part, AsExpression, AsStatements, fill_statements, set_value}
+use Rattle.pool_relation.specs.Reducible.{Choice, Reducible, Contractum, AsExpression, AsStatements, fill_statements, set_value}
 use Rattle.pool_relation.specs.Action as A
 use Rattle.pool_relation.specs.Action.{Object, Action, value_of, literal, temps_of, becomes, on_outcome, read, on_call, on_assignment, on_branch, on_select, on_finish, on_object, method_of, method_in, with_count, redex_action}
-use Rattle.object_code.specs.declared.unit.Instr.TheVariants as I
-use Rattle.pool_syntax.specs.declared.words.Serves.TheVariants as S
-use Rattle.object_code.specs.declared.unit.ClassCode.{ClassCode}
-use Rattle.object_code.specs.Frames.{code_of}
-use Rattle.object_code.specs.Step.{frames_stepped}
+use Rattle.code_semantics.specs.declared.unit.Instr.TheVariants as I
+use Rattle.run_words.specs.declared.words.Serves.TheVariants as S
+use Rattle.code_semantics.specs.declared.unit.ClassCode.{ClassCode}
+use Rattle.code_semantics.specs.Frames.{code_of}
+use Rattle.code_semantics.specs.Step.{frames_stepped}
 use Rattle.pool_compile.specs.Code.{Numbering, names_of, class_code}
 use Rattle.pool_compile.specs.Stands.{Head, keys, values}
 use Rattle.pool_compile.proofs.Focus.{Focus}
 use Rattle.pool_compile.proofs.SeenFrames.{set_keys}
-use Rattle.pool_compile.proofs.Methods.{are_text_methods, begins}
+use Rattle.pool_compile.specs.TextPrograms.{are_text_methods}
+use Rattle.pool_compile.proofs.Methods.{begins}
 use Rattle.pool_compile.proofs.Steps.{Target, Lands, own_name, drop, loop, branch, unary, binary, leave, finish, read_temp, read_var, set_temp, set_var}
 use Rattle.pool_compile.proofs.Becomes.{calls}
 
@@ -139,7 +140,7 @@ module _ (p : ProgramTree) (x : Object) (y : CodeObject) (tree : ClassTree) (cla
     local_at (R.Unary op v) u f e = on_unary op v u f (prefix_value op v) refl e
     local_at (R.Binary op v w) u f e = on_binary op v w u f (infix_value op v w) refl e
     local_at (R.Invoke m args) u f e = on_invoke m args u f (method_of p x.class m (length args)) refl e
-    local_at (R.Request v m args) u f e = absurd (sent v (λ b. A.Send b m args) e (λ b i. grind (arith, i)))
+    local_at (R.SynchronousSend v m args) u f e = absurd (sent v (λ b. A.Send b m args) e (λ b i. grind (arith, i)))
     local_at (R.Leave v) u f e = same_vars _ _ term vars (leave k h g refl end halt x.term y.frames o y v u f) e
     local_at (R.Waiting b m) u f e = absurd (grind (arith, e))
     local_at (R.Set n v) u f e = on_set n v u f (value_of u n) (value_of x.vars n) refl refl e

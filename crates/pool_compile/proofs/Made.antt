@@ -1,19 +1,21 @@
 -- A new object's code stands for it.
-use Rattle.object_code.specs.declared.unit.CodeObject.{CodeObject}
-use Rattle.object_code.specs.declared.unit.Frame.{Frame}
+use Rattle.run_words.specs.declared.frames.CodeObject.{CodeObject}
+use Rattle.run_words.specs.declared.frames.Frame.{Frame}
 use Rattle.std.proofs.Common.{◌≡◌, refl, sym, ap, ◌∙◌, subst, ℕ, suc, ◌+◌, ◌==◌, [], ◌∷◌, length, Some, None, Bool, true, false, arith}
 use Rattle.std.specs.Prelude.{slice_get, if◌then◌else◌}
 use Rattle.pool_syntax.specs.Terms.{ClassTree, ProgramTree}
 use Rattle.pool_syntax.specs.Classes.{class_of}
 use Rattle.pool_relation.specs.Transition.{new_object}
-use Rattle.object_code.specs.declared.unit.Instr.TheVariants as I
-use Rattle.pool_syntax.specs.declared.words.Serves.TheVariants as S
-use Rattle.object_code.specs.declared.unit.Unit.{Unit as Code}
-use Rattle.object_code.specs.Step.{class_from, placed_of, placed_at, code_made, padded, at_rest}
+use Rattle.code_semantics.specs.declared.unit.Instr.TheVariants as I
+use Rattle.run_words.specs.declared.words.Serves.TheVariants as S
+use Rattle.code_semantics.specs.declared.unit.Unit.{Unit as Code}
+use Rattle.code_semantics.specs.Step.{class_from, placed_of, placed_at, code_made, at_rest}
+use Rattle.run_words.specs.Operands.{padded}
 use Rattle.pool_compile.specs.Code.{Numbering, name, names_of, class_code, code, body_instrs, statements_code}
 use Rattle.pool_compile.specs.Stands.{Head, fresh, frame_of}
 use Rattle.pool_compile.proofs.Coded.{front, back, has_all, coded_statements}
-use Rattle.pool_compile.proofs.Methods.{is_text_program, class_text}
+use Rattle.pool_compile.specs.TextPrograms.{is_text_program}
+use Rattle.pool_compile.proofs.Methods.{class_text}
 use Rattle.pool_compile.proofs.Settled.{settles}
 use Rattle.pool_compile.specs.Follows.{AtRest, Stands}
 use Rattle.pool_compile.proofs.Rests.{comes_to_rest}

@@ -1,31 +1,31 @@
 -- Code that stands for an object follows it.
-use Rattle.object_code.specs.declared.unit.CodeObject.{CodeObject}
-use Rattle.object_code.specs.declared.unit.Frame.{Frame}
+use Rattle.run_words.specs.declared.frames.CodeObject.{CodeObject}
+use Rattle.run_words.specs.declared.frames.Frame.{Frame}
 use Rattle.std.proofs.Common.{◌≡◌, refl, sym, ap, ◌∙◌, subst, ℕ, zero, suc, ◌==◌, List, [], ◌∷◌, ◌++◌, length, Option, Some, None, is_none, Bool, true, false, arith}
 use Rattle.std.specs.Prelude.{slice_get, if◌then◌else◌, ◌&&◌, ◌||◌}
-use Rattle.pool_syntax.specs.declared.words.Value.{Value}
-use Rattle.pool_syntax.specs.declared.words.Value.TheVariants as V
-use Rattle.pool_syntax.specs.declared.words.Item.{Item}
-use Rattle.pool_syntax.specs.declared.words.Error.{Error}
-use Rattle.pool_syntax.specs.declared.words.Error.TheVariants.{NilOperand, NoOpenGuard}
+use Rattle.run_words.specs.declared.words.Value.{Value}
+use Rattle.run_words.specs.declared.words.Value.TheVariants as V
+use Rattle.run_words.specs.declared.words.Item.{Item}
+use Rattle.run_words.specs.declared.words.Error.{Error}
+use Rattle.run_words.specs.declared.words.Error.TheVariants.{NilOperand, NoOpenGuard}
 use Rattle.pool_syntax.specs.Terms as T
 use Rattle.pool_syntax.specs.Terms.{Store, Statements, MethodTree, ClassTree, ProgramTree}
 use Rattle.pool_relation.specs.Reducible as R
-use Rattle.pool_relation.specs.Reducible.{Choice, Reducible, Found, Evaluated, At, Part, AsExpression, AsStatements, fill_statements}
+use Rattle.pool_relation.specs.Reducible.{Choice, Reducible, Found, Evaluated, At, Contractum, AsExpression, AsStatements, fill_statements}
 use Rattle.pool_relation.specs.Action as A
 use Rattle.pool_relation.specs.Action.{Object, Action, action, found_action, redex_action, on_object, on_outcome, read, on_call, on_assignment, on_branch, on_select, literal, value_of, method_of}
-use Rattle.pool_syntax.specs.Values.{is_true}
+use Rattle.run_words.specs.Values.{is_true}
 use Rattle.pool_relation.specs.Transition as X
 use Rattle.pool_relation.specs.Transition.{refilled, given, done, serving, picked, plain_choice}
-use Rattle.mesh_semantics.specs.Partial.{require, ◌>>◌}
-use Rattle.pool_syntax.specs.declared.words.Serves.{Serves}
-use Rattle.pool_syntax.specs.declared.words.Serves.TheVariants as S
-use Rattle.object_code.specs.declared.unit.ClassCode.{ClassCode}
-use Rattle.object_code.specs.declared.unit.Unit.{Unit as Code}
-use Rattle.object_code.specs.Kinds as K
-use Rattle.object_code.specs.Kinds.{frames_kind, instr_kind, code_kind}
-use Rattle.object_code.specs.Frames.{code_of, silent, settled}
-use Rattle.object_code.specs.Step.{frames_stepped, frames_given, frames_gone_on, frames_picked, frames_serving, method_serving, code_stepped, code_given, code_gone_on, code_picked, code_serving, method_named}
+use Rattle.run_words.specs.Partial.{require, ◌>>◌}
+use Rattle.run_words.specs.declared.words.Serves.{Serves}
+use Rattle.run_words.specs.declared.words.Serves.TheVariants as S
+use Rattle.code_semantics.specs.declared.unit.ClassCode.{ClassCode}
+use Rattle.code_semantics.specs.declared.unit.Unit.{Unit as Code}
+use Rattle.code_semantics.specs.Kinds as K
+use Rattle.code_semantics.specs.Kinds.{frames_kind, instr_kind, code_kind}
+use Rattle.code_semantics.specs.Frames.{code_of, silent, settled}
+use Rattle.code_semantics.specs.Step.{frames_stepped, frames_given, frames_gone_on, frames_picked, frames_serving, method_serving, code_stepped, code_given, code_gone_on, code_picked, code_serving, method_named}
 use Rattle.pool_compile.specs.Code.{Numbering, name, names_of, class_code, code}
 use Rattle.pool_compile.specs.Stands.{Head, keys, values, frame_of, IsServing, UnderStatements, StandsFor}
 use Rattle.pool_compile.specs.Follows.{SameKind, AtRest, Stands, Follows, work_at, choice_work}
@@ -36,7 +36,8 @@ use Rattle.pool_compile.proofs.See.{see_statements}
 use Rattle.pool_compile.proofs.KindLaws.{kind_at}
 use Rattle.pool_compile.proofs.Rests.{comes_to_rest}
 use Rattle.pool_compile.proofs.Tags.{tag, tag_of, tag_is}
-use Rattle.pool_compile.proofs.Methods.{is_text_program, are_text_methods, class_text, begins, Begins}
+use Rattle.pool_compile.specs.TextPrograms.{is_text_program, are_text_methods}
+use Rattle.pool_compile.proofs.Methods.{class_text, begins, Begins}
 use Rattle.pool_compile.proofs.Settled.{Whole, settles}
 use Rattle.pool_compile.proofs.Steps.{Target, Lands}
 use Rattle.pool_compile.proofs.Local.{local_at, method_found}
@@ -79,7 +80,7 @@ module _ (p : ProgramTree) (u : Code) (o : ℕ) (x : Object) (y : CodeObject) (t
   methods : are_text_methods s.tree.methods ≡ true
   methods = (class_text p x.class s.tree text s.is_class).1
 
-  abbrev Goal : List Frame → Part → Type 0
+  abbrev Goal : List Frame → Contractum → Type 0
   Goal = Target k h g refl s.end s.halt x.term y.frames
 
   abbrev F : Reducible → Store → Type 0
@@ -185,14 +186,14 @@ module _ (p : ProgramTree) (u : Code) (o : ℕ) (x : Object) (y : CodeObject) (t
 
   held_by : (b m : ℕ) (args : List Value) (r : Reducible) (t : Store) → F r t → redex_action p o x t r ≡ A.Send b m args → 4 ≡ tag_of r
       → Stands p u (refilled x (AsExpression (T.Wait b m))) y
-  held_by b m args (R.Request (V.Ref c) n more) t f q i =
+  held_by b m args (R.SynchronousSend (V.Ref c) n more) t f q i =
       let same_b : c ≡ b = grind (arith, q) in
       let same_m : n ≡ m = grind (arith, q) in
       subst (λ a. Stands p u (refilled x (AsExpression (T.Wait a m))) y) same_b
       (subst (λ a. Stands p u (refilled x (AsExpression (T.Wait c a))) y) same_m (whole_stands _ (waits k h g refl s.end s.halt x.term y.frames c n more t f)))
-  held_by b m args (R.Request V.Nil n more) t f q i = absurd (grind (arith, q))
-  held_by b m args (R.Request (V.Int z) n more) t f q i = absurd (grind (arith, q))
-  held_by b m args (R.Request (V.Bool z) n more) t f q i = absurd (grind (arith, q))
+  held_by b m args (R.SynchronousSend V.Nil n more) t f q i = absurd (grind (arith, q))
+  held_by b m args (R.SynchronousSend (V.Int z) n more) t f q i = absurd (grind (arith, q))
+  held_by b m args (R.SynchronousSend (V.Bool z) n more) t f q i = absurd (grind (arith, q))
   held_by b m args (R.Finish None v work) t f q i = absurd (grind (arith, i))
   held_by b m args (R.Finish (Some w) v work) t f q i = absurd (grind (arith, i))
   held_by b m args _ t f q i = absurd (grind (arith, i))

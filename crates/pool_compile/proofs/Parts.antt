@@ -4,9 +4,9 @@ use Rattle.pool_syntax.specs.declared.tree.Var.{Var}
 use Rattle.pool_syntax.specs.declared.tree.Method.{Method}
 use Rattle.pool_syntax.specs.declared.tree.ClassDecl.{ClassDecl}
 use Rattle.pool_syntax.specs.TreeOf.{class_tree, method_tree, statements_of}
-use Rattle.object_code.specs.declared.unit.Instr.{Instr}
-use Rattle.object_code.specs.declared.unit.MethodCode.{MethodCode}
-use Rattle.object_code.specs.declared.unit.ClassCode.{ClassCode}
+use Rattle.code_semantics.specs.declared.unit.Instr.{Instr}
+use Rattle.code_semantics.specs.declared.unit.MethodCode.{MethodCode}
+use Rattle.code_semantics.specs.declared.unit.ClassCode.{ClassCode}
 use Rattle.pool_compile.specs.Code.{body_instrs, class_code, method_code_of, names_of, statements_words}
 use Rattle.pool_compile.specs.Small.{AreShort, AreShortMethods, IsShortClass, AreSmallMethods, IsSmall, IsSmallClass, IsSmallMethod}
 

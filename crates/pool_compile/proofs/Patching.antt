@@ -5,15 +5,14 @@ use Rattle.std.specs.List.{All}
 use Rattle.std.proofs.Math.Seq.{set-append_seam}
 use Rattle.std.proofs.lemmas.List.{at_drop_more, length-set}
 use Rattle.std.proofs.lemmas.List.Elements.{All-nil, All-cons}
-use Rattle.pool_syntax.specs.declared.words.NameId.{NameId}
+use Rattle.run_words.specs.declared.words.NameId.{NameId}
 use Rattle.pool_syntax.specs.declared.tree.Stmt.{Stmt}
 use Rattle.pool_syntax.specs.declared.tree.Alt.{Alt, out-Alt}
 use Rattle.pool_syntax.specs.Terms.{Alternatives, NoAlts, Alt as OneAlt, Select}
-use Rattle.pool_syntax.specs.TreeOf.{expression_of, statement_of, statements_of}
-use Rattle.pool_syntax.specs.TreeOf.{alternatives_of}
-use Rattle.object_code.specs.declared.unit.Instr.{Instr}
-use Rattle.object_code.specs.declared.unit.Instr.TheVariants as I
-use Rattle.object_code.specs.declared.unit.AltCode.{AltCode}
+use Rattle.pool_syntax.specs.TreeOf.{expression_of, statement_of, statements_of, alternatives_of}
+use Rattle.code_semantics.specs.declared.unit.Instr.{Instr}
+use Rattle.code_semantics.specs.declared.unit.Instr.TheVariants as I
+use Rattle.code_semantics.specs.declared.unit.AltCode.{AltCode}
 use Rattle.pool_compile.specs.Code.{Numbering, statement_code, statements_code, guards_code, alternatives_code, alternatives_at, answer_names, if_code, while_code}
 use Rattle.pool_compile.specs.Jumps.{filled, jumps_at}
 

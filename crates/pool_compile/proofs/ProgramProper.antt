@@ -1,21 +1,21 @@
 -- The code of a program without class faults is proper.
 use Rattle.std.proofs.Common.{◌≡◌, ◌≢◌, refl, sym, ap, ◌∙◌, subst, IsTrue, ℕ, zero, suc, ◌+◌, ◌==◌, ◌<◌, ◌≤◌, ◌^◌, List, [], ◌∷◌, ◌++◌, length, Option, Some, None, Bool, true, false, arith, length-append}
 use Rattle.std.specs.Prelude.{slice_get, map}
+use Rattle.std.proofs.lemmas.List.{length-map}
 use Rattle.pool_syntax.specs.declared.tree.Var.{Var}
 use Rattle.pool_syntax.specs.Terms.{MethodTree, ClassTree, ProgramTree, Statements, Done, Then}
 use Rattle.pool_syntax.specs.Classes.{class_of, named_method}
-use Rattle.pool_syntax.specs.Spelled.{is_name, is_outcome, are_variables, is_spelled_expression, are_spelled_statements, are_spelled_methods, is_spelled}
+use Rattle.run_words.specs.Keywords.{is_name}
+use Rattle.pool_syntax.specs.Spelled.{is_outcome, are_variables, is_spelled_expression, are_spelled_statements, are_spelled_methods, is_spelled}
 use Rattle.pool_syntax.specs.Typing.{Scope, fault_if, vars_faults, methods_of_class, method_tree_faults, methods_faults, statements_faults, class_scope, classes_faults, faults}
-use Rattle.mesh_semantics.proofs.Laws.{first, second}
+use Rattle.run_words.proofs.Laws.{first, second}
 use Rattle.pool_relation.specs.Written.{is_source, are_source_statements, is_value_for, are_written, is_written}
-use Rattle.pool_relation.proofs.Laws.{vars_known, methods_checked, class_known}
-use Rattle.pool_relation.proofs.Laws.{AllKnown, MethodKnown, Known}
-use Rattle.pool_relation.proofs.Laws.{classes_few as few_classes}
-use Rattle.object_code.specs.declared.unit.Instr.TheVariants as I
-use Rattle.object_code.specs.declared.unit.MethodCode.{MethodCode}
-use Rattle.object_code.specs.declared.unit.ClassCode.{ClassCode}
-use Rattle.object_code.specs.declared.unit.Unit.{Unit as Code}
-use Rattle.object_code.specs.Proper.{IsProperCode, IsProperClass, IsProper}
+use Rattle.pool_relation.proofs.Laws.{vars_known, methods_checked, class_known, AllKnown, MethodKnown, Known, classes_few as few_classes}
+use Rattle.code_semantics.specs.declared.unit.Instr.TheVariants as I
+use Rattle.code_semantics.specs.declared.unit.MethodCode.{MethodCode}
+use Rattle.code_semantics.specs.declared.unit.ClassCode.{ClassCode}
+use Rattle.code_semantics.specs.declared.unit.Unit.{Unit as Code}
+use Rattle.code_semantics.specs.Proper.{IsProperCode, IsProperClass, IsProper}
 use Rattle.pool_compile.specs.Code.{Numbering, names_of, statements_code, expression_code, method_instrs, body_instrs, method_code_of, class_code, code, post_code}
 use Rattle.pool_compile.specs.Small.{AreShortMethods, IsShortClass, AreShort}
 use Rattle.pool_compile.proofs.Counted.{counted_statements}
@@ -26,10 +26,6 @@ use Rattle.pool_compile.proofs.ProperLaws.{fine_here, body_fine, method_fine, bo
 -- a part of a list whose parts are functions of others
 at_map : {A B : Type 0} (f : A → B) (x : A) (xs : List A) (y : B) → slice_get (map f (x ∷ xs)) 0 ≡ Some y → f x ≡ y
 at_map f x xs y e = grind (arith, e)
-
-length_map : {A B : Type 0} (f : A → B) (xs : List A) → length (map f xs) ≡ length xs
-length_map f [] = refl
-length_map f (x ∷ xs) = ap suc (length_map f xs)
 
 -- a method of a class has at most 8 parameters
 few_of_class : (p : ProgramTree) (c m : ℕ) (mt : MethodTree) → faults p ≡ [] → named_method (methods_of_class (class_of p c)) m ≡ Some mt → length mt.params ≤ 8
@@ -171,7 +167,7 @@ module _ (p : ProgramTree) (u : Code) (same : u.classes ≡ code p) (h : faults 
       let few = methods_few k kinds [] k.methods a.methods (omega arith) in
       record {
         name = text_there _ u.names k.name.name.0 s4;
-        limits = (no_more 64 k.vars a.few_vars, omega (arith, few, length_map (method_code_of (names_of k.vars)) k.methods));
+        limits = (no_more 64 k.vars a.few_vars, omega (arith, few, length-map k.methods (method_code_of (names_of k.vars))));
         body = made.0;
         no_ret = made.1;
         methods = methods_proper k kinds [] k.methods a.methods methods (second _ (are_spelled_methods u.names k.methods) s2) short.1;
@@ -200,7 +196,7 @@ module _ (p : ProgramTree) (u : Code) (same : u.classes ≡ code p) (h : faults 
 
   pub program_proper : p ≢ [] → is_spelled u.names p ≡ true → AreShort u.classes → IsProper u
   program_proper some s short =
-      let n : length u.classes ≡ length p = ap length same ∙ length_map class_code p in
+      let n : length u.classes ≡ length p = ap length same ∙ length-map p class_code in
       let few = classes_few [] p h (omega arith) in
       let more : 0 < length p = by p some in
       record {

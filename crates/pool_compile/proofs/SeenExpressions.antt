@@ -1,36 +1,36 @@
 -- What is seen of each form of expression, from what is seen of its parts.
-use Rattle.object_code.specs.declared.unit.Frame.{Frame}
+use Rattle.run_words.specs.declared.frames.Frame.{Frame}
 use Rattle.std.proofs.Common.{◌≡◌, refl, sym, ap, ◌∙◌, subst, ℕ, suc, List, [], ◌∷◌, ◌++◌, length, Option, Some, Bool, true, false, ◌⊎◌, inl, inr, arith}
 use Rattle.std.specs.Prelude.{if◌then◌else◌}
-use Rattle.pool_syntax.specs.declared.words.Op.{Op}
-use Rattle.pool_syntax.specs.declared.words.Value.{Value}
-use Rattle.pool_syntax.specs.declared.words.Value.TheVariants as V
+use Rattle.run_words.specs.declared.words.Op.{Op}
+use Rattle.run_words.specs.declared.words.Value.{Value}
+use Rattle.run_words.specs.declared.words.Value.TheVariants as V
 use Rattle.pool_syntax.specs.Terms as T
 use Rattle.pool_syntax.specs.Terms.{Store, Expression, Expressions, Statement, Statements, Alternatives, append}
 use Rattle.pool_syntax.specs.Typing.{size}
 use Rattle.pool_relation.specs.Reducible as R
-use Rattle.pool_relation.specs.Reducible.{Choice, Reducible, Found, Evaluated, At, Part, AsExpression, AsStatements, as_expression, as_statements, set_value, assigned, fill_expression, fill_expressions, fill_statement, fill_statements, fill_guards, is_value, are_values, is_done}
+use Rattle.pool_relation.specs.Reducible.{Choice, Reducible, Found, Evaluated, At, Contractum, AsExpression, AsStatements, as_expression, as_statements, set_value, assigned, fill_expression, fill_expressions, fill_statement, fill_statements, fill_guards, is_value, are_values, is_done}
 use Rattle.pool_relation.proofs.Laws.{not_value, not_values, arguments_are, passed}
-use Rattle.object_code.specs.declared.unit.Instr.{Instr}
-use Rattle.object_code.specs.declared.unit.Instr.TheVariants as I
-use Rattle.object_code.specs.declared.unit.ClassCode.{ClassCode}
-use Rattle.object_code.specs.Frames.{code_of, next, silent}
+use Rattle.code_semantics.specs.declared.unit.Instr.{Instr}
+use Rattle.code_semantics.specs.declared.unit.Instr.TheVariants as I
+use Rattle.code_semantics.specs.declared.unit.ClassCode.{ClassCode}
+use Rattle.code_semantics.specs.Frames.{code_of, next, silent}
 use Rattle.pool_compile.specs.Code.{Numbering, name}
-use Rattle.pool_compile.specs.Stands.{Standing, Head, keys, frame_of, level, Ends, pushed, Pushes, Under, UnderAll}
+use Rattle.pool_compile.specs.Stands.{Point, Head, keys, frame_of, level, Ends, pushed, Pushes, Under, UnderAll}
 use Rattle.pool_compile.proofs.Focus.{is_inner, after, UnderPart, Spot, Focus, over, redex, idle, within, idle_within}
 use Rattle.pool_compile.proofs.Seen.{is_value_of, value_at, Refills, There, AllThere, SeenExpression, SeenAll, Turn, both, first, second, quiet}
 
 -- the part at an expression's redex is an expression
-pub put : (k : Option ClassCode) (c : List Instr) (g : Numbering) (base : List Value) (z : Standing) (end : ℕ) (inner : Bool) → inner ≡ true
-    → (part : Part) → UnderPart inner k c g part base z end → (old : Expression) → Under k c g (as_expression part old) base z end
+pub put : (k : Option ClassCode) (c : List Instr) (g : Numbering) (base : List Value) (z : Point) (end : ℕ) (inner : Bool) → inner ≡ true
+    → (part : Contractum) → UnderPart inner k c g part base z end → (old : Expression) → Under k c g (as_expression part old) base z end
 put k c g base z end true i (AsExpression e) q old = q
 put k c g base z end true i (AsStatements ss) q old = absurd q
 put k c g base z end false i part q old = absurd (grind arith)
 
 -- an expression that is its own redex
-pub here : (k : Option ClassCode) (h : Head) (t : Store) (g : Numbering) (base : List Value) (s : Standing) (end : ℕ) (e : Expression) (r : Reducible)
+pub here : (k : Option ClassCode) (h : Head) (t : Store) (g : Numbering) (base : List Value) (s : Point) (end : ℕ) (e : Expression) (r : Reducible)
     → is_inner r ≡ true → after r t ≡ t → keys t ≡ g.temps → s.above ≡ []
-    → ((part : Part) → fill_expression e part ≡ as_expression part e) → Spot k [] h t g base s end r t
+    → ((part : Contractum) → fill_expression e part ≡ as_expression part e) → Spot k [] h t g base s end r t
     → Focus k g.vars (level h t s) r t (Refills h t (λ part. Under k (code_of k h.method) g (fill_expression e part)) base end)
 here k h t g base s end e r inner same names empty fills spot = record {
   host = h;
@@ -69,7 +69,7 @@ size_if : (b : Bool) (a d : Expressions) (n : ℕ) → size a ≡ n → size d �
 size_if true a d n p q = p
 size_if false a d n p q = q
 
-pub size_fill : (es : Expressions) (part : Part) → size (fill_expressions es part) ≡ size es
+pub size_fill : (es : Expressions) (part : Contractum) → size (fill_expressions es part) ≡ size es
 size_fill T.NoArgs part = refl
 size_fill (T.Arg e es) part =
     size_if (is_value e) (T.Arg e (fill_expressions es part)) (T.Arg (fill_expression e part) es) _ (ap suc (size_fill es part)) refl
@@ -81,12 +81,12 @@ pushes f (I.PushBool b) v q = let e : V.Bool b ≡ v = grind (arith, q) in ap (�
 pushes f I.PushNil v q = let e : V.Nil ≡ v = grind (arith, q) in ap (λ w. Some (next f (w ∷ f.operands))) e
 pushes f _ v q = absurd (grind (arith, q))
 
-module _ (k : Option ClassCode) (h : Head) (t : Store) (g : Numbering) (base : List Value) (s : Standing) (end : ℕ) (names : keys t ≡ g.temps) where
+module _ (k : Option ClassCode) (h : Head) (t : Store) (g : Numbering) (base : List Value) (s : Point) (end : ℕ) (names : keys t ≡ g.temps) where
   abbrev c : List Instr
   c = code_of k h.method
 
   abbrev leaf : (e : Expression) (r : Reducible) → is_inner r ≡ true → after r t ≡ t → s.above ≡ []
-      → ((part : Part) → fill_expression e part ≡ as_expression part e) → Spot k [] h t g base s end r t
+      → ((part : Contractum) → fill_expression e part ≡ as_expression part e) → Spot k [] h t g base s end r t
       → Focus k g.vars (level h t s) r t (Refills h t (λ part. Under k c g (fill_expression e part)) base end)
   leaf e r inner same empty fills spot = here k h t g base s end e r inner same names empty fills spot
 
@@ -142,8 +142,8 @@ module _ (k : Option ClassCode) (h : Head) (t : Store) (g : Numbering) (base : L
       → SeenExpression k h t g (T.Send e n es p) base s end
   send_seen e n es p m ends (both v vs is f fin) =
       let counted : Ends c m (I.Send (name n) (length vs)) end = subst (λ j. Ends c m (I.Send (name n) j) end) (count_values t es vs f) ends in
-      redex (R.Request v n vs) t (rw (value_at t e v is, f) refl)
-      (leaf (T.Send e n es p) (R.Request v n vs) refl refl fin.0 (λ part. rw (is_value_of e v is, arguments_are t es vs f) refl)
+      redex (R.SynchronousSend v n vs) t (rw (value_at t e v is, f) refl)
+      (leaf (T.Send e n es p) (R.SynchronousSend v n vs) refl refl fin.0 (λ part. rw (is_value_of e v is, arguments_are t es vs f) refl)
       (refl, refl, (fin.1, ends_at c (I.Send (name n) (length vs)) s.at m end fin.2 counted)))
   send_seen e n es p m ends (first r u f x) =
       redex r u (rw f refl) (within k g.vars (level h t s) r u _ _ x (λ fs part z. (z.0, z.1, rw (not_value t e r u f) (m, z.2, ends))))

@@ -1,20 +1,20 @@
 -- What is seen of a method under way, from what is seen of its statements and its value.
-use Rattle.object_code.specs.declared.unit.Frame.{Frame}
+use Rattle.run_words.specs.declared.frames.Frame.{Frame}
 use Rattle.std.proofs.Common.{◌≡◌, refl, sym, ap, ◌∙◌, subst, ℕ, ◌==◌, List, [], ◌∷◌, ◌++◌, Option, Some, None, is_some, suc, Bool, true, false, IsTrue, ◌⊎◌, inl, inr, arith}
 use Rattle.std.specs.Prelude.{slice_get, if◌then◌else◌}
-use Rattle.pool_syntax.specs.declared.words.Value.{Value}
+use Rattle.run_words.specs.declared.words.Value.{Value}
 use Rattle.pool_syntax.specs.Terms as T
 use Rattle.pool_syntax.specs.Terms.{Store, Expression, Expressions, Statement, Statements, Alternatives, append}
 use Rattle.pool_relation.specs.Reducible as R
-use Rattle.pool_relation.specs.Reducible.{Choice, Reducible, Found, Evaluated, At, and_then, Part, AsExpression, AsStatements, as_expression, as_statements, set_value, assigned, fill_expression, fill_expressions, fill_statement, fill_statements, fill_guards, is_value, are_values, is_done}
+use Rattle.pool_relation.specs.Reducible.{Choice, Reducible, Found, Evaluated, At, and_then, Contractum, AsExpression, AsStatements, as_expression, as_statements, set_value, assigned, fill_expression, fill_expressions, fill_statement, fill_statements, fill_guards, is_value, are_values, is_done}
 use Rattle.pool_relation.proofs.Laws.{not_value, not_done}
-use Rattle.object_code.specs.declared.unit.Instr.{Instr}
-use Rattle.object_code.specs.declared.unit.Instr.TheVariants as I
-use Rattle.pool_syntax.specs.declared.words.Serves.TheVariants as S
-use Rattle.object_code.specs.declared.unit.ClassCode.{ClassCode}
-use Rattle.object_code.specs.Frames.{code_of, next, post_passed, silent}
+use Rattle.code_semantics.specs.declared.unit.Instr.{Instr}
+use Rattle.code_semantics.specs.declared.unit.Instr.TheVariants as I
+use Rattle.run_words.specs.declared.words.Serves.TheVariants as S
+use Rattle.code_semantics.specs.declared.unit.ClassCode.{ClassCode}
+use Rattle.code_semantics.specs.Frames.{code_of, next, post_passed, silent}
 use Rattle.pool_compile.specs.Code.{Numbering}
-use Rattle.pool_compile.specs.Stands.{Standing, Head, keys, values, Behind, frame_of, level, fresh, as_value, Standings, IsOf, InMethod, Held, Under, UnderStatements}
+use Rattle.pool_compile.specs.Stands.{Point, Head, keys, values, Behind, frame_of, level, fresh, as_value, PointsOf, IsOf, InMethod, Held, Under, UnderStatements}
 use Rattle.pool_compile.proofs.Focus.{Focus, Idle, Sight, over, redex, idle, within, beneath, idle_within, idle_beneath}
 use Rattle.pool_compile.proofs.SeenExpressions.{put}
 use Rattle.pool_compile.proofs.Seen.{is_value_of, value_at, Refills, Keeps, SeenExpression}
@@ -45,49 +45,49 @@ done_has_none t T.Done e = refl
 done_has_none t (T.Then s ss) e = absurd (grind (arith, e))
 
 -- no statement is left at the end
-abbrev pub Over : Statements → List Value → Standing → ℕ → Unit {0} → Type 0
+abbrev pub Over : Statements → List Value → Point → ℕ → Unit {0} → Type 0
 Over ss base s end u = (is_done ss ≡ true) × (s.above ≡ []) × (s.operands ≡ base) × (s.at ≡ end)
 
 -- statements with another part in the place of the redex, and the temps after it
-abbrev pub Rewrites : Head → Store → Statements → (Part → Standings) → List Value → ℕ → List Frame → Part → Type 0
-Rewrites h t ss U base end fs part = (z : Standing) × (fs ≡ level h (assigned ss t) z) × U part base z end
+abbrev pub Rewrites : Head → Store → Statements → (Contractum → PointsOf) → List Value → ℕ → List Frame → Contractum → Type 0
+Rewrites h t ss U base end fs part = (z : Point) × (fs ≡ level h (assigned ss t) z) × U part base z end
 
 module _ (k : Option ClassCode) where
-  abbrev pub SeenStatements : Head → Store → Numbering → Statements → List Value → Standing → ℕ → Type 0
+  abbrev pub SeenStatements : Head → Store → Numbering → Statements → List Value → Point → ℕ → Type 0
   SeenStatements h t g ss base s end =
       Sight k g.vars (level h t s) (R.statements_redex t ss) (Over ss base s end)
       (Rewrites h t ss (λ part. UnderStatements k (code_of k h.method) g (fill_statements ss part)) base end)
       (Keeps h t (UnderStatements k (code_of k h.method) g ss) base end)
 
   -- a method under way for the caller, or for no one, with these statements, this value and these post statements
-  abbrev pub Way : Option ℕ → Head → Numbering → Statements → Expression → Statements → Standing → Type 0
+  abbrev pub Way : Option ℕ → Head → Numbering → Statements → Expression → Statements → Point → Type 0
   Way c h g ss e qs z =
       InMethod (code_of k h.method) c (UnderStatements k (code_of k h.method) g ss []) (is_done ss) (Under k (code_of k h.method) g e []) (as_value e)
       (UnderStatements k (code_of k h.method) g qs) (is_done qs) z
 
   -- the post statements from a place on, over this value, and behind them the end
-  abbrev pub Posts : Head → Numbering → Statements → Value → Standing → Type 0
+  abbrev pub Posts : Head → Numbering → Statements → Value → Point → Type 0
   Posts h g qs v z =
       (p : ℕ) × (slice_get (code_of k h.method) p ≡ Some I.Ret) × UnderStatements k (code_of k h.method) g qs (v ∷ []) z p
 
   -- what is seen of a method under way
-  pub data Method (c : Option ℕ) (h : Head) (t : Store) (g : Numbering) (ss : Statements) (e : Expression) (qs : Statements) (a : Standing) : Type 0 where
+  pub data Method (c : Option ℕ) (h : Head) (t : Store) (g : Numbering) (ss : Statements) (e : Expression) (qs : Statements) (a : Point) : Type 0 where
     ended : (v : Value) → is_done ss ≡ true → as_value e ≡ Some v → is_done qs ≡ true → a.above ≡ [] → a.operands ≡ v ∷ []
         → slice_get (code_of k h.method) a.at ≡ Some I.Ret → Method c h t g ss e qs a
     returning : (v : Value) → is_done ss ≡ true → as_value e ≡ Some v → is_done qs ≡ false → IsTrue (is_some c) → a.above ≡ [] → a.operands ≡ v ∷ []
         → slice_get (code_of k h.method) a.at ≡ Some I.Post → Posts h g qs v (fresh (suc a.at) (v ∷ [])) → Method c h t g ss e qs a
     body : (r : Reducible) (u : Store) → R.statements_redex t ss ≡ At r u
-        → Focus k g.vars (level h t a) r u (λ fs part. (z : Standing) × (fs ≡ level h (assigned ss t) z) × Way c h g (fill_statements ss part) e qs z)
+        → Focus k g.vars (level h t a) r u (λ fs part. (z : Point) × (fs ≡ level h (assigned ss t) z) × Way c h g (fill_statements ss part) e qs z)
         → Method c h t g ss e qs a
     value : (r : Reducible) (u : Store) → is_done ss ≡ true → R.expression_redex t e ≡ At r u
-        → Focus k g.vars (level h t a) r u (λ fs part. (z : Standing) × (fs ≡ level h t z) × Way c h g ss (fill_expression e part) qs z)
+        → Focus k g.vars (level h t a) r u (λ fs part. (z : Point) × (fs ≡ level h t z) × Way c h g ss (fill_expression e part) qs z)
         → Method c h t g ss e qs a
     post : (r : Reducible) (u : Store) (v : Value) → is_done ss ≡ true → as_value e ≡ Some v → c ≡ None → R.statements_redex t qs ≡ At r u
-        → Focus k g.vars (level h t a) r u (λ fs part. (z : Standing) × (fs ≡ level h (assigned qs t) z) × Way c h g ss e (fill_statements qs part) z)
+        → Focus k g.vars (level h t a) r u (λ fs part. (z : Point) × (fs ≡ level h (assigned qs t) z) × Way c h g ss e (fill_statements qs part) z)
         → Method c h t g ss e qs a
-    waits : Idle k (level h t a) (λ fs. (z : Standing) × (fs ≡ level h t z) × Way c h g ss e qs z) → Method c h t g ss e qs a
+    waits : Idle k (level h t a) (λ fs. (z : Point) × (fs ≡ level h t z) × Way c h g ss e qs z) → Method c h t g ss e qs a
 
-  module _ (c : Option ℕ) (h : Head) (t : Store) (g : Numbering) (ss : Statements) (e : Expression) (qs : Statements) (a : Standing) where
+  module _ (c : Option ℕ) (h : Head) (t : Store) (g : Numbering) (ss : Statements) (e : Expression) (qs : Statements) (a : Point) where
     abbrev code : List Instr
     code = code_of k h.method
 
@@ -106,7 +106,7 @@ module _ (k : Option ClassCode) where
         → (c ≡ None → (f : Frame) → post_passed f h.serves ≡ Some (next f f.operands)) → Method c h t g ss e qs a
     at_post (Some o) n v done is more empty ops ins rest passes = returning v done is more (rw n refl) empty ops ins rest
     at_post None n v done is more empty ops ins rest passes =
-        let z : Standing = fresh (suc a.at) (v ∷ []) in
+        let z : Point = fresh (suc a.at) (v ∷ []) in
         let f : Frame = frame_of h t a in
         waits (record {
           f = f;
@@ -157,17 +157,17 @@ module _ (k : Option ClassCode) where
     method_seen see_ss see_e see_qs passes (inr (v, d, is, n, (p, ret, u))) = posts_seen p v ret (done_true ss d) is n (see_qs v p u)
 
   -- an own method under way
-  module _ (h : Head) (t : Store) (g : Numbering) (base : List Value) (s : Standing) (end : ℕ) (names : keys t ≡ g.temps) where
+  module _ (h : Head) (t : Store) (g : Numbering) (base : List Value) (s : Point) (end : ℕ) (names : keys t ≡ g.temps) where
     abbrev inner : List ℕ → Numbering
     inner ns = record g { temps = ns }
 
-    abbrev Target : Expression → List Frame → Part → Type 0
+    abbrev Target : Expression → List Frame → Contractum → Type 0
     Target e = Refills h t (λ part. Under k (code_of k h.method) g (fill_expression e part)) base end
 
     abbrev Same : Expression → List Frame → Type 0
     Same e = Keeps h t (Under k (code_of k h.method) g e) base end
 
-    pub frame_seen : (m : ℕ) (v : Store) (ss : Statements) (e : Expression) (qs : Statements) (hd : Head) (a : Standing) (ns : List ℕ)
+    pub frame_seen : (m : ℕ) (v : Store) (ss : Statements) (e : Expression) (qs : Statements) (hd : Head) (a : Point) (ns : List ℕ)
         → Held base s end → s.above ≡ level hd v a → IsOf k hd m → hd.serves ≡ S.Own → keys v ≡ ns
         → Method None hd v (inner ns) ss e qs a → SeenExpression k h t g (T.Frame m v ss e qs) base s end
     frame_seen m v ss e qs hd a ns held above of own ks (ended w done is last empty ops ret) =

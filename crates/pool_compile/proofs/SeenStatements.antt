@@ -1,32 +1,32 @@
 -- What is seen of each form of statement, from what is seen of its parts.
-use Rattle.object_code.specs.declared.unit.Frame.{Frame}
-use Rattle.pool_syntax.specs.declared.words.Serves.TheVariants as S
+use Rattle.run_words.specs.declared.frames.Frame.{Frame}
+use Rattle.run_words.specs.declared.words.Serves.TheVariants as S
 use Rattle.std.proofs.Common.{◌≡◌, refl, sym, ap, ◌∙◌, subst, ℕ, zero, suc, ◌+◌, List, [], ◌∷◌, ◌++◌, length, Option, Some, Bool, true, false, inl, inr, arith, None, is_some, IsTrue}
 use Rattle.std.specs.Prelude.{slice_get, if◌then◌else◌}
-use Rattle.pool_syntax.specs.declared.words.Value.{Value}
-use Rattle.pool_syntax.specs.declared.words.Item.TheVariants as Item
+use Rattle.run_words.specs.declared.words.Value.{Value}
+use Rattle.run_words.specs.declared.words.Item.TheVariants as Item
 use Rattle.pool_syntax.specs.declared.tree.Named.{Named}
 use Rattle.pool_syntax.specs.Terms as T
 use Rattle.pool_syntax.specs.Terms.{Store, Expression, Expressions, Statement, Statements, Alternatives, append}
 use Rattle.pool_syntax.specs.Typing.{size}
 use Rattle.pool_relation.specs.Reducible as R
-use Rattle.pool_relation.specs.Reducible.{Choice, Reducible, Found, Evaluated, At, and_then, Part, AsExpression, AsStatements, as_expression, as_statements, set_value, assigned, fill_expression, fill_expressions, fill_statement, fill_statements, fill_guards, is_value, are_values, is_done, left_served}
+use Rattle.pool_relation.specs.Reducible.{Choice, Reducible, Found, Evaluated, At, and_then, Contractum, AsExpression, AsStatements, as_expression, as_statements, set_value, assigned, fill_expression, fill_expressions, fill_statement, fill_statements, fill_guards, is_value, are_values, is_done, left_served}
 use Rattle.pool_relation.proofs.Laws.{not_value, not_values, not_done, not_guards, arguments_are, guards_are, passed}
-use Rattle.object_code.specs.declared.unit.Instr.{Instr}
-use Rattle.object_code.specs.declared.unit.Instr.TheVariants as I
-use Rattle.object_code.specs.declared.unit.AltCode.{AltCode}
-use Rattle.object_code.specs.declared.unit.ClassCode.{ClassCode}
-use Rattle.object_code.specs.Frames.{code_of, silent, next}
+use Rattle.code_semantics.specs.declared.unit.Instr.{Instr}
+use Rattle.code_semantics.specs.declared.unit.Instr.TheVariants as I
+use Rattle.code_semantics.specs.declared.unit.AltCode.{AltCode}
+use Rattle.code_semantics.specs.declared.unit.ClassCode.{ClassCode}
+use Rattle.code_semantics.specs.Frames.{code_of, silent, next}
 use Rattle.pool_compile.specs.Code.{Numbering, name, store}
-use Rattle.pool_compile.specs.Stands.{Standing, Head, keys, frame_of, level, fresh, Fresh, Jumps, Led, Ends, as_value, IsOf, IsServing, Held, UnderAll, UnderStatement, UnderStatements, UnderGuards, Works, values}
+use Rattle.pool_compile.specs.Stands.{Point, Head, keys, frame_of, level, fresh, Fresh, Jumps, Led, Ends, as_value, IsOf, IsServing, Held, UnderAll, UnderStatement, UnderStatements, UnderGuards, Works, values}
 use Rattle.pool_compile.proofs.Focus.{is_inner, after, UnderPart, Lists, guards_of, Spot, Focus, Idle, Sight, over, redex, idle, within, beneath, idle_within, idle_beneath}
 use Rattle.pool_compile.proofs.Seen.{is_value_of, value_at, Refills, Keeps, AllThere, SeenExpression, Turn, both, first, second, quiet}
 use Rattle.pool_compile.proofs.SeenExpressions.{ends_at, count_values, size_fill}
 use Rattle.pool_compile.proofs.SeenFrames.{assigned_keys, done_has_none, Rewrites, SeenStatements, Method, ended, body, value, waits, returning, post, Posts, true_done}
 
 -- the part at a statement's redex is a list of statements
-put_statements : (k : Option ClassCode) (c : List Instr) (g : Numbering) (base : List Value) (z : Standing) (end : ℕ) (inner : Bool) → inner ≡ false
-    → (part : Part) → UnderPart inner k c g part base z end → (old : Statement) → UnderStatements k c g (as_statements part old) base z end
+put_statements : (k : Option ClassCode) (c : List Instr) (g : Numbering) (base : List Value) (z : Point) (end : ℕ) (inner : Bool) → inner ≡ false
+    → (part : Contractum) → UnderPart inner k c g part base z end → (old : Statement) → UnderStatements k c g (as_statements part old) base z end
 put_statements k c g base z end false i (AsStatements ss) q old = q
 put_statements k c g base z end false i (AsExpression e) q old = absurd q
 put_statements k c g base z end true i part q old = absurd (grind arith)
@@ -73,13 +73,13 @@ left_some (Some c) m t ss e (T.Then s qs) i d = refl
 
 module _ (k : Option ClassCode) where
   -- a statement in front of others
-  abbrev pub SeenStatement : Head → Store → Numbering → Statement → Statements → List Value → Standing → ℕ → Type 0
+  abbrev pub SeenStatement : Head → Store → Numbering → Statement → Statements → List Value → Point → ℕ → Type 0
   SeenStatement h t g st ss base s end =
       Sight k g.vars (level h t s) (R.statement_redex t st) (λ u. ⊥)
       (Rewrites h t (T.Then st ss) (λ part. UnderStatements k (code_of k h.method) g (fill_statement st part)) base end)
       (Keeps h t (UnderStatement k (code_of k h.method) g st) base end)
 
-  abbrev pub SeenGuards : Head → Store → Numbering → Alternatives → List Value → Standing → ℕ → Type 0
+  abbrev pub SeenGuards : Head → Store → Numbering → Alternatives → List Value → Point → ℕ → Type 0
   SeenGuards h t g alts base s end =
       Sight k g.vars (level h t s) (R.guards_redex t alts) (λ cs. AllThere base s end (guards_of cs))
       (Refills h t (λ part. UnderGuards k (code_of k h.method) g (fill_guards alts part)) base end)
@@ -104,7 +104,7 @@ module _ (k : Option ClassCode) where
   works_if c g true x y base targets end p q = p
   works_if c g false x y base targets end p q = q
 
-  works_fill : (c : List Instr) (g : Numbering) (alts : Alternatives) (part : Part) (base : List Value) (targets : List AltCode) (end : ℕ)
+  works_fill : (c : List Instr) (g : Numbering) (alts : Alternatives) (part : Contractum) (base : List Value) (targets : List AltCode) (end : ℕ)
       → Works k c g alts base targets end → Works k c g (fill_guards alts part) base targets end
   works_fill c g T.NoAlts part base targets end w = w
   works_fill c g (T.Alt e names ss alts) part base [] end w = absurd w
@@ -113,15 +113,15 @@ module _ (k : Option ClassCode) where
       (w.0, w.1, works_fill c g alts part base targets end w.2) w
 
   -- one statement as a list
-  pub one : (c : List Instr) (g : Numbering) (st : Statement) (base : List Value) (z : Standing) (end : ℕ)
+  pub one : (c : List Instr) (g : Numbering) (st : Statement) (base : List Value) (z : Point) (end : ℕ)
       → UnderStatement k c g st base z end → UnderStatements k c g (T.Then st T.Done) base z end
   one c g st base z end u = (end, inl u, ((refl, refl), (0, refl)))
 
-  module _ (h : Head) (t : Store) (g : Numbering) (ss : Statements) (base : List Value) (s : Standing) (end : ℕ) (names : keys t ≡ g.temps) where
+  module _ (h : Head) (t : Store) (g : Numbering) (ss : Statements) (base : List Value) (s : Point) (end : ℕ) (names : keys t ≡ g.temps) where
     abbrev c : List Instr
     c = code_of k h.method
 
-    abbrev Target : Statement → List Frame → Part → Type 0
+    abbrev Target : Statement → List Frame → Contractum → Type 0
     Target st = Rewrites h t (T.Then st ss) (λ part. UnderStatements k c g (fill_statement st part)) base end
 
     abbrev Same : Statement → List Frame → Type 0
@@ -129,7 +129,7 @@ module _ (k : Option ClassCode) where
 
     -- a statement that is its own redex
     leaf : (st : Statement) (r : Reducible) → is_inner r ≡ false → after r t ≡ assigned (T.Then st ss) t → s.above ≡ []
-        → ((part : Part) → fill_statement st part ≡ as_statements part st) → Spot k [] h t g base s end r t
+        → ((part : Contractum) → fill_statement st part ≡ as_statements part st) → Spot k [] h t g base s end r t
         → Focus k g.vars (level h t s) r t (Target st)
     leaf st r inner same empty fills spot = record {
       host = h;
@@ -254,21 +254,21 @@ module _ (k : Option ClassCode) where
         redex (R.Accept ns) t refl (leaf (T.Answer ns) (R.Accept ns) refl refl u.0.1 (λ part. refl) (refl, refl, (u.0.0, u.1)))
 
     -- after the return the frame goes on, for no one
-    goes_on : (m : ℕ) (w : Option ℕ) (v : Store) (work : Statements) (e : Expression) (qs : Statements) (hd : Head) (a : Standing) (ns : List ℕ) (x : Value)
+    goes_on : (m : ℕ) (w : Option ℕ) (v : Store) (work : Statements) (e : Expression) (qs : Statements) (hd : Head) (a : Point) (ns : List ℕ) (x : Value)
         → Held base s end → IsOf k hd m → keys v ≡ ns → is_done work ≡ true → as_value e ≡ Some x → is_done qs ≡ false → IsTrue (is_some w) → a.operands ≡ x ∷ []
         → Posts k hd (record g { temps = ns }) qs x (fresh (suc a.at) (x ∷ []))
         → UnderStatements k c g (left_served w m v work e qs) base (record s { above = next (record (frame_of hd v a) { serves = S.Sender }) (frame_of hd v a).operands ∷ [] }) end
     goes_on m w v work e qs hd a ns x held of ks done is more some ops rest =
         let hd' : Head = record { method = hd.method; serves = S.Sender } in
-        let z : Standing = fresh (suc a.at) (x ∷ []) in
+        let z : Point = fresh (suc a.at) (x ∷ []) in
         let top : Frame = next (record (frame_of hd v a) { serves = S.Sender }) (frame_of hd v a).operands in
         let same : top ∷ [] ≡ level hd' v z = λ i. record { method = hd.method; at = suc a.at; temps = values v; operands = ops i; serves = S.Sender } ∷ [] in
-        let s' : Standing = record s { above = top ∷ [] } in
+        let s' : Point = record s { above = top ∷ [] } in
         let st : UnderStatement k c g (T.Serve m None v work e qs) base s' end =
         (held, (hd', z, ns, same, (of.0, of.1, of.2), refl, ks, inr (x, true_done work done, is, refl, rest))) in
         subst (λ l. UnderStatements k c g l base s' end) (sym (left_some w m v work e qs some more)) (one c g (T.Serve m None v work e qs) base s' end st)
 
-    pub serve_seen : (m : ℕ) (w : Option ℕ) (v : Store) (work : Statements) (e : Expression) (qs : Statements) (hd : Head) (a : Standing) (ns : List ℕ)
+    pub serve_seen : (m : ℕ) (w : Option ℕ) (v : Store) (work : Statements) (e : Expression) (qs : Statements) (hd : Head) (a : Point) (ns : List ℕ)
         → Held base s end → s.above ≡ level hd v a → IsOf k hd m → IsServing w hd.serves → keys v ≡ ns
         → Method k w hd v (record g { temps = ns }) work e qs a → SeenStatement h t g (T.Serve m w v work e qs) ss base s end
     serve_seen m w v work e qs hd a ns held above of serves ks (ended x done is last empty ops ret) =
@@ -382,7 +382,7 @@ module _ (k : Option ClassCode) where
       subst (λ q. Jumps c q a d) (let q : suc (n + i) ≡ suc n + i = omega arith in q) (j.0, j.1, jumps_append c n i j.0 b d j.2 l)
 
   -- jumps in front of a list
-  after_jumps : (c : List Instr) (g : Numbering) (ss : Statements) (base : List Value) (z : Standing) (n m end : ℕ) → Fresh base z → Jumps c n z.at m
+  after_jumps : (c : List Instr) (g : Numbering) (ss : Statements) (base : List Value) (z : Point) (n m end : ℕ) → Fresh base z → Jumps c n z.at m
       → UnderStatements k c g ss base (fresh m base) end → UnderStatements k c g ss base z end
   after_jumps c g T.Done base z n m end f j u = (f, (n + u.1.0, jumps_append c n u.1.0 z.at m end j u.1.1))
   after_jumps c g (T.Then st ss) base z n m end f j u = (u.0, by u.1, u.2)
@@ -391,16 +391,16 @@ module _ (k : Option ClassCode) where
       by (inl w) = inr (f, (n, m, j, w))
       by (inr w) = inr (f, (n + w.1.0, w.1.1, jumps_append c n w.1.0 z.at m w.1.1 j w.1.2, w.1.3))
 
-  pub under_append : (c : List Instr) (g : Numbering) (a b : Statements) (base : List Value) (z : Standing) (m end : ℕ)
+  pub under_append : (c : List Instr) (g : Numbering) (a b : Statements) (base : List Value) (z : Point) (m end : ℕ)
       → UnderStatements k c g a base z m → UnderStatements k c g b base (fresh m base) end → UnderStatements k c g (append a b) base z end
   under_append c g T.Done b base z m end u w = after_jumps c g b base z u.1.0 m end u.0 u.1.1 w
   under_append c g (T.Then st ss) b base z m end u w = (u.0, u.1, under_append c g ss b base (fresh u.0 base) m end u.2 w)
 
-  module _ (h : Head) (t : Store) (g : Numbering) (base : List Value) (s : Standing) (end : ℕ) where
+  module _ (h : Head) (t : Store) (g : Numbering) (base : List Value) (s : Point) (end : ℕ) where
     abbrev d : List Instr
     d = code_of k h.method
 
-    abbrev List_target : Statements → List Frame → Part → Type 0
+    abbrev List_target : Statements → List Frame → Contractum → Type 0
     List_target ss = Rewrites h t ss (λ part. UnderStatements k d g (fill_statements ss part)) base end
 
     -- a jump at hand

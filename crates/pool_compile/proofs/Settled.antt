@@ -1,21 +1,21 @@
 -- Silent instructions change nothing of what frames stand for.
-use Rattle.object_code.specs.declared.unit.Frame.{Frame}
+use Rattle.run_words.specs.declared.frames.Frame.{Frame}
 use Rattle.std.proofs.Common.{◌≡◌, refl, sym, ap, ◌∙◌, subst, ℕ, zero, suc, List, [], ◌∷◌, ◌++◌, length, Option, Some, None, is_some, IsTrue, Bool, true, false, inl, inr, arith}
 use Rattle.std.specs.Prelude.{slice_get, if◌then◌else◌}
-use Rattle.pool_syntax.specs.declared.words.Value.{Value}
-use Rattle.pool_syntax.specs.declared.words.Item.TheVariants as Item
+use Rattle.run_words.specs.declared.words.Value.{Value}
+use Rattle.run_words.specs.declared.words.Item.TheVariants as Item
 use Rattle.pool_syntax.specs.Terms.{Store, Statements}
 use Rattle.pool_syntax.specs.Typing.{contains}
 use Rattle.pool_relation.specs.Reducible as R
-use Rattle.pool_relation.specs.Reducible.{Reducible, Part, fill_statements, assigned}
-use Rattle.pool_syntax.specs.declared.words.Serves.{Serves}
-use Rattle.pool_syntax.specs.declared.words.Serves.TheVariants as S
-use Rattle.object_code.specs.declared.unit.Instr.{Instr}
-use Rattle.object_code.specs.declared.unit.Instr.TheVariants as I
-use Rattle.object_code.specs.declared.unit.ClassCode.{ClassCode}
-use Rattle.object_code.specs.Frames.{code_of, post_passed, silent, go_on_with, settled_within, settled}
+use Rattle.pool_relation.specs.Reducible.{Reducible, Contractum, fill_statements, assigned}
+use Rattle.run_words.specs.declared.words.Serves.{Serves}
+use Rattle.run_words.specs.declared.words.Serves.TheVariants as S
+use Rattle.code_semantics.specs.declared.unit.Instr.{Instr}
+use Rattle.code_semantics.specs.declared.unit.Instr.TheVariants as I
+use Rattle.code_semantics.specs.declared.unit.ClassCode.{ClassCode}
+use Rattle.code_semantics.specs.Frames.{code_of, post_passed, silent, go_on_with, settled_within, settled}
 use Rattle.pool_compile.specs.Code.{Numbering, load, store, number_of}
-use Rattle.pool_compile.specs.Stands.{Standing, Head, frame_of, level, IsServing, UnderStatements}
+use Rattle.pool_compile.specs.Stands.{Point, Head, frame_of, level, IsServing, UnderStatements}
 use Rattle.pool_compile.specs.Follows.{AtRest}
 use Rattle.pool_compile.proofs.Focus.{Focus, Spot, Stand, Ending, over, redex, idle}
 use Rattle.pool_compile.proofs.SeenFrames.{SeenStatements}
@@ -61,7 +61,7 @@ store_still f g n = by (contains g.temps n)
     by true = refl
     by false = refl
 
-module _ (k : Option ClassCode) (V : List ℕ) (L : List Frame) (T : List Frame → Part → Type 0) where
+module _ (k : Option ClassCode) (V : List ℕ) (L : List Frame) (T : List Frame → Contractum → Type 0) where
   still : (r : Reducible) (u : Store) (f : Focus k V L r u T) (vs : List Value) (i : Instr) (stop : ℕ) → f.over ≡ [] → Stand k f.host f.s vs i stop
       → silent (frame_of f.host f.own f.s) (Some i) ≡ None → AtRest k L
   still r u f vs i stop empty st q =
@@ -80,7 +80,7 @@ module _ (k : Option ClassCode) (V : List ℕ) (L : List Frame) (T : List Frame 
   at_rest (R.Unary op v) u f = still (R.Unary op v) u f _ _ _ f.spot.0 f.spot.2 refl
   at_rest (R.Binary op v w) u f = still (R.Binary op v w) u f _ _ _ f.spot.0 f.spot.2 refl
   at_rest (R.Invoke m args) u f = still (R.Invoke m args) u f _ _ _ f.spot.0 f.spot.2 refl
-  at_rest (R.Request v m args) u f = still (R.Request v m args) u f _ _ _ f.spot.0 f.spot.2 refl
+  at_rest (R.SynchronousSend v m args) u f = still (R.SynchronousSend v m args) u f _ _ _ f.spot.0 f.spot.2 refl
   at_rest (R.Leave v) u f = ended (R.Leave v) u f v _ f.spot
   at_rest (R.Waiting b m) u f = still (R.Waiting b m) u f _ _ _ f.spot.0 f.spot.2.1 refl
   at_rest (R.Set n v) u f = still (R.Set n v) u f _ _ _ f.spot.0 f.spot.2 (store_still (frame_of f.host f.own f.s) f.g n)
@@ -102,7 +102,7 @@ module _ (k : Option ClassCode) (V : List ℕ) (L : List Frame) (T : List Frame 
 -- the whole term, in the frame of the body
 module _ (k : Option ClassCode) (h : Head) (g : Numbering) (none : g.temps ≡ []) (end : ℕ) (halt : slice_get (code_of k h.method) end ≡ Some I.Halt) where
   abbrev pub Whole : Statements → List Frame → Type 0
-  Whole ss L = (z : Standing) × (L ≡ level h [] z) × UnderStatements k (code_of k h.method) g ss [] z end
+  Whole ss L = (z : Point) × (L ≡ level h [] z) × UnderStatements k (code_of k h.method) g ss [] z end
 
   -- one silent instruction
   one_silent : (ss : Statements) (f d : Frame) (rest : List Frame) → silent f (slice_get (code_of k f.method) f.at) ≡ Some d → Whole ss (f ∷ rest) → Whole ss (d ∷ rest)

@@ -1,28 +1,29 @@
 -- What a local step of the code makes stands for what the term becomes.
-use Rattle.object_code.specs.declared.unit.CodeObject.{CodeObject}
-use Rattle.object_code.specs.declared.unit.Frame.{Frame}
+use Rattle.run_words.specs.declared.frames.CodeObject.{CodeObject}
+use Rattle.run_words.specs.declared.frames.Frame.{Frame}
 use Rattle.std.proofs.Common.{◌≡◌, refl, sym, ap, ◌∙◌, subst, ℕ, suc, List, [], ◌∷◌, ◌++◌, Option, Some, None, Bool, true, false, inl, inr, arith}
 use Rattle.std.specs.Prelude.{slice_get, slice_set, if◌then◌else◌}
-use Rattle.pool_syntax.specs.declared.words.Op.{Op}
-use Rattle.pool_syntax.specs.declared.words.Op.TheVariants as O
-use Rattle.pool_syntax.specs.declared.words.Value.{Value}
-use Rattle.pool_syntax.specs.declared.words.Value.TheVariants as V
+use Rattle.run_words.specs.declared.words.Op.{Op}
+use Rattle.run_words.specs.declared.words.Op.TheVariants as O
+use Rattle.run_words.specs.declared.words.Value.{Value}
+use Rattle.run_words.specs.declared.words.Value.TheVariants as V
 use Rattle.pool_syntax.specs.Terms as T
 use Rattle.pool_syntax.specs.Terms.{Store, Expression, Statement, Statements}
 use Rattle.pool_syntax.specs.Typing.{contains}
-use Rattle.pool_syntax.specs.Values.{Gives, prefix_value, infix_value}
+use Rattle.run_words.specs.Values.{Gives, prefix_value, infix_value}
 use Rattle.pool_relation.specs.Reducible as R
-use Rattle.pool_relation.specs.Reducible.{Reducible, Part, AsExpression, AsStatements, set_value, fill_statements, assigned}
+use Rattle.pool_relation.specs.Reducible.{Reducible, Contractum, AsExpression, AsStatements, set_value, fill_statements, assigned}
 use Rattle.pool_relation.specs.Action.{value_of, literal}
-use Rattle.object_code.specs.declared.unit.Instr.{Instr}
-use Rattle.object_code.specs.declared.unit.Instr.TheVariants as I
-use Rattle.pool_syntax.specs.declared.words.Serves.TheVariants as S
-use Rattle.object_code.specs.declared.unit.ClassCode.{ClassCode}
-use Rattle.object_code.specs.Frames.{code_of, top, below, dropped, next}
-use Rattle.object_code.specs.Kinds.{operated, arity}
-use Rattle.object_code.specs.Step.{at_rest, nth, outcome_value, instr_stepped, frames_stepped}
+use Rattle.code_semantics.specs.declared.unit.Instr.{Instr}
+use Rattle.code_semantics.specs.declared.unit.Instr.TheVariants as I
+use Rattle.run_words.specs.declared.words.Serves.TheVariants as S
+use Rattle.code_semantics.specs.declared.unit.ClassCode.{ClassCode}
+use Rattle.code_semantics.specs.Frames.{code_of, next}
+use Rattle.run_words.specs.Operands.{top, below, dropped, nth}
+use Rattle.code_semantics.specs.Kinds.{operated, arity}
+use Rattle.code_semantics.specs.Step.{at_rest, outcome_value, instr_stepped, frames_stepped}
 use Rattle.pool_compile.specs.Code.{Numbering, load, store, number_of}
-use Rattle.pool_compile.specs.Stands.{Standing, Head, keys, values, frame_of, level, fresh, UnderStatements}
+use Rattle.pool_compile.specs.Stands.{Point, Head, keys, values, frame_of, level, fresh, UnderStatements}
 use Rattle.pool_compile.proofs.Focus.{is_inner, after, UnderPart, Focus, Spot, Stand, Ending}
 use Rattle.pool_compile.proofs.SeenFrames.{Rewrites}
 use Rattle.pool_compile.proofs.SeenStatements.{one, under_append}
@@ -47,10 +48,10 @@ module _ (k : Option ClassCode) (h : Head) (g : Numbering) (none : g.temps ≡ [
   abbrev pub Term : Statements → List Frame → Type 0
   Term = Whole k h g none end halt
 
-  abbrev pub Target : List Frame → Part → Type 0
+  abbrev pub Target : List Frame → Contractum → Type 0
   Target = Rewrites h [] ss (λ part. UnderStatements k (code_of k h.method) g (fill_statements ss part)) [] end
 
-  pub whole_of : (fs : List Frame) (part : Part) → Target fs part → Term (fill_statements ss part) fs
+  pub whole_of : (fs : List Frame) (part : Contractum) → Target fs part → Term (fill_statements ss part) fs
   whole_of fs part x = (x.0, x.1 ∙ ap (λ t. level h t x.0) (assigned_none ss), x.2)
 
   -- the object w is y with other variables and these frames, of which the innermost was brought to a step instruction
@@ -75,7 +76,7 @@ module _ (k : Option ClassCode) (h : Head) (g : Numbering) (none : g.temps ≡ [
         → w ≡ at_rest k y (next (now vs) (v ∷ f.base)) f.rest
         → Lands y y.vars (fill_statements ss (AsExpression (literal v))) w
     value_lands y w vs i v inner same st e =
-        let z : Standing = record { at = suc f.s.at; operands = v ∷ f.base; above = [] } in
+        let z : Point = record { at = suc f.s.at; operands = v ∷ f.base; above = [] } in
         let part : UnderPart (is_inner r) k (code_of k f.host.method) f.g (AsExpression (literal v)) f.base z f.stop =
         subst (λ b. UnderPart b k (code_of k f.host.method) f.g (AsExpression (literal v)) f.base z f.stop) (sym inner) (refl, inr (refl, sym st.1.1)) in (
           next (now vs) (v ∷ f.base),
@@ -86,7 +87,7 @@ module _ (k : Option ClassCode) (h : Head) (g : Numbering) (none : g.temps ≡ [
         )
 
     -- a list of statements takes the place of a statement
-    pub list_lands : (y w : CodeObject) (vs : List Value) (z : Standing) (some : Statements) → is_inner r ≡ false → z.above ≡ []
+    pub list_lands : (y w : CodeObject) (vs : List Value) (z : Point) (some : Statements) → is_inner r ≡ false → z.above ≡ []
         → w ≡ at_rest k (record y { vars = vs }) (frame_of f.host (after r f.own) z) f.rest
         → UnderStatements k (code_of k f.host.method) f.g some f.base z f.stop
         → Lands y vs (fill_statements ss (AsStatements some)) w
@@ -162,7 +163,7 @@ module _ (k : Option ClassCode) (h : Head) (g : Numbering) (none : g.temps ≡ [
       → Lands y y.vars (fill_statements ss (AsExpression (literal v))) (frames_stepped k o y L)
   leave o y v u f =
       let e = f.spot in
-      let z : Standing = record { at = f.s.at; operands = v ∷ f.s.operands; above = [] } in
+      let z : Point = record { at = f.s.at; operands = v ∷ f.s.operands; above = [] } in
       let own_step : instr_stepped k o y e.0 (frame_of f.host f.own f.s ∷ f.rest) (Some I.Ret) ≡ at_rest k y (frame_of f.host f.own z) f.rest =
       rw e.2 (ap (λ vs. at_rest k y (frame_of f.host f.own (record f.s { operands = top vs ∷ f.s.operands })) f.rest) e.3) in (
         frame_of f.host f.own z,

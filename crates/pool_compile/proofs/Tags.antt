@@ -2,17 +2,16 @@
 use Rattle.std.proofs.Common.{◌≡◌, refl, subst, ℕ, ◌==◌, List, length, Option, Some, None, is_some, Bool, true, false, arith}
 use Rattle.std.specs.Prelude.{if◌then◌else◌, ◌||◌}
 use Rattle.std.specs.List.{list_any}
-use Rattle.pool_syntax.specs.declared.words.Value.{Value}
-use Rattle.pool_syntax.specs.declared.words.Value.TheVariants as V
-use Rattle.pool_syntax.specs.declared.words.Error.TheVariants.{NilDestination, NilOperand, NoOpenGuard}
+use Rattle.run_words.specs.declared.words.Value.{Value}
+use Rattle.run_words.specs.declared.words.Value.TheVariants as V
+use Rattle.run_words.specs.declared.words.Error.TheVariants.{NilDestination, NilOperand, NoOpenGuard}
 use Rattle.pool_syntax.specs.Terms.{Store, Statements, MethodTree, ProgramTree}
 use Rattle.pool_syntax.specs.Classes.{class_of}
-use Rattle.pool_syntax.specs.Values.{Outcome, Gives, Fails, WrongSort, prefix_value, infix_value}
+use Rattle.run_words.specs.Values.{Outcome, Gives, Fails, WrongSort, prefix_value, infix_value, is_nil, not_bool, is_true}
 use Rattle.pool_relation.specs.Reducible as R
 use Rattle.pool_relation.specs.Reducible.{Choice, Reducible}
 use Rattle.pool_relation.specs.Action as A
 use Rattle.pool_relation.specs.Action.{Object, Action, redex_action, on_object, on_outcome, read, on_call, on_assignment, on_branch, on_select, value_of, method_of}
-use Rattle.pool_syntax.specs.Values.{is_nil, not_bool, is_true}
 
 abbrev pub tag : Action → ℕ
 tag A.Finished = 0
@@ -30,7 +29,7 @@ tag A.Stuck = 11
 
 abbrev pub tag_of : Reducible → ℕ
 tag_of (R.Make c) = 3
-tag_of (R.Request v m args) = 4
+tag_of (R.SynchronousSend v m args) = 4
 tag_of (R.Post v m args) = 5
 tag_of (R.Print i) = 6
 tag_of (R.Accept ns) = 7
@@ -80,7 +79,7 @@ fine_at p o x t (R.Make c) = fine_if 3 (is_some (class_of p c)) (A.New c) A.Stuc
 fine_at p o x t (R.Unary op v) = fine_outcome x (prefix_value op v)
 fine_at p o x t (R.Binary op v w) = fine_outcome x (infix_value op v w)
 fine_at p o x t (R.Invoke m args) = fine_call x args (method_of p x.class m (length args))
-fine_at p o x t (R.Request v m args) = fine_object 4 v (λ b. A.Send b m args) refl refl (λ b. refl)
+fine_at p o x t (R.SynchronousSend v m args) = fine_object 4 v (λ b. A.Send b m args) refl refl (λ b. refl)
 fine_at p o x t (R.Leave v) = refl
 fine_at p o x t (R.Waiting b m) = refl
 fine_at p o x t (R.Set n v) = fine_if 1 (is_some (value_of t n)) _ _ refl (fine_if 1 (is_some (value_of x.vars n)) _ A.Stuck refl refl)

@@ -1,24 +1,24 @@
 -- Code does what its program does.
-use Rattle.object_code.specs.declared.unit.CodeObject.{CodeObject}
-use Rattle.object_code.specs.declared.unit.Frame.{Frame}
+use Rattle.run_words.specs.declared.frames.CodeObject.{CodeObject}
+use Rattle.run_words.specs.declared.frames.Frame.{Frame}
 use Rattle.std.specs.Prelude.{◌≡◌, ℕ, zero, suc, List, [], ◌∷◌, length, map, Option, Some, None, slice_get}
-use Rattle.pool_syntax.specs.declared.words.Value.{Value}
-use Rattle.pool_syntax.specs.declared.words.Item.{Item}
+use Rattle.run_words.specs.declared.words.Value.{Value}
+use Rattle.run_words.specs.declared.words.Item.{Item}
 use Rattle.pool_syntax.specs.Terms as T
 use Rattle.pool_syntax.specs.Terms.{Store, Statements, MethodTree, ProgramTree}
 use Rattle.pool_relation.specs.Reducible.{Choice, AsExpression, AsStatements}
 use Rattle.pool_relation.specs.Action as A
 use Rattle.pool_relation.specs.Action.{Object, Action, action, method_of}
-use Rattle.pool_syntax.specs.Values.{is_true}
+use Rattle.run_words.specs.Values.{is_true}
 use Rattle.pool_relation.specs.Transition as X
 use Rattle.pool_relation.specs.Transition.{refilled, given, done, serving, picked}
-use Rattle.pool_syntax.specs.declared.words.Serves.{Serves}
-use Rattle.object_code.specs.declared.unit.ClassCode.{ClassCode}
-use Rattle.object_code.specs.declared.unit.Unit.{Unit as Code}
-use Rattle.object_code.specs.Kinds as K
-use Rattle.object_code.specs.Kinds.{Kind, Offered, code_kind}
-use Rattle.object_code.specs.Frames.{code_of, silent}
-use Rattle.object_code.specs.Step.{code_stepped, code_given, code_gone_on, code_picked, code_serving}
+use Rattle.run_words.specs.declared.words.Serves.{Serves}
+use Rattle.code_semantics.specs.declared.unit.ClassCode.{ClassCode}
+use Rattle.code_semantics.specs.declared.unit.Unit.{Unit as Code}
+use Rattle.code_semantics.specs.Kinds as K
+use Rattle.code_semantics.specs.Kinds.{Kind, Offered, code_kind}
+use Rattle.code_semantics.specs.Frames.{code_of, silent}
+use Rattle.code_semantics.specs.Step.{code_stepped, code_given, code_gone_on, code_picked, code_serving}
 use Rattle.pool_compile.specs.Code.{name, answer_names}
 use Rattle.pool_compile.specs.Stands.{IsServing, StandsFor}
 

@@ -1,8 +1,8 @@
 -- The jumps at the ends of the lists of a select, which are filled once the place behind the last is known.
 use Rattle.std.specs.Prelude.{ℕ, suc, ◌+◌, List, [], ◌∷◌, length, slice_set}
 use Rattle.pool_syntax.specs.Terms.{Alternatives, NoAlts, Alt}
-use Rattle.object_code.specs.declared.unit.Instr.{Instr}
-use Rattle.object_code.specs.declared.unit.Instr.TheVariants as I
+use Rattle.code_semantics.specs.declared.unit.Instr.{Instr}
+use Rattle.code_semantics.specs.declared.unit.Instr.TheVariants as I
 use Rattle.pool_compile.specs.Code.{Numbering, statements_code}
 
 -- their places, where the first list begins at this one

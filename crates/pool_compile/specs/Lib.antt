@@ -4,3 +4,4 @@ pub mod Numberings
 pub mod Small
 pub mod Stands
 pub mod Follows
+pub mod TextPrograms

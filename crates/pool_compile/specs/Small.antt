@@ -1,8 +1,8 @@
 -- Programs whose counts are within the limits of the language, and code whose places are below 2^32 and whose frames have at most 96 words.
 use Rattle.std.specs.Prelude.{suc, ◌≤◌, ◌<◌, ◌^◌, ◌++◌, List, [], ◌∷◌, length}
 use Rattle.pool_syntax.specs.Terms.{MethodTree, ClassTree, ProgramTree}
-use Rattle.object_code.specs.declared.unit.MethodCode.{MethodCode}
-use Rattle.object_code.specs.declared.unit.ClassCode.{ClassCode}
+use Rattle.code_semantics.specs.declared.unit.MethodCode.{MethodCode}
+use Rattle.code_semantics.specs.declared.unit.ClassCode.{ClassCode}
 use Rattle.pool_compile.specs.Code.{expression_words, more, statements_words}
 
 abbrev pub IsSmallMethod : MethodTree → Type 0

@@ -1,8 +1,8 @@
 //! Code that is being made.
 ghost use Rattle.std.specs.Prelude.{◌≡◌, ◌<◌, ◌^◌, [], ◌∷◌, ◌++◌, length, slice_set, OnOk};
 
-use object_code::Instr;
-use pool_syntax::List;
+use code_semantics::Instr;
+use run_words::List;
 use std::alloc::{AllocError, Global};
 
 /// The instructions so far: fewer than 2^32, so that each place, and the one after the last, is a `u32`.

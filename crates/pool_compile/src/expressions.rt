@@ -6,7 +6,7 @@ ghost use Rattle.pool_compile.specs.Numberings.{numbering};
 
 use crate::builder::Builder;
 use crate::scope::Numbers;
-use object_code::Instr;
+use code_semantics::Instr;
 use pool_syntax::Expr;
 use std::alloc::AllocError;
 

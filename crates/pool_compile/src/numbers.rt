@@ -5,8 +5,9 @@ ghost use Rattle.pool_compile.specs.Code.{load, names_of, number_of, store};
 ghost use Rattle.pool_compile.specs.Numberings.{numbering};
 
 use crate::scope::Numbers;
-use object_code::Instr;
-use pool_syntax::{NameId, Var};
+use code_semantics::Instr;
+use pool_syntax::Var;
+use run_words::NameId;
 use std::alloc::AllocError;
 
 /// The place of the first of the names that is this one; their number where none is.

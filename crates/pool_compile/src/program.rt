@@ -1,7 +1,7 @@
 //! The code of methods, bodies, classes and the program.
 ghost use Rattle.std.specs.Prelude.{◌≡◌, ◌≤◌, ◌<◌, ◌^◌, ◌++◌, [], ◌∷◌, length, map, IfOk, OnOk};
 ghost use Rattle.pool_syntax.specs.TreeOf.{class_tree, expression_of, method_tree, program_of, statements_of};
-ghost use Rattle.object_code.specs.Proper.{IsProper};
+ghost use Rattle.code_semantics.specs.Proper.{IsProper};
 ghost use Rattle.pool_compile.specs.Code.{body_instrs, class_code, code, expression_words, method_code_of, method_instrs, more, names_of, post_code, statements_words};
 ghost use Rattle.pool_compile.specs.Numberings.{numbering};
 ghost use Rattle.pool_compile.specs.Small.{AreShort, FramesAreSmall, AreShortMethods, AreSmallMethods, IsShortClass, IsSmall, IsSmallClass, IsSmallMethod};
@@ -14,8 +14,9 @@ use crate::scope::Numbers;
 use crate::statements::emit_statements;
 use crate::words::{expression_words, more, statements_words};
 use class_check::Checked;
-use object_code::{BodyCode, ClassCode, Instr, MethodCode, Unit};
-use pool_syntax::{ClassDecl, List, Method, Stmt, Var};
+use code_semantics::{BodyCode, ClassCode, Instr, MethodCode, Unit};
+use pool_syntax::{ClassDecl, Method, Stmt, Var};
+use run_words::List;
 use std::alloc::{AllocError, Global};
 
 /// The names of a method's parameters and locals.

@@ -2,8 +2,7 @@
 ghost use Rattle.std.specs.Prelude.{◌≡◌, ◌<◌, [], ◌∷◌, ◌++◌, length, map, OnOk, IfOk};
 ghost use Rattle.std.specs.List.{All};
 ghost use Rattle.pool_syntax.specs.Terms.{Select as SelectOf};
-ghost use Rattle.pool_syntax.specs.TreeOf.{statement_of, statements_of};
-ghost use Rattle.pool_syntax.specs.TreeOf.{alternatives_of};
+ghost use Rattle.pool_syntax.specs.TreeOf.{statement_of, statements_of, alternatives_of};
 ghost use Rattle.pool_compile.specs.Code.{alternatives_at, alternatives_code, answer_names, guards_code, statement_code, statements_code};
 ghost use Rattle.pool_compile.specs.Jumps.{filled, jumps_at};
 ghost use Rattle.pool_compile.specs.Numberings.{numbering};
@@ -11,8 +10,9 @@ ghost use Rattle.pool_compile.specs.Numberings.{numbering};
 use crate::builder::Builder;
 use crate::expressions::{emit, emit_all};
 use crate::scope::Numbers;
-use object_code::{AltCode, Instr};
-use pool_syntax::{Alt, List, NameId, Named, Stmt};
+use code_semantics::{AltCode, Instr};
+use pool_syntax::{Alt, Named, Stmt};
+use run_words::{List, NameId};
 use std::alloc::{AllocError, Global};
 
 /// The names of a list.

@@ -5,12 +5,12 @@ ghost use Rattle.pool_syntax.specs.TreeOf.{program_of};
 ghost use Rattle.pool_syntax.specs.Classes.{class_of};
 ghost use Rattle.pool_relation.specs.Action.{Object};
 ghost use Rattle.pool_relation.specs.Transition.{new_object};
-ghost use Rattle.object_code.specs.declared.unit.CodeObject.{CodeObject as ObjectOfCode};
-ghost use Rattle.object_code.specs.Step.{code_made};
+ghost use Rattle.run_words.specs.declared.frames.CodeObject.{CodeObject as ObjectOfCode};
+ghost use Rattle.code_semantics.specs.Step.{code_made};
 ghost use Rattle.pool_compile.specs.Code.{name, code};
 ghost use Rattle.pool_compile.specs.Follows.{Stands, Follows};
 
-use object_code::Unit;
+use code_semantics::Unit;
 use pool_syntax::Program;
 
 /// Code that stands for an object does what the object does, and then stands for what it becomes.
@@ -22,5 +22,6 @@ pub fn code_follows(program: &Program, unit: &Unit)
 /// The code of a new object stands for it.
 pub fn new_code_stands(program: &Program, unit: &Unit)
     requires { unit.now.classes ≡ code (program_of program.now) }
-    ensures { (c : ℕ) (k : ClassTree) → class_of (program_of program.now) c ≡ Some k → (y : ObjectOfCode) × (code_made unit.now (name c) ≡ Some y) × Stands (program_of program.now) unit.now (new_object k) y }
+    ensures { (c : ℕ) (k : ClassTree) → class_of (program_of program.now) c ≡ Some k → (y : ObjectOfCode) × (code_made unit.now (name c) ≡ Some y)
+        × Stands (program_of program.now) unit.now (new_object k) y }
 {}

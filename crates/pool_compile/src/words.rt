@@ -1,7 +1,6 @@
 //! How many operands stand at once: right where these are no more than 64.
 ghost use Rattle.std.specs.Prelude.{◌≡◌, ◌≤◌};
-ghost use Rattle.pool_syntax.specs.TreeOf.{expression_of, expressions_of, statement_of, statements_of};
-ghost use Rattle.pool_syntax.specs.TreeOf.{alternatives_of};
+ghost use Rattle.pool_syntax.specs.TreeOf.{expression_of, expressions_of, statement_of, statements_of, alternatives_of};
 ghost use Rattle.pool_compile.specs.Code.{expression_words, expressions_words, guards_words, more, statement_words, statements_words, works_words};
 
 use pool_syntax::{Alt, Expr, Stmt};

@@ -1,7 +1,7 @@
 -- What a reader of a text's tokens can rest on.
-use Rattle.std.proofs.Common.{◌≡◌, ◌≢◌, ℕ, zero, suc, ◌+◌, ◌≤◌, List, [], ◌∷◌, length, drop, slice_get, All, Some, inl, inr, sym, ap, subst, arith}
-use Rattle.std.proofs.lemmas.List.{length-drop}
-use Rattle.pool_syntax.specs.Tokens.{Text, longest, IsPieces, HasTokens, texts_after, token_of, tokens_from}
+use Rattle.std.proofs.Common.{◌≡◌, ◌≢◌, ℕ, zero, suc, ◌+◌, ◌≤◌, List, [], ◌∷◌, length, slice_get, All, Some, inl, inr, sym, ap, subst, arith}
+use Rattle.run_words.specs.Text.{Text}
+use Rattle.pool_syntax.specs.Tokens.{HasTokens, texts_after, token_of, tokens_from}
 use Rattle.pool_syntax.specs.declared.token.Tok.{Tok}
 use Rattle.pool_syntax.specs.declared.token.Tok.TheVariants as tok
 use Rattle.pool_syntax.specs.declared.token.Token.{Token}
@@ -9,6 +9,7 @@ use Rattle.pool_syntax.specs.Programs.{toks}
 use Rattle.pool_lexer.specs.Ended.{EndsInEnd, IsPlaced}
 use Rattle.pool_lexer.specs.Reading.{with_kept}
 use Rattle.pool_lexer.proofs.Kept.{cases_Option, texts_after-cons, token_placed, token_not_end}
+use Rattle.pool_syntax.proofs.Laws.{pieces_count}
 
 -- End alone, and a token before what ends in End
 ends_one : EndsInEnd (tok.End ∷ [])
@@ -60,14 +61,6 @@ count_from names at (w ∷ ws) =
       | inl none ↦ rw (tokens_from, none) (omega arith)
       | inr some ↦ rw (tokens_from, some.1) (omega arith)
     ]
-
-pieces_count : (s : Text) (ws : List Text) → IsPieces s ws [] → length ws ≤ length s
-pieces_count s [] p = omega arith
-pieces_count [] (w ∷ ws) p = absurd (omega (arith, p.0))
-pieces_count (b ∷ bs) (w ∷ ws) p =
-    let others = pieces_count (drop (longest (b ∷ bs)) (b ∷ bs)) ws p.2 in
-    let long = length-drop (longest (b ∷ bs)) (b ∷ bs) in
-    omega (arith, p.0)
 
 module _ (s : Text) (names : List Text) (ts : List Token) (h : HasTokens s names ts) where
   pub ended_of : EndsInEnd (toks ts)

@@ -2,10 +2,11 @@
 use Rattle.std.proofs.Common.{◌≡◌, ◌≢◌, ℕ, Bool, true, false, ◌&&◌, ◌||◌, nat_eq, List, [], ◌∷◌, Some, None, ◌∙◌, refl, arith}
 use Rattle.std.proofs.lemmas.Bool.{and_left, and_from, ne_eqb}
 use Rattle.std.proofs.lemmas.Bool.Decides.{nat_tests}
-use Rattle.pool_syntax.specs.Tokens.{Text, every, is_space, is_letter, is_digit, is_rest_of_string, is_listed, is_piece, lookup, signs}
+use Rattle.run_words.specs.Text.{Text, every, is_space, is_letter, is_digit, is_listed, lookup}
+use Rattle.pool_syntax.specs.Tokens.{is_rest_of_string, is_piece, signs}
 use Rattle.pool_syntax.specs.declared.token.Sign.{Sign}
-use Rattle.pool_lexer.specs.ByteSets.{is_in}
-use Rattle.pool_lexer.specs.declared.scan.ByteSet.TheVariants.{Space, NotLineFeed, NameByte, Digit}
+use Rattle.run_words.specs.ByteSets.{is_in}
+use Rattle.run_words.specs.declared.scan.ByteSet.TheVariants.{Space, NotLineFeed, NameByte, Digit}
 use Rattle.pool_lexer.specs.declared.piece.Kind.TheVariants.{Skipped, Word, Integer, Text as Quoted, Sign as OfSign}
 use Rattle.pool_lexer.specs.Pieces.{IsKind, IsRun, IsNoRun}
 

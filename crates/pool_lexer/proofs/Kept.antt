@@ -2,8 +2,10 @@
 use Rattle.std.proofs.Common.{◌≡◌, ℕ, ◌<◌, ◌≤◌, ◌+◌, true, false, List, [], ◌∷◌, ◌++◌, Option, Some, None, length, bytes_eq, pos, subst, refl, sym, ap, ◌∙◌, ◌⊎◌, inl, inr, ◌≢◌, arith}
 use Rattle.std.proofs.lemmas.Bool.{cases_Bool}
 use Rattle.std.proofs.lemmas.List.{length_push}
-use Rattle.pool_syntax.specs.Table.{is_among, with_text, name_of}
-use Rattle.pool_syntax.specs.Tokens.{Text, is_word, is_integer, keywords, signs, lookup, kept_text, token_of, texts_after, value_of}
+use Rattle.run_words.specs.Table.{is_among, with_text, name_of}
+use Rattle.run_words.specs.Text.{Text, is_word, is_integer, lookup, value_of_digits}
+use Rattle.run_words.specs.Keywords.{keywords}
+use Rattle.pool_syntax.specs.Tokens.{signs, kept_text, token_of, texts_after}
 use Rattle.pool_syntax.specs.declared.token.Tok.{Tok}
 use Rattle.pool_syntax.specs.declared.token.Tok.TheVariants as tok
 use Rattle.pool_lexer.specs.Ended.{IsPlaced}
@@ -124,7 +126,7 @@ sign_view w no_word no_integer nothing = elim (cases_Option (lookup signs w)) [
 
 other_view : (w : Text) → is_word w ≡ false → TokenView w
 other_view w no_word = elim (cases_Bool (is_integer w)) [
-  | inl integer ↦ always (Some (tok.Int (pos (value_of 0 w)))) (λ t. fixed_some (tok.Int (pos (value_of 0 w))) t (λ _. tt, λ e. cc)) (λ names. rw (token_of, no_word, integer))
+  | inl integer ↦ always (Some (tok.Int (pos (value_of_digits 0 w)))) (λ t. fixed_some (tok.Int (pos (value_of_digits 0 w))) t (λ _. tt, λ e. cc)) (λ names. rw (token_of, no_word, integer))
   | inr no_integer ↦ elim (cases_Option (kept_text w)) [
     | inl none ↦ sign_view w no_word no_integer none
     | inr some ↦ a_string some.0 some.1 (λ names. rw (token_of, no_word, no_integer, some.1))

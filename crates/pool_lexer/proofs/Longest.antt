@@ -3,13 +3,14 @@ use Rattle.std.proofs.Common.{◌≡◌, ◌≢◌, ℕ, zero, suc, ◌<◌, ◌
 use Rattle.std.specs.List.{prefix_len}
 use Rattle.std.proofs.lemmas.Bool.{cases_eq, cases_order, eq-eqb, ne_eqb}
 use Rattle.std.proofs.lemmas.List.Sums.{prefix_len-le-length}
-use Rattle.pool_syntax.specs.Tokens.{Text, is_piece, is_inner, is_rest_of_string, longest, longest_within}
-use Rattle.pool_lexer.specs.ByteSets.{is_in}
-use Rattle.pool_lexer.specs.declared.scan.ByteSet.{ByteSet}
+use Rattle.run_words.specs.Text.{Text, is_inner}
+use Rattle.pool_syntax.specs.Tokens.{is_piece, is_rest_of_string, longest, longest_within}
+use Rattle.run_words.specs.ByteSets.{is_in}
+use Rattle.run_words.specs.declared.scan.ByteSet.{ByteSet}
 use Rattle.pool_lexer.specs.declared.piece.Kind.{Kind}
 use Rattle.pool_lexer.specs.declared.piece.Kind.TheVariants.{Text as Quoted}
 use Rattle.pool_lexer.specs.Pieces.{IsKind, IsRun}
-use Rattle.pool_lexer.proofs.RunLaws.{every_front, every_past}
+use Rattle.run_words.proofs.Laws.{every_front, every_past}
 use Rattle.pool_lexer.proofs.Strings.{rest_short, rest_at, rest_long}
 use Rattle.pool_lexer.proofs.Fronts.{string_piece, string_kind}
 

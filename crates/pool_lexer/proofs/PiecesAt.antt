@@ -4,12 +4,13 @@ use Rattle.std.specs.List.{prefix_len}
 use Rattle.std.proofs.lemmas.List.{drop_more, length-drop, length-take, get_or-drop}
 use Rattle.std.proofs.lemmas.Bool.{ne_eqb}
 use Rattle.std.proofs.lemmas.List.Sums.{prefix_len-le-length}
-use Rattle.pool_syntax.specs.Tokens.{Text, is_inner, longest, lookup, no_piece, signs}
+use Rattle.run_words.specs.Text.{Text, is_inner, lookup}
+use Rattle.pool_syntax.specs.Tokens.{longest, no_piece, signs}
 use Rattle.pool_syntax.specs.declared.token.Sign.{Sign}
 use Rattle.pool_syntax.specs.declared.token.LexFault.TheVariants.{OpenString, BadByte}
-use Rattle.pool_lexer.specs.ByteSets.{is_in}
-use Rattle.pool_lexer.specs.declared.scan.ByteSet.{ByteSet}
-use Rattle.pool_lexer.specs.declared.scan.ByteSet.TheVariants.{Inner}
+use Rattle.run_words.specs.ByteSets.{is_in}
+use Rattle.run_words.specs.declared.scan.ByteSet.{ByteSet}
+use Rattle.run_words.specs.declared.scan.ByteSet.TheVariants.{Inner}
 use Rattle.pool_lexer.specs.declared.piece.Kind.{Kind}
 use Rattle.pool_lexer.specs.declared.piece.Kind.TheVariants.{Text as Quoted, Sign as OfSign}
 use Rattle.pool_lexer.specs.Pieces.{IsKind, IsRun, IsNoRun, IsPieceAt}

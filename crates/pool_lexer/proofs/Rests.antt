@@ -1,7 +1,8 @@
 -- What the rest of a text gives, the whole gives.
 use Rattle.std.proofs.Common.{◌≡◌, ◌≢◌, ℕ, ◌+◌, ◌≤◌, List, [], ◌∷◌, ◌++◌, length, take, drop, Option, Some, ◌⊎◌, inl, inr, refl, sym, ap, subst, ◌∙◌, arith}
 use Rattle.std.proofs.lemmas.List.{drop-drop, drop_all, length-drop, length-take-le, append_assoc}
-use Rattle.pool_syntax.specs.Tokens.{Text, longest, IsPieces, IsFaultless, fault_of, length_of, IsFirstFault, HasTokens, texts_after, token_of, tokens_from}
+use Rattle.run_words.specs.Text.{Text}
+use Rattle.pool_syntax.specs.Tokens.{longest, IsPieces, IsFaultless, fault_of, length_of, IsFirstFault, HasTokens, texts_after, token_of, tokens_from}
 use Rattle.pool_syntax.specs.declared.token.LexFault.{LexFault}
 use Rattle.pool_syntax.specs.declared.token.LexFault.TheVariants.{Memory, BadByte, IntegerTooLarge, OpenString, TooLong}
 use Rattle.pool_syntax.specs.declared.token.Tok.TheVariants as tok

@@ -1,30 +1,23 @@
 -- The tokens of a text are those of a spelled program, over the text's table.
-use Rattle.std.proofs.Common.{◌≡◌, ℕ, zero, suc, ◌+◌, ◌-◌, ◌≤◌, Bool, true, false, List, [], ◌∷◌, length, take, drop, slice_get, Option, Some, None, nat_le, pos, inl, inr, refl, sym, ap, subst, ◌∙◌, is_some, arith}
+use Rattle.std.proofs.Common.{◌≡◌, ℕ, zero, suc, ◌+◌, ◌-◌, ◌≤◌, true, false, List, [], ◌∷◌, length, take, drop, slice_get, Some, None, nat_le, pos, inl, inr, refl, sym, ap, subst, ◌∙◌, is_some, arith}
 use Rattle.std.proofs.lemmas.Bool.{cases_Bool}
 use Rattle.std.proofs.lemmas.Bool.Decides.{nat_tests}
 use Rattle.std.proofs.lemmas.List.{length-take}
-use Rattle.pool_syntax.specs.declared.token.LexFault.{LexFault}
 use Rattle.pool_syntax.specs.declared.token.Tok.{Tok}
 use Rattle.pool_syntax.specs.declared.token.Tok.TheVariants as tok
 use Rattle.pool_syntax.specs.declared.token.Token.{Token}
-use Rattle.pool_syntax.specs.Table.{name_of}
-use Rattle.pool_syntax.specs.Tokens.{Text, keywords, signs, lookup, is_listed, every, is_inner, is_word, is_integer, is_rest_of_string, is_string, piece_fault, value_of, kept_text, texts_after, token_of, tokens_from, IsFaultless, HasTokens}
+use Rattle.run_words.specs.Table.{name_of}
+use Rattle.run_words.specs.Text.{Text, lookup, is_listed, every, is_inner, is_word, is_integer, value_of_digits}
+use Rattle.run_words.specs.Keywords.{keywords, is_name, is_string_number, is_string_text}
+use Rattle.pool_syntax.specs.Tokens.{signs, is_rest_of_string, is_string, piece_fault, kept_text, texts_after, token_of, tokens_from, IsFaultless, HasTokens}
 use Rattle.pool_syntax.specs.Programs.{toks}
-use Rattle.pool_syntax.specs.Spelled.{is_name, is_string_number, is_string_text, IsSpelledToken, AreSpelled}
-use Rattle.pool_syntax.proofs.Laws.{text_at_place}
+use Rattle.pool_syntax.specs.Spelled.{IsSpelledToken, AreSpelled}
+use Rattle.run_words.proofs.Laws.{text_at_place, listed_is}
 use Rattle.pool_lexer.specs.Reading.{with_kept}
 use Rattle.pool_lexer.proofs.Ends.{all_more, all_none}
 use Rattle.pool_lexer.proofs.Kept.{cases_Option, some_same, kept_there, texts_after-cons}
-use Rattle.pool_lexer.proofs.Listed.{listed_is}
 use Rattle.pool_lexer.proofs.WordTokens.{name_kept}
-
--- a piece without fault is no longer than it may be
-within : (limit n : ℕ) (fault : LexFault) → elim (nat_le n limit) as (λ b. Option LexFault) [ true ↦ None | false ↦ Some fault ] ≡ None → nat_le n limit ≡ true
-within limit n fault h = by (nat_le n limit) h
-  where
-    by : (b : Bool) → elim b as (λ b. Option LexFault) [ true ↦ None | false ↦ Some fault ] ≡ None → b ≡ true
-    by true e = refl
-    by false e = absurd (cc)
+use Rattle.pool_syntax.proofs.Laws.{piece_within}
 
 -- the inside of a string of at most 258 bytes with its quotes
 inner_front : (bs : Text) (n : ℕ) → is_rest_of_string bs ≡ true → n + 1 ≤ length bs → every is_inner (take n bs) ≡ true
@@ -52,20 +45,20 @@ module _ (names : List Text) (w : Text) (ws : List Text) (faultless : piece_faul
   name_spelled : is_word w ≡ true → lookup keywords w ≡ None → is_name final (name_of final w) ≡ true
   name_spelled word none =
       let free : is_listed keywords w ≡ false = listed_is keywords w ∙ ap is_some none in
-      let short : nat_le (length w) 64 ≡ true = within 64 (length w) _ (rw (piece_fault, word) at faultless) in
+      let short : nat_le (length w) 64 ≡ true = piece_within 64 (length w) _ (rw (piece_fault, word) at faultless) in
       rw (at_place w (name_kept w word none), word, free, short)
 
   string_spelled : (x : Text) → is_word w ≡ false → is_integer w ≡ false → kept_text w ≡ Some x → is_string_number final (name_of final x) ≡ true
   string_spelled x no_word no_integer kept = elim (cases_Bool (is_string w)) [
     | inl quotes ↦
-        let short : nat_le (length w) 258 ≡ true = within 258 (length w) _ (rw (piece_fault, no_word, no_integer, quotes) at faultless) in
+        let short : nat_le (length w) 258 ≡ true = piece_within 258 (length w) _ (rw (piece_fault, no_word, no_integer, quotes) at faultless) in
         let same : take (length w - 2) (drop 1 w) ≡ x = some_same (sym (rw (kept_text, no_word, quotes)) ∙ kept) in
         rw (at_place x kept, ← same) (inside w quotes (grind (arith, nat_tests)))
     | inr none ↦ absurd (let nothing : kept_text w ≡ None = rw (kept_text, no_word, none) in cc)
   ]
 
-  integer_spelled : is_word w ≡ false → is_integer w ≡ true → nat_le (value_of 0 w) 9223372036854775807 ≡ true
-  integer_spelled no_word integer = within 9223372036854775807 (value_of 0 w) _ (rw (piece_fault, no_word, integer) at faultless)
+  integer_spelled : is_word w ≡ false → is_integer w ≡ true → nat_le (value_of_digits 0 w) 9223372036854775807 ≡ true
+  integer_spelled no_word integer = piece_within 9223372036854775807 (value_of_digits 0 w) _ (rw (piece_fault, no_word, integer) at faultless)
 
   is_spelled_as : (t u : Tok) → Some t ≡ token_of final w → token_of final w ≡ Some u → IsSpelledToken final t → IsSpelledToken final u
   is_spelled_as t u here e h = subst (λ v. IsSpelledToken final v) (some_same (here ∙ e)) h
@@ -89,7 +82,7 @@ module _ (names : List Text) (w : Text) (ws : List Text) (faultless : piece_faul
   token_spelled t e = elim (cases_Bool (is_word w)) [
     | inl word ↦ word_spelled t word e
     | inr no_word ↦ elim (cases_Bool (is_integer w)) [
-      | inl integer ↦ is_spelled_as (tok.Int (pos (value_of 0 w))) t (sym (rw (token_of, no_word, integer))) e (integer_spelled no_word integer)
+      | inl integer ↦ is_spelled_as (tok.Int (pos (value_of_digits 0 w))) t (sym (rw (token_of, no_word, integer))) e (integer_spelled no_word integer)
       | inr no_integer ↦ other_spelled t no_word no_integer e
     ]
   ]

@@ -1,6 +1,7 @@
 -- One piece of a text is read.
 use Rattle.std.proofs.Common.{◌≡◌, ℕ, suc, ◌-◌, ◌<◌, take, drop, slice_range, Option, ◌++◌, List, sym, ap, ◌∙◌, arith}
-use Rattle.pool_syntax.specs.Tokens.{Text, longest, piece_fault, fault_of}
+use Rattle.run_words.specs.Text.{Text}
+use Rattle.pool_syntax.specs.Tokens.{longest, piece_fault, fault_of}
 use Rattle.pool_syntax.specs.declared.token.LexFault.{LexFault}
 use Rattle.pool_syntax.specs.declared.token.Tok.{Tok}
 use Rattle.pool_lexer.specs.declared.piece.Piece.{Piece}

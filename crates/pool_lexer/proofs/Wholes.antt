@@ -1,7 +1,8 @@
 -- A text has one list of tokens or one first fault, and not both.
 use Rattle.std.proofs.Common.{◌≡◌, ◌≢◌, ℕ, ◌+◌, ◌≤◌, Bool, true, false, nat_le, List, [], ◌∷◌, length, take, drop, Option, Some, None, inl, inr, refl, sym, ap, subst, ◌∙◌, arith}
 use Rattle.std.proofs.lemmas.Bool.{cases_Bool}
-use Rattle.pool_syntax.specs.Tokens.{Text, longest, IsPieces, IsFaultless, piece_fault, fault_of, length_of, IsFirstFault, HasTokens, texts_after, is_word, is_integer, is_string, value_of}
+use Rattle.run_words.specs.Text.{Text, is_word, is_integer, value_of_digits}
+use Rattle.pool_syntax.specs.Tokens.{longest, IsPieces, IsFaultless, piece_fault, fault_of, length_of, IsFirstFault, HasTokens, texts_after, is_string}
 use Rattle.pool_syntax.specs.declared.token.LexFault.{LexFault}
 use Rattle.pool_syntax.specs.declared.token.LexFault.TheVariants.{TooLong, IntegerTooLarge}
 use Rattle.pool_syntax.specs.declared.token.Token.{Token}
@@ -16,7 +17,7 @@ pub faultless_at : (at to : ℕ) (w : Text) → piece_fault at w ≡ None → pi
 faultless_at at to w e = elim (cases_Bool (is_word w)) [
   | inl word ↦ rw (piece_fault, word) (limit_moves (nat_le (length w) 64) (TooLong at) (TooLong to) (rw (piece_fault, word) at e))
   | inr no_word ↦ elim (cases_Bool (is_integer w)) [
-    | inl integer ↦ rw (piece_fault, no_word, integer) (limit_moves (nat_le (value_of 0 w) 9223372036854775807) (IntegerTooLarge at) (IntegerTooLarge to) (rw (piece_fault, no_word, integer) at e))
+    | inl integer ↦ rw (piece_fault, no_word, integer) (limit_moves (nat_le (value_of_digits 0 w) 9223372036854775807) (IntegerTooLarge at) (IntegerTooLarge to) (rw (piece_fault, no_word, integer) at e))
     | inr no_integer ↦ elim (cases_Bool (is_string w)) [
       | inl string ↦ rw (piece_fault, no_word, no_integer, string) (limit_moves (nat_le (length w) 258) (TooLong at) (TooLong to) (rw (piece_fault, no_word, no_integer, string) at e))
       | inr no_string ↦ rw (piece_fault, no_word, no_integer, no_string)

@@ -1,7 +1,8 @@
 -- What reading one piece of a text gives.
 use Rattle.std.specs.Prelude.{◌≡◌, ℕ, ◌+◌, ◌<◌, ◌≤◌, List, [], ◌∷◌, ◌++◌, length, take, drop, Option, Some, None, Result, Ok, Err}
-use Rattle.pool_syntax.specs.Table.{with_text}
-use Rattle.pool_syntax.specs.Tokens.{Text, longest, piece_fault, fault_of, kept_text, token_of}
+use Rattle.run_words.specs.Table.{with_text}
+use Rattle.run_words.specs.Text.{Text}
+use Rattle.pool_syntax.specs.Tokens.{longest, piece_fault, fault_of, kept_text, token_of}
 use Rattle.pool_syntax.specs.declared.token.LexFault.{LexFault}
 use Rattle.pool_syntax.specs.declared.token.LexFault.TheVariants.{Memory, BadByte, IntegerTooLarge, OpenString, TooLong}
 use Rattle.pool_syntax.specs.declared.token.Tok.{Tok}

@@ -9,7 +9,8 @@ ghost use Rattle.pool_lexer.specs.Reading.{TellsStep};
 use crate::piece::piece_at;
 use crate::table::Tokens;
 use crate::token::token;
-use pool_syntax::{LexFault, List, Names, Tok, Token};
+use pool_syntax::{LexFault, Tok, Token};
+use run_words::{List, Names};
 use std::alloc::Global;
 
 /// The tokens of a text of at most 64 MiB, or its first fault. The texts of names and strings are

@@ -2,9 +2,9 @@
 ghost use Rattle.std.specs.Prelude.{◌≡◌, ◌≢◌, ◌^◌, ◌<◌, length, slice_index};
 ghost use Rattle.pool_lexer.specs.Pieces.{IsNoRun, RunOf, TellsPiece};
 
-use crate::scan::{ByteSet, run_end};
 use crate::spelling::sign;
 use pool_syntax::{LexFault, Sign};
+use run_words::{ByteSet, run_end};
 
 /// Which token a piece is; white space and comments are skipped.
 #[derive(Clone, Copy)]

@@ -4,11 +4,9 @@ ghost use Rattle.pool_lexer.specs.Pieces.{IsKind};
 ghost use Rattle.pool_lexer.specs.Reading.{TellsToken};
 ghost use Rattle.pool_lexer.specs.declared.piece.Kind.TheVariants.{Word, Integer, Text as Quoted};
 
-use crate::lines::decimal;
 use crate::piece::Kind;
-use crate::places::Decimal;
-use crate::spelling::keyword;
-use pool_syntax::{LexFault, Names, Tok};
+use pool_syntax::{LexFault, Tok};
+use run_words::{Decimal, Names, decimal, keyword};
 
 /// The most bytes of a name.
 const NAME_LIMIT: usize = 64;

@@ -1,7 +1,7 @@
 -- Derivations look only at the tokens that they derive.
 use Rattle.std.proofs.Common.{◌≡◌, ℕ, ◌<◌, ◌≤◌, List, slice_get, ◌∙◌, arith}
 use Rattle.pool_syntax.specs.declared.token.Tok.{Tok}
-use Rattle.pool_syntax.specs.Rules.{Phrase, Tree, Part, word, sign, name, integer, string, end, operator, phrase, Gives, Rule}
+use Rattle.pool_syntax.specs.Rules.{Phrase, Tree, Part, word, sign, name, integer, string, end, operator, phrase, SemanticValue, Rule}
 use Rattle.pool_syntax.specs.Derives.{IsToken, Derives, nothing, token, inner, first, second, Begins, none, past_token, within, past, of_first, of_second}
 use Rattle.pool_parser.proofs.Reading.{at_least, begins_at_least}
 
@@ -9,7 +9,7 @@ use Rattle.pool_parser.proofs.Reading.{at_least, begins_at_least}
 abbrev pub AgreeBelow : List Tok → List Tok → ℕ → Type 0
 AgreeBelow ts us n = (i : ℕ) → i < n → slice_get us i ≡ slice_get ts i
 
-token_agrees : (ts us : List Tok) (n i : ℕ) (part : Part) (y : Gives part) → AgreeBelow ts us n → i < n → IsToken ts part i y → IsToken us part i y
+token_agrees : (ts us : List Tok) (n i : ℕ) (part : Part) (y : SemanticValue part) → AgreeBelow ts us n → i < n → IsToken ts part i y → IsToken us part i y
 token_agrees ts us n i (word k) y a l h = (a i l ∙ h.0, h.1)
 token_agrees ts us n i (sign s) y a l h = (a i l ∙ h.0, h.1)
 token_agrees ts us n i name y a l h = (a i l ∙ h.0, h.1)

@@ -1,10 +1,10 @@
 -- How statements with lists in them, alternatives and lists of statements are read.
 use Rattle.std.proofs.Common.{◌≡◌, ◌≢◌, ℕ, ◌+◌, inl, inr, ⊎_elim, false, IsTrue, List, Option, Some, None, slice_get, refl, arith}
 use Rattle.pool_syntax.specs.declared.tree.Named.{Named}
-use Rattle.pool_syntax.specs.declared.token.Keyword.{Keyword}
+use Rattle.run_words.specs.declared.keywords.Keyword.{Keyword}
 use Rattle.pool_syntax.specs.declared.token.Tok.{Tok}
 use Rattle.pool_syntax.specs.declared.token.Tok.TheVariants as tok
-use Rattle.pool_syntax.specs.declared.token.Keyword.TheVariants as kw
+use Rattle.run_words.specs.declared.keywords.Keyword.TheVariants as kw
 use Rattle.pool_syntax.specs.declared.token.Sign.TheVariants as sg
 use Rattle.pool_syntax.specs.Terms.{Expression, Statement, If, While, Select, Statements, Done, Then, Alternatives, NoAlts}
 use Rattle.pool_syntax.specs.Rules.{Phrase, Tree, stmt, stmts, more_stmts, alt, more_alts, list, word, phrase, Rule, tree, then, either, OneAlternative}

@@ -2,7 +2,7 @@
 use Rattle.std.proofs.Common.{◌≡◌, ℕ, ◌+◌, ◌≤◌, ⊎_elim, List, arith, subst, sym, eq-or-lt_of_le}
 use native.Mathlib.Decide.{dec_le}
 use Rattle.pool_syntax.specs.declared.token.Tok.{Tok}
-use Rattle.pool_syntax.specs.Rules.{Phrase, Tree, Part, phrase, Gives, Rule, then, either}
+use Rattle.pool_syntax.specs.Rules.{Phrase, Tree, Part, phrase, SemanticValue, Rule, then, either}
 use Rattle.pool_syntax.specs.Grammar.{rule}
 use Rattle.pool_syntax.specs.Derives.{IsTerminal, Derives, first, second, Begins, of_first, of_second}
 use Rattle.pool_parser.specs.Reads.{Outcome, read, refused, edge, Reads, Stops, Clear, Misses}
@@ -37,7 +37,7 @@ module _ {ts : List Tok} {p : Phrase} {i : ℕ} where
   }
 
 -- a rule that begins with a token derives no empty list
-pub not_empty : {ts : List Tok} {p : Phrase} {part : Part} {f : Gives part → Rule (Tree p)} {k : ℕ} {x : Tree p} → IsTerminal part → Derives ts p (then part f) k k x → ⊥
+pub not_empty : {ts : List Tok} {p : Phrase} {part : Part} {f : SemanticValue part → Rule (Tree p)} {k : ℕ} {x : Tree p} → IsTerminal part → Derives ts p (then part f) k k x → ⊥
 not_empty {k = k} t d = let a = Derives-token t d in let l : k + 1 ≤ k = at_least a.2 in omega arith
 
 -- a phrase that is not empty decides alone what may stand before it

@@ -1,12 +1,12 @@
 -- How variables, parameters, methods, classes and programs are read.
 use Rattle.std.proofs.Common.{◌≡◌, ◌≢◌, ℕ, ◌+◌, ⊎_elim, inl, inr, List, [], ◌∷◌, ◌++◌, Some, slice_get, refl, subst, arith}
-use Rattle.pool_syntax.specs.declared.words.NameId.{NameId}
-use Rattle.pool_syntax.specs.declared.tree.Kind.{Kind}
+use Rattle.run_words.specs.declared.words.NameId.{NameId}
+use Rattle.run_words.specs.declared.words.Kind.{Kind}
 use Rattle.pool_syntax.specs.declared.tree.Named.{Named}
 use Rattle.pool_syntax.specs.declared.tree.Var.{Var}
 use Rattle.pool_syntax.specs.declared.token.Tok.{Tok}
 use Rattle.pool_syntax.specs.declared.token.Tok.TheVariants as tok
-use Rattle.pool_syntax.specs.declared.token.Keyword.TheVariants as kw
+use Rattle.run_words.specs.declared.keywords.Keyword.TheVariants as kw
 use Rattle.pool_syntax.specs.declared.token.Sign.TheVariants as sg
 use Rattle.pool_syntax.specs.Terms.{MethodTree, ClassTree, Statements, Done}
 use Rattle.pool_syntax.specs.Rules as r

@@ -1,12 +1,12 @@
 -- Single tokens in rules.
 use Rattle.std.proofs.Common.{◌≡◌, ◌≢◌, ℕ, ◌+◌, Bool, true, false, List, Option, Some, None, slice_get, refl}
-use Rattle.pool_syntax.specs.declared.token.Keyword.{Keyword}
+use Rattle.run_words.specs.declared.keywords.Keyword.{Keyword}
 use Rattle.pool_syntax.specs.declared.token.Sign.{Sign}
 use Rattle.pool_syntax.specs.declared.token.Tok.{Tok}
 use Rattle.pool_syntax.specs.declared.token.Tok.TheVariants as tok
 use Rattle.pool_syntax.specs.declared.tree.Named.{Named}
-use Rattle.pool_syntax.specs.declared.words.NameId.{NameId}
-use Rattle.pool_syntax.specs.Rules.{Level, Phrase, Tree, word, sign, name, operator, Gives, Rule, tree, then}
+use Rattle.run_words.specs.declared.words.NameId.{NameId}
+use Rattle.pool_syntax.specs.Rules.{Level, Phrase, Tree, word, sign, name, operator, SemanticValue, Rule, tree, then}
 use Rattle.pool_syntax.specs.Grammar.{operator_of}
 use Rattle.pool_parser.specs.Reads.{GoesOn, Outcome, read, refused, Reads, Clear, Misses, Off}
 use Rattle.pool_parser.proofs.Reading.{reads_tree, reads_token, reads_missing, misses_token, off}
@@ -51,5 +51,5 @@ module _ {ts : List Tok} {p : Phrase} where
   pub off_word : {f : ℕ → Rule (Tree p)} {w : Keyword} {i : ℕ} → slice_get ts i ≢ Some (tok.Word w) → Off ts p (then (word w) f) i
   off_word h = off (misses_token tt (λ y a. h a.0))
 
-  pub no_operator : {l : Level} {i : ℕ} {t : Tok} → slice_get ts i ≡ Some t → operator_of l t ≡ None → {f : Gives (operator l) → Rule (Tree p)} → Misses ts p (then (operator l) f) i
+  pub no_operator : {l : Level} {i : ℕ} {t : Tok} → slice_get ts i ≡ Some t → operator_of l t ≡ None → {f : SemanticValue (operator l) → Rule (Tree p)} → Misses ts p (then (operator l) f) i
   no_operator {l = l} h k = misses_token tt (λ y a. let e : a.0 ≡ _ = cc (a.1, h) in let n : operator_of l a.0 ≡ None = rw e k in cc (n, a.2))

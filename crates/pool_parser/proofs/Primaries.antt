@@ -1,14 +1,14 @@
 -- How primaries, sends to them, factors and comparisons are read.
 use Rattle.std.proofs.Common.{◌≡◌, ◌≢◌, ℕ, ℤ, ◌+◌, ◌≤◌, ⊎_elim, Bool, true, false, List, Some, None, slice_get, refl, subst, arith, eq-or-lt_of_le}
-use Rattle.pool_syntax.specs.declared.words.NameId.{NameId}
+use Rattle.run_words.specs.declared.words.NameId.{NameId}
 use Rattle.pool_syntax.specs.declared.tree.Named.{Named}
-use Rattle.pool_syntax.specs.declared.token.Keyword.{Keyword}
+use Rattle.run_words.specs.declared.keywords.Keyword.{Keyword}
 use Rattle.pool_syntax.specs.declared.token.Tok.{Tok}
 use Rattle.pool_syntax.specs.declared.token.Tok.TheVariants as tok
-use Rattle.pool_syntax.specs.declared.token.Keyword.TheVariants as kw
+use Rattle.run_words.specs.declared.keywords.Keyword.TheVariants as kw
 use Rattle.pool_syntax.specs.declared.token.Sign.TheVariants as sg
-use Rattle.pool_syntax.specs.declared.words.Op.{Op}
-use Rattle.pool_syntax.specs.declared.words.Value.TheVariants as value
+use Rattle.run_words.specs.declared.words.Op.{Op}
+use Rattle.run_words.specs.declared.words.Value.TheVariants as value
 use Rattle.pool_syntax.specs.Terms.{Expression, Expressions, Literal, Me, Variable, Create, Prefix, Infix, Call, Send}
 use Rattle.pool_syntax.specs.Rules.{addition, group, comparison, factor, postfix, primary, Phrase, Tree, expression, args, more_sends, invoke, sign, name, operator, phrase, Rule, tree, then, either}
 use Rattle.pool_syntax.specs.Grammar.{rule, operator_of, expr}

@@ -4,12 +4,12 @@ use native.Mathlib.Decide.{dec_le}
 use Rattle.std.proofs.lemmas.Option.{slice_get_within}
 use Rattle.pool_syntax.specs.declared.token.Tok.{Tok}
 use Rattle.pool_syntax.specs.declared.token.Tok.TheVariants as tok
-use Rattle.pool_syntax.specs.declared.token.Keyword.{Keyword}
+use Rattle.run_words.specs.declared.keywords.Keyword.{Keyword}
 use Rattle.pool_syntax.specs.declared.token.Sign.{Sign}
-use Rattle.pool_syntax.specs.declared.words.NameId.{NameId}
+use Rattle.run_words.specs.declared.words.NameId.{NameId}
 use Rattle.pool_syntax.specs.declared.tree.Named.{Named}
-use Rattle.pool_syntax.specs.Rules.{Phrase, Tree, Part, word, sign, name, integer, string, end, operator, phrase, Gives, Rule, tree, then, either}
-use Rattle.pool_syntax.specs.declared.words.Op.{Op}
+use Rattle.pool_syntax.specs.Rules.{Phrase, Tree, Part, word, sign, name, integer, string, end, operator, phrase, SemanticValue, Rule, tree, then, either}
+use Rattle.run_words.specs.declared.words.Op.{Op}
 use Rattle.pool_syntax.specs.Grammar.{rule, operator_of}
 use Rattle.pool_syntax.specs.Derives.{IsToken, IsTerminal, Derives, nothing, token, inner, first, second, Begins, none, past_token, within, past, of_first, of_second}
 use Rattle.pool_parser.specs.Reads.{GoesOn, Stops, Outcome, read, refused, edge, Reads, Clear, Off, Misses, Within}
@@ -63,8 +63,8 @@ shorter k (of_second d) a b = of_second (shorter k d a b)
 pub Derives-tree : {ts : List Tok} {p : Phrase} {x y : Tree p} {i j : ℕ} → Derives ts p (tree x) i j y → (i ≡ j) × (x ≡ y)
 Derives-tree nothing = (refl, refl)
 
-pub Derives-token : {ts : List Tok} {p : Phrase} {part : Part} {f : Gives part → Rule (Tree p)} {i j : ℕ} {x : Tree p} →
-    IsTerminal part → Derives ts p (then part f) i j x → (y : Gives part) × IsToken ts part i y × Derives ts p (f y) (i + 1) j x
+pub Derives-token : {ts : List Tok} {p : Phrase} {part : Part} {f : SemanticValue part → Rule (Tree p)} {i j : ℕ} {x : Tree p} →
+    IsTerminal part → Derives ts p (then part f) i j x → (y : SemanticValue part) × IsToken ts part i y × Derives ts p (f y) (i + 1) j x
 Derives-token t (token y h d) = (y, h, d)
 Derives-token t (inner y c d) = absurd t
 
@@ -81,8 +81,8 @@ Derives-either (second d) = inr d
 pub Begins-tree : {ts : List Tok} {p : Phrase} {x : Tree p} {i j : ℕ} → Begins ts p (tree x) i j → i ≡ j
 Begins-tree none = refl
 
-pub Begins-token : {ts : List Tok} {p : Phrase} {part : Part} {f : Gives part → Rule (Tree p)} {i j : ℕ} →
-    IsTerminal part → Begins ts p (then part f) i j → (i ≡ j) ⊎ ((y : Gives part) × IsToken ts part i y × Begins ts p (f y) (i + 1) j)
+pub Begins-token : {ts : List Tok} {p : Phrase} {part : Part} {f : SemanticValue part → Rule (Tree p)} {i j : ℕ} →
+    IsTerminal part → Begins ts p (then part f) i j → (i ≡ j) ⊎ ((y : SemanticValue part) × IsToken ts part i y × Begins ts p (f y) (i + 1) j)
 Begins-token t none = inl refl
 Begins-token t (past_token y h d) = inr (y, h, d)
 Begins-token t (within d) = absurd t
@@ -102,7 +102,7 @@ Begins-either (of_first d) = inl d
 Begins-either (of_second d) = inr d
 
 -- a token that is there has a number below the length
-token_within : (ts : List Tok) (i : ℕ) (part : Part) (y : Gives part) → IsToken ts part i y → i < length ts
+token_within : (ts : List Tok) (i : ℕ) (part : Part) (y : SemanticValue part) → IsToken ts part i y → i < length ts
 token_within ts i (word k) y h = slice_get_within ts i _ h.0
 token_within ts i (sign s) y h = slice_get_within ts i _ h.0
 token_within ts i name y h = slice_get_within ts i _ h.0
@@ -128,7 +128,7 @@ begins_within (of_first b) l = begins_within b l
 begins_within (of_second b) l = begins_within b l
 
 -- a token gives one thing
-pub token_one : (ts : List Tok) (i : ℕ) (part : Part) (y z : Gives part) → IsToken ts part i y → IsToken ts part i z → y ≡ z
+pub token_one : (ts : List Tok) (i : ℕ) (part : Part) (y z : SemanticValue part) → IsToken ts part i y → IsToken ts part i z → y ≡ z
 token_one ts i (word k) y z a b = a.1 ∙ sym b.1
 token_one ts i (sign s) y z a b = a.1 ∙ sym b.1
 token_one ts i name y z a b = let e : y.name ≡ z.name = cc (a.0, b.0) in ap₂ (λ (m : NameId) (n : ℕ). let v : Named = record { name = m; pos = n } in v) e (a.1 ∙ sym b.1)
@@ -149,17 +149,17 @@ module _ {ts : List Tok} {p : Phrase} {i : ℕ} where
     ends = λ b. let e : i ≡ i + 1 = Begins-tree b in omega arith;
   }
 
-  pub reads_token : {part : Part} {f : Gives part → Rule (Tree p)} {o : Outcome (Tree p)} → IsTerminal part → (y : Gives part) → IsToken ts part i y →
+  pub reads_token : {part : Part} {f : SemanticValue part → Rule (Tree p)} {o : Outcome (Tree p)} → IsTerminal part → (y : SemanticValue part) → IsToken ts part i y →
       Reads ts p (f y) (i + 1) o → Reads ts p (then part f) i o
   reads_token {part = part} {f = f} {o = o} t y h R = record {
     sound = λ x j e. token y h (R.sound x j e);
-    only = λ x j d s. let a = Derives-token t d in R.only x j (subst (λ (z : Gives part). Derives ts p (f z) (i + 1) j x) (token_one ts i part a.0 y a.1 h) a.2) s;
+    only = λ x j d s. let a = Derives-token t d in R.only x j (subst (λ (z : SemanticValue part). Derives ts p (f z) (i + 1) j x) (token_one ts i part a.0 y a.1 h) a.2) s;
     begun = past_token y h R.begun;
     ends = λ b. ⊎_elim (λ e. let l : i + 1 ≤ edge o = begins_at_least R.begun in omega arith)
-        (λ a. R.ends (subst (λ (z : Gives part). Begins ts p (f z) (i + 1) (edge o + 1)) (token_one ts i part a.0 y a.1 h) a.2)) (Begins-token t b);
+        (λ a. R.ends (subst (λ (z : SemanticValue part). Begins ts p (f z) (i + 1) (edge o + 1)) (token_one ts i part a.0 y a.1 h) a.2)) (Begins-token t b);
   }
 
-  pub reads_missing : {part : Part} {f : Gives part → Rule (Tree p)} → IsTerminal part → ((y : Gives part) → IsToken ts part i y → ⊥) →
+  pub reads_missing : {part : Part} {f : SemanticValue part → Rule (Tree p)} → IsTerminal part → ((y : SemanticValue part) → IsToken ts part i y → ⊥) →
       Reads ts p (then part f) i (refused i)
   reads_missing t no_token = record {
     sound = λ x j e. cc;
@@ -238,7 +238,7 @@ module _ {ts : List Tok} {p q : Phrase} where
     empty = λ k x d s t h g. s t h (w t g);
   }
 
-  pub clear_token : {part : Part} {f : Gives part → Rule (Tree p)} → IsTerminal part → ((k : ℕ) (y : Gives part) → IsToken ts part k y → Stops ts q k) → Clear ts p (then part f) q
+  pub clear_token : {part : Part} {f : SemanticValue part → Rule (Tree p)} → IsTerminal part → ((k : ℕ) (y : SemanticValue part) → IsToken ts part k y → Stops ts q k) → Clear ts p (then part f) q
   clear_token t stops = record {
     begun = λ k b. ⊎_elim (λ e. absurd (let g : k ≡ k + 1 = e in omega arith)) (λ a. stops k a.0 a.1) (Begins-token t b);
     empty = λ k x d s. let a = Derives-token t d in absurd (let l : k + 1 ≤ k = at_least a.2 in omega arith);
@@ -269,7 +269,7 @@ module _ {ts : List Tok} {p q : Phrase} where
 -- alternatives that are not taken
 
 module _ {ts : List Tok} {p : Phrase} {i : ℕ} where
-  pub misses_token : {part : Part} {f : Gives part → Rule (Tree p)} → IsTerminal part → ((y : Gives part) → IsToken ts part i y → ⊥) → Misses ts p (then part f) i
+  pub misses_token : {part : Part} {f : SemanticValue part → Rule (Tree p)} → IsTerminal part → ((y : SemanticValue part) → IsToken ts part i y → ⊥) → Misses ts p (then part f) i
   misses_token t no_token = record {
     begun = λ b. ⊎_elim (λ e. let g : i ≡ i + 1 = e in omega arith) (λ a. no_token a.0 a.1) (Begins-token t b);
     empty = λ x d. let a = Derives-token t d in no_token a.0 a.1;
@@ -347,37 +347,37 @@ module _ {ts : List Tok} {p : Phrase} where
   }
 
   -- a common first part
-  factored_to : {part : Part} {f g : Gives part → Rule (Tree p)} {i j : ℕ} {x : Tree p} → Derives ts p (then part (λ y. either (f y) (g y))) i j x → Derives ts p (either (then part f) (then part g)) i j x
+  factored_to : {part : Part} {f g : SemanticValue part → Rule (Tree p)} {i j : ℕ} {x : Tree p} → Derives ts p (then part (λ y. either (f y) (g y))) i j x → Derives ts p (either (then part f) (then part g)) i j x
   factored_to (token y h d) = ⊎_elim (λ a. first (token y h a)) (λ b. second (token y h b)) (Derives-either d)
   factored_to (inner y c d) = ⊎_elim (λ a. first (inner y c a)) (λ b. second (inner y c b)) (Derives-either d)
 
-  factored_first : {part : Part} {f g : Gives part → Rule (Tree p)} {i j : ℕ} {x : Tree p} → Derives ts p (then part f) i j x → Derives ts p (then part (λ y. either (f y) (g y))) i j x
+  factored_first : {part : Part} {f g : SemanticValue part → Rule (Tree p)} {i j : ℕ} {x : Tree p} → Derives ts p (then part f) i j x → Derives ts p (then part (λ y. either (f y) (g y))) i j x
   factored_first (token y h d) = token y h (first d)
   factored_first (inner y c d) = inner y c (first d)
 
-  factored_second : {part : Part} {f g : Gives part → Rule (Tree p)} {i j : ℕ} {x : Tree p} → Derives ts p (then part g) i j x → Derives ts p (then part (λ y. either (f y) (g y))) i j x
+  factored_second : {part : Part} {f g : SemanticValue part → Rule (Tree p)} {i j : ℕ} {x : Tree p} → Derives ts p (then part g) i j x → Derives ts p (then part (λ y. either (f y) (g y))) i j x
   factored_second (token y h d) = token y h (second d)
   factored_second (inner y c d) = inner y c (second d)
 
-  factored_begun : {part : Part} {f g : Gives part → Rule (Tree p)} {i j : ℕ} → Begins ts p (then part (λ y. either (f y) (g y))) i j → Begins ts p (either (then part f) (then part g)) i j
+  factored_begun : {part : Part} {f g : SemanticValue part → Rule (Tree p)} {i j : ℕ} → Begins ts p (then part (λ y. either (f y) (g y))) i j → Begins ts p (either (then part f) (then part g)) i j
   factored_begun none = none
   factored_begun (past_token y h d) = ⊎_elim (λ a. of_first (past_token y h a)) (λ b. of_second (past_token y h b)) (Begins-either d)
   factored_begun (within d) = of_first (within d)
   factored_begun (past y c d) = ⊎_elim (λ a. of_first (past y c a)) (λ b. of_second (past y c b)) (Begins-either d)
 
-  begun_first : {part : Part} {f g : Gives part → Rule (Tree p)} {i j : ℕ} → Begins ts p (then part f) i j → Begins ts p (then part (λ y. either (f y) (g y))) i j
+  begun_first : {part : Part} {f g : SemanticValue part → Rule (Tree p)} {i j : ℕ} → Begins ts p (then part f) i j → Begins ts p (then part (λ y. either (f y) (g y))) i j
   begun_first none = none
   begun_first (past_token y h d) = past_token y h (of_first d)
   begun_first (within d) = within d
   begun_first (past y c d) = past y c (of_first d)
 
-  begun_second : {part : Part} {f g : Gives part → Rule (Tree p)} {i j : ℕ} → Begins ts p (then part g) i j → Begins ts p (then part (λ y. either (f y) (g y))) i j
+  begun_second : {part : Part} {f g : SemanticValue part → Rule (Tree p)} {i j : ℕ} → Begins ts p (then part g) i j → Begins ts p (then part (λ y. either (f y) (g y))) i j
   begun_second none = none
   begun_second (past_token y h d) = past_token y h (of_second d)
   begun_second (within d) = within d
   begun_second (past y c d) = past y c (of_second d)
 
-  pub reads_factored : {part : Part} {f g : Gives part → Rule (Tree p)} {i : ℕ} {o : Outcome (Tree p)} → Reads ts p (then part (λ y. either (f y) (g y))) i o → Reads ts p (either (then part f) (then part g)) i o
+  pub reads_factored : {part : Part} {f g : SemanticValue part → Rule (Tree p)} {i : ℕ} {o : Outcome (Tree p)} → Reads ts p (then part (λ y. either (f y) (g y))) i o → Reads ts p (either (then part f) (then part g)) i o
   reads_factored R = reads_same (record {
     to = factored_to;
     back = λ d. ⊎_elim factored_first factored_second (Derives-either d);

@@ -1,7 +1,7 @@
 -- What an answer on the whole list, or on its front, says of the program.
 use Rattle.std.proofs.Common.{◌≡◌, ℕ, ◌+◌, ◌-◌, ◌<◌, ◌≤◌, List, Result, Ok, Err, IfOk, MatchResult, length, take, min, refl, sym, subst₂, arith}
 use Rattle.pool_lexer.specs.Ended.{EndsInEnd}
-use Rattle.pool_syntax.specs.Programs.{toks}
+use Rattle.pool_syntax.specs.Programs.{toks, HasProgram, IsShallowBelow}
 use Rattle.pool_syntax.specs.declared.token.Token.{Token}
 use Rattle.pool_syntax.specs.declared.token.Tok.{Tok}
 use Rattle.pool_syntax.specs.declared.tree.Program.{Program}
@@ -15,7 +15,6 @@ use Rattle.pool_parser.specs.declared.fault.SyntaxFault.{SyntaxFault}
 use Rattle.pool_parser.specs.declared.fault.SyntaxFault.TheVariants.{Unexpected, TooDeep, Memory}
 use Rattle.pool_parser.specs.Reads.{ReadsPhrase, read, refused}
 use Rattle.pool_parser.specs.Parses.{seen}
-use Rattle.pool_syntax.specs.Programs.{HasProgram, IsShallowBelow}
 use Rattle.pool_parser.specs.Declarations.{AnswersProgram, ParsesProgram}
 use Rattle.pool_parser.proofs.Reading.{front_of, shorter, begins_within}
 use Rattle.pool_parser.proofs.Agreement.{AgreeBelow, Begins-agrees}

@@ -1,25 +1,26 @@
 -- The trees of spelled tokens are spelled.
 use Rattle.std.proofs.Common.{◌≡◌, ℕ, IsTrue, Bool, true, false, ◌&&◌, List, [], ◌∷◌, ◌++◌, Some, Result, Ok, Err, IfOk, slice_get, refl, subst}
 use Rattle.std.proofs.lemmas.Option.{get_or_from_slice_get, slice_get_within}
-use Rattle.pool_syntax.specs.declared.tree.Kind.{Kind}
+use Rattle.run_words.specs.declared.words.Kind.{Kind}
 use Rattle.pool_syntax.specs.declared.tree.Named.{Named}
 use Rattle.pool_syntax.specs.declared.tree.Var.{Var}
 use Rattle.pool_syntax.specs.declared.token.Tok.{Tok}
 use Rattle.pool_syntax.specs.declared.token.Tok.TheVariants as tok
-use Rattle.pool_syntax.specs.declared.words.Value.TheVariants as value
+use Rattle.run_words.specs.declared.words.Value.TheVariants as value
 use Rattle.pool_syntax.specs.Terms as t
 use Rattle.pool_syntax.specs.Terms.{Expression, Expressions, Statement, Statements, Alternatives, MethodTree, ClassTree, ProgramTree}
 use Rattle.pool_syntax.specs.Rules as r
-use Rattle.pool_syntax.specs.Rules.{Group, Level, group, comparison, factor, postfix, primary, Phrase, Tree, program, more_classes, class, more_vars, names, more_names, more_methods, method, params, more_params, param, more_locals, stmts, more_stmts, stmt, invoke, alt, more_alts, list, expression, more_operands, more_sends, args, more_args, OneAlternative, Part, word, sign, name, integer, string, end, operator, phrase, Gives, Rule, tree, then, either, post}
+use Rattle.pool_syntax.specs.Rules.{Group, Level, group, comparison, factor, postfix, primary, Phrase, Tree, program, more_classes, class, more_vars, names, more_names, more_methods, method, params, more_params, param, more_locals, stmts, more_stmts, stmt, invoke, alt, more_alts, list, expression, more_operands, more_sends, args, more_args, OneAlternative, Part, word, sign, name, integer, string, end, operator, phrase, SemanticValue, Rule, tree, then}
+use Rattle.pool_syntax.specs.Rules.{either, post}
 use Rattle.pool_syntax.specs.Grammar.{rule, arg_last, then_last, alt_last, variables}
 use Rattle.pool_syntax.specs.Derives.{IsToken, Derives, nothing, token, inner, first, second, IsProgram}
-use Rattle.pool_syntax.specs.Tokens.{Text}
-use Rattle.pool_syntax.specs.Spelled.{is_name, is_string_number, is_literal, is_kind, is_outcome, are_names, are_answer_names, are_variables, is_spelled_expression, are_spelled_expressions, is_spelled_statement, are_spelled_statements, are_spelled_alternatives, are_spelled_methods, is_spelled}
+use Rattle.run_words.specs.Text.{Text}
+use Rattle.run_words.specs.Keywords.{is_name, is_string_number}
+use Rattle.pool_syntax.specs.Spelled.{is_literal, is_kind, is_outcome, are_names, are_answer_names, are_variables, is_spelled_expression, are_spelled_expressions, is_spelled_statement, are_spelled_statements, are_spelled_alternatives, are_spelled_methods, is_spelled, IsSpelledToken, AreSpelled}
 use Rattle.pool_syntax.specs.declared.tree.Program.{Program}
 use Rattle.pool_syntax.specs.TreeOf.{program_of}
 use Rattle.pool_parser.specs.declared.fault.SyntaxFault.{SyntaxFault}
 use Rattle.pool_syntax.specs.Programs.{HasProgram}
-use Rattle.pool_syntax.specs.Spelled.{IsSpelledToken, AreSpelled}
 
 both : {a b : Bool} → IsTrue a → IsTrue b → IsTrue (a && b)
 both {a = true} h k = k
@@ -78,7 +79,7 @@ module _ (table : List Text) where
   GoodBefore (more_args before) = IsTrue (are_spelled_expressions table before)
   GoodBefore _ = Unit {0}
 
-  abbrev pub GoodPart : (part : Part) → Gives part → Type 0
+  abbrev pub GoodPart : (part : Part) → SemanticValue part → Type 0
   GoodPart name n = IsTrue (is_name table n.name.0)
   GoodPart integer z = IsTrue (is_literal (value.Int z.0))
   GoodPart string s = IsTrue (is_string_number table s.0)
@@ -92,13 +93,13 @@ module _ (table : List Text) where
   -- with spelled parts the tree is spelled
   abbrev pub Spells : (p : Phrase) → Rule (Tree p) → Type 0
   Spells p (tree x) = GoodTree p x
-  Spells p (then part f) = GoodPlace part × ((y : Gives part) → GoodPart part y → Spells p (f y))
+  Spells p (then part f) = GoodPlace part × ((y : SemanticValue part) → GoodPart part y → Spells p (f y))
   Spells p (either r s) = Spells p r × Spells p s
 
   token_spelled : (ts : List Tok) → AreSpelled table ts → (i : ℕ) (t : Tok) → slice_get ts i ≡ Some t → IsSpelledToken table t
   token_spelled ts s i t h = subst (λ (u : Tok). IsSpelledToken table u) (get_or_from_slice_get ts i t t h) (s i t (slice_get_within ts i t h))
 
-  token_good : (ts : List Tok) → AreSpelled table ts → (i : ℕ) (part : Part) (y : Gives part) → IsToken ts part i y → GoodPart part y
+  token_good : (ts : List Tok) → AreSpelled table ts → (i : ℕ) (part : Part) (y : SemanticValue part) → IsToken ts part i y → GoodPart part y
   token_good ts s i (word k) y h = tt
   token_good ts s i (sign k) y h = tt
   token_good ts s i name y h = token_spelled ts s i (tok.Name y.name) h.0

@@ -1,11 +1,11 @@
 -- How statements are told apart, and those without lists are read.
 use Rattle.std.proofs.Common.{◌≡◌, ◌≢◌, ℕ, ◌+◌, ◌≤◌, inl, inr, ⊎_elim, Bool, true, false, IsTrue, List, Some, slice_get, refl, subst, subst₂, arith}
-use Rattle.pool_syntax.specs.declared.words.NameId.{NameId}
+use Rattle.run_words.specs.declared.words.NameId.{NameId}
 use Rattle.pool_syntax.specs.declared.tree.Named.{Named}
-use Rattle.pool_syntax.specs.declared.token.Keyword.{Keyword}
+use Rattle.run_words.specs.declared.keywords.Keyword.{Keyword}
 use Rattle.pool_syntax.specs.declared.token.Tok.{Tok}
 use Rattle.pool_syntax.specs.declared.token.Tok.TheVariants as tok
-use Rattle.pool_syntax.specs.declared.token.Keyword.TheVariants as kw
+use Rattle.run_words.specs.declared.keywords.Keyword.TheVariants as kw
 use Rattle.pool_syntax.specs.declared.token.Sign.TheVariants as sg
 use Rattle.pool_syntax.specs.Terms.{Expression, Expressions, Variable, Statement, Assign, Write, WriteText, Do, Async, While, Answer, Select, NoAlts}
 use Rattle.pool_syntax.specs.Rules.{postfix, primary, expression, args, invoke, stmt, stmts, alt, more_alts, list, word, sign, name, string, phrase, Rule, tree, then, either}

@@ -1,15 +1,16 @@
 -- A phrase derives at most one tree that ends where nothing goes on with it, so tokens have at most one program.
 use Rattle.std.proofs.Common.{◌≡◌, ℕ, ◌+◌, ◌≤◌, ◌⊎◌, inl, inr, ⊎_elim, List, Some, slice_get, refl, sym, subst, subst₂, arith, eq-or-lt_of_le}
-use Rattle.pool_syntax.specs.declared.token.Keyword.{Keyword}
+use Rattle.run_words.specs.declared.keywords.Keyword.{Keyword}
 use Rattle.pool_syntax.specs.declared.token.Sign.{Sign}
 use Rattle.pool_syntax.specs.declared.token.Tok.{Tok}
 use Rattle.pool_syntax.specs.declared.token.Tok.TheVariants as tok
-use Rattle.pool_syntax.specs.declared.token.Keyword.TheVariants as kw
+use Rattle.run_words.specs.declared.keywords.Keyword.TheVariants as kw
 use Rattle.pool_syntax.specs.declared.token.Sign.TheVariants as sg
 use Rattle.pool_syntax.specs.Terms as t
 use Rattle.pool_syntax.specs.Terms.{Expression, Expressions, Statement, Statements, Alternatives, ProgramTree}
 use Rattle.pool_syntax.specs.Rules as r
-use Rattle.pool_syntax.specs.Rules.{Group, Level, group, comparison, factor, postfix, primary, Phrase, Tree, program, more_classes, class, more_vars, names, more_names, more_methods, method, params, more_params, param, more_locals, stmts, more_stmts, stmt, invoke, alt, more_alts, list, expression, more_operands, more_sends, args, more_args, Part, word, sign, name, integer, string, end, operator, phrase, Gives, Rule, tree, then, either, post}
+use Rattle.pool_syntax.specs.Rules.{Group, Level, group, comparison, factor, postfix, primary, Phrase, Tree, program, more_classes, class, more_vars, names, more_names, more_methods, method, params, more_params, param, more_locals, stmts, more_stmts, stmt, invoke, alt, more_alts, list, expression, more_operands, more_sends, args, more_args, Part, word, sign, name, integer, string, end, operator, phrase, SemanticValue, Rule, tree, then}
+use Rattle.pool_syntax.specs.Rules.{either, post}
 use Rattle.pool_syntax.specs.Grammar.{rule, expr}
 use Rattle.pool_syntax.specs.Derives.{IsToken, IsTerminal, Derives, nothing, token, inner, first, second, IsProgram}
 use Rattle.pool_parser.specs.Reads.{GoesOn, Stops, Clear, Misses, read, refused, strength, level_number}
@@ -34,17 +35,17 @@ abbrev pub Unique : List Tok → Phrase → Type 0
 Unique ts q = (i j k : ℕ) (x y : Tree q) → Derives ts q (rule q) i j x → Stops ts q j → Derives ts q (rule q) i k y → Stops ts q k → (j ≡ k) × (x ≡ y)
 
 -- a phrase in a rule is one of those spoken of, or is known to be unique, and what stands behind it does not go on with it
-abbrev pub Beside : (Phrase → Type 0) → List Tok → (p : Phrase) (part : Part) → (Gives part → Rule (Tree p)) → Type 0
+abbrev pub Beside : (Phrase → Type 0) → List Tok → (p : Phrase) (part : Part) → (SemanticValue part → Rule (Tree p)) → Type 0
 Beside A ts p (phrase q) f = (A q ⊎ Unique ts q) × ((z : Tree q) → Clear ts p (f z) q)
 Beside A ts p _ f = Unit {0}
 
 -- the tokens decide which way through the rule is taken
 abbrev pub Decided : (Phrase → Type 0) → List Tok → (p : Phrase) → Rule (Tree p) → Type 0
 Decided A ts p (tree x) = Unit {0}
-Decided A ts p (then part f) = Beside A ts p part f × ((y : Gives part) → Decided A ts p (f y))
+Decided A ts p (then part f) = Beside A ts p part f × ((y : SemanticValue part) → Decided A ts p (f y))
 Decided A ts p (either r s) = Decided A ts p r × Decided A ts p s × Apart ts p r s
 
-terminal_of : (ts : List Tok) (i : ℕ) (part : Part) (y : Gives part) → IsToken ts part i y → IsTerminal part
+terminal_of : (ts : List Tok) (i : ℕ) (part : Part) (y : SemanticValue part) → IsToken ts part i y → IsTerminal part
 terminal_of ts i (phrase q) y h = h
 terminal_of ts i _ y h = tt
 
@@ -56,7 +57,7 @@ pub unique : (A : Phrase → Type 0) (ts : List Tok) → ((q : Phrase) → A q �
 unique A ts all nothing s e t g = Derives-tree e
 unique A ts all {p = p} {k = k} {y = z} (token {part = part} {rest = f} {i = i} y h d) s e t g =
     let a = Derives-token (terminal_of ts i part y h) e in
-    unique A ts all d s (subst (λ (v : Gives part). Derives ts p (f v) (i + 1) k z) (token_one ts i part a.0 y a.1 h) a.2) t (g.1 y)
+    unique A ts all d s (subst (λ (v : SemanticValue part). Derives ts p (f v) (i + 1) k z) (token_one ts i part a.0 y a.1 h) a.2) t (g.1 y)
 unique A ts all {p = p} {k = k} {y = z} (inner {q = q} {rest = f} {i = i} {m = m} y c d) s e t g =
     let a = Derives-inner e in
     let u : (m ≡ a.0) × (y ≡ a.1) = ⊎_elim (λ b. unique A ts all c (stops_there (g.0.1 y) d s) a.2 (stops_there (g.0.1 a.1) a.3 t) (all q b))
@@ -80,7 +81,7 @@ module _ {ts : List Tok} {p : Phrase} where
   apart_word_tree : {w : Keyword} {f : ℕ → Rule (Tree p)} {x : Tree p} → GoesOn p (tok.Word w) → Apart ts p (then (word w) f) (tree x)
   apart_word_tree g = apart_tree (λ i j y d s. let a = Derives-token tt d in s _ a.1.0 g)
 
-  apart_by : {part : Part} {f : Gives part → Rule (Tree p)} {s : Rule (Tree p)} → IsTerminal part → ((i : ℕ) (y : Gives part) → IsToken ts part i y → Misses ts p s i) → Apart ts p (then part f) s
+  apart_by : {part : Part} {f : SemanticValue part → Rule (Tree p)} {s : Rule (Tree p)} → IsTerminal part → ((i : ℕ) (y : SemanticValue part) → IsToken ts part i y → Misses ts p s i) → Apart ts p (then part f) s
   apart_by t m = record { never = λ i j k x y d s e u. let h = Derives-token t d in missed (m i h.0 h.1) e }
 
   apart_word : {w : Keyword} {f : ℕ → Rule (Tree p)} {s : Rule (Tree p)} → ((i : ℕ) → slice_get ts i ≡ Some (tok.Word w) → Misses ts p s i) → Apart ts p (then (word w) f) s

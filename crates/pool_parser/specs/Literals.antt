@@ -2,10 +2,10 @@
 use Rattle.std.specs.Prelude.{ℕ, Option, Some, None, true, false}
 use Rattle.pool_syntax.specs.declared.token.Tok.{Tok}
 use Rattle.pool_syntax.specs.declared.token.Tok.TheVariants as tok
-use Rattle.pool_syntax.specs.declared.token.Keyword.TheVariants as kw
-use Rattle.pool_syntax.specs.declared.words.Value.TheVariants as value
-use Rattle.pool_syntax.specs.declared.tree.Kind.{Kind}
-use Rattle.pool_syntax.specs.declared.tree.Kind.TheVariants as kind
+use Rattle.run_words.specs.declared.keywords.Keyword.TheVariants as kw
+use Rattle.run_words.specs.declared.words.Value.TheVariants as value
+use Rattle.run_words.specs.declared.words.Kind.{Kind}
+use Rattle.run_words.specs.declared.words.Kind.TheVariants as kind
 use Rattle.pool_syntax.specs.Terms.{Expression, Literal, Me}
 
 -- the literal or `self` that the token is, at its place

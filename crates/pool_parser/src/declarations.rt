@@ -1,7 +1,8 @@
 //! Variables, methods, classes and the program.
 ghost use Rattle.std.specs.Prelude.{◌≡◌, ◌+◌, ◌<◌, ◌≤◌, [], ◌++◌, length, map, ℕ, Some, IfOk, IfErr, slice_get, List as ListOf};
 ghost use Rattle.pool_syntax.specs.declared.tree.Var.{Var as OneVariable};
-ghost use Rattle.pool_syntax.specs.Rules.{more_vars, more_locals, params as params_phrase, more_params, param as param_phrase, method as method_phrase, more_methods, post as post_phrase, class as class_phrase, more_classes};
+ghost use Rattle.pool_syntax.specs.Rules.{more_vars, more_locals, params as params_phrase, more_params, param as param_phrase, method as method_phrase, more_methods, post as post_phrase};
+ghost use Rattle.pool_syntax.specs.Rules.{class as class_phrase, more_classes};
 ghost use Rattle.pool_syntax.specs.Grammar.{variables};
 ghost use Rattle.pool_syntax.specs.TreeOf.{method_tree, class_tree, statements_of};
 ghost use Rattle.pool_parser.specs.declared.fault.SyntaxFault.TheVariants.{Memory};
@@ -14,9 +15,8 @@ use crate::fault::SyntaxFault;
 use crate::naming::{kind, names};
 use crate::source::{Source, expect, expect_name, is_at};
 use crate::statements::statements;
-use pool_syntax::{
-    ClassDecl, Expr, Keyword, Kind, List, Method, Named, Program, Sign, Stmt, Tok, Token, Var,
-};
+use pool_syntax::{ClassDecl, Expr, Method, Named, Program, Sign, Stmt, Tok, Token, Var};
+use run_words::{Keyword, Kind, List};
 use std::alloc::Global;
 
 /// One variable of this kind for each name, behind those that are there.

@@ -1,12 +1,13 @@
 //! Expressions: one function for each form of phrase.
 ghost use Rattle.std.specs.Prelude.{◌≡◌, ◌≢◌, ◌+◌, ◌<◌, ◌≤◌, length, Some, None, IfOk, IfErr, IfSome, option_map, slice_get};
-ghost use Rattle.pool_syntax.specs.Rules.{group, comparison as comparison_level, factor as factor_level, postfix as postfix_level, primary as primary_level, args as args_phrase, more_args, expression as expression_phrase};
+ghost use Rattle.pool_syntax.specs.Rules.{group, comparison as comparison_level, factor as factor_level, postfix as postfix_level, primary as primary_level, args as args_phrase, more_args};
+ghost use Rattle.pool_syntax.specs.Rules.{expression as expression_phrase};
 ghost use Rattle.pool_syntax.specs.Grammar.{operator_of, operand as operand_level};
 ghost use Rattle.pool_syntax.specs.Terms.{Infix, Prefix, Send};
 ghost use Rattle.pool_syntax.specs.TreeOf.{expression_of, expressions_of};
-ghost use Rattle.pool_syntax.specs.declared.words.NameId.{NameId as AnyName};
+ghost use Rattle.run_words.specs.declared.words.NameId.{NameId as AnyName};
 ghost use Rattle.pool_syntax.specs.declared.token.Tok.{Tok as AnyTok};
-ghost use Rattle.pool_syntax.specs.declared.token.Keyword.{Keyword as AnyWord};
+ghost use Rattle.run_words.specs.declared.keywords.Keyword.{Keyword as AnyWord};
 ghost use Rattle.pool_parser.specs.declared.fault.SyntaxFault.TheVariants.{Memory};
 ghost use Rattle.pool_parser.specs.Parses.{seen, Parses, ParsesExpression, TellsInvocation, postfix_tree, Advances, Stays};
 ghost use Rattle.pool_parser.specs.Groups.{group_of};
@@ -14,7 +15,8 @@ ghost use Rattle.pool_parser.specs.Literals.{literal_of};
 
 use crate::fault::SyntaxFault;
 use crate::source::{Source, expect, expect_name, is_at, peek};
-use pool_syntax::{Expr, Keyword, List, NameId, Named, Op, Sign, Tok};
+use pool_syntax::{Expr, Named, Sign, Tok};
+use run_words::{Keyword, List, NameId, Op};
 use std::alloc::Global;
 
 /// The levels of operators whose repetition groups to the left.

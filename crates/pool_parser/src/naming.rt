@@ -7,7 +7,8 @@ ghost use Rattle.pool_parser.specs.Parses.{Parses, Advances};
 
 use crate::fault::SyntaxFault;
 use crate::source::{Source, expect, expect_name, is_at, peek};
-use pool_syntax::{Keyword, Kind, List, Named, Sign, Tok};
+use pool_syntax::{Named, Sign, Tok};
+use run_words::{Keyword, Kind, List};
 use std::alloc::Global;
 
 /// The kind that the token is.

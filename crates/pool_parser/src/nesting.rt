@@ -7,7 +7,8 @@ ghost use Rattle.pool_parser.specs.declared.fault.SyntaxFault.TheVariants.{Memor
 ghost use Rattle.pool_parser.specs.Depths.{role_of, depth_at, Counts};
 
 use crate::fault::SyntaxFault;
-use pool_syntax::{Keyword, Sign, Tok, Token};
+use pool_syntax::{Sign, Tok, Token};
+use run_words::Keyword;
 use std::alloc::Global;
 
 /// The deepest that a token may stand.
@@ -102,7 +103,8 @@ fn depth(role: TokenRole, level: Level) -> u32
 /// The level behind a token of this role. The levels of the brackets that are open around it go into `outer`.
 fn level_after(outer: &mut Vec<Level>, role: TokenRole, level: Level) -> Result<Level, SyntaxFault>
     requires { level.held ≤ 200 }
-    ensures ok { IfOk result (λ next. (t : OneToken) (before : ListOf OneToken) → role_of role ≡ nesting_role t → Counts before (level ∷ reverse outer.old.items) → Counts (t ∷ before) (next ∷ reverse outer.new.items)) }
+    ensures ok { IfOk result
+        (λ next. (t : OneToken) (before : ListOf OneToken) → role_of role ≡ nesting_role t → Counts before (level ∷ reverse outer.old.items) → Counts (t ∷ before) (next ∷ reverse outer.new.items)) }
     ensures err { IfErr result (λ e. e ≡ Memory) }
 {
     match role {

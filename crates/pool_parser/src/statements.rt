@@ -12,7 +12,8 @@ use crate::expressions::{Grouping, arguments, grouped, postfix};
 use crate::fault::SyntaxFault;
 use crate::naming::answer_list;
 use crate::source::{Source, expect, expect_name, is_at, peek};
-use pool_syntax::{Alt, Expr, Keyword, List, Named, Sign, Stmt, Tok};
+use pool_syntax::{Alt, Expr, Named, Sign, Stmt, Tok};
+use run_words::{Keyword, List};
 use std::alloc::Global;
 
 /// Whether a statement begins with the token.

@@ -1,9 +1,9 @@
 -- What is known of declarations is known of their parts, and lists of declarations one after another.
 use Rattle.std.proofs.Common.{◌≡◌, refl, ℕ, ◌+◌, ◌<◌, true, map, List, [], ◌∷◌, ◌++◌, length, drop, get_or, false, nat_eq}
-use Rattle.pool_syntax.specs.Tokens.{Text}
+use Rattle.run_words.specs.Text.{Text}
 use Rattle.pool_syntax.specs.declared.token.Tok.TheVariants.{Word, Sign, Name}
-use Rattle.pool_syntax.specs.declared.token.Keyword.{Keyword}
-use Rattle.pool_syntax.specs.declared.token.Keyword.TheVariants as word
+use Rattle.run_words.specs.declared.keywords.Keyword.{Keyword}
+use Rattle.run_words.specs.declared.keywords.Keyword.TheVariants as word
 use Rattle.pool_syntax.specs.declared.token.Sign.TheVariants as sign
 use Rattle.pool_syntax.specs.declared.tree.Var.{Var}
 use Rattle.pool_syntax.specs.declared.tree.Method.{Method}
@@ -13,7 +13,8 @@ use Rattle.pool_syntax.specs.Terms.{MethodTree, ClassTree}
 use Rattle.pool_syntax.specs.TreeOf.{class_tree, method_tree, statements_of}
 use Rattle.pool_printer.specs.Canonical.{class_tokens, declarations_tokens, method_tokens, methods_tokens, outcome_tokens, program_tokens, result_tokens, separated_by, statements_tokens, variable_tokens, post_tokens}
 use Rattle.pool_printer.specs.Known.{are_known, is_known}
-use Rattle.pool_printer.proofs.Places.{known_left, known_right, left_true, right_true, all_more, all_at}
+use Rattle.pool_printer.proofs.Places.{known_left, known_right, all_more, all_at}
+use Rattle.run_words.proofs.Laws.{second as right_true, first as left_true}
 
 pub known_method : (names : List Text) (m : MethodTree) → are_known names (method_tokens m) ≡ true
     → (is_known names (Name m.name.name) ≡ true) × (are_known names (separated_by (Sign sign.Comma) (map variable_tokens m.params)) ≡ true)

@@ -1,16 +1,17 @@
 -- The form of a program of the grammar.
 use Rattle.std.proofs.Common.{◌≡◌, refl, ℕ, List, [], ◌∷◌, ◌++◌, Bool, true, false, Option, Some, None, arith}
 use Rattle.pool_syntax.specs.declared.token.Tok.{Tok}
-use Rattle.pool_syntax.specs.declared.words.Op.{Op}
-use Rattle.pool_syntax.specs.declared.words.Op.TheVariants as op
-use Rattle.pool_syntax.specs.declared.words.Value.{Value}
-use Rattle.pool_syntax.specs.declared.words.Value.TheVariants as value
-use Rattle.pool_syntax.specs.declared.tree.Kind.{Kind}
+use Rattle.run_words.specs.declared.words.Op.{Op}
+use Rattle.run_words.specs.declared.words.Op.TheVariants as op
+use Rattle.run_words.specs.declared.words.Value.{Value}
+use Rattle.run_words.specs.declared.words.Value.TheVariants as value
+use Rattle.run_words.specs.declared.words.Kind.{Kind}
 use Rattle.pool_syntax.specs.declared.tree.Named.{Named}
 use Rattle.pool_syntax.specs.Terms as T
 use Rattle.pool_syntax.specs.Terms.{Expression, Expressions, NoArgs, Arg, Statement, Statements, Done, Then, Alternatives, NoAlts, Alt, MethodTree, ClassTree, ProgramTree}
 use Rattle.pool_syntax.specs.Rules as r
-use Rattle.pool_syntax.specs.Rules.{Group, disjunction, conjunction, addition, multiplication, Level, group, comparison, factor, postfix, primary, Phrase, Tree, Part, Gives, Rule, tree, then, either}
+use Rattle.pool_syntax.specs.Rules.{Group, disjunction, conjunction, addition, multiplication, Level, group, comparison, factor, postfix, primary, Phrase, Tree, Part, SemanticValue, Rule, tree, then}
+use Rattle.pool_syntax.specs.Rules.{either}
 use Rattle.pool_syntax.specs.Grammar.{rule, operator_of, arg_last, then_last, alt_last}
 use Rattle.pool_syntax.specs.Derives.{IsToken, Derives, nothing, token, inner, first, second}
 use Rattle.pool_syntax.specs.Spelled.{IsGrammatical}
@@ -138,7 +139,7 @@ OperatorAt factor o = is_prefix o ≡ true
 OperatorAt _ o = is_prefix o ≡ false
 
 -- what a part of a rule gives
-abbrev GivesFormed : (part : Part) → Gives part → Type 0
+abbrev GivesFormed : (part : Part) → SemanticValue part → Type 0
 GivesFormed (r.operator level) y = OperatorAt level y.0
 GivesFormed (r.phrase p) y = Formed p y
 GivesFormed _ y = Unit {0}
@@ -146,7 +147,7 @@ GivesFormed _ y = Unit {0}
 -- a rule that makes a tree of this form from parts of this form
 abbrev RuleFormed : (p : Phrase) → Rule (Tree p) → Type 0
 RuleFormed p (tree x) = Formed p x
-RuleFormed p (then part rest) = (y : Gives part) → GivesFormed part y → RuleFormed p (rest y)
+RuleFormed p (then part rest) = (y : SemanticValue part) → GivesFormed part y → RuleFormed p (rest y)
 RuleFormed p (either a c) = RuleFormed p a × RuleFormed p c
 
 operator_formed : (level : Level) (t : Tok) (o : Op) → operator_of level t ≡ Some o → OperatorAt level o
@@ -159,7 +160,7 @@ operator_formed factor t o e = grind (arith, e)
 operator_formed postfix t o e = grind (arith, e)
 operator_formed primary t o e = grind (arith, e)
 
-token_formed : (ts : List Tok) (part : Part) (i : ℕ) (y : Gives part) → IsToken ts part i y → GivesFormed part y
+token_formed : (ts : List Tok) (part : Part) (i : ℕ) (y : SemanticValue part) → IsToken ts part i y → GivesFormed part y
 token_formed ts (r.operator level) i y t = operator_formed level t.0 y.0 t.2
 token_formed ts (r.phrase p) i y t = absurd t
 token_formed ts _ i y t = tt

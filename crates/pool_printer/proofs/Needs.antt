@@ -1,8 +1,8 @@
 -- An expression in its place, and lists inside expressions and statements.
 use Rattle.std.proofs.Common.{◌≡◌, refl, sym, ap, ◌∙◌, ℕ, ◌+◌, ◌<◌, ◌≤◌, Bool, true, false, List, [], ◌∷◌, ◌++◌, length, drop, get_or, nat_le, if◌then◌else◌, arith}
 use Rattle.std.proofs.lemmas.Bool.Decides.{nat_tests}
-use Rattle.pool_syntax.specs.Tokens.{Text}
-use Rattle.pool_syntax.specs.declared.words.Op.{Op}
+use Rattle.run_words.specs.Text.{Text}
+use Rattle.run_words.specs.declared.words.Op.{Op}
 use Rattle.pool_syntax.specs.declared.token.Tok.{Tok}
 use Rattle.pool_syntax.specs.declared.token.Tok.TheVariants.{Sign}
 use Rattle.pool_syntax.specs.declared.token.Sign.TheVariants as sign
@@ -12,7 +12,8 @@ use Rattle.pool_syntax.specs.TreeOf.{expression_of, expressions_of}
 use Rattle.pool_printer.specs.Canonical.{in_place, argument_tokens, bare_tokens, call_tokens, expression_tokens, left_need, operator_token, right_need}
 use Rattle.pool_printer.specs.Known.{are_known, is_known}
 use Rattle.pool_printer.specs.Saying.{from_place, separator_at}
-use Rattle.pool_printer.proofs.Places.{known_left, known_right, right_true, parts_more}
+use Rattle.pool_printer.proofs.Places.{known_left, known_right, parts_more}
+use Rattle.run_words.proofs.Laws.{second}
 
 pub in_place_high : (need level : ℕ) (ts : List Tok) → need ≤ level → ts ≡ in_place need level ts
 in_place_high need level ts h = grind (arith, nat_tests)
@@ -39,7 +40,7 @@ pub known_infix : (names : List Text) (o : Op) (l r : Expression) (p : ℕ) → 
     → (are_known names (expression_tokens (left_need o) l) ≡ true) × (are_known names (expression_tokens (right_need o) r) ≡ true)
 known_infix names o l r p h = (
   known_left names (expression_tokens (left_need o) l) (operator_token o ∷ expression_tokens (right_need o) r) h,
-  right_true (is_known names (operator_token o)) (are_known names (expression_tokens (right_need o) r))
+  second (is_known names (operator_token o)) (are_known names (expression_tokens (right_need o) r))
       (known_right names (expression_tokens (left_need o) l) (operator_token o ∷ expression_tokens (right_need o) r) h),
 )
 

@@ -1,39 +1,32 @@
 -- Parts that are printed one after another, with a separator between two of them, and what is known of them.
-use Rattle.std.proofs.Common.{◌≡◌, refl, sym, ap, ◌∙◌, ℕ, zero, suc, ◌+◌, ◌<◌, ◌≤◌, Bool, true, false, ◌&&◌, List, [], ◌∷◌, ◌++◌, length, drop, get_or, Some, is_some, slice_get, inl, inr, arith}
+use Rattle.std.proofs.Common.{◌≡◌, refl, sym, ap, ◌∙◌, ℕ, zero, suc, ◌+◌, ◌<◌, ◌≤◌, true, false, ◌&&◌, List, [], ◌∷◌, ◌++◌, length, drop, get_or, Some, is_some, slice_get, inl, inr, arith}
 use Rattle.std.proofs.lemmas.List.{at_drop_more, at_drop_all}
 use Rattle.std.proofs.lemmas.Option.{slice_get_cases}
-use Rattle.pool_syntax.specs.Tokens.{Text}
+use Rattle.run_words.proofs.Laws.{first, second}
+use Rattle.run_words.specs.Text.{Text}
 use Rattle.pool_syntax.specs.declared.token.Tok.{Tok}
 use Rattle.pool_printer.specs.Canonical.{separated_by, led_by}
 use Rattle.pool_printer.specs.Known.{are_known, is_known}
 use Rattle.pool_printer.specs.Saying.{State, Prints, separator_at, from_place}
-use Rattle.pool_printer.specs.Spelling.{text_at}
+use Rattle.run_words.specs.Table.{text_at}
 use Rattle.pool_printer.proofs.Putting.{prints_append, prints_nothing, prints_same}
 
 pub known_append : (names : List Text) (xs ys : List Tok) → are_known names (xs ++ ys) ≡ (are_known names xs && are_known names ys)
 known_append names [] ys = refl
 known_append names (x ∷ xs) ys = grind (arith, known_append names xs ys)
 
-pub left_true : (a b : Bool) → (a && b) ≡ true → a ≡ true
-left_true true b h = refl
-left_true false b h = h
-
-pub right_true : (a b : Bool) → (a && b) ≡ true → b ≡ true
-right_true true b h = h
-right_true false b h = absurd (cc)
-
 -- known tokens have known parts
 pub known_left : (names : List Text) (xs ys : List Tok) → are_known names (xs ++ ys) ≡ true → are_known names xs ≡ true
-known_left names xs ys h = left_true _ _ (sym (known_append names xs ys) ∙ h)
+known_left names xs ys h = first _ _ (sym (known_append names xs ys) ∙ h)
 
 pub known_right : (names : List Text) (xs ys : List Tok) → are_known names (xs ++ ys) ≡ true → are_known names ys ≡ true
-known_right names xs ys h = right_true _ _ (sym (known_append names xs ys) ∙ h)
+known_right names xs ys h = second _ _ (sym (known_append names xs ys) ∙ h)
 
 pub known_first : (names : List Text) (x : Tok) (ys : List Tok) → are_known names (x ∷ ys) ≡ true → is_known names x ≡ true
-known_first names x ys h = left_true _ _ h
+known_first names x ys h = first _ _ h
 
 pub known_rest : (names : List Text) (x : Tok) (ys : List Tok) → are_known names (x ∷ ys) ≡ true → are_known names ys ≡ true
-known_rest names x ys h = right_true _ _ h
+known_rest names x ys h = second _ _ h
 
 -- the tokens of parts from a place on are those of its separator, those of the part, and the rest
 pub place_more : (sep : Tok) (i : ℕ) (p : List Tok) (ps : List (List Tok)) → from_place sep i (p ∷ ps) ≡ separator_at sep i ++ (p ++ from_place sep (i + 1) ps)

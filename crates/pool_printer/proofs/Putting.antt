@@ -1,25 +1,12 @@
 -- What is put one text after another.
-use Rattle.std.proofs.Common.{◌≡◌, refl, sym, ap, ◌∙◌, ℕ, ◌≤◌, inl, inr, List, [], ◌∷◌, ◌++◌, Bool, true, false, Option, Some, None, option_map, append_assoc, subst, arith}
-use Rattle.std.proofs.lemmas.Grind.{common_steps}
+use Rattle.std.proofs.Common.{◌≡◌, refl, sym, ap, ◌∙◌, ◌≤◌, List, [], ◌∷◌, ◌++◌, Bool, true, false, Option, Some, option_map, append_assoc, subst, arith}
 use Rattle.pool_outside.specs.Outside.{Rose, IsProperFront}
-use Rattle.pool_outside.proofs.Laws.{cut_first, cut_second}
-use Rattle.pool_syntax.specs.Tokens.{Text}
+use Rattle.pool_outside.proofs.Laws.{cut_first, cut_second, joined, rose_later, rose_before, append_nothing}
+use Rattle.run_words.specs.Text.{Text}
 use Rattle.pool_syntax.specs.declared.token.Tok.{Tok}
 use Rattle.pool_printer.specs.Canonical.{gap, text_behind}
 use Rattle.pool_printer.specs.Saying.{State, Puts, whole, cut, idle, Prints, last_of}
 use Rattle.pool_printer.specs.Spelling.{spelling}
-
-joined : (s t : Text) (a b c : Option Text) → b ≡ option_map (λ w. w ++ s) a → c ≡ option_map (λ w. w ++ t) b → c ≡ option_map (λ w. w ++ (s ++ t)) a
-joined s t None b c e f = f ∙ ap (option_map (λ w. w ++ t)) e
-joined s t (Some w) b c e f = f ∙ ap (option_map (λ w. w ++ t)) e ∙ ap Some (append_assoc w s t)
-
-rose_later : (a b c : ℕ) → a ≤ b → Rose b c → Rose a c
-rose_later a b c h (inl r) = inl (omega arith)
-rose_later a b c h (inr r) = inr r
-
-rose_before : (a b c : ℕ) → Rose a b → b ≡ c → Rose a c
-rose_before a b c (inl r) e = inl (omega arith)
-rose_before a b c (inr r) e = inr (omega arith)
 
 -- one text and then another
 pub puts_append : (s t : Text) (a b c : State) → Puts s a b → Puts t b c → Puts (s ++ t) a c
@@ -33,10 +20,6 @@ puts_append s t a b c (cut o p h f r) (idle o2 p2 w2 f2) =
 puts_append s t a b c (idle o p w f) (whole o2 p2 w2 f2) = absurd (cc)
 puts_append s t a b c (idle o p w f) (cut o2 p2 h f2 r) = absurd (cc)
 puts_append s t a b c (idle o p w f) (idle o2 p2 w2 f2) = idle o p2 (w2 ∙ w) (f2 ∙ f)
-
-append_nothing : (a : Option Text) → a ≡ option_map (λ w. w ++ []) a
-append_nothing None = refl
-append_nothing (Some w) = ap Some (grind (arith, common_steps))
 
 -- the same but for the last token
 like_put : (a b : State) (k : Bool) → a.failed ≡ k → b.failed ≡ a.failed → b.written ≡ a.written → b.faults ≡ a.faults → Puts [] a b

@@ -2,14 +2,15 @@
 use Rattle.std.proofs.Common.{◌≡◌, refl, sym, ap, subst, ◌∙◌, ℕ, ◌+◌, Bool, true, false, ◌||◌, map, List, [], ◌∷◌, ◌++◌, length, Some, None, append_assoc, if◌then◌else◌, codes, arith}
 use Rattle.std.specs.List.{AllByRecursion, prefix_len}
 use Rattle.std.proofs.lemmas.List.{take_at, drop_at}
-use Rattle.pool_syntax.specs.Tokens.{Text, longest, is_space, piece_fault, IsPieces, IsFaultless, texts_after, token_of, tokens_from}
+use Rattle.run_words.specs.Text.{Text, is_space}
+use Rattle.pool_syntax.specs.Tokens.{longest, piece_fault, IsPieces, IsFaultless, texts_after, token_of, tokens_from}
 use Rattle.pool_syntax.specs.Spelled.{is_spelled}
 use Rattle.pool_syntax.specs.Terms.{ProgramTree}
 use Rattle.pool_syntax.specs.declared.token.Tok.{Tok}
 use Rattle.pool_syntax.specs.declared.token.Tok.TheVariants.{End}
 use Rattle.pool_syntax.specs.declared.token.Token.{Token}
-use Rattle.pool_syntax.proofs.Laws.{text_at_place}
-use Rattle.pool_lexer.specs.declared.scan.ByteSet.TheVariants.{Space}
+use Rattle.run_words.proofs.Laws.{text_at_place}
+use Rattle.run_words.specs.declared.scan.ByteSet.TheVariants.{Space}
 use Rattle.pool_lexer.specs.declared.piece.Kind.TheVariants.{Skipped}
 use Rattle.pool_lexer.specs.Reading.{with_kept}
 use Rattle.pool_lexer.proofs.Laws.{white_run, kept_there, texts_after-cons, longest_run}

@@ -3,7 +3,7 @@ use Rattle.std.proofs.Common.{◌≡◌, sym, subst, true, List}
 use Rattle.pool_syntax.specs.Derives.{IsProgram}
 use Rattle.pool_syntax.specs.Spelled.{is_spelled, IsGrammatical}
 use Rattle.pool_syntax.specs.Terms.{ProgramTree}
-use Rattle.pool_syntax.specs.Tokens.{Text}
+use Rattle.run_words.specs.Text.{Text}
 use Rattle.pool_syntax.specs.declared.token.Token.{Token}
 use Rattle.pool_printer.specs.ReadBack.{number_in}
 use Rattle.pool_printer.specs.SameProgram.{IsSameProgram}

@@ -4,8 +4,7 @@ use Rattle.pool_syntax.specs.declared.tree.Expr.{Expr}
 use Rattle.pool_syntax.specs.declared.tree.Stmt.{Stmt}
 use Rattle.pool_syntax.specs.declared.tree.Alt.{Alt, out-Alt}
 use Rattle.pool_syntax.specs.Terms.{Expression, Literal, Me, Variable, Create, Prefix, Infix, Call, Send, Frame, Wait, Expressions, NoArgs, Arg, Statement, Assign, Write, WriteText, Do, Async, If, While, Answer, Select, Serve, Statements, Done, Then, Alternatives, NoAlts, Alt as OneAlt}
-use Rattle.pool_syntax.specs.TreeOf.{expression_of, expressions_of, statement_of, statements_of}
-use Rattle.pool_syntax.specs.TreeOf.{alternatives_of}
+use Rattle.pool_syntax.specs.TreeOf.{expression_of, expressions_of, statement_of, statements_of, alternatives_of}
 
 abbrev mutual
   pub size : Expression → ℕ

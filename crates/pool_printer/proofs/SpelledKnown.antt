@@ -1,14 +1,15 @@
 -- The names and strings of a spelled program are in the table.
 use Rattle.std.proofs.Common.{◌≡◌, refl, Bool, true, List, [], ◌∷◌, Option, Some, None, slice_get, is_some}
 use Rattle.std.proofs.lemmas.Bool.{and_from}
-use Rattle.pool_syntax.specs.Tokens.{Text}
-use Rattle.pool_syntax.specs.Spelled.{is_name_text, is_string_text, text_passes, is_spelled}
+use Rattle.run_words.specs.Text.{Text}
+use Rattle.run_words.specs.Keywords.{is_name_text, is_string_text, text_passes}
+use Rattle.pool_syntax.specs.Spelled.{is_spelled}
 use Rattle.pool_syntax.specs.Terms.{ProgramTree}
 use Rattle.pool_syntax.specs.declared.token.Tok.{Tok}
 use Rattle.pool_syntax.specs.declared.token.Tok.TheVariants.{Word, Name, Int, Str, Sign, End}
 use Rattle.pool_printer.specs.Canonical.{program_tokens}
 use Rattle.pool_printer.specs.Known.{are_known, is_known}
-use Rattle.pool_printer.proofs.Places.{left_true, right_true}
+use Rattle.run_words.proofs.Laws.{second, first}
 use Rattle.pool_printer.proofs.SpelledTokens.{is_spelled_token, are_spelled_tokens, spelled_tokens}
 
 passing : (test : Text → Bool) (o : Option Text) → text_passes test o ≡ true → is_some o ≡ true
@@ -25,7 +26,7 @@ known_token names End h = refl
 
 known_tokens : (names : List Text) (ts : List Tok) → are_spelled_tokens names ts ≡ true → are_known names ts ≡ true
 known_tokens names [] h = refl
-known_tokens names (t ∷ ts) h = and_from _ _ (known_token names t (left_true _ _ h)) (known_tokens names ts (right_true (is_spelled_token names t) _ h))
+known_tokens names (t ∷ ts) h = and_from _ _ (known_token names t (first _ _ h)) (known_tokens names ts (second (is_spelled_token names t) _ h))
 
 -- the tokens of a spelled program have their texts in the table
 pub spelled_known : (names : List Text) (p : ProgramTree) → is_spelled names p ≡ true → are_known names (program_tokens p) ≡ true

@@ -5,10 +5,11 @@ use Rattle.std.proofs.lemmas.Bool.{and_from, and_left, and_parts, le-leb}
 use Rattle.std.proofs.lemmas.Bool.Decides.{nat_tests}
 use Rattle.std.proofs.lemmas.List.{take_at, get_or_at}
 use Rattle.std.proofs.lemmas.Fmt.{decimal_by_steps}
-use Rattle.pool_syntax.specs.Tokens.{Text, every, is_space, is_digit, is_letter, is_inner, is_word, is_integer, is_string, is_rest_of_string, longest, piece_fault, value_of}
+use Rattle.run_words.specs.Text.{Text, every, is_space, is_digit, is_letter, is_inner, is_word, is_integer, value_of_digits}
+use Rattle.pool_syntax.specs.Tokens.{is_string, is_rest_of_string, longest, piece_fault}
 use Rattle.pool_syntax.specs.declared.token.LexFault.TheVariants.{IntegerTooLarge, TooLong}
-use Rattle.pool_lexer.specs.ByteSets.{is_in}
-use Rattle.pool_lexer.specs.declared.scan.ByteSet.TheVariants.{NameByte, Digit}
+use Rattle.run_words.specs.ByteSets.{is_in}
+use Rattle.run_words.specs.declared.scan.ByteSet.TheVariants.{NameByte, Digit}
 use Rattle.pool_lexer.specs.declared.piece.Kind.TheVariants.{Word, Integer}
 use Rattle.pool_lexer.proofs.Laws.{word_run, integer_run, longest_run, longest_string}
 
@@ -98,12 +99,12 @@ pub integer_no_word : (w : Text) → is_integer w ≡ true → is_word w ≡ fal
 integer_no_word [] h = refl
 integer_no_word (b ∷ bs) h = and_left _ _ (digit_no_letter b (and_parts (is_digit b) (every is_digit bs) h).0)
 
-integer_faultless : (w : Text) → is_integer w ≡ true → value_of 0 w ≤ 9223372036854775807 → piece_fault 0 w ≡ None
+integer_faultless : (w : Text) → is_integer w ≡ true → value_of_digits 0 w ≤ 9223372036854775807 → piece_fault 0 w ≡ None
 integer_faultless w h small =
-    let over : piece_fault 0 w ≡ elim (nat_le (value_of 0 w) 9223372036854775807) [ true ↦ None | false ↦ Some (IntegerTooLarge 0) ] = rw (piece_fault, integer_no_word w h, h) in
+    let over : piece_fault 0 w ≡ elim (nat_le (value_of_digits 0 w) 9223372036854775807) [ true ↦ None | false ↦ Some (IntegerTooLarge 0) ] = rw (piece_fault, integer_no_word w h, h) in
     rw (le-leb _ _ small) at over
 
-pub integer_stands : (w : Text) → is_integer w ≡ true → value_of 0 w ≤ 9223372036854775807 → Stands w
+pub integer_stands : (w : Text) → is_integer w ≡ true → value_of_digits 0 w ≤ 9223372036854775807 → Stands w
 integer_stands w h small = record {
   some = integer_some w h;
   begins = integer_begins w h;
@@ -117,7 +118,7 @@ every_push : (p : ℕ → Bool) (w : Text) (b : ℕ) → every p w ≡ true → 
 every_push p [] b h e = rw e refl
 every_push p (x ∷ xs) b h e = grind (arith, every_push p xs b)
 
-value_push : (v : ℕ) (w : Text) (b : ℕ) → value_of v (w ++ b ∷ []) ≡ value_of v w * 10 + (b - 48)
+value_push : (v : ℕ) (w : Text) (b : ℕ) → value_of_digits v (w ++ b ∷ []) ≡ value_of_digits v w * 10 + (b - 48)
 value_push v [] b = refl
 value_push v (x ∷ xs) b = value_push (v * 10 + (x - 48)) xs b
 
@@ -128,13 +129,13 @@ integer_push (x ∷ xs) b h e = every_push is_digit (x ∷ xs) b h e
 digit_is : (n : ℕ) → n < 10 → is_digit (48 + n) ≡ true
 digit_is n h = grind (arith, nat_tests)
 
-pub decimal_spells : (n : ℕ) → n < 2 ^ 64 → (is_integer (decimal n) ≡ true) × (value_of 0 (decimal n) ≡ n)
-decimal_spells n small = decimal_by_steps (λ m ds. (is_integer ds ≡ true) × (value_of 0 ds ≡ m)) one more n small
+pub decimal_spells : (n : ℕ) → n < 2 ^ 64 → (is_integer (decimal n) ≡ true) × (value_of_digits 0 (decimal n) ≡ n)
+decimal_spells n small = decimal_by_steps (λ m ds. (is_integer ds ≡ true) × (value_of_digits 0 ds ≡ m)) one more n small
   where
-    one : (m : ℕ) → m < 10 → (is_integer ((48 + m) ∷ []) ≡ true) × (value_of 0 ((48 + m) ∷ []) ≡ m)
+    one : (m : ℕ) → m < 10 → (is_integer ((48 + m) ∷ []) ≡ true) × (value_of_digits 0 ((48 + m) ∷ []) ≡ m)
     one m h = (rw (digit_is m h) refl, omega arith)
 
-    more : (m : ℕ) (ds : List ℕ) → 10 ≤ m → (is_integer ds ≡ true) × (value_of 0 ds ≡ m / 10) → (is_integer (ds ++ ((48 + m % 10) ∷ [])) ≡ true) × (value_of 0 (ds ++ ((48 + m % 10) ∷ [])) ≡ m)
+    more : (m : ℕ) (ds : List ℕ) → 10 ≤ m → (is_integer ds ≡ true) × (value_of_digits 0 ds ≡ m / 10) → (is_integer (ds ++ ((48 + m % 10) ∷ [])) ≡ true) × (value_of_digits 0 (ds ++ ((48 + m % 10) ∷ [])) ≡ m)
     more m ds low h = (
       integer_push ds (48 + m % 10) h.0 (digit_is (m % 10) (omega arith)),
       value_push 0 ds (48 + m % 10) ∙ omega (arith, h.1),

@@ -2,15 +2,17 @@
 use Rattle.std.proofs.Common.{◌≡◌, ◌≢◌, refl, ℕ, ◌≤◌, Bool, true, false, nat_eq, List, [], ◌∷◌, ◌++◌, length, Some, None, arith}
 use Rattle.std.specs.List.{prefix_len}
 use Rattle.std.proofs.lemmas.Bool.Decides.{nat_tests}
-use Rattle.pool_syntax.specs.Tokens.{Text, is_space, is_letter, is_digit, longest, lookup, piece_fault, signs, token_of}
-use Rattle.pool_syntax.specs.declared.token.Keyword.{Keyword}
-use Rattle.pool_syntax.specs.declared.token.Keyword.TheVariants as word
+use Rattle.run_words.specs.Text.{Text, is_space, is_letter, is_digit, lookup}
+use Rattle.pool_syntax.specs.Tokens.{longest, piece_fault, signs, token_of}
+use Rattle.run_words.specs.declared.keywords.Keyword.{Keyword}
+use Rattle.run_words.specs.declared.keywords.Keyword.TheVariants as word
 use Rattle.pool_syntax.specs.declared.token.Sign.{Sign}
 use Rattle.pool_syntax.specs.declared.token.Sign.TheVariants as sign
 use Rattle.pool_syntax.specs.declared.token.Tok.TheVariants as tok
 use Rattle.pool_lexer.specs.Pieces.{IsNoRun}
 use Rattle.pool_lexer.proofs.Laws.{longest_narrow, longest_wide}
-use Rattle.pool_syntax.specs.Spelling.{keyword_text, sign_text}
+use Rattle.run_words.specs.Keywords.{keyword_text}
+use Rattle.pool_syntax.specs.Spelling.{sign_text}
 use Rattle.pool_printer.proofs.Standing.{Stands, gap_byte, word_stands}
 
 pub keyword_stands : (k : Keyword) → Stands (keyword_text k)

@@ -2,17 +2,18 @@
 use Rattle.std.proofs.Common.{◌≡◌, refl, ap, ◌∙◌, ℕ, ◌-◌, ◌≤◌, Bool, true, false, ◌&&◌, nat_le, pos, negsuc, List, [], ◌∷◌, length, take, drop, slice_get, Option, Some, None, is_some, not, decimal, inl, inr, arith}
 use Rattle.std.specs.List.{AllByRecursion}
 use Rattle.std.proofs.lemmas.Bool.{and_parts, leb-true}
-use Rattle.pool_syntax.specs.Table.{name_of}
-use Rattle.pool_syntax.specs.Tokens.{Text, every, is_inner, is_word, is_integer, is_string, is_listed, keywords, kept_text, lookup, token_of, value_of}
-use Rattle.pool_syntax.specs.Spelled.{is_name, is_string_number, is_name_text, is_string_text, text_passes}
-use Rattle.pool_syntax.specs.declared.words.NameId.{NameId}
+use Rattle.run_words.specs.Table.{name_of, text_or_none, text_at}
+use Rattle.run_words.specs.Text.{Text, every, is_inner, is_word, is_integer, is_listed, lookup, value_of_digits}
+use Rattle.pool_syntax.specs.Tokens.{is_string, kept_text, token_of}
+use Rattle.run_words.specs.Keywords.{keywords, is_name, is_string_number, is_name_text, is_string_text, text_passes}
+use Rattle.run_words.specs.declared.words.NameId.{NameId}
 use Rattle.pool_syntax.specs.declared.token.Tok.{Tok}
 use Rattle.pool_syntax.specs.declared.token.Tok.TheVariants as tok
-use Rattle.pool_lexer.proofs.Laws.{cases_Option, listed_is, name_kept}
+use Rattle.pool_lexer.proofs.Laws.{cases_Option, name_kept}
+use Rattle.run_words.proofs.Laws.{listed_is, first as left_true, second}
 use Rattle.pool_printer.specs.ReadBack.{number_in}
 use Rattle.pool_printer.specs.Renumbered.{token_by}
-use Rattle.pool_printer.specs.Spelling.{spelling, text_at, text_or_none}
-use Rattle.pool_printer.proofs.Places.{left_true, right_true}
+use Rattle.pool_printer.specs.Spelling.{spelling}
 use Rattle.pool_printer.proofs.SpelledTokens.{is_spelled_token, are_spelled_tokens}
 use Rattle.pool_printer.proofs.Standing.{Stands, quoted, word_stands, integer_stands, integer_no_word, decimal_spells, string_stands, string_is, inside_of}
 use Rattle.pool_printer.proofs.StandingSigns.{keyword_stands, keyword_again, sign_stands, sign_again}
@@ -48,7 +49,7 @@ string_again other w x no_word no_integer kept = rw (token_of, no_word, no_integ
 string_kept : (w x : Text) → is_word w ≡ false → is_string w ≡ true → take (length w - 2) (drop 1 w) ≡ x → kept_text w ≡ Some x
 string_kept w x no_word quotes inside = rw (kept_text, no_word, quotes) (ap Some inside)
 
-integer_again : (other : List Text) (w : Text) (z : ℕ) → is_integer w ≡ true → value_of 0 w ≡ z → token_of other w ≡ Some (tok.Int (pos z))
+integer_again : (other : List Text) (w : Text) (z : ℕ) → is_integer w ≡ true → value_of_digits 0 w ≡ z → token_of other w ≡ Some (tok.Int (pos z))
 integer_again other w z h e = rw (token_of, integer_no_word w h, h, e)
 
 no_keyword : (w : Text) → not (is_listed keywords w) ≡ true → lookup keywords w ≡ None
@@ -102,4 +103,4 @@ token_lexes names tok.End h = absurd (cc)
 
 pub tokens_lex : (names : List Text) (ts : List Tok) → are_spelled_tokens names ts ≡ true → AllByRecursion (Lexes names) ts
 tokens_lex names [] h = tt
-tokens_lex names (t ∷ ts) h = (token_lexes names t (left_true _ _ h), tokens_lex names ts (right_true (is_spelled_token names t) _ h))
+tokens_lex names (t ∷ ts) h = (token_lexes names t (left_true _ _ h), tokens_lex names ts (second (is_spelled_token names t) _ h))

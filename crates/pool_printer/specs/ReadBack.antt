@@ -1,14 +1,15 @@
 -- What the canonical text of a program is read back as: the program's tokens, with the same texts.
 use Rattle.std.specs.Prelude.{◌≡◌, ℕ, List, [], ◌∷◌, ◌++◌, map}
 use Rattle.std.specs.List.{AllByRecursion}
-use Rattle.pool_syntax.specs.Table.{name_of}
-use Rattle.pool_syntax.specs.Tokens.{Text, HasTokens}
+use Rattle.run_words.specs.Table.{name_of, text_at}
+use Rattle.run_words.specs.Text.{Text}
+use Rattle.pool_syntax.specs.Tokens.{HasTokens}
 use Rattle.pool_syntax.specs.Terms.{ProgramTree}
 use Rattle.pool_syntax.specs.declared.token.Tok.TheVariants.{End}
 use Rattle.pool_syntax.specs.declared.token.Token.{Token}
 use Rattle.pool_printer.specs.Canonical.{canonical, program_tokens}
 use Rattle.pool_printer.specs.Renumbered.{token_by}
-use Rattle.pool_printer.specs.Spelling.{spelling, text_at}
+use Rattle.pool_printer.specs.Spelling.{spelling}
 
 -- the number in another table of the text that has this number in the first
 abbrev pub number_in : List Text → List Text → ℕ → ℕ

@@ -1,7 +1,7 @@
 -- What a sink was given, as long as no write failed and after one did.
 use Rattle.std.specs.Prelude.{◌≡◌, ℕ, zero, suc, ◌≤◌, List, [], ◌∷◌, ◌++◌, Bool, true, false, Option, Some, option_map}
 use Rattle.pool_outside.specs.Outside.{Rose, IsProperFront}
-use Rattle.pool_syntax.specs.Tokens.{Text}
+use Rattle.run_words.specs.Text.{Text}
 use Rattle.pool_syntax.specs.declared.token.Tok.{Tok}
 use Rattle.pool_printer.specs.declared.saying.Progress.{Progress}
 use Rattle.pool_printer.specs.Canonical.{text_behind, separated_by, led_by}

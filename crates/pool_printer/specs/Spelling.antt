@@ -1,18 +1,12 @@
 -- The text of a token.
-use Rattle.std.specs.Prelude.{ℕ, List, [], ◌∷◌, ◌++◌, Option, Some, None, slice_get}
+use Rattle.std.specs.Prelude.{List, [], ◌∷◌, ◌++◌}
 use Rattle.std.specs.Fmt.{signed_decimal}
-use Rattle.pool_syntax.specs.Spelling.{keyword_text, sign_text}
-use Rattle.pool_syntax.specs.Tokens.{Text}
+use Rattle.run_words.specs.Table.{text_at}
+use Rattle.run_words.specs.Keywords.{keyword_text}
+use Rattle.pool_syntax.specs.Spelling.{sign_text}
+use Rattle.run_words.specs.Text.{Text}
 use Rattle.pool_syntax.specs.declared.token.Tok.{Tok}
 use Rattle.pool_syntax.specs.declared.token.Tok.TheVariants as tok
-
-abbrev pub text_or_none : Option Text → Text
-text_or_none None = []
-text_or_none (Some w) = w
-
--- the text of this number in the table; none where there is no such number
-abbrev pub text_at : List Text → ℕ → Text
-text_at names n = text_or_none (slice_get names n)
 
 abbrev pub quote : Text
 quote = 34 ∷ []

@@ -2,7 +2,8 @@
 ghost use Rattle.std.specs.Prelude.{◌≡◌, map, true};
 ghost use Rattle.pool_syntax.specs.TreeOf.{class_tree, expression_of, method_tree, statements_of};
 ghost use Rattle.pool_syntax.specs.declared.token.Tok.TheVariants.{Sign as SignToken};
-ghost use Rattle.pool_printer.specs.Canonical.{class_tokens, declarations_tokens, kind_token, method_tokens, methods_tokens, outcome_tokens, post_tokens, program_tokens, result_tokens, separated_by, variable_tokens};
+ghost use Rattle.pool_printer.specs.Canonical.{class_tokens, declarations_tokens, kind_token, method_tokens, methods_tokens, outcome_tokens, post_tokens, program_tokens, result_tokens, separated_by};
+ghost use Rattle.pool_printer.specs.Canonical.{variable_tokens};
 ghost use Rattle.pool_printer.specs.Known.{are_known};
 ghost use Rattle.pool_printer.specs.Saying.{Prints, state};
 
@@ -10,7 +11,8 @@ use crate::expressions::{ANY, expression};
 use crate::saying::{Progress, say, say_all, separate};
 use crate::statements::statements;
 use pool_outside::Sink;
-use pool_syntax::{ClassDecl, Expr, Keyword, Kind, Method, Names, Sign, Stmt, Tok, Var};
+use pool_syntax::{ClassDecl, Expr, Method, Sign, Stmt, Tok, Var};
+use run_words::{Keyword, Kind, Names};
 
 fn kind_token(kind: Kind) -> Tok
     ensures { result ≡ kind_token kind }
@@ -42,7 +44,8 @@ fn variable<K: Sink>(names: &Names, sink: &mut K, progress: &mut Progress, var: 
 /// Writes parameters.
 fn params<K: Sink>(names: &Names, sink: &mut K, progress: &mut Progress, params: &[Var])
     requires { are_known names.now (separated_by (SignToken Sign.Comma) (map variable_tokens params.now)) ≡ true }
-    ensures { Prints names.now (separated_by (SignToken Sign.Comma) (map variable_tokens params.now)) (state progress.old (K.written sink.old) (K.faults sink.old)) (state progress.new (K.written sink.new) (K.faults sink.new)) }
+    ensures { Prints names.now (separated_by (SignToken Sign.Comma) (map variable_tokens params.now)) (state progress.old (K.written sink.old) (K.faults sink.old))
+        (state progress.new (K.written sink.new) (K.faults sink.new)) }
 {
     for (i, param) in params.iter().enumerate() {
         separate(names, sink, progress, Sign::Comma, i);
@@ -87,7 +90,8 @@ fn value<K: Sink>(
     value: &Expr,
 )
     requires { are_known names.now (result_tokens kind (expression_of value.now)) ≡ true }
-    ensures { Prints names.now (result_tokens kind (expression_of value.now)) (state progress.old (K.written sink.old) (K.faults sink.old)) (state progress.new (K.written sink.new) (K.faults sink.new)) }
+    ensures { Prints names.now (result_tokens kind (expression_of value.now)) (state progress.old (K.written sink.old) (K.faults sink.old))
+        (state progress.new (K.written sink.new) (K.faults sink.new)) }
 {
     if let Some(_) = kind {
         say(names, sink, progress, Tok::Word(Keyword::Result));
@@ -126,7 +130,8 @@ fn method<K: Sink>(names: &Names, sink: &mut K, progress: &mut Progress, method:
 
 fn methods<K: Sink>(names: &Names, sink: &mut K, progress: &mut Progress, methods: &[Method])
     requires { are_known names.now (methods_tokens (map method_tree methods.now)) ≡ true }
-    ensures { Prints names.now (methods_tokens (map method_tree methods.now)) (state progress.old (K.written sink.old) (K.faults sink.old)) (state progress.new (K.written sink.new) (K.faults sink.new)) }
+    ensures { Prints names.now (methods_tokens (map method_tree methods.now)) (state progress.old (K.written sink.old) (K.faults sink.old))
+        (state progress.new (K.written sink.new) (K.faults sink.new)) }
 {
     for next in methods {
         method(names, sink, progress, next);
@@ -149,7 +154,8 @@ fn class<K: Sink>(names: &Names, sink: &mut K, progress: &mut Progress, class: &
 /// Writes classes.
 pub fn classes<K: Sink>(names: &Names, sink: &mut K, progress: &mut Progress, classes: &[ClassDecl])
     requires { are_known names.now (program_tokens (map class_tree classes.now)) ≡ true }
-    ensures { Prints names.now (program_tokens (map class_tree classes.now)) (state progress.old (K.written sink.old) (K.faults sink.old)) (state progress.new (K.written sink.new) (K.faults sink.new)) }
+    ensures { Prints names.now (program_tokens (map class_tree classes.now)) (state progress.old (K.written sink.old) (K.faults sink.old))
+        (state progress.new (K.written sink.new) (K.faults sink.new)) }
 {
     for next in classes {
         class(names, sink, progress, next);

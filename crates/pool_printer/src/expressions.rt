@@ -8,7 +8,8 @@ ghost use Rattle.pool_syntax.specs.declared.token.Tok.TheVariants.{Sign as SignT
 
 use crate::saying::{Progress, say, say_all, separate};
 use pool_outside::Sink;
-use pool_syntax::{Expr, Keyword, NameId, Names, Op, Sign, Tok};
+use pool_syntax::{Expr, Sign, Tok};
+use run_words::{Keyword, NameId, Names, Op};
 
 /// The need of a place that takes every expression.
 pub const ANY: u8 = 1;
@@ -103,7 +104,8 @@ pub fn expression<K: Sink>(
     expr: &Expr,
 )
     requires { are_known names.now (expression_tokens need (expression_of expr.now)) ≡ true }
-    ensures { Prints names.now (expression_tokens need (expression_of expr.now)) (state progress.old (K.written sink.old) (K.faults sink.old)) (state progress.new (K.written sink.new) (K.faults sink.new)) }
+    ensures { Prints names.now (expression_tokens need (expression_of expr.now)) (state progress.old (K.written sink.old) (K.faults sink.old))
+        (state progress.new (K.written sink.new) (K.faults sink.new)) }
 {
     if need <= level(expr) {
         bare(names, sink, progress, expr);
@@ -168,7 +170,8 @@ pub fn call<K: Sink>(
     args: &[Expr],
 )
     requires { are_known names.now (call_tokens method.0 (expressions_of args.now)) ≡ true }
-    ensures { Prints names.now (call_tokens method.0 (expressions_of args.now)) (state progress.old (K.written sink.old) (K.faults sink.old)) (state progress.new (K.written sink.new) (K.faults sink.new)) }
+    ensures { Prints names.now (call_tokens method.0 (expressions_of args.now)) (state progress.old (K.written sink.old) (K.faults sink.old))
+        (state progress.new (K.written sink.new) (K.faults sink.new)) }
 {
     say(names, sink, progress, Tok::Name(method));
     say(names, sink, progress, Tok::Sign(Sign::LeftParen));
@@ -179,7 +182,8 @@ pub fn call<K: Sink>(
 #[cycle(expressions)]
 fn arguments<K: Sink>(names: &Names, sink: &mut K, progress: &mut Progress, args: &[Expr])
     requires { are_known names.now (separated_by (SignToken Sign.Comma) (argument_tokens (expressions_of args.now))) ≡ true }
-    ensures { Prints names.now (separated_by (SignToken Sign.Comma) (argument_tokens (expressions_of args.now))) (state progress.old (K.written sink.old) (K.faults sink.old)) (state progress.new (K.written sink.new) (K.faults sink.new)) }
+    ensures { Prints names.now (separated_by (SignToken Sign.Comma) (argument_tokens (expressions_of args.now))) (state progress.old (K.written sink.old) (K.faults sink.old))
+        (state progress.new (K.written sink.new) (K.faults sink.new)) }
 {
     for (i, arg) in args.iter().enumerate() {
         separate(names, sink, progress, Sign::Comma, i);

@@ -3,11 +3,12 @@ ghost use Rattle.std.specs.Prelude.{◌≡◌, true, List as ListOf};
 ghost use Rattle.pool_syntax.specs.declared.token.Token.{Token as OneToken};
 ghost use Rattle.pool_syntax.specs.Spelled.{IsGrammatical, is_spelled};
 ghost use Rattle.pool_syntax.specs.Terms.{ProgramTree};
-ghost use Rattle.pool_syntax.specs.Tokens.{Text};
+ghost use Rattle.run_words.specs.Text.{Text};
 ghost use Rattle.pool_printer.specs.SameProgram.{IsSameProgram};
 
 /// The canonical text of a spelled program of the grammar has this program: the same but for positions, each name and string with the
 /// same text.
 pub fn canonical_text_is_the_program()
-    ensures { (names : ListOf Text) (p : ProgramTree) → is_spelled names p ≡ true → IsGrammatical p → (other : ListOf Text) × (ts : ListOf OneToken) × (q : ProgramTree) × IsSameProgram names p other ts q }
+    ensures { (names : ListOf Text) (p : ProgramTree) → is_spelled names p ≡ true → IsGrammatical p → (other : ListOf Text) × (ts : ListOf OneToken) × (q : ProgramTree)
+        × IsSameProgram names p other ts q }
 {}

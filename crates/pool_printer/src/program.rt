@@ -8,7 +8,8 @@ ghost use Rattle.pool_printer.specs.Canonical.{canonical};
 use crate::declarations::classes;
 use crate::saying::{Progress, put};
 use pool_outside::{Sink, WriteFault};
-use pool_syntax::{Names, Program};
+use pool_syntax::Program;
+use run_words::Names;
 
 /// Writes the canonical text of the program. After a failed write nothing more is written. Takes no memory.
 pub fn print<K: Sink>(program: &Program, names: &Names, sink: &mut K) -> Result<(), WriteFault>

@@ -8,7 +8,8 @@ ghost use Rattle.pool_printer.specs.Spelling.{spelling};
 
 use itoa::Buffer;
 use pool_outside::{Sink, WriteFault, write_all_of};
-use pool_syntax::{Keyword, Names, Sign, Tok};
+use pool_syntax::{Sign, Tok};
+use run_words::{Keyword, Names};
 
 /// How far the text has come: its last token, and whether a write has failed. From then on nothing is written.
 #[derive(Clone, Copy)]

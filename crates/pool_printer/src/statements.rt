@@ -1,6 +1,6 @@
 //! The tokens of statements.
 ghost use Rattle.std.specs.Prelude.{◌≡◌, ◌∷◌, true};
-ghost use Rattle.pool_syntax.specs.declared.token.Keyword.TheVariants.{Answer};
+ghost use Rattle.run_words.specs.declared.keywords.Keyword.TheVariants.{Answer};
 ghost use Rattle.pool_syntax.specs.declared.token.Tok.TheVariants.{Word};
 ghost use Rattle.pool_syntax.specs.TreeOf.{alternatives_of, statement_of, statements_of};
 ghost use Rattle.pool_printer.specs.Canonical.{alternatives_tokens, answer_tokens, else_tokens, names_tokens, statement_tokens, statements_tokens};
@@ -11,7 +11,8 @@ ghost use Rattle.pool_printer.specs.Saying.{Prints, state};
 use crate::expressions::{ANY, SEND, call, expression};
 use crate::saying::{Progress, say, separate};
 use pool_outside::Sink;
-use pool_syntax::{Alt, Keyword, List, Named, Names, Sign, Stmt, Tok};
+use pool_syntax::{Alt, Named, Sign, Stmt, Tok};
+use run_words::{Keyword, List, Names};
 
 /// Writes names in parentheses.
 fn list<K: Sink>(names: &Names, sink: &mut K, progress: &mut Progress, list: &[Named])
@@ -104,7 +105,8 @@ fn statement<K: Sink>(names: &Names, sink: &mut K, progress: &mut Progress, stmt
 #[cycle(statements)]
 fn otherwise<K: Sink>(names: &Names, sink: &mut K, progress: &mut Progress, stmts: &[Stmt])
     requires { are_known names.now (else_tokens (statements_of stmts.now) (statements_tokens (statements_of stmts.now))) ≡ true }
-    ensures { Prints names.now (else_tokens (statements_of stmts.now) (statements_tokens (statements_of stmts.now))) (state progress.old (K.written sink.old) (K.faults sink.old)) (state progress.new (K.written sink.new) (K.faults sink.new)) }
+    ensures { Prints names.now (else_tokens (statements_of stmts.now) (statements_tokens (statements_of stmts.now))) (state progress.old (K.written sink.old) (K.faults sink.old))
+        (state progress.new (K.written sink.new) (K.faults sink.new)) }
 {
     if !stmts.is_empty() {
         say(names, sink, progress, Tok::Word(Keyword::Else));
@@ -116,7 +118,8 @@ fn otherwise<K: Sink>(names: &Names, sink: &mut K, progress: &mut Progress, stmt
 #[cycle(statements)]
 pub fn statements<K: Sink>(names: &Names, sink: &mut K, progress: &mut Progress, stmts: &[Stmt])
     requires { are_known names.now (statements_tokens (statements_of stmts.now)) ≡ true }
-    ensures { Prints names.now (statements_tokens (statements_of stmts.now)) (state progress.old (K.written sink.old) (K.faults sink.old)) (state progress.new (K.written sink.new) (K.faults sink.new)) }
+    ensures { Prints names.now (statements_tokens (statements_of stmts.now)) (state progress.old (K.written sink.old) (K.faults sink.old))
+        (state progress.new (K.written sink.new) (K.faults sink.new)) }
 {
     for (i, stmt) in stmts.iter().enumerate() {
         separate(names, sink, progress, Sign::Semicolon, i);
@@ -128,7 +131,8 @@ pub fn statements<K: Sink>(names: &Names, sink: &mut K, progress: &mut Progress,
 #[cycle(statements)]
 fn alternatives<K: Sink>(names: &Names, sink: &mut K, progress: &mut Progress, alts: &[Alt])
     requires { are_known names.now (alternatives_tokens (alternatives_of alts.now)) ≡ true }
-    ensures { Prints names.now (alternatives_tokens (alternatives_of alts.now)) (state progress.old (K.written sink.old) (K.faults sink.old)) (state progress.new (K.written sink.new) (K.faults sink.new)) }
+    ensures { Prints names.now (alternatives_tokens (alternatives_of alts.now)) (state progress.old (K.written sink.old) (K.faults sink.old))
+        (state progress.new (K.written sink.new) (K.faults sink.new)) }
 {
     for alt in alts {
         alternative(names, sink, progress, alt);

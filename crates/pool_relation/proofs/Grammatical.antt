@@ -1,16 +1,17 @@
 -- A program of the grammar is written, and has a class.
 use Rattle.std.proofs.Common.{◌≡◌, ◌≢◌, refl, IsTrue, ℕ, List, [], ◌∷◌, ◌++◌, Some, false, ◌&&◌, arith}
 use Rattle.pool_syntax.specs.declared.token.Tok.{Tok}
-use Rattle.pool_syntax.specs.declared.words.Op.{Op}
+use Rattle.run_words.specs.declared.words.Op.{Op}
 use Rattle.pool_syntax.specs.Terms as T
 use Rattle.pool_syntax.specs.Terms.{Expression, Expressions, NoArgs, Arg, Statement, Statements, Done, Then, Alternatives, NoAlts, Alt, MethodTree, ClassTree, ProgramTree}
 use Rattle.pool_syntax.specs.Rules as r
-use Rattle.pool_syntax.specs.Rules.{Group, disjunction, conjunction, addition, multiplication, Level, group, comparison, factor, postfix, primary, Phrase, Tree, Part, Gives, Rule, tree, then, either}
+use Rattle.pool_syntax.specs.Rules.{Group, disjunction, conjunction, addition, multiplication, Level, group, comparison, factor, postfix, primary, Phrase, Tree, Part, SemanticValue, Rule, tree, then}
+use Rattle.pool_syntax.specs.Rules.{either}
 use Rattle.pool_syntax.specs.Grammar.{rule, operator_of, arg_last, then_last, alt_last}
 use Rattle.pool_syntax.specs.Derives.{IsToken, Derives, nothing, token, inner, first, second, IsProgram}
 use Rattle.pool_syntax.specs.Spelled.{IsGrammatical}
 use Rattle.pool_relation.specs.Written.{is_source, are_source, is_source_statement, are_source_statements, are_source_alternatives, is_prefix, are_written, is_written}
-use Rattle.mesh_semantics.proofs.Laws as b
+use Rattle.run_words.proofs.Laws as b
 
 -- parts as they are written
 abbrev Plain : Expression → Type 0
@@ -54,7 +55,7 @@ OperatorAt factor op = IsTrue (is_prefix op)
 OperatorAt _ op = is_prefix op ≡ false
 
 -- what a part of a rule gives
-abbrev GivesWritten : (part : Part) → Gives part → Type 0
+abbrev GivesWritten : (part : Part) → SemanticValue part → Type 0
 GivesWritten (r.operator level) y = OperatorAt level y.0
 GivesWritten (r.phrase p) y = Written p y
 GivesWritten _ y = Unit {0}
@@ -62,7 +63,7 @@ GivesWritten _ y = Unit {0}
 -- a rule that makes a written tree from written parts
 abbrev RuleWritten : (p : Phrase) → Rule (Tree p) → Type 0
 RuleWritten p (tree x) = Written p x
-RuleWritten p (then part rest) = (y : Gives part) → GivesWritten part y → RuleWritten p (rest y)
+RuleWritten p (then part rest) = (y : SemanticValue part) → GivesWritten part y → RuleWritten p (rest y)
 RuleWritten p (either a c) = RuleWritten p a × RuleWritten p c
 
 prefix_written : (t : Tok) (op : Op) → operator_of factor t ≡ Some op → IsTrue (is_prefix op)
@@ -78,7 +79,7 @@ infix_written factor t op e = prefix_written t op e
 infix_written postfix t op e = grind (arith, e)
 infix_written primary t op e = grind (arith, e)
 
-token_written : (ts : List Tok) (part : Part) (i : ℕ) (y : Gives part) → IsToken ts part i y → GivesWritten part y
+token_written : (ts : List Tok) (part : Part) (i : ℕ) (y : SemanticValue part) → IsToken ts part i y → GivesWritten part y
 token_written ts (r.operator level) i y t = infix_written level t.0 y.0 t.2
 token_written ts (r.phrase p) i y t = absurd t
 token_written ts _ i y t = tt

@@ -7,7 +7,7 @@ pub use Rattle.pool_relation.proofs.Quiet.{Runs, not_there, there, runs, no_tran
 -- programs of the grammar, and the configuration that a program starts in
 pub use Rattle.pool_relation.proofs.Grammatical.{derived_written, grammatical_written, has_a_class}
 pub use Rattle.pool_relation.proofs.FewParameters.{classes_few, few_parameters}
-pub use Rattle.pool_relation.proofs.Start.{start_typed, starts}
+pub use Rattle.pool_relation.proofs.Start.{start_typed, starts, last_first, class_parts}
 -- preservation and progress
 pub use Rattle.pool_relation.proofs.preservation.EachTransition.{typed_kept, run_kept}
 pub use Rattle.pool_relation.proofs.Progress.{not_wrong, goes_on_or_meets}

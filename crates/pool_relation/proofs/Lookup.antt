@@ -4,14 +4,14 @@ use Rattle.std.specs.Option.{unwrap_or}
 use Rattle.std.specs.Ordering.{nat_cmp, eq_by_cmp, is_eq, ordering_then}
 use Rattle.std.specs.declared.cmp.Ordering.{Ordering}
 use Rattle.std.specs.declared.cmp.Ordering.TheVariants.{Less, Equal, Greater}
-use Rattle.std.specs.Cmp.{IsTotalOrder, nat_cmp_total, on_total, then_total, tied_itself, alike_right}
+use Rattle.std.specs.Cmp.{nat_cmp_total, tied_itself, alike_right}
 use Rattle.std.specs.FinMap.Entries.{find, put, where_key, is_sorted, by_order, find-put, is_sorted-put, find-where_key, is_sorted-where_key}
 use Rattle.std.specs.FinMap.{nat_cmp-IsAntisymmetric}
 use Rattle.pool_relation.specs.Action.{Object}
-use Rattle.mesh_semantics.specs.Tables.{Pair, pair_cmp, has_some, no_entry_empty}
-use Rattle.mesh_semantics.specs.Message.{Message}
+use Rattle.run_words.specs.Tables.{Pair, pair_cmp, has_some, no_entry_empty}
+use Rattle.run_words.specs.Message.{Message}
 use Rattle.pool_relation.specs.Configuration.{Configuration, object_of, put_object, messages_of, put_messages}
-use Rattle.mesh_semantics.proofs.Laws.{first, second, both, T_true, true_T}
+use Rattle.run_words.proofs.Laws.{first, second, both, T_true, true_T, pair_total}
 
 -- the object of each name after one was put: the new one, or as before
 pub data Put (c : Configuration) (o : ℕ) (y : Object) (q : ℕ) : Type 0 where
@@ -38,9 +38,6 @@ put_cases c o y q = by (nat_cmp q o) refl
 pub objects_in_order : (c : Configuration) (o : ℕ) (y : Object) → IsTrue (is_sorted nat_cmp c.objects)
     → IsTrue (is_sorted nat_cmp (put_object c o y).objects)
 objects_in_order c o y h = T_true _ (is_sorted-put nat_cmp nat_cmp_total o y c.objects (true_T _ h))
-
-pair_total : IsTotalOrder pair_cmp
-pair_total = then_total (on_total (λ (p : Pair). p.0) nat_cmp_total) (on_total (λ (p : Pair). p.1) nat_cmp_total)
 
 -- pairs that tie are equal
 pair_same : (s r s' r' : ℕ) → pair_cmp (s', r') (s, r) ≡ Equal → (s' ≡ s) × (r' ≡ r)

@@ -1,7 +1,7 @@
 -- An object that is there and has no fault.
 use Rattle.std.proofs.Common.{◌≡◌, refl, sym, ap, ◌∙◌, ℕ, Option, Some, None, arith}
-use Rattle.pool_syntax.specs.declared.words.Error.{Error}
-use Rattle.mesh_semantics.proofs.Laws.{given_by}
+use Rattle.run_words.specs.declared.words.Error.{Error}
+use Rattle.run_words.proofs.Laws.{given_by}
 use Rattle.pool_relation.specs.Action.{Object}
 use Rattle.pool_relation.specs.Configuration.{Configuration, object_of}
 use Rattle.pool_relation.specs.Transition.{running, without_fault}

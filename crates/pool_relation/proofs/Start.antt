@@ -5,7 +5,7 @@ use Rattle.std.specs.Ordering.{nat_cmp, is_eq}
 use Rattle.std.specs.declared.cmp.Ordering.{Ordering}
 use Rattle.std.specs.declared.cmp.Ordering.TheVariants.{Less, Equal, Greater}
 use Rattle.std.specs.FinMap.{nat_cmp-IsAntisymmetric}
-use Rattle.pool_syntax.specs.declared.words.Error.{Error}
+use Rattle.run_words.specs.declared.words.Error.{Error}
 use Rattle.pool_syntax.specs.Terms.{ClassTree, ProgramTree}
 use Rattle.pool_syntax.specs.Classes.{class_of}
 use Rattle.pool_syntax.specs.Typing.{faults, classes_faults, contains, fault_if, vars_faults, too_many, methods_faults, class_scope, statements_faults}
@@ -16,7 +16,7 @@ use Rattle.pool_relation.specs.Transition.{new_object, last_class, start}
 use Rattle.pool_relation.specs.UnderWay.{serves}
 use Rattle.pool_relation.specs.Written.{is_written}
 use Rattle.pool_relation.specs.Typed.{Typed}
-use Rattle.mesh_semantics.proofs.Laws.{equals, same_some, given_by}
+use Rattle.run_words.proofs.Laws.{equals, same_some, given_by}
 use Rattle.pool_relation.proofs.typing.TypedTerm.{Nothing, Methods, TypedStatements}
 use Rattle.pool_relation.proofs.typing.Faults.{none2, no_fault_if}
 use Rattle.pool_relation.proofs.redex.Idle.{statements_idle}
@@ -27,7 +27,7 @@ use Rattle.pool_relation.proofs.preservation.OneObject.{no_fault}
 use Rattle.pool_relation.proofs.preservation.NewObject.{new_object_typed}
 
 -- the first class's name is new, and the classes behind it have no fault
-class_parts : (p : ProgramTree) (before : List ℕ) (l : ClassTree) (ks : List ClassTree) → classes_faults p before (l ∷ ks) ≡ []
+pub class_parts : (p : ProgramTree) (before : List ℕ) (l : ClassTree) (ks : List ClassTree) → classes_faults p before (l ∷ ks) ≡ []
     → (contains before l.name.name.0 ≡ false) × (classes_faults p (l.name.name.0 ∷ before) ks ≡ [])
 class_parts p before l ks h =
     let a = none2 {xs = fault_if (contains before l.name.name.0) l.name.pos 1} h in
@@ -39,7 +39,7 @@ class_parts p before l ks h =
     (no_fault_if _ _ _ a.0, f.1)
 
 -- the last class is the first of its name
-last_first : (p : ProgramTree) (before : List ℕ) (ks : List ClassTree) (k : ClassTree) → classes_faults p before ks ≡ []
+pub last_first : (p : ProgramTree) (before : List ℕ) (ks : List ClassTree) (k : ClassTree) → classes_faults p before ks ≡ []
     → last_class ks ≡ Some k
     → (class_of ks k.name.name.0 ≡ Some k) × (contains before k.name.name.0 ≡ false)
 last_first p before [] k h e = absurd (grind (arith, e))

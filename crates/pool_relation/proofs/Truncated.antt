@@ -2,17 +2,17 @@
 use Rattle.std.proofs.Common.{◌≡◌, refl, sym, ap, ap₂, subst, IsTrue, ℕ, ◌==◌, List, [], ◌∷◌, length, Option, Some, None, Bool, true, false, ◌&&◌, arith}
 use Rattle.std.proofs.Math.Logic.{∥∥₁_elim, ∥∥₁_map}
 use denote.Struct.Props.{props}
-use Rattle.pool_syntax.specs.declared.words.Error.{Error}
+use Rattle.run_words.specs.declared.words.Error.{Error}
 use Rattle.pool_syntax.specs.Terms.{ProgramTree, MethodTree}
 use Rattle.pool_syntax.specs.Typing.{statements_faults}
 use Rattle.pool_relation.specs.Action as A
 use Rattle.pool_relation.specs.Action.{Object, Action, action, method_of}
-use Rattle.mesh_semantics.specs.Message.{Message}
+use Rattle.run_words.specs.Message.{Message}
 use Rattle.pool_relation.specs.Configuration.{Configuration, object_of}
 use Rattle.pool_relation.specs.Transition.{fails}
 use Rattle.pool_relation.specs.Typed.{scope, all_fit, IsMessageFor, Typed}
 use Rattle.pool_relation.specs.UnderWay.{serves}
-use Rattle.mesh_semantics.proofs.Laws.{same_error, same_some, first, second, equal, equals}
+use Rattle.run_words.proofs.Laws.{same_error, same_some, first, second, equal, equals}
 
 -- a test
 truth : (b : Bool) → ∥ IsTrue b ∥₁ → IsTrue b

@@ -1,19 +1,19 @@
 -- What an object does next.
 use Rattle.std.specs.Prelude.{ℕ, ◌==◌, List, [], ◌∷◌, ◌++◌, length, Option, Some, None, is_some, true, false, if◌then◌else◌}
 use Rattle.std.specs.List.{list_any}
-use Rattle.pool_syntax.specs.declared.words.Value.{Value}
-use Rattle.pool_syntax.specs.declared.words.Value.TheVariants as V
-use Rattle.pool_syntax.specs.declared.words.Item.{Item}
-use Rattle.pool_syntax.specs.declared.words.Error.{Error}
-use Rattle.pool_syntax.specs.declared.words.Error.TheVariants.{NilDestination, NilOperand, NoOpenGuard}
+use Rattle.run_words.specs.declared.words.Value.{Value}
+use Rattle.run_words.specs.declared.words.Value.TheVariants as V
+use Rattle.run_words.specs.declared.words.Item.{Item}
+use Rattle.run_words.specs.declared.words.Error.{Error}
+use Rattle.run_words.specs.declared.words.Error.TheVariants.{NilDestination, NilOperand, NoOpenGuard}
 use Rattle.pool_syntax.specs.declared.tree.Named.{Named}
 use Rattle.pool_syntax.specs.declared.tree.Var.{Var}
 use Rattle.pool_syntax.specs.Terms as T
 use Rattle.pool_syntax.specs.Classes.{class_of, named_method}
 use Rattle.pool_syntax.specs.Terms.{Store, Expression, Statements, MethodTree, ClassTree, ProgramTree, append}
-use Rattle.pool_syntax.specs.Values.{Outcome, Gives, Fails, WrongSort, prefix_value, infix_value, is_nil, not_bool, is_true}
+use Rattle.run_words.specs.Values.{Outcome, Gives, Fails, WrongSort, prefix_value, infix_value, is_nil, not_bool, is_true}
 use Rattle.pool_relation.specs.Reducible as R
-use Rattle.pool_relation.specs.Reducible.{Choice, Reducible, Found, Evaluated, At, Part, AsExpression, AsStatements, set_value, fill_statements, statements_redex}
+use Rattle.pool_relation.specs.Reducible.{Choice, Reducible, Found, Evaluated, At, Contractum, AsExpression, AsStatements, set_value, fill_statements, statements_redex}
 
 -- an object: its class, its variables, what it has still to do
 pub record Object : Type 0 where
@@ -79,7 +79,7 @@ abbrev pub literal : Value → Expression
 literal v = T.Literal v 0
 
 -- a local transition in which this part takes the place of the redex
-abbrev pub becomes : Object → Part → Action
+abbrev pub becomes : Object → Contractum → Action
 becomes x part = Local (fill_statements x.term part) x.vars
 
 -- a local transition in which a value takes the place of the redex
@@ -142,7 +142,7 @@ redex_action p o x t (R.Make c) = if is_some (class_of p c) then New c else Stuc
 redex_action p o x t (R.Unary op v) = on_outcome x (prefix_value op v)
 redex_action p o x t (R.Binary op v w) = on_outcome x (infix_value op v w)
 redex_action p o x t (R.Invoke m args) = on_call x args (method_of p x.class m (length args))
-redex_action p o x t (R.Request v m args) = on_object v (λ b. Send b m args)
+redex_action p o x t (R.SynchronousSend v m args) = on_object v (λ b. Send b m args)
 redex_action p o x t (R.Leave v) = becomes_value x v
 redex_action p o x t (R.Waiting b m) = Waits b m
 redex_action p o x t (R.Set n v) = on_assignment x t n v

@@ -1,11 +1,12 @@
 -- The redex of a term: the first part, from left to right, that is no value and has only values inside.
 use Rattle.std.specs.Prelude.{ℕ, List, [], ◌∷◌, ◌==◌, ◌&&◌, Option, Some, None, Bool, true, false, if◌then◌else◌}
-use Rattle.pool_syntax.specs.declared.words.Value.{Value}
-use Rattle.pool_syntax.specs.declared.words.Op.{Op}
-use Rattle.pool_syntax.specs.declared.words.Item.{Item}
-use Rattle.pool_syntax.specs.declared.words.Item.TheVariants as I
+use Rattle.run_words.specs.declared.words.Value.{Value}
+use Rattle.run_words.specs.declared.words.Op.{Op}
+use Rattle.run_words.specs.declared.words.Item.{Item}
+use Rattle.run_words.specs.declared.words.Item.TheVariants as I
 use Rattle.pool_syntax.specs.declared.tree.Named.{Named}
-use Rattle.pool_syntax.specs.Terms.{Store, Expression, Literal, Me, Variable, Create, Prefix, Infix, Call, Send, Frame, Wait, Expressions, NoArgs, Arg, Statement, Assign, Write, WriteText, Do, Async, If, While, Answer, Select, Serve, Statements, Done, Then, Alternatives, NoAlts, Alt, append}
+use Rattle.pool_syntax.specs.Terms.{Store, Expression, Literal, Me, Variable, Create, Prefix, Infix, Call, Send, Frame, Wait, Expressions, NoArgs, Arg, Statement, Assign, Write, WriteText, Do, Async}
+use Rattle.pool_syntax.specs.Terms.{If, While, Answer, Select, Serve, Statements, Done, Then, Alternatives, NoAlts, Alt, append}
 
 -- an alternative whose guard was evaluated, with the names that it answers, if it does
 pub record Choice : Type 0 where
@@ -21,7 +22,7 @@ pub data Reducible : Type 0 where
   Unary : (op : Op) (arg : Value) → Reducible
   Binary : (op : Op) (left right : Value) → Reducible
   Invoke : (method : ℕ) (args : List Value) → Reducible
-  Request : (to : Value) (method : ℕ) (args : List Value) → Reducible
+  SynchronousSend : (to : Value) (method : ℕ) (args : List Value) → Reducible
   -- an own method that is done, with its value
   Leave : (value : Value) → Reducible
   Waiting : (receiver method : ℕ) → Reducible
@@ -68,7 +69,7 @@ abbrev mutual
       and_then (expression_redex t l) (λ v. and_then (expression_redex t r) (λ w. At (Binary op v w) t))
   expression_redex t (Call m es p) = and_then (expressions_redex t es) (λ vs. At (Invoke m vs) t)
   expression_redex t (Send e m es p) =
-      and_then (expression_redex t e) (λ v. and_then (expressions_redex t es) (λ vs. At (Request v m vs) t))
+      and_then (expression_redex t e) (λ v. and_then (expressions_redex t es) (λ vs. At (SynchronousSend v m vs) t))
   expression_redex t (Frame m u ss e qs) =
       and_then (statements_redex u ss)
       (λ done. and_then (expression_redex u e) (λ v. and_then (in_post None (statements_redex u qs)) (λ over. At (Leave v) u)))
@@ -132,17 +133,17 @@ is_over None qs = is_done qs
 is_over (Some k) qs = true
 
 -- what takes the place of a redex
-pub data Part : Type 0 where
-  AsExpression : (e : Expression) → Part
-  AsStatements : (ss : Statements) → Part
+pub data Contractum : Type 0 where
+  AsExpression : (e : Expression) → Contractum
+  AsStatements : (ss : Statements) → Contractum
 
 -- the part as an expression, or the old one
-abbrev pub as_expression : Part → Expression → Expression
+abbrev pub as_expression : Contractum → Expression → Expression
 as_expression (AsExpression e) old = e
 as_expression (AsStatements ss) old = old
 
 -- the part as statements, or the old one alone
-abbrev pub as_statements : Part → Statement → Statements
+abbrev pub as_statements : Contractum → Statement → Statements
 as_statements (AsExpression e) old = Then old Done
 as_statements (AsStatements ss) old = ss
 
@@ -158,7 +159,7 @@ assigned _ t = t
 
 -- the term with another part in the place of its redex
 abbrev mutual
-  pub fill_expression : Expression → Part → Expression
+  pub fill_expression : Expression → Contractum → Expression
   fill_expression (Literal v p) x = Literal v p
   fill_expression (Me p) x = as_expression x (Me p)
   fill_expression (Variable n p) x = as_expression x (Variable n p)
@@ -181,11 +182,11 @@ abbrev mutual
       else Frame m (assigned ss t) (fill_statements ss x) e qs
   fill_expression (Wait b m) x = as_expression x (Wait b m)
 
-  pub fill_expressions : Expressions → Part → Expressions
+  pub fill_expressions : Expressions → Contractum → Expressions
   fill_expressions NoArgs x = NoArgs
   fill_expressions (Arg e es) x = if is_value e then Arg e (fill_expressions es x) else Arg (fill_expression e x) es
 
-  pub fill_statement : Statement → Part → Statements
+  pub fill_statement : Statement → Contractum → Statements
   fill_statement (Assign n p e) x =
       if is_value e then as_statements x (Assign n p e) else Then (Assign n p (fill_expression e x)) Done
   fill_statement (Write e) x = if is_value e then as_statements x (Write e) else Then (Write (fill_expression e x)) Done
@@ -208,11 +209,11 @@ abbrev mutual
       else Then (Serve m k t ss (fill_expression e x) qs) Done)
       else Then (Serve m k (assigned ss t) (fill_statements ss x) e qs) Done
 
-  pub fill_statements : Statements → Part → Statements
+  pub fill_statements : Statements → Contractum → Statements
   fill_statements Done x = Done
   fill_statements (Then s ss) x = append (fill_statement s x) ss
 
-  pub fill_guards : Alternatives → Part → Alternatives
+  pub fill_guards : Alternatives → Contractum → Alternatives
   fill_guards NoAlts x = NoAlts
   fill_guards (Alt e names ss alts) x =
       if is_value e then Alt e names ss (fill_guards alts x) else Alt (fill_expression e x) names ss alts

@@ -3,7 +3,7 @@ ghost use Rattle.std.specs.Prelude.{◌≡◌, ◌≢◌, ◌⊎◌, ◌++◌, �
 ghost use Rattle.pool_syntax.specs.Terms.{ProgramTree};
 ghost use Rattle.pool_syntax.specs.Spelled.{IsGrammatical};
 ghost use Rattle.pool_syntax.specs.Typing.{faults};
-ghost use Rattle.pool_syntax.specs.declared.words.Label.{Label};
+ghost use Rattle.run_words.specs.declared.words.Label.{Label};
 ghost use Rattle.pool_relation.specs.Action as A;
 ghost use Rattle.pool_relation.specs.Action.{Object, action};
 ghost use Rattle.pool_relation.specs.Configuration.{Configuration, object_of};

@@ -1,4 +1,3 @@
-pub mod Filled
-pub mod Texts
 pub mod Trees
+pub mod Pieces
 pub mod Laws

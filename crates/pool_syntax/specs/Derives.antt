@@ -3,11 +3,11 @@ use Rattle.std.specs.Prelude.{◌≡◌, ℕ, ◌+◌, List, Some, length, slice
 use Rattle.pool_syntax.specs.declared.token.Tok.{Tok}
 use Rattle.pool_syntax.specs.declared.token.Tok.TheVariants as tok
 use Rattle.pool_syntax.specs.Terms.{ClassTree}
-use Rattle.pool_syntax.specs.Rules.{Phrase, program, Tree, Part, word, sign, name, integer, string, end, operator, phrase, Gives, Rule, tree, then, either}
+use Rattle.pool_syntax.specs.Rules.{Phrase, program, Tree, Part, word, sign, name, integer, string, end, operator, phrase, SemanticValue, Rule, tree, then, either}
 use Rattle.pool_syntax.specs.Grammar.{rule, operator_of}
 
 -- Token number i is the part, which is no phrase, and gives y.
-abbrev pub IsToken : List Tok → (part : Part) → ℕ → Gives part → Type 0
+abbrev pub IsToken : List Tok → (part : Part) → ℕ → SemanticValue part → Type 0
 IsToken ts (word k) i y = (slice_get ts i ≡ Some (tok.Word k)) × (y ≡ i)
 IsToken ts (sign s) i y = (slice_get ts i ≡ Some (tok.Sign s)) × (y ≡ i)
 IsToken ts name i y = (slice_get ts i ≡ Some (tok.Name y.name)) × (y.pos ≡ i)
@@ -20,7 +20,7 @@ IsToken ts (phrase p) i y = ⊥
 -- The rule derives the tokens from number i up to number j, without j, as this tree.
 pub data Derives (ts : List Tok) : (p : Phrase) → Rule (Tree p) → ℕ → ℕ → Tree p → Type 0 where
   nothing : {p : Phrase} {x : Tree p} {i : ℕ} → Derives ts p (tree x) i i x
-  token : {p : Phrase} {part : Part} {rest : Gives part → Rule (Tree p)} {i j : ℕ} {x : Tree p} (y : Gives part) →
+  token : {p : Phrase} {part : Part} {rest : SemanticValue part → Rule (Tree p)} {i j : ℕ} {x : Tree p} (y : SemanticValue part) →
       IsToken ts part i y → Derives ts p (rest y) (i + 1) j x → Derives ts p (then part rest) i j x
   inner : {p q : Phrase} {rest : Tree q → Rule (Tree p)} {i m j : ℕ} {x : Tree p} (y : Tree q) →
       Derives ts q (rule q) i m y → Derives ts p (rest y) m j x → Derives ts p (then (phrase q) rest) i j x
@@ -30,7 +30,7 @@ pub data Derives (ts : List Tok) : (p : Phrase) → Rule (Tree p) → ℕ → �
 -- The tokens from number i up to number j, without j, begin the rule: no tokens; the parts before a place, and tokens that begin the part there.
 pub data Begins (ts : List Tok) : (p : Phrase) → Rule (Tree p) → ℕ → ℕ → Type 0 where
   none : {p : Phrase} {r : Rule (Tree p)} {i : ℕ} → Begins ts p r i i
-  past_token : {p : Phrase} {part : Part} {rest : Gives part → Rule (Tree p)} {i j : ℕ} (y : Gives part) →
+  past_token : {p : Phrase} {part : Part} {rest : SemanticValue part → Rule (Tree p)} {i j : ℕ} (y : SemanticValue part) →
       IsToken ts part i y → Begins ts p (rest y) (i + 1) j → Begins ts p (then part rest) i j
   within : {p q : Phrase} {rest : Tree q → Rule (Tree p)} {i j : ℕ} →
       Begins ts q (rule q) i j → Begins ts p (then (phrase q) rest) i j

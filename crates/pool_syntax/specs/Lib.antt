@@ -1,7 +1,3 @@
-pub mod formers
-pub mod Filled
-pub mod Table
-pub mod Values
 pub mod Terms
 pub mod TreeOf
 pub mod Classes

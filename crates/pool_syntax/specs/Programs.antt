@@ -2,7 +2,8 @@
 use Rattle.std.specs.Prelude.{◌≡◌, ℕ, ◌<◌, ◌≤◌, List, [], length, map}
 use Rattle.pool_syntax.specs.declared.token.Tok.{Tok}
 use Rattle.pool_syntax.specs.declared.token.Token.{Token}
-use Rattle.pool_syntax.specs.Tokens.{Text, HasTokens}
+use Rattle.run_words.specs.Text.{Text}
+use Rattle.pool_syntax.specs.Tokens.{HasTokens}
 use Rattle.pool_syntax.specs.Terms.{ProgramTree}
 use Rattle.pool_syntax.specs.Derives.{IsProgram}
 use Rattle.pool_syntax.specs.Nesting.{nesting}

@@ -1,10 +1,10 @@
 -- The phrases of the grammar, and the form of a rule.
 use Rattle.std.specs.Prelude.{ℕ, ℤ, List, Option}
-use Rattle.pool_syntax.specs.declared.words.NameId.{NameId}
-use Rattle.pool_syntax.specs.declared.words.Op.{Op}
-use Rattle.pool_syntax.specs.declared.token.Keyword.{Keyword}
+use Rattle.run_words.specs.declared.words.NameId.{NameId}
+use Rattle.run_words.specs.declared.words.Op.{Op}
+use Rattle.run_words.specs.declared.keywords.Keyword.{Keyword}
 use Rattle.pool_syntax.specs.declared.token.Sign.{Sign}
-use Rattle.pool_syntax.specs.declared.tree.Kind.{Kind}
+use Rattle.run_words.specs.declared.words.Kind.{Kind}
 use Rattle.pool_syntax.specs.declared.tree.Named.{Named}
 use Rattle.pool_syntax.specs.declared.tree.Var.{Var}
 use Rattle.pool_syntax.specs.Terms.{Expression, Expressions, Statement, Statements, Alternatives, MethodTree, ClassTree}
@@ -98,31 +98,31 @@ pub data Part : Type 0 where
   phrase : Phrase → Part
 
 -- what a part gives to the tree; a token gives its number, its position
-abbrev pub Gives : Part → Type 0
-Gives (word k) = ℕ
-Gives (sign s) = ℕ
-Gives name = Named
-Gives integer = ℤ × ℕ
-Gives string = NameId
-Gives end = ℕ
-Gives (operator level) = Op × ℕ
-Gives (phrase p) = Tree p
+abbrev pub SemanticValue : Part → Type 0
+SemanticValue (word k) = ℕ
+SemanticValue (sign s) = ℕ
+SemanticValue name = Named
+SemanticValue integer = ℤ × ℕ
+SemanticValue string = NameId
+SemanticValue end = ℕ
+SemanticValue (operator level) = Op × ℕ
+SemanticValue (phrase p) = Tree p
 
 -- the right side of a rule: it ends with its tree, goes on with a part, or is one of two
 pub data Rule (A : Type 0) : Type 0 where
   tree : A → Rule A
-  then : (part : Part) → (Gives part → Rule A) → Rule A
+  then : (part : Part) → (SemanticValue part → Rule A) → Rule A
   either : Rule A → Rule A → Rule A
 
-infixr 10 ◌>>=◌ ◌>>◌
+infixr 10 ◌*>=◌ ◌*>◌
 infixr 5 ◌or◌
 -- a part, and the rest of the rule with what the part gives
-abbrev pub ◌>>=◌ : {A : Type 0} (part : Part) → (Gives part → Rule A) → Rule A
-part >>= rest = then part rest
+abbrev pub ◌*>=◌ : {A : Type 0} (part : Part) → (SemanticValue part → Rule A) → Rule A
+part *>= rest = then part rest
 
 -- a part whose place the tree does not keep
-abbrev pub ◌>>◌ : {A : Type 0} (part : Part) → Rule A → Rule A
-part >> rest = then part (λ x. rest)
+abbrev pub ◌*>◌ : {A : Type 0} (part : Part) → Rule A → Rule A
+part *> rest = then part (λ x. rest)
 
 abbrev pub ◌or◌ : {A : Type 0} → Rule A → Rule A → Rule A
 r or s = either r s

@@ -1,35 +1,18 @@
 -- Programs whose names, strings and integers can be written as tokens: what the tokens of a text always give.
-use Rattle.std.specs.Prelude.{ℕ, ◌≤◌, pos, negsuc, List, [], ◌∷◌, length, slice_get, Option, Some, None, Bool, true, false, not, ◌&&◌, nat_le, All, IsTrue}
+use Rattle.std.specs.Prelude.{◌≤◌, pos, negsuc, List, [], ◌∷◌, length, Option, Some, None, Bool, true, false, ◌&&◌, nat_le, All, IsTrue}
 use Rattle.pool_syntax.specs.declared.token.Tok.{Tok}
 use Rattle.pool_syntax.specs.declared.token.Tok.TheVariants as tok
-use Rattle.pool_syntax.specs.declared.words.Value.{Value}
-use Rattle.pool_syntax.specs.declared.words.Value.TheVariants as value
-use Rattle.pool_syntax.specs.declared.tree.Kind.{Kind}
-use Rattle.pool_syntax.specs.declared.tree.Kind.TheVariants as kind
+use Rattle.run_words.specs.declared.words.Value.{Value}
+use Rattle.run_words.specs.declared.words.Value.TheVariants as value
+use Rattle.run_words.specs.declared.words.Kind.{Kind}
+use Rattle.run_words.specs.declared.words.Kind.TheVariants as kind
 use Rattle.pool_syntax.specs.declared.tree.Named.{Named}
 use Rattle.pool_syntax.specs.declared.tree.Var.{Var}
-use Rattle.pool_syntax.specs.Terms.{Expression, Literal, Me, Variable, Create, Prefix, Infix, Call, Send, Frame, Wait, Expressions, NoArgs, Arg, Statement, Assign, Write, WriteText, Do, Async, If, While, Answer, Select, Serve, Statements, Done, Then, Alternatives, NoAlts, Alt, MethodTree, ProgramTree}
-use Rattle.pool_syntax.specs.Tokens.{Text, keywords, is_listed, is_word, every, is_inner}
+use Rattle.pool_syntax.specs.Terms.{Expression, Literal, Me, Variable, Create, Prefix, Infix, Call, Send, Frame, Wait, Expressions, NoArgs, Arg, Statement, Assign, Write, WriteText, Do, Async, If}
+use Rattle.pool_syntax.specs.Terms.{While, Answer, Select, Serve, Statements, Done, Then, Alternatives, NoAlts, Alt, MethodTree, ProgramTree}
+use Rattle.run_words.specs.Text.{Text}
 use Rattle.pool_syntax.specs.Derives.{IsProgram}
-
--- a name of the language: a word of at most 64 bytes that is no keyword
-abbrev pub is_name_text : Text → Bool
-is_name_text w = is_word w && not (is_listed keywords w) && nat_le (length w) 64
-
--- the inside of a string of at most 256 bytes
-abbrev pub is_string_text : Text → Bool
-is_string_text w = every is_inner w && nat_le (length w) 256
-
--- the test holds of the text of this number, which is there
-abbrev pub text_passes : (Text → Bool) → Option Text → Bool
-text_passes test None = false
-text_passes test (Some w) = test w
-
-abbrev pub is_name : List Text → ℕ → Bool
-is_name names n = text_passes is_name_text (slice_get names n)
-
-abbrev pub is_string_number : List Text → ℕ → Bool
-is_string_number names n = text_passes is_string_text (slice_get names n)
+use Rattle.run_words.specs.Keywords.{is_name, is_string_number}
 
 -- a value that a literal can have: no integer below 0 or from 2 ^ 63 on, and no object's name
 abbrev pub is_literal : Value → Bool

@@ -1,41 +1,7 @@
 -- The texts of keywords and signs.
 use Rattle.std.specs.Prelude.{ℕ, List, codes}
-use Rattle.pool_syntax.specs.declared.token.Keyword.{Keyword}
-use Rattle.pool_syntax.specs.declared.token.Keyword.TheVariants as word
 use Rattle.pool_syntax.specs.declared.token.Sign.{Sign}
 use Rattle.pool_syntax.specs.declared.token.Sign.TheVariants as sign
-
-abbrev pub keyword_text : Keyword → List ℕ
-keyword_text word.Class = codes "class"
-keyword_text word.Var = codes "var"
-keyword_text word.Method = codes "method"
-keyword_text word.Local = codes "local"
-keyword_text word.Begin = codes "begin"
-keyword_text word.Result = codes "result"
-keyword_text word.Post = codes "post"
-keyword_text word.End = codes "end"
-keyword_text word.Body = codes "body"
-keyword_text word.If = codes "if"
-keyword_text word.Then = codes "then"
-keyword_text word.Else = codes "else"
-keyword_text word.Fi = codes "fi"
-keyword_text word.While = codes "while"
-keyword_text word.Do = codes "do"
-keyword_text word.Od = codes "od"
-keyword_text word.Answer = codes "answer"
-keyword_text word.Select = codes "select"
-keyword_text word.When = codes "when"
-keyword_text word.Write = codes "write"
-keyword_text word.New = codes "new"
-keyword_text word.SelfWord = codes "self"
-keyword_text word.Nil = codes "nil"
-keyword_text word.True = codes "true"
-keyword_text word.False = codes "false"
-keyword_text word.Not = codes "not"
-keyword_text word.And = codes "and"
-keyword_text word.Or = codes "or"
-keyword_text word.Int = codes "Int"
-keyword_text word.Bool = codes "Bool"
 
 abbrev pub sign_text : Sign → List ℕ
 sign_text sign.Becomes = codes ":="

@@ -1,11 +1,9 @@
 -- How a text splits into pieces: white space, comments and tokens, each the longest at its place; and its tokens and its first fault.
-use Rattle.std.specs.Prelude.{◌≡◌, ℕ, zero, suc, ◌+◌, ◌-◌, ◌*◌, ◌≤◌, Bool, true, false, ◌&&◌, ◌||◌, not, List, [], ◌∷◌, map, length, take, drop, Option, Some, None, nat_le, nat_eq, bytes_eq, pos}
+use Rattle.std.specs.Prelude.{◌≡◌, ℕ, zero, suc, ◌+◌, ◌-◌, ◌≤◌, Bool, true, false, ◌&&◌, ◌||◌, not, List, [], ◌∷◌, map, length, take, drop, Option, Some, None, nat_le, nat_eq, pos}
 use Rattle.std.specs.List.{AllByRecursion}
-use Rattle.pool_syntax.specs.Spelling.{keyword_text, sign_text}
-use Rattle.pool_syntax.specs.Table.{with_text, name_of}
-use Rattle.pool_syntax.specs.declared.words.NameId.{NameId}
-use Rattle.pool_syntax.specs.declared.token.Keyword.{Keyword}
-use Rattle.pool_syntax.specs.declared.token.Keyword.TheVariants as word
+use Rattle.pool_syntax.specs.Spelling.{sign_text}
+use Rattle.run_words.specs.Table.{with_text, name_of}
+use Rattle.run_words.specs.declared.words.NameId.{NameId}
 use Rattle.pool_syntax.specs.declared.token.Sign.{Sign}
 use Rattle.pool_syntax.specs.declared.token.Sign.TheVariants as sign
 use Rattle.pool_syntax.specs.declared.token.Tok.{Tok}
@@ -13,19 +11,10 @@ use Rattle.pool_syntax.specs.declared.token.Tok.TheVariants as tok
 use Rattle.pool_syntax.specs.declared.token.Token.{Token}
 use Rattle.pool_syntax.specs.declared.token.LexFault.{LexFault}
 use Rattle.pool_syntax.specs.declared.token.LexFault.TheVariants.{BadByte, IntegerTooLarge, OpenString, TooLong}
-
--- a text is a list of bytes
-abbrev pub Text : Type 0
-Text = List ℕ
+use Rattle.run_words.specs.Text.{Text, lookup, is_listed, every, is_space, is_word, is_integer, is_inner, value_of_digits}
+use Rattle.run_words.specs.Keywords.{keywords}
 
 -- the words and the signs, each behind its text
-
-abbrev pub keywords : List (Text × Keyword)
-keywords = map (λ k. (keyword_text k, k)) (
-    word.Class ∷ word.Var ∷ word.Method ∷ word.Local ∷ word.Begin ∷ word.Result ∷ word.Post ∷ word.End ∷ word.Body ∷ word.If ∷ word.Then ∷
-    word.Else ∷ word.Fi ∷ word.While ∷ word.Do ∷ word.Od ∷ word.Answer ∷ word.Select ∷ word.When ∷ word.Write ∷ word.New ∷ word.SelfWord ∷
-    word.Nil ∷ word.True ∷ word.False ∷ word.Not ∷ word.And ∷ word.Or ∷ word.Int ∷ word.Bool ∷ []
-    )
 
 abbrev pub signs : List (Text × Sign)
 signs = map (λ k. (sign_text k, k)) (
@@ -33,34 +22,7 @@ signs = map (λ k. (sign_text k, k)) (
     sign.Differs ∷ sign.Less ∷ sign.LessEq ∷ sign.More ∷ sign.MoreEq ∷ sign.Plus ∷ sign.Minus ∷ sign.Star ∷ sign.Slash ∷ sign.Percent ∷ []
     )
 
--- what stands beside the text in a table
-abbrev pub lookup : {A : Type 0} → List (Text × A) → Text → Option A
-lookup [] w = None
-lookup (row ∷ rows) w = elim (bytes_eq row.0 w) [ true ↦ Some row.1 | false ↦ lookup rows w ]
-
-abbrev pub is_listed : {A : Type 0} → List (Text × A) → Text → Bool
-is_listed [] w = false
-is_listed (row ∷ rows) w = bytes_eq row.0 w || is_listed rows w
-
 -- bytes
-
-abbrev pub every : (ℕ → Bool) → Text → Bool
-every p [] = true
-every p (b ∷ bs) = p b && every p bs
-
-abbrev between : ℕ → ℕ → ℕ → Bool
-between low high b = nat_le low b && nat_le b high
-
--- space, tab, line feed, carriage return
-abbrev pub is_space : ℕ → Bool
-is_space b = nat_eq b 32 || (nat_eq b 9 || (nat_eq b 10 || nat_eq b 13))
-
-abbrev pub is_digit : ℕ → Bool
-is_digit b = between 48 57 b
-
--- a letter of ASCII, or `_`
-abbrev pub is_letter : ℕ → Bool
-is_letter b = between 65 90 b || (between 97 122 b || nat_eq b 95)
 
 -- pieces
 
@@ -72,19 +34,6 @@ is_white (b ∷ bs) = every is_space (b ∷ bs)
 abbrev pub is_comment : Text → Bool
 is_comment [] = false
 is_comment (b ∷ bs) = nat_eq b 35 && every (λ c. not (nat_eq c 10)) bs
-
--- a name or a keyword
-abbrev pub is_word : Text → Bool
-is_word [] = false
-is_word (b ∷ bs) = is_letter b && every (λ c. is_letter c || is_digit c) bs
-
-abbrev pub is_integer : Text → Bool
-is_integer [] = false
-is_integer (b ∷ bs) = every is_digit (b ∷ bs)
-
--- a byte that may stand inside a string: a printable one of ASCII, but for the quote
-abbrev pub is_inner : ℕ → Bool
-is_inner b = between 32 126 b && not (nat_eq b 34)
 
 -- the inside of a string, and its closing quote
 abbrev pub is_rest_of_string : Text → Bool
@@ -115,10 +64,6 @@ IsPieces s (w ∷ ws) rest = (1 ≤ longest s) × (w ≡ take (longest s) s) × 
 
 -- faults
 
-abbrev pub value_of : ℕ → Text → ℕ
-value_of before [] = before
-value_of before (d ∷ ds) = value_of (before * 10 + (d - 48)) ds
-
 abbrev if_over : ℕ → ℕ → LexFault → Option LexFault
 if_over limit n fault = elim (nat_le n limit) [ true ↦ None | false ↦ Some fault ]
 
@@ -127,7 +72,7 @@ abbrev pub piece_fault : ℕ → Text → Option LexFault
 piece_fault at w = elim (is_word w) [
   | true ↦ if_over 64 (length w) (TooLong at)
   | false ↦ elim (is_integer w) [
-    | true ↦ if_over 9223372036854775807 (value_of 0 w) (IntegerTooLarge at)
+    | true ↦ if_over 9223372036854775807 (value_of_digits 0 w) (IntegerTooLarge at)
     | false ↦ elim (is_string w) [ true ↦ if_over 258 (length w) (TooLong at) | false ↦ None ]
   ]
 ]
@@ -177,7 +122,7 @@ abbrev pub token_of : List Text → Text → Option Tok
 token_of names w = elim (is_word w) [
   | true ↦ elim (lookup keywords w) [ Some k ↦ Some (tok.Word k) | None ↦ Some (tok.Name (name_id names w)) ]
   | false ↦ elim (is_integer w) [
-    | true ↦ Some (tok.Int (pos (value_of 0 w)))
+    | true ↦ Some (tok.Int (pos (value_of_digits 0 w)))
     | false ↦ elim (kept_text w) [
       | Some x ↦ Some (tok.Str (name_id names x))
       | None ↦ elim (lookup signs w) [ Some s ↦ Some (tok.Sign s) | None ↦ None ]

@@ -1,6 +1,6 @@
 -- What the code's trees stand for.
 use Rattle.std.specs.Prelude.{List, [], ◌∷◌, map}
-use Rattle.pool_syntax.specs.declared.words.Value.TheVariants as V
+use Rattle.run_words.specs.declared.words.Value.TheVariants as V
 use Rattle.pool_syntax.specs.declared.tree.Expr.{Expr, Int, Bool, Nil, Me, Var, New, Unary', Binary', Call', Send', Row_of-Expr, end_of-Expr, more_of-Expr}
 use Rattle.pool_syntax.specs.declared.tree.Stmt as S
 use Rattle.pool_syntax.specs.declared.tree.Stmt.{Stmt, Row_of-Stmt, Row_of-Alt, end_of-Stmt, more_of-Stmt, end_of-Alt, more_of-Alt}
@@ -8,7 +8,8 @@ use Rattle.pool_syntax.specs.declared.tree.Alt.{Alt as OneAlt}
 use Rattle.pool_syntax.specs.declared.tree.Method.{Method}
 use Rattle.pool_syntax.specs.declared.tree.ClassDecl.{ClassDecl}
 use Rattle.pool_syntax.specs.declared.tree.Program.{Program}
-use Rattle.pool_syntax.specs.Terms.{Expression, Literal, Me as MySelf, Variable, Create, Prefix, Infix, Call, Send, Expressions, NoArgs, Arg, Statement, Assign, Write, WriteText, Do, Async, If, While, Answer, Select, Statements, Done, Then, Alternatives, NoAlts, Alt, MethodTree, ClassTree, ProgramTree}
+use Rattle.pool_syntax.specs.Terms.{Expression, Literal, Me as MySelf, Variable, Create, Prefix, Infix, Call, Send, Expressions, NoArgs, Arg, Statement, Assign, Write, WriteText, Do, Async, If, While}
+use Rattle.pool_syntax.specs.Terms.{Answer, Select, Statements, Done, Then, Alternatives, NoAlts, Alt, MethodTree, ClassTree, ProgramTree}
 
 -- an expression, and a list of them inside one
 abbrev mutual

@@ -1,33 +1,24 @@
 -- The faults of a program, each with the token where it stands. A program without fault is typed.
 use Rattle.std.specs.Prelude.{ℕ, zero, suc, ◌+◌, ◌==◌, List, [], ◌∷◌, ◌++◌, length, Option, Some, None, is_some, is_none, Bool, true, false, not, ◌||◌, if◌then◌else◌, nat_le}
 use Rattle.std.specs.List.{list_any}
-use Rattle.pool_syntax.specs.declared.words.Value.{Value}
-use Rattle.pool_syntax.specs.declared.words.Value.TheVariants as V
-use Rattle.pool_syntax.specs.declared.words.Op.{Op}
-use Rattle.pool_syntax.specs.declared.words.Op.TheVariants as O
-use Rattle.pool_syntax.specs.declared.tree.Kind.{Kind}
-use Rattle.pool_syntax.specs.declared.tree.Kind.TheVariants as K
+use Rattle.run_words.specs.declared.words.Value.{Value}
+use Rattle.run_words.specs.declared.words.Value.TheVariants as V
+use Rattle.run_words.specs.declared.words.Op.{Op}
+use Rattle.run_words.specs.declared.words.Op.TheVariants as O
+use Rattle.run_words.specs.declared.words.Kind.{Kind}
+use Rattle.run_words.specs.declared.words.Kind.TheVariants as K
 use Rattle.pool_syntax.specs.declared.tree.Named.{Named}
 use Rattle.pool_syntax.specs.declared.tree.Var.{Var}
-use Rattle.pool_syntax.specs.Terms.{Expression, Literal, Me, Variable, Create, Prefix, Infix, Call, Send, Frame, Wait, Expressions, NoArgs, Arg, Statement, Assign, Write, WriteText, Do, Async, If, While, Answer, Select, Serve, Statements, Done, Then, Alternatives, NoAlts, Alt, MethodTree, ClassTree, ProgramTree}
+use Rattle.pool_syntax.specs.Terms.{Expression, Literal, Me, Variable, Create, Prefix, Infix, Call, Send, Frame, Wait, Expressions, NoArgs, Arg, Statement, Assign, Write, WriteText, Do, Async, If}
+use Rattle.pool_syntax.specs.Terms.{While, Answer, Select, Serve, Statements, Done, Then, Alternatives, NoAlts, Alt, MethodTree, ClassTree, ProgramTree}
 use Rattle.pool_syntax.specs.Classes.{class_of, named_method}
 use Rattle.pool_syntax.specs.FaultNumbers as N
 use Rattle.pool_syntax.specs.Limits as L
+use Rattle.run_words.specs.Sorts.{Sort, IntSort, BoolSort, ClassSort, NilSort, NoSort, BrokenSort, op_sort, operand_sort, is_same_sort}
 
 -- a token and the number of the fault, from 1
-abbrev pub Fault : Type 0
-Fault = ℕ × ℕ
-
--- the sort of an expression
-pub data Sort : Type 0 where
-  IntSort : Sort
-  BoolSort : Sort
-  ClassSort : (class : ℕ) → Sort
-  NilSort : Sort
-  -- the sort of a call without result
-  NoSort : Sort
-  -- a part that already has a fault
-  BrokenSort : Sort
+abbrev pub FaultAt : Type 0
+FaultAt = ℕ × ℕ
 
 -- where an expression stands: the program, its class, the temps of its method, and the classes of the objects that are there
 pub record Scope : Type 0 where
@@ -117,23 +108,6 @@ abbrev pub is_dangling : Scope → Value → Bool
 is_dangling g (V.Ref n) = is_none (g.object_class n)
 is_dangling g _ = false
 
--- the sort of an operator's value
-abbrev pub op_sort : Op → Sort
-op_sort O.Add = IntSort
-op_sort O.Sub = IntSort
-op_sort O.Mul = IntSort
-op_sort O.Div = IntSort
-op_sort O.Rem = IntSort
-op_sort O.Neg = IntSort
-op_sort _ = BoolSort
-
--- the sort of an operator's operands, but for the two that take any
-abbrev pub operand_sort : Op → Sort
-operand_sort O.And = BoolSort
-operand_sort O.Or = BoolSort
-operand_sort O.Not = BoolSort
-operand_sort _ = IntSort
-
 -- the sort of an expression, whatever faults stand in it
 abbrev pub sort_of : Scope → Expression → Sort
 sort_of g (Literal v p) = value_sort g v
@@ -160,14 +134,6 @@ position (Send e m es p) = p
 position (Frame m t ss e qs) = 0
 position (Wait b m) = 0
 
--- whether two sorts are equal
-abbrev pub is_same_sort : Sort → Sort → Bool
-is_same_sort IntSort IntSort = true
-is_same_sort BoolSort BoolSort = true
-is_same_sort (ClassSort c) (ClassSort d) = c == d
-is_same_sort NilSort NilSort = true
-is_same_sort _ _ = false
-
 -- whether a sort fits every kind
 abbrev pub is_open : Sort → Bool
 is_open NilSort = true
@@ -180,18 +146,18 @@ counted NoSort = BrokenSort
 counted s = s
 
 -- the fault, where the test holds
-abbrev pub fault_if : Bool → ℕ → ℕ → List Fault
+abbrev pub fault_if : Bool → ℕ → ℕ → List FaultAt
 fault_if true at number = (at, number) ∷ []
 fault_if false at number = []
 
 -- the fault of an expression of no sort
-abbrev pub no_result : Sort → ℕ → List Fault
-no_result NoSort at = (at, N.no_result) ∷ []
-no_result _ at = []
+abbrev pub no_result_faults : Sort → ℕ → List FaultAt
+no_result_faults NoSort at = (at, N.no_result) ∷ []
+no_result_faults _ at = []
 
 -- an expression of this sort where another is needed
-abbrev pub misfit : Sort → Sort → ℕ → List Fault
-misfit s need at = no_result s at ++ fault_if (not (is_open (counted s) || is_same_sort s need || is_broken need)) at N.type_differs
+abbrev pub misfit : Sort → Sort → ℕ → List FaultAt
+misfit s need at = no_result_faults s at ++ fault_if (not (is_open (counted s) || is_same_sort s need || is_broken need)) at N.type_differs
   where
     is_broken : Sort → Bool
     is_broken BrokenSort = true
@@ -202,34 +168,34 @@ abbrev pub is_broken_name : Scope → ℕ → Bool
 is_broken_name g x = not (is_some (var_of g.temps x) || is_some (var_of (vars_of_class g.own) x))
 
 -- the fault of an expression whose place needs this sort
-abbrev pub needs : Scope → Sort → Expression → List Fault
+abbrev pub needs : Scope → Sort → Expression → List FaultAt
 needs g need e = misfit (sort_of g e) need (position e)
 
 -- the fault of an expression whose place takes any sort
-abbrev pub needs_any : Scope → Expression → List Fault
-needs_any g e = no_result (sort_of g e) (position e)
+abbrev pub needs_any : Scope → Expression → List FaultAt
+needs_any g e = no_result_faults (sort_of g e) (position e)
 
 -- whether two sorts can be compared
 abbrev pub is_comparable : Sort → Sort → Bool
 is_comparable s t = is_same_sort s t || is_open s || is_open t
 
 -- the operands of `==` and `!=`
-abbrev pub needs_alike : Scope → Expression → Expression → List Fault
+abbrev pub needs_alike : Scope → Expression → Expression → List FaultAt
 needs_alike g l r =
     needs_any g l ++ (needs_any g r ++ fault_if (not (is_comparable (counted (sort_of g l)) (counted (sort_of g r)))) (position r) N.type_differs)
 
 -- the faults of operands by what their places need
-abbrev pub needs_operands : Scope → Op → Expression → Expression → List Fault
+abbrev pub needs_operands : Scope → Op → Expression → Expression → List FaultAt
 needs_operands g O.Same l r = needs_alike g l r
 needs_operands g O.Differs l r = needs_alike g l r
 needs_operands g op l r = needs g (operand_sort op) l ++ needs g (operand_sort op) r
 
 -- an expression that begins with 64 operands held
-abbrev pub limit : ℕ → ℕ → List Fault
-limit held at = fault_if (nat_le L.most_operands held) at N.limit
+abbrev pub limit_faults : ℕ → ℕ → List FaultAt
+limit_faults held at = fault_if (nat_le L.most_operands held) at N.limit
 
 -- the faults of a call of this method with so many arguments
-abbrev pub method_faults : Option MethodTree → ℕ → ℕ → List Fault
+abbrev pub method_faults : Option MethodTree → ℕ → ℕ → List FaultAt
 method_faults None count at = (at, N.unknown_method) ∷ []
 method_faults (Some m) count at = fault_if (not (length m.params == count)) at N.argument_count
 
@@ -249,7 +215,7 @@ sent_method g (ClassSort c) m = named_method (methods_of g.program c) m
 sent_method g _ m = None
 
 -- the faults of a send by its destination's sort
-abbrev pub destination_faults : Scope → Sort → ℕ → ℕ → ℕ → ℕ → List Fault
+abbrev pub destination_faults : Scope → Sort → ℕ → ℕ → ℕ → ℕ → List FaultAt
 destination_faults g (ClassSort c) m count at to = method_faults (named_method (methods_of g.program c) m) count at
 destination_faults g BrokenSort m count at to = []
 destination_faults g NoSort m count at to = (to, N.no_result) ∷ []
@@ -274,53 +240,53 @@ abbrev pub behind_value : Scope → Scope
 behind_value g = record g { held = 1 }
 
 -- what the value of a method under way needs: nothing where it has no result; the class has the method
-abbrev pub value_needs : Scope → Option MethodTree → Expression → List Fault
+abbrev pub value_needs : Scope → Option MethodTree → Expression → List FaultAt
 value_needs g None e = (position e, N.unknown_method) ∷ []
 value_needs g (Some m) e = value_fits m.outcome
   where
-    value_fits : Option Kind → List Fault
+    value_fits : Option Kind → List FaultAt
     value_fits None = []
     value_fits (Some k) = needs g (kind_sort g.program k) e
 
 -- the faults of an answer list, after these names
-abbrev pub names_faults : Scope → List ℕ → List Named → List Fault
+abbrev pub names_faults : Scope → List ℕ → List Named → List FaultAt
 names_faults g before [] = []
 names_faults g before (n ∷ ns) =
     fault_if (not (is_some (own_method g n.name.0)) || list_any (λ m. m == n.name.0) before) n.pos N.answer_name
     ++ names_faults g (n.name.0 ∷ before) ns
 
 -- the faults of an alternative's list, if it answers
-abbrev pub answer_faults : Scope → Option (List Named) → List Fault
+abbrev pub answer_faults : Scope → Option (List Named) → List FaultAt
 answer_faults g None = []
 answer_faults g (Some names) = names_faults g [] names
 
 -- the faults in an expression before which this many operands are held, but for what its own place needs
 abbrev mutual
-  pub expression_faults : Scope → ℕ → Expression → List Fault
-  expression_faults g h (Literal v p) = limit h p ++ fault_if (is_dangling g v) p N.unknown_class
-  expression_faults g h (Me p) = limit h p
-  expression_faults g h (Variable x p) = limit h p ++ fault_if (is_broken_name g x) p N.unknown_variable
-  expression_faults g h (Create c p) = limit h p ++ fault_if (not (is_some (class_of g.program c))) p N.unknown_class
-  expression_faults g h (Prefix op e p) = limit h p ++ (expression_faults g h e ++ needs g (operand_sort op) e)
+  pub expression_faults : Scope → ℕ → Expression → List FaultAt
+  expression_faults g h (Literal v p) = limit_faults h p ++ fault_if (is_dangling g v) p N.unknown_class
+  expression_faults g h (Me p) = limit_faults h p
+  expression_faults g h (Variable x p) = limit_faults h p ++ fault_if (is_broken_name g x) p N.unknown_variable
+  expression_faults g h (Create c p) = limit_faults h p ++ fault_if (not (is_some (class_of g.program c))) p N.unknown_class
+  expression_faults g h (Prefix op e p) = limit_faults h p ++ (expression_faults g h e ++ needs g (operand_sort op) e)
   expression_faults g h (Infix op l r p) =
-      limit h p ++ (expression_faults g h l ++ (expression_faults g (h + 1) r ++ needs_operands g op l r))
+      limit_faults h p ++ (expression_faults g h l ++ (expression_faults g (h + 1) r ++ needs_operands g op l r))
   expression_faults g h (Call m es p) =
-      limit h p ++ (method_faults (own_method g m) (size es) p ++ arguments_faults g h (params_of (own_method g m)) es)
+      limit_faults h p ++ (method_faults (own_method g m) (size es) p ++ arguments_faults g h (params_of (own_method g m)) es)
   expression_faults g h (Send e m es p) =
-      limit h p ++ (expression_faults g h e ++ (destination_faults g (sort_of g e) m (size es) p (position e)
+      limit_faults h p ++ (expression_faults g h e ++ (destination_faults g (sort_of g e) m (size es) p (position e)
       ++ arguments_faults g (h + 1) (params_of (sent_method g (sort_of g e) m)) es))
   expression_faults g h (Frame m t ss e qs) =
       statements_faults (inside g m) ss ++ (expression_faults (inside g m) 0 e ++ (value_needs (inside g m) (own_method g m) e
       ++ statements_faults (behind_value (inside g m)) qs))
   expression_faults g h (Wait b m) = []
 
-  pub arguments_faults : Scope → ℕ → List Var → Expressions → List Fault
+  pub arguments_faults : Scope → ℕ → List Var → Expressions → List FaultAt
   arguments_faults g h vs NoArgs = []
   arguments_faults g h [] (Arg e es) = expression_faults g h e ++ (needs_any g e ++ arguments_faults g (h + 1) [] es)
   arguments_faults g h (v ∷ vs) (Arg e es) =
       expression_faults g h e ++ (needs g (kind_sort g.program v.kind) e ++ arguments_faults g (h + 1) vs es)
 
-  pub statement_faults : Scope → Statement → List Fault
+  pub statement_faults : Scope → Statement → List FaultAt
   statement_faults g (Assign x p e) =
       fault_if (is_broken_name g x) p N.unknown_variable ++ (expression_faults g g.held e ++ needs g (name_sort g x) e)
   statement_faults g (Write e) = expression_faults g g.held e ++ needs_any g e
@@ -338,17 +304,17 @@ abbrev mutual
       statements_faults (inside g m) ss ++ (expression_faults (inside g m) 0 e ++ (value_needs (inside g m) (own_method g m) e
       ++ statements_faults (behind_value (inside g m)) qs))
 
-  pub statements_faults : Scope → Statements → List Fault
+  pub statements_faults : Scope → Statements → List FaultAt
   statements_faults g Done = []
   statements_faults g (Then s ss) = statement_faults g s ++ statements_faults g ss
 
-  pub alternatives_faults : Scope → ℕ → Alternatives → List Fault
+  pub alternatives_faults : Scope → ℕ → Alternatives → List FaultAt
   alternatives_faults g i NoAlts = []
   alternatives_faults g i (Alt e names ss alts) =
       expression_faults g i e ++ (needs g BoolSort e ++ (answer_faults g names ++ (statements_faults g ss ++ alternatives_faults g (i + 1) alts)))
 
 -- the fault of a kind whose class does not exist
-abbrev pub kind_faults : ProgramTree → Kind → ℕ → List Fault
+abbrev pub kind_faults : ProgramTree → Kind → ℕ → List FaultAt
 kind_faults p K.Int at = []
 kind_faults p K.Bool at = []
 kind_faults p (K.Class c) at = fault_if (not (is_some (class_of p c.0))) at N.unknown_class
@@ -358,20 +324,20 @@ abbrev pub contains : List ℕ → ℕ → Bool
 contains names n = list_any (λ m. m == n) names
 
 -- variables after these names: a name that is there already has the fault of this number
-abbrev pub vars_faults : ProgramTree → ℕ → List ℕ → List Var → List Fault
+abbrev pub vars_faults : ProgramTree → ℕ → List ℕ → List Var → List FaultAt
 vars_faults p number before [] = []
 vars_faults p number before (v ∷ vs) =
     fault_if (contains before v.name.0) v.pos number ++ (kind_faults p v.kind v.kind_pos
     ++ vars_faults p number (v.name.0 ∷ before) vs)
 
 -- the variable at this place of the list, if there is one
-abbrev pub too_many : ℕ → List Var → List Fault
+abbrev pub too_many : ℕ → List Var → List FaultAt
 too_many n [] = []
 too_many zero (v ∷ vs) = (v.pos, N.limit) ∷ []
 too_many (suc n) (v ∷ vs) = too_many n vs
 
 -- the fault of a result's kind
-abbrev pub outcome_faults : ProgramTree → Option Kind → ℕ → List Fault
+abbrev pub outcome_faults : ProgramTree → Option Kind → ℕ → List FaultAt
 outcome_faults p None at = []
 outcome_faults p (Some k) at = kind_faults p k at
 
@@ -380,7 +346,7 @@ abbrev pub method_scope : Scope → MethodTree → Scope
 method_scope g m = record g { temps = m.params ++ m.locals }
 
 -- the faults of a method
-abbrev pub method_tree_faults : Scope → MethodTree → List Fault
+abbrev pub method_tree_faults : Scope → MethodTree → List FaultAt
 method_tree_faults g m =
     vars_faults g.program N.local_twice [] (m.params ++ m.locals) ++ (too_many L.most_params m.params ++ (too_many L.most_locals (m.params ++ m.locals)
     ++ (outcome_faults g.program m.outcome m.outcome_pos
@@ -388,7 +354,7 @@ method_tree_faults g m =
     ++ (value_needs (method_scope g m) (Some m) m.value ++ statements_faults (behind_value (method_scope g m)) m.post))))))
 
 -- the faults of methods, after these names
-abbrev pub methods_faults : Scope → List ℕ → List MethodTree → List Fault
+abbrev pub methods_faults : Scope → List ℕ → List MethodTree → List FaultAt
 methods_faults g before [] = []
 methods_faults g before (m ∷ ms) =
     fault_if (contains before m.name.name.0) m.name.pos N.method_twice ++ (fault_if (length before == L.most_methods) m.name.pos N.limit
@@ -399,7 +365,7 @@ abbrev pub class_scope : ProgramTree → ClassTree → Scope
 class_scope p k = record { program = p; class = k.name.name.0; own = Some k; temps = []; object_class = λ n. None; under_way = false; held = 0 }
 
 -- the faults of classes, after these names
-abbrev pub classes_faults : ProgramTree → List ℕ → List ClassTree → List Fault
+abbrev pub classes_faults : ProgramTree → List ℕ → List ClassTree → List FaultAt
 classes_faults p before [] = []
 classes_faults p before (k ∷ ks) =
     fault_if (contains before k.name.name.0) k.name.pos N.class_twice ++ (fault_if (length before == L.most_classes) k.name.pos N.limit
@@ -407,5 +373,5 @@ classes_faults p before (k ∷ ks) =
     ++ (statements_faults (class_scope p k) k.body ++ classes_faults p (k.name.name.0 ∷ before) ks)))))
 
 -- the faults of a program
-abbrev pub faults : ProgramTree → List Fault
+abbrev pub faults : ProgramTree → List FaultAt
 faults p = classes_faults p [] p

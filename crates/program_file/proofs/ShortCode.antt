@@ -1,25 +1,28 @@
 -- The file of a program without class faults is short where its table of names is: an answer list has no more names than its class has methods, a choice no more alternatives
 -- than operands may stand, and all other lists are within the limits of the language.
-use Rattle.std.proofs.Common.{◌≡◌, refl, sym, ap, ◌∙◌, subst, ℕ, suc, ◌+◌, ◌≤◌, ◌==◌, List, [], ◌∷◌, ◌++◌, length, map, Option, Some, None, is_some, Bool, true, false, not, ◌||◌, arith}
+use Rattle.std.proofs.Common.{◌≡◌, refl, sym, ◌∙◌, subst, ℕ, suc, ◌+◌, ◌≤◌, ◌==◌, List, [], ◌∷◌, ◌++◌, length, map, Option, Some, None, is_some, Bool, true, false, not, ◌||◌, arith}
 use Rattle.std.specs.Prelude.{if◌then◌else◌, nat_eq, slice_get}
 use Rattle.std.specs.List.{AllByRecursion as Each, IsDistinct, list_any}
 use Rattle.std.proofs.lemmas.Cmp.{nat_eq_equiv}
 use Rattle.std.proofs.lemmas.Map.Made.{length-le_from_is_member}
-use Rattle.pool_syntax.specs.Tokens.{Text}
-use Rattle.pool_syntax.specs.declared.words.Value.{Value}
-use Rattle.pool_syntax.specs.declared.words.Value.TheVariants as V
+use Rattle.std.proofs.lemmas.List.{length-map}
+use Rattle.run_words.proofs.Laws.{neither}
+use Rattle.run_words.specs.Text.{Text}
+use Rattle.run_words.specs.declared.words.Value.{Value}
+use Rattle.run_words.specs.declared.words.Value.TheVariants as V
 use Rattle.pool_syntax.specs.declared.tree.Named.{Named}
 use Rattle.pool_syntax.specs.declared.tree.Var.{Var}
 use Rattle.pool_syntax.specs.Terms as T
 use Rattle.pool_syntax.specs.Terms.{Expression, Expressions, Statement, Statements, Alternatives, MethodTree, ClassTree, ProgramTree}
 use Rattle.pool_syntax.specs.Classes.{named_method}
 use Rattle.pool_syntax.specs.Spelled.{IsGrammatical}
-use Rattle.pool_syntax.specs.Typing.{Scope, own_method, names_faults, answer_faults, statement_faults, statements_faults, alternatives_faults, expression_faults, needs, value_needs, vars_faults, too_many, outcome_faults, BoolSort, behind_value, method_scope, method_tree_faults, class_scope, methods_faults, classes_faults, faults, contains, size}
-use Rattle.object_code.specs.declared.unit.Instr.{Instr}
-use Rattle.object_code.specs.declared.unit.Instr.TheVariants as I
-use Rattle.object_code.specs.declared.unit.ClassCode.{ClassCode}
-use Rattle.object_code.specs.Proper.{IsProper}
-use Rattle.object_code.specs.Shaped.{IsListOf, IsOptionOf, IsShortList, AlternativeIsShort, InstrIsShort, MethodIsShort, ClassIsShort, MethodKindsAreShort, ClassKindsAreShort, IsShort}
+use Rattle.pool_syntax.specs.Typing.{Scope, own_method, names_faults, answer_faults, statement_faults, statements_faults, alternatives_faults, expression_faults, needs, value_needs, vars_faults, too_many, outcome_faults, behind_value, method_scope, method_tree_faults, class_scope, methods_faults, classes_faults, faults, contains, size}
+use Rattle.run_words.specs.Sorts.{BoolSort}
+use Rattle.code_semantics.specs.declared.unit.Instr.{Instr}
+use Rattle.code_semantics.specs.declared.unit.Instr.TheVariants as I
+use Rattle.code_semantics.specs.declared.unit.ClassCode.{ClassCode}
+use Rattle.code_semantics.specs.Proper.{IsProper}
+use Rattle.code_semantics.specs.Shaped.{IsListOf, IsOptionOf, IsShortList, AlternativeIsShort, InstrIsShort, MethodIsShort, ClassIsShort, MethodKindsAreShort, ClassKindsAreShort, IsShort}
 use Rattle.pool_compile.specs.Code.{Numbering, name, push, load, store, number_of, expression_code, expressions_code, guards_code, statement_code, statements_code, alternatives_code, alternatives_at, answer_names, more, expression_words, guards_words, statement_words, statements_words, works_words, names_of, post_code, method_code_of, class_code, code}
 use Rattle.pool_compile.specs.Small.{AreShortMethods, AreShort, AreSmallMethods, IsSmall}
 use Rattle.pool_compile.proofs.Counted.{nil_left, nil_right, no_fault}
@@ -34,18 +37,9 @@ or_later : (a b : Bool) → b ≡ true → (a || b) ≡ true
 or_later true b h = refl
 or_later false b h = h
 
-neither : (a b : Bool) → (a || b) ≡ false → (a ≡ false) × (b ≡ false)
-neither false false h = (refl, refl)
-neither true b h = absurd (let z : true ≡ false = h in cc)
-neither false true h = absurd (let z : true ≡ false = h in cc)
-
 there : (a : Bool) → not a ≡ false → a ≡ true
 there true h = refl
 there false h = absurd (let z : true ≡ false = h in cc)
-
-length_map : {A B : Type 0} (f : A → B) (xs : List A) → length (map f xs) ≡ length xs
-length_map f [] = refl
-length_map f (x ∷ xs) = ap suc (length_map f xs)
 
 each_append : {X : Type 0} (P : X → Type 0) (xs ys : List X) → Each P xs → Each P ys → Each P (xs ++ ys)
 each_append P [] ys a b = b
@@ -83,7 +77,7 @@ module _ (g : Scope) (k : ClassTree) (own : g.own ≡ Some k) where
   unfolding IsDistinct
   few_names before [] d a h =
       let l = length-le_from_is_member nat_eq_equiv before (map (λ m. m.name.name.0) k.methods) d (all_among _ before a) in
-      let s = length_map (λ (m : MethodTree). m.name.name.0) k.methods in
+      let s = length-map k.methods (λ (m : MethodTree). m.name.name.0) in
       omega (arith, l, s)
   few_names before (n ∷ ns) d a h =
       let f = neither (not (is_some (own_method g n.name.0))) (list_any (λ m. m == n.name.0) before) (no_fault _ n.pos 11 (nil_left _ (names_faults g (n.name.0 ∷ before) ns) h)) in
@@ -163,7 +157,7 @@ module _ (num : Numbering) where
     unfolding IsDistinct
     names_short ns h =
         let l = few_names g k own [] ns tt tt h in
-        let s = length_map (λ (n : Named). n.name) ns in
+        let s = length-map ns (λ (n : Named). n.name) in
         omega (arith, l, s, many)
 
     answer_short : (o : Option (List Named)) → answer_faults g o ≡ [] → IsOptionOf IsShortList (answer_names o)
@@ -268,7 +262,7 @@ module _ (k : ClassTree) (many : length k.methods ≤ 64) (g : Scope) (own : g.o
   methods_short before (m ∷ ms) h small short =
       let a = method_parts g before m ms h in
       let rest = methods_short (m.name.name.0 ∷ before) ms a.rest small.1 short.1 in
-      let s = length_map (λ (v : Var). v.kind) (m.params ++ m.locals) in
+      let s = length-map (m.params ++ m.locals) (λ (v : Var). v.kind) in
       let few = small.0.0 in
       (((short.0, method_short m a.method small.0.1), rest.0), (omega (arith, s, few), rest.1))
 
@@ -282,9 +276,9 @@ classes_short p before (k ∷ ks) h small short few =
     let a = class_parts p before k ks h in
     let rest = classes_short p (k.name.name.0 ∷ before) ks a.rest small.1 short.1 (λ j c e. few (suc j) c e) in
     let l = few 0 (class_code k) refl in
-    let n = length_map (method_code_of (names_of k.vars)) k.methods in
-    let o = length_map method_kinds k.methods in
-    let s = length_map (λ (v : Var). v.kind) k.vars in
+    let n = length-map k.methods (method_code_of (names_of k.vars)) in
+    let o = length-map k.methods method_kinds in
+    let s = length-map k.vars (λ (v : Var). v.kind) in
     let many : length k.methods ≤ 64 = omega (arith, l, n) in
     let g = class_scope p k in
     let methods = methods_short k many g refl [] k.methods a.methods small.0.2 short.0.1 in
@@ -299,7 +293,7 @@ pub file_is_short : (names : List Text) (p : ProgramTree) → ∥ IsGrammatical 
     → IsShort (file_of names p)
 file_is_short names p m none proper short few =
     let each = classes_short p [] p none (program_small p none (written p m)) short (λ j c e. (proper.each j c e).limits.1) in
-    let n = length_map class_code p in
-    let q = length_map class_kinds p in
+    let n = length-map p class_code in
+    let q = length-map p class_kinds in
     let c = proper.classes.1 in
     record { names = few; classes = (omega (arith, c), each.0); kinds = (omega (arith, c, n, q), each.1) }

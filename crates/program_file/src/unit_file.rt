@@ -1,14 +1,15 @@
 //! The object code file of a program: its code, and the kinds that it declares.
 ghost use Rattle.std.specs.Prelude.{◌≡◌, ◌++◌, map, IfOk, OnOk};
 ghost use Rattle.pool_syntax.specs.TreeOf.{class_tree, method_tree, program_of};
-ghost use Rattle.object_code.specs.Shaped.{IsListOf, IsShaped, IsShort, IsShortList};
+ghost use Rattle.code_semantics.specs.Shaped.{IsListOf, IsShaped, IsShort, IsShortList};
 ghost use Rattle.verified_code.specs.DeclaredKinds.{class_kinds, file_of, kinds_of, method_kinds};
 ghost use Rattle.code_verdict.specs.Verdict.{Good, verdict};
 
 use class_check::Checked;
-use object_code::{ClassKinds, Kinds, MethodKinds, UnitFile};
+use code_semantics::{ClassKinds, Kinds, MethodKinds, UnitFile};
 use pool_compile::compile;
-use pool_syntax::{ClassDecl, Kind, List, Method, Var};
+use pool_syntax::{ClassDecl, Method, Var};
+use run_words::{Kind, List};
 use std::alloc::{AllocError, Global};
 
 /// Adds the kinds of variables.

@@ -1,19 +1,27 @@
-//! The program: the words of the command line, the files of the system, and the two standard sinks.
+//! A search over all runs of a program: from the words, the program's text and the two sinks to a status; and the program that
+//! runs it on the words of the command line, the files of the system, and the two standard sinks.
 #![tactic(auto)]
+
+mod answers;
+mod shown;
+mod status;
+mod top;
+mod words;
 
 ghost use Rattle.outside_calls.specs.Reading.{reading};
 ghost use Rattle.outside_calls.specs.Writing.{writing};
 ghost use Rattle.std.specs.Prelude.{◌≡◌, ◌⊎◌, ◌-◌, ◌^◌, ◌<◌, Some, false, IfSome, IsTrue};
 ghost use Rattle.std.specs.Process.{exit_status};
 ghost use Rattle.pool_outside.specs.Outside.{Rose};
-ghost use Rattle.search_driver.specs.Answers.{IsWhole};
-ghost use Rattle.search_driver.specs.Ends.{Ends, IsServed, StaysWithin};
-ghost use Rattle.search_driver.specs.Statuses.{code_of};
-ghost use Rattle.search_driver.specs.Words.{Search, search_of, texts_of};
+ghost use Rattle.search_cli.specs.Answers.{IsWhole};
+ghost use Rattle.search_cli.specs.Ends.{Ends, IsServed, StaysWithin};
+ghost use Rattle.search_cli.specs.Statuses.{code_of};
+ghost use Rattle.search_cli.specs.Words.{Search, search_of, texts_of};
 
+use crate::status::Status;
+use crate::top::pool_search;
 use cli_words::behind_name;
 use pool_outside::{Files, Sink, StdFiles, StdSink};
-use search_driver::{Status, pool_search};
 use std::alloc::Global;
 use std::env;
 use std::process::ExitCode;

@@ -1,40 +1,36 @@
 -- The code of a body and of a method without class faults is well sorted.
 use Rattle.std.proofs.Common.{◌≡◌, ◌⊎◌, inl, inr, refl, sym, ap, subst, ◌∙◌, IsTrue, ℕ, zero, suc, ◌+◌, ◌<◌, ◌≤◌, List, [], ◌∷◌, ◌++◌, length, Option, Some, None, is_some, true, false, arith, length-append, append_assoc}
 use Rattle.std.specs.Prelude.{slice_get, ◌^◌, if◌then◌else◌}
-use Rattle.pool_syntax.specs.Tokens.{Text}
-use Rattle.pool_syntax.specs.declared.words.Value.TheVariants as V
+use Rattle.run_words.specs.Text.{Text}
+use Rattle.run_words.specs.declared.words.Value.TheVariants as V
 use Rattle.pool_syntax.specs.declared.tree.Var.{Var}
-use Rattle.pool_syntax.specs.declared.tree.Kind.{Kind}
+use Rattle.run_words.specs.declared.words.Kind.{Kind}
 use Rattle.pool_syntax.specs.Terms as T
 use Rattle.pool_syntax.specs.Terms.{Expression, Statements, MethodTree, ClassTree, ProgramTree}
 use Rattle.pool_syntax.specs.Classes.{class_of}
 use Rattle.pool_syntax.specs.Spelled.{are_spelled_statements}
 use Rattle.pool_syntax.specs.Typing as Typing
-use Rattle.pool_syntax.specs.Typing.{Sort, NilSort, sort_of, behind_value}
+use Rattle.run_words.specs.Sorts.{Sort, NilSort}
+use Rattle.pool_syntax.specs.Typing.{sort_of, behind_value}
 use Rattle.pool_relation.specs.Written.{is_value_for}
 use Rattle.pool_relation.proofs.Laws.{is_broken, Nothing, TypedExpression, TypedStatements, AllKnown, OutcomeKnown, Known}
 use Rattle.pool_relation.proofs.typing.TypedTerm.{fits_outcome, gives}
-use Rattle.mesh_semantics.proofs.Laws.{same_some}
-use Rattle.object_code.specs.declared.unit.Instr.{Instr}
-use Rattle.object_code.specs.declared.unit.Instr.TheVariants as I
-use Rattle.object_code.specs.declared.file.MethodKinds.{MethodKinds}
-use Rattle.object_code.specs.Proper.{Exists, Chain, IsProperCode}
+use Rattle.run_words.proofs.Laws.{same_some, there_at}
+use Rattle.code_semantics.specs.declared.unit.Instr.{Instr}
+use Rattle.code_semantics.specs.declared.unit.Instr.TheVariants as I
+use Rattle.code_semantics.specs.declared.file.MethodKinds.{MethodKinds}
+use Rattle.code_semantics.specs.Proper.{Exists, Chain, IsProperCode}
 use Rattle.pool_compile.specs.Code.{Numbering, more, expression_words, statements_words, class_code, names_of, method_code_of, statements_code, expression_code, post_code, method_instrs, body_instrs}
 use Rattle.pool_compile.proofs.Coded.{Has, front, back, has_all}
 use Rattle.code_verdict.specs.Sorts.{Stack, CodeScope, value_sort, fits_sort, left_by}
 use Rattle.code_verdict.specs.Verified.{IsText, last_instr, EndsRight, IsWellSorted}
 use Rattle.verified_code.specs.DeclaredKinds.{kinds_of, method_kinds, file_of}
-use Rattle.mesh_semantics.specs.Partial.{◌>>=◌}
+use Rattle.run_words.specs.Partial.{◌>>=◌}
 use Rattle.verified_code.proofs.Stacks.{S, AllFine, join, fine_here, reached_is, after_one, Good, good_seq, good_one, good_nil}
 use Rattle.verified_code.proofs.Spans.{more_is, Comes, comes_stack, AllAtMost, join_at_most, at_most_at, Met, Span, span_nil, span_seq, span_one}
 use Rattle.verified_code.proofs.Found.{known_sort}
 use Rattle.verified_code.proofs.PlainCode.{IsPlain, ArePlain, plain_at, statements_plain, expression_plain}
 use Rattle.verified_code.proofs.CompiledStacks.{G, CG, num, whole, fits_of_need, have_choices, expression_good, statements_good, expression_span, statements_span}
-
-get_there : {X : Type 0} (xs : List X) (n : ℕ) → n < length xs → (x : X) × (slice_get xs n ≡ Some x)
-get_there [] n h = absurd (omega (arith, h))
-get_there (x ∷ xs) zero h = (x, refl)
-get_there (x ∷ xs) (suc n) h = get_there xs n (omega (arith, h))
 
 -- the end of a list
 last_of : (a : List Instr) (i : Instr) → last_instr (a ++ i ∷ []) ≡ Some i
@@ -66,7 +62,7 @@ module _ (g : CodeScope) (c : List Instr) (ok : AllFine g c 0 c) (some : 0 < len
     one_stack = λ at s t x y. same_some (sym (reached_is g c ok some x.0 at s x.1).0 ∙ (reached_is g c ok some y.0 at t y.1).0);
     taken = λ at s x.
         let r = reached_is g c ok some x.0 at s x.1 in
-        let i = get_there c at r.1 in
+        let i = there_at c at r.1 in
         let f = fine_here g c at i.0 ok i.1 in
         let same : f.before ≡ s = same_some (sym f.is_before ∙ r.0) in (
           subst (λ (z : Stack). length z ≤ 64) same f.few,

@@ -1,31 +1,33 @@
 -- The file of a program without class faults is verified.
 use Rattle.std.proofs.Common.{◌≡◌, ◌≢◌, refl, sym, ap, subst, ◌∙◌, IsTrue, ℕ, zero, suc, ◌+◌, ◌==◌, ◌<◌, List, [], ◌∷◌, ◌++◌, length, map, Option, Some, None, is_some, Bool, true, false, ◌&&◌, ◌||◌, arith}
 use Rattle.std.specs.Prelude.{slice_get, ◌^◌}
-use Rattle.pool_syntax.specs.Tokens.{Text}
+use Rattle.std.proofs.lemmas.Option.{slice_get_within}
+use Rattle.std.proofs.lemmas.List.{length-map}
+use Rattle.run_words.specs.Text.{Text}
 use Rattle.pool_syntax.specs.declared.tree.Var.{Var}
-use Rattle.pool_syntax.specs.declared.tree.Kind.{Kind}
-use Rattle.pool_syntax.specs.declared.tree.Kind.TheVariants as K
+use Rattle.run_words.specs.declared.words.Kind.{Kind}
+use Rattle.run_words.specs.declared.words.Kind.TheVariants as K
 use Rattle.pool_syntax.specs.Terms.{MethodTree, ClassTree, ProgramTree}
 use Rattle.pool_syntax.specs.Classes.{class_of, named_method}
-use Rattle.pool_syntax.specs.Spelled.{is_name, is_outcome, are_variables, is_spelled_expression, are_spelled_statements, are_spelled_methods, is_spelled}
+use Rattle.run_words.specs.Keywords.{is_name}
+use Rattle.pool_syntax.specs.Spelled.{is_outcome, are_variables, is_spelled_expression, are_spelled_statements, are_spelled_methods, is_spelled}
 use Rattle.pool_syntax.specs.Typing as Typing
 use Rattle.pool_syntax.specs.Typing.{Scope, contains, fault_if, classes_faults, methods_faults, class_scope, faults}
-use Rattle.mesh_semantics.proofs.Laws.{first, second, equals, same_some}
-use Rattle.mesh_semantics.specs.Sound.{Each}
+use Rattle.run_words.proofs.Laws.{first, second, equals, same_some}
+use Rattle.run_words.specs.Tables.{Each}
 use Rattle.pool_relation.specs.Written.{is_written}
 use Rattle.pool_relation.proofs.Laws.{is_broken, AllKnown, OutcomeKnown, Known, class_known}
 use Rattle.pool_relation.proofs.typing.Checked.{CheckedMethod, CheckedClass, class_checked}
-use Rattle.object_code.specs.declared.unit.MethodCode.{MethodCode}
-use Rattle.object_code.specs.declared.file.MethodKinds.{MethodKinds}
-use Rattle.object_code.specs.Proper.{IsProperClass, IsProper}
-use Rattle.object_code.specs.Shaped.{AreShapedMethods, AreShapedClasses, IsShaped}
-use Rattle.object_code.specs.Step.{method_from, class_from}
+use Rattle.code_semantics.specs.declared.unit.MethodCode.{MethodCode}
+use Rattle.code_semantics.specs.declared.file.MethodKinds.{MethodKinds}
+use Rattle.code_semantics.specs.Proper.{IsProperClass, IsProper}
+use Rattle.code_semantics.specs.Shaped.{AreShapedMethods, AreShapedClasses, IsShaped}
+use Rattle.code_semantics.specs.Step.{method_from, class_from}
 use Rattle.pool_compile.specs.Code.{names_of, method_code_of, class_code, code}
 use Rattle.pool_compile.specs.Small.{AreShortMethods, IsShortClass, AreShort}
 use Rattle.pool_compile.proofs.Laws.{program_proper}
 use Rattle.pool_compile.proofs.Counted.{nil_left, no_fault}
-use Rattle.pool_compile.proofs.Limits.{method_parts}
-use Rattle.pool_compile.proofs.Limits.{class_parts as parts_of_class}
+use Rattle.pool_compile.proofs.Limits.{method_parts, class_parts as parts_of_class}
 use Rattle.code_verdict.specs.Sorts.{Declared, declared_at, scope_by}
 use Rattle.code_verdict.specs.Verified.{KindExists, ResultExists, IsMethodHeading, IsHeading, HasWellSorted, IsWellSorted, IsVerified}
 use Rattle.verified_code.specs.DeclaredKinds.{kinds_of, method_kinds, class_kinds, file_of}
@@ -58,15 +60,6 @@ shaped_classes (k ∷ ks) = (kinds_length k.vars, shaped_methods (names_of k.var
 
 pub file_is_shaped : (names : List Text) (p : ProgramTree) → IsShaped (file_of names p)
 file_is_shaped names p = shaped_classes p
-
-below : {X : Type 0} (xs : List X) (n : ℕ) (x : X) → slice_get xs n ≡ Some x → n < length xs
-below [] n x e = absurd (let z : None ≡ Some x = e in cc)
-below (y ∷ xs) zero x e = omega arith
-below (y ∷ xs) (suc n) x e = let h = below xs n x e in omega (arith, h)
-
-length_map : {A B : Type 0} (f : A → B) (xs : List A) → length (map f xs) ≡ length xs
-length_map f [] = refl
-length_map f (x ∷ xs) = ap suc (length_map f xs)
 
 not_first : (x y : ℕ) (before : List ℕ) → contains (x ∷ before) y ≡ false → ((x == y) ≡ false) × (contains before y ≡ false)
 not_first x y before h = by (x == y) refl
@@ -255,9 +248,9 @@ module _ (names : List Text) (p : ProgramTree) where
 
       heading : IsHeading (file_of names p) j (class_code k) (class_kinds k)
       heading =
-          let n = below p j k at in
+          let n = slice_get_within p j k at in
           let few = proper.classes.1 in
-          let l = length_map class_code p in
+          let l = length-map p class_code in
           record {
             name = words.name;
             first = at_first.1.0 ∙ ap Some (let z : 0 + j ≡ j = omega arith in z);

@@ -1,30 +1,32 @@
 -- The code of an expression without class faults leaves one operand more, of its sort; that of statements leaves the operands that stand below them, at most one; and how many stand at once.
 use Rattle.std.proofs.Common.{◌≡◌, ◌⊎◌, inl, inr, refl, sym, ap, subst, ◌∙◌, IsTrue, ℕ, zero, suc, ◌+◌, ◌==◌, ◌<◌, ◌≤◌, List, [], ◌∷◌, ◌++◌, length, Option, Some, None, is_some, Bool, true, false, not, ◌&&◌, ◌||◌, arith, length-append}
 use Rattle.std.specs.Prelude.{slice_get, map, replicate, nat_le, if◌then◌else◌}
-use Rattle.pool_syntax.specs.Tokens.{Text}
-use Rattle.pool_syntax.specs.declared.words.Value.{Value}
-use Rattle.pool_syntax.specs.declared.words.Value.TheVariants as V
-use Rattle.pool_syntax.specs.declared.words.Op.{Op}
-use Rattle.pool_syntax.specs.declared.words.Op.TheVariants as O
+use Rattle.pool_compile.proofs.Laws.{op_whole}
+use Rattle.run_words.specs.Text.{Text}
+use Rattle.run_words.specs.declared.words.Value.{Value}
+use Rattle.run_words.specs.declared.words.Value.TheVariants as V
+use Rattle.run_words.specs.declared.words.Op.{Op}
+use Rattle.run_words.specs.declared.words.Op.TheVariants as O
 use Rattle.pool_syntax.specs.declared.tree.Var.{Var}
 use Rattle.pool_syntax.specs.Terms as T
 use Rattle.pool_syntax.specs.Terms.{Expression, Expressions, Statement, Statements, Alternatives, MethodTree, ClassTree, ProgramTree}
 use Rattle.pool_syntax.specs.Classes.{class_of, named_method}
-use Rattle.pool_syntax.specs.Values.{is_prefix}
+use Rattle.run_words.specs.Values.{is_prefix}
 use Rattle.pool_syntax.specs.Typing as Typing
-use Rattle.pool_syntax.specs.Typing.{Sort, IntSort, BoolSort, ClassSort, NilSort, NoSort, BrokenSort, Scope, class_scope, sort_of, op_sort, operand_sort, is_same_sort, is_open, is_comparable, var_of, is_broken_name, name_sort, own_method, params_of, sent_method, methods_of, size, contains}
+use Rattle.run_words.specs.Sorts.{Sort, IntSort, BoolSort, ClassSort, NilSort, NoSort, BrokenSort, op_sort, operand_sort}
+use Rattle.pool_syntax.specs.Typing.{Scope, class_scope, sort_of, is_comparable, var_of, is_broken_name, name_sort, own_method, params_of, sent_method, methods_of, size, contains}
 use Rattle.pool_relation.specs.Typed.{has_room}
 use Rattle.pool_relation.proofs.Laws.{is_broken, Nothing, TypedExpression, TypedStatements, AllKnown, OutcomeKnown, MethodKnown, Known}
 use Rattle.pool_relation.proofs.typing.TypedTerm.{Holds, past, has_no_sort, fits_need, fit_operands, takes, is_destination, TypedArguments, TypedStatement, TypedAlternatives}
-use Rattle.mesh_semantics.proofs.Laws.{first, second, equal, equals, same_some}
-use Rattle.mesh_semantics.specs.Partial.{◌>>=◌, ◌>>◌, require}
-use Rattle.object_code.specs.declared.unit.Instr.{Instr}
-use Rattle.object_code.specs.declared.unit.Instr.TheVariants as I
-use Rattle.object_code.specs.declared.file.MethodKinds.{MethodKinds}
-use Rattle.object_code.specs.declared.unit.AltCode.{AltCode}
-use Rattle.pool_syntax.specs.declared.tree.Kind.TheVariants as K
+use Rattle.run_words.proofs.Laws.{first, second, equal, equals, same_some}
+use Rattle.run_words.specs.Partial.{◌>>=◌, ◌>>◌, require}
+use Rattle.code_semantics.specs.declared.unit.Instr.{Instr}
+use Rattle.code_semantics.specs.declared.unit.Instr.TheVariants as I
+use Rattle.code_semantics.specs.declared.file.MethodKinds.{MethodKinds}
+use Rattle.code_semantics.specs.declared.unit.AltCode.{AltCode}
+use Rattle.run_words.specs.declared.words.Kind.TheVariants as K
 use Rattle.pool_compile.specs.Code.{more, expression_words, expressions_words, guards_words, statement_words, statements_words, works_words, Numbering, name, push, load, store, number_of, names_of, count, class_code, expression_code, expressions_code, guards_code, statement_code, statements_code, alternatives_code, alternatives_at}
-use Rattle.object_code.specs.Proper.{nexts, IsAmong}
+use Rattle.code_semantics.specs.Proper.{nexts, IsAmong}
 use Rattle.verified_code.proofs.Spans.{more_is, Comes, comes_stack, comes_next, AtMost, AllAtMost, more_at_most, join_at_most, Met, Span, span_nil, span_seq, span_one, span_tail}
 use Rattle.pool_compile.proofs.Coded.{Has, front, back, works_length}
 use Rattle.code_verdict.specs.Sorts.{Stack, CodeScope, kind_sort, result_sort, temps_by, scope_by, has_value, fits_sort, is_alike, pop_fitting, pop_alike, pop_value, pop_arguments, pop_any, pop_sent, push_sort, asked_of, operated_sorts, is_comparison, left_by}
@@ -105,15 +107,6 @@ room h q = by (nat_le 64 h) refl q
     by : (b : Bool) → nat_le 64 h ≡ b → not b ≡ true → h < 64
     by true e i = absurd (grind (arith, i))
     by false e i = grind (arith, e)
-
-op_whole : (op : Op) → is_broken (op_sort op) ≡ false
-op_whole O.Add = refl
-op_whole O.Sub = refl
-op_whole O.Mul = refl
-op_whole O.Div = refl
-op_whole O.Rem = refl
-op_whole O.Neg = refl
-op_whole _ = refl
 
 operand_whole : (op : Op) → is_broken (operand_sort op) ≡ false
 operand_whole O.And = refl

@@ -1,14 +1,14 @@
 -- Configurations whose values fit, where objects and messages change.
 use Rattle.std.proofs.Common.{◌≡◌, ◌≢◌, ◌⊎◌, inl, inr, refl, sym, ap, subst, ◌∙◌, ℕ, List, Some}
 use Rattle.std.specs.Prelude.{slice_get}
-use Rattle.object_code.specs.declared.unit.CodeObject.{CodeObject}
-use Rattle.object_code.specs.declared.file.UnitFile.{UnitFile}
-use Rattle.mesh_semantics.proofs.Laws.{decide, same_some, each_map, find_put_same, find_put_other, given_by}
-use Rattle.mesh_semantics.proofs.Maps.{messages_same, messages_other}
+use Rattle.run_words.specs.declared.frames.CodeObject.{CodeObject}
+use Rattle.code_semantics.specs.declared.file.UnitFile.{UnitFile}
+use Rattle.run_words.proofs.Laws.{decide, same_some, find_put_same, find_put_other, given_by, each_map}
+use Rattle.mesh_semantics.proofs.MessageMaps.{messages_same, messages_other}
 use Rattle.mesh_semantics.specs.Config.{Config, object_of, messages_of, put_object, put_messages}
-use Rattle.mesh_semantics.specs.Message.{Message}
-use Rattle.mesh_semantics.specs.Partial.{◌>>=◌}
-use Rattle.mesh_semantics.specs.Sound.{Each}
+use Rattle.run_words.specs.Message.{Message}
+use Rattle.run_words.specs.Partial.{◌>>=◌}
+use Rattle.run_words.specs.Tables.{Each}
 use Rattle.coded_objects.specs.Coded.{Placed, class_number}
 use Rattle.code_verdict.specs.Sorts.{declared_at}
 use Rattle.verified_code.specs.TypedCode.{IsSortedObject, class_in, IsMessageFor}

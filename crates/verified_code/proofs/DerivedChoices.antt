@@ -3,10 +3,10 @@ use Rattle.std.proofs.Common.{◌≡◌, refl, IsTrue, ℕ, List, [], ◌∷◌,
 use Rattle.pool_syntax.specs.declared.token.Tok.{Tok}
 use Rattle.pool_syntax.specs.Terms.{Statement, Statements, Done, Then, Alternatives, NoAlts, Alt, MethodTree, ClassTree, ProgramTree}
 use Rattle.pool_syntax.specs.Rules as r
-use Rattle.pool_syntax.specs.Rules.{group, comparison, factor, postfix, primary, Phrase, Tree, Part, Gives, Rule, tree, then, either}
+use Rattle.pool_syntax.specs.Rules.{group, comparison, factor, postfix, primary, Phrase, Tree, Part, SemanticValue, Rule, tree, then, either}
 use Rattle.pool_syntax.specs.Grammar.{rule, then_last, alt_last}
 use Rattle.pool_syntax.specs.Derives.{IsToken, Derives, nothing, token, inner, first, second, IsProgram}
-use Rattle.mesh_semantics.proofs.Laws as b
+use Rattle.run_words.proofs.Laws as b
 use Rattle.verified_code.proofs.CompiledStacks.{is_some_alternative, has_choices, have_choices, works_have_choices}
 use Rattle.verified_code.proofs.CompiledFiles.{methods_have_choices, program_has_choices}
 
@@ -30,17 +30,17 @@ IsChosen (r.more_alts before) alts = AreChosen before → AreChosen alts
 IsChosen _ x = Unit {0}
 
 -- what a part of a rule gives
-abbrev GivesChosen : (part : Part) → Gives part → Type 0
+abbrev GivesChosen : (part : Part) → SemanticValue part → Type 0
 GivesChosen (r.phrase p) y = IsChosen p y
 GivesChosen _ y = Unit {0}
 
 -- a rule that keeps this
 abbrev KeepsChosen : (p : Phrase) → Rule (Tree p) → Type 0
 KeepsChosen p (tree x) = IsChosen p x
-KeepsChosen p (then part rest) = (y : Gives part) → GivesChosen part y → KeepsChosen p (rest y)
+KeepsChosen p (then part rest) = (y : SemanticValue part) → GivesChosen part y → KeepsChosen p (rest y)
 KeepsChosen p (either a c) = KeepsChosen p a × KeepsChosen p c
 
-token_chosen : (ts : List Tok) (part : Part) (i : ℕ) (y : Gives part) → IsToken ts part i y → GivesChosen part y
+token_chosen : (ts : List Tok) (part : Part) (i : ℕ) (y : SemanticValue part) → IsToken ts part i y → GivesChosen part y
 token_chosen ts (r.phrase p) i y t = absurd t
 token_chosen ts _ i y t = tt
 

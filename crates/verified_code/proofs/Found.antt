@@ -2,15 +2,16 @@
 use Rattle.std.proofs.Common.{◌≡◌, refl, ap, ◌∙◌, ℕ, zero, suc, ◌+◌, ◌==◌, List, [], ◌∷◌, ◌++◌, length, Option, Some, None, is_some, Bool, true, false, arith}
 use Rattle.std.specs.Prelude.{slice_get, map, take}
 use Rattle.pool_syntax.specs.declared.tree.Var.{Var}
-use Rattle.pool_syntax.specs.declared.tree.Kind.{Kind}
-use Rattle.pool_syntax.specs.declared.tree.Kind.TheVariants as K
+use Rattle.run_words.specs.declared.words.Kind.{Kind}
+use Rattle.run_words.specs.declared.words.Kind.TheVariants as K
 use Rattle.pool_syntax.specs.Terms.{MethodTree, ClassTree, ProgramTree}
 use Rattle.pool_syntax.specs.Classes.{class_of, named_method}
 use Rattle.pool_syntax.specs.Typing as Typing
-use Rattle.pool_syntax.specs.Typing.{var_of, contains, ClassSort, BrokenSort}
-use Rattle.mesh_semantics.proofs.Laws.{same_some}
+use Rattle.pool_syntax.specs.Typing.{var_of, contains}
+use Rattle.run_words.specs.Sorts.{ClassSort, BrokenSort}
+use Rattle.run_words.proofs.Laws.{same_some}
 use Rattle.pool_relation.proofs.Laws.{is_broken, OutcomeKnown}
-use Rattle.object_code.specs.Step.{method_from, class_from}
+use Rattle.code_semantics.specs.Step.{method_from, class_from}
 use Rattle.pool_compile.specs.Code.{name, names_of, number_of, method_code_of, class_code, code}
 use Rattle.code_verdict.specs.Sorts.{Declared, Signature, kind_sort, result_sort, declared_named, signature_named}
 use Rattle.verified_code.specs.DeclaredKinds.{kinds_of, method_kinds, class_kinds, file_of}

@@ -1,21 +1,21 @@
 -- Frames whose operands fit, and where an instruction leads.
 use Rattle.std.proofs.Common.{◌≡◌, inl, refl, sym, ap, subst, ◌∙◌, IsTrue, ℕ, zero, suc, List, [], ◌∷◌, ◌++◌, length, Option, Some, None, is_some, true, false, if◌then◌else◌}
 use Rattle.std.specs.Prelude.{slice_get}
-use Rattle.pool_syntax.specs.declared.words.Value.{Value}
-use Rattle.pool_syntax.specs.declared.words.Value.TheVariants as V
-use Rattle.pool_syntax.specs.declared.words.Serves.{Serves}
-use Rattle.pool_syntax.specs.declared.words.Serves.TheVariants as S
-use Rattle.pool_syntax.specs.Typing.{IntSort, BoolSort, NilSort}
-use Rattle.mesh_semantics.proofs.Laws.{same_some, given_by}
-use Rattle.object_code.specs.declared.unit.Instr.{Instr}
-use Rattle.object_code.specs.declared.unit.Instr.TheVariants as I
-use Rattle.object_code.specs.declared.unit.Frame.{Frame}
-use Rattle.object_code.specs.declared.file.UnitFile.{UnitFile}
-use Rattle.object_code.specs.Frames.{method_code, code_of, next, post_passed, silent, go_on_with, settled_within, settled}
-use Rattle.object_code.specs.Proper.{nexts, IsAmong}
-use Rattle.object_code.specs.Shaped.{IsShaped}
-use Rattle.object_code.specs.Step.{is_own}
-use Rattle.unit_objects.specs.OfUnit.{HasTemps}
+use Rattle.run_words.specs.declared.words.Value.{Value}
+use Rattle.run_words.specs.declared.words.Value.TheVariants as V
+use Rattle.run_words.specs.declared.words.Serves.{Serves}
+use Rattle.run_words.specs.declared.words.Serves.TheVariants as S
+use Rattle.run_words.specs.Sorts.{IntSort, BoolSort, NilSort}
+use Rattle.run_words.proofs.Laws.{same_some, given_by}
+use Rattle.code_semantics.specs.declared.unit.Instr.{Instr}
+use Rattle.code_semantics.specs.declared.unit.Instr.TheVariants as I
+use Rattle.run_words.specs.declared.frames.Frame.{Frame}
+use Rattle.code_semantics.specs.declared.file.UnitFile.{UnitFile}
+use Rattle.code_semantics.specs.Frames.{method_code, code_of, next, post_passed, silent, go_on_with, settled_within, settled}
+use Rattle.code_semantics.specs.Proper.{nexts, IsAmong}
+use Rattle.code_semantics.specs.Shaped.{IsShaped}
+use Rattle.code_semantics.specs.Step.{is_own}
+use Rattle.code_semantics.specs.OfUnit.{HasTemps}
 use Rattle.code_verdict.specs.Sorts.{Stack, Declared, declared_at, scope_by, left_by, pop_returned}
 use Rattle.code_verdict.specs.Verified.{IsWellSorted, IsVerified}
 use Rattle.verified_code.specs.TypedCode.{Classes, AreOfSorts, AreOfKinds, kinds_of_frame, left_sort, frame_scope, IsSortedFrame, AreSortedFrames}

@@ -1,37 +1,35 @@
 -- Each transition of code of a verified file keeps its configuration typed.
-use Rattle.std.proofs.Common.{◌≡◌, ◌≢◌, ◌⊎◌, inl, inr, refl, sym, ap, subst, ◌∙◌, IsTrue, ℕ, ◌==◌, List, [], ◌∷◌, ◌++◌, Option, Some, None, is_some, is_none, Bool, true, false, not, if◌then◌else◌}
+use Rattle.std.proofs.Common.{◌≡◌, ◌≢◌, ◌⊎◌, inl, inr, refl, sym, ap, subst, ◌∙◌, IsTrue, ℕ, ◌==◌, List, [], ◌∷◌, ◌++◌, Option, Some, None, is_some, is_none, true, false, not, if◌then◌else◌}
 use Rattle.std.specs.Prelude.{◌&&◌, slice_get}
-use Rattle.pool_syntax.specs.declared.words.NameId.{NameId}
-use Rattle.pool_syntax.specs.declared.words.Value.{Value}
-use Rattle.pool_syntax.specs.declared.words.Value.TheVariants as V
-use Rattle.pool_syntax.specs.declared.words.Item.{Item}
-use Rattle.pool_syntax.specs.declared.words.Error.{Error}
-use Rattle.pool_syntax.specs.declared.words.Label.{Label}
-use Rattle.pool_syntax.specs.declared.words.Label.TheVariants as L
-use Rattle.pool_syntax.specs.declared.words.Serves.{Serves}
-use Rattle.pool_syntax.specs.declared.words.Serves.TheVariants as S
-use Rattle.object_code.specs.declared.unit.ClassCode.{ClassCode}
-use Rattle.object_code.specs.declared.unit.CodeObject.{CodeObject}
-use Rattle.object_code.specs.declared.unit.Frame.{Frame}
-use Rattle.object_code.specs.declared.file.UnitFile.{UnitFile}
-use Rattle.object_code.specs.Kinds as C
-use Rattle.object_code.specs.Kinds.{code_kind}
-use Rattle.object_code.specs.Shaped.{IsShaped}
-use Rattle.object_code.specs.Step.{method_named, code_serving, code_given, code_made, is_own}
-use Rattle.mesh_semantics.proofs.Laws.{first, second, equal, equals, decide, same_some, given_by, required, same_values, each_append, find_put_same, find_put_other}
+use Rattle.run_words.specs.declared.words.NameId.{NameId}
+use Rattle.run_words.specs.declared.words.Value.{Value}
+use Rattle.run_words.specs.declared.words.Value.TheVariants as V
+use Rattle.run_words.specs.declared.words.Item.{Item}
+use Rattle.run_words.specs.declared.words.Error.{Error}
+use Rattle.run_words.specs.declared.words.Label.{Label}
+use Rattle.run_words.specs.declared.words.Label.TheVariants as L
+use Rattle.run_words.specs.declared.words.Serves.{Serves}
+use Rattle.run_words.specs.declared.words.Serves.TheVariants as S
+use Rattle.code_semantics.specs.declared.unit.ClassCode.{ClassCode}
+use Rattle.run_words.specs.declared.frames.CodeObject.{CodeObject}
+use Rattle.run_words.specs.declared.frames.Frame.{Frame}
+use Rattle.code_semantics.specs.declared.file.UnitFile.{UnitFile}
+use Rattle.code_semantics.specs.Kinds as C
+use Rattle.code_semantics.specs.Kinds.{code_kind}
+use Rattle.code_semantics.specs.Shaped.{IsShaped}
+use Rattle.code_semantics.specs.Step.{method_named, code_serving, code_given, code_made, is_own}
+use Rattle.run_words.proofs.Laws.{first, second, equal, equals, decide, same_some, given_by, required, same_values, find_put_same, find_put_other, each_append}
 use Rattle.mesh_semantics.proofs.Basics.{running_gives}
 use Rattle.mesh_semantics.specs.Act.{id}
-use Rattle.mesh_semantics.specs.Same.{are_same}
-use Rattle.mesh_semantics.specs.Message.{Message}
-use Rattle.mesh_semantics.specs.Kind.{is_local, makes, calls, posts, returns, waits_on, writes, fails, has_name, alternatives}
+use Rattle.run_words.specs.Same.{are_same}
+use Rattle.mesh_semantics.specs.Kind.{is_local, makes, calls, posts, returns, waits_on, writes, fails, alternatives}
 use Rattle.mesh_semantics.specs.Config.{Config, object_of, messages_of, put_object, put_messages}
 use Rattle.mesh_semantics.specs.Moves.{running, offered, numbered, can_pick, has_message, first_message, without_message, move}
 use Rattle.mesh_semantics.specs.Lawful.{Lawful}
-use Rattle.mesh_semantics.specs.Sound.{Each}
-use Rattle.unit_objects.specs.OfUnit.{HasTemps, AreFramesOf, IsChoosing}
+use Rattle.code_semantics.specs.OfUnit.{HasTemps, AreFramesOf, IsChoosing}
 use Rattle.coded_objects.specs.Coded.{Placed, placed, class_number, coded}
 use Rattle.coded_objects.specs.OfCode.{Names, is_for, method_number, number_in, methods_for, serving_for}
-use Rattle.coded_objects.proofs.Laws.{code_lawful}
+use Rattle.coded_objects.proofs.Laws.{code_lawful, each_left}
 use Rattle.coded_objects.proofs.LawfulCode.{first_there}
 use Rattle.coded_objects.proofs.Tested.{Chooses, local_is, new_is, send_is, async_is, return_is, wait_is, write_is, offered_is, pick_is}
 use Rattle.code_verdict.specs.Sorts.{Declared, Signature, declared_at, declared_named, signature_named, result_sort}
@@ -43,15 +41,6 @@ use Rattle.verified_code.proofs.Steps.{Picks, Leaves, signature_is}
 use Rattle.verified_code.proofs.ProperUnits.{verified_is_proper}
 use Rattle.verified_code.proofs.Objects.{its_class, KeptBy, kept_of, served_of, given_class, object_grows, named_is, made_sorted}
 use Rattle.verified_code.proofs.Configs.{Extends, AreSorted, class_at, grows, messages_grow, extends_put, sorted_put, sorted_messages}
-
--- the messages without the first that is taken
-each_left : (P : Message → Type 0) (names : List ℕ) (ms : List Message) → Each P ms → Each P (without_message names ms)
-each_left P names [] h = tt
-each_left P names (m ∷ ms) h = by (has_name names m.method) refl (each_left P names ms h.1)
-  where
-    by : (b : Bool) → has_name names m.method ≡ b → Each P (without_message names ms) → Each P (without_message names (m ∷ ms))
-    by true e k = rw e h.1
-    by false e k = rw e (h.0, k)
 
 module _ (f : UnitFile) (shaped : IsShaped f) (good : IsVerified f) (c : Config Placed) (w : IsTypedCode f c) where
   sorted : AreSorted f c

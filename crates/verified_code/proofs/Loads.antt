@@ -4,20 +4,20 @@ use Rattle.std.proofs.Math.Logic.{∥∥₁_elim}
 use denote.Struct.Props.{props}
 use Rattle.std.specs.Prelude.{bytes_eq, if◌then◌else◌}
 use Rattle.std.proofs.lemmas.Slice.Eq.{bytes_eq-Decides}
-use Rattle.pool_syntax.specs.Tokens.{Text}
-use Rattle.pool_syntax.specs.Table.{is_among, is_distinct}
+use Rattle.run_words.specs.Text.{Text}
+use Rattle.run_words.specs.Table.{is_among, is_distinct}
 use Rattle.pool_syntax.specs.Terms.{ProgramTree}
 use Rattle.pool_syntax.specs.Spelled.{IsGrammatical, is_spelled}
-use Rattle.pool_syntax.specs.declared.words.Event.{Event}
-use Rattle.pool_syntax.specs.declared.words.Placement.{Placement}
-use Rattle.mesh_semantics.proofs.Laws.{first, second}
+use Rattle.run_words.specs.declared.words.Event.{Event}
+use Rattle.run_words.specs.declared.words.Placement.{Placement}
+use Rattle.run_words.proofs.Laws.{first, second, not_true, neither}
 use Rattle.mesh_semantics.specs.Config.{Config}
 use Rattle.mesh_semantics.specs.Record.{start, record_of, record_on_wires}
-use Rattle.object_code.specs.declared.file.UnitFile.{UnitFile}
+use Rattle.code_semantics.specs.declared.file.UnitFile.{UnitFile}
 use Rattle.object_code.specs.FileBytes.{file_bytes}
 use Rattle.object_code.specs.Decode.{first_twice, Says, unless_twice, decode}
-use Rattle.object_code.specs.Shaped.{IsWritable}
-use Rattle.object_code.specs.Suits.{Suits}
+use Rattle.code_semantics.specs.Shaped.{IsWritable}
+use Rattle.code_semantics.specs.Suits.{Suits}
 use Rattle.object_code.proofs.Laws.{decode_encode}
 use Rattle.placed_terms.specs.Terms.{terms}
 use Rattle.pool_compile.specs.Code.{code}
@@ -44,15 +44,6 @@ differ_too x y h = by (bytes_eq x y) refl
     by false e = e
     by true e = absurd (let z : true ≡ false = sym ((bytes_eq-Decides y x).1 (sym ((bytes_eq-Decides x y).0 e))) ∙ h in cc)
 
-or_false : (a b : Bool) → (a || b) ≡ false → (a ≡ false) × (b ≡ false)
-or_false false false h = (refl, refl)
-or_false true b h = absurd (let z : true ≡ false = h in cc)
-or_false false true h = absurd (let z : true ≡ false = h in cc)
-
-not_false : (a : Bool) → not a ≡ true → a ≡ false
-not_false false h = refl
-not_false true h = absurd (let z : false ≡ true = h in cc)
-
 -- none of the texts stands before
 abbrev Apart : List Text → List Text → Type 0
 Apart before [] = Unit {0}
@@ -61,13 +52,13 @@ Apart before (x ∷ xs) = (is_among before x ≡ false) × Apart before xs
 apart_more : (before xs : List Text) (w : Text) → is_among xs w ≡ false → Apart before xs → Apart (w ∷ before) xs
 apart_more before [] w h a = tt
 apart_more before (x ∷ xs) w h a =
-    let o = or_false (bytes_eq x w) (is_among xs w) h in
+    let o = neither (bytes_eq x w) (is_among xs w) h in
     (ap (λ b. b || is_among before x) (differ_too w x o.0) ∙ a.0, apart_more before xs w o.1 a.1)
 
 no_text_twice : (n : ℕ) (before xs : List Text) → Apart before xs → is_distinct xs ≡ true → first_twice n before xs ≡ None
 no_text_twice n before [] a h = refl
 no_text_twice n before (x ∷ xs) a h =
-    let d = not_false (is_among xs x) (first (not (is_among xs x)) (is_distinct xs) h) in
+    let d = not_true (is_among xs x) (first (not (is_among xs x)) (is_distinct xs) h) in
     ap (λ b. if b then Some n else first_twice (suc n) (x ∷ before) xs) a.0
     ∙ no_text_twice (suc n) (x ∷ before) xs (apart_more before xs x d a.1) (second (not (is_among xs x)) (is_distinct xs) h)
 

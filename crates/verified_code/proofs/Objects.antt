@@ -1,21 +1,22 @@
 -- Objects of a verified file whose values fit: each step, and new ones.
 use Rattle.std.proofs.Common.{◌≡◌, refl, sym, ap, subst, ◌∙◌, ℕ, suc, ◌+◌, ◌==◌, List, [], ◌∷◌, Option, Some, None, Bool, true, false, arith}
 use Rattle.std.specs.Prelude.{slice_get}
-use Rattle.pool_syntax.specs.declared.words.NameId.{NameId}
-use Rattle.pool_syntax.specs.declared.words.Value.{Value}
-use Rattle.pool_syntax.specs.declared.words.Serves.{Serves}
-use Rattle.pool_syntax.specs.declared.words.Serves.TheVariants as S
-use Rattle.mesh_semantics.proofs.Laws.{equal, same_some}
-use Rattle.object_code.specs.declared.unit.ClassCode.{ClassCode}
-use Rattle.object_code.specs.declared.unit.Frame.{Frame}
-use Rattle.object_code.specs.declared.unit.CodeObject.{CodeObject}
-use Rattle.object_code.specs.declared.unit.Unit.{Unit as Code}
-use Rattle.object_code.specs.declared.file.UnitFile.{UnitFile}
-use Rattle.object_code.specs.Frames.{settled}
-use Rattle.object_code.specs.Kinds as C
-use Rattle.object_code.specs.Kinds.{frames_kind, code_kind}
-use Rattle.object_code.specs.Shaped.{IsShaped}
-use Rattle.object_code.specs.Step.{Numbered, method_named, method_serving, code_serving, frames_given, code_given, padded, placed_of, code_placed, placed_at, class_from, code_made, is_own}
+use Rattle.run_words.specs.declared.words.NameId.{NameId}
+use Rattle.run_words.specs.declared.words.Value.{Value}
+use Rattle.run_words.specs.declared.words.Serves.{Serves}
+use Rattle.run_words.specs.declared.words.Serves.TheVariants as S
+use Rattle.run_words.proofs.Laws.{equal, same_some}
+use Rattle.code_semantics.specs.declared.unit.ClassCode.{ClassCode}
+use Rattle.run_words.specs.declared.frames.Frame.{Frame}
+use Rattle.run_words.specs.declared.frames.CodeObject.{CodeObject}
+use Rattle.code_semantics.specs.declared.unit.Unit.{Unit as Code}
+use Rattle.code_semantics.specs.declared.file.UnitFile.{UnitFile}
+use Rattle.code_semantics.specs.Frames.{settled}
+use Rattle.code_semantics.specs.Kinds as C
+use Rattle.code_semantics.specs.Kinds.{frames_kind, code_kind}
+use Rattle.code_semantics.specs.Shaped.{IsShaped}
+use Rattle.code_semantics.specs.Step.{Numbered, method_named, method_serving, code_serving, frames_given, code_given, placed_of, code_placed, placed_at, class_from, code_made, is_own}
+use Rattle.run_words.specs.Operands.{padded}
 use Rattle.coded_objects.specs.Coded.{class_number}
 use Rattle.code_verdict.specs.Sorts.{Declared, Signature, declared_at, declared_named, signature_named}
 use Rattle.code_verdict.specs.Verified.{IsVerified}

@@ -1,13 +1,12 @@
 -- Operands of the sorts of a stack, and what is left of both.
 use Rattle.std.proofs.Common.{◌≡◌, ◌⊎◌, inl, inr, refl, sym, ap, subst, ℕ, zero, suc, List, [], ◌∷◌, length, Option, Some, None, Bool, true, false}
 use Rattle.std.specs.Prelude.{slice_get, slice_set, take, if◌then◌else◌}
-use Rattle.pool_syntax.specs.declared.words.Value.{Value}
-use Rattle.pool_syntax.specs.declared.words.Value.TheVariants as V
-use Rattle.pool_syntax.specs.declared.tree.Kind.{Kind}
-use Rattle.pool_syntax.specs.Typing.{Sort, IntSort, BoolSort, ClassSort, NilSort, NoSort, BrokenSort, is_same_sort}
-use Rattle.mesh_semantics.proofs.Laws.{equal, same_some, given_by}
-use Rattle.object_code.specs.Frames.{top, below, taken, dropped}
-use Rattle.object_code.specs.Step.{nth, padded}
+use Rattle.run_words.specs.declared.words.Value.{Value}
+use Rattle.run_words.specs.declared.words.Value.TheVariants as V
+use Rattle.run_words.specs.declared.words.Kind.{Kind}
+use Rattle.run_words.specs.Sorts.{Sort, IntSort, BoolSort, ClassSort, NilSort, NoSort, BrokenSort, is_same_sort}
+use Rattle.run_words.proofs.Laws.{equal, same_some, given_by}
+use Rattle.run_words.specs.Operands.{top, below, taken, dropped, nth, padded}
 use Rattle.code_verdict.specs.Sorts.{Stack, kind_sort, result_sort, value_sort, has_value, fits_sort, is_alike, pop_fitting, pop_value, pop_any, pop_alike, pop_arguments, push_sort}
 use Rattle.verified_code.specs.TypedCode.{Classes, IsOfSort, AreOfSorts, AreOfKinds}
 

@@ -1,17 +1,17 @@
 -- What operators make of operands, and what they leave of their sorts.
-use Rattle.mesh_semantics.proofs.Laws.{given_by}
+use Rattle.run_words.proofs.Laws.{given_by}
 use Rattle.std.proofs.Common.{◌≡◌, refl, ap, ◌∙◌, zero, suc, ℤ, pos, negsuc, List, ◌∷◌, Some, Bool, true, false}
 use Rattle.std.specs.Prelude.{◌+ℤ◌, ◌-ℤ◌, ◌*ℤ◌, neg_ℤ, int_div, int_rem, ◌&&◌, ◌||◌, if◌then◌else◌}
-use Rattle.pool_syntax.specs.declared.words.Value.{Value}
-use Rattle.pool_syntax.specs.declared.words.Value.TheVariants as V
-use Rattle.pool_syntax.specs.declared.words.Op.{Op}
-use Rattle.pool_syntax.specs.declared.words.Op.TheVariants as O
-use Rattle.pool_syntax.specs.Values.{Outcome, number, quotient, remainder, is_in_range, on_ints, on_bools, negated, denied, prefix_value, infix_value, is_prefix}
-use Rattle.pool_syntax.specs.Typing.{Sort, IntSort, BoolSort, op_sort, operand_sort}
-use Rattle.mesh_semantics.specs.Partial.{◌>>=◌}
-use Rattle.object_code.specs.Frames.{top, below, dropped}
-use Rattle.object_code.specs.Kinds.{operated, arity}
-use Rattle.object_code.specs.Step.{outcome_value}
+use Rattle.run_words.specs.declared.words.Value.{Value}
+use Rattle.run_words.specs.declared.words.Value.TheVariants as V
+use Rattle.run_words.specs.declared.words.Op.{Op}
+use Rattle.run_words.specs.declared.words.Op.TheVariants as O
+use Rattle.run_words.specs.Values.{Outcome, number, quotient, remainder, is_in_range, on_ints, on_bools, negated, denied, prefix_value, infix_value, is_prefix}
+use Rattle.run_words.specs.Sorts.{Sort, IntSort, BoolSort, op_sort, operand_sort}
+use Rattle.run_words.specs.Partial.{◌>>=◌}
+use Rattle.run_words.specs.Operands.{top, below, dropped}
+use Rattle.code_semantics.specs.Kinds.{operated, arity}
+use Rattle.code_semantics.specs.Step.{outcome_value}
 use Rattle.code_verdict.specs.Sorts.{Stack, pop_fitting, pop_alike, push_sort, operated_sorts}
 use Rattle.verified_code.specs.TypedCode.{Classes, IsOfSort, AreOfSorts}
 use Rattle.verified_code.proofs.Operands.{push_some, popped, popped_alike}

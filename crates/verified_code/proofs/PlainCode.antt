@@ -1,16 +1,17 @@
 -- The code of statements writes strings of the table, and has no end of a method or a body.
 use Rattle.std.proofs.Common.{◌≡◌, subst, IsTrue, ℕ, zero, suc, ◌+◌, List, [], ◌∷◌, ◌++◌, length, Some, None, Bool, true, false}
 use Rattle.std.specs.Prelude.{slice_get, if◌then◌else◌}
-use Rattle.pool_syntax.specs.Tokens.{Text}
-use Rattle.pool_syntax.specs.declared.words.Value.{Value}
-use Rattle.pool_syntax.specs.declared.words.Value.TheVariants as V
+use Rattle.run_words.specs.Text.{Text}
+use Rattle.run_words.specs.declared.words.Value.{Value}
+use Rattle.run_words.specs.declared.words.Value.TheVariants as V
 use Rattle.pool_syntax.specs.Terms as T
 use Rattle.pool_syntax.specs.Terms.{Expression, Expressions, Statement, Statements, Alternatives}
-use Rattle.pool_syntax.specs.Spelled.{is_string_number, is_spelled_expression, is_spelled_statement, are_spelled_statements, are_spelled_alternatives}
+use Rattle.run_words.specs.Keywords.{is_string_number}
+use Rattle.pool_syntax.specs.Spelled.{is_spelled_expression, is_spelled_statement, are_spelled_statements, are_spelled_alternatives}
 use Rattle.pool_syntax.specs.Typing.{contains, size}
-use Rattle.mesh_semantics.proofs.Laws.{first, second, same_some}
-use Rattle.object_code.specs.declared.unit.Instr.{Instr}
-use Rattle.object_code.specs.declared.unit.Instr.TheVariants as I
+use Rattle.run_words.proofs.Laws.{first, second, same_some}
+use Rattle.code_semantics.specs.declared.unit.Instr.{Instr}
+use Rattle.code_semantics.specs.declared.unit.Instr.TheVariants as I
 use Rattle.pool_compile.specs.Code.{Numbering, name, push, load, store, number_of, expression_code, expressions_code, guards_code, statement_code, statements_code, alternatives_code, alternatives_at}
 
 module _ (names : List Text) where

@@ -1,27 +1,28 @@
 -- The unit of a verified file is proper.
-use Rattle.code_verdict.proofs.Passing.{passes_below, slice_get_below}
+use Rattle.code_verdict.proofs.Passing.{passes_below}
+use Rattle.std.proofs.lemmas.Option.{slice_get_within}
 use Rattle.std.proofs.Common.{◌≡◌, refl, sym, ap, subst, ◌∙◌, IsTrue, ℕ, zero, suc, ◌+◌, ◌-◌, ◌≤◌, ◌<◌, List, [], ◌∷◌, length, Option, Some, None, is_some, true, false, arith}
 use Rattle.std.specs.Prelude.{slice_get, replicate}
-use Rattle.pool_syntax.specs.declared.words.NameId.{NameId}
-use Rattle.pool_syntax.specs.declared.words.Op.{Op}
-use Rattle.pool_syntax.specs.declared.words.Op.TheVariants as O
-use Rattle.pool_syntax.specs.declared.tree.Kind.{Kind}
-use Rattle.pool_syntax.specs.declared.tree.Kind.TheVariants as D
-use Rattle.pool_syntax.specs.Spelled.{is_name_text}
-use Rattle.pool_syntax.specs.Typing.{Sort, BoolSort, ClassSort, op_sort, operand_sort}
-use Rattle.mesh_semantics.proofs.Laws.{same_some, given_by, required}
-use Rattle.mesh_semantics.specs.Partial.{◌>>=◌}
-use Rattle.object_code.specs.declared.unit.Instr.{Instr}
-use Rattle.object_code.specs.declared.unit.Instr.TheVariants as I
-use Rattle.object_code.specs.declared.unit.MethodCode.{MethodCode}
-use Rattle.object_code.specs.declared.file.UnitFile.{UnitFile}
-use Rattle.object_code.specs.declared.file.MethodKinds.{MethodKinds}
-use Rattle.object_code.specs.Kinds.{arity}
-use Rattle.object_code.specs.Proper as P
-use Rattle.object_code.specs.Proper.{params_of, takes, leaves, IsProperCode, IsProperClass, IsProper}
-use Rattle.object_code.specs.Shaped.{IsShaped}
-use Rattle.object_code.specs.Step.{Numbered, method_named}
-use Rattle.unit_objects.proofs.Laws.{found_named}
+use Rattle.run_words.specs.declared.words.NameId.{NameId}
+use Rattle.run_words.specs.declared.words.Op.{Op}
+use Rattle.run_words.specs.declared.words.Op.TheVariants as O
+use Rattle.run_words.specs.declared.words.Kind.{Kind}
+use Rattle.run_words.specs.declared.words.Kind.TheVariants as D
+use Rattle.run_words.specs.Keywords.{is_name_text}
+use Rattle.run_words.specs.Sorts.{Sort, BoolSort, ClassSort, op_sort, operand_sort}
+use Rattle.run_words.proofs.Laws.{same_some, given_by, required, there_at}
+use Rattle.run_words.specs.Partial.{◌>>=◌}
+use Rattle.code_semantics.specs.declared.unit.Instr.{Instr}
+use Rattle.code_semantics.specs.declared.unit.Instr.TheVariants as I
+use Rattle.code_semantics.specs.declared.unit.MethodCode.{MethodCode}
+use Rattle.code_semantics.specs.declared.file.UnitFile.{UnitFile}
+use Rattle.code_semantics.specs.declared.file.MethodKinds.{MethodKinds}
+use Rattle.code_semantics.specs.Kinds.{arity}
+use Rattle.code_semantics.specs.Proper as P
+use Rattle.code_semantics.specs.Proper.{params_of, takes, leaves, IsProperCode, IsProperClass, IsProper}
+use Rattle.code_semantics.specs.Shaped.{IsShaped}
+use Rattle.code_semantics.specs.Step.{Numbered, method_named}
+use Rattle.code_semantics.proofs.Laws.{found_named}
 use Rattle.code_verdict.specs.Sorts.{Stack, Declared, Signature, declared_at, signature_named, kind_sort, result_sort, scope_by, value_by, fits_sort, has_value, is_alike, pop_fitting, pop_value, pop_any, pop_alike, pop_arguments, push_sort, pop_sent, pop_returned, asked_of, operated_sorts, left_by}
 use Rattle.code_verdict.specs.Verified.{ReachedBy, IsWellSorted, IsVerified}
 use Rattle.verified_code.proofs.Operands.{if_some, push_some}
@@ -123,11 +124,6 @@ as_many ss r e = let b : length ss ≡ length r = ap (λ (q : Stack). length q) 
 one_less : (ss r : Stack) → length ss ≡ suc (length r) → Counts 1 0 ss r
 one_less ss r e = (omega (arith, e), omega (arith, e))
 
-slice_get_there : {X : Type 0} (xs : List X) (n : ℕ) → n < length xs → (x : X) × (slice_get xs n ≡ Some x)
-slice_get_there [] n h = absurd (omega (arith, h))
-slice_get_there (x ∷ xs) zero h = (x, refl)
-slice_get_there (x ∷ xs) (suc n) h = slice_get_there xs n (omega (arith, h))
-
 module _ (f : UnitFile) (shaped : IsShaped f) (good : IsVerified f) (j : ℕ) (k : Declared) (is_class : declared_at f j ≡ Some k) where
   call_counts : (m : NameId) (ss r : Stack) → (signature_named k m >>= λ s. push_sort (result_sort s.outcome) (pop_arguments s.params ss)) ≡ Some r
       → Counts (params_of (method_named (Some k.code) m)) 1 ss r
@@ -224,7 +220,7 @@ module _ (f : UnitFile) (shaped : IsShaped f) (good : IsVerified f) (j : ℕ) (k
             let t = w.taken at a.0 (h.0, a.1) in
             let n = enough t.2.0 a.0 t.2.2 in
             (omega (arith, t.0, a.2), t.1, (t.2.0, t.2.1, omega (arith, n, a.2)));
-        front = let t = w.taken 0 [] (0, (refl, refl)) in let h = slice_get_below c 0 t.2.0 t.2.1 in omega (arith, h);
+        front = let t = w.taken 0 [] (0, (refl, refl)) in let h = slice_get_within c 0 t.2.0 t.2.1 in omega (arith, h);
         no_circle = w.no_circle;
       }
         where
@@ -267,7 +263,7 @@ verified_is_proper f shaped good = record {
   where
     few : length f.unit.classes ≤ 256
     few =
-        let last = slice_get_there f.unit.classes (length f.unit.classes - 1) (let s = good.some in omega (arith, s)) in
+        let last = there_at f.unit.classes (length f.unit.classes - 1) (let s = good.some in omega (arith, s)) in
         let d = class_there f shaped (length f.unit.classes - 1) last.0 last.1 in
         let h = (good.headings (length f.unit.classes - 1) d.0 d.1).limits.0 in
         omega (arith, h)

@@ -1,18 +1,18 @@
 -- Worked files, computed: their bytes, what bytes say, the verdict on a file, and a record from bytes alone.
 use Rattle.std.proofs.Common.{◌≡◌, refl, pos, List, [], ◌∷◌}
 use Rattle.std.specs.Prelude.{codes, take}
-use Rattle.pool_syntax.specs.Tokens.{Text}
+use Rattle.run_words.specs.Text.{Text}
 use Rattle.pool_syntax.specs.Terms.{Literal, Write, Then, Done, ProgramTree}
-use Rattle.pool_syntax.specs.declared.words.Value.TheVariants as V
-use Rattle.pool_syntax.specs.declared.words.Item.TheVariants as Item
-use Rattle.pool_syntax.specs.declared.words.Label.TheVariants as L
-use Rattle.pool_syntax.specs.declared.words.What.TheVariants as W
-use Rattle.pool_syntax.specs.declared.words.Line.{Line}
-use Rattle.pool_syntax.specs.declared.words.Line.TheVariants as R
-use Rattle.pool_syntax.specs.declared.words.End.TheVariants as E
-use Rattle.pool_syntax.specs.declared.words.Event.TheVariants.{Turn}
-use Rattle.pool_syntax.specs.declared.words.Place.TheVariants as Pl
-use Rattle.pool_syntax.specs.declared.words.Placement.{Placement}
+use Rattle.run_words.specs.declared.words.Value.TheVariants as V
+use Rattle.run_words.specs.declared.words.Item.TheVariants as Item
+use Rattle.run_words.specs.declared.words.Label.TheVariants as L
+use Rattle.run_words.specs.declared.words.What.TheVariants as W
+use Rattle.run_words.specs.declared.words.Line.{Line}
+use Rattle.run_words.specs.declared.words.Line.TheVariants as R
+use Rattle.run_words.specs.declared.words.End.TheVariants as E
+use Rattle.run_words.specs.declared.words.Event.TheVariants.{Turn}
+use Rattle.run_words.specs.declared.words.Place.TheVariants as Pl
+use Rattle.run_words.specs.declared.words.Placement.{Placement}
 use Rattle.object_code.specs.FileBytes.{file_bytes}
 use Rattle.object_code.specs.Decode.{Decoded, Says, BadBytes, decode}
 use Rattle.mesh_semantics.specs.Record.{record_of}

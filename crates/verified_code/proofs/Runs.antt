@@ -1,29 +1,31 @@
 -- In a typed configuration of code nobody goes wrong; the start is typed; and a record of a verified file is a run of the relation over its objects.
 use Rattle.std.proofs.Common.{◌≡◌, ◌≢◌, ◌⊎◌, inl, inr, refl, sym, ap, subst, ◌∙◌, IsTrue, ℕ, suc, List, [], ◌∷◌, ◌++◌, length, Option, Some, None, is_some}
 use Rattle.std.specs.Prelude.{slice_get}
-use Rattle.pool_syntax.specs.declared.words.NameId.{NameId}
-use Rattle.pool_syntax.specs.declared.words.Value.{Value}
-use Rattle.pool_syntax.specs.declared.words.Event.{Event}
-use Rattle.pool_syntax.specs.declared.words.Label.{Label}
-use Rattle.pool_syntax.specs.declared.words.Placement.{Placement}
-use Rattle.pool_syntax.specs.declared.tree.Kind.{Kind as DeclaredKind}
-use Rattle.object_code.specs.declared.unit.ClassCode.{ClassCode}
-use Rattle.object_code.specs.declared.unit.Frame.{Frame}
-use Rattle.object_code.specs.declared.file.UnitFile.{UnitFile}
-use Rattle.object_code.specs.Kinds as C
-use Rattle.object_code.specs.Kinds.{code_kind}
-use Rattle.object_code.specs.Shaped.{IsShaped}
-use Rattle.object_code.specs.Step.{code_made}
-use Rattle.mesh_semantics.proofs.Laws.{decide, same_some, given_by, find_put_same, find_put_other, record_shows, fit_of, placed_start_sound, with_wires}
-use Rattle.mesh_semantics.specs.Partial.{◌>>=◌}
+use Rattle.run_words.specs.declared.words.NameId.{NameId}
+use Rattle.run_words.specs.declared.words.Value.{Value}
+use Rattle.run_words.specs.declared.words.Event.{Event}
+use Rattle.run_words.specs.declared.words.Label.{Label}
+use Rattle.run_words.specs.declared.words.Placement.{Placement}
+use Rattle.run_words.specs.declared.words.Kind.{Kind as DeclaredKind}
+use Rattle.code_semantics.specs.declared.unit.ClassCode.{ClassCode}
+use Rattle.run_words.specs.declared.frames.Frame.{Frame}
+use Rattle.code_semantics.specs.declared.file.UnitFile.{UnitFile}
+use Rattle.code_semantics.specs.Kinds as C
+use Rattle.code_semantics.specs.Kinds.{code_kind}
+use Rattle.code_semantics.specs.Shaped.{IsShaped}
+use Rattle.code_semantics.specs.Step.{code_made}
+use Rattle.run_words.proofs.Laws.{decide, same_some, given_by, find_put_same, find_put_other}
+use Rattle.mesh_semantics.proofs.Laws.{record_shows, fit_of, placed_start_sound, with_wires}
+use Rattle.run_words.specs.Partial.{◌>>=◌}
 use Rattle.mesh_semantics.specs.Config.{Config, object_of, messages_of, put_object}
 use Rattle.mesh_semantics.specs.Delay.{no_delay, no_delay_on_wires}
 use Rattle.mesh_semantics.specs.FitFor.{FitFor}
 use Rattle.mesh_semantics.specs.Kept.{ShowsRun}
 use Rattle.mesh_semantics.specs.Moves.{move, moves}
 use Rattle.mesh_semantics.specs.Record.{Record, start, root_name, with_root, record_of, record_on_wires, record_from}
-use Rattle.mesh_semantics.specs.Sound.{Each, IsSound}
-use Rattle.unit_objects.specs.OfUnit.{AreFramesOf}
+use Rattle.run_words.specs.Tables.{Each}
+use Rattle.mesh_semantics.specs.Sound.{IsSound}
+use Rattle.code_semantics.specs.OfUnit.{AreFramesOf}
 use Rattle.coded_objects.specs.Coded.{Placed, placed, kind_of, unless_served, class_number, last_code, coded}
 use Rattle.coded_objects.specs.OfCode.{Names}
 use Rattle.coded_objects.proofs.Laws.{start_of_code, start_there, root_rests}

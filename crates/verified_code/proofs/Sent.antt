@@ -1,13 +1,13 @@
 -- What a send asks of its destination.
 use Rattle.std.proofs.Common.{◌≡◌, refl, sym, ap, subst, ◌∙◌, ℕ, zero, suc, ◌==◌, List, [], ◌∷◌, length, Option, Some, None}
 use Rattle.std.specs.Prelude.{slice_get}
-use Rattle.pool_syntax.specs.declared.words.NameId.{NameId}
-use Rattle.pool_syntax.specs.declared.words.Value.{Value}
-use Rattle.pool_syntax.specs.declared.words.Value.TheVariants as V
-use Rattle.pool_syntax.specs.Typing.{Sort, IntSort, BoolSort, ClassSort, NilSort, NoSort, BrokenSort}
-use Rattle.mesh_semantics.proofs.Laws.{equal, same_some, given_by, required}
-use Rattle.object_code.specs.declared.file.UnitFile.{UnitFile}
-use Rattle.object_code.specs.Frames.{top, taken, dropped}
+use Rattle.run_words.specs.declared.words.NameId.{NameId}
+use Rattle.run_words.specs.declared.words.Value.{Value}
+use Rattle.run_words.specs.declared.words.Value.TheVariants as V
+use Rattle.run_words.specs.Sorts.{Sort, IntSort, BoolSort, ClassSort, NilSort, NoSort, BrokenSort}
+use Rattle.run_words.proofs.Laws.{equal, same_some, given_by, required}
+use Rattle.code_semantics.specs.declared.file.UnitFile.{UnitFile}
+use Rattle.run_words.specs.Operands.{top, taken, dropped}
 use Rattle.code_verdict.specs.Sorts.{Stack, Declared, Signature, declared_named, signature_named, asked_of, pop_arguments, pop_sent}
 use Rattle.verified_code.specs.TypedCode.{Classes, IsOfSort, AreOfSorts, AreOfKinds}
 use Rattle.verified_code.proofs.Operands.{popped_arguments, popped_any, dropped_suc}

@@ -1,13 +1,13 @@
 -- Classes and methods of a shaped file, and their kinds.
 use Rattle.std.proofs.Common.{◌≡◌, refl, sym, ap, subst, ◌∙◌, ℕ, zero, suc, List, [], ◌∷◌, length, Some, None}
 use Rattle.std.specs.Prelude.{slice_get}
-use Rattle.object_code.specs.declared.unit.ClassCode.{ClassCode}
-use Rattle.object_code.specs.declared.unit.MethodCode.{MethodCode}
-use Rattle.object_code.specs.declared.file.UnitFile.{UnitFile}
-use Rattle.object_code.specs.declared.file.ClassKinds.{ClassKinds}
-use Rattle.object_code.specs.declared.file.MethodKinds.{MethodKinds}
-use Rattle.object_code.specs.Shaped.{AreShapedMethods, AreShapedClasses, IsShaped}
-use Rattle.mesh_semantics.proofs.Laws.{same_some, given_by}
+use Rattle.code_semantics.specs.declared.unit.ClassCode.{ClassCode}
+use Rattle.code_semantics.specs.declared.unit.MethodCode.{MethodCode}
+use Rattle.code_semantics.specs.declared.file.UnitFile.{UnitFile}
+use Rattle.code_semantics.specs.declared.file.ClassKinds.{ClassKinds}
+use Rattle.code_semantics.specs.declared.file.MethodKinds.{MethodKinds}
+use Rattle.code_semantics.specs.Shaped.{AreShapedMethods, AreShapedClasses, IsShaped}
+use Rattle.run_words.proofs.Laws.{same_some, given_by}
 use Rattle.code_verdict.specs.Sorts.{Declared, declared_at}
 
 pub kinds_of_method : (ms : List MethodCode) (ss : List MethodKinds) (i : ℕ) (m : MethodCode) → AreShapedMethods ms ss → slice_get ms i ≡ Some m

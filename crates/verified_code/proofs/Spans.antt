@@ -1,9 +1,9 @@
 -- The most operands that stand at once in a piece of code, and places that are reached.
 use Rattle.std.proofs.Common.{◌≡◌, ◌⊎◌, inl, inr, refl, sym, ap, subst, ◌∙◌, ℕ, zero, suc, ◌+◌, ◌<◌, ◌≤◌, List, [], ◌∷◌, ◌++◌, length, Some, Bool, true, false, arith, length-append}
 use Rattle.std.specs.Prelude.{slice_get, nat_le, if◌then◌else◌}
-use Rattle.mesh_semantics.proofs.Laws.{same_some}
-use Rattle.object_code.specs.declared.unit.Instr.{Instr}
-use Rattle.object_code.specs.Proper.{nexts, IsAmong}
+use Rattle.run_words.proofs.Laws.{same_some}
+use Rattle.code_semantics.specs.declared.unit.Instr.{Instr}
+use Rattle.code_semantics.specs.Proper.{nexts, IsAmong}
 use Rattle.pool_compile.specs.Code.{more}
 use Rattle.code_verdict.specs.Sorts.{Stack, CodeScope, left_by}
 use Rattle.code_verdict.specs.Verified.{Reached}

@@ -1,10 +1,10 @@
 -- Code in which each place has one stack, found in the order of the list.
 use Rattle.std.proofs.Common.{◌≡◌, inl, inr, refl, sym, ap, subst, ◌∙◌, ℕ, zero, suc, ◌+◌, ◌<◌, ◌≤◌, List, [], ◌∷◌, ◌++◌, length, Option, Some, None, arith, length-append}
 use Rattle.std.specs.Prelude.{slice_get}
-use Rattle.mesh_semantics.proofs.Laws.{same_some}
-use Rattle.mesh_semantics.specs.Partial.{◌>>=◌}
-use Rattle.object_code.specs.declared.unit.Instr.{Instr}
-use Rattle.object_code.specs.Proper.{nexts, IsAmong}
+use Rattle.run_words.proofs.Laws.{same_some}
+use Rattle.run_words.specs.Partial.{◌>>=◌}
+use Rattle.code_semantics.specs.declared.unit.Instr.{Instr}
+use Rattle.code_semantics.specs.Proper.{nexts, IsAmong}
 use Rattle.pool_compile.proofs.Coded.{Has, front, back}
 use Rattle.code_verdict.specs.Sorts.{Stack, CodeScope, left_by}
 use Rattle.code_verdict.specs.Verified.{ReachedBy}

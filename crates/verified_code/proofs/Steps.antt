@@ -2,32 +2,33 @@
 use Rattle.std.proofs.Common.{◌≡◌, inl, inr, refl, sym, ap, subst, ◌∙◌, ℕ, zero, suc, ◌-◌, ◌≤◌, arith, List, [], ◌∷◌, length, map, Option, Some, None, is_some, Bool, true, false, if◌then◌else◌}
 use Rattle.std.specs.Prelude.{slice_get, slice_set, take, replicate}
 use Rattle.std.specs.List.{list_any}
-use Rattle.pool_syntax.specs.declared.words.NameId.{NameId}
-use Rattle.pool_syntax.specs.declared.words.Value.{Value}
-use Rattle.pool_syntax.specs.declared.words.Value.TheVariants as V
-use Rattle.pool_syntax.specs.declared.words.Serves.{Serves}
-use Rattle.pool_syntax.specs.declared.words.Serves.TheVariants as S
-use Rattle.pool_syntax.specs.declared.words.Error.TheVariants.{NilOperand, NoOpenGuard}
-use Rattle.pool_syntax.specs.declared.tree.Kind.TheVariants as D
-use Rattle.pool_syntax.specs.Typing.{Sort, BoolSort, ClassSort, op_sort}
-use Rattle.pool_syntax.specs.Values as Values
-use Rattle.pool_syntax.specs.Values.{Outcome, Fails, WrongSort, is_bool, is_true, not_bool}
-use Rattle.mesh_semantics.proofs.Laws.{same_some, given_by, required}
-use Rattle.object_code.specs.declared.unit.Instr.{Instr}
-use Rattle.object_code.specs.declared.unit.Instr.TheVariants as I
-use Rattle.object_code.specs.declared.unit.AltCode.{AltCode}
-use Rattle.object_code.specs.declared.unit.ClassCode.{ClassCode}
-use Rattle.object_code.specs.declared.unit.Frame.{Frame}
-use Rattle.object_code.specs.declared.unit.CodeObject.{CodeObject}
-use Rattle.object_code.specs.declared.file.UnitFile.{UnitFile}
-use Rattle.object_code.specs.declared.file.MethodKinds.{MethodKinds}
-use Rattle.object_code.specs.Frames.{code_of, top, below, taken, dropped, next, settled}
-use Rattle.object_code.specs.Kinds as C
-use Rattle.object_code.specs.Kinds.{Offered, operated, arity, outcome_kind, sent_kind, return_kind, offers, select_kind, instr_kind, frames_kind}
-use Rattle.object_code.specs.Proper.{nexts, IsAmong}
-use Rattle.object_code.specs.Shaped.{IsShaped}
-use Rattle.object_code.specs.Step.{Numbered, at_rest, nth, padded, outcome_value, method_named, begun, called, handed, left, is_own, instr_stepped, asked, instr_gone_on, at_alternative, after_choice, frames_stepped, frames_given, frames_gone_on, frames_picked, frames_serving}
-use Rattle.unit_objects.proofs.Laws.{found_named, length_padded, length_set}
+use Rattle.run_words.specs.declared.words.NameId.{NameId}
+use Rattle.run_words.specs.declared.words.Value.{Value}
+use Rattle.run_words.specs.declared.words.Value.TheVariants as V
+use Rattle.run_words.specs.declared.words.Serves.{Serves}
+use Rattle.run_words.specs.declared.words.Serves.TheVariants as S
+use Rattle.run_words.specs.declared.words.Error.TheVariants.{NilOperand, NoOpenGuard}
+use Rattle.run_words.specs.declared.words.Kind.TheVariants as D
+use Rattle.run_words.specs.Sorts.{Sort, BoolSort, ClassSort, op_sort}
+use Rattle.run_words.specs.Values as Values
+use Rattle.run_words.specs.Values.{Outcome, Fails, WrongSort, is_bool, is_true, not_bool}
+use Rattle.run_words.proofs.Laws.{same_some, given_by, required}
+use Rattle.code_semantics.specs.declared.unit.Instr.{Instr}
+use Rattle.code_semantics.specs.declared.unit.Instr.TheVariants as I
+use Rattle.code_semantics.specs.declared.unit.AltCode.{AltCode}
+use Rattle.code_semantics.specs.declared.unit.ClassCode.{ClassCode}
+use Rattle.run_words.specs.declared.frames.Frame.{Frame}
+use Rattle.run_words.specs.declared.frames.CodeObject.{CodeObject}
+use Rattle.code_semantics.specs.declared.file.UnitFile.{UnitFile}
+use Rattle.code_semantics.specs.declared.file.MethodKinds.{MethodKinds}
+use Rattle.code_semantics.specs.Frames.{code_of, next, settled}
+use Rattle.run_words.specs.Operands.{top, below, taken, dropped, nth, padded}
+use Rattle.code_semantics.specs.Kinds as C
+use Rattle.code_semantics.specs.Kinds.{Offered, operated, arity, outcome_kind, sent_kind, return_kind, offers, select_kind, instr_kind, frames_kind}
+use Rattle.code_semantics.specs.Proper.{nexts, IsAmong}
+use Rattle.code_semantics.specs.Shaped.{IsShaped}
+use Rattle.code_semantics.specs.Step.{Numbered, at_rest, outcome_value, method_named, begun, called, handed, left, is_own, instr_stepped, asked, instr_gone_on, at_alternative, after_choice, frames_stepped, frames_given, frames_gone_on, frames_picked, frames_serving}
+use Rattle.code_semantics.proofs.Laws.{found_named, length_padded, length_set}
 use Rattle.code_verdict.specs.Sorts.{Stack, Declared, Signature, declared_at, signature_named, kind_sort, result_sort, value_sort, temps_by, value_by, signature_of, left_by, pop_fitting, pop_returned, pop_arguments, push_sort, pop_sent, asked_of, fits_sort}
 use Rattle.code_verdict.specs.Verified.{IsVerified}
 use Rattle.verified_code.specs.TypedCode.{Classes, IsOfSort, AreOfSorts, AreOfKinds, kinds_of_frame, left_sort, frame_scope, missing_sorts, IsSortedFrame, AreSortedFrames, IsSortedObject}

@@ -1,28 +1,29 @@
 -- Code waits only where its call was answered. So each line of a record of code has the number of the post that it answers.
 use Rattle.std.proofs.Common.{◌≡◌, ◌≢◌, ◌⊎◌, inl, inr, refl, sym, ap, ◌∙◌, ℕ, ◌==◌, List, Option, Some, None, is_none, is_some, not}
 use Rattle.std.specs.Prelude.{◌&&◌}
-use Rattle.pool_syntax.specs.declared.words.Value.TheVariants as V
-use Rattle.pool_syntax.specs.declared.words.Label.{Label}
-use Rattle.pool_syntax.specs.declared.words.Label.TheVariants as L
-use Rattle.pool_syntax.specs.declared.words.Event.{Event}
-use Rattle.pool_syntax.specs.declared.words.Placement.{Placement}
-use Rattle.object_code.specs.declared.unit.Unit.{Unit as Code}
-use Rattle.object_code.specs.declared.file.UnitFile.{UnitFile}
-use Rattle.object_code.specs.Kinds.{code_kind}
-use Rattle.object_code.specs.Shaped.{IsShaped}
-use Rattle.object_code.specs.Step.{code_made, code_serving}
+use Rattle.run_words.specs.declared.words.Value.TheVariants as V
+use Rattle.run_words.specs.declared.words.Label.{Label}
+use Rattle.run_words.specs.declared.words.Label.TheVariants as L
+use Rattle.run_words.specs.declared.words.Event.{Event}
+use Rattle.run_words.specs.declared.words.Placement.{Placement}
+use Rattle.code_semantics.specs.declared.unit.Unit.{Unit as Code}
+use Rattle.code_semantics.specs.declared.file.UnitFile.{UnitFile}
+use Rattle.code_semantics.specs.Kinds.{code_kind}
+use Rattle.code_semantics.specs.Shaped.{IsShaped}
+use Rattle.code_semantics.specs.Step.{code_made, code_serving}
 use Rattle.mesh_semantics.specs.Act.{id}
-use Rattle.mesh_semantics.specs.Asks.{EachAnswersPost}
+use Rattle.run_words.specs.Asks.{EachAnswersPost}
 use Rattle.mesh_semantics.specs.Config.{Config, object_of, messages_of, put_object}
 use Rattle.mesh_semantics.specs.FitFor.{FitFor}
 use Rattle.mesh_semantics.specs.Kind as K
 use Rattle.mesh_semantics.specs.Kind.{is_local, makes, calls, posts, returns, waits_on, writes, fails, alternatives}
 use Rattle.mesh_semantics.specs.Moves.{running, offered, numbered, can_pick, has_message, first_message, move}
-use Rattle.mesh_semantics.specs.Partial.{◌>>=◌}
+use Rattle.run_words.specs.Partial.{◌>>=◌}
 use Rattle.mesh_semantics.specs.Record.{record_of, record_on_wires}
-use Rattle.mesh_semantics.specs.Same.{are_same}
+use Rattle.run_words.specs.Same.{are_same}
 use Rattle.mesh_semantics.specs.Waits.{IsAnswer, Waits}
-use Rattle.mesh_semantics.proofs.Laws.{first, second, equals, decide, same_some, given_by, required, find_put_same, find_put_other, fit_of, each_answers_post, each_answers_post_on_wires}
+use Rattle.run_words.proofs.Laws.{first, second, equals, decide, same_some, given_by, required, find_put_same, find_put_other}
+use Rattle.mesh_semantics.proofs.Laws.{fit_of, each_answers_post, each_answers_post_on_wires}
 use Rattle.coded_objects.specs.Coded.{Placed, placed, last_code, serves_for, coded}
 use Rattle.coded_objects.proofs.Laws.{start_there}
 use Rattle.coded_objects.proofs.Tested.{local_is, new_is, async_is, return_is, wait_is, write_is, fault_is, offered_is, pick_is}

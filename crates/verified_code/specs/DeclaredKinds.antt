@@ -1,12 +1,12 @@
 -- The file of a program: its code, and the kinds that it declares.
 use Rattle.std.specs.Prelude.{List, map, ◌++◌}
-use Rattle.pool_syntax.specs.Tokens.{Text}
-use Rattle.pool_syntax.specs.declared.tree.Kind.{Kind}
+use Rattle.run_words.specs.Text.{Text}
+use Rattle.run_words.specs.declared.words.Kind.{Kind}
 use Rattle.pool_syntax.specs.declared.tree.Var.{Var}
 use Rattle.pool_syntax.specs.Terms.{MethodTree, ClassTree, ProgramTree}
-use Rattle.object_code.specs.declared.file.UnitFile.{UnitFile}
-use Rattle.object_code.specs.declared.file.ClassKinds.{ClassKinds}
-use Rattle.object_code.specs.declared.file.MethodKinds.{MethodKinds}
+use Rattle.code_semantics.specs.declared.file.UnitFile.{UnitFile}
+use Rattle.code_semantics.specs.declared.file.ClassKinds.{ClassKinds}
+use Rattle.code_semantics.specs.declared.file.MethodKinds.{MethodKinds}
 use Rattle.pool_compile.specs.Code.{code}
 
 abbrev pub kinds_of : List Var → List Kind

@@ -1,24 +1,24 @@
 -- Typed configurations of code of a verified file, and what it is for an object to go wrong.
 use Rattle.std.specs.Prelude.{◌≡◌, ◌⊎◌, is_some, ℕ, List, [], ◌∷◌, ◌++◌, length, map, Option, Some, None, IsTrue, if◌then◌else◌, slice_get}
-use Rattle.pool_syntax.specs.declared.words.Value.{Value}
-use Rattle.pool_syntax.specs.declared.words.Value.TheVariants as V
-use Rattle.pool_syntax.specs.declared.tree.Kind.{Kind as DeclaredKind}
-use Rattle.pool_syntax.specs.Typing.{Sort, IntSort, BoolSort, ClassSort, NoSort}
-use Rattle.object_code.specs.declared.unit.Instr.{Instr}
-use Rattle.object_code.specs.declared.unit.Frame.{Frame}
-use Rattle.object_code.specs.declared.unit.CodeObject.{CodeObject}
-use Rattle.object_code.specs.declared.file.UnitFile.{UnitFile}
-use Rattle.object_code.specs.declared.file.MethodKinds.{MethodKinds}
-use Rattle.object_code.specs.Frames.{code_of}
-use Rattle.object_code.specs.Step.{is_own}
+use Rattle.run_words.specs.declared.words.Value.{Value}
+use Rattle.run_words.specs.declared.words.Value.TheVariants as V
+use Rattle.run_words.specs.declared.words.Kind.{Kind as DeclaredKind}
+use Rattle.run_words.specs.Sorts.{Sort, IntSort, BoolSort, ClassSort, NoSort}
+use Rattle.code_semantics.specs.declared.unit.Instr.{Instr}
+use Rattle.run_words.specs.declared.frames.Frame.{Frame}
+use Rattle.run_words.specs.declared.frames.CodeObject.{CodeObject}
+use Rattle.code_semantics.specs.declared.file.UnitFile.{UnitFile}
+use Rattle.code_semantics.specs.declared.file.MethodKinds.{MethodKinds}
+use Rattle.code_semantics.specs.Frames.{code_of}
+use Rattle.code_semantics.specs.Step.{is_own}
 use Rattle.mesh_semantics.specs.Act.{id}
 use Rattle.mesh_semantics.specs.Config.{Config, object_of, messages_of}
 use Rattle.mesh_semantics.specs.Kind as K
 use Rattle.mesh_semantics.specs.Kind.{Kind}
-use Rattle.mesh_semantics.specs.Message.{Message}
-use Rattle.mesh_semantics.specs.Partial.{◌>>=◌}
-use Rattle.mesh_semantics.specs.Sound.{Each}
-use Rattle.unit_objects.specs.OfUnit.{HasTemps}
+use Rattle.run_words.specs.Message.{Message}
+use Rattle.run_words.specs.Partial.{◌>>=◌}
+use Rattle.run_words.specs.Tables.{Each}
+use Rattle.code_semantics.specs.OfUnit.{HasTemps}
 use Rattle.coded_objects.specs.Coded.{Placed, class_number, coded}
 use Rattle.coded_objects.specs.OfCode.{IsOfCode}
 use Rattle.code_verdict.specs.Sorts.{Stack, CodeScope, Declared, Signature, kind_sort, result_sort, declared_at, signature_named, scope_by, left_by}

@@ -1,9 +1,10 @@
 -- What is known at the redex of an object, and what is kept where a part takes its place.
 use Rattle.std.proofs.Common.{◌≡◌, refl, sym, ap, ◌∙◌, IsTrue, ℕ, List, [], ◌∷◌, ◌++◌, Option, Some, None, Bool, true, false, ◌==◌, if◌then◌else◌}
-use Rattle.pool_syntax.specs.declared.words.Value.{Value}
+use Rattle.run_words.specs.declared.words.Value.{Value}
 use Rattle.pool_syntax.specs.Terms.{Store, Expression, Statements, ProgramTree}
-use Rattle.pool_syntax.specs.Typing.{Sort, Scope, value_sort, is_dangling}
-use Rattle.pool_relation.specs.Reducible.{Reducible, Part, AsExpression, AsStatements, fill_statements}
+use Rattle.run_words.specs.Sorts.{Sort}
+use Rattle.pool_syntax.specs.Typing.{Scope, value_sort, is_dangling}
+use Rattle.pool_relation.specs.Reducible.{Reducible, Contractum, AsExpression, AsStatements, fill_statements}
 use Rattle.pool_relation.specs.Action.{Object, literal}
 use Rattle.pool_relation.specs.UnderWay.{Activity, Own, Serving, in_statements, served_for, serves}
 use Rattle.pool_relation.proofs.typing.TypedTerm.{Holds, Methods, has_methods}
@@ -24,7 +25,7 @@ served-append q (Serving m None ∷ a) b = served-append q a b
 served-append q (Serving m (Some k) ∷ a) b = put_front (k == q) m (served_for q a) _ (served_for q b) (served-append q a b)
 
 -- what is served stays where the part in the redex's place serves what the redex served
-pub served_kept : {g : Scope} {r : Reducible} {old : List Activity} {new : Part → List Activity} (q : ℕ) (b : Activities g r old new) (x : Part)
+pub served_kept : {g : Scope} {r : Reducible} {old : List Activity} {new : Contractum → List Activity} (q : ℕ) (b : Activities g r old new) (x : Contractum)
     → Matches r x
     → served_for q b.now ≡ served_for q (in_part x) → served_for q (new x) ≡ served_for q old
 served_kept q b x k e =
@@ -42,7 +43,7 @@ abbrev pub ActivitiesAt : ProgramTree → (ℕ → Option ℕ) → Object → Re
 ActivitiesAt p f x r = Activities (place p f x) r (in_statements x.term) (λ y. in_statements (fill_statements x.term y))
 
 -- the redex serves no one
-abbrev pub ServesNone : {g : Scope} {r : Reducible} {old : List Activity} {new : Part → List Activity} → Activities g r old new → Type 0
+abbrev pub ServesNone : {g : Scope} {r : Reducible} {old : List Activity} {new : Contractum → List Activity} → Activities g r old new → Type 0
 ServesNone b = (q : ℕ) → served_for q b.now ≡ []
 
 module _ (p : ProgramTree) (f : ℕ → Option ℕ) (x : Object) (r : Reducible) (u : Store) (replacement : ReplacementAt p f x r u) (activities : ActivitiesAt p f x r) (none : ServesNone activities) where

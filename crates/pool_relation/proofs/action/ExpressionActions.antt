@@ -1,15 +1,16 @@
 -- What a typed object does next where its redex is an expression.
 use Rattle.std.proofs.Common.{◌≡◌, refl, ap, IsTrue, ℕ, List, [], ◌∷◌, ◌++◌, length, Option, Some, None, is_some, true, false, ◌||◌, arith}
-use Rattle.pool_syntax.specs.declared.words.Value.{Value}
-use Rattle.pool_syntax.specs.declared.words.Value.TheVariants as V
-use Rattle.pool_syntax.specs.declared.words.Op.{Op}
+use Rattle.run_words.specs.declared.words.Value.{Value}
+use Rattle.run_words.specs.declared.words.Value.TheVariants as V
+use Rattle.run_words.specs.declared.words.Op.{Op}
 use Rattle.pool_syntax.specs.Terms as T
 use Rattle.pool_syntax.specs.Terms.{Store, Expression, Statements, MethodTree, ClassTree, ProgramTree, append}
 use Rattle.pool_syntax.specs.Classes.{class_of, named_method}
-use Rattle.pool_syntax.specs.Typing.{Sort, IntSort, BoolSort, ClassSort, NilSort, BrokenSort, is_open, is_same_sort, methods_of, methods_of_class, params_of, sent_method, own_sort, inside, behind_value, Scope, value_sort, object_sort, is_dangling, send_sort, vars_of_class, faults, op_sort, name_sort}
-use Rattle.pool_syntax.specs.Values.{Outcome, Gives, Fails, WrongSort, prefix_value, infix_value}
+use Rattle.run_words.specs.Sorts.{Sort, IntSort, BoolSort, ClassSort, NilSort, BrokenSort, is_same_sort, op_sort}
+use Rattle.pool_syntax.specs.Typing.{is_open, methods_of, methods_of_class, params_of, sent_method, own_sort, inside, behind_value, Scope, value_sort, object_sort, is_dangling, send_sort, vars_of_class, faults, name_sort}
+use Rattle.run_words.specs.Values.{Outcome, Gives, Fails, WrongSort, prefix_value, infix_value}
 use Rattle.pool_relation.specs.Reducible as R
-use Rattle.pool_relation.specs.Reducible.{Choice, Reducible, Found, Evaluated, At, Part, AsExpression, AsStatements, fill_statements, statements_redex}
+use Rattle.pool_relation.specs.Reducible.{Choice, Reducible, Found, Evaluated, At, Contractum, AsExpression, AsStatements, fill_statements, statements_redex}
 use Rattle.pool_relation.specs.Action.{Object, redex_action, method_of, method_in, with_count, temps_of, value_of, literal, becomes_value, on_outcome, read}
 use Rattle.pool_relation.specs.Written.{is_written}
 use Rattle.pool_relation.specs.Typed.{has_room}
@@ -18,7 +19,7 @@ use Rattle.pool_relation.proofs.typing.TypedTerm.{Methods, Waits, takes, is_dest
 use Rattle.pool_relation.proofs.typing.Sorts.{MayBecome, Stays, Opens}
 use Rattle.pool_relation.proofs.typing.Begun.{running_scope, method_begins, call_begun}
 use Rattle.pool_relation.proofs.typing.Declared.{Valued, Has, Lacks, valued, fits_parts}
-use Rattle.mesh_semantics.proofs.Laws.{equal, true_not}
+use Rattle.run_words.proofs.Laws.{equal, true_not}
 use Rattle.pool_relation.proofs.redex.TypedRedex.{Spot, at, FitValues, AnExpression, Suits, Replacement, NewStatements}
 use Rattle.pool_relation.proofs.redex.AsWait.{statements_wait}
 use Rattle.pool_relation.proofs.typing.Outcomes.{HasOutcome, prefix_has, infix_has}
@@ -163,12 +164,12 @@ unfolding is_destination
 no_bool g m n h = absurd (grind (arith, h))
 
 pub request_typed : (p : ProgramTree) (f : ℕ → Option ℕ) (x : Object) (o : ℕ) (v : Value) (m : ℕ) (args : List Value) (u : Store)
-    → statements_redex [] x.term ≡ At (R.Request v m args) u
-    → ReplacementAt p f x (R.Request v m args) u → ActivitiesAt p f x (R.Request v m args) → TypedAction p f x (redex_action p o x u (R.Request v m args))
+    → statements_redex [] x.term ≡ At (R.SynchronousSend v m args) u
+    → ReplacementAt p f x (R.SynchronousSend v m args) u → ActivitiesAt p f x (R.SynchronousSend v m args) → TypedAction p f x (redex_action p o x u (R.SynchronousSend v m args))
 request_typed p f x o (V.Ref b) m args u q replacement activities =
     let sp = replacement Waits f refl (grows_itself f) in
     let there : IsTrue (is_some (f b)) = true_not _ sp.typed.0 in
-    let w = statements_wait b m (R.Request (V.Ref b) m args) u refl [] x.term q [] in (
+    let w = statements_wait b m (R.SynchronousSend (V.Ref b) m args) u refl [] x.term q [] in (
       receiver p f x.class sp.spot b m args sp.typed.0 sp.typed.1 sp.typed.2,
       sp.filled (AsExpression (T.Wait b m)) (T.Wait b m, refl, (λ h room. (refl, room, there)), Stays refl),
       (λ n. served_kept n activities (AsExpression (T.Wait b m)) refl (rw activities.ends refl)),

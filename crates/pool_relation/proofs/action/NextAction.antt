@@ -4,7 +4,7 @@ use Rattle.pool_syntax.specs.Terms.{Store, ProgramTree}
 use Rattle.pool_syntax.specs.Classes.{class_of}
 use Rattle.pool_syntax.specs.Typing.{faults}
 use Rattle.pool_relation.specs.Reducible as R
-use Rattle.pool_relation.specs.Reducible.{Choice, Reducible, Found, Evaluated, At, Part, AsExpression, AsStatements, fill_statements, statements_redex}
+use Rattle.pool_relation.specs.Reducible.{Choice, Reducible, Found, Evaluated, At, Contractum, AsExpression, AsStatements, fill_statements, statements_redex}
 use Rattle.pool_relation.specs.Action.{Object, action, redex_action, found_action}
 use Rattle.pool_relation.specs.Written.{is_written}
 use Rattle.pool_relation.proofs.typing.TypedTerm.{Waits}
@@ -29,7 +29,7 @@ redex_action_typed p f x o (R.Make c) u none written here known vars q replaceme
 redex_action_typed p f x o (R.Unary op v) u none written here known vars q replacement activities = unary_typed p f x o op v u vars replacement activities
 redex_action_typed p f x o (R.Binary op v w) u none written here known vars q replacement activities = binary_typed p f x o op v w u vars replacement activities
 redex_action_typed p f x o (R.Invoke m args) u none written here known vars q replacement activities = invoke_typed p f x o m args u none written vars replacement activities
-redex_action_typed p f x o (R.Request v m args) u none written here known vars q replacement activities = request_typed p f x o v m args u q replacement activities
+redex_action_typed p f x o (R.SynchronousSend v m args) u none written here known vars q replacement activities = request_typed p f x o v m args u q replacement activities
 redex_action_typed p f x o (R.Leave v) u none written here known vars q replacement activities = leave_typed p f x o v u vars replacement activities
 redex_action_typed p f x o (R.Waiting b m) u none written here known vars q replacement activities = waiting_typed p f x o b m u replacement activities
 redex_action_typed p f x o (R.Set n v) u none written here known vars q replacement activities = set_typed p f x o n v u known vars replacement activities

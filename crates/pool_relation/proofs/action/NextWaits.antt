@@ -1,12 +1,12 @@
 -- An object waits next only where its redex is a wait.
 use Rattle.std.proofs.Common.{◌≡◌, refl, ap, ◌∙◌, ℕ, List, [], length, Option, Some, None, is_some, Bool, true, false, if◌then◌else◌, arith}
 use Rattle.std.specs.List.{list_any}
-use Rattle.pool_syntax.specs.declared.words.Error.TheVariants.{NoOpenGuard, NilOperand}
-use Rattle.pool_syntax.specs.declared.words.Value.{Value}
-use Rattle.pool_syntax.specs.declared.words.Value.TheVariants as V
+use Rattle.run_words.specs.declared.words.Error.TheVariants.{NoOpenGuard, NilOperand}
+use Rattle.run_words.specs.declared.words.Value.{Value}
+use Rattle.run_words.specs.declared.words.Value.TheVariants as V
 use Rattle.pool_syntax.specs.Terms.{Store, Statements, MethodTree, ProgramTree}
 use Rattle.pool_syntax.specs.Classes.{class_of}
-use Rattle.pool_syntax.specs.Values.{Outcome, Gives, Fails, WrongSort, prefix_value, infix_value, is_nil, not_bool, is_true}
+use Rattle.run_words.specs.Values.{Outcome, Gives, Fails, WrongSort, prefix_value, infix_value, is_nil, not_bool, is_true}
 use Rattle.pool_relation.specs.Reducible as R
 use Rattle.pool_relation.specs.Reducible.{Choice, Reducible, Found, Evaluated, At, Waiting, statements_redex}
 use Rattle.pool_relation.specs.Action as A
@@ -58,10 +58,10 @@ waits_only p o x u r b m e = by r (ap is_waits e) e
     by (R.Unary op v) i k = absurd (no _ i (outcome_waits x (prefix_value op v)))
     by (R.Binary op v w) i k = absurd (no _ i (outcome_waits x (infix_value op v w)))
     by (R.Invoke n args) i k = absurd (no _ i (call_waits x args (method_of p x.class n (length args))))
-    by (R.Request (V.Ref n) q args) i k = absurd (grind (arith, i))
-    by (R.Request (V.Int z) q args) i k = absurd (grind (arith, i))
-    by (R.Request (V.Bool z) q args) i k = absurd (grind (arith, i))
-    by (R.Request V.Nil q args) i k = absurd (grind (arith, i))
+    by (R.SynchronousSend (V.Ref n) q args) i k = absurd (grind (arith, i))
+    by (R.SynchronousSend (V.Int z) q args) i k = absurd (grind (arith, i))
+    by (R.SynchronousSend (V.Bool z) q args) i k = absurd (grind (arith, i))
+    by (R.SynchronousSend V.Nil q args) i k = absurd (grind (arith, i))
     by (R.Leave v) i k = absurd (grind (arith, i))
     by (R.Waiting c n) i k = let f : c ≡ b = cc in let g : n ≡ m = cc in cc
     by (R.Set n v) i k = absurd (no _ i (chosen_waits (is_some (value_of u n)) _ _ refl (chosen_waits (is_some (value_of x.vars n)) _ _ refl refl)))

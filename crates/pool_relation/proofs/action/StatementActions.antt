@@ -1,18 +1,18 @@
 -- What a typed object does next where its redex is a statement, or a message that it sends.
 use Rattle.std.proofs.Common.{◌≡◌, refl, sym, ap, ◌∙◌, subst, IsTrue, ℕ, List, [], ◌∷◌, ◌++◌, append-nil, Option, Some, None, Bool, true, false, if◌then◌else◌, arith}
 use Rattle.std.specs.List.{list_any}
-use Rattle.pool_syntax.specs.declared.words.Error.TheVariants.{NoOpenGuard}
-use Rattle.pool_syntax.specs.declared.words.Value.{Value}
-use Rattle.pool_syntax.specs.declared.words.Item.{Item}
+use Rattle.run_words.specs.declared.words.Error.TheVariants.{NoOpenGuard}
+use Rattle.run_words.specs.declared.words.Value.{Value}
+use Rattle.run_words.specs.declared.words.Item.{Item}
 use Rattle.pool_syntax.specs.declared.tree.Named.{Named}
 use Rattle.pool_syntax.specs.declared.tree.Var.{Var}
 use Rattle.pool_syntax.specs.Terms as T
 use Rattle.pool_syntax.specs.Terms.{Store, Expression, Statements, MethodTree, ClassTree, ProgramTree, append}
 use Rattle.pool_syntax.specs.Classes.{class_of}
 use Rattle.pool_syntax.specs.Typing.{var_of, kind_sort, Scope, value_sort, vars_of_class, name_sort}
-use Rattle.pool_syntax.specs.Values.{is_nil, not_bool, is_true}
+use Rattle.run_words.specs.Values.{is_nil, not_bool, is_true}
 use Rattle.pool_relation.specs.Reducible as R
-use Rattle.pool_relation.specs.Reducible.{Choice, Reducible, Found, Evaluated, At, Part, AsExpression, AsStatements, fill_statements, statements_redex}
+use Rattle.pool_relation.specs.Reducible.{Choice, Reducible, Found, Evaluated, At, Contractum, AsExpression, AsStatements, fill_statements, statements_redex}
 use Rattle.pool_relation.specs.Action as A
 use Rattle.pool_relation.specs.Action.{Object, Action, action, redex_action, found_action, method_of, method_in, with_count, temps_of, value_of, on_assignment, on_branch, on_select, literal, becomes, becomes_value, on_outcome, read}
 use Rattle.pool_relation.specs.Transition.{returned, work_left}

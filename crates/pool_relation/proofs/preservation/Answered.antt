@@ -1,8 +1,8 @@
 -- A call is answered: a typed configuration stays so.
 use Rattle.std.proofs.Common.{◌≡◌, refl, sym, ap, ◌∙◌, subst, IsTrue, ℕ, List, [], ◌∷◌, ◌++◌, length, Some, None, false, not, ◌&&◌, ◌==◌, ◌⊎◌, inl, inr, ◌≢◌, append-nil, arith}
-use Rattle.pool_syntax.specs.declared.words.Value.{Value}
-use Rattle.pool_syntax.specs.declared.words.NameId.{NameId}
-use Rattle.pool_syntax.specs.declared.words.Label.TheVariants as L
+use Rattle.run_words.specs.declared.words.Value.{Value}
+use Rattle.run_words.specs.declared.words.NameId.{NameId}
+use Rattle.run_words.specs.declared.words.Label.TheVariants as L
 use Rattle.pool_syntax.specs.Terms as T
 use Rattle.pool_syntax.specs.Terms.{MethodTree, ProgramTree}
 use Rattle.pool_syntax.specs.Typing.{faults}
@@ -11,11 +11,11 @@ use Rattle.pool_relation.specs.Action as A
 use Rattle.pool_relation.specs.Action.{Object, Action, action, method_of}
 use Rattle.pool_relation.specs.Configuration.{Configuration, object_of, put_object, messages_of}
 use Rattle.pool_relation.specs.Transition.{running, calls, has_message, Offer, offer, refilled, serving, transition}
-use Rattle.mesh_semantics.specs.Same.{are_same}
+use Rattle.run_words.specs.Same.{are_same}
 use Rattle.pool_relation.specs.UnderWay.{Serving, served_for, serves}
 use Rattle.pool_relation.specs.Typed.{class_at}
 use Rattle.pool_relation.specs.Written.{is_written}
-use Rattle.mesh_semantics.proofs.Laws.{first, second, equal, equals, decide, differ, same_some, given_by, required, same_values}
+use Rattle.run_words.proofs.Laws.{first, second, equal, equals, decide, differ, same_some, given_by, required, same_values}
 use Rattle.pool_relation.proofs.typing.TypedTerm.{Nothing, Methods, TypedStatements}
 use Rattle.pool_relation.proofs.redex.TypedRedex.{Spot, at, FitValues}
 use Rattle.pool_relation.proofs.action.TypedAction.{place, CanReceive, TakesStatements, TypedAction}

@@ -1,7 +1,7 @@
 -- Each transition keeps a typed configuration so.
 use Rattle.std.proofs.Common.{◌≡◌, subst, Some, List, [], ◌∷◌, IsTrue}
-use Rattle.pool_syntax.specs.declared.words.Label.{Label}
-use Rattle.pool_syntax.specs.declared.words.Label.TheVariants as L
+use Rattle.run_words.specs.declared.words.Label.{Label}
+use Rattle.run_words.specs.declared.words.Label.TheVariants as L
 use Rattle.pool_syntax.specs.Terms.{ProgramTree}
 use Rattle.pool_syntax.specs.Typing.{faults}
 use Rattle.pool_relation.specs.Configuration.{Configuration}
@@ -9,7 +9,7 @@ use Rattle.pool_relation.specs.Transition.{transition, run}
 use Rattle.pool_relation.specs.Written.{is_written}
 use Rattle.pool_relation.specs.Typed.{Typed}
 use Rattle.pool_relation.proofs.Invariant.{Invariant, invariant_of, typed_of}
-use Rattle.mesh_semantics.proofs.Laws.{same_some, given_by}
+use Rattle.run_words.proofs.Laws.{same_some, given_by}
 use Rattle.pool_relation.proofs.preservation.OneObject.{local_kept, write_kept, fault_kept, pick_kept}
 use Rattle.pool_relation.proofs.preservation.Messages.{send_kept, take_kept}
 use Rattle.pool_relation.proofs.preservation.NewObject.{new_kept}

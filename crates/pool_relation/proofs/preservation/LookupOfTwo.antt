@@ -1,6 +1,6 @@
 -- Two objects are put.
 use Rattle.std.proofs.Common.{◌≡◌, refl, sym, ap, ◌∙◌, subst, IsTrue, ℕ, Some, is_some, ◌⊎◌, inl, inr, ◌≢◌}
-use Rattle.pool_syntax.specs.declared.words.Error.{Error}
+use Rattle.run_words.specs.declared.words.Error.{Error}
 use Rattle.pool_syntax.specs.Terms.{ProgramTree}
 use Rattle.pool_syntax.specs.Classes.{class_of}
 use Rattle.pool_relation.specs.Action as A
@@ -11,7 +11,7 @@ use Rattle.pool_relation.proofs.action.TypedAction.{TypedObject}
 use Rattle.pool_relation.proofs.Lookup.{Put, New, Old, put_cases}
 use Rattle.pool_relation.proofs.Invariant.{classes}
 use Rattle.pool_relation.proofs.preservation.Moves.{Anew, Moves, forward_grows, object_grown}
-use Rattle.mesh_semantics.proofs.Laws.{same_some}
+use Rattle.run_words.proofs.Laws.{same_some}
 
 -- each name after two objects were put
 pub data Lookup (c : Configuration) (o : ℕ) (y : Object) (n : ℕ) (z : Object) (q : ℕ) : Type 0 where

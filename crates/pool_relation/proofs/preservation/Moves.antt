@@ -1,19 +1,19 @@
 -- What of a typed configuration stays where objects are replaced and added.
 use Rattle.std.proofs.Common.{◌≡◌, refl, sym, ap, ◌∙◌, subst, IsTrue, ℕ, List, [], ◌∷◌, Option, Some, None, is_some, length, ◌⊎◌, inl, inr, arith}
-use Rattle.pool_syntax.specs.declared.words.Error.{Error}
-use Rattle.pool_syntax.specs.declared.words.Value.{Value}
+use Rattle.run_words.specs.declared.words.Error.{Error}
+use Rattle.run_words.specs.declared.words.Value.{Value}
 use Rattle.pool_syntax.specs.declared.tree.Var.{Var}
 use Rattle.pool_syntax.specs.Terms.{MethodTree, ProgramTree}
 use Rattle.pool_syntax.specs.Classes.{class_of}
 use Rattle.pool_syntax.specs.Typing.{Scope, vars_of_class}
 use Rattle.pool_relation.specs.Action as A
 use Rattle.pool_relation.specs.Action.{Object, action, method_of}
-use Rattle.mesh_semantics.specs.Tables.{Pair}
-use Rattle.mesh_semantics.specs.Message.{Message}
+use Rattle.run_words.specs.Tables.{Pair}
+use Rattle.run_words.specs.Message.{Message}
 use Rattle.pool_relation.specs.Configuration.{Configuration, object_of, put_object}
 use Rattle.pool_relation.specs.UnderWay.{serves}
 use Rattle.pool_relation.specs.Typed.{class_at, scope, fits, all_fit}
-use Rattle.mesh_semantics.proofs.Laws.{same_some, first, second, both}
+use Rattle.run_words.proofs.Laws.{same_some, first, second, both}
 use Rattle.pool_relation.proofs.typing.TypedTerm.{Waits}
 use Rattle.pool_relation.proofs.typing.Grown.{Grows, grown, fits_grown, store_grown, statements_grown}
 use Rattle.pool_relation.proofs.action.TypedAction.{place, TypedObject}

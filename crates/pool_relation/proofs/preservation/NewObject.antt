@@ -1,8 +1,8 @@
 -- An object is made: a typed configuration stays so.
 use Rattle.std.proofs.Common.{◌≡◌, refl, sym, ap, ◌∙◌, subst, IsTrue, ℕ, [], Option, Some, None, is_some, is_none, ◌&&◌, ◌⊎◌, inl, inr, arith}
-use Rattle.pool_syntax.specs.declared.words.Value.TheVariants as V
-use Rattle.pool_syntax.specs.declared.words.NameId.{NameId}
-use Rattle.pool_syntax.specs.declared.words.Label.TheVariants as L
+use Rattle.run_words.specs.declared.words.Value.TheVariants as V
+use Rattle.run_words.specs.declared.words.NameId.{NameId}
+use Rattle.run_words.specs.declared.words.Label.TheVariants as L
 use Rattle.pool_syntax.specs.Terms.{ClassTree, ProgramTree}
 use Rattle.pool_syntax.specs.Classes.{class_of}
 use Rattle.pool_syntax.specs.Typing.{faults, vars_of_class}
@@ -13,7 +13,7 @@ use Rattle.pool_relation.specs.Transition.{running, makes, given, new_object, tr
 use Rattle.pool_relation.specs.UnderWay.{serves}
 use Rattle.pool_relation.specs.Typed.{class_at, is_store_of}
 use Rattle.pool_relation.specs.Written.{is_written}
-use Rattle.mesh_semantics.proofs.Laws.{first, second, equal, same_some, given_by, required}
+use Rattle.run_words.proofs.Laws.{first, second, equal, same_some, given_by, required}
 use Rattle.pool_relation.proofs.typing.TypedTerm.{Nothing, Methods, Waits, TypedStatements}
 use Rattle.pool_relation.proofs.typing.Weaker.{nothing_below, statements_weaker}
 use Rattle.pool_relation.proofs.typing.Grown.{Grows}

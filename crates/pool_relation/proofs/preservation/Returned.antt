@@ -1,11 +1,11 @@
 -- A call returns: a typed configuration stays so.
 use Rattle.std.proofs.Common.{◌≡◌, refl, sym, ap, ◌∙◌, subst, IsTrue, ℕ, List, [], ◌∷◌, ◌++◌, Option, Some, None, false, ◌&&◌, ◌==◌, ◌⊎◌, inl, inr, ◌≢◌, append-nil, arith}
-use Rattle.pool_syntax.specs.declared.words.Value.{Value}
-use Rattle.pool_syntax.specs.declared.words.Label.TheVariants as L
+use Rattle.run_words.specs.declared.words.Value.{Value}
+use Rattle.run_words.specs.declared.words.Label.TheVariants as L
 use Rattle.pool_syntax.specs.Terms.{ProgramTree}
 use Rattle.pool_syntax.specs.Classes.{named_method}
 use Rattle.pool_syntax.specs.Typing.{faults, value_sort, object_sort, send_sort, methods_of}
-use Rattle.pool_syntax.specs.Values.{is_same}
+use Rattle.run_words.specs.Values.{is_same}
 use Rattle.pool_relation.specs.Action as A
 use Rattle.pool_relation.specs.Action.{Object, Action, action, method_of}
 use Rattle.pool_relation.specs.Configuration.{Configuration, object_of, put_object}
@@ -13,7 +13,7 @@ use Rattle.pool_relation.specs.Transition.{running, returns, waits_on, returned,
 use Rattle.pool_relation.specs.UnderWay.{served_for, serves}
 use Rattle.pool_relation.specs.Typed.{class_at}
 use Rattle.pool_relation.specs.Written.{is_written}
-use Rattle.mesh_semantics.proofs.Laws.{first, second, equal, decide, same_some, given_by, required, same_value}
+use Rattle.run_words.proofs.Laws.{first, second, equal, decide, same_some, given_by, required, same_value}
 use Rattle.pool_relation.proofs.typing.Sorts.{MayBecome}
 use Rattle.pool_relation.proofs.typing.Declared.{gives_known}
 use Rattle.pool_relation.proofs.typing.Checked.{class_known}

@@ -2,7 +2,8 @@
 use Rattle.std.proofs.Common.{◌≡◌, refl, sym, ap, ◌∙◌, subst, IsTrue, ℕ, List, [], ◌∷◌, ◌++◌, append_assoc, Bool, true, false, arith}
 use Rattle.pool_syntax.specs.Terms.{Store, Expression, Expressions, Statement, Statements, Done, Then, Alternatives, append}
 use Rattle.pool_syntax.specs.Typing.{Scope, value_sort, own_method}
-use Rattle.pool_relation.specs.Reducible.{Reducible, At, OwnName, Read, Make, Unary, Binary, Invoke, Request, Leave, Waiting, Finish, Part, AsExpression, AsStatements, as_expression, as_statements, fill_expression, fill_expressions, fill_statement, fill_statements, fill_guards, expression_redex, expressions_redex, statement_redex, statements_redex, guards_redex}
+use Rattle.pool_relation.specs.Reducible.{Reducible, At, OwnName, Read, Make, Unary, Binary, Invoke, SynchronousSend, Leave, Waiting, Finish, Contractum, AsExpression, AsStatements, as_expression, as_statements, fill_expression, fill_expressions, fill_statement, fill_statements, fill_guards, expression_redex, expressions_redex, statement_redex, statements_redex}
+use Rattle.pool_relation.specs.Reducible.{guards_redex}
 use Rattle.pool_relation.specs.UnderWay.{Activity, Own, Serving, in_expression, in_expressions, in_statement, in_statements, in_guards, serves}
 use Rattle.pool_relation.proofs.typing.TypedTerm.{gives}
 
@@ -21,49 +22,49 @@ is_statement (Make c) = false
 is_statement (Unary op v) = false
 is_statement (Binary op v w) = false
 is_statement (Invoke m vs) = false
-is_statement (Request v m vs) = false
+is_statement (SynchronousSend v m vs) = false
 is_statement (Leave v) = false
 is_statement (Waiting b m) = false
 is_statement _ = true
 
 -- whether the part can take the redex's place
-abbrev pub Matches : Reducible → Part → Type 0
+abbrev pub Matches : Reducible → Contractum → Type 0
 Matches r (AsExpression e) = is_statement r ≡ false
 Matches r (AsStatements ss) = is_statement r ≡ true
 
-abbrev pub in_part : Part → List Activity
+abbrev pub in_part : Contractum → List Activity
 in_part (AsExpression e) = in_expression e
 in_part (AsStatements ss) = in_statements ss
 
 -- what is under way before the redex, and in it; a part in its place puts what is under way in it there
-pub record Activities (g : Scope) (r : Reducible) (old : List Activity) (new : Part → List Activity) : Type 0 where
+pub record Activities (g : Scope) (r : Reducible) (old : List Activity) (new : Contractum → List Activity) : Type 0 where
   pub before : List Activity
   pub now : List Activity
   pub old_is : old ≡ before ++ now
-  pub new_is : (x : Part) → Matches r x → new x ≡ before ++ in_part x
+  pub new_is : (x : Contractum) → Matches r x → new x ≡ before ++ in_part x
   pub ends : Ends g r now
 
 -- the same, with other names
-pub same : {g : Scope} {r : Reducible} {old old' : List Activity} {new new' : Part → List Activity} → Activities g r old new → old' ≡ old
-    → ((x : Part) → new' x ≡ new x) → Activities g r old' new'
+pub same : {g : Scope} {r : Reducible} {old old' : List Activity} {new new' : Contractum → List Activity} → Activities g r old new → old' ≡ old
+    → ((x : Contractum) → new' x ≡ new x) → Activities g r old' new'
 same b o n = record { before = b.before; now = b.now; old_is = o ∙ b.old_is; new_is = λ x k. n x ∙ b.new_is x k; ends = b.ends }
 
 -- behind a method under way
-pub behind_one : {g : Scope} {r : Reducible} {old old' : List Activity} {new new' : Part → List Activity} (a : Activity)
-    → Activities g r old new → old' ≡ a ∷ old → ((x : Part) → new' x ≡ a ∷ new x) → Activities g r old' new'
+pub behind_one : {g : Scope} {r : Reducible} {old old' : List Activity} {new new' : Contractum → List Activity} (a : Activity)
+    → Activities g r old new → old' ≡ a ∷ old → ((x : Contractum) → new' x ≡ a ∷ new x) → Activities g r old' new'
 behind_one a b o n = record { before = a ∷ b.before; now = b.now; old_is = o ∙ ap (λ l. a ∷ l) b.old_is; new_is = λ x k. n x ∙ ap (λ l. a ∷ l) (b.new_is x k); ends = b.ends }
 
 -- here
-pub at_once : {g : Scope} {old : List Activity} {new : Part → List Activity} (a r : Reducible) → a ≡ r → Ends g a old
-    → ((x : Part) → Matches a x → new x ≡ in_part x) → Activities g r old new
+pub at_once : {g : Scope} {old : List Activity} {new : Contractum → List Activity} (a r : Reducible) → a ≡ r → Ends g a old
+    → ((x : Contractum) → Matches a x → new x ≡ in_part x) → Activities g r old new
 at_once {g} {old} {new} a r e d n = subst (λ (b : Reducible). Activities g b old new) e (record { before = []; now = old; old_is = refl; new_is = n; ends = d })
 
-pub placed_expression : (r : Reducible) (x : Part) (old : Expression) → is_statement r ≡ false → Matches r x
+pub placed_expression : (r : Reducible) (x : Contractum) (old : Expression) → is_statement r ≡ false → Matches r x
     → in_expression (as_expression x old) ≡ in_part x
 placed_expression r (AsExpression e) old s k = refl
 placed_expression r (AsStatements ss) old s k = absurd (grind (arith, s, k))
 
-pub placed_statement : (r : Reducible) (x : Part) (old : Statement) → is_statement r ≡ true → Matches r x
+pub placed_statement : (r : Reducible) (x : Contractum) (old : Statement) → is_statement r ≡ true → Matches r x
     → in_statements (as_statements x old) ≡ in_part x
 placed_statement r (AsExpression e) old s k = absurd (grind (arith, s, k))
 placed_statement r (AsStatements ss) old s k = refl

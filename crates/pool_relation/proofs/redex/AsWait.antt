@@ -1,15 +1,16 @@
 -- A term in which a wait took the place of a send waits next.
 use Rattle.std.proofs.Common.{◌≡◌, refl, sym, ap, ℕ, List, [], ◌∷◌, Option, None, Bool, true, false, ◌⊎◌, inl, inr, arith}
-use Rattle.pool_syntax.specs.declared.words.Value.{Value}
-use Rattle.pool_syntax.specs.declared.words.Op.{Op}
-use Rattle.pool_syntax.specs.declared.words.Item.TheVariants as I
+use Rattle.run_words.specs.declared.words.Value.{Value}
+use Rattle.run_words.specs.declared.words.Op.{Op}
+use Rattle.run_words.specs.declared.words.Item.TheVariants as I
 use Rattle.pool_syntax.specs.declared.tree.Named.{Named}
 use Rattle.pool_syntax.specs.Terms.{Store, Expression, Literal, Me, Variable, Create, Prefix, Infix, Call, Send, Frame, Wait, Expressions, NoArgs, Arg, Statement, Assign, Write, WriteText, Do, Async, If, While, Answer, Select, Serve, Statements, Done, Then, Alternatives, NoAlts, Alt, append}
-use Rattle.pool_relation.specs.Reducible.{Choice, Reducible, Found, Evaluated, At, and_then, OwnName, Read, Make, Unary, Binary, Invoke, Request, Leave, Waiting, Set, Print, Drop, Post, Branch, Loop, Accept, Choose, Finish, left_served, Part, AsExpression, is_value, assigned, fill_expression, fill_expressions, fill_statement, fill_statements, fill_guards, expression_redex, expressions_redex, statement_redex, statements_redex, guards_redex}
+use Rattle.pool_relation.specs.Reducible.{Choice, Reducible, Found, Evaluated, At, and_then, OwnName, Read, Make, Unary, Binary, Invoke, SynchronousSend, Leave, Waiting, Set, Print, Drop, Post, Branch, Loop, Accept, Choose, Finish, left_served, Contractum, AsExpression, is_value, assigned, fill_expression, fill_expressions, fill_statement, fill_statements, fill_guards, expression_redex, expressions_redex, statement_redex, statements_redex}
+use Rattle.pool_relation.specs.Reducible.{guards_redex}
 use Rattle.pool_relation.proofs.redex.RedexSearch.{split, split_last, split_more, literal_is, not_value, not_values, not_guards, arguments_are, at_is_no_value, InMethod, InBody, InValue, InPost, AtEnd, in_method}
 
 abbrev is_request : Reducible → Bool
-is_request (Request v m vs) = true
+is_request (SynchronousSend v m vs) = true
 is_request _ = false
 
 at_no_request : {A : Type 0} (a : Reducible) (t : Store) (r : Reducible) (u : Store) → is_request r ≡ true
@@ -24,7 +25,7 @@ literal_again : (t t' : Store) (e : Expression) (v : Value) → expression_redex
 literal_again t t' e v q = ap (expression_redex t') (literal_is t e v q).1
 
 module _ (b m : ℕ) (r : Reducible) (u : Store) (is : is_request r ≡ true) where
-  abbrev x : Part
+  abbrev x : Contractum
   x = AsExpression (Wait b m)
 
   prefix_waits : (t : Store) (op : Op) (e : Expression) (p : ℕ)
@@ -74,7 +75,7 @@ module _ (b m : ℕ) (r : Reducible) (u : Store) (is : is_request r ≡ true) wh
   send_waits t e n es p to rest q t' = by (split (expression_redex t e) _ r u q)
     where
       behind : (v : Value) → expression_redex t e ≡ Evaluated v
-          → (expressions_redex t es ≡ At r u) ⊎ ((vs : List Value) × (expressions_redex t es ≡ Evaluated vs) × (Request v n vs ≡ r) × (t ≡ u))
+          → (expressions_redex t es ≡ At r u) ⊎ ((vs : List Value) × (expressions_redex t es ≡ Evaluated vs) × (SynchronousSend v n vs ≡ r) × (t ≡ u))
           → (w : Store) × (expression_redex t' (fill_expression (Send e n es p) x) ≡ At (Waiting b m) w)
       behind v a (inl k) =
           let i = rest k t' in
@@ -84,10 +85,10 @@ module _ (b m : ℕ) (r : Reducible) (u : Store) (is : is_request r ≡ true) wh
           let f : is_value e ≡ true = ap is_value (literal_is t e v a).1 in
           (t', rw (f, arguments_are t es k.0 k.1) refl)
 
-      by : (expression_redex t e ≡ At r u) ⊎ ((v : Value) × (expression_redex t e ≡ Evaluated v) × (and_then {B = Value} (expressions_redex t es) (λ vs. At (Request v n vs) t) ≡ At r u))
+      by : (expression_redex t e ≡ At r u) ⊎ ((v : Value) × (expression_redex t e ≡ Evaluated v) × (and_then {B = Value} (expressions_redex t es) (λ vs. At (SynchronousSend v n vs) t) ≡ At r u))
           → (w : Store) × (expression_redex t' (fill_expression (Send e n es p) x) ≡ At (Waiting b m) w)
       by (inl k) = let i = to k t' in (i.0, rw (not_value t e r u k) (rw i.1 refl))
-      by (inr k) = behind k.0 k.1 (split_last (expressions_redex t es) (λ vs. Request k.0 n vs) t r u k.2)
+      by (inr k) = behind k.0 k.1 (split_last (expressions_redex t es) (λ vs. SynchronousSend k.0 n vs) t r u k.2)
 
   frame_waits : (t : Store) (n : ℕ) (a : Store) (ss : Statements) (e : Expression) (qs : Statements)
       → (statements_redex a ss ≡ At r u → NowWaits b m statements_redex (fill_statements ss x))

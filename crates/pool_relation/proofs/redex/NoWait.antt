@@ -1,10 +1,11 @@
 -- A part in which no wait stands does not wait next.
 use Rattle.std.proofs.Common.{◌≡◌, refl, sym, ℕ, ◌+◌, List, [], ◌∷◌, Option, Some, None, is_none, Bool, true, false, arith}
-use Rattle.pool_syntax.specs.declared.words.Item.TheVariants as I
+use Rattle.run_words.specs.declared.words.Item.TheVariants as I
 use Rattle.pool_syntax.specs.declared.tree.Var.{Var}
 use Rattle.pool_syntax.specs.Terms.{Store, Expression, Literal, Me, Variable, Create, Prefix, Infix, Call, Send, Frame, Wait, Expressions, NoArgs, Arg, Statement, Assign, Write, WriteText, Do, Async, If, While, Answer, Select, Serve, Statements, Done, Then, Alternatives, NoAlts, Alt}
 use Rattle.pool_syntax.specs.Typing.{Scope, sort_of, inside, behind_value, own_method, params_of, sent_method}
-use Rattle.pool_relation.specs.Reducible.{Reducible, Found, Evaluated, At, and_then, OwnName, Read, Make, Unary, Binary, Invoke, Request, Leave, Waiting, Set, Print, Drop, Post, Branch, Loop, Accept, Choose, Finish, in_post, left_served, is_value, is_done, expression_redex, expressions_redex, statement_redex, statements_redex, guards_redex}
+use Rattle.pool_relation.specs.Reducible.{Reducible, Found, Evaluated, At, and_then, OwnName, Read, Make, Unary, Binary, Invoke, SynchronousSend, Leave, Waiting, Set, Print, Drop, Post, Branch, Loop, Accept, Choose, Finish, in_post, left_served, is_value, is_done, expression_redex, expressions_redex, statement_redex, statements_redex}
+use Rattle.pool_relation.specs.Reducible.{guards_redex}
 use Rattle.pool_relation.proofs.typing.TypedTerm.{Holds, has_waits, past, TypedExpression, TypedArguments, TypedStatement, TypedStatements, TypedAlternatives}
 use Rattle.pool_relation.proofs.redex.RedexSearch.{at_is_no_value}
 
@@ -53,7 +54,7 @@ mutual
   expression_no_wait k g h t (Call m es p) w d = last_no_wait (expressions_redex t es) (Invoke m) t (arguments_no_wait k g h (params_of (own_method g m)) t es w d.2) (λ v. refl)
   expression_no_wait k g h t (Send e m es p) w d =
       both_no_wait (expression_redex t e) _ (expression_no_wait k g h t e w d.1)
-      (λ v. last_no_wait (expressions_redex t es) (λ vs. Request v m vs) t (arguments_no_wait (past (is_value e) k) g (h + 1) (params_of (sent_method g (sort_of g e) m)) t es (past_no_waits (is_value e) k w) d.3) (λ a. refl))
+      (λ v. last_no_wait (expressions_redex t es) (λ vs. SynchronousSend v m vs) t (arguments_no_wait (past (is_value e) k) g (h + 1) (params_of (sent_method g (sort_of g e) m)) t es (past_no_waits (is_value e) k w) d.3) (λ a. refl))
   expression_no_wait k g h t (Frame m u ss e qs) w d =
       both_no_wait (statements_redex u ss) _ (statements_no_wait k (inside g m) u ss w d.3)
       (λ done. both_no_wait (expression_redex u e) _ (expression_no_wait (past (is_done ss) k) (inside g m) 0 u e (past_no_waits (is_done ss) k w) d.4)

@@ -1,13 +1,14 @@
 -- What is under way in a part, by what is under way in the parts inside.
 use Rattle.std.proofs.Common.{◌≡◌, refl, ap, ◌∙◌, ℕ, ◌+◌, List, [], ◌∷◌, ◌++◌, append-nil, Option, Some, None, is_none, true, false, ◌⊎◌, inl, inr, arith}
-use Rattle.pool_syntax.specs.declared.words.Value.{Value}
-use Rattle.pool_syntax.specs.declared.words.Op.{Op}
-use Rattle.pool_syntax.specs.declared.words.Item.TheVariants as I
+use Rattle.run_words.specs.declared.words.Value.{Value}
+use Rattle.run_words.specs.declared.words.Op.{Op}
+use Rattle.run_words.specs.declared.words.Item.TheVariants as I
 use Rattle.pool_syntax.specs.declared.tree.Named.{Named}
 use Rattle.pool_syntax.specs.declared.tree.Var.{Var}
 use Rattle.pool_syntax.specs.Terms.{Store, Expression, Prefix, Infix, Call, Send, Frame, Expressions, Arg, Assign, Write, Do, Async, If, Select, Serve, Statements, Done, Then, Alternatives, Alt}
 use Rattle.pool_syntax.specs.Typing.{Scope, sort_of, value_sort, inside, behind_value, params_of, sent_method}
-use Rattle.pool_relation.specs.Reducible.{Choice, Reducible, Evaluated, At, and_then, Unary, Binary, Invoke, Request, Leave, Set, Print, Drop, Post, Branch, Choose, Finish, left_served, is_over, Part, is_value, is_done, fill_expression, fill_expressions, fill_statement, fill_statements, fill_guards, expression_redex, expressions_redex, guards_redex}
+use Rattle.pool_relation.specs.Reducible.{Choice, Reducible, Evaluated, At, and_then, Unary, Binary, Invoke, SynchronousSend, Leave, Set, Print, Drop, Post, Branch, Choose, Finish, left_served, is_over, Contractum, is_value, is_done, fill_expression, fill_expressions, fill_statement, fill_statements, fill_guards, expression_redex, expressions_redex}
+use Rattle.pool_relation.specs.Reducible.{guards_redex}
 use Rattle.pool_relation.specs.UnderWay.{Activity, Own, Serving, in_expression, in_expressions, in_statement, in_statements, in_guards, serves}
 use Rattle.pool_relation.proofs.typing.TypedTerm.{Waits, past, TypedExpression, TypedArguments, TypedStatement, TypedStatements, TypedAlternatives}
 use Rattle.pool_relation.proofs.redex.RedexSearch.{split, split_last, split_more, literal_is, not_value, not_values, not_guards, arguments_are, guards_are, InMethod, InBody, InValue, InPost, AtEnd, in_method}
@@ -61,7 +62,7 @@ pub send_activities : (g : Scope) (h : ℕ) (t : Store) (e : Expression) (m : �
 send_activities g h t e m es p d to rest r u q = by (split (expression_redex t e) _ r u q)
   where
     behind : (v : Value) → expression_redex t e ≡ Evaluated v
-        → (expressions_redex t es ≡ At r u) ⊎ ((vs : List Value) × (expressions_redex t es ≡ Evaluated vs) × (Request v m vs ≡ r) × (t ≡ u))
+        → (expressions_redex t es ≡ At r u) ⊎ ((vs : List Value) × (expressions_redex t es ≡ Evaluated vs) × (SynchronousSend v m vs ≡ r) × (t ≡ u))
         → Activities g r (in_expression (Send e m es p)) (λ x. in_expression (fill_expression (Send e m es p) x))
     behind v a (inl k) =
         let f : is_value e ≡ true = ap is_value (literal_is t e v a).1 in
@@ -71,21 +72,21 @@ send_activities g h t e m es p d to rest r u q = by (split (expression_redex t e
         let f : is_value e ≡ true = ap is_value (literal_is t e v a).1 in
         let i : in_expression e ≡ [] = value_idle t e v a in
         let j : in_expressions es ≡ [] = values_idle t es k.0 k.1 in
-        at_once (Request v m k.0) r k.2 (rw (i, j) refl) (λ x c. rw (f, arguments_are t es k.0 k.1) (placed_expression (Request v m k.0) x (Send e m es p) refl c))
+        at_once (SynchronousSend v m k.0) r k.2 (rw (i, j) refl) (λ x c. rw (f, arguments_are t es k.0 k.1) (placed_expression (SynchronousSend v m k.0) x (Send e m es p) refl c))
 
-    by : (expression_redex t e ≡ At r u) ⊎ ((v : Value) × (expression_redex t e ≡ Evaluated v) × (and_then {B = Value} (expressions_redex t es) (λ vs. At (Request v m vs) t) ≡ At r u))
+    by : (expression_redex t e ≡ At r u) ⊎ ((v : Value) × (expression_redex t e ≡ Evaluated v) × (and_then {B = Value} (expressions_redex t es) (λ vs. At (SynchronousSend v m vs) t) ≡ At r u))
         → Activities g r (in_expression (Send e m es p)) (λ x. in_expression (fill_expression (Send e m es p) x))
     by (inl k) =
         let f : is_value e ≡ false = not_value t e r u k in
         let i : in_expressions es ≡ [] = arguments_idle g (h + 1) (params_of (sent_method g (sort_of g e) m)) es (rw f at d.3) in
         same (to r u k) (rw i (append-nil (in_expression e))) (λ x. rw f (rw i (append-nil (in_expression (fill_expression e x)))))
-    by (inr k) = behind k.0 k.1 (split_last (expressions_redex t es) (λ vs. Request k.0 m vs) t r u k.2)
+    by (inr k) = behind k.0 k.1 (split_last (expressions_redex t es) (λ vs. SynchronousSend k.0 m vs) t r u k.2)
 
-pub outer : {g : Scope} {r : Reducible} {old : List Activity} {new : Part → List Activity} (m : ℕ) → Activities (inside g m) r old new
+pub outer : {g : Scope} {r : Reducible} {old : List Activity} {new : Contractum → List Activity} (m : ℕ) → Activities (inside g m) r old new
     → Activities g r old new
 outer m b = record { before = b.before; now = b.now; old_is = b.old_is; new_is = b.new_is; ends = b.ends }
 
-pub outer_post : {g : Scope} {r : Reducible} {old : List Activity} {new : Part → List Activity} (m : ℕ) → Activities (behind_value (inside g m)) r old new
+pub outer_post : {g : Scope} {r : Reducible} {old : List Activity} {new : Contractum → List Activity} (m : ℕ) → Activities (behind_value (inside g m)) r old new
     → Activities g r old new
 outer_post m b = record { before = b.before; now = b.now; old_is = b.old_is; new_is = b.new_is; ends = b.ends }
 

@@ -1,12 +1,14 @@
 -- The redex of a typed expression, part by part.
 use Rattle.std.proofs.Common.{◌≡◌, refl, ap, subst, IsTrue, ℕ, suc, ◌+◌, List, [], ◌∷◌, length, Option, true, false, ◌⊎◌, inl, inr}
-use Rattle.pool_syntax.specs.declared.words.Value.{Value}
-use Rattle.pool_syntax.specs.declared.words.Op.{Op}
+use Rattle.run_words.specs.declared.words.Value.{Value}
+use Rattle.run_words.specs.declared.words.Op.{Op}
 use Rattle.pool_syntax.specs.declared.tree.Named.{Named}
 use Rattle.pool_syntax.specs.declared.tree.Var.{Var}
 use Rattle.pool_syntax.specs.Terms.{Store, Expression, Prefix, Infix, Call, Send, Expressions, NoArgs, Arg, Statement, Statements, Alternatives, NoAlts, Alt}
-use Rattle.pool_syntax.specs.Typing.{Sort, Scope, value_sort, is_dangling, op_sort, sort_of, own_sort, send_sort, own_method, params_of, sent_method, size}
-use Rattle.pool_relation.specs.Reducible.{Choice, Reducible, Evaluated, At, and_then, Unary, Binary, Invoke, Request, Part, is_value, as_expression, as_statements, fill_expression, expression_redex, expressions_redex, guards_redex}
+use Rattle.run_words.specs.Sorts.{Sort, op_sort}
+use Rattle.pool_syntax.specs.Typing.{Scope, value_sort, is_dangling, sort_of, own_sort, send_sort, own_method, params_of, sent_method, size}
+use Rattle.pool_relation.specs.Reducible.{Choice, Reducible, Evaluated, At, and_then, Unary, Binary, Invoke, SynchronousSend, Contractum, is_value, as_expression, as_statements, fill_expression, expression_redex, expressions_redex}
+use Rattle.pool_relation.specs.Reducible.{guards_redex}
 use Rattle.pool_relation.specs.Typed.{is_store_of, has_room}
 use Rattle.pool_relation.proofs.typing.TypedTerm.{Holds, Nothing, Waits, past, TypedExpression, TypedArguments, TypedStatements, TypedAlternatives}
 use Rattle.pool_relation.proofs.redex.RedexSearch.{split, split_last, split_more, passed, literal_is, not_value, not_values, arguments_are}
@@ -23,18 +25,18 @@ literal_typed k g h t e v q d =
     (ap is_value l.1, (subst (TypedExpression k g h) l.1 d).1, ap (sort_of g) l.1)
 
 -- the part in the place of an expression
-pub placed : (j : Holds) (g : Scope) (h : ℕ) (s : Sort) (x : Part) (old : Expression) → IsTrue (has_room h) → AnExpression j g s x
+pub placed : (j : Holds) (g : Scope) (h : ℕ) (s : Sort) (x : Contractum) (old : Expression) → IsTrue (has_room h) → AnExpression j g s x
     → TypedExpression j g h (as_expression x old) × MayBecome s (sort_of g (as_expression x old))
 placed j g h s x old room a = rw a.1 (a.2 h room, a.3)
 
 -- a redex in this very place
-pub here : {j : Holds} {g : Scope} {After : Part → Type 0} (a : Reducible) (t : Store) (r : Reducible) (u : Store) → a ≡ r → t ≡ u
-    → IsTrue (is_store_of g g.temps t) → TypedRedex g a → ((x : Part) → Suits j g a x → After x) → Replacement j g r u After
+pub here : {j : Holds} {g : Scope} {After : Contractum → Type 0} (a : Reducible) (t : Store) (r : Reducible) (u : Store) → a ≡ r → t ≡ u
+    → IsTrue (is_store_of g g.temps t) → TypedRedex g a → ((x : Contractum) → Suits j g a x → After x) → Replacement j g r u After
 here {j} {g} {After} a t r u e i s d f =
     subst (λ (b : Reducible). Replacement j g b u After) e (subst (λ (w : Store). Replacement j g a w After) i (record { spot = record { temps = g.temps; held = g.held }; store = s; typed = d; filled = f }))
 
 -- the part in the place of a statement
-pub placed_statements : (j : Holds) (g : Scope) (x : Part) (old : Statement) → SomeStatements j g x
+pub placed_statements : (j : Holds) (g : Scope) (x : Contractum) (old : Statement) → SomeStatements j g x
     → TypedStatements j g (as_statements x old)
 placed_statements j g x old a = rw a.1 a.2
 
@@ -83,7 +85,7 @@ module _ (j : Holds) where
           let l = literal_typed Waits g h t e k.0 k.1 d.2 in
           here (Unary op k.0) t r u k.2 k.3 s (d.1, l.1, rw l.2 at d.3) (λ x a. rw l.0 (placed j g h (op_sort op) x (Prefix op e p) d.0 a))
 
-  infix_left : (g : Scope) (h : ℕ) (op : Op) (l m : Expression) (p : ℕ) (x : Part) → is_value l ≡ false
+  infix_left : (g : Scope) (h : ℕ) (op : Op) (l m : Expression) (p : ℕ) (x : Contractum) → is_value l ≡ false
       → TypedExpression Waits g h (Infix op l m p)
       → NewExpression j g h l x → NewExpression j g h (Infix op l m p) x
   infix_left g h op l m p x v d n =
@@ -123,7 +125,7 @@ module _ (j : Holds) where
           let f = arguments_fit Waits g h (params_of (own_method g m)) t es k.0 d.2 k.1 in
           here (Invoke m k.0) t r u k.2 k.3 s (rw f.1 d.1, f.0) (λ x a. rw (arguments_are t es k.0 k.1) (placed j g h (own_sort g m) x (Call m es p) d.0 a))
 
-  send_to : (g : Scope) (h : ℕ) (e : Expression) (m : ℕ) (es : Expressions) (p : ℕ) (x : Part) → IsTrue g.under_way
+  send_to : (g : Scope) (h : ℕ) (e : Expression) (m : ℕ) (es : Expressions) (p : ℕ) (x : Contractum) → IsTrue g.under_way
       → is_value e ≡ false → TypedExpression Waits g h (Send e m es p)
       → NewExpression j g h e x → NewExpression j g h (Send e m es p) x
   send_to g h e m es p x way v d n =
@@ -139,7 +141,7 @@ module _ (j : Holds) where
   send_replacement g h t e m es p way s d to rest r u q = by (split (expression_redex t e) _ r u q)
     where
       behind : (v : Value) → expression_redex t e ≡ Evaluated v
-          → (expressions_redex t es ≡ At r u) ⊎ ((vs : List Value) × (expressions_redex t es ≡ Evaluated vs) × (Request v m vs ≡ r) × (t ≡ u))
+          → (expressions_redex t es ≡ At r u) ⊎ ((vs : List Value) × (expressions_redex t es ≡ Evaluated vs) × (SynchronousSend v m vs ≡ r) × (t ≡ u))
           → Replacement j g r u (NewExpression j g h (Send e m es p))
       behind v k (inl i) =
           let a = literal_typed Waits g h t e v k d.1 in
@@ -147,15 +149,15 @@ module _ (j : Holds) where
       behind v k (inr i) =
           let a = literal_typed Waits g h t e v k d.1 in
           let f = arguments_fit (past (is_value e) Waits) g (h + 1) (params_of (sent_method g (sort_of g e) m)) t es i.0 d.3 i.1 in
-          here (Request v m i.0) t r u i.2 i.3 s (a.1, rw (f.1, ← a.2) d.2, rw (← a.2) f.0)
+          here (SynchronousSend v m i.0) t r u i.2 i.3 s (a.1, rw (f.1, ← a.2) d.2, rw (← a.2) f.0)
           (λ x n. rw (a.0, arguments_are t es i.0 i.1, a.2) (placed j g h (send_sort g.program (value_sort g v) m) x (Send e m es p) d.0 n))
 
-      by : (expression_redex t e ≡ At r u) ⊎ ((v : Value) × (expression_redex t e ≡ Evaluated v) × (and_then {B = Value} (expressions_redex t es) (λ vs. At (Request v m vs) t) ≡ At r u))
+      by : (expression_redex t e ≡ At r u) ⊎ ((v : Value) × (expression_redex t e ≡ Evaluated v) × (and_then {B = Value} (expressions_redex t es) (λ vs. At (SynchronousSend v m vs) t) ≡ At r u))
           → Replacement j g r u (NewExpression j g h (Send e m es p))
       by (inl k) = wider (to r u k) (λ x n. send_to g h e m es p x way (not_value t e r u k) d n)
-      by (inr k) = behind k.0 k.1 (split_last (expressions_redex t es) (λ vs. Request k.0 m vs) t r u k.2)
+      by (inr k) = behind k.0 k.1 (split_last (expressions_redex t es) (λ vs. SynchronousSend k.0 m vs) t r u k.2)
 
-  new_argument : (g : Scope) (h : ℕ) (vs : List Var) (e : Expression) (es : Expressions) (x : Part) → is_value e ≡ false
+  new_argument : (g : Scope) (h : ℕ) (vs : List Var) (e : Expression) (es : Expressions) (x : Contractum) → is_value e ≡ false
       → TypedArguments Waits g h vs (Arg e es)
       → NewExpression j g h e x → NewArguments j g h vs (Arg e es) x
   new_argument g h [] e es x v d n =
@@ -170,7 +172,7 @@ module _ (j : Holds) where
   later [] = []
   later (y ∷ vs) = vs
 
-  new_rest : (g : Scope) (h : ℕ) (vs : List Var) (e : Expression) (es : Expressions) (x : Part) → is_value e ≡ true
+  new_rest : (g : Scope) (h : ℕ) (vs : List Var) (e : Expression) (es : Expressions) (x : Contractum) → is_value e ≡ true
       → TypedArguments Waits g h vs (Arg e es)
       → NewArguments j g (h + 1) (later vs) es x → NewArguments j g h vs (Arg e es) x
   new_rest g h [] e es x v d n = rw v ((value_weaker Waits j g h e v d.0, d.1, rw v n.0), ap suc n.1)
@@ -197,12 +199,12 @@ module _ (j : Holds) where
       → AtAlternatives j g i t (Alt e names ss alts)
   alternatives_replacement g i t e names ss alts d first rest r u q = by (split (expression_redex t e) _ r u q)
     where
-      new_guard : (x : Part) → is_value e ≡ false → NewExpression j g i e x → NewAlternatives j g i (Alt e names ss alts) x
+      new_guard : (x : Contractum) → is_value e ≡ false → NewExpression j g i e x → NewAlternatives j g i (Alt e names ss alts) x
       new_guard x v n =
           let others : TypedAlternatives Nothing g (i + 1) alts = rw v at d.4 in
           rw v (n.0, need_kept _ _ _ n.1 d.1, d.2, d.3, alternatives_weaker Nothing (past (is_value (fill_expression e x)) j) g (i + 1) alts (nothing_below _) others)
 
-      new_others : (x : Part) → is_value e ≡ true → NewAlternatives j g (i + 1) alts x → NewAlternatives j g i (Alt e names ss alts) x
+      new_others : (x : Contractum) → is_value e ≡ true → NewAlternatives j g (i + 1) alts x → NewAlternatives j g i (Alt e names ss alts) x
       new_others x v n = rw v (value_weaker Waits j g i e v d.0, d.1, d.2, d.3, rw v n)
 
       by : (expression_redex t e ≡ At r u) ⊎ ((v : Value) × (expression_redex t e ≡ Evaluated v) × (and_then {B = List Choice} (guards_redex t alts) (λ cs. Evaluated (record { guard = v; answer = names; work = ss } ∷ cs)) ≡ At r u))

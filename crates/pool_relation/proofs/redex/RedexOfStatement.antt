@@ -1,11 +1,12 @@
 -- The redex of a typed term, part by part.
 use Rattle.std.proofs.Common.{◌≡◌, refl, IsTrue, ℕ, ◌+◌, List, Option, Some, None, is_none, true, false, ◌⊎◌, inl, inr, arith}
-use Rattle.pool_syntax.specs.declared.words.Value.{Value}
-use Rattle.pool_syntax.specs.declared.words.Item.TheVariants as I
-use Rattle.pool_syntax.specs.declared.tree.Kind.{Kind}
+use Rattle.run_words.specs.declared.words.Value.{Value}
+use Rattle.run_words.specs.declared.words.Item.TheVariants as I
+use Rattle.run_words.specs.declared.words.Kind.{Kind}
 use Rattle.pool_syntax.specs.Terms.{Store, Expression, Literal, Frame, Expressions, Assign, Write, Do, Async, If, Select, Serve, Statements, Done, Then, Alternatives, MethodTree}
 use Rattle.pool_syntax.specs.Typing.{Scope, value_sort, sort_of, inside, behind_value, own_method, params_of, sent_method, size}
-use Rattle.pool_relation.specs.Reducible.{Choice, Reducible, Evaluated, At, and_then, Leave, Set, Print, Drop, Post, Branch, Choose, Finish, left_served, is_over, assigned, Part, AsExpression, AsStatements, is_value, is_done, fill_expression, fill_statements, expression_redex, expressions_redex, guards_redex}
+use Rattle.pool_relation.specs.Reducible.{Choice, Reducible, Evaluated, At, and_then, Leave, Set, Print, Drop, Post, Branch, Choose, Finish, left_served, is_over, assigned, Contractum, AsExpression, AsStatements, is_value, is_done, fill_expression, fill_statements, expression_redex, expressions_redex}
+use Rattle.pool_relation.specs.Reducible.{guards_redex}
 use Rattle.pool_relation.specs.Action.{literal}
 use Rattle.pool_relation.specs.Written.{is_nil_value, is_value_for}
 use Rattle.pool_relation.specs.Typed.{is_store_of, is_value_of}
@@ -31,11 +32,11 @@ value_of_kept (Some m) e e' v h = by m.outcome h
     by (Some k) i = refl
 
 -- a spot in a method under way
-outer : {j : Holds} {g : Scope} {r : Reducible} {u : Store} {A : Part → Type 0} (m : ℕ) → Replacement j (inside g m) r u A → Replacement j g r u A
+outer : {j : Holds} {g : Scope} {r : Reducible} {u : Store} {A : Contractum → Type 0} (m : ℕ) → Replacement j (inside g m) r u A → Replacement j g r u A
 outer m s = record { spot = s.spot; store = s.store; typed = s.typed; filled = s.filled }
 
 -- one in its post statements
-outer_post : {j : Holds} {g : Scope} {r : Reducible} {u : Store} {A : Part → Type 0} (m : ℕ) → Replacement j (behind_value (inside g m)) r u A
+outer_post : {j : Holds} {g : Scope} {r : Reducible} {u : Store} {A : Contractum → Type 0} (m : ℕ) → Replacement j (behind_value (inside g m)) r u A
     → Replacement j g r u A
 outer_post m s = record { spot = s.spot; store = s.store; typed = s.typed; filled = s.filled }
 
@@ -46,7 +47,7 @@ module _ (j : Holds) (methods : IsTrue (has_methods j)) where
       → AtExpression j g h t (Frame m w ss e qs)
   frame_replacement g h t m w ss e qs known d body value post r u q = by (in_method None w ss e qs Leave r u q)
     where
-      new_body : (x : Part) → is_done ss ≡ false → NewStatements j (inside g m) ss x → NewExpression j g h (Frame m w ss e qs) x
+      new_body : (x : Contractum) → is_done ss ≡ false → NewStatements j (inside g m) ss x → NewExpression j g h (Frame m w ss e qs) x
       new_body x v n =
           let rest : TypedExpression Nothing (inside g m) 0 e = rw v at d.4 in
           let later : TypedStatements Nothing (behind_value (inside g m)) qs = rw v at d.7 in
@@ -65,7 +66,7 @@ module _ (j : Holds) (methods : IsTrue (has_methods j)) where
             Stays refl,
           )
 
-      new_value : (x : Part) → ss ≡ Done → is_value e ≡ false → NewExpression j (inside g m) 0 e x
+      new_value : (x : Contractum) → ss ≡ Done → is_value e ≡ false → NewExpression j (inside g m) 0 e x
           → NewExpression j g h (Frame m w ss e qs) x
       new_value x is v n =
           let later : TypedStatements Nothing (behind_value (inside g m)) qs = rw (is, v) at d.7 in
@@ -83,7 +84,7 @@ module _ (j : Holds) (methods : IsTrue (has_methods j)) where
             Stays refl,
           )
 
-      new_post : (x : Part) → ss ≡ Done → is_value e ≡ true → is_over None qs ≡ false → NewStatements j (behind_value (inside g m)) qs x
+      new_post : (x : Contractum) → ss ≡ Done → is_value e ≡ true → is_over None qs ≡ false → NewStatements j (behind_value (inside g m)) qs x
           → NewExpression j g h (Frame m w ss e qs) x
       new_post x is v o n =
           let now : TypedExpression Waits (inside g m) 0 e = rw is at d.4 in
@@ -101,7 +102,7 @@ module _ (j : Holds) (methods : IsTrue (has_methods j)) where
           ) in
           rw (is, v, o) (whole, Stays refl)
 
-      left : (x : Part) (v : Value) → ss ≡ Done → expression_redex w e ≡ Evaluated v → is_over None qs ≡ true → x ≡ AsExpression (literal v)
+      left : (x : Contractum) (v : Value) → ss ≡ Done → expression_redex w e ≡ Evaluated v → is_over None qs ≡ true → x ≡ AsExpression (literal v)
           → NewExpression j g h (Frame m w ss e qs) x
       left x v is k o a =
           let l = literal_typed (past (is_done ss) Waits) (inside g m) 0 w e v k d.4 in
@@ -136,7 +137,7 @@ module _ (j : Holds) (methods : IsTrue (has_methods j)) where
       end : Value → Reducible
       end v = Finish c v (left_served c m w ss e qs)
 
-      new_body : (x : Part) → is_done ss ≡ false → NewStatements j (inside g m) ss x → NewStatement j g (Serve m c w ss e qs) x
+      new_body : (x : Contractum) → is_done ss ≡ false → NewStatements j (inside g m) ss x → NewStatement j g (Serve m c w ss e qs) x
       new_body x v n =
           let rest : TypedExpression Nothing (inside g m) 0 e = rw v at d.3 in
           let later : TypedStatements Nothing (behind_value (inside g m)) qs = rw v at d.6 in
@@ -154,7 +155,7 @@ module _ (j : Holds) (methods : IsTrue (has_methods j)) where
             tt,
           )
 
-      new_value : (x : Part) → ss ≡ Done → is_value e ≡ false → NewExpression j (inside g m) 0 e x → NewStatement j g (Serve m c w ss e qs) x
+      new_value : (x : Contractum) → ss ≡ Done → is_value e ≡ false → NewExpression j (inside g m) 0 e x → NewStatement j g (Serve m c w ss e qs) x
       new_value x is v n =
           let later : TypedStatements Nothing (behind_value (inside g m)) qs = rw (is, v) at d.6 in
           rw (is, v) (
@@ -170,7 +171,7 @@ module _ (j : Holds) (methods : IsTrue (has_methods j)) where
             tt,
           )
 
-      new_post : (x : Part) → ss ≡ Done → is_value e ≡ true → c ≡ None → is_over c qs ≡ false → NewStatements j (behind_value (inside g m)) qs x
+      new_post : (x : Contractum) → ss ≡ Done → is_value e ≡ true → c ≡ None → is_over c qs ≡ false → NewStatements j (behind_value (inside g m)) qs x
           → NewStatement j g (Serve m c w ss e qs) x
       new_post x is v i o n =
           let now : TypedExpression Waits (inside g m) 0 e = rw is at d.3 in
@@ -187,7 +188,7 @@ module _ (j : Holds) (methods : IsTrue (has_methods j)) where
           ) in
           rw (is, v, o) (whole, tt)
 
-      left : (x : Part) → ss ≡ Done → is_value e ≡ true → is_over c qs ≡ true → x ≡ AsStatements (left_served c m w ss e qs)
+      left : (x : Contractum) → ss ≡ Done → is_value e ≡ true → is_over c qs ≡ true → x ≡ AsStatements (left_served c m w ss e qs)
           → NewStatement j g (Serve m c w ss e qs) x
       left x is v o a =
           let typed : TypedStatements j g (left_served c m w Done e qs) = rw is at (left_typed g m c w ss e qs is v d) in
@@ -257,7 +258,7 @@ module _ (j : Holds) (methods : IsTrue (has_methods j)) where
       by (inl k) = wider (inner r u k) (λ x n. rw (not_guards t alts r u k) (n, tt))
       by (inr k) = here (Choose k.0) t r u k.2 k.3 s (choices_fit Waits g g.held t alts k.0 d k.1) (λ x a. rw (guards_are t alts k.0 k.1) (placed_statements j g x (Select alts) a))
 
-  async_to : (g : Scope) (e : Expression) (m p : ℕ) (es : Expressions) (x : Part) → IsTrue g.under_way → is_value e ≡ false
+  async_to : (g : Scope) (e : Expression) (m p : ℕ) (es : Expressions) (x : Contractum) → IsTrue g.under_way → is_value e ≡ false
       → TypedStatement Waits g (Async e m p es)
       → NewExpression j g g.held e x → NewStatement j g (Async e m p es) x
   async_to g e m p es x way v d n =

@@ -1,9 +1,10 @@
 -- The search for the redex: where it ends, and what has none.
 use Rattle.std.proofs.Common.{◌≡◌, refl, sym, ap, ◌∙◌, ℕ, List, [], ◌∷◌, Option, Some, None, Bool, true, false, ◌⊎◌, inl, inr, arith}
-use Rattle.pool_syntax.specs.declared.words.Value.{Value}
-use Rattle.pool_syntax.specs.declared.words.Item.TheVariants as I
+use Rattle.run_words.specs.declared.words.Value.{Value}
+use Rattle.run_words.specs.declared.words.Item.TheVariants as I
 use Rattle.pool_syntax.specs.Terms.{Store, Expression, Literal, Me, Variable, Create, Prefix, Infix, Call, Send, Frame, Wait, Expressions, NoArgs, Arg, Statement, Assign, Write, WriteText, Do, Async, If, While, Answer, Select, Serve, Statements, Done, Then, Alternatives, NoAlts, Alt}
-use Rattle.pool_relation.specs.Reducible.{Choice, Reducible, Found, Evaluated, At, and_then, Unary, Binary, Invoke, Request, Leave, Set, Print, Drop, Post, Branch, Choose, Finish, in_post, left_served, is_over, is_value, are_values, guards_are_values, is_done, expression_redex, expressions_redex, statement_redex, statements_redex, guards_redex}
+use Rattle.pool_relation.specs.Reducible.{Choice, Reducible, Found, Evaluated, At, and_then, Unary, Binary, Invoke, SynchronousSend, Leave, Set, Print, Drop, Post, Branch, Choose, Finish, in_post, left_served, is_over, is_value, are_values, guards_are_values, is_done, expression_redex, expressions_redex, statement_redex, statements_redex}
+use Rattle.pool_relation.specs.Reducible.{guards_redex}
 
 pub at_is_no_value : {A : Type 0} (r : Reducible) (t : Store) (v : A) → ¬ (At r t ≡ Evaluated v)
 at_is_no_value r t v h = grind arith
@@ -56,7 +57,7 @@ literal_is t (Create c p) v h = absurd (at_is_no_value _ _ v h)
 literal_is t (Prefix op e p) v h = absurd (never (expression_redex t e) (λ a. At (Unary op a) t) v (λ a. at_is_no_value _ _ v) h)
 literal_is t (Infix op l r p) v h = absurd (never_twice (expression_redex t l) (expression_redex t r) (Binary op) t v h)
 literal_is t (Call m es p) v h = absurd (never (expressions_redex t es) (λ a. At (Invoke m a) t) v (λ a. at_is_no_value _ _ v) h)
-literal_is t (Send e m es p) v h = absurd (never_twice (expression_redex t e) (expressions_redex t es) (λ a. Request a m) t v h)
+literal_is t (Send e m es p) v h = absurd (never_twice (expression_redex t e) (expressions_redex t es) (λ a. SynchronousSend a m) t v h)
 literal_is t (Frame m u ss e qs) v h = absurd (never_thrice (statements_redex u ss) (expression_redex u e) (in_post None (statements_redex u qs)) Leave u v h)
 literal_is t (Wait b m) v h = absurd (at_is_no_value _ _ v h)
 

@@ -1,9 +1,10 @@
 -- A typed term with a redex: what is known there, and that the term stays typed where a suitable part takes its place.
 use Rattle.std.proofs.Common.{◌≡◌, sym, IsTrue, ℕ, ◌+◌, List, [], ◌∷◌, is_none}
-use Rattle.pool_syntax.specs.declared.words.Item.TheVariants as I
+use Rattle.run_words.specs.declared.words.Item.TheVariants as I
 use Rattle.pool_syntax.specs.declared.tree.Var.{Var}
 use Rattle.pool_syntax.specs.Terms.{Store, Expression, Literal, Me, Variable, Create, Prefix, Infix, Call, Send, Frame, Wait, Expressions, NoArgs, Arg, Statement, Assign, Write, WriteText, Do, Async, If, While, Answer, Select, Serve, Statements, Done, Then, Alternatives, NoAlts, Alt}
-use Rattle.pool_syntax.specs.Typing.{ClassSort, Scope, name_sort, object_sort, send_sort, sort_of, inside, behind_value, own_method, params_of, sent_method}
+use Rattle.run_words.specs.Sorts.{ClassSort}
+use Rattle.pool_syntax.specs.Typing.{Scope, name_sort, object_sort, send_sort, sort_of, inside, behind_value, own_method, params_of, sent_method}
 use Rattle.pool_relation.specs.Reducible.{Reducible, Found, At, OwnName, Read, Make, Waiting, Print, Loop, Accept, is_value, is_done, fill_statement}
 use Rattle.pool_relation.specs.Typed.{is_store_of}
 use Rattle.pool_relation.proofs.typing.TypedTerm.{Holds, Waits, has_methods, past, TypedExpression, TypedArguments, TypedStatement, TypedStatements, TypedAlternatives}

@@ -1,6 +1,6 @@
 -- Bodies and methods as they begin in an object.
 use Rattle.std.proofs.Common.{◌≡◌, refl, sym, ap, subst, IsTrue, ℕ, List, [], ◌∷◌, ◌++◌, length, Option, Some, None, is_none, Bool, true, false, ◌==◌, arith}
-use Rattle.pool_syntax.specs.declared.words.Value.{Value}
+use Rattle.run_words.specs.declared.words.Value.{Value}
 use Rattle.pool_syntax.specs.declared.tree.Var.{Var}
 use Rattle.pool_syntax.specs.Terms.{Store, Frame, Serve, MethodTree, ClassTree, ProgramTree}
 use Rattle.pool_syntax.specs.Classes.{class_of, named_method}
@@ -9,7 +9,7 @@ use Rattle.pool_relation.specs.Reducible.{is_value, is_done}
 use Rattle.pool_relation.specs.Action.{bind, nil_store, temps_of, with_count, method_in, method_of}
 use Rattle.pool_relation.specs.Typed.{is_store_of, has_room}
 use Rattle.pool_relation.specs.Written.{is_value_for, is_written}
-use Rattle.mesh_semantics.proofs.Laws.{equal, equals, both}
+use Rattle.run_words.proofs.Laws.{equal, equals, both}
 use Rattle.pool_relation.proofs.typing.TypedTerm.{Nothing, Methods, past, gives, TypedExpression, TypedStatement, TypedStatements}
 use Rattle.pool_relation.proofs.typing.Weaker.{nothing_below, expression_weaker, statements_weaker}
 use Rattle.pool_relation.proofs.typing.Grown.{Grows, grown, expression_grown, statements_grown, sort_grown}

@@ -1,13 +1,13 @@
 -- What a program without faults has: known kinds, and typed bodies and methods.
 use Rattle.std.proofs.Common.{◌≡◌, refl, sym, ap, ◌∙◌, subst, IsTrue, ℕ, List, [], ◌∷◌, ◌++◌, Option, Some, None, Bool, true, false, ◌==◌, ◌&&◌, arith}
-use Rattle.pool_syntax.specs.declared.tree.Kind.{Kind}
-use Rattle.pool_syntax.specs.declared.tree.Kind.TheVariants as K
+use Rattle.run_words.specs.declared.words.Kind.{Kind}
+use Rattle.run_words.specs.declared.words.Kind.TheVariants as K
 use Rattle.pool_syntax.specs.declared.tree.Var.{Var}
 use Rattle.pool_syntax.specs.Terms.{MethodTree, ClassTree, ProgramTree}
 use Rattle.pool_syntax.specs.Classes.{class_of, named_method}
 use Rattle.pool_syntax.specs.Typing.{Scope, kind_sort, sort_of, vars_faults, kind_faults, outcome_faults, method_tree_faults, methods_faults, behind_value, method_scope, class_scope, classes_faults, faults}
 use Rattle.pool_relation.specs.Written.{are_source_statements, is_source, is_value_for, are_written, is_written}
-use Rattle.mesh_semantics.proofs.Laws.{first, second, equal, true_not}
+use Rattle.run_words.proofs.Laws.{first, second, equal, true_not}
 use Rattle.pool_relation.proofs.typing.TypedTerm.{Nothing, is_broken, gives, TypedExpression, TypedStatements}
 use Rattle.pool_relation.proofs.typing.Faults.{none2, none3, none4, no_fault_if, gives_of_none}
 use Rattle.pool_relation.proofs.typing.Written.{expression_written, statements_written}

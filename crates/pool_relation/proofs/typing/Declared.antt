@@ -1,16 +1,17 @@
 -- Variables and methods of known kinds, and stores that fit them.
 use Rattle.std.proofs.Common.{◌≡◌, refl, IsTrue, ℕ, List, [], ◌∷◌, ◌++◌, Option, Some, None, Bool, true, false, not, ◌||◌, ◌==◌, arith}
-use Rattle.pool_syntax.specs.declared.words.Value.{Value}
-use Rattle.pool_syntax.specs.declared.tree.Kind.{Kind}
+use Rattle.run_words.specs.declared.words.Value.{Value}
+use Rattle.run_words.specs.declared.words.Kind.{Kind}
 use Rattle.pool_syntax.specs.declared.tree.Var.{Var}
 use Rattle.pool_syntax.specs.Terms.{Store, Literal, Assign, Statements, Done, Then, MethodTree, ClassTree, ProgramTree}
 use Rattle.pool_syntax.specs.Classes.{named_method}
-use Rattle.pool_syntax.specs.Typing.{Sort, Scope, kind_sort, name_sort, value_sort, is_dangling, is_open, is_same_sort, var_of, vars_of_class, methods_of_class, outcome_sort, method_sort, temps_of_method}
+use Rattle.run_words.specs.Sorts.{Sort, is_same_sort}
+use Rattle.pool_syntax.specs.Typing.{Scope, kind_sort, name_sort, value_sort, is_dangling, is_open, var_of, vars_of_class, methods_of_class, outcome_sort, method_sort, temps_of_method}
 use Rattle.pool_relation.specs.Reducible.{set_value, assigned}
 use Rattle.pool_relation.specs.Action.{value_of}
 use Rattle.pool_relation.specs.Typed.{fits, is_store_of}
 use Rattle.pool_relation.proofs.typing.TypedTerm.{Waits, is_broken, fits_need, gives, fits_outcome, TypedStatements}
-use Rattle.mesh_semantics.proofs.Laws.{first, second, equal, not_true}
+use Rattle.run_words.proofs.Laws.{first, second, equal, not_true}
 use Rattle.pool_relation.proofs.typing.Sorts.{MayBecome, HadNone, fits_known}
 
 -- each variable's kind is Int, Bool or a class of the program

@@ -1,12 +1,14 @@
 -- Lists of faults that are empty, as tests.
 use Rattle.std.proofs.Common.{◌≡◌, refl, IsTrue, ℕ, List, [], ◌∷◌, ◌++◌, Option, Some, None, Bool, true, false, not, ◌&&◌, nat_le, arith}
-use Rattle.pool_syntax.specs.declared.words.Op.{Op}
-use Rattle.pool_syntax.specs.declared.words.Op.TheVariants as O
-use Rattle.pool_syntax.specs.declared.tree.Kind.{Kind}
+use Rattle.run_words.specs.declared.words.Op.{Op}
+use Rattle.run_words.specs.declared.words.Op.TheVariants as O
+use Rattle.run_words.specs.declared.words.Kind.{Kind}
 use Rattle.pool_syntax.specs.Terms.{Expression, MethodTree}
-use Rattle.pool_syntax.specs.Typing.{Sort, IntSort, BoolSort, ClassSort, NilSort, NoSort, BrokenSort, Scope, kind_sort, operand_sort, sort_of, fault_if, no_result, misfit, needs, needs_alike, needs_operands, limit, method_faults, destination_faults, value_needs, position, counted, is_comparable}
+use Rattle.run_words.specs.Sorts.{Sort, IntSort, BoolSort, ClassSort, NilSort, NoSort, BrokenSort, operand_sort}
+use Rattle.pool_syntax.specs.Typing.{Scope, kind_sort, sort_of, fault_if, no_result_faults, misfit, needs, needs_alike, needs_operands, limit_faults, method_faults, destination_faults, value_needs, position, counted}
+use Rattle.pool_syntax.specs.Typing.{is_comparable}
 use Rattle.pool_relation.specs.Typed.{has_room}
-use Rattle.mesh_semantics.proofs.Laws.{not_true, true_not}
+use Rattle.run_words.proofs.Laws.{not_true, true_not}
 use Rattle.pool_relation.proofs.typing.TypedTerm.{has_no_sort, fits_need, fit_operands, takes, is_destination, gives, fits_outcome}
 
 -- both lists are empty
@@ -45,18 +47,18 @@ no_fault_if false at n h = refl
 pub fault_if_none : (b : Bool) (at n : ℕ) → b ≡ false → fault_if b at n ≡ []
 fault_if_none b at n h = rw h refl
 
-pub room_of : (h p : ℕ) → limit h p ≡ [] → IsTrue (has_room h)
+pub room_of : (h p : ℕ) → limit_faults h p ≡ [] → IsTrue (has_room h)
 room_of h p e = let f : nat_le 64 h ≡ false = no_fault_if _ _ _ e in rw f refl
 
-pub limit_of : (h p : ℕ) → IsTrue (has_room h) → limit h p ≡ []
+pub limit_of : (h p : ℕ) → IsTrue (has_room h) → limit_faults h p ≡ []
 limit_of h p e = fault_if_none _ p 12 (not_true _ e)
 
-pub sort_of_none : (s : Sort) (at : ℕ) → no_result s at ≡ [] → has_no_sort s ≡ false
+pub sort_of_none : (s : Sort) (at : ℕ) → no_result_faults s at ≡ [] → has_no_sort s ≡ false
 unfolding has_no_sort
 sort_of_none NoSort at h = absurd (grind (arith, h))
 sort_of_none _ at h = refl
 
-pub none_of_sort : (s : Sort) (at : ℕ) → has_no_sort s ≡ false → no_result s at ≡ []
+pub none_of_sort : (s : Sort) (at : ℕ) → has_no_sort s ≡ false → no_result_faults s at ≡ []
 unfolding has_no_sort
 none_of_sort NoSort at h = absurd (grind (arith, h))
 none_of_sort _ at h = refl

@@ -1,11 +1,12 @@
 -- A typed part stays typed where objects are added.
 use Rattle.std.proofs.Common.{◌≡◌, refl, sym, ap, ◌∙◌, ℕ, ◌+◌, List, [], ◌∷◌, Option, Some, None, is_some, is_none, true, false, arith}
-use Rattle.pool_syntax.specs.declared.words.Value.{Value}
-use Rattle.pool_syntax.specs.declared.words.Value.TheVariants as V
+use Rattle.run_words.specs.declared.words.Value.{Value}
+use Rattle.run_words.specs.declared.words.Value.TheVariants as V
 use Rattle.pool_syntax.specs.declared.tree.Named.{Named}
 use Rattle.pool_syntax.specs.declared.tree.Var.{Var}
 use Rattle.pool_syntax.specs.Terms.{Store, Expression, Literal, Me, Variable, Create, Prefix, Infix, Call, Send, Frame, Wait, Expressions, NoArgs, Arg, Statement, Assign, Write, WriteText, Do, Async, If, While, Answer, Select, Serve, Statements, Done, Then, Alternatives, NoAlts, Alt}
-use Rattle.pool_syntax.specs.Typing.{Sort, IntSort, BoolSort, ClassSort, NilSort, NoSort, BrokenSort, Scope, value_sort, object_sort, is_dangling, sort_of, send_sort, inside, behind_value, names_faults, answer_faults, own_method, size, params_of, sent_method, temps_of_method}
+use Rattle.run_words.specs.Sorts.{Sort, IntSort, BoolSort, ClassSort, NilSort, NoSort, BrokenSort}
+use Rattle.pool_syntax.specs.Typing.{Scope, value_sort, object_sort, is_dangling, sort_of, send_sort, inside, behind_value, names_faults, answer_faults, own_method, size, params_of, sent_method, temps_of_method}
 use Rattle.pool_relation.specs.Reducible.{is_value, is_done}
 use Rattle.pool_relation.specs.Typed.{fits, is_store_of}
 use Rattle.pool_relation.proofs.typing.TypedTerm.{Holds, Nothing, past, is_destination, TypedExpression, TypedArguments, TypedStatement, TypedStatements, TypedAlternatives}

@@ -2,10 +2,11 @@
 use Rattle.std.proofs.Common.{◌≡◌, IsTrue, ℕ, ◌+◌, List, [], ◌∷◌, arith}
 use Rattle.pool_syntax.specs.declared.tree.Var.{Var}
 use Rattle.pool_syntax.specs.Terms.{Expression, Literal, Me, Variable, Create, Prefix, Infix, Call, Send, Frame, Wait, Expressions, NoArgs, Arg, Statement, Assign, Write, WriteText, Do, Async, If, While, Answer, Select, Serve, Statements, Done, Then, Alternatives, NoAlts, Alt}
-use Rattle.pool_syntax.specs.Typing.{Scope, sort_of, position, own_method, params_of, sent_method, size, kind_sort, name_sort, BoolSort, operand_sort, expression_faults, arguments_faults, statement_faults, statements_faults, alternatives_faults}
+use Rattle.pool_syntax.specs.Typing.{Scope, sort_of, position, own_method, params_of, sent_method, size, kind_sort, name_sort, expression_faults, arguments_faults, statement_faults, statements_faults, alternatives_faults}
+use Rattle.run_words.specs.Sorts.{BoolSort, operand_sort}
 use Rattle.pool_relation.specs.Reducible.{is_value}
 use Rattle.pool_relation.specs.Written.{is_source, are_source, is_source_statement, are_source_statements, are_source_alternatives, is_prefix}
-use Rattle.mesh_semantics.proofs.Laws.{first, second, not_true, true_not}
+use Rattle.run_words.proofs.Laws.{first, second, not_true, true_not}
 use Rattle.pool_relation.proofs.typing.TypedTerm.{Nothing, past, TypedExpression, TypedArguments, TypedStatement, TypedStatements, TypedAlternatives}
 use Rattle.pool_relation.proofs.typing.Weaker.{nothing_below, expression_weaker, arguments_weaker, alternatives_weaker}
 use Rattle.pool_relation.proofs.typing.Faults.{none2, none3, none4, none5, no_fault_if, room_of, sort_of_none, fits_of_none, operands_of_none, takes_of_none, destination_of_none}

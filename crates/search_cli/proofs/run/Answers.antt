@@ -1,6 +1,6 @@
 -- The ends of `pool_search`, at the numbers of the statuses.
 use Rattle.std.proofs.Common.{◌∙◌, inl, inr, ap}
-use Rattle.search_driver.specs.Statuses.{code_of}
+use Rattle.search_cli.specs.Statuses.{code_of}
 use Rattle.search_cli.proofs.run.Goals as goal
 
 pub returns-clause-ends : goal.returns-clause-ends

@@ -1,8 +1,8 @@
 use Rattle.std.proofs.Common.{◌≡◌, ◌+◌, ◌∙◌, suc, List, ap, sym, subst, drop, rules, arith, None, Some, true, false}
 use Rattle.std.specs.Prelude.{slice_get}
-use Rattle.mesh_semantics.proofs.Laws.{same_some}
-use Rattle.object_code.specs.declared.unit.MethodCode.{MethodCode}
-use Rattle.object_code.specs.declared.file.MethodKinds.{MethodKinds}
+use Rattle.run_words.proofs.Laws.{same_some}
+use Rattle.code_semantics.specs.declared.unit.MethodCode.{MethodCode}
+use Rattle.code_semantics.specs.declared.file.MethodKinds.{MethodKinds}
 use Rattle.code_verdict.specs.Sorts.{scope_by}
 use Rattle.code_verdict.specs.Verdict.{bad_method, is_well_sorted}
 use Rattle.code_reach.specs.Scopes.{declared_of}

@@ -1,5 +1,5 @@
 use Rattle.std.proofs.Common.{◌≡◌, drop}
-use Rattle.pool_syntax.specs.Tokens.{every}
+use Rattle.run_words.specs.Text.{every}
 use Rattle.code_judge.specs.Inside.{in_a_name}
 use Rattle.code_judge.proofs.texts.are_in_a_name.Given as goal
 

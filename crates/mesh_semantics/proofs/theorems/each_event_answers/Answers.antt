@@ -1,4 +1,4 @@
-use Rattle.mesh_semantics.specs.Given.{IsGiven}
+use Rattle.run_words.specs.Given.{IsGiven}
 use Rattle.mesh_semantics.proofs.Fitting.{fit_of}
 use Rattle.mesh_semantics.proofs.Events.{act_answers}
 use Rattle.mesh_semantics.proofs.theorems.each_event_answers.Goals as goal

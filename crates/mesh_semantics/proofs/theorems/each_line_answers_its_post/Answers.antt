@@ -1,4 +1,4 @@
-use Rattle.mesh_semantics.specs.Given.{IsGiven}
+use Rattle.run_words.specs.Given.{IsGiven}
 use Rattle.mesh_semantics.proofs.Fitting.{fit_of}
 use Rattle.mesh_semantics.proofs.Asked.{each_answers_post, each_answers_post_on_wires}
 use Rattle.mesh_semantics.proofs.theorems.each_line_answers_its_post.Goals as goal

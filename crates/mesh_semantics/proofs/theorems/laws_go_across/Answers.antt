@@ -1,4 +1,4 @@
-use Rattle.mesh_semantics.specs.Given.{IsGiven, AreGiven}
+use Rattle.run_words.specs.Given.{IsGiven, AreGiven}
 use Rattle.mesh_semantics.specs.Simulates.{Corresponds}
 use Rattle.mesh_semantics.proofs.LawfulAcross.{lawful_across}
 use Rattle.mesh_semantics.proofs.Across.{sound_across}

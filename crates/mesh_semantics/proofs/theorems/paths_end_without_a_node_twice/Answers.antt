@@ -1,5 +1,4 @@
-use Rattle.mesh_semantics.proofs.Meshes.{plain_ways}
-use Rattle.mesh_semantics.proofs.RoutedWays.{routed_ways, ways_have_routes}
+use Rattle.run_words.proofs.Laws.{plain_ways, routed_ways, ways_have_routes}
 use Rattle.mesh_semantics.proofs.theorems.paths_end_without_a_node_twice.Goals as goal
 
 pub returns-clause-routed : goal.returns-clause-routed

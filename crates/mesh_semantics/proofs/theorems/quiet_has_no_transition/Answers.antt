@@ -1,4 +1,4 @@
-use Rattle.mesh_semantics.specs.Given.{IsGiven}
+use Rattle.run_words.specs.Given.{IsGiven}
 use Rattle.mesh_semantics.proofs.Final.{no_transition}
 use Rattle.mesh_semantics.proofs.theorems.quiet_has_no_transition.Goals as goal
 

@@ -1,4 +1,4 @@
-use Rattle.mesh_semantics.specs.Given.{IsGiven, AreGiven}
+use Rattle.run_words.specs.Given.{IsGiven, AreGiven}
 use Rattle.mesh_semantics.proofs.Fitting.{fit_of}
 use Rattle.mesh_semantics.proofs.SameRecords.{records_agree}
 use Rattle.mesh_semantics.proofs.theorems.records_agree.Goals as goal

@@ -1,4 +1,4 @@
-use Rattle.mesh_semantics.specs.Given.{IsGiven}
+use Rattle.run_words.specs.Given.{IsGiven}
 use Rattle.mesh_semantics.proofs.Fitting.{fit_of}
 use Rattle.mesh_semantics.proofs.Events.{record_shows}
 use Rattle.mesh_semantics.proofs.theorems.records_show_runs.Goals as goal

@@ -1,5 +1,5 @@
 use Rattle.std.specs.Prelude.{[]}
-use Rattle.mesh_semantics.specs.Given.{IsGiven}
+use Rattle.run_words.specs.Given.{IsGiven}
 use Rattle.mesh_semantics.specs.Delay.{no_delay}
 use Rattle.mesh_semantics.proofs.Started.{placed_start_sound, with_wires}
 use Rattle.mesh_semantics.proofs.theorems.the_start_is_sound.Goals as goal

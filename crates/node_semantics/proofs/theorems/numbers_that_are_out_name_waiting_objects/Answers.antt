@@ -1,4 +1,4 @@
-use Rattle.mesh_semantics.specs.Given.{IsGiven}
+use Rattle.run_words.specs.Given.{IsGiven}
 use Rattle.node_semantics.proofs.NumbersOut.{outstanding}
 use Rattle.node_semantics.proofs.theorems.numbers_that_are_out_name_waiting_objects.Goals as goal
 

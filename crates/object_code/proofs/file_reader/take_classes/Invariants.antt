@@ -1,6 +1,6 @@
 use Rattle.std.proofs.Common.{◌≡◌, ◌-◌, length}
 use Rattle.object_code.specs.Read.{read_items, read_list}
-use Rattle.object_code.specs.FileBytes.{pairs}
+use Rattle.code_semantics.specs.Shaped.{pairs}
 use Rattle.object_code.specs.Decode.{read_class}
 use Rattle.object_code.proofs.Taking.{with_front}
 use Rattle.object_code.proofs.file_reader.take_classes.Given as goal

@@ -1,6 +1,6 @@
 use Rattle.std.proofs.Common.{sym, ap, subst, ◌∙◌, ◌∷◌}
 use Rattle.object_code.specs.FileBytes.{list_bytes, name_bytes, option_bytes}
-use Rattle.object_code.specs.Shaped.{IsListOf, IsOptionOf, IsShortList}
+use Rattle.code_semantics.specs.Shaped.{IsListOf, IsOptionOf, IsShortList}
 use Rattle.object_code.proofs.Writing.{each_any, same}
 use Rattle.object_code.proofs.file_writer.put_answered.Goals as goal
 

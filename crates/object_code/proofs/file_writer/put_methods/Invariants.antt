@@ -1,5 +1,6 @@
 use Rattle.std.proofs.Common.{drop}
-use Rattle.object_code.specs.FileBytes.{items_bytes, method_bytes, pairs}
+use Rattle.object_code.specs.FileBytes.{items_bytes, method_bytes}
+use Rattle.code_semantics.specs.Shaped.{pairs}
 use Rattle.object_code.specs.Written.{state}
 use Rattle.object_code.proofs.Writing.{Rests}
 use Rattle.object_code.proofs.file_writer.put_methods.Given as goal

@@ -2,7 +2,7 @@ use Rattle.std.proofs.Common.{refl, sym, ap, ◌∙◌, ◌+◌, [], ◌∷◌, 
 use Rattle.std.proofs.lemmas.List.{at_drop_all}
 use Rattle.pool_syntax.specs.TreeOf.{expression_of, expressions_of}
 use Rattle.pool_syntax.specs.Typing.{size}
-use Rattle.object_code.specs.declared.unit.Instr.TheVariants as I
+use Rattle.code_semantics.specs.declared.unit.Instr.TheVariants as I
 use Rattle.pool_compile.specs.Code.{expression_code, expressions_code}
 use Rattle.pool_compile.specs.Numberings.{numbering}
 use Rattle.pool_compile.proofs.Emitting.{few, on_ok, part_at, put_all, put_part, size_is, then}

@@ -1,7 +1,7 @@
 use Rattle.std.proofs.Common.{subst, sym, ap, ◌∙◌, map}
 use Rattle.pool_syntax.specs.TreeOf.{class_tree, program_of}
 use Rattle.pool_syntax.specs.Spelled.{is_spelled}
-use Rattle.object_code.specs.declared.unit.Unit.{Unit as Code}
+use Rattle.code_semantics.specs.declared.unit.Unit.{Unit as Code}
 use Rattle.pool_compile.specs.Code.{code}
 use Rattle.pool_compile.specs.Small.{FramesAreSmall, IsSmall}
 use Rattle.pool_compile.proofs.Limits.{frames_small, program_small, some_class, written}

@@ -2,11 +2,10 @@ use Rattle.std.proofs.Common.{sym, ap, ◌∙◌, ℕ, ◌+◌, ◌<◌, [], ◌
 use Rattle.std.specs.Prelude.{slice_set}
 use Rattle.std.proofs.lemmas.List.{at_drop_all, length-set}
 use Rattle.pool_syntax.specs.Terms.{Select}
-use Rattle.pool_syntax.specs.TreeOf.{expression_of, expressions_of, statement_of, statements_of}
+use Rattle.pool_syntax.specs.TreeOf.{expression_of, expressions_of, statement_of, statements_of, alternatives_of}
 use Rattle.pool_syntax.specs.Typing.{size}
-use Rattle.pool_syntax.specs.TreeOf.{alternatives_of}
 use Rattle.pool_syntax.proofs.Laws.{if_tree, select_tree, while_tree}
-use Rattle.object_code.specs.declared.unit.Instr.TheVariants as I
+use Rattle.code_semantics.specs.declared.unit.Instr.TheVariants as I
 use Rattle.pool_compile.specs.Code.{alternatives_at, alternatives_code, expression_code, expressions_code, statement_code, statements_code}
 use Rattle.pool_compile.specs.Jumps.{jumps_at}
 use Rattle.pool_compile.specs.Numberings.{numbering}

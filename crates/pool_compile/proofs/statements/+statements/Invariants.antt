@@ -1,6 +1,5 @@
 use Rattle.std.proofs.Common.{◌≡◌, ◌++◌, length, drop}
-use Rattle.pool_syntax.specs.TreeOf.{statements_of}
-use Rattle.pool_syntax.specs.TreeOf.{alternatives_of}
+use Rattle.pool_syntax.specs.TreeOf.{statements_of, alternatives_of}
 use Rattle.pool_compile.specs.Code.{alternatives_at, alternatives_code, statements_code}
 use Rattle.pool_compile.specs.Jumps.{jumps_at}
 use Rattle.pool_compile.specs.Numberings.{numbering}

@@ -1,8 +1,7 @@
 use Rattle.std.proofs.Common.{refl, ◌+◌, drop, arith}
 use Rattle.std.proofs.lemmas.List.{at_drop_all}
 use Rattle.pool_syntax.specs.declared.tree.Alt.{out-Alt}
-use Rattle.pool_syntax.specs.TreeOf.{expression_of}
-use Rattle.pool_syntax.specs.TreeOf.{alternatives_of}
+use Rattle.pool_syntax.specs.TreeOf.{expression_of, alternatives_of}
 use Rattle.pool_compile.specs.Code.{expression_code, guards_code}
 use Rattle.pool_compile.specs.Numberings.{numbering}
 use Rattle.pool_compile.proofs.Emitting.{part_at, put_all, put_part}

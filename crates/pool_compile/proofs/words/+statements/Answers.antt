@@ -1,6 +1,5 @@
 use Rattle.std.proofs.Common.{sym, ap, ◌∙◌}
-use Rattle.pool_syntax.specs.TreeOf.{expression_of, statement_of, statements_of}
-use Rattle.pool_syntax.specs.TreeOf.{alternatives_of}
+use Rattle.pool_syntax.specs.TreeOf.{expression_of, statement_of, statements_of, alternatives_of}
 use Rattle.pool_syntax.proofs.Laws.{if_tree, select_tree, while_tree}
 use Rattle.pool_compile.specs.Code.{expression_words, guards_words, more, statement_words, statements_words, works_words}
 use Rattle.pool_compile.proofs.Greater.{both, by_tree}

@@ -1,6 +1,5 @@
 use Rattle.std.proofs.Common.{◌≡◌, ◌≤◌, drop}
-use Rattle.pool_syntax.specs.TreeOf.{statements_of}
-use Rattle.pool_syntax.specs.TreeOf.{alternatives_of}
+use Rattle.pool_syntax.specs.TreeOf.{statements_of, alternatives_of}
 use Rattle.pool_compile.specs.Code.{more, statements_words, works_words}
 use Rattle.pool_compile.proofs.words.+statements.Given as goal
 

@@ -1,7 +1,6 @@
 use Rattle.std.proofs.Common.{refl, arith}
 use Rattle.pool_syntax.specs.declared.tree.Alt.{out-Alt}
-use Rattle.pool_syntax.specs.TreeOf.{expression_of}
-use Rattle.pool_syntax.specs.TreeOf.{alternatives_of}
+use Rattle.pool_syntax.specs.TreeOf.{expression_of, alternatives_of}
 use Rattle.pool_compile.specs.Code.{expression_words, guards_words}
 use Rattle.pool_compile.proofs.Greater.{at_front, by_tree, step_back}
 use Rattle.pool_compile.proofs.words.guards_words.Goals as goal

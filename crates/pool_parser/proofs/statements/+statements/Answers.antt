@@ -1,7 +1,6 @@
 use Rattle.std.proofs.Common.{arith, rules, sym}
-use Rattle.pool_syntax.specs.TreeOf.{statement_of, statements_of}
+use Rattle.pool_syntax.specs.TreeOf.{statement_of, statements_of, alternatives_of}
 use Rattle.pool_parser.specs.Alternatives.{alternative_of}
-use Rattle.pool_syntax.specs.TreeOf.{alternatives_of}
 use Rattle.pool_parser.specs.Reads.{read, refused}
 use Rattle.pool_parser.proofs.Exits.{exit, passed_on, unexpected, relay}
 use Rattle.pool_parser.proofs.Parts.{word_there, word_missing}

@@ -1,7 +1,7 @@
 use Rattle.std.proofs.Common.{refl, ◌+◌, drop, get_or, map, arith}
 use Rattle.pool_syntax.specs.declared.token.Tok.TheVariants.{Sign}
 use Rattle.pool_syntax.specs.declared.token.Sign.TheVariants as sign
-use Rattle.pool_syntax.specs.declared.tree.Kind.TheVariants as kind
+use Rattle.run_words.specs.declared.words.Kind.TheVariants as kind
 use Rattle.pool_syntax.specs.declared.tree.Var.{Var}
 use Rattle.pool_printer.specs.Canonical.{variable_tokens}
 use Rattle.pool_printer.specs.Saying.{from_place, separator_at}

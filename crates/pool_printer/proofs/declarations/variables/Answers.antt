@@ -1,6 +1,6 @@
 use Rattle.std.proofs.Common.{sym, ap, ◌∙◌, ◌+◌, drop, get_or, arith}
 use Rattle.std.proofs.lemmas.List.{at_drop_all}
-use Rattle.pool_syntax.specs.declared.tree.Kind.TheVariants as kind
+use Rattle.run_words.specs.declared.words.Kind.TheVariants as kind
 use Rattle.pool_syntax.specs.declared.tree.Var.{Var}
 use Rattle.pool_printer.specs.Canonical.{declarations_tokens, variable_tokens}
 use Rattle.pool_printer.specs.Known.{are_known}

@@ -10,7 +10,8 @@ use Rattle.pool_syntax.specs.TreeOf.{expression_of, expressions_of}
 use Rattle.pool_printer.specs.Canonical.{argument_tokens, bare_tokens, call_tokens, expression_tokens, level, separated_by}
 use Rattle.pool_printer.specs.Known.{are_known}
 use Rattle.pool_printer.specs.Saying.{from_place, separator_at}
-use Rattle.pool_printer.proofs.Places.{known_left, right_true, rests_step, rests_end, no_more}
+use Rattle.pool_printer.proofs.Places.{known_left, rests_step, rests_end, no_more}
+use Rattle.run_words.proofs.Laws.{second}
 use Rattle.pool_printer.proofs.Putting.{prints_append, prints_more, prints_same}
 use Rattle.pool_printer.proofs.Sizes.{size, size_all, argument_size}
 use Rattle.pool_syntax.proofs.Laws.{call_tree, send_tree}
@@ -127,7 +128,7 @@ bare-returns-in-Send g t c =
 
 pub call-arguments-requires : goal.call-arguments-requires
 call-arguments-requires g t c κs within =
-    (omega arith, (within, known_left c.args.names.now (separated_by (Sign sign.Comma) (argument_tokens (expressions_of c.args.args.now))) (Sign sign.RightParen ∷ []) (right_true _ _ c.requires)))
+    (omega arith, (within, known_left c.args.names.now (separated_by (Sign sign.Comma) (argument_tokens (expressions_of c.args.args.now))) (Sign sign.RightParen ∷ []) (second _ _ c.requires)))
 
 pub call-returns : goal.call-returns
 call-returns g t c =
@@ -154,5 +155,5 @@ pub bare-expression-requires : goal.bare-expression-requires
 bare-expression-requires g t c κs within =
     let whole = rw c.in-Unary.is at c.requires in
     let known : are_known c.args.names.now (expression_tokens 6 (expression_of c.deref.result.now)) ≡ true =
-    ap (λ e. are_known c.args.names.now (expression_tokens 6 (expression_of e))) c.deref.ensures ∙ right_true _ _ whole in
+    ap (λ e. are_known c.args.names.now (expression_tokens 6 (expression_of e))) c.deref.ensures ∙ second _ _ whole in
     (omega (arith, ap size_of c.in-Unary.is, ap size_of c.deref.ensures), (within, known))

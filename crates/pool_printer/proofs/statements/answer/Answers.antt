@@ -1,6 +1,6 @@
 use Rattle.std.proofs.Common.{ap, sym, ◌∙◌, ◌∷◌}
 use Rattle.pool_syntax.specs.declared.token.Tok.TheVariants.{Word}
-use Rattle.pool_syntax.specs.declared.token.Keyword.TheVariants as word
+use Rattle.run_words.specs.declared.keywords.Keyword.TheVariants as word
 use Rattle.pool_printer.specs.Canonical.{answer_tokens, names_tokens}
 use Rattle.pool_printer.proofs.Putting.{prints_same}
 use Rattle.pool_printer.proofs.statements.answer.Goals as goal

@@ -1,7 +1,7 @@
 use Rattle.std.proofs.Common.{◌≡◌, subst, sym, rules}
-use Rattle.object_code.specs.declared.file.UnitFile.{UnitFile}
-use Rattle.object_code.specs.Proper.{IsProper}
-use Rattle.object_code.specs.Shaped.{IsShaped, IsShort}
+use Rattle.code_semantics.specs.declared.file.UnitFile.{UnitFile}
+use Rattle.code_semantics.specs.Proper.{IsProper}
+use Rattle.code_semantics.specs.Shaped.{IsShaped, IsShort}
 use Rattle.pool_compile.specs.Code.{code}
 use Rattle.pool_compile.specs.Small.{AreShort}
 use Rattle.pool_syntax.specs.TreeOf.{program_of}

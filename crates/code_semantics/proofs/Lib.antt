@@ -1,0 +1,10 @@
+pub mod Elements
+pub mod Resting
+pub mod Reaching
+pub mod Stepping
+pub mod Keeping
+pub mod AtHand
+pub mod Asked
+pub mod Forgetting
+pub mod Weaker
+pub mod Laws

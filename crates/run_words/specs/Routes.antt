@@ -1,0 +1,52 @@
+-- Placements whose cuts and routes are of their mesh, and pairs of nodes without route.
+use Rattle.std.specs.Prelude.{◌≡◌, ◌≢◌, ℕ, ◌*◌, ◌<◌, ◌≤◌, List, [], ◌∷◌, Option, Some, None, Bool, false, ◌||◌, if◌then◌else◌, nat_eq}
+use Rattle.std.specs.List.{list_any, range_with_len}
+use Rattle.std.specs.Option.{option_or}
+use Rattle.run_words.specs.declared.words.LinkId.{LinkId}
+use Rattle.run_words.specs.declared.words.Placement.{Placement}
+use Rattle.run_words.specs.declared.words.Route.{Route}
+use Rattle.run_words.specs.Tables.{Pair}
+use Rattle.run_words.specs.Paths.{AreNeighbours, is_cut, path, route_of}
+use Rattle.run_words.specs.Ways.{ends_of}
+
+-- two nodes of the mesh that are beside each other
+abbrev pub AreBeside : Placement → ℕ → ℕ → Type 0
+AreBeside l a b = (a < l.width * l.height) × (b < l.width * l.height) × AreNeighbours l.width a b
+
+-- each cut goes from a node to a neighbour, and none stands twice
+abbrev pub AreCuts : Placement → List LinkId → Type 0
+AreCuts l [] = Unit {0}
+AreCuts l (k ∷ ks) = AreBeside l k.from k.to × (is_cut ks k.from k.to ≡ false) × AreCuts l ks
+
+-- each route leads to a neighbour, its goal is another node, and no two are for the same goal at the same node
+abbrev pub AreRoutes : Placement → List Route → Type 0
+AreRoutes l [] = Unit {0}
+AreRoutes l (r ∷ rs) = AreBeside l r.at r.next × (r.goal < l.width * l.height) × (r.goal ≢ r.at) × (route_of rs r.at r.goal ≡ None) × AreRoutes l rs
+
+pub record IsRouted (l : Placement) : Type 0 where
+  pub width : (1 ≤ l.width) × (l.width ≤ 8)
+  pub height : (1 ≤ l.height) × (l.height ≤ 8)
+  pub cuts : AreCuts l l.cuts
+  pub routes : AreRoutes l l.routes
+
+-- whether a number is twice in the list
+abbrev pub has_twice : List ℕ → Bool
+has_twice [] = false
+has_twice (n ∷ ns) = list_any (nat_eq n) ns || has_twice ns
+
+-- whether the path from a to b takes a cut link or comes to a node twice before it comes to b
+abbrev pub is_broken : Placement → ℕ → ℕ → Bool
+is_broken l a b = list_any (λ (k : Pair). is_cut l.cuts k.0 k.1) (path l a b) || has_twice (a ∷ ends_of (path l a b))
+
+-- the first of these goals to which the path from a is broken
+abbrev pub broken_to : Placement → ℕ → List ℕ → Option Pair
+broken_to l a [] = None
+broken_to l a (b ∷ bs) = if is_broken l a b then Some (a, b) else broken_to l a bs
+
+abbrev pub broken_from : Placement → List ℕ → List ℕ → Option Pair
+broken_from l [] bs = None
+broken_from l (a ∷ rest) bs = option_or (broken_to l a bs) (broken_from l rest bs)
+
+-- the least pair of nodes without route, by its first node and then its second
+abbrev pub without_route : Placement → Option Pair
+without_route l = broken_from l (range_with_len 0 (l.width * l.height)) (range_with_len 0 (l.width * l.height))

@@ -1,0 +1,30 @@
+//! The words of a run and what every crate above shares of them: values, labels, lines, placements and names; texts, their
+//! lines, words and numbers; tables by key, the paths of a mesh, and the lemmas on these.
+#![tactic(auto)]
+
+mod args;
+mod frames;
+mod keywords;
+mod lines;
+mod list;
+mod names;
+mod places;
+mod scan;
+mod spelling;
+mod verdicts;
+mod words;
+
+pub use args::Args;
+pub use frames::{CodeObject, Frame};
+pub use keywords::Keyword;
+pub use lines::{decimal, next_line, next_word};
+pub use list::List;
+pub use names::Names;
+pub use places::{Decimal, LineAt, WordAt};
+pub use scan::{ByteSet, run_end};
+pub use spelling::keyword;
+pub use verdicts::{Redex, Verdict};
+pub use words::{
+    End, Error, Event, FullKind, Item, Kind, Label, Line, LinkId, NameId, Op, Place, Placement,
+    Route, Serves, Standing, Value, What, WireAct,
+};

@@ -1,0 +1,53 @@
+-- The words of a search.
+use Rattle.std.specs.Prelude.{ℕ, List, [], ◌∷◌, ◌&&◌, nat_eq, nat_le, Option, Some, None, option_map, option_and_then, Bool, true, false, if◌then◌else◌, bytes_eq, codes, map, string_bytes, String}
+use Rattle.run_words.specs.Text.{Text}
+use Rattle.run_words.specs.Lines.{decimal_of}
+use Rattle.run_words.specs.declared.places.Decimal.{Decimal}
+use Rattle.run_words.specs.declared.places.Decimal.TheVariants as Number
+use Rattle.pool_search.specs.declared.question.Question.{Question}
+use Rattle.pool_search.specs.declared.question.Wanted.{Wanted}
+use Rattle.pool_search.specs.declared.question.Wanted.TheVariants as W
+use Rattle.search_cli.specs.declared.words.Asked.{Asked}
+
+-- what is asked of the program of a name
+pub record Search : Type 0 where
+  pub question : Question
+  pub name : Text
+
+-- what a search looks for
+abbrev pub wanted_of : Text → Option Wanted
+wanted_of w = if bytes_eq w (codes "stuck") then Some W.Stuck else (if bytes_eq w (codes "fault") then Some W.Fault else None)
+
+-- from 1 to 10,000,000 configurations
+abbrev pub most_of : Decimal → Option ℕ
+most_of Number.NotDigits = None
+most_of Number.TooLarge = None
+most_of (Number.Value k) = if nat_le 1 k && nat_le k 10000000 then Some k else None
+
+-- a name that begins with `-` is none
+abbrev pub is_dashed : Text → Bool
+is_dashed [] = false
+is_dashed (b ∷ bs) = nat_eq b 45
+
+abbrev pub search_for : Wanted → Bool → Text → Text → Option Search
+search_for wanted all name n =
+    if is_dashed name then None
+    else option_map (λ most. record { question = record { wanted = wanted; all = all; most = most }; name = name }) (most_of (decimal_of n))
+
+-- `stuck` or `fault`, or neither for both; then `all`, where it is wanted; then the name of a program, and a number
+abbrev pub search_of : List Text → Option Search
+search_of [] = None
+search_of (a ∷ []) = None
+search_of (name ∷ n ∷ []) = search_for W.Both false name n
+search_of (a ∷ name ∷ n ∷ []) =
+    if bytes_eq a (codes "all") then search_for W.Both true name n else option_and_then (λ wanted. search_for wanted false name n) (wanted_of a)
+search_of (a ∷ b ∷ name ∷ n ∷ []) = if bytes_eq b (codes "all") then option_and_then (λ wanted. search_for wanted true name n) (wanted_of a) else None
+search_of (a ∷ b ∷ c ∷ d ∷ e ∷ ws) = None
+
+-- the words as texts
+abbrev pub texts_of : {A : Type 0} → List (String A) → List Text
+texts_of words = map string_bytes words
+
+-- what the code has of it
+abbrev pub search : Asked → Search
+search a = record { question = a.question; name = a.name.now }

@@ -1,0 +1,100 @@
+//! What is answered of a program.
+ghost use Rattle.outside_calls.specs.Reading.{reading};
+ghost use Rattle.std.specs.Prelude.{◌≡◌, ◌+◌, ◌-◌, ◌^◌, ◌<◌, ◌≤◌, IfOk, IsTrue};
+ghost use Rattle.pool_syntax.specs.TreeOf.{program_of};
+ghost use Rattle.pool_search.specs.Sought.{IsWantedStuck, LeadsTo};
+ghost use Rattle.program_input.specs.Inputs.{most_bytes, one_read};
+ghost use Rattle.program_input.specs.Readers.{HasTypedFault, IsTypedProgram, Reads};
+ghost use Rattle.search_cli.specs.Answers.{Answers, IsAnswerOn};
+
+use crate::shown::replay;
+use crate::status::Status;
+use crate::words::Asked;
+use class_check::Checked;
+use fault_lines::{Input, Stop};
+use pool_outside::Files;
+use pool_search::{Found, Question, search};
+use program_input::{judge_classes, read_parsed};
+use run_words::{Label, Names};
+use search_lines::{fault_text, finite_text, over_text, stuck_text, waiting_rows};
+use std::alloc::{AllocError, Global};
+
+/// The text of an answer, and the status with which it is written.
+#[derive(Drop)]
+pub struct Answer {
+    pub text: Vec<u8>,
+    pub status: Status,
+}
+
+/// The answer of a run that gets stuck, with those that wait where it does.
+fn stuck_answer(
+    alloc: Global,
+    program: &Checked<'_>,
+    names: &Names,
+    question: &Question,
+    labels: &[Label],
+) -> Result<Answer, AllocError>
+    requires { LeadsTo (program_of program.now.program.now) labels.now (IsWantedStuck (program_of program.now.program.now) question.now) }
+    ensures { IfOk result (λ a. Answers names.now (program_of program.now.program.now) question.now a.text.items a.status) }
+{
+    let plain = replay(alloc, program, labels)?;
+    let rows = waiting_rows(alloc, &plain, question.all)?;
+    let text = stuck_text(alloc, names, labels, &rows)?;
+    Ok(Answer {
+        text,
+        status: Status::Shown,
+    })
+}
+
+/// What a search of the program answers.
+fn answer_of(
+    alloc: Global,
+    program: &Checked<'_>,
+    names: &Names,
+    question: &Question,
+) -> Result<Answer, AllocError>
+    ensures { IfOk result (λ a. Answers names.now (program_of program.now.program.now) question.now a.text.items a.status) }
+{
+    match search(alloc, program, question) {
+        Ok(Found::Stuck(labels)) => stuck_answer(alloc, program, names, question, &labels),
+        Ok(Found::Fault(labels)) => Ok(Answer {
+            text: fault_text(alloc, names, &labels)?,
+            status: Status::Shown,
+        }),
+        Ok(Found::Finite(kept)) => Ok(Answer {
+            text: finite_text(alloc, kept as usize)?,
+            status: Status::Finite,
+        }),
+        Ok(Found::Over(kept)) => Ok(Answer {
+            text: over_text(alloc, kept as usize)?,
+            status: Status::Over,
+        }),
+        Err(AllocError) => Err(AllocError),
+    }
+}
+
+/// Reads the program of a name, judges it, and searches it.
+pub fn make_answer<F: Files>(
+    alloc: Global,
+    files: &mut F,
+    asked: &Asked<'_>,
+) -> Result<Answer, Stop>
+    requires allowed { IsTrue (F.may files.old (F.opens files.old) asked.now.name.now) }
+    requires countable { F.opens files.old < 2 ^ 64 - 1 }
+    ensures reads { Reads (reading F.told F.opens F.given F.live F.faults files.old files.new) Input.Program asked.now.name.now IsTypedProgram HasTypedFault (IsAnswerOn asked.now.question) result }
+    ensures opened_once { F.opens files.new ≡ F.opens files.old + 1 }
+    ensures unread_within { F.given files.new ≤ most_bytes + one_read }
+{
+    let parsed = match read_parsed(alloc, files, asked.name) {
+        Ok(parsed) => parsed,
+        Err(stop) => return Err(stop),
+    };
+    let checked = match judge_classes(alloc, &parsed) {
+        Ok(checked) => checked,
+        Err(stop) => return Err(stop),
+    };
+    match answer_of(alloc, &checked, &parsed.names, &asked.question) {
+        Ok(answer) => Ok(answer),
+        Err(AllocError) => Err(Stop::Memory),
+    }
+}

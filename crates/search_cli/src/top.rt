@@ -1,0 +1,84 @@
+//! The top call.
+ghost use Rattle.outside_calls.specs.Reading.{reading};
+ghost use Rattle.outside_calls.specs.Writing.{writing};
+ghost use Rattle.std.specs.Prelude.{◌≡◌, ◌⊎◌, ◌-◌, ◌^◌, ◌<◌, Some, false, Result, Err, IfSome, IsTrue};
+ghost use Rattle.pool_outside.specs.Outside.{Rose};
+ghost use Rattle.fault_lines.specs.FaultText.{refusal_line, unread_line};
+ghost use Rattle.search_cli.specs.Answers.{IsWhole};
+ghost use Rattle.search_cli.specs.Ends.{Ends, IsServed, StaysWithin, Writes};
+ghost use Rattle.search_cli.specs.Telling.{Tells};
+ghost use Rattle.search_cli.specs.Words.{Search, search_of, texts_of};
+
+use crate::answers::make_answer;
+use crate::status::Status;
+use crate::words::read_words;
+use fault_lines::{Stop, line_of_refusal, line_of_unread};
+use pool_outside::{Files, Sink, write_all_of};
+use std::alloc::Global;
+
+/// The usage line.
+const USAGE: &[u8] = b"usage: search [stuck|fault] [all] P N\n";
+
+/// Writes a piece, and answers the status, or that a write failed.
+fn say<K: Sink>(sink: &mut K, piece: &[u8], status: Status) -> Status
+    ensures { Writes (writing K.written K.faults sink.old sink.new) piece.now status result }
+{
+    match write_all_of(sink, piece) {
+        Ok(()) => status,
+        Err(_) => Status::WriteFault,
+    }
+}
+
+/// Writes on the error sink why nothing is answered.
+fn say_stop<E: Sink>(alloc: Global, err: &mut E, stop: Stop) -> Status
+    ensures { Tells (writing E.written E.faults err.old err.new) stop result }
+{
+    match stop {
+        Stop::Memory => Status::Memory,
+        Stop::Refused { input, fault } => match line_of_refusal(alloc, input, fault) {
+            Ok(line) => say(err, &line, Status::Refused),
+            Err(_) => Status::Memory,
+        },
+        Stop::Unread { input } => match line_of_unread(alloc, input) {
+            Ok(line) => say(err, &line, Status::ReadFault),
+            Err(_) => Status::Memory,
+        },
+    }
+}
+
+/// Searches all runs of a program: the words after the program's name, the files that it may read, and the sinks for its answer and its error line.
+pub fn pool_search<F: Files, K: Sink, E: Sink>(
+    alloc: Global,
+    words: &[String],
+    files: &mut F,
+    out: &mut K,
+    err: &mut E,
+) -> Status
+    requires not_live { F.live files.old ≡ false }
+    requires countable { F.opens files.old < 2 ^ 64 - 1 }
+    requires allowed { IfSome (search_of (texts_of words.now)) (λ s. IsTrue (F.may files.old (F.opens files.old) s.name)) }
+
+    // The call ends in one of the ways that the definition lists, each with its cause, and with what stands on the two sinks.
+    ensures ends { Ends (search_of (texts_of words.now))
+        (reading F.told F.opens F.given F.live F.faults files.old files.new)
+        (writing K.written K.faults out.old out.new)
+        (writing E.written E.faults err.old err.new)
+        result }
+
+    // Of the program no more than its limit and one read was given.
+    ensures stops_reading { StaysWithin
+        (reading F.told F.opens F.given F.live F.faults files.old files.new) }
+
+    // Words of a search, an accepted program and no fault in this call give an answer whole, or nothing for want of memory.
+    ensures complete { (s : Search) → search_of (texts_of words.now) ≡ Some s → IsServed (F.told files.old) s
+        → ¬ (Rose (F.faults files.old) (F.faults files.new)) → ¬ (Rose (K.faults out.old) (K.faults out.new)) → ¬ (Rose (E.faults err.old) (E.faults err.new))
+        → IsWhole result ⊎ (result ≡ Status.Memory) }
+{
+    match read_words(words) {
+        Some(asked) => match make_answer(alloc, files, &asked) {
+            Ok(answer) => say(out, &answer.text, answer.status),
+            Err(stop) => say_stop(alloc, err, stop),
+        },
+        None => say(err, USAGE, Status::Usage),
+    }
+}
