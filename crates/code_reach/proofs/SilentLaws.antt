@@ -1,15 +1,19 @@
--- Silent instructions that are followed far enough end, or come back to themselves.
-use Rattle.std.proofs.Common.{◌≡◌, ◌≢◌, ◌⊎◌, inl, inr, refl, sym, ap, subst, ◌∙◌, ℕ, zero, suc, ◌+◌, ◌<◌, ◌≤◌, List, [], ◌∷◌, ◌++◌, length, Option, Some, None, Bool, true, false, arith}
-use Rattle.std.specs.Prelude.{is_none, slice_get, slice_set}
-use Rattle.std.specs.List.{list_all}
-use Rattle.mesh_semantics.proofs.Laws.{same_some}
-use Rattle.object_code.specs.declared.unit.Instr.{Instr}
-use Rattle.object_code.specs.Proper.{Chain, silent_to}
+-- A walk along silent instructions ends, or comes back to itself.
+use Rattle.std.proofs.Common.{◌≡◌, ◌≢◌, ◌⊎◌, inl, inr, refl, sym, ap, subst, ◌∙◌, ℕ, zero, suc, ◌<◌, ◌≤◌, List, [], ◌∷◌, length, get_or, Option, Some, None, Bool, true, false, not, ◌==◌, arith}
+use Rattle.std.specs.Prelude.{slice_get, slice_set}
+use Rattle.std.specs.List.{sum_by}
+use Rattle.std.proofs.lemmas.List.{length-set}
+use Rattle.std.proofs.lemmas.List.Sums.{sum_by-set}
+use Rattle.std.proofs.lemmas.Option.{get_or_from_slice_get, slice_get-get_or, slice_get_past, slice_get_within}
+use Rattle.run_words.proofs.Laws.{equal, equals, same_some}
+use Rattle.code_semantics.specs.declared.unit.Instr.{Instr}
+use Rattle.code_semantics.specs.Proper.{Chain, silent_to}
 use Rattle.code_verdict.specs.Sorts.{CodeScope}
 use Rattle.code_verdict.specs.Verdict.{has_no_circle, silence_ends}
-use Rattle.code_verdict.proofs.Laws.{chain_front, chain_goes_on, circle_at, is_calm, rounds, silent_within}
-use Rattle.code_reach.specs.Silent.{LeadsFar, followed, led, silent_after}
-use Rattle.code_sorts.proofs.Cells.{get_within}
+use Rattle.code_verdict.proofs.Laws.{chain_front, chain_goes_on, is_calm, no_circle_is, rounds, silent_within}
+use Rattle.code_reach.specs.Silent.{ChainEnds, IsMarked, IsWalked, MarkSays}
+use Rattle.code_reach.specs.declared.circles.Mark.{Mark}
+use Rattle.code_reach.specs.declared.circles.Mark.TheVariants as M
 
 -- some place of code
 nowhere : CodeScope
@@ -20,206 +24,143 @@ nowhere = record {
   value = None;
 }
 
+-- from so many marks a walk goes on
+abbrev pub steps : Mark → ℕ
+steps (M.Next n) = 1
+steps M.Ends = 0
+steps (M.Walked w) = 0
+
+abbrev pub steps_left : List Mark → ℕ
+steps_left marks = sum_by steps marks
+
+pub steps_less : (marks : List Mark) (at n w : ℕ) → slice_get marks at ≡ Some (M.Next n) → steps_left (slice_set marks at (M.Walked w)) < steps_left marks
+steps_less marks at n w e =
+    let one : steps (get_or marks at M.Ends) ≡ 1 = ap steps (get_or_from_slice_get marks at (M.Next n) M.Ends e) in
+    omega (arith, one, sum_by-set steps marks at (M.Walked w) M.Ends (slice_get_within marks at (M.Next n) e))
+
+past_marks : (marks : List Mark) (n : ℕ) → slice_get marks n ≡ None → length marks ≤ n
+past_marks [] n e = omega arith
+past_marks (m ∷ marks) zero e = absurd (cc)
+past_marks (m ∷ marks) (suc n) e = let h = past_marks marks n e in omega (arith, h)
+
+-- what is read after a write
+read_back : (marks : List Mark) (n : ℕ) (x : Mark) (at : ℕ) (m : Mark) → slice_get (slice_set marks n x) at ≡ Some m → ((at ≢ n) × (slice_get marks at ≡ Some m)) ⊎ ((at ≡ n) × (x ≡ m))
+read_back [] n x at m e = absurd (cc)
+read_back (y ∷ marks) zero x zero m e = inr (refl, same_some e)
+read_back (y ∷ marks) zero x (suc at) m e = inl ((λ q. omega (arith, q)), e)
+read_back (y ∷ marks) (suc n) x zero m e = inl ((λ q. omega (arith, q)), e)
+read_back (y ∷ marks) (suc n) x (suc at) m e = by (read_back marks n x at m e)
+  where
+    by : ((at ≢ n) × (slice_get marks at ≡ Some m)) ⊎ ((at ≡ n) × (x ≡ m)) → ((suc at ≢ suc n) × (slice_get marks at ≡ Some m)) ⊎ ((suc at ≡ suc n) × (x ≡ m))
+    by (inl h) = inl ((λ q. h.0 (omega (arith, q))), h.1)
+    by (inr h) = inr (ap suc h.0, h.1)
+
 module _ (c : List Instr) where
-  nothing_after : (n : ℕ) → silent_after n c None ≡ None
-  nothing_after zero = refl
-  nothing_after (suc n) = refl
+  -- one more silent instruction
+  chain_more : (n a b d : ℕ) → Chain c n a b → silent_to b (slice_get c b) ≡ Some d → Chain c (suc n) a d
+  chain_more zero a b d h e = (d, ap (λ x. silent_to x (slice_get c x)) h ∙ e, refl)
+  chain_more (suc n) a b d h e = (h.0, h.1, chain_more n h.0 b d h.2 e)
 
-  -- after so many instructions, and then so many more
-  after_both : (m n k : ℕ) (o : Option ℕ) → k ≡ m + n → silent_after k c o ≡ silent_after n c (silent_after m c o)
-  after_both zero n k o e = ap (λ l. silent_after l c o) (let z : k ≡ n = omega (arith, e) in z)
-  after_both (suc m) n zero o e = absurd (omega (arith, e))
-  after_both (suc m) n (suc k) None e = sym (nothing_after n)
-  after_both (suc m) n (suc k) (Some at) e = after_both m n k (silent_to at (slice_get c at)) (omega (arith, e))
+  ends_here : (a : ℕ) → silent_to a (slice_get c a) ≡ None → ChainEnds c a
+  ends_here a e = (1, ap (silence_ends 0 c) e)
 
-  silence_is : (n : ℕ) (o : Option ℕ) → silence_ends n c o ≡ is_none (silent_after n c o)
-  silence_is n None = sym (ap is_none (nothing_after n))
-  silence_is zero (Some at) = refl
-  silence_is (suc n) (Some at) = silence_is n (silent_to at (slice_get c at))
+  ends_before : (n a b : ℕ) → Chain c n a b → ChainEnds c b → ChainEnds c a
+  ends_before zero a b h e = subst (ChainEnds c) (sym h) e
+  ends_before (suc n) a b h e = let r = ends_before n h.0 b h.2 e in (suc r.0, ap (silence_ends r.0 c) h.1 ∙ r.1)
 
-  -- what has ended stays so
-  ended_stays : (m n : ℕ) (o : Option ℕ) → n ≤ m → silent_after n c o ≡ None → silent_after m c o ≡ None
-  ended_stays m zero o le e = ap (silent_after m c) e ∙ nothing_after m
-  ended_stays zero (suc n) o le e = absurd (omega (arith, le))
-  ended_stays (suc m) (suc n) None le e = refl
-  ended_stays (suc m) (suc n) (Some at) le e = ended_stays m n (silent_to at (slice_get c at)) (omega (arith, le)) e
+  -- a chain that ends does not come back
+  ends_once : (at n : ℕ) → ChainEnds c at → ¬ (Chain c (suc n) at at)
+  ends_once at n e k =
+      let r = rounds nowhere c n at k e.0 in
+      let f = chain_front nowhere c e.0 r.0 at at r.1 in
+      let z : true ≡ false = sym e.1 ∙ chain_goes_on nowhere c e.0 at f.0 f.1 in cc
 
-  push_get : (xs : List (Option ℕ)) (x : Option ℕ) (at : ℕ) (o : Option ℕ) → slice_get (xs ++ x ∷ []) at ≡ Some o → (slice_get xs at ≡ Some o) ⊎ ((at ≡ length xs) × (x ≡ o))
-  push_get [] x zero o e = inr (refl, same_some e)
-  push_get [] x (suc at) o e = absurd (let z : None ≡ Some o = e in cc)
-  push_get (y ∷ xs) x zero o e = inl e
-  push_get (y ∷ xs) x (suc at) o e = elim (push_get xs x at o e) as (λ u. (slice_get xs at ≡ Some o) ⊎ ((suc at ≡ suc (length xs)) × (x ≡ o))) [ inl h ↦ inl h | inr h ↦ inr (ap suc h.0, h.1) ]
+  -- what a mark says while the walk from a start has come to a place
+  abbrev pub OnWay : ℕ → ℕ → ℕ → Mark → Type 0
+  OnWay start place at M.Ends = silent_to at (slice_get c at) ≡ None
+  OnWay start place at (M.Next n) = (start ≤ at) × (at ≡ start → at ≡ place) × (silent_to at (slice_get c at) ≡ Some n)
+  OnWay start place at (M.Walked w) = ((w < start) × ChainEnds c at) ⊎ ((w ≡ start) × (n : ℕ) × Chain c (suc n) at place)
 
-  -- one place more
-  pub leads_push : (ends : List (Option ℕ)) (i : Instr) (x : Option ℕ) → slice_get c (length ends) ≡ Some i → x ≡ silent_to (length ends) (Some i) → LeadsFar 1 c ends
-      → LeadsFar 1 c (ends ++ x ∷ [])
-  leads_push ends i x there is h at o e = by (push_get ends x at o e)
+  abbrev pub AreOnWay : ℕ → ℕ → List Mark → Type 0
+  AreOnWay start place marks = (length marks ≡ length c) × ((at : ℕ) (m : Mark) → slice_get marks at ≡ Some m → OnWay start place at m)
+
+  pub walk_begins : (start : ℕ) (marks : List Mark) → IsMarked c start marks → AreOnWay start start marks
+  walk_begins start marks h = (h.0, λ at m e. by at m (h.1 at m e))
     where
-      by : (slice_get ends at ≡ Some o) ⊎ ((at ≡ length ends) × (x ≡ o)) → (n : ℕ) × (1 ≤ n) × (o ≡ silent_after n c (Some at))
-      by (inl q) = h at o q
-      by (inr q) =
-          (1, omega arith, sym q.1 ∙ is ∙ ap (silent_to (length ends)) (sym there) ∙ ap (λ n. silent_to n (slice_get c n)) (sym q.0))
+      by : (at : ℕ) (m : Mark) → MarkSays c start at m → OnWay start start at m
+      by at M.Ends k = k
+      by at (M.Next n) k = (k.0, (λ q. q), k.1)
+      by at (M.Walked w) k = inl k
 
-  -- the places below this one lead at least twice as far
-  abbrev pub LeadsOn : ℕ → ℕ → List (Option ℕ) → Type 0
-  LeadsOn place least ends =
-      (at : ℕ) (o : Option ℕ) → slice_get ends at ≡ Some o → (n : ℕ) × (least ≤ n) × (at < place → least + least ≤ n) × (o ≡ silent_after n c (Some at))
-
-  pub leads_begin : (least : ℕ) (ends : List (Option ℕ)) → LeadsFar least c ends → LeadsOn 0 least ends
-  leads_begin least ends h at o e = let r = h at o e in (r.0, r.1, λ lt. absurd (omega (arith, lt)), r.2)
-
-  pub leads_end : (least place : ℕ) (ends : List (Option ℕ)) → length ends ≤ place → LeadsOn place least ends → LeadsFar (least + least) c ends
-  leads_end least place ends full h at o e = let r = h at o e in (r.0, r.2 (let w = get_within ends at o e in omega (arith, w, full)), r.3)
-
-  out : (xs : List Instr) (n : ℕ) → length xs ≤ n → slice_get xs n ≡ None
-  out [] n h = refl
-  out (x ∷ xs) zero h = absurd (omega (arith, h))
-  out (x ∷ xs) (suc n) h = out xs n (omega (arith, h))
-
-  out_too : (xs : List (Option ℕ)) (n : ℕ) → slice_get xs n ≡ None → length xs ≤ n
-  out_too [] n e = omega arith
-  out_too (x ∷ xs) zero e = absurd (let z : Some x ≡ None = e in cc)
-  out_too (x ∷ xs) (suc n) e = let h = out_too xs n e in omega (arith, h)
-
-  -- one place further
-  twice : (least at : ℕ) (ends : List (Option ℕ)) (x : Option ℕ) (n : ℕ) → length ends ≡ length c → least ≤ n → x ≡ silent_after n c (Some at)
-      → ((b : ℕ) (o : Option ℕ) → slice_get ends b ≡ Some o → (m : ℕ) × (least ≤ m) × (o ≡ silent_after m c (Some b)))
-      → (m : ℕ) × (least + least ≤ m) × (followed ends x ≡ silent_after m c (Some at))
-  twice least at ends None n size le e far = (n + n, omega (arith, le), sym (ended_stays (n + n) n (Some at) (omega arith) (sym e)))
-  twice least at ends (Some b) n size le e far = by (slice_get ends b) refl
+  pub walk_more : (start place next : ℕ) (marks : List Mark) → slice_get marks place ≡ Some (M.Next next) → AreOnWay start place marks
+      → AreOnWay start next (slice_set marks place (M.Walked start))
+  walk_more start place next marks there h = (length-set marks place (M.Walked start) ∙ h.0, λ at m e. by at m (read_back marks place (M.Walked start) at m e))
     where
-      by : (o : Option (Option ℕ)) → slice_get ends b ≡ o → (m : ℕ) × (least + least ≤ m) × (led o ≡ silent_after m c (Some at))
-      by (Some o) q =
-          let r = far b o q in
-          let m = r.0 in
-          let k = r.1 in
-          (n + m, omega (arith, le, k), r.2 ∙ ap (silent_after m c) e ∙ sym (after_both n m (n + m) (Some at) refl))
-      by None q =
-          let past = out_too ends b q in
-          let gone : silent_to b (slice_get c b) ≡ None = ap (silent_to b) (out c b (omega (arith, past, size))) in
-          let ends_there : silent_after (suc least) c (Some b) ≡ None = ap (silent_after least c) gone ∙ nothing_after least in
-          (n + suc least, omega (arith, le), sym (after_both n (suc least) (n + suc least) (Some at) refl ∙ ap (silent_after (suc least) c) (sym e) ∙ ends_there))
+      goes : silent_to place (slice_get c place) ≡ Some next
+      goes = (h.1 place (M.Next next) there).2
 
-  get_set : (xs : List (Option ℕ)) (n : ℕ) (x y : Option ℕ) → slice_get (slice_set xs n x) n ≡ Some y → x ≡ y
-  get_set [] n x y e = absurd (let z : None ≡ Some y = e in cc)
-  get_set (z ∷ xs) zero x y e = same_some e
-  get_set (z ∷ xs) (suc n) x y e = get_set xs n x y e
+      kept : (at : ℕ) (m : Mark) → at ≢ place → OnWay start place at m → OnWay start next at m
+      kept at M.Ends q k = k
+      kept at (M.Next n) q k = (k.0, (λ p. absurd (q (k.1 p))), k.2)
+      kept at (M.Walked w) q (inl k) = inl k
+      kept at (M.Walked w) q (inr k) = inr (k.0, suc k.1, chain_more (suc k.1) at place next k.2 goes)
 
-  get_other : (xs : List (Option ℕ)) (n m : ℕ) (x : Option ℕ) → m ≢ n → slice_get (slice_set xs n x) m ≡ slice_get xs m
-  get_other [] n m x h = refl
-  get_other (z ∷ xs) zero zero x h = absurd (h refl)
-  get_other (z ∷ xs) zero (suc m) x h = refl
-  get_other (z ∷ xs) (suc n) zero x h = refl
-  get_other (z ∷ xs) (suc n) (suc m) x h = get_other xs n m x (λ e. h (ap suc e))
+      by : (at : ℕ) (m : Mark) → ((at ≢ place) × (slice_get marks at ≡ Some m)) ⊎ ((at ≡ place) × (M.Walked start ≡ m)) → OnWay start next at m
+      by at m (inl k) = kept at m k.0 (h.1 at m k.1)
+      by at m (inr k) = subst (OnWay start next at) k.1 (inr (refl, 0, (next, ap (λ x. silent_to x (slice_get c x)) k.0 ∙ goes, refl)))
 
-  data Same (m n : ℕ) : Type 0 where
-    same : m ≡ n → Same m n
-    other : m ≢ n → Same m n
+  abbrev can_go_on : Option Mark → Bool
+  can_go_on (Some (M.Next n)) = true
+  can_go_on _ = false
 
-  which : (m n : ℕ) → Same m n
-  which zero zero = same refl
-  which zero (suc n) = other (λ e. omega (arith, e))
-  which (suc m) zero = other (λ e. omega (arith, e))
-  which (suc m) (suc n) = by (which m n)
+  -- the walk ends, and so do the chains of its places
+  all_end : (start place : ℕ) (marks : List Mark) → can_go_on (slice_get marks place) ≡ false → ChainEnds c place → AreOnWay start place marks → IsMarked c (suc start) marks
+  all_end start place marks over ends h = (h.0, λ at m e. by at m e (h.1 at m e))
     where
-      by : Same m n → Same (suc m) (suc n)
-      by (same e) = same (ap suc e)
-      by (other h) = other (λ e. h (let z : m ≡ n = omega (arith, e) in z))
-
-  -- one place is led on
-  pub leads_step : (least place : ℕ) (ends : List (Option ℕ)) (x : Option ℕ) → length ends ≡ length c → slice_get ends place ≡ Some x → LeadsOn place least ends
-      → LeadsOn (suc place) least (slice_set ends place (followed ends x))
-  leads_step least place ends x size there h at o e = by (which at place)
-    where
-      here : (n : ℕ) × (least ≤ n) × (place < place → least + least ≤ n) × (x ≡ silent_after n c (Some place))
-      here = h place x there
-
-      far : (m : ℕ) × (least + least ≤ m) × (followed ends x ≡ silent_after m c (Some place))
-      far = twice least place ends x here.0 size here.1 here.3 (λ b p q. let r = h b p q in (r.0, r.1, r.3))
-
-      by : Same at place → (n : ℕ) × (least ≤ n) × (at < suc place → least + least ≤ n) × (o ≡ silent_after n c (Some at))
-      by (same p) =
-          let k = far.1 in
-          let v : followed ends x ≡ o = get_set ends place (followed ends x) o (subst (λ n. slice_get (slice_set ends place (followed ends x)) n ≡ Some o) p e) in
-          (far.0, omega (arith, k), (λ lt. k), sym v ∙ far.2 ∙ ap (λ n. silent_after far.0 c (Some n)) (sym p))
-      by (other p) =
-          let r = h at o (sym (get_other ends place at (followed ends x) p) ∙ e) in
-          (r.0, r.1, (λ lt. r.2 (less at place p lt)), r.3)
+      by : (at : ℕ) (m : Mark) → slice_get marks at ≡ Some m → OnWay start place at m → MarkSays c (suc start) at m
+      by at M.Ends e k = k
+      by at (M.Next n) e k = (beyond at k.0 (λ q. let z : true ≡ false = sym (ap can_go_on (ap (slice_get marks) (sym (k.1 q)) ∙ e)) ∙ over in cc), k.2)
         where
-          less : (m n : ℕ) → m ≢ n → m < suc n → m < n
-          less zero zero q lt = absurd (q refl)
-          less zero (suc n) q lt = omega arith
-          less (suc m) zero q lt = absurd (omega (arith, lt))
-          less (suc m) (suc n) q lt = let r = less m n (λ e. q (ap suc e)) (omega (arith, lt)) in omega (arith, r)
+          beyond : (at : ℕ) → start ≤ at → (at ≡ start → ⊥) → suc start ≤ at
+          beyond at le q = omega (arith, le, q)
+      by at (M.Walked w) e (inl k) = (let lt = k.0 in omega (arith, lt), k.1)
+      by at (M.Walked w) e (inr k) = (let q = k.0 in omega (arith, q), ends_before (suc k.1) at place k.2 ends)
 
-  pub length_set : (xs : List (Option ℕ)) (n : ℕ) (x : Option ℕ) → length (slice_set xs n x) ≡ length xs
-  length_set [] n x = refl
-  length_set (y ∷ xs) zero x = refl
-  length_set (y ∷ xs) (suc n) x = ap suc (length_set xs n x)
+  pub walk_past : (start place : ℕ) (marks : List Mark) → slice_get marks place ≡ None → AreOnWay start place marks → IsMarked c (suc start) marks
+  walk_past start place marks e h =
+      let past = past_marks marks place e in
+      let size = h.0 in
+      all_end start place marks (ap can_go_on e) (ends_here place (ap (silent_to place) (slice_get_past c place (omega (arith, past, size))))) h
 
-  pub leads_less : (m n : ℕ) (ends : List (Option ℕ)) → n ≤ m → LeadsFar m c ends → LeadsFar n c ends
-  leads_less m n ends le h at o e = let r = h at o e in let k = r.1 in (r.0, omega (arith, le, k), r.2)
+  pub walk_ends : (start place : ℕ) (marks : List Mark) → slice_get marks place ≡ Some M.Ends → AreOnWay start place marks → IsMarked c (suc start) marks
+  walk_ends start place marks e h = all_end start place marks (ap can_go_on e) (ends_here place (h.1 place M.Ends e)) h
 
-  none_there : (xs : List (Option ℕ)) (n : ℕ) (o : Option ℕ) → list_all is_none xs ≡ true → slice_get xs n ≡ Some o → o ≡ None
-  none_there [] n o h e = absurd (let z : None ≡ Some o = e in cc)
-  none_there (None ∷ xs) zero o h e = sym (same_some e)
-  none_there (None ∷ xs) (suc n) o h e = none_there xs n o h e
-  none_there (Some x ∷ xs) n o h e = absurd (let z : false ≡ true = h in cc)
+  -- the walk comes to a place that a walk has come by
+  pub walk_meets : (start place w : ℕ) (marks : List Mark) → slice_get marks place ≡ Some (M.Walked w) → AreOnWay start place marks
+      → IsWalked c start (not (w == start)) marks
+  walk_meets start place w marks e h = by (w == start) refl (h.1 place (M.Walked w) e)
+    where
+      by : (b : Bool) → (w == start) ≡ b → ((w < start) × ChainEnds c place) ⊎ ((w ≡ start) × (n : ℕ) × Chain c (suc n) place place) → IsWalked c start (not b) marks
+      by false q (inl k) = all_end start place marks (ap can_go_on e) k.1 h
+      by true q (inl k) = absurd (let p = equal w start q in let lt = k.0 in omega (arith, p, lt))
+      by false q (inr k) = absurd (let z : false ≡ true = sym q ∙ ap (λ n. n == start) k.0 ∙ equals start in cc)
+      by true q (inr k) = (place, k.1, k.2)
 
-  some_there : (xs : List (Option ℕ)) → list_all is_none xs ≡ false → (n : ℕ) × (at : ℕ) × (slice_get xs n ≡ Some (Some at))
-  some_there [] h = absurd (let z : true ≡ false = h in cc)
-  some_there (None ∷ xs) h = let r = some_there xs h in (suc r.0, r.1, r.2)
-  some_there (Some x ∷ xs) h = (zero, x, refl)
+  -- after all walks no chain comes back
+  pub walks_over : (marks : List Mark) → IsMarked c (length c) marks → has_no_circle c c 0 ≡ true
+  walks_over marks h = is_calm nowhere c (λ at n k. ends_once at n (ends at (silent_within nowhere c at k.0 k.1)) k) c 0
+    where
+      ends : (at : ℕ) → at < length c → ChainEnds c at
+      ends at lt = by (get_or marks at M.Ends) (h.1 at (get_or marks at M.Ends) (slice_get-get_or marks at M.Ends (let size = h.0 in omega (arith, lt, size))))
+        where
+          by : (m : Mark) → MarkSays c (length c) at m → ChainEnds c at
+          by M.Ends k = ends_here at k
+          by (M.Next n) k = absurd (let le = k.0 in omega (arith, lt, le))
+          by (M.Walked w) k = k.1
 
-  pub nth_there : {X : Type 0} (xs : List X) (n : ℕ) → n < length xs → (x : X) × (slice_get xs n ≡ Some x)
-  nth_there [] n h = absurd (omega (arith, h))
-  nth_there (x ∷ xs) zero h = (x, refl)
-  nth_there (x ∷ xs) (suc n) h = nth_there xs n (omega (arith, h))
-
-  module _ (least : ℕ) (ends : List (Option ℕ)) (size : length ends ≡ length c) (far : LeadsFar least c ends) where
-    g : CodeScope
-    g = nowhere
-
-    ended : list_all is_none ends ≡ true → has_no_circle c c 0 ≡ true
-    ended h = is_calm g c (λ at n k. round at n k) c 0
-      where
-        round : (at n : ℕ) → ¬ (Chain c (suc n) at at)
-        round at n k =
-            let lt = silent_within g c at k.0 k.1 in
-            let x = nth_there ends at (omega (arith, lt, size)) in
-            let r = far at x.0 x.1 in
-            let gone : silent_after r.0 c (Some at) ≡ None = sym r.2 ∙ none_there ends at x.0 h x.1 in
-            let ends_there : silence_ends r.0 c (Some at) ≡ true = silence_is r.0 (Some at) ∙ ap is_none gone in
-            let again = rounds g c n at k r.0 in
-            let front = chain_front g c r.0 again.0 at at again.1 in
-            let goes : silence_ends r.0 c (Some at) ≡ false = chain_goes_on g c r.0 at front.0 front.1 in
-            let z : true ≡ false = sym ends_there ∙ goes in cc
-
-    on : length c < least → list_all is_none ends ≡ false → has_no_circle c c 0 ≡ false
-    on long h = by (has_no_circle c c 0) refl
-      where
-        x : (n : ℕ) × (at : ℕ) × (slice_get ends n ≡ Some (Some at))
-        x = some_there ends h
-
-        by : (b : Bool) → has_no_circle c c 0 ≡ b → has_no_circle c c 0 ≡ false
-        by false e = e
-        by true e =
-            let n = x.0 in
-            let w = get_within ends n (Some x.1) x.2 in
-            let r = far n (Some x.1) x.2 in
-            let l = r.1 in
-            let calm : silence_ends (suc (length c)) c (Some n) ≡ true =
-            ap (λ m. silence_ends (suc (length c)) c (Some m)) (let z : n ≡ 0 + n = omega arith in z) ∙ circle_at g c c 0 n (omega (arith, w, size)) e in
-            let gone : silent_after (suc (length c)) c (Some n) ≡ None = is_gone (silent_after (suc (length c)) c (Some n)) (sym (silence_is (suc (length c)) (Some n)) ∙ calm) in
-            let stays = ended_stays r.0 (suc (length c)) (Some n) (omega (arith, l, long)) gone in
-            absurd (let z : Some x.1 ≡ None = r.2 ∙ stays in cc)
-          where
-            is_gone : (o : Option ℕ) → is_none o ≡ true → o ≡ None
-            is_gone None e = refl
-            is_gone (Some m) e = absurd (let z : false ≡ true = e in cc)
-
-    -- the places are followed until all have ended, or for longer than the code
-    pub circles_told : (b : Bool) → b ≡ list_all is_none ends → (b ≡ true) ⊎ (length c < least) → b ≡ has_no_circle c c 0
-    circles_told true e h = sym (ended (sym e))
-    circles_told false e (inl h) = absurd (let z : false ≡ true = h in cc)
-    circles_told false e (inr h) = sym (on h (sym e))
+  pub comes_back : (at n : ℕ) → Chain c (suc n) at at → has_no_circle c c 0 ≡ false
+  comes_back at n k = by (has_no_circle c c 0) refl
+    where
+      by : (b : Bool) → has_no_circle c c 0 ≡ b → has_no_circle c c 0 ≡ false
+      by false e = e
+      by true e = absurd (no_circle_is nowhere c e at n k)

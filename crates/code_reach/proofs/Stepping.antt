@@ -2,32 +2,24 @@
 use Rattle.std.proofs.Common.{◌≡◌, refl, sym, ap, subst, ◌∙◌, ℕ, zero, suc, ◌+◌, ◌<◌, ◌≤◌, List, [], ◌∷◌, ◌++◌, length, map, drop, Option, Some, None, Bool, true, false, arith}
 use Rattle.std.specs.Prelude.{is_none, nat_le, reverse, slice_get, slice_set, replicate, option_map, if◌then◌else◌}
 use Rattle.std.specs.List.{list_all}
-use Rattle.std.proofs.lemmas.List.{reverse-append}
-use Rattle.mesh_semantics.specs.Partial.{◌>>=◌, ◌>>◌, require}
-use Rattle.mesh_semantics.specs.Sound.{Each}
-use Rattle.mesh_semantics.proofs.Laws.{same_some}
-use Rattle.object_code.specs.declared.unit.Instr.{Instr}
-use Rattle.object_code.specs.Proper.{nexts}
+use Rattle.std.proofs.lemmas.List.{reverse-append, map-append, length-map}
+use Rattle.run_words.specs.Partial.{◌>>=◌, ◌>>◌, require}
+use Rattle.run_words.specs.Tables.{Each}
+use Rattle.run_words.proofs.Laws.{same_some, each_both}
+use Rattle.code_semantics.specs.declared.unit.Instr.{Instr}
+use Rattle.code_semantics.specs.Proper.{nexts}
 use Rattle.code_verdict.specs.Sorts.{CodeScope, Stack, left_by}
 use Rattle.code_verdict.specs.Verdict.{Table, Visit, followed, if_equal, if_taken, spread, stacks_equal, table_of, visited, visits}
 use Rattle.code_verdict.proofs.Laws.{all_unset, followed_is, next_count, set_less, unset}
-use Rattle.code_sorts.specs.declared.cell.Stacks.{Stacks}
+use Rattle.code_verdict.specs.declared.cell.Stacks.{Stacks}
 use Rattle.code_reach.specs.declared.spread.Visit.{Visit as AVisit}
 use Rattle.code_reach.specs.declared.spread.Spread.{Spread}
 use Rattle.code_reach.specs.Spreads.{IsKept, IsSeen, Outcome, gone, stepped, stepped_by, table_by, to_place, visit_of, visits_by}
-use Rattle.code_sorts.specs.Stands.{Holds, Keeps, stack_at, stack_of}
+use Rattle.code_verdict.specs.Stands.{Holds, Keeps, stack_at, stack_of}
 
 length_both : {X : Type 0} (xs ys : List X) → length (xs ++ ys) ≡ length xs + length ys
 length_both [] ys = omega arith
 length_both (x ∷ xs) ys = let h = length_both xs ys in omega (arith, h)
-
-length_map : {A B : Type 0} (f : A → B) (xs : List A) → length (map f xs) ≡ length xs
-length_map f [] = refl
-length_map f (x ∷ xs) = ap suc (length_map f xs)
-
-map_both : {A B : Type 0} (f : A → B) (xs ys : List A) → map f (xs ++ ys) ≡ map f xs ++ map f ys
-map_both f [] ys = refl
-map_both f (x ∷ xs) ys = ap (λ l. f x ∷ l) (map_both f xs ys)
 
 get_map : {A B : Type 0} (f : A → B) (xs : List A) (n : ℕ) → slice_get (map f xs) n ≡ option_map f (slice_get xs n)
 get_map f [] n = refl
@@ -87,7 +79,7 @@ module _ (g : CodeScope) (c : List Instr) where
       new q None h k = absurd (let z : None ≡ Some p = k in cc)
       new q (Some ws) h k =
           let f = followed_is g c v.0 v.1 ws h in
-          let l : length ws ≡ length (nexts v.0 f.0) = ap length (sym f.5) ∙ length_map (λ b. (b, f.1)) (nexts v.0 f.0) in
+          let l : length ws ≡ length (nexts v.0 f.0) = ap length (sym f.5) ∙ length-map (nexts v.0 f.0) (λ b. (b, f.1)) in
           let m = next_count g c v.0 f.0 in
           let u = set_less g c t c v.0 v.1 f.0 q f.2 in
           let b = length_both ws vs in
@@ -145,10 +137,6 @@ set_each : {X : Type 0} (P : X → Type 0) (xs : List X) (n : ℕ) (x : X) → P
 set_each P [] n x p h = h
 set_each P (y ∷ xs) zero x p h = (p, h.1)
 set_each P (y ∷ xs) (suc n) x p h = (h.0, set_each P xs n x p h.1)
-
-each_both : {X : Type 0} (P : X → Type 0) (xs ys : List X) → Each P xs → Each P ys → Each P (xs ++ ys)
-each_both P [] ys h k = k
-each_both P (x ∷ xs) ys h k = (h.0, each_both P xs ys h.1 k)
 
 places_hold : (s : Stacks) (n : ℕ) (bs : List ℕ) → Holds s n → Each (λ v. Holds s v.stack) (map (to_place n) bs)
 places_hold s n [] h = tt
@@ -233,7 +221,7 @@ module _ (g : CodeScope) (c : List Instr) (x : Spread) (v : AVisit) (new : slice
 
       visits_are : visits_by y ≡ map (λ b. (b, stack_of y.stacks n)) (nexts v.place i) ++ visits_by x
       visits_are =
-          ap (map (visit_of y.stacks)) visits ∙ map_both (visit_of y.stacks) (map (to_place n) (nexts v.place i)) (reverse x.visits.items)
+          ap (map (visit_of y.stacks)) visits ∙ map-append (visit_of y.stacks) (map (to_place n) (nexts v.place i)) (reverse x.visits.items)
           ∙ ap (λ l. l ++ map (visit_of y.stacks) (reverse x.visits.items)) (places_seen y.stacks n (nexts v.place i))
           ∙ ap (λ l. map (λ b. (b, stack_of y.stacks n)) (nexts v.place i) ++ l) (visits_kept x.stacks y.stacks keeps (reverse x.visits.items) kept.1).1
 

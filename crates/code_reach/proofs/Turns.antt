@@ -2,14 +2,14 @@
 use Rattle.std.proofs.Common.{◌≡◌, ◌≢◌, refl, sym, ap, subst, ◌∙◌, ℕ, ◌+◌, ◌-◌, ◌^◌, ◌==◌, ◌&&◌, ◌<◌, ◌≤◌, List, [], ◌∷◌, ◌++◌, length, drop, map, Option, Some, None, Bool, true, false, arith}
 use Rattle.std.specs.Prelude.{is_none, nat_le, reverse, slice_get, slice_set}
 use Rattle.std.specs.List.{list_all}
-use Rattle.mesh_semantics.specs.Partial.{◌>>=◌, ◌>>◌, require}
-use Rattle.mesh_semantics.specs.Sound.{Each}
-use Rattle.mesh_semantics.proofs.Laws.{equal, equals}
-use Rattle.object_code.specs.Proper.{nexts}
-use Rattle.object_code.specs.declared.unit.Instr.{Instr}
+use Rattle.run_words.specs.Partial.{◌>>=◌, ◌>>◌, require}
+use Rattle.run_words.specs.Tables.{Each}
+use Rattle.run_words.proofs.Laws.{equal, equals}
+use Rattle.code_semantics.specs.Proper.{nexts}
+use Rattle.code_semantics.specs.declared.unit.Instr.{Instr}
 use Rattle.code_verdict.specs.Sorts.{CodeScope, Stack, left_by}
 use Rattle.code_verdict.specs.Verdict.{Table, Visit, followed, most, table_of}
-use Rattle.code_sorts.specs.Stands.{Holds, stack_at, stack_of}
+use Rattle.code_verdict.specs.Stands.{Holds, stack_at, stack_of}
 use Rattle.code_reach.specs.declared.spread.Visit.{Visit as AVisit}
 use Rattle.code_reach.specs.declared.spread.Effect.{Effect}
 use Rattle.code_reach.specs.declared.spread.Spread.{Spread}

@@ -1,13 +1,13 @@
 -- The effect of the instructions that look something up.
 use Rattle.std.specs.Prelude.{ℕ, List, ◌∷◌, Option, Some, None, is_some, slice_get}
-use Rattle.pool_syntax.specs.declared.words.NameId.{NameId}
-use Rattle.pool_syntax.specs.declared.tree.Kind.{Kind}
-use Rattle.pool_syntax.specs.Typing.{ClassSort, Sort}
-use Rattle.mesh_semantics.specs.Partial.{◌>>=◌, ◌>>◌, require}
-use Rattle.object_code.specs.declared.file.UnitFile.{UnitFile}
-use Rattle.object_code.specs.Step.{class_from}
-use Rattle.code_sorts.specs.declared.cell.Stacks.{Stacks}
-use Rattle.code_sorts.specs.Stands.{stack_of, with_sort}
+use Rattle.run_words.specs.declared.words.NameId.{NameId}
+use Rattle.run_words.specs.declared.words.Kind.{Kind}
+use Rattle.run_words.specs.Sorts.{ClassSort, Sort}
+use Rattle.run_words.specs.Partial.{◌>>=◌, ◌>>◌, require}
+use Rattle.code_semantics.specs.declared.file.UnitFile.{UnitFile}
+use Rattle.code_semantics.specs.Step.{class_from}
+use Rattle.code_verdict.specs.declared.cell.Stacks.{Stacks}
+use Rattle.code_verdict.specs.Stands.{stack_of, with_sort}
 use Rattle.code_reach.specs.declared.effects.Left.{Left}
 use Rattle.code_verdict.specs.Sorts.{Declared, Stack, asked_of, kind_sort, pop_arguments, pop_fitting, pop_returned, pop_sent, push_sort, result_sort, signature_named}
 

@@ -1,12 +1,12 @@
 -- What the verifier's classes and scopes stand for.
 use Rattle.std.specs.Prelude.{ℕ, option_map}
-use Rattle.object_code.specs.Step.{Numbered}
+use Rattle.code_semantics.specs.Step.{Numbered}
 use Rattle.code_verdict.specs.Sorts.{CodeScope, Declared, Signature}
 use Rattle.code_reach.specs.declared.classes.Class.{Class}
 use Rattle.code_reach.specs.declared.classes.Found.{Found}
 use Rattle.code_reach.specs.declared.classes.Signature.{Signature as ASignature}
 use Rattle.code_reach.specs.declared.scope.Scope.{Scope}
-use Rattle.code_sorts.specs.Chained.{sort_tree}
+use Rattle.code_verdict.specs.Chained.{sort_tree}
 
 abbrev pub place_of : Numbered → ℕ
 place_of r = r.place

@@ -1,23 +1,30 @@
--- Where chains of silent instructions lead.
-use Rattle.std.specs.Prelude.{◌≡◌, ℕ, zero, suc, ◌≤◌, List, Option, Some, None, slice_get}
-use Rattle.object_code.specs.declared.unit.Instr.{Instr}
-use Rattle.object_code.specs.Proper.{silent_to}
+-- Walks along chains of silent instructions.
+use Rattle.std.specs.Prelude.{◌≡◌, ℕ, suc, ◌≤◌, ◌<◌, List, Option, Some, None, Bool, true, false, length, slice_get}
+use Rattle.code_semantics.specs.declared.unit.Instr.{Instr}
+use Rattle.code_semantics.specs.Proper.{Chain, silent_to}
+use Rattle.code_verdict.specs.Verdict.{silence_ends}
+use Rattle.code_reach.specs.declared.circles.Mark.{Mark}
+use Rattle.code_reach.specs.declared.circles.Mark.TheVariants as M
 
--- the place after n silent instructions, if there are as many
-abbrev pub silent_after : ℕ → List Instr → Option ℕ → Option ℕ
-silent_after zero c o = o
-silent_after (suc n) c None = None
-silent_after (suc n) c (Some at) = silent_after n c (silent_to at (slice_get c at))
+-- the mark of a place, by the place after it
+abbrev pub first_mark : Option ℕ → Mark
+first_mark None = M.Ends
+first_mark (Some n) = M.Next n
 
--- for each place the place after at least so many silent instructions
-abbrev pub LeadsFar : ℕ → List Instr → List (Option ℕ) → Type 0
-LeadsFar least c ends = (at : ℕ) (o : Option ℕ) → slice_get ends at ≡ Some o → (n : ℕ) × (least ≤ n) × (o ≡ silent_after n c (Some at))
+-- some number of silent instructions leads to a place without one
+abbrev pub ChainEnds : List Instr → ℕ → Type 0
+ChainEnds c at = (n : ℕ) × (silence_ends n c (Some at) ≡ true)
 
-abbrev pub led : Option (Option ℕ) → Option ℕ
-led None = None
-led (Some o) = o
+-- what a mark says of its place, after the walks from all places below the start
+abbrev pub MarkSays : List Instr → ℕ → ℕ → Mark → Type 0
+MarkSays c start at M.Ends = silent_to at (slice_get c at) ≡ None
+MarkSays c start at (M.Next n) = (start ≤ at) × (silent_to at (slice_get c at) ≡ Some n)
+MarkSays c start at (M.Walked w) = (w < start) × ChainEnds c at
 
--- what the list has for a place
-abbrev pub followed : List (Option ℕ) → Option ℕ → Option ℕ
-followed ends None = None
-followed ends (Some at) = led (slice_get ends at)
+abbrev pub IsMarked : List Instr → ℕ → List Mark → Type 0
+IsMarked c start marks = (length marks ≡ length c) × ((at : ℕ) (m : Mark) → slice_get marks at ≡ Some m → MarkSays c start at m)
+
+-- what is known after the walk from the start
+abbrev pub IsWalked : List Instr → ℕ → Bool → List Mark → Type 0
+IsWalked c start true marks = IsMarked c (suc start) marks
+IsWalked c start false marks = (at n : ℕ) × Chain c (suc n) at at

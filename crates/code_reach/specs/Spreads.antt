@@ -1,18 +1,18 @@
 -- What the verifier's table and visits stand for, and one step of spreading.
 use Rattle.std.specs.Prelude.{◌≡◌, ℕ, ◌+◌, ◌^◌, ◌==◌, ◌≤◌, ◌&&◌, List, [], ◌∷◌, ◌++◌, length, drop, map, reverse, Option, Some, None, is_none, Bool, true, false, if◌then◌else◌, slice_get, slice_set}
 use Rattle.std.specs.List.{list_all}
-use Rattle.mesh_semantics.specs.Partial.{◌>>=◌}
-use Rattle.mesh_semantics.specs.Sound.{Each}
-use Rattle.object_code.specs.declared.unit.Instr.{Instr}
-use Rattle.object_code.specs.Proper.{nexts}
+use Rattle.run_words.specs.Partial.{◌>>=◌}
+use Rattle.run_words.specs.Tables.{Each}
+use Rattle.code_semantics.specs.declared.unit.Instr.{Instr}
+use Rattle.code_semantics.specs.Proper.{nexts}
 use Rattle.code_verdict.specs.Sorts.{CodeScope, Stack, left_by}
 use Rattle.code_verdict.specs.Verdict.{Table, Visit, followed, most, stacks_equal}
 use Rattle.code_reach.specs.declared.spread.Visit.{Visit as AVisit}
 use Rattle.code_reach.specs.declared.effects.Left.{Left}
 use Rattle.code_reach.specs.declared.spread.Effect.{Effect}
 use Rattle.code_reach.specs.declared.spread.Spread.{Spread}
-use Rattle.code_sorts.specs.declared.cell.Stacks.{Stacks}
-use Rattle.code_sorts.specs.Stands.{Holds, Keeps, stack_at, stack_of, with_sort}
+use Rattle.code_verdict.specs.declared.cell.Stacks.{Stacks}
+use Rattle.code_verdict.specs.Stands.{Holds, Keeps, stack_at, stack_of, with_sort}
 
 abbrev pub to_place : ℕ → ℕ → AVisit
 to_place stack at = record { place = at; stack = stack }

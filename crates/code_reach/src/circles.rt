@@ -1,88 +1,86 @@
 //! Chains of silent instructions.
-ghost use Rattle.std.specs.Prelude.{◌≡◌, ◌+◌, ◌<◌, ◌^◌, ℕ, List, Option, length, is_none, slice_get, Some, IfOk};
-ghost use Rattle.std.specs.List.{list_all};
-ghost use Rattle.object_code.specs.Proper.{silent_to};
-ghost use Rattle.object_code.specs.declared.unit.Instr.{Instr as AnInstr};
+ghost use Rattle.std.specs.Prelude.{◌≡◌, ◌+◌, ◌<◌, ◌^◌, List, length, slice_get, Some, IfOk};
+ghost use Rattle.code_semantics.specs.Proper.{silent_to};
+ghost use Rattle.code_semantics.specs.declared.unit.Instr.{Instr as AnInstr};
 ghost use Rattle.code_verdict.specs.Verdict.{has_no_circle};
-ghost use Rattle.code_reach.specs.Silent.{LeadsFar, followed};
+ghost use Rattle.code_reach.specs.Silent.{IsMarked, IsWalked, first_mark};
 
-use object_code::Instr;
+use code_semantics::Instr;
 use std::alloc::{AllocError, Global};
 
-/// The place after a silent instruction.
-fn silent_to(place: usize, instr: &Instr) -> Option<usize>
-    requires { place < 2 ^ 63 }
-    ensures { result ≡ silent_to place (Some instr.now) }
+/// What is known of a place.
+#[derive(Clone, Copy)]
+pub enum Mark {
+    /// Its instruction is not silent.
+    Ends,
+    /// Its silent instruction leads to this place, and no walk has come by.
+    Next(u32),
+    /// The walk from this start was the first to come by.
+    Walked(u32),
+}
+
+/// The mark of a place before all walks.
+fn first_mark(place: u32, instr: &Instr) -> Mark
+    requires { place + 1 < 2 ^ 32 }
+    ensures { result ≡ first_mark (silent_to place (Some instr.now)) }
 {
     match instr {
-        Instr::PushInt(_) | Instr::PushBool(_) | Instr::PushNil | Instr::Post => Some(place + 1),
-        Instr::Jump(at) => Some(*at as usize),
-        _ => None,
+        Instr::PushInt(_) | Instr::PushBool(_) | Instr::PushNil | Instr::Post => Mark::Next(
+            place + 1,
+        ),
+        Instr::Jump(at) => Mark::Next(*at),
+        _ => Mark::Ends,
     }
 }
 
-/// For each place the place after it, where its instruction is silent.
-fn silent_places(alloc: Global, code: &[Instr]) -> Result<Vec<Option<usize>>, AllocError>
-    ensures size { IfOk result (λ ends. length ends.items ≡ length code.now) }
-    ensures ends { IfOk result (λ ends. LeadsFar 1 code.now ends.items) }
+/// The marks of a code of so many places before all walks.
+fn first_marks(alloc: Global, code: &[Instr], count: u32) -> Result<Vec<Mark>, AllocError>
+    requires { count ≡ length code.now }
+    ensures { IfOk result (λ marks. IsMarked code.now 0 marks.items) }
 {
-    let mut ends = Vec::new(alloc);
-    for (place, instr) in code.iter().enumerate() {
-        ends.push(silent_to(place, instr))?;
+    let mut marks = Vec::new(alloc);
+    for place in 0..count {
+        marks.push(first_mark(place, &code[place as usize]))?;
     }
-    Ok(ends)
+    Ok(marks)
 }
 
-/// What the list has for a place, if there is one.
-fn followed(ends: &[Option<usize>], place: Option<usize>) -> Option<usize>
-    ensures { result ≡ followed ends.now place }
+fn mark_at(marks: &[Mark], place: u32) -> Option<Mark>
+    ensures { result ≡ slice_get marks.now place }
 {
-    *ends.get(place?)?
+    marks.get(place as usize).copied()
 }
 
-/// What the list has for what it has for a place.
-fn further(ends: &[Option<usize>], place: usize) -> Option<usize>
-    requires { place < length ends.now }
-    ensures { (o : Option ℕ) → slice_get ends.now place ≡ Some o → result ≡ followed ends.now o }
+/// Follows the chain from a start, up to its end or to a place that a walk has come by; whether this was an earlier walk.
+fn walk(marks: &mut [Mark], start: u32) -> bool
+    ensures { (c : List AnInstr) → IsMarked c start marks.old → IsWalked c start result marks.new }
 {
-    followed(ends, ends[place])
-}
-
-/// Makes each chain at least twice as long.
-fn double(ends: &mut Vec<Option<usize>>)
-    ensures size { length ends.new.items ≡ length ends.old.items }
-    ensures ends { (c : List AnInstr) (n : ℕ) → length ends.old.items ≡ length c → LeadsFar n c ends.old.items → LeadsFar (n + n) c ends.new.items }
-{
-    for place in 0..ends.len() {
-        let end = further(ends, place);
-        ends[place] = end;
-    }
-}
-
-fn have_ended(ends: &[Option<usize>]) -> bool
-    ensures { result ≡ list_all is_none ends.now }
-{
-    for end in ends {
-        if end.is_some() {
-            return false;
+    let mut place = start;
+    loop {
+        match mark_at(marks, place) {
+            Some(Mark::Next(next)) => {
+                marks[place as usize] = Mark::Walked(start);
+                place = next;
+            }
+            Some(Mark::Walked(first)) => return first != start,
+            Some(Mark::Ends) | None => return true,
         }
     }
-    true
 }
 
-/// Whether no chain of silent instructions comes back to itself. Each chain is followed until it is longer than the code,
-/// twice as far in each pass, so time is in proportion to the code times its logarithm.
+/// Whether no chain of silent instructions comes back to itself. Each place is marked by the first walk that comes by, and no
+/// walk goes on from there again, so time is in proportion to the code. A code of 2^32 places or more is told as want of memory.
 pub fn has_no_circle(alloc: Global, code: &[Instr]) -> Result<bool, AllocError>
     ensures { IfOk result (λ b. b ≡ has_no_circle code.now code.now 0) }
 {
-    let mut ends = silent_places(alloc, code)?;
-    let mut least: usize = 1;
-    while least <= code.len() {
-        if have_ended(&ends) {
-            return Ok(true);
+    let Ok(count) = u32::try_from(code.len()) else {
+        return Err(AllocError);
+    };
+    let mut marks = first_marks(alloc, code, count)?;
+    for start in 0..count {
+        if !walk(&mut marks, start) {
+            return Ok(false);
         }
-        double(&mut ends);
-        least = least.saturating_mul(2);
     }
-    Ok(have_ended(&ends))
+    Ok(true)
 }

@@ -1,13 +1,13 @@
 //! The classes of a file with their kinds, found by their names.
 ghost use Rattle.std.specs.Prelude.{◌≡◌, option_map, is_some, slice_get, take, IfOk};
-ghost use Rattle.object_code.specs.Step.{class_from, method_from};
+ghost use Rattle.code_semantics.specs.Step.{class_from, method_from};
 ghost use Rattle.code_verdict.specs.Sorts.{declared_at, declared_named, signature_named};
 ghost use Rattle.code_reach.specs.Indexed.{IsIndexFrom};
 ghost use Rattle.code_reach.specs.Scopes.{declared_of, numbered, place_of, signature_of};
 
 use crate::index::Classes;
-use object_code::{ClassCode, ClassKinds, MethodCode, MethodKinds};
-use pool_syntax::{Kind, NameId};
+use code_semantics::{ClassCode, ClassKinds, MethodCode, MethodKinds};
+use run_words::{Kind, NameId};
 use std::alloc::{AllocError, Global};
 use std::collections::BTreeMap;
 

@@ -1,18 +1,19 @@
 //! The effect of an instruction on a stack of sorts.
 ghost use Rattle.std.specs.Prelude.{◌≡◌, option_map, IfSome};
 ghost use Rattle.code_verdict.specs.Sorts.{asked_of, left_by, operated_sorts, pop_returned, pop_sent, push_sort};
-ghost use Rattle.code_sorts.specs.declared.cell.Stacks.{Stacks as AStacks};
+ghost use Rattle.code_verdict.specs.declared.cell.Stacks.{Stacks as AStacks};
 ghost use Rattle.code_reach.specs.Effects.{called_by, created_by, given_back_by, left_stack, loaded_by, sent_by, sent_off_by, stored_by};
 ghost use Rattle.code_reach.specs.Scopes.{declared_of, scope_of, signature_of};
-ghost use Rattle.code_sorts.specs.Stands.{Holds, sort_tree, stack_at, stack_of};
+ghost use Rattle.code_verdict.specs.Stands.{Holds, stack_at, stack_of};
+ghost use Rattle.code_verdict.specs.Chained.{sort_tree};
 
 use crate::classes::Signature;
 use crate::scope::Scope;
-use code_sorts::{
+use code_semantics::Instr;
+use code_verdict::{
     Sort, Stacks, is_comparison, is_prefix, kind_sort, op_sort, operand_sort, result_sort,
 };
-use object_code::Instr;
-use pool_syntax::{Kind, NameId, Op};
+use run_words::{Kind, NameId, Op};
 
 /// What an instruction leaves: a stack without the operands that it takes, and the sort that it pushes on that, if it pushes one.
 #[derive(Clone, Copy)]

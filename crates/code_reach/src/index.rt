@@ -1,7 +1,7 @@
 //! The classes of a file.
 ghost use Rattle.code_reach.specs.Indexed.{IsIndexFrom};
 
-use object_code::UnitFile;
+use code_semantics::UnitFile;
 use std::collections::BTreeMap;
 
 /// The classes of a file, and the first place of each of their names.

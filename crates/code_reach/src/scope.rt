@@ -1,8 +1,8 @@
 //! Where code stands.
 use crate::classes::Class;
 use crate::index::Classes;
-use code_sorts::Sort;
-use pool_syntax::Kind;
+use code_verdict::Sort;
+use run_words::Kind;
 
 /// Where code stands: its file, its class, the kinds of its parameters and locals, and the sort that its value needs. A body
 /// has no value.

@@ -1,16 +1,16 @@
 //! The spreading of stacks over the places of a code.
 ghost use Rattle.std.specs.Prelude.{◌≡◌, slice_get, ◌<◌, ◌≤◌, ◌^◌, ◌∷◌, ◌++◌, [], length, drop, map, reverse, replicate, is_none, option_map, Some, None, IfOk, IfSome, OnOk};
 ghost use Rattle.std.specs.List.{list_all};
-ghost use Rattle.object_code.specs.Proper.{nexts};
+ghost use Rattle.code_semantics.specs.Proper.{nexts};
 ghost use Rattle.code_verdict.specs.Verdict.{has_table, most, table_of};
 ghost use Rattle.code_reach.specs.Scopes.{scope_of};
 ghost use Rattle.code_reach.specs.Spreads.{IsEffect, IsKept, IsNext, IsNoted, fits_by, gone, stepped, table_by, to_place, visit_of, visits_by};
-ghost use Rattle.code_sorts.specs.Stands.{Holds, Keeps, stack_of, with_sort};
+ghost use Rattle.code_verdict.specs.Stands.{Holds, Keeps, stack_of, with_sort};
 
 use crate::effects::{Left, left_by};
 use crate::scope::Scope;
-use code_sorts::Stacks;
-use object_code::{AltCode, Instr};
+use code_semantics::{AltCode, Instr};
+use code_verdict::Stacks;
 use std::alloc::{AllocError, Global};
 
 /// No instruction goes on from more operands than these.

@@ -1,5 +1,5 @@
 use Rattle.std.proofs.Common.{◌≡◌, drop}
-use Rattle.object_code.specs.Step.{method_from}
+use Rattle.code_semantics.specs.Step.{method_from}
 use Rattle.code_reach.proofs.classes.method_place.Given as goal
 
 -- the methods so far have other names

@@ -1,7 +1,7 @@
 use Rattle.std.proofs.Common.{◌≡◌, map, drop}
 use Rattle.std.specs.Prelude.{max}
 use Rattle.code_verdict.specs.Verdict.{most}
-use Rattle.code_sorts.specs.Stands.{stack_at}
+use Rattle.code_verdict.specs.Stands.{stack_at}
 use Rattle.code_reach.proofs.spread.Spread.most.Given as goal
 
 -- the most of what was seen and of what is left

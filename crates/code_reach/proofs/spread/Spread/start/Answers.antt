@@ -1,5 +1,5 @@
 use Rattle.std.proofs.Common.{◌∙◌, ap, map}
-use Rattle.code_sorts.specs.Stands.{stack_at}
+use Rattle.code_verdict.specs.Stands.{stack_at}
 use Rattle.code_reach.proofs.Stepping.{none_seen}
 use Rattle.code_reach.proofs.spread.Spread.start.Goals as goal
 
