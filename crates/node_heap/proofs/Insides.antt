@@ -2,10 +2,10 @@
 use Rattle.std.proofs.Common.{◌≡◌, refl, sym, ◌∙◌, ap, subst, ℕ, ◌+◌, ◌-◌, ◌*◌, ◌<◌, ◌≤◌, List, [], ◌∷◌, ◌++◌, length, map, get_or, set, take, drop, slice_get, Some, arith, length-set}
 use Rattle.std.specs.Vec.{vec_capacity, with_item}
 use Rattle.std.proofs.lemmas.List.{length-take, length-map, get_or-set_same, set-set}
-use Rattle.pool_syntax.specs.declared.words.Value.{Value}
-use Rattle.object_code.specs.declared.unit.Frame.{Frame}
-use Rattle.object_code.specs.declared.unit.CodeObject.{CodeObject}
-use Rattle.object_code.specs.Step.{nth}
+use Rattle.run_words.specs.declared.words.Value.{Value}
+use Rattle.run_words.specs.declared.frames.Frame.{Frame}
+use Rattle.run_words.specs.declared.frames.CodeObject.{CodeObject}
+use Rattle.run_words.specs.Operands.{nth}
 use Rattle.cell_pool.specs.Lists.{Pool, lengths, list_of, with_list, free_of}
 use Rattle.node_heap.specs.declared.cells.FrameCell.{FrameCell}
 use Rattle.node_heap.specs.declared.cells.Slot.{Slot}

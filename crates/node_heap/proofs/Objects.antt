@@ -2,9 +2,9 @@
 use Rattle.std.proofs.Common.{◌≡◌, refl, sym, ◌∙◌, ap, ℕ, zero, suc, ◌+◌, ◌-◌, ◌*◌, ◌<◌, ◌≤◌, List, [], ◌∷◌, ◌++◌, length, map, get_or, set, take, drop, replicate, arith, length-set, length-drop}
 use Rattle.std.proofs.Math.Seq.{take-set-lt}
 use Rattle.std.proofs.lemmas.List.{length-replicate, length-map, take-set-le, drop-drop, drop-set-lt, drop-set-add, drop-replicate}
-use Rattle.pool_syntax.specs.declared.words.Value.{Value}
-use Rattle.pool_syntax.specs.declared.words.Value.TheVariants.{Nil}
-use Rattle.object_code.specs.declared.unit.CodeObject.{CodeObject}
+use Rattle.run_words.specs.declared.words.Value.{Value}
+use Rattle.run_words.specs.declared.words.Value.TheVariants.{Nil}
+use Rattle.run_words.specs.declared.frames.CodeObject.{CodeObject}
 use Rattle.cell_pool.specs.Lists.{lengths}
 use Rattle.node_heap.specs.declared.cells.FrameCell.{FrameCell}
 use Rattle.node_heap.specs.declared.cells.Slot.{Slot}

@@ -1,10 +1,9 @@
 -- The first values of an array.
 use Rattle.std.proofs.Common.{◌≡◌, refl, sym, ◌∙◌, ap, ℕ, zero, suc, ◌+◌, ◌<◌, ◌≤◌, List, [], ◌∷◌, length, get_or, set, take, drop, replicate, arith, length-drop, length-take-le}
 use Rattle.std.proofs.lemmas.List.{length-replicate, get_or_default, get_or-take, get_or-drop}
-use Rattle.pool_syntax.specs.declared.words.Value.{Value}
-use Rattle.pool_syntax.specs.declared.words.Value.TheVariants.{Nil}
-use Rattle.object_code.specs.Frames.{top, below}
-use Rattle.object_code.specs.Step.{nth}
+use Rattle.run_words.specs.declared.words.Value.{Value}
+use Rattle.run_words.specs.declared.words.Value.TheVariants.{Nil}
+use Rattle.run_words.specs.Operands.{top, below, nth}
 use Rattle.node_heap.specs.Heaps.{nils}
 
 pub nils-replicate : (n : ℕ) → nils n ≡ replicate n Nil

@@ -1,10 +1,9 @@
 -- Values that are pushed on an array of 64 places and taken from it.
 use Rattle.std.proofs.Common.{◌≡◌, ◌≢◌, refl, sym, ◌∙◌, ap, ℕ, zero, suc, ◌+◌, ◌-◌, ◌<◌, ◌≤◌, List, ◌∷◌, length, get_or, set, arith, add-one, get_or-set_other, get_or-set_same}
 use Rattle.std.proofs.lemmas.List.{get_or_default}
-use Rattle.pool_syntax.specs.declared.words.Value.{Value}
-use Rattle.pool_syntax.specs.declared.words.Value.TheVariants.{Nil}
-use Rattle.object_code.specs.Frames.{top, below}
-use Rattle.object_code.specs.Step.{nth}
+use Rattle.run_words.specs.declared.words.Value.{Value}
+use Rattle.run_words.specs.declared.words.Value.TheVariants.{Nil}
+use Rattle.run_words.specs.Operands.{top, below, dropped, nth}
 use Rattle.node_heap.specs.Rows.{stack}
 
 pub length-stack : (vs : List Value) (n : ℕ) → length (stack vs n) ≡ n
@@ -27,6 +26,12 @@ pub popped : (vs : List Value) (n : ℕ) → 0 < n → stack vs (n - 1) ≡ belo
 popped vs n pos =
     let e : n ≡ suc (n - 1) = omega arith in
     ap (λ k. below (stack vs k)) (sym e)
+
+-- after the last k values were taken
+pub dropped-stack : (vs : List Value) (n k : ℕ) → k ≤ n → stack vs (n - k) ≡ dropped k (stack vs n)
+dropped-stack vs n zero h = let e : n - 0 ≡ n = omega arith in ap (stack vs) e
+dropped-stack vs zero (suc k) h = absurd (omega arith)
+dropped-stack vs (suc n) (suc k) h = let e : suc n - suc k ≡ n - k = omega arith in ap (stack vs) e ∙ dropped-stack vs n k (omega arith)
 
 pub last : (vs : List Value) (n : ℕ) (x : Value) → 0 < n → n ≤ length vs → get_or vs (n - 1) x ≡ top (stack vs n)
 last vs n x pos few =

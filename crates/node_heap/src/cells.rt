@@ -1,12 +1,13 @@
 //! What stands in the cells of a heap.
-ghost use Rattle.std.specs.Prelude.{◌≡◌, ◌≤◌};
+ghost use Rattle.std.specs.Prelude.{◌≡◌, ◌<◌, ◌≤◌, ◌+◌, ◌^◌, suc, ◌∷◌, length};
+ghost use Rattle.run_words.specs.Operands.{top, below, dropped};
 ghost use Rattle.node_heap.specs.Heaps.{frame_by, head_by};
 ghost use Rattle.node_heap.specs.Layout.{frame_of};
 
 use crate::operands::Operands;
 use crate::temps::Temps;
 use crate::words::FrameHead;
-use pool_syntax::Serves;
+use run_words::{Serves, Value};
 
 /// A slot's class, by its place in the unit, and its number of variables.
 #[derive(Clone, Copy)]
@@ -49,6 +50,46 @@ impl FrameCell {
         self.temps.begin(head.temps);
         self.operands.clear();
         self.serves = head.serves;
+    }
+
+    /// Goes to the next place.
+    pub fn advance(&mut self)
+        requires { suc self.old.at < 2 ^ 32 }
+        ensures { self.new ≡ record self.old { at = suc self.old.at } }
+    {
+        self.at += 1;
+    }
+
+    /// Pushes a value, and goes to the next place.
+    pub fn push_next(&mut self, value: Value)
+        requires place { suc self.old.at < 2 ^ 32 }
+        requires room { length self.old.operands < 64 }
+        ensures { self.new ≡ record self.old { at = suc self.old.at; operands = value ∷ self.old.operands } }
+    {
+        self.operands.push(value);
+        self.at += 1;
+    }
+
+    /// Pops a value, and goes to the next place.
+    pub fn pop_next(&mut self) -> Value
+        requires place { suc self.old.at < 2 ^ 32 }
+        requires one { 0 < length self.old.operands }
+        ensures value { result ≡ top self.old.operands }
+        ensures rest { self.new ≡ record self.old { at = suc self.old.at; operands = below self.old.operands } }
+    {
+        self.at += 1;
+        self.operands.pop()
+    }
+
+    /// Puts a value in place of the last `count` operands, and goes to the next place.
+    pub fn replace(&mut self, count: u32, value: Value)
+        requires place { suc self.old.at < 2 ^ 32 }
+        requires enough { count ≤ length self.old.operands }
+        requires room { length self.old.operands < 64 + count }
+        ensures { self.new ≡ record self.old { at = suc self.old.at; operands = value ∷ dropped count self.old.operands } }
+    {
+        self.operands.replace(count, value);
+        self.at += 1;
     }
 
     /// The frame's method, its number of temps, and whom it serves.

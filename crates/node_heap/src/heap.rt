@@ -1,8 +1,7 @@
 //! The objects of one node.
-ghost use Rattle.std.specs.Prelude.{◌≡◌, ◌<◌, ◌≤◌, ◌↔◌, true, false, [], ◌∷◌, ◌++◌, length, slice_set, Some, IfOk, OnErr, OnOk, Err};
-ghost use Rattle.pool_syntax.specs.declared.words.Serves.TheVariants as S;
-ghost use Rattle.object_code.specs.Frames.{top, below};
-ghost use Rattle.object_code.specs.Step.{nth};
+ghost use Rattle.std.specs.Prelude.{◌≡◌, ◌<◌, ◌≤◌, ◌↔◌, ◌+◌, ◌^◌, suc, true, false, [], ◌∷◌, ◌++◌, length, slice_set, Some, IfOk, OnErr, OnOk, Err};
+ghost use Rattle.run_words.specs.declared.words.Serves.TheVariants as S;
+ghost use Rattle.run_words.specs.Operands.{top, below, dropped, nth};
 ghost use Rattle.cell_pool.specs.Lists.{lengths, list_of, with_list, free_of};
 ghost use Rattle.node_heap.specs.Layout.{frame_of};
 ghost use Rattle.node_heap.specs.Heaps.{object_at, put_object, frames_used, unbegun, frame_by, head_by, top_in, under_top, top_at, put_top};
@@ -10,7 +9,7 @@ ghost use Rattle.node_heap.specs.Heaps.{object_at, put_object, frames_used, unbe
 use crate::cells::{FrameCell, Slot};
 use crate::words::{FrameHead, HeapFull, HeapLimits};
 use cell_pool::CellPool;
-use pool_syntax::{Serves, Value};
+use run_words::{Serves, Value};
 use std::alloc::{AllocError, Global};
 use std::marker::Model;
 
@@ -25,7 +24,7 @@ pub struct Heap {
 }
 
 impl Model for Heap {
-    ghost use Rattle.object_code.specs.contracts.unit.CodeObject as image;
+    ghost use Rattle.run_words.specs.contracts.frames.CodeObject as image;
     ghost use Rattle.node_heap.specs.Heaps.{HeapOf, heap_code};
 
     ghost Value = { HeapOf };
@@ -160,6 +159,16 @@ impl Heap {
         frame.at = at;
     }
 
+    /// Moves a slot's top frame to the next place.
+    pub fn advance(&mut self, slot: u32)
+        requires slot { slot < length self.old.objects }
+        requires place { suc (top_at self.old slot).at < 2 ^ 32 }
+        ensures { self.new ≡ put_top self.old slot (record (top_at self.old slot) { at = suc (top_at self.old slot).at }) }
+    {
+        let frame = self.frames.get_mut(slot as usize, 0);
+        frame.advance();
+    }
+
     /// Changes whom a slot's top frame serves.
     pub fn set_serves(&mut self, slot: u32, serves: Serves)
         requires { slot < length self.old.objects }
@@ -226,6 +235,51 @@ impl Heap {
     {
         let frame = self.frames.get_mut(slot as usize, 0);
         frame.operands.pop()
+    }
+
+    /// Puts a value on the operands of a slot's top frame, which are fewer than 64, and moves it to the next place.
+    pub fn push_next(&mut self, slot: u32, value: Value)
+        requires slot { slot < length self.old.objects }
+        requires place { suc (top_at self.old slot).at < 2 ^ 32 }
+        requires room { length (top_at self.old slot).operands < 64 }
+        ensures { self.new ≡ put_top self.old slot (record (top_at self.old slot) { at = suc (top_at self.old slot).at; operands = value ∷ (top_at self.old slot).operands }) }
+    {
+        let frame = self.frames.get_mut(slot as usize, 0);
+        frame.push_next(value);
+    }
+
+    /// Takes the last operand of a slot's top frame, and moves it to the next place.
+    pub fn pop_next(&mut self, slot: u32) -> Value
+        requires slot { slot < length self.old.objects }
+        requires place { suc (top_at self.old slot).at < 2 ^ 32 }
+        requires one { 0 < length (top_at self.old slot).operands }
+        ensures value { result ≡ top (top_at self.old slot).operands }
+        ensures rest { self.new ≡ put_top self.old slot (record (top_at self.old slot) { at = suc (top_at self.old slot).at; operands = below (top_at self.old slot).operands }) }
+    {
+        let frame = self.frames.get_mut(slot as usize, 0);
+        frame.pop_next()
+    }
+
+    /// Takes the last `count` operands of a slot's top frame.
+    pub fn drop_operands(&mut self, slot: u32, count: u32)
+        requires slot { slot < length self.old.objects }
+        requires enough { count ≤ length (top_at self.old slot).operands }
+        ensures { self.new ≡ put_top self.old slot (record (top_at self.old slot) { operands = dropped count (top_at self.old slot).operands }) }
+    {
+        let frame = self.frames.get_mut(slot as usize, 0);
+        frame.operands.discard(count);
+    }
+
+    /// Puts a value in place of the last `count` operands of a slot's top frame, and moves it to the next place.
+    pub fn replace(&mut self, slot: u32, count: u32, value: Value)
+        requires slot { slot < length self.old.objects }
+        requires place { suc (top_at self.old slot).at < 2 ^ 32 }
+        requires enough { count ≤ length (top_at self.old slot).operands }
+        requires room { length (top_at self.old slot).operands < 64 + count }
+        ensures { self.new ≡ put_top self.old slot (record (top_at self.old slot) { at = suc (top_at self.old slot).at; operands = value ∷ dropped count (top_at self.old slot).operands }) }
+    {
+        let frame = self.frames.get_mut(slot as usize, 0);
+        frame.replace(count, value);
     }
 
     /// The operand of a slot's top frame that has so many others above it.

@@ -1,9 +1,8 @@
 //! The operands of a frame.
-ghost use Rattle.std.specs.Prelude.{◌≡◌, ◌<◌, [], ◌∷◌, length};
-ghost use Rattle.object_code.specs.Frames.{top, below};
-ghost use Rattle.object_code.specs.Step.{nth};
+ghost use Rattle.std.specs.Prelude.{◌≡◌, ◌<◌, ◌≤◌, ◌+◌, [], ◌∷◌, length};
+ghost use Rattle.run_words.specs.Operands.{top, below, dropped, nth};
 
-use pool_syntax::Value;
+use run_words::Value;
 use std::marker::Model;
 
 /// At most 64 values, which contracts see as a list with the last one first. What stands behind them in the array is
@@ -16,7 +15,7 @@ pub struct Operands {
 
 impl Model for Operands {
     ghost use Rattle.std.specs.Prelude.{List as value_list, ◌≡◌, ◌≤◌, length};
-    ghost use Rattle.pool_syntax.specs.declared.words.Value.{Value as OneValue};
+    ghost use Rattle.run_words.specs.declared.words.Value.{Value as OneValue};
     ghost use Rattle.node_heap.specs.Rows.{stack};
 
     ghost Value = { value_list OneValue };
@@ -61,6 +60,25 @@ impl Operands {
     {
         self.count -= 1;
         self.values[self.count as usize]
+    }
+
+    /// Takes the last `count` operands.
+    pub fn discard(&mut self, count: u32)
+        requires { count ≤ length self.old }
+        ensures { self.new ≡ dropped count self.old }
+    {
+        self.count -= count;
+    }
+
+    /// Puts a value in place of the last `count` operands.
+    pub fn replace(&mut self, count: u32, value: Value)
+        requires enough { count ≤ length self.old }
+        requires room { length self.old < 64 + count }
+        ensures { self.new ≡ value ∷ dropped count self.old }
+    {
+        let place = self.count - count;
+        self.values[place as usize] = value;
+        self.count = place + 1;
     }
 
     /// The operand that has so many others above it.

@@ -1,5 +1,5 @@
 //! The words of a heap.
-use pool_syntax::Serves;
+use run_words::Serves;
 
 /// The limits of a heap: `node` is the number of its node, `objects` and `frames` the most objects and frames that it
 /// holds, and `vars` the greatest number of variables of one object.

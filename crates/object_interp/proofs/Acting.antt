@@ -2,23 +2,23 @@
 use Rattle.std.proofs.Common.{◌≡◌, inl, refl, sym, ap, ◌∙◌, subst, IsTrue, ℕ, zero, suc, ◌+◌, ◌-◌, ◌<◌, ◌≤◌, ◌^◌, List, [], ◌∷◌, length, Some, None, is_some, get_or, arith}
 use Rattle.std.specs.Prelude.{slice_get, slice_set}
 use Rattle.std.proofs.lemmas.Option.{get_or_from_slice_get}
-use Rattle.pool_syntax.specs.declared.words.NameId.{NameId}
-use Rattle.pool_syntax.specs.declared.words.Serves.{Serves}
-use Rattle.pool_syntax.specs.declared.words.Serves.TheVariants as S
-use Rattle.object_code.specs.declared.unit.Instr.{Instr}
-use Rattle.object_code.specs.declared.unit.Instr.TheVariants as I
-use Rattle.object_code.specs.declared.unit.MethodCode.{MethodCode}
-use Rattle.object_code.specs.declared.unit.ClassCode.{ClassCode}
-use Rattle.object_code.specs.declared.unit.Unit.{Unit as Code}
-use Rattle.object_code.specs.declared.unit.Frame.{Frame}
-use Rattle.object_code.specs.declared.unit.CodeObject.{CodeObject}
-use Rattle.object_code.specs.Frames.{code_of}
-use Rattle.object_code.specs.Step.{method_named, is_own}
-use Rattle.object_code.specs.Proper.{params_of, takes, leaves, nexts, IsAmong, Exists, IsProper}
+use Rattle.run_words.specs.declared.words.NameId.{NameId}
+use Rattle.run_words.specs.declared.words.Serves.{Serves}
+use Rattle.run_words.specs.declared.words.Serves.TheVariants as S
+use Rattle.code_semantics.specs.declared.unit.Instr.{Instr}
+use Rattle.code_semantics.specs.declared.unit.Instr.TheVariants as I
+use Rattle.code_semantics.specs.declared.unit.MethodCode.{MethodCode}
+use Rattle.code_semantics.specs.declared.unit.ClassCode.{ClassCode}
+use Rattle.code_semantics.specs.declared.unit.Unit.{Unit as Code}
+use Rattle.run_words.specs.declared.frames.Frame.{Frame}
+use Rattle.run_words.specs.declared.frames.CodeObject.{CodeObject}
+use Rattle.code_semantics.specs.Frames.{code_of}
+use Rattle.code_semantics.specs.Step.{method_named, is_own}
+use Rattle.code_semantics.specs.Proper.{params_of, takes, leaves, nexts, IsAmong, Exists, IsProper}
 use Rattle.node_heap.specs.Heaps.{HeapOf, object_at, put_object, no_object, frames_of, frames_used, top_in, under_top}
-use Rattle.unit_objects.specs.OfUnit.{IsFrameOf, AreFramesOf, missing_under, FitsUnit, AnyValue}
-use Rattle.unit_objects.proofs.Reaching.{proper_code, reached_next, frame_on_top}
-use Rattle.unit_objects.proofs.Resting.{same_some}
+use Rattle.code_semantics.specs.OfUnit.{IsFrameOf, AreFramesOf, missing_under, FitsUnit, AnyValue}
+use Rattle.code_semantics.proofs.Reaching.{proper_code, reached_next, frame_on_top}
+use Rattle.code_semantics.proofs.Resting.{same_some}
 use Rattle.object_interp.specs.Tops.{HasTop, class_in, instr_in}
 use Rattle.object_interp.proofs.Facts.{known}
 

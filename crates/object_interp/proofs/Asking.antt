@@ -4,31 +4,34 @@ use Rattle.std.specs.Prelude.{slice_get, if◌then◌else◌, ◌==◌, ◌||◌
 use Rattle.std.specs.List.{list_any}
 use Rattle.std.proofs.lemmas.Bool.{eqb-true}
 use Rattle.std.proofs.lemmas.Option.{slice_get_within}
-use Rattle.pool_syntax.specs.declared.words.NameId.{NameId}
-use Rattle.pool_syntax.specs.declared.words.Value.{Value}
-use Rattle.pool_syntax.specs.declared.words.Serves.{Serves}
-use Rattle.pool_syntax.specs.declared.words.Serves.TheVariants as S
-use Rattle.pool_syntax.specs.Values.{is_true, not_bool, is_bool}
-use Rattle.object_code.specs.declared.unit.Instr.{Instr}
-use Rattle.object_code.specs.declared.unit.Instr.TheVariants as I
-use Rattle.object_code.specs.declared.unit.AltCode.{AltCode}
-use Rattle.object_code.specs.declared.unit.ClassCode.{ClassCode}
-use Rattle.object_code.specs.declared.unit.Unit.{Unit as Code}
-use Rattle.object_code.specs.declared.unit.Frame.{Frame}
-use Rattle.object_code.specs.declared.unit.CodeObject.{CodeObject}
-use Rattle.object_code.specs.Frames.{code_of, top, below, taken, dropped, next}
-use Rattle.object_code.specs.Kinds.{Kind, Offered, offers, operated, return_kind, instr_kind, frames_kind, code_kind}
-use Rattle.object_code.specs.Kinds as C
-use Rattle.object_code.specs.Step.{Numbered, nth, method_named, begun, at_rest, left, asked, is_own, at_alternative, after_choice, instr_gone_on, frames_given, frames_gone_on, frames_picked, frames_serving, method_serving, code_given, code_gone_on, code_picked, code_serving}
-use Rattle.object_code.specs.Proper.{IsAmong, AreOwn, AnswerOwn, AltsExist, IsProper}
+use Rattle.run_words.specs.declared.words.NameId.{NameId}
+use Rattle.run_words.specs.declared.words.Value.{Value}
+use Rattle.run_words.specs.declared.words.Serves.{Serves}
+use Rattle.run_words.specs.declared.words.Serves.TheVariants as S
+use Rattle.run_words.specs.declared.words.Value.TheVariants as V
+use Rattle.run_words.specs.declared.words.Error.TheVariants.{NilOperand}
+use Rattle.run_words.specs.Values.{Outcome, Gives, Fails, WrongSort, is_true, not_bool, is_bool}
+use Rattle.code_semantics.specs.declared.unit.Instr.{Instr}
+use Rattle.code_semantics.specs.declared.unit.Instr.TheVariants as I
+use Rattle.code_semantics.specs.declared.unit.AltCode.{AltCode}
+use Rattle.code_semantics.specs.declared.unit.ClassCode.{ClassCode}
+use Rattle.code_semantics.specs.declared.unit.Unit.{Unit as Code}
+use Rattle.run_words.specs.declared.frames.Frame.{Frame}
+use Rattle.run_words.specs.declared.frames.CodeObject.{CodeObject}
+use Rattle.code_semantics.specs.Frames.{code_of, next}
+use Rattle.run_words.specs.Operands.{top, below, taken, dropped, nth}
+use Rattle.code_semantics.specs.Kinds.{Kind, Offered, offers, operated, outcome_kind, sent_kind, return_kind, instr_kind, frames_kind, code_kind}
+use Rattle.code_semantics.specs.Kinds as C
+use Rattle.code_semantics.specs.Step.{Numbered, method_named, begun, at_rest, left, asked, is_own, at_alternative, after_choice, instr_gone_on, frames_given, frames_gone_on, frames_picked, frames_serving, method_serving, code_given, code_gone_on, code_picked, code_serving}
+use Rattle.code_semantics.specs.Proper.{IsAmong, AreOwn, AnswerOwn, AltsExist, IsProper}
 use Rattle.node_heap.specs.Heaps.{top_in, under_top}
-use Rattle.unit_objects.specs.OfUnit.{AreFramesOf, FitsUnit, AnyValue, IsAtStep, IsAsking, IsGoingOn, IsChoosing}
-use Rattle.unit_objects.proofs.Laws.{plain_any}
-use Rattle.unit_objects.proofs.Reaching.{IsReady, ready_of, ready_rests}
-use Rattle.unit_objects.proofs.Stepping.{outcome_never, if_never, sent_never, return_never}
+use Rattle.code_semantics.specs.OfUnit.{AreFramesOf, FitsUnit, AnyValue, IsAtStep, IsAsking, IsGoingOn, IsChoosing}
+use Rattle.code_semantics.proofs.Laws.{plain_any}
+use Rattle.code_semantics.proofs.Reaching.{IsReady, ready_of, ready_rests}
+use Rattle.code_semantics.proofs.Stepping.{outcome_never, if_never, sent_never, return_never}
 use Rattle.object_interp.specs.Choices.{offered_alt, Chooses, NextIs}
 use Rattle.object_interp.specs.Moves.{gone, replaced, Passes}
-use Rattle.object_interp.specs.Offers.{instr_offers, frames_offers, offers_at, offer_at, open_names, is_open_plain, is_one_of, answers_to, IsSelecting}
+use Rattle.object_interp.specs.Offers.{instr_offers, frames_offers, offers_at, offer_at, open_names, is_open_plain, is_one_of, answers_to, steps_alone, IsSelecting}
 use Rattle.object_interp.specs.Rest.{settled_at}
 use Rattle.object_interp.specs.Tops.{HasTop, class_in, instr_in, with_top}
 use Rattle.object_interp.proofs.Facts.{has_top}
@@ -352,3 +355,37 @@ none_by (Some x) false e = refl
 pub selecting_chooses : (k : Kind) → IsSelecting k → IsChoosing k
 selecting_chooses (C.Select alts) h = tt
 selecting_chooses _ h = absurd h
+
+-- at an instruction that is no end, no answer and no select an object steps alone
+alone_outcome : (o : Outcome) → true ≡ steps_alone (outcome_kind o)
+alone_outcome (Gives v) = refl
+alone_outcome (Fails e) = refl
+alone_outcome WrongSort = refl
+
+alone_branch : (b : Bool) → true ≡ steps_alone (if b then C.Local else C.Fault NilOperand)
+alone_branch true = refl
+alone_branch false = refl
+
+alone_return : (s : Serves) (v : Value) → true ≡ steps_alone (return_kind s v)
+alone_return S.Own v = refl
+alone_return (S.Caller a n) v = refl
+alone_return S.Sender v = refl
+
+alone_sent : (v : Value) (go : ℕ → Kind) → ((b : ℕ) → true ≡ steps_alone (go b)) → true ≡ steps_alone (sent_kind v go)
+alone_sent (V.Ref b) go each = each b
+alone_sent (V.Int z) go each = refl
+alone_sent (V.Bool b) go each = refl
+alone_sent V.Nil go each = refl
+
+pub else_alone : (f : Frame) (i : Instr) → (i ≡ I.Halt → ⊥) → ((names : List NameId) → i ≡ I.Answer names → ⊥) → ((alts : List AltCode) → i ≡ I.Select alts → ⊥)
+    → true ≡ steps_alone (instr_kind f (Some i))
+else_alone f I.Halt h a s = absurd (h refl)
+else_alone f (I.Answer names) h a s = absurd (a names refl)
+else_alone f (I.Select alts) h a s = absurd (s alts refl)
+else_alone f (I.Oper op) h a s = alone_outcome (operated op f.operands)
+else_alone f (I.Branch to) h a s = alone_branch (is_bool (top f.operands))
+else_alone f I.Ret h a s = alone_return f.serves (top f.operands)
+else_alone f I.Post h a s = alone_return f.serves (top f.operands)
+else_alone f (I.Send m n) h a s = alone_sent (top (dropped n f.operands)) _ (λ b. refl)
+else_alone f (I.Async m n) h a s = alone_sent (top (dropped n f.operands)) _ (λ b. refl)
+else_alone f _ h a s = refl

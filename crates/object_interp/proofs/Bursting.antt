@@ -3,21 +3,21 @@ use Rattle.std.proofs.Common.{◌≡◌, ◌≢◌, ◌⊎◌, inl, inr, refl, s
 use Rattle.std.proofs.lemmas.Bool.{le-leb, ltb-false}
 use Rattle.std.proofs.lemmas.Bool.Decides.{leb_tells, eqb_tells}
 use Rattle.std.specs.Prelude.{if◌then◌else◌, ◌&&◌, ◌==◌, nat_le, nat_lt}
-use Rattle.object_code.specs.declared.unit.Instr.{Instr}
-use Rattle.object_code.specs.declared.unit.Instr.TheVariants as I
-use Rattle.object_code.specs.declared.unit.ClassCode.{ClassCode}
-use Rattle.object_code.specs.declared.unit.Unit.{Unit as Code}
-use Rattle.object_code.specs.declared.unit.Frame.{Frame}
-use Rattle.object_code.specs.declared.unit.CodeObject.{CodeObject}
-use Rattle.object_code.specs.Kinds.{Kind, code_kind, instr_kind}
-use Rattle.object_code.specs.Kinds as C
-use Rattle.object_code.specs.Frames.{top}
-use Rattle.object_code.specs.Step.{Numbered, method_named, is_own, called, handed, left, instr_stepped, code_stepped}
-use Rattle.object_code.specs.Proper.{IsProper}
-use Rattle.pool_syntax.specs.declared.words.NameId.{NameId}
+use Rattle.code_semantics.specs.declared.unit.Instr.{Instr}
+use Rattle.code_semantics.specs.declared.unit.Instr.TheVariants as I
+use Rattle.code_semantics.specs.declared.unit.ClassCode.{ClassCode}
+use Rattle.code_semantics.specs.declared.unit.Unit.{Unit as Code}
+use Rattle.run_words.specs.declared.frames.Frame.{Frame}
+use Rattle.run_words.specs.declared.frames.CodeObject.{CodeObject}
+use Rattle.code_semantics.specs.Kinds.{Kind, code_kind, instr_kind}
+use Rattle.code_semantics.specs.Kinds as C
+use Rattle.run_words.specs.Operands.{top}
+use Rattle.code_semantics.specs.Step.{Numbered, method_named, is_own, called, handed, left, instr_stepped, code_stepped}
+use Rattle.code_semantics.specs.Proper.{IsProper}
+use Rattle.run_words.specs.declared.words.NameId.{NameId}
 use Rattle.node_heap.specs.Heaps.{HeapOf, object_at, put_object, frames_used, top_in, under_top}
-use Rattle.unit_objects.specs.OfUnit.{FitsUnit, IsAtStep, AnyValue}
-use Rattle.unit_objects.proofs.Laws.{plain_any, stepped_of, stepped_rests}
+use Rattle.code_semantics.specs.OfUnit.{FitsUnit, IsAtStep, AnyValue}
+use Rattle.code_semantics.proofs.Laws.{plain_any, stepped_of, stepped_rests}
 use Rattle.object_interp.specs.declared.words.Burst.{Burst}
 use Rattle.object_interp.specs.declared.words.Burst.TheVariants as B
 use Rattle.object_interp.specs.declared.words.Need.{Need}

@@ -4,21 +4,22 @@ use Rattle.std.specs.Prelude.{slice_get, if◌then◌else◌}
 use Rattle.std.proofs.Math.Seq.{drop-cons}
 use Rattle.std.proofs.lemmas.Bool.{eq-eqb}
 use Rattle.std.proofs.lemmas.Option.{slice_get_within, slice_get_read, get_or_from_slice_get}
-use Rattle.pool_syntax.specs.declared.words.Value.{Value}
-use Rattle.pool_syntax.specs.declared.words.NameId.{NameId}
-use Rattle.pool_syntax.specs.declared.words.Serves.TheVariants as S
-use Rattle.object_code.specs.declared.unit.Instr.{Instr}
-use Rattle.object_code.specs.declared.unit.MethodCode.{MethodCode}
-use Rattle.object_code.specs.declared.unit.ClassCode.{ClassCode}
-use Rattle.object_code.specs.declared.unit.Unit.{Unit as Code}
-use Rattle.object_code.specs.declared.unit.Frame.{Frame}
-use Rattle.object_code.specs.declared.unit.CodeObject.{CodeObject}
-use Rattle.object_code.specs.Frames.{code_of, top}
-use Rattle.object_code.specs.Step.{method_from, is_own}
-use Rattle.object_code.specs.Proper.{IsProperCode, IsProperClass, IsProper}
+use Rattle.run_words.specs.declared.words.Value.{Value}
+use Rattle.run_words.specs.declared.words.NameId.{NameId}
+use Rattle.run_words.specs.declared.words.Serves.TheVariants as S
+use Rattle.code_semantics.specs.declared.unit.Instr.{Instr}
+use Rattle.code_semantics.specs.declared.unit.MethodCode.{MethodCode}
+use Rattle.code_semantics.specs.declared.unit.ClassCode.{ClassCode}
+use Rattle.code_semantics.specs.declared.unit.Unit.{Unit as Code}
+use Rattle.run_words.specs.declared.frames.Frame.{Frame}
+use Rattle.run_words.specs.declared.frames.CodeObject.{CodeObject}
+use Rattle.code_semantics.specs.Frames.{code_of}
+use Rattle.run_words.specs.Operands.{top}
+use Rattle.code_semantics.specs.Step.{method_from, is_own}
+use Rattle.code_semantics.specs.Proper.{IsProperCode, IsProperClass, IsProper}
 use Rattle.node_heap.specs.Heaps.{top_in, under_top}
-use Rattle.unit_objects.specs.OfUnit.{IsFrameOf, AreFramesOf, FitsUnit, AnyValue}
-use Rattle.unit_objects.proofs.Reaching.{proper_code, frame_on_top}
+use Rattle.code_semantics.specs.OfUnit.{IsFrameOf, AreFramesOf, FitsUnit, AnyValue}
+use Rattle.code_semantics.proofs.Reaching.{proper_code, frame_on_top}
 use Rattle.object_interp.specs.Moves.{ended}
 use Rattle.object_interp.specs.Tops.{HasTop, code_in, instr_in}
 

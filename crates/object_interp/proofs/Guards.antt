@@ -2,17 +2,16 @@
 use Rattle.std.proofs.Common.{◌≡◌, refl, sym, ap, ◌∙◌, ℕ, zero, suc, ◌+◌, ◌-◌, ◌<◌, ◌≤◌, List, [], ◌∷◌, length, Option, Some, None, Bool, true, false, arith}
 use Rattle.std.specs.Prelude.{slice_get, ◌||◌, ◌&&◌, if◌then◌else◌, is_none}
 use Rattle.std.specs.List.{list_any}
-use Rattle.pool_syntax.specs.declared.words.NameId.{NameId}
-use Rattle.pool_syntax.specs.declared.words.Value.{Value}
-use Rattle.pool_syntax.specs.declared.words.Value.TheVariants as V
-use Rattle.pool_syntax.specs.Values.{is_true, not_bool}
-use Rattle.object_code.specs.declared.unit.AltCode.{AltCode}
-use Rattle.object_code.specs.Frames.{taken}
-use Rattle.object_code.specs.Kinds.{offers}
-use Rattle.object_code.specs.Step.{nth}
+use Rattle.run_words.specs.declared.words.NameId.{NameId}
+use Rattle.run_words.specs.declared.words.Value.{Value}
+use Rattle.run_words.specs.declared.words.Value.TheVariants as V
+use Rattle.run_words.specs.Values.{is_true, not_bool}
+use Rattle.code_semantics.specs.declared.unit.AltCode.{AltCode}
+use Rattle.run_words.specs.Operands.{taken, nth}
+use Rattle.code_semantics.specs.Kinds.{offers}
 use Rattle.object_interp.specs.Choices.{offered_alt}
 use Rattle.object_interp.specs.Offers.{offer_at, open_names, is_open_plain}
-use Rattle.unit_objects.proofs.Laws.{length_taken}
+use Rattle.code_semantics.proofs.Laws.{length_taken}
 use Rattle.object_interp.proofs.Operands.{taken_first}
 
 -- the test of all is the test of the one at hand, or of those that are left

@@ -2,9 +2,8 @@
 use Rattle.std.proofs.Common.{◌≡◌, refl, sym, ap, ◌∙◌, ℕ, zero, suc, ◌-◌, ◌<◌, List, [], ◌∷◌, length, arith}
 use Rattle.std.specs.Prelude.{slice_get, slice_set, take, min, Some, None}
 use Rattle.std.proofs.lemmas.List.{take_min}
-use Rattle.pool_syntax.specs.declared.words.Value.{Value}
-use Rattle.object_code.specs.Frames.{top, below, dropped, taken}
-use Rattle.object_code.specs.Step.{nth, padded}
+use Rattle.run_words.specs.declared.words.Value.{Value}
+use Rattle.run_words.specs.Operands.{top, below, dropped, taken, nth, padded}
 
 pub nth_zero : (vs : List Value) → nth vs 0 ≡ top vs
 nth_zero [] = refl

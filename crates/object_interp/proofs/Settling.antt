@@ -2,19 +2,19 @@
 use Rattle.std.proofs.Common.{◌≡◌, refl, sym, ap, ◌∙◌, subst, ℕ, zero, suc, ◌<◌, ◌≤◌, ◌^◌, List, ◌∷◌, length, Option, Some, None, true, false, get_or, arith}
 use Rattle.std.specs.Prelude.{slice_get}
 use Rattle.std.proofs.lemmas.Option.{slice_get_within, slice_get_read}
-use Rattle.pool_syntax.specs.declared.words.Serves.{Serves}
-use Rattle.pool_syntax.specs.declared.words.Serves.TheVariants as S
-use Rattle.object_code.specs.declared.unit.Instr.{Instr}
-use Rattle.object_code.specs.declared.unit.Instr.TheVariants as I
-use Rattle.object_code.specs.declared.unit.Unit.{Unit as Code}
-use Rattle.object_code.specs.declared.unit.Frame.{Frame}
-use Rattle.object_code.specs.declared.unit.CodeObject.{CodeObject}
-use Rattle.object_code.specs.Frames.{code_of, next, post_passed, silent, go_on_with, settled_within, settled}
-use Rattle.object_code.specs.Proper.{IsProper}
+use Rattle.run_words.specs.declared.words.Serves.{Serves}
+use Rattle.run_words.specs.declared.words.Serves.TheVariants as S
+use Rattle.code_semantics.specs.declared.unit.Instr.{Instr}
+use Rattle.code_semantics.specs.declared.unit.Instr.TheVariants as I
+use Rattle.code_semantics.specs.declared.unit.Unit.{Unit as Code}
+use Rattle.run_words.specs.declared.frames.Frame.{Frame}
+use Rattle.run_words.specs.declared.frames.CodeObject.{CodeObject}
+use Rattle.code_semantics.specs.Frames.{code_of, next, post_passed, silent, go_on_with, settled_within, settled}
+use Rattle.code_semantics.specs.Proper.{IsProper}
 use Rattle.node_heap.specs.Heaps.{HeapOf, object_at, put_object, put_top, top_at, top_in, under_top}
-use Rattle.unit_objects.specs.OfUnit.{AnyValue}
-use Rattle.unit_objects.proofs.Laws.{plain_any, silent_of}
-use Rattle.unit_objects.proofs.Resting.{same_some, passed_is}
+use Rattle.code_semantics.specs.OfUnit.{AnyValue}
+use Rattle.code_semantics.proofs.Laws.{plain_any, silent_of}
+use Rattle.code_semantics.proofs.Resting.{same_some, passed_is}
 use Rattle.object_interp.specs.Moves.{RunsTo}
 use Rattle.object_interp.specs.Rest.{frames_settled, settled_at}
 use Rattle.object_interp.specs.Tops.{HasTop, class_in, code_in, with_top}

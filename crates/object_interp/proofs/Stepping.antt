@@ -1,27 +1,28 @@
 -- What the local step of an instruction leaves has an innermost frame in code of its class, and brought to a step instruction it is the definition's.
 use Rattle.std.proofs.Common.{◌≡◌, inl, inr, refl, sym, ap, ◌∙◌, subst, ℕ, suc, ◌+◌, List, [], ◌∷◌, length, Option, Some, None, Bool, true, false, length-set, arith}
 use Rattle.std.specs.Prelude.{slice_get, slice_set, if◌then◌else◌, take}
-use Rattle.pool_syntax.specs.declared.words.NameId.{NameId}
-use Rattle.pool_syntax.specs.declared.words.Value.{Value}
-use Rattle.pool_syntax.specs.declared.words.Value.TheVariants as V
-use Rattle.pool_syntax.specs.declared.words.Serves.{Serves}
-use Rattle.pool_syntax.specs.declared.words.Serves.TheVariants as S
-use Rattle.pool_syntax.specs.Values.{is_true}
-use Rattle.object_code.specs.declared.unit.Instr.{Instr}
-use Rattle.object_code.specs.declared.unit.Instr.TheVariants as I
-use Rattle.object_code.specs.declared.unit.ClassCode.{ClassCode}
-use Rattle.object_code.specs.declared.unit.Unit.{Unit as Code}
-use Rattle.object_code.specs.declared.unit.Frame.{Frame}
-use Rattle.object_code.specs.declared.unit.CodeObject.{CodeObject}
-use Rattle.object_code.specs.Frames.{code_of, top, below, taken, dropped, next}
-use Rattle.object_code.specs.Kinds.{operated, arity}
-use Rattle.object_code.specs.Step.{Numbered, method_named, begun, nth, padded, outcome_value, is_own, called, handed, left, instr_stepped, frames_stepped, code_stepped}
-use Rattle.object_code.specs.Proper.{takes, leaves, nexts, IsAmong, IsProper}
+use Rattle.run_words.specs.declared.words.NameId.{NameId}
+use Rattle.run_words.specs.declared.words.Value.{Value}
+use Rattle.run_words.specs.declared.words.Value.TheVariants as V
+use Rattle.run_words.specs.declared.words.Serves.{Serves}
+use Rattle.run_words.specs.declared.words.Serves.TheVariants as S
+use Rattle.run_words.specs.Values.{is_true}
+use Rattle.code_semantics.specs.declared.unit.Instr.{Instr}
+use Rattle.code_semantics.specs.declared.unit.Instr.TheVariants as I
+use Rattle.code_semantics.specs.declared.unit.ClassCode.{ClassCode}
+use Rattle.code_semantics.specs.declared.unit.Unit.{Unit as Code}
+use Rattle.run_words.specs.declared.frames.Frame.{Frame}
+use Rattle.run_words.specs.declared.frames.CodeObject.{CodeObject}
+use Rattle.code_semantics.specs.Frames.{code_of, next}
+use Rattle.run_words.specs.Operands.{top, below, taken, dropped, nth, padded}
+use Rattle.code_semantics.specs.Kinds.{operated, arity}
+use Rattle.code_semantics.specs.Step.{Numbered, method_named, begun, outcome_value, is_own, called, handed, left, instr_stepped, frames_stepped, code_stepped}
+use Rattle.code_semantics.specs.Proper.{takes, leaves, nexts, IsAmong, IsProper}
 use Rattle.node_heap.specs.Heaps.{top_in, under_top}
-use Rattle.unit_objects.specs.OfUnit.{IsFrameOf, AreFramesOf, missing_under, FitsUnit, AnyValue, IsAtStep, IsAtStepOf}
-use Rattle.unit_objects.proofs.Reaching.{frame_on_top, with_missing}
-use Rattle.unit_objects.proofs.Laws as U
-use Rattle.unit_objects.proofs.Laws.{each_any, found_named, length_padded, settled_done}
+use Rattle.code_semantics.specs.OfUnit.{IsFrameOf, AreFramesOf, missing_under, FitsUnit, AnyValue, IsAtStep, IsAtStepOf}
+use Rattle.code_semantics.proofs.Reaching.{frame_on_top, with_missing}
+use Rattle.code_semantics.proofs.Laws as U
+use Rattle.code_semantics.proofs.Laws.{each_any, found_named, length_padded, settled_done}
 use Rattle.object_interp.specs.Moves.{entered, ended, handed_on, moved, stays_in_frame}
 use Rattle.object_interp.specs.Rest.{settled_at}
 use Rattle.object_interp.specs.Tops.{HasTop, class_in, code_in, instr_in, over, with_top}

@@ -1,10 +1,10 @@
 -- A burst: local steps of one object, one after the other.
 use Rattle.std.specs.Prelude.{◌≡◌, ℕ, zero, suc, ◌+◌, ◌-◌, ◌*◌, ◌<◌, length, Bool, true, false, ◌&&◌, if◌then◌else◌, nat_le}
-use Rattle.object_code.specs.declared.unit.CodeObject.{CodeObject}
-use Rattle.object_code.specs.declared.unit.Unit.{Unit as Code}
-use Rattle.object_code.specs.Kinds as C
-use Rattle.object_code.specs.Kinds.{Kind, code_kind}
-use Rattle.object_code.specs.Step.{code_stepped}
+use Rattle.run_words.specs.declared.frames.CodeObject.{CodeObject}
+use Rattle.code_semantics.specs.declared.unit.Unit.{Unit as Code}
+use Rattle.code_semantics.specs.Kinds as C
+use Rattle.code_semantics.specs.Kinds.{Kind, code_kind}
+use Rattle.code_semantics.specs.Step.{code_stepped}
 use Rattle.node_heap.specs.Heaps.{HeapOf, object_at, put_object, frames_used}
 use Rattle.object_interp.specs.declared.words.Burst.{Burst}
 use Rattle.object_interp.specs.declared.words.Burst.TheVariants as B

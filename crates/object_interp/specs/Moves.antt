@@ -1,17 +1,18 @@
 -- What an object becomes before the silent instructions after it are run.
 use Rattle.std.specs.Prelude.{◌≡◌, ℕ, suc, Bool, true, false, nat_lt, ◌<◌, ◌≤◌, ◌^◌, List, [], ◌∷◌, length, Option, Some, None, if◌then◌else◌, slice_set}
-use Rattle.pool_syntax.specs.declared.words.Value.{Value}
-use Rattle.pool_syntax.specs.declared.words.Value.TheVariants as V
-use Rattle.pool_syntax.specs.declared.words.Serves.TheVariants as S
-use Rattle.pool_syntax.specs.Values.{is_true}
-use Rattle.object_code.specs.declared.unit.Instr.{Instr}
-use Rattle.object_code.specs.declared.unit.Instr.TheVariants as I
-use Rattle.object_code.specs.declared.unit.ClassCode.{ClassCode}
-use Rattle.object_code.specs.declared.unit.Frame.{Frame}
-use Rattle.object_code.specs.declared.unit.CodeObject.{CodeObject}
-use Rattle.object_code.specs.Frames.{top, below, taken, dropped, next}
-use Rattle.object_code.specs.Kinds.{operated, arity}
-use Rattle.object_code.specs.Step.{Numbered, method_named, begun, nth, outcome_value, is_own}
+use Rattle.run_words.specs.declared.words.Value.{Value}
+use Rattle.run_words.specs.declared.words.Value.TheVariants as V
+use Rattle.run_words.specs.declared.words.Serves.TheVariants as S
+use Rattle.run_words.specs.Values.{is_true}
+use Rattle.code_semantics.specs.declared.unit.Instr.{Instr}
+use Rattle.code_semantics.specs.declared.unit.Instr.TheVariants as I
+use Rattle.code_semantics.specs.declared.unit.ClassCode.{ClassCode}
+use Rattle.run_words.specs.declared.frames.Frame.{Frame}
+use Rattle.run_words.specs.declared.frames.CodeObject.{CodeObject}
+use Rattle.run_words.specs.Operands.{top, below, taken, dropped, nth}
+use Rattle.code_semantics.specs.Frames.{next}
+use Rattle.code_semantics.specs.Kinds.{operated, arity}
+use Rattle.code_semantics.specs.Step.{Numbered, method_named, begun, outcome_value, is_own}
 use Rattle.node_heap.specs.Heaps.{HeapOf, put_top, frames_used, top_in}
 use Rattle.object_interp.specs.Tops.{over}
 

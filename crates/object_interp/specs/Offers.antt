@@ -2,18 +2,19 @@
 use Rattle.std.specs.Prelude.{ℕ, zero, suc, ◌==◌, List, [], ◌∷◌, length, Option, Some, None, is_none, Bool, true, false, ◌&&◌, if◌then◌else◌, slice_get}
 use Rattle.std.specs.Option.{unwrap_or}
 use Rattle.std.specs.List.{list_any}
-use Rattle.pool_syntax.specs.declared.words.NameId.{NameId}
-use Rattle.object_code.specs.declared.unit.Instr.{Instr}
-use Rattle.object_code.specs.declared.unit.Instr.TheVariants as I
-use Rattle.object_code.specs.declared.unit.ClassCode.{ClassCode}
-use Rattle.object_code.specs.declared.unit.Unit.{Unit as Code}
-use Rattle.object_code.specs.declared.unit.Frame.{Frame}
-use Rattle.object_code.specs.declared.unit.CodeObject.{CodeObject}
-use Rattle.object_code.specs.Frames.{code_of, taken}
-use Rattle.object_code.specs.Kinds as C
-use Rattle.object_code.specs.Kinds.{Kind, Offered, offers}
-use Rattle.object_code.specs.Step.{class_from}
-pub use Rattle.unit_objects.specs.OfUnit.{IsAsking, IsChoosing, IsGoingOn}
+use Rattle.run_words.specs.declared.words.NameId.{NameId}
+use Rattle.code_semantics.specs.declared.unit.Instr.{Instr}
+use Rattle.code_semantics.specs.declared.unit.Instr.TheVariants as I
+use Rattle.code_semantics.specs.declared.unit.ClassCode.{ClassCode}
+use Rattle.code_semantics.specs.declared.unit.Unit.{Unit as Code}
+use Rattle.run_words.specs.declared.frames.Frame.{Frame}
+use Rattle.run_words.specs.declared.frames.CodeObject.{CodeObject}
+use Rattle.code_semantics.specs.Frames.{code_of}
+use Rattle.run_words.specs.Operands.{taken}
+use Rattle.code_semantics.specs.Kinds as C
+use Rattle.code_semantics.specs.Kinds.{Kind, Offered, offers}
+use Rattle.code_semantics.specs.Step.{class_from}
+pub use Rattle.code_semantics.specs.OfUnit.{IsAsking, IsChoosing, IsGoingOn}
 use Rattle.object_interp.specs.declared.words.Need.{Need}
 use Rattle.object_interp.specs.declared.words.Need.TheVariants as N
 use Rattle.object_interp.specs.declared.words.Hand.{Hand}
@@ -72,6 +73,13 @@ need_of u (C.Return k n v) = N.Return k n v
 abbrev pub hand_of : Code → Kind → Hand
 hand_of u C.Local = H.Local
 hand_of u k = H.At (need_of u k)
+
+-- whether it steps whatever messages are there, with nothing to choose
+abbrev pub steps_alone : Kind → Bool
+steps_alone C.Finished = false
+steps_alone (C.Answer names) = false
+steps_alone (C.Select alts) = false
+steps_alone _ = true
 
 -- it is at a select
 abbrev pub IsSelecting : Kind → Type 0

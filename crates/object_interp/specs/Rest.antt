@@ -1,10 +1,10 @@
 -- An object that was just placed, brought to a step instruction.
 use Rattle.std.specs.Prelude.{List, [], ◌∷◌, Option, slice_get}
-use Rattle.object_code.specs.declared.unit.ClassCode.{ClassCode}
-use Rattle.object_code.specs.declared.unit.Unit.{Unit as Code}
-use Rattle.object_code.specs.declared.unit.Frame.{Frame}
-use Rattle.object_code.specs.declared.unit.CodeObject.{CodeObject}
-use Rattle.object_code.specs.Step.{at_rest}
+use Rattle.code_semantics.specs.declared.unit.ClassCode.{ClassCode}
+use Rattle.code_semantics.specs.declared.unit.Unit.{Unit as Code}
+use Rattle.run_words.specs.declared.frames.Frame.{Frame}
+use Rattle.run_words.specs.declared.frames.CodeObject.{CodeObject}
+use Rattle.code_semantics.specs.Step.{at_rest}
 
 abbrev pub frames_settled : Option ClassCode → CodeObject → List Frame → CodeObject
 frames_settled k x [] = x

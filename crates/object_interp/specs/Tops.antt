@@ -1,12 +1,12 @@
 -- The frame of an object that is under way, and the instruction at which it stands.
 use Rattle.std.specs.Prelude.{◌≡◌, List, ◌∷◌, Option, Some, slice_get}
-use Rattle.object_code.specs.declared.unit.Instr.{Instr}
-use Rattle.object_code.specs.declared.unit.ClassCode.{ClassCode}
-use Rattle.object_code.specs.declared.unit.Unit.{Unit as Code}
-use Rattle.object_code.specs.declared.unit.Frame.{Frame}
-use Rattle.object_code.specs.declared.unit.CodeObject.{CodeObject}
-use Rattle.object_code.specs.Frames.{code_of}
-use Rattle.unit_objects.specs.OfUnit.{IsFrameOf, AnyValue}
+use Rattle.code_semantics.specs.declared.unit.Instr.{Instr}
+use Rattle.code_semantics.specs.declared.unit.ClassCode.{ClassCode}
+use Rattle.code_semantics.specs.declared.unit.Unit.{Unit as Code}
+use Rattle.run_words.specs.declared.frames.Frame.{Frame}
+use Rattle.run_words.specs.declared.frames.CodeObject.{CodeObject}
+use Rattle.code_semantics.specs.Frames.{code_of}
+use Rattle.code_semantics.specs.OfUnit.{IsFrameOf, AnyValue}
 use Rattle.node_heap.specs.Heaps.{top_in, under_top}
 
 -- the class of an object

@@ -1,15 +1,15 @@
 //! What an object offers where it answers or selects.
 ghost use Rattle.std.specs.Prelude.{◌≡◌, ◌-◌, ◌<◌, ◌≤◌, [], Some, length, slice_get, is_some, IsTrue};
 ghost use Rattle.std.specs.Option.{option_copied};
-ghost use Rattle.pool_syntax.specs.Values.{is_true as holds};
-ghost use Rattle.object_code.specs.Frames.{taken};
-ghost use Rattle.object_code.specs.Step.{after_choice, nth};
+ghost use Rattle.run_words.specs.Values.{is_true as holds};
+ghost use Rattle.run_words.specs.Operands.{taken, nth};
+ghost use Rattle.code_semantics.specs.Step.{after_choice};
 ghost use Rattle.node_heap.specs.Heaps.{object_at, put_top, top_at};
 ghost use Rattle.object_interp.specs.Choices.{Chooses, NextIs, offered_alt};
 
-use crate::moves::{advance, drop_operands, is_true};
+use crate::moves::is_true;
+use code_semantics::{AltCode, Instr};
 use node_heap::Heap;
-use object_code::{AltCode, Instr};
 
 /// Whether the guard of alternative `place`, from 0, of `count` is true.
 fn is_open(heap: &Heap, slot: u32, count: u32, place: u32) -> bool
@@ -56,9 +56,9 @@ pub(crate) fn choose(heap: &mut Heap, slot: u32, instr: &Instr, alt: u32)
         Instr::Select { alts } => {
             let alts = alts.items();
             let to = alts[(alt - 1) as usize].at;
-            drop_operands(heap, slot, alts.len() as u32);
+            heap.drop_operands(slot, alts.len() as u32);
             heap.set_at(slot, to);
         }
-        _ => advance(heap, slot),
+        _ => heap.advance(slot),
     }
 }

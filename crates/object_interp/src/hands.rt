@@ -1,23 +1,23 @@
 //! What an object does next.
 ghost use Rattle.std.specs.Prelude.{◌≡◌, ◌<◌, ◌≤◌, List, [], Some, length, if◌then◌else◌};
 ghost use Rattle.std.specs.List.{list_any};
-ghost use Rattle.pool_syntax.specs.Values.{is_bool, is_true as holds, not_bool};
-ghost use Rattle.object_code.specs.declared.unit.AltCode.{AltCode};
-ghost use Rattle.object_code.specs.declared.unit.Unit.{Unit as Code};
-ghost use Rattle.object_code.specs.Frames.{taken};
-ghost use Rattle.object_code.specs.Kinds as C;
-ghost use Rattle.object_code.specs.Kinds.{arity, instr_kind, operated, outcome_kind, return_kind, select_kind};
-ghost use Rattle.object_code.specs.Proper.{IsProper};
+ghost use Rattle.run_words.specs.Values.{is_bool, is_true as holds, not_bool};
+ghost use Rattle.code_semantics.specs.declared.unit.AltCode.{AltCode};
+ghost use Rattle.code_semantics.specs.declared.unit.Unit.{Unit as Code};
+ghost use Rattle.run_words.specs.Operands.{taken};
+ghost use Rattle.code_semantics.specs.Kinds as C;
+ghost use Rattle.code_semantics.specs.Kinds.{arity, instr_kind, operated, outcome_kind, return_kind, select_kind};
+ghost use Rattle.code_semantics.specs.Proper.{IsProper};
 ghost use Rattle.node_heap.specs.Heaps.{object_at, top_at};
-ghost use Rattle.object_interp.specs.Offers.{hand_of};
+ghost use Rattle.object_interp.specs.Offers.{hand_of, steps_alone};
 ghost use Rattle.object_interp.specs.Tops.{HasTop, instr_in};
 
 use crate::moves::{is_true, outcome};
 use crate::read::{class_place, last_values, value_at};
 use crate::words::{Hand, Need};
+use code_semantics::{Instr, Unit};
 use node_heap::Heap;
-use object_code::{Instr, Unit};
-use pool_syntax::{Error, Item, Op, Serves, Value};
+use run_words::{Error, Item, Op, Serves, Value};
 use value_operators::operators::Answer;
 
 /// A language error is met.
@@ -150,5 +150,33 @@ pub(crate) fn hand_at(unit: &Unit, heap: &Heap, slot: u32, instr: &Instr) -> Han
         Instr::Select { alts } => select_hand(heap, slot, alts.items().len() as u32),
         Instr::Halt => Hand::At(Need::Halted),
         _ => Hand::Local,
+    }
+}
+
+/// Whether a select of `count` alternatives meets an error: a guard is no truth value, or none is true.
+fn select_fails(heap: &Heap, slot: u32, count: u32) -> bool
+    requires slot { slot < length heap.now.objects }
+    requires enough { count ≤ length (top_at heap.now slot).operands }
+    ensures { (alts : List AltCode) → result ≡ steps_alone (select_kind alts (taken count (top_at heap.now slot).operands [])) }
+{
+    if has_wrong_guard(heap, slot, count) {
+        return true;
+    }
+    !has_open_guard(heap, slot, count)
+}
+
+/// Whether a step is made at the instruction at hand whatever messages are there, with nothing to choose.
+#[inline]
+pub(crate) fn alone_at(unit: &Unit, heap: &Heap, slot: u32, instr: &Instr) -> bool
+    requires proper { IsProper unit.now }
+    requires slot { slot < length heap.now.objects }
+    requires top { HasTop unit.now (object_at heap.now slot) }
+    requires at { instr_in unit.now (object_at heap.now slot) ≡ Some instr.now }
+    ensures { result ≡ steps_alone (instr_kind (top_at heap.now slot) (Some instr.now)) }
+{
+    match instr {
+        Instr::Halt | Instr::Answer { .. } => false,
+        Instr::Select { alts } => select_fails(heap, slot, alts.items().len() as u32),
+        _ => true,
     }
 }

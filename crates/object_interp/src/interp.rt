@@ -1,25 +1,25 @@
 //! The instructions of one object.
 ghost use Rattle.std.specs.Prelude.{if◌then◌else◌, ◌==◌, ◌≡◌, ◌<◌, ◌≤◌, ◌↔◌, ℕ, true, false, length, Some, IsErr, OnOk, OnErr, Err};
 ghost use Rattle.std.specs.Option.{option_copied};
-ghost use Rattle.object_code.specs.declared.unit.CodeObject.{CodeObject};
-ghost use Rattle.object_code.specs.Kinds.{code_kind, instr_kind};
-ghost use Rattle.object_code.specs.Step.{code_given, code_gone_on, code_picked, code_serving, is_own};
-ghost use Rattle.object_code.specs.Proper.{IsProper};
-ghost use Rattle.unit_objects.specs.OfUnit.{FitsUnit, IsAtStep};
+ghost use Rattle.run_words.specs.declared.frames.CodeObject.{CodeObject};
+ghost use Rattle.code_semantics.specs.Kinds.{code_kind, instr_kind};
+ghost use Rattle.code_semantics.specs.Step.{code_given, code_gone_on, code_picked, code_serving, is_own};
+ghost use Rattle.code_semantics.specs.Proper.{IsProper};
+ghost use Rattle.code_semantics.specs.OfUnit.{FitsUnit, IsAtStep};
 ghost use Rattle.node_heap.specs.Heaps.{object_at, put_object, top_at, frames_used};
-ghost use Rattle.object_interp.specs.Offers.{IsAsking, IsChoosing, IsGoingOn, IsSelecting, answers_to, hand_of, is_open_plain, need_of, offer_at, offers_at, open_names};
+ghost use Rattle.object_interp.specs.Offers.{IsAsking, IsChoosing, IsGoingOn, IsSelecting, answers_to, hand_of, is_open_plain, need_of, offer_at, offers_at, open_names, steps_alone};
 ghost use Rattle.object_interp.specs.Bursts.{IsBurst, is_local};
 ghost use Rattle.object_interp.specs.Rest.{settled_at};
 ghost use Rattle.object_interp.specs.Tops.{HasTop, instr_in};
 
 use crate::choices::{choose, open_alt};
-use crate::hands::hand_at;
-use crate::moves::{begin, frame_is_free, operands_asked, pass, replace, settle, step};
+use crate::hands::{alone_at, hand_at};
+use crate::moves::{begin, frame_is_free, operands_asked, pass, settle, step};
 use crate::read::{class_at, code_at, instr_at, method_place};
 use crate::words::{Burst, Hand};
+use code_semantics::{Instr, Unit};
 use node_heap::{Heap, HeapFull};
-use object_code::{Instr, Unit};
-use pool_syntax::{Args, List, NameId, Serves, Value};
+use run_words::{Args, List, NameId, Serves, Value};
 
 /// The answer of a burst that is over after `done` steps, where a call is at hand and no frame is free.
 fn stopped_full(done: u32) -> Burst
@@ -52,7 +52,8 @@ fn stopped_at(unit: &Unit, heap: &Heap, slot: u32, instr: &Instr, done: u32) -> 
 
 /// Makes local transitions of the slot's object, each with the silent instructions after it, until `quantum` are made
 /// or the next one is not local or is a call for which no frame is free. No step is made, and the answer tells why,
-/// where the first is so.
+/// where the first is so. It is not inlined, so that its loop has the registers of the processor for itself.
+#[inline(never)]
 pub fn burst(unit: &Unit, heap: &mut Heap, slot: u32, quantum: u32) -> Burst
     requires proper { IsProper unit.now }
     requires slot { slot < length heap.old.objects }
@@ -86,6 +87,19 @@ pub fn at_hand(unit: &Unit, heap: &Heap, slot: u32) -> Hand
     ensures { result ≡ hand_of unit.now (code_kind unit.now (object_at heap.now slot)) }
 {
     hand_at(unit, heap, slot, instr_at(unit, heap, slot))
+}
+
+/// Whether the slot's object makes a step whatever messages are there, with nothing to choose: it is not over, and
+/// neither answers nor selects. The instruction at hand tells it, but at a select.
+#[inline]
+pub fn can_step_alone(unit: &Unit, heap: &Heap, slot: u32) -> bool
+    requires proper { IsProper unit.now }
+    requires slot { slot < length heap.now.objects }
+    requires fits { FitsUnit unit.now (object_at heap.now slot) }
+    requires rests { IsAtStep unit.now (object_at heap.now slot) }
+    ensures { result ≡ steps_alone (code_kind unit.now (object_at heap.now slot)) }
+{
+    alone_at(unit, heap, slot, instr_at(unit, heap, slot))
 }
 
 /// Runs the silent instructions at hand, up to a step instruction: for a slot that was just placed.
@@ -172,7 +186,7 @@ pub fn resume_with(unit: &Unit, heap: &mut Heap, slot: u32, value: Value)
     ensures rests { IsAtStep unit.now (object_at heap.new slot) }
 {
     let taken = operands_asked(instr_at(unit, heap, slot));
-    replace(heap, slot, taken, value);
+    heap.replace(slot, taken, value);
     settle(unit, heap, slot);
 }
 

@@ -9,6 +9,7 @@ mod read;
 mod words;
 
 pub use interp::{
-    alts, answer_names, at_hand, burst, enter, go_on, pick, plain_alt, resume_with, to_step,
+    alts, answer_names, at_hand, burst, can_step_alone, enter, go_on, pick, plain_alt, resume_with,
+    to_step,
 };
 pub use words::{Burst, Hand, Need};

@@ -1,15 +1,16 @@
 //! One instruction, and the silent ones after it.
 ghost use Rattle.std.specs.Prelude.{◌≡◌, ◌<◌, ◌≤◌, ◌+◌, ◌^◌, ◌≢◌, true, false, suc, [], ◌∷◌, IsTrue, Some, None, IfSome, IfNone, is_some, length, slice_get, take};
-ghost use Rattle.pool_syntax.specs.Values.{is_bool, is_true as holds};
+ghost use Rattle.run_words.specs.Values.{is_bool, is_prefix, is_true as holds};
 ghost use Rattle.value_operators.specs.Operated.{outcome_of};
-ghost use Rattle.object_code.specs.declared.unit.Frame.{Frame};
-ghost use Rattle.object_code.specs.declared.unit.MethodCode.{MethodCode};
-ghost use Rattle.object_code.specs.Frames.{top, below, dropped, next, post_passed, silent, settled, go_on_with};
-ghost use Rattle.object_code.specs.Kinds.{operated, arity, instr_kind, outcome_kind, return_kind};
-ghost use Rattle.object_code.specs.declared.unit.Unit.{Unit as Code};
-ghost use Rattle.object_code.specs.Step.{asked, begun, code_stepped, is_own, method_named, outcome_value, padded};
-ghost use Rattle.object_code.specs.Proper.{IsProper};
-ghost use Rattle.unit_objects.specs.OfUnit.{FitsUnit, IsAtStep};
+ghost use Rattle.run_words.specs.declared.frames.Frame.{Frame};
+ghost use Rattle.code_semantics.specs.declared.unit.MethodCode.{MethodCode};
+ghost use Rattle.run_words.specs.Operands.{top, below, dropped, padded};
+ghost use Rattle.code_semantics.specs.Frames.{next, post_passed, silent, settled, go_on_with};
+ghost use Rattle.code_semantics.specs.Kinds.{operated, arity, instr_kind, outcome_kind, return_kind};
+ghost use Rattle.code_semantics.specs.declared.unit.Unit.{Unit as Code};
+ghost use Rattle.code_semantics.specs.Step.{asked, begun, code_stepped, is_own, method_named, outcome_value};
+ghost use Rattle.code_semantics.specs.Proper.{IsProper};
+ghost use Rattle.code_semantics.specs.OfUnit.{FitsUnit, IsAtStep};
 ghost use Rattle.node_heap.specs.Heaps.{object_at, put_object, top_at, put_top, top_in, under_top, frames_used, nils};
 ghost use Rattle.object_interp.specs.Bursts.{name_in, is_local};
 ghost use Rattle.object_interp.specs.Moves.{Passes, RunsTo, branched, call_fits, ended, entered, gone, moved, replaced, stays_in_frame};
@@ -17,69 +18,10 @@ ghost use Rattle.object_interp.specs.Rest.{settled_at};
 ghost use Rattle.object_interp.specs.Tops.{HasTop, class_in, code_in, instr_in, over};
 
 use crate::read::{class_at, code_at, instr_at, last_values, method_place, name_at, value_at};
+use code_semantics::{Instr, MethodCode, Unit};
 use node_heap::{FrameHead, Heap, HeapFull};
-use object_code::{Instr, MethodCode, Unit};
-use pool_syntax::{Args, NameId, Op, Serves, Value};
-use value_operators::operators::{Answer, operate, operate_one};
-
-/// Goes to the next place.
-pub(crate) fn advance(heap: &mut Heap, slot: u32)
-    requires slot { slot < length heap.old.objects }
-    requires place { suc (top_at heap.old slot).at < 2 ^ 32 }
-    ensures { heap.new ≡ put_top heap.old slot (next (top_at heap.old slot) (top_at heap.old slot).operands) }
-{
-    let at = heap.at(slot);
-    heap.set_at(slot, at + 1);
-}
-
-/// Pushes a value, and goes to the next place.
-pub(crate) fn push_next(heap: &mut Heap, slot: u32, value: Value)
-    requires slot { slot < length heap.old.objects }
-    requires place { suc (top_at heap.old slot).at < 2 ^ 32 }
-    requires room { length (top_at heap.old slot).operands < 64 }
-    ensures { heap.new ≡ put_top heap.old slot (next (top_at heap.old slot) (value ∷ (top_at heap.old slot).operands)) }
-{
-    heap.push(slot, value);
-    advance(heap, slot);
-}
-
-/// Pops a value, and goes to the next place.
-pub(crate) fn pop_next(heap: &mut Heap, slot: u32) -> Value
-    requires slot { slot < length heap.old.objects }
-    requires place { suc (top_at heap.old slot).at < 2 ^ 32 }
-    requires one { 0 < length (top_at heap.old slot).operands }
-    ensures value { result ≡ top (top_at heap.old slot).operands }
-    ensures rest { heap.new ≡ put_top heap.old slot (next (top_at heap.old slot) (below (top_at heap.old slot).operands)) }
-{
-    let value = heap.pop(slot);
-    advance(heap, slot);
-    value
-}
-
-/// Takes the last `count` operands.
-pub(crate) fn drop_operands(heap: &mut Heap, slot: u32, count: u32)
-    requires slot { slot < length heap.old.objects }
-    requires frame { 0 < length (object_at heap.old slot).frames }
-    requires enough { count ≤ length (top_at heap.old slot).operands }
-    ensures { heap.new ≡ put_top heap.old slot (record (top_at heap.old slot) { operands = dropped count (top_at heap.old slot).operands }) }
-{
-    for _done in 0..count {
-        heap.pop(slot);
-    }
-}
-
-/// Puts a value in place of the last `count` operands, and goes to the next place.
-pub(crate) fn replace(heap: &mut Heap, slot: u32, count: u32, value: Value)
-    requires slot { slot < length heap.old.objects }
-    requires frame { 0 < length (object_at heap.old slot).frames }
-    requires place { suc (top_at heap.old slot).at < 2 ^ 32 }
-    requires enough { count ≤ length (top_at heap.old slot).operands }
-    requires room { length (top_at heap.old slot).operands < 64 + count }
-    ensures { heap.new ≡ put_top heap.old slot (replaced (top_at heap.old slot) count value) }
-{
-    drop_operands(heap, slot, count);
-    push_next(heap, slot, value);
-}
+use run_words::{Args, NameId, Op, Serves, Value};
+use value_operators::operators::{Answer, on_ints, operate, operate_one};
 
 /// Whether a value is true.
 pub(crate) fn is_true(value: Value) -> bool
@@ -98,7 +40,7 @@ fn go(heap: &mut Heap, slot: u32, to: u32)
     requires one { 0 < length (top_at heap.old slot).operands }
     ensures { heap.new ≡ put_top heap.old slot (branched (top_at heap.old slot) to) }
 {
-    let condition = pop_next(heap, slot);
+    let condition = heap.pop_next(slot);
     if !is_true(condition) {
         heap.set_at(slot, to);
     }
@@ -144,10 +86,11 @@ pub(crate) fn outcome(heap: &Heap, slot: u32, op: Op) -> Answer
     }
 }
 
-/// Puts what an operator makes of the last operands in their place, if it makes a value, and tells whether it does.
-fn apply(heap: &mut Heap, slot: u32, op: Op) -> bool
+/// Puts what an operator makes of the last operands in their place, if it makes a value, and tells whether it does. It is
+/// not inlined: its answer stands in memory, for which each call of a function that it is inlined in would pay.
+#[inline(never)]
+fn apply_any(heap: &mut Heap, slot: u32, op: Op) -> bool
     requires slot { slot < length heap.old.objects }
-    requires frame { 0 < length (object_at heap.old slot).frames }
     requires place { suc (top_at heap.old slot).at < 2 ^ 32 }
     requires enough { arity op ≤ length (top_at heap.old slot).operands }
     requires room { length (top_at heap.old slot).operands < 64 + arity op }
@@ -157,10 +100,49 @@ fn apply(heap: &mut Heap, slot: u32, op: Op) -> bool
 {
     match outcome(heap, slot, op) {
         Answer::Gives(value) => {
-            replace(heap, slot, operands_of(op), value);
+            heap.replace(slot, operands_of(op), value);
             true
         }
         _ => false,
+    }
+}
+
+/// The same of an infix operator, whose operands are integers nearly always.
+fn apply_infix(heap: &mut Heap, slot: u32, op: Op) -> bool
+    requires infix { is_prefix op ≡ false }
+    requires slot { slot < length heap.old.objects }
+    requires place { suc (top_at heap.old slot).at < 2 ^ 32 }
+    requires enough { arity op ≤ length (top_at heap.old slot).operands }
+    requires room { length (top_at heap.old slot).operands < 64 + arity op }
+    ensures local { result ≡ is_local (outcome_kind (operated op (top_at heap.old slot).operands)) }
+    ensures made { result ≡ true → heap.new ≡ put_top heap.old slot (replaced (top_at heap.old slot) (arity op) (outcome_value (operated op (top_at heap.old slot).operands))) }
+    ensures same { result ≡ false → heap.new ≡ heap.old }
+{
+    match (value_at(heap, slot, 1), value_at(heap, slot, 0)) {
+        (Value::Int(x), Value::Int(y)) => match on_ints(op, x, y) {
+            Answer::Gives(value) => {
+                heap.replace(slot, 2, value);
+                true
+            }
+            _ => false,
+        },
+        _ => apply_any(heap, slot, op),
+    }
+}
+
+/// The same of any operator.
+fn apply(heap: &mut Heap, slot: u32, op: Op) -> bool
+    requires slot { slot < length heap.old.objects }
+    requires place { suc (top_at heap.old slot).at < 2 ^ 32 }
+    requires enough { arity op ≤ length (top_at heap.old slot).operands }
+    requires room { length (top_at heap.old slot).operands < 64 + arity op }
+    ensures local { result ≡ is_local (outcome_kind (operated op (top_at heap.old slot).operands)) }
+    ensures made { result ≡ true → heap.new ≡ put_top heap.old slot (replaced (top_at heap.old slot) (arity op) (outcome_value (operated op (top_at heap.old slot).operands))) }
+    ensures same { result ≡ false → heap.new ≡ heap.old }
+{
+    match op {
+        Op::Neg | Op::Not => apply_any(heap, slot, op),
+        _ => apply_infix(heap, slot, op),
     }
 }
 
@@ -213,14 +195,16 @@ fn call(unit: &Unit, heap: &mut Heap, slot: u32, name: NameId)
     requires fits { FitsUnit unit.now (object_at heap.old slot) }
     requires at { instr_in unit.now (object_at heap.old slot) ≡ Some (Instr.Call name) }
     requires free { frames_used heap.old ≢ heap.old.most_frames }
-    ensures { heap.new ≡ put_object heap.old slot (entered (object_at heap.old slot) (top_at heap.old slot) (under_top (object_at heap.old slot).frames) (method_named (class_in unit.now (object_at heap.old slot)) name)) }
+    ensures { heap.new
+        ≡ put_object heap.old slot
+        (entered (object_at heap.old slot) (top_at heap.old slot) (under_top (object_at heap.old slot).frames) (method_named (class_in unit.now (object_at heap.old slot)) name)) }
 {
     let class = class_at(unit, heap, slot);
     let place = method_place(class, name);
     let method = &class.methods.items()[place as usize];
     let args = last_values(heap, slot, method.params);
-    drop_operands(heap, slot, method.params);
-    advance(heap, slot);
+    heap.drop_operands(slot, method.params);
+    heap.advance(slot);
     begin(heap, slot, place, method, &args, Serves::Own);
 }
 
@@ -289,36 +273,39 @@ fn act(unit: &Unit, heap: &mut Heap, slot: u32, instr: &Instr) -> bool
     requires at { instr_in unit.now (object_at heap.old slot) ≡ Some instr.now }
     requires free { call_fits heap.old instr.now ≡ true }
     ensures local { result ≡ is_local (instr_kind (top_at heap.old slot) (Some instr.now)) }
-    ensures made { result ≡ true → heap.new ≡ put_object heap.old slot (moved (class_in unit.now (object_at heap.old slot)) (name_in heap.old slot) (object_at heap.old slot) (top_at heap.old slot) (under_top (object_at heap.old slot).frames) instr.now) }
+    ensures made { result ≡ true
+        → heap.new
+        ≡ put_object heap.old slot
+        (moved (class_in unit.now (object_at heap.old slot)) (name_in heap.old slot) (object_at heap.old slot) (top_at heap.old slot) (under_top (object_at heap.old slot).frames) instr.now) }
     ensures same { result ≡ false → heap.new ≡ heap.old }
 {
     match instr {
         Instr::LoadI(var) => {
             let value = heap.load_var(slot, *var);
-            push_next(heap, slot, value);
+            heap.push_next(slot, value);
         }
         Instr::LoadT(temp) => {
             let value = heap.load_temp(slot, *temp);
-            push_next(heap, slot, value);
+            heap.push_next(slot, value);
         }
         Instr::SelfRef => {
             let name = name_at(heap, slot);
-            push_next(heap, slot, Value::Ref(name));
+            heap.push_next(slot, Value::Ref(name));
         }
         Instr::StoreI(var) => {
-            let value = pop_next(heap, slot);
+            let value = heap.pop_next(slot);
             heap.store_var(slot, *var, value);
         }
         Instr::StoreT(temp) => {
-            let value = pop_next(heap, slot);
+            let value = heap.pop_next(slot);
             heap.store_temp(slot, *temp, value);
         }
         Instr::Oper(op) => return apply(heap, slot, *op),
         Instr::Pop => {
-            pop_next(heap, slot);
+            heap.pop_next(slot);
         }
         Instr::Branch(to) => return branch(heap, slot, *to),
-        Instr::Loop => advance(heap, slot),
+        Instr::Loop => heap.advance(slot),
         Instr::Call(name) => call(unit, heap, slot, *name),
         Instr::Ret => return leave(heap, slot),
         Instr::Post => return is_unserved(heap, slot),
@@ -339,7 +326,7 @@ fn pass_value(heap: &mut Heap, slot: u32) -> bool
     match heap.head(slot).serves {
         Serves::Caller { .. } => false,
         _ => {
-            advance(heap, slot);
+            heap.advance(slot);
             true
         }
     }
@@ -352,9 +339,9 @@ fn run_silent(heap: &mut Heap, slot: u32, instr: &Instr) -> bool
     ensures { RunsTo heap.old slot (silent (top_at heap.old slot) (Some instr.now)) result heap.new }
 {
     match instr {
-        Instr::PushInt(value) => push_next(heap, slot, Value::Int(*value)),
-        Instr::PushBool(value) => push_next(heap, slot, Value::Bool(*value)),
-        Instr::PushNil => push_next(heap, slot, Value::Nil),
+        Instr::PushInt(value) => heap.push_next(slot, Value::Int(*value)),
+        Instr::PushBool(value) => heap.push_next(slot, Value::Bool(*value)),
+        Instr::PushNil => heap.push_next(slot, Value::Nil),
         Instr::Jump(to) => heap.set_at(slot, *to),
         Instr::Post => return pass_value(heap, slot),
         _ => return false,
@@ -362,7 +349,9 @@ fn run_silent(heap: &mut Heap, slot: u32, instr: &Instr) -> bool
     true
 }
 
-/// Runs the silent instructions at hand, in the code of the innermost frame.
+/// Runs the silent instructions at hand, in the code of the innermost frame. It is inlined, since most steps have none
+/// after them.
+#[inline(always)]
 fn settle_in(heap: &mut Heap, slot: u32, code: &[Instr])
     requires slot { slot < length heap.old.objects }
     requires top { (u : Code) × IsProper u × HasTop u (object_at heap.old slot) × (code.now ≡ code_in u (object_at heap.old slot)) }
@@ -423,7 +412,8 @@ pub(crate) fn step<'a>(
     requires at { instr_in unit.now (object_at heap.old slot) ≡ Some instr.now }
     requires free { call_fits heap.old instr.now ≡ true }
     ensures local { is_some result ≡ is_local (instr_kind (top_at heap.old slot) (Some instr.now)) }
-    ensures made { IfSome result (λ c. (heap.new ≡ put_object heap.old slot (code_stepped unit.now (name_in heap.old slot) (object_at heap.old slot))) × (c.now ≡ code_in unit.now (object_at heap.new slot))) }
+    ensures made { IfSome result
+        (λ c. (heap.new ≡ put_object heap.old slot (code_stepped unit.now (name_in heap.old slot) (object_at heap.old slot))) × (c.now ≡ code_in unit.now (object_at heap.new slot))) }
     ensures same { IfNone result (heap.new ≡ heap.old) }
 {
     if !act(unit, heap, slot, instr) {
@@ -454,19 +444,19 @@ pub(crate) fn pass(heap: &mut Heap, slot: u32, instr: &Instr)
 {
     match instr {
         Instr::Write => {
-            pop_next(heap, slot);
+            heap.pop_next(slot);
         }
-        Instr::WriteText(_) => advance(heap, slot),
+        Instr::WriteText(_) => heap.advance(slot),
         Instr::Async { count, .. } => {
-            drop_operands(heap, slot, *count + 1);
-            advance(heap, slot);
+            heap.drop_operands(slot, *count + 1);
+            heap.advance(slot);
         }
         Instr::Ret => {
             heap.pop_frame(slot);
         }
         Instr::Post => {
             heap.set_serves(slot, Serves::Sender);
-            advance(heap, slot);
+            heap.advance(slot);
         }
         _ => {}
     }

@@ -1,5 +1,5 @@
 //! What the interpreter tells.
-use pool_syntax::{Args, Error, Item, NameId, Value};
+use run_words::{Args, Error, Item, NameId, Value};
 
 /// What an object needs that stands at an instruction which makes no local transition: a new object of the class at
 /// this place of the unit; a call or a message; a write; a message to answer, also as an alternative of a select; to

@@ -1,10 +1,10 @@
 -- What the code's answers of operators stand for.
 use Rattle.std.specs.Prelude.{Bool, true, false}
-use Rattle.pool_syntax.specs.declared.words.Op.{Op}
-use Rattle.pool_syntax.specs.declared.words.Op.TheVariants as O
+use Rattle.run_words.specs.declared.words.Op.{Op}
+use Rattle.run_words.specs.declared.words.Op.TheVariants as O
 use Rattle.value_operators.specs.declared.operators.Answer.{Answer}
 use Rattle.value_operators.specs.declared.operators.Answer.TheVariants as A
-use Rattle.pool_syntax.specs.Values.{Outcome, Gives, Fails, WrongSort}
+use Rattle.run_words.specs.Values.{Outcome, Gives, Fails, WrongSort}
 
 -- the answer of an operator
 abbrev pub outcome_of : Answer → Outcome

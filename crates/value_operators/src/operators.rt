@@ -1,9 +1,9 @@
 //! Operators on values, and equality.
 ghost use Rattle.std.specs.Prelude.{◌≡◌, IsTrue, IfSome, IfNone};
-ghost use Rattle.pool_syntax.specs.Values.{infix_value, prefix_value, is_same, Gives, Fails};
+ghost use Rattle.run_words.specs.Values.{infix_value, prefix_value, is_same, Gives, Fails};
 ghost use Rattle.value_operators.specs.Operated.{is_logical, outcome_of};
 
-use pool_syntax::{Error, Op, Value};
+use run_words::{Error, Op, Value};
 
 /// What an operator makes of its operands.
 #[derive(Clone, Copy)]
@@ -23,7 +23,9 @@ fn number(checked: Option<i64>) -> Answer
     }
 }
 
-fn on_ints(op: Op, x: i64, y: i64) -> Answer
+/// What an infix operator makes of two integers. It is inlined, so that the answer need not stand in memory.
+#[inline(always)]
+pub fn on_ints(op: Op, x: i64, y: i64) -> Answer
     ensures { outcome_of result ≡ infix_value op (Value.Int x) (Value.Int y) }
 {
     match op {

@@ -1,7 +1,7 @@
 use Rattle.std.proofs.Common.{◌≡◌, ◌⊎◌, inl, inr, ◌∙◌, ap, ◌<◌, length, Some, arith}
-use Rattle.object_code.specs.declared.unit.Instr.TheVariants as I
-use Rattle.object_code.specs.declared.unit.CodeObject.{CodeObject}
-use Rattle.object_code.specs.declared.unit.Unit.{Unit as Code}
+use Rattle.code_semantics.specs.declared.unit.Instr.TheVariants as I
+use Rattle.run_words.specs.declared.frames.CodeObject.{CodeObject}
+use Rattle.code_semantics.specs.declared.unit.Unit.{Unit as Code}
 use Rattle.node_heap.specs.Heaps.{object_at, top_in}
 use Rattle.object_interp.proofs.Acting.{instr_known}
 use Rattle.object_interp.proofs.hands.hand_at.Goals as goal

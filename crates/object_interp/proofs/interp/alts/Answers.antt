@@ -1,5 +1,5 @@
 use Rattle.std.proofs.Common.{ap, ◌∙◌, length, Some, arith}
-use Rattle.object_code.specs.declared.unit.Instr.TheVariants as I
+use Rattle.code_semantics.specs.declared.unit.Instr.TheVariants as I
 use Rattle.node_heap.specs.Heaps.{object_at}
 use Rattle.object_interp.proofs.Facts.{has_top}
 use Rattle.object_interp.proofs.Acting.{instr_known}

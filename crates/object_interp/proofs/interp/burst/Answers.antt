@@ -1,6 +1,6 @@
 use Rattle.std.proofs.Common.{◌∙◌, sym, ap, subst, Some}
 use Rattle.std.specs.Prelude.{if◌then◌else◌, ◌==◌}
-use Rattle.object_code.specs.Kinds.{instr_kind}
+use Rattle.code_semantics.specs.Kinds.{instr_kind}
 use Rattle.node_heap.specs.Heaps.{object_at, top_at}
 use Rattle.object_interp.specs.declared.words.Burst.TheVariants as B
 use Rattle.object_interp.specs.Bursts.{IsBurst, is_local}

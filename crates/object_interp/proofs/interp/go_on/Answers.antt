@@ -1,8 +1,8 @@
 use Rattle.std.proofs.Common.{◌≡◌, sym, ap, ◌∙◌, subst}
 use Rattle.node_heap.specs.Heaps.{object_at, put_object, top_at, under_top}
-use Rattle.unit_objects.specs.OfUnit.{AnyValue, FitsUnit, IsAtStep}
-use Rattle.unit_objects.proofs.Laws.{plain_any, gone_on_of, gone_on_rests}
-use Rattle.object_code.specs.Step.{code_gone_on}
+use Rattle.code_semantics.specs.OfUnit.{AnyValue, FitsUnit, IsAtStep}
+use Rattle.code_semantics.proofs.Laws.{plain_any, gone_on_of, gone_on_rests}
+use Rattle.code_semantics.specs.Step.{code_gone_on}
 use Rattle.object_interp.specs.Rest.{settled_at}
 use Rattle.object_interp.specs.Tops.{HasTop}
 use Rattle.object_interp.proofs.Facts.{has_top}

@@ -1,8 +1,8 @@
 use Rattle.std.proofs.Common.{◌≡◌, sym, ap, ◌∙◌, subst, arith}
 use Rattle.node_heap.specs.Heaps.{object_at, put_object, top_at}
-use Rattle.unit_objects.specs.OfUnit.{AnyValue, FitsUnit, IsAtStep}
-use Rattle.unit_objects.proofs.Laws.{plain_any, given_of, given_rests}
-use Rattle.object_code.specs.Step.{code_given}
+use Rattle.code_semantics.specs.OfUnit.{AnyValue, FitsUnit, IsAtStep}
+use Rattle.code_semantics.proofs.Laws.{plain_any, given_of, given_rests}
+use Rattle.code_semantics.specs.Step.{code_given}
 use Rattle.object_interp.specs.Rest.{settled_at}
 use Rattle.object_interp.specs.Tops.{HasTop, with_top}
 use Rattle.object_interp.proofs.Facts.{has_top}
@@ -59,7 +59,7 @@ settle-requires-clause-top c =
     let x = object_at h s in
     let i = c.instr_at.result.now in
     subst (HasTop u)
-    (sym (object_then h c.replace.new.heap s (with_top x (replaced (top_at h s) c.operands_asked-taken.result c.args.value)) c.requires.slot c.replace.ensures
+    (sym (object_then h c.replace.new.self s (with_top x (replaced (top_at h s) c.operands_asked-taken.result c.args.value)) c.requires.slot c.replace.ensures
     ∙ ap (λ n. with_top x (replaced (top_at h s) n c.args.value)) c.operands_asked-taken.ensures))
     (given_has_top u c.requires.proper x c.requires.fits i c.instr_at.ensures c.requires.asking c.args.value)
 
@@ -71,7 +71,7 @@ returns-clause-given c =
     let x = object_at h s in
     let i = c.instr_at.result.now in
     let e : c.settle.new.heap ≡ put_object h s (code_given u x c.args.value) =
-    put_then h c.replace.new.heap c.settle.new.heap s (with_top x (replaced (top_at h s) c.operands_asked-taken.result c.args.value)) (settled_at u) c.requires.slot c.replace.ensures c.settle.ensures
+    put_then h c.replace.new.self c.settle.new.heap s (with_top x (replaced (top_at h s) c.operands_asked-taken.result c.args.value)) (settled_at u) c.requires.slot c.replace.ensures c.settle.ensures
     ∙ ap (λ n. put_object h s (settled_at u (with_top x (replaced (top_at h s) n c.args.value)))) c.operands_asked-taken.ensures
     ∙ ap (put_object h s) (sym (given_top u x (has_top u x c.requires.fits) i c.instr_at.ensures c.args.value)) in
     e
@@ -84,7 +84,7 @@ returns-clause-fits c =
     let x = object_at h s in
     let i = c.instr_at.result.now in
     let e : c.settle.new.heap ≡ put_object h s (code_given u x c.args.value) =
-    put_then h c.replace.new.heap c.settle.new.heap s (with_top x (replaced (top_at h s) c.operands_asked-taken.result c.args.value)) (settled_at u) c.requires.slot c.replace.ensures c.settle.ensures
+    put_then h c.replace.new.self c.settle.new.heap s (with_top x (replaced (top_at h s) c.operands_asked-taken.result c.args.value)) (settled_at u) c.requires.slot c.replace.ensures c.settle.ensures
     ∙ ap (λ n. put_object h s (settled_at u (with_top x (replaced (top_at h s) n c.args.value)))) c.operands_asked-taken.ensures
     ∙ ap (put_object h s) (sym (given_top u x (has_top u x c.requires.fits) i c.instr_at.ensures c.args.value)) in
     subst (FitsUnit u) (sym (object_then h c.settle.new.heap s (code_given u x c.args.value) c.requires.slot e))
@@ -98,7 +98,7 @@ returns-clause-rests c =
     let x = object_at h s in
     let i = c.instr_at.result.now in
     let e : c.settle.new.heap ≡ put_object h s (code_given u x c.args.value) =
-    put_then h c.replace.new.heap c.settle.new.heap s (with_top x (replaced (top_at h s) c.operands_asked-taken.result c.args.value)) (settled_at u) c.requires.slot c.replace.ensures c.settle.ensures
+    put_then h c.replace.new.self c.settle.new.heap s (with_top x (replaced (top_at h s) c.operands_asked-taken.result c.args.value)) (settled_at u) c.requires.slot c.replace.ensures c.settle.ensures
     ∙ ap (λ n. put_object h s (settled_at u (with_top x (replaced (top_at h s) n c.args.value)))) c.operands_asked-taken.ensures
     ∙ ap (put_object h s) (sym (given_top u x (has_top u x c.requires.fits) i c.instr_at.ensures c.args.value)) in
     subst (IsAtStep u) (sym (object_then h c.settle.new.heap s (code_given u x c.args.value) c.requires.slot e))

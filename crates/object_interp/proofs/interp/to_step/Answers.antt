@@ -1,6 +1,6 @@
 use Rattle.std.proofs.Common.{sym, subst}
 use Rattle.node_heap.specs.Heaps.{object_at}
-use Rattle.unit_objects.specs.OfUnit.{FitsUnit, IsAtStep}
+use Rattle.code_semantics.specs.OfUnit.{FitsUnit, IsAtStep}
 use Rattle.object_interp.specs.Rest.{settled_at}
 use Rattle.object_interp.proofs.Asking.{settled_fits, settled_at_step}
 use Rattle.object_interp.proofs.Facts.{has_top}

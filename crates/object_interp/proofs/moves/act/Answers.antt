@@ -1,7 +1,8 @@
 use Rattle.std.proofs.Common.{inl, refl, ◌∙◌, sym, ap, suc, length, Some, arith}
 use Rattle.std.specs.Prelude.{slice_set}
-use Rattle.object_code.specs.declared.unit.Instr.TheVariants as I
-use Rattle.object_code.specs.Frames.{below, next}
+use Rattle.code_semantics.specs.declared.unit.Instr.TheVariants as I
+use Rattle.run_words.specs.Operands.{below}
+use Rattle.code_semantics.specs.Frames.{next}
 use Rattle.node_heap.specs.Heaps.{object_at, put_object, top_in, top_at, under_top}
 use Rattle.object_interp.specs.Bursts.{name_in}
 use Rattle.object_interp.specs.Moves.{moved}
@@ -98,7 +99,7 @@ store_var-requires-clause-place c =
     let t = has_top u x c.requires.fits in
     let known = instr_known u c.requires.proper x t (I.StoreI c.in-StoreI.var) (c.requires.at ∙ ap Some c.in-StoreI.is) in
     let f = top_at c.args.heap.now c.args.slot in
-    let e = object_then c.args.heap.now c.pop_next-value.new.heap c.args.slot (with_top x (next f (below f.operands))) c.requires.slot c.pop_next-value.ensures.rest in
+    let e = object_then c.args.heap.now c.pop_next-value.new.self c.args.slot (with_top x (next f (below f.operands))) c.requires.slot c.pop_next-value.ensures.rest in
     omega (arith, known.exists, c.requires.fits.count, ap (λ y. length y.vars) e)
 
 pub pop_next-value-requires-in-StoreT-clause-place : goal.pop_next-value-requires-in-StoreT-clause-place
@@ -124,7 +125,7 @@ store_temp-requires-clause-place c =
     let t = has_top u x c.requires.fits in
     let known = instr_known u c.requires.proper x t (I.StoreT c.in-StoreT.temp) (c.requires.at ∙ ap Some c.in-StoreT.is) in
     let f = top_at c.args.heap.now c.args.slot in
-    let e = object_then c.args.heap.now c.pop_next-value-in-StoreT.new.heap c.args.slot (with_top x (next f (below f.operands))) c.requires.slot c.pop_next-value-in-StoreT.ensures.rest in
+    let e = object_then c.args.heap.now c.pop_next-value-in-StoreT.new.self c.args.slot (with_top x (next f (below f.operands))) c.requires.slot c.pop_next-value-in-StoreT.ensures.rest in
     omega (arith, known.exists, ap (λ y. length (top_in y.frames).temps) e)
 
 pub apply-requires-clause-enough : goal.apply-requires-clause-enough
@@ -223,7 +224,7 @@ returns-in-StoreI-clause-made c _ =
     let f = top_at h s in
     let n = c.in-StoreI.var in
     let y = with_top x (next f (below f.operands)) in
-    put_then h c.pop_next-value.new.heap c.store_var.new.self s y
+    put_then h c.pop_next-value.new.self c.store_var.new.self s y
     (λ z. record z { vars = slice_set z.vars n c.pop_next-value.result }) c.requires.slot c.pop_next-value.ensures.rest c.store_var.ensures
     ∙ ap (λ v. put_object h s (record y { vars = slice_set y.vars n v })) c.pop_next-value.ensures.value
     ∙ ap (λ i. put_object h s (moved (class_in c.args.unit.now x) (name_in h s) x f (under_top x.frames) i)) (sym c.in-StoreI.is)
@@ -236,7 +237,7 @@ returns-in-StoreT-clause-made c _ =
     let f = top_at h s in
     let n = c.in-StoreT.temp in
     let g = next f (below f.operands) in
-    put_then h c.pop_next-value-in-StoreT.new.heap c.store_temp.new.self s (with_top x g)
+    put_then h c.pop_next-value-in-StoreT.new.self c.store_temp.new.self s (with_top x g)
     (λ z. with_top z (record (top_in z.frames) { temps = slice_set (top_in z.frames).temps n c.pop_next-value-in-StoreT.result }))
     c.requires.slot c.pop_next-value-in-StoreT.ensures.rest c.store_temp.ensures
     ∙ ap (λ v. put_object h s (with_top x (record g { temps = slice_set f.temps n v }))) c.pop_next-value-in-StoreT.ensures.value

@@ -1,8 +1,9 @@
 use Rattle.std.proofs.Common.{◌≡◌, ◌∙◌, sym, ap, ◌<◌, length, arith}
 use Rattle.std.proofs.lemmas.Option.{slice_get_within}
-use Rattle.pool_syntax.specs.declared.words.Serves.TheVariants as S
-use Rattle.object_code.specs.Frames.{dropped, next}
-use Rattle.object_code.specs.Step.{begun}
+use Rattle.run_words.specs.declared.words.Serves.TheVariants as S
+use Rattle.run_words.specs.Operands.{dropped}
+use Rattle.code_semantics.specs.Frames.{next}
+use Rattle.code_semantics.specs.Step.{begun}
 use Rattle.node_heap.specs.Heaps.{object_at, put_object, frames_used, top_in, top_at, under_top}
 use Rattle.object_interp.specs.Moves.{entered}
 use Rattle.object_interp.specs.Tops.{over, with_top}
@@ -50,7 +51,7 @@ advance-requires-clause-place c =
     let k = callee c.args.unit.now c.requires.proper x (has_top c.args.unit.now x c.requires.fits) c.args.name c.requires.at c.class_at-class.result.now c.class_at-class.ensures
     c.method_place-place.result c.method_place-place.ensures c.items.result.now c.index-items-place.result c.items.ensures c.index-items-place.is in
     let e = ap (λ y. (top_in y.frames).at)
-    (object_then h c.drop_operands.new.heap s (with_top x (record f { operands = dropped c.index-items-place.result.params f.operands })) c.requires.slot c.drop_operands.ensures) in
+    (object_then h c.drop_operands.new.self s (with_top x (record f { operands = dropped c.index-items-place.result.params f.operands })) c.requires.slot c.drop_operands.ensures) in
     omega (arith, k.next, e)
 
 pub begin-requires-clause-temps : goal.begin-requires-clause-temps
@@ -73,7 +74,7 @@ begin-requires-clause-free c full =
     let f = top_at h s in
     let f1 = record f { operands = dropped c.index-items-place.result.params f.operands } in
     let y = with_top x (next f1 f1.operands) in
-    let e : c.advance.new.heap ≡ put_object h s y = put_then h c.drop_operands.new.heap c.advance.new.heap s (with_top x f1)
+    let e : c.advance.new.self ≡ put_object h s y = put_then h c.drop_operands.new.self c.advance.new.self s (with_top x f1)
     (λ z. with_top z (next (top_in z.frames) (top_in z.frames).operands)) c.requires.slot c.drop_operands.ensures c.advance.ensures in
     let some : length x.frames ≡ length y.frames = ap length (has_top c.args.unit.now x c.requires.fits).some in
     c.requires.free (omega (arith, full, some, frames_put h s y c.requires.slot, ap frames_used e, ap (λ b. b.most_frames) e))
@@ -90,10 +91,10 @@ returns c =
     place c.method_place-place.ensures c.items.result.now m c.items.ensures c.index-items-place.is in
     let f1 = record f { operands = dropped m.params f.operands } in
     let y = with_top x (next f1 f1.operands) in
-    let e : c.advance.new.heap ≡ put_object h s y = put_then h c.drop_operands.new.heap c.advance.new.heap s (with_top x f1)
+    let e : c.advance.new.self ≡ put_object h s y = put_then h c.drop_operands.new.self c.advance.new.self s (with_top x f1)
     (λ z. with_top z (next (top_in z.frames) (top_in z.frames).operands)) c.requires.slot c.drop_operands.ensures c.advance.ensures in
     let args = c.last_values-args.result in
-    put_then h c.advance.new.heap c.begin.new.heap s y
+    put_then h c.advance.new.self c.begin.new.heap s y
     (λ z. over z (begun (record { place = place; code = m }) args S.Own) z.frames) c.requires.slot e c.begin.ensures
     ∙ ap (λ vs. put_object h s (over y (begun (record { place = place; code = m }) vs S.Own) y.frames)) c.last_values-args.ensures
     ∙ ap (λ o. put_object h s (entered x f (under_top x.frames) o)) (sym k.named)

@@ -1,5 +1,5 @@
 use Rattle.std.proofs.Common.{ap, ◌∙◌}
-use Rattle.object_code.specs.Frames.{next}
+use Rattle.code_semantics.specs.Frames.{next}
 use Rattle.node_heap.specs.Heaps.{top_at}
 use Rattle.object_interp.proofs.Settling.{passed_else}
 use Rattle.object_interp.proofs.moves.pass_value.Goals as goal

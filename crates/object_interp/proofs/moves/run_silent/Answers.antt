@@ -1,6 +1,6 @@
 use Rattle.std.proofs.Common.{◌∷◌, ◌∙◌, ap, Some, arith}
-use Rattle.pool_syntax.specs.declared.words.Value.TheVariants as V
-use Rattle.object_code.specs.Frames.{next, silent}
+use Rattle.run_words.specs.declared.words.Value.TheVariants as V
+use Rattle.code_semantics.specs.Frames.{next, silent}
 use Rattle.node_heap.specs.Heaps.{top_at}
 use Rattle.object_interp.proofs.moves.run_silent.Goals as goal
 

@@ -1,5 +1,5 @@
 use Rattle.std.proofs.Common.{◌≡◌, refl, ◌∙◌, sym, ap, subst}
-use Rattle.object_code.specs.declared.unit.CodeObject.{CodeObject}
+use Rattle.run_words.specs.declared.frames.CodeObject.{CodeObject}
 use Rattle.node_heap.specs.Heaps.{object_at, put_object, top_at, under_top}
 use Rattle.object_interp.specs.Bursts.{name_in}
 use Rattle.object_interp.specs.Moves.{moved}

@@ -1,6 +1,6 @@
 -- The first of all is the first of those that are left.
 use Rattle.std.proofs.Common.{◌≡◌, drop}
-use Rattle.object_code.specs.Step.{class_from}
+use Rattle.code_semantics.specs.Step.{class_from}
 use Rattle.object_interp.proofs.read.class_place.Given as goal
 
 abbrev pub invariant-loop-place : goal.invariant-loop-place

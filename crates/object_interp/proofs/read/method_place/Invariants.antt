@@ -1,6 +1,6 @@
 -- The first of all is the first of those that are left.
 use Rattle.std.proofs.Common.{◌≡◌, drop}
-use Rattle.object_code.specs.Step.{method_from}
+use Rattle.code_semantics.specs.Step.{method_from}
 use Rattle.object_interp.proofs.read.method_place.Given as goal
 
 abbrev pub invariant-loop-place : goal.invariant-loop-place

@@ -1,5 +1,5 @@
 use Rattle.std.proofs.Common.{sym, ap, ◌∙◌, arith}
-use Rattle.object_code.specs.declared.unit.CodeObject.{CodeObject}
+use Rattle.run_words.specs.declared.frames.CodeObject.{CodeObject}
 use Rattle.node_heap.specs.declared.cells.Slot.{Slot}
 use Rattle.node_heap.proofs.Insides.{in_slots, object_at_is}
 use Rattle.node_heap.proofs.heap.Heap.class_of.Goals as goal

@@ -1,6 +1,6 @@
 use Rattle.std.proofs.Common.{sym, ap, ◌∙◌, ◌≡◌, length, arith}
-use Rattle.object_code.specs.declared.unit.Frame.{Frame}
-use Rattle.object_code.specs.Step.{nth}
+use Rattle.run_words.specs.declared.frames.Frame.{Frame}
+use Rattle.run_words.specs.Operands.{nth}
 use Rattle.node_heap.specs.Heaps.{top_at}
 use Rattle.node_heap.proofs.Insides.{in_queues, top_is}
 use Rattle.node_heap.proofs.heap.Heap.operand.Goals as goal

@@ -1,5 +1,5 @@
 use Rattle.std.proofs.Common.{refl}
-use Rattle.object_code.specs.declared.unit.Frame.{Frame}
+use Rattle.run_words.specs.declared.frames.Frame.{Frame}
 use Rattle.node_heap.proofs.Insides.{in_queues, top_put, top_kept}
 use Rattle.node_heap.proofs.heap.Heap.set_serves.Goals as goal
 

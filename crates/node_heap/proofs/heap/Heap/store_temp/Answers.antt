@@ -1,5 +1,5 @@
 use Rattle.std.proofs.Common.{ap, ◌≡◌, length, set, arith}
-use Rattle.object_code.specs.declared.unit.Frame.{Frame}
+use Rattle.run_words.specs.declared.frames.Frame.{Frame}
 use Rattle.node_heap.specs.Heaps.{top_at}
 use Rattle.node_heap.specs.Layout.{frame_of}
 use Rattle.node_heap.proofs.Insides.{in_queues, top_is, top_put, top_kept}

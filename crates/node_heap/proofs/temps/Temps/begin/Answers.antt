@@ -1,5 +1,5 @@
 use Rattle.std.proofs.Common.{refl, sym, ◌∙◌, ap, ◌≡◌, ◌+◌, suc, take, set, arith, length-set}
-use Rattle.pool_syntax.specs.declared.words.Value.TheVariants.{Nil}
+use Rattle.run_words.specs.declared.words.Value.TheVariants.{Nil}
 use Rattle.node_heap.specs.Heaps.{nils}
 use Rattle.node_heap.proofs.Padding.{nils_on}
 use Rattle.node_heap.proofs.temps.Temps.begin.Goals as goal

@@ -1,5 +1,5 @@
 use Rattle.std.proofs.Common.{sym, ◌∙◌, ap, ◌≡◌, ◌≤◌, length, arith}
-use Rattle.object_code.specs.Step.{nth}
+use Rattle.run_words.specs.Operands.{nth}
 use Rattle.node_heap.proofs.Padding.{loaded, length-first}
 use Rattle.node_heap.proofs.temps.Temps.load.Goals as goal
 

@@ -1,0 +1,44 @@
+use Rattle.std.proofs.Common.{ap, ◌≡◌, ◌∷◌, suc, length, arith}
+use Rattle.run_words.specs.declared.frames.Frame.{Frame}
+use Rattle.run_words.specs.Operands.{dropped}
+use Rattle.node_heap.specs.Heaps.{top_at}
+use Rattle.node_heap.specs.Layout.{frame_of}
+use Rattle.node_heap.proofs.Insides.{in_queues, top_is, top_put, top_kept}
+use Rattle.node_heap.proofs.heap.Heap.replace.Goals as goal
+
+pub get_mut-frame-requires : goal.get_mut-frame-requires
+get_mut-frame-requires c = in_queues c.self.inside c.self.invariant c.args.self.now c.self.view_is c.args.slot c.requires.slot
+
+pub replace-requires-clause-place : goal.replace-requires-clause-place
+replace-requires-clause-place c =
+    let old = c.get_mut-frame.result.now in
+    let there : (top_at c.args.self.now c.args.slot).at ≡ old.at = ap (λ (f : Frame). f.at) (top_is c.self.inside c.self.invariant c.args.self.now c.self.view_is c.args.slot c.requires.slot old c.get_mut-frame.ensures.value) in
+    omega (arith, there, c.requires.place)
+
+pub replace-requires-clause-enough : goal.replace-requires-clause-enough
+replace-requires-clause-enough c =
+    let old = c.get_mut-frame.result.now in
+    let long : length (top_at c.args.self.now c.args.slot).operands ≡ length old.operands =
+    ap (λ (f : Frame). length f.operands) (top_is c.self.inside c.self.invariant c.args.self.now c.self.view_is c.args.slot c.requires.slot old c.get_mut-frame.ensures.value)
+    in
+    omega (arith, long, c.requires.enough)
+
+pub replace-requires-clause-room : goal.replace-requires-clause-room
+replace-requires-clause-room c =
+    let old = c.get_mut-frame.result.now in
+    let long : length (top_at c.args.self.now c.args.slot).operands ≡ length old.operands =
+    ap (λ (f : Frame). length f.operands) (top_is c.self.inside c.self.invariant c.args.self.now c.self.view_is c.args.slot c.requires.slot old c.get_mut-frame.ensures.value)
+    in
+    omega (arith, long, c.requires.room)
+
+pub invariant_of-self : goal.invariant_of-self
+invariant_of-self c =
+    let old = c.get_mut-frame.result.now in
+    top_kept c.self.inside c.self.invariant c.args.self.now c.self.view_is c.args.slot c.requires.slot c.replace.new.self
+
+pub returns : goal.returns
+returns c =
+    let old = c.get_mut-frame.result.now in
+    top_put c.self.inside c.self.invariant c.args.self.now c.self.view_is c.args.slot c.requires.slot old c.replace.new.self
+    (λ (f : Frame). record f { at = suc f.at; operands = c.args.value ∷ dropped c.args.count f.operands }) c.get_mut-frame.ensures.value
+    (ap frame_of c.replace.ensures)
