@@ -1,13 +1,13 @@
 -- A machine that has made an event still stands for a configuration, on the same mesh.
 use Rattle.std.proofs.Common.{◌≡◌, ◌∙◌}
-use Rattle.pool_syntax.specs.declared.words.Event.{Event}
-use Rattle.pool_syntax.specs.declared.words.Line.{Line}
-use Rattle.pool_syntax.specs.declared.words.Placement.{Placement}
+use Rattle.run_words.specs.declared.words.Event.{Event}
+use Rattle.run_words.specs.declared.words.Line.{Line}
+use Rattle.run_words.specs.declared.words.Placement.{Placement}
 use Rattle.mesh_semantics.specs.Act.{Acted, Acts, Full, Nothing}
 use Rattle.coded_objects.specs.Coded.{Placed}
 use Rattle.pool_machine.specs.MachineOf.{MachineOf}
 use Rattle.pool_machine.specs.Answers.{IsOutcome}
-use Rattle.pool_machine.specs.declared.words.Outcome.TheVariants as O
+use Rattle.pool_machine.specs.AnswerOf as O
 use Rattle.layer_tests.specs.Running.{IsRunning}
 
 pub still_running : (l : Placement) (old new : MachineOf) (e : Event) (line : Line) (a : Acted Placed) → old.placement ≡ l → IsOutcome e old (O.Line line) new a → IsRunning l new

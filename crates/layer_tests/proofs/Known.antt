@@ -1,10 +1,10 @@
 -- A text of a table stands at its number.
 use Rattle.std.proofs.Common.{◌≡◌, ◌<◌, ◌≤◌, ◌↔◌, ℕ, Bool, true, false, List, [], ◌∷◌, Option, Some, None, IfSome, length, slice_get, refl, sym, ap, subst, arith}
-use Rattle.pool_syntax.specs.Tokens.{Text}
-use Rattle.pool_syntax.specs.Table.{is_among, name_of}
-use Rattle.pool_syntax.specs.declared.words.NameId.{NameId}
-use Rattle.pool_syntax.proofs.Texts.{text_at_place}
-use Rattle.record_lines.specs.RecordText.{text_at, text_or_none}
+use Rattle.run_words.specs.Text.{Text}
+use Rattle.run_words.specs.Table.{is_among, name_of, text_or_none}
+use Rattle.run_words.specs.declared.words.NameId.{NameId}
+use Rattle.run_words.proofs.Laws.{text_at_place}
+use Rattle.record_lines.specs.RecordText.{text_at}
 use Rattle.record_lines.specs.Writable.{IsShort}
 
 below : (names : List Text) (w : Text) → is_among names w ≡ true → name_of names w < length names

@@ -1,6 +1,6 @@
 -- A machine of a placement that stands for some configuration.
 use Rattle.std.specs.Prelude.{◌≡◌}
-use Rattle.pool_syntax.specs.declared.words.Placement.{Placement}
+use Rattle.run_words.specs.declared.words.Placement.{Placement}
 use Rattle.mesh_semantics.specs.Config.{Config}
 use Rattle.mesh_semantics.specs.Delay.{Delay}
 use Rattle.coded_objects.specs.Coded.{Placed}

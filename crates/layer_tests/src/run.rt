@@ -1,20 +1,20 @@
 //! The record of a call between two nodes.
 ghost use Rattle.std.specs.Prelude.{◌≤◌, length, IfOk, IfSome};
-ghost use Rattle.object_code.specs.Proper.{IsProper};
-ghost use Rattle.object_code.specs.Suits.{Suits};
+ghost use Rattle.code_semantics.specs.Proper.{IsProper};
+ghost use Rattle.code_semantics.specs.Suits.{Suits};
 ghost use Rattle.layer_tests.specs.Running.{IsRunning};
 
 use crate::told::{id_of_line, is_of_mesh, known};
 use class_check::check;
-use object_code::Unit;
+use code_semantics::Unit;
 use placement_reader::read_placement;
 use pool_compile::compile;
 use pool_lexer::tokens;
 use pool_machine::{Machine, Outcome};
 use pool_outside::MemSink;
 use pool_parser::parse;
-use pool_syntax::{End, Line, Names, Placement};
 use run_record::write_line;
+use run_words::{End, Line, Names, Placement};
 use schedule_reader::{Schedule, read_schedule};
 use std::alloc::{AllocError, Global};
 use std::test::Fail;

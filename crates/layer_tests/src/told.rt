@@ -1,11 +1,11 @@
 //! What the calls of a run ask of events and of lines, told at run time.
 ghost use Rattle.std.specs.Prelude.{◌≡◌, ◌≤◌, Bool, IfSome, length, true};
-ghost use Rattle.mesh_semantics.specs.Paths.{is_cut};
+ghost use Rattle.run_words.specs.Paths.{is_cut};
 ghost use Rattle.pool_machine.specs.Answers.{IsOfMesh, IsServed};
 ghost use Rattle.record_lines.specs.Writable.{IsShort, id_of_item, id_of_label, id_of_line, id_of_what};
 
 use mesh_routing::Mesh;
-use pool_syntax::{Event, Item, Label, Line, LinkId, NameId, Names, Placement, What};
+use run_words::{Event, Item, Label, Line, LinkId, NameId, Names, Placement, What};
 
 /// Whether the link is one of the missing ones.
 fn is_cut(cuts: &[LinkId], from: u32, to: u32) -> bool

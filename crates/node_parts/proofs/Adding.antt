@@ -4,16 +4,17 @@ use Rattle.std.specs.Prelude.{slice_get, slice_set, nat_le}
 use Rattle.std.specs.Option.{option_map}
 use Rattle.std.proofs.lemmas.List.{length_push, take_more_set, get_or_push, length-set}
 use Rattle.std.proofs.lemmas.Bool.Decides.{nat_tests}
-use Rattle.pool_syntax.specs.declared.words.Value.{Value}
-use Rattle.object_code.specs.declared.unit.CodeObject.{CodeObject}
-use Rattle.object_code.specs.declared.unit.ClassCode.{ClassCode}
-use Rattle.object_code.specs.declared.unit.Unit.{Unit as Code}
-use Rattle.object_code.specs.Step.{padded, at_rest, code_placed, placed_of}
-use Rattle.object_code.specs.Suits.{most_vars}
-use Rattle.unit_objects.specs.OfUnit.{FitsUnit, IsAtStep, AnyValue, forget}
-use Rattle.unit_objects.proofs.Laws.{forget_placed}
-use Rattle.mesh_semantics.specs.Sound.{Each}
-use Rattle.mesh_semantics.proofs.Laws.{decide, same_some}
+use Rattle.run_words.specs.declared.words.Value.{Value}
+use Rattle.run_words.specs.declared.frames.CodeObject.{CodeObject}
+use Rattle.code_semantics.specs.declared.unit.ClassCode.{ClassCode}
+use Rattle.code_semantics.specs.declared.unit.Unit.{Unit as Code}
+use Rattle.run_words.specs.Operands.{padded}
+use Rattle.code_semantics.specs.Step.{at_rest, code_placed, placed_of}
+use Rattle.code_semantics.specs.Suits.{most_vars}
+use Rattle.code_semantics.specs.OfUnit.{FitsUnit, IsAtStep, AnyValue, forget}
+use Rattle.code_semantics.proofs.Laws.{forget_placed}
+use Rattle.run_words.specs.Tables.{Each}
+use Rattle.run_words.proofs.Laws.{decide, same_some}
 use Rattle.node_heap.specs.Heaps.{HeapOf, object_at, put_object, no_object, unbegun, body_frame}
 use Rattle.object_interp.specs.Rest.{settled_at}
 use Rattle.mailbox.specs.declared.Message.{Message}

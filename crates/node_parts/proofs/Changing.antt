@@ -2,19 +2,19 @@
 use Rattle.std.proofs.Common.{◌≡◌, ◌≢◌, ◌⊎◌, inl, inr, refl, sym, ap, ap₂, subst, ◌∙◌, ℕ, zero, suc, ◌+◌, ◌<◌, ◌≤◌, List, [], ◌∷◌, length, take, get_or, map, Option, Some, None, Bool, true, arith}
 use Rattle.std.specs.Prelude.{slice_get, slice_set}
 use Rattle.std.proofs.lemmas.List.{length-set, get_or-set_same, get_or-set_other}
-use Rattle.pool_syntax.specs.declared.words.Error.{Error}
-use Rattle.object_code.specs.declared.unit.CodeObject.{CodeObject}
-use Rattle.object_code.specs.declared.unit.Unit.{Unit as Code}
-use Rattle.object_code.specs.Kinds as C
-use Rattle.object_code.specs.Kinds.{code_kind}
-use Rattle.unit_objects.specs.OfUnit.{FitsUnit, IsAtStep, AnyValue, forget_kind}
-use Rattle.unit_objects.proofs.Laws.{forget_of, forget_at_step, forget_code_kind}
+use Rattle.run_words.specs.declared.words.Error.{Error}
+use Rattle.run_words.specs.declared.frames.CodeObject.{CodeObject}
+use Rattle.code_semantics.specs.declared.unit.Unit.{Unit as Code}
+use Rattle.code_semantics.specs.Kinds as C
+use Rattle.code_semantics.specs.Kinds.{code_kind}
+use Rattle.code_semantics.specs.OfUnit.{FitsUnit, IsAtStep, AnyValue, forget_kind}
+use Rattle.code_semantics.proofs.Laws.{forget_of, forget_at_step, forget_code_kind}
 use Rattle.node_heap.specs.Heaps.{object_at, no_object}
 use Rattle.mailbox.specs.declared.Message.{Message}
 use Rattle.coded_objects.specs.Coded.{Placed, coded, kind_of}
-use Rattle.mesh_semantics.proofs.Laws.{decide, same_some}
+use Rattle.run_words.proofs.Laws.{decide, same_some}
 use Rattle.node_semantics.specs.Node.{Slot, NodeState, can_go, name_at, set_at, placed}
-use Rattle.node_semantics.specs.Requests.{posts_request}
+use Rattle.mesh_semantics.specs.Requests.{posts_request}
 use Rattle.node_semantics.specs.Agrees.{IsUnused}
 use Rattle.node_semantics.proofs.NamesAndSlots.{set_same, set_other}
 use Rattle.node_parts.specs.declared.parts.Parts.{Parts}

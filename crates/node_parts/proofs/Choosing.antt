@@ -1,7 +1,7 @@
 -- The first alternative that is possible.
 use Rattle.std.proofs.Common.{◌≡◌, refl, sym, ap, subst, ◌∙◌, ℕ, zero, suc, ◌+◌, ◌<◌, ◌≤◌, List, [], ◌∷◌, length, drop, Some, None, true, false, if◌then◌else◌, add-one, arith}
 use Rattle.std.specs.Prelude.{slice_get}
-use Rattle.object_code.specs.Kinds.{Offered}
+use Rattle.code_semantics.specs.Kinds.{Offered}
 use Rattle.object_interp.specs.Offers.{offer_at}
 use Rattle.mailbox.specs.declared.Message.{Message}
 use Rattle.node_parts.specs.Choices.{may_go, first_of_these}

@@ -7,23 +7,23 @@ use Rattle.std.proofs.lemmas.Bool.Decides.{nat_tests}
 use Rattle.object_interp.specs.Offers.{IsAsking}
 use Rattle.std.specs.Option.{option_map}
 use Rattle.std.proofs.lemmas.List.{set-get_or, get_or-set_same}
-use Rattle.pool_syntax.specs.declared.words.NameId.{NameId}
-use Rattle.pool_syntax.specs.declared.words.Value.{Value}
-use Rattle.pool_syntax.specs.declared.words.Error.{Error}
-use Rattle.pool_syntax.specs.declared.words.Serves.{Serves}
-use Rattle.object_code.specs.declared.unit.CodeObject.{CodeObject}
-use Rattle.object_code.specs.declared.unit.Unit.{Unit as Code}
-use Rattle.object_code.specs.Kinds as C
-use Rattle.object_code.specs.Kinds.{code_kind}
-use Rattle.object_code.specs.Step.{code_given, code_gone_on, code_picked, code_serving}
-use Rattle.unit_objects.specs.OfUnit.{FitsUnit, IsAtStep, forget, forget_serves}
-use Rattle.unit_objects.proofs.Laws.{forget_given, forget_gone_on, forget_picked, forget_serving}
+use Rattle.run_words.specs.declared.words.NameId.{NameId}
+use Rattle.run_words.specs.declared.words.Value.{Value}
+use Rattle.run_words.specs.declared.words.Error.{Error}
+use Rattle.run_words.specs.declared.words.Serves.{Serves}
+use Rattle.run_words.specs.declared.frames.CodeObject.{CodeObject}
+use Rattle.code_semantics.specs.declared.unit.Unit.{Unit as Code}
+use Rattle.code_semantics.specs.Kinds as C
+use Rattle.code_semantics.specs.Kinds.{code_kind}
+use Rattle.code_semantics.specs.Step.{code_given, code_gone_on, code_picked, code_serving}
+use Rattle.code_semantics.specs.OfUnit.{FitsUnit, IsAtStep, forget, forget_serves}
+use Rattle.code_semantics.proofs.Laws.{forget_given, forget_gone_on, forget_picked, forget_serving}
 use Rattle.node_heap.specs.Heaps.{HeapOf, object_at, put_object, no_object}
 use Rattle.mailbox.specs.declared.Message.{Message}
 use Rattle.mailbox.specs.Mail.{Mail, box_of, with_box}
 use Rattle.coded_objects.specs.Coded.{Placed, coded, kind_of}
 use Rattle.node_semantics.specs.Node.{Slot, NumberedArrival, name_at}
-use Rattle.node_semantics.specs.Requests.{posts_request, is_at_once}
+use Rattle.mesh_semantics.specs.Requests.{posts_request, is_at_once}
 use Rattle.node_semantics.specs.Agrees.{IsUnused}
 use Rattle.node_parts.specs.declared.parts.Parts.{Parts}
 use Rattle.node_parts.specs.OfUnit.{IsOfUnit}

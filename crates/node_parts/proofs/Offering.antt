@@ -1,32 +1,34 @@
 -- What an object of code offers, as the machine sees it.
-use Rattle.std.proofs.Common.{◌≡◌, refl, sym, ap, ◌∙◌, ℕ, ◌+◌, ◌==◌, List, [], ◌∷◌, length, Option, Some, None, is_some, Bool, true, false, ◌||◌, if◌then◌else◌}
+use Rattle.std.proofs.Common.{◌≡◌, refl, sym, ap, subst, ◌∙◌, ℕ, ◌+◌, ◌==◌, List, [], ◌∷◌, length, Option, Some, None, is_some, Bool, true, false, ◌||◌, if◌then◌else◌}
 use Rattle.std.specs.Prelude.{slice_get, position}
 use Rattle.std.specs.Option.{unwrap_or}
 use Rattle.std.specs.List.{list_any, position_from}
 use Rattle.std.proofs.lemmas.Iterator.Adapters.{position_from-zero}
-use Rattle.pool_syntax.specs.declared.words.NameId.{NameId}
-use Rattle.pool_syntax.specs.declared.words.Value.{Value}
-use Rattle.pool_syntax.specs.declared.words.Value.TheVariants as V
-use Rattle.pool_syntax.specs.declared.words.Serves.{Serves}
-use Rattle.pool_syntax.specs.declared.words.Serves.TheVariants as S
-use Rattle.pool_syntax.specs.declared.words.Error.{Error}
-use Rattle.pool_syntax.specs.declared.words.Error.TheVariants.{NilOperand, NoOpenGuard}
-use Rattle.pool_syntax.specs.declared.words.Item.{Item}
-use Rattle.pool_syntax.specs.Values.{Outcome, Gives, Fails, WrongSort, is_bool, is_true, not_bool}
-use Rattle.object_code.specs.declared.unit.Instr.{Instr}
-use Rattle.object_code.specs.declared.unit.Instr.TheVariants as I
-use Rattle.object_code.specs.declared.unit.AltCode.{AltCode}
-use Rattle.object_code.specs.declared.unit.ClassCode.{ClassCode}
-use Rattle.object_code.specs.declared.unit.Unit.{Unit as Code}
-use Rattle.object_code.specs.declared.unit.Frame.{Frame}
-use Rattle.object_code.specs.declared.unit.CodeObject.{CodeObject}
-use Rattle.object_code.specs.Frames.{code_of, top, dropped, taken}
-use Rattle.object_code.specs.Kinds as C
-use Rattle.object_code.specs.Kinds.{Kind, Offered, offers, operated, outcome_kind, sent_kind, return_kind, select_kind, instr_kind, frames_kind, code_kind}
-use Rattle.object_code.specs.Step.{class_from}
+use Rattle.run_words.specs.declared.words.NameId.{NameId}
+use Rattle.run_words.specs.declared.words.Value.{Value}
+use Rattle.run_words.specs.declared.words.Value.TheVariants as V
+use Rattle.run_words.specs.declared.words.Serves.{Serves}
+use Rattle.run_words.specs.declared.words.Serves.TheVariants as S
+use Rattle.run_words.specs.declared.words.Error.{Error}
+use Rattle.run_words.specs.declared.words.Error.TheVariants.{NilOperand, NoOpenGuard}
+use Rattle.run_words.specs.declared.words.Item.{Item}
+use Rattle.run_words.specs.Values.{Outcome, Gives, Fails, WrongSort, is_bool, is_true, not_bool}
+use Rattle.code_semantics.specs.declared.unit.Instr.{Instr}
+use Rattle.code_semantics.specs.declared.unit.Instr.TheVariants as I
+use Rattle.code_semantics.specs.declared.unit.AltCode.{AltCode}
+use Rattle.code_semantics.specs.declared.unit.ClassCode.{ClassCode}
+use Rattle.code_semantics.specs.declared.unit.Unit.{Unit as Code}
+use Rattle.run_words.specs.declared.frames.Frame.{Frame}
+use Rattle.run_words.specs.declared.frames.CodeObject.{CodeObject}
+use Rattle.code_semantics.specs.Frames.{code_of}
+use Rattle.run_words.specs.Operands.{top, dropped, taken}
+use Rattle.code_semantics.specs.Kinds as C
+use Rattle.code_semantics.specs.Kinds.{Kind, Offered, offers, operated, outcome_kind, sent_kind, return_kind, select_kind, instr_kind, frames_kind, code_kind}
+use Rattle.code_semantics.specs.Step.{class_from}
+use Rattle.code_semantics.proofs.Stepping.{if_never}
 use Rattle.object_interp.specs.declared.words.Need.TheVariants as N
 use Rattle.object_interp.specs.declared.words.Hand.TheVariants as H
-use Rattle.object_interp.specs.Offers.{IsChoosing, IsSelecting, instr_offers, frames_offers, offers_at, hand_of}
+use Rattle.object_interp.specs.Offers.{IsChoosing, IsSelecting, instr_offers, frames_offers, offers_at, hand_of, steps_alone}
 use Rattle.mesh_semantics.specs.Kind as K
 use Rattle.mesh_semantics.specs.Kind.{Alternative, has_name, answered}
 use Rattle.mesh_semantics.specs.Delay.{Arrival}
@@ -150,6 +152,37 @@ selecting_chooses _ h = absurd h
 pub can_choose : (u : Code) (x : CodeObject) (box : List Message) → IsChoosing (code_kind u x)
     → is_some (first_of_these box 1 (offers_at u x)) ≡ can_step (arrivals (arrivals_of box)) (kind_of (code_kind u x))
 can_choose u x box h = sym (any_possible box 1 (offers_at u x)) ∙ ap (λ k. can_step (arrivals (arrivals_of box)) k) (sym (choosing_kind u x h))
+
+-- an object that steps alone can step
+pub alone_can : (box : List Arrival) (k : Kind) → steps_alone k ≡ true → can_step box (kind_of k) ≡ true
+alone_can box C.Finished h = absurd (cc)
+alone_can box (C.Answer names) h = absurd (cc)
+alone_can box (C.Select alts) h = absurd (cc)
+alone_can box _ h = refl
+
+over_instr : (f : Frame) (i : Option Instr) → instr_kind f i ≡ C.Finished → instr_offers f i ≡ []
+over_instr f (Some (I.Answer names)) h = absurd (cc)
+over_instr f (Some (I.Select alts)) h =
+    let vs = taken (length alts) f.operands [] in
+    absurd (if_never (λ k. k ≡ C.Finished) (list_any not_bool vs) _ _ (λ e. cc) (if_never (λ k. k ≡ C.Finished) (list_any is_true vs) _ _ (λ e. cc) (λ e. cc)) h)
+over_instr f _ h = refl
+
+-- an object that is over offers nothing
+over_frames : (k : Option ClassCode) (fs : List Frame) → frames_kind k fs ≡ C.Finished → frames_offers k fs ≡ []
+over_frames k [] h = refl
+over_frames k (f ∷ fs) h = over_instr f (slice_get (code_of k f.method) f.at) h
+
+-- another object can step where an alternative is possible
+pub else_can : (u : Code) (x : CodeObject) (box : List Message) → steps_alone (code_kind u x) ≡ false
+    → is_some (first_of_these box 1 (offers_at u x)) ≡ can_step (arrivals (arrivals_of box)) (kind_of (code_kind u x))
+else_can u x box h = by (code_kind u x) refl h
+  where
+    by : (k : Kind) → code_kind u x ≡ k → steps_alone k ≡ false → is_some (first_of_these box 1 (offers_at u x)) ≡ can_step (arrivals (arrivals_of box)) (kind_of (code_kind u x))
+    by C.Finished e h =
+        ap (λ os. is_some (first_of_these box 1 os)) (over_frames (slice_get u.classes x.class) x.frames e) ∙ ap (λ k. can_step (arrivals (arrivals_of box)) (kind_of k)) (sym e)
+    by (C.Answer names) e h = can_choose u x box (subst IsChoosing (sym e) tt)
+    by (C.Select alts) e h = can_choose u x box (subst IsChoosing (sym e) tt)
+    by _ e h = absurd (cc)
 
 pub hand_local : (u : Code) (k : Kind) → H.Local ≡ hand_of u k → k ≡ C.Local
 hand_local u C.Local h = refl

@@ -1,8 +1,8 @@
 -- What a step of a node changes: one slot, or a slot more.
 use Rattle.std.specs.Prelude.{◌≡◌, ℕ, List, [], ◌∷◌, ◌++◌, length, Option, Some, None, slice_set}
-use Rattle.pool_syntax.specs.declared.words.Serves.{Serves}
-use Rattle.pool_syntax.specs.declared.words.Serves.TheVariants as S
-use Rattle.object_code.specs.declared.unit.Unit.{Unit as Code}
+use Rattle.run_words.specs.declared.words.Serves.{Serves}
+use Rattle.run_words.specs.declared.words.Serves.TheVariants as S
+use Rattle.code_semantics.specs.declared.unit.Unit.{Unit as Code}
 use Rattle.coded_objects.specs.Coded.{Placed, coded}
 use Rattle.node_semantics.specs.Node.{Slot, can_go, fresh_slot, set_at}
 use Rattle.node_parts.specs.declared.parts.Parts.{Parts}

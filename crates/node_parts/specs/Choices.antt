@@ -1,7 +1,7 @@
 -- The alternatives of an object, by the messages that are there.
 use Rattle.std.specs.Prelude.{ℕ, ◌+◌, List, [], ◌∷◌, Option, Some, None, is_some, Bool, false, ◌||◌, if◌then◌else◌, position}
-use Rattle.pool_syntax.specs.declared.words.NameId.{NameId}
-use Rattle.object_code.specs.Kinds.{Offered}
+use Rattle.run_words.specs.declared.words.NameId.{NameId}
+use Rattle.code_semantics.specs.Kinds.{Offered}
 use Rattle.object_interp.specs.Offers.{is_open_plain, open_names}
 use Rattle.mailbox.specs.declared.Message.{Message}
 use Rattle.mailbox.specs.Mail.{is_named}

@@ -1,9 +1,9 @@
 -- How the logic stores the state of a node of objects of code.
 use Rattle.std.specs.Prelude.{ℕ, Bool, List, Option, refl}
 use Rattle.std.specs.Coded.{Coded, code_by, coded×, coded_bool, coded_list, coded_option, coded_ℕ}
-use Rattle.pool_syntax.specs.declared.words.Value.{Value}
-use Rattle.pool_syntax.specs.declared.words.Error.{Error}
-use Rattle.object_code.specs.declared.unit.CodeObject.{CodeObject}
+use Rattle.run_words.specs.declared.words.Value.{Value}
+use Rattle.run_words.specs.declared.words.Error.{Error}
+use Rattle.run_words.specs.declared.frames.CodeObject.{CodeObject}
 use Rattle.coded_objects.specs.Coded.{Placed}
 use Rattle.node_semantics.specs.Node.{NodeState, NumberedArrival, Slot}
 

@@ -1,13 +1,13 @@
 -- When a node is of a unit, and of a placement: `make` gives this, and each call keeps it.
 use Rattle.std.specs.Prelude.{◌≡◌, ℕ, ◌*◌, ◌<◌, Some, None, true, length, map, slice_get}
-use Rattle.pool_syntax.specs.declared.words.Placement.{Placement}
-use Rattle.object_code.specs.declared.unit.Unit.{Unit as Code}
-use Rattle.object_code.specs.Proper.{IsProper}
-use Rattle.object_code.specs.Suits.{Suits, most_vars}
-use Rattle.unit_objects.specs.OfUnit.{FitsUnit, IsAtStep}
+use Rattle.run_words.specs.declared.words.Placement.{Placement}
+use Rattle.code_semantics.specs.declared.unit.Unit.{Unit as Code}
+use Rattle.code_semantics.specs.Proper.{IsProper}
+use Rattle.code_semantics.specs.Suits.{Suits, most_vars}
+use Rattle.code_semantics.specs.OfUnit.{FitsUnit, IsAtStep}
 use Rattle.coded_objects.specs.Coded.{Placed, coded}
 use Rattle.node_semantics.specs.Node.{Slot, can_go, name_at, placed}
-use Rattle.node_semantics.specs.Requests.{posts_request}
+use Rattle.mesh_semantics.specs.Requests.{posts_request}
 use Rattle.node_parts.specs.NodeOf.{NodeOf}
 
 -- a slot whose object has frames of the unit and stands at a step instruction; while a request of it is out it is at a new object or a call

@@ -1,12 +1,12 @@
 -- What is seen of the parts of a node: its slots, one for each object of the heap.
 use Rattle.std.specs.Prelude.{◌≡◌, ℕ, ◌≤◌, ◌∷◌, List, [], Option, None, is_some, length, get_or, slice_set, take}
-use Rattle.pool_syntax.specs.declared.words.Error.{Error}
-use Rattle.pool_syntax.specs.declared.words.Serves.{Serves}
-use Rattle.pool_syntax.specs.declared.words.Serves.TheVariants as S
-use Rattle.object_code.specs.declared.unit.CodeObject.{CodeObject}
-use Rattle.object_code.specs.declared.unit.Frame.{Frame}
-use Rattle.object_code.specs.declared.unit.Unit.{Unit as Code}
-use Rattle.unit_objects.specs.OfUnit.{forget}
+use Rattle.run_words.specs.declared.words.Error.{Error}
+use Rattle.run_words.specs.declared.words.Serves.{Serves}
+use Rattle.run_words.specs.declared.words.Serves.TheVariants as S
+use Rattle.run_words.specs.declared.frames.CodeObject.{CodeObject}
+use Rattle.run_words.specs.declared.frames.Frame.{Frame}
+use Rattle.code_semantics.specs.declared.unit.Unit.{Unit as Code}
+use Rattle.code_semantics.specs.OfUnit.{forget}
 use Rattle.coded_objects.specs.Coded.{Placed, coded}
 use Rattle.node_semantics.specs.Node.{NumberedArrival, Slot, can_go}
 use Rattle.mailbox.specs.declared.Message.{Message}

@@ -1,15 +1,15 @@
 //! The alternatives of an object that are possible.
 ghost use Rattle.std.specs.Prelude.{◌≡◌, ◌<◌, length};
-ghost use Rattle.object_code.specs.Proper.{IsProper};
-ghost use Rattle.unit_objects.specs.OfUnit.{FitsUnit, IsAtStep};
+ghost use Rattle.code_semantics.specs.Proper.{IsProper};
+ghost use Rattle.code_semantics.specs.OfUnit.{FitsUnit, IsAtStep};
 ghost use Rattle.mailbox.specs.Mail.{box_of};
 ghost use Rattle.node_heap.specs.Heaps.{object_at};
 ghost use Rattle.object_interp.specs.Offers.{offer_at, offers_at, open_names};
 ghost use Rattle.node_parts.specs.Choices.{first_of_these, may_go, place_called};
 
+use code_semantics::Unit;
 use mailbox::Mailbox;
 use node_heap::Heap;
-use object_code::Unit;
 use object_interp::{alts, answer_names, plain_alt};
 
 /// Whether alternative `alt` of a slot is open, and plain or on a method of a message that is there.

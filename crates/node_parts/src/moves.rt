@@ -1,12 +1,12 @@
 //! The small changes of a node: each changes one slot, and its bit.
 ghost use Rattle.std.specs.Prelude.{◌≡◌, ◌↔◌, ℕ, ◌<◌, ◌++◌, ◌∷◌, [], true, None, Some, Err, IfOk, OnOk, OnErr, length, get_or, slice_get, remove};
 ghost use Rattle.std.specs.List.{list_any};
-ghost use Rattle.pool_syntax.specs.declared.words.Value as V;
-ghost use Rattle.object_code.specs.Kinds as C;
-ghost use Rattle.object_code.specs.Kinds.{code_kind};
-ghost use Rattle.object_code.specs.Step.{code_placed, code_serving};
-ghost use Rattle.object_code.specs.declared.unit.CodeObject.{CodeObject};
-ghost use Rattle.unit_objects.specs.OfUnit.{forget};
+ghost use Rattle.run_words.specs.declared.words.Value as V;
+ghost use Rattle.code_semantics.specs.Kinds as C;
+ghost use Rattle.code_semantics.specs.Kinds.{code_kind};
+ghost use Rattle.code_semantics.specs.Step.{code_placed, code_serving};
+ghost use Rattle.run_words.specs.declared.frames.CodeObject.{CodeObject};
+ghost use Rattle.code_semantics.specs.OfUnit.{forget};
 ghost use Rattle.mailbox.specs.declared.Message.{Message as OneMessage};
 ghost use Rattle.object_interp.specs.Offers.{IsChoosing, IsSelecting, answers_to, is_open_plain, offer_at, offers_at, open_names};
 ghost use Rattle.coded_objects.specs.Coded.{coded, kind_of, placed};
@@ -14,18 +14,18 @@ ghost use Rattle.node_heap.specs.Heaps.{frames_used, object_at};
 ghost use Rattle.mailbox.specs.Mail.{box_of, lengths};
 ghost use Rattle.node_semantics.specs.Node.{name_at};
 ghost use Rattle.node_semantics.specs.Agrees.{IsUnused};
-ghost use Rattle.node_semantics.specs.Requests.{is_at_once, posts_request};
+ghost use Rattle.mesh_semantics.specs.Requests.{is_at_once, posts_request};
 ghost use Rattle.rendezvous_protocol.specs.Numbers.{is_number};
 ghost use Rattle.node_parts.specs.OfUnit.{IsOfUnit};
 ghost use Rattle.node_parts.specs.Views.{IsWhole, arrival_of, arrivals_of, node_of, number_by, slot_at, tail_of};
 ghost use Rattle.node_parts.specs.Changes.{IsAdded, IsChanged, serves_for_call};
 
 use crate::parts::{Parts, refresh};
+use code_semantics::Unit;
 use mailbox::Message;
 use node_heap::HeapFull;
-use object_code::Unit;
 use object_interp::{enter, go_on, pick, resume_with, to_step};
-use pool_syntax::{Error, Serves, Value};
+use run_words::{Error, Serves, Value};
 
 /// Goes on with the object of a slot after a message was sent or a value written.
 pub fn go_on_in(unit: &Unit, parts: &mut Parts, slot: u32)
@@ -48,7 +48,8 @@ pub fn return_in(unit: &Unit, parts: &mut Parts, slot: u32)
     requires slot { slot < length parts.old.heap.objects }
     requires free { get_or parts.old.outstanding slot None ≡ None }
     requires returns { (caller number : ℕ) × (value : V.Value) × (code_kind unit.now (object_at parts.old.heap slot) ≡ C.Return caller number value) }
-    ensures { IsChanged unit.now parts.old parts.new slot (record (slot_at parts.old slot) { state = (coded unit.now).returned (slot_at parts.old slot).state; callers = tail_of (slot_at parts.old slot).callers }) }
+    ensures { IsChanged unit.now parts.old parts.new slot
+        (record (slot_at parts.old slot) { state = (coded unit.now).returned (slot_at parts.old slot).state; callers = tail_of (slot_at parts.old slot).callers }) }
 {
     go_on(unit, &mut parts.heap, slot);
     refresh(unit, parts, slot);
@@ -143,10 +144,17 @@ pub fn serve_in(unit: &Unit, parts: &mut Parts, slot: u32, alt: u32, place: usiz
     requires free { get_or parts.old.outstanding slot None ≡ None }
     requires choosing { IsChoosing (code_kind unit.now (object_at parts.old.heap slot)) }
     requires place { place < length (box_of parts.old.mailbox slot) }
-    requires answers { (m : OneMessage) → slice_get (box_of parts.old.mailbox slot) place ≡ Some m → answers_to (open_names (offer_at (offers_at unit.now (object_at parts.old.heap slot)) alt)) m.method ≡ true }
+    requires answers { (m : OneMessage) → slice_get (box_of parts.old.mailbox slot) place ≡ Some m
+        → answers_to (open_names (offer_at (offers_at unit.now (object_at parts.old.heap slot)) alt)) m.method ≡ true }
     requires frames { frames_used parts.old.heap < parts.old.heap.most_frames }
     ensures message { slice_get (box_of parts.old.mailbox slot) place ≡ Some result }
-    ensures changed { (y : CodeObject) × (code_serving unit.now (object_at parts.old.heap slot) alt result.method result.args (serves_for_call result.from result.call) ≡ Some y) × IsChanged unit.now parts.old parts.new slot (record (slot_at parts.old slot) { state = record (slot_at parts.old slot).state { object = forget y }; callers = number_by (serves_for_call result.from result.call) (slot_at parts.old slot).callers; mailbox = arrivals_of (remove (box_of parts.old.mailbox slot) place) }) }
+    ensures changed { (y : CodeObject) × (code_serving unit.now (object_at parts.old.heap slot) alt result.method result.args (serves_for_call result.from result.call) ≡ Some y)
+        × IsChanged unit.now parts.old parts.new slot
+        (record (slot_at parts.old slot) {
+          state = record (slot_at parts.old slot).state { object = forget y };
+          callers = number_by (serves_for_call result.from result.call) (slot_at parts.old slot).callers;
+          mailbox = arrivals_of (remove (box_of parts.old.mailbox slot) place);
+        }) }
 {
     let message = parts.mailbox.take(slot, place);
     let serves = serves(&message);

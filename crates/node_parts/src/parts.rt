@@ -1,8 +1,8 @@
 //! The parts of a node, and the bits that say which objects can step.
 ghost use Rattle.std.specs.Prelude.{◌≡◌, ◌<◌, length};
-ghost use Rattle.object_code.specs.Proper.{IsProper};
-ghost use Rattle.unit_objects.specs.OfUnit.{FitsUnit, IsAtStep};
-ghost use Rattle.object_code.specs.Kinds.{code_kind};
+ghost use Rattle.code_semantics.specs.Proper.{IsProper};
+ghost use Rattle.code_semantics.specs.OfUnit.{FitsUnit, IsAtStep};
+ghost use Rattle.code_semantics.specs.Kinds.{code_kind};
 ghost use Rattle.mesh_semantics.specs.Act.{can_step};
 ghost use Rattle.node_semantics.specs.Node.{arrivals, can_go};
 ghost use Rattle.coded_objects.specs.Coded.{coded, kind_of};
@@ -11,13 +11,13 @@ ghost use Rattle.node_heap.specs.Heaps.{object_at};
 ghost use Rattle.node_parts.specs.Views.{arrivals_of, refreshed, slot_at};
 
 use crate::choice::first_possible;
+use code_semantics::Unit;
 use mailbox::Mailbox;
 use node_heap::Heap;
-use object_code::Unit;
-use object_interp::{Hand, Need, at_hand};
-use pool_syntax::{Error, List};
+use object_interp::can_step_alone;
 use ready_set::ReadySet;
 use rendezvous_protocol::Outstanding;
+use run_words::{Error, List};
 
 /// What a node has. For each slot there is the error that its object has met, the node to which its last request for a
 /// new object went, and whether it can step; for each class the number of objects that were made of it.
@@ -44,13 +44,10 @@ fn can_step_now(unit: &Unit, parts: &Parts, slot: u32) -> bool
     requires rests { IsAtStep unit.now (object_at parts.now.heap slot) }
     ensures { result ≡ can_step (arrivals (arrivals_of (box_of parts.now.mailbox slot))) (kind_of (code_kind unit.now (object_at parts.now.heap slot))) }
 {
-    match at_hand(unit, &parts.heap, slot) {
-        Hand::Local => true,
-        Hand::At(Need::Halted) => false,
-        Hand::At(Need::Answer) => first_possible(unit, &parts.heap, &parts.mailbox, slot).is_some(),
-        Hand::At(Need::Select) => first_possible(unit, &parts.heap, &parts.mailbox, slot).is_some(),
-        Hand::At(_) => true,
+    if can_step_alone(unit, &parts.heap, slot) {
+        return true;
     }
+    first_possible(unit, &parts.heap, &parts.mailbox, slot).is_some()
 }
 
 /// Whether the object of a slot can go: no request of it is out, it has met no error, and it can make a step.

@@ -5,11 +5,11 @@ use Rattle.std.specs.List.{list_all}
 use Rattle.std.specs.Map.{values_of}
 use Rattle.std.specs.BTreeMap.{BTreeMap, IsOrdered}
 use Rattle.std.proofs.lemmas.Map.Entries.{btree_map_get_place}
-use Rattle.mesh_semantics.specs.Tables.{Pair, pair_cmp}
+use Rattle.run_words.specs.Tables.{Pair, pair_cmp}
 use Rattle.mesh_semantics.specs.KeptWire.{KeptWire}
-use Rattle.node_semantics.specs.Node.{NumberedPacket}
+use Rattle.mesh_semantics.specs.Delay.{NumberedPacket}
 use Rattle.node_semantics.specs.Machine.{are_acknowledged, kept_at}
-use Rattle.node_semantics.proofs.LinkMaps.{pair_total}
+use Rattle.run_words.proofs.Laws.{pair_total}
 use Rattle.rendezvous_protocol.specs.declared.packet.Packet.{Packet}
 use Rattle.pool_machine.specs.MachineOf.{LinkWires, numbered_wire, numbered_wires}
 use Rattle.pool_machine.specs.OnWires.{is_done}

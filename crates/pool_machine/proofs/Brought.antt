@@ -1,7 +1,6 @@
 -- Packets that bring an object its value.
 use Rattle.std.proofs.Common.{◌≡◌, refl, ℕ, ◌≤◌, List, [], ◌∷◌, length, false, arith}
-use Rattle.mesh_semantics.specs.Tables.{Pair, list_at, pair_cmp}
-use Rattle.node_semantics.specs.Machine.{leaving}
+use Rattle.run_words.specs.Tables.{Pair, list_at, pair_cmp, leaving}
 use Rattle.rendezvous_protocol.specs.declared.packet.Packet.{Packet}
 use Rattle.pool_machine.specs.Told.{is_brought}
 use Rattle.pool_machine.proofs.NumberedLinks.{list_within}

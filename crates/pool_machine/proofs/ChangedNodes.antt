@@ -4,11 +4,10 @@ use Rattle.std.specs.Prelude.{slice_get}
 use Rattle.std.specs.Option.{option_map}
 use Rattle.std.proofs.lemmas.Option.{slice_get-map, slice_get-get_or}
 use Rattle.std.proofs.lemmas.List.{length-set}
-use Rattle.pool_syntax.specs.declared.words.Placement.{Placement}
-use Rattle.object_code.specs.declared.unit.Unit.{Unit as Code}
-use Rattle.mesh_semantics.specs.Tables.{Pair, no_entry_empty}
-use Rattle.mesh_semantics.specs.Sound.{Each}
-use Rattle.mesh_semantics.proofs.Laws.{same_some, decide}
+use Rattle.run_words.specs.declared.words.Placement.{Placement}
+use Rattle.code_semantics.specs.declared.unit.Unit.{Unit as Code}
+use Rattle.run_words.specs.Tables.{Pair, no_entry_empty, Each}
+use Rattle.run_words.proofs.Laws.{same_some, decide}
 use Rattle.node_semantics.specs.Node.{NodeState, set_at}
 use Rattle.coded_objects.specs.Coded.{Placed}
 use Rattle.mesh_routing.specs.Links.{LinksOf}

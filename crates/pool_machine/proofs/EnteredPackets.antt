@@ -4,29 +4,28 @@ use Rattle.std.specs.Prelude.{slice_get}
 use Rattle.std.specs.FinMap.{put}
 use Rattle.std.specs.Option.{unwrap_or}
 use Rattle.std.proofs.lemmas.List.{length-append, length-map}
-use Rattle.pool_syntax.specs.declared.words.Event.{Event}
-use Rattle.pool_syntax.specs.declared.words.Event.TheVariants as Ev
-use Rattle.pool_syntax.specs.declared.words.What.{What}
-use Rattle.pool_syntax.specs.declared.words.WireAct.{WireAct}
-use Rattle.pool_syntax.specs.declared.words.WireAct.TheVariants as A
-use Rattle.pool_syntax.specs.declared.words.FullKind.TheVariants as F
-use Rattle.pool_syntax.specs.declared.words.What.TheVariants as W
-use Rattle.pool_syntax.specs.declared.words.Placement.{Placement}
-use Rattle.object_code.specs.declared.unit.Unit.{Unit as Code}
+use Rattle.run_words.specs.declared.words.Event.{Event}
+use Rattle.run_words.specs.declared.words.Event.TheVariants as Ev
+use Rattle.run_words.specs.declared.words.What.{What}
+use Rattle.run_words.specs.declared.words.WireAct.{WireAct}
+use Rattle.run_words.specs.declared.words.WireAct.TheVariants as A
+use Rattle.run_words.specs.declared.words.FullKind.TheVariants as F
+use Rattle.run_words.specs.declared.words.What.TheVariants as W
+use Rattle.run_words.specs.declared.words.Placement.{Placement}
+use Rattle.code_semantics.specs.declared.unit.Unit.{Unit as Code}
 use Rattle.mesh_semantics.specs.Act.{goal_node}
-use Rattle.mesh_semantics.specs.Delay.{Wires}
+use Rattle.mesh_semantics.specs.Delay.{Wires, NumberedPacket}
 use Rattle.mesh_semantics.specs.Language.{Language}
-use Rattle.mesh_semantics.specs.Paths.{next}
-use Rattle.mesh_semantics.specs.Tables.{Pair, list_at, pair_cmp, push_list, put_list}
+use Rattle.run_words.specs.Paths.{next}
+use Rattle.run_words.specs.Tables.{Pair, list_at, pair_cmp, push_list, put_list, leaving}
 use Rattle.mesh_semantics.specs.Wire.{Coming, Empty, Stale, Next, Frame, twice, frame_number, ack_number, lose, late, greater}
 use Rattle.mesh_semantics.specs.KeptWire.{KeptWire, empty_kept, with_fresh, fresh_in, kept_act, kept_coming, kept_hear_number, kept_launch, kept_send_number, kept_take, kept_take_frame, kept_wanted, with_kept_acks, with_kept_frames}
-use Rattle.mesh_semantics.proofs.Laws.{find_pair_other, find_pair_same}
+use Rattle.run_words.proofs.Laws.{find_pair_other, find_pair_same, listed_here, listed_there, pushed_here, pushed_there}
 use Rattle.node_semantics.specs.Node as N
-use Rattle.node_semantics.specs.Node.{NodeActed, NodeState, NumberedPacket, message_count, receipt_act, turn_act}
+use Rattle.node_semantics.specs.Node.{NodeActed, NodeState, message_count, receipt_act, turn_act}
 use Rattle.node_semantics.specs.Machine as M
-use Rattle.node_semantics.specs.Machine.{KeptWires, Machine, MachineActed, after_node, come, kept_at, kept_move, kept_turn, leaving, machine_act, move_in, post_packet, turn_in, with_kept}
+use Rattle.node_semantics.specs.Machine.{KeptWires, Machine, MachineActed, after_node, come, kept_at, kept_move, kept_turn, machine_act, move_in, post_packet, turn_in, with_kept}
 use Rattle.node_semantics.specs.WiresStandFor.{WiresStandFor}
-use Rattle.node_semantics.proofs.LinkMaps.{listed_here, listed_there, pushed_here, pushed_there}
 use Rattle.node_semantics.proofs.PostedLinks.{decide_link}
 use Rattle.coded_objects.specs.Coded.{coded}
 use Rattle.rendezvous_protocol.specs.declared.packet.Packet.{Packet}

@@ -1,17 +1,17 @@
 -- What an event of a machine leads to.
 use Rattle.std.proofs.Common.{◌≡◌, refl, sym, ap, ap₂, subst, ◌∙◌, ℕ, ◌+◌, ◌≤◌, List, length, Option, is_some}
-use Rattle.pool_syntax.specs.declared.words.Event.{Event}
-use Rattle.pool_syntax.specs.declared.words.Event.TheVariants as Ev
-use Rattle.pool_syntax.specs.declared.words.What.{What}
-use Rattle.pool_syntax.specs.declared.words.FullKind.{FullKind}
-use Rattle.pool_syntax.specs.declared.words.Line.TheVariants as R
-use Rattle.pool_syntax.specs.declared.words.Placement.{Placement}
-use Rattle.object_code.specs.declared.unit.Unit.{Unit as Code}
+use Rattle.run_words.specs.declared.words.Event.{Event}
+use Rattle.run_words.specs.declared.words.Event.TheVariants as Ev
+use Rattle.run_words.specs.declared.words.What.{What}
+use Rattle.run_words.specs.declared.words.FullKind.{FullKind}
+use Rattle.run_words.specs.declared.words.Line.TheVariants as R
+use Rattle.run_words.specs.declared.words.Placement.{Placement}
+use Rattle.code_semantics.specs.declared.unit.Unit.{Unit as Code}
 use Rattle.mesh_semantics.specs.Config.{Config}
 use Rattle.mesh_semantics.specs.Delay.{Delay}
 use Rattle.mesh_semantics.specs.Act.{act}
 use Rattle.mesh_semantics.specs.Record.{shown}
-use Rattle.mesh_semantics.specs.Tables.{Pair}
+use Rattle.run_words.specs.Tables.{Pair}
 use Rattle.node_semantics.specs.Machine as M
 use Rattle.node_semantics.specs.Machine.{MachineActed}
 use Rattle.node_semantics.specs.WiresStandFor.{StandsFor}
@@ -24,9 +24,9 @@ use Rattle.pool_machine.specs.MachineOf.{LinkWires, MachineOf}
 use Rattle.pool_machine.specs.Parts.{AreParts}
 use Rattle.pool_machine.specs.OnWires.{AreWired, EachEntered, HaveWires, IsDidOn, Makes, machine_on}
 use Rattle.pool_machine.specs.Answers.{IsOfMesh, IsOutcome, Stands, moved}
-use Rattle.pool_machine.specs.declared.words.Did.{Did}
-use Rattle.pool_machine.specs.declared.words.Did.TheVariants as D
-use Rattle.pool_machine.specs.declared.words.Outcome.TheVariants as O
+use Rattle.pool_machine.specs.DidOf.{Did}
+use Rattle.pool_machine.specs.DidOf as D
+use Rattle.pool_machine.specs.AnswerOf as O
 use Rattle.pool_machine.proofs.EnteredPackets.{entered_more}
 use Rattle.pool_machine.proofs.PostedPackets.{Following, follows, stays}
 

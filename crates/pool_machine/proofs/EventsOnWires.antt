@@ -2,23 +2,24 @@
 use Rattle.std.proofs.Common.{◌≡◌, ◌≢◌, ◌⊎◌, inl, inr, refl, sym, ap, ap₂, subst, ◌∙◌, ℕ, ◌+◌, ◌==◌, List, [], ◌∷◌, map, Option, Some, None, is_some, Bool, true, false, if◌then◌else◌, nat_lt}
 use Rattle.std.specs.Prelude.{slice_get}
 use Rattle.std.specs.FinMap.{put}
-use Rattle.pool_syntax.specs.declared.words.Event.TheVariants as Ev
-use Rattle.pool_syntax.specs.declared.words.What.{What}
-use Rattle.pool_syntax.specs.declared.words.What.TheVariants as W
-use Rattle.pool_syntax.specs.declared.words.WireAct.{WireAct}
-use Rattle.pool_syntax.specs.declared.words.FullKind.TheVariants as F
-use Rattle.pool_syntax.specs.declared.words.Placement.{Placement}
-use Rattle.object_code.specs.declared.unit.Unit.{Unit as Code}
+use Rattle.run_words.specs.declared.words.Event.TheVariants as Ev
+use Rattle.run_words.specs.declared.words.What.{What}
+use Rattle.run_words.specs.declared.words.What.TheVariants as W
+use Rattle.run_words.specs.declared.words.WireAct.{WireAct}
+use Rattle.run_words.specs.declared.words.FullKind.TheVariants as F
+use Rattle.run_words.specs.declared.words.Placement.{Placement}
+use Rattle.code_semantics.specs.declared.unit.Unit.{Unit as Code}
 use Rattle.mesh_semantics.specs.Act.{goal_node}
 use Rattle.mesh_semantics.specs.Language.{Language}
-use Rattle.mesh_semantics.specs.Tables.{Pair, list_at, pair_cmp, put_list}
+use Rattle.run_words.specs.Tables.{Pair, list_at, pair_cmp, put_list, leaving}
 use Rattle.mesh_semantics.specs.Wire.{Coming, Empty, Stale, Next}
 use Rattle.mesh_semantics.specs.KeptWire.{KeptWire, kept_act, kept_coming, kept_take}
-use Rattle.mesh_semantics.proofs.Laws.{find_pair_other, find_pair_same}
+use Rattle.run_words.proofs.Laws.{find_pair_other, find_pair_same}
 use Rattle.node_semantics.specs.Node as N
-use Rattle.node_semantics.specs.Node.{NodeActed, NodeState, NumberedPacket, message_count, receipt_act, turn_act}
+use Rattle.node_semantics.specs.Node.{NodeActed, NodeState, message_count, receipt_act, turn_act}
+use Rattle.mesh_semantics.specs.Delay.{NumberedPacket}
 use Rattle.node_semantics.specs.Machine as M
-use Rattle.node_semantics.specs.Machine.{KeptWires, Machine, MachineActed, after_node, come, kept_at, kept_move, kept_turn, leaving, machine_act, move_in, turn_in, with_kept}
+use Rattle.node_semantics.specs.Machine.{KeptWires, Machine, MachineActed, after_node, come, kept_at, kept_move, kept_turn, machine_act, move_in, turn_in, with_kept}
 use Rattle.node_semantics.specs.Agrees.{IsFresh}
 use Rattle.node_semantics.proofs.PostedLinks.{decide_link}
 use Rattle.coded_objects.specs.Coded.{Placed, coded}
@@ -31,8 +32,8 @@ use Rattle.wire_link.specs.declared.wire.Arrived.TheVariants as R
 use Rattle.pool_machine.specs.MachineOf.{LinkWires, numbered_wires}
 use Rattle.pool_machine.specs.Parts.{IsDid, machine_from}
 use Rattle.pool_machine.specs.OnWires.{IsDidOn, IsToldAt, Makes, has_wire, machine_on, wire_of}
-use Rattle.pool_machine.specs.declared.words.Did.{Did}
-use Rattle.pool_machine.specs.declared.words.Did.TheVariants as D
+use Rattle.pool_machine.specs.DidOf.{Did}
+use Rattle.pool_machine.specs.DidOf as D
 use Rattle.pool_machine.proofs.NumberedLinks.{list_numbered}
 use Rattle.pool_machine.proofs.NumberedWires.{act_numbered, coming_numbered, kept_numbered, numbered_coming, numbered_result, put_numbered, take_numbered}
 

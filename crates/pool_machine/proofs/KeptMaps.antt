@@ -10,10 +10,10 @@ use Rattle.std.specs.BTreeMap.{insert_entry, is_at}
 use Rattle.std.specs.List.Sorted.{IsStrictlySortedBy}
 use Rattle.std.proofs.lemmas.Map.{lookup-none}
 use Rattle.std.proofs.lemmas.Map.Entries.{none_below_head}
-use Rattle.mesh_semantics.specs.Tables.{Pair, pair_cmp}
+use Rattle.run_words.specs.Tables.{Pair, pair_cmp}
 use Rattle.mesh_semantics.specs.KeptWire.{KeptWire, empty_kept}
-use Rattle.node_semantics.proofs.LinkMaps.{pair_total}
-use Rattle.pool_syntax.specs.declared.words.What.{What}
+use Rattle.run_words.proofs.Laws.{pair_total}
+use Rattle.run_words.specs.declared.words.What.{What}
 use Rattle.rendezvous_protocol.specs.declared.packet.Packet.{Packet}
 use Rattle.pool_machine.specs.MachineOf.{LinkWires}
 use Rattle.pool_machine.specs.OnWires.{IsTold, IsToldAt, has_wire, wire_of}

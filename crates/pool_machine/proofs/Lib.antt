@@ -16,3 +16,4 @@ pub mod EnteredPackets
 pub mod KeptMaps
 pub mod NewWires
 pub mod Acknowledged
+pub mod QuietMachines

@@ -2,9 +2,9 @@
 use Rattle.std.proofs.Common.{◌≡◌, ◌≢◌, ◌⊎◌, inl, inr, sym, subst, ◌∙◌, ap, ℕ, ◌+◌, List, [], ◌∷◌, ◌++◌, length, Some}
 use Rattle.std.specs.Prelude.{slice_get}
 use Rattle.std.proofs.lemmas.List.{length_push}
-use Rattle.pool_syntax.specs.declared.words.Placement.{Placement}
-use Rattle.object_code.specs.declared.unit.Unit.{Unit as Code}
-use Rattle.mesh_semantics.proofs.Laws.{decide, same_some}
+use Rattle.run_words.specs.declared.words.Placement.{Placement}
+use Rattle.code_semantics.specs.declared.unit.Unit.{Unit as Code}
+use Rattle.run_words.proofs.Laws.{decide, same_some}
 use Rattle.node_semantics.proofs.NamesAndSlots.{last_there, front_there}
 use Rattle.node_parts.specs.NodeOf.{NodeOf}
 use Rattle.pool_machine.specs.Whole.{AreEmpty, IsEmptyNode}

@@ -1,23 +1,24 @@
 -- What the move of a link's head is for the whole machine.
 use Rattle.std.proofs.Common.{◌≡◌, ◌≢◌, inl, inr, refl, sym, ap, ap₂, subst, ◌∙◌, ℕ, ◌+◌, ◌*◌, ◌<◌, ◌≤◌, ◌==◌, List, [], ◌∷◌, length, map, set, get_or, drop, Option, Some, None, Bool, true, false, if◌then◌else◌, nat_lt, arith}
 use Rattle.std.specs.Prelude.{slice_get}
-use Rattle.pool_syntax.specs.declared.words.Event.TheVariants as Ev
-use Rattle.pool_syntax.specs.declared.words.What.{What}
-use Rattle.pool_syntax.specs.declared.words.What.TheVariants as W
-use Rattle.pool_syntax.specs.declared.words.FullKind.{FullKind}
-use Rattle.pool_syntax.specs.declared.words.FullKind.TheVariants as F
-use Rattle.pool_syntax.specs.declared.words.Placement.{Placement}
-use Rattle.object_code.specs.declared.unit.Unit.{Unit as Code}
-use Rattle.mesh_semantics.specs.Tables.{Pair, list_at, pair_cmp, push_list, put_list}
-use Rattle.mesh_semantics.specs.Paths.{AreNeighbours, IsLink, next, on_link}
+use Rattle.run_words.specs.declared.words.Event.TheVariants as Ev
+use Rattle.run_words.specs.declared.words.What.{What}
+use Rattle.run_words.specs.declared.words.What.TheVariants as W
+use Rattle.run_words.specs.declared.words.FullKind.{FullKind}
+use Rattle.run_words.specs.declared.words.FullKind.TheVariants as F
+use Rattle.run_words.specs.declared.words.Placement.{Placement}
+use Rattle.code_semantics.specs.declared.unit.Unit.{Unit as Code}
+use Rattle.run_words.specs.Tables.{Pair, list_at, pair_cmp, push_list, put_list, Each, leaving}
+use Rattle.run_words.specs.Paths.{AreNeighbours, IsLink, next, on_link}
 use Rattle.mesh_semantics.specs.Act.{goal_node}
 use Rattle.mesh_semantics.specs.Delay as Del
-use Rattle.mesh_semantics.specs.Sound.{Each, IsPlaced}
-use Rattle.mesh_semantics.proofs.Laws.{equal, equals, same_some}
+use Rattle.mesh_semantics.specs.Sound.{IsPlaced}
+use Rattle.run_words.proofs.Laws.{equal, equals, same_some}
 use Rattle.node_semantics.specs.Node as N
-use Rattle.node_semantics.specs.Node.{NodeState, NodeActed, NumberedPacket, created_for, frames_in, message_count, packet_count, receipt, receipt_act, within_node}
+use Rattle.node_semantics.specs.Node.{NodeState, NodeActed, created_for, frames_in, message_count, packet_count, receipt, receipt_act, within_node}
+use Rattle.mesh_semantics.specs.Delay.{NumberedPacket}
 use Rattle.node_semantics.specs.Machine as M
-use Rattle.node_semantics.specs.Machine.{Machine, MachineActed, after_node, come, leaving, machine_act, move_in, post_packet}
+use Rattle.node_semantics.specs.Machine.{Machine, MachineActed, after_node, come, machine_act, move_in, post_packet}
 use Rattle.node_semantics.specs.Receives.{IsReceivable}
 use Rattle.node_semantics.specs.StandsFor.{packets}
 use Rattle.node_semantics.proofs.Laws.{head_is_receivable}
@@ -30,11 +31,11 @@ use Rattle.mesh_routing.specs.Links.{LinksOf}
 use Rattle.node_parts.specs.NodeOf.{NodeOf}
 use Rattle.node_parts.specs.OfUnit.{IsOfUnit}
 use Rattle.pool_node.specs.Acts.{IsActOf}
-use Rattle.pool_node.specs.declared.words.Act.{Act}
-use Rattle.pool_node.specs.declared.words.Act.TheVariants as T
+use Rattle.pool_node.specs.ActOf.{Act}
+use Rattle.pool_node.specs.ActOf as T
 use Rattle.pool_machine.specs.MachineOf.{numbered_link}
 use Rattle.pool_machine.specs.Parts.{AreKept, AreParts, IsDid, machine_from}
-use Rattle.pool_machine.specs.declared.words.Did.TheVariants as D
+use Rattle.pool_machine.specs.DidOf as D
 use Rattle.pool_machine.proofs.NumberedLinks.{leaving_numbered, list_numbered, listed_elsewhere, listed_filled, listed_numbered, pushed_filled}
 use Rattle.pool_machine.proofs.ChangedNodes.{parts_moved, state_there}
 use Rattle.pool_machine.proofs.PostedPackets.{each_on, few_objects, posted, within_room}

@@ -2,16 +2,17 @@
 use Rattle.std.proofs.Common.{◌≡◌, ◌≢◌, ◌⊎◌, inl, inr, refl, sym, ap, subst, ◌∙◌, ℕ, ◌+◌, ◌*◌, ◌<◌, ◌≤◌, List, [], length, map, Option, Some, None, is_some, Bool, true, false, arith}
 use Rattle.std.specs.FinMap.{put}
 use Rattle.std.specs.Option.{unwrap_or}
-use Rattle.pool_syntax.specs.declared.words.Placement.{Placement}
-use Rattle.object_code.specs.declared.unit.Unit.{Unit as Code}
+use Rattle.run_words.specs.declared.words.Placement.{Placement}
+use Rattle.code_semantics.specs.declared.unit.Unit.{Unit as Code}
 use Rattle.mesh_semantics.specs.Config.{Config}
 use Rattle.mesh_semantics.specs.Delay.{no_delay}
-use Rattle.mesh_semantics.specs.Paths.{AreNeighbours}
+use Rattle.run_words.specs.Paths.{AreNeighbours}
 use Rattle.mesh_semantics.specs.Sound.{IsSound}
-use Rattle.mesh_semantics.specs.Tables.{Pair, list_at, pair_cmp}
+use Rattle.run_words.specs.Tables.{Pair, list_at, pair_cmp}
 use Rattle.mesh_semantics.specs.Wire.{empty_wire}
 use Rattle.mesh_semantics.specs.KeptWire.{KeptWire, empty_kept}
-use Rattle.mesh_semantics.proofs.Laws.{facts_empty, find_pair_other, find_pair_same}
+use Rattle.mesh_semantics.proofs.Laws.{facts_empty}
+use Rattle.run_words.proofs.Laws.{find_pair_other, find_pair_same}
 use Rattle.node_semantics.specs.WiresStandFor.{StandsFor}
 use Rattle.node_semantics.proofs.PostedLinks.{decide_link}
 use Rattle.coded_objects.specs.Coded.{Placed, coded}

@@ -1,24 +1,25 @@
 -- What an event leads to, for a machine of code: what it stands for then, and where a packet goes that was posted in it.
 use Rattle.std.proofs.Common.{◌≡◌, ◌≢◌, refl, sym, ap, ap₂, subst, ◌∙◌, ℕ, ◌+◌, ◌*◌, ◌<◌, ◌≤◌, ◌==◌, List, [], ◌∷◌, ◌++◌, length, Option, Some, None, Bool, true, false, if◌then◌else◌, nat_lt, arith}
-use Rattle.pool_syntax.specs.declared.words.Event.{Event}
-use Rattle.pool_syntax.specs.declared.words.What.{What}
-use Rattle.pool_syntax.specs.declared.words.FullKind.{FullKind}
-use Rattle.pool_syntax.specs.declared.words.Placement.{Placement}
-use Rattle.object_code.specs.declared.unit.Unit.{Unit as Code}
-use Rattle.object_code.specs.Proper.{IsProper}
-use Rattle.object_code.specs.Suits.{Suits}
-use Rattle.mesh_semantics.specs.Tables.{Pair, pair_cmp, list_at}
+use Rattle.run_words.specs.declared.words.Event.{Event}
+use Rattle.run_words.specs.declared.words.What.{What}
+use Rattle.run_words.specs.declared.words.FullKind.{FullKind}
+use Rattle.run_words.specs.declared.words.Placement.{Placement}
+use Rattle.code_semantics.specs.declared.unit.Unit.{Unit as Code}
+use Rattle.code_semantics.specs.Proper.{IsProper}
+use Rattle.code_semantics.specs.Suits.{Suits}
+use Rattle.run_words.specs.Tables.{Pair, pair_cmp, list_at, Each}
 use Rattle.mesh_semantics.specs.Language.{Language}
 use Rattle.mesh_semantics.specs.Config.{Config}
-use Rattle.mesh_semantics.specs.Delay.{Packet, Delay}
-use Rattle.mesh_semantics.specs.Paths.{next, on_link, is_link}
+use Rattle.mesh_semantics.specs.Delay.{Packet, Delay, NumberedPacket}
+use Rattle.run_words.specs.Paths.{next, on_link, is_link}
 use Rattle.mesh_semantics.specs.Act as A
 use Rattle.mesh_semantics.specs.Act.{Acted, act, goal_node}
 use Rattle.mesh_semantics.specs.Kept.{After}
-use Rattle.mesh_semantics.specs.Sound.{Each, IsPlaced, IsSound}
-use Rattle.mesh_semantics.proofs.Laws.{first, second, equal, act_kept, fit_of, push_list_same}
+use Rattle.mesh_semantics.specs.Sound.{IsPlaced, IsSound}
+use Rattle.run_words.proofs.Laws.{first, second, equal, push_list_same}
+use Rattle.mesh_semantics.proofs.Laws.{act_kept, fit_of}
 use Rattle.node_semantics.specs.Node as N
-use Rattle.node_semantics.specs.Node.{NodeState, NodeActed, NumberedPacket, Slot, frames_in, message_count, packet_count, slot_act, slot_in_turn, turn_act, turn_of_slot, within_node, name_at}
+use Rattle.node_semantics.specs.Node.{NodeState, NodeActed, Slot, frames_in, message_count, packet_count, slot_act, slot_in_turn, turn_act, turn_of_slot, within_node, name_at}
 use Rattle.node_semantics.specs.Machine as M
 use Rattle.node_semantics.specs.Machine.{Machine, machine_act, post_packet}
 use Rattle.node_semantics.specs.StandsFor.{packets}

@@ -6,7 +6,7 @@ use Rattle.std.specs.Option.{option_map}
 use Rattle.std.proofs.lemmas.Option.{slice_get-map, slice_get_within}
 use Rattle.mesh_semantics.specs.Act.{first_of}
 use Rattle.mesh_semantics.specs.Language.{Language}
-use Rattle.mesh_semantics.proofs.Laws.{same_some}
+use Rattle.run_words.proofs.Laws.{same_some}
 use Rattle.node_semantics.specs.Node.{NodeState, ready_slots}
 use Rattle.node_semantics.specs.Machine.{any_ready}
 use Rattle.coded_objects.specs.Coded.{Placed}

@@ -1,20 +1,20 @@
 -- A machine that was just made stands for the start.
 use Rattle.std.proofs.Common.{◌≡◌, refl, sym, ap, ap₂, subst, ◌∙◌, ℕ, zero, suc, ◌*◌, ◌<◌, ◌≤◌, List, [], ◌∷◌, length, map, set, replicate, Option, Some, None, Bool, arith}
 use Rattle.std.specs.Prelude.{slice_get}
-use Rattle.pool_syntax.specs.declared.words.Place.{Place}
-use Rattle.pool_syntax.specs.declared.words.Place.TheVariants as Pl
-use Rattle.pool_syntax.specs.declared.words.Placement.{Placement}
-use Rattle.object_code.specs.declared.unit.Unit.{Unit as Code}
-use Rattle.object_code.specs.Proper.{IsProper}
-use Rattle.object_code.specs.Suits.{Suits}
+use Rattle.run_words.specs.declared.words.Place.{Place}
+use Rattle.run_words.specs.declared.words.Place.TheVariants as Pl
+use Rattle.run_words.specs.declared.words.Placement.{Placement}
+use Rattle.code_semantics.specs.declared.unit.Unit.{Unit as Code}
+use Rattle.code_semantics.specs.Proper.{IsProper}
+use Rattle.code_semantics.specs.Suits.{Suits}
 use Rattle.mesh_semantics.specs.Config.{Config}
-use Rattle.mesh_semantics.specs.Delay.{no_delay, node_of}
+use Rattle.mesh_semantics.specs.Delay.{no_delay, NumberedPacket}
+use Rattle.run_words.specs.ObjectNames.{node_of}
 use Rattle.mesh_semantics.specs.Fit.{Fit}
 use Rattle.mesh_semantics.specs.Record.{last_place, root_name, root_node, start}
-use Rattle.mesh_semantics.specs.Sound.{Each}
-use Rattle.mesh_semantics.specs.Tables.{Pair, no_entry_empty}
+use Rattle.run_words.specs.Tables.{Each, Pair, no_entry_empty}
 use Rattle.mesh_semantics.proofs.Laws.{fit_of}
-use Rattle.node_semantics.specs.Node.{NodeState, NumberedPacket, fresh_slot, set_at}
+use Rattle.node_semantics.specs.Node.{NodeState, fresh_slot, set_at}
 use Rattle.node_semantics.specs.Machine.{empty_node, start_with}
 use Rattle.node_semantics.specs.WiresStandFor.{StandsFor, StartAgrees}
 use Rattle.node_semantics.proofs.Laws.{start_agrees}

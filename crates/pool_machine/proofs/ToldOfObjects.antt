@@ -6,21 +6,22 @@ use Rattle.std.specs.Ordering.{eq_by_cmp}
 use Rattle.std.specs.List.{list_any}
 use Rattle.std.specs.FinMap.Entries.{find}
 use Rattle.std.proofs.lemmas.Option.{get_or_from_slice_get, slice_get_within}
-use Rattle.pool_syntax.specs.declared.words.Placement.{Placement}
-use Rattle.object_code.specs.declared.unit.ClassCode.{ClassCode}
-use Rattle.object_code.specs.declared.unit.Unit.{Unit as Code}
+use Rattle.run_words.specs.declared.words.Placement.{Placement}
+use Rattle.code_semantics.specs.declared.unit.ClassCode.{ClassCode}
+use Rattle.code_semantics.specs.declared.unit.Unit.{Unit as Code}
 use Rattle.mesh_semantics.specs.Config.{Config, object_of}
-use Rattle.mesh_semantics.specs.Delay.{Delay, held, arrived_at, node_of, slot_of}
+use Rattle.mesh_semantics.specs.Delay.{Delay, held, arrived_at, NumberedPacket}
+use Rattle.run_words.specs.ObjectNames.{node_of, slot_of}
 use Rattle.mesh_semantics.specs.Delay as Del
 use Rattle.mesh_semantics.specs.Act.{is_quiet, object_count}
-use Rattle.mesh_semantics.specs.Paths.{AreNeighbours, is_link, on_link}
-use Rattle.mesh_semantics.specs.Partial.{◌>>=◌}
-use Rattle.mesh_semantics.specs.Sound.{Each, IsPlaced, IsSound}
+use Rattle.run_words.specs.Paths.{AreNeighbours, is_link, on_link}
+use Rattle.run_words.specs.Partial.{◌>>=◌}
+use Rattle.run_words.specs.Tables.{Each, Pair, has_some, list_at, no_entry_empty, pair_cmp}
+use Rattle.mesh_semantics.specs.Sound.{IsPlaced, IsSound}
 use Rattle.mesh_semantics.specs.Standing as S
 use Rattle.mesh_semantics.specs.Standing.{Standing, standing}
-use Rattle.mesh_semantics.specs.Tables.{Pair, has_some, list_at, pair_cmp}
-use Rattle.mesh_semantics.proofs.Laws.{both, equals, same_some}
-use Rattle.node_semantics.specs.Node.{NodeState, NumberedPacket, Slot, name_at}
+use Rattle.run_words.proofs.Laws.{both, equals, same_some}
+use Rattle.node_semantics.specs.Node.{NodeState, Slot, name_at}
 use Rattle.node_semantics.specs.Machine.{any_faulted, any_ready, are_acknowledged, is_machine_quiet}
 use Rattle.node_semantics.specs.Standings.{brings, is_on_way, machine_standing, slot_standing, standing_in}
 use Rattle.node_semantics.specs.StandsFor.{AtName, MachineStandsFor, packets, slot_at, slot_in}
@@ -118,37 +119,38 @@ fails_at b k (z ∷ ls) (suc i) e own at h = by (is_link k.0 k.1 z.0) h (fails_a
     by true g r = r (neither (b z.1) (list_any b (on_link ls k)) g).1
     by false g r = r g
 
--- quiet
-module _ (u : Code) (l : Placement) (nodes : List NodeOf) (k : LinksOf Packet) (parts : AreParts u l nodes k) (ws : Option LinkWires) (c : Config Placed) (d : Delay)
-    (sound : IsSound (coded u) (IsOfCode u) l c d) (st : StandsFor (coded u) l (machine_on nodes k.links ws) c d) where
-  quiet_is : is_machine_quiet (coded u) (machine_on nodes k.links ws) ≡ is_quiet (coded u) c d
-  quiet_is =
-      quiet_agrees (coded u) (IsOfCode u) (code_lawful u parts.proper) (code_requests u) l (machine_on nodes k.links ws) c d sound.state st.state
-      (acknowledged_same (option_map numbered_wires ws) d.wires (map numbered_link k.links) st.wires)
-
-  pub quiet_told : (empty acked ready : Bool) → (IsTrue empty ↔ (k.links ≡ [])) → acked ≡ are_acknowledged (option_map numbered_wires ws)
-      → ready ≡ any_ready (coded u) 0 (map (λ n. n.state) nodes) → (empty && (acked && not ready)) ≡ is_quiet (coded u) c d
+-- quiet, by what nodes, links and wires tell
+module _ (u : Code) (nodes : List NodeOf) (links : List (Pair × List Packet)) (filled : no_entry_empty links ≡ true) (ws : Option LinkWires) where
+  quiet_told : (empty acked ready : Bool) → (IsTrue empty ↔ (links ≡ [])) → acked ≡ are_acknowledged (option_map numbered_wires ws)
+      → ready ≡ any_ready (coded u) 0 (map (λ n. n.state) nodes) → (empty && (acked && not ready)) ≡ is_machine_quiet (coded u) (machine_on nodes links ws)
   quiet_told empty acked ready iff a r =
-      ap₂ (λ x y. x && (y && not ready)) same a ∙ ap (λ z. not (list_any (λ (e : Pair × List NumberedPacket). has_some e.1) (map numbered_link k.links)) && (are_acknowledged (option_map numbered_wires ws) && not z)) r ∙ quiet_is
+      ap₂ (λ x y. x && (y && not ready)) same a ∙ ap (λ z. not (list_any (λ (e : Pair × List NumberedPacket). has_some e.1) (map numbered_link links)) && (are_acknowledged (option_map numbered_wires ws) && not z)) r
     where
-      by : (b : Bool) → empty ≡ b → (es : List (Pair × List Packet)) → k.links ≡ es → b ≡ not (has_some es)
+      by : (b : Bool) → empty ≡ b → (es : List (Pair × List Packet)) → links ≡ es → b ≡ not (has_some es)
       by true e [] i = refl
       by false e [] i = let t : empty ≡ true = iff.1 i in sym e ∙ t
       by true e (x ∷ es) i = absurd (let z : [] ≡ x ∷ es = sym (iff.0 e) ∙ i in cc)
       by false e (x ∷ es) i = refl
 
-      same : empty ≡ not (list_any (λ (e : Pair × List NumberedPacket). has_some e.1) (map numbered_link k.links))
-      same = by empty refl k.links refl ∙ ap not (sym (any_filled k.links parts.filled))
+      same : empty ≡ not (list_any (λ (e : Pair × List NumberedPacket). has_some e.1) (map numbered_link links))
+      same = by empty refl links refl ∙ ap not (sym (any_filled links filled))
 
   grouped : (a b r : Bool) → ((a && b) && r) ≡ (a && (b && r))
   grouped true b r = refl
   grouped false b r = refl
 
   -- what is known of links and wires together
-  pub settled_told : (empty settled ready : Bool) → (IsTrue empty ↔ (k.links ≡ [])) → settled ≡ (empty && are_acknowledged (option_map numbered_wires ws))
-      → ready ≡ any_ready (coded u) 0 (map (λ n. n.state) nodes) → (settled && not ready) ≡ is_quiet (coded u) c d
+  pub settled_told : (empty settled ready : Bool) → (IsTrue empty ↔ (links ≡ [])) → settled ≡ (empty && are_acknowledged (option_map numbered_wires ws))
+      → ready ≡ any_ready (coded u) 0 (map (λ n. n.state) nodes) → (settled && not ready) ≡ is_machine_quiet (coded u) (machine_on nodes links ws)
   settled_told empty settled ready iff e r =
       ap (λ b. b && not ready) e ∙ grouped empty (are_acknowledged (option_map numbered_wires ws)) (not ready) ∙ quiet_told empty (are_acknowledged (option_map numbered_wires ws)) ready iff refl r
+
+-- and of the configuration that they stand for
+pub quiet_is : (u : Code) (l : Placement) (nodes : List NodeOf) (k : LinksOf Packet) (parts : AreParts u l nodes k) (ws : Option LinkWires) (c : Config Placed) (d : Delay)
+    → IsSound (coded u) (IsOfCode u) l c d → StandsFor (coded u) l (machine_on nodes k.links ws) c d → is_machine_quiet (coded u) (machine_on nodes k.links ws) ≡ is_quiet (coded u) c d
+quiet_is u l nodes k parts ws c d sound st =
+    quiet_agrees (coded u) (IsOfCode u) (code_lawful u parts.proper) (code_requests u) l (machine_on nodes k.links ws) c d sound.state st.state
+    (acknowledged_same (option_map numbered_wires ws) d.wires (map numbered_link k.links) st.wires)
 
 -- what stands for it, with wires left out of sight
 pub state_of : (u : Code) (l : Placement) (nodes : List NodeOf) (links : List (Pair × List Packet)) (ws : Option LinkWires) (c : Config Placed) (d : Delay)

@@ -3,19 +3,20 @@ use Rattle.std.proofs.Common.{◌≡◌, ◌≢◌, refl, sym, ap, ap₂, subst,
 use Rattle.std.specs.Prelude.{slice_get}
 use Rattle.std.specs.Option.{option_map}
 use Rattle.std.proofs.lemmas.Option.{slice_get-get_or}
-use Rattle.pool_syntax.specs.declared.words.Event.TheVariants as Ev
-use Rattle.pool_syntax.specs.declared.words.What.{What}
-use Rattle.pool_syntax.specs.declared.words.What.TheVariants as W
-use Rattle.pool_syntax.specs.declared.words.FullKind.{FullKind}
-use Rattle.pool_syntax.specs.declared.words.Placement.{Placement}
-use Rattle.object_code.specs.declared.unit.Unit.{Unit as Code}
-use Rattle.mesh_semantics.specs.Tables.{Pair, pair_cmp, push_list}
-use Rattle.mesh_semantics.specs.Paths.{next}
+use Rattle.run_words.specs.declared.words.Event.TheVariants as Ev
+use Rattle.run_words.specs.declared.words.What.{What}
+use Rattle.run_words.specs.declared.words.What.TheVariants as W
+use Rattle.run_words.specs.declared.words.FullKind.{FullKind}
+use Rattle.run_words.specs.declared.words.Placement.{Placement}
+use Rattle.code_semantics.specs.declared.unit.Unit.{Unit as Code}
+use Rattle.run_words.specs.Tables.{Pair, pair_cmp, push_list, leaving}
+use Rattle.run_words.specs.Paths.{next}
 use Rattle.mesh_semantics.specs.Act.{goal_node}
-use Rattle.mesh_semantics.proofs.Laws.{same_some}
+use Rattle.run_words.proofs.Laws.{same_some}
 use Rattle.node_semantics.specs.Node as N
-use Rattle.node_semantics.specs.Node.{NodeState, NodeActed, NumberedPacket, message_count, turn_act}
-use Rattle.node_semantics.specs.Machine.{after_node, leaving, machine_act, post_packet, turn_in}
+use Rattle.node_semantics.specs.Node.{NodeState, NodeActed, message_count, turn_act}
+use Rattle.mesh_semantics.specs.Delay.{NumberedPacket}
+use Rattle.node_semantics.specs.Machine.{after_node, machine_act, post_packet, turn_in}
 use Rattle.node_semantics.specs.Agrees.{IsFresh, IsUnused}
 use Rattle.node_semantics.proofs.Laws.{cells_count}
 use Rattle.coded_objects.specs.Coded.{Placed, coded}
@@ -27,12 +28,12 @@ use Rattle.mesh_routing.specs.Links.{LinksOf}
 use Rattle.node_parts.specs.NodeOf.{NodeOf}
 use Rattle.node_parts.specs.OfUnit.{IsOfUnit}
 use Rattle.pool_node.specs.Acts.{IsActOf}
-use Rattle.pool_node.specs.declared.words.Act.{Act}
-use Rattle.pool_node.specs.declared.words.Act.TheVariants as T
+use Rattle.pool_node.specs.ActOf.{Act}
+use Rattle.pool_node.specs.ActOf as T
 use Rattle.pool_machine.specs.MachineOf.{numbered_link}
 use Rattle.pool_machine.specs.Parts.{AreKept, AreParts, IsDid, IsNodeOf, machine_from}
-use Rattle.pool_machine.specs.declared.words.Did.{Did}
-use Rattle.pool_machine.specs.declared.words.Did.TheVariants as D
+use Rattle.pool_machine.specs.DidOf.{Did}
+use Rattle.pool_machine.specs.DidOf as D
 use Rattle.pool_machine.proofs.NumberedLinks.{leaving_numbered, push_numbered, pushed_filled}
 use Rattle.pool_machine.proofs.ChangedNodes.{node_kept, parts_changed, parts_moved, set_itself, state_there, states_set}
 use Rattle.pool_machine.proofs.PostedPackets.{posted, turn_room}

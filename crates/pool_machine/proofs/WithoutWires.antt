@@ -1,13 +1,13 @@
 -- Nodes and links stand for a configuration and a delay whatever their wires do: what is left out of sight here are the wires of both.
 use Rattle.std.proofs.Common.{List, Option, None, refl}
-use Rattle.pool_syntax.specs.declared.words.Placement.{Placement}
-use Rattle.object_code.specs.declared.unit.Unit.{Unit as Code}
+use Rattle.run_words.specs.declared.words.Placement.{Placement}
+use Rattle.code_semantics.specs.declared.unit.Unit.{Unit as Code}
 use Rattle.mesh_semantics.specs.Config.{Config}
 use Rattle.mesh_semantics.specs.Delay.{Wires, Delay}
 use Rattle.mesh_semantics.specs.Language.{Language}
 use Rattle.mesh_semantics.specs.Sound.{IsSound}
-use Rattle.mesh_semantics.specs.Tables.{Pair, list_at, pair_cmp}
-use Rattle.mesh_semantics.proofs.Laws.{each_map}
+use Rattle.run_words.specs.Tables.{Pair, list_at, pair_cmp}
+use Rattle.run_words.proofs.Laws.{each_map}
 use Rattle.node_semantics.specs.Machine.{KeptWires, Machine}
 use Rattle.node_semantics.specs.StandsFor.{MachineStandsFor}
 use Rattle.node_semantics.specs.WiresStandFor.{StandsFor}

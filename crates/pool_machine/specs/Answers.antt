@@ -1,27 +1,27 @@
 -- What the calls of a machine tell, for every sound configuration of code with its delay that the machine stands for.
 use Rattle.std.specs.Prelude.{◌≡◌, ℕ, ◌+◌, ◌*◌, ◌<◌, length, Option, Some, Bool, true, is_some, if◌then◌else◌}
-use Rattle.pool_syntax.specs.declared.words.Event.{Event}
-use Rattle.pool_syntax.specs.declared.words.Event.TheVariants as Ev
-use Rattle.pool_syntax.specs.declared.words.What.{What}
-use Rattle.pool_syntax.specs.declared.words.What.TheVariants as W
-use Rattle.pool_syntax.specs.declared.words.Line.TheVariants as R
-use Rattle.pool_syntax.specs.declared.words.Placement.{Placement}
-use Rattle.object_code.specs.declared.unit.Unit.{Unit as Code}
+use Rattle.run_words.specs.declared.words.Event.{Event}
+use Rattle.run_words.specs.declared.words.Event.TheVariants as Ev
+use Rattle.run_words.specs.declared.words.What.{What}
+use Rattle.run_words.specs.declared.words.What.TheVariants as W
+use Rattle.run_words.specs.declared.words.Line.TheVariants as R
+use Rattle.run_words.specs.declared.words.Placement.{Placement}
+use Rattle.code_semantics.specs.declared.unit.Unit.{Unit as Code}
 use Rattle.mesh_semantics.specs.Config.{Config, object_of}
 use Rattle.mesh_semantics.specs.Delay.{Delay, no_delay, no_delay_on_wires}
 use Rattle.mesh_semantics.specs.Act as A
 use Rattle.mesh_semantics.specs.Act.{Acted}
-use Rattle.mesh_semantics.specs.Paths.{IsLink}
+use Rattle.run_words.specs.Paths.{IsLink}
 use Rattle.mesh_semantics.specs.Record.{shown, start}
 use Rattle.mesh_semantics.specs.Sound.{IsSound}
 use Rattle.mesh_semantics.specs.Standing as T
 use Rattle.mesh_semantics.specs.Standing.{standing}
-use Rattle.mesh_semantics.specs.Partial.{◌>>=◌}
+use Rattle.run_words.specs.Partial.{◌>>=◌}
 use Rattle.node_semantics.specs.WiresStandFor.{StandsFor}
 use Rattle.coded_objects.specs.Coded.{Placed, coded}
 use Rattle.coded_objects.specs.OfCode.{IsOfCode}
-use Rattle.pool_machine.specs.declared.words.Outcome.{Outcome}
-use Rattle.pool_machine.specs.declared.words.Outcome.TheVariants as O
+use Rattle.pool_machine.specs.AnswerOf.{Answer}
+use Rattle.pool_machine.specs.AnswerOf as O
 use Rattle.pool_machine.specs.MachineOf.{MachineOf, machine_of}
 
 -- the node is of the mesh, or the link is
@@ -73,7 +73,7 @@ pub record IsAfter (old new : MachineOf) (e : Event) (what : What) : Type 0 wher
   pub transitions : new.transitions ≡ old.transitions + length (shown what)
 
 -- The event's answer is that of the configuration: its line with the next number, and the machine then stands for what is after it; or its limit, and the machine is as before.
-abbrev pub IsOutcome : Event → MachineOf → Outcome → MachineOf → Acted Placed → Type 0
+abbrev pub IsOutcome : Event → MachineOf → Answer → MachineOf → Acted Placed → Type 0
 IsOutcome e old (O.Line line) new (A.Acts w c d) = (line ≡ R.Event (old.done + 1) e w) × IsAfter old new e w × Stands new c d
 IsOutcome e old (O.Full kind node) new (A.Full k n) = (kind ≡ k) × (node ≡ n) × (new ≡ old)
 IsOutcome e old _ new _ = ⊥

@@ -4,3 +4,5 @@ pub mod OnWires
 pub mod Whole
 pub mod Told
 pub mod Answers
+pub mod DidOf
+pub mod AnswerOf

@@ -3,16 +3,16 @@ use Rattle.std.specs.Prelude.{◌≡◌, ◌⊎◌, ℕ, ◌+◌, ◌<◌, ◌==
 use Rattle.std.specs.Option.{option_map, unwrap_or}
 use Rattle.std.specs.FinMap.{find, put}
 use Rattle.std.specs.BTreeMap.{BTreeMap}
-use Rattle.pool_syntax.specs.declared.words.Event.{Event}
-use Rattle.pool_syntax.specs.declared.words.What.{What}
-use Rattle.pool_syntax.specs.declared.words.What.TheVariants as W
-use Rattle.pool_syntax.specs.declared.words.Placement.{Placement}
-use Rattle.object_code.specs.declared.unit.Unit.{Unit as Code}
+use Rattle.run_words.specs.declared.words.Event.{Event}
+use Rattle.run_words.specs.declared.words.What.{What}
+use Rattle.run_words.specs.declared.words.What.TheVariants as W
+use Rattle.run_words.specs.declared.words.Placement.{Placement}
+use Rattle.code_semantics.specs.declared.unit.Unit.{Unit as Code}
 use Rattle.mesh_semantics.specs.Config.{Config}
 use Rattle.mesh_semantics.specs.Delay.{Delay}
-use Rattle.mesh_semantics.specs.Paths.{AreNeighbours, IsLink}
+use Rattle.run_words.specs.Paths.{AreNeighbours, IsLink}
 use Rattle.mesh_semantics.specs.Sound.{IsSound}
-use Rattle.mesh_semantics.specs.Tables.{Pair, list_at, pair_cmp}
+use Rattle.run_words.specs.Tables.{Pair, list_at, pair_cmp}
 use Rattle.mesh_semantics.specs.KeptWire.{KeptWire, empty_kept}
 use Rattle.coded_objects.specs.Coded.{Placed, coded}
 use Rattle.coded_objects.specs.OfCode.{IsOfCode}
@@ -25,8 +25,8 @@ use Rattle.mesh_routing.specs.Links.{LinksOf}
 use Rattle.node_parts.specs.NodeOf.{NodeOf}
 use Rattle.pool_machine.specs.MachineOf.{LinkWires, numbered_link, numbered_wires}
 use Rattle.pool_machine.specs.Parts.{AreParts}
-use Rattle.pool_machine.specs.declared.words.Did.{Did}
-use Rattle.pool_machine.specs.declared.words.Did.TheVariants as D
+use Rattle.pool_machine.specs.DidOf.{Did}
+use Rattle.pool_machine.specs.DidOf as D
 
 -- what is kept of the wire of a link
 abbrev pub wire_of : LinkWires → Pair → KeptWire Packet

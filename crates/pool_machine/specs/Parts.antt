@@ -1,13 +1,13 @@
 -- What a machine keeps of its nodes and links from one event to the next, and what a turn and a move of a link's head do to them; its wires are left out of sight.
 use Rattle.std.specs.Prelude.{◌≡◌, ℕ, ◌*◌, List, Some, None, true, length, map, slice_get}
-use Rattle.pool_syntax.specs.declared.words.Placement.{Placement}
-use Rattle.object_code.specs.declared.unit.Unit.{Unit as Code}
-use Rattle.object_code.specs.Proper.{IsProper}
-use Rattle.object_code.specs.Suits.{Suits}
+use Rattle.run_words.specs.declared.words.Placement.{Placement}
+use Rattle.code_semantics.specs.declared.unit.Unit.{Unit as Code}
+use Rattle.code_semantics.specs.Proper.{IsProper}
+use Rattle.code_semantics.specs.Suits.{Suits}
 use Rattle.mesh_semantics.specs.Config.{Config}
 use Rattle.mesh_semantics.specs.Delay.{Delay}
-use Rattle.mesh_semantics.specs.Sound.{Each, IsSound}
-use Rattle.mesh_semantics.specs.Tables.{Pair, no_entry_empty}
+use Rattle.run_words.specs.Tables.{Each, Pair, no_entry_empty}
+use Rattle.mesh_semantics.specs.Sound.{IsSound}
 use Rattle.coded_objects.specs.Coded.{Placed, coded}
 use Rattle.coded_objects.specs.OfCode.{IsOfCode}
 use Rattle.node_semantics.specs.Machine as M
@@ -19,8 +19,8 @@ use Rattle.mesh_routing.specs.declared.mesh.Mesh.{Mesh}
 use Rattle.node_parts.specs.NodeOf.{NodeOf}
 use Rattle.node_parts.specs.OfUnit.{IsOfPlacement, IsOfUnit}
 use Rattle.pool_machine.specs.MachineOf.{numbered_link}
-use Rattle.pool_machine.specs.declared.words.Did.{Did}
-use Rattle.pool_machine.specs.declared.words.Did.TheVariants as D
+use Rattle.pool_machine.specs.DidOf.{Did}
+use Rattle.pool_machine.specs.DidOf as D
 
 -- the machine by the definition of nodes and links, whatever their wires
 abbrev pub machine_from : List NodeOf → List (Pair × List Packet) → Machine Placed

@@ -1,7 +1,7 @@
 -- What a machine tells of its objects.
 use Rattle.std.specs.Prelude.{ℕ, List, Option, Some, None, is_some, Bool}
 use Rattle.std.specs.List.{list_any}
-use Rattle.object_code.specs.declared.unit.Unit.{Unit as Code}
+use Rattle.code_semantics.specs.declared.unit.Unit.{Unit as Code}
 use Rattle.coded_objects.specs.Coded.{Placed, coded}
 use Rattle.node_semantics.specs.Node.{NodeState, Slot}
 use Rattle.node_semantics.specs.Standings.{brings}

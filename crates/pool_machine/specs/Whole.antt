@@ -1,13 +1,13 @@
 -- What holds of the fields of a machine, and what a contract sees of them.
 use Rattle.std.specs.Prelude.{ℕ, ◌≡◌, ◌≤◌, ◌*◌, List, Some, length, slice_get}
-use Rattle.pool_syntax.specs.declared.words.Placement.{Placement}
-use Rattle.object_code.specs.declared.unit.Unit.{Unit as Code}
+use Rattle.run_words.specs.declared.words.Placement.{Placement}
+use Rattle.code_semantics.specs.declared.unit.Unit.{Unit as Code}
 use Rattle.coded_objects.specs.Coded.{coded}
-use Rattle.node_semantics.specs.Machine.{empty_node}
+use Rattle.node_semantics.specs.Machine.{empty_node, is_machine_quiet}
 use Rattle.node_parts.specs.NodeOf.{NodeOf}
 use Rattle.pool_machine.specs.MachineOf.{MachineOf}
 use Rattle.pool_machine.specs.Parts.{EachCount, IsMeshOf, IsNodeOf}
-use Rattle.pool_machine.specs.OnWires.{AreWired, EachEntered, wires_in}
+use Rattle.pool_machine.specs.OnWires.{AreWired, EachEntered, machine_on, wires_in}
 use Rattle.pool_machine.specs.declared.machine.Machine.TheInside.{Inside}
 
 -- a node without objects
@@ -21,12 +21,22 @@ pub record AreEmpty (u : Code) (l : Placement) (size : ℕ) (nodes : List NodeOf
   pub each : (i : ℕ) (n : NodeOf) → slice_get nodes i ≡ Some n → IsEmptyNode u l i n
 
 abbrev pub machine_view : Inside → MachineOf
-machine_view m = record { unit = m.unit.now; placement = m.placement.now; nodes = m.nodes.items; links = m.links.links; wires = wires_in m.wires; done = m.done; moves = m.moves; transitions = m.transitions }
+machine_view m = record {
+  unit = m.unit.now;
+  placement = m.placement.now;
+  nodes = m.nodes.items;
+  links = m.links.links;
+  wires = wires_in m.wires;
+  done = m.done;
+  moves = m.moves;
+  transitions = m.transitions;
+}
 
 pub record IsWhole (m : Inside) : Type 0 where
   pub mesh : IsMeshOf m.placement.now m.mesh
   pub table : m.table ≡ m.placement.now
   pub kept : AreWired m.unit.now m.placement.now m.nodes.items m.links (wires_in m.wires)
+  pub quiet : m.quiet ≡ is_machine_quiet (coded m.unit.now) (machine_on m.nodes.items m.links.links (wires_in m.wires))
   -- no node has made more objects than there were events
   pub counts : EachCount (λ k. k ≤ m.done) m.nodes.items
   -- and no wire more packets

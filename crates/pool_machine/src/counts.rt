@@ -3,7 +3,7 @@ ghost use Rattle.std.specs.Prelude.{◌≡◌, ◌<◌, ◌≤◌, ◌^◌, leng
 ghost use Rattle.mesh_semantics.specs.Record.{shown};
 ghost use Rattle.pool_machine.specs.Answers.{moved};
 
-use pool_syntax::{Event, What};
+use run_words::{Event, What};
 
 /// One where a packet has left a link.
 pub(crate) fn moved_by(event: &Event, what: &What) -> u64

@@ -4,6 +4,7 @@
 mod counts;
 mod machine;
 mod moves;
+mod quiet;
 mod report;
 mod step;
 mod turns;
@@ -12,5 +13,6 @@ mod wires;
 mod words;
 
 pub use machine::Machine;
-pub use pool_syntax::Standing;
-pub use words::{OpenFault, Outcome};
+pub use pool_node::Room;
+pub use run_words::Standing;
+pub use words::{EventTold, OpenFault, Outcome};

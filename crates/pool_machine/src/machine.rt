@@ -2,28 +2,30 @@
 ghost use Rattle.std.specs.Prelude.{◌≡◌, ◌<◌, ◌≤◌, ◌-◌, ◌*◌, ◌^◌, is_some, IfOk};
 ghost use Rattle.std.specs.Option.{option_map};
 ghost use Rattle.std.specs.List.{list_any};
-ghost use Rattle.object_code.specs.Proper.{IsProper};
-ghost use Rattle.object_code.specs.Suits.{Suits};
+ghost use Rattle.code_semantics.specs.Proper.{IsProper};
+ghost use Rattle.code_semantics.specs.Suits.{Suits};
 ghost use Rattle.mesh_semantics.specs.Config.{Config};
 ghost use Rattle.mesh_semantics.specs.Delay.{Delay};
 ghost use Rattle.mesh_semantics.specs.Act.{act, is_quiet, object_count};
-ghost use Rattle.mesh_semantics.specs.Routes.{IsRouted};
+ghost use Rattle.run_words.specs.Routes.{IsRouted};
 ghost use Rattle.mesh_semantics.specs.Record.{last_place, root_node};
 ghost use Rattle.coded_objects.specs.Coded.{Placed, coded};
 ghost use Rattle.pool_node.specs.Acts.{told_standing};
+ghost use Rattle.pool_machine.specs.AnswerOf.{answer_of, answer_seen};
 ghost use Rattle.pool_machine.specs.Whole.{AreEmpty};
 ghost use Rattle.pool_machine.specs.Answers.{IsOfMesh, IsOutcome, IsServed, IsStart, Stands, class_at, standing_at};
 
 use crate::counts::{moved_by, shown_by};
-use crate::report::{can_step, class_in, has_faulted, standing_in};
+use crate::quiet::{is_quiet_now, quiet_after};
+use crate::report::{class_in, has_faulted, standing_in};
 use crate::step::step;
-use crate::wires::{Wires, is_acknowledged, make_wires};
-use crate::words::{Did, OpenFault, Outcome};
+use crate::wires::{Wires, make_wires};
+use crate::words::{EventTold, Made, OpenFault, Outcome};
+use code_semantics::Unit;
 use mesh_routing::{Links, Mesh};
-use object_code::Unit;
-use pool_node::Node;
-use pool_syntax::{Event, Line, NameId, Place, Placement, Standing};
+use pool_node::{Node, Room};
 use rendezvous_protocol::Packet;
+use run_words::{Event, Line, NameId, Place, Placement, Standing};
 use std::alloc::{AllocError, Global};
 use std::marker::Model;
 use table_routing::Table;
@@ -39,17 +41,19 @@ pub struct Machine<'a> {
     nodes: Vec<Node>,
     links: Links<Packet>,
     wires: Option<Wires>,
+    // Whether all is quiet: so an idle event need not look at all nodes and links again.
+    quiet: bool,
     done: u32,
     moves: u64,
     transitions: u64,
 }
 
 impl<'a> Model for Machine<'a> {
-    ghost use Rattle.object_code.specs.contracts.unit.CodeObject as image;
-    ghost use Rattle.object_code.specs.contracts.unit.Unit as unit_of;
-    ghost use Rattle.pool_syntax.specs.contracts.words.Placement as placement_of;
-    ghost use Rattle.pool_syntax.specs.contracts.words.Error as error;
-    ghost use Rattle.pool_syntax.specs.contracts.words.Value as value;
+    ghost use Rattle.run_words.specs.contracts.frames.CodeObject as image;
+    ghost use Rattle.code_semantics.specs.contracts.unit.Unit as unit_of;
+    ghost use Rattle.run_words.specs.contracts.words.Placement as placement_of;
+    ghost use Rattle.run_words.specs.contracts.words.Error as error;
+    ghost use Rattle.run_words.specs.contracts.words.Value as value;
     ghost use Rattle.rendezvous_protocol.specs.contracts.packet.Packet as packet;
     ghost use Rattle.node_parts.specs.NodeOf.{node_code};
     ghost use Rattle.pool_machine.specs.MachineOf.{MachineOf, machine_code};
@@ -109,6 +113,23 @@ fn table_of<'a>(alloc: Global, placement: &'a Placement) -> Result<Table<'a>, Al
     }
 }
 
+/// What is told with this in the room, as one value.
+fn outcome_told(told: EventTold, event: Event, room: &Room) -> Outcome
+    ensures { answer_seen result ≡ answer_of told event room.now.what }
+{
+    match told {
+        EventTold::Line { number } => {
+            let what = room.what;
+            Outcome::Line(Line::Event {
+                number,
+                event,
+                what,
+            })
+        }
+        EventTold::Full { kind, node } => Outcome::Full { kind, node },
+    }
+}
+
 impl<'a> Machine<'a> {
     /// Takes all memory of a run, and places the root object on its node. Where `lossy` holds each link is a wire that
     /// may lose, repeat and reorder what goes over it. `Memory` where it is not had.
@@ -137,6 +158,7 @@ impl<'a> Machine<'a> {
         };
         let root = root_of(placement.places.items());
         nodes[root as usize].start_root(unit);
+        let quiet = is_quiet_now(unit, nodes.as_slice(), &links, &wires);
         Ok(Machine {
             unit,
             placement,
@@ -145,6 +167,7 @@ impl<'a> Machine<'a> {
             nodes,
             links,
             wires,
+            quiet,
             done: 0,
             moves: 0,
             transitions: 0,
@@ -158,7 +181,22 @@ impl<'a> Machine<'a> {
         requires served { IsServed (is_some self.old.wires) event }
         requires quantum { (1 ≤ quantum) × (quantum ≤ 10000) }
         requires few { self.old.done < 2 ^ 32 - 1 }
-        ensures { (c : Config Placed) (d : Delay) → Stands self.old c d → IsOutcome event self.old result self.new (act (coded self.old.unit) self.old.placement quantum c d event) }
+        ensures { (c : Config Placed) (d : Delay) → Stands self.old c d
+            → IsOutcome event self.old (answer_seen result) self.new (act (coded self.old.unit) self.old.placement quantum c d event) }
+    {
+        let mut room = Room::make();
+        let told = self.event_in(event, quantum, &mut room);
+        outcome_told(told, event, &room)
+    }
+
+    /// Makes an event as `event` does, and tells what its line shows in the room that is lent.
+    pub fn event_in(&mut self, event: Event, quantum: u32, room: &mut Room) -> EventTold
+        requires mesh { IsOfMesh self.old.placement event }
+        requires served { IsServed (is_some self.old.wires) event }
+        requires quantum { (1 ≤ quantum) × (quantum ≤ 10000) }
+        requires few { self.old.done < 2 ^ 32 - 1 }
+        ensures { (c : Config Placed) (d : Delay) → Stands self.old c d
+            → IsOutcome event self.old (answer_of result event room.new.what) self.new (act (coded self.old.unit) self.old.placement quantum c d event) }
     {
         let did = step(
             self.unit,
@@ -169,18 +207,23 @@ impl<'a> Machine<'a> {
             &mut self.wires,
             &event,
             quantum,
+            room,
         );
         match did {
-            Did::Full { kind, node } => Outcome::Full { kind, node },
-            Did::Line(what) => {
+            Made::Full { kind, node } => EventTold::Full { kind, node },
+            Made::Line => {
                 self.done += 1;
-                self.moves += moved_by(&event, &what);
-                self.transitions += shown_by(&what);
-                Outcome::Line(Line::Event {
-                    number: self.done,
-                    event,
-                    what,
-                })
+                self.moves += moved_by(&event, &room.what);
+                self.transitions += shown_by(&room.what);
+                self.quiet = quiet_after(
+                    self.unit,
+                    self.nodes.as_slice(),
+                    &self.links,
+                    &self.wires,
+                    &room.what,
+                    self.quiet,
+                );
+                EventTold::Line { number: self.done }
             }
         }
     }
@@ -189,9 +232,7 @@ impl<'a> Machine<'a> {
     pub fn is_quiet(&self) -> bool
         ensures { (c : Config Placed) (d : Delay) → Stands self.now c d → result ≡ is_quiet (coded self.now.unit) c d }
     {
-        self.links.is_empty()
-            && is_acknowledged(&self.wires)
-            && !can_step(self.unit, self.nodes.as_slice())
+        self.quiet
     }
 
     /// The number of events made.

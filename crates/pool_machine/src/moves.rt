@@ -1,20 +1,21 @@
 //! The move of a link's head.
 ghost use Rattle.std.specs.Prelude.{◌≡◌, ◌≢◌, map, Some, slice_get};
-ghost use Rattle.mesh_semantics.specs.Paths.{IsLink};
-ghost use Rattle.mesh_semantics.specs.Tables.{list_at, pair_cmp};
+ghost use Rattle.run_words.specs.Paths.{IsLink};
+ghost use Rattle.run_words.specs.Tables.{list_at, pair_cmp};
 ghost use Rattle.mesh_semantics.specs.Act.{goal_node};
 ghost use Rattle.coded_objects.specs.Coded.{coded};
 ghost use Rattle.node_semantics.specs.Machine.{move_in};
 ghost use Rattle.rendezvous_protocol.specs.Packets.{numbered};
+ghost use Rattle.pool_machine.specs.DidOf.{did_of};
 ghost use Rattle.pool_machine.specs.Parts.{AreKept, AreParts, EachCount, IsDid, machine_from};
 
 use crate::turns::post;
-use crate::words::Did;
+use crate::words::Made;
+use code_semantics::Unit;
 use mesh_routing::Links;
-use object_code::Unit;
-use pool_node::{Act, Node};
-use pool_syntax::{FullKind, Placement, What};
+use pool_node::{Node, Room, Told};
 use rendezvous_protocol::{Packet, goal};
+use run_words::{FullKind, Placement, What};
 use table_routing::Table;
 
 /// The head of a link at its goal: it is received, and leaves the link, unless a limit is met.
@@ -27,29 +28,33 @@ fn arrive(
     from: u32,
     to: u32,
     packet: Packet,
-) -> Did
+    room: &mut Room,
+) -> Made
     requires kept { AreKept unit.now placement.now nodes.old links.old }
     requires table { table.now ≡ placement.now }
     requires link { IsLink placement.now (from, to) }
     requires head { slice_get (list_at pair_cmp (from, to) links.old.links) 0 ≡ Some packet }
     requires goal { goal_node (numbered packet).packet ≡ to }
-    ensures act { IsDid result nodes.old links.old nodes.new links.new (move_in (coded unit.now) placement.now (machine_from nodes.old links.old.links) from to (map numbered (list_at pair_cmp (from, to) links.old.links))) }
+    ensures act { IsDid (did_of result room.new.what) nodes.old links.old nodes.new links.new
+        (move_in (coded unit.now) placement.now (machine_from nodes.old links.old.links) from to (map numbered (list_at pair_cmp (from, to) links.old.links))) }
     ensures parts { AreParts unit.now placement.now nodes.new links.new }
     ensures counts { map (λ n. n.state.made) nodes.new ≡ map (λ n. n.state.made) nodes.old }
 {
     let leaving = links.leaving(to);
-    match nodes[to as usize].receive(unit, placement, packet, leaving) {
-        Act::Idle => Did::Line(What::Idle),
-        Act::Full { kind } => Did::Full { kind, node: to },
-        Act::Line {
-            what,
-            packet: answer,
-        } => {
+    match nodes[to as usize].receive_in(unit, placement, packet, leaving, room) {
+        Told::Line => {
             let _ = links.move_head(from, to);
-            if let Some(answer) = answer {
-                post(table, links, to, answer);
-            }
-            Did::Line(what)
+            Made::Line
+        }
+        Told::Leaves => {
+            let _ = links.move_head(from, to);
+            post(table, links, to, &room.packet);
+            Made::Line
+        }
+        Told::Full { kind } => Made::Full { kind, node: to },
+        Told::Idle => {
+            room.what = What::Idle;
+            Made::Line
         }
     }
 }
@@ -64,26 +69,29 @@ fn pass(
     from: u32,
     to: u32,
     packet: Packet,
-) -> Did
+    room: &mut Room,
+) -> Made
     requires kept { AreKept unit.now placement.now nodes.now links.old }
     requires table { table.now ≡ placement.now }
     requires link { IsLink placement.now (from, to) }
     requires head { slice_get (list_at pair_cmp (from, to) links.old.links) 0 ≡ Some packet }
     requires goal { goal_node (numbered packet).packet ≢ to }
-    ensures act { IsDid result nodes.now links.old nodes.now links.new (move_in (coded unit.now) placement.now (machine_from nodes.now links.old.links) from to (map numbered (list_at pair_cmp (from, to) links.old.links))) }
+    ensures act { IsDid (did_of result room.new.what) nodes.now links.old nodes.now links.new
+        (move_in (coded unit.now) placement.now (machine_from nodes.now links.old.links) from to (map numbered (list_at pair_cmp (from, to) links.old.links))) }
     ensures parts { AreParts unit.now placement.now nodes.now links.new }
 {
     let waiting = nodes[to as usize].messages();
     let leaving = links.leaving(to);
     if waiting + leaving + 1 > placement.cells {
-        return Did::Full {
+        return Made::Full {
             kind: FullKind::Cells,
             node: to,
         };
     }
     let _ = links.move_head(from, to);
-    post(table, links, to, packet);
-    Did::Line(What::Pass)
+    post(table, links, to, &packet);
+    room.what = What::Pass;
+    Made::Line
 }
 
 /// Makes a move of the head of a link.
@@ -95,21 +103,24 @@ pub(crate) fn move_link(
     links: &mut Links<Packet>,
     from: u32,
     to: u32,
-) -> Did
+    room: &mut Room,
+) -> Made
     requires kept { AreKept unit.now placement.now nodes.old links.old }
     requires table { table.now ≡ placement.now }
     requires link { IsLink placement.now (from, to) }
-    ensures act { IsDid result nodes.old links.old nodes.new links.new (move_in (coded unit.now) placement.now (machine_from nodes.old links.old.links) from to (map numbered (list_at pair_cmp (from, to) links.old.links))) }
+    ensures act { IsDid (did_of result room.new.what) nodes.old links.old nodes.new links.new
+        (move_in (coded unit.now) placement.now (machine_from nodes.old links.old.links) from to (map numbered (list_at pair_cmp (from, to) links.old.links))) }
     ensures parts { AreParts unit.now placement.now nodes.new links.new }
     ensures counts { map (λ n. n.state.made) nodes.new ≡ map (λ n. n.state.made) nodes.old }
 {
     let Some(head) = links.head(from, to) else {
-        return Did::Line(What::Idle);
+        room.what = What::Idle;
+        return Made::Line;
     };
     let packet = *head;
     if goal(&packet) == to {
-        arrive(unit, placement, table, nodes, links, from, to, packet)
+        arrive(unit, placement, table, nodes, links, from, to, packet, room)
     } else {
-        pass(unit, placement, table, nodes, links, from, to, packet)
+        pass(unit, placement, table, nodes, links, from, to, packet, room)
     }
 }

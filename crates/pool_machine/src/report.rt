@@ -2,9 +2,9 @@
 ghost use Rattle.std.specs.Prelude.{◌≡◌, ◌<◌, ◌*◌, ◌↔◌, ℕ, Bool, true, false, map, is_some, slice_get, IsTrue};
 ghost use Rattle.std.specs.Option.{option_map};
 ghost use Rattle.std.specs.List.{list_any};
-ghost use Rattle.mesh_semantics.specs.Tables.{list_at, pair_cmp};
-ghost use Rattle.mesh_semantics.specs.Paths.{AreNeighbours};
-ghost use Rattle.mesh_semantics.specs.Delay.{node_of, slot_of};
+ghost use Rattle.run_words.specs.Tables.{list_at, pair_cmp};
+ghost use Rattle.run_words.specs.Paths.{AreNeighbours};
+ghost use Rattle.run_words.specs.ObjectNames.{node_of, slot_of};
 ghost use Rattle.coded_objects.specs.Coded.{coded};
 ghost use Rattle.node_semantics.specs.Machine.{any_ready};
 ghost use Rattle.node_semantics.specs.Standings.{brings, machine_standing};
@@ -14,11 +14,11 @@ ghost use Rattle.pool_node.specs.Acts.{told_standing};
 ghost use Rattle.pool_machine.specs.Parts.{AreKept, AreOfUnit, IsMeshOf, machine_from};
 ghost use Rattle.pool_machine.specs.Told.{has_fault, is_brought, slot_class};
 
+use code_semantics::Unit;
 use mesh_routing::{Links, Mesh};
-use object_code::Unit;
 use pool_node::Node;
-use pool_syntax::{NameId, Placement, Standing};
 use rendezvous_protocol::Packet;
+use run_words::{NameId, Placement, Standing};
 
 /// Whether an object of a node can step.
 pub(crate) fn can_step(unit: &Unit, nodes: &[Node]) -> bool
@@ -92,7 +92,8 @@ fn is_on_way(mesh: &Mesh, links: &Links<Packet>, name: u32) -> bool
     requires width { mesh.now.width ≡ links.now.width }
     requires height { mesh.now.height ≡ links.now.height }
     ensures yes { result ≡ true → (a : ℕ) × (b : ℕ) × (is_brought name (list_at pair_cmp (a, b) links.now.links) ≡ true) }
-    ensures no { result ≡ false → (a b : ℕ) → a < mesh.now.width * mesh.now.height → b < mesh.now.width * mesh.now.height → AreNeighbours mesh.now.width a b → is_brought name (list_at pair_cmp (a, b) links.now.links) ≡ false }
+    ensures no { result ≡ false → (a b : ℕ) → a < mesh.now.width * mesh.now.height → b < mesh.now.width * mesh.now.height → AreNeighbours mesh.now.width a b
+        → is_brought name (list_at pair_cmp (a, b) links.now.links) ≡ false }
 {
     for from in 0..mesh.width * mesh.height {
         if links.leaving(from) > 0 && node_brings(mesh, links, from, name) {

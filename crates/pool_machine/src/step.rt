@@ -1,5 +1,6 @@
 //! What an event does to the nodes and links.
 ghost use Rattle.std.specs.Prelude.{◌≡◌, ◌<◌, ◌≤◌, ◌+◌, ◌-◌, ◌^◌, ℕ, is_some};
+ghost use Rattle.pool_machine.specs.DidOf.{did_of};
 ghost use Rattle.pool_machine.specs.Answers.{IsOfMesh, IsServed};
 ghost use Rattle.pool_machine.specs.Parts.{AreParts, EachCount};
 ghost use Rattle.pool_machine.specs.OnWires.{AreWired, EachEntered, HaveWires, Makes, wires_in};
@@ -8,12 +9,12 @@ use crate::moves::move_link;
 use crate::turns::turn;
 use crate::wired::move_on_wire;
 use crate::wires::{Wires, act_at};
-use crate::words::Did;
+use crate::words::Made;
+use code_semantics::Unit;
 use mesh_routing::Links;
-use object_code::Unit;
-use pool_node::Node;
-use pool_syntax::{Event, Placement};
+use pool_node::{Node, Room};
 use rendezvous_protocol::Packet;
+use run_words::{Event, Placement};
 use table_routing::Table;
 
 /// Makes an event: what it does is what the definition of nodes, links and wires says of it, with some number for its
@@ -27,7 +28,8 @@ pub(crate) fn step(
     wires: &mut Option<Wires>,
     event: &Event,
     quantum: u32,
-) -> Did
+    room: &mut Room,
+) -> Made
     requires kept { AreWired unit.now placement.now nodes.old links.old (wires_in wires.old) }
     requires table { table.now ≡ placement.now }
     requires event { IsOfMesh placement.now event.now }
@@ -35,20 +37,25 @@ pub(crate) fn step(
     requires quantum { 1 ≤ quantum }
     requires countable { EachCount (λ k. k < 2 ^ 32 - 1) nodes.old }
     requires few { EachEntered (λ k. k < 2 ^ 32 - 1) (wires_in wires.old) links.old.links }
-    ensures act { Makes unit.now placement.now quantum event.now result nodes.old links.old (wires_in wires.old) nodes.new links.new (wires_in wires.new) }
+    ensures act { Makes unit.now placement.now quantum event.now (did_of result room.new.what) nodes.old links.old (wires_in wires.old) nodes.new links.new (wires_in wires.new) }
     ensures parts { AreParts unit.now placement.now nodes.new links.new }
     ensures counts { (most : ℕ) → EachCount (λ k. k ≤ most) nodes.old → EachCount (λ k. k ≤ most + 1) nodes.new }
     ensures there { HaveWires placement.now (wires_in wires.new) }
     ensures lossy { is_some (wires_in wires.new) ≡ is_some (wires_in wires.old) }
 {
     match *event {
-        Event::Turn { node } => turn(unit, placement, table, nodes, links, node, quantum),
+        Event::Turn { node } => turn(unit, placement, table, nodes, links, node, quantum, room),
         Event::Link { from, to } => match wires {
-            Some(wires) => move_on_wire(unit, placement, table, nodes, links, wires, from, to),
-            None => move_link(unit, placement, table, nodes, links, from, to),
+            Some(wires) => move_on_wire(
+                unit, placement, table, nodes, links, wires, from, to, room,
+            ),
+            None => move_link(unit, placement, table, nodes, links, from, to, room),
         },
         Event::Wire { act, from, to } => match wires {
-            Some(wires) => Did::Line(act_at(wires, links, act, from, to)),
+            Some(wires) => {
+                room.what = act_at(wires, links, act, from, to);
+                Made::Line
+            }
             None => unreachable!(),
         },
     }

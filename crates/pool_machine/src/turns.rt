@@ -1,36 +1,38 @@
 //! The turn of a node, and the packet that leaves it.
 ghost use Rattle.std.specs.Prelude.{◌≡◌, ◌≢◌, ◌<◌, ◌≤◌, ◌+◌, ◌-◌, ◌*◌, ◌^◌, ℕ};
-ghost use Rattle.pool_syntax.specs.declared.words.Event.TheVariants as Ev;
-ghost use Rattle.mesh_semantics.specs.Tables.{pair_cmp, push_list};
-ghost use Rattle.mesh_semantics.specs.Paths.{next};
+ghost use Rattle.run_words.specs.declared.words.Event.TheVariants as Ev;
+ghost use Rattle.run_words.specs.Tables.{pair_cmp, push_list, leaving};
+ghost use Rattle.run_words.specs.Paths.{next};
 ghost use Rattle.mesh_semantics.specs.Act.{goal_node};
 ghost use Rattle.coded_objects.specs.Coded.{coded};
-ghost use Rattle.node_semantics.specs.Machine.{leaving, machine_act};
+ghost use Rattle.node_semantics.specs.Machine.{machine_act};
 ghost use Rattle.node_semantics.specs.Agrees.{IsFresh};
 ghost use Rattle.rendezvous_protocol.specs.Packets.{numbered};
+ghost use Rattle.pool_machine.specs.DidOf.{did_of};
 ghost use Rattle.pool_machine.specs.Parts.{AreKept, AreParts, EachCount, IsDid, machine_from};
 
-use crate::words::Did;
+use crate::words::Made;
+use code_semantics::Unit;
 use mesh_routing::Links;
-use object_code::Unit;
-use pool_node::{Act, Node};
-use pool_syntax::{Placement, What};
+use pool_node::{Node, Room, Told};
 use rendezvous_protocol::{Packet, goal};
+use run_words::{Placement, What};
 use table_routing::Table;
 
 /// Puts a packet that leaves a node last on the first link to its goal.
-pub(crate) fn post(table: &Table<'_>, links: &mut Links<Packet>, at: u32, packet: Packet)
+#[inline(never)]
+pub(crate) fn post(table: &Table<'_>, links: &mut Links<Packet>, at: u32, packet: &Packet)
     requires width { table.now.width ≡ links.old.width }
     requires height { table.now.height ≡ links.old.height }
     requires at { at < table.now.width * table.now.height }
-    requires goal { goal_node (numbered packet).packet < table.now.width * table.now.height }
-    requires away { at ≢ goal_node (numbered packet).packet }
+    requires goal { goal_node (numbered packet.now).packet < table.now.width * table.now.height }
+    requires away { at ≢ goal_node (numbered packet.now).packet }
     requires room { leaving links.old.links at < links.old.cells }
-    ensures { links.new ≡ record links.old { links = push_list pair_cmp (at, next table.now at (goal_node (numbered packet).packet)) packet links.old.links } }
+    ensures { links.new ≡ record links.old { links = push_list pair_cmp (at, next table.now at (goal_node (numbered packet.now).packet)) packet.now links.old.links } }
 {
-    let to = goal(&packet);
+    let to = goal(packet);
     if let Some(next) = table.next(at, to) {
-        let _ = links.put(at, next, packet);
+        let _ = links.put(at, next, *packet);
     }
 }
 
@@ -43,25 +45,30 @@ pub(crate) fn turn(
     links: &mut Links<Packet>,
     node: u32,
     quantum: u32,
-) -> Did
+    room: &mut Room,
+) -> Made
     requires kept { AreKept unit.now placement.now nodes.old links.old }
     requires table { table.now ≡ placement.now }
     requires node { node < placement.now.width * placement.now.height }
     requires quantum { 1 ≤ quantum }
     requires countable { EachCount (λ k. k < 2 ^ 32 - 1) nodes.old }
-    ensures act { (fresh : ℕ) × IsFresh (machine_from nodes.old links.old.links) fresh (Ev.Turn node) × IsDid result nodes.old links.old nodes.new links.new (machine_act (coded unit.now) placement.now quantum fresh (machine_from nodes.old links.old.links) (Ev.Turn node)) }
+    ensures act { (fresh : ℕ) × IsFresh (machine_from nodes.old links.old.links) fresh (Ev.Turn node)
+        × IsDid (did_of result room.new.what) nodes.old links.old nodes.new links.new
+        (machine_act (coded unit.now) placement.now quantum fresh (machine_from nodes.old links.old.links) (Ev.Turn node)) }
     ensures parts { AreParts unit.now placement.now nodes.new links.new }
     ensures counts { (most : ℕ) → EachCount (λ k. k ≤ most) nodes.old → EachCount (λ k. k ≤ most + 1) nodes.new }
 {
     let leaving = links.leaving(node);
-    match nodes[node as usize].turn(unit, placement, quantum, leaving) {
-        Act::Idle => Did::Line(What::Idle),
-        Act::Full { kind } => Did::Full { kind, node },
-        Act::Line { what, packet } => {
-            if let Some(packet) = packet {
-                post(table, links, node, packet);
-            }
-            Did::Line(what)
+    match nodes[node as usize].turn_in(unit, placement, quantum, leaving, room) {
+        Told::Line => Made::Line,
+        Told::Leaves => {
+            post(table, links, node, &room.packet);
+            Made::Line
+        }
+        Told::Full { kind } => Made::Full { kind, node },
+        Told::Idle => {
+            room.what = What::Idle;
+            Made::Line
         }
     }
 }

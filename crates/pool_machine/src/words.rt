@@ -1,5 +1,5 @@
 //! What a machine tells.
-use pool_syntax::{FullKind, Line, What};
+use run_words::{FullKind, Line};
 
 /// Why a machine was not made: there was not enough memory.
 #[derive(Clone, Copy, Debug, PartialEq, Eq)]
@@ -14,9 +14,17 @@ pub enum Outcome {
     Full { kind: FullKind, node: u32 },
 }
 
+/// The same where room was lent: a step, told by the line of this number, and what that shows is in the room; or nothing,
+/// since it would pass this limit of a node.
+#[derive(Clone, Copy)]
+pub enum EventTold {
+    Line { number: u32 },
+    Full { kind: FullKind, node: u32 },
+}
+
 /// What an event did, without its number.
 #[derive(Clone, Copy)]
-pub(crate) enum Did {
-    Line(What),
+pub(crate) enum Made {
+    Line,
     Full { kind: FullKind, node: u32 },
 }

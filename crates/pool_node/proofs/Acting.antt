@@ -1,25 +1,25 @@
 -- A whole act of a node, within its limits.
 use Rattle.std.proofs.Common.{◌≡◌, refl, sym, ap, ap₂, subst, ◌∙◌, ℕ, ◌+◌, ◌<◌, ◌≤◌, List, length, take, Option, Some, None, Bool, true, arith}
 use Rattle.std.specs.Option.{option_map}
-use Rattle.pool_syntax.specs.declared.words.What.{What}
-use Rattle.pool_syntax.specs.declared.words.Placement.{Placement}
-use Rattle.object_code.specs.declared.unit.Unit.{Unit as Code}
-use Rattle.object_code.specs.Kinds.{code_kind}
+use Rattle.run_words.specs.declared.words.What.{What}
+use Rattle.run_words.specs.declared.words.Placement.{Placement}
+use Rattle.code_semantics.specs.declared.unit.Unit.{Unit as Code}
+use Rattle.code_semantics.specs.Kinds.{code_kind}
 use Rattle.node_heap.specs.Heaps.{object_at, frames_used}
 use Rattle.mailbox.specs.Mail.{box_of}
 use Rattle.coded_objects.specs.Coded.{Placed, coded, kind_of}
 use Rattle.mesh_semantics.specs.Act.{can_step}
-use Rattle.mesh_semantics.proofs.Laws.{same_some}
+use Rattle.run_words.proofs.Laws.{same_some}
 use Rattle.node_semantics.specs.Node as N
 use Rattle.node_semantics.specs.Node.{Slot, NodeState, NodeActed, arrivals, can_go, frames_in, message_count, name_at, placed, receipt_act, slot_in_turn, turn_act, turn_of_slot, within_node}
 use Rattle.node_semantics.specs.Agrees.{IsUnused}
 use Rattle.node_semantics.proofs.Laws.{unused_number}
 use Rattle.rendezvous_protocol.specs.declared.packet.Packet.{Packet}
-use Rattle.pool_syntax.specs.declared.words.FullKind.{FullKind}
+use Rattle.run_words.specs.declared.words.FullKind.{FullKind}
 use Rattle.rendezvous_protocol.specs.Packets.{numbered}
 use Rattle.node_parts.specs.declared.parts.Parts.{Parts}
-use Rattle.pool_node.specs.declared.words.Act.{Act}
-use Rattle.pool_node.specs.declared.words.Act.TheVariants as A
+use Rattle.pool_node.specs.ActOf.{Act}
+use Rattle.pool_node.specs.ActOf as A
 use Rattle.node_parts.specs.NodeOf.{NodeOf}
 use Rattle.node_parts.specs.OfUnit.{IsOfUnit, IsOfPlacement}
 use Rattle.pool_node.specs.Acts.{IsActOf}

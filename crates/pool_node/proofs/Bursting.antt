@@ -2,33 +2,35 @@
 use Rattle.std.proofs.Common.{◌≡◌, refl, sym, ap, ap₂, ◌∙◌, ℕ, zero, suc, ◌+◌, ◌<◌, ◌≤◌, ◌&&◌, List, [], ◌∷◌, length, map, Option, Some, None, is_some, is_none, Bool, true, false, if◌then◌else◌, arith}
 use Rattle.std.specs.Prelude.{nat_le, get_or}
 use Rattle.std.proofs.lemmas.Bool.Decides.{nat_tests}
-use Rattle.pool_syntax.specs.declared.words.Label.TheVariants as L
-use Rattle.pool_syntax.specs.declared.words.What.{What}
-use Rattle.pool_syntax.specs.declared.words.What.TheVariants as W
-use Rattle.pool_syntax.specs.declared.words.FullKind.TheVariants as F
-use Rattle.pool_syntax.specs.declared.words.Placement.{Placement}
-use Rattle.pool_syntax.specs.declared.words.Error.{Error}
-use Rattle.object_code.specs.declared.unit.Frame.{Frame}
-use Rattle.object_code.specs.declared.unit.CodeObject.{CodeObject}
-use Rattle.object_code.specs.declared.unit.Unit.{Unit as Code}
-use Rattle.object_code.specs.Kinds as C
-use Rattle.object_code.specs.Kinds.{code_kind}
-use Rattle.object_code.specs.Step.{code_stepped}
-use Rattle.unit_objects.specs.OfUnit.{FitsUnit, IsAtStep, forget, forget_frame, forget_kind}
-use Rattle.unit_objects.proofs.Laws.{forget_stepped, forget_code_kind}
+use Rattle.run_words.specs.declared.words.Label.TheVariants as L
+use Rattle.run_words.specs.declared.words.What.{What}
+use Rattle.run_words.specs.declared.words.What.TheVariants as W
+use Rattle.run_words.specs.declared.words.FullKind.TheVariants as F
+use Rattle.run_words.specs.declared.words.Placement.{Placement}
+use Rattle.run_words.specs.declared.words.Error.{Error}
+use Rattle.run_words.specs.declared.frames.Frame.{Frame}
+use Rattle.run_words.specs.declared.frames.CodeObject.{CodeObject}
+use Rattle.code_semantics.specs.declared.unit.Unit.{Unit as Code}
+use Rattle.code_semantics.specs.Kinds as C
+use Rattle.code_semantics.specs.Kinds.{code_kind}
+use Rattle.code_semantics.specs.Step.{code_stepped}
+use Rattle.code_semantics.specs.OfUnit.{FitsUnit, IsAtStep, forget, forget_frame, forget_kind}
+use Rattle.code_semantics.proofs.Laws.{forget_stepped, forget_code_kind}
 use Rattle.node_heap.specs.Heaps.{HeapOf, object_at, put_object}
 use Rattle.object_interp.specs.declared.words.Burst.TheVariants as B
+use Rattle.object_interp.specs.declared.words.Hand.TheVariants as H
+use Rattle.object_interp.specs.Offers.{hand_of, need_of}
 use Rattle.object_interp.specs.Bursts as S
 use Rattle.object_interp.specs.Bursts.{IsBurst, burst_from, name_in, room_in}
 use Rattle.coded_objects.specs.Coded.{Placed, coded, kind_of, under_way, placed}
 use Rattle.mesh_semantics.specs.Kind.{is_local}
 use Rattle.mesh_semantics.specs.Act.{greatest}
 use Rattle.mesh_semantics.specs.Language.{Language}
-use Rattle.mesh_semantics.specs.Partial.{◌>>=◌}
+use Rattle.run_words.specs.Partial.{◌>>=◌}
 use Rattle.node_semantics.specs.Node as N
 use Rattle.node_semantics.specs.Node.{Slot, NodeState, NodeActed, frames_in, local_act, local_state, name_at, put_state, room_for, set_at, steps_of, within_node}
 use Rattle.node_parts.specs.declared.parts.Parts.{Parts}
-use Rattle.pool_node.specs.declared.words.Act.TheVariants as A
+use Rattle.pool_node.specs.ActOf as A
 use Rattle.node_parts.specs.Views.{numbers_of, slots_of, node_of, slot_at, refreshed}
 use Rattle.pool_node.specs.Made.{IsSet, IsTurned, turn_at}
 use Rattle.node_parts.proofs.Laws.{slot_real, by_heap, burst_changed, numbers_stepped}
@@ -59,6 +61,24 @@ forgotten_local _ = refl
 local_is : (k : C.Kind) → S.is_local k ≡ true → k ≡ C.Local
 local_is C.Local e = refl
 local_is _ e = absurd (cc)
+
+-- a burst of some steps begins at a local one
+pub begins_local : (u : Code) (o room q k : ℕ) (x : CodeObject) → (burst_from u o room q x).0 ≡ k → 0 < k → code_kind u x ≡ C.Local
+begins_local u o room zero k x e some = absurd (omega (arith, e, some))
+begins_local u o room (suc q) k x e some = by (S.can_step u o room x) refl
+  where
+    left : (a b : Bool) → (a && b) ≡ true → a ≡ true
+    left true b z = refl
+    left false b z = absurd (cc)
+
+    by : (b : Bool) → S.can_step u o room x ≡ b → code_kind u x ≡ C.Local
+    by true z = local_is (code_kind u x) (left (S.is_local (code_kind u x)) (nat_le (length (code_stepped u o x).frames) room) z)
+    by false z = let none : (burst_from u o room (suc q) x).0 ≡ 0 = rw z refl in absurd (omega (arith, none, e, some))
+
+-- what is at hand where that is no local step
+pub none_local : (u : Code) (k : C.Kind) → S.is_local k ≡ false → H.At (need_of u k) ≡ hand_of u k
+none_local u C.Local e = absurd (cc)
+none_local u _ e = refl
 
 forgotten_way : (fs : List Frame) → under_way (map forget_frame fs) ≡ under_way fs
 forgotten_way [] = refl

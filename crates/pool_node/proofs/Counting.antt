@@ -4,24 +4,25 @@ use Rattle.std.specs.Prelude.{slice_get, nat_lt}
 use Rattle.std.specs.List.{sum_by}
 use Rattle.std.proofs.lemmas.List.Sums.{sum_by-cons, sum_by_push}
 use Rattle.std.proofs.lemmas.Bool.Decides.{nat_tests}
-use Rattle.pool_syntax.specs.declared.words.Value.{Value}
-use Rattle.pool_syntax.specs.declared.words.Error.{Error}
-use Rattle.pool_syntax.specs.declared.words.What.{What}
-use Rattle.pool_syntax.specs.declared.words.FullKind.TheVariants as F
-use Rattle.pool_syntax.specs.declared.words.Placement.{Placement}
-use Rattle.object_code.specs.declared.unit.ClassCode.{ClassCode}
-use Rattle.object_code.specs.declared.unit.CodeObject.{CodeObject}
-use Rattle.object_code.specs.declared.unit.Frame.{Frame}
-use Rattle.object_code.specs.declared.unit.Unit.{Unit as Code}
-use Rattle.unit_objects.specs.OfUnit.{AreFramesOf, FitsUnit, forget_frame}
+use Rattle.run_words.specs.declared.words.Value.{Value}
+use Rattle.run_words.specs.declared.words.Error.{Error}
+use Rattle.run_words.specs.declared.words.What.{What}
+use Rattle.run_words.specs.declared.words.FullKind.TheVariants as F
+use Rattle.run_words.specs.declared.words.Placement.{Placement}
+use Rattle.code_semantics.specs.declared.unit.ClassCode.{ClassCode}
+use Rattle.run_words.specs.declared.frames.CodeObject.{CodeObject}
+use Rattle.run_words.specs.declared.frames.Frame.{Frame}
+use Rattle.code_semantics.specs.declared.unit.Unit.{Unit as Code}
+use Rattle.code_semantics.specs.OfUnit.{AreFramesOf, FitsUnit, forget_frame}
 use Rattle.node_heap.specs.Heaps.{frames_of, frames_used, object_at, no_object}
 use Rattle.mailbox.specs.declared.Message.{Message}
 use Rattle.mailbox.specs.Mail.{lengths}
 use Rattle.coded_objects.specs.Coded.{Placed, coded, under_way}
 use Rattle.mesh_semantics.specs.Language.{Language}
-use Rattle.mesh_semantics.proofs.Laws.{same_some}
+use Rattle.run_words.proofs.Laws.{same_some}
 use Rattle.node_semantics.specs.Node as N
-use Rattle.node_semantics.specs.Node.{Slot, NodeState, NodeActed, NumberedPacket, NumberedArrival, set_at, message_count, frames_in, packet_count, within_node}
+use Rattle.node_semantics.specs.Node.{Slot, NodeState, NodeActed, NumberedArrival, set_at, message_count, frames_in, packet_count, within_node}
+use Rattle.mesh_semantics.specs.Delay.{NumberedPacket}
 use Rattle.node_parts.specs.declared.parts.Parts.{Parts}
 use Rattle.node_parts.specs.OfUnit.{IsOfUnit}
 use Rattle.node_parts.specs.Views.{IsWhole, arrivals_of, head_or, tail_of, slot_by, slots_by, slots_of, node_of}

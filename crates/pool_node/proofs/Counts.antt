@@ -2,23 +2,24 @@
 use Rattle.std.proofs.Common.{◌≡◌, refl, sym, ap, subst, ◌∙◌, ℕ, zero, suc, ◌+◌, ◌<◌, ◌≤◌, ◌==◌, List, [], ◌∷◌, Option, Some, None, Bool, true, false, if◌then◌else◌, arith}
 use Rattle.std.specs.Prelude.{slice_get, nat_lt}
 use Rattle.std.specs.Option.{unwrap_or}
-use Rattle.pool_syntax.specs.declared.words.Value.{Value}
-use Rattle.pool_syntax.specs.declared.words.What.{What}
-use Rattle.pool_syntax.specs.declared.words.What.TheVariants as W
-use Rattle.pool_syntax.specs.declared.words.FullKind.TheVariants as F
-use Rattle.pool_syntax.specs.declared.words.Placement.{Placement}
+use Rattle.run_words.specs.declared.words.Value.{Value}
+use Rattle.run_words.specs.declared.words.What.{What}
+use Rattle.run_words.specs.declared.words.What.TheVariants as W
+use Rattle.run_words.specs.declared.words.FullKind.TheVariants as F
+use Rattle.run_words.specs.declared.words.Placement.{Placement}
 use Rattle.mesh_semantics.specs.Kind as K
 use Rattle.mesh_semantics.specs.Kind.{Kind, Alternative, answered}
 use Rattle.mesh_semantics.specs.Language.{Language}
 use Rattle.mesh_semantics.specs.Delay as D
-use Rattle.mesh_semantics.specs.Delay.{Packet, Arrival}
+use Rattle.run_words.specs.ObjectNames as DObjectNames
+use Rattle.mesh_semantics.specs.Delay.{Packet, Arrival, NumberedPacket}
 use Rattle.mesh_semantics.specs.Act.{class_place, id, is_possible}
-use Rattle.mesh_semantics.specs.Sound.{Each}
+use Rattle.run_words.specs.Tables.{Each}
 use Rattle.coded_objects.specs.Coded.{Placed}
 use Rattle.node_semantics.specs.Node as N
-use Rattle.node_semantics.specs.Node.{Slot, NodeState, NodeActed, NumberedArrival, NumberedPacket, arrivals, chosen_act, choice_act, create_act, created_for, count_one, deliver, deliver_in, first_on, give_back, goal_here, local_act, local_state, made_own, message_act, message_count, packet_count, frames_in, put_request, put_state, receipt, receipt_act, return_act, room_for, serve_act, settle_number, settled, slot_act, slot_in_turn, steps_of, taken_act, turn_act, turn_of_slot, name_at, set_at, within_node}
-use Rattle.pool_node.specs.declared.words.Act.{Act}
-use Rattle.pool_node.specs.declared.words.Act.TheVariants as A
+use Rattle.node_semantics.specs.Node.{Slot, NodeState, NodeActed, NumberedArrival, arrivals, chosen_act, choice_act, create_act, created_for, count_one, deliver, deliver_in, first_on, give_back, goal_here, local_act, local_state, made_own, message_act, message_count, packet_count, frames_in, put_request, put_state, receipt, receipt_act, return_act, room_for, serve_act, settle_number, settled, slot_act, slot_in_turn, steps_of, taken_act, turn_act, turn_of_slot, name_at, set_at, within_node}
+use Rattle.pool_node.specs.ActOf.{Act}
+use Rattle.pool_node.specs.ActOf as A
 use Rattle.node_parts.specs.NodeOf.{NodeOf}
 use Rattle.pool_node.specs.Acts.{IsActOf}
 
@@ -48,10 +49,10 @@ module _ (g : Language Placed) (P : List ℕ → Type 0) where
   delivered_made i a x (Some s) = refl
 
   message_counts : (n : ℕ) (w : What) (x : NodeState Placed) (b : ℕ) (a : NumberedArrival) (p : Packet) → P x.made → Counts P (message_act n w x b a p)
-  message_counts n w x b a p h = by (D.node_of b == n)
+  message_counts n w x b a p h = by (DObjectNames.node_of b == n)
     where
       by : (t : Bool) → Counts P (if t then N.Acts w None (deliver b a x) else N.Acts w (Some (record { number = a.number; packet = p })) x)
-      by true = subst P (sym (delivered_made (D.slot_of b) a x (slice_get x.slots (D.slot_of b)))) h
+      by true = subst P (sym (delivered_made (DObjectNames.slot_of b) a x (slice_get x.slots (DObjectNames.slot_of b)))) h
       by false = h
 
   taken_counts : (w : What) (x : NodeState Placed) (names callers : List ℕ) (i : ℕ) (s : Slot Placed) (y : Option Placed) → P x.made → Counts P (taken_act w x names callers i s y)
@@ -77,7 +78,7 @@ module _ (g : Language Placed) (P : List ℕ → Type 0) where
       by false r = r
 
   back_counts : (n number : ℕ) (w : What) (k : ℕ) (v : Value) (x : NodeState Placed) → P x.made → Counts P (give_back g n number w k v x)
-  back_counts n number w k v x h = by (D.node_of k == n)
+  back_counts n number w k v x h = by (DObjectNames.node_of k == n)
     where
       by : (t : Bool) → Counts P (if t then N.Acts w None (record x { slots = settled g number v x.slots }) else N.Acts w (Some (record { number = Some number; packet = D.Result k v })) x)
       by true = h
@@ -138,9 +139,9 @@ module _ (g : Language Placed) (P : List ℕ → Type 0) where
   receipt_counts : (n : ℕ) (x : NodeState Placed) (number : Option ℕ) (p : Packet) → P x.made → Counts P (receipt g n x number p)
   receipt_counts n x number (D.Create o goal class) h = created_counts n x number o class (g.made class) h
   receipt_counts n x number (D.Created o name) h = settle_counts _ number x h
-  receipt_counts n x number (D.Request o r m args) h = subst P (sym (delivered_made (D.slot_of r) _ x (slice_get x.slots (D.slot_of r)))) h
+  receipt_counts n x number (D.Request o r m args) h = subst P (sym (delivered_made (DObjectNames.slot_of r) _ x (slice_get x.slots (DObjectNames.slot_of r)))) h
   receipt_counts n x number (D.Result o v) h = settle_counts v number x h
-  receipt_counts n x number (D.Async o r m args) h = subst P (sym (delivered_made (D.slot_of r) _ x (slice_get x.slots (D.slot_of r)))) h
+  receipt_counts n x number (D.Async o r m args) h = subst P (sym (delivered_made (DObjectNames.slot_of r) _ x (slice_get x.slots (DObjectNames.slot_of r)))) h
 
 -- the counts of the node after it
 acted_counts : (P : List ℕ → Type 0) (act : Act) (old new : NodeOf) (a : NodeActed Placed) → IsActOf act old new a → Counts P a → P old.state.made → P new.state.made

@@ -1,42 +1,42 @@
 -- The step of an object that makes an object.
-use Rattle.std.proofs.Common.{◌≡◌, ◌≢◌, refl, sym, ap, ap₂, subst, ◌∙◌, ℕ, zero, suc, ◌+◌, ◌-◌, ◌^◌, ◌<◌, ◌≤◌, ◌==◌, not, List, [], ◌∷◌, ◌++◌, length, get_or, Option, Some, None, Bool, true, false, if◌then◌else◌, arith}
+use Rattle.std.proofs.Common.{◌≡◌, ◌≢◌, refl, sym, ap, ap₂, subst, ◌∙◌, ℕ, zero, suc, ◌+◌, ◌-◌, ◌^◌, ◌<◌, ◌≤◌, ◌==◌, not, List, [], ◌∷◌, ◌++◌, length, get_or, Option, Some, None, Bool, true, false, if◌then◌else◌, arith, ltb-true}
 use Rattle.std.specs.Prelude.{slice_get, slice_set, nat_lt}
 use Rattle.std.specs.Option.{unwrap_or}
 use Rattle.std.proofs.lemmas.List.{length-set, length_push}
-use Rattle.pool_syntax.specs.declared.words.Value.TheVariants as V
-use Rattle.pool_syntax.specs.declared.words.NameId.{NameId}
-use Rattle.pool_syntax.specs.declared.words.Label.TheVariants as L
-use Rattle.pool_syntax.specs.declared.words.What.{What}
-use Rattle.pool_syntax.specs.declared.words.What.TheVariants as W
-use Rattle.pool_syntax.specs.declared.words.FullKind.TheVariants as F
-use Rattle.pool_syntax.specs.declared.words.Placement.{Placement}
-use Rattle.object_code.specs.declared.unit.ClassCode.{ClassCode}
-use Rattle.object_code.specs.declared.unit.CodeObject.{CodeObject}
-use Rattle.object_code.specs.declared.unit.Unit.{Unit as Code}
-use Rattle.object_code.specs.Kinds as C
-use Rattle.object_code.specs.Kinds.{code_kind}
-use Rattle.object_code.specs.Step.{class_from, code_made, code_placed, placed_at}
-use Rattle.unit_objects.specs.OfUnit.{AnyValue, FitsUnit}
-use Rattle.unit_objects.proofs.Laws.{made_there}
-use Rattle.object_code.specs.Proper.{IsProper}
-use Rattle.mesh_semantics.specs.Sound.{Each}
+use Rattle.run_words.specs.declared.words.Value.TheVariants as V
+use Rattle.run_words.specs.declared.words.NameId.{NameId}
+use Rattle.run_words.specs.declared.words.Label.TheVariants as L
+use Rattle.run_words.specs.declared.words.What.{What}
+use Rattle.run_words.specs.declared.words.What.TheVariants as W
+use Rattle.run_words.specs.declared.words.FullKind.TheVariants as F
+use Rattle.run_words.specs.declared.words.Placement.{Placement}
+use Rattle.code_semantics.specs.declared.unit.ClassCode.{ClassCode}
+use Rattle.run_words.specs.declared.frames.CodeObject.{CodeObject}
+use Rattle.code_semantics.specs.declared.unit.Unit.{Unit as Code}
+use Rattle.code_semantics.specs.Kinds as C
+use Rattle.code_semantics.specs.Kinds.{code_kind}
+use Rattle.code_semantics.specs.Step.{class_from, code_made, code_placed, placed_at}
+use Rattle.code_semantics.specs.OfUnit.{AnyValue, FitsUnit}
+use Rattle.code_semantics.proofs.Laws.{made_there}
+use Rattle.code_semantics.specs.Proper.{IsProper}
+use Rattle.run_words.specs.Tables.{Each}
 use Rattle.node_heap.specs.Heaps.{object_at, frames_used, unbegun}
 use Rattle.object_interp.specs.Rest.{settled_at}
 use Rattle.coded_objects.specs.Coded as E
 use Rattle.coded_objects.specs.Coded.{Placed, coded, kind_of, class_numbers, under_way}
 use Rattle.mesh_semantics.specs.Delay as D
 use Rattle.mesh_semantics.specs.Act.{class_place, id}
-use Rattle.mesh_semantics.specs.Partial.{◌>>=◌}
+use Rattle.run_words.specs.Partial.{◌>>=◌}
 use Rattle.mesh_semantics.specs.Kind.{Kind}
-use Rattle.mesh_semantics.proofs.Laws.{equal, equals, same_some}
+use Rattle.run_words.proofs.Laws.{equal, equals, same_some}
 use Rattle.node_semantics.specs.Node as N
 use Rattle.node_semantics.specs.Node.{Slot, NodeState, NodeActed, add_slot, count_one, create_act, fresh_slot, frames_in, goal_for, goal_here, made_here, made_own, message_count, name_at, put_request, put_state, set_at, slot_act, within_node}
-use Rattle.node_semantics.specs.Requests.{posts_request}
+use Rattle.mesh_semantics.specs.Requests.{posts_request}
 use Rattle.node_semantics.specs.Agrees.{IsUnused}
 use Rattle.node_semantics.proofs.NamesAndSlots.{front_there, set_length}
 use Rattle.rendezvous_protocol.specs.declared.packet.Packet.TheVariants as P
 use Rattle.node_parts.specs.declared.parts.Parts.{Parts}
-use Rattle.pool_node.specs.declared.words.Act.TheVariants as A
+use Rattle.pool_node.specs.ActOf as A
 use Rattle.node_parts.specs.NodeOf.{NodeOf}
 use Rattle.node_parts.specs.OfUnit.{IsOfUnit}
 use Rattle.node_parts.specs.Views.{IsWhole, slots_of, node_of, slot_at}
@@ -45,7 +45,7 @@ use Rattle.pool_node.specs.Made.{IsSet, IsTurned, IsMoved, turn_at}
 use Rattle.node_parts.proofs.Laws.{slots_length, slot_real, kind_seen, got, below_length, length_given, settled_placed}
 use Rattle.pool_node.proofs.Counting.{frames_seen, frames_set, frames_add, messages_add, within_heap, within_frames, within_cells}
 use Rattle.pool_node.proofs.Turning.{here, moved, moved_state, moved_line, moved_twice, turn_is, turned, same_messages}
-use Rattle.pool_node.proofs.Posting.{within_objects, within_less, lt_of, lt_not, under_le}
+use Rattle.pool_node.proofs.Posting.{within_objects, within_less, lt_not, under_le}
 
 set_is : {X : Type 0} (xs : List X) (i : ℕ) (y : X) → slice_set xs i y ≡ set_at xs i y
 set_is [] i y = refl
@@ -309,7 +309,7 @@ module _ (u : Code) (l : Placement) (leaving : ℕ) (p : Parts) (set : IsSet u l
           moved_line u p r (later number) all l leaving (W.PostCreate from' class goal) (Some (P.Create number from' goal class)) (turn_at u l n number p i)
               (there_turn n number ∙ ap₂ (λ (z : ℕ) (d : NameId). N.Acts (W.PostCreate z d goal) (Some (record { number = Some number; packet = D.Create z goal d.0 })) (later number)) (sym ef) (sym ek))
               (let a = same_messages u l leaving p set i h (asked number) refl in
-              let b = lt_of (message_count (slots_of p) + leaving) l.cells (is_true (nat_lt (message_count (slots_of p) + leaving) l.cells) room) in omega (arith, a, b)),
+              let b = ltb-true (message_count (slots_of p) + leaving) l.cells (is_true (nat_lt (message_count (slots_of p) + leaving) l.cells) room) in omega (arith, a, b)),
         )
       where
         is_true : (b : Bool) → false ≡ not b → b ≡ true

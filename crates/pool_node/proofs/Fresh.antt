@@ -2,14 +2,14 @@
 use Rattle.std.proofs.Common.{◌≡◌, ◌≤◌, ℕ, zero, suc, List, [], ◌∷◌, length, get_or, Option, None, false, replicate, refl, ap, sym, subst, ◌∙◌, arith}
 use Rattle.std.proofs.lemmas.List.{length-replicate}
 use Rattle.std.specs.Prelude.{take}
-use Rattle.object_code.specs.declared.unit.ClassCode.{ClassCode}
-use Rattle.object_code.specs.declared.unit.Unit.{Unit as Code}
+use Rattle.code_semantics.specs.declared.unit.ClassCode.{ClassCode}
+use Rattle.code_semantics.specs.declared.unit.Unit.{Unit as Code}
 use Rattle.coded_objects.specs.Coded.{class_numbers, coded}
 use Rattle.node_semantics.specs.Machine.{empty_node}
 use Rattle.node_parts.specs.declared.parts.Parts.{Parts}
 use Rattle.mailbox.specs.Mail.{Mail, box_of, mail}
 use Rattle.mailbox.specs.declared.Message.{Message}
-use Rattle.pool_syntax.specs.declared.words.Error.{Error}
+use Rattle.run_words.specs.declared.words.Error.{Error}
 use Rattle.node_parts.specs.Views.{IsWhole, node_of, slots_by}
 
 pub numbers_length : (ks : List ClassCode) → length (class_numbers ks) ≡ length ks

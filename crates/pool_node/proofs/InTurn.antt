@@ -1,12 +1,12 @@
 -- Whose turn it is, by the bits.
 use Rattle.std.proofs.Common.{◌≡◌, refl, sym, ap, ap₂, subst, ◌∙◌, ℕ, zero, suc, ◌+◌, ◌<◌, ◌&&◌, List, [], ◌∷◌, drop, map, Option, Some, None, is_none, Bool, true, false, arith}
 use Rattle.std.specs.Prelude.{slice_get, filter, nat_lt}
-use Rattle.std.specs.Option.{option_map}
+use Rattle.std.specs.Option.{option_map, option_or}
 use Rattle.std.proofs.lemmas.Bool.Decides.{nat_tests}
-use Rattle.mesh_semantics.specs.Act.{first_of, or_else, can_step}
+use Rattle.mesh_semantics.specs.Act.{first_of, can_step}
 use Rattle.mesh_semantics.specs.Language.{Language}
-use Rattle.mesh_semantics.specs.Sound.{Each}
-use Rattle.mesh_semantics.proofs.Laws.{first, second, same_some}
+use Rattle.run_words.specs.Tables.{Each}
+use Rattle.run_words.proofs.Laws.{first, second, same_some}
 use Rattle.node_semantics.specs.Node.{Slot, NodeState, arrivals, can_go, comes_after, name_at, placed, ready_slots, slot_in_turn}
 use Rattle.ready_set.specs.Bits.{first_bit}
 use Rattle.pool_node.specs.Bits.{bit_in_turn}
@@ -52,11 +52,11 @@ module _ {S : Type 0} (f : ℕ × Slot S → Bool) where
   filter_all [] = refl
   filter_all (e ∷ es) = ap (λ (z : List (ℕ × Slot S)). e ∷ z) (filter_all es)
 
-or_else_map : {X Y : Type 0} (f : X → Y) (a b : Option X) → option_map f (or_else a b) ≡ or_else (option_map f a) (option_map f b)
+or_else_map : {X Y : Type 0} (f : X → Y) (a b : Option X) → option_map f (option_or a b) ≡ option_or (option_map f a) (option_map f b)
 or_else_map f None b = refl
 or_else_map f (Some x) b = refl
 
-or_else_same : {X : Type 0} (a : Option X) → or_else a a ≡ a
+or_else_same : {X : Type 0} (a : Option X) → option_or a a ≡ a
 or_else_same None = refl
 or_else_same (Some x) = refl
 
@@ -64,14 +64,14 @@ module _ {S : Type 0} (g : Language S) (n : ℕ) (x : NodeState S) where
   pub turn_bits : option_map (λ (e : ℕ × Slot S). e.0) (slot_in_turn g n x) ≡ bit_in_turn x.last (map (can_go g n) (placed 0 x.slots))
   turn_bits = or_else_map (λ (e : ℕ × Slot S). e.0) (first_of (filter (λ e. comes_after x.last e.0) (ready_slots g n x))) (first_of (ready_slots g n x)) ∙ by x.last
     where
-      by : (last : Option ℕ) → or_else (option_map (λ (e : ℕ × Slot S). e.0) (first_of (filter (λ e. comes_after last e.0) (ready_slots g n x))))
+      by : (last : Option ℕ) → option_or (option_map (λ (e : ℕ × Slot S). e.0) (first_of (filter (λ e. comes_after last e.0) (ready_slots g n x))))
           (option_map (λ (e : ℕ × Slot S). e.0) (first_of (ready_slots g n x))) ≡ bit_in_turn last (map (can_go g n) (placed 0 x.slots))
       by None =
-          ap (λ (es : List (ℕ × Slot S)). or_else (option_map (λ (e : ℕ × Slot S). e.0) (first_of es)) (option_map (λ (e : ℕ × Slot S). e.0) (first_of (ready_slots g n x)))) (filter_all (can_go g n) (ready_slots g n x))
+          ap (λ (es : List (ℕ × Slot S)). option_or (option_map (λ (e : ℕ × Slot S). e.0) (first_of es)) (option_map (λ (e : ℕ × Slot S). e.0) (first_of (ready_slots g n x)))) (filter_all (can_go g n) (ready_slots g n x))
           ∙ (or_else_same (option_map (λ (e : ℕ × Slot S). e.0) (first_of (ready_slots g n x))) ∙ bits_first (can_go g n) 0 x.slots)
       by (Some last) =
           let e : last + 1 ≡ 0 + (last + 1) = omega arith in
-          ap₂ (λ (a b : Option ℕ). or_else a b) (bits_above (can_go g n) last (last + 1) 0 x.slots e) (bits_first (can_go g n) 0 x.slots)
+          ap₂ (λ (a b : Option ℕ). option_or a b) (bits_above (can_go g n) last (last + 1) 0 x.slots e) (bits_first (can_go g n) 0 x.slots)
 
   -- a slot that is ready, at its place
   abbrev IsReady : ℕ × Slot S → Type 0
@@ -103,7 +103,7 @@ module _ {S : Type 0} (g : Language S) (n : ℕ) (x : NodeState S) where
   pub in_turn : (e : ℕ × Slot S) → slot_in_turn g n x ≡ Some e → IsReady e
   in_turn e = by (first_of (filter (λ e. comes_after x.last e.0) (ready_slots g n x))) refl
     where
-      by : (z : Option (ℕ × Slot S)) → first_of (filter (λ e. comes_after x.last e.0) (ready_slots g n x)) ≡ z → or_else z (first_of (ready_slots g n x)) ≡ Some e → IsReady e
+      by : (z : Option (ℕ × Slot S)) → first_of (filter (λ e. comes_after x.last e.0) (ready_slots g n x)) ≡ z → option_or z (first_of (ready_slots g n x)) ≡ Some e → IsReady e
       by None h i = each_first IsReady (ready_slots g n x) e i ready
       by (Some y) h i = (each_first (λ z. IsReady z × (comes_after x.last z.0 ≡ true)) (filter (λ z. comes_after x.last z.0) (ready_slots g n x)) e (h ∙ i)
           (each_filter IsReady (λ z. comes_after x.last z.0) (ready_slots g n x) ready)).0

@@ -1,31 +1,32 @@
 -- Messages that are posted.
-use Rattle.std.proofs.Common.{◌≡◌, refl, sym, ap, ap₂, subst, ◌∙◌, ℕ, ◌+◌, ◌<◌, ◌≤◌, ◌==◌, ◌&&◌, ◌||◌, not, List, [], ◌∷◌, length, Option, Some, None, Bool, true, false, if◌then◌else◌, arith}
+use Rattle.std.proofs.Common.{◌≡◌, refl, sym, ap, ap₂, subst, ◌∙◌, ℕ, ◌+◌, ◌<◌, ◌≤◌, ◌==◌, ◌&&◌, ◌||◌, not, List, [], ◌∷◌, length, Option, Some, None, Bool, true, false, if◌then◌else◌, arith, ltb-true}
 use Rattle.std.specs.Prelude.{nat_lt, nat_le}
 use Rattle.std.proofs.lemmas.Bool.Decides.{nat_tests}
-use Rattle.pool_syntax.specs.declared.words.Value.{Value}
-use Rattle.pool_syntax.specs.declared.words.NameId.{NameId}
-use Rattle.pool_syntax.specs.declared.words.Label.TheVariants as L
-use Rattle.pool_syntax.specs.declared.words.What.{What}
-use Rattle.pool_syntax.specs.declared.words.What.TheVariants as W
-use Rattle.pool_syntax.specs.declared.words.FullKind.TheVariants as F
-use Rattle.pool_syntax.specs.declared.words.Placement.{Placement}
-use Rattle.object_code.specs.declared.unit.Frame.{Frame}
-use Rattle.object_code.specs.declared.unit.Unit.{Unit as Code}
-use Rattle.object_code.specs.Kinds as C
-use Rattle.object_code.specs.Kinds.{code_kind}
+use Rattle.run_words.specs.declared.words.Value.{Value}
+use Rattle.run_words.specs.declared.words.NameId.{NameId}
+use Rattle.run_words.specs.declared.words.Label.TheVariants as L
+use Rattle.run_words.specs.declared.words.What.{What}
+use Rattle.run_words.specs.declared.words.What.TheVariants as W
+use Rattle.run_words.specs.declared.words.FullKind.TheVariants as F
+use Rattle.run_words.specs.declared.words.Placement.{Placement}
+use Rattle.run_words.specs.declared.frames.Frame.{Frame}
+use Rattle.code_semantics.specs.declared.unit.Unit.{Unit as Code}
+use Rattle.code_semantics.specs.Kinds as C
+use Rattle.code_semantics.specs.Kinds.{code_kind}
 use Rattle.node_heap.specs.Heaps.{object_at}
 use Rattle.mailbox.specs.declared.Message.{Message}
 use Rattle.mailbox.specs.Mail.{lengths}
 use Rattle.coded_objects.specs.Coded.{Placed, coded, under_way}
-use Rattle.mesh_semantics.specs.Delay as D
-use Rattle.mesh_semantics.proofs.Laws.{equal, equals}
+use Rattle.run_words.specs.ObjectNames as D
+use Rattle.run_words.proofs.Laws.{equal, equals}
 use Rattle.node_semantics.specs.Node as N
-use Rattle.node_semantics.specs.Node.{Slot, NodeState, NodeActed, deliver, frames_in, message_act, message_count, name_at, put_state, put_request, set_at, slot_act, within_node}
+use Rattle.mesh_semantics.specs.Delay as NDelay
+use Rattle.node_semantics.specs.Node.{Slot, NodeState, NodeActed, deliver, frames_in, message_count, name_at, put_state, put_request, set_at, within_node}
 use Rattle.node_semantics.specs.Agrees.{IsUnused}
 use Rattle.node_semantics.proofs.Laws.{set_length}
 use Rattle.rendezvous_protocol.specs.declared.packet.Packet.{Packet}
 use Rattle.node_parts.specs.declared.parts.Parts.{Parts}
-use Rattle.pool_node.specs.declared.words.Act.TheVariants as A
+use Rattle.pool_node.specs.ActOf as A
 use Rattle.node_parts.specs.NodeOf.{NodeOf}
 use Rattle.node_parts.specs.Views.{IsWhole, arrival_of, slots_of, node_of, slot_at}
 use Rattle.node_parts.specs.Changes.{IsChanged}
@@ -52,9 +53,6 @@ lacks_not true false c e = absurd (cc)
 lacks_not false b true e = absurd (cc)
 lacks_not false b false e = (refl, λ f. absurd (cc))
 
-pub lt_of : (a b : ℕ) → nat_lt a b ≡ true → a < b
-lt_of a b h = grind (arith, nat_tests)
-
 pub lt_not : (a b : ℕ) → nat_lt a b ≡ false → b ≤ a
 lt_not a b h = grind (arith, nat_tests)
 
@@ -70,17 +68,17 @@ same_eq a b e = subst (λ (z : ℕ). (a == z) ≡ true) e (equals a)
 module _ (l : Placement) (leaving : ℕ) (n : NodeOf) (to : ℕ) where
   pub has_room : lacks_cell l leaving n to ≡ false → D.node_of to ≡ n.id → D.slot_of to < length n.state.slots → message_count n.state.slots + leaving < l.cells
   has_room h e k =
-      lt_of (message_count n.state.slots + leaving) l.cells ((lacks_by (D.node_of to == n.id) (nat_lt (D.slot_of to) (length n.state.slots)) (nat_lt (message_count n.state.slots + leaving) l.cells) h).0
+      ltb-true (message_count n.state.slots + leaving) l.cells ((lacks_by (D.node_of to == n.id) (nat_lt (D.slot_of to) (length n.state.slots)) (nat_lt (message_count n.state.slots + leaving) l.cells) h).0
       (same_eq (D.node_of to) n.id e) (lt_is (D.slot_of to) (length n.state.slots) k))
 
   pub has_way : lacks_cell l leaving n to ≡ false → (D.node_of to == n.id) ≡ false → message_count n.state.slots + leaving < l.cells
   has_way h e =
-      lt_of (message_count n.state.slots + leaving) l.cells ((lacks_by (D.node_of to == n.id) (nat_lt (D.slot_of to) (length n.state.slots)) (nat_lt (message_count n.state.slots + leaving) l.cells) h).1 e)
+      ltb-true (message_count n.state.slots + leaving) l.cells ((lacks_by (D.node_of to == n.id) (nat_lt (D.slot_of to) (length n.state.slots)) (nat_lt (message_count n.state.slots + leaving) l.cells) h).1 e)
 
   pub has_none : lacks_cell l leaving n to ≡ true → (l.cells ≤ message_count n.state.slots + leaving) × ((D.node_of to == n.id) ≡ true → D.slot_of to < length n.state.slots)
   has_none h =
       let w = lacks_not (D.node_of to == n.id) (nat_lt (D.slot_of to) (length n.state.slots)) (nat_lt (message_count n.state.slots + leaving) l.cells) h in
-      (lt_not (message_count n.state.slots + leaving) l.cells w.0, λ e. lt_of (D.slot_of to) (length n.state.slots) (w.1 e))
+      (lt_not (message_count n.state.slots + leaving) l.cells w.0, λ e. ltb-true (D.slot_of to) (length n.state.slots) (w.1 e))
 
   pub lacks_not_there : D.node_of to ≡ n.id → length n.state.slots ≤ D.slot_of to → false ≡ lacks_cell l leaving n to
   lacks_not_there e k = rw (same_eq (D.node_of to) n.id e, lt_isnt (D.slot_of to) (length n.state.slots) k) refl
@@ -105,7 +103,7 @@ posted_here u l leaving what p q to m e k cells has =
   where
     by : (b : Bool) → nat_lt (D.slot_of to) (length (slots_of p)) ≡ b → message_count (deliver to (arrival_of m) (node_of p).state).slots + leaving + 0 ≤ l.cells
     by true t =
-        let h = lt_of (D.slot_of to) (length (slots_of p)) t in
+        let h = ltb-true (D.slot_of to) (length (slots_of p)) t in
         let c = delivered_one u to (arrival_of m) (node_of p).state h in
         let r = has_room l leaving (node_of p) to has e h in omega (arith, c, r)
     by false t = let c = delivered_none u to (arrival_of m) (node_of p).state (lt_not (D.slot_of to) (length (slots_of p)) t) in omega (arith, c, cells)
@@ -158,7 +156,7 @@ module _ (u : Code) (l : Placement) (leaving : ℕ) (p : Parts) (set : IsSet u l
       by false e =
           let none = has_none l leaving (node_of p) to lacks in
           let a = arrival_of m in
-          let pk : Option N.NumberedPacket = Some (record { number = a.number; packet = packet_by m.call m.from to m.method.0 m.args }) in
+          let pk : Option NDelay.NumberedPacket = Some (record { number = a.number; packet = packet_by m.call m.from to m.method.0 m.args }) in
           let c₃ = same_messages u l leaving p set i h t same in
           let z = none.0 in
           let z' : l.cells < message_count after.slots + leaving + 1 = omega (arith, c₃, z) in
@@ -259,5 +257,5 @@ pub le_not : (a b : ℕ) → nat_le a b ≡ not (nat_lt b a)
 le_not a b = by (nat_lt b a) refl
   where
     by : (t : Bool) → nat_lt b a ≡ t → nat_le a b ≡ not t
-    by true e = let w = lt_of b a e in grind (arith, nat_tests)
+    by true e = let w = ltb-true b a e in grind (arith, nat_tests)
     by false e = let w = lt_not b a e in grind (arith, nat_tests)

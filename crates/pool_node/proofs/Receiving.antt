@@ -1,27 +1,28 @@
 -- Packets at their goal.
-use Rattle.std.proofs.Common.{◌≡◌, ◌≢◌, inl, inr, refl, sym, ap, ap₂, subst, ◌∙◌, ℕ, zero, suc, ◌+◌, ◌<◌, ◌≤◌, ◌==◌, not, List, [], ◌∷◌, length, drop, get_or, Option, Some, None, Bool, true, false, if◌then◌else◌, arith}
+use Rattle.std.proofs.Common.{◌≡◌, ◌≢◌, inl, inr, refl, sym, ap, ap₂, subst, ◌∙◌, ℕ, zero, suc, ◌+◌, ◌<◌, ◌≤◌, ◌==◌, not, List, [], ◌∷◌, length, drop, get_or, Option, Some, None, Bool, true, false, if◌then◌else◌, arith, ltb-true}
 use Rattle.std.specs.Prelude.{slice_get, nat_lt}
 use Rattle.std.proofs.lemmas.List.{length_push}
-use Rattle.pool_syntax.specs.declared.words.Value.{Value}
-use Rattle.pool_syntax.specs.declared.words.NameId.{NameId}
-use Rattle.pool_syntax.specs.declared.words.Label.TheVariants as L
-use Rattle.pool_syntax.specs.declared.words.What.{What}
-use Rattle.pool_syntax.specs.declared.words.What.TheVariants as W
-use Rattle.pool_syntax.specs.declared.words.FullKind.TheVariants as F
-use Rattle.pool_syntax.specs.declared.words.Placement.{Placement}
-use Rattle.object_code.specs.declared.unit.ClassCode.{ClassCode}
-use Rattle.object_code.specs.declared.unit.CodeObject.{CodeObject}
-use Rattle.object_code.specs.declared.unit.Unit.{Unit as Code}
-use Rattle.object_code.specs.Step.{class_from, code_placed, placed_at, placed_of}
+use Rattle.run_words.specs.declared.words.Value.{Value}
+use Rattle.run_words.specs.declared.words.NameId.{NameId}
+use Rattle.run_words.specs.declared.words.Label.TheVariants as L
+use Rattle.run_words.specs.declared.words.What.{What}
+use Rattle.run_words.specs.declared.words.What.TheVariants as W
+use Rattle.run_words.specs.declared.words.FullKind.TheVariants as F
+use Rattle.run_words.specs.declared.words.Placement.{Placement}
+use Rattle.code_semantics.specs.declared.unit.ClassCode.{ClassCode}
+use Rattle.run_words.specs.declared.frames.CodeObject.{CodeObject}
+use Rattle.code_semantics.specs.declared.unit.Unit.{Unit as Code}
+use Rattle.code_semantics.specs.Step.{class_from, code_placed, placed_at, placed_of}
 use Rattle.node_heap.specs.Heaps.{frames_used}
 use Rattle.mailbox.specs.declared.Message.{Message}
 use Rattle.mailbox.specs.Mail.{lengths}
 use Rattle.coded_objects.specs.Coded as E
 use Rattle.coded_objects.specs.Coded.{Placed, coded, class_numbers, under_way}
 use Rattle.mesh_semantics.specs.Delay as D
-use Rattle.mesh_semantics.specs.Ways.{In}
-use Rattle.mesh_semantics.specs.Partial.{◌>>=◌}
-use Rattle.mesh_semantics.proofs.Laws.{equal, equals, same_some}
+use Rattle.run_words.specs.ObjectNames as DObjectNames
+use Rattle.run_words.specs.Ways.{In}
+use Rattle.run_words.specs.Partial.{◌>>=◌}
+use Rattle.run_words.proofs.Laws.{equal, equals, same_some}
 use Rattle.node_semantics.specs.Node as N
 use Rattle.node_semantics.specs.Node.{Slot, NodeState, NodeActed, add_slot, created_for, deliver, fresh_slot, frames_in, message_count, name_at, receipt, within_node}
 use Rattle.node_semantics.specs.Receives.{HasObject}
@@ -35,7 +36,7 @@ use Rattle.node_parts.proofs.Laws.{slots_length, below_length}
 use Rattle.pool_node.proofs.Counting.{messages_seen, frames_seen, frames_add, messages_add, within_heap, within_frames, within_cells}
 use Rattle.pool_node.proofs.Turning.{moved_line, delivered_length, delivered_frames, delivered_one}
 use Rattle.pool_node.proofs.Returning.{messages_settled}
-use Rattle.pool_node.proofs.Posting.{lt_of, lt_not}
+use Rattle.pool_node.proofs.Posting.{lt_not}
 
 -- the class of a name
 named_step : (n : ℕ) (ks : List ClassCode) (k : NameId) (d : ClassCode) (i : ℕ) → i < length ks
@@ -89,7 +90,7 @@ module _ (u : Code) (l : Placement) (leaving : ℕ) (p : Parts) (set : IsSet u l
     abbrev after : NodeState Placed
     after = add_slot x (E.placed y)
 
-    abbrev packet : Option N.NumberedPacket
+    abbrev packet : Option D.NumberedPacket
     packet = Some (record { number = Some number; packet = D.Created from (name_at p.id (length (slots_of p))) })
 
     made_one : (coded u).made name.0 ≡ Some (E.placed y)
@@ -154,7 +155,7 @@ module _ (u : Code) (l : Placement) (leaving : ℕ) (p : Parts) (set : IsSet u l
         (create_is goal ∙ (ap (λ (j : ℕ). N.Acts (W.Step (L.New from j name) 1) (Some (record { number = Some number; packet = D.Created from j })) after) (sym o)
         ∙ ap (λ (z : What). N.Acts z (Some (record { number = Some number; packet = D.Created from object })) after) (sym w)))
         (let b = messages_add (slots_of p) (fresh_slot (E.placed y)) in
-        let d = lt_of (message_count (slots_of p) + leaving) l.cells (is_true (nat_lt (message_count (slots_of p) + leaving) l.cells) room) in omega (arith, b, d))
+        let d = ltb-true (message_count (slots_of p) + leaving) l.cells (is_true (nat_lt (message_count (slots_of p) + leaving) l.cells) room) in omega (arith, b, d))
       where
         is_true : (b : Bool) → false ≡ not b → b ≡ true
         is_true true e = refl
@@ -165,11 +166,11 @@ module _ (u : Code) (l : Placement) (leaving : ℕ) (p : Parts) (set : IsSet u l
       moved_line u p q (settled_number u number v x) m l leaving what None (N.Acts what None (settled_number u number v x)) refl
       (let a = messages_settled u number v (slots_of p) in let b = set.cells in omega (arith, a, b))
 
-  module _ (to : ℕ) (m : Message) (there : D.slot_of to < length p.heap.objects) (what : What) where
+  module _ (to : ℕ) (m : Message) (there : DObjectNames.slot_of to < length p.heap.objects) (what : What) where
     abbrev arrived : NodeState Placed
     arrived = deliver to (arrival_of m) x
 
-    here : D.slot_of to < length (slots_of p)
+    here : DObjectNames.slot_of to < length (slots_of p)
     here = let a = slots_length p.heap.objects p.outstanding p.faults p.goals p.mailbox.boxes in omega (arith, a, there)
 
     pub message_full : (q : Parts) → q ≡ p → true ≡ not (nat_lt (message_count (slots_of p) + leaving) l.cells) → IsFull u l leaving F.Cells p q (N.Acts what None arrived)
@@ -189,7 +190,7 @@ module _ (u : Code) (l : Placement) (leaving : ℕ) (p : Parts) (set : IsSet u l
         is_false false e = refl
 
     room : false ≡ not (nat_lt (message_count (slots_of p) + leaving) l.cells) → message_count (slots_of p) + leaving < l.cells
-    room e = lt_of (message_count (slots_of p) + leaving) l.cells (is_true (nat_lt (message_count (slots_of p) + leaving) l.cells) e)
+    room e = ltb-true (message_count (slots_of p) + leaving) l.cells (is_true (nat_lt (message_count (slots_of p) + leaving) l.cells) e)
       where
         is_true : (b : Bool) → false ≡ not b → b ≡ true
         is_true true e = refl
@@ -203,7 +204,7 @@ module _ (u : Code) (l : Placement) (leaving : ℕ) (p : Parts) (set : IsSet u l
         moved_line u p q arrived k l leaving what None (N.Acts what None arrived) refl
         (let a = delivered_one u to (arrival_of m) x here in let b = room e in omega (arith, a, b))
 
-pub object_there : (p : Parts) (to : ℕ) → HasObject (node_of p).state to → D.slot_of to < length p.heap.objects
+pub object_there : (p : Parts) (to : ℕ) → HasObject (node_of p).state to → DObjectNames.slot_of to < length p.heap.objects
 object_there p to h =
-    let a = below_length (slots_of p) (D.slot_of to) h.0 h.1 in
+    let a = below_length (slots_of p) (DObjectNames.slot_of to) h.0 h.1 in
     let b = slots_length p.heap.objects p.outstanding p.faults p.goals p.mailbox.boxes in omega (arith, a, b)

@@ -1,20 +1,21 @@
 -- Values that are given back, and those that have come.
-use Rattle.std.proofs.Common.{◌≡◌, refl, sym, ap, subst, ◌∙◌, ℕ, zero, suc, ◌+◌, ◌<◌, ◌≤◌, ◌==◌, ◌||◌, not, List, [], ◌∷◌, length, get_or, Option, Some, None, Bool, true, false, if◌then◌else◌, arith}
+use Rattle.std.proofs.Common.{◌≡◌, refl, sym, ap, subst, ◌∙◌, ℕ, zero, suc, ◌+◌, ◌<◌, ◌≤◌, ◌==◌, ◌||◌, not, List, [], ◌∷◌, length, get_or, Option, Some, None, Bool, true, false, if◌then◌else◌, arith, ltb-true}
 use Rattle.std.specs.Prelude.{slice_get, nat_lt}
 use Rattle.std.specs.List.{list_any}
 use Rattle.std.proofs.lemmas.List.Sums.{sum_by-cons}
-use Rattle.pool_syntax.specs.declared.words.Value.{Value}
-use Rattle.pool_syntax.specs.declared.words.Label.TheVariants as L
-use Rattle.pool_syntax.specs.declared.words.What.{What}
-use Rattle.pool_syntax.specs.declared.words.What.TheVariants as W
-use Rattle.pool_syntax.specs.declared.words.FullKind.TheVariants as F
-use Rattle.pool_syntax.specs.declared.words.Placement.{Placement}
-use Rattle.object_code.specs.declared.unit.Unit.{Unit as Code}
-use Rattle.object_code.specs.Kinds as C
-use Rattle.object_code.specs.Kinds.{code_kind}
+use Rattle.run_words.specs.declared.words.Value.{Value}
+use Rattle.run_words.specs.declared.words.Label.TheVariants as L
+use Rattle.run_words.specs.declared.words.What.{What}
+use Rattle.run_words.specs.declared.words.What.TheVariants as W
+use Rattle.run_words.specs.declared.words.FullKind.TheVariants as F
+use Rattle.run_words.specs.declared.words.Placement.{Placement}
+use Rattle.code_semantics.specs.declared.unit.Unit.{Unit as Code}
+use Rattle.code_semantics.specs.Kinds as C
+use Rattle.code_semantics.specs.Kinds.{code_kind}
 use Rattle.node_heap.specs.Heaps.{object_at}
 use Rattle.coded_objects.specs.Coded.{Placed, coded, under_way}
 use Rattle.mesh_semantics.specs.Delay as D
+use Rattle.run_words.specs.ObjectNames as DObjectNames
 use Rattle.mesh_semantics.specs.Language.{Language}
 use Rattle.node_semantics.specs.Node as N
 use Rattle.node_semantics.specs.Node.{Slot, NodeState, NodeActed, give_back, has_number, message_count, name_at, return_act, set_at, settled, within_node}
@@ -22,7 +23,7 @@ use Rattle.node_semantics.proofs.SettledNumber.{settled_is}
 use Rattle.rendezvous_protocol.specs.declared.packet.Packet.TheVariants as P
 use Rattle.rendezvous_protocol.specs.Numbers.{is_number}
 use Rattle.node_parts.specs.declared.parts.Parts.{Parts}
-use Rattle.pool_node.specs.declared.words.Act.TheVariants as A
+use Rattle.pool_node.specs.ActOf as A
 use Rattle.node_parts.specs.OfUnit.{IsOfUnit}
 use Rattle.node_parts.specs.Views.{IsWhole, tail_of, slots_of, node_of, slot_at}
 use Rattle.node_parts.specs.Changes.{IsChanged}
@@ -30,7 +31,7 @@ use Rattle.pool_node.specs.Made.{IsSet, IsTurned, IsMoved, turn_at}
 use Rattle.node_parts.proofs.Laws.{slot_real, slot_view, returned_number, length_gone_on}
 use Rattle.pool_node.proofs.Counting.{within_cells}
 use Rattle.pool_node.proofs.Turning.{moved, moved_state, moved_line, moved_twice, turn_is, turned, same_messages}
-use Rattle.pool_node.proofs.Posting.{within_objects, within_less, same_eq, lt_of, lt_not, under_le}
+use Rattle.pool_node.proofs.Posting.{within_objects, within_less, same_eq, lt_not, under_le}
 
 -- the number is out for no slot
 none_out : (os : List (Option ℕ)) (number i : ℕ) → list_any (is_number number) os ≡ false → is_number number (get_or os i None) ≡ false
@@ -114,7 +115,7 @@ module _ (u : Code) (l : Placement) (leaving : ℕ) (p : Parts) (set : IsSet u l
   count : message_count after.slots ≡ message_count (slots_of p)
   count = same_messages u l leaving p set i h t refl
 
-  pub return_here : (n : ℕ) (q r : Parts) (what : What) → D.node_of k ≡ p.id → IsChanged u p q i t
+  pub return_here : (n : ℕ) (q r : Parts) (what : What) → DObjectNames.node_of k ≡ p.id → IsChanged u p q i t
       → IsMoved u q r (record (node_of q).state { slots = settled (coded u) number v (slots_of q) }) → what ≡ line
       → IsTurned u l n leaving (A.Line what None) p r i
   return_here n q r what own c m w =
@@ -127,30 +128,30 @@ module _ (u : Code) (l : Placement) (leaving : ℕ) (p : Parts) (set : IsSet u l
       moved_line u p r (record after { slots = settled (coded u) number v after.slots }) both l leaving what None (turn_at u l n fresh p i)
       (turn n fresh
       ∙ (ap (λ (b : Bool). if b then N.Acts line None (record after { slots = settled (coded u) number v after.slots })
-      else N.Acts line (Some (record { number = Some number; packet = D.Result k v })) after) (same_eq (D.node_of k) p.id own)
+      else N.Acts line (Some (record { number = Some number; packet = D.Result k v })) after) (same_eq (DObjectNames.node_of k) p.id own)
       ∙ ap (λ (z : What). N.Acts z None (record after { slots = settled (coded u) number v after.slots })) (sym w)))
       (let a = messages_settled u number v after.slots in let b = count in let z = set.cells in omega (arith, a, b, z)))
 
-  away : (n fresh : ℕ) → (D.node_of k == p.id) ≡ false → turn_at u l n fresh p i ≡ N.Acts line (Some (record { number = Some number; packet = D.Result k v })) after
+  away : (n fresh : ℕ) → (DObjectNames.node_of k == p.id) ≡ false → turn_at u l n fresh p i ≡ N.Acts line (Some (record { number = Some number; packet = D.Result k v })) after
   away n fresh other =
       turn n fresh
       ∙ ap (λ (b : Bool). if b then N.Acts line None (record after { slots = settled (coded u) number v after.slots })
       else N.Acts line (Some (record { number = Some number; packet = D.Result k v })) after) other
 
-  pub return_away : (n : ℕ) (q : Parts) (what : What) → (D.node_of k == p.id) ≡ false → IsChanged u p q i t
+  pub return_away : (n : ℕ) (q : Parts) (what : What) → (DObjectNames.node_of k == p.id) ≡ false → IsChanged u p q i t
       → false ≡ not (nat_lt (message_count (slots_of p) + leaving) l.cells) → what ≡ line
       → IsTurned u l n leaving (A.Line what (Some (P.Result number k v))) p q i
   return_away n q what other c room w =
       turned u l n leaving (A.Line what (Some (P.Result number k v))) p q i (λ fresh.
       moved_line u p q after (moved u p q i t c) l leaving what (Some (P.Result number k v)) (turn_at u l n fresh p i)
       (away n fresh other ∙ ap (λ (z : What). N.Acts z (Some (record { number = Some number; packet = D.Result k v })) after) (sym w))
-      (let a = count in let b = lt_of (message_count (slots_of p) + leaving) l.cells (is_true (nat_lt (message_count (slots_of p) + leaving) l.cells) room) in omega (arith, a, b)))
+      (let a = count in let b = ltb-true (message_count (slots_of p) + leaving) l.cells (is_true (nat_lt (message_count (slots_of p) + leaving) l.cells) room) in omega (arith, a, b)))
     where
       is_true : (b : Bool) → false ≡ not b → b ≡ true
       is_true true e = refl
       is_true false e = absurd (cc)
 
-  pub return_full : (n : ℕ) → (D.node_of k == p.id) ≡ false → true ≡ not (nat_lt (message_count (slots_of p) + leaving) l.cells)
+  pub return_full : (n : ℕ) → (DObjectNames.node_of k == p.id) ≡ false → true ≡ not (nat_lt (message_count (slots_of p) + leaving) l.cells)
       → IsTurned u l n leaving (A.Full F.Cells) p p i
   return_full n other room =
       turned u l n leaving (A.Full F.Cells) p p i (λ fresh. record {

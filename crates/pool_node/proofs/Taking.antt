@@ -3,37 +3,38 @@ use Rattle.std.proofs.Common.{◌≡◌, refl, sym, ap, ap₂, subst, ◌∙◌,
 use Rattle.std.specs.Prelude.{slice_get, position, remove}
 use Rattle.std.specs.List.{list_any, position_from}
 use Rattle.std.proofs.lemmas.Iterator.Adapters.{position_from-zero}
-use Rattle.pool_syntax.specs.declared.words.Value.{Value}
-use Rattle.pool_syntax.specs.declared.words.NameId.{NameId}
-use Rattle.pool_syntax.specs.declared.words.Serves.{Serves}
-use Rattle.pool_syntax.specs.declared.words.Error.TheVariants.{NilOperand, NoOpenGuard}
-use Rattle.pool_syntax.specs.declared.words.Label.TheVariants as L
-use Rattle.pool_syntax.specs.declared.words.What.{What}
-use Rattle.pool_syntax.specs.declared.words.What.TheVariants as W
-use Rattle.pool_syntax.specs.declared.words.FullKind.TheVariants as F
-use Rattle.pool_syntax.specs.declared.words.Placement.{Placement}
-use Rattle.pool_syntax.specs.Values.{is_bool, is_true, not_bool}
-use Rattle.object_code.specs.declared.unit.Instr.{Instr}
-use Rattle.object_code.specs.declared.unit.Instr.TheVariants as I
-use Rattle.object_code.specs.declared.unit.AltCode.{AltCode}
-use Rattle.object_code.specs.declared.unit.ClassCode.{ClassCode}
-use Rattle.object_code.specs.declared.unit.Frame.{Frame}
-use Rattle.object_code.specs.declared.unit.CodeObject.{CodeObject}
-use Rattle.object_code.specs.declared.unit.Unit.{Unit as Code}
-use Rattle.object_code.specs.Frames.{code_of, top, dropped, taken}
-use Rattle.object_code.specs.Kinds as C
-use Rattle.object_code.specs.Kinds.{Kind, Offered, offers, operated, select_kind, instr_kind, frames_kind, code_kind}
-use Rattle.object_code.specs.Step.{code_serving}
-use Rattle.object_code.specs.Proper.{IsProper}
-use Rattle.unit_objects.specs.OfUnit.{FitsUnit, AnyValue, forget, forget_serves}
-use Rattle.unit_objects.proofs.Laws.{served_there, chosen_there, named_by_test}
+use Rattle.run_words.specs.declared.words.Value.{Value}
+use Rattle.run_words.specs.declared.words.NameId.{NameId}
+use Rattle.run_words.specs.declared.words.Serves.{Serves}
+use Rattle.run_words.specs.declared.words.Error.TheVariants.{NilOperand, NoOpenGuard}
+use Rattle.run_words.specs.declared.words.Label.TheVariants as L
+use Rattle.run_words.specs.declared.words.What.{What}
+use Rattle.run_words.specs.declared.words.What.TheVariants as W
+use Rattle.run_words.specs.declared.words.FullKind.TheVariants as F
+use Rattle.run_words.specs.declared.words.Placement.{Placement}
+use Rattle.run_words.specs.Values.{is_bool, is_true, not_bool}
+use Rattle.code_semantics.specs.declared.unit.Instr.{Instr}
+use Rattle.code_semantics.specs.declared.unit.Instr.TheVariants as I
+use Rattle.code_semantics.specs.declared.unit.AltCode.{AltCode}
+use Rattle.code_semantics.specs.declared.unit.ClassCode.{ClassCode}
+use Rattle.run_words.specs.declared.frames.Frame.{Frame}
+use Rattle.run_words.specs.declared.frames.CodeObject.{CodeObject}
+use Rattle.code_semantics.specs.declared.unit.Unit.{Unit as Code}
+use Rattle.code_semantics.specs.Frames.{code_of}
+use Rattle.run_words.specs.Operands.{top, dropped, taken}
+use Rattle.code_semantics.specs.Kinds as C
+use Rattle.code_semantics.specs.Kinds.{Kind, Offered, offers, operated, select_kind, instr_kind, frames_kind, code_kind}
+use Rattle.code_semantics.specs.Step.{code_serving}
+use Rattle.code_semantics.specs.Proper.{IsProper}
+use Rattle.code_semantics.specs.OfUnit.{FitsUnit, AnyValue, forget, forget_serves}
+use Rattle.code_semantics.proofs.Laws.{served_there, chosen_there, named_by_test}
 use Rattle.node_heap.specs.Heaps.{object_at, frames_used}
 use Rattle.object_interp.specs.Offers.{IsChoosing, instr_offers, frames_offers, offers_at, offer_at, open_names, is_open_plain, answers_to}
 use Rattle.mesh_semantics.specs.Kind as K
 use Rattle.mesh_semantics.specs.Kind.{Alternative, has_name, answered}
-use Rattle.mesh_semantics.specs.Paths.{without_first}
-use Rattle.mesh_semantics.specs.Partial.{◌>>=◌}
-use Rattle.mesh_semantics.proofs.Laws.{same_some}
+use Rattle.run_words.specs.Paths.{without_first}
+use Rattle.run_words.specs.Partial.{◌>>=◌}
+use Rattle.run_words.proofs.Laws.{same_some}
 use Rattle.coded_objects.specs.Coded as E
 use Rattle.coded_objects.specs.Coded.{Placed, coded, kind_of, numbers, alternatives_of, under_way}
 use Rattle.node_semantics.specs.Node as N
@@ -43,7 +44,7 @@ use Rattle.node_parts.proofs.Laws.{slots_length, no_outcome, no_branch, no_retur
 use Rattle.mailbox.specs.declared.Message.{Message}
 use Rattle.mailbox.specs.Mail.{box_of, is_named}
 use Rattle.node_parts.specs.declared.parts.Parts.{Parts}
-use Rattle.pool_node.specs.declared.words.Act.TheVariants as A
+use Rattle.pool_node.specs.ActOf as A
 use Rattle.node_parts.specs.Views.{arrival_of, arrivals_of, number_by, slots_of, node_of, slot_at}
 use Rattle.node_parts.specs.Changes.{IsChanged, serves_for_call}
 use Rattle.node_parts.specs.Choices.{is_called, may_go, first_of_these, place_called}

@@ -1,32 +1,31 @@
 -- What a node tells of itself.
 use Rattle.std.proofs.Common.{◌≡◌, inl, inr, ◌-◌, refl, sym, ap, ap₂, subst, ◌∙◌, ℕ, zero, suc, ◌+◌, ◌<◌, ◌≤◌, ◌||◌, List, [], ◌∷◌, length, take, drop, get_or, map, Option, Some, None, is_some, Bool, true, false, if◌then◌else◌, arith}
-use Rattle.std.specs.Prelude.{slice_get, nat_le}
+use Rattle.std.specs.Prelude.{slice_get, nat_le, is_ok}
 use Rattle.std.specs.Option.{option_map}
 use Rattle.std.specs.List.{list_any}
 use Rattle.std.proofs.lemmas.Bool.Decides.{nat_tests}
 use Rattle.std.proofs.lemmas.List.{nil_from_length}
-use Rattle.std.specs.Prelude.{is_ok}
 use Rattle.std.specs.declared.result.Result.{Result}
 use Rattle.std.specs.declared.result.Result.TheVariants.{Ok, Err}
-use Rattle.pool_syntax.specs.declared.words.NameId.{NameId}
-use Rattle.object_code.specs.Kinds as C
-use Rattle.object_code.specs.Kinds.{code_kind}
-use Rattle.object_code.specs.Step.{class_from, code_made, code_placed, placed_at}
+use Rattle.run_words.specs.declared.words.NameId.{NameId}
+use Rattle.code_semantics.specs.Kinds as C
+use Rattle.code_semantics.specs.Kinds.{code_kind}
+use Rattle.code_semantics.specs.Step.{class_from, code_made, code_placed, placed_at}
 use Rattle.node_heap.specs.declared.words.HeapFull.{HeapFull}
 use Rattle.node_heap.specs.declared.words.HeapFull.TheVariants as HF
 use Rattle.coded_objects.specs.Coded as E
 use Rattle.mesh_semantics.specs.Kind as K
 use Rattle.mesh_semantics.specs.Kind.{Kind}
 use Rattle.mesh_semantics.specs.Standing as T
-use Rattle.mesh_semantics.specs.Ways.{In}
-use Rattle.mesh_semantics.specs.Partial.{◌>>=◌}
+use Rattle.run_words.specs.Ways.{In}
+use Rattle.run_words.specs.Partial.{◌>>=◌}
 use Rattle.node_semantics.specs.Standings.{slot_standing, slot_standing_by}
 use Rattle.pool_node.proofs.Receiving.{named_there}
-use Rattle.pool_syntax.specs.declared.words.Error.{Error}
-use Rattle.object_code.specs.declared.unit.ClassCode.{ClassCode}
-use Rattle.object_code.specs.declared.unit.CodeObject.{CodeObject}
-use Rattle.object_code.specs.declared.unit.Unit.{Unit as Code}
-use Rattle.object_code.specs.Suits.{most_vars}
+use Rattle.run_words.specs.declared.words.Error.{Error}
+use Rattle.code_semantics.specs.declared.unit.ClassCode.{ClassCode}
+use Rattle.run_words.specs.declared.frames.CodeObject.{CodeObject}
+use Rattle.code_semantics.specs.declared.unit.Unit.{Unit as Code}
+use Rattle.code_semantics.specs.Suits.{most_vars}
 use Rattle.node_heap.specs.Heaps.{object_at}
 use Rattle.mailbox.specs.declared.Message.{Message}
 use Rattle.mailbox.specs.Mail.{lengths}

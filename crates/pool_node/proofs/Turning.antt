@@ -3,27 +3,28 @@ use Rattle.std.proofs.Common.{◌≡◌, refl, sym, ap, subst, ◌∙◌, ℕ, z
 use Rattle.std.specs.Prelude.{slice_get}
 use Rattle.std.specs.Option.{option_map}
 use Rattle.std.proofs.lemmas.List.{length_push}
-use Rattle.pool_syntax.specs.declared.words.Error.{Error}
-use Rattle.pool_syntax.specs.declared.words.Item.{Item}
-use Rattle.pool_syntax.specs.declared.words.Label.TheVariants as L
-use Rattle.pool_syntax.specs.declared.words.What.{What}
-use Rattle.pool_syntax.specs.declared.words.What.TheVariants as W
-use Rattle.pool_syntax.specs.declared.words.Placement.{Placement}
-use Rattle.object_code.specs.declared.unit.Unit.{Unit as Code}
-use Rattle.object_code.specs.Kinds as C
-use Rattle.object_code.specs.Kinds.{code_kind}
+use Rattle.run_words.specs.declared.words.Error.{Error}
+use Rattle.run_words.specs.declared.words.Item.{Item}
+use Rattle.run_words.specs.declared.words.Label.TheVariants as L
+use Rattle.run_words.specs.declared.words.What.{What}
+use Rattle.run_words.specs.declared.words.What.TheVariants as W
+use Rattle.run_words.specs.declared.words.Placement.{Placement}
+use Rattle.code_semantics.specs.declared.unit.Unit.{Unit as Code}
+use Rattle.code_semantics.specs.Kinds as C
+use Rattle.code_semantics.specs.Kinds.{code_kind}
 use Rattle.node_heap.specs.Heaps.{object_at}
 use Rattle.coded_objects.specs.Coded.{Placed, coded, kind_of}
-use Rattle.mesh_semantics.specs.Delay as D
+use Rattle.run_words.specs.ObjectNames as D
 use Rattle.mesh_semantics.specs.Kind.{Kind}
 use Rattle.node_semantics.specs.Node as N
-use Rattle.node_semantics.specs.Node.{Slot, NodeState, NodeActed, NumberedArrival, NumberedPacket, deliver, deliver_in, frames_in, message_count, name_at, packet_count, put_state, put_request, set_at, slot_act, within_node}
+use Rattle.node_semantics.specs.Node.{Slot, NodeState, NodeActed, NumberedArrival, deliver, deliver_in, frames_in, message_count, name_at, packet_count, put_state, put_request, set_at, slot_act, within_node}
+use Rattle.mesh_semantics.specs.Delay.{NumberedPacket}
 use Rattle.node_semantics.proofs.Laws.{unused_number, set_length}
 use Rattle.rendezvous_protocol.specs.declared.packet.Packet.{Packet}
 use Rattle.rendezvous_protocol.specs.Packets.{numbered}
 use Rattle.node_parts.specs.declared.parts.Parts.{Parts}
-use Rattle.pool_node.specs.declared.words.Act.{Act}
-use Rattle.pool_node.specs.declared.words.Act.TheVariants as A
+use Rattle.pool_node.specs.ActOf.{Act}
+use Rattle.pool_node.specs.ActOf as A
 use Rattle.node_parts.specs.NodeOf.{NodeOf}
 use Rattle.node_parts.specs.OfUnit.{IsOfUnit}
 use Rattle.node_parts.specs.Views.{IsWhole, slots_of, node_of, slot_at}

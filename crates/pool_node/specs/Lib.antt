@@ -1,3 +1,4 @@
+pub mod ActOf
 pub mod Acts
 pub mod Made
 pub mod Bits

@@ -1,26 +1,27 @@
 -- What a step of a node is asked, and what it tells.
 use Rattle.std.specs.Prelude.{◌≡◌, ℕ, ◌+◌, ◌≤◌, ◌==◌, ◌&&◌, ◌||◌, not, Bool, List, length, nat_lt, Option, Some, None}
 use Rattle.std.specs.Option.{option_map}
-use Rattle.pool_syntax.specs.declared.words.What.{What}
-use Rattle.pool_syntax.specs.declared.words.Value.{Value}
-use Rattle.pool_syntax.specs.declared.words.NameId.{NameId}
-use Rattle.pool_syntax.specs.declared.words.Label.{Label}
-use Rattle.pool_syntax.specs.declared.words.Label.TheVariants as L
-use Rattle.pool_syntax.specs.declared.words.FullKind.{FullKind}
-use Rattle.pool_syntax.specs.declared.words.Placement.{Placement}
-use Rattle.object_code.specs.declared.unit.Unit.{Unit as Code}
+use Rattle.run_words.specs.declared.words.What.{What}
+use Rattle.run_words.specs.declared.words.Value.{Value}
+use Rattle.run_words.specs.declared.words.NameId.{NameId}
+use Rattle.run_words.specs.declared.words.Label.{Label}
+use Rattle.run_words.specs.declared.words.Label.TheVariants as L
+use Rattle.run_words.specs.declared.words.FullKind.{FullKind}
+use Rattle.run_words.specs.declared.words.Placement.{Placement}
+use Rattle.code_semantics.specs.declared.unit.Unit.{Unit as Code}
 use Rattle.coded_objects.specs.Coded.{Placed, coded}
 use Rattle.node_semantics.specs.Node as N
 use Rattle.node_semantics.specs.Node.{NodeActed, NodeState, message_act, message_count, name_at, packet_count, settled, slot_act, within_node}
 use Rattle.node_semantics.specs.Agrees.{IsUnused}
 use Rattle.mesh_semantics.specs.Delay as D
+use Rattle.run_words.specs.ObjectNames as DObjectNames
 use Rattle.mailbox.specs.declared.Message.{Message}
 use Rattle.node_heap.specs.Heaps.{frames_used}
 use Rattle.rendezvous_protocol.specs.declared.packet.Packet.{Packet}
 use Rattle.rendezvous_protocol.specs.Packets.{numbered}
 use Rattle.node_parts.specs.declared.parts.Parts.{Parts}
-use Rattle.pool_node.specs.declared.words.Act.{Act}
-use Rattle.pool_node.specs.declared.words.Act.TheVariants as A
+use Rattle.pool_node.specs.ActOf.{Act}
+use Rattle.pool_node.specs.ActOf as A
 use Rattle.node_parts.specs.NodeOf.{NodeOf}
 use Rattle.node_parts.specs.OfUnit.{IsOfPlacement, IsOfUnit}
 use Rattle.node_parts.specs.Views.{IsWhole, arrival_of, node_of, slot_at, slots_of}
@@ -79,7 +80,7 @@ posted what to m n x = message_act n what x to (arrival_of m) (packet_by m.call 
 -- whether there is no cell for a message to the object of this name, and it takes one: it stands at an object of this node, or leaves
 abbrev pub lacks_cell : Placement → ℕ → NodeOf → ℕ → Bool
 lacks_cell l leaving n to =
-    (not (D.node_of to == n.id) || nat_lt (D.slot_of to) (length n.state.slots)) && not (nat_lt (message_count n.state.slots + leaving) l.cells)
+    (not (DObjectNames.node_of to == n.id) || nat_lt (DObjectNames.slot_of to) (length n.state.slots)) && not (nat_lt (message_count n.state.slots + leaving) l.cells)
 
 -- the label of a message that the object o takes: an answer to its caller, or an asynchronous message
 abbrev pub label_by : Option ℕ → ℕ → ℕ → NameId → List Value → Label

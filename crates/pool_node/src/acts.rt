@@ -1,27 +1,28 @@
 //! The steps of an object of a node.
-ghost use Rattle.std.specs.Prelude.{◌≡◌, ℕ, ◌+◌, ◌<◌, ◌≤◌, not, false, None, length, get_or, nat_lt};
-ghost use Rattle.pool_syntax.specs.declared.words.Placement.{Placement as OnePlacement};
-ghost use Rattle.pool_syntax.specs.declared.words.What.TheVariants as W;
-ghost use Rattle.pool_syntax.specs.declared.words.What.{What as OneWhat};
-ghost use Rattle.object_code.specs.Kinds as C;
-ghost use Rattle.object_code.specs.Kinds.{code_kind};
-ghost use Rattle.mesh_semantics.specs.Delay as D;
+ghost use Rattle.std.specs.Prelude.{◌≡◌, ℕ, ◌+◌, ◌<◌, ◌≤◌, not, false, None, length, get_or, nat_lt, Option};
+ghost use Rattle.run_words.specs.declared.words.Placement.{Placement as OnePlacement};
+ghost use Rattle.run_words.specs.declared.words.What.TheVariants as W;
+ghost use Rattle.rendezvous_protocol.specs.declared.packet.Packet.{Packet as OnePacket};
+ghost use Rattle.code_semantics.specs.Kinds as C;
+ghost use Rattle.code_semantics.specs.Kinds.{code_kind};
+ghost use Rattle.run_words.specs.ObjectNames as D;
 ghost use Rattle.node_heap.specs.Heaps.{object_at};
 ghost use Rattle.node_semantics.specs.Node.{deliver, message_count, name_at, settled};
 ghost use Rattle.coded_objects.specs.Coded.{coded};
 ghost use Rattle.mailbox.specs.Mail.{lengths};
 ghost use Rattle.node_parts.specs.OfUnit.{IsOfUnit};
 ghost use Rattle.node_parts.specs.Views.{IsWhole, arrival_of, node_of, slots_of};
+ghost use Rattle.pool_node.specs.ActOf as A;
+ghost use Rattle.pool_node.specs.ActOf.{act_of};
 ghost use Rattle.pool_node.specs.Made.{IsLine, IsMoved, IsSet, IsTurned, lacks_cell, packet_by, posted};
 ghost use Rattle.rendezvous_protocol.specs.Packets.{numbered};
 
-use crate::words::Act;
+use crate::words::{Room, Told};
+use code_semantics::Unit;
 use mailbox::Message;
-use node_parts::{Parts, ask_in, deliver_in, fault_in, go_on_in, refresh, return_in, settle_in};
-use object_code::Unit;
-use object_interp::{Burst, burst};
-use pool_syntax::{Args, Error, FullKind, Item, Label, NameId, Placement, Value, What};
+use node_parts::{Parts, ask_in, deliver_in, fault_in, go_on_in, return_in, settle_in};
 use rendezvous_protocol::Packet;
+use run_words::{Args, Error, FullKind, Item, Label, NameId, Placement, Value, What};
 
 /// The name of the object of a slot, also of the next one.
 pub(crate) fn name_of(parts: &Parts, slot: u32) -> u32
@@ -50,37 +51,45 @@ pub(crate) fn step(label: Label) -> What
 }
 
 /// Writes an item.
-pub(crate) fn write_turn(unit: &Unit, parts: &mut Parts, slot: u32, item: Item) -> Act
+pub(crate) fn write_turn(
+    unit: &Unit,
+    parts: &mut Parts,
+    slot: u32,
+    item: Item,
+    room: &mut Room,
+) -> Told
     requires whole { IsWhole parts.old }
     requires unit { IsOfUnit unit.now (node_of parts.old) }
     requires slot { slot < length parts.old.heap.objects }
     requires free { get_or parts.old.outstanding slot None ≡ None }
     requires kind { code_kind unit.now (object_at parts.old.heap slot) ≡ C.Write item }
-    ensures { (l : OnePlacement) (q leaving : ℕ) → IsSet unit.now l leaving parts.old → IsTurned unit.now l q leaving result parts.old parts.new slot }
+    ensures { (l : OnePlacement) (q leaving : ℕ) → IsSet unit.now l leaving parts.old → IsTurned unit.now l q leaving (act_of result room.new) parts.old parts.new slot }
 {
     let object = name_of(parts, slot);
     go_on_in(unit, parts, slot);
-    Act::Line {
-        what: step(Label::Write { object, item }),
-        packet: None,
-    }
+    room.what = step(Label::Write { object, item });
+    Told::Line
 }
 
 /// Meets an error.
-pub(crate) fn fault_turn(unit: &Unit, parts: &mut Parts, slot: u32, error: Error) -> Act
+pub(crate) fn fault_turn(
+    unit: &Unit,
+    parts: &mut Parts,
+    slot: u32,
+    error: Error,
+    room: &mut Room,
+) -> Told
     requires whole { IsWhole parts.old }
     requires unit { IsOfUnit unit.now (node_of parts.old) }
     requires slot { slot < length parts.old.heap.objects }
     requires free { get_or parts.old.outstanding slot None ≡ None }
     requires kind { code_kind unit.now (object_at parts.old.heap slot) ≡ C.Fault error }
-    ensures { (l : OnePlacement) (q leaving : ℕ) → IsSet unit.now l leaving parts.old → IsTurned unit.now l q leaving result parts.old parts.new slot }
+    ensures { (l : OnePlacement) (q leaving : ℕ) → IsSet unit.now l leaving parts.old → IsTurned unit.now l q leaving (act_of result room.new) parts.old parts.new slot }
 {
     let object = name_of(parts, slot);
     fault_in(unit, parts, slot, error);
-    Act::Line {
-        what: step(Label::Fault { object, error }),
-        packet: None,
-    }
+    room.what = step(Label::Fault { object, error });
+    Told::Line
 }
 
 /// Whether no cell is free for a message to the object of this name, and it takes one: it stands at an object of this
@@ -136,19 +145,22 @@ fn packet(to: u32, message: &Message) -> Packet
     }
 }
 
-/// Posts a message, for which a cell is free where it takes one. The answer is the packet that leaves, if it goes to
-/// another node.
-fn post(unit: &Unit, parts: &mut Parts, to: u32, message: Message) -> Option<Packet>
+/// Posts a message, for which a cell is free where it takes one. If it goes to another node, it leaves as the packet in the
+/// room.
+fn post(unit: &Unit, parts: &mut Parts, to: u32, message: Message, room: &mut Room) -> Told
     requires whole { IsWhole parts.old }
     requires unit { IsOfUnit unit.now (node_of parts.old) }
     requires room { D.node_of to ≡ parts.old.id → D.slot_of to < length parts.old.heap.objects → lengths parts.old.mailbox.boxes < parts.old.mailbox.cells }
-    ensures { (l : OnePlacement) (leaving : ℕ) (what : OneWhat) → message_count (slots_of parts.old) + leaving ≤ l.cells → lacks_cell l leaving (node_of parts.old) to ≡ false → IsLine unit.now l leaving what result parts.old parts.new (posted what to message parts.old.id (node_of parts.old).state) }
+    ensures { (l : OnePlacement) (leaving : ℕ) → message_count (slots_of parts.old) + leaving ≤ l.cells → lacks_cell l leaving (node_of parts.old) to ≡ false
+        → (packet : Option OnePacket) × (act_of result room.new ≡ A.Line room.old.what packet)
+        × IsLine unit.now l leaving room.old.what packet parts.old parts.new (posted room.old.what to message parts.old.id (node_of parts.old).state) }
 {
     if to / 65536 == parts.id {
         deliver_to(unit, parts, to, message);
-        None
+        Told::Line
     } else {
-        Some(packet(to, &message))
+        room.packet = packet(to, &message);
+        Told::Leaves
     }
 }
 
@@ -162,15 +174,16 @@ pub(crate) fn async_turn(
     method: NameId,
     args: Args,
     leaving: u32,
-) -> Act
+    room: &mut Room,
+) -> Told
     requires set { IsSet unit.now placement.now leaving parts.old }
     requires slot { slot < length parts.old.heap.objects }
     requires free { get_or parts.old.outstanding slot None ≡ None }
     requires kind { code_kind unit.now (object_at parts.old.heap slot) ≡ C.Async to method args }
-    ensures { (q : ℕ) → IsTurned unit.now placement.now q leaving result parts.old parts.new slot }
+    ensures { (q : ℕ) → IsTurned unit.now placement.now q leaving (act_of result room.new) parts.old parts.new slot }
 {
     if lacks(placement, parts, to, leaving) {
-        return Act::Full {
+        return Told::Full {
             kind: FullKind::Cells,
         };
     }
@@ -188,10 +201,8 @@ pub(crate) fn async_turn(
         method,
         args,
     };
-    Act::Line {
-        what: step(label),
-        packet: post(unit, parts, to, message),
-    }
+    room.what = step(label);
+    post(unit, parts, to, message, room)
 }
 
 /// Posts a call, unless there is no cell for it.
@@ -204,15 +215,16 @@ pub(crate) fn call_turn(
     method: NameId,
     args: Args,
     leaving: u32,
-) -> Act
+    room: &mut Room,
+) -> Told
     requires set { IsSet unit.now placement.now leaving parts.old }
     requires slot { slot < length parts.old.heap.objects }
     requires free { get_or parts.old.outstanding slot None ≡ None }
     requires kind { code_kind unit.now (object_at parts.old.heap slot) ≡ C.Send to method args }
-    ensures { (q : ℕ) → IsTurned unit.now placement.now q leaving result parts.old parts.new slot }
+    ensures { (q : ℕ) → IsTurned unit.now placement.now q leaving (act_of result room.new) parts.old parts.new slot }
 {
     if lacks(placement, parts, to, leaving) {
-        return Act::Full {
+        return Told::Full {
             kind: FullKind::Cells,
         };
     }
@@ -225,47 +237,13 @@ pub(crate) fn call_turn(
         args,
         call: Some(number),
     };
-    let what = What::PostCall {
+    room.what = What::PostCall {
         object: from,
         receiver: to,
         method,
         args,
     };
-    Act::Line {
-        what,
-        packet: post(unit, parts, to, message),
-    }
-}
-
-/// Makes local transitions, at most `quantum`.
-pub(crate) fn local_turn(unit: &Unit, parts: &mut Parts, slot: u32, quantum: u32) -> Act
-    requires whole { IsWhole parts.old }
-    requires unit { IsOfUnit unit.now (node_of parts.old) }
-    requires slot { slot < length parts.old.heap.objects }
-    requires free { get_or parts.old.outstanding slot None ≡ None }
-    requires fault { get_or parts.old.faults slot None ≡ None }
-    requires quantum { 1 ≤ quantum }
-    requires kind { code_kind unit.now (object_at parts.old.heap slot) ≡ C.Local }
-    ensures { (l : OnePlacement) (leaving : ℕ) → IsSet unit.now l leaving parts.old → IsTurned unit.now l quantum leaving result parts.old parts.new slot }
-{
-    let object = name_of(parts, slot);
-    match burst(unit, &mut parts.heap, slot, quantum) {
-        Burst::Local { steps } => {
-            refresh(unit, parts, slot);
-            let label = Label::Local { object };
-            Act::Line {
-                what: What::Step {
-                    label,
-                    times: steps,
-                },
-                packet: None,
-            }
-        }
-        Burst::FramesFull => Act::Full {
-            kind: FullKind::Frames,
-        },
-        Burst::At(_) => Act::Idle,
-    }
+    post(unit, parts, to, message, room)
 }
 
 /// Gives a value back to a caller, unless there is no cell for its packet.
@@ -278,12 +256,13 @@ pub(crate) fn return_turn(
     number: u32,
     value: Value,
     leaving: u32,
-) -> Act
+    room: &mut Room,
+) -> Told
     requires set { IsSet unit.now placement.now leaving parts.old }
     requires slot { slot < length parts.old.heap.objects }
     requires free { get_or parts.old.outstanding slot None ≡ None }
     requires kind { code_kind unit.now (object_at parts.old.heap slot) ≡ C.Return caller number value }
-    ensures { (q : ℕ) → IsTurned unit.now placement.now q leaving result parts.old parts.new slot }
+    ensures { (q : ℕ) → IsTurned unit.now placement.now q leaving (act_of result room.new) parts.old parts.new slot }
 {
     let receiver = name_of(parts, slot);
     let label = Label::Return {
@@ -294,26 +273,22 @@ pub(crate) fn return_turn(
     if caller / 65536 == parts.id {
         return_in(unit, parts, slot);
         settle_if_out(unit, parts, number, value);
-        return Act::Line {
-            what: step(label),
-            packet: None,
-        };
+        room.what = step(label);
+        return Told::Line;
     }
     if no_cell(placement, parts, leaving) {
-        return Act::Full {
+        return Told::Full {
             kind: FullKind::Cells,
         };
     }
     return_in(unit, parts, slot);
-    let packet = Packet::Result {
+    room.what = step(label);
+    room.packet = Packet::Result {
         number,
         to: caller,
         value,
     };
-    Act::Line {
-        what: step(label),
-        packet: Some(packet),
-    }
+    Told::Leaves
 }
 
 /// Gives the object whose request has this number its value, if there is one.

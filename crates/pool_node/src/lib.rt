@@ -12,4 +12,4 @@ mod turn;
 mod words;
 
 pub use node::Node;
-pub use words::Act;
+pub use words::{Act, Room, Told};

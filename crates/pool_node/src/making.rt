@@ -1,23 +1,24 @@
 //! The steps of an object that makes an object.
 ghost use Rattle.std.specs.Prelude.{◌≡◌, ◌≢◌, ℕ, ◌+◌, ◌-◌, ◌*◌, ◌^◌, ◌<◌, ◌≤◌, None, Some, length, get_or, slice_get, slice_set};
-ghost use Rattle.pool_syntax.specs.declared.words.Placement.{Placement as OnePlacement};
-ghost use Rattle.pool_syntax.specs.declared.words.NameId.{NameId as OneName};
-ghost use Rattle.object_code.specs.Kinds as C;
-ghost use Rattle.object_code.specs.Kinds.{code_kind};
-ghost use Rattle.object_code.specs.Step.{class_from};
+ghost use Rattle.run_words.specs.declared.words.Placement.{Placement as OnePlacement};
+ghost use Rattle.run_words.specs.declared.words.NameId.{NameId as OneName};
+ghost use Rattle.code_semantics.specs.Kinds as C;
+ghost use Rattle.code_semantics.specs.Kinds.{code_kind};
+ghost use Rattle.code_semantics.specs.Step.{class_from};
 ghost use Rattle.node_heap.specs.Heaps.{object_at};
 ghost use Rattle.node_semantics.specs.Node.{goal_for};
 ghost use Rattle.node_parts.specs.OfUnit.{IsOfUnit};
 ghost use Rattle.node_parts.specs.Views.{IsWhole, node_of};
+ghost use Rattle.pool_node.specs.ActOf.{act_of};
 ghost use Rattle.pool_node.specs.Made.{IsSet, IsTurned};
 
 use crate::acts::{name_of, no_cell, step};
-use crate::words::Act;
+use crate::words::{Room, Told};
+use code_semantics::Unit;
 use node_heap::HeapFull;
 use node_parts::{Parts, add_in, ask_in, give_in};
-use object_code::Unit;
-use pool_syntax::{FullKind, Label, Place, Placement, Value, What};
 use rendezvous_protocol::Packet;
+use run_words::{FullKind, Label, Place, Placement, Value, What};
 
 /// The node of the next object that is made of the class at this place.
 fn goal_of(placement: &Placement, parts: &Parts, class: u32) -> u32
@@ -48,7 +49,7 @@ fn count_in(parts: &mut Parts, class: u32)
 }
 
 /// Makes an object on the own node, unless there is no slot or no frame for it. Its maker has its name at once.
-fn create_here(unit: &Unit, parts: &mut Parts, slot: u32, class: u32) -> Act
+fn create_here(unit: &Unit, parts: &mut Parts, slot: u32, class: u32, room: &mut Room) -> Told
     requires whole { IsWhole parts.old }
     requires unit { IsOfUnit unit.now (node_of parts.old) }
     requires slot { slot < length parts.old.heap.objects }
@@ -56,7 +57,8 @@ fn create_here(unit: &Unit, parts: &mut Parts, slot: u32, class: u32) -> Act
     requires kind { (k : OneName) × (code_kind unit.now (object_at parts.old.heap slot) ≡ C.New k) × (class_from 0 unit.now.classes k ≡ Some class) }
     requires class { class < length unit.now.classes }
     requires few { get_or parts.old.made class 0 < 2 ^ 32 - 1 }
-    ensures { (l : OnePlacement) (q leaving : ℕ) → IsSet unit.now l leaving parts.old → goal_for l parts.old.id (get_or parts.old.made class 0) (slice_get l.places class) ≡ parts.old.id → IsTurned unit.now l q leaving result parts.old parts.new slot }
+    ensures { (l : OnePlacement) (q leaving : ℕ) → IsSet unit.now l leaving parts.old → goal_for l parts.old.id (get_or parts.old.made class 0) (slice_get l.places class) ≡ parts.old.id
+        → IsTurned unit.now l q leaving (act_of result room.new) parts.old parts.new slot }
 {
     let object = name_of(parts, slot);
     match add_in(unit, parts, class) {
@@ -69,15 +71,13 @@ fn create_here(unit: &Unit, parts: &mut Parts, slot: u32, class: u32) -> Act
                 name,
                 class: unit.classes.items()[class as usize].name,
             };
-            Act::Line {
-                what: step(label),
-                packet: None,
-            }
+            room.what = step(label);
+            Told::Line
         }
-        Err(HeapFull::Objects) => Act::Full {
+        Err(HeapFull::Objects) => Told::Full {
             kind: FullKind::Heap,
         },
-        Err(HeapFull::Frames) => Act::Full {
+        Err(HeapFull::Frames) => Told::Full {
             kind: FullKind::Frames,
         },
     }
@@ -92,7 +92,8 @@ fn create_there(
     class: u32,
     goal: u32,
     leaving: u32,
-) -> Act
+    room: &mut Room,
+) -> Told
     requires set { IsSet unit.now placement.now leaving parts.old }
     requires slot { slot < length parts.old.heap.objects }
     requires free { get_or parts.old.outstanding slot None ≡ None }
@@ -101,10 +102,10 @@ fn create_there(
     requires few { get_or parts.old.made class 0 < 2 ^ 32 - 1 }
     requires goal { goal_for placement.now parts.old.id (get_or parts.old.made class 0) (slice_get placement.now.places class) ≡ goal }
     requires other { goal ≢ parts.old.id }
-    ensures { (q : ℕ) → IsTurned unit.now placement.now q leaving result parts.old parts.new slot }
+    ensures { (q : ℕ) → IsTurned unit.now placement.now q leaving (act_of result room.new) parts.old parts.new slot }
 {
     if no_cell(placement, parts, leaving) {
-        return Act::Full {
+        return Told::Full {
             kind: FullKind::Cells,
         };
     }
@@ -112,20 +113,18 @@ fn create_there(
     let number = ask_in(unit, parts, slot, goal);
     count_in(parts, class);
     let name = unit.classes.items()[class as usize].name;
-    let packet = Packet::Create {
+    room.packet = Packet::Create {
         number,
         from: object,
         node: goal,
         class: name,
     };
-    Act::Line {
-        what: What::PostCreate {
-            object,
-            class: name,
-            node: goal,
-        },
-        packet: Some(packet),
-    }
+    room.what = What::PostCreate {
+        object,
+        class: name,
+        node: goal,
+    };
+    Told::Leaves
 }
 
 /// Makes an object of the class at this place, or posts a request for it.
@@ -136,19 +135,20 @@ pub(crate) fn create_turn(
     slot: u32,
     class: u32,
     leaving: u32,
-) -> Act
+    room: &mut Room,
+) -> Told
     requires set { IsSet unit.now placement.now leaving parts.old }
     requires slot { slot < length parts.old.heap.objects }
     requires free { get_or parts.old.outstanding slot None ≡ None }
     requires kind { (k : OneName) × (code_kind unit.now (object_at parts.old.heap slot) ≡ C.New k) × (class_from 0 unit.now.classes k ≡ Some class) }
     requires class { class < length unit.now.classes }
     requires few { get_or parts.old.made class 0 < 2 ^ 32 - 1 }
-    ensures { (q : ℕ) → IsTurned unit.now placement.now q leaving result parts.old parts.new slot }
+    ensures { (q : ℕ) → IsTurned unit.now placement.now q leaving (act_of result room.new) parts.old parts.new slot }
 {
     let goal = goal_of(placement, parts, class);
     if goal == parts.id {
-        create_here(unit, parts, slot, class)
+        create_here(unit, parts, slot, class, room)
     } else {
-        create_there(unit, placement, parts, slot, class, goal, leaving)
+        create_there(unit, placement, parts, slot, class, goal, leaving, room)
     }
 }

@@ -1,6 +1,6 @@
 //! What a new node is made of.
 ghost use Rattle.std.specs.Prelude.{◌≡◌, ◌<◌, ◌≤◌, [], Some, IfOk, replicate};
-ghost use Rattle.object_code.specs.Suits.{most_vars};
+ghost use Rattle.code_semantics.specs.Suits.{most_vars};
 ghost use Rattle.coded_objects.specs.Coded.{Placed, coded};
 ghost use Rattle.node_semantics.specs.Node.{name_at};
 ghost use Rattle.node_parts.specs.OfUnit.{IsOfUnit};
@@ -9,9 +9,9 @@ ghost use Rattle.node_parts.specs.Changes.{IsAdded};
 
 use crate::acts::name_of;
 use crate::receipt::class_named;
+use code_semantics::Unit;
 use node_parts::{Parts, add_in};
-use object_code::Unit;
-use pool_syntax::List;
+use run_words::List;
 use std::alloc::{AllocError, Global};
 
 /// So many times one value. Err where the memory is not had.

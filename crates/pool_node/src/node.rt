@@ -1,9 +1,9 @@
 //! One node.
 ghost use Rattle.std.specs.Prelude.{◌≡◌, ◌<◌, ◌≤◌, ◌+◌, ◌-◌, ◌*◌, ◌^◌, ℕ, [], ◌∷◌, length, slice_get, is_some, Some, IfOk};
 ghost use Rattle.std.specs.List.{list_any};
-ghost use Rattle.object_code.specs.Proper.{IsProper};
-ghost use Rattle.object_code.specs.Suits.{Suits, most_vars};
-ghost use Rattle.mesh_semantics.specs.Sound.{Each};
+ghost use Rattle.code_semantics.specs.Proper.{IsProper};
+ghost use Rattle.code_semantics.specs.Suits.{Suits, most_vars};
+ghost use Rattle.run_words.specs.Tables.{Each};
 ghost use Rattle.mesh_semantics.specs.Act.{first_of};
 ghost use Rattle.coded_objects.specs.Coded.{Placed, coded};
 ghost use Rattle.node_semantics.specs.Node.{Slot, fresh_slot, message_count, name_at, ready_slots, receipt_act, turn_act};
@@ -13,20 +13,21 @@ ghost use Rattle.node_semantics.specs.Receives.{IsReceivable};
 ghost use Rattle.node_semantics.specs.Standings.{slot_standing};
 ghost use Rattle.rendezvous_protocol.specs.Packets.{numbered};
 ghost use Rattle.node_parts.specs.OfUnit.{IsOfPlacement, IsOfUnit};
+ghost use Rattle.pool_node.specs.ActOf.{act_of, act_seen};
 ghost use Rattle.pool_node.specs.Acts.{IsActOf, told_standing};
 
 use crate::making_node::{filled, most_vars_of, start_in};
 use crate::receipt::receipt_of;
 use crate::standing::{any_fault, standing_of};
 use crate::turn::{first_ready, turn_of};
-use crate::words::Act;
+use crate::words::{Act, Room, Told};
+use code_semantics::Unit;
 use mailbox::Mailbox;
 use node_heap::{Heap, HeapLimits};
 use node_parts::Parts;
-use object_code::Unit;
-use pool_syntax::{Placement, Standing};
 use ready_set::ReadySet;
 use rendezvous_protocol::{Outstanding, Packet};
+use run_words::{Placement, Standing};
 use std::alloc::{AllocError, Global};
 use std::marker::Model;
 
@@ -38,9 +39,9 @@ pub struct Node {
 }
 
 impl Model for Node {
-    ghost use Rattle.object_code.specs.contracts.unit.CodeObject as image;
-    ghost use Rattle.pool_syntax.specs.contracts.words.Error as error;
-    ghost use Rattle.pool_syntax.specs.contracts.words.Value as value;
+    ghost use Rattle.run_words.specs.contracts.frames.CodeObject as image;
+    ghost use Rattle.run_words.specs.contracts.words.Error as error;
+    ghost use Rattle.run_words.specs.contracts.words.Value as value;
     ghost use Rattle.node_parts.specs.NodeOf.{NodeOf, node_code};
 
     ghost Value = { NodeOf };
@@ -65,7 +66,16 @@ impl Node {
         requires proper { IsProper unit.now }
         requires suits { Suits placement.now unit.now }
         requires id { id < placement.now.width * placement.now.height }
-        ensures empty { IfOk result (λ n. n ≡ record { id = id; most_objects = placement.now.objects; most_frames = placement.now.frames; most_cells = placement.now.cells; most_vars = most_vars unit.now.classes; state = empty_node (coded unit.now); ready = [] }) }
+        ensures empty { IfOk result
+            (λ n. n ≡ record {
+              id = id;
+              most_objects = placement.now.objects;
+              most_frames = placement.now.frames;
+              most_cells = placement.now.cells;
+              most_vars = most_vars unit.now.classes;
+              state = empty_node (coded unit.now);
+              ready = [];
+            }) }
         ensures unit { IfOk result (λ n. IsOfUnit unit.now n) }
         ensures placement { IfOk result (λ n. IsOfPlacement unit.now placement.now n) }
     {
@@ -106,21 +116,70 @@ impl Node {
     /// `quantum` local transitions or one other step. `leaving` is the number of packets on the links that leave the
     /// node. `Idle` comes exactly where no object is ready, and `Full` exactly where the step would pass a limit, with
     /// the first of heap, frames and cells; the node is then as before.
+    pub fn turn_in(
+        &mut self,
+        unit: &Unit,
+        placement: &Placement,
+        quantum: u32,
+        leaving: u32,
+        room: &mut Room,
+    ) -> Told
+        requires unit { IsOfUnit unit.now self.old }
+        requires placement { IsOfPlacement unit.now placement.now self.old }
+        requires quantum { 1 ≤ quantum }
+        requires cells { message_count self.old.state.slots + leaving ≤ self.old.most_cells }
+        requires countable { Each (λ k. k < 2 ^ 32 - 1) self.old.state.made }
+        ensures act { (fresh : ℕ) × IsUnused fresh self.old.state
+            × IsActOf (act_of result room.new) self.old self.new (turn_act (coded unit.now) placement.now quantum self.old.id leaving fresh self.old.state) }
+        ensures unit { IsOfUnit unit.now self.new }
+        ensures counts { (most : ℕ) → Each (λ k. k ≤ most) self.old.state.made → Each (λ k. k ≤ most + 1) self.new.state.made }
+    {
+        turn_of(unit, placement, &mut self.parts, quantum, leaving, room)
+    }
+
+    /// Makes a turn, in room of its own: the ready object of least slot above the one that stepped last, else of least
+    /// slot, makes up to `quantum` local transitions or one other step. `leaving` is the number of packets on the links
+    /// that leave the node. `Idle` comes exactly where no object is ready, and `Full` exactly where the step would pass a
+    /// limit, with the first of heap, frames and cells; the node is then as before.
     pub fn turn(&mut self, unit: &Unit, placement: &Placement, quantum: u32, leaving: u32) -> Act
         requires unit { IsOfUnit unit.now self.old }
         requires placement { IsOfPlacement unit.now placement.now self.old }
         requires quantum { 1 ≤ quantum }
         requires cells { message_count self.old.state.slots + leaving ≤ self.old.most_cells }
         requires countable { Each (λ k. k < 2 ^ 32 - 1) self.old.state.made }
-        ensures act { (fresh : ℕ) × IsUnused fresh self.old.state × IsActOf result self.old self.new (turn_act (coded unit.now) placement.now quantum self.old.id leaving fresh self.old.state) }
+        ensures act { (fresh : ℕ) × IsUnused fresh self.old.state
+            × IsActOf (act_seen result) self.old self.new (turn_act (coded unit.now) placement.now quantum self.old.id leaving fresh self.old.state) }
         ensures unit { IsOfUnit unit.now self.new }
         ensures counts { (most : ℕ) → Each (λ k. k ≤ most) self.old.state.made → Each (λ k. k ≤ most + 1) self.new.state.made }
     {
-        turn_of(unit, placement, &mut self.parts, quantum, leaving)
+        let mut room = Room::make();
+        let told = self.turn_in(unit, placement, quantum, leaving, &mut room);
+        act_told(told, &room)
     }
 
     /// Receives a packet at its goal. `Full` comes exactly where that would pass a limit, with the first of heap, frames
     /// and cells; the node is then as before. `Idle` never comes.
+    pub fn receive_in(
+        &mut self,
+        unit: &Unit,
+        placement: &Placement,
+        packet: Packet,
+        leaving: u32,
+        room: &mut Room,
+    ) -> Told
+        requires unit { IsOfUnit unit.now self.old }
+        requires placement { IsOfPlacement unit.now placement.now self.old }
+        requires cells { message_count self.old.state.slots + leaving ≤ self.old.most_cells }
+        requires packet { IsReceivable (coded unit.now) self.old.id self.old.state (numbered packet).number (numbered packet).packet }
+        ensures act { IsActOf (act_of result room.new) self.old self.new (receipt_act (coded unit.now) placement.now self.old.id leaving (numbered packet) self.old.state) }
+        ensures unit { IsOfUnit unit.now self.new }
+        ensures made { self.new.state.made ≡ self.old.state.made }
+    {
+        receipt_of(unit, placement, &mut self.parts, packet, leaving, room)
+    }
+
+    /// Receives a packet at its goal, in room of its own. `Full` comes exactly where that would pass a limit, with the
+    /// first of heap, frames and cells; the node is then as before. `Idle` never comes.
     pub fn receive(
         &mut self,
         unit: &Unit,
@@ -132,11 +191,13 @@ impl Node {
         requires placement { IsOfPlacement unit.now placement.now self.old }
         requires cells { message_count self.old.state.slots + leaving ≤ self.old.most_cells }
         requires packet { IsReceivable (coded unit.now) self.old.id self.old.state (numbered packet).number (numbered packet).packet }
-        ensures act { IsActOf result self.old self.new (receipt_act (coded unit.now) placement.now self.old.id leaving (numbered packet) self.old.state) }
+        ensures act { IsActOf (act_seen result) self.old self.new (receipt_act (coded unit.now) placement.now self.old.id leaving (numbered packet) self.old.state) }
         ensures unit { IsOfUnit unit.now self.new }
         ensures made { self.new.state.made ≡ self.old.state.made }
     {
-        receipt_of(unit, placement, &mut self.parts, packet, leaving)
+        let mut room = Room::make();
+        let told = self.receive_in(unit, placement, packet, leaving, &mut room);
+        act_told(told, &room)
     }
 
     /// Whether an object of the node is ready.
@@ -186,5 +247,23 @@ impl Node {
         ensures { result ≡ list_any (λ (s : Slot Placed). is_some s.state.fault) self.now.state.slots }
     {
         any_fault(&self.parts)
+    }
+}
+
+/// What is told with this in the room, given whole.
+fn act_told(told: Told, room: &Room) -> Act
+    ensures { act_seen result ≡ act_of told room.now }
+{
+    match told {
+        Told::Idle => Act::Idle,
+        Told::Line => Act::Line {
+            what: room.what,
+            packet: None,
+        },
+        Told::Leaves => Act::Line {
+            what: room.what,
+            packet: Some(room.packet),
+        },
+        Told::Full { kind } => Act::Full { kind },
     }
 }

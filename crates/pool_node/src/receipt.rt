@@ -1,27 +1,29 @@
 //! The receipt of a packet at its goal.
 ghost use Rattle.std.specs.Prelude.{◌≡◌, ℕ, ◌+◌, ◌<◌, ◌≤◌, None, Some, length};
-ghost use Rattle.pool_syntax.specs.declared.words.Placement.{Placement as OnePlacement};
-ghost use Rattle.pool_syntax.specs.declared.words.What.TheVariants as W;
-ghost use Rattle.object_code.specs.Step.{class_from};
+ghost use Rattle.run_words.specs.declared.words.Placement.{Placement as OnePlacement};
+ghost use Rattle.run_words.specs.declared.words.What.TheVariants as W;
+ghost use Rattle.code_semantics.specs.Step.{class_from};
 ghost use Rattle.mesh_semantics.specs.Delay as D;
+ghost use Rattle.run_words.specs.ObjectNames as DObjectNames;
 ghost use Rattle.coded_objects.specs.Coded.{coded};
 ghost use Rattle.node_semantics.specs.Node as N;
 ghost use Rattle.node_semantics.specs.Node.{deliver, receipt, receipt_act, message_count};
 ghost use Rattle.node_semantics.specs.Receives.{IsReceivable};
 ghost use Rattle.rendezvous_protocol.specs.Packets.{numbered};
 ghost use Rattle.node_parts.specs.OfUnit.{IsOfPlacement, IsOfUnit};
+ghost use Rattle.pool_node.specs.ActOf.{act_of};
 ghost use Rattle.pool_node.specs.Acts.{IsActOf};
 ghost use Rattle.node_parts.specs.Views.{IsWhole, arrival_of, node_of, slots_of};
 ghost use Rattle.pool_node.specs.Made.{IsMade, IsSet, settled_number};
 
 use crate::acts::{deliver_to, name_of, no_cell, settle_if_out, step};
-use crate::words::Act;
+use crate::words::{Room, Told};
+use code_semantics::Unit;
 use mailbox::Message;
 use node_heap::HeapFull;
 use node_parts::{Parts, add_in};
-use object_code::Unit;
-use pool_syntax::{FullKind, Label, NameId, Placement, Value, What};
 use rendezvous_protocol::Packet;
+use run_words::{FullKind, Label, NameId, Placement, Value, What};
 
 /// The place of the first class of this name.
 pub(crate) fn class_named(unit: &Unit, class: NameId) -> Option<u32>
@@ -47,24 +49,27 @@ fn receive_create(
     class: u32,
     name: NameId,
     leaving: u32,
-) -> Act
+    room: &mut Room,
+) -> Told
     requires set { IsSet unit.now placement.now leaving parts.old }
     requires class { class < length unit.now.classes }
     requires named { class_from 0 unit.now.classes name ≡ Some class }
-    ensures { (goal : ℕ) → IsMade unit.now placement.now leaving result parts.old parts.new (receipt (coded unit.now) parts.old.id (node_of parts.old).state (Some number) (D.Create from goal name.0)) }
+    ensures { (goal : ℕ)
+        → IsMade unit.now placement.now leaving (act_of result room.new) parts.old parts.new
+        (receipt (coded unit.now) parts.old.id (node_of parts.old).state (Some number) (D.Create from goal name.0)) }
 {
     if parts.heap.objects() >= placement.objects {
-        return Act::Full {
+        return Told::Full {
             kind: FullKind::Heap,
         };
     }
     if parts.heap.frames() >= placement.frames {
-        return Act::Full {
+        return Told::Full {
             kind: FullKind::Frames,
         };
     }
     if no_cell(placement, parts, leaving) {
-        return Act::Full {
+        return Told::Full {
             kind: FullKind::Cells,
         };
     }
@@ -76,28 +81,36 @@ fn receive_create(
                 name: object,
                 class: name,
             };
-            Act::Line {
-                what: step(label),
-                packet: Some(Packet::Created {
-                    number,
-                    to: from,
-                    name: object,
-                }),
-            }
+            room.what = step(label);
+            room.packet = Packet::Created {
+                number,
+                to: from,
+                name: object,
+            };
+            Told::Leaves
         }
-        Err(HeapFull::Objects) => Act::Idle,
-        Err(HeapFull::Frames) => Act::Idle,
+        Err(HeapFull::Objects) => Told::Idle,
+        Err(HeapFull::Frames) => Told::Idle,
     }
 }
 
 /// Gives an object the value that has come.
-fn receive_value(unit: &Unit, parts: &mut Parts, number: u32, value: Value, what: What) -> Act
+fn receive_value(
+    unit: &Unit,
+    parts: &mut Parts,
+    number: u32,
+    value: Value,
+    what: What,
+    room: &mut Room,
+) -> Told
     requires whole { IsWhole parts.old }
     requires unit { IsOfUnit unit.now (node_of parts.old) }
-    ensures { (l : OnePlacement) (leaving : ℕ) → IsSet unit.now l leaving parts.old → IsMade unit.now l leaving result parts.old parts.new (N.Acts what None (settled_number unit.now number value (node_of parts.old).state)) }
+    ensures { (l : OnePlacement) (leaving : ℕ) → IsSet unit.now l leaving parts.old
+        → IsMade unit.now l leaving (act_of result room.new) parts.old parts.new (N.Acts what None (settled_number unit.now number value (node_of parts.old).state)) }
 {
     settle_if_out(unit, parts, number, value);
-    Act::Line { what, packet: None }
+    room.what = what;
+    Told::Line
 }
 
 /// Puts a message that has arrived at its receiver, unless there is no cell for it.
@@ -108,23 +121,25 @@ fn receive_message(
     to: u32,
     message: Message,
     leaving: u32,
-) -> Act
+    room: &mut Room,
+) -> Told
     requires set { IsSet unit.now placement.now leaving parts.old }
-    requires there { D.slot_of to < length parts.old.heap.objects }
-    ensures { IsMade unit.now placement.now leaving result parts.old parts.new (N.Acts (W.Arrive message.from to message.method) None (deliver to (arrival_of message) (node_of parts.old).state)) }
+    requires there { DObjectNames.slot_of to < length parts.old.heap.objects }
+    ensures { IsMade unit.now placement.now leaving (act_of result room.new) parts.old parts.new
+        (N.Acts (W.Arrive message.from to message.method) None (deliver to (arrival_of message) (node_of parts.old).state)) }
 {
     if no_cell(placement, parts, leaving) {
-        return Act::Full {
+        return Told::Full {
             kind: FullKind::Cells,
         };
     }
-    let what = What::Arrive {
+    room.what = What::Arrive {
         object: message.from,
         receiver: to,
         method: message.method,
     };
     deliver_to(unit, parts, to, message);
-    Act::Line { what, packet: None }
+    Told::Line
 }
 
 /// What is done with a packet, before the limit of frames is asked.
@@ -134,10 +149,12 @@ fn received(
     parts: &mut Parts,
     packet: Packet,
     leaving: u32,
-) -> Act
+    room: &mut Room,
+) -> Told
     requires set { IsSet unit.now placement.now leaving parts.old }
     requires packet { IsReceivable (coded unit.now) parts.old.id (node_of parts.old).state (numbered packet).number (numbered packet).packet }
-    ensures { IsMade unit.now placement.now leaving result parts.old parts.new (receipt (coded unit.now) parts.old.id (node_of parts.old).state (numbered packet).number (numbered packet).packet) }
+    ensures { IsMade unit.now placement.now leaving (act_of result room.new) parts.old parts.new
+        (receipt (coded unit.now) parts.old.id (node_of parts.old).state (numbered packet).number (numbered packet).packet) }
 {
     match packet {
         Packet::Create {
@@ -147,17 +164,17 @@ fn received(
             class,
         } => match class_named(unit, class) {
             Some(place) => receive_create(
-                unit, placement, parts, number, from, place, class, leaving,
+                unit, placement, parts, number, from, place, class, leaving, room,
             ),
-            None => Act::Idle,
+            None => Told::Idle,
         },
         Packet::Created { number, to, name } => {
             let what = What::Created { object: to, name };
-            receive_value(unit, parts, number, Value::Ref(name), what)
+            receive_value(unit, parts, number, Value::Ref(name), what, room)
         }
         Packet::Result { number, to, value } => {
             let what = What::Result { object: to, value };
-            receive_value(unit, parts, number, value, what)
+            receive_value(unit, parts, number, value, what, room)
         }
         Packet::Request {
             number,
@@ -172,7 +189,7 @@ fn received(
                 args,
                 call: Some(number),
             };
-            receive_message(unit, placement, parts, to, message, leaving)
+            receive_message(unit, placement, parts, to, message, leaving, room)
         }
         Packet::Async {
             from,
@@ -186,7 +203,7 @@ fn received(
                 args,
                 call: None,
             };
-            receive_message(unit, placement, parts, to, message, leaving)
+            receive_message(unit, placement, parts, to, message, leaving, room)
         }
     }
 }
@@ -198,20 +215,22 @@ pub(crate) fn receipt_of(
     parts: &mut Parts,
     packet: Packet,
     leaving: u32,
-) -> Act
+    room: &mut Room,
+) -> Told
     requires whole { IsWhole parts.old }
     requires unit { IsOfUnit unit.now (node_of parts.old) }
     requires placement { IsOfPlacement unit.now placement.now (node_of parts.old) }
     requires cells { message_count (slots_of parts.old) + leaving ≤ placement.now.cells }
     requires packet { IsReceivable (coded unit.now) parts.old.id (node_of parts.old).state (numbered packet).number (numbered packet).packet }
-    ensures act { IsActOf result (node_of parts.old) (node_of parts.new) (receipt_act (coded unit.now) placement.now parts.old.id leaving (numbered packet) (node_of parts.old).state) }
+    ensures act { IsActOf (act_of result room.new) (node_of parts.old) (node_of parts.new)
+        (receipt_act (coded unit.now) placement.now parts.old.id leaving (numbered packet) (node_of parts.old).state) }
     ensures whole { IsWhole parts.new }
     ensures unit { IsOfUnit unit.now (node_of parts.new) }
 {
     // Read for what it ensures: the frames are within their limit.
     let _frames = parts.heap.frames();
-    let act = received(unit, placement, parts, packet, leaving);
+    let told = received(unit, placement, parts, packet, leaving, room);
     // Read for what it ensures: the frames are within their limit.
     let _frames = parts.heap.frames();
-    act
+    told
 }

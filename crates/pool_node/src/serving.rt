@@ -1,19 +1,20 @@
 //! The steps of an object that answers or selects.
 ghost use Rattle.std.specs.Prelude.{◌≡◌, ℕ, ◌<◌, true, None, Some, is_some, length, get_or};
-ghost use Rattle.object_code.specs.Kinds.{code_kind};
+ghost use Rattle.code_semantics.specs.Kinds.{code_kind};
 ghost use Rattle.node_heap.specs.Heaps.{object_at};
 ghost use Rattle.mailbox.specs.Mail.{box_of};
 ghost use Rattle.object_interp.specs.Offers.{IsChoosing, offer_at, offers_at, open_names};
 ghost use Rattle.node_parts.specs.Choices.{first_of_these, place_called};
+ghost use Rattle.pool_node.specs.ActOf.{act_of};
 ghost use Rattle.pool_node.specs.Made.{IsSet, IsTurned, taken_label};
 
 use crate::acts::{name_of, step};
-use crate::words::Act;
+use crate::words::{Room, Told};
+use code_semantics::Unit;
 use mailbox::Message;
 use node_parts::{Parts, called_place, first_possible, pick_in, serve_in};
-use object_code::Unit;
 use object_interp::plain_alt;
-use pool_syntax::{FullKind, Label, Placement};
+use run_words::{FullKind, Label, Placement};
 
 /// The label of a message that is taken: an answer to its caller, or an asynchronous message.
 fn label_of(object: u32, message: &Message) -> Label
@@ -50,62 +51,72 @@ fn serve_turn(
     slot: u32,
     alt: u32,
     place: usize,
-) -> Act
+    room: &mut Room,
+) -> Told
     requires set { (leaving : ℕ) × IsSet unit.now placement.now leaving parts.old }
     requires slot { slot < length parts.old.heap.objects }
     requires free { get_or parts.old.outstanding slot None ≡ None }
     requires choosing { IsChoosing (code_kind unit.now (object_at parts.old.heap slot)) }
     requires first { first_of_these (box_of parts.old.mailbox slot) 1 (offers_at unit.now (object_at parts.old.heap slot)) ≡ Some alt }
     requires place { place_called (box_of parts.old.mailbox slot) (open_names (offer_at (offers_at unit.now (object_at parts.old.heap slot)) alt)) ≡ Some place }
-    ensures { (q leaving : ℕ) → IsSet unit.now placement.now leaving parts.old → IsTurned unit.now placement.now q leaving result parts.old parts.new slot }
+    ensures { (q leaving : ℕ) → IsSet unit.now placement.now leaving parts.old → IsTurned unit.now placement.now q leaving (act_of result room.new) parts.old parts.new slot }
 {
     if parts.heap.frames() >= placement.frames {
-        return Act::Full {
+        return Told::Full {
             kind: FullKind::Frames,
         };
     }
     let object = name_of(parts, slot);
     let message = serve_in(unit, parts, slot, alt, place);
-    Act::Line {
-        what: step(label_of(object, &message)),
-        packet: None,
-    }
+    room.what = step(label_of(object, &message));
+    Told::Line
 }
 
 /// Goes into alternative `alt`, the first that is possible.
-fn choose(unit: &Unit, placement: &Placement, parts: &mut Parts, slot: u32, alt: u32) -> Act
+fn choose(
+    unit: &Unit,
+    placement: &Placement,
+    parts: &mut Parts,
+    slot: u32,
+    alt: u32,
+    room: &mut Room,
+) -> Told
     requires set { (leaving : ℕ) × IsSet unit.now placement.now leaving parts.old }
     requires slot { slot < length parts.old.heap.objects }
     requires free { get_or parts.old.outstanding slot None ≡ None }
     requires choosing { IsChoosing (code_kind unit.now (object_at parts.old.heap slot)) }
     requires first { first_of_these (box_of parts.old.mailbox slot) 1 (offers_at unit.now (object_at parts.old.heap slot)) ≡ Some alt }
-    ensures { (q leaving : ℕ) → IsSet unit.now placement.now leaving parts.old → IsTurned unit.now placement.now q leaving result parts.old parts.new slot }
+    ensures { (q leaving : ℕ) → IsSet unit.now placement.now leaving parts.old → IsTurned unit.now placement.now q leaving (act_of result room.new) parts.old parts.new slot }
 {
     if plain_alt(unit, &parts.heap, slot, alt) {
         let object = name_of(parts, slot);
         pick_in(unit, parts, slot, alt);
-        return Act::Line {
-            what: step(Label::Pick { object, alt }),
-            packet: None,
-        };
+        room.what = step(Label::Pick { object, alt });
+        return Told::Line;
     }
     match called_place(unit, &parts.heap, &parts.mailbox, slot, alt) {
-        Some(place) => serve_turn(unit, placement, parts, slot, alt, place),
-        None => Act::Idle,
+        Some(place) => serve_turn(unit, placement, parts, slot, alt, place, room),
+        None => Told::Idle,
     }
 }
 
 /// Goes into the first alternative that is possible.
-pub(crate) fn choose_turn(unit: &Unit, placement: &Placement, parts: &mut Parts, slot: u32) -> Act
+pub(crate) fn choose_turn(
+    unit: &Unit,
+    placement: &Placement,
+    parts: &mut Parts,
+    slot: u32,
+    room: &mut Room,
+) -> Told
     requires set { (leaving : ℕ) × IsSet unit.now placement.now leaving parts.old }
     requires slot { slot < length parts.old.heap.objects }
     requires free { get_or parts.old.outstanding slot None ≡ None }
     requires choosing { IsChoosing (code_kind unit.now (object_at parts.old.heap slot)) }
     requires possible { is_some (first_of_these (box_of parts.old.mailbox slot) 1 (offers_at unit.now (object_at parts.old.heap slot))) ≡ true }
-    ensures { (q leaving : ℕ) → IsSet unit.now placement.now leaving parts.old → IsTurned unit.now placement.now q leaving result parts.old parts.new slot }
+    ensures { (q leaving : ℕ) → IsSet unit.now placement.now leaving parts.old → IsTurned unit.now placement.now q leaving (act_of result room.new) parts.old parts.new slot }
 {
     match first_possible(unit, &parts.heap, &parts.mailbox, slot) {
-        Some(alt) => choose(unit, placement, parts, slot, alt),
-        None => Act::Idle,
+        Some(alt) => choose(unit, placement, parts, slot, alt, room),
+        None => Told::Idle,
     }
 }

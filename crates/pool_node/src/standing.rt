@@ -1,12 +1,12 @@
 //! Where the objects of a node stand.
 ghost use Rattle.std.specs.Prelude.{◌≡◌, ◌<◌, length, is_some, Option as option, true, false};
-ghost use Rattle.pool_syntax.specs.declared.words.Error.{Error as OneError};
+ghost use Rattle.run_words.specs.declared.words.Error.{Error as OneError};
 ghost use Rattle.std.specs.List.{list_any};
 ghost use Rattle.coded_objects.specs.Coded.{Placed, coded, kind_of};
 ghost use Rattle.node_semantics.specs.Node.{Slot, arrivals, name_at};
 ghost use Rattle.node_semantics.specs.Standings.{slot_standing};
 ghost use Rattle.pool_node.specs.Acts.{chosen_standing, told_standing};
-ghost use Rattle.object_code.specs.Kinds.{code_kind};
+ghost use Rattle.code_semantics.specs.Kinds.{code_kind};
 ghost use Rattle.object_interp.specs.Offers.{IsChoosing};
 ghost use Rattle.node_heap.specs.Heaps.{object_at};
 ghost use Rattle.mailbox.specs.Mail.{box_of};
@@ -14,10 +14,10 @@ ghost use Rattle.mesh_semantics.specs.Act.{can_step};
 ghost use Rattle.node_parts.specs.OfUnit.{IsOfUnit};
 ghost use Rattle.node_parts.specs.Views.{IsWhole, arrivals_of, node_of, slot_at, slots_of};
 
+use code_semantics::Unit;
 use node_parts::{Parts, first_possible};
-use object_code::Unit;
 use object_interp::{Hand, Need, at_hand};
-use pool_syntax::{Error, Standing};
+use run_words::{Error, Standing};
 
 /// Where the object of a slot stands while its request is out.
 fn asking(unit: &Unit, parts: &Parts, slot: u32) -> Standing

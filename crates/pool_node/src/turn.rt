@@ -1,8 +1,8 @@
 //! A turn of a node.
 ghost use Rattle.std.specs.Prelude.{◌≡◌, ℕ, ◌+◌, ◌-◌, ◌^◌, ◌<◌, ◌≤◌, true, None, Some, length, get_or, take};
-ghost use Rattle.object_code.specs.Kinds.{code_kind};
+ghost use Rattle.code_semantics.specs.Kinds.{code_kind};
 ghost use Rattle.node_heap.specs.Heaps.{object_at};
-ghost use Rattle.mesh_semantics.specs.Sound.{Each};
+ghost use Rattle.run_words.specs.Tables.{Each};
 ghost use Rattle.mesh_semantics.specs.Act.{can_step};
 ghost use Rattle.coded_objects.specs.Coded.{coded, kind_of};
 ghost use Rattle.mailbox.specs.Mail.{box_of};
@@ -12,19 +12,21 @@ ghost use Rattle.node_semantics.specs.Node.{arrivals, message_count, turn_act};
 ghost use Rattle.node_semantics.specs.Agrees.{IsUnused};
 ghost use Rattle.node_parts.specs.OfUnit.{IsOfPlacement, IsOfUnit};
 ghost use Rattle.node_parts.specs.Views.{IsWhole, arrivals_of, node_of, slots_of};
+ghost use Rattle.pool_node.specs.ActOf.{act_of};
+ghost use Rattle.pool_node.specs.declared.words.Room.{Room as OneRoom};
 ghost use Rattle.pool_node.specs.Acts.{IsActOf};
 ghost use Rattle.pool_node.specs.Made.{IsSet, IsTurned, kept};
 ghost use Rattle.ready_set.specs.Bits.{first_bit_from};
 ghost use Rattle.pool_node.specs.Bits.{bit_in_turn};
 
-use crate::acts::{async_turn, call_turn, fault_turn, local_turn, return_turn, write_turn};
+use crate::acts::{async_turn, call_turn, fault_turn, name_of, return_turn, write_turn};
 use crate::making::create_turn;
 use crate::serving::choose_turn;
-use crate::words::Act;
-use node_parts::Parts;
-use object_code::Unit;
-use object_interp::{Hand, Need, at_hand};
-use pool_syntax::Placement;
+use crate::words::{Room, Told};
+use code_semantics::Unit;
+use node_parts::{Parts, refresh};
+use object_interp::{Burst, Need, burst};
+use run_words::{FullKind, Label, Placement, What};
 
 /// The step of a slot that needs this.
 fn need_turn(
@@ -34,37 +36,44 @@ fn need_turn(
     slot: u32,
     need: Need,
     leaving: u32,
-) -> Act
+    room: &mut Room,
+) -> Told
     requires set { IsSet unit.now placement.now leaving parts.old }
     requires slot { slot < length parts.old.heap.objects }
     requires free { get_or parts.old.outstanding slot None ≡ None }
     requires steps { can_step (arrivals (arrivals_of (box_of parts.old.mailbox slot))) (kind_of (code_kind unit.now (object_at parts.old.heap slot))) ≡ true }
     requires hand { H.At need ≡ hand_of unit.now (code_kind unit.now (object_at parts.old.heap slot)) }
     requires countable { Each (λ k. k < 2 ^ 32 - 1) parts.old.made }
-    ensures { (q : ℕ) → IsTurned unit.now placement.now q leaving result parts.old parts.new slot }
+    ensures { (q : ℕ) → IsTurned unit.now placement.now q leaving (act_of result room.new) parts.old parts.new slot }
 {
     match need {
-        Need::New { class } => create_turn(unit, placement, parts, slot, class, leaving),
+        Need::New { class } => create_turn(unit, placement, parts, slot, class, leaving, room),
         Need::Send { to, method, args } => {
-            call_turn(unit, placement, parts, slot, to, method, args, leaving)
+            call_turn(
+                unit, placement, parts, slot, to, method, args, leaving, room,
+            )
         }
         Need::Async { to, method, args } => {
-            async_turn(unit, placement, parts, slot, to, method, args, leaving)
+            async_turn(
+                unit, placement, parts, slot, to, method, args, leaving, room,
+            )
         }
-        Need::Write { item } => write_turn(unit, parts, slot, item),
-        Need::Answer => choose_turn(unit, placement, parts, slot),
-        Need::Select => choose_turn(unit, placement, parts, slot),
+        Need::Write { item } => write_turn(unit, parts, slot, item, room),
+        Need::Answer => choose_turn(unit, placement, parts, slot, room),
+        Need::Select => choose_turn(unit, placement, parts, slot, room),
         Need::Return {
             caller,
             number,
             value,
-        } => return_turn(unit, placement, parts, slot, caller, number, value, leaving),
-        Need::Fault { error } => fault_turn(unit, parts, slot, error),
-        Need::Halted => Act::Idle,
+        } => return_turn(
+            unit, placement, parts, slot, caller, number, value, leaving, room,
+        ),
+        Need::Fault { error } => fault_turn(unit, parts, slot, error, room),
+        Need::Halted => Told::Idle,
     }
 }
 
-/// The step of a slot whose object can go.
+/// The step of a slot whose object can go: local transitions, at most `quantum`, or else what is at hand.
 fn slot_turn(
     unit: &Unit,
     placement: &Placement,
@@ -72,7 +81,8 @@ fn slot_turn(
     slot: u32,
     quantum: u32,
     leaving: u32,
-) -> Act
+    room: &mut Room,
+) -> Told
     requires set { IsSet unit.now placement.now leaving parts.old }
     requires slot { slot < length parts.old.heap.objects }
     requires free { get_or parts.old.outstanding slot None ≡ None }
@@ -80,11 +90,22 @@ fn slot_turn(
     requires steps { can_step (arrivals (arrivals_of (box_of parts.old.mailbox slot))) (kind_of (code_kind unit.now (object_at parts.old.heap slot))) ≡ true }
     requires quantum { 1 ≤ quantum }
     requires countable { Each (λ k. k < 2 ^ 32 - 1) parts.old.made }
-    ensures { IsTurned unit.now placement.now quantum leaving result parts.old parts.new slot }
+    ensures { IsTurned unit.now placement.now quantum leaving (act_of result room.new) parts.old parts.new slot }
 {
-    match at_hand(unit, &parts.heap, slot) {
-        Hand::Local => local_turn(unit, parts, slot, quantum),
-        Hand::At(need) => need_turn(unit, placement, parts, slot, need, leaving),
+    let object = name_of(parts, slot);
+    match burst(unit, &mut parts.heap, slot, quantum) {
+        Burst::Local { steps } => {
+            refresh(unit, parts, slot);
+            room.what = What::Step {
+                label: Label::Local { object },
+                times: steps,
+            };
+            Told::Line
+        }
+        Burst::FramesFull => Told::Full {
+            kind: FullKind::Frames,
+        },
+        Burst::At(need) => need_turn(unit, placement, parts, slot, need, leaving, room),
     }
 }
 
@@ -113,13 +134,14 @@ fn slot_in_turn(parts: &Parts) -> Option<u32>
 }
 
 /// Where a limit is told, the last slot is the one from before.
-fn keep_last(parts: &mut Parts, act: &Act, before: Option<u32>)
-    ensures { parts.new ≡ kept act.now parts.old before }
+fn keep_last(parts: &mut Parts, told: Told, before: Option<u32>)
+    ensures { (room : OneRoom) → parts.new ≡ kept (act_of told room) parts.old before }
 {
-    match *act {
-        Act::Full { .. } => parts.last = before,
-        Act::Idle => {}
-        Act::Line { .. } => {}
+    match told {
+        Told::Full { .. } => parts.last = before,
+        Told::Idle => {}
+        Told::Line => {}
+        Told::Leaves => {}
     }
 }
 
@@ -131,7 +153,8 @@ fn step_of(
     slot: u32,
     quantum: u32,
     leaving: u32,
-) -> Act
+    room: &mut Room,
+) -> Told
     requires whole { IsWhole parts.old }
     requires unit { IsOfUnit unit.now (node_of parts.old) }
     requires placement { IsOfPlacement unit.now placement.now (node_of parts.old) }
@@ -139,7 +162,8 @@ fn step_of(
     requires cells { message_count (slots_of parts.old) + leaving ≤ placement.now.cells }
     requires countable { Each (λ k. k < 2 ^ 32 - 1) parts.old.made }
     requires turn { bit_in_turn parts.old.last (take (length parts.old.heap.objects) parts.old.ready) ≡ Some slot }
-    ensures act { (fresh : ℕ) × IsUnused fresh (node_of parts.old).state × IsActOf result (node_of parts.old) (node_of parts.new) (turn_act (coded unit.now) placement.now quantum parts.old.id leaving fresh (node_of parts.old).state) }
+    ensures act { (fresh : ℕ) × IsUnused fresh (node_of parts.old).state
+        × IsActOf (act_of result room.new) (node_of parts.old) (node_of parts.new) (turn_act (coded unit.now) placement.now quantum parts.old.id leaving fresh (node_of parts.old).state) }
     ensures whole { IsWhole parts.new }
     ensures unit { IsOfUnit unit.now (node_of parts.new) }
 {
@@ -147,11 +171,11 @@ fn step_of(
     // Read for what it ensures: the frames are within their limit.
     let _frames = parts.heap.frames();
     parts.last = Some(slot);
-    let act = slot_turn(unit, placement, parts, slot, quantum, leaving);
-    keep_last(parts, &act, before);
+    let told = slot_turn(unit, placement, parts, slot, quantum, leaving, room);
+    keep_last(parts, told, before);
     // Read for what it ensures: the frames are within their limit.
     let _frames = parts.heap.frames();
-    act
+    told
 }
 
 /// A turn of a node.
@@ -161,19 +185,21 @@ pub(crate) fn turn_of(
     parts: &mut Parts,
     quantum: u32,
     leaving: u32,
-) -> Act
+    room: &mut Room,
+) -> Told
     requires whole { IsWhole parts.old }
     requires unit { IsOfUnit unit.now (node_of parts.old) }
     requires placement { IsOfPlacement unit.now placement.now (node_of parts.old) }
     requires quantum { 1 ≤ quantum }
     requires cells { message_count (slots_of parts.old) + leaving ≤ placement.now.cells }
     requires countable { Each (λ k. k < 2 ^ 32 - 1) parts.old.made }
-    ensures act { (fresh : ℕ) × IsUnused fresh (node_of parts.old).state × IsActOf result (node_of parts.old) (node_of parts.new) (turn_act (coded unit.now) placement.now quantum parts.old.id leaving fresh (node_of parts.old).state) }
+    ensures act { (fresh : ℕ) × IsUnused fresh (node_of parts.old).state
+        × IsActOf (act_of result room.new) (node_of parts.old) (node_of parts.new) (turn_act (coded unit.now) placement.now quantum parts.old.id leaving fresh (node_of parts.old).state) }
     ensures whole { IsWhole parts.new }
     ensures unit { IsOfUnit unit.now (node_of parts.new) }
 {
     match slot_in_turn(parts) {
-        Some(slot) => step_of(unit, placement, parts, slot, quantum, leaving),
-        None => Act::Idle,
+        Some(slot) => step_of(unit, placement, parts, slot, quantum, leaving, room),
+        None => Told::Idle,
     }
 }

@@ -1,9 +1,42 @@
 //! What a node tells.
-use pool_syntax::{FullKind, What};
-use rendezvous_protocol::Packet;
+ghost use Rattle.std.specs.Prelude.{◌≡◌};
+ghost use Rattle.run_words.specs.declared.words.What.TheVariants as W;
 
-/// What a node did: nothing, since no object of it is ready; a step, with its line and the packet that leaves the node,
-/// if one does; or nothing, since the step would pass this limit.
+use rendezvous_protocol::Packet;
+use run_words::{FullKind, What};
+
+/// Room for what a step tells: what its line shows, and the packet that leaves the node.
+#[derive(Drop)]
+pub struct Room {
+    pub what: What,
+    pub packet: Packet,
+}
+
+impl Room {
+    /// Room in which nothing is told yet.
+    pub fn make() -> Room
+        ensures { result.what ≡ W.Idle }
+    {
+        Room {
+            what: What::Idle,
+            packet: Packet::default(),
+        }
+    }
+}
+
+/// What a node did: nothing, since no object of it is ready; a step, whose line is in the room; such a step from which the
+/// packet in the room leaves the node; or nothing, since the step would pass this limit. What else is in the room counts for
+/// nothing.
+#[derive(Clone, Copy)]
+pub enum Told {
+    Idle,
+    Line,
+    Leaves,
+    Full { kind: FullKind },
+}
+
+/// What a node did: nothing, since no object of it is ready; a step, with its line and the packet that leaves the node, if
+/// one does; or nothing, since the step would pass this limit.
 #[derive(Clone, Copy)]
 pub enum Act {
     Idle,

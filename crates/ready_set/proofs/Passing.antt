@@ -1,6 +1,6 @@
 -- Where a row of bits is clear, the first that is set is looked for behind it.
 use Rattle.std.proofs.Common.{◌≡◌, refl, sym, ap, subst, ◌∙◌, ℕ, zero, suc, ◌+◌, ◌-◌, ◌<◌, ◌≤◌, List, [], ◌∷◌, length, drop, take, get_or, Some, None, Bool, true, false, if◌then◌else◌, arith}
-use Rattle.std.proofs.lemmas.List.{get_or-drop, take-take}
+use Rattle.std.proofs.lemmas.List.{get_or-drop, get_or_past, length-take}
 use Rattle.ready_set.specs.Bits.{first_bit, first_bit_from}
 
 -- one step of the look-up: the bit at place i, or those behind it
@@ -36,18 +36,6 @@ passed_to bs from to h l clear =
     subst (λ (k : ℕ). first_bit_from k bs ≡ first_bit_from from bs) e
     (passed bs from (to - from) (omega arith) (λ k a b. clear k a (omega (arith, b))))
 
--- where none is found, all are clear
-clear_of_none : (n : ℕ) (bs : List Bool) → first_bit n bs ≡ None → (j : ℕ) → get_or bs j false ≡ false
-clear_of_none n [] e j = refl
-clear_of_none n (true ∷ bs) e j = absurd (cc)
-clear_of_none n (false ∷ bs) e zero = refl
-clear_of_none n (false ∷ bs) e (suc j) = clear_of_none (n + 1) bs e j
-
-pub none_clear : (bs : List Bool) (from k : ℕ) → first_bit_from from bs ≡ None → from ≤ k → get_or bs k false ≡ false
-none_clear bs from k e h =
-    let i : from + (k - from) ≡ k = omega arith in
-    subst (λ (j : ℕ). get_or bs j false ≡ false) i (sym (get_or-drop from bs (k - from) false) ∙ clear_of_none from (drop from bs) e (k - from))
-
 -- where all are clear, none is found
 none_of_clear : (n : ℕ) (bs : List Bool) → ((j : ℕ) → get_or bs j false ≡ false) → first_bit n bs ≡ None
 none_of_clear n [] clear = refl
@@ -57,15 +45,10 @@ none_of_clear n (false ∷ bs) clear = none_of_clear (n + 1) bs (λ j. clear (su
 pub clear_none : (bs : List Bool) (from : ℕ) → ((k : ℕ) → from ≤ k → get_or bs k false ≡ false) → None ≡ first_bit_from from bs
 clear_none bs from clear = sym (none_of_clear from (drop from bs) (λ j. get_or-drop from bs j false ∙ clear (from + j) (omega arith)))
 
--- what is found in the front of a row is the first of the row
-found_in : (n x m s : ℕ) (bs : List Bool) → first_bit n (drop m (take s bs)) ≡ Some x → first_bit n (drop m bs) ≡ Some x
-found_in n x zero zero bs e = absurd (cc)
-found_in n x (suc m) zero bs e = absurd (cc)
-found_in n x zero (suc s) [] e = e
-found_in n x (suc m) (suc s) [] e = e
-found_in n x zero (suc s) (true ∷ bs) e = e
-found_in n x zero (suc s) (false ∷ bs) e = found_in (n + 1) x zero s bs e
-found_in n x (suc m) (suc s) (b ∷ bs) e = found_in n x m s bs e
+-- a bit that is set is found where the look-up begins at it
+pub bit_found : (bs : List Bool) (i : ℕ) → i < length bs → get_or bs i false ≡ true → Some i ≡ first_bit_from i bs
+bit_found bs i h e = sym (bit_step i bs i h ∙ ap (λ (b : Bool). if b then Some i else first_bit (i + 1) (drop (suc i) bs)) e)
 
-pub found : (bs : List Bool) (from stop end x : ℕ) → stop ≤ end → first_bit_from from (take stop bs) ≡ Some x → first_bit_from from (take end bs) ≡ Some x
-found bs from stop end x h e = found_in from x from stop (take end bs) (ap (λ (b : List Bool). first_bit_from from b) (take-take stop end bs h) ∙ e)
+-- nothing is found where the look-up begins behind the row
+pub past_end : (bs : List Bool) (from end : ℕ) → end ≤ from → None ≡ first_bit_from from (take end bs)
+past_end bs from end h = clear_none (take end bs) from (λ k a. get_or_past (take end bs) k false (omega (arith, length-take end bs, h, a)))

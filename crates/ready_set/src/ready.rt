@@ -1,31 +1,32 @@
-//! One bit a slot, and the number of set bits of each 64 slots, by which a look-up passes over slots that are not ready.
-ghost use Rattle.std.specs.Prelude.{◌≡◌, ◌+◌, ◌*◌, ◌^◌, ◌<◌, ◌≤◌, min, false, length, take, replicate, slice_set, IfOk, MatchOption};
+//! One bit a slot, in words of 64, by which a look-up passes over slots that are not ready.
+ghost use Rattle.std.specs.Prelude.{◌≡◌, ◌≢◌, ℕ, ◌*◌, ◌+◌, ◌/◌, ◌^◌, ◌<◌, ◌≤◌, cond, false, length, take, replicate, slice_set, IfOk, MatchOption};
+ghost use Rattle.std.specs.Int.{bit_at};
 ghost use Rattle.ready_set.specs.Bits.{first_bit_from};
-ghost use Rattle.ready_set.specs.Counts.{AreZero, IsNextBlock};
+ghost use Rattle.ready_set.specs.Words.{AreClear, IsFirstSet};
 
 use std::alloc::{AllocError, Global};
 use std::marker::Model;
 
-/// How many slots share a count.
-const BLOCK: u32 = 64;
+/// How many slots share a word.
+const WORD: u32 = 64;
 
 /// The slots of a node, each ready or not. Contracts see one truth value a slot, in order.
 #[derive(Drop)]
 pub struct ReadySet {
-    bits: Vec<bool>,
-    counts: Vec<u32>,
+    slots: u32,
+    words: Vec<u64>,
 }
 
 impl Model for ReadySet {
-    ghost use Rattle.std.specs.Prelude.{Bool, List};
+    ghost use Rattle.std.specs.Prelude.{Bool, List, ◌≤◌, ◌*◌, length};
 
     ghost Value = { List Bool };
 
-    ghost use Rattle.ready_set.specs.Counts.{AreCounts};
+    ghost use Rattle.ready_set.specs.Words.{bits_of};
 
-    ghost view = { λ r. r.bits.items };
+    ghost view = { λ r. bits_of r.words.items r.slots };
 
-    ghost invariant = { λ r. AreCounts r.bits.items r.counts.items };
+    ghost invariant = { λ r. r.slots ≤ length r.words.items * 64 };
 }
 
 impl ReadySet {
@@ -33,9 +34,8 @@ impl ReadySet {
     pub fn make(alloc: Global, slots: u32) -> Result<ReadySet, AllocError>
         ensures { IfOk result (λ r. r ≡ replicate slots false) }
     {
-        let bits = vec![in alloc; false; slots as usize]?;
-        let counts = vec![in alloc; 0; slots.div_ceil(BLOCK) as usize]?;
-        Ok(ReadySet { bits, counts })
+        let words = vec![in alloc; 0; slots.div_ceil(WORD) as usize]?;
+        Ok(ReadySet { slots, words })
     }
 
     /// Makes a slot ready, or not.
@@ -43,68 +43,73 @@ impl ReadySet {
         requires { slot < length self.old }
         ensures { self.new ≡ slice_set self.old slot ready }
     {
-        let place = slot as usize;
-        let block = (slot / BLOCK) as usize;
-        if self.bits[place] != ready {
-            self.bits[place] = ready;
-            if ready {
-                self.counts[block] += 1;
-            } else {
-                self.counts[block] -= 1;
-            }
-        }
+        let place = (slot / WORD) as usize;
+        self.words[place] = with_bit(self.words[place], slot % WORD, ready);
     }
 
     /// The least ready slot from `from` on, below `end`; `None` exactly where there is none. Takes no memory.
-    /// It looks at 64 slots at most where it begins, at one count for each block after them, and at 64 slots at most of
-    /// the first block whose count is above 0.
+    /// It looks at one word for each 64 slots, up to the first with a ready slot.
     pub fn first_within(&self, from: u32, end: u32) -> Option<u32>
         requires { end ≤ length self.now }
         ensures { result ≡ first_bit_from from (take end self.now) }
     {
-        let bits = self.bits.as_slice();
-        let here = first_in_range(bits, from, block_end(from / BLOCK, end));
-        if here.is_some() {
-            return here;
+        if from >= end {
+            return None;
         }
-        let counts = self.counts.as_slice();
-        match next_block(counts, from / BLOCK + 1, end.div_ceil(BLOCK)) {
-            Some(block) => first_in_range(bits, block * BLOCK, block_end(block, end)),
-            None => None,
+        match first_from(self.words.as_slice(), from, end.div_ceil(WORD)) {
+            Some(slot) if slot < end => Some(slot),
+            _ => None,
         }
     }
 }
 
-/// The number of the first slot after a block of 64, or `end` where that is less.
-fn block_end(block: u32, end: u32) -> u32
-    requires { block * 64 < 2 ^ 32 }
-    ensures { result ≡ min (block * 64 + 64) end }
+/// The word with one of its bits set, or clear.
+fn with_bit(word: u64, place: u32, ready: bool) -> u64
+    requires { place < 64 }
+    ensures same { bit_at result place ≡ cond ready 1 0 }
+    ensures others { (i : ℕ) → i < 64 → i ≢ place → bit_at result i ≡ bit_at word i }
 {
-    (block * BLOCK).saturating_add(BLOCK).min(end)
+    let bit = 1 << place;
+    if ready { word | bit } else { word & !bit }
 }
 
-/// The least place of a set bit from `from` on, below `end`. It looks at one bit after the other.
-fn first_in_range(bits: &[bool], from: u32, end: u32) -> Option<u32>
-    requires { end ≤ length bits.now }
-    ensures { result ≡ first_bit_from from (take end bits.now) }
+/// The least set bit from `from` on that stands in the same word.
+fn first_in_word(words: &[u64], from: u32) -> Option<u32>
+    requires { from / 64 < length words.now }
+    ensures { MatchOption result (AreClear words.now from (from / 64 * 64 + 64)) (λ slot. IsFirstSet words.now from slot) }
 {
-    for slot in from..end {
-        if bits[slot as usize] {
-            return Some(slot);
+    let rest = words[(from / WORD) as usize] & (u64::MAX << (from % WORD));
+    if rest == 0 {
+        return None;
+    }
+    Some(from / WORD * WORD + rest.trailing_zeros())
+}
+
+/// The least set bit of the words from `from` on, below `end`.
+fn first_in_words(words: &[u64], from: u32, end: u32) -> Option<u32>
+    requires end { end ≤ length words.now }
+    requires few { end * 64 ≤ 2 ^ 32 }
+    ensures { MatchOption result (AreClear words.now (from * 64) (end * 64)) (λ slot. IsFirstSet words.now (from * 64) slot) }
+{
+    for word in from..end {
+        let first = first_in_word(words, word * WORD);
+        if first.is_some() {
+            return first;
         }
     }
     None
 }
 
-/// The first block from `from` on, below `end`, whose count is above 0.
-fn next_block(counts: &[u32], from: u32, end: u32) -> Option<u32>
-    requires { end ≤ length counts.now }
-    ensures { MatchOption result (AreZero counts.now from end) (λ block. IsNextBlock counts.now from end block) }
+/// The least set bit from `from` on, in the words below `end`.
+fn first_from(words: &[u64], from: u32, end: u32) -> Option<u32>
+    requires from { from < end * 64 }
+    requires end { end ≤ length words.now }
+    requires few { end * 64 ≤ 2 ^ 32 }
+    ensures { MatchOption result (AreClear words.now from (end * 64)) (λ slot. IsFirstSet words.now from slot) }
 {
-    for block in from..end {
-        if counts[block as usize] > 0 {
-            return Some(block);
-        }
+    let here = first_in_word(words, from);
+    if here.is_some() {
+        return here;
     }
-    None
+    first_in_words(words, from / WORD + 1, end)
 }

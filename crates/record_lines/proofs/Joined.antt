@@ -1,9 +1,9 @@
 -- Words behind those of a line.
 use Rattle.std.proofs.Common.{◌≡◌, refl, sym, ap, ◌∙◌, ◌<◌, List, [], ◌∷◌, ◌++◌, length, append_assoc, arith}
-use Rattle.pool_syntax.specs.Tokens.{Text}
-use Rattle.pool_syntax.specs.declared.words.End.TheVariants as F
-use Rattle.pool_syntax.specs.declared.words.Line.{Line}
-use Rattle.pool_syntax.specs.declared.words.Line.TheVariants as R
+use Rattle.run_words.specs.Text.{Text}
+use Rattle.run_words.specs.declared.words.End.TheVariants as F
+use Rattle.run_words.specs.declared.words.Line.{Line}
+use Rattle.run_words.specs.declared.words.Line.TheVariants as R
 use Rattle.record_lines.specs.RecordText.{joined, led, line_words}
 
 pub led_more : (vs ws : List Text) → led (vs ++ ws) ≡ led vs ++ led ws

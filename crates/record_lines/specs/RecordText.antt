@@ -1,28 +1,29 @@
 -- The text of a record's lines: words with one space between them, and a line feed.
-use Rattle.std.specs.Prelude.{ℕ, ◌/◌, ◌%◌, List, [], ◌∷◌, ◌++◌, map, Bool, true, false, Option, Some, None, codes, decimal, slice_get}
+use Rattle.std.specs.Prelude.{ℕ, ◌/◌, ◌%◌, List, [], ◌∷◌, ◌++◌, map, codes, decimal, slice_get}
 use Rattle.std.specs.Fmt.{signed_decimal}
-use Rattle.pool_syntax.specs.Tokens.{Text}
-use Rattle.pool_syntax.specs.declared.words.NameId.{NameId}
-use Rattle.pool_syntax.specs.declared.words.Value.{Value}
-use Rattle.pool_syntax.specs.declared.words.Value.TheVariants as V
-use Rattle.pool_syntax.specs.declared.words.Item.{Item}
-use Rattle.pool_syntax.specs.declared.words.Item.TheVariants as I
-use Rattle.pool_syntax.specs.declared.words.Error.{Error}
-use Rattle.pool_syntax.specs.declared.words.Error.TheVariants as error
-use Rattle.pool_syntax.specs.declared.words.FullKind.{FullKind}
-use Rattle.pool_syntax.specs.declared.words.FullKind.TheVariants as full
-use Rattle.pool_syntax.specs.declared.words.Label.{Label}
-use Rattle.pool_syntax.specs.declared.words.Label.TheVariants as L
-use Rattle.pool_syntax.specs.declared.words.What.{What}
-use Rattle.pool_syntax.specs.declared.words.What.TheVariants as W
-use Rattle.pool_syntax.specs.declared.words.WireAct.{WireAct}
-use Rattle.pool_syntax.specs.declared.words.WireAct.TheVariants as A
-use Rattle.pool_syntax.specs.declared.words.Event.{Event}
-use Rattle.pool_syntax.specs.declared.words.Event.TheVariants as E
-use Rattle.pool_syntax.specs.declared.words.End.{End}
-use Rattle.pool_syntax.specs.declared.words.End.TheVariants as F
-use Rattle.pool_syntax.specs.declared.words.Line.{Line}
-use Rattle.pool_syntax.specs.declared.words.Line.TheVariants as R
+use Rattle.run_words.specs.Table.{text_or_none}
+use Rattle.run_words.specs.Text.{Text, truth_text}
+use Rattle.run_words.specs.declared.words.NameId.{NameId}
+use Rattle.run_words.specs.declared.words.Value.{Value}
+use Rattle.run_words.specs.declared.words.Value.TheVariants as V
+use Rattle.run_words.specs.declared.words.Item.{Item}
+use Rattle.run_words.specs.declared.words.Item.TheVariants as I
+use Rattle.run_words.specs.declared.words.Error.{Error}
+use Rattle.run_words.specs.declared.words.Error.TheVariants as error
+use Rattle.run_words.specs.declared.words.FullKind.{FullKind}
+use Rattle.run_words.specs.declared.words.FullKind.TheVariants as full
+use Rattle.run_words.specs.declared.words.Label.{Label}
+use Rattle.run_words.specs.declared.words.Label.TheVariants as L
+use Rattle.run_words.specs.declared.words.What.{What}
+use Rattle.run_words.specs.declared.words.What.TheVariants as W
+use Rattle.run_words.specs.declared.words.WireAct.{WireAct}
+use Rattle.run_words.specs.declared.words.WireAct.TheVariants as A
+use Rattle.run_words.specs.declared.words.Event.{Event}
+use Rattle.run_words.specs.declared.words.Event.TheVariants as E
+use Rattle.run_words.specs.declared.words.End.{End}
+use Rattle.run_words.specs.declared.words.End.TheVariants as F
+use Rattle.run_words.specs.declared.words.Line.{Line}
+use Rattle.run_words.specs.declared.words.Line.TheVariants as R
 
 -- words, a space before each
 abbrev pub led : List Text → Text
@@ -34,10 +35,6 @@ abbrev pub joined : List Text → Text
 joined [] = []
 joined (w ∷ ws) = w ++ led ws
 
-abbrev pub text_or_none : Option Text → Text
-text_or_none None = []
-text_or_none (Some w) = w
-
 -- the text of this number in the table; none where there is no such number
 abbrev pub text_at : List Text → NameId → Text
 text_at names id = text_or_none (slice_get names id.0)
@@ -45,10 +42,6 @@ text_at names id = text_or_none (slice_get names id.0)
 -- an object's name, as `node.slot`
 abbrev pub object_text : ℕ → Text
 object_text o = decimal (o / 65536) ++ 46 ∷ decimal (o % 65536)
-
-abbrev pub truth_text : Bool → Text
-truth_text true = codes "true"
-truth_text false = codes "false"
 
 abbrev pub value_text : Value → Text
 value_text (V.Int z) = signed_decimal z

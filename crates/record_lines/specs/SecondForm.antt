@@ -1,8 +1,8 @@
 -- The text of a record in its second form: a first line that says so, and behind each line that answers a request ` by` and the request's number.
 use Rattle.std.specs.Prelude.{ℕ, List, [], ◌∷◌, ◌++◌, Bool, true, false, codes, decimal}
-use Rattle.pool_syntax.specs.Tokens.{Text}
-use Rattle.pool_syntax.specs.declared.words.Line.{Line}
-use Rattle.mesh_semantics.specs.Asks.{asks, is_asked}
+use Rattle.run_words.specs.Text.{Text}
+use Rattle.run_words.specs.declared.words.Line.{Line}
+use Rattle.run_words.specs.Asks.{asks, is_asked}
 use Rattle.record_lines.specs.RecordText.{joined, line_words}
 
 -- the words of a request number, at a line that carries one

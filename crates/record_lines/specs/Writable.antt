@@ -1,15 +1,15 @@
 -- The lines that are written: those whose name, if they have one, is a text of the table, of at most 256 bytes.
 use Rattle.std.specs.Prelude.{◌<◌, ◌≤◌, List, length, Option, Some, None, IfSome}
-use Rattle.pool_syntax.specs.Tokens.{Text}
-use Rattle.pool_syntax.specs.declared.words.NameId.{NameId}
-use Rattle.pool_syntax.specs.declared.words.Item.{Item}
-use Rattle.pool_syntax.specs.declared.words.Item.TheVariants as I
-use Rattle.pool_syntax.specs.declared.words.Label.{Label}
-use Rattle.pool_syntax.specs.declared.words.Label.TheVariants as L
-use Rattle.pool_syntax.specs.declared.words.What.{What}
-use Rattle.pool_syntax.specs.declared.words.What.TheVariants as W
-use Rattle.pool_syntax.specs.declared.words.Line.{Line}
-use Rattle.pool_syntax.specs.declared.words.Line.TheVariants as R
+use Rattle.run_words.specs.Text.{Text}
+use Rattle.run_words.specs.declared.words.NameId.{NameId}
+use Rattle.run_words.specs.declared.words.Item.{Item}
+use Rattle.run_words.specs.declared.words.Item.TheVariants as I
+use Rattle.run_words.specs.declared.words.Label.{Label}
+use Rattle.run_words.specs.declared.words.Label.TheVariants as L
+use Rattle.run_words.specs.declared.words.What.{What}
+use Rattle.run_words.specs.declared.words.What.TheVariants as W
+use Rattle.run_words.specs.declared.words.Line.{Line}
+use Rattle.run_words.specs.declared.words.Line.TheVariants as R
 use Rattle.record_lines.specs.RecordText.{text_at}
 
 abbrev pub id_of_item : Item → Option NameId

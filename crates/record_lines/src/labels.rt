@@ -6,7 +6,7 @@ ghost use Rattle.record_lines.specs.Writable.{AreShort, IsShort, id_of_label, id
 
 use crate::parts::{put_args, put_error, put_item, put_name, put_value};
 use crate::text::{LineText, put_number, put_object, put_word};
-use pool_syntax::{Args, Label, NameId, Names, What};
+use run_words::{Args, Label, NameId, Names, What};
 
 /// Puts a word and two objects' names.
 fn put_pair(text: &mut LineText, word: &[u8], one: u32, other: u32)

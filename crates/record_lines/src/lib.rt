@@ -7,5 +7,5 @@ mod parts;
 mod text;
 mod write;
 
-pub use asked::{asker, is_asked, poster};
-pub use write::{write_form, write_item, write_line, write_line2};
+pub use asked::{asker, asker_of, is_asked, poster};
+pub use write::{write_event2, write_form, write_item, write_line, write_line2};

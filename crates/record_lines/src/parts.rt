@@ -5,7 +5,7 @@ ghost use Rattle.record_lines.specs.RecordText.{bare_text, error_text, item_text
 ghost use Rattle.record_lines.specs.Writable.{AreShort, IsShort, id_of_item};
 
 use crate::text::{LineText, put, put_integer, put_object, put_word};
-use pool_syntax::{Args, Error, Item, NameId, Names, Value};
+use run_words::{Args, Error, Item, NameId, Names, Value};
 
 /// Puts a space and a value.
 pub fn put_value(text: &mut LineText, value: Value)

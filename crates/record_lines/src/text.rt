@@ -32,14 +32,29 @@ pub fn put_word(text: &mut LineText, word: &[u8])
     put(text, word);
 }
 
-/// Puts a number, of at most 10 digits.
-pub fn put_digits(text: &mut LineText, number: u32)
+/// Puts a number of more than one digit, of at most 10.
+#[inline(never)]
+fn put_long(text: &mut LineText, number: u32)
     requires { array_vec_len text.old ≤ 518 }
     ensures items { text.new.items ≡ text.old.items ++ decimal number }
     ensures size { array_vec_len text.new ≤ array_vec_len text.old + 10 }
 {
     let mut buffer = Buffer::new();
     put(text, buffer.format(number).as_bytes());
+}
+
+/// Puts a number, of at most 10 digits.
+#[tactic(auto, using(std::proofs::lemmas::Fmt::decimal_digit))]
+pub fn put_digits(text: &mut LineText, number: u32)
+    requires { array_vec_len text.old ≤ 518 }
+    ensures items { text.new.items ≡ text.old.items ++ decimal number }
+    ensures size { array_vec_len text.new ≤ array_vec_len text.old + 10 }
+{
+    if number < 10 {
+        text.push(b'0' + number as u8);
+    } else {
+        put_long(text, number);
+    }
 }
 
 /// Puts a space and a number.
@@ -62,14 +77,29 @@ pub fn put_integer(text: &mut LineText, number: i64)
     put_word(text, buffer.format(number).as_bytes());
 }
 
-/// Puts half of an object's name, of at most 5 digits.
-fn put_half(text: &mut LineText, half: u16)
+/// Puts half of an object's name, of more than one digit and at most 5.
+#[inline(never)]
+fn put_long_half(text: &mut LineText, half: u16)
     requires { array_vec_len text.old ≤ 507 }
     ensures items { text.new.items ≡ text.old.items ++ decimal half }
     ensures size { array_vec_len text.new ≤ array_vec_len text.old + 5 }
 {
     let mut buffer = Buffer::new();
     put(text, buffer.format(half).as_bytes());
+}
+
+/// Puts half of an object's name, of at most 5 digits.
+#[tactic(auto, using(std::proofs::lemmas::Fmt::decimal_digit))]
+fn put_half(text: &mut LineText, half: u16)
+    requires { array_vec_len text.old ≤ 507 }
+    ensures items { text.new.items ≡ text.old.items ++ decimal half }
+    ensures size { array_vec_len text.new ≤ array_vec_len text.old + 5 }
+{
+    if half < 10 {
+        text.push(b'0' + half as u8);
+    } else {
+        put_long_half(text, half);
+    }
 }
 
 /// Puts a space and an object's name.

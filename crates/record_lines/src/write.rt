@@ -1,18 +1,19 @@
 //! Writes a line.
-ghost use Rattle.std.specs.Prelude.{◌≡◌, ℕ, ◌+◌, ◌<◌, ◌≤◌, [], ◌∷◌, ◌++◌, length, take, decimal, option_map, OnOk, OnErr};
+ghost use Rattle.std.specs.Prelude.{◌≡◌, ℕ, ◌+◌, ◌<◌, ◌≤◌, [], ◌∷◌, ◌++◌, length, take, decimal, option_map, is_some, OnOk, OnErr};
 ghost use Rattle.arrayvec.specs.ArrayVec.{array_vec_len};
 ghost use Rattle.pool_outside.specs.Outside.{Rose, IsProperFront};
-ghost use Rattle.mesh_semantics.specs.Asks.{asker_by, asker_of, is_asked};
+ghost use Rattle.run_words.specs.Asks.{asker_by, asker_of, is_asked};
 ghost use Rattle.record_lines.specs.RecordText.{bare_text, end_words, event_words, full_text, joined, led, line_text, line_words, wire_words};
 ghost use Rattle.record_lines.specs.SecondForm.{ask_words, form_text, line_text2};
-ghost use Rattle.record_lines.specs.Writable.{AreShort, IsWritable, id_of_item};
+ghost use Rattle.record_lines.specs.Writable.{AreShort, IsWritable, id_of_item, id_of_what};
+ghost use Rattle.run_words.specs.declared.words.Line.TheVariants as R;
 
-use crate::asked::is_asked;
+use crate::asked::{asker_of, is_asked};
 use crate::labels::put_what;
 use crate::parts::put_bare;
 use crate::text::{LineText, put, put_digits, put_number, put_word};
 use pool_outside::{Sink, WriteFault, write_all_of};
-use pool_syntax::{End, Event, FullKind, Item, Line, Names, WireAct};
+use run_words::{End, Event, FullKind, Item, Line, Names, What, WireAct};
 
 /// Puts what happens on a wire.
 fn put_wire_act(text: &mut LineText, act: WireAct)
@@ -109,6 +110,19 @@ fn put_end(text: &mut LineText, end: End)
     }
 }
 
+/// The text of an event's line, without its line feed.
+#[tactic(auto, using(crate::proofs::Joined::led_more))]
+fn put_shown(text: &mut LineText, number: u32, event: Event, what: &What, names: &Names)
+    requires empty { text.old.items ≡ [] }
+    requires writable { AreShort names.now (id_of_what what.now) }
+    ensures items { text.new.items ≡ joined (line_words names.now (R.Event number event what.now)) }
+    ensures size { array_vec_len text.new ≤ 501 }
+{
+    put_digits(text, number);
+    put_event(text, event);
+    put_what(text, names, what);
+}
+
 /// The text of a line, without its line feed.
 fn put_line(text: &mut LineText, line: &Line, names: &Names)
     requires empty { text.old.items ≡ [] }
@@ -121,11 +135,7 @@ fn put_line(text: &mut LineText, line: &Line, names: &Names)
             number,
             event,
             what,
-        } => {
-            put_digits(text, *number);
-            put_event(text, *event);
-            put_what(text, names, what);
-        }
+        } => put_shown(text, *number, *event, what, names),
         Line::End(end) => put_end(text, *end),
     }
 }
@@ -148,12 +158,12 @@ pub fn write_line<K: Sink>(line: &Line, names: &Names, sink: &mut K) -> Result<(
 }
 
 /// Puts a request's number behind a line that carries one.
-fn put_ask(text: &mut LineText, line: &Line, ask: u32)
+fn put_ask(text: &mut LineText, asked: bool, ask: u32)
     requires { array_vec_len text.old ≤ 501 }
-    ensures items { text.new.items ≡ text.old.items ++ led (ask_words (is_asked line.now) ask) }
+    ensures items { text.new.items ≡ text.old.items ++ led (ask_words asked ask) }
     ensures size { array_vec_len text.new ≤ array_vec_len text.old + 14 }
 {
-    if is_asked(line) {
+    if asked {
         put_word(text, b"by");
         put_number(text, ask);
     }
@@ -168,7 +178,7 @@ fn put_line2(text: &mut LineText, line: &Line, ask: u32, names: &Names)
     ensures size { array_vec_len text.new ≤ 515 }
 {
     put_line(text, line, names);
-    put_ask(text, line, ask);
+    put_ask(text, is_asked(line), ask);
 }
 
 /// Writes the line in the second form, with this number of its request if it carries one, and its line feed in one piece of fewer than 528 bytes. A fault
@@ -189,6 +199,39 @@ pub fn write_line2<K: Sink>(
 {
     let mut text = LineText::new();
     put_line2(&mut text, line, ask, names);
+    put(&mut text, b"\n");
+    write_all_of(sink, text.as_slice())
+}
+
+/// The text of an event's line in the second form, without its line feed.
+fn put_shown2(text: &mut LineText, number: u32, event: Event, what: &What, ask: u32, names: &Names)
+    requires empty { text.old.items ≡ [] }
+    requires writable { AreShort names.now (id_of_what what.now) }
+    ensures items { text.new.items ≡ joined (line_words names.now (R.Event number event what.now) ++ ask_words (is_some (asker_of event what.now)) ask) }
+    ensures size { array_vec_len text.new ≤ 515 }
+{
+    put_shown(text, number, event, what, names);
+    put_ask(text, asker_of(event, what).is_some(), ask);
+}
+
+/// Writes the line of an event in the second form, as `write_line2` does, where no line is made of its parts.
+pub fn write_event2<K: Sink>(
+    number: u32,
+    event: Event,
+    what: &What,
+    ask: u32,
+    names: &Names,
+    sink: &mut K,
+) -> Result<(), WriteFault>
+    requires { IsWritable names.now (R.Event number event what.now) }
+    ensures whole { OnOk result (K.written sink.new ≡ option_map (λ w. w ++ line_text2 names.now (R.Event number event what.now) ask) (K.written sink.old)) }
+    ensures front { OnErr result (IsProperFront (K.written sink.old) (line_text2 names.now (R.Event number event what.now) ask) (K.written sink.new)) }
+    ensures failed { OnErr result (Rose (K.faults sink.old) (K.faults sink.new)) }
+    ensures no_fault { OnOk result (K.faults sink.new ≡ K.faults sink.old) }
+    ensures faults_stay_or_rise { K.faults sink.old ≤ K.faults sink.new }
+{
+    let mut text = LineText::new();
+    put_shown2(&mut text, number, event, what, ask, names);
     put(&mut text, b"\n");
     write_all_of(sink, text.as_slice())
 }

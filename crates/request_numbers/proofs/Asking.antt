@@ -1,7 +1,7 @@
 -- The request numbers of lines, one after another.
 use Rattle.std.proofs.Common.{◌≡◌, ℕ, List, ◌++◌, drop}
-use Rattle.pool_syntax.specs.declared.words.Line.{Line}
-use Rattle.mesh_semantics.specs.Asks.{asks, asks_from}
+use Rattle.run_words.specs.declared.words.Line.{Line}
+use Rattle.run_words.specs.Asks.{asks, asks_from}
 use Rattle.request_numbers.specs.declared.posts.Posts.{Posts}
 use Rattle.request_numbers.specs.Posts.{HasPosts}
 

@@ -3,8 +3,8 @@ use Rattle.std.specs.Prelude.{◌≡◌, ℕ, List}
 use Rattle.std.specs.Option.{unwrap_or}
 use Rattle.std.specs.Ordering.{nat_cmp}
 use Rattle.std.specs.BTreeMap.{get}
-use Rattle.pool_syntax.specs.declared.words.Line.{Line}
-use Rattle.mesh_semantics.specs.Asks.{latest_post}
+use Rattle.run_words.specs.declared.words.Line.{Line}
+use Rattle.run_words.specs.Asks.{latest_post}
 use Rattle.request_numbers.specs.declared.posts.Posts.{Posts}
 
 -- these are the posts of lines of which the latest is the first

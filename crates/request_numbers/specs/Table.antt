@@ -1,8 +1,8 @@
 -- What a table keeps of the lines so far: for each of its objects the number of its latest post.
 use Rattle.std.specs.Prelude.{◌≡◌, ℕ, ◌+◌, ◌*◌, ◌/◌, ◌%◌, ◌<◌, List, get_or, Some, Bool, true, false}
-use Rattle.pool_syntax.specs.declared.words.Line.{Line}
-use Rattle.pool_syntax.specs.declared.words.Line.TheVariants as R
-use Rattle.mesh_semantics.specs.Asks.{asker, latest_post, posts}
+use Rattle.run_words.specs.declared.words.Line.{Line}
+use Rattle.run_words.specs.declared.words.Line.TheVariants as R
+use Rattle.run_words.specs.Asks.{asker, latest_post, is_post_of}
 use Rattle.request_numbers.specs.declared.asks.Asks.{Asks}
 
 -- the object is of one of the table's nodes, and has one of its slots
@@ -18,7 +18,7 @@ HasLast a earlier = (o : ℕ) → InTable a o → get_or a.last.items (place_of 
 
 -- whether the line posts a request of the object
 abbrev pub posts_at : ℕ → Line → Bool
-posts_at o (R.Event n e what) = posts o what
+posts_at o (R.Event n e what) = is_post_of o what
 posts_at o (R.End end) = false
 
 -- whose request the line answers, or posts

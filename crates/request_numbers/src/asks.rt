@@ -1,10 +1,12 @@
 //! The request numbers of lines as they are made.
-ghost use Rattle.std.specs.Prelude.{◌≡◌, ◌≤◌, ◌<◌, ◌*◌, ℕ, [], ◌∷◌, List, get_or, length, IfOk, Some};
-ghost use Rattle.pool_syntax.specs.declared.words.Line.{Line};
-ghost use Rattle.mesh_semantics.specs.Asks.{ask_of, asker};
+ghost use Rattle.std.specs.Prelude.{◌≡◌, ◌≤◌, ◌<◌, ◌*◌, ℕ, [], ◌∷◌, List, get_or, length, IfOk, Some, true};
+ghost use Rattle.run_words.specs.declared.words.Line.{Line};
+ghost use Rattle.run_words.specs.declared.words.Line.TheVariants as R;
+ghost use Rattle.run_words.specs.declared.words.Event.{Event as OneEvent};
+ghost use Rattle.run_words.specs.Asks.{request_number_of, asker_of, is_post_of};
 
-use pool_syntax::Line;
-use record_lines::{asker, poster};
+use record_lines::{asker_of, poster};
+use run_words::{Event, Line, What};
 use std::alloc::{AllocError, Global};
 
 /// For each object of some nodes, with so many objects at most a node, the number of its latest post.
@@ -19,7 +21,7 @@ pub struct Asks {
 }
 
 impl Asks {
-    ghost use Rattle.request_numbers.specs.Table.{AreInTable, HasLast, InTable, place_of, posts_at};
+    ghost use Rattle.request_numbers.specs.Table.{AreInTable, HasLast, InTable, place_of};
 
     /// Nothing was posted.
     pub fn make(alloc: Global, nodes: u32, objects: u32) -> Result<Asks, AllocError>
@@ -46,12 +48,12 @@ impl Asks {
         (object / 65536) as usize * self.objects as usize + (object % 65536) as usize
     }
 
-    /// The request number of a line behind those given so far.
-    fn number(&self, line: &Line) -> u32
-        requires { AreInTable self.now line.now }
-        ensures { (earlier : List Line) → HasLast self.now earlier → result ≡ ask_of earlier line.now }
+    /// The request number of an event's line behind those given so far.
+    fn number(&self, event: Event, what: &What) -> u32
+        requires { (o : ℕ) → asker_of event what.now ≡ Some o → InTable self.now o }
+        ensures { (earlier : List Line) (n : ℕ) → HasLast self.now earlier → result ≡ request_number_of earlier (R.Event n event what.now) }
     {
-        match asker(line) {
+        match asker_of(event, what) {
             None => 0,
             Some(object) => self.last[self.place(object)],
         }
@@ -68,29 +70,43 @@ impl Asks {
         self.last[place] = number;
     }
 
-    /// Keeps a line.
-    fn keep(&mut self, line: &Line)
-        requires { AreInTable self.old line.now }
-        ensures kept { (earlier : List Line) → HasLast self.old earlier → HasLast self.new (line.now ∷ earlier) }
+    /// Keeps an event's line.
+    fn keep(&mut self, number: u32, what: &What)
+        requires { (o : ℕ) → is_post_of o what.now ≡ true → InTable self.old o }
+        ensures kept { (earlier : List Line) (e : OneEvent) → HasLast self.old earlier → HasLast self.new (R.Event number e what.now ∷ earlier) }
         ensures size { (self.new.nodes ≡ self.old.nodes) × (self.new.objects ≡ self.old.objects) }
     {
-        match line {
-            Line::End(_) => {}
-            Line::Event { number, what, .. } => match poster(what) {
-                None => {}
-                Some(object) => self.put(object, *number),
-            },
+        match poster(what) {
+            None => {}
+            Some(object) => self.put(object, number),
         }
+    }
+
+    /// The request number of an event's line behind those given so far, among which it is from now on. Takes no memory.
+    pub fn of_event(&mut self, number: u32, event: Event, what: &What) -> u32
+        requires { AreInTable self.old (R.Event number event what.now) }
+        ensures number { (earlier : List Line) → HasLast self.old earlier
+            → (result ≡ request_number_of earlier (R.Event number event what.now)) × HasLast self.new (R.Event number event what.now ∷ earlier) }
+        ensures size { (self.new.nodes ≡ self.old.nodes) × (self.new.objects ≡ self.old.objects) }
+    {
+        let ask = self.number(event, what);
+        self.keep(number, what);
+        ask
     }
 
     /// The request number of a line behind those given so far, among which it is from now on. Takes no memory.
     pub fn of(&mut self, line: &Line) -> u32
         requires { AreInTable self.old line.now }
-        ensures number { (earlier : List Line) → HasLast self.old earlier → (result ≡ ask_of earlier line.now) × HasLast self.new (line.now ∷ earlier) }
+        ensures number { (earlier : List Line) → HasLast self.old earlier → (result ≡ request_number_of earlier line.now) × HasLast self.new (line.now ∷ earlier) }
         ensures size { (self.new.nodes ≡ self.old.nodes) × (self.new.objects ≡ self.old.objects) }
     {
-        let ask = self.number(line);
-        self.keep(line);
-        ask
+        match line {
+            Line::Event {
+                number,
+                event,
+                what,
+            } => self.of_event(*number, *event, what),
+            _ => 0,
+        }
     }
 }

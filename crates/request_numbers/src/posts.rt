@@ -1,11 +1,11 @@
 //! The request numbers of lines with any names.
 ghost use Rattle.std.specs.Prelude.{◌≡◌, ◌≤◌, ◌+◌, ℕ, [], ◌∷◌, List, length, IfOk, OnOk};
-ghost use Rattle.pool_syntax.specs.declared.words.Line.{Line};
-ghost use Rattle.mesh_semantics.specs.Asks.{ask_of, asks, asks_from, asker};
+ghost use Rattle.run_words.specs.declared.words.Line.{Line};
+ghost use Rattle.run_words.specs.Asks.{request_number_of, asks, asks_from, asker};
 ghost use Rattle.request_numbers.specs.Posts.{HasPosts};
 
-use pool_syntax::{Line, List};
 use record_lines::{asker, poster};
+use run_words::{Line, List};
 use std::alloc::{AllocError, Global};
 use std::collections::BTreeMap;
 
@@ -27,7 +27,7 @@ impl Posts {
 
     /// The request number of a line behind those that were added.
     pub fn ask(&self, line: &Line) -> u32
-        ensures { (earlier : List Line) → HasPosts self.now earlier → result ≡ ask_of earlier line.now }
+        ensures { (earlier : List Line) → HasPosts self.now earlier → result ≡ request_number_of earlier line.now }
     {
         match asker(line) {
             None => 0,

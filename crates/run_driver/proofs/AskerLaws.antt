@@ -2,19 +2,20 @@
 use Rattle.std.proofs.Common.{◌≡◌, ◌∙◌, refl, sym, subst, ℕ, zero, suc, ◌+◌, ◌==◌, List, [], ◌∷◌, Option, Some, None, Bool, true, false, if◌then◌else◌}
 use Rattle.std.specs.Prelude.{nat_lt}
 use Rattle.std.specs.FinMap.{put}
-use Rattle.pool_syntax.specs.declared.words.Value.TheVariants as V
-use Rattle.pool_syntax.specs.declared.words.Label.{Label}
-use Rattle.pool_syntax.specs.declared.words.Label.TheVariants as L
-use Rattle.pool_syntax.specs.declared.words.What.{What}
-use Rattle.pool_syntax.specs.declared.words.What.TheVariants as W
-use Rattle.pool_syntax.specs.declared.words.FullKind.TheVariants as F
-use Rattle.pool_syntax.specs.declared.words.Event.{Event}
-use Rattle.pool_syntax.specs.declared.words.Event.TheVariants as Ev
-use Rattle.pool_syntax.specs.declared.words.Placement.{Placement}
-use Rattle.mesh_semantics.proofs.Laws.{equal, same_some, given_by, each_head, turn_there, IsOfWire, TellsOfWire, tells_of_wire}
+use Rattle.run_words.specs.declared.words.Value.TheVariants as V
+use Rattle.run_words.specs.declared.words.Label.{Label}
+use Rattle.run_words.specs.declared.words.Label.TheVariants as L
+use Rattle.run_words.specs.declared.words.What.{What}
+use Rattle.run_words.specs.declared.words.What.TheVariants as W
+use Rattle.run_words.specs.declared.words.FullKind.TheVariants as F
+use Rattle.run_words.specs.declared.words.Event.{Event}
+use Rattle.run_words.specs.declared.words.Event.TheVariants as Ev
+use Rattle.run_words.specs.declared.words.Placement.{Placement}
+use Rattle.run_words.proofs.Laws.{equal, same_some, given_by}
+use Rattle.mesh_semantics.proofs.Laws.{each_head, turn_there, IsOfWire, TellsOfWire, tells_of_wire}
 use Rattle.mesh_semantics.proofs.Basics.{running_gives}
-use Rattle.mesh_semantics.specs.Asks.{asker_of, posts}
-use Rattle.mesh_semantics.specs.Tables.{Pair, pair_cmp}
+use Rattle.run_words.specs.Asks.{asker_of, is_post_of}
+use Rattle.run_words.specs.Tables.{Pair, pair_cmp}
 use Rattle.mesh_semantics.specs.Kind as K
 use Rattle.mesh_semantics.specs.Kind.{Kind, Alternative}
 use Rattle.mesh_semantics.specs.Language.{Language}
@@ -22,17 +23,18 @@ use Rattle.mesh_semantics.specs.Lawful.{Lawful}
 use Rattle.mesh_semantics.specs.Fit.{Fit}
 use Rattle.mesh_semantics.specs.Config.{Config}
 use Rattle.mesh_semantics.specs.Moves.{running, move}
-use Rattle.mesh_semantics.specs.Paths.{on_link, move_head}
+use Rattle.run_words.specs.Paths.{on_link, move_head}
 use Rattle.mesh_semantics.specs.Wire.{Wire, Coming, Empty, Stale, Next, coming, take, wire_act}
 use Rattle.mesh_semantics.specs.Delay as D
-use Rattle.mesh_semantics.specs.Delay.{Packet, Arrival, Wires, Delay, wire_at, node_of, arrived_at, hold, free, post, take_arrival, count_made, stepped_last, cell_count}
+use Rattle.mesh_semantics.specs.Delay.{Packet, Arrival, Wires, Delay, wire_at, arrived_at, hold, free, post, take_arrival, count_made, stepped_last, cell_count}
+use Rattle.run_words.specs.ObjectNames.{node_of}
 use Rattle.mesh_semantics.specs.Act.{id, next_name, sent, Acted, Acts, Full, Nothing, act, within, shows, labelled, object_count, frame_count, local_steps, step_count, local_turn, goal_of, create_turn, first_arrival, accept_turn, chosen_turn, is_possible, choice_turn, object_turn, node_turn, turn_of, first_of, goal_node, received, passed, link_move, plain_act, on_wires, wire_move, wire_turn, act_over}
 use Rattle.mesh_semantics.specs.Sound.{IsPlaced, IsSound, IsThere}
 
 module _ {S : Type 0} (g : Language S) where
   -- who asks and who posts is there
   abbrev pub AreThere : Config S → Event → What → Type 0
-  AreThere c e w = ((o : ℕ) → asker_of e w ≡ Some o → IsThere c o) × ((o : ℕ) → posts o w ≡ true → IsThere c o)
+  AreThere c e w = ((o : ℕ) → asker_of e w ≡ Some o → IsThere c o) × ((o : ℕ) → is_post_of o w ≡ true → IsThere c o)
 
   abbrev AreTold : Config S → Event → Acted S → Type 0
   AreTold c e (Acts w f h) = AreThere c e w
@@ -43,14 +45,14 @@ module _ {S : Type 0} (g : Language S) where
   either_told c e true x y h k = h
   either_told c e false x y h k = k
 
-  silent : (c : Config S) (e : Event) (w : What) → asker_of e w ≡ None → ((o : ℕ) → posts o w ≡ false) → AreThere c e w
+  silent : (c : Config S) (e : Event) (w : What) → asker_of e w ≡ None → ((o : ℕ) → is_post_of o w ≡ false) → AreThere c e w
   silent c e w a p = (
     λ o h. absurd (let z : None ≡ Some o = sym a ∙ h in cc),
     λ o h. absurd (let z : false ≡ true = sym (p o) ∙ h in cc),
   )
 
   -- only this object asks
-  asks_alone : (c : Config S) (e : Event) (w : What) (o : ℕ) → asker_of e w ≡ Some o → ((q : ℕ) → posts q w ≡ false) → IsThere c o → AreThere c e w
+  asks_alone : (c : Config S) (e : Event) (w : What) (o : ℕ) → asker_of e w ≡ Some o → ((q : ℕ) → is_post_of q w ≡ false) → IsThere c o → AreThere c e w
   asks_alone c e w o a p h = (
     λ q i. subst (IsThere c) (same_some (sym a ∙ i)) h,
     λ q i. absurd (let z : false ≡ true = sym (p q) ∙ i in cc),
@@ -127,7 +129,7 @@ module _ {S : Type 0} (g : Language S) where
           either_told c turn (is_possible (arrived_at d o) a) (chosen_turn g c d o i a.names) (choice_turn g c d o (i + 1) alts)
           (chosen_told d o i a.names) (choice_told d o (i + 1) alts)
 
-      posts_alone : (w : What) (o : ℕ) → asker_of turn w ≡ None → ((q : ℕ) → posts q w ≡ true → o ≡ q) → IsThere c o → AreThere c turn w
+      posts_alone : (w : What) (o : ℕ) → asker_of turn w ≡ None → ((q : ℕ) → is_post_of q w ≡ true → o ≡ q) → IsThere c o → AreThere c turn w
       posts_alone w o a p h = (λ q i. absurd (let z : None ≡ Some q = sym a ∙ i in cc), λ q i. subst (IsThere c) (p q i) h)
 
       create_told : (l : Placement) (d : Delay) (o class goal : ℕ) → IsThere c o → AreTold c turn (create_turn g l c d n o class goal)

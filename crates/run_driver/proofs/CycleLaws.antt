@@ -4,10 +4,10 @@ use Rattle.std.specs.Ordering.{nat_cmp}
 use Rattle.std.specs.FinMap.Entries.{find}
 use Rattle.mesh_semantics.specs.Delay.{Delay}
 use Rattle.mesh_semantics.specs.Language.{Language}
-use Rattle.mesh_semantics.specs.Partial.{◌>>=◌}
+use Rattle.run_words.specs.Partial.{◌>>=◌}
 use Rattle.mesh_semantics.specs.Standing as T
 use Rattle.mesh_semantics.specs.Standing.{Closes, IsCycle, standing}
-use Rattle.mesh_semantics.proofs.Laws.{equal}
+use Rattle.run_words.proofs.Laws.{equal}
 use Rattle.wait_report.specs.Calls.{called}
 use Rattle.wait_report.specs.Report as W
 use Rattle.run_driver.specs.Reports.{row_in, rows_in, standing_word}

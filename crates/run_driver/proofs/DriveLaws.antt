@@ -1,23 +1,24 @@
 -- A run that is written line by line.
-use Rattle.std.proofs.Common.{◌≡◌, ◌∙◌, ◌+◌, ◌<◌, ◌≤◌, ◌||◌, ◌++◌, ◌/◌, ◌%◌, ℕ, Bool, true, false, List, [], ◌∷◌, length, drop, slice_get, Option, Some, None, option_map, IfSome, is_some, Result, Ok, Err, refl, sym, ap, subst, arith}
+use Rattle.std.proofs.Common.{◌≡◌, ◌∙◌, ◌+◌, ◌<◌, ◌≤◌, ◌||◌, ◌++◌, ◌/◌, ◌%◌, ℕ, Bool, true, false, List, [], ◌∷◌, length, drop, slice_get, Option, Some, None, option_map, is_some, Result, Ok, Err, refl, sym, ap, subst, arith}
 use Rattle.std.proofs.lemmas.List.{append-nil, append_assoc, drop_more, drop_all, length-append}
 use Rattle.std.proofs.lemmas.Option.{slice_get_within, get_or_from_slice_get}
 use Rattle.pool_outside.specs.Outside.{Rose, IsProperFront}
-use Rattle.pool_outside.proofs.Laws.{cut_first, cut_second}
+use Rattle.pool_outside.proofs.Laws.{cut_first, cut_second, joined}
 use Rattle.std.specs.List.{AllByRecursion}
-use Rattle.pool_syntax.specs.Tokens.{Text}
-use Rattle.pool_syntax.specs.declared.words.Event.{Event}
-use Rattle.pool_syntax.specs.declared.words.FullKind.{FullKind}
-use Rattle.pool_syntax.specs.declared.words.What.{What}
-use Rattle.pool_syntax.specs.declared.words.End.{End}
-use Rattle.pool_syntax.specs.declared.words.End.TheVariants as E
-use Rattle.pool_syntax.specs.declared.words.Line.{Line}
-use Rattle.pool_syntax.specs.declared.words.Line.TheVariants as R
-use Rattle.pool_syntax.specs.declared.words.Placement.{Placement}
-use Rattle.object_code.specs.declared.unit.Unit.{Unit as Code}
+use Rattle.run_words.specs.Text.{Text}
+use Rattle.run_words.specs.declared.words.Event.{Event}
+use Rattle.run_words.specs.declared.words.FullKind.{FullKind}
+use Rattle.run_words.specs.declared.words.What.{What}
+use Rattle.run_words.specs.declared.words.End.{End}
+use Rattle.run_words.specs.declared.words.End.TheVariants as E
+use Rattle.run_words.specs.declared.words.Line.{Line}
+use Rattle.run_words.specs.declared.words.Line.TheVariants as R
+use Rattle.run_words.specs.declared.words.Placement.{Placement}
+use Rattle.code_semantics.specs.declared.unit.Unit.{Unit as Code}
 use Rattle.mesh_semantics.specs.Config.{Config}
-use Rattle.mesh_semantics.specs.Delay.{Delay, node_of}
-use Rattle.mesh_semantics.specs.Asks.{ask_of}
+use Rattle.mesh_semantics.specs.Delay.{Delay}
+use Rattle.run_words.specs.ObjectNames.{node_of}
+use Rattle.run_words.specs.Asks.{request_number_of}
 use Rattle.mesh_semantics.specs.Act.{Acted, Acts, Full, Nothing, act, is_quiet, object_count}
 use Rattle.mesh_semantics.specs.Record.{Record, after, ends, labels, labels_of, record_at, record_from, shown, start, with_line}
 use Rattle.mesh_semantics.specs.Sound.{IsSound, IsThere}
@@ -27,8 +28,8 @@ use Rattle.coded_objects.proofs.Laws.{code_fits, code_lawful}
 use Rattle.mesh_semantics.proofs.Laws.{fit_of}
 use Rattle.pool_machine.specs.MachineOf.{MachineOf}
 use Rattle.pool_machine.specs.Answers.{IsAfter, IsOutcome, IsStart, Stands, moved, nothing_sent}
-use Rattle.pool_machine.specs.declared.words.Outcome.{Outcome}
-use Rattle.pool_machine.specs.declared.words.Outcome.TheVariants as O
+use Rattle.pool_machine.specs.AnswerOf.{Answer}
+use Rattle.pool_machine.specs.AnswerOf as O
 use Rattle.schedule_reader.specs.Schedules.{Plan}
 use Rattle.record_lines.specs.Writable.{IsWritable}
 use Rattle.request_numbers.specs.declared.asks.Asks.{Asks}
@@ -39,9 +40,8 @@ use Rattle.run_driver.specs.declared.status.Status.{Status}
 use Rattle.run_driver.specs.declared.status.Status.TheVariants as S
 use Rattle.run_driver.specs.Driving.{Drives, GoesTo, HasRun, IsGoing, IsLoaded, run, run_from, shown_first, shown_line, shown_lines, shown_record, stopped, tells_fault, IsTableOf}
 use Rattle.pool_outside.specs.declared.calls.WriteFault.{WriteFault}
-use Rattle.run_driver.specs.Writing.{Writing, IsIdle, Wrote, WroteFront}
+use Rattle.run_driver.specs.Writing.{Writing, IsIdle, Wrote, WroteFront, Delivers, Writes}
 use Rattle.run_driver.specs.Writing as D
-use Rattle.run_driver.specs.Writing.{Delivers, Writes}
 use Rattle.run_driver.specs.declared.drive.Ended.{Ended}
 use Rattle.run_driver.proofs.AskerLaws.{act_there}
 use Rattle.wait_report.specs.declared.rows.ObjectRow.{ObjectRow}
@@ -53,10 +53,6 @@ use Rattle.run_driver.specs.Shown.{counts_text, end_text, ended, ends_text, even
 
 abbrev pub then : Writing → Writing → Writing
 then j k = record { before = j.before; after = k.after; faults = j.faults; failed = k.failed }
-
-joined : (s t : Text) (a b c : Option Text) → b ≡ option_map (λ w. w ++ s) a → c ≡ option_map (λ w. w ++ t) b → c ≡ option_map (λ w. w ++ (s ++ t)) a
-joined s t None b c e f = f ∙ ap (option_map (λ w. w ++ t)) e
-joined s t (Some w) b c e f = f ∙ ap (option_map (λ w. w ++ t)) e ∙ ap Some (append_assoc w s t)
 
 pub nothing_more : (a : Option Text) → a ≡ option_map (λ w. w ++ []) a
 nothing_more None = refl
@@ -203,7 +199,7 @@ module _ (show : Show) (u : Code) (l : Placement) (plan : Plan) where
     runs m a done faulted j e g is = run (record { faulted = faulted; end = e }) refl (ended_at m a done faulted j e g is)
 
     -- an answer of the machine, by its configuration
-    pub outcome_at : (m n : MachineOf) (a : Asks) (done : ℕ) (faulted : Bool) (j : Writing) (q : ℕ) (e : Event) (r : Outcome) (g : Going m a done faulted j) → q ≡ plan.quantum
+    pub outcome_at : (m n : MachineOf) (a : Asks) (done : ℕ) (faulted : Bool) (j : Writing) (q : ℕ) (e : Event) (r : Answer) (g : Going m a done faulted j) → q ≡ plan.quantum
         → IsOutcome e m r n (act (coded m.unit) m.placement q g.config g.delay e) → IsOutcome e m r n (act (coded u) l plan.quantum g.config g.delay e)
     outcome_at m n a done faulted j q e r g same h =
         subst (λ (x : ℕ). IsOutcome e m r n (act (coded u) l x g.config g.delay e)) same
@@ -305,7 +301,7 @@ module _ (show : Show) (u : Code) (l : Placement) (plan : Plan) where
 
     -- what the table does with a line
     pub record Keeps (a b : Asks) (line : Line) (ask : ℕ) : Type 0 where
-      pub number : (earlier : List Line) → HasLast a earlier → (ask ≡ ask_of earlier line) × HasLast b (line ∷ earlier)
+      pub number : (earlier : List Line) → HasLast a earlier → (ask ≡ request_number_of earlier line) × HasLast b (line ∷ earlier)
       pub size : (b.nodes ≡ a.nodes) × (b.objects ≡ a.objects)
 
     next_table : (a b : Asks) (line : Line) (ask : ℕ) (earlier : List Line) → Keeps a b line ask → IsTableOf l a earlier → IsTableOf l b (line ∷ earlier)

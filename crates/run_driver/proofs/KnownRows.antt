@@ -1,12 +1,12 @@
 -- The rows of a sound configuration of code: their names rise, and what they name is known.
 use Rattle.std.proofs.Common.{◌≡◌, ◌<◌, ℕ, zero, suc, Bool, true, false, cond, List, [], ◌∷◌, length, get_or, slice_get, Option, Some, None, refl, sym, ap, subst, arith}
-use Rattle.pool_syntax.specs.Tokens.{Text}
-use Rattle.pool_syntax.specs.declared.words.Error.{Error}
-use Rattle.object_code.specs.declared.unit.Unit.{Unit as Code}
-use Rattle.object_code.specs.declared.unit.ClassCode.{ClassCode}
-use Rattle.object_code.specs.Kinds as C
-use Rattle.object_code.specs.Kinds.{code_kind}
-use Rattle.object_code.specs.Proper.{IsProper}
+use Rattle.run_words.specs.Text.{Text}
+use Rattle.run_words.specs.declared.words.Error.{Error}
+use Rattle.code_semantics.specs.declared.unit.Unit.{Unit as Code}
+use Rattle.code_semantics.specs.declared.unit.ClassCode.{ClassCode}
+use Rattle.code_semantics.specs.Kinds as C
+use Rattle.code_semantics.specs.Kinds.{code_kind}
+use Rattle.code_semantics.specs.Proper.{IsProper}
 use Rattle.mesh_semantics.specs.Act.{can_step}
 use Rattle.mesh_semantics.specs.Config.{Config, object_of}
 use Rattle.mesh_semantics.specs.Delay as D
@@ -16,7 +16,7 @@ use Rattle.mesh_semantics.specs.Kind.{Kind}
 use Rattle.mesh_semantics.specs.Language.{Language}
 use Rattle.mesh_semantics.specs.Standing as T
 use Rattle.mesh_semantics.specs.Standing.{standing_by, standing_of}
-use Rattle.mesh_semantics.proofs.Laws.{same_some}
+use Rattle.run_words.proofs.Laws.{same_some}
 use Rattle.coded_objects.specs.Coded.{Placed, class_number, coded, kind_of, unless_served}
 use Rattle.coded_objects.specs.OfCode.{IsOfCode, Names}
 use Rattle.coded_objects.proofs.Laws.{kind_named, name_of, object_named}

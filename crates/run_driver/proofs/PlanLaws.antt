@@ -1,12 +1,12 @@
 -- What a text's schedule has of a mesh: its quantum is one of a turn, its events are of the mesh, and they are at most 2,000,000.
 use Rattle.std.proofs.Common.{◌≡◌, ◌≤◌, ℕ, Bool, true, false, nat_le, List, [], ◌∷◌, length, Option, Some, None, Result, Ok, Err, refl, subst, arith}
 use Rattle.std.proofs.lemmas.Bool.Decides.{nat_tests}
-use Rattle.pool_syntax.specs.Tokens.{Text}
-use Rattle.pool_syntax.specs.declared.words.Event.{Event}
-use Rattle.pool_syntax.specs.declared.words.Event.TheVariants as V
-use Rattle.pool_syntax.specs.declared.words.Placement.{Placement}
-use Rattle.pool_syntax.specs.declared.words.LinkId.{LinkId}
-use Rattle.pool_lexer.specs.Lines.{lines}
+use Rattle.run_words.specs.Text.{Text}
+use Rattle.run_words.specs.declared.words.Event.{Event}
+use Rattle.run_words.specs.declared.words.Event.TheVariants as V
+use Rattle.run_words.specs.declared.words.Placement.{Placement}
+use Rattle.run_words.specs.declared.words.LinkId.{LinkId}
+use Rattle.run_words.specs.Lines.{lines}
 use Rattle.input_lines.specs.Kept.{Kept, kept}
 use Rattle.pool_machine.specs.Answers.{IsOfMesh, IsServed}
 use Rattle.schedule_reader.specs.declared.entry.Entry.{Entry}
@@ -15,7 +15,8 @@ use Rattle.schedule_reader.specs.declared.fault.ScheduleFault.TheVariants as F
 use Rattle.schedule_reader.specs.Entries.{quantum_of}
 use Rattle.schedule_reader.specs.Events.{events_of, total}
 use Rattle.schedule_reader.specs.Plans.{IsEventOn}
-use Rattle.schedule_reader.specs.Schedules.{Plan, begins_lossy, entries_of, first_fault, first_of, planned, planned_or_fault, quantum_fault, schedule_of, schedule_of_lines, with_quantum, without_wires}
+use Rattle.schedule_reader.specs.Schedules.{Plan, begins_lossy, entries_of, first_fault, planned, planned_or_fault, quantum_fault, schedule_of, schedule_of_lines, with_quantum, without_wires}
+use Rattle.std.specs.Option.{option_or}
 use Rattle.schedule_reader.proofs.Laws.{length_events, plan_is_for}
 use Rattle.run_driver.specs.Driving.{IsPlanOn}
 
@@ -61,7 +62,7 @@ module _ (w h : ℕ) (cuts : List LinkId) where
   few_behind line (Some q) ks plan is =
       let lossy = begins_lossy ks in
       let rest = without_wires ks in
-      few_or_fault lossy q (first_of (quantum_fault line (Some q)) (first_fault w h cuts lossy rest)) (entries_of lossy rest) plan is
+      few_or_fault lossy q (option_or (quantum_fault line (Some q)) (first_fault w h cuts lossy rest)) (entries_of lossy rest) plan is
 
   few_lines : (count : ℕ) (ks : List Kept) (plan : Plan) → schedule_of_lines w h cuts count ks ≡ Ok plan → IsFew plan
   few_lines count [] plan is = absurd (cc)

@@ -1,6 +1,6 @@
 -- What comes of a run of what was loaded, and what is written behind it.
 use Rattle.std.proofs.Common.{◌≡◌, [], Option, Some, Ok, Err, refl, sym, ap, subst}
-use Rattle.pool_syntax.specs.Tokens.{Text}
+use Rattle.run_words.specs.Text.{Text}
 use Rattle.pool_outside.specs.declared.calls.WriteFault.{WriteFault}
 use Rattle.mesh_semantics.specs.Config.{Config}
 use Rattle.mesh_semantics.specs.Delay.{Delay}

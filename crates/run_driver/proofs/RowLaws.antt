@@ -6,21 +6,10 @@ use Rattle.std.specs.FinMap.{nat_cmp-IsAntisymmetric}
 use Rattle.std.specs.Cmp.{nat_cmp_total, tied_itself}
 use Rattle.std.specs.declared.cmp.Ordering.{Ordering}
 use Rattle.std.specs.declared.cmp.Ordering.TheVariants.{Less, Equal, Greater}
-use Rattle.mesh_semantics.proofs.Laws.{first, second, equal, same_some}
+use Rattle.run_words.proofs.Laws.{first, second, equal, same_some, less_than}
 use Rattle.run_driver.specs.Reports.{below}
 
 -- keys that rise
-
-less_of : (a b : ℕ) → IsTrue (is_lt (nat_cmp a b)) → a < b
-less_of a b h = by (nat_lt a b) refl
-  where
-    by : (t : Bool) → nat_lt a b ≡ t → a < b
-    by true e = grind (arith, e)
-    by false e = absurd (at (a == b) refl)
-      where
-        at : (s : Bool) → (a == b) ≡ s → ⊥
-        at true f = let q : is_lt Equal ≡ true = rw (e, f) at h in grind (arith, q)
-        at false f = let q : is_lt Greater ≡ true = rw (e, f) at h in grind (arith, q)
 
 -- each key is above a number, and the keys rise
 abbrev pub AreAbove : {X : Type 0} → ℕ → List (ℕ × X) → Type 0
@@ -34,7 +23,7 @@ DoRise (e ∷ es) = AreAbove e.0 es × DoRise es
 module _ {X : Type 0} where
   above : (n : ℕ) (es : List (ℕ × X)) → IsTrue (below_all nat_cmp n es) → AreAbove n es
   above n [] h = tt
-  above n (e ∷ es) h = (less_of n e.0 (first (is_lt (nat_cmp n e.0)) (below_all nat_cmp n es) h), above n es (second (is_lt (nat_cmp n e.0)) (below_all nat_cmp n es) h))
+  above n (e ∷ es) h = (less_than n e.0 (first (is_lt (nat_cmp n e.0)) (below_all nat_cmp n es) h), above n es (second (is_lt (nat_cmp n e.0)) (below_all nat_cmp n es) h))
 
   pub rises : (es : List (ℕ × X)) → IsTrue (is_sorted nat_cmp es) → DoRise es
   rises [] h = tt

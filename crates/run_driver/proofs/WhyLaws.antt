@@ -1,19 +1,21 @@
 -- The rows that a machine tells, node by node and slot by slot.
-use Rattle.std.proofs.Common.{◌≡◌, ◌∙◌, ◌+◌, ◌*◌, ◌<◌, ◌≤◌, ◌-◌, ◌/◌, ◌%◌, ◌++◌, ℕ, List, [], ◌∷◌, map, Option, Some, None, refl, sym, ap, subst, arith}
+use Rattle.std.proofs.Common.{◌≡◌, ◌∙◌, ◌+◌, ◌*◌, ◌<◌, ◌≤◌, ◌-◌, ◌/◌, ◌%◌, ◌++◌, ℕ, List, [], ◌∷◌, Option, Some, None, refl, sym, ap, subst, arith}
 use Rattle.std.specs.Option.{option_map}
-use Rattle.pool_syntax.specs.declared.words.NameId.{NameId}
-use Rattle.pool_syntax.specs.declared.words.Placement.{Placement}
-use Rattle.pool_syntax.specs.declared.words.Standing.{Standing}
-use Rattle.pool_syntax.specs.declared.words.Standing.TheVariants as Z
-use Rattle.object_code.specs.declared.unit.Unit.{Unit as Code}
+use Rattle.std.proofs.lemmas.List.{map-append}
+use Rattle.run_words.specs.declared.words.NameId.{NameId}
+use Rattle.run_words.specs.declared.words.Placement.{Placement}
+use Rattle.run_words.specs.declared.words.Standing.{Standing}
+use Rattle.run_words.specs.declared.words.Standing.TheVariants as Z
+use Rattle.code_semantics.specs.declared.unit.Unit.{Unit as Code}
 use Rattle.mesh_semantics.specs.Act.{id, object_count}
 use Rattle.mesh_semantics.specs.Config.{Config, object_of}
-use Rattle.mesh_semantics.specs.Delay.{Delay, node_of, slot_of}
-use Rattle.mesh_semantics.specs.Partial.{◌>>=◌}
+use Rattle.mesh_semantics.specs.Delay.{Delay}
+use Rattle.run_words.specs.ObjectNames.{node_of, slot_of}
+use Rattle.run_words.specs.Partial.{◌>>=◌}
 use Rattle.mesh_semantics.specs.Sound.{IsSound}
 use Rattle.mesh_semantics.specs.Standing as T
 use Rattle.mesh_semantics.specs.Standing.{standing}
-use Rattle.mesh_semantics.proofs.Laws.{same_some}
+use Rattle.run_words.proofs.Laws.{same_some}
 use Rattle.coded_objects.specs.Coded.{Placed, coded}
 use Rattle.coded_objects.specs.OfCode.{IsOfCode}
 use Rattle.pool_node.specs.Acts.{told_standing}
@@ -41,10 +43,6 @@ told_of_word (T.Calls b m) = refl
 told_of_word (T.Creates k node) = refl
 told_of_word T.Due = refl
 told_of_word T.Awaits = refl
-
-map_append : {A B : Type 0} (f : A → B) (xs ys : List A) → map f (xs ++ ys) ≡ map f xs ++ map f ys
-map_append f [] ys = refl
-map_append f (x ∷ xs) ys = ap (λ z. f x ∷ z) (map_append f xs ys)
 
 module _ (u : Code) (c : Config Placed) (d : Delay) where
   -- the row of a name, by the machine's answers
@@ -87,7 +85,7 @@ module _ (u : Code) (c : Config Placed) (d : Delay) where
       by None i = absurd (let z : Some row ≡ None = h ∙ ap (λ (z : Option Placed). z >>= λ x. Some (row_in (coded u) d (n, x))) i in cc)
       by (Some x) i =
           let is : row ≡ row_in (coded u) d (n, x) = same_some (h ∙ ap (λ (z : Option Placed). z >>= λ x. Some (row_in (coded u) d (n, x))) i) in
-          ap (rows_in (coded u) d) (below_one n x c.objects r i) ∙ map_append (row_in (coded u) d) (below n c.objects) ((n, x) ∷ [])
+          ap (rows_in (coded u) d) (below_one n x c.objects r i) ∙ map-append (row_in (coded u) d) (below n c.objects) ((n, x) ∷ [])
           ∙ ap (λ (z : ObjectRow). rows_below u c d n ++ z ∷ []) (sym is)
 
   pub rows_same : (n : ℕ) → None ≡ row_at u c d n → rows_below u c d (n + 1) ≡ rows_below u c d n

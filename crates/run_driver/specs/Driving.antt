@@ -1,18 +1,18 @@
 -- What is written of a run while it is made, and from what a run is made.
 use Rattle.std.specs.Prelude.{◌≡◌, ℕ, ◌+◌, ◌*◌, ◌≤◌, List, [], ◌∷◌, ◌++◌, length, drop, slice_get, Option, Some, None, Result, Ok, Err, Bool, false, is_some}
 use Rattle.std.specs.List.{AllByRecursion}
-use Rattle.pool_syntax.specs.Tokens.{Text}
-use Rattle.pool_syntax.specs.declared.words.Item.{Item}
-use Rattle.pool_syntax.specs.declared.words.Label.TheVariants as L
-use Rattle.pool_syntax.specs.declared.words.Event.{Event}
-use Rattle.pool_syntax.specs.declared.words.What.{What}
-use Rattle.pool_syntax.specs.declared.words.What.TheVariants as W
-use Rattle.pool_syntax.specs.declared.words.Line.{Line}
-use Rattle.pool_syntax.specs.declared.words.Line.TheVariants as R
-use Rattle.pool_syntax.specs.declared.words.Placement.{Placement}
-use Rattle.object_code.specs.declared.unit.Unit.{Unit as Code}
-use Rattle.object_code.specs.Proper.{IsProper}
-use Rattle.object_code.specs.Suits.{Suits}
+use Rattle.run_words.specs.Text.{Text}
+use Rattle.run_words.specs.declared.words.Item.{Item}
+use Rattle.run_words.specs.declared.words.Label.TheVariants as L
+use Rattle.run_words.specs.declared.words.Event.{Event}
+use Rattle.run_words.specs.declared.words.What.{What}
+use Rattle.run_words.specs.declared.words.What.TheVariants as W
+use Rattle.run_words.specs.declared.words.Line.{Line}
+use Rattle.run_words.specs.declared.words.Line.TheVariants as R
+use Rattle.run_words.specs.declared.words.Placement.{Placement}
+use Rattle.code_semantics.specs.declared.unit.Unit.{Unit as Code}
+use Rattle.code_semantics.specs.Proper.{IsProper}
+use Rattle.code_semantics.specs.Suits.{Suits}
 use Rattle.mesh_semantics.specs.Config.{Config}
 use Rattle.mesh_semantics.specs.Delay.{Delay}
 use Rattle.mesh_semantics.specs.Record.{Record, labels, record_from, start}
@@ -21,7 +21,7 @@ use Rattle.pool_machine.specs.MachineOf.{MachineOf}
 use Rattle.pool_machine.specs.Answers.{Stands, nothing_sent}
 use Rattle.schedule_reader.specs.Plans.{IsEventOn}
 use Rattle.schedule_reader.specs.Schedules.{Plan}
-use Rattle.mesh_semantics.specs.Asks.{ask_of}
+use Rattle.run_words.specs.Asks.{request_number_of}
 use Rattle.record_lines.specs.Writable.{IsWritable}
 use Rattle.record_lines.specs.SecondForm.{form_text, line_text2}
 use Rattle.request_numbers.specs.declared.asks.Asks.{Asks}
@@ -58,7 +58,7 @@ shown_line Sh.Report names ask l = end_text names l
 -- of the lines that are left, behind these, of which the latest is the first
 abbrev pub shown_lines : Show → List Text → List Line → List Line → Text
 shown_lines show names earlier [] = []
-shown_lines show names earlier (l ∷ ls) = shown_line show names (ask_of earlier l) l ++ shown_lines show names (l ∷ earlier) ls
+shown_lines show names earlier (l ∷ ls) = shown_line show names (request_number_of earlier l) l ++ shown_lines show names (l ∷ earlier) ls
 
 -- and of all lines of a record
 abbrev pub shown_record : Show → List Text → List Line → Text
@@ -108,7 +108,8 @@ pub record GoesTo (a b : Record Placed) (made moving changes : ℕ) : Type 0 whe
   pub transitions : length (labels a.lines) ≡ changes + length (labels b.lines)
 
 -- A run from c and d under way, after so many events: the machine has wires where the schedule is lossy, and stands for what is after the events; the table has the posts of
--- their lines, their text was written, the lines that are left can be written where all lines can, and what is shown of all lines is this text and then what is shown of the lines of the events that are left. A report shows nothing of
+-- their lines, their text was written, the lines that are left can be written where all lines can, and what is shown of all lines is this text and then what is
+-- shown of the lines of the events that are left. A report shows nothing of
 -- these lines.
 pub record IsGoing (show : Show) (u : Code) (l : Placement) (plan : Plan) (c : Config Placed) (d : Delay) (m : MachineOf) (asks : Asks) (done : ℕ) (faulted : Bool) (k : Writing) : Type 0 where
   pub unit : m.unit ≡ u
@@ -124,7 +125,8 @@ pub record IsGoing (show : Show) (u : Code) (l : Placement) (plan : Plan) (c : C
   pub wrote : Wrote k text
   pub silent : show ≡ Sh.Report → text ≡ []
   pub lines : shown_record show u.names (run_from u l plan c d 0 plan.events).lines ≡ text ++ shown_lines show u.names earlier (run_from u l plan config delay done (drop done plan.events)).lines
-  pub writable : AllByRecursion (IsWritable u.names) (run_from u l plan c d 0 plan.events).lines → AllByRecursion (IsWritable u.names) (run_from u l plan config delay done (drop done plan.events)).lines
+  pub writable : AllByRecursion (IsWritable u.names) (run_from u l plan c d 0 plan.events).lines
+      → AllByRecursion (IsWritable u.names) (run_from u l plan config delay done (drop done plan.events)).lines
   pub status : status_after false (run_from u l plan c d 0 plan.events).lines ≡ status_after faulted (run_from u l plan config delay done (drop done plan.events)).lines
   pub goes : GoesTo (run_from u l plan c d 0 plan.events) (run_from u l plan config delay done (drop done plan.events)) done m.moves m.transitions
 
@@ -145,4 +147,5 @@ pub record HasRun (show : Show) (u : Code) (l : Placement) (plan : Plan) (c : Co
 -- a run has ended, or a write failed, and a front of what is shown was written, of a report nothing
 pub data Drives (show : Show) (u : Code) (l : Placement) (plan : Plan) (c : Config Placed) (d : Delay) (m : MachineOf) (k : Writing) (result : Result Ended WriteFault) : Type 0 where
   run : (e : Ended) → result ≡ Ok e → HasRun show u l plan c d m k e → Drives show u l plan c d m k result
-  stopped : (f : WriteFault) → result ≡ Err f → WroteFront k (shown_record show u.names (run_from u l plan c d 0 plan.events).lines) → (show ≡ Sh.Report → WroteFront k []) → Drives show u l plan c d m k result
+  stopped : (f : WriteFault) → result ≡ Err f → WroteFront k (shown_record show u.names (run_from u l plan c d 0 plan.events).lines) → (show ≡ Sh.Report → WroteFront k [])
+      → Drives show u l plan c d m k result

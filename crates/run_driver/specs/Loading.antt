@@ -1,7 +1,7 @@
 -- The run of what was loaded, and what is shown of it.
 use Rattle.std.specs.Prelude.{List, ◌++◌}
-use Rattle.pool_syntax.specs.Tokens.{Text}
-use Rattle.pool_syntax.specs.declared.words.Line.{Line}
+use Rattle.run_words.specs.Text.{Text}
+use Rattle.run_words.specs.declared.words.Line.{Line}
 use Rattle.mesh_semantics.specs.Record.{Record}
 use Rattle.coded_objects.specs.Coded.{Placed, coded}
 use Rattle.wait_report.specs.Report.{report_text}

@@ -1,17 +1,17 @@
 -- The rows of the report of where the objects of a configuration stand.
 use Rattle.std.specs.Prelude.{ℕ, List, [], ◌∷◌, map, Option, Some, nat_lt, if◌then◌else◌}
 use Rattle.pool_syntax.specs.Terms.{ProgramTree}
-use Rattle.pool_syntax.specs.declared.words.Standing.{Standing}
-use Rattle.pool_syntax.specs.declared.words.Standing.TheVariants as Z
+use Rattle.run_words.specs.declared.words.Standing.{Standing}
+use Rattle.run_words.specs.declared.words.Standing.TheVariants as Z
 use Rattle.pool_relation.specs.Action.{Object}
 use Rattle.mesh_semantics.specs.Act.{id}
 use Rattle.mesh_semantics.specs.Config.{Config, object_of}
 use Rattle.mesh_semantics.specs.Delay.{Delay}
 use Rattle.mesh_semantics.specs.Language.{Language}
-use Rattle.mesh_semantics.specs.Partial.{◌>>=◌}
+use Rattle.run_words.specs.Partial.{◌>>=◌}
 use Rattle.mesh_semantics.specs.Standing as T
 use Rattle.mesh_semantics.specs.Standing.{standing}
-use Rattle.object_code.specs.declared.unit.Unit.{Unit as Code}
+use Rattle.code_semantics.specs.declared.unit.Unit.{Unit as Code}
 use Rattle.coded_objects.specs.Coded.{Placed, coded}
 use Rattle.placed_terms.specs.Terms.{terms}
 use Rattle.wait_report.specs.declared.rows.ObjectRow.{ObjectRow}

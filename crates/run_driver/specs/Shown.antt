@@ -1,16 +1,16 @@
 -- What is shown of the record of a run, and with which status it ends.
 use Rattle.std.specs.Prelude.{ℕ, ◌+◌, codes, decimal, length, List, [], ◌∷◌, ◌++◌, Bool, true, false, ◌||◌, if◌then◌else◌}
-use Rattle.pool_syntax.specs.Tokens.{Text}
-use Rattle.pool_syntax.specs.declared.words.Item.{Item}
-use Rattle.pool_syntax.specs.declared.words.Item.TheVariants as I
-use Rattle.pool_syntax.specs.declared.words.Label.TheVariants as L
-use Rattle.pool_syntax.specs.declared.words.What.{What}
-use Rattle.pool_syntax.specs.declared.words.What.TheVariants as W
-use Rattle.pool_syntax.specs.declared.words.End.{End}
-use Rattle.pool_syntax.specs.declared.words.End.TheVariants as E
-use Rattle.pool_syntax.specs.declared.words.Line.{Line}
-use Rattle.pool_syntax.specs.declared.words.Line.TheVariants as R
-use Rattle.pool_syntax.specs.declared.words.Placement.{Placement}
+use Rattle.run_words.specs.Text.{Text}
+use Rattle.run_words.specs.declared.words.Item.{Item}
+use Rattle.run_words.specs.declared.words.Item.TheVariants as I
+use Rattle.run_words.specs.declared.words.Label.TheVariants as L
+use Rattle.run_words.specs.declared.words.What.{What}
+use Rattle.run_words.specs.declared.words.What.TheVariants as W
+use Rattle.run_words.specs.declared.words.End.{End}
+use Rattle.run_words.specs.declared.words.End.TheVariants as E
+use Rattle.run_words.specs.declared.words.Line.{Line}
+use Rattle.run_words.specs.declared.words.Line.TheVariants as R
+use Rattle.run_words.specs.declared.words.Placement.{Placement}
 use Rattle.mesh_semantics.specs.Language.{Language}
 use Rattle.mesh_semantics.specs.Record as M
 use Rattle.mesh_semantics.specs.Record.{record_at}

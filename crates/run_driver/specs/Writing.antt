@@ -1,6 +1,6 @@
 -- What is written of a run, and the status with which it is.
 use Rattle.std.specs.Prelude.{◌≡◌}
-use Rattle.pool_syntax.specs.Tokens.{Text}
+use Rattle.run_words.specs.Text.{Text}
 use Rattle.run_driver.specs.declared.status.Status.{Status}
 use Rattle.run_driver.specs.declared.status.Status.TheVariants as S
 pub use Rattle.outside_calls.specs.Writing.{Writing, AllWrote, IsIdle, Wrote, WroteFront, writing}

@@ -1,22 +1,24 @@
 //! Runs a machine over a schedule, and writes each line as it is made.
-ghost use Rattle.std.specs.Prelude.{◌≡◌, ◌||◌, [], OnOk, OnErr, IfOk, is_some};
+ghost use Rattle.std.specs.Prelude.{◌≡◌, ℕ, ◌||◌, [], OnOk, OnErr, IfOk, is_some};
+ghost use Rattle.run_words.specs.declared.words.Event.{Event as OneEvent};
+ghost use Rattle.run_words.specs.declared.words.Line.TheVariants as R;
 ghost use Rattle.mesh_semantics.specs.Config.{Config};
 ghost use Rattle.mesh_semantics.specs.Delay.{Delay};
 ghost use Rattle.coded_objects.specs.Coded.{Placed};
 ghost use Rattle.pool_machine.specs.Answers.{Stands};
-ghost use Rattle.record_lines.specs.Writable.{IsWritable};
+ghost use Rattle.record_lines.specs.Writable.{AreShort, IsWritable, id_of_what};
 ghost use Rattle.run_driver.specs.Driving.{Drives, HasBegun, IsLoaded, IsTableOf, item_of, shown_first, shown_line, tells_fault};
-ghost use Rattle.run_driver.specs.Writing.{Wrote, WroteFront, writing};
-ghost use Rattle.run_driver.specs.Writing.{Writes};
-ghost use Rattle.run_driver.specs.Shown.{end_text, ended, writes_of};
+ghost use Rattle.run_driver.specs.Writing.{Wrote, WroteFront, writing, Writes};
+ghost use Rattle.run_driver.specs.Shown.{ended, shows_fault, writes_of};
 
 use crate::loaded::Loaded;
 use crate::status::Status;
 use command_words::Show;
-use pool_machine::{Machine, Outcome};
+use pool_machine::{EventTold, Machine, Room};
 use pool_outside::{Sink, WriteFault};
-use pool_syntax::{End, Item, Label, Line, Names, What};
+use record_lines::write_event2;
 use run_record::{Asks, write_form, write_item, write_line, write_line2};
+use run_words::{End, Event, Item, Label, Line, Names, What};
 use schedule_reader::Schedule;
 use std::alloc::{AllocError, Global};
 
@@ -40,30 +42,15 @@ fn item_of(what: &What) -> Option<Item>
     }
 }
 
-/// Writes what a line shows of writes: the item that was written, without quotes; or the end line.
-fn show_writes<K: Sink>(line: &Line, names: &Names, out: &mut K) -> Result<(), WriteFault>
-    requires { IsWritable names.now line.now }
-    ensures whole { OnOk result (Wrote (writing K.written K.faults out.old out.new) (writes_of names.now line.now)) }
-    ensures cut { OnErr result (WroteFront (writing K.written K.faults out.old out.new) (writes_of names.now line.now)) }
+/// Writes the item that was written, without quotes, if one was.
+fn show_writes<K: Sink>(what: &What, names: &Names, out: &mut K) -> Result<(), WriteFault>
+    requires { AreShort names.now (id_of_what what.now) }
+    ensures whole { (n : ℕ) (e : OneEvent) → OnOk result (Wrote (writing K.written K.faults out.old out.new) (writes_of names.now (R.Event n e what.now))) }
+    ensures cut { (n : ℕ) (e : OneEvent) → OnErr result (WroteFront (writing K.written K.faults out.old out.new) (writes_of names.now (R.Event n e what.now))) }
 {
-    match line {
-        Line::Event { what, .. } => match item_of(what) {
-            Some(item) => write_item(item, names, out),
-            None => Ok(()),
-        },
-        Line::End(_) => write_line(line, names, out),
-    }
-}
-
-/// Writes the end line, and nothing of another.
-fn show_end<K: Sink>(line: &Line, names: &Names, out: &mut K) -> Result<(), WriteFault>
-    requires { IsWritable names.now line.now }
-    ensures whole { OnOk result (Wrote (writing K.written K.faults out.old out.new) (end_text names.now line.now)) }
-    ensures cut { OnErr result (WroteFront (writing K.written K.faults out.old out.new) (end_text names.now line.now)) }
-{
-    match line {
-        Line::Event { .. } => Ok(()),
-        Line::End(_) => write_line(line, names, out),
+    match item_of(what) {
+        Some(item) => write_item(item, names, out),
+        None => Ok(()),
     }
 }
 
@@ -78,46 +65,57 @@ fn show_first<K: Sink>(show: Show, out: &mut K) -> Result<(), WriteFault>
     }
 }
 
-/// Writes what is shown of a line with this request number.
-fn show_line<K: Sink>(
+/// Writes what is shown of an event's line with this request number.
+fn show_event<K: Sink>(
     show: Show,
-    line: &Line,
+    number: u32,
+    event: Event,
+    what: &What,
     ask: u32,
     names: &Names,
     out: &mut K,
 ) -> Result<(), WriteFault>
-    requires { IsWritable names.now line.now }
-    ensures whole { OnOk result (Wrote (writing K.written K.faults out.old out.new) (shown_line show names.now ask line.now)) }
-    ensures cut { OnErr result (WroteFront (writing K.written K.faults out.old out.new) (shown_line show names.now ask line.now)) }
+    requires { IsWritable names.now (R.Event number event what.now) }
+    ensures whole { OnOk result (Wrote (writing K.written K.faults out.old out.new) (shown_line show names.now ask (R.Event number event what.now))) }
+    ensures cut { OnErr result (WroteFront (writing K.written K.faults out.old out.new) (shown_line show names.now ask (R.Event number event what.now))) }
 {
     match show {
-        Show::Record => write_line2(line, ask, names, out),
-        Show::Writes => show_writes(line, names, out),
-        Show::Report => show_end(line, names, out),
+        Show::Record => write_event2(number, event, what, ask, names, out),
+        Show::Writes => show_writes(what, names, out),
+        Show::Report => Ok(()),
     }
 }
 
-/// Whether a line tells a language error.
-fn tells_fault(line: &Line) -> bool
-    ensures { result ≡ tells_fault line.now }
+/// Writes the end line.
+fn show_end<K: Sink>(show: Show, end: End, names: &Names, out: &mut K) -> Result<(), WriteFault>
+    ensures whole { OnOk result (Wrote (writing K.written K.faults out.old out.new) (shown_line show names.now 0 (Line.End end))) }
+    ensures cut { OnErr result (WroteFront (writing K.written K.faults out.old out.new) (shown_line show names.now 0 (Line.End end))) }
+{
+    match show {
+        Show::Record => write_line2(&Line::End(end), 0, names, out),
+        Show::Writes => write_line(&Line::End(end), names, out),
+        Show::Report => write_line(&Line::End(end), names, out),
+    }
+}
+
+/// Whether a step tells a language error.
+fn shows_fault(what: &What) -> bool
+    ensures { result ≡ shows_fault what.now }
 {
     matches!(
-        line,
-        Line::Event {
-            what: What::Step {
-                label: Label::Fault { .. },
-                ..
-            },
+        what,
+        What::Step {
+            label: Label::Fault { .. },
             ..
         }
     )
 }
 
-/// Whether a language error was told so far, with one more line.
-fn fault_so_far(faulted: bool, line: &Line) -> bool
-    ensures { result ≡ (faulted || tells_fault line.now) }
+/// Whether a language error was told so far, with one more step.
+fn fault_so_far(faulted: bool, what: &What) -> bool
+    ensures { (n : ℕ) (e : OneEvent) → result ≡ (faulted || tells_fault (R.Event n e what.now)) }
 {
-    faulted || tells_fault(line)
+    faulted || shows_fault(what)
 }
 
 /// The status of a run that ended so, where a language error was told or was not.
@@ -136,7 +134,7 @@ fn status_of_end(faulted: bool, end: End) -> Status
 pub fn finish<K: Sink>(show: Show, last: Ended, names: &Names, out: &mut K) -> Status
     ensures { Writes (writing K.written K.faults out.old out.new) (shown_line show names.now 0 (Line.End last.end)) (ended last.faulted last.end) result }
 {
-    match show_line(show, &Line::End(last.end), 0, names, out) {
+    match show_end(show, last.end, names, out) {
         Ok(()) => status_of_end(last.faulted, last.end),
         Err(WriteFault) => Status::WriteFault,
     }
@@ -178,21 +176,23 @@ pub fn drive<K: Sink>(
         Err(fault) => return Err(fault),
     }
     let mut faulted = false;
+    let mut room = Room::make();
     for done in 0..schedule.len() {
         if machine.is_quiet() {
             let end = End::Quiet { done };
             return Ok(Ended { faulted, end });
         }
-        match machine.event(schedule.event(done), schedule.quantum()) {
-            Outcome::Line(line) => {
-                let ask = asks.of(&line);
-                match show_line(show, &line, ask, names, out) {
+        let event = schedule.event(done);
+        match machine.event_in(event, schedule.quantum(), &mut room) {
+            EventTold::Line { number } => {
+                let ask = asks.of_event(number, event, &room.what);
+                match show_event(show, number, event, &room.what, ask, names, out) {
                     Ok(()) => {}
                     Err(fault) => return Err(fault),
                 }
-                faulted = fault_so_far(faulted, &line);
+                faulted = fault_so_far(faulted, &room.what);
             }
-            Outcome::Full { kind, node } => {
+            EventTold::Full { kind, node } => {
                 let end = End::Full { kind, node, done };
                 return Ok(Ended { faulted, end });
             }

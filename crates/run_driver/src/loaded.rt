@@ -1,6 +1,6 @@
 //! What a run is made of.
-use object_code::Unit;
-use pool_syntax::Placement;
+use code_semantics::Unit;
+use run_words::Placement;
 use schedule_reader::Schedule;
 
 /// The code of a program, a placement of its classes, and a schedule on the placement's mesh.

@@ -14,7 +14,7 @@ use command_words::Show;
 use fault_lines::{push_count, push_place};
 use pool_machine::{Machine, OpenFault};
 use pool_outside::{Sink, WriteFault, write_all_of};
-use pool_syntax::{Line, Names};
+use run_words::{Line, Names};
 use std::alloc::{AllocError, Global};
 
 /// A machine after its run, and how the run has ended.

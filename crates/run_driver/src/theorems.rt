@@ -1,6 +1,5 @@
 //! Laws of reports: each is the contract of a function that does nothing.
-ghost use Rattle.std.specs.Prelude.{List as ListOf};
-ghost use Rattle.std.specs.Prelude.{ℕ};
+ghost use Rattle.std.specs.Prelude.{List as ListOf, ℕ};
 ghost use Rattle.pool_syntax.specs.Terms.{ProgramTree};
 ghost use Rattle.pool_relation.specs.Action.{Object};
 ghost use Rattle.mesh_semantics.specs.Config.{Config};

@@ -3,8 +3,8 @@ ghost use Rattle.std.specs.Prelude.{◌≡◌, ◌<◌, ◌≤◌, ◌+◌, ◌*
 ghost use Rattle.mesh_semantics.specs.Config.{Config};
 ghost use Rattle.mesh_semantics.specs.Delay.{Delay};
 ghost use Rattle.coded_objects.specs.Coded.{Placed, coded};
-ghost use Rattle.object_code.specs.Proper.{IsProper};
-ghost use Rattle.object_code.specs.Suits.{Suits};
+ghost use Rattle.code_semantics.specs.Proper.{IsProper};
+ghost use Rattle.code_semantics.specs.Suits.{Suits};
 ghost use Rattle.pool_machine.specs.Answers.{Stands};
 ghost use Rattle.wait_report.specs.Report.{report_text};
 ghost use Rattle.run_driver.specs.Driving.{IsUnderWay};
@@ -17,7 +17,7 @@ use crate::status::Status;
 use command_words::Show;
 use pool_machine::Machine;
 use pool_outside::Sink;
-use pool_syntax::{Line, List, Names, Placement};
+use run_words::{Line, List, Names, Placement};
 use std::alloc::{AllocError, Global};
 use wait_report::{ObjectRow, ReportFault, report};
 

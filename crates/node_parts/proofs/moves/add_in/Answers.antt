@@ -1,6 +1,6 @@
 use Rattle.std.proofs.Common.{get_or, sym, subst}
-use Rattle.object_code.specs.declared.unit.CodeObject.{CodeObject}
-use Rattle.unit_objects.specs.OfUnit.{FitsUnit}
+use Rattle.run_words.specs.declared.frames.CodeObject.{CodeObject}
+use Rattle.code_semantics.specs.OfUnit.{FitsUnit}
 use Rattle.node_heap.specs.Heaps.{unbegun}
 use Rattle.node_parts.proofs.Adding.{class_there, placed_there, most_is, unbegun_fits, by_added}
 use Rattle.node_parts.proofs.moves.add_in.Goals as goal

@@ -1,7 +1,6 @@
 use Rattle.node_parts.proofs.Changing.{slot_real}
-use Rattle.node_parts.proofs.Moving.{by_delivered}
+use Rattle.node_parts.proofs.Moving.{by_delivered, on_ok}
 use Rattle.std.proofs.Common.{sym, ◌∙◌}
-use Rattle.node_parts.proofs.Moving.{on_ok}
 use Rattle.node_parts.proofs.moves.deliver_in.Goals as goal
 
 pub refresh-requires-clause-fits : goal.refresh-requires-clause-fits

@@ -1,13 +1,12 @@
 use Rattle.node_parts.proofs.Changing.{slot_real}
-use Rattle.node_parts.proofs.Moving.{by_served}
+use Rattle.node_parts.proofs.Moving.{by_served, on_ok}
 use Rattle.std.proofs.Common.{◌≡◌, Some, sym, subst, ◌∙◌}
 use Rattle.std.specs.Prelude.{remove}
-use Rattle.pool_syntax.specs.declared.words.Serves.{Serves}
-use Rattle.object_code.specs.Step.{code_serving}
+use Rattle.run_words.specs.declared.words.Serves.{Serves}
+use Rattle.code_semantics.specs.Step.{code_serving}
 use Rattle.node_heap.specs.Heaps.{object_at}
 use Rattle.mailbox.specs.Mail.{box_of}
 use Rattle.node_parts.specs.Changes.{serves_for_call}
-use Rattle.node_parts.proofs.Moving.{on_ok}
 use Rattle.node_parts.proofs.moves.serve_in.Goals as goal
 
 pub enter-requires-clause-fits : goal.enter-requires-clause-fits

@@ -1,6 +1,5 @@
 use Rattle.node_parts.proofs.Changing.{slot_real}
-use Rattle.node_parts.proofs.Moving.{by_settled}
-use Rattle.node_parts.proofs.Moving.{slot_of_number, number_of_slot, asking_now}
+use Rattle.node_parts.proofs.Moving.{by_settled, slot_of_number, number_of_slot, asking_now}
 use Rattle.node_parts.proofs.moves.settle_in.Goals as goal
 
 pub resume_with-requires-clause-fits : goal.resume_with-requires-clause-fits

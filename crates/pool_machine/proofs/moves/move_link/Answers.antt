@@ -1,12 +1,12 @@
 use Rattle.std.proofs.Common.{List, refl, sym, ap, subst, ◌∙◌, map}
 use Rattle.std.specs.Option.{option_copied}
-use Rattle.pool_syntax.specs.declared.words.What.TheVariants as W
-use Rattle.mesh_semantics.specs.Tables.{list_at, pair_cmp}
+use Rattle.run_words.specs.declared.words.What.TheVariants as W
+use Rattle.run_words.specs.Tables.{list_at, pair_cmp}
 use Rattle.coded_objects.specs.Coded.{coded}
 use Rattle.node_semantics.specs.Machine.{move_in}
 use Rattle.rendezvous_protocol.specs.declared.packet.Packet.{Packet}
 use Rattle.rendezvous_protocol.specs.Packets.{numbered}
-use Rattle.pool_machine.specs.declared.words.Did.TheVariants as D
+use Rattle.pool_machine.specs.DidOf as D
 use Rattle.pool_machine.specs.Parts.{IsDid, machine_from}
 use Rattle.pool_machine.proofs.MovesOfHeads.{no_first}
 use Rattle.pool_machine.proofs.moves.move_link.Goals as goal

@@ -1,11 +1,11 @@
 use Rattle.std.proofs.Common.{◌≡◌, ◌*◌, ◌<◌, sym, ap, subst, ◌∙◌, refl, get_or, Some, arith}
 use Rattle.mesh_semantics.specs.Act.{goal_node}
-use Rattle.node_semantics.specs.Machine.{leaving}
+use Rattle.run_words.specs.Tables.{leaving}
 use Rattle.node_semantics.specs.Node.{message_count}
 use Rattle.node_parts.specs.NodeOf.{NodeOf}
 use Rattle.mesh_routing.specs.Links.{LinksOf}
 use Rattle.rendezvous_protocol.specs.Packets.{numbered}
-use Rattle.pool_syntax.specs.declared.words.Placement.{Placement}
+use Rattle.run_words.specs.declared.words.Placement.{Placement}
 use Rattle.pool_machine.proofs.MovesOfHeads.{full_pass, goal_inside, headless, line_pass, pass_parts, pass_room}
 use Rattle.pool_machine.proofs.TurnsOfNodes.{cells_within, links_after, node_here, with_packet}
 use Rattle.pool_machine.proofs.moves.pass.Goals as goal
@@ -38,7 +38,7 @@ post-requires-clause-room c =
     subst (λ (z : LinksOf _). leaving z.links c.args.to < z.cells) (sym c.move_head.ensures.rest)
     (subst (λ z. leaving (headless c.args.from c.args.to c.args.links.now).links c.args.to < z) (sym c.requires.kept.parts.cells) (pass_room c.args.unit.now c.args.placement.now c.args.nodes.now c.args.links.now c.requires.kept c.args.from c.args.to c.requires.link c.index-nodes-to.result c.args.packet c.requires.head c.requires.goal c.messages-waiting.result c.leaving-leaving.result (c.messages-waiting.ensures.count ∙ ap (λ (n : NodeOf). message_count n.state.slots) c.index-nodes-to.is) c.leaving-leaving.ensures.count c.if-waiting-leaving.false))
 
-links_are : (c : goal.After-post) → c.post.new.links ≡ links_after c.args.placement.now c.args.to (Some c.args.packet) (headless c.args.from c.args.to c.args.links.now)
+links_are : (c : goal.After-room-1) → c.post.new.links ≡ links_after c.args.placement.now c.args.to (Some c.args.packet) (headless c.args.from c.args.to c.args.links.now)
 links_are c =
     with_packet c.args.placement.now c.args.table.now c.args.to c.move_head.new.self c.post.new.links (Some c.args.packet) c.args.packet refl c.requires.table c.post.ensures
     ∙ ap (links_after c.args.placement.now c.args.to (Some c.args.packet)) c.move_head.ensures.rest

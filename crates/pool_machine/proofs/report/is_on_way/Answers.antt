@@ -1,6 +1,6 @@
 use Rattle.std.proofs.Common.{◌≡◌, ◌<◌, ◌*◌, ℕ, false, below_more}
-use Rattle.mesh_semantics.specs.Tables.{list_at, pair_cmp}
-use Rattle.mesh_semantics.specs.Paths.{AreNeighbours}
+use Rattle.run_words.specs.Tables.{list_at, pair_cmp}
+use Rattle.run_words.specs.Paths.{AreNeighbours}
 use Rattle.pool_machine.specs.Told.{is_brought}
 use Rattle.pool_machine.proofs.Brought.{nothing_leaves}
 use Rattle.pool_machine.proofs.report.is_on_way.Goals as goal

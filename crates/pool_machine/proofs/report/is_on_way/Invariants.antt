@@ -1,6 +1,6 @@
 use Rattle.std.proofs.Common.{◌≡◌, ◌<◌, ◌*◌, ℕ, false}
-use Rattle.mesh_semantics.specs.Tables.{list_at, pair_cmp}
-use Rattle.mesh_semantics.specs.Paths.{AreNeighbours}
+use Rattle.run_words.specs.Tables.{list_at, pair_cmp}
+use Rattle.run_words.specs.Paths.{AreNeighbours}
 use Rattle.pool_machine.specs.Told.{is_brought}
 use Rattle.pool_machine.proofs.report.is_on_way.Given as goal
 

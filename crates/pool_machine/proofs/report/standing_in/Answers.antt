@@ -1,7 +1,7 @@
 use Rattle.std.proofs.Common.{sym, ◌∙◌}
 use Rattle.std.proofs.lemmas.Option.{slice_get_within}
 use Rattle.pool_node.specs.Acts.{told_standing}
-use Rattle.mesh_semantics.specs.Delay.{node_of, slot_of}
+use Rattle.run_words.specs.ObjectNames.{node_of, slot_of}
 use Rattle.pool_machine.proofs.ToldOfObjects.{Found, due_told, found_at, none_on_mesh, on_way, slot_found, slot_told}
 use Rattle.pool_machine.proofs.report.standing_in.Goals as goal
 

@@ -3,7 +3,7 @@ use Rattle.std.specs.Option.{option_copied_mut}
 use Rattle.std.specs.Map.{lookup}
 use Rattle.std.specs.BTreeMap.{is_at}
 use Rattle.mesh_semantics.specs.KeptWire.{KeptWire, kept_act}
-use Rattle.mesh_semantics.specs.Tables.{Pair, list_at, pair_cmp}
+use Rattle.run_words.specs.Tables.{Pair, list_at, pair_cmp}
 use Rattle.rendezvous_protocol.specs.declared.packet.Packet.{Packet}
 use Rattle.pool_machine.specs.MachineOf.{LinkWires}
 use Rattle.pool_machine.specs.OnWires.{IsToldAt}

@@ -1,6 +1,6 @@
 use Rattle.std.proofs.Common.{◌≡◌, ◌∙◌, ◌*◌, ◌+◌, sym, ap, subst, true, arith}
 use Rattle.std.specs.FinMap.{put}
-use Rattle.mesh_semantics.specs.Tables.{pair_cmp}
+use Rattle.run_words.specs.Tables.{pair_cmp}
 use Rattle.mesh_semantics.specs.KeptWire.{KeptWire}
 use Rattle.pool_machine.specs.OnWires.{AreNew}
 use Rattle.pool_machine.proofs.KeptMaps.{inserted_is}

@@ -4,7 +4,7 @@ use Rattle.std.specs.Map.{lookup}
 use Rattle.std.specs.BTreeMap.{is_at}
 use Rattle.std.specs.FinMap.{put}
 use Rattle.mesh_semantics.specs.KeptWire.{kept_take}
-use Rattle.mesh_semantics.specs.Tables.{Pair, pair_cmp}
+use Rattle.run_words.specs.Tables.{Pair, pair_cmp}
 use Rattle.pool_machine.specs.MachineOf.{LinkWires}
 use Rattle.pool_machine.proofs.KeptMaps.{changed_is, wire_found}
 use Rattle.pool_machine.proofs.wires.arrive_at.Goals as goal

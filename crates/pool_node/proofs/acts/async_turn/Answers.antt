@@ -1,6 +1,8 @@
-use Rattle.std.proofs.Common.{refl, sym, ap, ◌∙◌}
-use Rattle.pool_syntax.specs.declared.words.Label.TheVariants as L
-use Rattle.pool_syntax.specs.declared.words.What.TheVariants as W
+use Rattle.std.proofs.Common.{refl, sym, subst, ap, ◌∙◌}
+use Rattle.run_words.specs.declared.words.Label.TheVariants as L
+use Rattle.run_words.specs.declared.words.What.TheVariants as W
+use Rattle.pool_node.specs.ActOf.{Act}
+use Rattle.pool_node.specs.Made.{IsTurned}
 use Rattle.pool_node.proofs.Posting.{async_made, async_full, room_kept, cells_kept, lacks_kept}
 use Rattle.pool_node.proofs.acts.async_turn.Goals as goal
 
@@ -12,6 +14,9 @@ post-requires-clause-room c = room_kept c.args.unit.now c.args.placement.now c.a
 
 pub returns : goal.returns
 returns c = λ q.
-    async_made c.args.unit.now c.args.placement.now c.args.leaving c.args.parts.now c.requires.set c.args.slot c.requires.slot c.args.to c.args.method c.args.args q c.go_on_in.new.parts c.post.new.parts c.step.result c.post.result c.name_of-from.result c.requires.kind c.go_on_in.ensures
-    (c.step.ensures ∙ ap (λ o. W.Step (L.Send o c.args.to c.args.method c.args.args) 1) c.name_of-from.ensures) c.name_of-from.ensures
-    (c.post.ensures c.args.placement.now c.args.leaving c.step.result (cells_kept c.args.unit.now c.args.placement.now c.args.leaving c.args.parts.now c.requires.set c.args.slot c.requires.slot _ refl c.go_on_in.new.parts c.go_on_in.ensures) (lacks_kept c.args.unit.now c.args.placement.now c.args.leaving c.args.parts.now c.requires.set c.args.slot c.requires.slot _ refl c.go_on_in.new.parts c.go_on_in.ensures c.args.to (sym c.lacks.ensures ∙ c.if-lacks.false)))
+    let cells = cells_kept c.args.unit.now c.args.placement.now c.args.leaving c.args.parts.now c.requires.set c.args.slot c.requires.slot _ refl c.go_on_in.new.parts c.go_on_in.ensures in
+    let lacks = lacks_kept c.args.unit.now c.args.placement.now c.args.leaving c.args.parts.now c.requires.set c.args.slot c.requires.slot _ refl c.go_on_in.new.parts c.go_on_in.ensures c.args.to (sym c.lacks.ensures ∙ c.if-lacks.false) in
+    let m = c.post.ensures c.args.placement.now c.args.leaving cells lacks in
+    subst (λ (act : Act). IsTurned c.args.unit.now c.args.placement.now q c.args.leaving act c.args.parts.now c.post.new.parts c.args.slot) (sym m.1)
+    (async_made c.args.unit.now c.args.placement.now c.args.leaving c.args.parts.now c.requires.set c.args.slot c.requires.slot c.args.to c.args.method c.args.args q c.go_on_in.new.parts c.post.new.parts c.step-room.result m.0 c.name_of-from.result c.requires.kind c.go_on_in.ensures
+    (c.step-room.ensures ∙ ap (λ o. W.Step (L.Send o c.args.to c.args.method c.args.args) 1) c.name_of-from.ensures) c.name_of-from.ensures m.2)

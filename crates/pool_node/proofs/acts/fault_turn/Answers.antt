@@ -1,10 +1,10 @@
 use Rattle.std.proofs.Common.{ap, ◌∙◌}
-use Rattle.pool_syntax.specs.declared.words.Label.TheVariants as L
-use Rattle.pool_syntax.specs.declared.words.What.TheVariants as W
+use Rattle.run_words.specs.declared.words.Label.TheVariants as L
+use Rattle.run_words.specs.declared.words.What.TheVariants as W
 use Rattle.pool_node.proofs.Turning.{fault_made}
 use Rattle.pool_node.proofs.acts.fault_turn.Goals as goal
 
 pub returns : goal.returns
 returns c = λ l q leaving set.
-    fault_made c.args.unit.now l leaving c.args.parts.now set c.args.slot c.requires.slot q c.fault_in.new.parts c.args.error c.step.result c.requires.kind c.fault_in.ensures
-    (c.step.ensures ∙ ap (λ o. W.Step (L.Fault o c.args.error) 1) c.name_of-object.ensures)
+    fault_made c.args.unit.now l leaving c.args.parts.now set c.args.slot c.requires.slot q c.fault_in.new.parts c.args.error c.step-room.result c.requires.kind c.fault_in.ensures
+    (c.step-room.ensures ∙ ap (λ o. W.Step (L.Fault o c.args.error) 1) c.name_of-object.ensures)

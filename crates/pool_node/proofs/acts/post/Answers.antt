@@ -1,7 +1,10 @@
-use Rattle.std.proofs.Common.{arith}
+use Rattle.std.proofs.Common.{None, Some, refl, arith, rules}
 use Rattle.pool_node.proofs.Posting.{posted_here}
 use Rattle.pool_node.proofs.acts.post.Goals as goal
 
 pub returns-then-to-parts : goal.returns-then-to-parts
-returns-then-to-parts c = λ l leaving what cells has.
-    posted_here c.args.unit.now l leaving what c.args.parts.now c.deliver_to.new.parts c.args.to c.args.message (omega arith) c.deliver_to.ensures cells has
+returns-then-to-parts c = λ l leaving cells has.
+    (None, refl, posted_here c.args.unit.now l leaving c.args.room.now.what c.args.parts.now c.deliver_to.new.parts c.args.to c.args.message (omega arith) c.deliver_to.ensures cells has)
+
+pub returns-else-to-parts : goal.returns-else-to-parts
+returns-else-to-parts c = λ l leaving cells has. (Some c.packet-room.result, refl, search rules)

@@ -1,19 +1,19 @@
 use Rattle.std.proofs.Common.{sym, ap, ◌∙◌, arith}
 use Rattle.std.proofs.lemmas.Bool.Decides.{nat_tests}
-use Rattle.pool_syntax.specs.declared.words.Label.TheVariants as L
-use Rattle.pool_syntax.specs.declared.words.What.TheVariants as W
+use Rattle.run_words.specs.declared.words.Label.TheVariants as L
+use Rattle.run_words.specs.declared.words.What.TheVariants as W
 use Rattle.pool_node.proofs.Returning.{return_here, return_away, return_full}
 use Rattle.pool_node.proofs.acts.return_turn.Goals as goal
 
 pub returns-then-caller-parts : goal.returns-then-caller-parts
 returns-then-caller-parts c = λ q.
-    return_here c.args.unit.now c.args.placement.now c.args.leaving c.args.parts.now c.requires.set c.args.slot c.requires.slot c.args.caller c.args.number c.args.value c.requires.kind q c.return_in.new.parts c.settle_if_out.new.parts c.step.result (omega arith) c.return_in.ensures c.settle_if_out.ensures
-    (c.step.ensures ∙ ap (λ o. W.Step (L.Return o c.args.caller c.args.value) 1) c.name_of-receiver.ensures)
+    return_here c.args.unit.now c.args.placement.now c.args.leaving c.args.parts.now c.requires.set c.args.slot c.requires.slot c.args.caller c.args.number c.args.value c.requires.kind q c.return_in.new.parts c.settle_if_out.new.parts c.step-room.result (omega arith) c.return_in.ensures c.settle_if_out.ensures
+    (c.step-room.ensures ∙ ap (λ o. W.Step (L.Return o c.args.caller c.args.value) 1) c.name_of-receiver.ensures)
 
 pub returns-then-no_cell : goal.returns-then-no_cell
 returns-then-no_cell c = λ q. return_full c.args.unit.now c.args.placement.now c.args.leaving c.args.parts.now c.requires.set c.args.slot c.requires.slot c.args.caller c.args.number c.args.value c.requires.kind q (grind (arith, nat_tests)) (sym c.if-no_cell.true ∙ c.no_cell.ensures)
 
 pub returns : goal.returns
 returns c = λ q.
-    return_away c.args.unit.now c.args.placement.now c.args.leaving c.args.parts.now c.requires.set c.args.slot c.requires.slot c.args.caller c.args.number c.args.value c.requires.kind q c.return_in-2.new.parts c.step-2.result (grind (arith, nat_tests)) c.return_in-2.ensures (sym c.if-no_cell.false ∙ c.no_cell.ensures)
-    (c.step-2.ensures ∙ ap (λ o. W.Step (L.Return o c.args.caller c.args.value) 1) c.name_of-receiver.ensures)
+    return_away c.args.unit.now c.args.placement.now c.args.leaving c.args.parts.now c.requires.set c.args.slot c.requires.slot c.args.caller c.args.number c.args.value c.requires.kind q c.return_in-2.new.parts c.step-room-2.result (grind (arith, nat_tests)) c.return_in-2.ensures (sym c.if-no_cell.false ∙ c.no_cell.ensures)
+    (c.step-room-2.ensures ∙ ap (λ o. W.Step (L.Return o c.args.caller c.args.value) 1) c.name_of-receiver.ensures)

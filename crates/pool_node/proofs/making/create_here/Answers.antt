@@ -1,7 +1,7 @@
 use Rattle.std.proofs.Common.{refl, ap, ap₂, ◌∙◌, ℕ}
-use Rattle.pool_syntax.specs.declared.words.NameId.{NameId}
-use Rattle.pool_syntax.specs.declared.words.Label.TheVariants as L
-use Rattle.pool_syntax.specs.declared.words.What.TheVariants as W
+use Rattle.run_words.specs.declared.words.NameId.{NameId}
+use Rattle.run_words.specs.declared.words.Label.TheVariants as L
+use Rattle.run_words.specs.declared.words.What.TheVariants as W
 use Rattle.node_semantics.specs.Node.{name_at}
 use Rattle.pool_node.proofs.Creating.{free_kept, asks_kept, here_made, here_heap, here_frames, some_placed, class_name}
 use Rattle.pool_node.proofs.making.create_here.Goals as goal
@@ -14,9 +14,9 @@ give_in-requires-clause-asks c = asks_kept c.args.unit.now c.args.parts.now c.ad
 
 pub returns-in-Ok : goal.returns-in-Ok
 returns-in-Ok c = λ l q leaving set e.
-    here_made c.args.unit.now l leaving c.args.parts.now set c.args.slot c.requires.slot c.requires.kind.0 c.args.class c.requires.kind.1 c.requires.kind.2 c.in-Ok.ensures.added.0 c.in-Ok.ensures.added.1 q c.add_in.new.parts c.give_in.new.parts c.count_in.new.parts c.step.result c.name_of-name.result e
+    here_made c.args.unit.now l leaving c.args.parts.now set c.args.slot c.requires.slot c.requires.kind.0 c.args.class c.requires.kind.1 c.requires.kind.2 c.in-Ok.ensures.added.0 c.in-Ok.ensures.added.1 q c.add_in.new.parts c.give_in.new.parts c.count_in.new.parts c.step-room.result c.name_of-name.result e
     c.in-Ok.ensures.added.2 c.give_in.ensures (c.name_of-name.ensures ∙ ap (λ j. name_at c.add_in.new.parts.id j) c.in-Ok.ensures.slot) _ c.count_in.ensures refl
-    (c.step.ensures ∙ ap₂ (λ (o : ℕ) (k : NameId). W.Step (L.New o c.name_of-name.result k) 1) c.name_of-object.ensures (class_name c.args.unit.now.classes c.items.result.now c.requires.kind.0 c.args.class _ c.requires.kind.2 c.items.ensures))
+    (c.step-room.ensures ∙ ap₂ (λ (o : ℕ) (k : NameId). W.Step (L.New o c.name_of-name.result k) 1) c.name_of-object.ensures (class_name c.args.unit.now.classes c.items.result.now c.requires.kind.0 c.args.class _ c.requires.kind.2 c.items.ensures))
 
 pub returns-in-Err-Objects : goal.returns-in-Err-Objects
 returns-in-Err-Objects c = λ l q leaving set e.

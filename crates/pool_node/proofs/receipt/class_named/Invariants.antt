@@ -1,5 +1,5 @@
 use Rattle.std.proofs.Common.{◌≡◌, drop}
-use Rattle.object_code.specs.Step.{class_from}
+use Rattle.code_semantics.specs.Step.{class_from}
 use Rattle.pool_node.proofs.receipt.class_named.Given as goal
 
 abbrev pub invariant-loop-place : goal.invariant-loop-place

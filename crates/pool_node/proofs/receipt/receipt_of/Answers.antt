@@ -1,7 +1,8 @@
 use Rattle.std.proofs.Common.{arith}
+use Rattle.pool_node.specs.ActOf.{act_of}
 use Rattle.pool_node.proofs.Acting.{made_acts}
 use Rattle.pool_node.proofs.receipt.receipt_of.Goals as goal
 
 pub returns-clause-act : goal.returns-clause-act
 returns-clause-act c =
-    (made_acts c.args.unit.now c.args.placement.now c.args.leaving c.args.parts.now c.received-act.new.parts c.requires.whole c.requires.unit c.requires.placement (omega arith) _ c.received-act.result c.received-act.ensures).0
+    (made_acts c.args.unit.now c.args.placement.now c.args.leaving c.args.parts.now c.received-told.new.parts c.requires.whole c.requires.unit c.requires.placement (omega arith) _ (act_of c.received-told.result c.received-told.new.room) c.received-told.ensures).0

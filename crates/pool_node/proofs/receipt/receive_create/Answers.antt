@@ -15,5 +15,5 @@ returns-then-no_cell c = λ goal. let y = some_placed c.args.unit.now c.args.nam
 
 pub returns-in-Ok : goal.returns-in-Ok
 returns-in-Ok c = λ goal.
-    create_made c.args.unit.now c.args.placement.now c.args.leaving c.args.parts.now c.requires.set c.args.number c.args.from c.args.class c.args.name c.requires.named c.in-Ok.ensures.added.0 c.in-Ok.ensures.added.1 goal c.add_in.new.parts c.step.result c.name_of-object.result c.in-Ok.ensures.added.2
-    (c.name_of-object.ensures ∙ ap (λ j. name_at c.add_in.new.parts.id j) c.in-Ok.ensures.slot) c.step.ensures (sym c.if-no_cell.false ∙ c.no_cell.ensures)
+    create_made c.args.unit.now c.args.placement.now c.args.leaving c.args.parts.now c.requires.set c.args.number c.args.from c.args.class c.args.name c.requires.named c.in-Ok.ensures.added.0 c.in-Ok.ensures.added.1 goal c.add_in.new.parts c.step-room.result c.name_of-object.result c.in-Ok.ensures.added.2
+    (c.name_of-object.ensures ∙ ap (λ j. name_at c.add_in.new.parts.id j) c.in-Ok.ensures.slot) c.step-room.ensures (sym c.if-no_cell.false ∙ c.no_cell.ensures)

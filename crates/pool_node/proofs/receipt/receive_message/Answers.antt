@@ -1,5 +1,5 @@
 use Rattle.std.proofs.Common.{refl, sym, ◌∙◌}
-use Rattle.pool_syntax.specs.declared.words.What.TheVariants as W
+use Rattle.run_words.specs.declared.words.What.TheVariants as W
 use Rattle.pool_node.proofs.Receiving.{message_full, message_room, message_made}
 use Rattle.pool_node.proofs.receipt.receive_message.Goals as goal
 

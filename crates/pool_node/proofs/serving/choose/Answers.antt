@@ -1,6 +1,6 @@
 use Rattle.std.proofs.Common.{sym, ap, ◌∙◌}
-use Rattle.pool_syntax.specs.declared.words.Label.TheVariants as L
-use Rattle.pool_syntax.specs.declared.words.What.TheVariants as W
+use Rattle.run_words.specs.declared.words.Label.TheVariants as L
+use Rattle.run_words.specs.declared.words.What.TheVariants as W
 use Rattle.node_parts.proofs.Laws.{slot_real}
 use Rattle.pool_node.proofs.Taking.{pick_made, some_way}
 use Rattle.pool_node.proofs.serving.choose.Goals as goal
@@ -13,8 +13,8 @@ called_place-requires-clause-fits c = (slot_real c.args.unit.now c.args.parts.no
 
 pub returns-then-plain_alt : goal.returns-then-plain_alt
 returns-then-plain_alt c = λ q leaving set.
-    pick_made c.args.unit.now c.args.placement.now leaving c.args.parts.now set c.args.slot c.requires.slot c.args.alt c.requires.choosing c.requires.first q c.pick_in.new.parts c.step.result (sym c.plain_alt.ensures ∙ c.if-plain_alt.true) c.pick_in.ensures
-    (c.step.ensures ∙ ap (λ o. W.Step (L.Pick o c.args.alt) 1) c.name_of-object.ensures)
+    pick_made c.args.unit.now c.args.placement.now leaving c.args.parts.now set c.args.slot c.requires.slot c.args.alt c.requires.choosing c.requires.first q c.pick_in.new.parts c.step-room.result (sym c.plain_alt.ensures ∙ c.if-plain_alt.true) c.pick_in.ensures
+    (c.step-room.ensures ∙ ap (λ o. W.Step (L.Pick o c.args.alt) 1) c.name_of-object.ensures)
 
 pub returns-in-None : goal.returns-in-None
 returns-in-None c = λ q leaving set.

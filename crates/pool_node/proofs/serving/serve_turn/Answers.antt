@@ -1,6 +1,6 @@
 use Rattle.std.proofs.Common.{ap, ◌∙◌, arith}
-use Rattle.pool_syntax.specs.declared.words.Label.{Label}
-use Rattle.pool_syntax.specs.declared.words.What.TheVariants as W
+use Rattle.run_words.specs.declared.words.Label.{Label}
+use Rattle.run_words.specs.declared.words.What.TheVariants as W
 use Rattle.pool_node.specs.Made.{taken_label}
 use Rattle.pool_node.proofs.Taking.{serve_full, serve_made, answers_it}
 use Rattle.pool_node.proofs.serving.serve_turn.Goals as goal
@@ -13,6 +13,6 @@ serve_in-message-requires-clause-answers c = answers_it c.args.unit.now c.args.p
 
 pub returns : goal.returns
 returns c = λ q leaving set.
-    serve_made c.args.unit.now c.args.placement.now leaving c.args.parts.now set c.args.slot c.requires.slot c.args.alt c.requires.choosing c.requires.first c.args.place c.requires.place q c.serve_in-message.new.parts c.step.result c.serve_in-message.result c.serve_in-message.ensures.changed.0
+    serve_made c.args.unit.now c.args.placement.now leaving c.args.parts.now set c.args.slot c.requires.slot c.args.alt c.requires.choosing c.requires.first c.args.place c.requires.place q c.serve_in-message.new.parts c.step-room.result c.serve_in-message.result c.serve_in-message.ensures.changed.0
     c.serve_in-message.ensures.message c.serve_in-message.ensures.changed.1 c.serve_in-message.ensures.changed.2
-    (c.step.ensures ∙ ap (λ (k : Label). W.Step k 1) (c.label_of.ensures ∙ ap (λ o. taken_label o c.serve_in-message.result) c.name_of-object.ensures))
+    (c.step-room.ensures ∙ ap (λ (k : Label). W.Step k 1) (c.label_of.ensures ∙ ap (λ o. taken_label o c.serve_in-message.result) c.name_of-object.ensures))

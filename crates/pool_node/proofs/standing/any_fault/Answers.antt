@@ -1,6 +1,6 @@
 use Rattle.std.proofs.Common.{ap, ◌∙◌, List, Option, is_some}
 use Rattle.std.specs.List.{list_any}
-use Rattle.pool_syntax.specs.declared.words.Error.{Error}
+use Rattle.run_words.specs.declared.words.Error.{Error}
 use Rattle.pool_node.proofs.Telling.{any_is}
 use Rattle.pool_node.proofs.standing.any_fault.Goals as goal
 

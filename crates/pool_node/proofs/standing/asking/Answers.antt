@@ -1,6 +1,6 @@
 use Rattle.std.proofs.Common.{ap, length, List, ℕ, get_or, arith}
-use Rattle.object_code.specs.declared.unit.ClassCode.{ClassCode}
-use Rattle.object_code.specs.Kinds.{code_kind}
+use Rattle.code_semantics.specs.declared.unit.ClassCode.{ClassCode}
+use Rattle.code_semantics.specs.Kinds.{code_kind}
 use Rattle.node_heap.specs.Heaps.{object_at}
 use Rattle.node_parts.proofs.Laws.{slot_real, hand_new}
 use Rattle.pool_node.proofs.Creating.{class_found, class_below, class_name}

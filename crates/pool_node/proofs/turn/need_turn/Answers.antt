@@ -1,5 +1,5 @@
 use Rattle.std.proofs.Common.{sym, ap, ◌∙◌}
-use Rattle.object_code.specs.Kinds.{code_kind}
+use Rattle.code_semantics.specs.Kinds.{code_kind}
 use Rattle.node_heap.specs.Heaps.{object_at}
 use Rattle.mailbox.specs.Mail.{box_of}
 use Rattle.object_interp.specs.declared.words.Need.{Need}

@@ -1,8 +1,8 @@
 use Rattle.std.proofs.Common.{refl, sym, ap, subst}
-use Rattle.pool_syntax.specs.declared.words.Placement.{Placement}
-use Rattle.object_code.specs.declared.unit.Unit.{Unit as Code}
-use Rattle.object_code.specs.Proper.{IsProper}
-use Rattle.object_code.specs.Suits.{Suits}
+use Rattle.run_words.specs.declared.words.Placement.{Placement}
+use Rattle.code_semantics.specs.declared.unit.Unit.{Unit as Code}
+use Rattle.code_semantics.specs.Proper.{IsProper}
+use Rattle.code_semantics.specs.Suits.{Suits}
 use Rattle.command_words.specs.declared.command.Show.TheVariants as Sh
 use Rattle.run_driver.specs.Loading.{run_of}
 use Rattle.run_driver.proofs.DriveLaws.{report_delivers, report_of_run}

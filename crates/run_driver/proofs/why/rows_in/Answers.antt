@@ -1,5 +1,5 @@
 use Rattle.std.proofs.Common.{◌∙◌, ◌*◌, ◌≤◌, sym, ap, subst}
-use Rattle.pool_syntax.specs.declared.words.Placement.{Placement}
+use Rattle.run_words.specs.declared.words.Placement.{Placement}
 use Rattle.coded_objects.specs.Coded.{coded}
 use Rattle.run_driver.specs.Reports.{rows_in}
 use Rattle.run_driver.proofs.WhyLaws.{rows_all}

@@ -1,5 +1,5 @@
 use Rattle.std.proofs.Common.{List, Err, refl, sym, ap, subst}
-use Rattle.pool_syntax.specs.Tokens.{Text}
+use Rattle.run_words.specs.Text.{Text}
 use Rattle.coded_objects.specs.Coded.{coded}
 use Rattle.wait_report.specs.declared.rows.ObjectRow.{ObjectRow}
 use Rattle.wait_report.specs.Calls.{Rising, names_of}

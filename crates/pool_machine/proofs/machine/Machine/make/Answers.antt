@@ -1,13 +1,16 @@
-use Rattle.std.proofs.Common.{◌≡◌, ◌<◌, List, [], refl, sym, ap, ap₂, ◌*◌, subst, ◌∙◌, length, arith}
-use Rattle.pool_syntax.specs.declared.words.Place.{Place}
+use Rattle.std.proofs.Common.{◌≡◌, ◌<◌, List, [], refl, sym, ap, ap₂, ◌*◌, subst, ◌∙◌, length, set, arith}
+use Rattle.run_words.specs.declared.words.Place.{Place}
 use Rattle.mesh_semantics.specs.Record.{last_place, root_node}
 use Rattle.node_semantics.specs.Node.{NodeState}
-use Rattle.coded_objects.specs.Coded.{Placed}
+use Rattle.node_semantics.specs.Machine.{is_machine_quiet}
+use Rattle.coded_objects.specs.Coded.{Placed, coded}
 use Rattle.coded_objects.proofs.Laws.{code_fits, code_start_sound}
 use Rattle.rendezvous_protocol.specs.declared.packet.Packet.{Packet}
 use Rattle.mesh_routing.specs.Links.{LinksOf}
-use Rattle.pool_machine.proofs.ChangedNodes.{element}
-use Rattle.pool_machine.specs.OnWires.{wires_in}
+use Rattle.node_parts.specs.NodeOf.{NodeOf}
+use Rattle.pool_machine.specs.Parts.{AreOfUnit}
+use Rattle.pool_machine.proofs.ChangedNodes.{are_of_unit, element}
+use Rattle.pool_machine.specs.OnWires.{machine_on, wires_in}
 use Rattle.pool_machine.proofs.NewWires.{made_lossy, sound_start}
 use Rattle.pool_machine.proofs.StartOfMachines.{counts_start, entered_start, root_inside, stands_start, wired_start}
 use Rattle.pool_machine.proofs.machine.Machine.make.Goals as goal
@@ -37,6 +40,22 @@ start_root-requires-clause-empty c =
     let node = c.in-Ok.ensures.each c.root_of-root.result c.index_mut.result.now here in
     ap (λ (x : NodeState Placed). x.slots) node.state
 
+pub is_quiet_now-quiet-requires-clause-units : goal.is_quiet_now-quiet-requires-clause-units
+is_quiet_now-quiet-requires-clause-units c =
+    let root : c.root_of-root.result ≡ root_node (last_place c.args.placement.now.places) = c.root_of-root.ensures ∙ ap (λ (ps : List Place). root_node (last_place ps)) c.items.ensures in
+    let below : c.root_of-root.result < length c.in-Ok.nodes.items =
+    subst (λ i. i < length c.in-Ok.nodes.items) (sym root) (subst (λ n. root_node (last_place c.args.placement.now.places) < n) (sym c.in-Ok.ensures.count) (root_inside c.args.unit.now c.args.placement.now c.requires.suits)) in
+    let here = element c.in-Ok.nodes.items c.root_of-root.result c.index_mut.result.now below c.index_mut.ensures.value in
+    let y = c.start_root.ensures.root in
+    let width : c.in-Ok-make.links.width ≡ c.args.placement.now.width = ap (λ (z : LinksOf Packet). z.width) c.in-Ok-make.ensures ∙ c.make-mesh.ensures.width in
+    let height : c.in-Ok-make.links.height ≡ c.args.placement.now.height = ap (λ (z : LinksOf Packet). z.height) c.in-Ok-make.ensures ∙ c.make-mesh.ensures.height in
+    let cells : c.in-Ok-make.links.cells ≡ c.args.placement.now.cells = ap (λ (z : LinksOf Packet). z.cells) c.in-Ok-make.ensures in
+    let empty : c.in-Ok-make.links.links ≡ [] = ap (λ (z : LinksOf Packet). z.links) c.in-Ok-make.ensures in
+    let kept = wired_start c.args.unit.now c.args.placement.now c.requires.proper c.requires.suits c.in-Ok.nodes.items c.in-Ok.ensures c.root_of-root.result root c.index_mut.result.now here y.0 y.1 c.start_root.new.self y.2 c.start_root.ensures.unit c.in-Ok-make.links width height cells empty
+    c.args.lossy (wires_in c.in-Ok-make_wires.wires) c.make-mesh.result.width (c.make-mesh.result.width * c.make-mesh.result.height) c.make-mesh.ensures.width (ap₂ (λ w h. w * h) c.make-mesh.ensures.width c.make-mesh.ensures.height) c.in-Ok-make_wires.ensures in
+    subst (AreOfUnit c.args.unit.now) (sym c.as_slice.ensures.value)
+    (are_of_unit c.args.unit.now c.args.placement.now (set c.in-Ok.nodes.items c.root_of-root.result c.start_root.new.self) c.in-Ok-make.links kept.parts)
+
 pub invariant_of-result : goal.invariant_of-result
 invariant_of-result c =
     let root : c.root_of-root.result ≡ root_node (last_place c.args.placement.now.places) = c.root_of-root.ensures ∙ ap (λ (ps : List Place). root_node (last_place ps)) c.items.ensures in
@@ -53,6 +72,7 @@ invariant_of-result c =
       table = c.in-Ok-table_of.ensures;
       kept = wired_start c.args.unit.now c.args.placement.now c.requires.proper c.requires.suits c.in-Ok.nodes.items c.in-Ok.ensures c.root_of-root.result root c.index_mut.result.now here y.0 y.1 c.start_root.new.self y.2 c.start_root.ensures.unit c.in-Ok-make.links width height cells empty
           c.args.lossy (wires_in c.in-Ok-make_wires.wires) c.make-mesh.result.width (c.make-mesh.result.width * c.make-mesh.result.height) c.make-mesh.ensures.width (ap₂ (λ w h. w * h) c.make-mesh.ensures.width c.make-mesh.ensures.height) c.in-Ok-make_wires.ensures;
+      quiet = c.is_quiet_now-quiet.ensures ∙ ap (λ (ns : List NodeOf). is_machine_quiet (coded c.args.unit.now) (machine_on ns c.in-Ok-make.links.links (wires_in c.in-Ok-make_wires.wires))) c.as_slice.ensures.value;
       counts = counts_start c.args.unit.now c.args.placement.now c.requires.proper c.requires.suits c.in-Ok.nodes.items c.in-Ok.ensures c.root_of-root.result root c.index_mut.result.now here y.0 y.1 c.start_root.new.self y.2 c.start_root.ensures.unit c.in-Ok-make.links width height cells empty;
       entered = entered_start c.args.unit.now c.args.placement.now c.requires.proper c.requires.suits c.in-Ok.nodes.items c.in-Ok.ensures c.root_of-root.result root c.index_mut.result.now here y.0 y.1 c.start_root.new.self y.2 c.start_root.ensures.unit c.in-Ok-make.links width height cells empty
           c.args.lossy (wires_in c.in-Ok-make_wires.wires) c.make-mesh.result.width (c.make-mesh.result.width * c.make-mesh.result.height) c.make-mesh.ensures.width (ap₂ (λ w h. w * h) c.make-mesh.ensures.width c.make-mesh.ensures.height) c.in-Ok-make_wires.ensures;

@@ -1,7 +1,7 @@
 use Rattle.std.proofs.Common.{ℕ, ◌≤◌, arith, ◌∙◌, ap, refl, sym, subst, List, [], None, replicate, length}
 use Rattle.coded_objects.specs.Coded.{coded}
 use Rattle.node_semantics.specs.Machine.{empty_node}
-use Rattle.object_code.specs.declared.unit.ClassCode.{ClassCode}
+use Rattle.code_semantics.specs.declared.unit.ClassCode.{ClassCode}
 use Rattle.pool_node.proofs.Fresh.{fresh_view, fresh_whole}
 use Rattle.pool_node.proofs.Telling.{most_small}
 use Rattle.pool_node.proofs.node.Node.make.Goals as goal

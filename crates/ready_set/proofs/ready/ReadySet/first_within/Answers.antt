@@ -1,48 +1,39 @@
-use Rattle.std.proofs.Common.{rules, ◌≡◌, ◌≤◌, ◌+◌, ◌*◌, ◌/◌, ◌%◌, min, false, is_some, length, take, ap, subst, ◌∙◌, ℕ, List, Bool}
+use Rattle.std.proofs.Common.{◌≡◌, ◌≤◌, ◌*◌, ap, subst, ◌∙◌, ℕ, take, length, List, Bool, arith}
 use Rattle.ready_set.specs.Bits.{first_bit_from}
-use Rattle.ready_set.specs.Counts.{AreZero, IsNextBlock}
-use Rattle.ready_set.proofs.Blocks.{found_here, found_nowhere, found_later}
+use Rattle.ready_set.specs.Words.{AreClear, IsFirstSet}
+use Rattle.ready_set.proofs.Passing.{past_end}
+use Rattle.ready_set.proofs.Words.{none_within, first_within, has_room}
 use Rattle.ready_set.proofs.ready.ReadySet.first_within.Goals as goal
 
-pub returns-then-is_some : goal.returns-then-is_some
-returns-then-is_some c =
-    let bits = c.self.inside.bits.items in
-    let h : c.args.end ≤ length bits = search rules in
-    let o : c.first_in_range-here.result ≡ first_bit_from c.args.from (take (min (c.args.from / 64 * 64 + 64) c.args.end) bits) = search rules in
-    found_here bits c.self.inside.counts.items c.self.invariant c.args.from c.args.end h c.first_in_range-here.result o (search rules)
-    ∙ ap (λ (b : List Bool). first_bit_from c.args.from (take c.args.end b)) c.self.view_is
+pub returns-then-from-end : goal.returns-then-from-end
+returns-then-from-end c = past_end c.args.self.now c.args.from c.args.end c.if-from-end.true
+
+pub first_from-requires-clause-end : goal.first_from-requires-clause-end
+first_from-requires-clause-end c =
+    let room : c.args.end ≤ c.self.inside.slots = has_room c.self.inside.words.items c.self.inside.slots c.args.end c.args.self.now c.self.view_is c.requires in
+    let words : length c.as_slice.result.now ≡ length c.self.inside.words.items = ap (λ (ws : List ℕ). length ws) c.as_slice.ensures.value in
+    omega (arith, room, words, c.self.invariant, c.div_ceil.ensures)
 
 pub returns-in-Some : goal.returns-in-Some
 returns-in-Some c =
-    let bits = c.self.inside.bits.items in
-    let counts = c.self.inside.counts.items in
-    let from = c.args.from in
-    let end = c.args.end in
-    let h : end ≤ length bits = search rules in
-    let o : c.first_in_range-here.result ≡ first_bit_from from (take (min (from / 64 * 64 + 64) end) bits) = search rules in
-    let s : is_some c.first_in_range-here.result ≡ false = search rules in
-    let seen : IsNextBlock c.as_slice-counts.result.now (from / 64 + 1) c.div_ceil.result c.in-Some.block = c.in-Some.ensures in
-    let read : IsNextBlock counts (from / 64 + 1) c.div_ceil.result c.in-Some.block =
-    subst (λ (cs : List ℕ). IsNextBlock cs (from / 64 + 1) c.div_ceil.result c.in-Some.block) c.as_slice-counts.ensures.value seen in
-    let next : IsNextBlock counts (from / 64 + 1) (end / 64 + min 1 (end % 64)) c.in-Some.block =
-    subst (λ (top : ℕ). IsNextBlock counts (from / 64 + 1) top c.in-Some.block) c.div_ceil.ensures read in
-    let p : c.first_in_range.result ≡ first_bit_from (c.in-Some.block * 64) (take (min (c.in-Some.block * 64 + 64) end) bits) = search rules in
-    found_later bits counts c.self.invariant from end h c.in-Some.block next c.first_in_range-here.result c.first_in_range.result o s p
-    ∙ ap (λ (b : List Bool). first_bit_from from (take end b)) c.self.view_is
+    let words = c.self.inside.words.items in
+    let room : c.args.end ≤ c.self.inside.slots = has_room words c.self.inside.slots c.args.end c.args.self.now c.self.view_is c.requires in
+    let first : IsFirstSet words c.args.from c.in-Some.slot = subst (λ (ws : List ℕ). IsFirstSet ws c.args.from c.in-Some.slot) c.as_slice.ensures.value c.in-Some.ensures in
+    first_within words c.args.from c.args.end c.self.inside.slots room c.in-Some.slot first c.if-slot-end.true
+    ∙ ap (λ (bs : List Bool). first_bit_from c.args.from (take c.args.end bs)) c.self.view_is
 
-pub returns-in-None : goal.returns-in-None
-returns-in-None c =
-    let bits = c.self.inside.bits.items in
-    let counts = c.self.inside.counts.items in
-    let from = c.args.from in
-    let end = c.args.end in
-    let h : end ≤ length bits = search rules in
-    let o : c.first_in_range-here.result ≡ first_bit_from from (take (min (from / 64 * 64 + 64) end) bits) = search rules in
-    let s : is_some c.first_in_range-here.result ≡ false = search rules in
-    let seen : AreZero c.as_slice-counts.result.now (from / 64 + 1) c.div_ceil.result = c.in-None.ensures in
-    let read : AreZero counts (from / 64 + 1) c.div_ceil.result =
-    subst (λ (cs : List ℕ). AreZero cs (from / 64 + 1) c.div_ceil.result) c.as_slice-counts.ensures.value seen in
-    let zero : AreZero counts (from / 64 + 1) (end / 64 + min 1 (end % 64)) =
-    subst (λ (top : ℕ). AreZero counts (from / 64 + 1) top) c.div_ceil.ensures read in
-    found_nowhere bits counts c.self.invariant from end h c.first_in_range-here.result o s zero
-    ∙ ap (λ (b : List Bool). first_bit_from from (take end b)) c.self.view_is
+pub returns-in_default : goal.returns-in_default
+returns-in_default c =
+    let words = c.self.inside.words.items in
+    let room : c.args.end ≤ c.self.inside.slots = has_room words c.self.inside.slots c.args.end c.args.self.now c.self.view_is c.requires in
+    let first : IsFirstSet words c.args.from c.in-Some.slot = subst (λ (ws : List ℕ). IsFirstSet ws c.args.from c.in-Some.slot) c.as_slice.ensures.value c.in-Some.ensures in
+    none_within words c.args.from c.args.end c.self.inside.slots room (λ place a b. first.passed place a (omega (arith, b, c.if-slot-end.false)))
+    ∙ ap (λ (bs : List Bool). first_bit_from c.args.from (take c.args.end bs)) c.self.view_is
+
+pub returns-in_default-2 : goal.returns-in_default-2
+returns-in_default-2 c =
+    let words = c.self.inside.words.items in
+    let room : c.args.end ≤ c.self.inside.slots = has_room words c.self.inside.slots c.args.end c.args.self.now c.self.view_is c.requires in
+    let clear : AreClear words c.args.from (c.div_ceil.result * 64) = subst (λ (ws : List ℕ). AreClear ws c.args.from (c.div_ceil.result * 64)) c.as_slice.ensures.value c.in_default.ensures in
+    none_within words c.args.from c.args.end c.self.inside.slots room (λ place a b. clear place a (omega (arith, b, c.div_ceil.ensures)))
+    ∙ ap (λ (bs : List Bool). first_bit_from c.args.from (take c.args.end bs)) c.self.view_is

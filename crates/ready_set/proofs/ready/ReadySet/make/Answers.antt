@@ -1,11 +1,9 @@
-use Rattle.std.proofs.Common.{rules, ◌≡◌, sym, subst, ℕ, false, replicate, List, Bool}
-use Rattle.ready_set.specs.Counts.{AreCounts}
-use Rattle.ready_set.proofs.Counting.{counts_made}
+use Rattle.std.proofs.Common.{rules, ◌≡◌, ap, ◌∙◌, ℕ, replicate, List}
+use Rattle.ready_set.specs.Words.{bits_of}
+use Rattle.ready_set.proofs.Words.{bits_made}
 use Rattle.ready_set.proofs.ready.ReadySet.make.Goals as goal
 
-pub invariant_of-result : goal.invariant_of-result
-invariant_of-result c =
-    let bits : c.in_ok-bits.bits.items ≡ replicate c.args.slots false = search rules in
-    let counts : c.in_ok-counts.counts.items ≡ replicate c.div_ceil.result 0 = search rules in
-    subst (λ (b : List Bool). AreCounts b c.in_ok-counts.counts.items) (sym bits)
-    (subst (λ (n : List ℕ). AreCounts (replicate c.args.slots false) n) (sym counts) (counts_made c.args.slots c.div_ceil.result c.div_ceil.ensures))
+pub returns : goal.returns
+returns c =
+    let words : c.in_ok-words.words.items ≡ replicate c.div_ceil.result 0 = search rules in
+    ap (λ (ws : List ℕ). bits_of ws c.args.slots) words ∙ bits_made c.div_ceil.result c.args.slots

@@ -1,49 +1,25 @@
-use Rattle.std.proofs.Common.{rules, arith, ◌≡◌, ◌<◌, ◌∙◌, sym, subst, ℕ, ◌+◌, ◌-◌, ◌/◌, true, false, length, get_or, set, Bool}
+use Rattle.std.proofs.Common.{◌≡◌, suc, ◌<◌, ◌/◌, ap, ◌∙◌, ℕ, set, get_or, length, List, Bool, arith}
+use Rattle.std.specs.Int.{bit_at}
 use Rattle.std.proofs.lemmas.List.{get_or_read}
-use Rattle.ready_set.specs.Counts.{AreCounts}
-use Rattle.ready_set.proofs.Counting.{has_count, count_fits, count_there, counts_raised, counts_lowered}
+use Rattle.ready_set.proofs.Words.{bits_changed, has_word, has_room}
 use Rattle.ready_set.proofs.ready.ReadySet.set.Goals as goal
 
-pub overflow_add-index_mut : goal.overflow_add-index_mut
-overflow_add-index_mut c =
-    let bits = c.self.inside.bits.items in
-    let counts = c.self.inside.counts.items in
-    let h : c.args.slot < length bits = search rules in
-    let n : c.index_mut-then-ready.result.now ≡ get_or counts (c.args.slot / 64) 0 =
-    get_or_read counts (c.args.slot / 64) c.index_mut-then-ready.result.now (has_count bits counts c.args.slot c.self.invariant h) c.index_mut-then-ready.ensures.value 0 in
-    omega (arith, n, count_fits bits counts c.args.slot c.self.invariant h)
+pub index-requires : goal.index-requires
+index-requires c =
+    let there : c.args.slot / 64 < length c.self.inside.words.items = has_word c.self.inside.words.items c.self.inside.slots c.args.slot c.args.self.now c.self.invariant c.self.view_is c.requires in
+    omega (arith, there, c.self.inside.words.ok)
 
-pub invariant_of-self : goal.invariant_of-self
-invariant_of-self c =
-    let bits = c.self.inside.bits.items in
-    let counts = c.self.inside.counts.items in
-    let h : c.args.slot < length bits = search rules in
-    let n : c.index_mut-then-ready.result.now ≡ get_or counts (c.args.slot / 64) 0 =
-    get_or_read counts (c.args.slot / 64) c.index_mut-then-ready.result.now (has_count bits counts c.args.slot c.self.invariant h) c.index_mut-then-ready.ensures.value 0 in
-    let read : c.index.result.now ≡ false = search rules in
-    let was : get_or bits c.args.slot false ≡ false = sym (get_or_read bits c.args.slot c.index.result.now h c.index.ensures false) ∙ read in
-    subst (λ (y : Bool). AreCounts (set bits c.args.slot y) (set counts (c.args.slot / 64) (c.index_mut-then-ready.result.now + 1))) (sym c.if-ready.true)
-    (subst (λ (k : ℕ). AreCounts (set bits c.args.slot true) (set counts (c.args.slot / 64) (k + 1))) (sym n) (counts_raised bits counts c.args.slot c.self.invariant h was))
+pub index_mut-requires : goal.index_mut-requires
+index_mut-requires c =
+    let there : c.args.slot / 64 < length c.self.inside.words.items = has_word c.self.inside.words.items c.self.inside.slots c.args.slot c.args.self.now c.self.invariant c.self.view_is c.requires in
+    omega (arith, there, c.self.inside.words.ok)
 
-pub overflow_sub-index_mut : goal.overflow_sub-index_mut
-overflow_sub-index_mut c =
-    let bits = c.self.inside.bits.items in
-    let counts = c.self.inside.counts.items in
-    let h : c.args.slot < length bits = search rules in
-    let n : c.index_mut-else-ready.result.now ≡ get_or counts (c.args.slot / 64) 0 =
-    get_or_read counts (c.args.slot / 64) c.index_mut-else-ready.result.now (has_count bits counts c.args.slot c.self.invariant h) c.index_mut-else-ready.ensures.value 0 in
-    let read : c.index.result.now ≡ true = search rules in
-    let was : get_or bits c.args.slot false ≡ true = sym (get_or_read bits c.args.slot c.index.result.now h c.index.ensures false) ∙ read in
-    omega (arith, n, count_there bits counts c.args.slot c.self.invariant h was)
-
-pub invariant_of-self-else-ready : goal.invariant_of-self-else-ready
-invariant_of-self-else-ready c =
-    let bits = c.self.inside.bits.items in
-    let counts = c.self.inside.counts.items in
-    let h : c.args.slot < length bits = search rules in
-    let n : c.index_mut-else-ready.result.now ≡ get_or counts (c.args.slot / 64) 0 =
-    get_or_read counts (c.args.slot / 64) c.index_mut-else-ready.result.now (has_count bits counts c.args.slot c.self.invariant h) c.index_mut-else-ready.ensures.value 0 in
-    let read : c.index.result.now ≡ true = search rules in
-    let was : get_or bits c.args.slot false ≡ true = sym (get_or_read bits c.args.slot c.index.result.now h c.index.ensures false) ∙ read in
-    subst (λ (y : Bool). AreCounts (set bits c.args.slot y) (set counts (c.args.slot / 64) (c.index_mut-else-ready.result.now - 1))) (sym c.if-ready.false)
-    (subst (λ (k : ℕ). AreCounts (set bits c.args.slot false) (set counts (c.args.slot / 64) (k - 1))) (sym n) (counts_lowered bits counts c.args.slot c.self.invariant h was))
+pub returns : goal.returns
+returns c =
+    let words = c.self.inside.words.items in
+    let there : c.args.slot / 64 < length words = has_word words c.self.inside.slots c.args.slot c.args.self.now c.self.invariant c.self.view_is c.requires in
+    let word : c.index.result.now ≡ get_or words (c.args.slot / 64) 0 = get_or_read words (c.args.slot / 64) c.index.result.now there c.index.ensures 0 in
+    bits_changed words c.self.inside.slots c.args.slot c.with_bit.result c.args.ready c.self.invariant
+    (has_room words c.self.inside.slots (suc c.args.slot) c.args.self.now c.self.view_is c.requires) c.with_bit.ensures.same
+    (λ i l n. c.with_bit.ensures.others i l n ∙ ap (λ (w : ℕ). bit_at w i) word)
+    ∙ ap (λ (bs : List Bool). set bs c.args.slot c.args.ready) c.self.view_is

@@ -3,10 +3,11 @@ use Rattle.coded_objects.specs.Coded.{coded}
 use Rattle.rendezvous_protocol.specs.Packets.{numbered}
 use Rattle.node_parts.specs.NodeOf.{NodeOf}
 use Rattle.node_parts.specs.Views.{node_of}
+use Rattle.pool_node.specs.ActOf.{act_of}
 use Rattle.pool_node.proofs.Counts.{made_after}
-use Rattle.pool_node.proofs.node.Node.receive.Goals as goal
+use Rattle.pool_node.proofs.node.Node.receive_in.Goals as goal
 
 pub returns-clause-made : goal.returns-clause-made
 returns-clause-made c =
-    made_after (coded c.args.unit.now) c.args.placement.now c.self.inside.parts.id c.args.leaving (numbered c.args.packet) c.receipt_of.result
+    made_after (coded c.args.unit.now) c.args.placement.now c.self.inside.parts.id c.args.leaving (numbered c.args.packet) (act_of c.receipt_of.result c.receipt_of.new.room)
     (node_of c.self.inside.parts) (node_of c.receipt_of.new.parts) c.receipt_of.ensures.act ∙ ap (λ (n : NodeOf). n.state.made) c.self.view_is

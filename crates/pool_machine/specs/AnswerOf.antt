@@ -1,0 +1,26 @@
+-- What an event did, and how a call tells it with the room that is lent for it.
+use Rattle.std.specs.Prelude.{ℕ}
+use Rattle.run_words.specs.declared.words.Event.{Event}
+use Rattle.run_words.specs.declared.words.What.{What}
+use Rattle.run_words.specs.declared.words.Line.{Line as OneLine}
+use Rattle.run_words.specs.declared.words.Line.TheVariants as R
+use Rattle.run_words.specs.declared.words.FullKind.{FullKind}
+use Rattle.pool_machine.specs.declared.words.EventTold.{EventTold}
+use Rattle.pool_machine.specs.declared.words.EventTold.TheVariants as T
+use Rattle.pool_machine.specs.declared.words.Outcome.{Outcome}
+use Rattle.pool_machine.specs.declared.words.Outcome.TheVariants as O
+
+-- its line; or nothing, since it would pass this limit of a node
+pub data Answer : Type 0 where
+  Line : (line : OneLine) → Answer
+  Full : (kind : FullKind) (node : ℕ) → Answer
+
+-- what is told of an event with this in the room
+abbrev pub answer_of : EventTold → Event → What → Answer
+answer_of (T.Line number) event what = Line (R.Event number event what)
+answer_of (T.Full kind node) event what = Full kind node
+
+-- what is told as one value
+abbrev pub answer_seen : Outcome → Answer
+answer_seen (O.Line line) = Line line
+answer_seen (O.Full kind node) = Full kind node

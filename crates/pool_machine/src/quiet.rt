@@ -1,0 +1,54 @@
+//! Whether all of a machine is quiet.
+ghost use Rattle.std.specs.Prelude.{◌≡◌, None, true};
+ghost use Rattle.run_words.specs.Tables.{no_entry_empty};
+ghost use Rattle.run_words.specs.declared.words.What.TheVariants as W;
+ghost use Rattle.coded_objects.specs.Coded.{coded};
+ghost use Rattle.node_semantics.specs.Machine.{is_machine_quiet};
+ghost use Rattle.pool_machine.specs.Parts.{AreOfUnit};
+ghost use Rattle.pool_machine.specs.OnWires.{machine_on, wires_in};
+
+use crate::report::can_step;
+use crate::wires::{Wires, is_acknowledged};
+use code_semantics::Unit;
+use mesh_routing::Links;
+use pool_node::Node;
+use rendezvous_protocol::Packet;
+use run_words::What;
+
+/// Whether no packet is on a link, all that wires handed out is acknowledged, and no object can step.
+pub(crate) fn is_quiet_now(
+    unit: &Unit,
+    nodes: &[Node],
+    links: &Links<Packet>,
+    wires: &Option<Wires>,
+) -> bool
+    requires units { AreOfUnit unit.now nodes.now }
+    requires filled { no_entry_empty links.now.links ≡ true }
+    ensures { result ≡ is_machine_quiet (coded unit.now) (machine_on nodes.now links.now.links (wires_in wires.now)) }
+{
+    links.is_empty() && is_acknowledged(wires) && !can_step(unit, nodes)
+}
+
+/// The same after an event with this line, where it was told before the event: an idle line changes nothing. Over wires it is
+/// looked for anew.
+pub(crate) fn quiet_after(
+    unit: &Unit,
+    nodes: &[Node],
+    links: &Links<Packet>,
+    wires: &Option<Wires>,
+    what: &What,
+    before: bool,
+) -> bool
+    requires units { AreOfUnit unit.now nodes.now }
+    requires filled { no_entry_empty links.now.links ≡ true }
+    ensures { (wires_in wires.now ≡ None → what.now ≡ W.Idle → before ≡ is_machine_quiet (coded unit.now) (machine_on nodes.now links.now.links (wires_in wires.now)))
+        → result ≡ is_machine_quiet (coded unit.now) (machine_on nodes.now links.now.links (wires_in wires.now)) }
+{
+    match wires {
+        Some(_) => is_quiet_now(unit, nodes, links, wires),
+        None => match *what {
+            What::Idle => before,
+            _ => is_quiet_now(unit, nodes, links, wires),
+        },
+    }
+}
