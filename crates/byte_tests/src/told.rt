@@ -1,9 +1,10 @@
 //! What the layers say of bytes.
-ghost use Rattle.object_code.specs.Shaped.{IsShaped, IsShort};
+ghost use Rattle.code_semantics.specs.Shaped.{IsShaped, IsShort};
 
+use code_semantics::UnitFile;
 use code_verify::{VerifyFault, verify};
 use file_judge::Told;
-use object_code::{CodeFault, UnitFile, decode, encode};
+use object_code::{CodeFault, decode, encode};
 use pool_outside::MemSink;
 use std::alloc::{AllocError, Global};
 

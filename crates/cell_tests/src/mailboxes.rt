@@ -2,7 +2,7 @@
 ghost use Rattle.std.specs.Prelude.{◌≡◌, ◌<◌, length};
 
 use mailbox::{Mailbox, Message};
-use pool_syntax::{Args, List, NameId, Value};
+use run_words::{Args, List, NameId, Value};
 use std::test::Fail;
 
 fn message(from: u32, method: u32, call: Option<u32>) -> Message {

@@ -1,7 +1,7 @@
 -- The command line as `clap` has it, and what its matches ask for.
 use Rattle.std.specs.Prelude.{List, Option, Some, None, option_map, option_and_then, true, codes, bytes_eq, if◌then◌else◌}
-use Rattle.pool_syntax.specs.Tokens.{Text}
-use Rattle.pool_lexer.specs.Lines.{decimal_of}
+use Rattle.run_words.specs.Text.{Text}
+use Rattle.run_words.specs.Lines.{decimal_of}
 use Rattle.clap.specs.Words.{App, Row, Rule, Shape, first_of, new_app, new_rule, with_rule, with_subcommand}
 use Rattle.clap.specs.Simple.{on_top}
 use Rattle.command_words.specs.Commands.{Request, ask_of, of_check, of_convert, of_load, of_program, of_ring, of_run, ring_size, show_of}
@@ -30,7 +30,8 @@ settings s = record s { no_binary_name = true; disable_help_flag = true; disable
 
 abbrev pub pool_app : App
 pool_app =
-    with_subcommand (with_subcommand (with_subcommand (with_subcommand (with_subcommand (with_subcommand (with_subcommand (with_subcommand (with_subcommand (with_subcommand (on_top settings (new_app (codes "pool")))
+    with_subcommand (with_subcommand (with_subcommand (with_subcommand (with_subcommand
+    (with_subcommand (with_subcommand (with_subcommand (with_subcommand (with_subcommand (on_top settings (new_app (codes "pool")))
     (files_app (codes "record")).top) (files_app (codes "run")).top) (files_app (codes "why")).top)
     (word_app (codes "print") (codes "program")).top) (word_app (codes "code") (codes "program")).top)
     (word_app (codes "ring") (codes "cells")).top) (word_app (codes "convert") (codes "record")).top)

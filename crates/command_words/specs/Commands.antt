@@ -1,9 +1,9 @@
 -- The words of a command.
 use Rattle.std.specs.Prelude.{ℕ, List, [], ◌∷◌, ◌&&◌, ◌≤◌, nat_le, Option, Some, None, option_map, Bool, false, not, if◌then◌else◌, bytes_eq, codes, nat_eq, map, string_bytes, String}
-use Rattle.pool_syntax.specs.Tokens.{Text}
-use Rattle.pool_lexer.specs.Lines.{decimal_of}
-use Rattle.pool_lexer.specs.declared.places.Decimal.{Decimal}
-use Rattle.pool_lexer.specs.declared.places.Decimal.TheVariants as Number
+use Rattle.run_words.specs.Text.{Text}
+use Rattle.run_words.specs.Lines.{decimal_of}
+use Rattle.run_words.specs.declared.places.Decimal.{Decimal}
+use Rattle.run_words.specs.declared.places.Decimal.TheVariants as Number
 use Rattle.command_words.specs.declared.command.Show.{Show}
 use Rattle.command_words.specs.declared.command.Show.TheVariants as Sh
 use Rattle.command_words.specs.declared.command.Ask.{Ask}

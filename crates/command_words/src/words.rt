@@ -4,13 +4,14 @@ ghost use Rattle.std.specs.List.{list_any};
 ghost use Rattle.clap.specs.Words.{app_of, first_of, found_of, rows_of, rule_of, subcommand_rows_of};
 ghost use Rattle.clap.specs.declared.builder.Command.TheViews.{out-Command as fields_of};
 ghost use Rattle.command_words.specs.Commands.{IsSized, is_option, request, request_of, ring_size, texts_of};
-ghost use Rattle.command_words.specs.CommandLine.{check_request, checked_app, convert_request, files_app, load_request, matched_request, pool_app, positional, program_request, ring_request, run_request, word_app};
-ghost use Rattle.pool_lexer.specs.Lines.{decimal_of};
+ghost use Rattle.command_words.specs.CommandLine.{check_request, checked_app, convert_request, files_app, load_request, matched_request, pool_app, positional, program_request, ring_request};
+ghost use Rattle.command_words.specs.CommandLine.{run_request, word_app};
+ghost use Rattle.run_words.specs.Lines.{decimal_of};
 
 use crate::command::{Ask, Command, Files, Show};
 use clap::error::ErrorKind;
 use clap::{Arg, ArgMatches};
-use pool_lexer::{Decimal, decimal};
+use run_words::{Decimal, decimal};
 use std::alloc::{AllocError, Global};
 
 /// The numbers of cells of a ring.

@@ -1,6 +1,6 @@
 -- The lines on the error sink.
 use Rattle.std.specs.Prelude.{[], ◌++◌, codes, decimal}
-use Rattle.pool_syntax.specs.Tokens.{Text}
+use Rattle.run_words.specs.Text.{Text}
 use Rattle.pool_syntax.specs.declared.token.LexFault.{LexFault}
 use Rattle.pool_syntax.specs.declared.token.LexFault.TheVariants as Lex
 use Rattle.pool_parser.specs.declared.fault.SyntaxFault.{SyntaxFault}

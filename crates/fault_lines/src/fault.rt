@@ -1,6 +1,7 @@
 //! Why an input was refused, and the line that says so.
 ghost use Rattle.std.specs.Prelude.{◌≡◌, ◌++◌, OnOk, IfOk, decimal};
-ghost use Rattle.fault_lines.specs.FaultText.{class_fault_text, fault_text, input_text, lex_fault_text, placement_fault_text, record_fault_text, refusal_line, schedule_fault_text, syntax_fault_text, unit_fault_text, unread_line};
+ghost use Rattle.fault_lines.specs.FaultText.{class_fault_text, fault_text, input_text, lex_fault_text, placement_fault_text, record_fault_text, refusal_line, schedule_fault_text, syntax_fault_text};
+ghost use Rattle.fault_lines.specs.FaultText.{unit_fault_text, unread_line};
 
 use class_check::ClassFault;
 use itoa::Buffer;

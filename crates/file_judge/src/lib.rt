@@ -1,5 +1,5 @@
 //! A small reader and a small judge of object code files, for tests alone: written from the rules of the format, they know nothing
-//! of `object_code` and `code_verify`.
+//! of `code_semantics` and `code_verify`.
 #![tactic(auto)]
 
 mod bytes;

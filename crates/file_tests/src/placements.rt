@@ -5,12 +5,12 @@ use crate::placement_rows::{
 };
 use crate::rows::{MOST_BYTES, bytes_of, push_wrong, spread};
 use class_check::check;
-use object_code::Unit;
+use code_semantics::Unit;
 use placement_reader::{PlacementFault, read_placement};
 use pool_compile::compile;
 use pool_lexer::tokens;
 use pool_parser::parse;
-use pool_syntax::{Place, Placement};
+use run_words::{Place, Placement};
 use std::alloc::{AllocError, Global};
 use std::test::Fail;
 

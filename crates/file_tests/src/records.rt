@@ -2,10 +2,10 @@
 use crate::line_rows::{DELAYS, EVENTS, STEPS};
 use crate::record_rows::RECORDS;
 use crate::rows::{MOST_BYTES, bytes_of, push_wrong};
-use pool_syntax::{
+use run_record::{RecordFault, label_of, read_record};
+use run_words::{
     Args, End, Error, Event, FullKind, Item, Label, Line, Names, Value, What, WireAct,
 };
-use run_record::{RecordFault, label_of, read_record};
 use std::alloc::{AllocError, Global};
 use std::test::Fail;
 

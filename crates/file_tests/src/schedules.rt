@@ -5,7 +5,7 @@ use crate::rows::{MOST_BYTES, bytes_of, push_wrong, spread};
 use crate::schedule_rows::{
     AROUND_A_CUT, ENDS, EVENTS, LINKS, MANY, PAIRS, QUANTA, ROUNDS, TURNS, WIRE_FAULTS, WIRES,
 };
-use pool_syntax::{Event, LinkId, List, Placement, WireAct};
+use run_words::{Event, LinkId, List, Placement, WireAct};
 use schedule_reader::{Schedule, ScheduleFault, read_schedule};
 use std::alloc::{AllocError, Global};
 use std::test::Fail;

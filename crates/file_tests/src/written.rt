@@ -4,10 +4,8 @@ ghost use Rattle.record_lines.specs.Writable.{id_of_item, id_of_label, id_of_lin
 
 use crate::rows::spread;
 use pool_outside::MemSink;
-use pool_syntax::{
-    Args, End, Error, Event, FullKind, Item, Label, Line, NameId, Names, Value, What,
-};
 use run_record::write_line;
+use run_words::{Args, End, Error, Event, FullKind, Item, Label, Line, NameId, Names, Value, What};
 use std::alloc::{AllocError, Global};
 use std::test::Fail;
 

@@ -5,7 +5,8 @@ ghost use Rattle.pool_syntax.specs.Terms.{Done};
 
 use pool_outside::MemSink;
 use pool_printer::print;
-use pool_syntax::{ClassDecl, List, NameId, Named, Names, Program};
+use pool_syntax::{ClassDecl, Named, Program};
+use run_words::{List, NameId, Names};
 use std::alloc::Global;
 use std::test::Fail;
 

@@ -1,5 +1,5 @@
 //! Names, lists and arguments.
-use pool_syntax::{Args, List, Names, Value};
+use run_words::{Args, List, Names, Value};
 
 #[test]
 fn numbers_texts_and_collects_values(rt: HostRuntime) {

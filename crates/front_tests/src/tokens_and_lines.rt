@@ -1,6 +1,7 @@
 //! Texts whose tokens, faults, lines, words and numbers were written down by hand.
-use pool_lexer::{Decimal, decimal, next_line, next_word, tokens};
-use pool_syntax::{Keyword, LexFault, NameId, Sign, Tok, Token};
+use pool_lexer::tokens;
+use pool_syntax::{LexFault, Sign, Tok, Token};
+use run_words::{Decimal, Keyword, NameId, decimal, next_line, next_word};
 
 // Whether this token stands at this byte.
 fn is_token(token: &Token, at: u32, tok: Tok) -> bool {

@@ -1,6 +1,6 @@
 -- The words of a line that has one to four.
 use Rattle.std.specs.Prelude.{◌≡◌, ◌<◌, List, [], ◌∷◌, length}
-use Rattle.pool_syntax.specs.Tokens.{Text}
+use Rattle.run_words.specs.Text.{Text}
 use Rattle.input_lines.specs.declared.kept.Few.{Few}
 use Rattle.input_lines.specs.declared.kept.Few.TheVariants as F
 

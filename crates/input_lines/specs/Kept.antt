@@ -1,9 +1,9 @@
 -- The lines of a placement or a schedule that are not passed over, with their numbers from 1, and the numbers that words spell.
 use Rattle.std.specs.Prelude.{ℕ, ◌+◌, List, [], ◌∷◌, Option, Some, None, Bool, true, false, not, nat_eq}
-use Rattle.pool_syntax.specs.Tokens.{Text}
-use Rattle.pool_lexer.specs.Lines.{lines, words, decimal_of}
-use Rattle.pool_lexer.specs.declared.places.Decimal.{Decimal}
-use Rattle.pool_lexer.specs.declared.places.Decimal.TheVariants.{NotDigits, TooLarge, Value}
+use Rattle.run_words.specs.Text.{Text}
+use Rattle.run_words.specs.Lines.{lines, words, decimal_of}
+use Rattle.run_words.specs.declared.places.Decimal.{Decimal}
+use Rattle.run_words.specs.declared.places.Decimal.TheVariants.{NotDigits, TooLarge, Value}
 
 abbrev pub begins_with_hash : Text → Bool
 begins_with_hash [] = false

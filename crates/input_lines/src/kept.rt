@@ -1,10 +1,10 @@
 //! The lines that are not passed over, and their words.
 ghost use Rattle.std.specs.Prelude.{◌≡◌, ◌+◌, ◌<◌, ◌≤◌, ◌∷◌, [], length, drop, slice_range, IfSome, IfNone};
-ghost use Rattle.pool_lexer.specs.Lines.{lines, words};
+ghost use Rattle.run_words.specs.Lines.{lines, words};
 ghost use Rattle.input_lines.specs.Few.{AreWords};
 ghost use Rattle.input_lines.specs.Kept.{begins_with_hash, is_kept, kept_from, number_of};
 
-use pool_lexer::{Decimal, decimal, next_line, next_word};
+use run_words::{Decimal, decimal, next_line, next_word};
 
 /// A line that is not passed over: its bytes are those from `start` to `end`, the next line begins at `next`, and its number, from 1, is `line`.
 #[derive(Clone, Copy)]
@@ -42,7 +42,9 @@ pub fn next_kept(bytes: &[u8], from: usize, line: u32) -> Option<KeptLine>
     ensures ordered { IfSome result (λ at. (at.start ≤ at.end) × (at.end ≤ at.next) × (at.next ≤ length bytes.now)) }
     ensures forward { IfSome result (λ at. from < at.next) }
     ensures few { IfSome result (λ at. at.line ≤ at.next) }
-    ensures line { IfSome result (λ at. kept_from line (lines (drop from bytes.now)) ≡ record { line = at.line; words = words (slice_range bytes.now at.start at.end) } ∷ kept_from (at.line + 1) (lines (drop at.next bytes.now))) }
+    ensures line { IfSome result
+        (λ at. kept_from line (lines (drop from bytes.now))
+        ≡ record { line = at.line; words = words (slice_range bytes.now at.start at.end) } ∷ kept_from (at.line + 1) (lines (drop at.next bytes.now))) }
     ensures none { IfNone result (kept_from line (lines (drop from bytes.now)) ≡ []) }
 {
     let mut at = from;

@@ -2,7 +2,7 @@
 use Rattle.std.proofs.Common.{◌≡◌, refl, ap, ◌∙◌, ℕ, suc, ◌+◌, ◌<◌, List, [], ◌∷◌, ◌++◌, length, get_or, IsTrue, arith}
 use Rattle.std.specs.Ordering.{nat_cmp, is_lt}
 use Rattle.std.specs.FinMap.Entries.{is_sorted, below_all}
-use Rattle.mesh_semantics.proofs.Laws.{both}
+use Rattle.run_words.proofs.Laws.{both}
 use Rattle.pool_relation.specs.Action.{Object}
 use Rattle.kept_configurations.specs.Numbers.{no_object, objects_from, AreNamedFrom}
 

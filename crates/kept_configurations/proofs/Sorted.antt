@@ -9,7 +9,7 @@ use Rattle.std.specs.BTreeMap.{insert_entry}
 use Rattle.std.specs.FinMap.Entries.{is_sorted, below_all}
 use Rattle.std.specs.List.{AllByRecursion}
 use Rattle.std.specs.List.Sorted.{IsStrictlySortedBy}
-use Rattle.mesh_semantics.proofs.Laws.{first, second, both}
+use Rattle.run_words.proofs.Laws.{first, second, both}
 
 module _ {K X Y : Type 0} (cmp : K → K → Ordering) (f : X → Y) where
   below : (k : K) (es : List (K × X)) → AllByRecursion (λ y. cmp k y ≡ Less) (keys_of es) → IsTrue (below_all cmp k (map (λ (e : K × X). (e.0, f e.1)) es))

@@ -3,15 +3,16 @@ use Rattle.std.proofs.Common.{◌≡◌, sym, ap, ap₂, subst, ◌∙◌, ℕ, 
 use Rattle.std.specs.declared.collections.VecDeque.{VecDeque}
 use Rattle.std.specs.Global.{Global}
 use Rattle.std.specs.Ordering.{nat_cmp}
-use Rattle.std.specs.Cmp.{IsTotalOrder, nat_cmp_total, on_total, then_total}
+use Rattle.std.specs.Cmp.{nat_cmp_total}
 use Rattle.std.specs.List.{All, slice_get}
 use Rattle.std.specs.BTreeMap.{insert_entry}
 use Rattle.std.specs.FinMap.Entries.{is_sorted}
 use Rattle.std.proofs.lemmas.List.{append_assoc, length-take, take_more, take-append-drop, drop_more, map-append}
 use Rattle.std.proofs.lemmas.List.Elements.{All-push}
 use Rattle.std.proofs.lemmas.Option.{get_or_from_slice_get, slice_get_within}
-use Rattle.mesh_semantics.specs.Message.{Message}
-use Rattle.mesh_semantics.specs.Tables.{Pair, pair_cmp}
+use Rattle.run_words.proofs.Laws.{pair_total}
+use Rattle.run_words.specs.Message.{Message}
+use Rattle.run_words.specs.Tables.{Pair, pair_cmp}
 use Rattle.pool_relation.specs.Action.{Object}
 use Rattle.plain_object.specs.declared.thing.Thing.{Thing}
 use Rattle.plain_object.specs.Things.{thing_object, things}
@@ -50,9 +51,6 @@ objects_step xs ns i t es before l here =
     inserted nat_cmp thing_object i t es ∙ ap (λ m. insert_entry nat_cmp m i (thing_object t)) before
     ∙ inserted_last nat_cmp nat_cmp_total i (thing_object t) (objects_from 0 xs (take i ns)) [] (subst (λ m. IsTrue (is_sorted nat_cmp m)) all (objects_rise 0 xs (take (i + 1) ns)))
     ∙ sym all
-
-pair_total : IsTotalOrder pair_cmp
-pair_total = then_total (on_total (λ (p : Pair). p.0) nat_cmp_total) (on_total (λ (p : Pair). p.1) nat_cmp_total)
 
 -- one more queue is made of its messages
 pub messages_step : (qs : List Queue) (i : ℕ) (q : Queue) (d : VecDeque Mail Global) (es : List (Pair × VecDeque Mail Global)) → IsTrue (is_sorted pair_cmp (map queue_messages qs))

@@ -3,8 +3,8 @@ use Rattle.std.specs.Prelude.{◌≡◌, ◌<◌, ℕ, suc, List, [], ◌∷◌,
 use Rattle.std.specs.List.{All}
 use Rattle.std.specs.FinMap.Entries.{is_sorted}
 use Rattle.pool_syntax.specs.Terms.{ProgramTree, Done}
-use Rattle.mesh_semantics.specs.Message.{Message}
-use Rattle.mesh_semantics.specs.Tables.{Pair, pair_cmp}
+use Rattle.run_words.specs.Message.{Message}
+use Rattle.run_words.specs.Tables.{Pair, pair_cmp}
 use Rattle.pool_relation.specs.Action.{Object}
 use Rattle.pool_relation.specs.Configuration.{Configuration}
 use Rattle.pool_semantics.specs.Mails.{message_of}

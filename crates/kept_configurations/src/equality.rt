@@ -5,11 +5,11 @@ ghost use Rattle.kept_configurations.specs.Numbers.{queue_messages};
 
 use crate::numbered::{Numbered, Queue};
 use pool_semantics::Mail;
-use pool_syntax::Value;
+use run_words::Value;
 use std::hash::{FoldHasher, Hasher};
 use value_operators::operators::same;
 
-#[tactic(auto, using(mesh_semantics::proofs::Laws::same_value))]
+#[tactic(auto, using(run_words::proofs::Laws::same_value))]
 fn same_values(left: &[Value], right: &[Value]) -> bool
     ensures { result ≡ true → left.now ≡ right.now }
 {

@@ -2,7 +2,7 @@
 ghost use Rattle.std.specs.Prelude.{◌≡◌, ◌<◌, IfOk, IsTrue, length, map};
 ghost use Rattle.std.specs.List.{All};
 ghost use Rattle.std.specs.FinMap.Entries.{is_sorted};
-ghost use Rattle.mesh_semantics.specs.Tables.{pair_cmp};
+ghost use Rattle.run_words.specs.Tables.{pair_cmp};
 ghost use Rattle.plain_object.specs.Things.{things};
 ghost use Rattle.pool_semantics.specs.Mails.{posts};
 ghost use Rattle.object_states.specs.States.{states};

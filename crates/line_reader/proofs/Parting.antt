@@ -1,12 +1,13 @@
 -- Bytes before the first part of a text.
 use Rattle.std.proofs.Common.{◌≡◌, refl, sym, ap, ◌∙◌, ℕ, zero, suc, ◌<◌, List, [], ◌∷◌, ◌++◌, length, Option, Some, None, Bool, true, false, nat_eq, eq-eqb, arith, append_assoc}
 use denote.Bor.{Bor}
-use Rattle.pool_syntax.specs.Tokens.{Text}
-use Rattle.pool_syntax.specs.declared.words.Value.{Value}
-use Rattle.pool_lexer.specs.Lines.{at_front}
+use Rattle.run_words.specs.Text.{Text}
+use Rattle.run_words.specs.declared.words.Value.{Value}
+use Rattle.run_words.specs.Lines.{at_front}
 use Rattle.line_reader.specs.declared.fields.Few.{Few}
 use Rattle.line_reader.specs.declared.fields.Few.TheVariants as F
-use Rattle.line_reader.specs.Fields.{object_of, parts, then_some, value_of, values_within}
+use Rattle.line_reader.specs.Fields.{object_of, parts, value_of, values_within}
+use Rattle.run_words.specs.Partial.{◌>>=◌}
 use Rattle.line_reader.specs.Parted.{AreFields}
 use borrow.Author.Tests.{eqb-true}
 use Rattle.record_lines.specs.RecordText.{joined, led}
@@ -61,12 +62,12 @@ none_left (suc n) ps e h = absurd (omega arith)
 
 -- one more value
 pub value_more : (n m : ℕ) (args : List Value) (v : Value) (w : Text) (ws : List Text) → n ≡ suc m → value_of w ≡ Some v
-    → then_some (values_within n (w ∷ ws)) (λ vs. Some (args ++ vs)) ≡ then_some (values_within m ws) (λ vs. Some ((args ++ v ∷ []) ++ vs))
+    → (values_within n (w ∷ ws) >>= λ vs. Some (args ++ vs)) ≡ (values_within m ws >>= λ vs. Some ((args ++ v ∷ []) ++ vs))
 value_more n m args v w ws e is =
-    ap (λ k. then_some (values_within k (w ∷ ws)) (λ vs. Some (args ++ vs))) e
-    ∙ (ap (λ o. then_some (then_some o (λ x. then_some (values_within m ws) (λ vs. Some (x ∷ vs)))) (λ vs. Some (args ++ vs))) is
+    ap (λ k. values_within k (w ∷ ws) >>= λ vs. Some (args ++ vs)) e
+    ∙ (ap (λ o. (o >>= λ x. values_within m ws >>= λ vs. Some (x ∷ vs)) >>= λ vs. Some (args ++ vs)) is
     ∙ by (values_within m ws)) where
-      by : (o : Option (List Value)) → then_some (then_some o (λ vs. Some (v ∷ vs))) (λ vs. Some (args ++ vs)) ≡ then_some o (λ vs. Some ((args ++ v ∷ []) ++ vs))
+      by : (o : Option (List Value)) → ((o >>= λ vs. Some (v ∷ vs)) >>= λ vs. Some (args ++ vs)) ≡ (o >>= λ vs. Some ((args ++ v ∷ []) ++ vs))
       by None = refl
       by (Some vs) = ap Some (sym (append_assoc args (v ∷ []) vs))
 
@@ -102,7 +103,7 @@ what_more w [] h = absurd (omega arith)
 what_more w (p ∷ ps) h = refl
 
 pub write_rest : (a : Text) (w : ℕ) (t : Text) → object_of a ≡ Some w → write_of (a ∷ parts 32 t) ≡ item_of w t
-write_rest a w t e = ap (λ o. then_some o (λ n. item_for n (parts 32 t))) e ∙ item_parts w t
+write_rest a w t e = ap (λ o. o >>= λ n. item_for n (parts 32 t)) e ∙ item_parts w t
 
 pub five_words : (a b c d : Text) (ps : List Text) → 0 < length ps → end_of (a ∷ b ∷ c ∷ d ∷ ps) ≡ None
 five_words a b c d [] h = absurd (omega arith)

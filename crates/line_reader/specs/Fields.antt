@@ -1,13 +1,16 @@
 -- The parts of a text between bytes of one kind, and the numbers, names and values that they spell.
-use Rattle.std.specs.Prelude.{ℕ, zero, suc, ◌+◌, ◌-◌, ◌*◌, ℤ, pos, negsuc, List, [], ◌∷◌, length, Option, Some, None, Bool, true, false, ◌&&◌, ◌||◌, is_none, nat_eq, nat_le, nat_lt, bytes_eq, codes, decimal, slice_index, slice_range, neg_ℤ}
-use Rattle.pool_syntax.specs.Tokens.{Text, every, is_digit, is_inner, is_letter, is_word, keywords, lookup}
-use Rattle.pool_syntax.specs.declared.words.Value.{Value}
-use Rattle.pool_syntax.specs.declared.words.Value.TheVariants as V
-use Rattle.pool_syntax.specs.declared.words.Error.{Error}
-use Rattle.pool_syntax.specs.declared.words.Error.TheVariants as error
-use Rattle.pool_lexer.specs.Lines.{at_front, decimal_of}
-use Rattle.pool_lexer.specs.declared.places.Decimal.{Decimal}
-use Rattle.pool_lexer.specs.declared.places.Decimal.TheVariants.{NotDigits, TooLarge, Value as Spelled}
+use Rattle.std.specs.Prelude.{ℕ, zero, suc, ◌+◌, ◌-◌, ◌*◌, ℤ, pos, negsuc, List, [], ◌∷◌, length, Option, Some, None, Bool, true, false, ◌&&◌, ◌||◌, is_none, nat_eq, nat_le, nat_lt, bytes_eq, codes}
+use Rattle.std.specs.Prelude.{decimal, slice_index, slice_range, neg_ℤ}
+use Rattle.run_words.specs.Partial.{◌>>=◌, only_if}
+use Rattle.run_words.specs.Text.{Text, every, is_digit, is_inner, is_letter, is_word, lookup}
+use Rattle.run_words.specs.Keywords.{keywords}
+use Rattle.run_words.specs.declared.words.Value.{Value}
+use Rattle.run_words.specs.declared.words.Value.TheVariants as V
+use Rattle.run_words.specs.declared.words.Error.{Error}
+use Rattle.run_words.specs.declared.words.Error.TheVariants as error
+use Rattle.run_words.specs.Lines.{at_front, decimal_of}
+use Rattle.run_words.specs.declared.places.Decimal.{Decimal}
+use Rattle.run_words.specs.declared.places.Decimal.TheVariants.{NotDigits, TooLarge, Value as Spelled}
 
 -- the parts before, between and after these bytes; empty parts stay
 abbrev pub parts : ℕ → Text → List Text
@@ -21,14 +24,6 @@ fields s = parts 32 s
 abbrev pub parts_left : ℕ → Option Text → List Text
 parts_left s None = []
 parts_left s (Some t) = parts s t
-
-abbrev pub then_some : {A B : Type 0} → Option A → (A → Option B) → Option B
-then_some None next = None
-then_some (Some a) next = next a
-
-abbrev pub only_if : {A : Type 0} → Bool → Option A → Option A
-only_if true a = a
-only_if false a = None
 
 abbrev pub spelled_below : ℕ → Text → Decimal → Option ℕ
 spelled_below limit w NotDigits = None
@@ -44,7 +39,7 @@ count_of w = number_of 4294967296 w
 
 -- a count that is not 0
 abbrev pub positive_of : Text → Option ℕ
-positive_of w = then_some (count_of w) (λ n. only_if (nat_lt 0 n) (Some n))
+positive_of w = count_of w >>= λ n. only_if (nat_lt 0 n) (Some n)
 
 -- the place of the first point, the first byte having this place
 abbrev pub point_from : ℕ → Text → Option ℕ
@@ -53,11 +48,11 @@ point_from at (b ∷ bs) = elim (nat_eq b 46) [ true ↦ Some at | false ↦ poi
 
 abbrev pub halves_of : Text → ℕ → Option ℕ
 halves_of w at =
-    then_some (number_of 65536 (slice_range w 0 at)) (λ node. then_some (number_of 65536 (slice_range w (at + 1) (length w))) (λ slot. Some (node * 65536 + slot)))
+    number_of 65536 (slice_range w 0 at) >>= λ node. number_of 65536 (slice_range w (at + 1) (length w)) >>= λ slot. Some (node * 65536 + slot)
 
 -- an object's name `node.slot`, both below 65536
 abbrev pub object_of : Text → Option ℕ
-object_of w = then_some (point_from 0 w) (halves_of w)
+object_of w = point_from 0 w >>= halves_of w
 
 abbrev pub begins_with : ℕ → Text → Bool
 begins_with c [] = false
@@ -66,18 +61,18 @@ begins_with c (b ∷ bs) = nat_eq b c
 abbrev pub negative_of : Text → Option ℤ
 negative_of w = elim (bytes_eq w (codes "9223372036854775808")) [
   | true ↦ Some (negsuc 9223372036854775807)
-  | false ↦ then_some (number_of 9223372036854775808 w) (λ n. only_if (nat_lt 0 n) (Some (neg_ℤ (pos n))))
+  | false ↦ number_of 9223372036854775808 w >>= λ n. only_if (nat_lt 0 n) (Some (neg_ℤ (pos n)))
 ]
 
 -- an integer from -2 ^ 63 to 2 ^ 63 - 1, without leading zeros, and no `-0`
 abbrev pub integer_of : Text → Option ℤ
 integer_of w = elim (begins_with 45 w) [
   | true ↦ negative_of (slice_range w 1 (length w))
-  | false ↦ then_some (number_of 9223372036854775808 w) (λ n. Some (pos n))
+  | false ↦ number_of 9223372036854775808 w >>= λ n. Some (pos n)
 ]
 
 abbrev pub name_or_integer : Text → Option ℕ → Option Value
-name_or_integer w None = then_some (integer_of w) (λ z. Some (V.Int z))
+name_or_integer w None = integer_of w >>= λ z. Some (V.Int z)
 name_or_integer w (Some o) = Some (V.Ref o)
 
 abbrev pub value_of : Text → Option Value
@@ -93,7 +88,7 @@ value_of w = elim (bytes_eq w (codes "true")) [
 abbrev pub values_within : ℕ → List Text → Option (List Value)
 values_within n [] = Some []
 values_within zero (w ∷ ws) = None
-values_within (suc n) (w ∷ ws) = then_some (value_of w) (λ v. then_some (values_within n ws) (λ vs. Some (v ∷ vs)))
+values_within (suc n) (w ∷ ws) = value_of w >>= λ v. values_within n ws >>= λ vs. Some (v ∷ vs)
 
 abbrev pub in_a_name : ℕ → Bool
 in_a_name c = is_letter c || is_digit c

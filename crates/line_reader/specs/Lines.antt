@@ -1,17 +1,18 @@
 -- What a line of a record says, with the text of its name.
 use Rattle.std.specs.Prelude.{ℕ, List, [], ◌∷◌, Option, Some, None, true, false, bytes_eq, codes}
-use Rattle.pool_syntax.specs.Tokens.{Text}
-use Rattle.pool_syntax.specs.declared.words.FullKind.{FullKind}
-use Rattle.pool_syntax.specs.declared.words.FullKind.TheVariants as full
-use Rattle.pool_syntax.specs.declared.words.WireAct.{WireAct}
-use Rattle.pool_syntax.specs.declared.words.WireAct.TheVariants as A
-use Rattle.pool_syntax.specs.declared.words.Event.{Event}
-use Rattle.pool_syntax.specs.declared.words.Event.TheVariants as E
-use Rattle.pool_syntax.specs.declared.words.End.{End}
-use Rattle.pool_syntax.specs.declared.words.End.TheVariants as F
-use Rattle.pool_syntax.specs.declared.words.Line.{Line}
-use Rattle.pool_syntax.specs.declared.words.Line.TheVariants as R
-use Rattle.line_reader.specs.Fields.{count_of, only_if, then_some}
+use Rattle.run_words.specs.Text.{Text}
+use Rattle.run_words.specs.declared.words.FullKind.{FullKind}
+use Rattle.run_words.specs.declared.words.FullKind.TheVariants as full
+use Rattle.run_words.specs.declared.words.WireAct.{WireAct}
+use Rattle.run_words.specs.declared.words.WireAct.TheVariants as A
+use Rattle.run_words.specs.declared.words.Event.{Event}
+use Rattle.run_words.specs.declared.words.Event.TheVariants as E
+use Rattle.run_words.specs.declared.words.End.{End}
+use Rattle.run_words.specs.declared.words.End.TheVariants as F
+use Rattle.run_words.specs.declared.words.Line.{Line}
+use Rattle.run_words.specs.declared.words.Line.TheVariants as R
+use Rattle.line_reader.specs.Fields.{count_of}
+use Rattle.run_words.specs.Partial.{only_if, ◌>>=◌}
 use Rattle.line_reader.specs.Shown.{Shown, what_of}
 
 -- a line, the number 0 standing for that of its name, and the name's text, if it has one
@@ -23,10 +24,10 @@ abbrev pub ends : End → Option Told
 ends e = Some (record { line = R.End e; text = None })
 
 abbrev pub end_of_two : Text → Text → Option Told
-end_of_two how k = then_some (count_of k) (λ n. elim (bytes_eq how (codes "quiet")) [
+end_of_two how k = count_of k >>= λ n. elim (bytes_eq how (codes "quiet")) [
   | true ↦ ends (F.Quiet n)
   | false ↦ only_if (bytes_eq how (codes "schedule")) (ends (F.Schedule n))
-])
+]
 
 abbrev pub kind_of : Text → Option FullKind
 kind_of w = elim (bytes_eq w (codes "heap")) [
@@ -35,7 +36,7 @@ kind_of w = elim (bytes_eq w (codes "heap")) [
 ]
 
 abbrev pub full_of : Text → Text → Text → Option Told
-full_of kind node k = then_some (kind_of kind) (λ f. then_some (count_of node) (λ n. then_some (count_of k) (λ done. ends (F.Full f n done))))
+full_of kind node k = kind_of kind >>= λ f. count_of node >>= λ n. count_of k >>= λ done. ends (F.Full f n done)
 
 -- behind `end`: `quiet K`, `schedule K`, `full heap N K` and its like
 abbrev pub end_of : List Text → Option Told
@@ -52,23 +53,23 @@ happened n e (Some s) = Some (record { line = R.Event n e s.what; text = s.text 
 
 abbrev pub turn_of : ℕ → List Text → Option Told
 turn_of n [] = None
-turn_of n (a ∷ ws) = then_some (count_of a) (λ node. happened n (E.Turn node) (what_of ws))
+turn_of n (a ∷ ws) = count_of a >>= λ node. happened n (E.Turn node) (what_of ws)
 
 abbrev pub link_from : ℕ → ℕ → List Text → Option Told
 link_from n from [] = None
-link_from n from (b ∷ ws) = then_some (count_of b) (λ to. happened n (E.Link from to) (what_of ws))
+link_from n from (b ∷ ws) = count_of b >>= λ to. happened n (E.Link from to) (what_of ws)
 
 abbrev pub link_of : ℕ → List Text → Option Told
 link_of n [] = None
-link_of n (a ∷ ws) = then_some (count_of a) (λ from. link_from n from ws)
+link_of n (a ∷ ws) = count_of a >>= λ from. link_from n from ws
 
 abbrev pub wire_from : ℕ → WireAct → ℕ → List Text → Option Told
 wire_from n act from [] = None
-wire_from n act from (b ∷ ws) = then_some (count_of b) (λ to. happened n (E.Wire act from to) (what_of ws))
+wire_from n act from (b ∷ ws) = count_of b >>= λ to. happened n (E.Wire act from to) (what_of ws)
 
 abbrev pub wire_of : ℕ → WireAct → List Text → Option Told
 wire_of n act [] = None
-wire_of n act (a ∷ ws) = then_some (count_of a) (λ from. wire_from n act from ws)
+wire_of n act (a ∷ ws) = count_of a >>= λ from. wire_from n act from ws
 
 -- of one side of a wire, or of the side of the acknowledgements where the word `ack` says so
 abbrev pub side_of : ℕ → WireAct → WireAct → List Text → Option Told
@@ -98,4 +99,4 @@ event_of n (w ∷ ws) = elim (bytes_eq w (codes "turn")) [ true ↦ turn_of n ws
 -- the form of a line without its line feed
 abbrev pub line_of : List Text → Option Told
 line_of [] = None
-line_of (w ∷ ws) = elim (bytes_eq w (codes "end")) [ true ↦ end_of ws | false ↦ then_some (count_of w) (λ n. event_of n ws) ]
+line_of (w ∷ ws) = elim (bytes_eq w (codes "end")) [ true ↦ end_of ws | false ↦ count_of w >>= λ n. event_of n ws ]

@@ -1,6 +1,6 @@
 -- The parts of a text as far as they are looked at.
 use Rattle.std.specs.Prelude.{◌≡◌, ℕ, List, [], ◌∷◌, option_map}
-use Rattle.pool_syntax.specs.Tokens.{Text}
+use Rattle.run_words.specs.Text.{Text}
 use Rattle.line_reader.specs.declared.fields.Front.{Front}
 use Rattle.line_reader.specs.declared.fields.Few.{Few}
 use Rattle.line_reader.specs.declared.fields.Few.TheVariants as F

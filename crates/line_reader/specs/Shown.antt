@@ -1,17 +1,19 @@
 -- What the words of a record's line say.
 use Rattle.std.specs.Prelude.{ℕ, List, [], ◌∷◌, Option, Some, None, true, false, bytes_eq, codes}
-use Rattle.pool_syntax.specs.Tokens.{Text}
-use Rattle.pool_syntax.specs.declared.words.NameId.{NameId}
-use Rattle.pool_syntax.specs.declared.words.Value.{Value}
-use Rattle.pool_syntax.specs.declared.words.Item.TheVariants as I
-use Rattle.pool_syntax.specs.declared.words.Label.{Label}
-use Rattle.pool_syntax.specs.declared.words.Label.TheVariants as L
-use Rattle.pool_syntax.specs.declared.words.What.{What}
-use Rattle.pool_syntax.specs.declared.words.What.TheVariants as W
+use Rattle.std.specs.Option.{option_or}
+use Rattle.run_words.specs.Text.{Text}
+use Rattle.run_words.specs.declared.words.NameId.{NameId}
+use Rattle.run_words.specs.declared.words.Value.{Value}
+use Rattle.run_words.specs.declared.words.Item.TheVariants as I
+use Rattle.run_words.specs.declared.words.Label.{Label}
+use Rattle.run_words.specs.declared.words.Label.TheVariants as L
+use Rattle.run_words.specs.declared.words.What.{What}
+use Rattle.run_words.specs.declared.words.What.TheVariants as W
 use Rattle.line_reader.specs.declared.shown.Message.{Message}
 use Rattle.line_reader.specs.declared.shown.Message.TheVariants as M
 use Rattle.record_lines.specs.RecordText.{joined}
-use Rattle.line_reader.specs.Fields.{begins_with, count_of, error_of, name_of_word, object_of, only_if, positive_of, string_of, then_some, value_of, values_within}
+use Rattle.line_reader.specs.Fields.{begins_with, count_of, error_of, name_of_word, object_of, positive_of, string_of, value_of, values_within}
+use Rattle.run_words.specs.Partial.{only_if, ◌>>=◌}
 
 -- what a line shows, the number 0 standing for that of its name, and the name's text, if it has one
 pub record Shown : Type 0 where
@@ -53,7 +55,7 @@ for_more (a ∷ b ∷ c ∷ ws) f = f a b c ws
 
 -- two objects, and what follows
 abbrev pub of_pair : {A : Type 0} → Text → Text → (ℕ → ℕ → Option A) → Option A
-of_pair a b f = then_some (object_of a) (λ o. then_some (object_of b) (λ p. f o p))
+of_pair a b f = object_of a >>= λ o. object_of b >>= λ p. f o p
 
 -- what a message of this kind is, of two objects and its values
 abbrev pub making : Message → ℕ → ℕ → List Value → What
@@ -65,25 +67,25 @@ making M.PostCall o p vs = W.PostCall o p no_number vs
 -- a message: two objects, a method, and at most 8 values
 abbrev pub message_from : Message → Text → Text → Text → List Text → Option Shown
 message_from kind a b m args =
-    of_pair a b (λ o p. then_some (name_of_word m) (λ text. then_some (values_within 8 args) (λ vs. named (making kind o p vs) text)))
+    of_pair a b (λ o p. name_of_word m >>= λ text. values_within 8 args >>= λ vs. named (making kind o p vs) text)
 
 abbrev pub message_of : Message → List Text → Option Shown
 message_of kind ws = for_more ws (message_from kind)
 
 abbrev pub local_of : List Text → Option Shown
-local_of ws = for_two ws (λ a k. then_some (object_of a) (λ o. then_some (positive_of k) (λ n. plain (W.Step (L.Local o) n))))
+local_of ws = for_two ws (λ a k. object_of a >>= λ o. positive_of k >>= λ n. plain (W.Step (L.Local o) n))
 
 abbrev pub new_of : List Text → Option Shown
-new_of ws = for_three ws (λ a b c. of_pair a b (λ o p. then_some (name_of_word c) (λ text. named (once (L.New o p no_number)) text)))
+new_of ws = for_three ws (λ a b c. of_pair a b (λ o p. name_of_word c >>= λ text. named (once (L.New o p no_number)) text))
 
 abbrev pub return_of : List Text → Option Shown
-return_of ws = for_three ws (λ a b c. of_pair a b (λ p o. then_some (value_of c) (λ v. plain (once (L.Return p o v)))))
+return_of ws = for_three ws (λ a b c. of_pair a b (λ p o. value_of c >>= λ v. plain (once (L.Return p o v))))
 
 -- a string in its quotes is all that is left
 abbrev pub item_of : ℕ → Text → Option Shown
 item_of o left = elim (begins_with 34 left) [
-  | true ↦ then_some (string_of left) (λ text. named (once (L.Write o (I.Text no_number))) text)
-  | false ↦ then_some (value_of left) (λ v. plain (once (L.Write o (I.Value v))))
+  | true ↦ string_of left >>= λ text. named (once (L.Write o (I.Text no_number))) text
+  | false ↦ value_of left >>= λ v. plain (once (L.Write o (I.Value v)))
 ]
 
 abbrev pub item_for : ℕ → List Text → Option Shown
@@ -92,17 +94,17 @@ item_for o (b ∷ ws) = item_of o (joined (b ∷ ws))
 
 abbrev pub write_of : List Text → Option Shown
 write_of [] = None
-write_of (a ∷ ws) = then_some (object_of a) (λ o. item_for o ws)
+write_of (a ∷ ws) = object_of a >>= λ o. item_for o ws
 
 abbrev pub pick_of : List Text → Option Shown
-pick_of ws = for_two ws (λ a k. then_some (object_of a) (λ o. then_some (positive_of k) (λ n. plain (once (L.Pick o n)))))
+pick_of ws = for_two ws (λ a k. object_of a >>= λ o. positive_of k >>= λ n. plain (once (L.Pick o n)))
 
 abbrev pub fault_of : List Text → Option Shown
-fault_of ws = for_two ws (λ a k. then_some (object_of a) (λ o. then_some (error_of k) (λ e. plain (once (L.Fault o e)))))
+fault_of ws = for_two ws (λ a k. object_of a >>= λ o. error_of k >>= λ e. plain (once (L.Fault o e)))
 
 abbrev pub create_of : List Text → Option Shown
 create_of ws =
-    for_three ws (λ a c n. then_some (object_of a) (λ o. then_some (name_of_word c) (λ text. then_some (count_of n) (λ node. named (W.PostCreate o no_number node) text))))
+    for_three ws (λ a c n. object_of a >>= λ o. name_of_word c >>= λ text. count_of n >>= λ node. named (W.PostCreate o no_number node) text)
 
 -- `create O C N` and `call O P m args`
 abbrev pub post_by : Text → List Text → Option Shown
@@ -114,13 +116,13 @@ post_of (w ∷ []) = None
 post_of (w ∷ v ∷ ws) = post_by w (v ∷ ws)
 
 abbrev pub arrive_of : List Text → Option Shown
-arrive_of ws = for_three ws (λ a b m. of_pair a b (λ o p. then_some (name_of_word m) (λ text. named (W.Arrive o p no_number) text)))
+arrive_of ws = for_three ws (λ a b m. of_pair a b (λ o p. name_of_word m >>= λ text. named (W.Arrive o p no_number) text))
 
 abbrev pub created_of : List Text → Option Shown
 created_of ws = for_two ws (λ a b. of_pair a b (λ o p. plain (W.Created o p)))
 
 abbrev pub result_of : List Text → Option Shown
-result_of ws = for_two ws (λ a b. then_some (object_of a) (λ o. then_some (value_of b) (λ v. plain (W.Result o v))))
+result_of ws = for_two ws (λ a b. object_of a >>= λ o. value_of b >>= λ v. plain (W.Result o v))
 
 -- a transition, by its first word
 abbrev pub step_of : Text → List Text → Option Shown
@@ -156,14 +158,14 @@ only_count (a ∷ b ∷ ws) = None
 -- what became of a frame, by its first word
 abbrev pub frame_of : Text → List Text → Option Shown
 frame_of w ws = elim (bytes_eq w (codes "frame")) [
-  | true ↦ then_some (only_count ws) (λ n. plain (W.Frame n))
+  | true ↦ only_count ws >>= λ n. plain (W.Frame n)
   | false ↦ elim (bytes_eq w (codes "lost")) [
-    | true ↦ then_some (only_count ws) (λ n. plain (W.Lost n))
+    | true ↦ only_count ws >>= λ n. plain (W.Lost n)
     | false ↦ elim (bytes_eq w (codes "stale")) [
-      | true ↦ then_some (only_count ws) (λ n. plain (W.Stale n))
+      | true ↦ only_count ws >>= λ n. plain (W.Stale n)
       | false ↦ elim (bytes_eq w (codes "acked")) [
-        | true ↦ then_some (only_count ws) (λ n. plain (W.Acked n))
-        | false ↦ only_if (bytes_eq w (codes "late")) (then_some (only_count ws) (λ n. plain (W.Late n)))
+        | true ↦ only_count ws >>= λ n. plain (W.Acked n)
+        | false ↦ only_if (bytes_eq w (codes "late")) (only_count ws >>= λ n. plain (W.Late n))
       ]
     ]
   ]
@@ -182,13 +184,8 @@ delay_of w ws = elim (bytes_eq w (codes "post")) [
   ]
 ]
 
--- the first of these that is there
-abbrev pub either : {A : Type 0} → Option A → Option A → Option A
-either None later = later
-either (Some a) later = Some a
-
 abbrev pub shown_by : Text → List Text → Option Shown
-shown_by w ws = either (step_of w ws) (delay_of w ws)
+shown_by w ws = option_or (step_of w ws) (delay_of w ws)
 
 abbrev pub what_of : List Text → Option Shown
 what_of [] = None

@@ -8,7 +8,7 @@ ghost use Rattle.line_reader.specs.ToldBy.{told};
 use crate::fields::{Few, cut, few_fields};
 use crate::shown::what_in;
 use crate::spelled::count;
-use pool_syntax::{End, Event, FullKind, Line, WireAct};
+use run_words::{End, Event, FullKind, Line, WireAct};
 
 /// A line, the number 0 standing for that of its name, and the name's text, if it has one.
 #[derive(Clone, Copy)]

@@ -1,12 +1,13 @@
 //! What the words of a line show.
 ghost use Rattle.std.specs.Prelude.{◌≡◌, None, option_map};
 ghost use Rattle.line_reader.specs.Fields.{fields, parts_left, values_within};
-ghost use Rattle.line_reader.specs.Shown.{arrive_of, created_of, delay_of, fault_of, frame_of, only_count, create_of, item_for, item_of, local_of, making, message_from, message_of, new_of, once, pick_of, post_by, post_of, result_of, return_of, shown_by, step_of, what_of, write_of};
+ghost use Rattle.line_reader.specs.Shown.{arrive_of, created_of, delay_of, fault_of, frame_of, only_count, create_of, item_for, item_of, local_of, making, message_from, message_of, new_of, once};
+ghost use Rattle.line_reader.specs.Shown.{pick_of, post_by, post_of, result_of, return_of, shown_by, step_of, what_of, write_of};
 ghost use Rattle.line_reader.specs.ShownBy.{shown};
 
 use crate::fields::{Few, cut, few_fields};
 use crate::spelled::{begins_with, count, error, name, object, positive, string, value};
-use pool_syntax::{Args, Item, Label, NameId, What};
+use run_words::{Args, Item, Label, NameId, What};
 
 /// What a line shows, the number 0 standing for that of its name, and the name's text, if it has one.
 #[derive(Clone, Copy)]

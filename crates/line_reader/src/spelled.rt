@@ -1,11 +1,11 @@
 //! The numbers, names and values that words spell.
 ghost use Rattle.std.specs.Prelude.{◌≡◌, ◌≤◌, ◌<◌, length, option_map, IfSome};
-ghost use Rattle.pool_syntax.specs.Tokens.{every, is_digit, is_inner, is_letter, is_word};
-ghost use Rattle.line_reader.specs.Fields.{begins_with, count_of, error_of, in_a_name, integer_of, name_of_word, name_or_integer, negative_of, number_of, object_of, point_from, positive_of, string_of, value_of};
+ghost use Rattle.run_words.specs.Text.{every, is_digit, is_inner, is_letter, is_word};
+ghost use Rattle.line_reader.specs.Fields.{begins_with, count_of, error_of, in_a_name, integer_of, name_of_word, name_or_integer, negative_of, number_of, object_of, point_from, positive_of};
+ghost use Rattle.line_reader.specs.Fields.{string_of, value_of};
 
 use itoa::Buffer;
-use pool_lexer::{Decimal, decimal, keyword};
-use pool_syntax::{Error, Value};
+use run_words::{Decimal, Error, Value, decimal, keyword};
 
 /// The number below a limit whose text the word is.
 fn number(limit: u64, word: &[u8]) -> Option<u64>

@@ -4,7 +4,7 @@ ghost use Rattle.std.specs.Fmt.{signed_decimal};
 ghost use Rattle.record_lines.specs.RecordText.{error_text, item_text, led, object_text, text_at, value_text};
 
 use itoa::Buffer;
-use pool_syntax::{Args, Error, Item, NameId, Names, Value};
+use run_words::{Args, Error, Item, NameId, Names, Value};
 use std::alloc::AllocError;
 
 /// Puts a space and a word behind the text.

@@ -7,8 +7,8 @@ use file_judge::{File, Told, bytes_of, judged};
 use object_code::decode;
 use pool_driver::{Status, pool};
 use pool_outside::{MemFiles, MemSink, NamedText};
-use pool_syntax::{End, Line, Names};
 use run_record::read_record;
+use run_words::{End, Line, Names};
 use std::alloc::{AllocError, Global};
 use std::test::Fail;
 

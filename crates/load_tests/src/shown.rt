@@ -1,7 +1,7 @@
 //! Whether the values that a record shows are of the sorts that its file declares.
 use file_judge::{Class, File, Method, Sort};
-use pool_syntax::{Args, Label, Line, NameId, Value, What};
 use run_record::label_of;
+use run_words::{Args, Label, Line, NameId, Value, What};
 use std::alloc::{AllocError, Global};
 
 /// An object, and the number of its class's name.

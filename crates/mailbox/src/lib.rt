@@ -5,7 +5,7 @@ ghost use Rattle.std.specs.Prelude.{◌≡◌, ◌<◌, ◌≤◌, [], ◌∷◌
 ghost use Rattle.mailbox.specs.Mail.{mail, lengths, box_of, with_box, is_named};
 
 use cell_pool::CellPool;
-use pool_syntax::{Args, List, NameId};
+use run_words::{Args, List, NameId};
 use std::alloc::{AllocError, Global};
 use std::marker::Model;
 

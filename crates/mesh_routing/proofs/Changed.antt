@@ -1,31 +1,16 @@
 -- The links after the packets of one were changed.
 use Rattle.std.proofs.Common.{◌≡◌, ◌≢◌, ◌⊎◌, inl, inr, refl, sym, ap, subst, ◌∙◌, ℕ, ◌<◌, List, [], ◌∷◌, ◌++◌, length, set, Some, None, not, cond, slice_get}
-use Rattle.std.specs.Ordering.{nat_cmp, eq_by_cmp, is_eq}
-use Rattle.std.specs.declared.cmp.Ordering.{Ordering}
-use Rattle.std.specs.declared.cmp.Ordering.TheVariants.{Less, Equal, Greater}
+use Rattle.std.specs.Ordering.{eq_by_cmp, is_eq}
 use Rattle.std.specs.Cmp.{alike_right}
-use Rattle.std.specs.FinMap.{nat_cmp-IsAntisymmetric}
 use Rattle.std.specs.FinMap.Entries.{find, put, find-put, find-where_key, same_entries}
 use Rattle.std.proofs.lemmas.List.{get_or-set_same, get_or-set_other}
 use Rattle.cell_pool.specs.Lists.{Pool, pool, with_list}
-use Rattle.mesh_semantics.specs.Tables.{Pair, pair_cmp, list_at, put_list, push_list}
-use Rattle.mesh_semantics.proofs.Laws.{decide, T_true, true_T}
-use Rattle.node_semantics.proofs.LinkMaps.{pair_total, tied_pair, untied_pair, listed_sorted}
+use Rattle.run_words.specs.Tables.{Pair, pair_cmp, list_at, put_list, push_list}
+use Rattle.run_words.proofs.Laws.{decide, T_true, true_T, pair_total, tied_pair, untied_pair, listed_sorted, one_pair}
 use Rattle.mesh_routing.specs.Nodes.{links_from, node_of}
 use Rattle.mesh_routing.proofs.Rising.{Rises}
 use Rattle.mesh_routing.proofs.Found.{some_list, at_end, at_end_is, at_end_other, found_at}
 use Rattle.mesh_routing.proofs.Sorted.{sorted_links}
-
-one_pair : (x y : Pair) → pair_cmp x y ≡ Equal → x ≡ y
-one_pair x y e = by (nat_cmp x.0 y.0) refl
-  where
-    by : (a : Ordering) → nat_cmp x.0 y.0 ≡ a → x ≡ y
-    by Less i = absurd (let z : Less ≡ Equal = rw i at e in cc)
-    by Greater i = absurd (let z : Greater ≡ Equal = rw i at e in cc)
-    by Equal i =
-        let s : x.0 ≡ y.0 = nat_cmp-IsAntisymmetric x.0 y.0 i in
-        let t : x.1 ≡ y.1 = nat_cmp-IsAntisymmetric x.1 y.1 (rw i at e) in
-        λ j. (s j, t j)
 
 module _ {X : Type 0} where
   -- the nodes with these packets on one way out of one

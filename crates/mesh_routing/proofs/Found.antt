@@ -4,9 +4,8 @@ use Rattle.std.specs.Option.{unwrap_or}
 use Rattle.std.specs.Ordering.{eq_by_cmp}
 use Rattle.std.specs.FinMap.Entries.{find}
 use Rattle.cell_pool.specs.Lists.{Pool, list_of}
-use Rattle.mesh_semantics.specs.Tables.{Pair, pair_cmp, list_at}
-use Rattle.mesh_semantics.proofs.Laws.{equal, equals, differ}
-use Rattle.node_semantics.proofs.LinkMaps.{tied_pair, untied_pair}
+use Rattle.run_words.specs.Tables.{Pair, pair_cmp, list_at}
+use Rattle.run_words.proofs.Laws.{equal, equals, differ, tied_pair, untied_pair}
 use Rattle.mesh_routing.specs.Nodes.{with_entry, entries_at, links_from, node_of}
 use Rattle.mesh_routing.proofs.Rising.{Above, Rises}
 

@@ -2,9 +2,8 @@
 use Rattle.std.proofs.Common.{◌≡◌, ◌≢◌, refl, ap, subst, ◌∙◌, ℕ, zero, suc, ◌+◌, ◌<◌, ◌==◌, List, [], ◌∷◌, ◌++◌, length, cond, arith}
 use Rattle.std.proofs.lemmas.List.Sums.{sum_by-append, sum_by-cons}
 use Rattle.cell_pool.specs.Lists.{Pool, lengths}
-use Rattle.mesh_semantics.specs.Tables.{Pair}
-use Rattle.mesh_semantics.proofs.Laws.{equals, differ}
-use Rattle.node_semantics.specs.Machine.{leaving}
+use Rattle.run_words.specs.Tables.{Pair, leaving}
+use Rattle.run_words.proofs.Laws.{equals, differ}
 use Rattle.mesh_routing.specs.Nodes.{entries_at, links_from, node_of}
 
 module _ {X : Type 0} where

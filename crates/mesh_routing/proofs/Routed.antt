@@ -3,9 +3,8 @@ use Rattle.std.proofs.Common.{◌≡◌, ◌≢◌, ◌⊎◌, inl, inr, refl, s
 use Rattle.std.proofs.lemmas.List.{get_or-set_same, get_or-set_other, length-set, set-get_or, length-replicate}
 use Rattle.std.proofs.lemmas.Option.{get_or_from_slice_get, slice_get_read}
 use Rattle.cell_pool.specs.Lists.{Pool, pool, list_of, with_list, lengths, free_of}
-use Rattle.mesh_semantics.specs.Tables.{pair_cmp, list_at, put_list, push_list}
-use Rattle.mesh_semantics.proofs.Laws.{decide}
-use Rattle.node_semantics.specs.Machine.{leaving}
+use Rattle.run_words.specs.Tables.{pair_cmp, list_at, put_list, push_list, leaving}
+use Rattle.run_words.proofs.Laws.{decide}
 use Rattle.mesh_routing.specs.Ways.{ends}
 use Rattle.mesh_routing.specs.Links.{links_of, with_links}
 use Rattle.mesh_routing.specs.Nodes.{node_of, view_of, AreNodes}

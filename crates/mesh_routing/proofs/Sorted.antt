@@ -4,8 +4,8 @@ use Rattle.std.specs.Prelude.{T}
 use Rattle.std.specs.Ordering.{is_lt}
 use Rattle.std.specs.FinMap.Entries.{below_all, is_sorted}
 use Rattle.cell_pool.specs.Lists.{Pool}
-use Rattle.mesh_semantics.specs.Tables.{Pair, pair_cmp}
-use Rattle.mesh_semantics.proofs.Laws.{equals}
+use Rattle.run_words.specs.Tables.{Pair, pair_cmp}
+use Rattle.run_words.proofs.Laws.{equals}
 use Rattle.mesh_routing.specs.Nodes.{entries_at, links_from}
 use Rattle.mesh_routing.proofs.Rising.{Above, Rises}
 

@@ -1,9 +1,9 @@
 -- The steps from a node to those beside it.
 use Rattle.std.proofs.Common.{◌≡◌, ◌≢◌, ◌⊎◌, inl, inr, sym, ap, subst, ℕ, ◌+◌, ◌*◌, ◌/◌, ◌%◌, ◌<◌, ◌≤◌, [], arith}
 use Rattle.std.proofs.lemmas.Nat.{div-add-mod', mod_below}
-use Rattle.pool_syntax.specs.declared.words.Placement.{Placement}
-use Rattle.mesh_semantics.specs.Paths.{toward, AreNeighbours}
-use Rattle.mesh_semantics.proofs.Laws.{toward_beside}
+use Rattle.run_words.specs.declared.words.Placement.{Placement}
+use Rattle.run_words.specs.Paths.{toward, AreNeighbours}
+use Rattle.run_words.proofs.Laws.{toward_beside}
 
 -- the next node is one of the mesh, beside this one
 pub stepped : (w h a b n : ℕ) → 1 ≤ w → a < w * h → b < w * h → a ≢ b → n ≡ toward w a b → (n < w * h) × AreNeighbours w a n

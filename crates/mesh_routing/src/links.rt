@@ -1,8 +1,7 @@
 //! The packets on the links of a mesh.
 ghost use Rattle.std.specs.Prelude.{◌≡◌, ◌<◌, ◌≤◌, ◌*◌, ◌↔◌, [], drop, length, slice_get, IsErr, IsTrue, OnOk, IfErr, IfOk};
 ghost use Rattle.std.specs.Option.{option_copied};
-ghost use Rattle.mesh_semantics.specs.Tables.{pair_cmp, list_at, push_list, put_list};
-ghost use Rattle.node_semantics.specs.Machine.{leaving};
+ghost use Rattle.run_words.specs.Tables.{pair_cmp, list_at, push_list, put_list, leaving};
 ghost use Rattle.mesh_routing.specs.Links.{links_of, with_links, IsLinkOf};
 
 use crate::mesh::Mesh;

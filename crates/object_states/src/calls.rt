@@ -8,7 +8,7 @@ use term_stack::parts::{Activation, Binding, Now, Outer, Stage, Work};
 use text_equality::{same_expression, same_statements};
 use value_operators::operators::same as same_value;
 
-#[tactic(auto, using(mesh_semantics::proofs::Laws::same_value))]
+#[tactic(auto, using(run_words::proofs::Laws::same_value))]
 fn same_binding(left: Binding, right: Binding) -> bool
     ensures { result ≡ true → left ≡ right }
 {

@@ -1,6 +1,6 @@
 //! A mark of an object's state, for look-ups: equal states have equal marks, and different ones most often different marks. No proof rests on it.
 use plain_object::thing::Thing;
-use pool_syntax::Value;
+use run_words::Value;
 use std::hash::{FoldHasher, Hasher};
 use term_stack::parts::{
     Activation, Binding, Guarded, Now, Operand, Outer, Place, Ready, Segment, Slot, Stage, Task,

@@ -10,7 +10,7 @@ use text_equality::{
 };
 use value_operators::operators::same as same_value;
 
-#[tactic(auto, using(mesh_semantics::proofs::Laws::same_value))]
+#[tactic(auto, using(run_words::proofs::Laws::same_value))]
 pub fn same_operand(left: Operand, right: Operand) -> bool
     ensures { result ≡ true → left ≡ right }
 {

@@ -4,7 +4,7 @@ ghost use Rattle.plain_object.specs.Things.{thing_object};
 
 use crate::calls::{same_bindings, same_work};
 use plain_object::thing::Thing;
-use pool_syntax::Error;
+use run_words::Error;
 
 fn same_error(left: Error, right: Error) -> bool
     ensures { result ≡ true → left ≡ right }

@@ -1,6 +1,6 @@
 -- What was read in a call, and whether a read failed.
 use Rattle.std.specs.Prelude.{◌≡◌, ℕ, Bool, Option}
-use Rattle.pool_syntax.specs.Tokens.{Text}
+use Rattle.run_words.specs.Text.{Text}
 
 -- texts by their names, where they are told
 abbrev pub Told : Type 0

@@ -1,7 +1,7 @@
 -- What was written on a sink in a call, and whether a write failed.
 use Rattle.std.specs.Prelude.{◌≡◌, ℕ, ◌++◌, Option, option_map}
 use Rattle.pool_outside.specs.Outside.{Rose, IsProperFront}
-use Rattle.pool_syntax.specs.Tokens.{Text}
+use Rattle.run_words.specs.Text.{Text}
 
 -- what a call did with a sink: the bytes that it holds before and after, where they are known, and the number of faults before and after
 pub record Writing : Type 0 where

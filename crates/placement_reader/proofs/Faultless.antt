@@ -1,37 +1,24 @@
 -- What a form without fault says, and that forms without fault make a routed placement.
-use Rattle.std.proofs.Common.{◌≡◌, ◌≢◌, refl, sym, ap, subst, ◌∙◌, ℕ, zero, suc, ◌*◌, ◌<◌, ◌≤◌, ◌==◌, List, [], ◌∷◌, ◌++◌, Option, Some, None, is_some, Bool, true, false, not, ◌&&◌, ◌||◌, nat_eq, nat_le, nat_lt, get_or, arith}
+use Rattle.std.proofs.Common.{◌≡◌, ◌≢◌, refl, sym, ap, subst, ◌∙◌, ℕ, zero, suc, ◌*◌, ◌<◌, ◌==◌, List, [], ◌∷◌, ◌++◌, Option, Some, None, is_some, Bool, true, false, not, ◌&&◌, ◌||◌, nat_eq, nat_le, nat_lt, get_or, arith, append-nil, ltb-true, leb-true}
 use Rattle.std.proofs.lemmas.Bool.Decides.{nat_tests}
-use Rattle.pool_syntax.specs.declared.words.LinkId.{LinkId}
-use Rattle.pool_syntax.specs.declared.words.Placement.{Placement}
-use Rattle.pool_syntax.specs.declared.words.Route.{Route}
+use Rattle.run_words.specs.declared.words.LinkId.{LinkId}
+use Rattle.run_words.specs.declared.words.Placement.{Placement}
+use Rattle.run_words.specs.declared.words.Route.{Route}
 use Rattle.input_lines.specs.Kept.{Kept}
-use Rattle.object_code.specs.declared.unit.Unit.{Unit as Code}
-use Rattle.object_code.specs.Suits.{IsFromTo, most_vars}
-use Rattle.mesh_semantics.specs.Paths.{are_neighbours, is_cut, route_of}
-use Rattle.mesh_semantics.specs.Routes.{AreBeside, AreCuts, AreRoutes, IsRouted}
-use Rattle.mesh_semantics.proofs.Laws.{neighbours}
+use Rattle.code_semantics.specs.declared.unit.Unit.{Unit as Code}
+use Rattle.code_semantics.specs.Suits.{IsFromTo, most_vars}
+use Rattle.run_words.specs.Paths.{are_neighbours, is_cut, route_of}
+use Rattle.run_words.specs.Routes.{AreBeside, AreCuts, AreRoutes, IsRouted}
+use Rattle.run_words.proofs.Laws.{neighbours, first, second}
 use Rattle.placement_reader.specs.declared.fault.PlacementFault.{PlacementFault}
 use Rattle.placement_reader.specs.declared.fault.PlacementFault.TheVariants as F
 use Rattle.placement_reader.specs.declared.form.Form.{Form}
 use Rattle.placement_reader.specs.declared.form.Form.TheVariants as form
 use Rattle.placement_reader.specs.declared.form.Spot.TheVariants as S
-use Rattle.placement_reader.specs.Forms.{AreFine, IsFine, cuts_of, fault_of, fault_or_bad, form_of, is_from_one, most, number_in, routes_of, spot_in, unless}
-use Rattle.placement_reader.specs.Placements.{IsTold, fault_in, first_fault, first_of, fitted_or_fault, forms_of, mesh_fault, value_of, with_form, with_mesh}
-
--- tests and what they say
-and_first : (a b : Bool) → (a && b) ≡ true → a ≡ true
-and_first true b h = refl
-and_first false b h = absurd (cc)
-
-and_second : (a b : Bool) → (a && b) ≡ true → b ≡ true
-and_second true b h = h
-and_second false b h = absurd (cc)
-
-less : (m n : ℕ) → nat_lt m n ≡ true → m < n
-less m n h = grind (arith, nat_tests, h)
-
-no_more : (m n : ℕ) → nat_le m n ≡ true → m ≤ n
-no_more m n h = grind (arith, nat_tests, h)
+use Rattle.placement_reader.specs.Forms.{AreFine, IsFine, cuts_of, fault_of, fault_or_bad, form_of, is_from_one, most, number_in, routes_of, spot_in}
+use Rattle.run_words.specs.Partial.{unless}
+use Rattle.placement_reader.specs.Placements.{IsTold, fault_in, first_fault, fitted_or_fault, forms_of, mesh_fault, value_of, with_form, with_mesh}
+use Rattle.std.specs.Option.{option_or}
 
 differ : (m n : ℕ) → not (nat_eq m n) ≡ true → m ≢ n
 differ m n h e = absurd (grind (arith, nat_tests, h, e))
@@ -72,8 +59,8 @@ cut_holds w nodes line a b earlier h =
     let both = holds two (F.NoSuchNode line) last i in
     record {
       new = is_false (is_cut (cuts_of earlier) a b) (holds one (F.Repeated line) rest h);
-      from = less a nodes (and_first (nat_lt a nodes) (nat_lt b nodes) both);
-      to = less b nodes (and_second (nat_lt a nodes) (nat_lt b nodes) both);
+      from = ltb-true a nodes (first (nat_lt a nodes) (nat_lt b nodes) both);
+      to = ltb-true b nodes (second (nat_lt a nodes) (nat_lt b nodes) both);
       beside = holds three (F.NoSuchLink line) None j;
     }
 
@@ -99,12 +86,12 @@ route_holds w nodes line a g b earlier h =
     let j = later two (F.NoSuchNode line) third i in
     let k = later three (F.OutOfRange line) last j in
     let all = holds two (F.NoSuchNode line) third i in
-    let before = and_first (nat_lt a nodes && nat_lt g nodes) (nat_lt b nodes) all in
+    let before = first (nat_lt a nodes && nat_lt g nodes) (nat_lt b nodes) all in
     record {
       new = is_none (route_of (routes_of earlier) a g) (holds one (F.Repeated line) rest h);
-      at = less a nodes (and_first (nat_lt a nodes) (nat_lt g nodes) before);
-      goal = less g nodes (and_second (nat_lt a nodes) (nat_lt g nodes) before);
-      next = less b nodes (and_second (nat_lt a nodes && nat_lt g nodes) (nat_lt b nodes) all);
+      at = ltb-true a nodes (first (nat_lt a nodes) (nat_lt g nodes) before);
+      goal = ltb-true g nodes (second (nat_lt a nodes) (nat_lt g nodes) before);
+      next = ltb-true b nodes (second (nat_lt a nodes && nat_lt g nodes) (nat_lt b nodes) all);
       other = differ g a (holds three (F.OutOfRange line) last j);
       beside = holds four (F.NoSuchLink line) None k;
     }
@@ -116,14 +103,14 @@ fine_of w nodes line earlier (form.Counted k n) e =
     let two = is_from_one (most k) n in
     let rest = unless two (F.OutOfRange line) None in
     let t = holds two (F.OutOfRange line) None (later one (F.Repeated line) rest e) in
-    (no_more 1 n (and_first (nat_le 1 n) (nat_le n (most k)) t), no_more n (most k) (and_second (nat_le 1 n) (nat_le n (most k)) t))
+    (leb-true 1 n (first (nat_le 1 n) (nat_le n (most k)) t), leb-true n (most k) (second (nat_le 1 n) (nat_le n (most k)) t))
 fine_of w nodes line earlier (form.Placed None s) e = absurd (cc)
 fine_of w nodes line earlier (form.Placed (Some c) S.Same) e = tt
 fine_of w nodes line earlier (form.Placed (Some c) S.Spread) e = tt
 fine_of w nodes line earlier (form.Placed (Some c) (S.At n)) e =
     let one = not (is_some (spot_in c earlier)) in
     let rest = unless (nat_lt n nodes) (F.NoSuchNode line) None in
-    less n nodes (holds (nat_lt n nodes) (F.NoSuchNode line) None (later one (F.Repeated line) rest e))
+    ltb-true n nodes (holds (nat_lt n nodes) (F.NoSuchNode line) None (later one (F.Repeated line) rest e))
 fine_of w nodes line earlier (form.Cut a b) e = let c = cut_holds w nodes line a b earlier e in (c.from, c.to)
 fine_of w nodes line earlier (form.Routed a g b) e = let r = route_holds w nodes line a g b earlier e in (r.at, r.goal, r.next)
 
@@ -209,18 +196,10 @@ module _ (l : Placement) where
   }
     where
       same_cuts : AreCuts l (cuts_of earlier ++ [])
-      same_cuts = subst (AreCuts l) (sym (end (cuts_of earlier))) good.cuts
-        where
-          end : (ks : List LinkId) → ks ++ [] ≡ ks
-          end [] = refl
-          end (k ∷ ks) = ap (λ xs. k ∷ xs) (end ks)
+      same_cuts = subst (AreCuts l) (sym (append-nil (cuts_of earlier))) good.cuts
 
       same_routes : AreRoutes l (routes_of earlier ++ [])
-      same_routes = subst (AreRoutes l) (sym (end (routes_of earlier))) good.routes
-        where
-          end : (ks : List Route) → ks ++ [] ≡ ks
-          end [] = refl
-          end (k ∷ ks) = ap (λ xs. k ∷ xs) (end ks)
+      same_routes = subst (AreRoutes l) (sym (append-nil (routes_of earlier))) good.routes
 
       more_cuts : (f : Form) → fault_of l.width (l.width * l.height) line earlier f ≡ None → AreCuts l (cuts_of earlier ++ cuts_of (f ∷ []))
       more_cuts (form.Mesh v h) e = same_cuts
@@ -240,7 +219,7 @@ module _ (l : Placement) where
           let r = route_holds l.width (l.width * l.height) line a g b earlier e in
           routes_more (routes_of earlier) (record { at = a; goal = g; next = b }) good.routes (r.at, r.next, neighbours l.width a b r.beside) r.goal r.other r.new
 
-  none_first : (a b : Option PlacementFault) → first_of a b ≡ None → (a ≡ None) × (b ≡ None)
+  none_first : (a b : Option PlacementFault) → option_or a b ≡ None → (a ≡ None) × (b ≡ None)
   none_first None b h = (refl, h)
   none_first (Some f) b h = absurd (cc)
 
@@ -287,7 +266,7 @@ told (F.NoRoute from to) o h = h
 
 pub mesh_told : (u : Code) (line : ℕ) (o : Option Form) (ks : List Kept) (f : PlacementFault) → mesh_fault line o ≡ Some f → fault_in (with_mesh u line o ks) ≡ Some f
 mesh_told u line None ks f h = h
-mesh_told u line (Some (form.Mesh w g)) ks f h = ap (λ o. fault_in (fitted_or_fault (first_of o (first_fault u w (w * g) [] ks)) (most_vars u.classes) (value_of u w g (forms_of u [] ks)))) h
+mesh_told u line (Some (form.Mesh w g)) ks f h = ap (λ o. fault_in (fitted_or_fault (option_or o (first_fault u w (w * g) [] ks)) (most_vars u.classes) (value_of u w g (forms_of u [] ks)))) h
 mesh_told u line (Some (form.Counted k n)) ks f h = h
 mesh_told u line (Some (form.Placed c s)) ks f h = h
 mesh_told u line (Some (form.Cut a b)) ks f h = h

@@ -3,7 +3,7 @@ use Rattle.std.proofs.Common.{◌≡◌, refl, ap, subst, ◌∙◌, ℕ, ◌<�
 use Rattle.std.specs.List.{All, range_with_len}
 use Rattle.std.proofs.lemmas.List.FromFn.{length-map-range_with_len}
 use Rattle.std.proofs.lemmas.List.Elements.{All-cons, All-nil}
-use Rattle.object_code.specs.Suits.{IsFromTo, IsOfMesh}
+use Rattle.code_semantics.specs.Suits.{IsFromTo, IsOfMesh}
 use Rattle.placement_reader.specs.declared.form.Count.{Count}
 use Rattle.placement_reader.specs.declared.form.Count.TheVariants as C
 use Rattle.placement_reader.specs.declared.form.Form.{Form}
@@ -11,8 +11,9 @@ use Rattle.placement_reader.specs.declared.form.Form.TheVariants as form
 use Rattle.placement_reader.specs.declared.form.Spot.{Spot}
 use Rattle.placement_reader.specs.declared.form.Spot.TheVariants as S
 use Rattle.input_lines.specs.Kept.{Kept}
-use Rattle.object_code.specs.declared.unit.Unit.{Unit as Code}
-use Rattle.placement_reader.specs.Placements.{first_fault, first_of, forms_of, places_of, with_form}
+use Rattle.code_semantics.specs.declared.unit.Unit.{Unit as Code}
+use Rattle.placement_reader.specs.Placements.{first_fault, forms_of, places_of, with_form}
+use Rattle.std.specs.Option.{option_or}
 use Rattle.placement_reader.specs.Forms.{AreFine, IsFine, fault_or_bad, form_of, is_class, is_kind, most, number_in, place_of, place_or_same, spot_in}
 
 pub fine_push : (nodes : ℕ) (fs : List Form) (f : Form) → AreFine nodes fs → IsFine nodes f → AreFine nodes (fs ++ f ∷ [])
@@ -75,7 +76,7 @@ pub step_fault : (u : Code) (w nodes : ℕ) (earlier : List Form) (k : Kept) (f 
     → form_of u k.words ≡ Some f → fault_or_bad w nodes k.line earlier (form_of u k.words) ≡ None
     → first_fault u w nodes earlier (k ∷ ks) ≡ first_fault u w nodes (earlier ++ f ∷ []) ks
 step_fault u w nodes earlier k f ks e ok =
-    ap (λ o. first_of o (first_fault u w nodes (with_form earlier (form_of u k.words)) ks)) ok ∙ ap (λ o. first_fault u w nodes (with_form earlier o) ks) e
+    ap (λ o. option_or o (first_fault u w nodes (with_form earlier (form_of u k.words)) ks)) ok ∙ ap (λ o. first_fault u w nodes (with_form earlier o) ks) e
 
 pub step_forms : (u : Code) (earlier : List Form) (k : Kept) (f : Form) (ks : List Kept)
     → form_of u k.words ≡ Some f → forms_of u earlier (k ∷ ks) ≡ forms_of u (earlier ++ f ∷ []) ks

@@ -1,26 +1,27 @@
 -- A placement that a text is for the classes of a unit suits the unit.
 use Rattle.std.proofs.Common.{◌≡◌, refl, subst, ◌∙◌, ap, ℕ, ◌+◌, ◌*◌, ◌≤◌, List, [], ◌∷◌, length, Option, Some, None, Ok, Err, Result, IfSome, unwrap_or, Bool, true, false, ◌&&◌, nat_le, arith}
 use Rattle.std.proofs.lemmas.Bool.Decides.{nat_tests}
-use Rattle.pool_syntax.specs.Tokens.{Text}
-use Rattle.pool_syntax.specs.declared.words.Placement.{Placement}
-use Rattle.pool_lexer.specs.Lines.{lines}
+use Rattle.run_words.specs.Text.{Text}
+use Rattle.run_words.specs.declared.words.Placement.{Placement}
+use Rattle.run_words.specs.Lines.{lines}
 use Rattle.input_lines.specs.Kept.{Kept, kept}
-use Rattle.object_code.specs.declared.unit.Unit.{Unit as Code}
-use Rattle.object_code.specs.Suits.{IsFromTo, Suits, most_vars, words}
-use Rattle.mesh_semantics.specs.Tables.{Pair}
-use Rattle.mesh_semantics.specs.Routes.{without_route}
-use Rattle.mesh_semantics.proofs.Laws.{first, second, routed_ways}
+use Rattle.code_semantics.specs.declared.unit.Unit.{Unit as Code}
+use Rattle.code_semantics.specs.Suits.{IsFromTo, Suits, most_vars, words}
+use Rattle.run_words.specs.Tables.{Pair}
+use Rattle.run_words.specs.Routes.{without_route}
+use Rattle.run_words.proofs.Laws.{first, second, routed_ways}
 use Rattle.placement_reader.specs.declared.fault.PlacementFault.{PlacementFault}
 use Rattle.placement_reader.specs.declared.fault.PlacementFault.TheVariants as F
 use Rattle.placement_reader.specs.declared.form.Form.{Form}
 use Rattle.placement_reader.specs.declared.form.Form.TheVariants as form
 use Rattle.placement_reader.specs.declared.form.Count.TheVariants as C
 use Rattle.placement_reader.specs.Forms.{AreFine, fault_or_bad, form_of, is_from_one, number_in}
-use Rattle.placement_reader.specs.Placements.{connected, first_fault, first_of, fitted, fitted_or_fault, forms_of, mesh_fault, placement_of, placement_of_lines, value_of, with_form, with_mesh}
+use Rattle.placement_reader.specs.Placements.{connected, first_fault, fitted, fitted_or_fault, forms_of, mesh_fault, placement_of, placement_of_lines, value_of, with_form, with_mesh}
+use Rattle.std.specs.Option.{option_or}
 use Rattle.placement_reader.proofs.Faultless.{fine_of, routed}
 use Rattle.placement_reader.proofs.Fine.{counted, fine_push, number_fine, places_there}
 
-none_both : (a b : Option PlacementFault) → first_of a b ≡ None → (a ≡ None) × (b ≡ None)
+none_both : (a b : Option PlacementFault) → option_or a b ≡ None → (a ≡ None) × (b ≡ None)
 none_both None b h = (refl, h)
 none_both (Some f) b h = absurd (cc)
 
@@ -71,7 +72,7 @@ number_or None high n h d = d
 number_or (Some m) high n h d = h
 
 mesh_suits : (u : Code) (line w h : ℕ) (ks : List Kept) (l : Placement) → with_mesh u line (Some (form.Mesh w h)) ks ≡ Ok l → Suits l u
-mesh_suits u line w h ks l e = by (first_of (mesh_fault line (Some (form.Mesh w h))) (first_fault u w (w * h) [] ks)) refl e
+mesh_suits u line w h ks l e = by (option_or (mesh_fault line (Some (form.Mesh w h))) (first_fault u w (w * h) [] ks)) refl e
   where
     suits : (mesh_fault line (Some (form.Mesh w h)) ≡ None) × (first_fault u w (w * h) [] ks ≡ None) → HasFitted (value_of u w h (forms_of u [] ks)) l (most_vars u.classes) → Suits l u
     suits none fits =
@@ -91,7 +92,7 @@ mesh_suits u line w h ks l e = by (first_of (mesh_fault line (Some (form.Mesh w 
           ways = routed_ways (value_of u w h (forms_of u [] ks)) routes fits.connects;
         })
 
-    by : (o : Option PlacementFault) → first_of (mesh_fault line (Some (form.Mesh w h))) (first_fault u w (w * h) [] ks) ≡ o
+    by : (o : Option PlacementFault) → option_or (mesh_fault line (Some (form.Mesh w h))) (first_fault u w (w * h) [] ks) ≡ o
         → fitted_or_fault o (most_vars u.classes) (value_of u w h (forms_of u [] ks)) ≡ Ok l → Suits l u
     by None i g =
         suits (none_both (mesh_fault line (Some (form.Mesh w h))) (first_fault u w (w * h) [] ks) i) (fitted_says (value_of u w h (forms_of u [] ks)) l (most_vars u.classes) g)

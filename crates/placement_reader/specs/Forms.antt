@@ -1,16 +1,17 @@
 -- The forms of a placement's lines, and their faults.
 use Rattle.std.specs.Prelude.{ℕ, ◌+◌, ◌<◌, List, [], ◌∷◌, Option, Some, None, is_some, Bool, true, false, ◌&&◌, not, nat_eq, nat_le, nat_lt, bytes_eq, codes}
-use Rattle.pool_syntax.specs.Table.{is_among, name_of}
-use Rattle.pool_syntax.specs.Tokens.{Text}
-use Rattle.pool_syntax.specs.declared.words.Place.{Place}
-use Rattle.pool_syntax.specs.declared.words.Place.TheVariants as P
-use Rattle.pool_syntax.specs.declared.words.LinkId.{LinkId}
-use Rattle.pool_syntax.specs.declared.words.Route.{Route}
-use Rattle.mesh_semantics.specs.Paths.{are_neighbours, is_cut, route_of}
+use Rattle.run_words.specs.Partial.{◌>>=◌, only_if, unless}
+use Rattle.run_words.specs.Table.{is_among, name_of}
+use Rattle.run_words.specs.Text.{Text}
+use Rattle.run_words.specs.declared.words.Place.{Place}
+use Rattle.run_words.specs.declared.words.Place.TheVariants as P
+use Rattle.run_words.specs.declared.words.LinkId.{LinkId}
+use Rattle.run_words.specs.declared.words.Route.{Route}
+use Rattle.run_words.specs.Paths.{are_neighbours, is_cut, route_of}
 use Rattle.input_lines.specs.Kept.{number_of}
-use Rattle.object_code.specs.Suits.{IsFromTo, IsOfMesh}
-use Rattle.object_code.specs.declared.unit.ClassCode.{ClassCode}
-use Rattle.object_code.specs.declared.unit.Unit.{Unit as Code}
+use Rattle.code_semantics.specs.Suits.{IsFromTo, IsOfMesh}
+use Rattle.code_semantics.specs.declared.unit.ClassCode.{ClassCode}
+use Rattle.code_semantics.specs.declared.unit.Unit.{Unit as Code}
 use Rattle.placement_reader.specs.declared.fault.PlacementFault.{PlacementFault}
 use Rattle.placement_reader.specs.declared.fault.PlacementFault.TheVariants as F
 use Rattle.placement_reader.specs.declared.form.Form.{Form}
@@ -28,14 +29,6 @@ class_numbered at n (k ∷ ks) = elim (nat_eq k.name.0 n) [ true ↦ Some at | f
 -- the place of the class of this name; the table of names has each text once
 abbrev pub class_named : Code → Text → Option ℕ
 class_named u w = elim (is_among u.names w) [ true ↦ class_numbered 0 (name_of u.names w) u.classes | false ↦ None ]
-
-abbrev pub then_some : {A : Type 0} → Option ℕ → (ℕ → Option A) → Option A
-then_some None next = None
-then_some (Some n) next = next n
-
-abbrev pub only_if : {A : Type 0} → Bool → Option A → Option A
-only_if true a = a
-only_if false a = None
 
 -- the count that a word names
 abbrev pub kind_of : Text → Option Count
@@ -59,9 +52,9 @@ place_form class (Some spot) = Some (form.Placed class spot)
 -- `mesh W H`, `cut A B`, `place C same`, `place C spread`
 abbrev pub form_of_three : Code → Text → Text → Text → Option Form
 form_of_three u w a b = elim (bytes_eq w (codes "mesh")) [
-  | true ↦ then_some (number_of a) (λ width. then_some (number_of b) (λ height. Some (form.Mesh width height)))
+  | true ↦ number_of a >>= λ width. number_of b >>= λ height. Some (form.Mesh width height)
   | false ↦ elim (bytes_eq w (codes "cut")) [
-    | true ↦ then_some (number_of a) (λ from. then_some (number_of b) (λ to. Some (form.Cut from to)))
+    | true ↦ number_of a >>= λ from. number_of b >>= λ to. Some (form.Cut from to)
     | false ↦ only_if (bytes_eq w (codes "place")) (place_form (class_named u a) (spot_of b))
   ]
 ]
@@ -69,8 +62,8 @@ form_of_three u w a b = elim (bytes_eq w (codes "mesh")) [
 -- `route A G B`, `place C at K`
 abbrev pub form_of_four : Code → Text → Text → Text → Text → Option Form
 form_of_four u w a b c = elim (bytes_eq w (codes "route")) [
-  | true ↦ then_some (number_of a) (λ at. then_some (number_of b) (λ goal. then_some (number_of c) (λ next. Some (form.Routed at goal next))))
-  | false ↦ only_if (bytes_eq w (codes "place") && bytes_eq b (codes "at")) (then_some (number_of c) (λ node. Some (form.Placed (class_named u a) (S.At node))))
+  | true ↦ number_of a >>= λ at. number_of b >>= λ goal. number_of c >>= λ next. Some (form.Routed at goal next)
+  | false ↦ only_if (bytes_eq w (codes "place") && bytes_eq b (codes "at")) (number_of c >>= λ node. Some (form.Placed (class_named u a) (S.At node)))
 ]
 
 -- the form of a line, whatever its numbers and its class
@@ -146,10 +139,6 @@ abbrev pub is_there : ℕ → Spot → Bool
 is_there nodes (S.At n) = nat_lt n nodes
 is_there nodes S.Same = true
 is_there nodes S.Spread = true
-
-abbrev pub unless : Bool → PlacementFault → Option PlacementFault → Option PlacementFault
-unless true fault next = next
-unless false fault next = Some fault
 
 -- the fault of least number of a form behind a mesh of this width, on this line and after these forms; the mesh itself stands before all of them
 abbrev pub fault_of : ℕ → ℕ → ℕ → List Form → Form → Option PlacementFault

@@ -1,15 +1,16 @@
 -- The placement that a text is, or its first fault.
 use Rattle.std.specs.Prelude.{◌≡◌, ℕ, ◌+◌, ◌*◌, List, [], ◌∷◌, ◌++◌, length, map, Option, Some, None, unwrap_or, Result, Ok, Err, true, false, ◌&&◌, nat_le}
 use Rattle.std.specs.List.{range_with_len}
-use Rattle.pool_syntax.specs.Tokens.{Text}
-use Rattle.pool_syntax.specs.declared.words.Place.{Place}
-use Rattle.pool_syntax.specs.declared.words.Placement.{Placement}
-use Rattle.mesh_semantics.specs.Tables.{Pair}
-use Rattle.mesh_semantics.specs.Routes.{without_route}
-use Rattle.pool_lexer.specs.Lines.{lines}
+use Rattle.std.specs.Option.{option_or}
+use Rattle.run_words.specs.Text.{Text}
+use Rattle.run_words.specs.declared.words.Place.{Place}
+use Rattle.run_words.specs.declared.words.Placement.{Placement}
+use Rattle.run_words.specs.Tables.{Pair}
+use Rattle.run_words.specs.Routes.{without_route}
+use Rattle.run_words.specs.Lines.{lines}
 use Rattle.input_lines.specs.Kept.{Kept, kept}
-use Rattle.object_code.specs.Suits.{IsFromTo, most_vars, words}
-use Rattle.object_code.specs.declared.unit.Unit.{Unit as Code}
+use Rattle.code_semantics.specs.Suits.{IsFromTo, most_vars, words}
+use Rattle.code_semantics.specs.declared.unit.Unit.{Unit as Code}
 use Rattle.placement_reader.specs.declared.fault.PlacementFault.{PlacementFault}
 use Rattle.placement_reader.specs.declared.fault.PlacementFault.TheVariants as F
 use Rattle.placement_reader.specs.declared.form.Form.{Form}
@@ -17,10 +18,6 @@ use Rattle.placement_reader.specs.declared.form.Form.TheVariants as form
 use Rattle.placement_reader.specs.declared.form.Count.TheVariants as C
 use Rattle.placement_reader.specs.declared.read.Mesh.{Mesh}
 use Rattle.placement_reader.specs.Forms.{cuts_of, fault_or_bad, form_of, is_from_one, number_in, place_or_same, routes_of, spot_in}
-
-abbrev pub first_of : Option PlacementFault → Option PlacementFault → Option PlacementFault
-first_of None later = later
-first_of (Some f) later = Some f
 
 abbrev pub with_form : List Form → Option Form → List Form
 with_form fs None = fs
@@ -30,7 +27,7 @@ with_form fs (Some f) = fs ++ f ∷ []
 abbrev pub first_fault : Code → ℕ → ℕ → List Form → List Kept → Option PlacementFault
 first_fault u w nodes earlier [] = None
 first_fault u w nodes earlier (k ∷ ks) =
-    first_of (fault_or_bad w nodes k.line earlier (form_of u k.words)) (first_fault u w nodes (with_form earlier (form_of u k.words)) ks)
+    option_or (fault_or_bad w nodes k.line earlier (form_of u k.words)) (first_fault u w nodes (with_form earlier (form_of u k.words)) ks)
 
 -- the forms of all lines, after these
 abbrev pub forms_of : Code → List Form → List Kept → List Form
@@ -87,7 +84,7 @@ pub record IsMeshLine (line : ℕ) (f : Option Form) (m : Mesh) : Type 0 where
 abbrev pub with_mesh : Code → ℕ → Option Form → List Kept → Result Placement PlacementFault
 with_mesh u line None ks = Err (F.BadLine line)
 with_mesh u line (Some (form.Mesh w h)) ks =
-    fitted_or_fault (first_of (mesh_fault line (Some (form.Mesh w h))) (first_fault u w (w * h) [] ks)) (most_vars u.classes) (value_of u w h (forms_of u [] ks))
+    fitted_or_fault (option_or (mesh_fault line (Some (form.Mesh w h))) (first_fault u w (w * h) [] ks)) (most_vars u.classes) (value_of u w h (forms_of u [] ks))
 with_mesh u line (Some (form.Counted k n)) ks = Err (F.BadLine line)
 with_mesh u line (Some (form.Placed c s)) ks = Err (F.BadLine line)
 with_mesh u line (Some (form.Cut a b)) ks = Err (F.BadLine line)

@@ -1,12 +1,12 @@
 //! The forms of a placement's lines.
 ghost use Rattle.std.specs.Prelude.{◌≡◌};
-ghost use Rattle.pool_lexer.specs.Lines.{words};
+ghost use Rattle.run_words.specs.Lines.{words};
 ghost use Rattle.input_lines.specs.Kept.{number_of};
 ghost use Rattle.placement_reader.specs.Forms.{class_named, class_numbered, count_form, form_of, form_of_four, form_of_three, kind_of, spot_of};
 
+use code_semantics::{ClassCode, Unit};
 use input_lines::{Few, few_words, number};
-use object_code::{ClassCode, Unit};
-use pool_syntax::NameId;
+use run_words::NameId;
 
 /// What is counted at each node.
 #[derive(Clone, Copy)]

@@ -1,13 +1,13 @@
 //! What the lines so far say.
 ghost use Rattle.std.specs.Prelude.{◌≡◌, ◌≤◌, ◌<◌, [], ◌∷◌, length, IfOk};
 ghost use Rattle.std.specs.List.{range_with_len};
-ghost use Rattle.object_code.specs.Suits.{IsFromTo, IsOfMesh};
-ghost use Rattle.mesh_semantics.specs.Paths.{is_cut, route_of};
+ghost use Rattle.code_semantics.specs.Suits.{IsFromTo, IsOfMesh};
+ghost use Rattle.run_words.specs.Paths.{is_cut, route_of};
 ghost use Rattle.placement_reader.specs.Forms.{AreFine, cuts_of, is_class, is_kind, most, number_in, place_of, place_or_same, routes_of, spot_in};
 ghost use Rattle.placement_reader.specs.Placements.{places_of};
 
 use crate::form::{Count, Form, Spot};
-use pool_syntax::{List, Place};
+use run_words::{List, Place};
 use std::alloc::{AllocError, Global};
 
 fn is_kind(one: Count, other: Count) -> bool

@@ -1,14 +1,14 @@
 //! The fault of a line.
 ghost use Rattle.std.specs.Prelude.{◌≡◌, ◌≤◌, ◌<◌, ◌∷◌, IfOk, IfErr, Some, None};
-ghost use Rattle.pool_lexer.specs.Lines.{words};
+ghost use Rattle.run_words.specs.Lines.{words};
 ghost use Rattle.placement_reader.specs.declared.form.Form.TheVariants.{Counted, Cut, Placed, Routed};
 ghost use Rattle.placement_reader.specs.Forms.{IsFine, fault_of, fault_or_bad, form_of, is_from_one, is_there, most};
 
 use crate::fault::PlacementFault;
 use crate::form::{Count, Form, Spot, form_in};
 use crate::forms::{is_cut, number_in, route_in, spot_in};
+use code_semantics::Unit;
 use mesh_routing::are_neighbours;
-use object_code::Unit;
 
 /// The greatest number of a kind, for each node.
 pub fn most(kind: Count) -> u64

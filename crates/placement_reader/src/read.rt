@@ -1,11 +1,11 @@
 //! Reads a placement.
 ghost use Rattle.std.specs.Prelude.{◌≡◌, ◌+◌, ◌*◌, ◌≤◌, [], length, drop, unwrap_or, IfOk, IfErr, IfNone, IfSome, OnOk, Ok, Some, None};
 ghost use Rattle.std.specs.List.{All};
-ghost use Rattle.pool_lexer.specs.Lines.{lines, words as line_words};
+ghost use Rattle.run_words.specs.Lines.{lines, words as line_words};
 ghost use Rattle.input_lines.specs.Kept.{kept_from};
-ghost use Rattle.object_code.specs.Suits.{IsFromTo, IsOfMesh, Suits, most_vars, words};
+ghost use Rattle.code_semantics.specs.Suits.{IsFromTo, IsOfMesh, Suits, most_vars, words};
 ghost use Rattle.placement_reader.specs.declared.form.Count.TheVariants.{Objects, Frames, Cells};
-ghost use Rattle.mesh_semantics.specs.Routes.{IsRouted, without_route};
+ghost use Rattle.run_words.specs.Routes.{IsRouted, without_route};
 ghost use Rattle.placement_reader.specs.Forms.{AreFine, cuts_of, form_of, most, number_in, place_or_same, routes_of, spot_in};
 ghost use Rattle.placement_reader.specs.Placements.{IsMeshLine, IsTold, connected, fault_in, first_fault, fitted, forms_of, mesh_fault, placement_of, places_of, value_of};
 
@@ -13,9 +13,9 @@ use crate::fault::PlacementFault;
 use crate::form::{Count, Form, Spot, form_in};
 use crate::forms::{number_in, spot_in};
 use crate::judge::{is_from_one, judge};
+use code_semantics::{ClassCode, Unit};
 use input_lines::{count_lines, next_kept};
-use object_code::{ClassCode, Unit};
-use pool_syntax::{LinkId, List, Place, Placement, Route};
+use run_words::{LinkId, List, Place, Placement, Route};
 use std::alloc::{AllocError, Global};
 use table_routing::{Table, TableFault};
 

@@ -1,10 +1,10 @@
 -- The number of methods under way after a change.
 use Rattle.std.proofs.Common.{◌≡◌, refl, ap, ap₂, sym, ◌∙◌, ℕ, suc, ◌+◌, ◌-◌, List, [], ◌∷◌, ◌++◌, length, length-append, slice_get, Option, Some, None, true, ◌⊎◌, inl, inr, arith}
-use Rattle.pool_syntax.specs.declared.words.Value.{Value}
+use Rattle.run_words.specs.declared.words.Value.{Value}
 use Rattle.pool_syntax.specs.TreeOf.{expression_of, statements_of}
 use Rattle.pool_syntax.specs.Terms as T
 use Rattle.pool_syntax.specs.Terms.{Store, Expression, Statements, append}
-use Rattle.pool_relation.specs.Reducible.{Part, AsExpression, AsStatements, set_value, fill_statements}
+use Rattle.pool_relation.specs.Reducible.{Contractum, AsExpression, AsStatements, set_value, fill_statements}
 use Rattle.pool_relation.specs.Action.{Object, literal}
 use Rattle.pool_relation.specs.UnderWay.{in_expression, in_statements, frames_of}
 use Rattle.term_stack.specs.declared.parts.Now.{Now}
@@ -80,7 +80,7 @@ at_assignment xs n x v h = by (slice_get xs (length xs - 1)) refl
         rw s.1 (ap frames_of (assigned_around s.0 a n x v h) ∙ inner s.0 a ∙ sym (one_more s.0 a))
 
 -- a method ends
-at_end : (xs : List Activation) (n : Now) (part : Part) → is_end n ≡ true → end_part xs n ≡ part
+at_end : (xs : List Activation) (n : Now) (part : Contractum) → is_end n ≡ true → end_part xs n ≡ part
     → frames_of (fill_statements (bottom (layers xs (stopped n))) part) ≡ length xs - 1
 at_end xs n part h e =
     ap (λ q. frames_of (fill_statements (bottom (layers xs (stopped n))) q)) (sym e) ∙ by (slice_get xs (length xs - 1)) refl

@@ -1,13 +1,13 @@
 -- What the code's account of an object's next act stands for.
 use Rattle.std.specs.Prelude.{◌≡◌, ℕ, List, Option, Some, Bool, true, false, ◌==◌, ◌&&◌, IsTrue}
-use Rattle.pool_syntax.specs.declared.words.Value.{Value}
-use Rattle.pool_syntax.specs.declared.words.Error.{Error}
+use Rattle.run_words.specs.declared.words.Value.{Value}
+use Rattle.run_words.specs.declared.words.Error.{Error}
 use Rattle.pool_syntax.specs.declared.tree.Named.{Named}
 use Rattle.pool_syntax.specs.TreeOf.{expression_of, statements_of, method_tree}
 use Rattle.pool_syntax.specs.Terms as T
 use Rattle.pool_syntax.specs.Terms.{Store, Statements, append}
 use Rattle.pool_relation.specs.Reducible.{Choice, AsStatements, AsExpression, set_value, fill_statements}
-use Rattle.pool_syntax.specs.Values.{is_same}
+use Rattle.run_words.specs.Values.{is_same}
 use Rattle.pool_relation.specs.Action as A
 use Rattle.pool_relation.specs.Action.{Object, Action, literal, temps_of}
 use Rattle.pool_relation.specs.Transition.{refilled, given, returned, serving}

@@ -1,18 +1,17 @@
 //! What an object does next.
-ghost use Rattle.std.specs.Prelude.{◌≡◌, [], ◌∷◌, Option, Some, None, IsTrue, ℕ};
+ghost use Rattle.std.specs.Prelude.{◌≡◌, [], ◌∷◌, Option, Some, None, IsTrue, ℕ, ◌-◌, List, length, slice_get, true, not};
 ghost use Rattle.std.specs.List.{list_any};
 ghost use Rattle.pool_syntax.specs.TreeOf.{program_of};
 ghost use Rattle.pool_syntax.specs.Terms.{Statements, Store, ProgramTree};
 ghost use Rattle.pool_relation.specs.Reducible.{Choice};
 ghost use Rattle.pool_relation.specs.Action.{Object, action, redex_action, on_outcome, on_select, on_assignment};
-ghost use Rattle.pool_syntax.specs.Values.{is_nil, not_bool, is_true};
+ghost use Rattle.run_words.specs.Values.{is_nil, not_bool, is_true};
 ghost use Rattle.term_stack.specs.Parts.{term_of, task as statement};
 ghost use Rattle.term_stack.specs.Reduced.{assigns, reduced, task_redex, last_redex, choices, temps_at};
 ghost use Rattle.value_operators.specs.Operated.{outcome_of};
 ghost use Rattle.plain_object.specs.Acts.{acted, object_with, Suits, returns_act, waits_act, calls_act, posts_act};
 ghost use Rattle.term_stack.specs.Arguments.{ready_args, task_args, task_names, task_choices, now_args, now_names, now_choices};
-ghost use Rattle.std.specs.Prelude.{◌-◌, List, length, slice_get, true, not};
-ghost use Rattle.pool_syntax.specs.declared.words.Value.{Value};
+ghost use Rattle.run_words.specs.declared.words.Value.{Value};
 ghost use Rattle.pool_syntax.specs.declared.tree.Named.{Named};
 ghost use Rattle.term_stack.specs.Changes.{is_expression, is_statement, is_end, keeps_temps, next_ready, next_assigns, assigning, end_value};
 ghost use Rattle.term_stack.specs.declared.parts.Activation.{Activation};
@@ -20,7 +19,8 @@ ghost use Rattle.term_stack.specs.declared.parts.Now.{Now};
 
 use crate::change::Change;
 use crate::lookup::{find_class, find_method, value_of};
-use pool_syntax::{Error, Item, NameId, Program, Value};
+use pool_syntax::Program;
+use run_words::{Error, Item, NameId, Value};
 use term_stack::parts::{Activation, Binding, Guarded, Now, Operand, Outer, Ready, Task, Work};
 use value_operators::operators::{Answer, operate, operate_one, same};
 
@@ -62,7 +62,8 @@ fn act_ready<'a>(
     vars: &[Binding],
     redex: &Ready,
 ) -> Act<'a>
-    ensures gives { (tm : Statements) (f : Option Error) → redex_action (program_of program.now) name (object_with class vars.now tm f) temps.now (reduced redex.now) ≡ acted (object_with class vars.now tm f) (ready_args redex.now) [] [] result }
+    ensures gives { (tm : Statements) (f : Option Error)
+        → redex_action (program_of program.now) name (object_with class vars.now tm f) temps.now (reduced redex.now) ≡ acted (object_with class vars.now tm f) (ready_args redex.now) [] [] result }
     ensures suits { (xs : List Activation) (n : Now) → is_expression n ≡ true → next_ready n ≡ Some redex.now → Suits xs n result }
 {
     match redex {
@@ -164,7 +165,9 @@ fn act_assign<'a>(temps: &[Binding], vars: &[Binding], name: u32, value: Value) 
 
 /// What an object does at a statement.
 fn act_task<'a>(class: u32, temps: &[Binding], vars: &[Binding], task: &Task<'a>) -> Act<'a>
-    ensures gives { (p : ProgramTree) (o : ℕ) (tm : Statements) (f : Option Error) → redex_action p o (object_with class vars.now tm f) temps.now (task_redex task.now) ≡ acted (object_with class vars.now tm f) (task_args task.now) (task_names task.now) (task_choices task.now) result }
+    ensures gives { (p : ProgramTree) (o : ℕ) (tm : Statements) (f : Option Error)
+        → redex_action p o (object_with class vars.now tm f) temps.now (task_redex task.now)
+        ≡ acted (object_with class vars.now tm f) (task_args task.now) (task_names task.now) (task_choices task.now) result }
     ensures suits { (xs : List Activation) (n : Now) → is_statement n ≡ true → keeps_temps n ≡ not (assigns (statement task.now)) → next_assigns n ≡ assigning task.now → Suits xs n result }
 {
     match task {
@@ -200,7 +203,8 @@ fn act_task<'a>(class: u32, temps: &[Binding], vars: &[Binding], task: &Task<'a>
 
 /// What an object does at the end of a method with this value.
 fn act_end<'a>(call: &Activation<'_>, value: Operand) -> Act<'a>
-    ensures gives { (p : ProgramTree) (o : ℕ) (x : Object) (t : Store) (vs : List Value) (ns : List Named) (cs : List Choice) → redex_action p o x t (last_redex call.now value) ≡ acted x vs ns cs result }
+    ensures gives { (p : ProgramTree) (o : ℕ) (x : Object) (t : Store) (vs : List Value) (ns : List Named) (cs : List Choice)
+        → redex_action p o x t (last_redex call.now value) ≡ acted x vs ns cs result }
     ensures suits { (xs : List Activation) (n : Now) → is_end n ≡ true → slice_get xs (length xs - 1) ≡ Some call.now → end_value call.now.stage n ≡ value → Suits xs n result }
 {
     match &call.outer {
@@ -248,7 +252,9 @@ pub fn next_act<'a>(
     class: u32,
     vars: &[Binding],
 ) -> Act<'a>
-    ensures gives { (f : Option Error) → action (program_of program.now) name (object_with class vars.now (term_of work.now) f) ≡ acted (object_with class vars.now (term_of work.now) f) (now_args work.now.next) (now_names work.now.next) (now_choices work.now.next) result }
+    ensures gives { (f : Option Error)
+        → action (program_of program.now) name (object_with class vars.now (term_of work.now) f)
+        ≡ acted (object_with class vars.now (term_of work.now) f) (now_args work.now.next) (now_names work.now.next) (now_choices work.now.next) result }
     ensures suits { Suits work.now.calls.items work.now.next result }
 {
     let calls = work.calls.as_slice();

@@ -1,10 +1,10 @@
 //! The arguments of the redex.
 ghost use Rattle.std.specs.Prelude.{◌≡◌};
-ghost use Rattle.mesh_semantics.specs.Same.{are_same};
+ghost use Rattle.run_words.specs.Same.{are_same};
 ghost use Rattle.term_stack.specs.Reduced.{values};
 ghost use Rattle.term_stack.specs.Arguments.{now_args};
 
-use pool_syntax::Value;
+use run_words::Value;
 use term_stack::parts::{Now, Operand, Ready, Task, Work};
 use value_operators::operators::same;
 

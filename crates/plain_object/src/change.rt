@@ -1,5 +1,6 @@
 //! The changes that a transition makes to one object.
-use pool_syntax::{Args, Error, Expr, Method, NameId, Stmt, Value};
+use pool_syntax::{Expr, Method, Stmt};
+use run_words::{Args, Error, NameId, Value};
 
 /// What takes the place of an object's redex.
 #[derive(Clone, Copy)]

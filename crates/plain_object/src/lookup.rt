@@ -6,7 +6,8 @@ ghost use Rattle.pool_relation.specs.Action.{value_of, method_of};
 ghost use Rattle.pool_relation.specs.Reducible.{set_value};
 ghost use Rattle.plain_object.specs.Looked.{class_seen, method_seen, methods_of};
 
-use pool_syntax::{ClassDecl, Method, Program, Value};
+use pool_syntax::{ClassDecl, Method, Program};
+use run_words::Value;
 use term_stack::parts::Binding;
 
 /// The value of a variable.

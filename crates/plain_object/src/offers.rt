@@ -1,7 +1,7 @@
 //! What an answer or a select offers.
 ghost use Rattle.std.specs.Prelude.{◌≡◌, [], ◌∷◌, Option, Some, None};
 ghost use Rattle.std.specs.List.{list_any};
-ghost use Rattle.pool_syntax.specs.Values.{is_true};
+ghost use Rattle.run_words.specs.Values.{is_true};
 ghost use Rattle.pool_relation.specs.Action as A;
 ghost use Rattle.pool_relation.specs.Ready.{is_open_plain};
 ghost use Rattle.pool_relation.specs.Transition.{names_method, picked, plain_choice, select_offer};
@@ -10,7 +10,8 @@ ghost use Rattle.term_stack.specs.Arguments.{now_names, now_choices};
 ghost use Rattle.plain_object.specs.Offers.{offered, work_seen, offer_act};
 
 use crate::act::Act;
-use pool_syntax::{Named, Stmt, Value};
+use pool_syntax::{Named, Stmt};
+use run_words::Value;
 use term_stack::parts::{Guarded, Now, Task, Work};
 
 /// The methods that an object may serve next, and what it does after one of them.

@@ -9,7 +9,8 @@ ghost use Rattle.plain_object.specs.Things.{thing_object};
 
 use crate::act::{Act, next_act};
 use crate::change::Change;
-use pool_syntax::{ClassDecl, Error, Program};
+use pool_syntax::{ClassDecl, Program};
+use run_words::Error;
 use std::alloc::{AllocError, Global};
 use term_stack::parts::{Binding, Work};
 use term_stack::work::{nil_store, set};
@@ -40,7 +41,8 @@ impl<'a> Thing<'a> {
 
     /// What the object of this name does next, if it has no fault.
     pub fn act(&self, program: &'a Program, name: u32) -> Act<'a>
-        ensures gives { action (program_of program.now) name (thing_object self.now) ≡ acted (thing_object self.now) (now_args self.now.work.next) (now_names self.now.work.next) (now_choices self.now.work.next) result }
+        ensures gives { action (program_of program.now) name (thing_object self.now)
+            ≡ acted (thing_object self.now) (now_args self.now.work.next) (now_names self.now.work.next) (now_choices self.now.work.next) result }
         ensures suits { Suits self.now.work.calls.items self.now.work.next result }
     {
         next_act(&self.work, program, name, self.class, self.vars.as_slice())

@@ -2,9 +2,8 @@
 #![tactic(auto)]
 
 ghost use Rattle.run_driver.specs.Writing.{writing};
-ghost use Rattle.std.specs.Prelude.{◌≡◌, ◌⊎◌, ◌-◌, ◌^◌, ◌≤◌, ◌<◌, ◌++◌, [], ◌∷◌};
-ghost use Rattle.std.specs.Prelude.{Some, false, codes, option_map, IfSome};
-ghost use Rattle.pool_syntax.specs.Tokens.{Text};
+ghost use Rattle.std.specs.Prelude.{◌≡◌, ◌⊎◌, ◌-◌, ◌^◌, ◌≤◌, ◌<◌, ◌++◌, [], ◌∷◌, Some, false, codes, option_map, IfSome};
+ghost use Rattle.run_words.specs.Text.{Text};
 ghost use Rattle.std.specs.Process.{exit_status};
 ghost use Rattle.pool_outside.specs.Outside.{Rose};
 ghost use Rattle.pool_driver.specs.Commands.{Request, request_of, texts_of};

@@ -1,11 +1,11 @@
 -- The bytes of the file of a program say this file, which is verified.
 use Rattle.std.proofs.Common.{◌≡◌, refl, sym, subst, true, List}
-use Rattle.pool_syntax.specs.Tokens.{Text}
+use Rattle.run_words.specs.Text.{Text}
 use Rattle.pool_syntax.specs.Terms.{ProgramTree}
 use Rattle.pool_syntax.specs.Spelled.{is_spelled}
-use Rattle.object_code.specs.declared.file.UnitFile.{UnitFile}
+use Rattle.code_semantics.specs.declared.file.UnitFile.{UnitFile}
 use Rattle.object_code.specs.FileBytes.{file_bytes}
-use Rattle.object_code.specs.Shaped.{IsShaped, IsShort}
+use Rattle.code_semantics.specs.Shaped.{IsShaped, IsShort}
 use Rattle.code_verdict.specs.Verdict.{Good, verdict}
 use Rattle.code_verdict.proofs.Laws.{good_is_verified}
 use Rattle.readable_records.proofs.Laws.{code_is_spelled, parsed_distinct}

@@ -1,9 +1,9 @@
 -- The lines of a record, written one after another.
 use Rattle.std.proofs.Common.{◌≡◌, ◌∙◌, ◌+◌, ◌<◌, ◌++◌, ℕ, suc, List, [], ◌∷◌, length, drop, get_or, Result, Ok, Err, OnErr, refl, sym, ap, subst}
 use Rattle.std.proofs.lemmas.List.{append-nil, append_assoc, drop_more}
-use Rattle.pool_syntax.specs.Tokens.{Text}
-use Rattle.pool_syntax.specs.declared.words.Line.{Line}
-use Rattle.mesh_semantics.specs.Asks.{asks, asks_from}
+use Rattle.run_words.specs.Text.{Text}
+use Rattle.run_words.specs.declared.words.Line.{Line}
+use Rattle.run_words.specs.Asks.{asks, asks_from}
 use Rattle.record_lines.specs.SecondForm.{form_text, line_text2, lines_text2, text2}
 use Rattle.run_driver.specs.Writing.{Writing, Wrote, WroteFront}
 use Rattle.run_driver.proofs.Laws.{Follows, front_of_both, front_of_first, then, wrote_both}

@@ -2,11 +2,11 @@
 use Rattle.std.proofs.Common.{◌≡◌, ◌∙◌, ◌⊎◌, inl, inr, ◌≤◌, ◌||◌, ◌++◌, ℕ, Bool, true, false, List, [], ◌∷◌, length, Option, Some, None, Ok, Err, refl, sym, subst, arith}
 use Rattle.std.proofs.lemmas.List.{append-nil, append_assoc}
 use Rattle.pool_outside.specs.Outside.{Rose}
-use Rattle.pool_syntax.specs.Tokens.{Text}
-use Rattle.pool_syntax.specs.declared.words.End.{End}
-use Rattle.pool_syntax.specs.declared.words.End.TheVariants as F
-use Rattle.pool_syntax.specs.declared.words.Line.{Line}
-use Rattle.pool_syntax.specs.declared.words.Line.TheVariants as R
+use Rattle.run_words.specs.Text.{Text}
+use Rattle.run_words.specs.declared.words.End.{End}
+use Rattle.run_words.specs.declared.words.End.TheVariants as F
+use Rattle.run_words.specs.declared.words.Line.{Line}
+use Rattle.run_words.specs.declared.words.Line.TheVariants as R
 use Rattle.run_driver.specs.declared.status.Status.{Status}
 use Rattle.run_driver.specs.declared.status.Status.TheVariants as S
 use Rattle.fault_lines.specs.declared.fault.Input.{Input}
@@ -17,24 +17,22 @@ use Rattle.pool_driver.specs.declared.outputs.Output.{Output}
 use Rattle.command_words.specs.Commands.{Request, of_run, of_program, of_ring, of_convert, of_check, of_load}
 use Rattle.fault_lines.specs.FaultText.{refusal_line, unread_line, usage_line}
 use Rattle.pool_driver.specs.Inputs.{inputs, IsAccepted, HasFault, WereAccepted, AreAccepted, AreServed, IsServable, StopAt}
-use Rattle.outside_calls.specs.Reading.{Told}
+use Rattle.outside_calls.specs.Reading.{Told, Reading, AllRead}
 use Rattle.program_input.specs.Inputs.{limit_of}
 use Rattle.pool_gen.specs.Ring.{ring_placement, ring_program, ring_schedule}
 use Rattle.fault_lines.specs.declared.fault.Input.TheVariants as I
 use Rattle.pool_driver.specs.Outputs.{IsOutput, IsWhole, status_of_verdict}
-use Rattle.record_check.specs.declared.lead.Verdict.{Verdict}
-use Rattle.record_check.specs.declared.lead.Verdict.TheVariants as V
+use Rattle.run_words.specs.declared.verdicts.Verdict.{Verdict}
+use Rattle.run_words.specs.declared.verdicts.Verdict.TheVariants as V
 use Rattle.pool_driver.specs.Runs.{code_record_of, record_of}
 use Rattle.run_driver.specs.Shown.{ended, shows_fault, status_after}
 use Rattle.pool_driver.specs.Ends as E
 use Rattle.pool_driver.specs.Ends.{IsRefused, IsRingRefused, IsUnread, IsMade, Says, Ends}
-use Rattle.outside_calls.specs.Reading.{Reading, AllRead}
 use Rattle.program_input.specs.Readers.{Stops, too_long, faulty}
-use Rattle.run_driver.specs.Writing.{Writing, IsIdle}
+use Rattle.run_driver.specs.Writing.{Writing, IsIdle, Writes, Delivers}
 use Rattle.pool_driver.specs.Readers as D
 use Rattle.run_driver.specs.Writing as W
 use Rattle.pool_driver.specs.Readers.{Makes, Tells, text_of, status_of_output}
-use Rattle.run_driver.specs.Writing.{Writes, Delivers}
 
 -- what was asked for, or a front of it, or nothing for want of memory
 pub text_ends : (words : Option Request) (k : Reading) (out err : Writing) (r : Request) (o : Output) (status : Status) → words ≡ Some r → Makes k r (Ok o)

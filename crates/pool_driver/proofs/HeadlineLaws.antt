@@ -1,7 +1,7 @@
 -- The headline follows from how a call ends.
 use Rattle.std.proofs.Common.{◌≡◌, ◌∙◌, ◌⊎◌, inl, inr, ◌++◌, Bool, true, false, List, [], ◌∷◌, Option, Some, None, option_map, IfSome, refl, sym, subst, ap}
 use Rattle.std.specs.Prelude.{◌&&◌, not, codes, if◌then◌else◌}
-use Rattle.pool_syntax.specs.Tokens.{Text}
+use Rattle.run_words.specs.Text.{Text}
 use Rattle.run_driver.specs.declared.status.Status.{Status}
 use Rattle.run_driver.specs.declared.status.Status.TheVariants as S
 use Rattle.run_driver.specs.Writing.{Writing, Wrote}

@@ -1,13 +1,13 @@
 -- What a request makes of its inputs, one after another.
 use Rattle.std.proofs.Common.{◌≡◌, ◌∙◌, ◌+◌, ◌≤◌, ℕ, zero, suc, List, [], ◌∷◌, length, Option, None, Some, Bool, IsTrue, slice_get, Result, Ok, Err, false, refl, sym, ap, subst, arith}
-use Rattle.pool_syntax.specs.Tokens.{Text}
+use Rattle.run_words.specs.Text.{Text}
 use Rattle.pool_syntax.specs.TreeOf.{program_of}
 use Rattle.pool_syntax.specs.Typing.{faults}
-use Rattle.pool_syntax.specs.declared.words.Line.{Line}
+use Rattle.run_words.specs.declared.words.Line.{Line}
 use Rattle.program_input.specs.declared.program.Parsed.{Parsed}
 use Rattle.record_check.specs.Verdicts.{Judged}
-use Rattle.pool_syntax.specs.declared.words.Placement.{Placement}
-use Rattle.object_code.specs.declared.unit.Unit.{Unit as Code}
+use Rattle.run_words.specs.declared.words.Placement.{Placement}
+use Rattle.code_semantics.specs.declared.unit.Unit.{Unit as Code}
 use Rattle.placement_reader.specs.Placements.{placement_of}
 use Rattle.schedule_reader.specs.Schedules.{schedule_of}
 use Rattle.command_words.specs.declared.command.Ask.{Ask}
@@ -22,7 +22,7 @@ use Rattle.pool_driver.specs.Inputs.{Gives, by_file, by_program, inputs, MayOpen
 use Rattle.program_input.specs.Inputs.{limit_of, most_bytes, most_of_record, most_of_unit, one_read, IsReadAs}
 use Rattle.unit_inputs.specs.UnitFiles.{IsUnitOfFile}
 use Rattle.unit_inputs.proofs.Laws.{no_program, said_once}
-use Rattle.object_code.specs.declared.file.UnitFile.{UnitFile}
+use Rattle.code_semantics.specs.declared.file.UnitFile.{UnitFile}
 use Rattle.pool_driver.specs.Ends.{Reaches, StaysWithin}
 use Rattle.outside_calls.specs.Reading.{AllRead, Reading}
 use Rattle.fault_lines.specs.declared.fault.Stop.TheVariants as T

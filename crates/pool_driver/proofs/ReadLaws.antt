@@ -1,15 +1,15 @@
 -- An input at which a request stops, and what the judges of the inputs say of a text.
 use Rattle.std.proofs.Common.{◌≡◌, ◌∙◌, ◌⊎◌, List, [], Some, None, IfOk, IsOk, IsErr, inl, inr, Result, Ok, Err, ◌≢◌, refl, sym, ap}
-use Rattle.pool_syntax.specs.Tokens.{Text}
+use Rattle.run_words.specs.Text.{Text}
 use Rattle.pool_syntax.specs.TreeOf.{program_of}
 use Rattle.fault_lines.specs.declared.fault.Input.{Input}
 use Rattle.fault_lines.specs.declared.fault.Input.TheVariants as I
 use Rattle.program_input.specs.declared.program.Parsed.{Parsed}
 use Rattle.program_input.specs.Programs.{IsFaultOfClasses}
 use Rattle.pool_syntax.specs.Typing.{faults}
-use Rattle.pool_syntax.specs.declared.words.Placement.{Placement}
-use Rattle.object_code.specs.declared.unit.Unit.{Unit as Code}
-use Rattle.object_code.specs.Proper.{IsProper}
+use Rattle.run_words.specs.declared.words.Placement.{Placement}
+use Rattle.code_semantics.specs.declared.unit.Unit.{Unit as Code}
+use Rattle.code_semantics.specs.Proper.{IsProper}
 use Rattle.placement_reader.specs.declared.fault.PlacementFault.{PlacementFault}
 use Rattle.placement_reader.specs.declared.fault.PlacementFault.TheVariants as Place
 use Rattle.placement_reader.specs.Placements as Pl

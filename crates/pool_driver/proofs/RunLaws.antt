@@ -1,16 +1,16 @@
 -- From code to terms: what the three texts mean together, and what is shown of their run.
 use Rattle.std.proofs.Common.{◌≡◌, ◌∙◌, ◌++◌, ℕ, List, [], ◌∷◌, map, Option, Some, None, Bool, true, false, Ok, length, ◌<◌, refl, sym, ap, subst, arith}
-use Rattle.pool_syntax.specs.Tokens.{Text}
+use Rattle.run_words.specs.Text.{Text}
 use Rattle.pool_syntax.specs.Terms.{ClassTree, ProgramTree}
-use Rattle.pool_syntax.specs.declared.words.Line.{Line}
-use Rattle.pool_syntax.specs.declared.words.Placement.{Placement}
+use Rattle.run_words.specs.declared.words.Line.{Line}
+use Rattle.run_words.specs.declared.words.Placement.{Placement}
 use Rattle.pool_relation.specs.Action.{Object}
 use Rattle.pool_relation.specs.Configuration.{Configuration}
 use Rattle.pool_relation.specs.Transition.{last_class, start}
-use Rattle.object_code.specs.declared.unit.Unit.{Unit as Code}
-use Rattle.object_code.specs.declared.unit.ClassCode.{ClassCode}
-use Rattle.object_code.specs.Proper.{IsProper}
-use Rattle.object_code.specs.Suits.{Suits}
+use Rattle.code_semantics.specs.declared.unit.Unit.{Unit as Code}
+use Rattle.code_semantics.specs.declared.unit.ClassCode.{ClassCode}
+use Rattle.code_semantics.specs.Proper.{IsProper}
+use Rattle.code_semantics.specs.Suits.{Suits}
 use Rattle.run_record.specs.Readable.{IsRecord}
 use Rattle.readable_records.proofs.Laws.{program_reads, program_reads_on_wires, record_writable}
 use Rattle.pool_compile.specs.Code.{code}
@@ -29,9 +29,9 @@ use Rattle.verified_code.specs.CodeRun.{IsCodeRun}
 use Rattle.verified_code.proofs.Laws.{code_answers, code_answers_on_wires, record_is_code_run, record_is_code_run_on_wires, verified_is_proper}
 use Rattle.unit_inputs.specs.UnitFiles.{IsUnitOfFile, IsVerifiedFile}
 use Rattle.unit_inputs.proofs.Laws.{file_reads, file_reads_on_wires}
-use Rattle.object_code.specs.declared.file.UnitFile.{UnitFile}
-use Rattle.object_code.specs.Shaped as File
-use Rattle.object_code.specs.Shaped.{IsShaped}
+use Rattle.code_semantics.specs.declared.file.UnitFile.{UnitFile}
+use Rattle.code_semantics.specs.Shaped as File
+use Rattle.code_semantics.specs.Shaped.{IsShaped}
 use Rattle.mesh_semantics.specs.Language.{Language}
 use Rattle.std.specs.List.{AllByRecursion}
 use Rattle.record_lines.specs.Writable.{IsWritable}
@@ -50,7 +50,7 @@ use Rattle.run_driver.specs.declared.loaded.Loaded.{Loaded}
 use Rattle.placement_reader.specs.Placements.{placement_of}
 use Rattle.schedule_reader.specs.Schedules.{Plan}
 use Rattle.record_lines.specs.SecondForm.{form_text, line_text2, lines_text2, text2}
-use Rattle.mesh_semantics.specs.Asks.{EachAnswersPost, ask_of, asks_from}
+use Rattle.run_words.specs.Asks.{EachAnswersPost, request_number_of, asks_from}
 use Rattle.pool_machine.specs.Answers.{nothing_sent}
 use Rattle.command_words.specs.declared.command.Show.{Show}
 use Rattle.command_words.specs.declared.command.Show.TheVariants as Sh
@@ -85,7 +85,7 @@ texts_shown Sh.Report names rows ls = report_text names rows ++ ends_text names 
 
 lines_are : (names : List Text) (earlier ls : List Line) → shown_lines Sh.Record names earlier ls ≡ lines_text2 names ls (asks_from earlier ls)
 lines_are names earlier [] = refl
-lines_are names earlier (l ∷ ls) = ap (λ (t : Text). line_text2 names l (ask_of earlier l) ++ t) (lines_are names (l ∷ earlier) ls)
+lines_are names earlier (l ∷ ls) = ap (λ (t : Text). line_text2 names l (request_number_of earlier l) ++ t) (lines_are names (l ∷ earlier) ls)
 
 record_is : (names : List Text) (ls : List Line) → shown_record Sh.Record names ls ≡ text2 names ls
 record_is names ls = append_assoc form_text (10 ∷ []) (shown_lines Sh.Record names [] ls) ∙ ap (λ (t : Text). form_text ++ 10 ∷ t) (lines_are names [] ls)

@@ -1,16 +1,18 @@
 -- No text of the table of a parsed program has more than 256 bytes, each of them a byte, and there are no more of them than the program has bytes.
-use Rattle.std.proofs.Common.{◌≡◌, ◌∙◌, ◌⊎◌, ◌<◌, ◌≤◌, ◌+◌, ◌-◌, ℕ, zero, suc, Bool, true, false, not, ◌&&◌, ◌||◌, nat_eq, nat_le, List, [], ◌∷◌, ◌++◌, length, take, drop, slice_get, Option, Some, None, inl, inr, refl, sym, subst, arith}
+use Rattle.std.proofs.Common.{◌≡◌, ◌∙◌, ◌⊎◌, ◌<◌, ◌≤◌, ◌+◌, ◌-◌, ℕ, zero, suc, Bool, true, false, not, ◌&&◌, ◌||◌, nat_eq, nat_le, List, [], ◌∷◌, ◌++◌, length, take, drop, Option, Some, None, inl, inr, refl, sym, subst, arith}
 use Rattle.std.specs.List.{AllByRecursion as Each}
 use Rattle.std.proofs.lemmas.Bool.{cases_Bool}
 use Rattle.std.proofs.lemmas.Bool.Decides.{nat_tests}
-use Rattle.std.proofs.lemmas.List.{length-append, length-drop, length-take}
-use Rattle.pool_syntax.specs.declared.token.LexFault.{LexFault}
-use Rattle.pool_syntax.specs.Tokens.{Text, IsFaultless, IsPieces, every, is_digit, is_inner, is_integer, is_letter, is_listed, is_rest_of_string, is_string, is_word, kept_text, keywords, longest, piece_fault, texts_after}
-use Rattle.pool_syntax.specs.Table.{is_among, with_text}
+use Rattle.std.proofs.lemmas.List.{length-append, length-take}
+use Rattle.pool_syntax.proofs.Laws.{pieces_count, piece_within}
+use Rattle.run_words.specs.Text.{Text, every, is_digit, is_inner, is_integer, is_letter, is_listed, is_word}
+use Rattle.pool_syntax.specs.Tokens.{IsFaultless, is_rest_of_string, is_string, kept_text, piece_fault, texts_after}
+use Rattle.run_words.specs.Keywords.{keywords}
+use Rattle.run_words.specs.Table.{is_among, with_text}
 use Rattle.pool_syntax.specs.Terms.{ProgramTree}
 use Rattle.pool_syntax.specs.Programs.{IsParsed}
-use Rattle.object_code.specs.Shaped.{IsListOf, IsShortList}
-use Rattle.mesh_semantics.proofs.Laws.{first, second}
+use Rattle.code_semantics.specs.Shaped.{IsListOf, IsShortList}
+use Rattle.run_words.proofs.Laws.{first, second}
 
 -- what holds of each text of a table
 
@@ -35,14 +37,6 @@ texts_each P kept seen (w ∷ ws) h f = by (kept_text w) refl (λ names s. texts
         subst (λ (o : Option Text). Each P (elim o as (λ _. List Text) [ None ↦ texts_after seen ws | Some x ↦ texts_after (with_text seen x) ws ])) (sym e)
         (go (with_text seen x) (with_each P seen x h (kept w x f.0 e)))
 
--- a piece without fault is no longer than it may be
-within : (limit n : ℕ) (fault : LexFault) → elim (nat_le n limit) as (λ b. Option LexFault) [ true ↦ None | false ↦ Some fault ] ≡ None → nat_le n limit ≡ true
-within limit n fault h = by (nat_le n limit) h
-  where
-    by : (b : Bool) → elim b as (λ b. Option LexFault) [ true ↦ None | false ↦ Some fault ] ≡ None → b ≡ true
-    by true e = refl
-    by false e = absurd (cc)
-
 no_integer : (w : Text) → is_string w ≡ true → is_integer w ≡ false
 no_integer [] h = refl
 no_integer (b ∷ bs) h = grind (arith, nat_tests, h)
@@ -58,13 +52,13 @@ kept_short w x fine kept = elim (cases_Bool (is_word w)) [
   | inl word ↦ elim (cases_Bool (is_listed keywords w)) [
     | inl listed ↦ absurd (let nothing : kept_text w ≡ None = rw (kept_text, word, listed) in cc)
     | inr free ↦
-        let short : nat_le (length w) 64 ≡ true = within 64 (length w) _ (rw (piece_fault, word) at fine) in
+        let short : nat_le (length w) 64 ≡ true = piece_within 64 (length w) _ (rw (piece_fault, word) at fine) in
         let same : w ≡ x = some_same (sym (rw (kept_text, word, free)) ∙ kept) in
         subst (λ (z : Text). length z ≤ 256) same (grind (arith, nat_tests, short))
   ]
   | inr no_word ↦ elim (cases_Bool (is_string w)) [
     | inl quotes ↦
-        let short : nat_le (length w) 258 ≡ true = within 258 (length w) _ (rw (piece_fault, no_word, no_integer w quotes, quotes) at fine) in
+        let short : nat_le (length w) 258 ≡ true = piece_within 258 (length w) _ (rw (piece_fault, no_word, no_integer w quotes, quotes) at fine) in
         let same : take (length w - 2) (drop 1 w) ≡ x = some_same (sym (rw (kept_text, no_word, quotes)) ∙ kept) in
         subst (λ (z : Text). length z ≤ 256) same (inside_short w (grind (arith, nat_tests, short)))
     | inr none ↦ absurd (let nothing : kept_text w ≡ None = rw (kept_text, no_word, none) in cc)
@@ -152,14 +146,6 @@ pub parsed_bytes : (s : Text) (names : List Text) (p : ProgramTree) → IsParsed
 parsed_bytes s names p h = subst (Each (λ (t : Text). Each (λ b. b < 256) t)) (sym h.1.3) (texts_each (λ t. Each (λ b. b < 256) t) kept_bytes [] h.1.0 tt h.1.2)
 
 -- each piece is one byte or more
-
-pieces_count : (s : Text) (ws : List Text) → IsPieces s ws [] → length ws ≤ length s
-pieces_count s [] p = omega arith
-pieces_count [] (w ∷ ws) p = absurd (omega (arith, p.0))
-pieces_count (b ∷ bs) (w ∷ ws) p =
-    let others = pieces_count (drop (longest (b ∷ bs)) (b ∷ bs)) ws p.2 in
-    let long = length-drop (longest (b ∷ bs)) (b ∷ bs) in
-    omega (arith, p.0)
 
 -- and adds one text at most
 

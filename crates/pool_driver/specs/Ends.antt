@@ -1,7 +1,7 @@
 -- How a call of `pool` ends: what came of its inputs, and what was written.
 use Rattle.std.specs.Prelude.{◌≡◌, ℕ, ◌+◌, ◌≤◌, List, [], ◌∷◌, ◌++◌, length, slice_get, Option, Some, None, false}
 use Rattle.pool_outside.specs.Outside.{Rose}
-use Rattle.pool_syntax.specs.Tokens.{Text}
+use Rattle.run_words.specs.Text.{Text}
 use Rattle.run_driver.specs.declared.status.Status.{Status}
 use Rattle.run_driver.specs.declared.status.Status.TheVariants as S
 use Rattle.outside_calls.specs.Reading.{Reading, AllRead}

@@ -1,11 +1,11 @@
 -- The headline by itself: what a call of `record` has written where it ended with the status of a record.
 use Rattle.std.specs.Prelude.{◌≡◌, ℕ, List, [], ◌++◌, Some, None, true}
-use Rattle.pool_syntax.specs.Tokens.{Text}
+use Rattle.run_words.specs.Text.{Text}
 use Rattle.pool_syntax.specs.Terms.{ProgramTree}
 use Rattle.pool_syntax.specs.Typing.{faults}
 use Rattle.pool_syntax.specs.Programs.{IsParsed}
-use Rattle.pool_syntax.specs.declared.words.Label.{Label}
-use Rattle.pool_syntax.specs.declared.words.Line.{Line}
+use Rattle.run_words.specs.declared.words.Label.{Label}
+use Rattle.run_words.specs.declared.words.Line.{Line}
 use Rattle.pool_relation.specs.Configuration.{Configuration}
 use Rattle.pool_relation.specs.Transition.{run, start, transition}
 use Rattle.placed_terms.specs.RunOf.{GoesBy}

@@ -1,11 +1,11 @@
 -- The inputs of a request: their order, names and limits, what is read of them, and when the text of one is accepted or has a fault.
 use Rattle.std.specs.Prelude.{◌≡◌, ℕ, ◌+◌, ◌≤◌, List, [], ◌∷◌, ◌++◌, length, slice_get, Some, None, Ok, Bool, IsTrue, ◌⊎◌}
-use Rattle.pool_syntax.specs.Tokens.{Text}
+use Rattle.run_words.specs.Text.{Text}
 use Rattle.pool_syntax.specs.Terms.{ProgramTree}
 use Rattle.pool_syntax.specs.Typing.{faults}
-use Rattle.pool_syntax.specs.declared.words.Placement.{Placement}
-use Rattle.object_code.specs.declared.file.UnitFile.{UnitFile}
-use Rattle.object_code.specs.declared.unit.Unit.{Unit as Code}
+use Rattle.run_words.specs.declared.words.Placement.{Placement}
+use Rattle.code_semantics.specs.declared.file.UnitFile.{UnitFile}
+use Rattle.code_semantics.specs.declared.unit.Unit.{Unit as Code}
 use Rattle.unit_inputs.specs.UnitFiles.{IsUnitFault, IsVerifiedFile}
 use Rattle.pool_compile.specs.Code.{code}
 use Rattle.placement_reader.specs.Placements as P

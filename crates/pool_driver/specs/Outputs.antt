@@ -1,6 +1,6 @@
 -- What a request makes of the texts of its inputs: a text, and the status with which it is written.
 use Rattle.std.specs.Prelude.{◌≡◌, ℕ, List, [], ◌∷◌, ◌++◌, None, ◌⊎◌}
-use Rattle.pool_syntax.specs.Tokens.{Text}
+use Rattle.run_words.specs.Text.{Text}
 use Rattle.pool_syntax.specs.Terms.{ProgramTree}
 use Rattle.pool_syntax.specs.Typing.{faults}
 use Rattle.object_code.specs.FileBytes.{file_bytes}
@@ -23,8 +23,8 @@ use Rattle.pool_driver.specs.Runs.{CodeMeaning, Meaning, ShowsCodeRun, ShowsRun,
 use Rattle.run_driver.specs.Shown.{ends_text, ring_text, status_of, writes_text}
 use Rattle.pool_gen.specs.Ring.{ring_placement, ring_program, ring_schedule}
 use Rattle.wait_report.specs.Report.{report_text}
-use Rattle.record_check.specs.declared.lead.Verdict.{Verdict}
-use Rattle.record_check.specs.declared.lead.Verdict.TheVariants as V
+use Rattle.run_words.specs.declared.verdicts.Verdict.{Verdict}
+use Rattle.run_words.specs.declared.verdicts.Verdict.TheVariants as V
 use Rattle.record_check.specs.Verdicts.{Judged}
 use Rattle.verdict_lines.specs.VerdictText.{verdict_text}
 use Rattle.verified_code.specs.DeclaredKinds.{file_of}

@@ -1,17 +1,17 @@
 -- What comes of reading inputs, for the functions below the top call.
 use Rattle.std.specs.Prelude.{◌≡◌, ℕ, List, [], true, Some, None, Result, Ok, Err}
-use Rattle.pool_syntax.specs.Tokens.{Text}
+use Rattle.run_words.specs.Text.{Text}
 use Rattle.pool_syntax.specs.Spelled.{is_spelled}
 use Rattle.pool_syntax.specs.TreeOf.{program_of}
-use Rattle.pool_syntax.specs.declared.words.Line.{Line}
-use Rattle.pool_syntax.specs.declared.words.Placement.{Placement}
+use Rattle.run_words.specs.declared.words.Line.{Line}
+use Rattle.run_words.specs.declared.words.Placement.{Placement}
 use Rattle.pool_printer.specs.Canonical.{canonical}
-use Rattle.object_code.specs.declared.unit.Unit.{Unit as Code}
+use Rattle.code_semantics.specs.declared.unit.Unit.{Unit as Code}
 use Rattle.object_code.specs.FileBytes.{file_bytes}
 use Rattle.object_code.specs.Listing.{listing}
-use Rattle.object_code.specs.Proper.{IsProper}
-use Rattle.object_code.specs.Shaped.{IsShaped, IsShort}
-use Rattle.object_code.specs.Suits.{Suits}
+use Rattle.code_semantics.specs.Proper.{IsProper}
+use Rattle.code_semantics.specs.Shaped.{IsShaped, IsShort}
+use Rattle.code_semantics.specs.Suits.{Suits}
 use Rattle.placement_reader.specs.declared.fault.PlacementFault.{PlacementFault}
 use Rattle.placement_reader.specs.declared.fault.PlacementFault.TheVariants as Place
 use Rattle.placement_reader.specs.Placements as P
@@ -21,7 +21,7 @@ use Rattle.schedule_reader.specs.declared.fault.ScheduleFault.TheVariants as Tim
 use Rattle.schedule_reader.specs.Schedules as Sch
 use Rattle.schedule_reader.specs.Schedules.{Plan, schedule_of}
 use Rattle.std.specs.List.{All}
-use Rattle.mesh_semantics.specs.Asks.{asks}
+use Rattle.run_words.specs.Asks.{asks}
 use Rattle.record_lines.specs.SecondForm.{text2}
 use Rattle.record_lines.specs.Writable.{IsWritable}
 use Rattle.run_record.specs.declared.fault.RecordFault.{RecordFault}
@@ -44,14 +44,14 @@ use Rattle.command_words.specs.Commands.{Request}
 use Rattle.fault_lines.specs.FaultText.{refusal_line, unread_line}
 use Rattle.pool_driver.specs.Inputs.{IsCodeOf, StopAt}
 use Rattle.unit_inputs.specs.UnitFiles.{IsUnitFault, IsVerifiedFile}
-use Rattle.object_code.specs.declared.file.UnitFile.{UnitFile}
+use Rattle.code_semantics.specs.declared.file.UnitFile.{UnitFile}
 use Rattle.fault_lines.specs.declared.fault.UnitFault.{UnitFault}
 use Rattle.fault_lines.specs.declared.fault.UnitFault.TheVariants as Filed
 use Rattle.run_driver.specs.Driving.{IsLoaded}
 use Rattle.run_driver.specs.Shown.{ring_text, status_of}
 use Rattle.run_driver.specs.Loading.{lines_of, run_text}
 use Rattle.pool_driver.specs.Outputs.{IsRingOf, status_of_verdict}
-use Rattle.record_check.specs.declared.lead.Verdict.{Verdict}
+use Rattle.run_words.specs.declared.verdicts.Verdict.{Verdict}
 use Rattle.record_check.specs.Verdicts.{Judged}
 use Rattle.verdict_lines.specs.VerdictText.{verdict_text}
 use Rattle.pool_gen.specs.Ring.{ring_placement, ring_program, ring_schedule}
@@ -181,7 +181,8 @@ pub data Rings (k : ℕ) (result : Result Output Stop) : Type 0 where
 
 -- what comes of the lines of a record that are judged by a program with these names
 pub data Decides (names : List Text) (p : ProgramTree) (ls : List Line) (result : Result Output Stop) : Type 0 where
-  decides : (o : Output) (v : Verdict) → result ≡ Ok o → Judged p ls v → ((w : Verdict) → Judged p ls w → w ≡ v) → text_of o ≡ verdict_text names v → status_of_output o ≡ status_of_verdict v → IsPrintable o → Decides names p ls result
+  decides : (o : Output) (v : Verdict) → result ≡ Ok o → Judged p ls v → ((w : Verdict) → Judged p ls w → w ≡ v) → text_of o ≡ verdict_text names v → status_of_output o ≡ status_of_verdict v
+      → IsPrintable o → Decides names p ls result
   lacks : result ≡ Err T.Memory → Decides names p ls result
 
 -- what comes of all inputs of a request

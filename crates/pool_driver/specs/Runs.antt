@@ -1,13 +1,13 @@
 -- What a program, a placement and a schedule mean together, and that their record shows a run; and the same of an object code file in place of a program.
 use Rattle.std.specs.Prelude.{◌≡◌, List, [], Ok, Some}
-use Rattle.pool_syntax.specs.Tokens.{Text}
+use Rattle.run_words.specs.Text.{Text}
 use Rattle.pool_syntax.specs.Terms.{ProgramTree}
 use Rattle.pool_syntax.specs.Typing.{faults}
-use Rattle.pool_syntax.specs.declared.words.Placement.{Placement}
+use Rattle.run_words.specs.declared.words.Placement.{Placement}
 use Rattle.pool_relation.specs.Action.{Object}
 use Rattle.pool_relation.specs.Configuration.{Configuration}
 use Rattle.pool_relation.specs.Transition.{start}
-use Rattle.mesh_semantics.specs.Asks.{EachAnswersPost}
+use Rattle.run_words.specs.Asks.{EachAnswersPost}
 use Rattle.mesh_semantics.specs.Record as M
 use Rattle.mesh_semantics.specs.Record.{root_name}
 use Rattle.mesh_semantics.specs.Wired.{KeepsWires}
@@ -20,7 +20,7 @@ use Rattle.run_record.specs.Readable.{IsRecord}
 use Rattle.run_driver.specs.Shown.{record_over}
 use Rattle.pool_driver.specs.Inputs.{unit_of}
 use Rattle.program_input.specs.Programs.{IsParsed}
-use Rattle.object_code.specs.declared.file.UnitFile.{UnitFile}
+use Rattle.code_semantics.specs.declared.file.UnitFile.{UnitFile}
 use Rattle.coded_objects.specs.Coded.{Placed, coded}
 use Rattle.verified_code.specs.CodeRun.{IsCodeRun}
 use Rattle.unit_inputs.specs.UnitFiles.{IsVerifiedFile}

@@ -9,8 +9,8 @@ ghost use Rattle.program_input.specs.Readers.{Judges};
 
 use fault_lines::{Fault, Input, Stop};
 use pool_outside::{Sink, Text, WriteFault};
-use pool_syntax::{Line, List, Names};
 use run_record::{RecordFault, asks_of, read_record, write_form, write_line2};
+use run_words::{Line, List, Names};
 use std::alloc::{AllocError, Global};
 
 /// The lines of a record, the request number of each, and the texts of their names.

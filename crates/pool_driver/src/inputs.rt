@@ -9,13 +9,13 @@ ghost use Rattle.program_input.specs.Readers.{HasTypedFault, IsTypedProgram, Jud
 
 use crate::converted::{Recorded, judge_lines, judge_record};
 use crate::program::code_of;
+use code_semantics::Unit;
 use fault_lines::{Fault, Input, Stop, UnitFault};
-use object_code::Unit;
 use placement_reader::{PlacementFault, read_placement};
 use pool_outside::Files;
-use pool_syntax::{Line, List, Names, Placement};
 use program_input::{read_input, read_parsed, read_program};
 use run_driver::Loaded;
+use run_words::{Line, List, Names, Placement};
 use schedule_reader::{Schedule, ScheduleFault, read_schedule};
 use std::alloc::Global;
 use unit_inputs::read_unit as read_verified;

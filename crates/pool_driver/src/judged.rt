@@ -7,10 +7,10 @@ ghost use Rattle.pool_driver.specs.Readers.{Decides};
 use crate::outputs::Output;
 use class_check::Checked;
 use fault_lines::Stop;
-use pool_syntax::{Line, List, Names};
+use record_check::check_record;
 use record_check::theorems::a_record_has_one_verdict;
-use record_check::{Verdict, check_record};
 use run_driver::Status;
+use run_words::{Line, List, Names, Verdict};
 use std::alloc::{AllocError, Global};
 use verdict_lines::verdict_line;
 

@@ -3,7 +3,7 @@ ghost use Rattle.std.specs.Prelude.{◌≡◌, true, length, [], ◌∷◌, code
 ghost use Rattle.pool_syntax.specs.declared.token.Token.{Token as OneToken};
 ghost use Rattle.pool_syntax.specs.Spelled.{IsGrammatical, is_spelled};
 ghost use Rattle.pool_syntax.specs.Terms.{ProgramTree};
-ghost use Rattle.pool_syntax.specs.Tokens.{Text};
+ghost use Rattle.run_words.specs.Text.{Text};
 ghost use Rattle.pool_syntax.specs.Programs.{IsParsed, IsShallowBelow, toks};
 ghost use Rattle.command_words.specs.declared.command.Ask.TheVariants.{File as FileAsked};
 ghost use Rattle.command_words.specs.declared.command.Show.TheVariants.{Record as RecordShown};

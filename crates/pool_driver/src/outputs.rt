@@ -12,9 +12,9 @@ use crate::inputs::{
 };
 use crate::judged::judge;
 use crate::program::file_of_parsed;
+use code_semantics::{Unit, UnitFile};
 use command_words::{Ask, Command, Files as FileNames, Show};
 use fault_lines::Stop;
-use object_code::{Unit, UnitFile};
 use pool_gen::ring;
 use pool_outside::Files;
 use program_input::{Parsed, judge_classes, read_parsed, read_typed};

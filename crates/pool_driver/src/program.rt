@@ -3,8 +3,8 @@ ghost use Rattle.std.specs.Prelude.{◌≡◌, ◌≢◌, true, [], IfOk, IsOk, 
 ghost use Rattle.pool_syntax.specs.TreeOf.{program_of};
 ghost use Rattle.pool_syntax.specs.Spelled.{IsGrammatical, is_spelled};
 ghost use Rattle.pool_syntax.specs.Typing.{faults};
-ghost use Rattle.object_code.specs.Proper.{IsProper};
-ghost use Rattle.object_code.specs.Shaped.{IsListOf, IsShaped, IsShort, IsShortList};
+ghost use Rattle.code_semantics.specs.Proper.{IsProper};
+ghost use Rattle.code_semantics.specs.Shaped.{IsListOf, IsShaped, IsShort, IsShortList};
 ghost use Rattle.pool_driver.specs.Inputs.{unit_of};
 ghost use Rattle.program_input.specs.Programs.{IsFaultOfClasses};
 ghost use Rattle.code_verdict.specs.Verdict.{Good, verdict};
@@ -12,8 +12,8 @@ ghost use Rattle.verified_code.specs.DeclaredKinds.{file_of};
 ghost use Rattle.fault_lines.specs.declared.fault.Fault.{Fault as AnyFault};
 ghost use Rattle.fault_lines.specs.declared.fault.Input.{Input as AnyInput};
 
+use code_semantics::{Unit, UnitFile};
 use fault_lines::{Input, Stop};
-use object_code::{Unit, UnitFile};
 use pool_compile::compile;
 use program_file::file_of;
 use program_input::{Parsed, judge_classes};

@@ -3,12 +3,13 @@ ghost use Rattle.std.specs.Prelude.{◌≡◌, true};
 ghost use Rattle.object_code.specs.FileBytes.{file_bytes};
 ghost use Rattle.object_code.specs.Known.{IsKnownUnit};
 ghost use Rattle.object_code.specs.Listing.{listing};
-ghost use Rattle.object_code.specs.Shaped.{IsShaped, IsShort};
+ghost use Rattle.code_semantics.specs.Shaped.{IsShaped, IsShort};
 ghost use Rattle.pool_printer.specs.Canonical.{canonical};
 ghost use Rattle.pool_syntax.specs.Spelled.{is_spelled};
 ghost use Rattle.pool_syntax.specs.TreeOf.{program_of};
 
-use object_code::{Unit, UnitFile, encode, list_code};
+use code_semantics::{Unit, UnitFile};
+use object_code::{encode, list_code};
 use pool_outside::{Sink, Text, WriteFault};
 use pool_printer::print;
 use program_input::Parsed;

@@ -1,6 +1,6 @@
 //! The top call.
 ghost use Rattle.std.specs.Prelude.{◌≡◌, ◌⊎◌, ◌+◌, ◌-◌, ◌^◌, ◌≤◌, ◌<◌, ◌++◌, [], ◌∷◌, Some, codes, false, option_map, IfSome};
-ghost use Rattle.pool_syntax.specs.Tokens.{Text};
+ghost use Rattle.run_words.specs.Text.{Text};
 ghost use Rattle.pool_outside.specs.Outside.{Rose};
 ghost use Rattle.command_words.specs.Commands.{Request, request_of, texts_of};
 ghost use Rattle.pool_driver.specs.Ends.{Ends, StaysWithin, reading};

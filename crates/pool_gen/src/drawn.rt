@@ -5,9 +5,9 @@ ghost use Rattle.rand_pcg.specs.Pcg.{pcg32};
 ghost use Rattle.pool_gen.specs.Ring.{drawn_line, drawn_lines};
 
 use crate::pieces::push_piece;
-use pool_syntax::List;
 use rand_core::utils::NextWord;
 use rand_pcg::Lcg64Xsh32;
+use run_words::List;
 use std::alloc::AllocError;
 
 /// The line of a word: a turn of one of four nodes, or a link of the mesh of two rows and two columns.

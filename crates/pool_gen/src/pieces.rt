@@ -2,7 +2,7 @@
 ghost use Rattle.std.specs.Prelude.{◌≡◌, ◌++◌, OnOk, decimal};
 
 use itoa::Buffer;
-use pool_syntax::List;
+use run_words::List;
 use std::alloc::AllocError;
 
 /// Puts a piece behind the text.

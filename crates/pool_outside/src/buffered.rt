@@ -117,7 +117,8 @@ impl<'a, K: Sink, B: Behind> Buffered<'a, K, B> {
     pub fn finish(self) -> (&'a mut K, Result<(), WriteFault>)
         ensures same_reference { result.0.ghost_name ≡ B.name }
         ensures whole { OnOk result.1 (K.written result.0.now ≡ gathered (K.written self.entry.sink.now) self.entry.bytes) }
-        ensures front { OnErr result.1 ((text : List ℕ) → gathered (K.written self.entry.sink.now) self.entry.bytes ≡ option_map (λ w. w ++ text) B.start → IsProperFront B.start text (K.written result.0.now)) }
+        ensures front { OnErr result.1
+            ((text : List ℕ) → gathered (K.written self.entry.sink.now) self.entry.bytes ≡ option_map (λ w. w ++ text) B.start → IsProperFront B.start text (K.written result.0.now)) }
         ensures failed { OnErr result.1 (Rose (K.faults self.entry.sink.now) (K.faults result.0.now)) }
         ensures no_fault { OnOk result.1 (K.faults result.0.now ≡ K.faults self.entry.sink.now) }
         ensures faults_stay_or_rise { K.faults self.entry.sink.now ≤ K.faults result.0.now }

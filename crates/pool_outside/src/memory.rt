@@ -1,5 +1,6 @@
 // Files and sinks in memory.
-ghost use Rattle.std.specs.Prelude.{◌≡◌, ℕ, ◌+◌, ◌-◌, ◌^◌, ◌<◌, ◌≤◌, ◌++◌, ◌↔◌, ◌||◌, List, [], Option, None, Some, Bool, true, false, length, take, drop, min, option_map, option_copied, unwrap_or, slice_get, is_some, is_none, IsTrue, IfOk, OnOk, OnErr, IfSome, IsOk, not, nat_lt, nat_eq, vec_capacity, vec_len};
+ghost use Rattle.std.specs.Prelude.{◌≡◌, ℕ, ◌+◌, ◌-◌, ◌^◌, ◌<◌, ◌≤◌, ◌++◌, ◌↔◌, ◌||◌, List, [], Option, None, Some, Bool, true, false, length, take, drop, min, option_map, option_copied, unwrap_or};
+ghost use Rattle.std.specs.Prelude.{slice_get, is_some, is_none, IsTrue, IfOk, OnOk, OnErr, IfSome, IsOk, not, nat_lt, nat_eq, vec_capacity, vec_len};
 ghost use Rattle.std.specs.Result.{is_err};
 ghost use Rattle.std.specs.Str.{bytes_eq};
 ghost use Rattle.pool_outside.specs.Outside.{Rose};
@@ -158,7 +159,16 @@ pub struct MemFiles {
 impl Model for MemFiles {
     ghost Value = { FilesState };
 
-    ghost view = { λ f. record { texts = f.shelf.texts; rest = f.shelf.rest; live = f.shelf.live; given = f.shelf.given; opens = f.shelf.opens; failing = f.failing.items; calls = f.calls; faults = f.faults } };
+    ghost view = { λ f. record {
+      texts = f.shelf.texts;
+      rest = f.shelf.rest;
+      live = f.shelf.live;
+      given = f.shelf.given;
+      opens = f.shelf.opens;
+      failing = f.failing.items;
+      calls = f.calls;
+      faults = f.faults;
+    } };
 }
 
 impl MemFiles {
@@ -212,7 +222,8 @@ impl Files for MemFiles {
         requires countable { self.old.opens < 2 ^ 64 - 1 }
         ensures fails { is_err result ≡ (is_failing self.old.failing self.old.calls || is_none (text_under self.old.texts name.now)) }
         ensures entered { OnOk result (self.new ≡ record self.old { rest = text_under self.old.texts name.now; live = true; given = 0; opens = self.old.opens + 1; calls = counted self.old.calls 1 }) }
-        ensures failed { OnErr result (self.new ≡ record self.old { rest = None; live = false; given = 0; opens = self.old.opens + 1; calls = counted self.old.calls 1; faults = counted self.old.faults 1 }) }
+        ensures failed { OnErr result
+            (self.new ≡ record self.old { rest = None; live = false; given = 0; opens = self.old.opens + 1; calls = counted self.old.calls 1; faults = counted self.old.faults 1 }) }
         ensures rose { OnErr result (Rose self.old.faults self.new.faults) }
         ensures faults_stay_or_rise { self.old.faults ≤ self.new.faults }
     {
@@ -232,7 +243,8 @@ impl Files for MemFiles {
         ensures fails { is_err result ≡ is_failing self.old.failing self.old.calls }
         ensures least { IfOk result (λ n. n ≡ min (length into.old) (length (unwrap_or self.old.rest []))) }
         ensures front { IfOk result (λ n. take n into.new ≡ take n (unwrap_or self.old.rest [])) }
-        ensures given { IfOk result (λ n. self.new ≡ record self.old { rest = option_map (drop n) self.old.rest; live = nat_lt 0 n; given = counted self.old.given n; calls = counted self.old.calls 1 }) }
+        ensures given { IfOk result
+            (λ n. self.new ≡ record self.old { rest = option_map (drop n) self.old.rest; live = nat_lt 0 n; given = counted self.old.given n; calls = counted self.old.calls 1 }) }
         ensures failed { OnErr result (self.new ≡ record self.old { live = false; calls = counted self.old.calls 1; faults = counted self.old.faults 1 }) }
         ensures rose { OnErr result (Rose self.old.faults self.new.faults) }
         ensures faults_stay_or_rise { self.old.faults ≤ self.new.faults }

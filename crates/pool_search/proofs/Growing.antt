@@ -2,9 +2,9 @@
 use Rattle.std.proofs.Common.{◌≡◌, inl, inr, refl, sym, ap, ◌∙◌, subst, ℕ, zero, suc, List, [], ◌∷◌, ◌++◌, Some, None, append_assoc}
 use Rattle.std.specs.List.{slice_get}
 use Rattle.std.proofs.lemmas.List.{append-nil}
-use Rattle.pool_syntax.specs.declared.words.Label.{Label}
+use Rattle.run_words.specs.declared.words.Label.{Label}
 use Rattle.pool_syntax.specs.Terms.{ProgramTree}
-use Rattle.mesh_semantics.specs.Tables.{Each}
+use Rattle.run_words.specs.Tables.{Each}
 use Rattle.pool_relation.specs.Configuration.{Configuration}
 use Rattle.search_laws.specs.Search.{IsIn, IsInOrder}
 use Rattle.search_laws.specs.Labels.{LeadsInto, AllLeadInto, AreTried, labels_to_try}

@@ -1,7 +1,7 @@
 -- What a configuration is, by what the stepper tells of it.
 use Rattle.std.proofs.Common.{◌≡◌, ◌≢◌, ◌≤◌, sym, ◌∙◌, ℕ, Option, Some, None, is_some, Bool, true, false, arith}
 use Rattle.std.specs.Prelude.{IfSome, IfNone}
-use Rattle.pool_syntax.specs.declared.words.Label.{Label}
+use Rattle.run_words.specs.declared.words.Label.{Label}
 use Rattle.pool_syntax.specs.Terms.{ProgramTree}
 use Rattle.pool_relation.specs.Action.{Object}
 use Rattle.pool_relation.specs.Configuration.{Configuration, object_of}

@@ -3,7 +3,7 @@ use Rattle.std.proofs.Common.{◌≡◌, ◌≤◌, ◌<◌, refl, sym, ap, ◌�
 use Rattle.std.specs.Prelude.{IfSome}
 use Rattle.std.specs.List.{slice_get}
 use Rattle.std.proofs.lemmas.Option.{slice_get_within}
-use Rattle.pool_syntax.specs.declared.words.Label.{Label}
+use Rattle.run_words.specs.declared.words.Label.{Label}
 use Rattle.pool_syntax.specs.Terms.{ProgramTree}
 use Rattle.pool_relation.specs.Configuration.{Configuration}
 use Rattle.search_laws.specs.Search.{IsInOrder}

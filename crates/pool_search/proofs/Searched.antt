@@ -5,7 +5,7 @@ use Rattle.std.proofs.lemmas.List.{take_all, take-append-le}
 use Rattle.std.proofs.lemmas.Option.{slice_get_within, get_or_from_slice_get}
 use Rattle.std.proofs.Math.Seq.{take-suc}
 use Rattle.pool_syntax.specs.Terms.{ProgramTree}
-use Rattle.mesh_semantics.specs.Tables.{Each}
+use Rattle.run_words.specs.Tables.{Each}
 use Rattle.pool_relation.specs.Configuration.{Configuration}
 use Rattle.search_laws.specs.Search.{IsNameless, IsReached, IsIn, IsInOrder, IsWholeAfterSettling}
 use Rattle.search_laws.specs.Labels.{AllLeadInto, AreTried, labels_to_try}

@@ -1,8 +1,8 @@
 -- How far a search has come: the list that it keeps, and the place up to which it has looked.
 use Rattle.std.specs.Prelude.{◌≡◌, ◌≤◌, ◌⊎◌, ◌+◌, ℕ, List, ◌++◌, take, length, Some, None}
-use Rattle.pool_syntax.specs.declared.words.Label.{Label}
+use Rattle.run_words.specs.declared.words.Label.{Label}
 use Rattle.pool_syntax.specs.Terms.{ProgramTree}
-use Rattle.mesh_semantics.specs.Tables.{Each}
+use Rattle.run_words.specs.Tables.{Each}
 use Rattle.pool_relation.specs.Configuration.{Configuration}
 use Rattle.pool_relation.specs.Transition.{transition, start}
 use Rattle.search_laws.specs.Search.{IsIn, IsInOrder, Settles}

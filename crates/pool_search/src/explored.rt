@@ -12,7 +12,7 @@ use crate::question::Question;
 use crate::settling::settle;
 use kept_configurations::{Entry, Kept};
 use pool_semantics::{Plain, Refuse};
-use pool_syntax::Label;
+use run_words::Label;
 use std::alloc::{AllocError, Global};
 
 /// Where an entry comes from: the number of the entry before it, and the place of the label in the list of labels to try there.

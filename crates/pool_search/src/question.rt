@@ -1,5 +1,5 @@
 //! What is asked of a search, and what it answers.
-use pool_syntax::Label;
+use run_words::Label;
 use std::alloc::Global;
 
 /// What is looked for.

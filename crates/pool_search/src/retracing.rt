@@ -12,7 +12,7 @@ use crate::question::{Found, Question};
 use crate::settling::settle_shown;
 use class_check::Checked;
 use pool_semantics::{Plain, Refuse};
-use pool_syntax::Label;
+use run_words::Label;
 use std::alloc::{AllocError, Global};
 
 /// The places of the labels that lead to an entry, the last first. Nothing rests on them: the run is made again, and its end judged.

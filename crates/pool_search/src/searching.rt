@@ -3,7 +3,7 @@ ghost use Rattle.std.specs.Prelude.{◌≡◌, ◌≤◌, ℕ, Ok, Some, IfOk, I
 ghost use Rattle.std.specs.Global.{Global};
 ghost use Rattle.std.specs.declared.vec.Vec.{Vec};
 ghost use Rattle.pool_syntax.specs.TreeOf.{program_of};
-ghost use Rattle.pool_syntax.specs.declared.words.Label.{Label};
+ghost use Rattle.run_words.specs.declared.words.Label.{Label};
 ghost use Rattle.pool_search.specs.Entries.{entries, searched};
 ghost use Rattle.pool_search.specs.Progress.{IsSearchedTo};
 ghost use Rattle.pool_search.specs.Sought.{LeadsTo, IsWantedStuck, IsWantedFault, IsFinite, IsAnswer};

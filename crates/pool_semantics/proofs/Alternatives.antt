@@ -2,11 +2,13 @@
 use Rattle.std.proofs.Common.{◌≡◌, refl, sym, ap, ◌∙◌, subst, ℕ, ◌+◌, ◌-◌, ◌≤◌, ◌<◌, List, [], ◌∷◌, length, Option, Some, None, false, arith}
 use Rattle.std.specs.Prelude.{nat_le}
 use Rattle.std.proofs.lemmas.Bool.{leb-false}
-use Rattle.pool_syntax.specs.declared.words.Value.{Value}
+use Rattle.run_words.specs.declared.words.Value.{Value}
 use Rattle.pool_syntax.specs.declared.tree.Var.{Var}
 use Rattle.pool_syntax.specs.Terms.{Store, Expression, Literal, Me, Variable, Create, Prefix, Infix, Call, Send, Frame, Wait, Expressions, NoArgs, Arg, Statement, Assign, Write, WriteText, Do, Async, If, While, Answer, Select, Serve, Statements, Done, Then, Alternatives, NoAlts, Alt, ProgramTree}
 use Rattle.pool_syntax.specs.FaultNumbers as N
-use Rattle.pool_syntax.specs.Typing.{BoolSort, Scope, limit, fault_if, needs, needs_any, method_faults, destination_faults, value_needs, answer_faults, is_broken_name, inside, behind_value, own_method, params_of, sent_method, sort_of, size, position, kind_sort, expression_faults, arguments_faults, statement_faults, statements_faults, alternatives_faults}
+use Rattle.run_words.specs.Sorts.{BoolSort}
+use Rattle.pool_syntax.specs.Typing.{Scope, limit_faults, fault_if, needs, needs_any, method_faults, destination_faults, value_needs, answer_faults, is_broken_name, inside, behind_value, own_method, params_of, sent_method, sort_of, size, position, kind_sort, expression_faults, arguments_faults, statement_faults, statements_faults}
+use Rattle.pool_syntax.specs.Typing.{alternatives_faults}
 use Rattle.pool_relation.specs.Reducible as R
 use Rattle.pool_relation.specs.Reducible.{Choice, Reducible, Choose, Found, Evaluated, At, and_then, in_post, left_served, expression_redex, expressions_redex, statement_redex, statements_redex, guards_redex}
 use Rattle.pool_relation.specs.Configuration.{Configuration, object_of}
@@ -53,7 +55,7 @@ guards_count g i t (Alt e names ss alts) cs n h =
     let v = passed (expression_redex t e) _ cs h in
     let w = passed (guards_redex t alts) _ cs v.2 in
     let lit = literal_is t e v.0 v.1 in
-    let f = none2 {xs = limit i lit.0} (sym (ap (expression_faults g i) lit.1) ∙ a.0) in
+    let f = none2 {xs = limit_faults i lit.0} (sym (ap (expression_faults g i) lit.1) ∙ a.0) in
     let room : nat_le 64 i ≡ false = no_fault_if _ _ _ f.0 in
     let under : i < 64 = leb-false 64 i room in
     let more : length w.0 ≤ 64 - (i + 1) = guards_count g (i + 1) t alts w.0 d.1 w.1 in
@@ -68,25 +70,25 @@ mutual
   expression_few g h t (Variable x p) n = tt
   expression_few g h t (Create c p) n = tt
   expression_few g h t (Prefix op e p) n =
-      let a = none2 {xs = limit h p} n in
+      let a = none2 {xs = limit_faults h p} n in
       let b = none2 {xs = expression_faults g h e} a.1 in
       then_few Value Value (expression_redex t e) (λ v. At (R.Unary op v) t) (expression_few g h t e b.0) (λ v i. tt)
   expression_few g h t (Infix op l r p) n =
-      let a = none2 {xs = limit h p} n in
+      let a = none2 {xs = limit_faults h p} n in
       let b = none2 {xs = expression_faults g h l} a.1 in
       let d = none2 {xs = expression_faults g (h + 1) r} b.1 in
       then_few Value Value (expression_redex t l) (λ v. and_then (expression_redex t r) (λ w. At (R.Binary op v w) t)) (expression_few g h t l b.0)
       (λ v i. then_few Value Value (expression_redex t r) (λ w. At (R.Binary op v w) t) (expression_few g (h + 1) t r d.0) (λ w j. tt))
   expression_few g h t (Call m es p) n =
-      let a = none2 {xs = limit h p} n in
+      let a = none2 {xs = limit_faults h p} n in
       let b = none2 {xs = method_faults (own_method g m) (size es) p} a.1 in
       then_few (List Value) Value (expressions_redex t es) (λ vs. At (R.Invoke m vs) t) (arguments_few g h (params_of (own_method g m)) t es b.1) (λ vs i. tt)
   expression_few g h t (Send e m es p) n =
-      let a = none2 {xs = limit h p} n in
+      let a = none2 {xs = limit_faults h p} n in
       let b = none2 {xs = expression_faults g h e} a.1 in
       let d = none2 {xs = destination_faults g (sort_of g e) m (size es) p (position e)} b.1 in
-      then_few Value Value (expression_redex t e) (λ v. and_then (expressions_redex t es) (λ vs. At (R.Request v m vs) t)) (expression_few g h t e b.0)
-      (λ v i. then_few (List Value) Value (expressions_redex t es) (λ vs. At (R.Request v m vs) t) (arguments_few g (h + 1) (params_of (sent_method g (sort_of g e) m)) t es d.1) (λ vs j. tt))
+      then_few Value Value (expression_redex t e) (λ v. and_then (expressions_redex t es) (λ vs. At (R.SynchronousSend v m vs) t)) (expression_few g h t e b.0)
+      (λ v i. then_few (List Value) Value (expressions_redex t es) (λ vs. At (R.SynchronousSend v m vs) t) (arguments_few g (h + 1) (params_of (sent_method g (sort_of g e) m)) t es d.1) (λ vs j. tt))
   expression_few g h t (Frame m u ss e qs) n =
       let a = none2 {xs = statements_faults (inside g m) ss} n in
       let b = none2 {xs = expression_faults (inside g m) 0 e} a.1 in

@@ -2,18 +2,18 @@
 use Rattle.std.proofs.Common.{◌≡◌, ◌≢◌, ◌⊎◌, inl, inr, refl, sym, ap, subst, ◌∙◌, ℕ, zero, suc, ◌==◌, List, [], ◌∷◌, length, Option, Some, None, is_some, is_none, Bool, true, false, not}
 use Rattle.std.specs.Prelude.{◌&&◌, slice_get}
 use Rattle.std.specs.List.{list_any}
-use Rattle.pool_syntax.specs.declared.words.Value.{Value}
-use Rattle.pool_syntax.specs.declared.words.Item.{Item}
-use Rattle.pool_syntax.specs.declared.words.Error.{Error}
-use Rattle.pool_syntax.specs.declared.words.Label.{Label}
-use Rattle.pool_syntax.specs.declared.words.Label.TheVariants as L
+use Rattle.run_words.specs.declared.words.Value.{Value}
+use Rattle.run_words.specs.declared.words.Item.{Item}
+use Rattle.run_words.specs.declared.words.Error.{Error}
+use Rattle.run_words.specs.declared.words.Label.{Label}
+use Rattle.run_words.specs.declared.words.Label.TheVariants as L
 use Rattle.pool_syntax.specs.declared.tree.Named.{Named}
 use Rattle.pool_syntax.specs.Terms as T
 use Rattle.pool_syntax.specs.Terms.{Statements, MethodTree, ProgramTree}
-use Rattle.pool_syntax.specs.Values.{is_true}
-use Rattle.mesh_semantics.specs.Message.{Message}
-use Rattle.mesh_semantics.specs.Same.{are_same}
-use Rattle.mesh_semantics.proofs.Laws.{first, second, equal, equals, same_some, given_by, required, same_values, values_itself}
+use Rattle.run_words.specs.Values.{is_true}
+use Rattle.run_words.specs.Message.{Message}
+use Rattle.run_words.specs.Same.{are_same}
+use Rattle.run_words.proofs.Laws.{first, second, equal, equals, same_some, given_by, required, same_values, values_itself}
 use Rattle.pool_relation.specs.Reducible.{Choice, AsExpression, AsStatements}
 use Rattle.pool_relation.specs.Action as A
 use Rattle.pool_relation.specs.Action.{Object, Action, action, method_of}

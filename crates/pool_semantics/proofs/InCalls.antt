@@ -9,12 +9,12 @@ use Rattle.std.specs.declared.collections.VecDeque.{VecDeque}
 use Rattle.std.specs.Global.{Global}
 use Rattle.std.specs.Map.{lookup}
 use Rattle.std.specs.BTreeMap.{BTreeMap, is_at}
-use Rattle.pool_syntax.specs.declared.words.Error.{Error}
-use Rattle.pool_syntax.specs.declared.words.NameId.{NameId}
+use Rattle.run_words.specs.declared.words.Error.{Error}
+use Rattle.run_words.specs.declared.words.NameId.{NameId}
 use Rattle.pool_syntax.specs.Terms.{ProgramTree}
-use Rattle.mesh_semantics.specs.Message.{Message}
-use Rattle.mesh_semantics.specs.Tables.{Pair, pair_cmp, list_at, has_some, no_entry_empty}
-use Rattle.mesh_semantics.proofs.Laws.{first, same_some}
+use Rattle.run_words.specs.Message.{Message}
+use Rattle.run_words.specs.Tables.{Pair, pair_cmp, list_at, has_some, no_entry_empty}
+use Rattle.run_words.proofs.Laws.{first, same_some}
 use Rattle.pool_relation.specs.Action as A
 use Rattle.pool_relation.specs.Action.{Object, Action, action}
 use Rattle.pool_relation.specs.Configuration.{Configuration, object_of}

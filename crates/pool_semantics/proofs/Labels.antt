@@ -4,40 +4,38 @@ use Rattle.std.specs.Ordering.{nat_cmp}
 use Rattle.std.specs.FinMap.{find}
 use Rattle.std.specs.BTreeMap.{BTreeMap, get}
 use Rattle.std.specs.Option.{option_map}
-use Rattle.pool_syntax.specs.declared.words.Error.{Error}
-use Rattle.pool_syntax.specs.declared.words.Label.TheVariants as L
-use Rattle.pool_syntax.specs.declared.words.NameId.{NameId}
-use Rattle.pool_syntax.specs.declared.words.Item.{Item}
-use Rattle.pool_syntax.specs.declared.words.Value.{Value}
-use Rattle.pool_syntax.specs.declared.words.Value.TheVariants as V
+use Rattle.run_words.specs.declared.words.Error.{Error}
+use Rattle.run_words.specs.declared.words.Label.TheVariants as L
+use Rattle.run_words.specs.declared.words.NameId.{NameId}
+use Rattle.run_words.specs.declared.words.Item.{Item}
+use Rattle.run_words.specs.declared.words.Value.{Value}
+use Rattle.run_words.specs.declared.words.Value.TheVariants as V
 use Rattle.pool_syntax.specs.Classes.{class_of}
-use Rattle.pool_syntax.specs.Terms.{Statements, MethodTree, ClassTree}
+use Rattle.pool_syntax.specs.Terms.{Statements, MethodTree, ClassTree, ProgramTree}
 use Rattle.pool_relation.specs.Reducible.{Choice, AsStatements, AsExpression}
 use Rattle.pool_relation.specs.Action as A
-use Rattle.pool_syntax.specs.Terms.{ProgramTree}
 use Rattle.plain_object.specs.declared.thing.Thing.{Thing}
 use Rattle.plain_object.specs.declared.change.Change.{Change}
 use Rattle.plain_object.specs.declared.act.Act.{Act}
 use Rattle.plain_object.specs.declared.act.Act.TheVariants as C
 use Rattle.plain_object.specs.declared.change.Change.TheVariants as H
 use Rattle.pool_relation.specs.Action.{Object, action, method_of}
-use Rattle.mesh_semantics.specs.Tables.{Pair}
-use Rattle.mesh_semantics.specs.Message.{Message}
+use Rattle.run_words.specs.Tables.{Pair}
+use Rattle.run_words.specs.Message.{Message}
 use Rattle.pool_relation.specs.Configuration.{Configuration, object_of, put_object, messages_of, put_messages}
-use Rattle.mesh_semantics.specs.Partial.{◌>>=◌, ◌>>◌, require}
+use Rattle.run_words.specs.Partial.{◌>>=◌, ◌>>◌, require}
 use Rattle.pool_relation.specs.Transition.{transition, running, without_fault, local_step, makes, writes, fails, returns, waits_on, calls, posts, offer, has_message, first_message, without_first, serving, picked, refilled, new_object}
-use Rattle.mesh_semantics.specs.Same.{are_same, is_same_item, error_number}
-use Rattle.plain_object.specs.Acts.{acted, changed, is_local}
+use Rattle.run_words.specs.Same.{are_same, is_same_item, error_number}
+use Rattle.plain_object.specs.Acts.{acted, changed, is_local, returns_act, waits_act, calls_act, posts_act}
 use Rattle.term_stack.specs.Arguments.{now_args, now_names, now_choices}
 use Rattle.plain_object.specs.Things.{thing_object, things}
 use Rattle.pool_syntax.specs.Terms as T
 use Rattle.pool_syntax.specs.declared.tree.Named.{Named}
 use Rattle.pool_relation.specs.Transition as X
 use Rattle.plain_object.specs.Offers.{offer_act}
-use Rattle.pool_semantics.specs.declared.plain.redex.Redex.TheVariants as R
+use Rattle.run_words.specs.declared.verdicts.Redex.TheVariants as R
 use Rattle.pool_semantics.specs.Shown.{shown, shown_of, shown_if, shown_at}
 use Rattle.pool_semantics.specs.Plains.{Doing}
-use Rattle.plain_object.specs.Acts.{returns_act, waits_act, calls_act, posts_act}
 use Rattle.pool_semantics.proofs.Stored.{things_lookup}
 
 -- the objects of this map, and these messages

@@ -4,7 +4,7 @@ use Rattle.std.specs.List.{list_any, remove}
 use Rattle.pool_syntax.specs.declared.tree.Named.{Named}
 use Rattle.pool_relation.specs.Transition.{names_method, has_message, first_message, without_first}
 use Rattle.pool_semantics.specs.declared.plain.mail.Mail.{Mail}
-use Rattle.mesh_semantics.specs.Message.{Message}
+use Rattle.run_words.specs.Message.{Message}
 use Rattle.plain_object.specs.declared.offers.Offer.{Offer}
 use Rattle.plain_object.specs.Offers.{offered}
 use Rattle.pool_semantics.specs.Mails.{message_of}

@@ -7,7 +7,7 @@ use Rattle.std.specs.declared.collections.VecDeque.{VecDeque}
 use Rattle.std.specs.Global.{Global}
 use Rattle.std.specs.List.{remove}
 use Rattle.std.specs.List.Sorted.{IsStrictlySortedBy}
-use Rattle.mesh_semantics.specs.Tables.{Pair, pair_cmp, list_at, put_list}
+use Rattle.run_words.specs.Tables.{Pair, pair_cmp, list_at, put_list}
 use Rattle.pool_semantics.specs.declared.plain.mail.Mail.{Mail}
 use Rattle.pool_semantics.specs.Mails.{message_of, queued, posts}
 use Rattle.pool_semantics.proofs.Posting.{pairs_removed, pairs_set, pairs_insert, list_found, list_missing}

@@ -1,6 +1,6 @@
 -- What the stepper needs of typed configurations, from the laws of the relation on typing.
 use Rattle.std.proofs.Common.{◌≡◌, ℕ, [], Some, IsTrue}
-use Rattle.pool_syntax.specs.declared.words.Label.{Label}
+use Rattle.run_words.specs.declared.words.Label.{Label}
 use Rattle.pool_syntax.specs.Terms.{ProgramTree}
 use Rattle.pool_syntax.specs.Typing.{faults}
 use Rattle.pool_relation.specs.Action.{Object, action}

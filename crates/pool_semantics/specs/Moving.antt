@@ -1,10 +1,10 @@
 -- What makes an object able to move: it goes on alone, answers a caller, or takes a message.
 use Rattle.std.specs.Prelude.{◌≡◌, ℕ, ◌≤◌, List, Option, Some, None, is_some, min, IfSome, IsSomeAnd, Bool, true, false, not}
 use Rattle.std.specs.List.{list_any}
-use Rattle.pool_syntax.specs.declared.words.Value.{Value}
+use Rattle.run_words.specs.declared.words.Value.{Value}
 use Rattle.pool_syntax.specs.Terms.{ProgramTree}
-use Rattle.mesh_semantics.specs.Message.{Message}
-use Rattle.mesh_semantics.specs.Partial.{◌>>=◌, require}
+use Rattle.run_words.specs.Message.{Message}
+use Rattle.run_words.specs.Partial.{◌>>=◌, require}
 use Rattle.pool_relation.specs.Action as A
 use Rattle.pool_relation.specs.Action.{Object, Action, action}
 use Rattle.pool_relation.specs.Configuration.{Configuration, messages_of}

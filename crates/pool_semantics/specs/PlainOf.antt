@@ -1,11 +1,11 @@
 -- What contracts see of a Plain.
 use Rattle.std.specs.Prelude.{ℕ, Option, Some, None, Bool}
-use Rattle.pool_syntax.specs.declared.words.Label.TheVariants as L
+use Rattle.run_words.specs.declared.words.Label.TheVariants as L
 use Rattle.pool_syntax.specs.Terms.{ProgramTree}
 use Rattle.pool_syntax.specs.TreeOf.{program_of}
 use Rattle.pool_relation.specs.Action.{Object}
 use Rattle.pool_relation.specs.Configuration.{Configuration, object_of}
-use Rattle.mesh_semantics.specs.Partial.{◌>>=◌}
+use Rattle.run_words.specs.Partial.{◌>>=◌}
 use Rattle.pool_relation.specs.Transition.{transition}
 use Rattle.pool_relation.specs.UnderWay.{frames_of}
 use Rattle.pool_semantics.specs.Plains.{configuration}

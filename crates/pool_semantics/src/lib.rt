@@ -3,4 +3,4 @@
 
 mod plain;
 
-pub use plain::{Mail, Plain, Redex, Refuse, State, Waiting, agent};
+pub use plain::{Mail, Plain, Refuse, State, Waiting, agent};

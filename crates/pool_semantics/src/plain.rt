@@ -18,14 +18,14 @@ ghost use Rattle.pool_relation.specs.Progress.{agent};
 pub use crate::plain::mail::Mail;
 use crate::plain::moving::lesser;
 use crate::plain::objects::add;
-pub use crate::plain::redex::Redex;
 pub use crate::plain::state::State;
 pub use crate::plain::waits::Waiting;
 use class_check::Checked;
 use plain_object::act::Act;
 use plain_object::frames::frames_after;
 use plain_object::thing::Thing;
-use pool_syntax::Label;
+use run_words::Label;
+pub use run_words::Redex;
 use std::alloc::{AllocError, Global};
 use std::collections::BTreeMap;
 
@@ -66,7 +66,7 @@ pub fn agent(label: &Label) -> u32
 
 impl<'a> Plain<'a> {
     ghost use Rattle.std.specs.Prelude.{◌<◌, Some, None, Err, IfOk, IfSome, IfNone, OnOk, true};
-    ghost use Rattle.pool_syntax.specs.declared.words.Label.{Label};
+    ghost use Rattle.run_words.specs.declared.words.Label.{Label};
     ghost use Rattle.pool_relation.specs.Action.{Object, action};
     ghost use Rattle.pool_relation.specs.Configuration.{object_of};
     ghost use Rattle.pool_semantics.specs.PlainOf.{state_of, configuration_of, program_tree, is_spent, frames_next};

@@ -1,6 +1,6 @@
 -- What comes of reading inputs: an error is passed on, and a text that was read is judged.
 use Rattle.std.proofs.Common.{◌≡◌, ℕ, List, IfOk, MatchResult, Result, Ok, Err, true, ◌≢◌, refl, ap, subst}
-use Rattle.pool_syntax.specs.Tokens.{Text}
+use Rattle.run_words.specs.Text.{Text}
 use Rattle.pool_syntax.specs.Spelled.{IsGrammatical, is_spelled}
 use Rattle.pool_syntax.specs.Terms.{ProgramTree}
 use Rattle.pool_syntax.specs.TreeOf.{program_of}

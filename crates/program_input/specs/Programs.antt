@@ -2,7 +2,8 @@
 use Rattle.std.specs.Prelude.{◌+◌, List}
 use Rattle.pool_syntax.specs.declared.token.Tok.{Tok}
 use Rattle.pool_syntax.specs.declared.token.Token.{Token}
-use Rattle.pool_syntax.specs.Tokens.{Text, HasTokens, IsFirstFault}
+use Rattle.run_words.specs.Text.{Text}
+use Rattle.pool_syntax.specs.Tokens.{HasTokens, IsFirstFault}
 use Rattle.pool_syntax.specs.Terms.{ProgramTree}
 use Rattle.pool_syntax.specs.Rules.{program}
 use Rattle.pool_syntax.specs.Grammar.{rule}

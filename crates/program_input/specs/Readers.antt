@@ -1,7 +1,7 @@
 -- What comes of reading an input, and of a program that was read.
 use Rattle.std.specs.Prelude.{◌≡◌, ◌<◌, ◌≤◌, List, [], length, true, false, IfSome, Result, Ok, Err, ◌⊎◌}
 use Rattle.pool_outside.specs.Outside.{Rose}
-use Rattle.pool_syntax.specs.Tokens.{Text}
+use Rattle.run_words.specs.Text.{Text}
 use Rattle.pool_syntax.specs.Terms.{ProgramTree}
 use Rattle.pool_syntax.specs.Typing.{faults}
 use Rattle.pool_syntax.specs.Spelled.{IsGrammatical, is_spelled}

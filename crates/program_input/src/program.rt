@@ -1,7 +1,7 @@
 //! Reads a program and judges it: its tokens, its grammar, its classes.
 ghost use Rattle.std.specs.Prelude.{◌≡◌, ◌≢◌, ◌≤◌, List, length, true, [], IfOk, MatchResult, IsOk, IsErr, Err};
 ghost use Rattle.pool_syntax.specs.Terms.{ProgramTree};
-ghost use Rattle.pool_syntax.specs.Tokens.{Text};
+ghost use Rattle.run_words.specs.Text.{Text};
 ghost use Rattle.pool_syntax.specs.TreeOf.{program_of};
 ghost use Rattle.pool_syntax.specs.Spelled.{IsGrammatical, is_spelled};
 ghost use Rattle.pool_syntax.specs.Typing.{faults};
@@ -14,7 +14,8 @@ use class_check::{Checked, ClassFault, check};
 use fault_lines::{Fault, Input, Stop};
 use pool_lexer::tokens;
 use pool_parser::{SyntaxFault, parse};
-use pool_syntax::{LexFault, Names, Program};
+use pool_syntax::{LexFault, Program};
+use run_words::Names;
 use std::alloc::Global;
 
 /// A program, and the texts of its names and strings.

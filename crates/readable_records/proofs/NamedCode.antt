@@ -1,16 +1,16 @@
 -- Code that sends to names alone: its configurations show names, so its records are readable.
 use Rattle.std.proofs.Common.{◌≡◌, inl, inr, ℕ, ◌≤◌, List, [], ◌∷◌, length, Some}
-use Rattle.pool_syntax.specs.declared.words.Event.{Event}
-use Rattle.pool_syntax.specs.declared.words.Label.TheVariants as L
-use Rattle.pool_syntax.specs.declared.words.Placement.{Placement}
-use Rattle.object_code.specs.declared.unit.Unit.{Unit as Code}
-use Rattle.object_code.specs.Proper.{IsProper}
-use Rattle.object_code.specs.Suits.{Suits}
+use Rattle.run_words.specs.declared.words.Event.{Event}
+use Rattle.run_words.specs.declared.words.Label.TheVariants as L
+use Rattle.run_words.specs.declared.words.Placement.{Placement}
+use Rattle.code_semantics.specs.declared.unit.Unit.{Unit as Code}
+use Rattle.code_semantics.specs.Proper.{IsProper}
+use Rattle.code_semantics.specs.Suits.{Suits}
 use Rattle.mesh_semantics.specs.Act.{id}
 use Rattle.mesh_semantics.specs.Config.{Config, messages_of}
-use Rattle.mesh_semantics.specs.Message.{Message}
+use Rattle.run_words.specs.Message.{Message}
 use Rattle.mesh_semantics.specs.Record.{record_of, record_on_wires, start}
-use Rattle.mesh_semantics.specs.Sound.{Each}
+use Rattle.run_words.specs.Tables.{Each}
 use Rattle.coded_objects.specs.Coded.{Placed, coded}
 use Rattle.coded_objects.specs.Made.{IsNamedIn, IsMadeMessage, HasMade}
 use Rattle.coded_objects.proofs.Laws.{code_fits, made_lawful, made_start_sound, label_made, call_made}

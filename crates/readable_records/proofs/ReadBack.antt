@@ -2,9 +2,10 @@
 use Rattle.std.proofs.Common.{◌≡◌, refl, sym, ap, subst, ◌∙◌, List, [], ◌∷◌, ◌++◌, Option, Some, None, Bool, true, false}
 use Rattle.std.specs.Prelude.{◌&&◌, ◌||◌, not, bytes_eq}
 use Rattle.std.proofs.lemmas.Slice.Eq.{bytes_eq-Decides}
-use Rattle.pool_syntax.specs.declared.words.Line.{Line}
-use Rattle.pool_syntax.specs.Table.{is_among, is_distinct, with_text}
-use Rattle.pool_syntax.specs.Tokens.{Text, kept_text, texts_after}
+use Rattle.run_words.specs.declared.words.Line.{Line}
+use Rattle.run_words.specs.Table.{is_among, is_distinct, with_text}
+use Rattle.run_words.specs.Text.{Text}
+use Rattle.pool_syntax.specs.Tokens.{kept_text, texts_after}
 use Rattle.pool_syntax.specs.Terms.{ProgramTree}
 use Rattle.pool_syntax.specs.Programs.{IsParsed}
 use Rattle.run_record.specs.Numbered.{lines_after}

@@ -1,21 +1,21 @@
 -- The record of a parsed program without class faults is readable: it is that of its code, and its code is spelled.
 use Rattle.std.proofs.Common.{◌≡◌, refl, sym, subst, ℕ, ◌≤◌, List, [], length, true}
-use Rattle.pool_syntax.specs.declared.words.Event.{Event}
-use Rattle.pool_syntax.specs.declared.words.Line.{Line}
-use Rattle.pool_syntax.specs.declared.words.Placement.{Placement}
-use Rattle.pool_syntax.specs.Tokens.{Text}
+use Rattle.run_words.specs.declared.words.Event.{Event}
+use Rattle.run_words.specs.declared.words.Line.{Line}
+use Rattle.run_words.specs.declared.words.Placement.{Placement}
+use Rattle.run_words.specs.Text.{Text}
 use Rattle.pool_syntax.specs.Terms.{ProgramTree}
 use Rattle.pool_syntax.specs.Typing.{faults}
 use Rattle.pool_syntax.specs.Programs.{IsParsed, toks}
 use Rattle.pool_syntax.specs.Spelled.{is_spelled}
 use Rattle.pool_lexer.proofs.SpelledTokens.{spelled_of}
 use Rattle.pool_parser.proofs.Spelling.{program_spelled}
-use Rattle.object_code.specs.declared.unit.Unit.{Unit as Code}
-use Rattle.object_code.specs.Proper.{IsProper}
-use Rattle.object_code.specs.Suits.{Suits}
+use Rattle.code_semantics.specs.declared.unit.Unit.{Unit as Code}
+use Rattle.code_semantics.specs.Proper.{IsProper}
+use Rattle.code_semantics.specs.Suits.{Suits}
 use Rattle.pool_compile.specs.Code.{code}
 use Rattle.mesh_semantics.specs.Record.{record_of, record_on_wires}
-use Rattle.mesh_semantics.specs.Sound.{Each}
+use Rattle.run_words.specs.Tables.{Each}
 use Rattle.placed_terms.specs.Terms.{terms}
 use Rattle.placed_code.proofs.Laws.{code_record, code_record_on_wires, parsed_checked, suits_fits}
 use Rattle.run_record.specs.Readable.{IsReadableEvent, IsRecord}

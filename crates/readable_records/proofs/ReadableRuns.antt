@@ -1,31 +1,32 @@
 -- Each line of a record of spelled code is readable, and the lines stand in the order of a record, where all that configurations show has names.
 use Rattle.std.proofs.Common.{◌≡◌, inl, inr, refl, sym, ap, subst, ◌∙◌, ℕ, ◌+◌, ◌*◌, ◌/◌, ◌<◌, ◌≤◌, ◌==◌, List, [], ◌∷◌, length, Option, Some, None, Bool, true, false, arith}
 use Rattle.std.specs.Prelude.{◌&&◌, is_none, slice_get}
-use Rattle.pool_syntax.specs.declared.words.NameId.{NameId}
-use Rattle.pool_syntax.specs.declared.words.Value.{Value}
-use Rattle.pool_syntax.specs.declared.words.Value.TheVariants as V
-use Rattle.pool_syntax.specs.declared.words.Item.{Item}
-use Rattle.pool_syntax.specs.declared.words.Item.TheVariants as It
-use Rattle.pool_syntax.specs.declared.words.Label.{Label}
-use Rattle.pool_syntax.specs.declared.words.Label.TheVariants as L
-use Rattle.pool_syntax.specs.declared.words.What.{What}
-use Rattle.pool_syntax.specs.declared.words.What.TheVariants as W
-use Rattle.pool_syntax.specs.declared.words.Event.{Event}
-use Rattle.pool_syntax.specs.declared.words.Placement.{Placement}
-use Rattle.object_code.specs.declared.unit.Instr.TheVariants as I
-use Rattle.object_code.specs.declared.unit.CodeObject.{CodeObject}
-use Rattle.object_code.specs.declared.unit.Frame.{Frame}
-use Rattle.object_code.specs.declared.unit.Unit.{Unit as Code}
-use Rattle.object_code.specs.Frames.{code_of}
-use Rattle.object_code.specs.Kinds as C
-use Rattle.object_code.specs.Kinds.{code_kind, frames_kind}
-use Rattle.object_code.specs.Proper.{IsProper}
-use Rattle.object_code.specs.Suits.{Suits}
-use Rattle.mesh_semantics.proofs.Laws.{first, equal, equals, same_some, given_by, required, fit_of, find_put_same, act_kept, values_itself, with_wires, KeepsOn, act_keeps_wires, no_wires_kept}
-use Rattle.mesh_semantics.specs.Message.{Message}
+use Rattle.run_words.specs.declared.words.NameId.{NameId}
+use Rattle.run_words.specs.declared.words.Value.{Value}
+use Rattle.run_words.specs.declared.words.Value.TheVariants as V
+use Rattle.run_words.specs.declared.words.Item.{Item}
+use Rattle.run_words.specs.declared.words.Item.TheVariants as It
+use Rattle.run_words.specs.declared.words.Label.{Label}
+use Rattle.run_words.specs.declared.words.Label.TheVariants as L
+use Rattle.run_words.specs.declared.words.What.{What}
+use Rattle.run_words.specs.declared.words.What.TheVariants as W
+use Rattle.run_words.specs.declared.words.Event.{Event}
+use Rattle.run_words.specs.declared.words.Placement.{Placement}
+use Rattle.code_semantics.specs.declared.unit.Instr.TheVariants as I
+use Rattle.run_words.specs.declared.frames.CodeObject.{CodeObject}
+use Rattle.run_words.specs.declared.frames.Frame.{Frame}
+use Rattle.code_semantics.specs.declared.unit.Unit.{Unit as Code}
+use Rattle.code_semantics.specs.Frames.{code_of}
+use Rattle.code_semantics.specs.Kinds as C
+use Rattle.code_semantics.specs.Kinds.{code_kind, frames_kind}
+use Rattle.code_semantics.specs.Proper.{IsProper}
+use Rattle.code_semantics.specs.Suits.{Suits}
+use Rattle.run_words.proofs.Laws.{first, equal, equals, same_some, given_by, required, find_put_same, values_itself}
+use Rattle.mesh_semantics.proofs.Laws.{fit_of, act_kept, with_wires, KeepsOn, act_keeps_wires, no_wires_kept}
+use Rattle.run_words.specs.Message.{Message}
 use Rattle.mesh_semantics.proofs.Basics.{running_gives}
 use Rattle.mesh_semantics.specs.Kind.{makes, calls, alternatives}
-use Rattle.mesh_semantics.specs.Same.{are_same}
+use Rattle.run_words.specs.Same.{are_same}
 use Rattle.mesh_semantics.specs.Lawful.{Lawful}
 use Rattle.mesh_semantics.specs.Config.{Config, object_of, messages_of, put_object}
 use Rattle.mesh_semantics.specs.Moves.{running, move, moves, offered, first_message}
@@ -33,10 +34,11 @@ use Rattle.mesh_semantics.specs.Delay.{Wires, Delay, no_delay, no_delay_on_wires
 use Rattle.mesh_semantics.specs.Wired.{KeepsWires}
 use Rattle.mesh_semantics.specs.Act.{id, Acted, Acts, Full, Nothing, act, is_quiet}
 use Rattle.mesh_semantics.specs.FitFor.{FitFor}
-use Rattle.mesh_semantics.specs.Sound.{Each, IsThere, IsSound}
+use Rattle.run_words.specs.Tables.{Each}
+use Rattle.mesh_semantics.specs.Sound.{IsThere, IsSound}
 use Rattle.mesh_semantics.specs.Kept.{After}
 use Rattle.mesh_semantics.specs.Record.{after, record_from, record_at, record_of, record_on_wires, start, shown}
-use Rattle.unit_objects.specs.OfUnit.{HoldsOfItem, IsObjectOf}
+use Rattle.code_semantics.specs.OfUnit.{HoldsOfItem, IsObjectOf}
 use Rattle.coded_objects.specs.Coded.{Placed, kind_of, unless_served, coded}
 use Rattle.coded_objects.specs.OfCode.{Names}
 use Rattle.coded_objects.specs.Made.{HasInstr, IsMade, AreMadeArgs, IsMadeMessage, IsMadeItem, HasMade, IsMadeLabel}

@@ -2,24 +2,25 @@
 use Rattle.std.proofs.Common.{◌≡◌, inl, inr, refl, sym, ap, ◌∙◌, subst, ℕ, ℤ, pos, negsuc, zero, suc, ◌+◌, ◌<◌, ◌≤◌, List, [], ◌∷◌, ◌++◌, length, Option, Some, None, Bool, true, false, ◌&&◌, arith}
 use Rattle.std.specs.Prelude.{slice_get, map, not, if◌then◌else◌, nat_le, is_none, bytes_eq}
 use Rattle.std.proofs.lemmas.Bool.Decides.{nat_tests}
-use Rattle.pool_syntax.specs.declared.words.Value.{Value}
-use Rattle.pool_syntax.specs.declared.words.Value.TheVariants as V
-use Rattle.pool_syntax.specs.Tokens.{Text, every, is_inner, is_word, keywords, is_listed, lookup}
-use Rattle.pool_syntax.specs.Values.{is_in_range}
+use Rattle.run_words.specs.declared.words.Value.{Value}
+use Rattle.run_words.specs.declared.words.Value.TheVariants as V
+use Rattle.run_words.specs.Text.{Text, every, is_inner, is_word, is_listed, lookup}
+use Rattle.run_words.specs.Keywords.{keywords, is_name_text, is_string_text, text_passes, is_name, is_string_number}
+use Rattle.run_words.specs.Values.{is_in_range}
 use Rattle.pool_syntax.specs.Terms as T
 use Rattle.pool_syntax.specs.Terms.{Expression, Expressions, Statement, Statements, Alternatives, MethodTree, ProgramTree}
-use Rattle.pool_syntax.specs.Spelled.{is_name_text, is_string_text, text_passes, is_name, is_string_number, is_literal, are_answer_names, is_spelled_expression, are_spelled_expressions, is_spelled_statement, are_spelled_statements, are_spelled_alternatives, are_spelled_methods, is_spelled}
+use Rattle.pool_syntax.specs.Spelled.{is_literal, are_answer_names, is_spelled_expression, are_spelled_expressions, is_spelled_statement, are_spelled_statements, are_spelled_alternatives, are_spelled_methods, is_spelled}
 use Rattle.pool_syntax.specs.Typing.{contains, size}
-use Rattle.object_code.specs.declared.unit.Instr.{Instr}
-use Rattle.object_code.specs.declared.unit.Instr.TheVariants as I
-use Rattle.object_code.specs.declared.unit.MethodCode.{MethodCode}
-use Rattle.object_code.specs.declared.unit.ClassCode.{ClassCode}
-use Rattle.object_code.specs.declared.unit.Unit.{Unit as Code}
-use Rattle.object_code.specs.Frames.{code_of, method_code}
+use Rattle.code_semantics.specs.declared.unit.Instr.{Instr}
+use Rattle.code_semantics.specs.declared.unit.Instr.TheVariants as I
+use Rattle.code_semantics.specs.declared.unit.MethodCode.{MethodCode}
+use Rattle.code_semantics.specs.declared.unit.ClassCode.{ClassCode}
+use Rattle.code_semantics.specs.declared.unit.Unit.{Unit as Code}
+use Rattle.code_semantics.specs.Frames.{code_of, method_code}
 use Rattle.pool_compile.specs.Code.{Numbering, name, push, load, store, number_of, names_of, post_code, expression_code, expressions_code, guards_code, statement_code, statements_code, alternatives_code, alternatives_at, method_code_of, class_code, code}
-use Rattle.mesh_semantics.proofs.Laws.{first, second}
+use Rattle.run_words.proofs.Laws.{first, second}
 use Rattle.mesh_semantics.specs.Act.{id}
-use Rattle.record_lines.specs.RecordText.{text_or_none}
+use Rattle.run_words.specs.Table.{text_or_none}
 use Rattle.line_reader.specs.Fields as F
 use Rattle.coded_objects.specs.Made.{HasInstr}
 use Rattle.run_record.specs.Readable.{IsNamed, IsString}

@@ -1,7 +1,7 @@
 -- Lines of which both texts are read back: without fault, and, with the table of names with which they were written, as these lines.
 use Rattle.std.specs.Prelude.{◌≡◌, List, None}
-use Rattle.pool_syntax.specs.declared.words.Line.{Line}
-use Rattle.pool_syntax.specs.Tokens.{Text}
+use Rattle.run_words.specs.declared.words.Line.{Line}
+use Rattle.run_words.specs.Text.{Text}
 use Rattle.record_lines.specs.RecordText.{record_text}
 use Rattle.record_lines.specs.SecondForm.{text2}
 use Rattle.run_record.specs.Numbered.{lines_after}

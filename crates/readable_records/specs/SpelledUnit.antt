@@ -1,8 +1,8 @@
 -- Units whose code makes objects of classes with names of the format, writes strings of it, and pushes integers of 64 bits; and units that send to names of the format alone.
 use Rattle.std.specs.Prelude.{◌≡◌, ◌⊎◌, ℕ, ℤ, true}
-use Rattle.pool_syntax.specs.Values.{is_in_range}
-use Rattle.object_code.specs.declared.unit.Instr.TheVariants as I
-use Rattle.object_code.specs.declared.unit.Unit.{Unit as Code}
+use Rattle.run_words.specs.Values.{is_in_range}
+use Rattle.code_semantics.specs.declared.unit.Instr.TheVariants as I
+use Rattle.code_semantics.specs.declared.unit.Unit.{Unit as Code}
 use Rattle.mesh_semantics.specs.Act.{id}
 use Rattle.coded_objects.specs.Made.{HasInstr, IsTextIn}
 use Rattle.run_record.specs.Readable.{IsNamed, IsString}

@@ -1,20 +1,20 @@
 //! Laws of the records of code: each is the contract of a function that does nothing.
 ghost use Rattle.std.specs.Prelude.{◌≡◌, ◌≤◌, ℕ, List, [], length};
-ghost use Rattle.pool_syntax.specs.Tokens.{Text};
+ghost use Rattle.run_words.specs.Text.{Text};
 ghost use Rattle.pool_syntax.specs.Terms.{ProgramTree};
 ghost use Rattle.pool_syntax.specs.Typing.{faults};
 ghost use Rattle.pool_syntax.specs.Programs.{IsParsed};
 ghost use Rattle.pool_compile.specs.Code.{code};
 ghost use Rattle.placed_terms.specs.Terms.{terms};
 ghost use Rattle.placed_code.specs.CheckedProgram.{IsCheckedProgram};
-ghost use Rattle.pool_syntax.specs.declared.words.Event.{Event};
-ghost use Rattle.pool_syntax.specs.declared.words.Line.{Line};
-ghost use Rattle.pool_syntax.specs.declared.words.Placement.{Placement};
-ghost use Rattle.object_code.specs.declared.unit.Unit.{Unit as Code};
-ghost use Rattle.object_code.specs.Proper.{IsProper};
-ghost use Rattle.object_code.specs.Suits.{Suits};
+ghost use Rattle.run_words.specs.declared.words.Event.{Event};
+ghost use Rattle.run_words.specs.declared.words.Line.{Line};
+ghost use Rattle.run_words.specs.declared.words.Placement.{Placement};
+ghost use Rattle.code_semantics.specs.declared.unit.Unit.{Unit as Code};
+ghost use Rattle.code_semantics.specs.Proper.{IsProper};
+ghost use Rattle.code_semantics.specs.Suits.{Suits};
 ghost use Rattle.mesh_semantics.specs.Record.{record_of, record_on_wires};
-ghost use Rattle.mesh_semantics.specs.Sound.{Each};
+ghost use Rattle.run_words.specs.Tables.{Each};
 ghost use Rattle.coded_objects.specs.Coded.{coded};
 ghost use Rattle.run_record.specs.Readable.{IsReadableEvent, IsRecord};
 ghost use Rattle.readable_records.specs.ReadsBack.{ReadsBack};

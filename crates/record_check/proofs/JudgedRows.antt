@@ -1,22 +1,22 @@
 -- The record of a call between two nodes, judged: as it was written, with one local transition too few, and without its last event.
 use Rattle.std.proofs.Common.{◌≡◌, refl, ℕ, zero, suc, ◌*◌, ◌<◌, List, [], ◌∷◌, ◌++◌, Option, Some, None, slice_get, arith}
-use Rattle.pool_syntax.specs.declared.words.Label.TheVariants as L
-use Rattle.pool_syntax.specs.declared.words.What.{What}
-use Rattle.pool_syntax.specs.declared.words.What.TheVariants as W
-use Rattle.pool_syntax.specs.declared.words.Item.TheVariants as I
-use Rattle.pool_syntax.specs.declared.words.Event.{Event}
-use Rattle.pool_syntax.specs.declared.words.Event.TheVariants.{Turn, Link}
-use Rattle.pool_syntax.specs.declared.words.End.TheVariants.{Quiet}
-use Rattle.pool_syntax.specs.declared.words.Line.{Line}
-use Rattle.pool_syntax.specs.declared.words.Line.TheVariants as R
-use Rattle.pool_syntax.specs.declared.words.Place.TheVariants as Pl
+use Rattle.run_words.specs.declared.words.Label.TheVariants as L
+use Rattle.run_words.specs.declared.words.What.{What}
+use Rattle.run_words.specs.declared.words.What.TheVariants as W
+use Rattle.run_words.specs.declared.words.Item.TheVariants as I
+use Rattle.run_words.specs.declared.words.Event.{Event}
+use Rattle.run_words.specs.declared.words.Event.TheVariants.{Turn, Link}
+use Rattle.run_words.specs.declared.words.End.TheVariants.{Quiet}
+use Rattle.run_words.specs.declared.words.Line.{Line}
+use Rattle.run_words.specs.declared.words.Line.TheVariants as R
+use Rattle.run_words.specs.declared.words.Place.TheVariants as Pl
 use Rattle.pool_relation.specs.Configuration.{Configuration}
 use Rattle.pool_relation.specs.Transition.{run, start, transition}
 use Rattle.mesh_semantics.specs.Act.{id}
-use Rattle.mesh_semantics.specs.Asks.{asks}
+use Rattle.run_words.specs.Asks.{asks}
 use Rattle.mesh_semantics.specs.FitFor.{FitFor}
 use Rattle.mesh_semantics.specs.Record.{labels}
-use Rattle.mesh_semantics.proofs.Laws.{plain_ways}
+use Rattle.run_words.proofs.Laws.{plain_ways}
 use Rattle.placed_terms.specs.Terms.{terms}
 use Rattle.placed_terms.proofs.Words.{turns, int, at, step, local, written, lines, numbered}
 use Rattle.placed_terms.proofs.TwoNodes.{Server, twice, program, placement}

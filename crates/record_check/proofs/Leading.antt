@@ -1,16 +1,16 @@
 -- A run goes on: by one more transition, and by one more line.
 use Rattle.std.proofs.Common.{◌≡◌, refl, sym, ap, ◌∙◌, ℕ, zero, suc, ◌+◌, ◌<◌, List, [], ◌∷◌, ◌++◌, length, replicate, take, get_or, Some, append_assoc, append-nil, arith}
 use Rattle.pool_syntax.specs.Terms.{ProgramTree}
-use Rattle.pool_syntax.specs.declared.words.Label.{Label}
-use Rattle.pool_syntax.specs.declared.words.Line.{Line}
+use Rattle.run_words.specs.declared.words.Label.{Label}
+use Rattle.run_words.specs.declared.words.Line.{Line}
 use Rattle.pool_relation.specs.Configuration.{Configuration}
 use Rattle.pool_relation.specs.Progress.{agent}
 use Rattle.pool_relation.specs.Transition.{transition, run, start}
 use Rattle.pool_relation.proofs.Laws.{joined}
 use Rattle.mesh_semantics.specs.Record.{labels, labels_of}
-use Rattle.mesh_semantics.proofs.Laws.{same_some, given_by}
+use Rattle.run_words.proofs.Laws.{same_some, given_by}
 use Rattle.pool_semantics.specs.Shown.{Shows}
-use Rattle.pool_semantics.specs.declared.plain.redex.Redex.{Redex}
+use Rattle.run_words.specs.declared.verdicts.Redex.{Redex}
 use Rattle.record_check.specs.Judged.{root, StopsAt}
 use Rattle.record_check.specs.Verdicts.{StopsIn}
 

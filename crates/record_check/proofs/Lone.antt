@@ -1,9 +1,9 @@
 -- A lone object: whose name a label tells, and that without a transition it has none under another name.
 use Rattle.std.proofs.Common.{◌≡◌, ◌≢◌, ◌⊎◌, inl, inr, refl, sym, ap, subst, ◌∙◌, IsTrue, ℕ, zero, suc, List, [], ◌∷◌, Option, Some, None, Bool, true, false, slice_get}
 use Rattle.std.specs.List.{list_any}
-use Rattle.pool_syntax.specs.declared.words.Value.{Value}
-use Rattle.pool_syntax.specs.declared.words.Label.{Label}
-use Rattle.pool_syntax.specs.declared.words.Label.TheVariants as L
+use Rattle.run_words.specs.declared.words.Value.{Value}
+use Rattle.run_words.specs.declared.words.Label.{Label}
+use Rattle.run_words.specs.declared.words.Label.TheVariants as L
 use Rattle.pool_syntax.specs.Terms.{ProgramTree}
 use Rattle.pool_syntax.specs.Typing.{faults}
 use Rattle.pool_relation.specs.Reducible as R
@@ -17,8 +17,8 @@ use Rattle.pool_relation.specs.Ready.{is_ready, is_open_plain}
 use Rattle.pool_relation.specs.Transition.{transition, calls, offer, plain_choice}
 use Rattle.pool_relation.specs.Typed.{Typed}
 use Rattle.pool_relation.specs.Written.{is_written}
-use Rattle.mesh_semantics.specs.Partial.{◌>>=◌, ◌>>◌, require}
-use Rattle.mesh_semantics.proofs.Laws.{find_put_same}
+use Rattle.run_words.specs.Partial.{◌>>=◌, ◌>>◌, require}
+use Rattle.run_words.proofs.Laws.{find_put_same}
 use Rattle.pool_relation.proofs.Laws.{Runs, not_there, there, runs, no_transition, goes_on_or_meets}
 
 -- the object of a possible label is the one that is there
@@ -56,7 +56,7 @@ same_action p o q x = by (statements_redex [] x.term) refl
     at (R.Unary op v) u = inl refl
     at (R.Binary op v w) u = inl refl
     at (R.Invoke m args) u = inl refl
-    at (R.Request v m args) u = inl refl
+    at (R.SynchronousSend v m args) u = inl refl
     at (R.Leave v) u = inl refl
     at (R.Waiting b m) u = inl refl
     at (R.Set n v) u = inl refl

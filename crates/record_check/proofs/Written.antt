@@ -1,8 +1,8 @@
 -- The record of a program is a run of it, told by its lines.
 use Rattle.std.proofs.Common.{◌≡◌, refl, sym, ap, subst, ◌∙◌, IsTrue, ℕ, List, [], ◌∷◌, Option, Some, None}
-use Rattle.pool_syntax.specs.declared.words.Event.{Event}
-use Rattle.pool_syntax.specs.declared.words.Label.{Label}
-use Rattle.pool_syntax.specs.declared.words.Placement.{Placement}
+use Rattle.run_words.specs.declared.words.Event.{Event}
+use Rattle.run_words.specs.declared.words.Label.{Label}
+use Rattle.run_words.specs.declared.words.Placement.{Placement}
 use Rattle.pool_syntax.specs.Terms.{ProgramTree}
 use Rattle.pool_syntax.specs.Typing.{faults}
 use Rattle.pool_relation.specs.Action.{Object}
@@ -13,11 +13,11 @@ use Rattle.pool_relation.specs.Transition.{transition, run, start, last_class, n
 use Rattle.pool_relation.specs.Typed.{Typed}
 use Rattle.pool_relation.specs.Written.{is_written}
 use Rattle.pool_relation.proofs.Laws.{start_typed, starts}
-use Rattle.mesh_semantics.specs.Partial.{◌>>=◌}
+use Rattle.run_words.specs.Partial.{◌>>=◌}
 use Rattle.mesh_semantics.specs.Delay.{Delay, no_delay, no_delay_on_wires}
 use Rattle.mesh_semantics.specs.FitFor.{FitFor}
 use Rattle.mesh_semantics.specs.Record.{Record, root_name, record_of, record_on_wires, labels}
-use Rattle.mesh_semantics.proofs.Laws.{same_some, given_by}
+use Rattle.run_words.proofs.Laws.{same_some, given_by}
 use Rattle.placed_terms.specs.Terms.{terms, plain}
 use Rattle.placed_terms.specs.RunOf.{IsRunFrom}
 use Rattle.placed_terms.proofs.Laws.{runs_from, runs_from_on_wires}

@@ -1,8 +1,8 @@
 -- Where the labels of a record lead a stepper.
 use Rattle.std.specs.Prelude.{◌≡◌, List, false}
 use Rattle.pool_syntax.specs.Terms.{ProgramTree}
-use Rattle.pool_syntax.specs.declared.words.Label.{Label}
-use Rattle.pool_syntax.specs.declared.words.Line.{Line}
+use Rattle.run_words.specs.declared.words.Label.{Label}
+use Rattle.run_words.specs.declared.words.Line.{Line}
 use Rattle.pool_relation.specs.Configuration.{Configuration}
 use Rattle.pool_relation.specs.Progress.{agent}
 use Rattle.pool_semantics.specs.PlainOf.{configuration_of, program_tree, is_spent}

@@ -1,19 +1,19 @@
 -- What a judge of a record answers, and how far the lines of a record lead.
 use Rattle.std.specs.Prelude.{◌≡◌, ℕ, ◌<◌, List, ◌∷◌, ◌++◌, replicate, Some, None}
 use Rattle.pool_syntax.specs.Terms.{ProgramTree}
-use Rattle.pool_syntax.specs.declared.words.Label.{Label}
-use Rattle.pool_syntax.specs.declared.words.What.TheVariants as W
-use Rattle.pool_syntax.specs.declared.words.Event.{Event}
-use Rattle.pool_syntax.specs.declared.words.Line.{Line}
-use Rattle.pool_syntax.specs.declared.words.Line.TheVariants as R
+use Rattle.run_words.specs.declared.words.Label.{Label}
+use Rattle.run_words.specs.declared.words.What.TheVariants as W
+use Rattle.run_words.specs.declared.words.Event.{Event}
+use Rattle.run_words.specs.declared.words.Line.{Line}
+use Rattle.run_words.specs.declared.words.Line.TheVariants as R
 use Rattle.pool_relation.specs.Configuration.{Configuration}
 use Rattle.pool_relation.specs.Progress.{agent}
 use Rattle.pool_relation.specs.Transition.{transition, run}
 use Rattle.mesh_semantics.specs.Record.{labels}
 use Rattle.pool_semantics.specs.Shown.{Shows}
-use Rattle.pool_semantics.specs.declared.plain.redex.Redex.{Redex}
-use Rattle.record_check.specs.declared.lead.Verdict.{Verdict}
-use Rattle.record_check.specs.declared.lead.Verdict.TheVariants as V
+use Rattle.run_words.specs.declared.verdicts.Redex.{Redex}
+use Rattle.run_words.specs.declared.verdicts.Verdict.{Verdict}
+use Rattle.run_words.specs.declared.verdicts.Verdict.TheVariants as V
 use Rattle.record_check.specs.Judged.{IsRunOf, StopsAt, StillMoves}
 
 -- fewer transitions of the label than so many lead from c to d, where it is not possible, and its object is at this

@@ -1,7 +1,7 @@
 //! Judges the labels of a record, from the start of its root.
 ghost use Rattle.std.specs.Prelude.{◌≡◌, ◌++◌, List, [], Some, IfOk, IfSome, IfNone};
 ghost use Rattle.pool_syntax.specs.TreeOf.{program_of};
-ghost use Rattle.pool_syntax.specs.declared.words.Label.{Label};
+ghost use Rattle.run_words.specs.declared.words.Label.{Label};
 ghost use Rattle.mesh_semantics.specs.Record.{ends_quiet, is_quiet_end, labels, labels_of};
 ghost use Rattle.record_check.specs.Judged.{first_agent, root};
 ghost use Rattle.record_check.specs.Leads.{Leads};
@@ -9,7 +9,7 @@ ghost use Rattle.record_check.specs.Leads.{Leads};
 use crate::lead::{Stop, follow};
 use class_check::Checked;
 use pool_semantics::{Plain, agent};
-use pool_syntax::{End, Line, What};
+use run_words::{End, Line, What};
 use std::alloc::{AllocError, Global};
 
 /// Where the labels of a record lead: to a line that stops, or to the end.

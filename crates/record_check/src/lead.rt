@@ -5,20 +5,9 @@ ghost use Rattle.mesh_semantics.specs.Record.{labels, labels_of};
 ghost use Rattle.pool_semantics.specs.PlainOf.{configuration_of, program_tree, is_spent};
 ghost use Rattle.record_check.specs.Verdicts.{StopsAfter, StopsIn, StopsLine};
 
-use pool_semantics::{Plain, Redex, Refuse};
-use pool_syntax::{Label, Line, What};
+use pool_semantics::{Plain, Refuse};
+use run_words::{Label, Line, Redex, What};
 use std::alloc::AllocError;
-
-/// What a record is.
-#[derive(Clone, Copy, Debug, PartialEq, Eq)]
-pub enum Verdict {
-    /// A run of the program.
-    Yes,
-    /// The line of this number shows a transition that is not possible, and its object is at this.
-    No { number: u32, redex: Redex },
-    /// The end is quiet, and this is the least object that can make a transition.
-    Moving { object: u32 },
-}
 
 /// A line that shows a transition that is not possible, and what its object is at.
 #[derive(Clone, Copy)]

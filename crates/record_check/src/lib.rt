@@ -6,5 +6,4 @@ mod lead;
 pub mod theorems;
 mod verdict;
 
-pub use lead::Verdict;
 pub use verdict::check_record;

@@ -1,12 +1,12 @@
 //! Laws of judged records: each is the contract of a function that does nothing.
 ghost use Rattle.std.specs.Prelude.{◌≡◌, ℕ, List, [], Some, IsTrue, true};
-ghost use Rattle.pool_syntax.specs.Table.{is_distinct};
-ghost use Rattle.pool_syntax.specs.Tokens.{Text};
+ghost use Rattle.run_words.specs.Table.{is_distinct};
+ghost use Rattle.run_words.specs.Text.{Text};
 ghost use Rattle.pool_syntax.specs.Terms.{ProgramTree};
 ghost use Rattle.pool_syntax.specs.Typing.{faults};
-ghost use Rattle.pool_syntax.specs.declared.words.Event.{Event};
-ghost use Rattle.pool_syntax.specs.declared.words.Line.{Line};
-ghost use Rattle.pool_syntax.specs.declared.words.Placement.{Placement};
+ghost use Rattle.run_words.specs.declared.words.Event.{Event};
+ghost use Rattle.run_words.specs.declared.words.Line.{Line};
+ghost use Rattle.run_words.specs.declared.words.Placement.{Placement};
 ghost use Rattle.pool_relation.specs.Action.{Object};
 ghost use Rattle.pool_relation.specs.Configuration.{Configuration};
 ghost use Rattle.pool_relation.specs.Transition.{start};
@@ -20,8 +20,8 @@ ghost use Rattle.record_lines.specs.SecondForm.{text2};
 ghost use Rattle.run_record.specs.Numbered.{lines_after};
 ghost use Rattle.run_record.specs.Records.{record_of as read_of};
 ghost use Rattle.run_record.specs.Readable.{IsRecord};
-ghost use Rattle.record_check.specs.declared.lead.Verdict.{Verdict as Verdicts};
-ghost use Rattle.record_check.specs.declared.lead.Verdict.TheVariants.{Yes};
+ghost use Rattle.run_words.specs.declared.verdicts.Verdict.{Verdict as Verdicts};
+ghost use Rattle.run_words.specs.declared.verdicts.Verdict.TheVariants.{Yes};
 ghost use Rattle.record_check.specs.Judged.{IsRunOf};
 ghost use Rattle.record_check.specs.Verdicts.{Judged};
 
@@ -51,8 +51,10 @@ pub fn a_record_has_one_verdict()
 
 /// What was written of a record of the program, read with a copy of the names with which it was written, whatever their numbers, has the verdict yes and no other.
 pub fn what_was_written_is_judged_yes()
-    ensures records { (names : List Text) (p : ProgramTree) (l : Placement) (q : ℕ) (es : List Event) (v : Verdicts) → is_distinct names ≡ true → faults p ≡ [] → IsTrue (is_written p) → FitFor (terms p) l
+    ensures records { (names : List Text) (p : ProgramTree) (l : Placement) (q : ℕ) (es : List Event) (v : Verdicts) → is_distinct names ≡ true → faults p ≡ [] → IsTrue (is_written p)
+        → FitFor (terms p) l
         → (p ≡ [] → ⊥) → IsRecord names (record_of (terms p) l q es).lines → Judged p (lines_after names (read_of (text2 names (record_of (terms p) l q es).lines)).told) v → v ≡ Yes }
-    ensures on_wires { (names : List Text) (p : ProgramTree) (l : Placement) (q : ℕ) (es : List Event) (v : Verdicts) → is_distinct names ≡ true → faults p ≡ [] → IsTrue (is_written p) → FitFor (terms p) l
+    ensures on_wires { (names : List Text) (p : ProgramTree) (l : Placement) (q : ℕ) (es : List Event) (v : Verdicts) → is_distinct names ≡ true → faults p ≡ [] → IsTrue (is_written p)
+        → FitFor (terms p) l
         → (p ≡ [] → ⊥) → IsRecord names (record_on_wires (terms p) l q es).lines → Judged p (lines_after names (read_of (text2 names (record_on_wires (terms p) l q es).lines)).told) v → v ≡ Yes }
 {}

@@ -6,10 +6,9 @@ ghost use Rattle.record_check.specs.Judged.{LeadsTo};
 ghost use Rattle.record_check.specs.Verdicts.{Judged};
 
 use crate::labels::{Followed, is_quiet, judge_labels};
-use crate::lead::Verdict;
 use class_check::Checked;
 use pool_semantics::Plain;
-use pool_syntax::{Line, List};
+use run_words::{Line, List, Verdict};
 use std::alloc::{AllocError, Global};
 
 /// The verdict where all labels are possible and lead here.

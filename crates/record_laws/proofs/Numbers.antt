@@ -5,22 +5,23 @@ use Rattle.std.proofs.lemmas.Bool.Decides.{nat_tests}
 use Rattle.std.proofs.lemmas.Fmt.{decimal_nonempty, digits_decimal, digits_value-decimal}
 use Rattle.std.proofs.lemmas.Slice.Eq.{bytes_eq-Decides}
 use Rattle.std.proofs.lemmas.Str.Parse.{IsNumeralModel, numerals_by_fold}
-use Rattle.pool_syntax.specs.Tokens.{Text, every, is_digit, is_integer, value_of}
-use Rattle.pool_lexer.specs.declared.places.Decimal.TheVariants.{Value as Spelled}
-use Rattle.pool_lexer.specs.Lines.{decimal_of}
-use Rattle.line_reader.specs.Fields.{count_of, number_of, only_if, positive_of, spelled_below, then_some}
+use Rattle.run_words.specs.Text.{Text, every, is_digit, is_integer, value_of_digits}
+use Rattle.run_words.specs.declared.places.Decimal.TheVariants.{Value as Spelled}
+use Rattle.run_words.specs.Lines.{decimal_of}
+use Rattle.line_reader.specs.Fields.{count_of, number_of, positive_of, spelled_below}
+use Rattle.run_words.specs.Partial.{only_if, ◌>>=◌}
 use Rattle.record_laws.proofs.Splitting.{every_weaker, is_dark}
 
 -- the tests and the number of digits are those of the standard library
-own : IsNumeralModel (λ w. every is_digit w ≡ true) (value_of 0)
-own = numerals_by_fold (λ w. every is_digit w ≡ true) (search rules) value_of (search rules)
+own : IsNumeralModel (λ w. every is_digit w ≡ true) (value_of_digits 0)
+own = numerals_by_fold (λ w. every is_digit w ≡ true) (search rules) value_of_digits (search rules)
 
 -- a decimal is of digits
 pub decimal_digits : (n : ℕ) → n < 2 ^ 64 → every is_digit (decimal n) ≡ true
 decimal_digits n small = digits_decimal own n small
 
 -- and they spell its number
-pub decimal_number : (n : ℕ) → n < 2 ^ 64 → value_of 0 (decimal n) ≡ n
+pub decimal_number : (n : ℕ) → n < 2 ^ 64 → value_of_digits 0 (decimal n) ≡ n
 decimal_number n small = digits_value-decimal own n small
 
 -- digits, at least one, are an integer's text
@@ -49,9 +50,9 @@ pub same_text : (w : Text) → bytes_eq w w ≡ true
 same_text w = (bytes_eq-Decides w w).1 refl
 
 -- a word of digits is its number, below 2 ^ 63
-decimal_value : (w : Text) (n : ℕ) → is_integer w ≡ true → value_of 0 w ≡ n → n ≤ 9223372036854775807 → decimal_of w ≡ Spelled n
+decimal_value : (w : Text) (n : ℕ) → is_integer w ≡ true → value_of_digits 0 w ≡ n → n ≤ 9223372036854775807 → decimal_of w ≡ Spelled n
 decimal_value w n digits e small =
-    let test : nat_le (value_of 0 w) 9223372036854775807 ≡ true = le-leb (value_of 0 w) 9223372036854775807 (omega arith) in
+    let test : nat_le (value_of_digits 0 w) 9223372036854775807 ≡ true = le-leb (value_of_digits 0 w) 9223372036854775807 (omega arith) in
     rw (decimal_of, digits, test) (ap Spelled e)
 
 -- a decimal below 2 ^ 63 is read as its number
@@ -71,5 +72,5 @@ count_read n small = number_read 4294967296 n small (omega arith)
 -- and so is a count that is not 0
 pub positive_read : (n : ℕ) → 0 < n → n < 4294967296 → positive_of (decimal n) ≡ Some n
 positive_read n some small =
-    ap (λ o. then_some o (λ m. only_if (nat_lt 0 m) (Some m))) (count_read n small)
+    ap (λ o. o >>= λ m. only_if (nat_lt 0 m) (Some m)) (count_read n small)
     ∙ ap (λ b. only_if b (Some n)) (let above : nat_lt 0 n ≡ true = grind (arith, nat_tests) in above)

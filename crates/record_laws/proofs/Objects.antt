@@ -3,9 +3,10 @@ use Rattle.std.proofs.Common.{◌≡◌, refl, ap, ◌∙◌, ℕ, ◌+◌, ◌-
 use Rattle.std.proofs.Math.Seq.{take-append_seam, drop-append-add, take-length}
 use Rattle.std.proofs.lemmas.Bool.{and_parts}
 use Rattle.std.proofs.lemmas.Bool.Decides.{nat_tests}
-use Rattle.pool_syntax.specs.Tokens.{Text, every, is_digit}
+use Rattle.run_words.specs.Text.{Text, every, is_digit}
 use Rattle.record_lines.specs.RecordText.{object_text}
-use Rattle.line_reader.specs.Fields.{halves_of, number_of, object_of, point_from, then_some}
+use Rattle.line_reader.specs.Fields.{halves_of, number_of, object_of, point_from}
+use Rattle.run_words.specs.Partial.{◌>>=◌}
 use Rattle.record_laws.proofs.Splitting.{every_append, is_dark}
 use Rattle.record_laws.proofs.Numbers.{decimal_dark, decimal_digits, number_read}
 
@@ -41,10 +42,10 @@ back_half v w =
 -- the two numbers beside the point make the name
 halves_read : (v w : Text) (node slot : ℕ) → number_of 65536 v ≡ Some node → number_of 65536 w ≡ Some slot → halves_of (v ++ 46 ∷ w) (length v) ≡ Some (node * 65536 + slot)
 halves_read v w node slot first second =
-    ap (λ t. then_some (number_of 65536 t) (λ n. then_some (number_of 65536 (slice_range (v ++ 46 ∷ w) (length v + 1) (length (v ++ 46 ∷ w)))) (λ s. Some (n * 65536 + s)))) (front_half v (46 ∷ w))
-    ∙ (ap (λ o. then_some o (λ n. then_some (number_of 65536 (slice_range (v ++ 46 ∷ w) (length v + 1) (length (v ++ 46 ∷ w)))) (λ s. Some (n * 65536 + s)))) first
-    ∙ (ap (λ t. then_some (number_of 65536 t) (λ s. Some (node * 65536 + s))) (back_half v w)
-    ∙ ap (λ o. then_some o (λ s. Some (node * 65536 + s))) second))
+    ap (λ t. number_of 65536 t >>= λ n. number_of 65536 (slice_range (v ++ 46 ∷ w) (length v + 1) (length (v ++ 46 ∷ w))) >>= λ s. Some (n * 65536 + s)) (front_half v (46 ∷ w))
+    ∙ (ap (λ o. o >>= λ n. number_of 65536 (slice_range (v ++ 46 ∷ w) (length v + 1) (length (v ++ 46 ∷ w))) >>= λ s. Some (n * 65536 + s)) first
+    ∙ (ap (λ t. number_of 65536 t >>= λ s. Some (node * 65536 + s)) (back_half v w)
+    ∙ ap (λ o. o >>= λ s. Some (node * 65536 + s)) second))
 
 -- the name of an object is read
 pub object_read : (o : ℕ) → o < 4294967296 → object_of (object_text o) ≡ Some o
@@ -54,7 +55,7 @@ object_read o small =
     let first : number_of 65536 v ≡ Some (o / 65536) = number_read 65536 (o / 65536) (omega arith) (omega arith) in
     let second : number_of 65536 w ≡ Some (o % 65536) = number_read 65536 (o % 65536) (omega arith) (omega arith) in
     let digits : every is_digit v ≡ true = decimal_digits (o / 65536) (omega arith) in
-    ap (λ p. then_some p (halves_of (v ++ 46 ∷ w))) (point_behind 0 (length v) v w digits (omega arith))
+    ap (λ p. p >>= halves_of (v ++ 46 ∷ w)) (point_behind 0 (length v) v w digits (omega arith))
     ∙ (halves_read v w (o / 65536) (o % 65536) first second ∙ ap Some (let e : o / 65536 * 65536 + o % 65536 ≡ o = omega arith in e))
 
 -- it has no space

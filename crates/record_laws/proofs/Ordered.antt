@@ -2,15 +2,16 @@
 use Rattle.std.proofs.Common.{◌≡◌, refl, sym, ap, subst, ◌∙◌, ℕ, ◌+◌, Bool, true, false, nat_eq, nat_le, bytes_eq, List, [], ◌∷◌, Option, Some, None}
 use Rattle.std.proofs.lemmas.Bool.{and_parts, leb-true}
 use borrow.Author.Tests.{eqb-true}
-use Rattle.mesh_semantics.specs.Asks.{ask_of}
-use Rattle.mesh_semantics.specs.Tables.{Each}
-use Rattle.pool_syntax.specs.Tokens.{Text}
-use Rattle.pool_syntax.specs.declared.words.Line.{Line}
-use Rattle.pool_syntax.specs.declared.words.Line.TheVariants as R
+use Rattle.run_words.specs.Asks.{request_number_of}
+use Rattle.run_words.specs.Tables.{Each}
+use Rattle.run_words.specs.Text.{Text}
+use Rattle.run_words.specs.declared.words.Line.{Line}
+use Rattle.run_words.specs.declared.words.Line.TheVariants as R
 use Rattle.record_lines.specs.SecondForm.{form_text}
 use Rattle.line_reader.specs.Fields.{fields, parts}
 use Rattle.line_reader.specs.Lines.{Told}
-use Rattle.line_reader.specs.Shown.{either, no_number}
+use Rattle.line_reader.specs.Shown.{no_number}
+use Rattle.std.specs.Option.{option_or}
 use Rattle.run_record.specs.declared.fault.RecordFault.{RecordFault}
 use Rattle.run_record.specs.declared.fault.RecordFault.TheVariants as fault
 use Rattle.run_record.specs.declared.row.Form.{Form}
@@ -71,7 +72,7 @@ AreInOrder names last r = r.fault ≡ None → Each FitsTold r.told → IsRecord
 
 -- whether a line is in order, and what is wrong with the number that it carries
 abbrev placed : ℕ → Bool → Option RecordFault → Rows → Rows
-placed seen b x r = by_fault (either (elim b as (λ z. Option RecordFault) [ true ↦ None | false ↦ Some (fault.OutOfOrder (seen + 1)) ]) x) r
+placed seen b x r = by_fault (option_or (elim b as (λ z. Option RecordFault) [ true ↦ None | false ↦ Some (fault.OutOfOrder (seen + 1)) ]) x) r
 
 -- and so are those behind a line
 abbrev Again : Form → List Line → ℕ → List Text → List Text → Row → Type 0
@@ -109,7 +110,7 @@ ordered f earlier seen last names (p ∷ q ∷ ps) = by (row_of f (fields p)) (�
 
     by : (o : Option Row) → ((r : Row) → Again f earlier seen names (q ∷ ps) r) → AreInOrder names last (by_fault (row_fault earlier seen last false o) (row_then o next))
     by None again = λ e h. absurd (cc)
-    by (Some r) again = on r (again r) (follows last r.told.line) refl (ask_fault seen (ask_of earlier r.told.line) r.ask)
+    by (Some r) again = on r (again r) (follows last r.told.line) refl (ask_fault seen (request_number_of earlier r.told.line) r.ask)
 
 -- the lines of a text without fault, with the table after reading
 pub record_readable : (s : Text) (names : List Text) → (record_of s).fault ≡ None → IsRecord (names_after names (record_of s).told) (lines_after names (record_of s).told)

@@ -3,29 +3,31 @@ use Rattle.std.proofs.Common.{◌≡◌, refl, sym, ap, ◌∙◌, ℕ, ◌+◌,
 use Rattle.std.proofs.lemmas.Bool.{and_from, and_parts}
 use Rattle.std.proofs.lemmas.Bool.Decides.{nat_tests}
 use Rattle.std.proofs.lemmas.Fmt.{decimal_nonempty}
-use Rattle.pool_syntax.specs.Tokens.{Text, every, is_digit}
-use Rattle.pool_syntax.specs.declared.words.FullKind.{FullKind}
-use Rattle.pool_syntax.specs.declared.words.FullKind.TheVariants as full
-use Rattle.pool_syntax.specs.declared.words.What.{What}
-use Rattle.pool_syntax.specs.declared.words.WireAct.{WireAct}
-use Rattle.pool_syntax.specs.declared.words.WireAct.TheVariants as A
-use Rattle.pool_syntax.specs.declared.words.Event.{Event}
-use Rattle.pool_syntax.specs.declared.words.Event.TheVariants as E
-use Rattle.pool_syntax.specs.declared.words.End.{End}
-use Rattle.pool_syntax.specs.declared.words.End.TheVariants as F
-use Rattle.pool_syntax.specs.declared.words.Line.{Line}
-use Rattle.pool_syntax.specs.declared.words.Line.TheVariants as R
+use Rattle.run_words.specs.Text.{Text, every, is_digit}
+use Rattle.run_words.specs.declared.words.FullKind.{FullKind}
+use Rattle.run_words.specs.declared.words.FullKind.TheVariants as full
+use Rattle.run_words.specs.declared.words.What.{What}
+use Rattle.run_words.specs.declared.words.WireAct.{WireAct}
+use Rattle.run_words.specs.declared.words.WireAct.TheVariants as A
+use Rattle.run_words.specs.declared.words.Event.{Event}
+use Rattle.run_words.specs.declared.words.Event.TheVariants as E
+use Rattle.run_words.specs.declared.words.End.{End}
+use Rattle.run_words.specs.declared.words.End.TheVariants as F
+use Rattle.run_words.specs.declared.words.Line.{Line}
+use Rattle.run_words.specs.declared.words.Line.TheVariants as R
 use Rattle.run_record.specs.declared.fault.RecordFault.{RecordFault}
 use Rattle.run_record.specs.declared.fault.RecordFault.TheVariants as fault
 use Rattle.run_record.specs.declared.row.Form.{Form}
 use Rattle.run_record.specs.declared.row.Form.TheVariants as form
 use Rattle.record_lines.specs.SecondForm.{form_text}
 use Rattle.record_lines.specs.RecordText.{event_words, full_text, joined, led, line_text, line_words, record_text, what_words}
-use Rattle.line_reader.specs.Fields.{begins_with, count_of, fields, parts, then_some}
+use Rattle.line_reader.specs.Fields.{begins_with, count_of, fields, parts}
+use Rattle.run_words.specs.Partial.{◌>>=◌}
 use Rattle.run_record.specs.Numbered.{what_with}
 use Rattle.line_reader.specs.Lines.{Told, end_of, event_of, full_of, ends, happened, kind_of, line_of, link_from, side_of, wire_from, wire_of}
 use Rattle.run_record.specs.Records.{Row, Rows, order_fault, record_of, row_of, rows_of, unnumbered, done_of, follows, is_end, last_after, row_fault, rows, with_told}
-use Rattle.line_reader.specs.Shown.{either, no_number, what_of}
+use Rattle.line_reader.specs.Shown.{no_number, what_of}
+use Rattle.std.specs.Option.{option_or}
 use Rattle.line_reader.proofs.Laws.{parts_length}
 use Rattle.run_record.proofs.Laws.{IsReadableLine, rows_step, told_of}
 use Rattle.run_record.specs.Readable.{IsCount, IsReadableEnd, IsReadableEvent, IsReadableWhat, IsRecord, IsRecordFrom}
@@ -51,8 +53,8 @@ event_dark (E.Wire A.LateAck from to) h = (refl, (refl, (decimal_dark from (omeg
 -- what happens on a wire
 wire_ends : (n : ℕ) (act : WireAct) (from to : ℕ) (ps : List Text) → IsCount from → IsCount to → wire_of n act (decimal from ∷ decimal to ∷ ps) ≡ happened n (E.Wire act from to) (what_of ps)
 wire_ends n act from to ps h k =
-    ap (λ a. then_some a (λ f. wire_from n act f (decimal to ∷ ps))) (count_read from h)
-    ∙ ap (λ a. then_some a (λ t. happened n (E.Wire act from t) (what_of ps))) (count_read to k)
+    ap (λ a. a >>= λ f. wire_from n act f (decimal to ∷ ps)) (count_read from h)
+    ∙ ap (λ a. a >>= λ t. happened n (E.Wire act from t) (what_of ps)) (count_read to k)
 
 -- a number is not the word `ack`
 wire_side : (n : ℕ) (act other : WireAct) (from to : ℕ) (ps : List Text) → IsCount from → IsCount to → side_of n act other (decimal from ∷ decimal to ∷ ps) ≡ happened n (E.Wire act from to) (what_of ps)
@@ -62,10 +64,10 @@ wire_side n act other from to ps h k =
 
 -- behind an event's words stands what is shown
 pub event_read : (n : ℕ) (e : Event) (ps : List Text) → IsReadableEvent e → event_of n (event_words e ++ ps) ≡ happened n e (what_of ps)
-event_read n (E.Turn node) ps h = ap (λ a. then_some a (λ k. happened n (E.Turn k) (what_of ps))) (count_read node h)
+event_read n (E.Turn node) ps h = ap (λ a. a >>= λ k. happened n (E.Turn k) (what_of ps)) (count_read node h)
 event_read n (E.Link from to) ps h =
-    ap (λ a. then_some a (λ k. link_from n k (decimal to ∷ ps))) (count_read from h.0)
-    ∙ ap (λ a. then_some a (λ k. happened n (E.Link from k) (what_of ps))) (count_read to h.1)
+    ap (λ a. a >>= λ k. link_from n k (decimal to ∷ ps)) (count_read from h.0)
+    ∙ ap (λ a. a >>= λ k. happened n (E.Link from k) (what_of ps)) (count_read to h.1)
 event_read n (E.Wire A.Send from to) ps h = wire_ends n A.Send from to ps h.0 h.1
 event_read n (E.Wire A.Ack from to) ps h = wire_ends n A.Ack from to ps h.0 h.1
 event_read n (E.Wire A.LoseAck from to) ps h = wire_ends n A.LoseAck from to ps h.0 h.1
@@ -78,8 +80,8 @@ event_read n (E.Wire A.Late from to) ps h = wire_side n A.Late A.LateAck from to
 -- a line that begins with a number is an event
 pub number_first : (n : ℕ) (ps : List Text) → n < 4294967296 → line_of (decimal n ∷ ps) ≡ event_of n ps
 number_first n ps small =
-    ap (λ q. elim q as (λ x. Option Told) [ true ↦ end_of ps | false ↦ then_some (count_of (decimal n)) (λ k. event_of k ps) ]) (differs (every is_digit) (decimal n) (codes "end") (decimal_digits n (omega arith)) refl)
-    ∙ ap (λ a. then_some a (λ k. event_of k ps)) (count_read n small)
+    ap (λ q. elim q as (λ x. Option Told) [ true ↦ end_of ps | false ↦ count_of (decimal n) >>= λ k. event_of k ps ]) (differs (every is_digit) (decimal n) (codes "end") (decimal_digits n (omega arith)) refl)
+    ∙ ap (λ a. a >>= λ k. event_of k ps) (count_read n small)
 
 -- the fields of an event's line: its number, its words, and those of what it shows
 pub event_fields : (names : List Text) (n : ℕ) (e : Event) (w : What) → n < 4294967296 → IsReadableEvent e → fields (joined (line_words names (R.Event n e w))) ≡ decimal n ∷ (event_words e ++ fields_of (what_words names w))
@@ -134,16 +136,16 @@ end_line ws t h e = record {
 -- an end where a node is full
 full_read : (kind : FullKind) (node done : ℕ) → node < 4294967296 → done < 4294967296 → full_of (full_text kind) (decimal node) (decimal done) ≡ ends (F.Full kind node done)
 full_read kind node done h k =
-    ap (λ a. then_some a (λ f. then_some (count_of (decimal node)) (λ n. then_some (count_of (decimal done)) (λ m. ends (F.Full f n m))))) (kind_read kind)
-    ∙ (ap (λ a. then_some a (λ n. then_some (count_of (decimal done)) (λ m. ends (F.Full kind n m)))) (count_read node h)
-    ∙ ap (λ a. then_some a (λ m. ends (F.Full kind node m))) (count_read done k))
+    ap (λ a. a >>= λ f. count_of (decimal node) >>= λ n. count_of (decimal done) >>= λ m. ends (F.Full f n m)) (kind_read kind)
+    ∙ (ap (λ a. a >>= λ n. count_of (decimal done) >>= λ m. ends (F.Full kind n m)) (count_read node h)
+    ∙ ap (λ a. a >>= λ m. ends (F.Full kind node m)) (count_read done k))
 
 -- the line of the end is read
 last_line : (names : List Text) (end : End) → done_of end < 4294967296 → IsReadableEnd end → IsReadAs (line_words names (R.End end)) (told_of names (R.End end))
 last_line names (F.Quiet done) small h =
-    end_line (codes "quiet" ∷ decimal done ∷ []) _ (refl, (decimal_dark done (omega arith), tt)) (ap (λ a. then_some a (λ n. ends (F.Quiet n))) (count_read done small))
+    end_line (codes "quiet" ∷ decimal done ∷ []) _ (refl, (decimal_dark done (omega arith), tt)) (ap (λ a. a >>= λ n. ends (F.Quiet n)) (count_read done small))
 last_line names (F.Schedule done) small h =
-    end_line (codes "schedule" ∷ decimal done ∷ []) _ (refl, (decimal_dark done (omega arith), tt)) (ap (λ a. then_some a (λ n. ends (F.Schedule n))) (count_read done small))
+    end_line (codes "schedule" ∷ decimal done ∷ []) _ (refl, (decimal_dark done (omega arith), tt)) (ap (λ a. a >>= λ n. ends (F.Schedule n)) (count_read done small))
 last_line names (F.Full kind node done) small h =
     end_line (codes "full" ∷ full_text kind ∷ decimal node ∷ decimal done ∷ []) _
     (refl, (kind_dark kind, (decimal_dark node (omega arith), (decimal_dark done (omega arith), tt))))
@@ -176,10 +178,10 @@ event_follows n last e w h k = and_from (nat_eq n (last + 1)) (nat_le n 2000000)
 
 -- a line in the first form
 first_read : (names : List Text) (l : Line) → IsReadAs (line_words names l) (told_of names l) → row_of form.First (fields (joined (line_words names l))) ≡ Some (record { told = told_of names l; ask = None })
-first_read names l h = ap (λ o. then_some o unnumbered) h.read
+first_read names l h = ap (λ o. o >>= unnumbered) h.read
 
 first_fault : (names : List Text) (earlier : List Line) (seen last : ℕ) (l : Line) → follows last (told_of names l).line ≡ true → row_fault earlier seen last false (Some (record { told = told_of names l; ask = None })) ≡ None
-first_fault names earlier seen last l h = ap (λ o. either o None) (in_order seen last (told_of names l).line h)
+first_fault names earlier seen last l h = ap (λ o. option_or o None) (in_order seen last (told_of names l).line h)
 
 -- the rows of a record are its lines, and there is no fault
 pub rows_read : (names : List Text) (earlier : List Line) (seen last : ℕ) (ls : List Line) → last ≤ 2000000 → IsRecordFrom names last ls

@@ -1,28 +1,30 @@
 -- The lines of a record in the second form are read back with their request numbers.
 use Rattle.std.proofs.Common.{◌≡◌, refl, sym, ap, ap₂, subst, ◌∙◌, ℕ, ◌+◌, ◌<◌, ◌≤◌, true, false, not, Bool, codes, List, [], ◌∷◌, ◌++◌, length, map, Option, Some, None, is_some, decimal, if◌then◌else◌, arith, eq-eqb, append-nil, append_assoc}
-use Rattle.pool_syntax.specs.Tokens.{Text}
-use Rattle.pool_syntax.specs.declared.words.NameId.{NameId}
-use Rattle.pool_syntax.specs.declared.words.Label.{Label}
-use Rattle.pool_syntax.specs.declared.words.Label.TheVariants as L
-use Rattle.pool_syntax.specs.declared.words.What.{What}
-use Rattle.pool_syntax.specs.declared.words.What.TheVariants as W
-use Rattle.pool_syntax.specs.declared.words.Event.{Event}
-use Rattle.pool_syntax.specs.declared.words.Event.TheVariants as E
-use Rattle.pool_syntax.specs.declared.words.End.TheVariants as F
-use Rattle.pool_syntax.specs.declared.words.Line.{Line}
-use Rattle.pool_syntax.specs.declared.words.Line.TheVariants as R
-use Rattle.mesh_semantics.specs.Asks.{ask_of, asker, asker_of, asks, asks_from, is_asked, latest_post, post_of, posts}
+use Rattle.run_words.specs.Text.{Text}
+use Rattle.run_words.specs.declared.words.NameId.{NameId}
+use Rattle.run_words.specs.declared.words.Label.{Label}
+use Rattle.run_words.specs.declared.words.Label.TheVariants as L
+use Rattle.run_words.specs.declared.words.What.{What}
+use Rattle.run_words.specs.declared.words.What.TheVariants as W
+use Rattle.run_words.specs.declared.words.Event.{Event}
+use Rattle.run_words.specs.declared.words.Event.TheVariants as E
+use Rattle.run_words.specs.declared.words.End.TheVariants as F
+use Rattle.run_words.specs.declared.words.Line.{Line}
+use Rattle.run_words.specs.declared.words.Line.TheVariants as R
+use Rattle.run_words.specs.Asks.{request_number_of, asker, asker_of, asks, asks_from, is_asked, latest_post, post_of, is_post_of}
 use Rattle.record_lines.specs.RecordText.{event_words, full_text, joined, line_words, object_text, text_at, value_text, what_words}
 use Rattle.record_lines.specs.SecondForm.{ask_words, form_text, lines_text2, text2}
 use Rattle.run_record.specs.declared.fault.RecordFault.{RecordFault}
 use Rattle.run_record.specs.declared.fault.RecordFault.TheVariants as fault
 use Rattle.run_record.specs.declared.row.Form.TheVariants as form
 use Rattle.line_reader.specs.declared.shown.Message.TheVariants as M
-use Rattle.line_reader.specs.Fields.{fields, name_of_word, object_of, only_if, parts, then_some, value_of, values_within}
+use Rattle.line_reader.specs.Fields.{fields, name_of_word, object_of, parts, value_of, values_within}
+use Rattle.run_words.specs.Partial.{only_if, ◌>>=◌}
 use Rattle.run_record.specs.Numbered.{line_with, what_with}
 use Rattle.line_reader.specs.Lines.{happened, line_of}
 use Rattle.run_record.specs.Records.{Row, ask_fault, asked_by, asked_for, done_of, follows, record_of, row_fault, rows, rows_of, second_of, unasked, with_told}
-use Rattle.line_reader.specs.Shown.{Shown, created_of, either, for_more, for_three, for_two, message_from, message_of, new_of, no_number, of_pair, result_of, return_of, what_of}
+use Rattle.line_reader.specs.Shown.{Shown, created_of, for_more, for_three, for_two, message_from, message_of, new_of, no_number, of_pair, result_of, return_of, what_of}
+use Rattle.std.specs.Option.{option_or}
 use Rattle.line_reader.proofs.Laws.{parts_joint, parts_length, what_more}
 use Rattle.run_record.proofs.Laws.{IsReadableLine, asked_words, told_of}
 use Rattle.run_record.specs.Readable.{IsRecord, IsRecordFrom}
@@ -59,7 +61,7 @@ same_asker (R.Event n e (W.Stale k)) id = refl
 same_asker (R.Event n e (W.Acked k)) id = refl
 same_asker (R.Event n e (W.Late k)) id = refl
 
-same_post : (o : ℕ) (w : What) (id : NameId) → posts o (what_with id w) ≡ posts o w
+same_post : (o : ℕ) (w : What) (id : NameId) → is_post_of o (what_with id w) ≡ is_post_of o w
 same_post o (W.Step label times) id = refl
 same_post o (W.PostCreate k c n) id = refl
 same_post o (W.PostCall k p m args) id = refl
@@ -83,7 +85,7 @@ same_latest o [] = refl
 same_latest o (R.Event n e w ∷ ls) = ap₂ (λ (b : Bool) k. if b then n else k) (same_post o w no_number) (same_latest o ls)
 same_latest o (R.End end ∷ ls) = same_latest o ls
 
-same_ask : (ls : List Line) (l : Line) → ask_of (unnamed ls) (line_with no_number l) ≡ ask_of ls l
+same_ask : (ls : List Line) (l : Line) → request_number_of (unnamed ls) (line_with no_number l) ≡ request_number_of ls l
 same_ask ls l = ap (post_of (unnamed ls)) (same_asker l no_number) ∙ by (asker l)
   where
     by : (o : Option ℕ) → post_of (unnamed ls) o ≡ post_of ls o
@@ -100,14 +102,14 @@ AreLow (l ∷ ls) = (number_of l ≤ 2000000) × AreLow ls
 
 latest_low : (o : ℕ) (ls : List Line) → AreLow ls → latest_post o ls ≤ 2000000
 latest_low o [] h = omega arith
-latest_low o (R.Event n e w ∷ ls) h = by (posts o w) (latest_low o ls h.1)
+latest_low o (R.Event n e w ∷ ls) h = by (is_post_of o w) (latest_low o ls h.1)
   where
     by : (b : Bool) → latest_post o ls ≤ 2000000 → (if b then n else latest_post o ls) ≤ 2000000
     by true k = h.0
     by false k = k
 latest_low o (R.End end ∷ ls) h = latest_low o ls h.1
 
-ask_low : (ls : List Line) (l : Line) → AreLow ls → ask_of ls l ≤ 2000000
+ask_low : (ls : List Line) (l : Line) → AreLow ls → request_number_of ls l ≤ 2000000
 ask_low ls l h = by (asker l)
   where
     by : (o : Option ℕ) → post_of ls o ≤ 2000000
@@ -118,14 +120,14 @@ ask_low ls l h = by (asker l)
 
 -- of an event that shows this, if it has a form
 abbrev Asked : ℕ → Event → Option Shown → Type 0
-Asked k e o = then_some (happened k e o) unasked ≡ None
+Asked k e o = (happened k e o >>= unasked) ≡ None
 
-asked_then : {A : Type 0} (k : ℕ) (e : Event) (o : Option A) (f : A → Option Shown) → ((a : A) → Asked k e (f a)) → Asked k e (then_some o f)
+asked_then : {A : Type 0} (k : ℕ) (e : Event) (o : Option A) (f : A → Option Shown) → ((a : A) → Asked k e (f a)) → Asked k e (o >>= f)
 asked_then k e None f h = refl
 asked_then k e (Some a) f h = h a
 
 asked_pair : (k : ℕ) (e : Event) (a b : Text) (f : ℕ → ℕ → Option Shown) → ((o p : ℕ) → Asked k e (f o p)) → Asked k e (of_pair a b f)
-asked_pair k e a b f h = asked_then k e (object_of a) (λ o. then_some (object_of b) (λ p. f o p)) (λ o. asked_then k e (object_of b) (λ p. f o p) (λ p. h o p))
+asked_pair k e a b f h = asked_then k e (object_of a) (λ o. object_of b >>= λ p. f o p) (λ o. asked_then k e (object_of b) (λ p. f o p) (λ p. h o p))
 
 asked_three : (k : ℕ) (e : Event) (ws : List Text) (f : Text → Text → Text → Option Shown) → ((a b c : Text) → Asked k e (f a b c)) → Asked k e (for_three ws f)
 asked_three k e [] f h = refl
@@ -147,7 +149,7 @@ asked_more k e (a ∷ b ∷ []) f h = refl
 asked_more k e (a ∷ b ∷ c ∷ ws) f h = h a b c ws
 
 -- either of a form and nothing
-asked_either : (k : ℕ) (e : Event) (o : Option Shown) → Asked k e o → Asked k e (either o None)
+asked_either : (k : ℕ) (e : Event) (o : Option Shown) → Asked k e o → Asked k e (option_or o None)
 asked_either k e None h = refl
 asked_either k e (Some s) h = h
 
@@ -171,7 +173,7 @@ result_asked k e ws = asked_two k e ws _ (λ a b. asked_then k e (object_of a) _
 
 -- the number, if there is one, with the words before it
 abbrev with_words : List Text → Option ℕ → Option (List Text × ℕ)
-with_words ps o = then_some o (λ n. Some (ps, n))
+with_words ps o = o >>= λ n. Some (ps, n)
 
 -- something stands behind any words
 behind : (ps ts : List Text) → 0 < length ts → 0 < length (ps ++ ts)
@@ -195,15 +197,15 @@ shown_asked names k (E.Turn node) (W.Step (L.New o p c) times) ts some h = absur
 shown_asked names k (E.Wire act a b) (W.Step (L.New o p c) times) ts some h = absurd (cc)
 shown_asked names k (E.Link a b) (W.Step (L.New o p c) times) ts some h =
     let ps = fields_of (object_text o ∷ object_text p ∷ text_at names c ∷ []) ++ ts in
-    ap (λ z. then_some (happened k (E.Link a b) z) unasked) (what_more (codes "new") ps (behind (fields_of (object_text o ∷ object_text p ∷ text_at names c ∷ [])) ts some))
+    ap (λ z. happened k (E.Link a b) z >>= unasked) (what_more (codes "new") ps (behind (fields_of (object_text o ∷ object_text p ∷ text_at names c ∷ [])) ts some))
     ∙ asked_either k (E.Link a b) (new_of ps) (new_asked k a b ps)
 shown_asked names k e (W.Step (L.Answer p o m args) times) ts some h =
     let ps = fields_of (object_text p ∷ object_text o ∷ text_at names m ∷ map value_text args) ++ ts in
-    ap (λ z. then_some (happened k e z) unasked) (what_more (codes "answer") ps (behind (fields_of (object_text p ∷ object_text o ∷ text_at names m ∷ map value_text args)) ts some))
+    ap (λ z. happened k e z >>= unasked) (what_more (codes "answer") ps (behind (fields_of (object_text p ∷ object_text o ∷ text_at names m ∷ map value_text args)) ts some))
     ∙ asked_either k e (message_of M.Answer ps) (answer_asked k e ps)
 shown_asked names k e (W.Step (L.Return p o v) times) ts some h =
     let ps = fields_of (object_text p ∷ object_text o ∷ value_text v ∷ []) ++ ts in
-    ap (λ z. then_some (happened k e z) unasked) (what_more (codes "return") ps (behind (fields_of (object_text p ∷ object_text o ∷ value_text v ∷ [])) ts some))
+    ap (λ z. happened k e z >>= unasked) (what_more (codes "return") ps (behind (fields_of (object_text p ∷ object_text o ∷ value_text v ∷ [])) ts some))
     ∙ asked_either k e (return_of ps) (return_asked k e ps)
 shown_asked names k e (W.Step (L.Local o) times) ts some h = absurd (cc)
 shown_asked names k e (W.Step (L.Send o b m args) times) ts some h = absurd (cc)
@@ -216,10 +218,10 @@ shown_asked names k e (W.PostCall o p m args) ts some h = absurd (cc)
 shown_asked names k e (W.Arrive o p m) ts some h = absurd (cc)
 shown_asked names k e (W.Created o p) ts some h =
     let ps = fields_of (object_text o ∷ object_text p ∷ []) ++ ts in
-    ap (λ z. then_some (happened k e z) unasked) (what_more (codes "created") ps (behind (fields_of (object_text o ∷ object_text p ∷ [])) ts some)) ∙ created_asked k e ps
+    ap (λ z. happened k e z >>= unasked) (what_more (codes "created") ps (behind (fields_of (object_text o ∷ object_text p ∷ [])) ts some)) ∙ created_asked k e ps
 shown_asked names k e (W.Result o v) ts some h =
     let ps = fields_of (object_text o ∷ value_text v ∷ []) ++ ts in
-    ap (λ z. then_some (happened k e z) unasked) (what_more (codes "result") ps (behind (fields_of (object_text o ∷ value_text v ∷ [])) ts some)) ∙ result_asked k e ps
+    ap (λ z. happened k e z >>= unasked) (what_more (codes "result") ps (behind (fields_of (object_text o ∷ value_text v ∷ [])) ts some)) ∙ result_asked k e ps
 shown_asked names k e W.Pass ts some h = absurd (cc)
 shown_asked names k e W.Idle ts some h = absurd (cc)
 shown_asked names k e (W.Frame n) ts some h = absurd (cc)
@@ -253,15 +255,15 @@ second_read names l ask small low h = by (is_asked l) refl
         on (R.End (F.Schedule done)) = tail_fields (codes "end") (codes "schedule" ∷ decimal done ∷ []) ts dark
         on (R.End (F.Full kind node done)) = tail_fields (codes "end") (codes "full" ∷ full_text kind ∷ decimal node ∷ decimal done ∷ []) ts dark
 
-    not_alone : is_asked l ≡ true → then_some (line_of (fields (joined (line_words names l ++ tail ask)))) unasked ≡ None
-    not_alone i = ap (λ ps. then_some (line_of ps) unasked) (behind_line (tail ask) (tail_dark ask low)) ∙ on l small h i
+    not_alone : is_asked l ≡ true → (line_of (fields (joined (line_words names l ++ tail ask))) >>= unasked) ≡ None
+    not_alone i = ap (λ ps. line_of ps >>= unasked) (behind_line (tail ask) (tail_dark ask low)) ∙ on l small h i
       where
-        on : (l : Line) → number_of l < 4294967296 → IsReadableLine names l → is_asked l ≡ true → then_some (line_of (fields (joined (line_words names l)) ++ tail ask)) unasked ≡ None
+        on : (l : Line) → number_of l < 4294967296 → IsReadableLine names l → is_asked l ≡ true → (line_of (fields (joined (line_words names l)) ++ tail ask) >>= unasked) ≡ None
         on (R.End end) s r i = absurd (cc)
         on (R.Event n e w) s r i =
-            ap (λ ps. then_some (line_of (ps ++ tail ask)) unasked) (event_fields names n e w s r.0)
-            ∙ (ap (λ ps. then_some (line_of (decimal n ∷ ps)) unasked) (append_assoc (event_words e) (fields_of (what_words names w)) (tail ask))
-            ∙ (ap (λ o. then_some o unasked) (number_first n (event_words e ++ (fields_of (what_words names w) ++ tail ask)) s ∙ event_read n e (fields_of (what_words names w) ++ tail ask) r.0)
+            ap (λ ps. line_of (ps ++ tail ask) >>= unasked) (event_fields names n e w s r.0)
+            ∙ (ap (λ ps. line_of (decimal n ∷ ps) >>= unasked) (append_assoc (event_words e) (fields_of (what_words names w)) (tail ask))
+            ∙ (ap (λ o. o >>= unasked) (number_first n (event_words e ++ (fields_of (what_words names w) ++ tail ask)) s ∙ event_read n e (fields_of (what_words names w) ++ tail ask) r.0)
             ∙ shown_asked names n e w (tail ask) (omega arith) i))
 
     carried : asked_by (fields (joined (line_words names l ++ tail ask))) ≡ Some (fields (joined (line_words names l)), ask)
@@ -274,21 +276,21 @@ second_read names l ask small low h = by (is_asked l) refl
     by false i = (
       subst AreShown (sym (append-nil (line_words names l))) read.shown,
       ap (λ ws. second_of (fields (joined ws))) (append-nil (line_words names l))
-          ∙ (ap (λ o. either (then_some o unasked) (then_some (asked_by (fields (joined (line_words names l)))) (λ r. then_some (line_of r.0) (asked_for r.1)))) read.read
-          ∙ ap (λ t. either (only_if (not t) (Some (record { told = told_of names l; ask = None }))) (then_some (asked_by (fields (joined (line_words names l)))) (λ r. then_some (line_of r.0) (asked_for r.1)))) (told_asked ∙ i)),
+          ∙ (ap (λ o. option_or (o >>= unasked) (asked_by (fields (joined (line_words names l))) >>= λ r. line_of r.0 >>= asked_for r.1)) read.read
+          ∙ ap (λ t. option_or (only_if (not t) (Some (record { told = told_of names l; ask = None }))) (asked_by (fields (joined (line_words names l))) >>= λ r. line_of r.0 >>= asked_for r.1)) (told_asked ∙ i)),
     )
     by true i = (
       shown_append (line_words names l) (tail ask) read.shown (shown_words (tail ask) (tail_dark ask low)),
-      ap (λ o. either o (then_some (asked_by (fields (joined (line_words names l ++ tail ask)))) (λ r. then_some (line_of r.0) (asked_for r.1)))) (not_alone i)
-          ∙ (ap (λ (o : Option (List Text × ℕ)). then_some o (λ r. then_some (line_of r.0) (asked_for r.1))) carried
-          ∙ (ap (λ o. then_some o (asked_for ask)) read.read ∙ ap (λ t. only_if t (Some (record { told = told_of names l; ask = Some ask }))) (told_asked ∙ i))),
+      ap (λ o. option_or o (asked_by (fields (joined (line_words names l ++ tail ask))) >>= λ r. line_of r.0 >>= asked_for r.1)) (not_alone i)
+          ∙ (ap (λ (o : Option (List Text × ℕ)). o >>= λ r. line_of r.0 >>= asked_for r.1) carried
+          ∙ (ap (λ o. o >>= asked_for ask) read.read ∙ ap (λ t. only_if t (Some (record { told = told_of names l; ask = Some ask }))) (told_asked ∙ i))),
     )
 
 -- a line with its own number behind lines with theirs has no fault
 second_fault : (names : List Text) (earlier : List Line) (seen last : ℕ) (l : Line) → follows last (told_of names l).line ≡ true
-    → row_fault (unnamed earlier) seen last false (Some (row_with names l (ask_of earlier l))) ≡ None
+    → row_fault (unnamed earlier) seen last false (Some (row_with names l (request_number_of earlier l))) ≡ None
 second_fault names earlier seen last l next =
-    ap₂ either (in_order seen last (told_of names l).line next) (ap (λ n. ask_fault seen n (if is_asked l then Some (ask_of earlier l) else None)) (same_ask earlier l) ∙ by (is_asked l) (ask_of earlier l))
+    ap₂ option_or (in_order seen last (told_of names l).line next) (ap (λ n. ask_fault seen n (if is_asked l then Some (request_number_of earlier l) else None)) (same_ask earlier l) ∙ by (is_asked l) (request_number_of earlier l))
   where
     by : (b : Bool) (n : ℕ) → ask_fault seen n (if b then Some n else None) ≡ None
     by false n = refl
@@ -300,14 +302,14 @@ second_rows : (names : List Text) (earlier : List Line) (seen last : ℕ) (ls : 
 second_rows names earlier seen last [] low small h = absurd h
 second_rows names earlier seen last (R.Event n e w ∷ ls) low small h =
     let l = R.Event n e w in
-    let ask = ask_of earlier l in
+    let ask = request_number_of earlier l in
     let read = second_read names l ask (omega (arith, h.1)) (ask_low earlier l low) (h.2, h.3) in
     row_read form.Second (unnamed earlier) seen last (line_words names l ++ ask_words (is_asked l) ask) (row_with names l ask) (lines_text2 names ls (asks_from (l ∷ earlier) ls)) read.0 read.1
     (second_fault names earlier seen last l (event_follows n last e (what_with no_number w) h.0 h.1))
     ∙ ap (with_told (told_of names l)) (second_rows names (l ∷ earlier) (seen + 1) n ls (h.1, low) h.1 h.4)
 second_rows names earlier seen last (R.End end ∷ []) low small h =
     let l = R.End end in
-    let ask = ask_of earlier l in
+    let ask = request_number_of earlier l in
     let read = second_read names l ask (omega (arith, h.0)) (ask_low earlier l low) h.1 in
     row_read form.Second (unnamed earlier) seen last (line_words names l ++ ask_words (is_asked l) ask) (row_with names l ask) [] read.0 read.1
     (second_fault names earlier seen last l (eq-eqb (done_of end) last h.0))

@@ -1,22 +1,24 @@
 -- What a line shows is read back, but for the number of its name, in whose place its text stands.
 use Rattle.std.proofs.Common.{◌≡◌, refl, sym, ap, ◌∙◌, ℕ, ◌<◌, append-nil, true, false, codes, List, [], ◌∷◌, ◌++◌, map, Option, Some, None, option_map, decimal, arith}
-use Rattle.pool_syntax.specs.Tokens.{Text, every}
-use Rattle.pool_syntax.specs.declared.words.NameId.{NameId}
-use Rattle.pool_syntax.specs.declared.words.Value.{Value}
-use Rattle.pool_syntax.specs.declared.words.Item.{Item}
-use Rattle.pool_syntax.specs.declared.words.Item.TheVariants as I
-use Rattle.pool_syntax.specs.declared.words.Label.{Label}
-use Rattle.pool_syntax.specs.declared.words.Label.TheVariants as L
-use Rattle.pool_syntax.specs.declared.words.What.{What}
-use Rattle.pool_syntax.specs.declared.words.What.TheVariants as W
+use Rattle.run_words.specs.Text.{Text, every}
+use Rattle.run_words.specs.declared.words.NameId.{NameId}
+use Rattle.run_words.specs.declared.words.Value.{Value}
+use Rattle.run_words.specs.declared.words.Item.{Item}
+use Rattle.run_words.specs.declared.words.Item.TheVariants as I
+use Rattle.run_words.specs.declared.words.Label.{Label}
+use Rattle.run_words.specs.declared.words.Label.TheVariants as L
+use Rattle.run_words.specs.declared.words.What.{What}
+use Rattle.run_words.specs.declared.words.What.TheVariants as W
 use Rattle.line_reader.specs.declared.shown.Message.{Message}
 use Rattle.line_reader.specs.declared.shown.Message.TheVariants as M
 use Rattle.record_lines.specs.RecordText.{error_text, item_text, label_words, object_text, text_at, value_text, what_words}
 use Rattle.record_lines.specs.Writable.{id_of_what}
-use Rattle.line_reader.specs.Fields.{count_of, error_of, fields, name_of_word, object_of, positive_of, string_of, then_some, value_of, values_within}
+use Rattle.line_reader.specs.Fields.{count_of, error_of, fields, name_of_word, object_of, positive_of, string_of, value_of, values_within}
+use Rattle.run_words.specs.Partial.{◌>>=◌}
 use Rattle.run_record.specs.Numbered.{what_with}
-use Rattle.pool_syntax.specs.declared.words.Error.{Error}
-use Rattle.line_reader.specs.Shown.{Shown, delay_of, either, item_of, making, message_of, named, no_number, of_pair, once, plain, step_of, what_of}
+use Rattle.run_words.specs.declared.words.Error.{Error}
+use Rattle.line_reader.specs.Shown.{Shown, delay_of, item_of, making, message_of, named, no_number, of_pair, once, plain, step_of, what_of}
+use Rattle.std.specs.Option.{option_or}
 use Rattle.line_reader.proofs.Laws.{write_rest}
 use Rattle.run_record.specs.Readable.{IsCount, IsNamed, IsReadableItem, IsReadableMessage, IsReadableStep, IsReadableValue, IsReadableWhat}
 use Rattle.record_laws.proofs.Splitting.{AreDark, AreShown, dark_field, dark_fields, fields_of, is_shown, shown_word, shown_words}
@@ -32,28 +34,28 @@ shown_of names w = record { what = what_with no_number w; text = option_map (tex
 -- two objects
 pair_read : {A : Type 0} (o p : ℕ) (f : ℕ → ℕ → Option A) → IsCount o → IsCount p → of_pair (object_text o) (object_text p) f ≡ f o p
 pair_read o p f h k =
-    ap (λ a. then_some a (λ x. then_some (object_of (object_text p)) (λ y. f x y))) (object_read o h)
-    ∙ ap (λ b. then_some b (λ y. f o y)) (object_read p k)
+    ap (λ a. a >>= λ x. object_of (object_text p) >>= λ y. f x y) (object_read o h)
+    ∙ ap (λ b. b >>= λ y. f o y) (object_read p k)
 
 -- one object
-object_then : {A : Type 0} (o : ℕ) (f : ℕ → Option A) → IsCount o → then_some (object_of (object_text o)) f ≡ f o
-object_then o f h = ap (λ a. then_some a f) (object_read o h)
+object_then : {A : Type 0} (o : ℕ) (f : ℕ → Option A) → IsCount o → (object_of (object_text o) >>= f) ≡ f o
+object_then o f h = ap (λ a. a >>= f) (object_read o h)
 
 -- a name
-name_then : {A : Type 0} (names : List Text) (id : NameId) (f : Text → Option A) → IsNamed names id → then_some (name_of_word (text_at names id)) f ≡ f (text_at names id)
-name_then names id f h = ap (λ a. then_some a f) (name_read (text_at names id) h.1)
+name_then : {A : Type 0} (names : List Text) (id : NameId) (f : Text → Option A) → IsNamed names id → (name_of_word (text_at names id) >>= f) ≡ f (text_at names id)
+name_then names id f h = ap (λ a. a >>= f) (name_read (text_at names id) h.1)
 
 -- a value
-value_then : {A : Type 0} (v : Value) (f : Value → Option A) → IsReadableValue v → then_some (value_of (value_text v)) f ≡ f v
-value_then v f h = ap (λ a. then_some a f) (value_read v h)
+value_then : {A : Type 0} (v : Value) (f : Value → Option A) → IsReadableValue v → (value_of (value_text v) >>= f) ≡ f v
+value_then v f h = ap (λ a. a >>= f) (value_read v h)
 
 -- a message of each kind
 message_read : (kind : Message) (names : List Text) (o p : ℕ) (m : NameId) (args : List Value) → IsReadableMessage names o p m args
     → message_of kind (object_text o ∷ object_text p ∷ text_at names m ∷ map value_text args) ≡ named (making kind o p args) (text_at names m)
 message_read kind names o p m args h =
-    pair_read o p (λ x y. then_some (name_of_word (text_at names m)) (λ text. then_some (values_within 8 (map value_text args)) (λ vs. named (making kind x y vs) text))) h.0 h.1
-    ∙ (name_then names m (λ text. then_some (values_within 8 (map value_text args)) (λ vs. named (making kind o p vs) text)) h.2
-    ∙ ap (λ a. then_some a (λ vs. named (making kind o p vs) (text_at names m))) (values_read 8 args h.3.0 h.3.1))
+    pair_read o p (λ x y. name_of_word (text_at names m) >>= λ text. values_within 8 (map value_text args) >>= λ vs. named (making kind x y vs) text) h.0 h.1
+    ∙ (name_then names m (λ text. values_within 8 (map value_text args) >>= λ vs. named (making kind o p vs) text) h.2
+    ∙ ap (λ a. a >>= λ vs. named (making kind o p vs) (text_at names m)) (values_read 8 args h.3.0 h.3.1))
 
 -- its words have no spaces
 message_dark : (names : List Text) (o p : ℕ) (m : NameId) (args : List Value) → IsReadableMessage names o p m args
@@ -71,7 +73,7 @@ by_words ws s h e = record { shown = shown_words ws h; read = ap what_of (dark_f
 
 -- a transition goes by its first word
 by_step : (w v : Text) (ws : List Text) (s : Shown) → step_of w (v ∷ ws) ≡ Some s → what_of (w ∷ v ∷ ws) ≡ Some s
-by_step w v ws s e = ap (λ a. either a (delay_of w (v ∷ ws))) e
+by_step w v ws s e = ap (λ a. option_or a (delay_of w (v ∷ ws))) e
 
 -- a transition that is made once
 once_read : (names : List Text) (label : Label) (times : ℕ) → times ≡ 1
@@ -84,15 +86,15 @@ local_read : (names : List Text) (o times : ℕ) → IsReadableStep names (L.Loc
 local_read names o times h =
     by_words (label_words names (L.Local o) times) _ (refl, (object_dark o h.0, (decimal_dark times (omega (arith, h.2)), tt)))
     (by_step (codes "local") (object_text o) (decimal times ∷ []) _
-    (object_then o (λ x. then_some (positive_of (decimal times)) (λ n. plain (W.Step (L.Local x) n))) h.0
-    ∙ ap (λ a. then_some a (λ n. plain (W.Step (L.Local o) n))) (positive_read times h.1 h.2)))
+    (object_then o (λ x. positive_of (decimal times) >>= λ n. plain (W.Step (L.Local x) n)) h.0
+    ∙ ap (λ a. a >>= λ n. plain (W.Step (L.Local o) n)) (positive_read times h.1 h.2)))
 
 -- a new object
 new_read : (names : List Text) (o p : ℕ) (c : NameId) → IsCount o → IsCount p → IsNamed names c → AreRead (label_words names (L.New o p c) 1) (shown_of names (W.Step (L.New o p c) 1))
 new_read names o p c first second named_by =
     by_words (label_words names (L.New o p c) 1) _ (refl, (object_dark o first, (object_dark p second, (name_dark (text_at names c) named_by.1, tt))))
     (by_step (codes "new") (object_text o) (object_text p ∷ text_at names c ∷ []) _
-    (pair_read o p (λ x y. then_some (name_of_word (text_at names c)) (λ text. named (once (L.New x y no_number)) text)) first second
+    (pair_read o p (λ x y. name_of_word (text_at names c) >>= λ text. named (once (L.New x y no_number)) text) first second
     ∙ name_then names c (λ text. named (once (L.New o p no_number)) text) named_by))
 
 -- an answer
@@ -122,7 +124,7 @@ return_read : (names : List Text) (p o : ℕ) (v : Value) → IsCount p → IsCo
 return_read names p o v first second given =
     by_words (label_words names (L.Return p o v) 1) _ (refl, (object_dark p first, (object_dark o second, (value_dark v given, tt))))
     (by_step (codes "return") (object_text p) (object_text o ∷ value_text v ∷ []) _
-    (pair_read p o (λ x y. then_some (value_of (value_text v)) (λ u. plain (once (L.Return x y u)))) first second
+    (pair_read p o (λ x y. value_of (value_text v) >>= λ u. plain (once (L.Return x y u))) first second
     ∙ value_then v (λ u. plain (once (L.Return p o u))) given))
 
 -- a string may have spaces: it is all that is left of the line
@@ -144,11 +146,11 @@ item_read : (names : List Text) (o : ℕ) (item : Item) → IsReadableItem names
 item_read names o (I.Value v) h =
     let w = value_text v in
     ap (λ q. elim q as (λ x. Option Shown) [
-      | true ↦ then_some (string_of w) (λ text. named (once (L.Write o (I.Text no_number))) text)
-      | false ↦ then_some (value_of w) (λ u. plain (once (L.Write o (I.Value u))))
+      | true ↦ string_of w >>= λ text. named (once (L.Write o (I.Text no_number))) text
+      | false ↦ value_of w >>= λ u. plain (once (L.Write o (I.Value u)))
     ]) (value_no_string v h)
     ∙ value_then v (λ u. plain (once (L.Write o (I.Value u)))) h
-item_read names o (I.Text id) h = ap (λ a. then_some a (λ text. named (once (L.Write o (I.Text no_number))) text)) (string_read (text_at names id) h.1 h.2)
+item_read names o (I.Text id) h = ap (λ a. a >>= λ text. named (once (L.Write o (I.Text no_number))) text) (string_read (text_at names id) h.1 h.2)
 
 -- what an object writes
 written_read : (names : List Text) (o : ℕ) (item : Item) → IsCount o → IsReadableItem names item → AreRead (label_words names (L.Write o item) 1) (shown_of names (W.Step (L.Write o item) 1))
@@ -162,16 +164,16 @@ pick_read : (names : List Text) (o i : ℕ) → IsCount o → 0 < i → IsCount 
 pick_read names o i h some small =
     by_words (label_words names (L.Pick o i) 1) _ (refl, (object_dark o h, (decimal_dark i (omega arith), tt)))
     (by_step (codes "pick") (object_text o) (decimal i ∷ []) _
-    (object_then o (λ x. then_some (positive_of (decimal i)) (λ n. plain (once (L.Pick x n)))) h
-    ∙ ap (λ a. then_some a (λ n. plain (once (L.Pick o n)))) (positive_read i some small)))
+    (object_then o (λ x. positive_of (decimal i) >>= λ n. plain (once (L.Pick x n))) h
+    ∙ ap (λ a. a >>= λ n. plain (once (L.Pick o n))) (positive_read i some small)))
 
 -- a language error
 fault_read : (names : List Text) (o : ℕ) (e : Error) → IsCount o → AreRead (label_words names (L.Fault o e) 1) (shown_of names (W.Step (L.Fault o e) 1))
 fault_read names o e h =
     by_words (label_words names (L.Fault o e) 1) _ (refl, (object_dark o h, (error_dark e, tt)))
     (by_step (codes "fault") (object_text o) (error_text e ∷ []) _
-    (object_then o (λ x. then_some (error_of (error_text e)) (λ f. plain (once (L.Fault x f)))) h
-    ∙ ap (λ a. then_some a (λ f. plain (once (L.Fault o f)))) (error_read e)))
+    (object_then o (λ x. error_of (error_text e) >>= λ f. plain (once (L.Fault x f))) h
+    ∙ ap (λ a. a >>= λ f. plain (once (L.Fault o f))) (error_read e)))
 
 -- each transition
 step_read : (names : List Text) (label : Label) (times : ℕ) → IsReadableStep names label times
@@ -190,7 +192,7 @@ step_read names (L.Fault o e) times h = once_read names (L.Fault o e) times h.1 
 
 -- what shows no transition goes by its first word, which is none of those of transitions
 by_delay : (w v : Text) (ws : List Text) (s : Shown) → step_of w (v ∷ ws) ≡ None → delay_of w (v ∷ ws) ≡ Some s → what_of (w ∷ v ∷ ws) ≡ Some s
-by_delay w v ws s none e = ap (λ a. either a (delay_of w (v ∷ ws))) none ∙ e
+by_delay w v ws s none e = ap (λ a. option_or a (delay_of w (v ∷ ws))) none ∙ e
 
 -- a request for a new object
 create_read : (names : List Text) (o : ℕ) (c : NameId) (n : ℕ) → IsCount o → IsNamed names c → IsCount n
@@ -198,9 +200,9 @@ create_read : (names : List Text) (o : ℕ) (c : NameId) (n : ℕ) → IsCount o
 create_read names o c n h named_by small =
     by_words (what_words names (W.PostCreate o c n)) _ (refl, (refl, (object_dark o h, (name_dark (text_at names c) named_by.1, (decimal_dark n (omega arith), tt)))))
     (by_delay (codes "post") (codes "create") (object_text o ∷ text_at names c ∷ decimal n ∷ []) _ refl
-    (object_then o (λ x. then_some (name_of_word (text_at names c)) (λ text. then_some (count_of (decimal n)) (λ node. named (W.PostCreate x no_number node) text))) h
-    ∙ (name_then names c (λ text. then_some (count_of (decimal n)) (λ node. named (W.PostCreate o no_number node) text)) named_by
-    ∙ ap (λ a. then_some a (λ node. named (W.PostCreate o no_number node) (text_at names c))) (count_read n small))))
+    (object_then o (λ x. name_of_word (text_at names c) >>= λ text. count_of (decimal n) >>= λ node. named (W.PostCreate x no_number node) text) h
+    ∙ (name_then names c (λ text. count_of (decimal n) >>= λ node. named (W.PostCreate o no_number node) text) named_by
+    ∙ ap (λ a. a >>= λ node. named (W.PostCreate o no_number node) (text_at names c)) (count_read n small))))
 
 -- a call that is posted
 call_read : (names : List Text) (o p : ℕ) (m : NameId) (args : List Value) → IsReadableMessage names o p m args
@@ -215,7 +217,7 @@ arrive_read : (names : List Text) (o p : ℕ) (m : NameId) → IsCount o → IsC
 arrive_read names o p m first second named_by =
     by_words (what_words names (W.Arrive o p m)) _ (refl, (object_dark o first, (object_dark p second, (name_dark (text_at names m) named_by.1, tt))))
     (by_delay (codes "arrive") (object_text o) (object_text p ∷ text_at names m ∷ []) _ refl
-    (pair_read o p (λ x y. then_some (name_of_word (text_at names m)) (λ text. named (W.Arrive x y no_number) text)) first second
+    (pair_read o p (λ x y. name_of_word (text_at names m) >>= λ text. named (W.Arrive x y no_number) text) first second
     ∙ name_then names m (λ text. named (W.Arrive o p no_number) text) named_by))
 
 -- an object hears of a new one
@@ -229,7 +231,7 @@ result_read : (names : List Text) (o : ℕ) (v : Value) → IsCount o → IsRead
 result_read names o v h given =
     by_words (what_words names (W.Result o v)) _ (refl, (object_dark o h, (value_dark v given, tt)))
     (by_delay (codes "result") (object_text o) (value_text v ∷ []) _ refl
-    (object_then o (λ x. then_some (value_of (value_text v)) (λ u. plain (W.Result x u))) h ∙ value_then v (λ u. plain (W.Result o u)) given))
+    (object_then o (λ x. value_of (value_text v) >>= λ u. plain (W.Result x u)) h ∙ value_then v (λ u. plain (W.Result o u)) given))
 
 -- all that a line can show
 pub what_read : (names : List Text) (w : What) → IsReadableWhat names w → AreRead (what_words names w) (shown_of names w)
@@ -243,16 +245,16 @@ what_read names W.Pass h = record { shown = (refl, tt); read = refl }
 what_read names W.Idle h = record { shown = (refl, tt); read = refl }
 what_read names (W.Frame n) h =
     by_words (what_words names (W.Frame n)) _ (refl, (decimal_dark n (omega (arith, h)), tt))
-    (by_delay (codes "frame") (decimal n) [] _ refl (ap (λ a. then_some a (λ k. plain (W.Frame k))) (count_read n h)))
+    (by_delay (codes "frame") (decimal n) [] _ refl (ap (λ a. a >>= λ k. plain (W.Frame k)) (count_read n h)))
 what_read names (W.Lost n) h =
     by_words (what_words names (W.Lost n)) _ (refl, (decimal_dark n (omega (arith, h)), tt))
-    (by_delay (codes "lost") (decimal n) [] _ refl (ap (λ a. then_some a (λ k. plain (W.Lost k))) (count_read n h)))
+    (by_delay (codes "lost") (decimal n) [] _ refl (ap (λ a. a >>= λ k. plain (W.Lost k)) (count_read n h)))
 what_read names (W.Stale n) h =
     by_words (what_words names (W.Stale n)) _ (refl, (decimal_dark n (omega (arith, h)), tt))
-    (by_delay (codes "stale") (decimal n) [] _ refl (ap (λ a. then_some a (λ k. plain (W.Stale k))) (count_read n h)))
+    (by_delay (codes "stale") (decimal n) [] _ refl (ap (λ a. a >>= λ k. plain (W.Stale k)) (count_read n h)))
 what_read names (W.Acked n) h =
     by_words (what_words names (W.Acked n)) _ (refl, (decimal_dark n (omega (arith, h)), tt))
-    (by_delay (codes "acked") (decimal n) [] _ refl (ap (λ a. then_some a (λ k. plain (W.Acked k))) (count_read n h)))
+    (by_delay (codes "acked") (decimal n) [] _ refl (ap (λ a. a >>= λ k. plain (W.Acked k)) (count_read n h)))
 what_read names (W.Late n) h =
     by_words (what_words names (W.Late n)) _ (refl, (decimal_dark n (omega (arith, h)), tt))
-    (by_delay (codes "late") (decimal n) [] _ refl (ap (λ a. then_some a (λ k. plain (W.Late k))) (count_read n h)))
+    (by_delay (codes "late") (decimal n) [] _ refl (ap (λ a. a >>= λ k. plain (W.Late k)) (count_read n h)))

@@ -1,8 +1,8 @@
 -- The parts of a text that was made of words: each word's own parts, one after another.
 use Rattle.std.proofs.Common.{◌≡◌, refl, sym, ap, ◌∙◌, ℕ, Bool, true, false, not, nat_eq, nat_lt, List, [], ◌∷◌, ◌++◌, append_assoc, append-nil, arith, ltb-true, ne_eqb}
 use Rattle.std.proofs.lemmas.Bool.{and_from, and_parts}
-use Rattle.pool_syntax.specs.Tokens.{Text, every}
-use Rattle.pool_lexer.specs.Lines.{at_front}
+use Rattle.run_words.specs.Text.{Text, every}
+use Rattle.run_words.specs.Lines.{at_front}
 use Rattle.record_lines.specs.RecordText.{joined, led}
 use Rattle.line_reader.specs.Fields.{fields, parts}
 use Rattle.line_reader.proofs.Laws.{parts_joint}

@@ -3,8 +3,10 @@ use Rattle.std.proofs.Common.{◌≡◌, refl, ap, ◌∙◌, ℕ, ◌+◌, ◌-
 use Rattle.std.proofs.Math.Seq.{take-append_seam}
 use Rattle.std.proofs.lemmas.Bool.{and_from, and_parts}
 use Rattle.std.proofs.lemmas.Bool.Decides.{nat_tests}
-use Rattle.pool_syntax.specs.Tokens.{Text, every, is_digit, is_inner, is_letter, is_word, keywords, lookup}
-use Rattle.line_reader.specs.Fields.{is_name, name_of_word, only_if, string_of}
+use Rattle.run_words.specs.Text.{Text, every, is_digit, is_inner, is_letter, is_word, lookup}
+use Rattle.run_words.specs.Keywords.{keywords}
+use Rattle.line_reader.specs.Fields.{is_name, name_of_word, string_of}
+use Rattle.run_words.specs.Partial.{only_if}
 use Rattle.record_laws.proofs.Splitting.{every_append, every_weaker, is_dark, is_shown}
 
 -- the text of a name is read

@@ -7,14 +7,15 @@ use Rattle.std.proofs.lemmas.Bool.Decides.{nat_tests}
 use Rattle.std.proofs.lemmas.Fmt.{decimal_nonempty}
 use Rattle.std.proofs.lemmas.Int.{ints}
 use Rattle.std.proofs.lemmas.Slice.Eq.{bytes_eq-Decides}
-use Rattle.pool_syntax.specs.Tokens.{Text, every, is_digit, value_of as number_in}
-use Rattle.pool_syntax.specs.Values.{is_in_range}
-use Rattle.pool_syntax.specs.declared.words.Value.{Value}
-use Rattle.pool_syntax.specs.declared.words.Value.TheVariants as V
-use Rattle.pool_syntax.specs.declared.words.Error.{Error}
-use Rattle.pool_syntax.specs.declared.words.Error.TheVariants as error
+use Rattle.run_words.specs.Text.{Text, every, is_digit, value_of_digits}
+use Rattle.run_words.specs.Values.{is_in_range}
+use Rattle.run_words.specs.declared.words.Value.{Value}
+use Rattle.run_words.specs.declared.words.Value.TheVariants as V
+use Rattle.run_words.specs.declared.words.Error.{Error}
+use Rattle.run_words.specs.declared.words.Error.TheVariants as error
 use Rattle.record_lines.specs.RecordText.{error_text, object_text, value_text}
-use Rattle.line_reader.specs.Fields.{begins_with, error_of, integer_of, name_or_integer, negative_of, number_of, object_of, only_if, halves_of, then_some, value_of, values_within}
+use Rattle.line_reader.specs.Fields.{begins_with, error_of, integer_of, name_or_integer, negative_of, number_of, object_of, halves_of, value_of, values_within}
+use Rattle.run_words.specs.Partial.{only_if, ◌>>=◌}
 use Rattle.run_record.specs.Readable.{AreReadableValues, IsReadableValue}
 use Rattle.record_laws.proofs.Splitting.{AreDark, is_dark}
 use Rattle.record_laws.proofs.Numbers.{decimal_dark, decimal_digits, decimal_number, differs, number_read}
@@ -67,8 +68,8 @@ largest = refl
 -- only 2 ^ 63 has this text
 least_is : (n : ℕ) → n ≤ 9223372036854775807 → decimal (suc n) ≡ codes "9223372036854775808" → n ≡ 9223372036854775807
 least_is n small e =
-    let spelled : number_in 0 (decimal (suc n)) ≡ suc n = decimal_number (suc n) (omega arith) in
-    let same : number_in 0 (decimal (suc n)) ≡ 9223372036854775808 = ap (number_in 0) e in
+    let spelled : value_of_digits 0 (decimal (suc n)) ≡ suc n = decimal_number (suc n) (omega arith) in
+    let same : value_of_digits 0 (decimal (suc n)) ≡ 9223372036854775808 = ap (value_of_digits 0) e in
     omega arith
 
 -- 2 ^ 63 has it
@@ -82,7 +83,7 @@ negative_read n small = by (bytes_eq (decimal (suc n)) (codes "92233720368547758
     by : (q : Bool) → bytes_eq (decimal (suc n)) (codes "9223372036854775808") ≡ q
         → elim q as (λ x. Option ℤ) [
           | true ↦ Some (negsuc 9223372036854775807)
-          | false ↦ then_some (number_of 9223372036854775808 (decimal (suc n))) (λ k. only_if (nat_lt 0 k) (Some (neg_ℤ (pos k))))
+          | false ↦ number_of 9223372036854775808 (decimal (suc n)) >>= λ k. only_if (nat_lt 0 k) (Some (neg_ℤ (pos k)))
         ]
         ≡ Some (negsuc n)
     by true e = ap (λ k. Some (negsuc k)) (sym (least_is n small ((bytes_eq-Decides (decimal (suc n)) (codes "9223372036854775808")).0 e)))
@@ -91,7 +92,7 @@ negative_read n small = by (bytes_eq (decimal (suc n)) (codes "92233720368547758
           | inl h ↦ h
           | inr h ↦ absurd (let same = least_text n (omega arith) in cc)
         ] in
-        ap (λ o. then_some o (λ k. only_if (nat_lt 0 k) (Some (neg_ℤ (pos k))))) (number_read 9223372036854775808 (suc n) less (omega arith))
+        ap (λ o. o >>= λ k. only_if (nat_lt 0 k) (Some (neg_ℤ (pos k)))) (number_read 9223372036854775808 (suc n) less (omega arith))
         ∙ ap (λ q. only_if q (Some (negsuc n))) (let above : nat_lt 0 (suc n) ≡ true = grind (arith, nat_tests) in above)
 
 -- a text without its first byte
@@ -102,16 +103,16 @@ without_first b w = ap (λ n. take n w) (let e : suc (length w) - 1 ≡ length w
 integer_read : (z : ℤ) → is_in_range z ≡ true → integer_of (signed_decimal z) ≡ Some z
 integer_read (pos n) h =
     let small = range_pos n h in
-    ap (λ q. elim q as (λ x. Option ℤ) [ true ↦ negative_of (slice_range (decimal n) 1 (length (decimal n))) | false ↦ then_some (number_of 9223372036854775808 (decimal n)) (λ k. Some (pos k)) ]) (digits_no_minus (decimal n) (decimal_digits n (omega arith)))
-    ∙ ap (λ o. then_some o (λ k. Some (pos k))) (number_read 9223372036854775808 n small (omega arith))
+    ap (λ q. elim q as (λ x. Option ℤ) [ true ↦ negative_of (slice_range (decimal n) 1 (length (decimal n))) | false ↦ number_of 9223372036854775808 (decimal n) >>= λ k. Some (pos k) ]) (digits_no_minus (decimal n) (decimal_digits n (omega arith)))
+    ∙ ap (λ o. o >>= λ k. Some (pos k)) (number_read 9223372036854775808 n small (omega arith))
 integer_read (negsuc n) h = ap negative_of (without_first 45 (decimal (suc n))) ∙ negative_read n (range_negsuc n h)
 
 -- an integer is no object's name
 integer_no_object : (z : ℤ) → is_in_range z ≡ true → object_of (signed_decimal z) ≡ None
-integer_no_object (pos n) h = let small = range_pos n h in ap (λ p. then_some p (halves_of (decimal n))) (no_point 0 (decimal n) (decimal_digits n (omega arith)))
+integer_no_object (pos n) h = let small = range_pos n h in ap (λ p. p >>= halves_of (decimal n)) (no_point 0 (decimal n) (decimal_digits n (omega arith)))
 integer_no_object (negsuc n) h =
     let small = range_negsuc n h in
-    ap (λ p. then_some p (halves_of (45 ∷ decimal (suc n)))) (no_point 1 (decimal (suc n)) (decimal_digits (suc n) (omega arith)))
+    ap (λ p. p >>= halves_of (45 ∷ decimal (suc n))) (no_point 1 (decimal (suc n)) (decimal_digits (suc n) (omega arith)))
 
 -- an integer starts as a number
 integer_starts : (z : ℤ) → is_in_range z ≡ true → starts_number (signed_decimal z) ≡ true
@@ -136,7 +137,7 @@ value_of_number w h =
 value_int : (z : ℤ) → is_in_range z ≡ true → value_of (signed_decimal z) ≡ Some (V.Int z)
 value_int z h =
     value_of_number (signed_decimal z) (integer_starts z h)
-    ∙ (ap (name_or_integer (signed_decimal z)) (integer_no_object z h) ∙ ap (λ o. then_some o (λ k. Some (V.Int k))) (integer_read z h))
+    ∙ (ap (name_or_integer (signed_decimal z)) (integer_no_object z h) ∙ ap (λ o. o >>= λ k. Some (V.Int k)) (integer_read z h))
 
 -- an object's name starts as a number
 object_starts : (o : ℕ) → o < 4294967296 → starts_number (object_text o) ≡ true
@@ -187,8 +188,8 @@ pub values_read : (n : ℕ) (vs : List Value) → length vs ≤ n → AreReadabl
 values_read n [] low h = refl
 values_read zero (v ∷ vs) low h = absurd (omega arith)
 values_read (suc n) (v ∷ vs) low h =
-    ap (λ o. then_some o (λ x. then_some (values_within n (map value_text vs)) (λ xs. Some (x ∷ xs)))) (value_read v h.0)
-    ∙ ap (λ o. then_some o (λ xs. Some (v ∷ xs))) (values_read n vs (omega arith) h.1)
+    ap (λ o. o >>= λ x. values_within n (map value_text vs) >>= λ xs. Some (x ∷ xs)) (value_read v h.0)
+    ∙ ap (λ o. o >>= λ xs. Some (v ∷ xs)) (values_read n vs (omega arith) h.1)
 
 -- errors
 

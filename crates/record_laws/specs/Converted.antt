@@ -1,6 +1,6 @@
 -- A record that is carried over: what its text says, written in the second form.
 use Rattle.std.specs.Prelude.{[]}
-use Rattle.pool_syntax.specs.Tokens.{Text}
+use Rattle.run_words.specs.Text.{Text}
 use Rattle.record_lines.specs.SecondForm.{text2}
 use Rattle.run_record.specs.Numbered.{lines_after, names_after}
 use Rattle.run_record.specs.Records.{record_of}

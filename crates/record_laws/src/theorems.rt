@@ -1,8 +1,8 @@
 //! The laws: each is the contract of a function that does nothing.
 ghost use Rattle.std.specs.Prelude.{◌≡◌, List, None, true};
-ghost use Rattle.pool_syntax.specs.Table.{is_distinct};
-ghost use Rattle.pool_syntax.specs.Tokens.{Text};
-ghost use Rattle.pool_syntax.specs.declared.words.Line.{Line};
+ghost use Rattle.run_words.specs.Table.{is_distinct};
+ghost use Rattle.run_words.specs.Text.{Text};
+ghost use Rattle.run_words.specs.declared.words.Line.{Line};
 ghost use Rattle.record_lines.specs.RecordText.{record_text};
 ghost use Rattle.record_lines.specs.SecondForm.{text2};
 ghost use Rattle.run_record.specs.Numbered.{lines_after, names_after};

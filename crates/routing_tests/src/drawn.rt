@@ -1,7 +1,7 @@
 //! Drawn placements, and a plain search for their paths.
-use pool_syntax::{LinkId, Route};
 use rand_core::utils::NextWord;
 use rand_pcg::Lcg64Xsh32;
+use run_words::{LinkId, Route};
 use std::alloc::{AllocError, Global};
 
 /// A mesh with the links that it misses and the routes at its nodes.

@@ -1,16 +1,16 @@
 //! Tables of placements: those of the rows, and those of drawn ones beside a plain search.
 ghost use Rattle.std.specs.Prelude.{◌≡◌, ◌*◌, ◌<◌};
-ghost use Rattle.mesh_semantics.specs.Routes.{IsRouted};
+ghost use Rattle.run_words.specs.Routes.{IsRouted};
 
 use crate::drawn::{Drawn, draw};
 use crate::rows::{TABLES, lines_of};
 use class_check::check;
-use object_code::Unit;
+use code_semantics::Unit;
 use placement_reader::{PlacementFault, read_placement};
 use pool_compile::compile;
 use pool_lexer::tokens;
 use pool_parser::parse;
-use pool_syntax::Placement;
+use run_words::Placement;
 use std::alloc::{AllocError, Global};
 use std::test::Fail;
 use table_routing::Table;

@@ -2,17 +2,18 @@
 use Rattle.std.proofs.Common.{◌≡◌, refl, sym, ap, ◌∙◌, ℕ, suc, ◌-◌, ◌<◌, ◌≤◌, drop, take, get_or, List, [], ◌∷◌, ◌++◌, length, Option, Some, None, Bool, true, false, bytes_eq, codes, arith, append_assoc}
 use Rattle.std.proofs.Math.Seq.{drop-cons}
 use Rattle.std.proofs.lemmas.List.{take-append-drop, take_rest}
-use Rattle.pool_syntax.specs.Tokens.{Text}
-use Rattle.line_reader.specs.Fields.{count_of, only_if, parts, then_some}
+use Rattle.run_words.specs.Text.{Text}
+use Rattle.line_reader.specs.Fields.{count_of, parts}
+use Rattle.run_words.specs.Partial.{only_if, ◌>>=◌}
 use Rattle.line_reader.proofs.Laws.{parts_joint, parts_length}
 use Rattle.run_record.specs.Records.{asked_by}
 
 -- a word before the others
 abbrev with_front : Text → Option (List Text × ℕ) → Option (List Text × ℕ)
-with_front a o = then_some o (λ r. Some (a ∷ r.0, r.1))
+with_front a o = o >>= λ r. Some (a ∷ r.0, r.1)
 
 -- words before two more
-pub asked_last : (a : Text) (ps : List Text) (w v : Text) → asked_by (a ∷ (ps ++ w ∷ v ∷ [])) ≡ only_if (bytes_eq w (codes "by")) (then_some (count_of v) (λ n. Some (a ∷ ps, n)))
+pub asked_last : (a : Text) (ps : List Text) (w v : Text) → asked_by (a ∷ (ps ++ w ∷ v ∷ [])) ≡ only_if (bytes_eq w (codes "by")) (count_of v >>= λ n. Some (a ∷ ps, n))
 asked_last a [] w v = refl
 asked_last a (p ∷ ps) w v = step a p ps w v ∙ ap (λ o. with_front a o) (asked_last p ps w v) ∙ by (bytes_eq w (codes "by")) (count_of v)
   where
@@ -21,31 +22,31 @@ asked_last a (p ∷ ps) w v = step a p ps w v ∙ ap (λ o. with_front a o) (ask
     step a p (q ∷ []) w v = refl
     step a p (q ∷ r ∷ qs) w v = refl
 
-    by : (b : Bool) (c : Option ℕ) → with_front a (only_if b (then_some c (λ n. Some (p ∷ ps, n)))) ≡ only_if b (then_some c (λ n. Some (a ∷ p ∷ ps, n)))
+    by : (b : Bool) (c : Option ℕ) → with_front a (only_if b (c >>= λ n. Some (p ∷ ps, n))) ≡ only_if b (c >>= λ n. Some (a ∷ p ∷ ps, n))
     by false c = refl
     by true None = refl
     by true (Some n) = refl
 
 -- at least one word before two more
-pub asked_words : (ps : List Text) (w v : Text) → 0 < length ps → asked_by (ps ++ w ∷ v ∷ []) ≡ only_if (bytes_eq w (codes "by")) (then_some (count_of v) (λ n. Some (ps, n)))
+pub asked_words : (ps : List Text) (w v : Text) → 0 < length ps → asked_by (ps ++ w ∷ v ∷ []) ≡ only_if (bytes_eq w (codes "by")) (count_of v >>= λ n. Some (ps, n))
 asked_words [] w v h = absurd (omega arith)
 asked_words (p ∷ ps) w v h = asked_last p ps w v
 
 -- the words of a line that was cut at its last two spaces
 carried_words : (line front rest by number : Text) → parts 32 line ≡ parts 32 rest ++ number ∷ [] → parts 32 rest ≡ parts 32 front ++ by ∷ []
-    → asked_by (parts 32 line) ≡ only_if (bytes_eq by (codes "by")) (then_some (count_of number) (λ n. Some (parts 32 front, n)))
+    → asked_by (parts 32 line) ≡ only_if (bytes_eq by (codes "by")) (count_of number >>= λ n. Some (parts 32 front, n))
 carried_words line front rest by number e f =
     ap asked_by (e ∙ (ap (λ ps. ps ++ number ∷ []) f ∙ append_assoc (parts 32 front) (by ∷ []) (number ∷ []))) ∙ asked_words (parts 32 front) by number (parts_length 32 front)
 
 pub carried_not : (line front rest by number : Text) → parts 32 line ≡ parts 32 rest ++ number ∷ [] → parts 32 rest ≡ parts 32 front ++ by ∷ []
     → bytes_eq by (codes "by") ≡ false → asked_by (parts 32 line) ≡ None
-carried_not line front rest by number e f h = carried_words line front rest by number e f ∙ ap (λ b. only_if b (then_some (count_of number) (λ n. Some (parts 32 front, n)))) h
+carried_not line front rest by number e f h = carried_words line front rest by number e f ∙ ap (λ b. only_if b (count_of number >>= λ n. Some (parts 32 front, n))) h
 
 pub carried_is : (line front rest by number : Text) (o : Option ℕ) → parts 32 line ≡ parts 32 rest ++ number ∷ [] → parts 32 rest ≡ parts 32 front ++ by ∷ []
-    → bytes_eq by (codes "by") ≡ true → count_of number ≡ o → asked_by (parts 32 line) ≡ then_some o (λ n. Some (parts 32 front, n))
+    → bytes_eq by (codes "by") ≡ true → count_of number ≡ o → asked_by (parts 32 line) ≡ (o >>= λ n. Some (parts 32 front, n))
 carried_is line front rest by number o e f h k =
-    carried_words line front rest by number e f ∙ ap (λ b. only_if b (then_some (count_of number) (λ n. Some (parts 32 front, n)))) h
-    ∙ ap (λ c. then_some c (λ n. Some (parts 32 front, n))) k
+    carried_words line front rest by number e f ∙ ap (λ b. only_if b (count_of number >>= λ n. Some (parts 32 front, n))) h
+    ∙ ap (λ c. c >>= λ n. Some (parts 32 front, n)) k
 
 -- one word, or two of which the first is the only one before the last
 pub asked_one : (line : Text) → parts 32 line ≡ line ∷ [] → asked_by (parts 32 line) ≡ None

@@ -6,40 +6,42 @@ use Rattle.std.proofs.lemmas.Bool.{and_parts, leb-true}
 use Rattle.std.proofs.lemmas.Bool.Decides.{nat_tests}
 use Rattle.std.proofs.lemmas.Int.{ints}
 use Rattle.std.proofs.lemmas.Option.{slice_get_within}
-use Rattle.pool_syntax.specs.Table.{is_among, name_of, with_text}
-use Rattle.pool_syntax.specs.Tokens.{Text, every, is_inner, is_word, keywords, lookup}
-use Rattle.pool_syntax.specs.Values.{is_in_range}
-use Rattle.pool_syntax.proofs.Laws.{text_at_place}
-use Rattle.pool_syntax.proofs.Texts.{name_of-missing}
-use Rattle.pool_syntax.specs.declared.words.NameId.{NameId}
-use Rattle.pool_syntax.specs.declared.words.Value.{Value}
-use Rattle.pool_syntax.specs.declared.words.Item.{Item}
-use Rattle.pool_syntax.specs.declared.words.Item.TheVariants as I
-use Rattle.pool_syntax.specs.declared.words.Label.{Label}
-use Rattle.pool_syntax.specs.declared.words.Label.TheVariants as L
-use Rattle.pool_syntax.specs.declared.words.What.{What}
-use Rattle.pool_syntax.specs.declared.words.What.TheVariants as W
-use Rattle.pool_syntax.specs.declared.words.WireAct.{WireAct}
-use Rattle.pool_syntax.specs.declared.words.WireAct.TheVariants as A
-use Rattle.pool_syntax.specs.declared.words.Event.{Event}
-use Rattle.pool_syntax.specs.declared.words.Event.TheVariants as E
-use Rattle.pool_syntax.specs.declared.words.End.{End}
-use Rattle.pool_syntax.specs.declared.words.End.TheVariants as F
-use Rattle.pool_syntax.specs.declared.words.Line.{Line}
-use Rattle.pool_syntax.specs.declared.words.Line.TheVariants as R
-use Rattle.pool_lexer.specs.declared.places.Decimal.{Decimal}
-use Rattle.pool_lexer.specs.declared.places.Decimal.TheVariants.{NotDigits, TooLarge, Value as Spelled}
-use Rattle.pool_lexer.specs.Lines.{decimal_of}
-use Rattle.record_lines.specs.RecordText.{joined, text_at, text_or_none}
+use Rattle.run_words.specs.Table.{is_among, name_of, with_text, text_or_none}
+use Rattle.run_words.specs.Text.{Text, every, is_inner, is_word, lookup}
+use Rattle.run_words.specs.Keywords.{keywords}
+use Rattle.run_words.specs.Values.{is_in_range}
+use Rattle.run_words.proofs.Laws.{text_at_place, name_of-missing}
+use Rattle.run_words.specs.declared.words.NameId.{NameId}
+use Rattle.run_words.specs.declared.words.Value.{Value}
+use Rattle.run_words.specs.declared.words.Item.{Item}
+use Rattle.run_words.specs.declared.words.Item.TheVariants as I
+use Rattle.run_words.specs.declared.words.Label.{Label}
+use Rattle.run_words.specs.declared.words.Label.TheVariants as L
+use Rattle.run_words.specs.declared.words.What.{What}
+use Rattle.run_words.specs.declared.words.What.TheVariants as W
+use Rattle.run_words.specs.declared.words.WireAct.{WireAct}
+use Rattle.run_words.specs.declared.words.WireAct.TheVariants as A
+use Rattle.run_words.specs.declared.words.Event.{Event}
+use Rattle.run_words.specs.declared.words.Event.TheVariants as E
+use Rattle.run_words.specs.declared.words.End.{End}
+use Rattle.run_words.specs.declared.words.End.TheVariants as F
+use Rattle.run_words.specs.declared.words.Line.{Line}
+use Rattle.run_words.specs.declared.words.Line.TheVariants as R
+use Rattle.run_words.specs.declared.places.Decimal.{Decimal}
+use Rattle.run_words.specs.declared.places.Decimal.TheVariants.{NotDigits, TooLarge, Value as Spelled}
+use Rattle.run_words.specs.Lines.{decimal_of}
+use Rattle.record_lines.specs.RecordText.{joined, text_at}
 use Rattle.record_lines.specs.SecondForm.{form_text}
 use Rattle.record_lines.specs.Writable.{AreShort, IsShort, IsWritable, id_of_item, id_of_label, id_of_line, id_of_what}
-use Rattle.mesh_semantics.specs.Asks.{is_asked}
-use Rattle.mesh_semantics.specs.Tables.{Each}
+use Rattle.run_words.specs.Asks.{is_asked}
+use Rattle.run_words.specs.Tables.{Each}
 use Rattle.line_reader.specs.declared.shown.Message.{Message}
 use Rattle.line_reader.specs.declared.shown.Message.TheVariants as M
-use Rattle.line_reader.specs.Fields.{begins_with, count_of, error_of, fields, halves_of, integer_of, is_name, name_of_word, name_or_integer, negative_of, number_of, object_of, only_if, parts, point_from, positive_of, spelled_below, string_of, then_some, value_of, values_within}
+use Rattle.line_reader.specs.Fields.{begins_with, count_of, error_of, fields, halves_of, integer_of, is_name, name_of_word, name_or_integer, negative_of, number_of, object_of, parts, point_from, positive_of, spelled_below, string_of, value_of, values_within}
+use Rattle.run_words.specs.Partial.{only_if, ◌>>=◌}
 use Rattle.line_reader.specs.Lines.{Told, end_of, end_of_two, ends, event_of, full_of, happened, kind_of, line_of, link_from, link_of, side_of, turn_of, wire_event, wire_from, wire_of}
-use Rattle.line_reader.specs.Shown.{Shown, arrive_of, create_of, created_of, delay_of, either, fault_of, for_more, for_three, for_two, frame_of, item_for, item_of, local_of, making, message_from, message_of, new_of, no_number, of_pair, once, only_count, pick_of, plain, post_of, result_of, return_of, step_of, what_of, write_of}
+use Rattle.line_reader.specs.Shown.{Shown, arrive_of, create_of, created_of, delay_of, fault_of, for_more, for_three, for_two, frame_of, item_for, item_of, local_of, making, message_from, message_of, new_of, no_number, of_pair, once, only_count, pick_of, plain, post_of, result_of, return_of, step_of, what_of, write_of}
+use Rattle.std.specs.Option.{option_or}
 use Rattle.run_record.specs.declared.fault.RecordFault.{RecordFault}
 use Rattle.run_record.specs.declared.fault.RecordFault.TheVariants as fault
 use Rattle.run_record.specs.declared.row.Form.{Form}
@@ -59,7 +61,7 @@ IsReadableLine names (R.End end) = IsReadableEnd end
 -- what each part of a reading keeps
 
 module _ {A B : Type 0} (P : B → Type 0) where
-  then_all : (o : Option A) (f : A → Option B) → ((a : A) → o ≡ Some a → IfSome (f a) P) → IfSome (then_some o f) P
+  then_all : (o : Option A) (f : A → Option B) → ((a : A) → o ≡ Some a → IfSome (f a) P) → IfSome (o >>= f) P
   then_all None f h = tt
   then_all (Some a) f h = h a refl
 
@@ -72,7 +74,7 @@ module _ {B : Type 0} (P : B → Type 0) where
   choice_all true x y h k = h
   choice_all false x y h k = k
 
-  either_all : (x y : Option B) → IfSome x P → IfSome y P → IfSome (either x y) P
+  either_all : (x y : Option B) → IfSome x P → IfSome y P → IfSome (option_or x y) P
   either_all None y h k = k
   either_all (Some x) y h k = h
 
@@ -183,7 +185,7 @@ values_all zero (w ∷ ws) = tt
 values_all (suc n) (w ∷ ws) = by (value_of w) (value_all w) (values_within n ws) (values_all n ws)
   where
     by : (o : Option Value) → IfSome o IsReadableValue → (m : Option (List Value)) → IfSome m (AreWithin n)
-        → IfSome (then_some o (λ v. then_some m (λ vs. Some (v ∷ vs)))) (AreWithin (suc n))
+        → IfSome (o >>= λ v. m >>= λ vs. Some (v ∷ vs)) (AreWithin (suc n))
     by None h m i = tt
     by (Some v) h None i = tt
     by (Some v) h (Some vs) i = (let size : suc (length vs) ≤ suc n = omega (arith, i.0) in size, (h, i.1))
@@ -367,7 +369,7 @@ frame_fits w ws =
     (choice_all FitsShown (bytes_eq w (codes "acked")) _ _ (counted (λ n. W.Acked n) (λ n h. plain_fits (W.Acked n) (λ names. h) refl refl))
     (only_all FitsShown (bytes_eq w (codes "late")) _ (counted (λ n. W.Late n) (λ n h. plain_fits (W.Late n) (λ names. h) refl refl))))))
   where
-    counted : (what : ℕ → What) → ((n : ℕ) → IsCount n → FitsShown (shows (what n) None)) → IfSome (then_some (only_count ws) (λ n. plain (what n))) FitsShown
+    counted : (what : ℕ → What) → ((n : ℕ) → IsCount n → FitsShown (shows (what n) None)) → IfSome (only_count ws >>= λ n. plain (what n)) FitsShown
     counted what h = then_all FitsShown (only_count ws) (λ n. plain (what n)) (λ n e. h n (only_low ws n e))
 
 delay_fits : (w : Text) (ws : List Text) → IfSome (delay_of w ws) FitsShown
@@ -476,7 +478,7 @@ FitsRow r = FitsTold r.told
 row_fits : (f : Form) (ws : List Text) → IfSome (row_of f ws) FitsRow
 row_fits form.First ws = then_all FitsRow (line_of ws) _ (λ t e. some_all FitsTold (line_of ws) t (line_fits ws) e)
 row_fits form.Second ws =
-    either_all FitsRow (then_some (line_of ws) unasked) _
+    either_all FitsRow (line_of ws >>= unasked) _
     (then_all FitsRow (line_of ws) _ (λ t e. only_all FitsRow (not (is_asked t.line)) (unnumbered t) (some_all FitsTold (line_of ws) t (line_fits ws) e)))
     (then_all FitsRow (asked_by ws) _ (λ r i. then_all FitsRow (line_of r.0) _ (λ t e. only_all FitsRow (is_asked t.line) _ (some_all FitsTold (line_of r.0) t (line_fits r.0) e))))
 

@@ -2,9 +2,9 @@
 use Rattle.std.proofs.Common.{◌≡◌, refl, sym, ap, append_assoc, append-nil, ◌∙◌, ℕ, ◌+◌, ◌<◌, ◌≤◌, List, [], ◌∷◌, ◌++◌, length, Option, Some, None, Bool, true, false, ◌&&◌, ◌==◌, bytes_eq, arith}
 use denote.Bor.{Bor}
 use Rattle.std.specs.Prelude.{option_map}
-use Rattle.pool_syntax.specs.Tokens.{Text}
-use Rattle.pool_syntax.specs.declared.words.Line.{Line}
-use Rattle.mesh_semantics.proofs.Laws.{equal}
+use Rattle.run_words.specs.Text.{Text}
+use Rattle.run_words.specs.declared.words.Line.{Line}
+use Rattle.run_words.proofs.Laws.{equal}
 use Rattle.line_reader.specs.declared.fields.Front.{Front}
 use Rattle.run_record.specs.declared.row.Form.{Form}
 use Rattle.run_record.specs.declared.row.Form.TheVariants as form

@@ -1,15 +1,16 @@
 -- What a record's text says, in either form: its lines, each with the text of its name, and the first fault.
 use Rattle.std.specs.Prelude.{ℕ, ◌+◌, List, [], ◌∷◌, Option, Some, None, Bool, true, false, ◌&&◌, not, nat_eq, nat_le, bytes_eq, codes}
-use Rattle.pool_syntax.specs.Tokens.{Text}
-use Rattle.pool_syntax.specs.declared.words.End.{End}
-use Rattle.pool_syntax.specs.declared.words.End.TheVariants as F
-use Rattle.pool_syntax.specs.declared.words.Line.{Line}
-use Rattle.pool_syntax.specs.declared.words.Line.TheVariants as R
-use Rattle.mesh_semantics.specs.Asks.{ask_of, is_asked}
+use Rattle.run_words.specs.Text.{Text}
+use Rattle.run_words.specs.declared.words.End.{End}
+use Rattle.run_words.specs.declared.words.End.TheVariants as F
+use Rattle.run_words.specs.declared.words.Line.{Line}
+use Rattle.run_words.specs.declared.words.Line.TheVariants as R
+use Rattle.run_words.specs.Asks.{request_number_of, is_asked}
 use Rattle.record_lines.specs.SecondForm.{form_text}
-use Rattle.line_reader.specs.Fields.{count_of, fields, only_if, parts, then_some}
+use Rattle.line_reader.specs.Fields.{count_of, fields, parts}
+use Rattle.run_words.specs.Partial.{only_if, ◌>>=◌}
 use Rattle.line_reader.specs.Lines.{Told, line_of}
-use Rattle.line_reader.specs.Shown.{either}
+use Rattle.std.specs.Option.{option_or}
 use Rattle.run_record.specs.declared.fault.RecordFault.{RecordFault}
 use Rattle.run_record.specs.declared.fault.RecordFault.TheVariants as fault
 use Rattle.run_record.specs.declared.row.Form.{Form}
@@ -25,8 +26,8 @@ abbrev pub asked_by : List Text → Option (List Text × ℕ)
 asked_by [] = None
 asked_by (a ∷ []) = None
 asked_by (a ∷ b ∷ []) = None
-asked_by (a ∷ b ∷ c ∷ []) = only_if (bytes_eq b (codes "by")) (then_some (count_of c) (λ n. Some (a ∷ [], n)))
-asked_by (a ∷ b ∷ c ∷ d ∷ ws) = then_some (asked_by (b ∷ c ∷ d ∷ ws)) (λ r. Some (a ∷ r.0, r.1))
+asked_by (a ∷ b ∷ c ∷ []) = only_if (bytes_eq b (codes "by")) (count_of c >>= λ n. Some (a ∷ [], n))
+asked_by (a ∷ b ∷ c ∷ d ∷ ws) = asked_by (b ∷ c ∷ d ∷ ws) >>= λ r. Some (a ∷ r.0, r.1)
 
 -- a line of any kind, without a number; one that answers no request; one that does, with its number
 abbrev pub unnumbered : Told → Option Row
@@ -40,10 +41,10 @@ asked_for n t = only_if (is_asked t.line) (Some (record { told = t; ask = Some n
 
 -- the form of a line in the second form: that of the first where the line answers no request, and else that of the first with ` by` and a number behind it
 abbrev pub second_of : List Text → Option Row
-second_of ws = either (then_some (line_of ws) unasked) (then_some (asked_by ws) (λ r. then_some (line_of r.0) (asked_for r.1)))
+second_of ws = option_or (line_of ws >>= unasked) (asked_by ws >>= λ r. line_of r.0 >>= asked_for r.1)
 
 abbrev pub row_of : Form → List Text → Option Row
-row_of form.First ws = then_some (line_of ws) unnumbered
+row_of form.First ws = line_of ws >>= unnumbered
 row_of form.Second ws = second_of ws
 
 abbrev pub done_of : End → ℕ
@@ -93,7 +94,7 @@ ask_fault seen ask (Some n) = elim (nat_eq n ask) [ true ↦ None | false ↦ So
 
 abbrev pub row_fault : List Line → ℕ → ℕ → Bool → Option Row → Option RecordFault
 row_fault earlier seen last ended None = Some (fault.BadLine (seen + 1))
-row_fault earlier seen last ended (Some r) = either (order_fault seen last ended r.told.line) (ask_fault seen (ask_of earlier r.told.line) r.ask)
+row_fault earlier seen last ended (Some r) = option_or (order_fault seen last ended r.told.line) (ask_fault seen (request_number_of earlier r.told.line) r.ask)
 
 abbrev pub by_fault : Option RecordFault → Rows → Rows
 by_fault None r = r

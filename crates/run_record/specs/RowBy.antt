@@ -1,6 +1,6 @@
 -- What the reader of a line keeps of it and of the request number that it carries.
 use Rattle.std.specs.Prelude.{ℕ, List}
-use Rattle.pool_syntax.specs.Tokens.{Text}
+use Rattle.run_words.specs.Text.{Text}
 use Rattle.run_record.specs.declared.row.Carried.{Carried}
 use Rattle.run_record.specs.declared.row.ReadRow.{ReadRow}
 use Rattle.line_reader.specs.Fields.{fields}

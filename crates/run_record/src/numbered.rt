@@ -4,7 +4,7 @@ ghost use Rattle.run_record.specs.Numbered.{item_with, label_with, line_with, nu
 ghost use Rattle.line_reader.specs.ToldBy.{told};
 
 use line_reader::ReadLine;
-use pool_syntax::{Item, Label, Line, NameId, Names, What};
+use run_words::{Item, Label, Line, NameId, Names, What};
 use std::alloc::AllocError;
 
 fn item_with(id: NameId, item: Item) -> Item

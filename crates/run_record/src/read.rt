@@ -1,9 +1,9 @@
 //! Reads a record.
 ghost use Rattle.std.specs.Prelude.{◌≡◌, ◌+◌, ◌<◌, ◌≤◌, ◌^◌, [], length, IfOk, IfErr, OnOk, Some, None, false, option_map};
 ghost use Rattle.std.specs.List.{All};
-ghost use Rattle.pool_syntax.specs.declared.words.Line.{Line};
+ghost use Rattle.run_words.specs.declared.words.Line.{Line};
 ghost use Rattle.record_lines.specs.Writable.{IsWritable};
-ghost use Rattle.mesh_semantics.specs.Asks.{ask_of};
+ghost use Rattle.run_words.specs.Asks.{request_number_of};
 ghost use Rattle.line_reader.specs.Fields.{fields, parts};
 ghost use Rattle.run_record.specs.Numbered.{IsTable, IsTold, lines_after, names_after};
 ghost use Rattle.request_numbers.specs.Posts.{HasPosts};
@@ -15,8 +15,8 @@ use crate::fault::RecordFault;
 use crate::numbered::numbered;
 use crate::row::{Form, ReadRow, row_in};
 use line_reader::cut;
-use pool_syntax::{End, Line, List, Names};
 use request_numbers::Posts;
+use run_words::{End, Line, List, Names};
 use std::alloc::Global;
 
 fn done_of(end: End) -> u32

@@ -1,6 +1,7 @@
 //! A line with the request number that it carries.
 ghost use Rattle.std.specs.Prelude.{◌≡◌, [], ◌∷◌, ◌++◌, option_map, IfSome, IfNone};
-ghost use Rattle.line_reader.specs.Fields.{count_of, fields, only_if, parts, then_some};
+ghost use Rattle.line_reader.specs.Fields.{count_of, fields, parts};
+ghost use Rattle.run_words.specs.Partial.{only_if, ◌>>=◌ as then_some};
 ghost use Rattle.line_reader.specs.Lines.{line_of};
 ghost use Rattle.run_record.specs.Records.{asked_by, asked_for, row_of, second_of, unasked, unnumbered};
 ghost use Rattle.run_record.specs.RowBy.{carried, row};

@@ -1,35 +1,31 @@
 -- What a text's schedule asks of a mesh: its quantum is one of a turn, and its events are of the mesh.
-use Rattle.std.proofs.Common.{◌≡◌, ◌≤◌, ◌<◌, ◌+◌, ◌*◌, ℕ, zero, suc, Bool, true, false, not, ◌&&◌, nat_le, nat_lt, bytes_eq, codes, List, [], ◌∷◌, ◌++◌, length, slice_get, Option, Some, None, Result, Ok, Err, refl, sym, subst, arith}
+use Rattle.std.proofs.Common.{◌≡◌, ◌≤◌, ◌<◌, ◌+◌, ◌*◌, ℕ, zero, suc, Bool, true, false, not, ◌&&◌, nat_le, nat_lt, bytes_eq, codes, List, [], ◌∷◌, length, slice_get, Option, Some, None, Result, Ok, Err, refl, sym, subst, arith, ltb-true, leb-true}
 use Rattle.std.specs.List.{repeat, range_with_len}
 use Rattle.std.specs.Option.{option_or}
-use Rattle.std.proofs.lemmas.Bool.Decides.{nat_tests}
-use Rattle.pool_syntax.specs.Tokens.{Text}
-use Rattle.pool_syntax.specs.declared.words.Event.{Event}
-use Rattle.pool_syntax.specs.declared.words.Placement.{Placement}
-use Rattle.pool_lexer.specs.Lines.{lines}
+use Rattle.run_words.specs.Text.{Text}
+use Rattle.run_words.specs.declared.words.Event.{Event}
+use Rattle.run_words.specs.declared.words.Placement.{Placement}
+use Rattle.run_words.specs.Lines.{lines}
 use Rattle.input_lines.specs.Kept.{Kept, kept, number_of}
-use Rattle.mesh_semantics.specs.Paths.{IsLink, are_neighbours, is_cut}
-use Rattle.mesh_semantics.proofs.Laws.{neighbours, not_true}
-use Rattle.mesh_semantics.specs.Sound.{Each}
+use Rattle.run_words.specs.Paths.{IsLink, are_neighbours, is_cut}
+use Rattle.run_words.proofs.Laws.{neighbours, not_true, each_both}
+use Rattle.run_words.specs.Tables.{Each}
 use Rattle.schedule_reader.specs.declared.entry.Entry.{Entry}
 use Rattle.schedule_reader.specs.declared.entry.Entry.TheVariants as E
 use Rattle.schedule_reader.specs.declared.fault.ScheduleFault.{ScheduleFault}
 use Rattle.schedule_reader.specs.declared.fault.ScheduleFault.TheVariants as F
-use Rattle.schedule_reader.specs.Entries.{entry_of, entry_of_four, entry_of_three, entry_of_two, fault_of, fault_or_bad, has_link, is_count, line_fault, link_fault, only_if, plain_entry_of, quantum_of, then_some, unless}
+use Rattle.schedule_reader.specs.Entries.{entry_of, entry_of_four, entry_of_three, entry_of_two, fault_of, fault_or_bad, has_link, is_count, line_fault, link_fault, plain_entry_of, quantum_of}
+use Rattle.run_words.specs.Partial.{unless, only_if, ◌>>=◌}
 use Rattle.schedule_reader.specs.Events.{count_of, events_of, moves_from, moves_to, round_of, round_on, total, turns, unit_of}
 use Rattle.schedule_reader.specs.Plans.{IsEventOn, IsPlanFor}
-use Rattle.schedule_reader.specs.Schedules.{Plan, begins_lossy, entries_of, first_fault, first_of, planned, planned_or_fault, quantum_fault, schedule_of, schedule_of_lines, with_entry, with_lines, with_quantum, without_wires}
+use Rattle.schedule_reader.specs.Schedules.{Plan, begins_lossy, entries_of, first_fault, planned, planned_or_fault, quantum_fault, schedule_of, schedule_of_lines, with_entry, with_lines, with_quantum, without_wires}
 use Rattle.schedule_reader.proofs.Rounds.{move_of, move_step}
 
 -- what holds of each element of lists
 
-pub joined : {X : Type 0} (P : X → Type 0) (xs ys : List X) → Each P xs → Each P ys → Each P (xs ++ ys)
-joined P [] ys h k = k
-joined P (x ∷ xs) ys h k = (h.0, joined P xs ys h.1 k)
-
 repeated : {X : Type 0} (P : X → Type 0) (n : ℕ) (xs : List X) → Each P xs → Each P (repeat n xs)
 repeated P zero xs h = tt
-repeated P (suc n) xs h = joined P xs (repeat n xs) h (repeated P n xs h)
+repeated P (suc n) xs h = each_both P xs (repeat n xs) h (repeated P n xs h)
 
 pub each_at : {X : Type 0} (P : X → Type 0) (xs : List X) (i : ℕ) (x : X) → Each P xs → slice_get xs i ≡ Some x → P x
 each_at P [] i x h e = absurd (cc)
@@ -47,18 +43,12 @@ and_both true true h = (refl, refl)
 and_both true false h = absurd (cc)
 and_both false b h = absurd (cc)
 
-less : (m n : ℕ) → nat_lt m n ≡ true → m < n
-less m n h = grind (arith, nat_tests, h)
-
-no_more : (m n : ℕ) → nat_le m n ≡ true → m ≤ n
-no_more m n h = grind (arith, nat_tests, h)
-
 -- a test before a fault holds where no fault is told
 unless_holds : (b : Bool) (f : ScheduleFault) (o : Option ScheduleFault) → unless b f o ≡ None → (b ≡ true) × (o ≡ None)
 unless_holds true f o h = (refl, h)
 unless_holds false f o h = absurd (cc)
 
-none_first : (a b : Option ScheduleFault) → first_of a b ≡ None → (a ≡ None) × (b ≡ None)
+none_first : (a b : Option ScheduleFault) → option_or a b ≡ None → (a ≡ None) × (b ≡ None)
 none_first None b h = (refl, h)
 none_first (Some f) b h = absurd (cc)
 
@@ -88,7 +78,7 @@ or_none : (o : Option Entry) → AnyMayStand false o → AnyMayStand false (opti
 or_none None h = tt
 or_none (Some e) h = h
 
-then_stands : {A : Type 0} (o : Option A) (f : A → Option Entry) → ((x : A) → AnyMayStand false (f x)) → AnyMayStand false (then_some o f)
+then_stands : {A : Type 0} (o : Option A) (f : A → Option Entry) → ((x : A) → AnyMayStand false (f x)) → AnyMayStand false (o >>= f)
 then_stands None f h = tt
 then_stands (Some x) f h = h x
 
@@ -102,23 +92,23 @@ either_stands false o p h k = k
 
 two_stand : (w a : Text) → AnyMayStand false (entry_of_two w a)
 two_stand w a =
-    either_stands (bytes_eq w (codes "turn")) (then_some (number_of a) (λ k. Some (E.Turn k 1))) (only_if (bytes_eq w (codes "round")) (then_some (number_of a) (λ c. Some (E.Round c))))
+    either_stands (bytes_eq w (codes "turn")) (number_of a >>= λ k. Some (E.Turn k 1)) (only_if (bytes_eq w (codes "round")) (number_of a >>= λ c. Some (E.Round c)))
     (then_stands (number_of a) (λ k. Some (E.Turn k 1)) (λ k. tt))
-    (only_stands (bytes_eq w (codes "round")) (then_some (number_of a) (λ c. Some (E.Round c))) (then_stands (number_of a) (λ c. Some (E.Round c)) (λ c. tt)))
+    (only_stands (bytes_eq w (codes "round")) (number_of a >>= λ c. Some (E.Round c)) (then_stands (number_of a) (λ c. Some (E.Round c)) (λ c. tt)))
 
 three_stand : (w a b : Text) → AnyMayStand false (entry_of_three w a b)
 three_stand w a b =
-    let turn : ℕ → Option Entry = λ k. then_some (number_of b) (λ c. Some (E.Turn k c)) in
-    let link : ℕ → Option Entry = λ f. then_some (number_of b) (λ t. Some (E.Link f t 1)) in
-    either_stands (bytes_eq w (codes "turn")) (then_some (number_of a) turn) (only_if (bytes_eq w (codes "link")) (then_some (number_of a) link))
+    let turn : ℕ → Option Entry = λ k. number_of b >>= λ c. Some (E.Turn k c) in
+    let link : ℕ → Option Entry = λ f. number_of b >>= λ t. Some (E.Link f t 1) in
+    either_stands (bytes_eq w (codes "turn")) (number_of a >>= turn) (only_if (bytes_eq w (codes "link")) (number_of a >>= link))
     (then_stands (number_of a) turn (λ k. then_stands (number_of b) (λ c. Some (E.Turn k c)) (λ c. tt)))
-    (only_stands (bytes_eq w (codes "link")) (then_some (number_of a) link) (then_stands (number_of a) link (λ f. then_stands (number_of b) (λ t. Some (E.Link f t 1)) (λ t. tt))))
+    (only_stands (bytes_eq w (codes "link")) (number_of a >>= link) (then_stands (number_of a) link (λ f. then_stands (number_of b) (λ t. Some (E.Link f t 1)) (λ t. tt))))
 
 four_stand : (w a b c : Text) → AnyMayStand false (entry_of_four w a b c)
 four_stand w a b c =
-    let times : ℕ → ℕ → Option Entry = λ f t. then_some (number_of c) (λ n. Some (E.Link f t n)) in
-    let link : ℕ → Option Entry = λ f. then_some (number_of b) (times f) in
-    only_stands (bytes_eq w (codes "link")) (then_some (number_of a) link)
+    let times : ℕ → ℕ → Option Entry = λ f t. number_of c >>= λ n. Some (E.Link f t n) in
+    let link : ℕ → Option Entry = λ f. number_of b >>= times f in
+    only_stands (bytes_eq w (codes "link")) (number_of a >>= link)
     (then_stands (number_of a) link (λ f. then_stands (number_of b) (times f) (λ t. then_stands (number_of c) (λ n. Some (E.Link f t n)) (λ n. tt))))
 
 plain_stands : (ws : List Text) → AnyMayStand false (plain_entry_of ws)
@@ -166,18 +156,18 @@ module _ (l : Placement) (lossy : Bool) where
   moves_fit a [] h k = tt
   moves_fit a (b ∷ bs) h k =
       subst (Each Fits) (sym (move_step l.width l.cuts lossy a b bs))
-      (joined Fits (move_of lossy (has_link l.width l.cuts a b) a b) (moves_to l.width l.cuts lossy a bs) (move_fits a b h k.0) (moves_fit a bs h k.1))
+      (each_both Fits (move_of lossy (has_link l.width l.cuts a b) a b) (moves_to l.width l.cuts lossy a bs) (move_fits a b h k.0) (moves_fit a bs h k.1))
 
   all_moves_fit : (ks : List ℕ) → Each (λ k. k < count) ks → Each Fits (moves_from l.width l.cuts lossy count ks)
   all_moves_fit [] h = tt
   all_moves_fit (k ∷ ks) h =
-      joined Fits (moves_to l.width l.cuts lossy k (range_with_len 0 count)) (moves_from l.width l.cuts lossy count ks)
+      each_both Fits (moves_to l.width l.cuts lossy k (range_with_len 0 count)) (moves_from l.width l.cuts lossy count ks)
       (moves_fit k (range_with_len 0 count) h.0 (below 0 count count (omega arith))) (all_moves_fit ks h.1)
 
   round_fits : Each Fits (round_of l.width l.height l.cuts lossy)
   round_fits =
       let all = below 0 count count (omega arith) in
-      joined Fits (turns (range_with_len 0 count)) (moves_from l.width l.cuts lossy count (range_with_len 0 count))
+      each_both Fits (turns (range_with_len 0 count)) (moves_from l.width l.cuts lossy count (range_with_len 0 count))
       (turns_fit (range_with_len 0 count) all) (all_moves_fit (range_with_len 0 count) all)
 
   -- an entry without fault
@@ -186,11 +176,11 @@ module _ (l : Placement) (lossy : Bool) where
       let t = unless_holds (nat_lt a count && nat_lt b count) (F.NoSuchNode line) (unless (has_link l.width l.cuts a b) (F.NoSuchLink line) (unless (is_count c) (F.OutOfRange line) None)) h in
       let n = unless_holds (has_link l.width l.cuts a b) (F.NoSuchLink line) (unless (is_count c) (F.OutOfRange line) None) t.1 in
       let both = and_both (nat_lt a count) (nat_lt b count) t.0 in
-      linked a b (less a count both.0) (less b count both.1) n.0
+      linked a b (ltb-true a count both.0) (ltb-true b count both.1) n.0
 
   unit_fits : (line : ℕ) (e : Entry) → MayStand lossy e → fault_of l.width l.height l.cuts line e ≡ None → Each Fits (unit_of l.width l.height l.cuts lossy e)
   unit_fits line (E.Turn k c) s h =
-      let t = unless_holds (nat_lt k count) (F.NoSuchNode line) (unless (is_count c) (F.OutOfRange line) None) h in (less k count t.0, tt)
+      let t = unless_holds (nat_lt k count) (F.NoSuchNode line) (unless (is_count c) (F.OutOfRange line) None) h in (ltb-true k count t.0, tt)
   unit_fits line (E.Link a b c) s h = (link_holds line a b c h, tt)
   unit_fits line (E.Round c) s h = round_fits
   unit_fits line (E.Wire act a b c) s h = ((s, link_holds line a b c h), tt)
@@ -206,7 +196,7 @@ module _ (l : Placement) (lossy : Bool) where
           → Each Fits (events_of l.width l.height l.cuts lossy (entries_of lossy ks)) → Each Fits (events_of l.width l.height l.cuts lossy (with_entry o (entries_of lossy ks)))
       by None s f rest = absurd (cc)
       by (Some e) s f rest =
-          joined Fits (repeat (count_of e) (unit_of l.width l.height l.cuts lossy e)) (events_of l.width l.height l.cuts lossy (entries_of lossy ks))
+          each_both Fits (repeat (count_of e) (unit_of l.width l.height l.cuts lossy e)) (events_of l.width l.height l.cuts lossy (entries_of lossy ks))
           (repeated Fits (count_of e) (unit_of l.width l.height l.cuts lossy e) (unit_fits k.line e s f)) rest
 
   abbrev made : ℕ → List Entry → Plan
@@ -231,12 +221,12 @@ quantum_holds : (line q : ℕ) → quantum_fault line (Some q) ≡ None → (1 �
 quantum_holds line q h = by (nat_le 1 q && nat_le q 10000) refl h
   where
     by : (b : Bool) → (nat_le 1 q && nat_le q 10000) ≡ b → elim b as (λ _. Option ScheduleFault) [ true ↦ None | false ↦ Some (F.OutOfRange line) ] ≡ None → (1 ≤ q) × (q ≤ 10000)
-    by true e f = let t = and_both (nat_le 1 q) (nat_le q 10000) e in (no_more 1 q t.0, no_more q 10000 t.1)
+    by true e f = let t = and_both (nat_le 1 q) (nat_le q 10000) e in (leb-true 1 q t.0, leb-true q 10000 t.1)
     by false e f = absurd (cc)
 
 behind_quantum : (l : Placement) (lossy : Bool) (line q : ℕ) (ks : List Kept) (plan : Plan) → with_lines l.width l.height l.cuts lossy line q ks ≡ Ok plan → IsPlanFor l plan
 behind_quantum l lossy line q ks plan h =
-    let t = from_fault l lossy q (first_of (quantum_fault line (Some q)) (first_fault l.width l.height l.cuts lossy ks)) (entries_of lossy ks) plan h in
+    let t = from_fault l lossy q (option_or (quantum_fault line (Some q)) (first_fault l.width l.height l.cuts lossy ks)) (entries_of lossy ks) plan h in
     let n = none_first (quantum_fault line (Some q)) (first_fault l.width l.height l.cuts lossy ks) t.0 in
     plan_holds l lossy q (entries_of lossy ks) plan (quantum_holds line q n.0) (entries_fit l lossy ks n.1) t.1
 

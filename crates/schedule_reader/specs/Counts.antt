@@ -1,8 +1,8 @@
 -- How often which part an entry asks for.
 use Rattle.std.specs.Prelude.{◌≡◌, ℕ, List, Bool, Some, None}
-use Rattle.pool_syntax.specs.Tokens.{Text}
-use Rattle.pool_syntax.specs.declared.words.LinkId.{LinkId}
-use Rattle.pool_syntax.specs.declared.words.Event.TheVariants as V
+use Rattle.run_words.specs.Text.{Text}
+use Rattle.run_words.specs.declared.words.LinkId.{LinkId}
+use Rattle.run_words.specs.declared.words.Event.TheVariants as V
 use Rattle.schedule_reader.specs.declared.entry.Entry.{Entry}
 use Rattle.schedule_reader.specs.declared.entry.Entry.TheVariants as E
 use Rattle.schedule_reader.specs.declared.stretch.Counted.{Counted}

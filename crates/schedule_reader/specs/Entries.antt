@@ -1,44 +1,36 @@
 -- What a line of a schedule says, and its faults.
 use Rattle.std.specs.Prelude.{ℕ, ◌*◌, List, [], ◌∷◌, Option, Some, None, Bool, true, false, not, ◌&&◌, if◌then◌else◌, nat_le, nat_lt, bytes_eq, codes}
 use Rattle.std.specs.Option.{option_or}
-use Rattle.pool_syntax.specs.Tokens.{Text}
-use Rattle.pool_syntax.specs.declared.words.LinkId.{LinkId}
-use Rattle.pool_syntax.specs.declared.words.WireAct.{WireAct}
-use Rattle.pool_syntax.specs.declared.words.WireAct.TheVariants as A
-use Rattle.mesh_semantics.specs.Paths.{are_neighbours, is_cut}
+use Rattle.run_words.specs.Partial.{◌>>=◌, only_if, unless}
+use Rattle.run_words.specs.Text.{Text}
+use Rattle.run_words.specs.declared.words.LinkId.{LinkId}
+use Rattle.run_words.specs.declared.words.WireAct.{WireAct}
+use Rattle.run_words.specs.declared.words.WireAct.TheVariants as A
+use Rattle.run_words.specs.Paths.{are_neighbours, is_cut}
 use Rattle.input_lines.specs.Kept.{Kept, number_of}
 use Rattle.schedule_reader.specs.declared.entry.Entry.{Entry}
 use Rattle.schedule_reader.specs.declared.entry.Entry.TheVariants as E
 use Rattle.schedule_reader.specs.declared.fault.ScheduleFault.{ScheduleFault}
 use Rattle.schedule_reader.specs.declared.fault.ScheduleFault.TheVariants as F
 
--- goes on with what is there, if there is something
-abbrev pub then_some : {A B : Type 0} → Option A → (A → Option B) → Option B
-then_some None next = None
-then_some (Some a) next = next a
-
-abbrev pub only_if : {A : Type 0} → Bool → Option A → Option A
-only_if true a = a
-only_if false a = None
-
 -- `turn N` and `round C`
 abbrev pub entry_of_two : Text → Text → Option Entry
 entry_of_two w a = elim (bytes_eq w (codes "turn")) [
-  | true ↦ then_some (number_of a) (λ k. Some (E.Turn k 1))
-  | false ↦ only_if (bytes_eq w (codes "round")) (then_some (number_of a) (λ c. Some (E.Round c)))
+  | true ↦ number_of a >>= λ k. Some (E.Turn k 1)
+  | false ↦ only_if (bytes_eq w (codes "round")) (number_of a >>= λ c. Some (E.Round c))
 ]
 
 -- `turn N C` and `link A B`
 abbrev pub entry_of_three : Text → Text → Text → Option Entry
 entry_of_three w a b = elim (bytes_eq w (codes "turn")) [
-  | true ↦ then_some (number_of a) (λ k. then_some (number_of b) (λ c. Some (E.Turn k c)))
-  | false ↦ only_if (bytes_eq w (codes "link")) (then_some (number_of a) (λ f. then_some (number_of b) (λ t. Some (E.Link f t 1))))
+  | true ↦ number_of a >>= λ k. number_of b >>= λ c. Some (E.Turn k c)
+  | false ↦ only_if (bytes_eq w (codes "link")) (number_of a >>= λ f. number_of b >>= λ t. Some (E.Link f t 1))
 ]
 
 -- `link A B C`
 abbrev pub entry_of_four : Text → Text → Text → Text → Option Entry
 entry_of_four w a b c =
-    only_if (bytes_eq w (codes "link")) (then_some (number_of a) (λ f. then_some (number_of b) (λ t. then_some (number_of c) (λ n. Some (E.Link f t n)))))
+    only_if (bytes_eq w (codes "link")) (number_of a >>= λ f. number_of b >>= λ t. number_of c >>= λ n. Some (E.Link f t n))
 
 -- what a line says in every schedule
 abbrev pub plain_entry_of : List Text → Option Entry
@@ -65,7 +57,7 @@ ack_act w =
 
 -- so many of an act on the wire from A to B
 abbrev pub wire : Option WireAct → Text → Text → Option ℕ → Option Entry
-wire act a b count = then_some act (λ w. then_some (number_of a) (λ f. then_some (number_of b) (λ t. then_some count (λ c. Some (E.Wire w f t c)))))
+wire act a b count = act >>= λ w. number_of a >>= λ f. number_of b >>= λ t. count >>= λ c. Some (E.Wire w f t c)
 
 -- `send A B`, `ack A B`, `lose A B`, `twice A B` and `late A B`
 abbrev pub wire_of_three : Text → Text → Text → Option Entry
@@ -108,10 +100,6 @@ has_link w cuts a b = are_neighbours w a b && not (is_cut cuts a b)
 
 abbrev pub is_count : ℕ → Bool
 is_count c = nat_le 1 c && nat_le c 2000000
-
-abbrev pub unless : Bool → ScheduleFault → Option ScheduleFault → Option ScheduleFault
-unless true fault next = next
-unless false fault next = Some fault
 
 -- the fault of least number of so many events on a link
 abbrev pub link_fault : ℕ → ℕ → List LinkId → ℕ → ℕ → ℕ → ℕ → Option ScheduleFault

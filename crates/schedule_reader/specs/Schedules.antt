@@ -1,9 +1,10 @@
 -- The schedule that a text is, or its first fault.
 use Rattle.std.specs.Prelude.{◌≡◌, ℕ, ◌+◌, List, [], ◌∷◌, length, Option, Some, None, Result, Ok, Err, Bool, true, false, ◌&&◌, if◌then◌else◌, nat_le}
-use Rattle.pool_syntax.specs.Tokens.{Text}
-use Rattle.pool_syntax.specs.declared.words.Event.{Event}
-use Rattle.pool_syntax.specs.declared.words.LinkId.{LinkId}
-use Rattle.pool_lexer.specs.Lines.{lines}
+use Rattle.std.specs.Option.{option_or}
+use Rattle.run_words.specs.Text.{Text}
+use Rattle.run_words.specs.declared.words.Event.{Event}
+use Rattle.run_words.specs.declared.words.LinkId.{LinkId}
+use Rattle.run_words.specs.Lines.{lines}
 use Rattle.input_lines.specs.Kept.{Kept, kept}
 use Rattle.schedule_reader.specs.declared.entry.Entry.{Entry}
 use Rattle.schedule_reader.specs.declared.fault.ScheduleFault.{ScheduleFault}
@@ -17,14 +18,10 @@ pub record Plan : Type 0 where
   pub lossy : Bool
   pub events : List Event
 
-abbrev pub first_of : Option ScheduleFault → Option ScheduleFault → Option ScheduleFault
-first_of None later = later
-first_of (Some f) later = Some f
-
 -- the fault of the first line that has one
 abbrev pub first_fault : ℕ → ℕ → List LinkId → Bool → List Kept → Option ScheduleFault
 first_fault w h cuts lossy [] = None
-first_fault w h cuts lossy (k ∷ ks) = first_of (line_fault w h cuts lossy k) (first_fault w h cuts lossy ks)
+first_fault w h cuts lossy (k ∷ ks) = option_or (line_fault w h cuts lossy k) (first_fault w h cuts lossy ks)
 
 abbrev pub with_entry : Option Entry → List Entry → List Entry
 with_entry None es = es
@@ -63,7 +60,7 @@ without_wires (k ∷ ks) = if is_lossy k.words then ks else k ∷ ks
 -- the quantum of a line, and the lines of events
 abbrev pub with_lines : ℕ → ℕ → List LinkId → Bool → ℕ → ℕ → List Kept → Result Plan ScheduleFault
 with_lines w h cuts lossy line q ks =
-    planned_or_fault w h cuts lossy q (first_of (quantum_fault line (Some q)) (first_fault w h cuts lossy ks)) (entries_of lossy ks)
+    planned_or_fault w h cuts lossy q (option_or (quantum_fault line (Some q)) (first_fault w h cuts lossy ks)) (entries_of lossy ks)
 
 -- the quantum line, and the lines behind it
 abbrev pub with_quantum : ℕ → ℕ → List LinkId → ℕ → Option ℕ → List Kept → Result Plan ScheduleFault

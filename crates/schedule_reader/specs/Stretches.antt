@@ -1,7 +1,7 @@
 -- Events kept as stretches: a part, how often it comes, and how many events there are up to its end.
 use Rattle.std.specs.Prelude.{◌≡◌, ℕ, ◌+◌, ◌*◌, List, [], ◌∷◌, length, flat_map}
 use Rattle.std.specs.List.{repeat}
-use Rattle.pool_syntax.specs.declared.words.Event.{Event}
+use Rattle.run_words.specs.declared.words.Event.{Event}
 use Rattle.schedule_reader.specs.declared.stretch.Part.{Part}
 use Rattle.schedule_reader.specs.declared.stretch.Part.TheVariants as P
 use Rattle.schedule_reader.specs.declared.stretch.Stretch.{Stretch}

@@ -1,8 +1,8 @@
 //! Laws of schedules.
 ghost use Rattle.std.specs.Prelude.{◌≡◌, ℕ, Bool, List, Ok, length};
-ghost use Rattle.pool_syntax.specs.Tokens.{Text};
-ghost use Rattle.pool_syntax.specs.declared.words.LinkId.{LinkId};
-ghost use Rattle.pool_syntax.specs.declared.words.Placement.{Placement};
+ghost use Rattle.run_words.specs.Text.{Text};
+ghost use Rattle.run_words.specs.declared.words.LinkId.{LinkId};
+ghost use Rattle.run_words.specs.declared.words.Placement.{Placement};
 ghost use Rattle.schedule_reader.specs.Events.{events_of, total};
 ghost use Rattle.schedule_reader.specs.Plans.{IsPlanFor};
 ghost use Rattle.schedule_reader.specs.Schedules.{Plan, schedule_of};

@@ -1,8 +1,9 @@
 //! What a line of a schedule says.
 ghost use Rattle.std.specs.Prelude.{◌≡◌, ◌+◌, ◌*◌, ◌<◌, ◌≤◌, length, IfOk, IfErr, IfNone, Some, None, true, false};
-ghost use Rattle.pool_lexer.specs.Lines.{words};
-ghost use Rattle.mesh_semantics.specs.Paths.{is_cut};
-ghost use Rattle.schedule_reader.specs.Entries.{entry_of, entry_of_four, entry_of_three, entry_of_two, fault_of, fault_or_bad, has_link, is_count, is_lossy, link_fault, plain_entry_of, quantum_of, wire_entry_of};
+ghost use Rattle.run_words.specs.Lines.{words};
+ghost use Rattle.run_words.specs.Paths.{is_cut};
+ghost use Rattle.schedule_reader.specs.Entries.{entry_of, entry_of_four, entry_of_three, entry_of_two, fault_of, fault_or_bad, has_link, is_count, is_lossy, link_fault, plain_entry_of, quantum_of};
+ghost use Rattle.schedule_reader.specs.Entries.{wire_entry_of};
 ghost use Rattle.schedule_reader.specs.Counts.{IsCountedLine, counted_of};
 
 use crate::fault::ScheduleFault;
@@ -10,7 +11,7 @@ use crate::stretch::{Counted, Part};
 use crate::wire::{wire_of_four, wire_of_three};
 use input_lines::{Few, few_words, number};
 use mesh_routing::are_neighbours;
-use pool_syntax::{Event, LinkId, WireAct};
+use run_words::{Event, LinkId, WireAct};
 
 /// The most events of a schedule, and the greatest count of a line.
 pub const MOST_EVENTS: u64 = 2000000;

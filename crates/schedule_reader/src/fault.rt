@@ -8,7 +8,8 @@ use thiserror::Error;
 /// Why a schedule is refused. Lines are numbered from 1; of several faults on the first line that has one, the first in this order is told.
 #[derive(Clone, Copy, Debug, PartialEq, Eq, Error)]
 pub enum ScheduleFault {
-    /// The line has none of the forms of a schedule's line, or the first line that is not passed over is no `quantum` line, or a later one is; or it is `wires lossy` and not the second such line, or has a word of wires where the schedule is not lossy.
+    /// The line has none of the forms of a schedule's line, or the first line that is not passed over is no `quantum` line, or a later one is; or it is `wires
+    /// lossy` and not the second such line, or has a word of wires where the schedule is not lossy.
     #[error("line {line} has no form of a schedule")]
     BadLine { line: u32 },
     /// A node of the line is not one of the mesh.

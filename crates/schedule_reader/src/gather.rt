@@ -1,7 +1,7 @@
 //! The entries of the lines behind the quantum.
 ghost use Rattle.std.specs.Prelude.{◌≡◌, ◌+◌, ◌*◌, ◌<◌, ◌≤◌, ◌++◌, [], ◌∷◌, length, drop, IfOk, IfErr, OnOk, None, Some};
 ghost use Rattle.std.specs.List.{repeat};
-ghost use Rattle.pool_lexer.specs.Lines.{lines};
+ghost use Rattle.run_words.specs.Lines.{lines};
 ghost use Rattle.input_lines.specs.Kept.{kept_from};
 ghost use Rattle.schedule_reader.specs.Events.{events_of, round_of, total};
 ghost use Rattle.schedule_reader.specs.Schedules.{IsTold, entries_of, first_fault};
@@ -12,7 +12,7 @@ use crate::fault::ScheduleFault;
 use crate::opening::Opening;
 use crate::stretch::{Counted, Stretch, part_len};
 use input_lines::next_kept;
-use pool_syntax::{Event, LinkId};
+use run_words::{Event, LinkId};
 use std::alloc::{AllocError, Global};
 
 /// The stretches so far, where they have at most 2,000,000 events, and the number of all events.
@@ -30,7 +30,8 @@ fn add(gathered: &mut Gathered, round: &[Event], line: Counted) -> Result<(), Al
     requires ends { gathered.old.total ≤ 2000000 → AreEnds round.now 0 gathered.old.stretches.items gathered.old.total }
     ensures total { OnOk result (gathered.new.total ≡ gathered.old.total + line.count * length (part_events round.now line.part)) }
     ensures ends { OnOk result (gathered.new.total ≤ 2000000 → AreEnds round.now 0 gathered.new.stretches.items gathered.new.total) }
-    ensures events { OnOk result (gathered.new.total ≤ 2000000 → stretched round.now gathered.new.stretches.items ≡ stretched round.now gathered.old.stretches.items ++ repeat line.count (part_events round.now line.part)) }
+    ensures events { OnOk result
+        (gathered.new.total ≤ 2000000 → stretched round.now gathered.new.stretches.items ≡ stretched round.now gathered.old.stretches.items ++ repeat line.count (part_events round.now line.part)) }
 {
     gathered.total += u64::from(line.count) * part_len(round, line.part) as u64;
     if gathered.total <= MOST_EVENTS {
@@ -63,7 +64,9 @@ pub fn gather(
     ensures faultless { OnOk result (first_fault width height cuts.now opening.lossy (kept_from opening.line (lines (drop opening.at bytes.now))) ≡ None) }
     ensures total { IfOk result (λ g. g.total ≡ total width height cuts.now opening.lossy (entries_of opening.lossy (kept_from opening.line (lines (drop opening.at bytes.now))))) }
     ensures ends { IfOk result (λ g. g.total ≤ 2000000 → AreEnds round.now 0 g.stretches.items g.total) }
-    ensures events { IfOk result (λ g. g.total ≤ 2000000 → stretched round.now g.stretches.items ≡ events_of width height cuts.now opening.lossy (entries_of opening.lossy (kept_from opening.line (lines (drop opening.at bytes.now))))) }
+    ensures events { IfOk result
+        (λ g. g.total ≤ 2000000
+        → stretched round.now g.stretches.items ≡ events_of width height cuts.now opening.lossy (entries_of opening.lossy (kept_from opening.line (lines (drop opening.at bytes.now))))) }
     ensures fault { IfErr result (λ f. IsTold f (first_fault width height cuts.now opening.lossy (kept_from opening.line (lines (drop opening.at bytes.now))))) }
 {
     let mut gathered = Gathered {

@@ -1,6 +1,6 @@
 //! Where the events of a schedule begin.
 ghost use Rattle.std.specs.Prelude.{◌≡◌, ◌+◌, ◌≤◌, length, drop};
-ghost use Rattle.pool_lexer.specs.Lines.{lines};
+ghost use Rattle.run_words.specs.Lines.{lines};
 ghost use Rattle.input_lines.specs.Kept.{kept_from};
 ghost use Rattle.schedule_reader.specs.Schedules.{begins_lossy, without_wires};
 

@@ -1,6 +1,6 @@
 //! Reads a schedule.
 ghost use Rattle.std.specs.Prelude.{◌≡◌, ◌≤◌, length, IfOk, IfErr, Ok, Some, None};
-ghost use Rattle.pool_lexer.specs.Lines.{words};
+ghost use Rattle.run_words.specs.Lines.{words};
 ghost use Rattle.schedule_reader.specs.Entries.{quantum_of};
 ghost use Rattle.schedule_reader.specs.Schedules.{IsTold, fault_in, quantum_fault, schedule_of};
 
@@ -11,7 +11,7 @@ use crate::opening::behind_quantum;
 use crate::round::round;
 use crate::schedule::Schedule;
 use input_lines::{count_lines, next_kept};
-use pool_syntax::Placement;
+use run_words::Placement;
 use std::alloc::Global;
 
 /// The quantum of the first line that is kept, or that line's fault.

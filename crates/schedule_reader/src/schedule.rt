@@ -2,7 +2,7 @@
 ghost use Rattle.std.specs.Prelude.{◌≡◌, ◌<◌, length, Some, slice_get};
 
 use crate::stretch::{Stretch, event_at};
-use pool_syntax::Event;
+use run_words::Event;
 use std::marker::Model;
 
 /// A quantum, whether links are wires that may lose, and a list of events, which are kept as a line of the text has them: a `round` is not spelled out, nor is a count.

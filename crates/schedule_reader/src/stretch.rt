@@ -2,7 +2,7 @@
 ghost use Rattle.std.specs.Prelude.{◌≡◌, ◌+◌, ◌-◌, ◌*◌, ◌<◌, ◌≤◌, length, Some, slice_get};
 ghost use Rattle.schedule_reader.specs.Stretches.{AreEnds, part_events, stretch_events, stretched};
 
-use pool_syntax::Event;
+use run_words::Event;
 
 /// One event, or a round of the mesh.
 #[derive(Clone, Copy)]

@@ -4,7 +4,7 @@ ghost use Rattle.schedule_reader.specs.Entries.{ack_act, counted_act, frame_act,
 
 use crate::entry::Entry;
 use input_lines::number;
-use pool_syntax::WireAct;
+use run_words::WireAct;
 
 /// An act of which a line may ask for many.
 fn counted_act(word: &[u8]) -> Option<WireAct>

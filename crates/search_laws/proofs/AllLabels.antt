@@ -6,18 +6,18 @@ use Rattle.std.specs.declared.cmp.Ordering.{Ordering}
 use Rattle.std.specs.declared.cmp.Ordering.TheVariants.{Less, Equal, Greater}
 use Rattle.std.specs.FinMap.{nat_cmp-IsAntisymmetric}
 use Rattle.std.specs.FinMap.Entries.{find}
-use Rattle.pool_syntax.specs.declared.words.Value.{Value}
-use Rattle.pool_syntax.specs.declared.words.Item.{Item}
-use Rattle.pool_syntax.specs.declared.words.Error.{Error}
-use Rattle.pool_syntax.specs.declared.words.NameId.{NameId}
+use Rattle.run_words.specs.declared.words.Value.{Value}
+use Rattle.run_words.specs.declared.words.Item.{Item}
+use Rattle.run_words.specs.declared.words.Error.{Error}
+use Rattle.run_words.specs.declared.words.NameId.{NameId}
 use Rattle.pool_syntax.specs.declared.tree.Named.{Named}
-use Rattle.pool_syntax.specs.declared.words.Label.{Label}
-use Rattle.pool_syntax.specs.declared.words.Label.TheVariants as L
+use Rattle.run_words.specs.declared.words.Label.{Label}
+use Rattle.run_words.specs.declared.words.Label.TheVariants as L
 use Rattle.pool_syntax.specs.Terms.{Statements, ProgramTree}
-use Rattle.mesh_semantics.specs.Message.{Message}
-use Rattle.mesh_semantics.specs.Same.{are_same}
-use Rattle.mesh_semantics.specs.Tables.{Pair, pair_cmp}
-use Rattle.mesh_semantics.proofs.Laws.{first, second, equal, given_by, required, same_some, same_value, same_values, same_error}
+use Rattle.run_words.specs.Message.{Message}
+use Rattle.run_words.specs.Same.{are_same}
+use Rattle.run_words.specs.Tables.{Pair, pair_cmp}
+use Rattle.run_words.proofs.Laws.{first, second, equal, given_by, required, same_some, same_value, same_values, same_error, one_pair}
 use Rattle.pool_relation.specs.Reducible.{Choice}
 use Rattle.pool_relation.specs.Action as A
 use Rattle.pool_relation.specs.Action.{Object, Action, action}
@@ -27,7 +27,6 @@ use Rattle.pool_relation.proofs.Laws.{running_is}
 use Rattle.search_laws.specs.Search.{names_next, IsAtEnd}
 use Rattle.search_laws.specs.Labels.{IsAmong, picks, own_labels, object_labels, takes, message_labels, labels_to_try}
 use Rattle.search_laws.proofs.OneLabel.{same_item}
-use Rattle.search_laws.proofs.Orders.{one_pair}
 use Rattle.search_laws.proofs.NextName.{at_end_by_next}
 
 pub in_front : (l : Label) (ks ls : List Label) → IsAmong l ks → IsAmong l (ks ++ ls)

@@ -1,11 +1,11 @@
 -- Each run is, under other names, one that names new objects in order; so a list that no step leaves has, under other names, all that is reached.
 use Rattle.std.proofs.Common.{◌≡◌, ◌≢◌, ◌≤◌, ◌<◌, refl, sym, ap, ◌∙◌, subst, ℕ, suc, List, [], ◌∷◌, map, Option, Some, None, is_some, Bool, true, false, ◌&&◌, ◌||◌, ◌==◌, if◌then◌else◌, arith}
-use Rattle.pool_syntax.specs.declared.words.NameId.{NameId}
-use Rattle.pool_syntax.specs.declared.words.Label.{Label}
-use Rattle.pool_syntax.specs.declared.words.Label.TheVariants as L
+use Rattle.run_words.specs.declared.words.NameId.{NameId}
+use Rattle.run_words.specs.declared.words.Label.{Label}
+use Rattle.run_words.specs.declared.words.Label.TheVariants as L
 use Rattle.pool_syntax.specs.Terms.{ProgramTree}
-use Rattle.mesh_semantics.specs.Partial.{◌>>=◌}
-use Rattle.mesh_semantics.proofs.Laws.{equal, equals}
+use Rattle.run_words.specs.Partial.{◌>>=◌}
+use Rattle.run_words.proofs.Laws.{equal, equals, differ}
 use Rattle.pool_relation.specs.Configuration.{Configuration, object_of}
 use Rattle.pool_relation.specs.Transition.{transition, run}
 use Rattle.search_laws.specs.Renamed.{Renaming, renamed_label}
@@ -17,18 +17,11 @@ use Rattle.search_laws.proofs.RenamedRun.{makes_none, Keeps, KeepsAll, Adds, Add
 abbrev pub swap : ℕ → ℕ → ℕ → ℕ
 swap a b q = if q == a then b else (if q == b then a else q)
 
-pub apart : (m n : ℕ) → m ≢ n → (m == n) ≡ false
-apart m n h = by (m == n) refl
-  where
-    by : (b : Bool) → (m == n) ≡ b → (m == n) ≡ false
-    by true i = absurd (h (equal m n i))
-    by false i = i
-
 pub swap_first : (a b : ℕ) → swap a b a ≡ b
 swap_first a b = ap (λ t. if t then b else (if a == b then a else a)) (equals a)
 
 swap_kept : (a b q : ℕ) → q ≢ a → q ≢ b → swap a b q ≡ q
-swap_kept a b q h i = ap (λ t. if t then b else (if q == b then a else q)) (apart q a h) ∙ ap (λ t. if t then a else q) (apart q b i)
+swap_kept a b q h i = ap (λ t. if t then b else (if q == b then a else q)) (differ q a h) ∙ ap (λ t. if t then a else q) (differ q b i)
 
 swap_second : (a b : ℕ) → swap a b b ≡ a
 swap_second a b = by (b == a) refl

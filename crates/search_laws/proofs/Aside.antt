@@ -1,15 +1,15 @@
 -- A step beside which every other label stays as it is: what it asks of a configuration, and that a label possible before it is possible after it, in either order.
 use Rattle.std.proofs.Common.{◌≡◌, ◌≢◌, refl, sym, ap, ◌∙◌, subst, ℕ, List, [], ◌∷◌, ◌++◌, length, Option, Some, None, is_some, is_none, Bool, true, false, not, ◌&&◌, ◌==◌}
 use Rattle.pool_syntax.specs.declared.tree.Named.{Named}
-use Rattle.pool_syntax.specs.declared.words.Value.TheVariants as V
-use Rattle.pool_syntax.specs.declared.words.Label.{Label}
-use Rattle.pool_syntax.specs.declared.words.Label.TheVariants as L
+use Rattle.run_words.specs.declared.words.Value.TheVariants as V
+use Rattle.run_words.specs.declared.words.Label.{Label}
+use Rattle.run_words.specs.declared.words.Label.TheVariants as L
 use Rattle.pool_syntax.specs.Terms as T
 use Rattle.pool_syntax.specs.Terms.{ProgramTree}
 use Rattle.pool_syntax.specs.Classes.{class_of}
-use Rattle.mesh_semantics.specs.Message.{Message}
-use Rattle.mesh_semantics.specs.Partial.{◌>>=◌, ◌>>◌, require}
-use Rattle.mesh_semantics.specs.Same.{are_same}
+use Rattle.run_words.specs.Message.{Message}
+use Rattle.run_words.specs.Partial.{◌>>=◌, ◌>>◌, require}
+use Rattle.run_words.specs.Same.{are_same}
 use Rattle.pool_relation.specs.Reducible.{AsExpression, AsStatements}
 use Rattle.pool_relation.specs.Action.{Object, method_of, action}
 use Rattle.pool_relation.specs.Configuration.{Configuration, object_of, put_object, messages_of, put_messages}

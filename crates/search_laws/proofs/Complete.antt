@@ -5,17 +5,17 @@ use Rattle.std.specs.declared.cmp.Ordering.{Ordering}
 use Rattle.std.specs.declared.cmp.Ordering.TheVariants.{Less, Equal, Greater}
 use Rattle.std.specs.Cmp.{nat_cmp_total, tied_itself}
 use Rattle.std.specs.FinMap.{nat_cmp-IsAntisymmetric}
-use Rattle.pool_syntax.specs.declared.words.Value.{Value}
-use Rattle.pool_syntax.specs.declared.words.Value.TheVariants as V
-use Rattle.pool_syntax.specs.declared.words.Item.{Item}
-use Rattle.pool_syntax.specs.declared.words.Item.TheVariants as I
-use Rattle.pool_syntax.specs.declared.words.Label.{Label}
-use Rattle.pool_syntax.specs.declared.words.Label.TheVariants as L
+use Rattle.run_words.specs.declared.words.Value.{Value}
+use Rattle.run_words.specs.declared.words.Value.TheVariants as V
+use Rattle.run_words.specs.declared.words.Item.{Item}
+use Rattle.run_words.specs.declared.words.Item.TheVariants as I
+use Rattle.run_words.specs.declared.words.Label.{Label}
+use Rattle.run_words.specs.declared.words.Label.TheVariants as L
 use Rattle.pool_syntax.specs.Terms.{ProgramTree, ClassTree}
-use Rattle.mesh_semantics.specs.Message.{Message}
-use Rattle.mesh_semantics.specs.Partial.{◌>>=◌}
-use Rattle.mesh_semantics.specs.Tables.{has_some}
-use Rattle.mesh_semantics.proofs.Laws.{equal, equals}
+use Rattle.run_words.specs.Message.{Message}
+use Rattle.run_words.specs.Partial.{◌>>=◌}
+use Rattle.run_words.specs.Tables.{has_some}
+use Rattle.run_words.proofs.Laws.{equal, equals, differ}
 use Rattle.pool_relation.specs.Action as A
 use Rattle.pool_relation.specs.Action.{Object, Action, action}
 use Rattle.pool_relation.specs.Configuration.{Configuration, object_of, messages_of}
@@ -25,7 +25,7 @@ use Rattle.search_laws.specs.Search.{IsNameless, IsReached, IsAtEnd, is_in_call,
 use Rattle.search_laws.proofs.RenamedAction.{renamed_action, action_renamed}
 use Rattle.search_laws.proofs.RenamedTransition.{Alike, Neither, Both, unequal, to_one, same_names, made, transition_renamed}
 use Rattle.search_laws.proofs.RenamedRun.{run_renamed}
-use Rattle.search_laws.proofs.Arranged.{swap_first, apart, swapped, same_all, Below, arranged}
+use Rattle.search_laws.proofs.Arranged.{swap_first, swapped, same_all, Below, arranged}
 
 -- the object of the one name
 abbrev one_object : ℕ → Object → ℕ → Option Object
@@ -35,9 +35,9 @@ alone_at : (n : ℕ) (x : Object) (q : ℕ) → one_object n x q ≡ cond (q == 
 alone_at n x q = ap (λ t. cond t (Some x) None) (by (nat_cmp q n) refl)
   where
     by : (r : Ordering) → nat_cmp q n ≡ r → is_eq (nat_cmp q n) ≡ (q == n)
-    by Less i = ap is_eq i ∙ sym (apart q n (λ e. absurd (let z : Equal ≡ Less = sym (tied_itself nat_cmp_total n) ∙ subst (λ (k : ℕ). nat_cmp k n ≡ Less) e i in cc)))
+    by Less i = ap is_eq i ∙ sym (differ q n (λ e. absurd (let z : Equal ≡ Less = sym (tied_itself nat_cmp_total n) ∙ subst (λ (k : ℕ). nat_cmp k n ≡ Less) e i in cc)))
     by Equal i = ap is_eq i ∙ sym (ap (λ k. k == n) (nat_cmp-IsAntisymmetric q n i) ∙ equals n)
-    by Greater i = ap is_eq i ∙ sym (apart q n (λ e. absurd (let z : Equal ≡ Greater = sym (tied_itself nat_cmp_total n) ∙ subst (λ (k : ℕ). nat_cmp k n ≡ Greater) e i in cc)))
+    by Greater i = ap is_eq i ∙ sym (differ q n (λ e. absurd (let z : Equal ≡ Greater = sym (tied_itself nat_cmp_total n) ∙ subst (λ (k : ℕ). nat_cmp k n ≡ Greater) e i in cc)))
 
 last_renamed : (f : ℕ → ℕ) (p : ProgramTree) → last_class (renamed_program f p) ≡ option_map (renamed_class f) (last_class p)
 last_renamed f [] = refl

@@ -1,9 +1,9 @@
 -- An error that an object has met stays through each transition that needs no choice.
 use Rattle.std.proofs.Common.{◌≡◌, ◌≢◌, sym, ap, ◌∙◌, ℕ, Some, None, is_some, true, ◌&&◌}
-use Rattle.pool_syntax.specs.declared.words.Label.{Label}
-use Rattle.pool_syntax.specs.declared.words.Label.TheVariants as L
+use Rattle.run_words.specs.declared.words.Label.{Label}
+use Rattle.run_words.specs.declared.words.Label.TheVariants as L
 use Rattle.pool_syntax.specs.Terms.{ProgramTree}
-use Rattle.mesh_semantics.proofs.Laws.{given_by, required, same_some}
+use Rattle.run_words.proofs.Laws.{given_by, required, same_some}
 use Rattle.pool_relation.specs.Action.{Object, action}
 use Rattle.pool_relation.specs.Configuration.{Configuration, object_of, put_object}
 use Rattle.pool_relation.specs.Transition.{running, local_step, posts, returns, waits_on, writes, fails, done, returned, given, transition}

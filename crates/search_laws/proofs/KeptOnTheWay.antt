@@ -1,8 +1,8 @@
 -- What steps that need no choice keep is found by a search that follows them to their ends, where a run leads to it.
 use Rattle.std.proofs.Common.{◌≡◌, ◌≢◌, ◌≤◌, ◌⊎◌, inl, inr, refl, sym, ap, ◌∙◌, subst, ℕ, zero, suc, List, [], ◌∷◌, length, map, Option, Some, None, true, arith}
-use Rattle.pool_syntax.specs.declared.words.Label.{Label}
+use Rattle.run_words.specs.declared.words.Label.{Label}
 use Rattle.pool_syntax.specs.Terms.{ProgramTree, ClassTree}
-use Rattle.mesh_semantics.specs.Partial.{◌>>=◌}
+use Rattle.run_words.specs.Partial.{◌>>=◌}
 use Rattle.pool_relation.specs.Configuration.{Configuration}
 use Rattle.pool_relation.specs.Transition.{transition, run, last_class, start}
 use Rattle.search_laws.specs.Renamed.{Renaming, renamed_program, renamed_label, IsRenamed}
@@ -11,7 +11,8 @@ use Rattle.search_laws.proofs.RenamedTransition.{Alike, Neither, Both}
 use Rattle.search_laws.proofs.RenamedRun.{run_renamed, makes_none}
 use Rattle.search_laws.proofs.Arranged.{swap_first, swapped, same_all, arranged}
 use Rattle.search_laws.proofs.Complete.{lone, below_start, lone_renamed, fault_kept}
-use Rattle.search_laws.proofs.Reduced.{stays, both_hold, first_holds, second_holds, First, first_of, joined_step, Settles, Settled, Goes}
+use Rattle.search_laws.proofs.Reduced.{stays, both_hold, First, first_of, joined_step, Settles, Settled, Goes}
+use Rattle.run_words.proofs.Laws.{second, first as first_holds}
 use Rattle.search_laws.proofs.Steps.{Alone, alone_makes_none, same_label, commutes}
 use Rattle.search_laws.proofs.Faults.{fault_stays}
 use Rattle.search_laws.proofs.Settling.{settles, start_sorted, sorted_after}
@@ -37,7 +38,7 @@ module _ (p : ProgramTree) (Alone : Configuration → Label → Type 0)
   still_leads n c d e k [] a i o r q =
       let is : c ≡ d = cc in
       record { labels = []; shorter = omega arith; orders = refl; to = e; leads = refl; holds = kept c e k a i (subst Q (sym is) q) }
-  still_leads n c d e k (l ∷ ls) a i o r q = by (first_of p c d l ls r) (same c k a l) (λ c' e' a' i' r'. still_leads (after n l) c' d e' k ls a' i' (second_holds (names_next n l) (in_order (after n l) ls) o) r' q)
+  still_leads n c d e k (l ∷ ls) a i o r q = by (first_of p c d l ls r) (same c k a l) (λ c' e' a' i' r'. still_leads (after n l) c' d e' k ls a' i' (second (names_next n l) (in_order (after n l) ls) o) r' q)
     where
       by : First p c d l ls → (l ≡ k) ⊎ (l ≢ k)
           → ((c' e' : Configuration) → Alone c' k → transition p c' k ≡ Some e' → run p c' ls ≡ Some d → Leads (after n l) (length ls) e')
@@ -49,7 +50,7 @@ module _ (p : ProgramTree) (Alone : Configuration → Label → Type 0)
           record {
             labels = ls;
             shorter = omega arith;
-            orders = ap (λ m. in_order m ls) (sym still) ∙ second_holds (names_next n l) (in_order (after n l) ls) o;
+            orders = ap (λ m. in_order m ls) (sym still) ∙ second (names_next n l) (in_order (after n l) ls) o;
             to = d;
             leads = subst (λ x. run p x ls ≡ Some d) is f.rest;
             holds = q;
@@ -91,7 +92,7 @@ module _ (p : ProgramTree) (Alone : Configuration → Label → Type 0)
   one_has es closed (suc most) n c d (l ∷ ls) few i o r q =
       let f = first_of p c d l ls r in
       let s = closed n c f.next l i (first_holds (names_next n l) (in_order (after n l) ls) o) f.step in
-      let w = all_lead (after n l) f.next d s.0 ls s.1 (second_holds (names_next n l) (in_order (after n l) ls) o) f.rest q in
+      let w = all_lead (after n l) f.next d s.0 ls s.1 (second (names_next n l) (in_order (after n l) ls) o) f.rest q in
       let short = w.shorter in
       one_has es closed most (after n l) s.0 w.to w.labels (omega arith) s.2 w.orders w.leads w.holds
 

@@ -3,12 +3,12 @@ use Rattle.std.proofs.Common.{◌≡◌, ◌≢◌, refl, sym, ap, ◌∙◌, su
 use Rattle.std.specs.Ordering.{nat_cmp, eq_by_cmp, is_eq}
 use Rattle.std.specs.declared.cmp.Ordering.TheVariants.{Less, Equal, Greater}
 use Rattle.std.specs.declared.cmp.Ordering.{Ordering}
-use Rattle.std.specs.Cmp.{IsTotalOrder, nat_cmp_total, on_total, then_total, tied_itself, alike_right}
+use Rattle.std.specs.Cmp.{nat_cmp_total, tied_itself, alike_right}
 use Rattle.std.specs.FinMap.{nat_cmp-IsAntisymmetric}
 use Rattle.std.specs.FinMap.Entries.{find, put, same_entries, find-put, find-where_key}
-use Rattle.mesh_semantics.specs.Message.{Message}
-use Rattle.mesh_semantics.specs.Tables.{Pair, pair_cmp, put_list}
-use Rattle.mesh_semantics.proofs.Laws.{true_T}
+use Rattle.run_words.specs.Message.{Message}
+use Rattle.run_words.specs.Tables.{Pair, pair_cmp, put_list}
+use Rattle.run_words.proofs.Laws.{true_T, pair_total, one_pair}
 use Rattle.pool_relation.specs.Action.{Object}
 use Rattle.pool_relation.specs.Configuration.{Configuration, object_of, put_object, put_messages}
 use Rattle.search_laws.specs.Search.{IsInOrder}
@@ -65,20 +65,6 @@ either_order c o q y z s n =
 abbrev pub entry : List Message → Option (List Message)
 entry [] = None
 entry (m ∷ ms) = Some (m ∷ ms)
-
-pub pair_total : IsTotalOrder pair_cmp
-pair_total = then_total (on_total (λ (p : Pair). p.0) nat_cmp_total) (on_total (λ (p : Pair). p.1) nat_cmp_total)
-
-pub one_pair : (a b : Pair) → pair_cmp a b ≡ Equal → a ≡ b
-one_pair a b e = by (nat_cmp a.0 b.0) refl
-  where
-    by : (r : Ordering) → nat_cmp a.0 b.0 ≡ r → a ≡ b
-    by Less i = absurd (let z : Less ≡ Equal = rw i at e in cc)
-    by Greater i = absurd (let z : Greater ≡ Equal = rw i at e in cc)
-    by Equal i =
-        let s : a.0 ≡ b.0 = nat_cmp-IsAntisymmetric a.0 b.0 i in
-        let t : a.1 ≡ b.1 = nat_cmp-IsAntisymmetric a.1 b.1 (rw i at e) in
-        λ j. (s j, t j)
 
 apart : (a b : Pair) → a ≢ b → eq_by_cmp pair_cmp a b ≡ false
 apart a b n = by (pair_cmp a b) refl

@@ -1,9 +1,10 @@
 -- A search that follows steps which need no choice to their ends sees every stuck configuration, and a faulty one where there is one.
 use Rattle.std.proofs.Common.{◌≡◌, ◌≢◌, ◌≤◌, ◌⊎◌, inl, inr, refl, sym, ap, ◌∙◌, subst, ℕ, zero, suc, List, [], ◌∷◌, length, Option, Some, None, Bool, true, false, ◌&&◌, arith}
-use Rattle.pool_syntax.specs.declared.words.Label.{Label}
-use Rattle.pool_syntax.specs.declared.words.Label.TheVariants as L
+use Rattle.run_words.proofs.Laws.{first, second}
+use Rattle.run_words.specs.declared.words.Label.{Label}
+use Rattle.run_words.specs.declared.words.Label.TheVariants as L
 use Rattle.pool_syntax.specs.Terms.{ProgramTree}
-use Rattle.mesh_semantics.specs.Partial.{◌>>=◌}
+use Rattle.run_words.specs.Partial.{◌>>=◌}
 use Rattle.pool_relation.specs.Configuration.{Configuration}
 use Rattle.pool_relation.specs.Transition.{transition, run}
 use Rattle.search_laws.specs.Search.{IsAtEnd, after, names_next, in_order, IsIn}
@@ -24,14 +25,6 @@ stays n (L.Fault o e) t = refl
 pub both_hold : (a b : Bool) → a ≡ true → b ≡ true → (a && b) ≡ true
 both_hold true b e h = h
 both_hold false b e h = absurd (cc)
-
-pub first_holds : (a b : Bool) → (a && b) ≡ true → a ≡ true
-first_holds true b h = refl
-first_holds false b h = absurd (cc)
-
-pub second_holds : (a b : Bool) → (a && b) ≡ true → b ≡ true
-second_holds true b h = h
-second_holds false b h = absurd (cc)
 
 -- a run's first step
 pub record First (p : ProgramTree) (c d : Configuration) (l : Label) (ls : List Label) : Type 0 where
@@ -65,7 +58,7 @@ module _ (p : ProgramTree) (Alone : Configuration → Label → Type 0)
   without : (n : ℕ) (c d e : Configuration) (k : Label) (ls : List Label) → Alone c k → transition p c k ≡ Some e → in_order n ls ≡ true → run p c ls ≡ Some d → IsAtEnd p d
       → Without n (length ls) e d
   without n c d e k [] a i o r ended = absurd (let is : c ≡ d = cc in let none : transition p c k ≡ None = subst (λ x. transition p x k ≡ None) (sym is) (ended k) in let z : Some e ≡ None = sym i ∙ none in cc)
-  without n c d e k (l ∷ ls) a i o r ended = by (first_of p c d l ls r) (same c k a l) (λ c' e' a' i' r'. without (after n l) c' d e' k ls a' i' (second_holds (names_next n l) (in_order (after n l) ls) o) r' ended)
+  without n c d e k (l ∷ ls) a i o r ended = by (first_of p c d l ls r) (same c k a l) (λ c' e' a' i' r'. without (after n l) c' d e' k ls a' i' (second (names_next n l) (in_order (after n l) ls) o) r' ended)
     where
       by : First p c d l ls → (l ≡ k) ⊎ (l ≢ k)
           → ((c' e' : Configuration) → Alone c' k → transition p c' k ≡ Some e' → run p c' ls ≡ Some d → Without (after n l) (length ls) e' d)
@@ -77,7 +70,7 @@ module _ (p : ProgramTree) (Alone : Configuration → Label → Type 0)
           record {
             labels = ls;
             shorter = omega arith;
-            orders = ap (λ m. in_order m ls) (sym still) ∙ second_holds (names_next n l) (in_order (after n l) ls) o;
+            orders = ap (λ m. in_order m ls) (sym still) ∙ second (names_next n l) (in_order (after n l) ls) o;
             leads = subst (λ x. run p x ls ≡ Some d) is f.rest;
           }
       by f (inr q) rest =
@@ -87,7 +80,7 @@ module _ (p : ProgramTree) (Alone : Configuration → Label → Type 0)
           record {
             labels = l ∷ w.labels;
             shorter = omega arith;
-            orders = both_hold _ _ (first_holds (names_next n l) (in_order (after n l) ls) o) w.orders;
+            orders = both_hold _ _ (first (names_next n l) (in_order (after n l) ls) o) w.orders;
             leads = joined_step p e both.1.0 d l w.labels both.1.2 w.leads;
           }
 
@@ -116,7 +109,7 @@ module _ (p : ProgramTree) (Alone : Configuration → Label → Type 0)
   ends_are_in es closed zero n c d (l ∷ ls) few i o r ended = absurd (omega arith)
   ends_are_in es closed (suc most) n c d (l ∷ ls) few i o r ended =
       let f = first_of p c d l ls r in
-      let s = closed n c f.next l i (first_holds (names_next n l) (in_order (after n l) ls) o) f.step in
-      let w = without_all (after n l) f.next d s.0 ls s.1 (second_holds (names_next n l) (in_order (after n l) ls) o) f.rest ended in
+      let s = closed n c f.next l i (first (names_next n l) (in_order (after n l) ls) o) f.step in
+      let w = without_all (after n l) f.next d s.0 ls s.1 (second (names_next n l) (in_order (after n l) ls) o) f.rest ended in
       let short = w.shorter in
       ends_are_in es closed most (after n l) s.0 d w.labels (omega arith) s.2 w.orders w.leads ended

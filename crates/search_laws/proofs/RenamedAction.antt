@@ -2,18 +2,19 @@
 use Rattle.std.proofs.Common.{◌≡◌, refl, ap, ◌∙◌, ℕ, ℤ, pos, negsuc, zero, suc, List, [], ◌∷◌, ◌++◌, length, map, option_map, Option, Some, None, is_some, Bool, true, false, not, ◌==◌}
 use Rattle.std.specs.Prelude.{int_div, int_rem, neg_ℤ, ◌+ℤ◌, ◌-ℤ◌, ◌*ℤ◌}
 use Rattle.std.specs.List.{list_any}
-use Rattle.pool_syntax.specs.declared.words.Value.{Value}
-use Rattle.pool_syntax.specs.declared.words.Value.TheVariants as V
-use Rattle.pool_syntax.specs.declared.words.Op.{Op}
-use Rattle.pool_syntax.specs.declared.words.Op.TheVariants as O
-use Rattle.pool_syntax.specs.declared.words.Error.TheVariants.{Overflow}
+use Rattle.std.proofs.lemmas.List.{length-map}
+use Rattle.run_words.specs.declared.words.Value.{Value}
+use Rattle.run_words.specs.declared.words.Value.TheVariants as V
+use Rattle.run_words.specs.declared.words.Op.{Op}
+use Rattle.run_words.specs.declared.words.Op.TheVariants as O
+use Rattle.run_words.specs.declared.words.Error.TheVariants.{Overflow}
 use Rattle.pool_syntax.specs.declared.tree.Var.{Var}
 use Rattle.pool_syntax.specs.Terms as T
-use Rattle.pool_syntax.specs.Terms.{Store, Expression, Statements, MethodTree, ClassTree, ProgramTree, append}
+use Rattle.pool_syntax.specs.Terms.{Store, Statements, MethodTree, ClassTree, ProgramTree, append}
 use Rattle.pool_syntax.specs.Classes.{class_of, named_method}
-use Rattle.pool_syntax.specs.Values.{Outcome, Gives, Fails, WrongSort, is_in_range, number, truth, quotient, remainder, is_same, on_ints, on_bools, prefix_value, infix_value, negated, denied, is_nil, not_bool, is_true}
+use Rattle.run_words.specs.Values.{Outcome, Gives, Fails, WrongSort, is_in_range, number, truth, quotient, remainder, is_same, on_ints, on_bools, prefix_value, infix_value, negated, denied, is_nil, not_bool, is_true}
 use Rattle.pool_relation.specs.Reducible as R
-use Rattle.pool_relation.specs.Reducible.{Choice, Reducible, Found, Evaluated, At, Part, AsExpression, AsStatements, set_value, fill_statements, statements_redex}
+use Rattle.pool_relation.specs.Reducible.{Choice, Reducible, Found, Evaluated, At, Contractum, AsExpression, AsStatements, set_value, fill_statements, statements_redex}
 use Rattle.pool_relation.specs.Action as A
 use Rattle.pool_relation.specs.Action.{Object, Action, value_of, with_count, method_in, method_of, nil_store, bind, temps_of, literal, becomes, becomes_value, on_outcome, read, on_call, on_object, on_assignment, on_branch, on_select, on_finish, redex_action, found_action, action}
 use Rattle.search_laws.specs.Renamed.{renamed_value, renamed_store, renamed_name, renamed_item, renamed_expression, renamed_statements, renamed_method, renamed_class, renamed_program, renamed_object}
@@ -38,10 +39,6 @@ abbrev renamed_outcome : (ℕ → ℕ) → Outcome → Outcome
 renamed_outcome f (Gives v) = Gives (renamed_value f v)
 renamed_outcome f (Fails e) = Fails e
 renamed_outcome f WrongSort = WrongSort
-
-pub length_map : {A B : Type 0} (g : A → B) (xs : List A) → length (map g xs) ≡ length xs
-length_map g [] = refl
-length_map g (x ∷ xs) = ap suc (length_map g xs)
 
 any_map : {A B : Type 0} (g : A → B) (t : B → Bool) (u : A → Bool) (xs : List A) → ((x : A) → t (g x) ≡ u x) → list_any t (map g xs) ≡ list_any u xs
 any_map g t u [] e = refl
@@ -210,7 +207,7 @@ module _ (f : ℕ → ℕ) (one : (m n : ℕ) → (f m == f n) ≡ (m == n)) whe
   some_kept g (Some a) = refl
 
   -- what an object does at its redex
-  becomes_renamed : (x : Object) (part : Part) → becomes (renamed_object f x) (renamed_part f part) ≡ renamed_action f (becomes x part)
+  becomes_renamed : (x : Object) (part : Contractum) → becomes (renamed_object f x) (renamed_part f part) ≡ renamed_action f (becomes x part)
   becomes_renamed x part = ap (λ s. A.Local s (renamed_store f x.vars)) (statements_filled f x.term part)
 
   value_step : (x : Object) (v : Value) → becomes_value (renamed_object f x) (renamed_value f v) ≡ renamed_action f (becomes_value x v)
@@ -279,9 +276,9 @@ module _ (f : ℕ → ℕ) (one : (m n : ℕ) → (f m == f n) ≡ (m == n)) whe
   redex_step p o x t (R.Unary op v) = ap (on_outcome (renamed_object f x)) (prefix_renamed op v) ∙ outcome_step x (prefix_value op v)
   redex_step p o x t (R.Binary op v w) = ap (on_outcome (renamed_object f x)) (infix_renamed op v w) ∙ outcome_step x (infix_value op v w)
   redex_step p o x t (R.Invoke m args) =
-      ap (λ n. on_call (renamed_object f x) (map (renamed_value f) args) (method_of (renamed_program f p) x.class m n)) (length_map (renamed_value f) args)
+      ap (λ n. on_call (renamed_object f x) (map (renamed_value f) args) (method_of (renamed_program f p) x.class m n)) (length-map args (renamed_value f))
       ∙ ap (on_call (renamed_object f x) (map (renamed_value f) args)) (method_renamed p x.class m (length args)) ∙ call_step x args (method_of p x.class m (length args))
-  redex_step p o x t (R.Request v m args) = object_step v (λ b. A.Send b m args) (λ b. A.Send b m (map (renamed_value f) args)) (λ b. refl)
+  redex_step p o x t (R.SynchronousSend v m args) = object_step v (λ b. A.Send b m args) (λ b. A.Send b m (map (renamed_value f) args)) (λ b. refl)
   redex_step p o x t (R.Leave v) = value_step x v
   redex_step p o x t (R.Waiting b m) = refl
   redex_step p o x t (R.Set n v) = assignment_step x t n v

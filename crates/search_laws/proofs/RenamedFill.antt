@@ -1,8 +1,9 @@
 -- A renamed part in the place of a renamed term's redex.
 use Rattle.std.proofs.Common.{◌≡◌, refl, ap, ◌∙◌, ℕ, [], ◌∷◌, Option, Some, None, Bool, true, false, ◌==◌, if◌then◌else◌}
-use Rattle.pool_syntax.specs.declared.words.Value.{Value}
+use Rattle.run_words.specs.declared.words.Value.{Value}
 use Rattle.pool_syntax.specs.Terms.{Store, Expression, Literal, Me, Variable, Create, Prefix, Infix, Call, Send, Frame, Wait, Expressions, NoArgs, Arg, Statement, Assign, Write, WriteText, Do, Async, If, While, Answer, Select, Serve, Statements, Done, Then, Alternatives, NoAlts, Alt, append}
-use Rattle.pool_relation.specs.Reducible.{is_value, are_values, guards_are_values, is_done, is_over, Part, AsExpression, AsStatements, as_expression, as_statements, set_value, assigned, fill_expression, fill_expressions, fill_statement, fill_statements, fill_guards}
+use Rattle.pool_relation.specs.Reducible.{is_value, are_values, guards_are_values, is_done, is_over, Contractum, AsExpression, AsStatements, as_expression, as_statements, set_value, assigned, fill_expression, fill_expressions, fill_statement, fill_statements}
+use Rattle.pool_relation.specs.Reducible.{fill_guards}
 use Rattle.search_laws.specs.Renamed.{renamed_value, renamed_store, renamed_name, renamed_expression, renamed_expressions, renamed_statement, renamed_statements, renamed_alternatives}
 use Rattle.search_laws.proofs.RenamedRedex.{renamed_part}
 
@@ -73,16 +74,16 @@ module _ (f : ℕ → ℕ) where
   assigned_renamed (Then (Select alts) ss) t = refl
   assigned_renamed (Then (Serve m k u rest e qs) ss) t = refl
 
-  as_expression_renamed : (x : Part) (e : Expression) → as_expression (renamed_part f x) (renamed_expression f e) ≡ renamed_expression f (as_expression x e)
+  as_expression_renamed : (x : Contractum) (e : Expression) → as_expression (renamed_part f x) (renamed_expression f e) ≡ renamed_expression f (as_expression x e)
   as_expression_renamed (AsExpression d) e = refl
   as_expression_renamed (AsStatements ss) e = refl
 
-  as_statements_renamed : (x : Part) (s : Statement) → as_statements (renamed_part f x) (renamed_statement f s) ≡ renamed_statements f (as_statements x s)
+  as_statements_renamed : (x : Contractum) (s : Statement) → as_statements (renamed_part f x) (renamed_statement f s) ≡ renamed_statements f (as_statements x s)
   as_statements_renamed (AsExpression d) s = refl
   as_statements_renamed (AsStatements ss) s = refl
 
   mutual
-    pub expression_filled : (e : Expression) (x : Part) → fill_expression (renamed_expression f e) (renamed_part f x) ≡ renamed_expression f (fill_expression e x)
+    pub expression_filled : (e : Expression) (x : Contractum) → fill_expression (renamed_expression f e) (renamed_part f x) ≡ renamed_expression f (fill_expression e x)
     expression_filled (Literal v p) x = refl
     expression_filled (Me p) x = as_expression_renamed x (Me p)
     expression_filled (Variable n p) x = as_expression_renamed x (Variable n p)
@@ -114,14 +115,14 @@ module _ (f : ℕ → ℕ) where
         ∙ ap (λ q. Frame m (renamed_store f (assigned ss t)) q (renamed_expression f e) (renamed_statements f qs)) (statements_filled ss x))
     expression_filled (Wait b m) x = as_expression_renamed x (Wait b m)
 
-    pub expressions_filled : (es : Expressions) (x : Part) → fill_expressions (renamed_expressions f es) (renamed_part f x) ≡ renamed_expressions f (fill_expressions es x)
+    pub expressions_filled : (es : Expressions) (x : Contractum) → fill_expressions (renamed_expressions f es) (renamed_part f x) ≡ renamed_expressions f (fill_expressions es x)
     expressions_filled NoArgs x = refl
     expressions_filled (Arg e es) x =
         either_way (renamed_expressions f) _ (is_value e) _ _ _ _ (value_kept e)
         (ap (λ q. Arg (renamed_expression f e) q) (expressions_filled es x))
         (ap (λ q. Arg q (renamed_expressions f es)) (expression_filled e x))
 
-    pub statement_filled : (s : Statement) (x : Part) → fill_statement (renamed_statement f s) (renamed_part f x) ≡ renamed_statements f (fill_statement s x)
+    pub statement_filled : (s : Statement) (x : Contractum) → fill_statement (renamed_statement f s) (renamed_part f x) ≡ renamed_statements f (fill_statement s x)
     statement_filled (Assign n p e) x =
         either_way (renamed_statements f) _ (is_value e) _ _ _ _ (value_kept e) (as_statements_renamed x (Assign n p e))
         (ap (λ q. Then (Assign n p q) Done) (expression_filled e x))
@@ -155,12 +156,12 @@ module _ (f : ℕ → ℕ) where
         (ap (λ u. Then (Serve m (renamed_name f k) u (fill_statements (renamed_statements f ss) (renamed_part f x)) (renamed_expression f e) (renamed_statements f qs)) Done) (assigned_renamed ss t)
         ∙ ap (λ q. Then (Serve m (renamed_name f k) (renamed_store f (assigned ss t)) q (renamed_expression f e) (renamed_statements f qs)) Done) (statements_filled ss x))
 
-    pub statements_filled : (ss : Statements) (x : Part) → fill_statements (renamed_statements f ss) (renamed_part f x) ≡ renamed_statements f (fill_statements ss x)
+    pub statements_filled : (ss : Statements) (x : Contractum) → fill_statements (renamed_statements f ss) (renamed_part f x) ≡ renamed_statements f (fill_statements ss x)
     statements_filled Done x = refl
     statements_filled (Then s ss) x =
         ap (λ q. append q (renamed_statements f ss)) (statement_filled s x) ∙ append_renamed (fill_statement s x) ss
 
-    pub guards_filled : (alts : Alternatives) (x : Part) → fill_guards (renamed_alternatives f alts) (renamed_part f x) ≡ renamed_alternatives f (fill_guards alts x)
+    pub guards_filled : (alts : Alternatives) (x : Contractum) → fill_guards (renamed_alternatives f alts) (renamed_part f x) ≡ renamed_alternatives f (fill_guards alts x)
     guards_filled NoAlts x = refl
     guards_filled (Alt e names ss alts) x =
         either_way (renamed_alternatives f) _ (is_value e) _ _ _ _ (value_kept e)

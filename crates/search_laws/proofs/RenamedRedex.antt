@@ -1,8 +1,9 @@
 -- The redex of a renamed term is the renamed redex, and a renamed part takes its place.
 use Rattle.std.proofs.Common.{◌≡◌, refl, ap, ◌∙◌, ℕ, ◌∷◌, map, Option, Some, None}
-use Rattle.pool_syntax.specs.declared.words.Item.TheVariants as I
+use Rattle.run_words.specs.declared.words.Item.TheVariants as I
 use Rattle.pool_syntax.specs.Terms.{Store, Expression, Literal, Me, Variable, Create, Prefix, Infix, Call, Send, Frame, Wait, Expressions, NoArgs, Arg, Statement, Assign, Write, WriteText, Do, Async, If, While, Answer, Select, Serve, Statements, Done, Then, Alternatives, NoAlts, Alt}
-use Rattle.pool_relation.specs.Reducible.{Choice, Reducible, Found, Evaluated, At, and_then, in_post, left_served, OwnName, Read, Make, Unary, Binary, Invoke, Request, Leave, Waiting, Set, Print, Drop, Post, Branch, Loop, Accept, Choose, Finish, Part, AsExpression, AsStatements, expression_redex, expressions_redex, statement_redex, statements_redex, guards_redex}
+use Rattle.pool_relation.specs.Reducible.{Choice, Reducible, Found, Evaluated, At, and_then, in_post, left_served, OwnName, Read, Make, Unary, Binary, Invoke, SynchronousSend, Leave, Waiting, Set, Print, Drop, Post, Branch, Loop, Accept, Choose, Finish, Contractum, AsExpression, AsStatements, expression_redex, expressions_redex, statement_redex, statements_redex}
+use Rattle.pool_relation.specs.Reducible.{guards_redex}
 use Rattle.search_laws.specs.Renamed.{renamed_value, renamed_store, renamed_name, renamed_item, renamed_expression, renamed_expressions, renamed_statement, renamed_statements, renamed_alternatives}
 
 abbrev pub renamed_choice : (ℕ → ℕ) → Choice → Choice
@@ -15,7 +16,7 @@ renamed_reducible f (Make c) = Make c
 renamed_reducible f (Unary op v) = Unary op (renamed_value f v)
 renamed_reducible f (Binary op v w) = Binary op (renamed_value f v) (renamed_value f w)
 renamed_reducible f (Invoke m vs) = Invoke m (map (renamed_value f) vs)
-renamed_reducible f (Request v m vs) = Request (renamed_value f v) m (map (renamed_value f) vs)
+renamed_reducible f (SynchronousSend v m vs) = SynchronousSend (renamed_value f v) m (map (renamed_value f) vs)
 renamed_reducible f (Leave v) = Leave (renamed_value f v)
 renamed_reducible f (Waiting b m) = Waiting (f b) m
 renamed_reducible f (Set x v) = Set x (renamed_value f v)
@@ -32,7 +33,7 @@ abbrev pub renamed_found : {A : Type 0} → (ℕ → ℕ) → (A → A) → Foun
 renamed_found f g (Evaluated a) = Evaluated (g a)
 renamed_found f g (At r t) = At (renamed_reducible f r) (renamed_store f t)
 
-abbrev pub renamed_part : (ℕ → ℕ) → Part → Part
+abbrev pub renamed_part : (ℕ → ℕ) → Contractum → Contractum
 renamed_part f (AsExpression e) = AsExpression (renamed_expression f e)
 renamed_part f (AsStatements ss) = AsStatements (renamed_statements f ss)
 
@@ -72,8 +73,8 @@ module _ (f : ℕ → ℕ) where
     expression_found t (Call m es p) =
         then_renamed (map (renamed_value f)) (renamed_value f) _ (expressions_redex t es) _ (λ vs. At (Invoke m vs) t) (expressions_found t es) (λ vs. refl)
     expression_found t (Send e m es p) =
-        then_renamed (renamed_value f) (renamed_value f) _ (expression_redex t e) _ (λ v. and_then (expressions_redex t es) (λ vs. At (Request v m vs) t)) (expression_found t e)
-        (λ v. then_renamed (map (renamed_value f)) (renamed_value f) _ (expressions_redex t es) _ (λ vs. At (Request v m vs) t) (expressions_found t es) (λ vs. refl))
+        then_renamed (renamed_value f) (renamed_value f) _ (expression_redex t e) _ (λ v. and_then (expressions_redex t es) (λ vs. At (SynchronousSend v m vs) t)) (expression_found t e)
+        (λ v. then_renamed (map (renamed_value f)) (renamed_value f) _ (expressions_redex t es) _ (λ vs. At (SynchronousSend v m vs) t) (expressions_found t es) (λ vs. refl))
     expression_found t (Frame m u ss e qs) =
         then_renamed nothing_renamed (renamed_value f) _ (statements_redex u ss) _
         (λ done. and_then (expression_redex u e) (λ v. and_then (in_post None (statements_redex u qs)) (λ over. At (Leave v) u))) (statements_found u ss)

@@ -1,17 +1,17 @@
 -- Runs under other names: each run is, under other names, one that names new objects in order.
 use Rattle.std.proofs.Common.{◌≡◌, refl, sym, ap, ◌∙◌, ℕ, List, [], ◌∷◌, length, map, Option, Some, None, is_some, is_none, Bool, true, false, not, ◌&&◌, ◌||◌, ◌==◌}
-use Rattle.pool_syntax.specs.declared.words.Value.TheVariants as V
-use Rattle.pool_syntax.specs.declared.words.NameId.{NameId}
-use Rattle.pool_syntax.specs.declared.words.Label.{Label}
-use Rattle.pool_syntax.specs.declared.words.Label.TheVariants as L
-use Rattle.pool_syntax.specs.Terms.{ProgramTree, ClassTree}
-use Rattle.mesh_semantics.specs.Partial.{◌>>=◌, ◌>>◌, require}
-use Rattle.mesh_semantics.proofs.Laws.{equal, equals}
+use Rattle.run_words.specs.declared.words.Value.TheVariants as V
+use Rattle.run_words.specs.declared.words.NameId.{NameId}
+use Rattle.run_words.specs.declared.words.Label.{Label}
+use Rattle.run_words.specs.declared.words.Label.TheVariants as L
+use Rattle.pool_syntax.specs.Terms.{ProgramTree}
+use Rattle.run_words.specs.Partial.{◌>>=◌, ◌>>◌, require}
+use Rattle.run_words.proofs.Laws.{equal, equals, second}
 use Rattle.pool_relation.specs.Action.{Object, method_of, action}
 use Rattle.pool_relation.specs.Reducible.{AsExpression, AsStatements}
 use Rattle.pool_syntax.specs.Terms as T
 use Rattle.pool_syntax.specs.Classes.{class_of}
-use Rattle.mesh_semantics.specs.Same.{are_same}
+use Rattle.run_words.specs.Same.{are_same}
 use Rattle.pool_relation.specs.Configuration.{Configuration, object_of, put_object, messages_of}
 use Rattle.pool_relation.specs.Transition.{without_fault, running, local_step, makes, calls, posts, returns, waits_on, writes, fails, picked, offer, has_message, first_message, refilled, done, returned, given, serving, new_object, transition, run}
 use Rattle.search_laws.specs.Renamed.{Renaming, renamed_program, renamed_label, IsRenamed}
@@ -113,15 +113,11 @@ put_adds c n y q = by (put_cases c n y q) (q == n) refl
     by (Old m i) true j = absurd (m (equal q n j))
     by (Old m i) false j = ap is_some i ∙ sym (ap (λ t. t || is_some (object_of c q)) j)
 
-second_of : (a b : Bool) → (a && b) ≡ true → b ≡ true
-second_of true b e = e
-second_of false b e = absurd (cc)
-
 pub new_adds : (p : ProgramTree) (c : Configuration) (o n : ℕ) (k : NameId) → Adds n c (transition p c (L.New o n k))
 new_adds p c o n k =
     each (Adds n c) (running c o) _ AddsNone (λ x e. wanting (Adds n c) (makes (action p o x) k.0 && is_none (object_of c n)) _ AddsNone
     (λ j. each (Adds n c) (class_of p k.0) _ AddsNone (λ class i.
-    AddsOne (unused (object_of c n) (second_of _ (is_none (object_of c n)) j))
+    AddsOne (unused (object_of c n) (second _ (is_none (object_of c n)) j))
     (λ q. put_adds (put_object c o (given x (V.Ref n))) n (new_object class) q ∙ ap (λ t. (q == n) || t) (put_keeps c o (given x (V.Ref n)) (is_there c o x e) q)))))
   where
     unused : (a : Option Object) → is_none a ≡ true → is_some a ≡ false

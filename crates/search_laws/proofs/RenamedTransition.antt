@@ -1,24 +1,24 @@
 -- A renamed label leads from a renamed configuration to a renamed one, and exactly where the label does.
 use Rattle.std.proofs.Common.{◌≡◌, ◌≢◌, refl, sym, ap, ◌∙◌, subst, ℕ, zero, suc, List, [], ◌∷◌, ◌++◌, length, map, option_map, Option, Some, None, is_some, is_none, Bool, true, false, not, ◌&&◌, ◌||◌, ◌==◌, slice_get}
-use Rattle.std.proofs.lemmas.List.{map-append}
-use Rattle.pool_syntax.specs.declared.words.Value.{Value}
-use Rattle.pool_syntax.specs.declared.words.Value.TheVariants as V
-use Rattle.pool_syntax.specs.declared.words.Item.{Item}
-use Rattle.pool_syntax.specs.declared.words.Item.TheVariants as I
-use Rattle.pool_syntax.specs.declared.words.Error.{Error}
-use Rattle.pool_syntax.specs.declared.words.Label.{Label}
-use Rattle.pool_syntax.specs.declared.words.Label.TheVariants as L
+use Rattle.std.proofs.lemmas.List.{map-append, length-map}
+use Rattle.run_words.specs.declared.words.Value.{Value}
+use Rattle.run_words.specs.declared.words.Value.TheVariants as V
+use Rattle.run_words.specs.declared.words.Item.{Item}
+use Rattle.run_words.specs.declared.words.Item.TheVariants as I
+use Rattle.run_words.specs.declared.words.Error.{Error}
+use Rattle.run_words.specs.declared.words.Label.{Label}
+use Rattle.run_words.specs.declared.words.Label.TheVariants as L
 use Rattle.pool_syntax.specs.declared.tree.Named.{Named}
 use Rattle.pool_syntax.specs.Terms as T
 use Rattle.pool_syntax.specs.Terms.{Store, Expression, Statements, MethodTree, ClassTree, ProgramTree}
 use Rattle.pool_syntax.specs.Classes.{class_of}
-use Rattle.pool_syntax.specs.Values.{is_true}
-use Rattle.mesh_semantics.specs.Message.{Message}
-use Rattle.mesh_semantics.specs.Partial.{◌>>=◌, ◌>>◌, require}
-use Rattle.mesh_semantics.specs.Same.{are_same, is_same_item}
-use Rattle.mesh_semantics.proofs.Laws.{equal, equals, put_list_same}
+use Rattle.run_words.specs.Values.{is_true}
+use Rattle.run_words.specs.Message.{Message}
+use Rattle.run_words.specs.Partial.{◌>>=◌, ◌>>◌, require}
+use Rattle.run_words.specs.Same.{are_same, is_same_item}
+use Rattle.run_words.proofs.Laws.{equal, equals, put_list_same}
 use Rattle.pool_relation.specs.Reducible as R
-use Rattle.pool_relation.specs.Reducible.{Choice, Found, Evaluated, At, Part, AsExpression, AsStatements, statements_redex}
+use Rattle.pool_relation.specs.Reducible.{Choice, Found, Evaluated, At, Contractum, AsExpression, AsStatements, statements_redex}
 use Rattle.pool_relation.specs.Action as A
 use Rattle.pool_relation.specs.Action.{Object, Action, method_of, temps_of, literal, action}
 use Rattle.pool_relation.specs.Configuration.{Configuration, object_of, put_object, messages_of, put_messages}
@@ -27,7 +27,7 @@ use Rattle.search_laws.specs.Renamed.{Renaming, renamed_value, renamed_name, ren
 use Rattle.pool_relation.proofs.Laws.{Put, New, Old, put_cases, PutMessages, NewMessages, OldMessages, put_messages_cases}
 use Rattle.search_laws.proofs.RenamedRedex.{renamed_choice, renamed_found, nothing_renamed, renamed_part, statements_found}
 use Rattle.search_laws.proofs.RenamedFill.{either_way, statements_filled}
-use Rattle.search_laws.proofs.RenamedAction.{length_map, renamed_action, same_kept, true_kept, class_renamed, method_renamed, nil_store_renamed, temps_renamed, action_renamed}
+use Rattle.search_laws.proofs.RenamedAction.{renamed_action, same_kept, true_kept, class_renamed, method_renamed, nil_store_renamed, temps_renamed, action_renamed}
 
 -- nothing in both places, or renamed configurations
 pub data Alike (f : ℕ → ℕ) : Option Configuration → Option Configuration → Type 0 where
@@ -87,7 +87,7 @@ module _ (f : Renaming) where
       (ap (λ r. renamed_message f.to m ∷ r) (without_renamed names ms))
 
   -- objects as they change
-  filled : (x : Object) (part : Part) → refilled (renamed_object f.to x) (renamed_part f.to part) ≡ renamed_object f.to (refilled x part)
+  filled : (x : Object) (part : Contractum) → refilled (renamed_object f.to x) (renamed_part f.to part) ≡ renamed_object f.to (refilled x part)
   filled x part = ap (λ s. record (renamed_object f.to x) { term = s }) (statements_filled f.to x.term part)
 
   served : (y : Object) (m : MethodTree) (caller : Option ℕ) (args : List Value) (work : Statements)
@@ -107,7 +107,7 @@ module _ (f : Renaming) where
   left_kept (At (R.Unary op v) t) = refl
   left_kept (At (R.Binary op v w) t) = refl
   left_kept (At (R.Invoke m vs) t) = refl
-  left_kept (At (R.Request v m vs) t) = refl
+  left_kept (At (R.SynchronousSend v m vs) t) = refl
   left_kept (At (R.Leave v) t) = refl
   left_kept (At (R.Waiting b m) t) = refl
   left_kept (At (R.Set n v) t) = refl
@@ -404,7 +404,7 @@ module _ (f : Renaming) where
       (λ v. requiring (not (has_message v.names (messages_of c o b))) _ _ _
       (ap not (ap (has_message v.names) (h.messages o b) ∙ has_kept v.names (messages_of c o b)))
       (going_on (renamed_method f.to) (method_of p y.class m.0 (length args)) _ _ _
-      (ap (method_of (renamed_program f.to p) y.class m.0) (length_map (renamed_value f.to) args) ∙ method_renamed f.to same_names p y.class m.0 (length args))
+      (ap (method_of (renamed_program f.to p) y.class m.0) (length-map args (renamed_value f.to)) ∙ method_renamed f.to same_names p y.class m.0 (length args))
       (λ method. two_put o b _ _ _ _ h (filled x (AsExpression (T.Wait b m.0))) (served y method (Some o) args v.work)))))))
   transition_renamed p c d (L.Return b o v) h =
       going_on (renamed_object f.to) (running c b) _ _ _ (running_renamed h b)
@@ -443,7 +443,7 @@ module _ (f : Renaming) where
       (ap (first_message v.names) (h.messages s b) ∙ first_renamed v.names (messages_of c s b))
       (λ g. requiring (g.method == m.0 && are_same g.args args) _ _ _ (ap (λ t. g.method == m.0 && t) (are_same_kept g.args args))
       (going_on (renamed_method f.to) (method_of p y.class m.0 (length args)) _ _ _
-      (ap (method_of (renamed_program f.to p) y.class m.0) (length_map (renamed_value f.to) args) ∙ method_renamed f.to same_names p y.class m.0 (length args))
+      (ap (method_of (renamed_program f.to p) y.class m.0) (length-map args (renamed_value f.to)) ∙ method_renamed f.to same_names p y.class m.0 (length args))
       (λ method. taken_from y method v)))))
     where
       taken_from : (y : Object) (method : MethodTree) (v : Offer)

@@ -1,7 +1,7 @@
 -- A search that follows transitions which need no choice, and keeps only what stands after them, sees every stuck configuration, and every unfinished one.
 use Rattle.std.proofs.Common.{◌≡◌, refl, sym, ap, ◌∙◌, subst, ℕ, List, length, map, Option, Some, None, arith}
 use Rattle.pool_syntax.specs.Terms.{ProgramTree, ClassTree}
-use Rattle.mesh_semantics.specs.Partial.{◌>>=◌}
+use Rattle.run_words.specs.Partial.{◌>>=◌}
 use Rattle.pool_relation.specs.Configuration.{Configuration}
 use Rattle.pool_relation.specs.Transition.{run, last_class, start}
 use Rattle.search_laws.specs.Renamed.{Renaming, renamed_program, renamed_label, IsRenamed}

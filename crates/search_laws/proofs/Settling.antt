@@ -1,13 +1,13 @@
 -- Transitions that need no choice, one after another; and each label keeps the maps in order.
 use Rattle.std.proofs.Common.{◌≡◌, refl, subst, ℕ, List, [], ◌∷◌, ◌++◌, length, Option, Some, None, is_some, is_none, Bool, true, false, not, ◌&&◌, ◌==◌}
-use Rattle.pool_syntax.specs.declared.words.Value.TheVariants as V
-use Rattle.pool_syntax.specs.declared.words.Label.{Label}
-use Rattle.pool_syntax.specs.declared.words.Label.TheVariants as L
+use Rattle.run_words.specs.declared.words.Value.TheVariants as V
+use Rattle.run_words.specs.declared.words.Label.{Label}
+use Rattle.run_words.specs.declared.words.Label.TheVariants as L
 use Rattle.pool_syntax.specs.Terms as T
 use Rattle.pool_syntax.specs.Terms.{Store, Statements, ProgramTree}
 use Rattle.pool_syntax.specs.Classes.{class_of}
-use Rattle.mesh_semantics.specs.Partial.{◌>>=◌, ◌>>◌, require}
-use Rattle.mesh_semantics.specs.Same.{are_same}
+use Rattle.run_words.specs.Partial.{◌>>=◌, ◌>>◌, require}
+use Rattle.run_words.specs.Same.{are_same}
 use Rattle.pool_relation.specs.Reducible.{AsExpression, AsStatements}
 use Rattle.pool_relation.specs.Action.{method_of, action}
 use Rattle.pool_relation.specs.Configuration.{Configuration, object_of, put_object, messages_of}

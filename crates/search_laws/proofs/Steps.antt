@@ -1,15 +1,15 @@
 -- Local transitions, writes, asynchronous sends, errors and returns stay possible whatever other labels come first, and the order does not matter.
 use Rattle.std.proofs.Common.{◌≡◌, ◌≢◌, ◌⊎◌, inl, inr, refl, sym, ap, ◌∙◌, subst, ℕ, List, [], ◌∷◌, ◌++◌, Option, Some, None, is_some, Bool, true, false, ◌&&◌, ◌||◌, ◌==◌}
-use Rattle.pool_syntax.specs.declared.words.Value.{Value}
+use Rattle.run_words.specs.declared.words.Value.{Value}
 use Rattle.pool_syntax.specs.declared.tree.Named.{Named}
-use Rattle.pool_syntax.specs.declared.words.Label.{Label}
-use Rattle.pool_syntax.specs.declared.words.Label.TheVariants as L
+use Rattle.run_words.specs.declared.words.Label.{Label}
+use Rattle.run_words.specs.declared.words.Label.TheVariants as L
 use Rattle.pool_syntax.specs.Terms.{ProgramTree}
-use Rattle.pool_syntax.specs.Values.{is_same}
-use Rattle.mesh_semantics.specs.Message.{Message}
-use Rattle.mesh_semantics.specs.Partial.{◌>>=◌, ◌>>◌, require}
-use Rattle.mesh_semantics.specs.Same.{are_same, is_same_item, error_number}
-use Rattle.mesh_semantics.proofs.Laws.{first, second, both, equal, equals, decide, given_by, required, same_some, same_value, same_values, same_error, value_itself, values_itself, item_itself, put_list_same, put_list_other}
+use Rattle.run_words.specs.Values.{is_same}
+use Rattle.run_words.specs.Message.{Message}
+use Rattle.run_words.specs.Partial.{◌>>=◌, ◌>>◌, require}
+use Rattle.run_words.specs.Same.{are_same, is_same_item, error_number}
+use Rattle.run_words.proofs.Laws.{first, second, both, equal, equals, decide, given_by, required, same_some, same_value, same_values, same_error, put_list_same, put_list_other, value_itself, values_itself, item_itself}
 use Rattle.pool_relation.specs.Action.{Object, action}
 use Rattle.pool_relation.specs.Configuration.{Configuration, object_of, put_object, messages_of, put_messages}
 use Rattle.pool_relation.specs.Progress.{agent}

@@ -5,15 +5,15 @@ use Rattle.std.specs.declared.cmp.Ordering.{Ordering}
 use Rattle.std.specs.declared.cmp.Ordering.TheVariants.{Less, Equal, Greater}
 use Rattle.std.specs.FinMap.{nat_cmp-IsAntisymmetric}
 use Rattle.std.specs.FinMap.Entries.{find}
-use Rattle.pool_syntax.specs.declared.words.Label.{Label}
+use Rattle.run_words.specs.declared.words.Label.{Label}
 use Rattle.pool_syntax.specs.Terms.{ProgramTree}
-use Rattle.mesh_semantics.proofs.Laws.{same_some}
+use Rattle.run_words.proofs.Laws.{same_some, first, second}
 use Rattle.pool_relation.specs.Action.{Object, action}
 use Rattle.pool_relation.specs.Configuration.{Configuration}
 use Rattle.pool_relation.specs.Transition.{transition, run}
 use Rattle.search_laws.specs.Search.{is_in_call, WaitsAt, IsFaulty, IsIn, IsInOrder, needs_no_choice, Settles, Settled, Goes, IsWholeAfterSettling}
 use Rattle.search_laws.specs.Labels.{IsAmong, labels_to_try, LeadsInto, AllLeadInto, AreTried, IsTried}
-use Rattle.search_laws.proofs.Reduced.{first_of, first_holds, second_holds}
+use Rattle.search_laws.proofs.Reduced.{first_of}
 use Rattle.search_laws.proofs.AllLabels.{all_labels}
 
 -- what is told of an entry
@@ -58,7 +58,7 @@ pub settles_by : (p : ProgramTree) (c e : Configuration) (ls : List Label) → a
 settles_by p c e [] h r = subst (Settles p c) (same_some r) Settled
 settles_by p c e (l ∷ ls) h r =
     let f = first_of p c e l ls r in
-    Goes l (first_holds (needs_no_choice l) (all_free ls) h) f.step (settles_by p f.next e ls (second_holds (needs_no_choice l) (all_free ls) h) f.rest)
+    Goes l (first (needs_no_choice l) (all_free ls) h) f.step (settles_by p f.next e ls (second (needs_no_choice l) (all_free ls) h) f.rest)
 
 -- each of these has the property
 abbrev pub EachEntry : (ℕ → Object → Type 0) → List (ℕ × Object) → Type 0

@@ -1,10 +1,10 @@
 -- What a search over all runs is about: reached, stuck and faulty configurations, and sets that no step leaves.
 use Rattle.std.specs.Ordering.{nat_cmp}
-use Rattle.mesh_semantics.specs.Tables.{pair_cmp, has_some}
+use Rattle.run_words.specs.Tables.{pair_cmp, has_some}
 use Rattle.std.specs.FinMap.Entries.{is_sorted}
 use Rattle.std.specs.Prelude.{◌≡◌, ◌≢◌, ◌⊎◌, ◌==◌, ℕ, suc, List, [], ◌∷◌, Some, None, Bool, true, false, IsTrue, ◌&&◌}
-use Rattle.pool_syntax.specs.declared.words.Label.{Label}
-use Rattle.pool_syntax.specs.declared.words.Label.TheVariants as L
+use Rattle.run_words.specs.declared.words.Label.{Label}
+use Rattle.run_words.specs.declared.words.Label.TheVariants as L
 use Rattle.pool_syntax.specs.Terms.{ProgramTree}
 use Rattle.pool_relation.specs.Action as A
 use Rattle.pool_relation.specs.Action.{Object, Action, action}

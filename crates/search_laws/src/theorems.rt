@@ -1,7 +1,7 @@
 //! The laws: each is the contract of a function that does nothing.
 ghost use Rattle.std.specs.Prelude.{◌≡◌, ℕ, List, None, Some, true};
 ghost use Rattle.pool_syntax.specs.declared.tree.Program.{Program};
-ghost use Rattle.pool_syntax.specs.declared.words.Label.{Label};
+ghost use Rattle.run_words.specs.declared.words.Label.{Label};
 ghost use Rattle.pool_syntax.specs.Terms.{ProgramTree};
 ghost use Rattle.pool_syntax.specs.TreeOf.{program_of};
 ghost use Rattle.pool_relation.specs.Configuration.{Configuration, object_of};

@@ -1,26 +1,14 @@
 -- Where the objects are in order, the names of those that wait rise.
-use Rattle.std.proofs.Common.{◌≡◌, ◌<◌, ◌==◌, ℕ, zero, suc, List, [], ◌∷◌, length, get_or, nat_lt, Option, Some, None, Bool, true, false, IsTrue, refl, sym, ap, arith}
+use Rattle.std.proofs.Common.{◌≡◌, ◌<◌, ℕ, zero, suc, List, [], ◌∷◌, length, get_or, Option, Some, None, Bool, IsTrue, refl, sym, ap, arith}
 use Rattle.std.specs.Ordering.{nat_cmp, is_lt}
 use Rattle.std.specs.FinMap.Entries.{is_sorted, below_all}
-use Rattle.std.specs.declared.cmp.Ordering.TheVariants.{Equal, Greater}
 use Rattle.pool_syntax.specs.Terms.{ProgramTree}
-use Rattle.pool_syntax.specs.declared.words.Standing.{Standing}
-use Rattle.mesh_semantics.proofs.Laws.{first, second}
+use Rattle.run_words.specs.declared.words.Standing.{Standing}
+use Rattle.run_words.proofs.Laws.{first, second, less_than}
 use Rattle.pool_relation.specs.Action.{Object, action}
 use Rattle.wait_report.specs.declared.rows.ObjectRow.{ObjectRow}
 use Rattle.wait_report.specs.Calls.{Rising, names_of}
 use Rattle.search_lines.specs.Waiting.{waiting_in, waiting_now, waiting_row}
-
-below : (a b : ℕ) → IsTrue (is_lt (nat_cmp a b)) → a < b
-below a b h = by (nat_lt a b) refl
-  where
-    by : (t : Bool) → nat_lt a b ≡ t → a < b
-    by true e = grind (arith, e)
-    by false e = absurd (at (a == b) refl)
-      where
-        at : (s : Bool) → (a == b) ≡ s → ⊥
-        at true f = let q : is_lt Equal ≡ true = rw (e, f) at h in grind (arith, q)
-        at false f = let q : is_lt Greater ≡ true = rw (e, f) at h in grind (arith, q)
 
 module _ (all : Bool) (p : ProgramTree) where
   -- a row has the name of its object
@@ -41,7 +29,7 @@ module _ (all : Bool) (p : ProgramTree) where
       by : (o : Option ObjectRow) → waiting_row all p e ≡ o → (k : ℕ) → k < length (names_of (waiting_in all p (e ∷ es)))
           → ((k : ℕ) → k < length (names_of (waiting_in all p es)) → n < get_or (names_of (waiting_in all p es)) k 0) → n < get_or (names_of (waiting_in all p (e ∷ es))) k 0
       by None i k l rest = rw i (rest k (rw i at l))
-      by (Some r) i zero l rest = rw (i, named e r i) (below n e.0 (first (is_lt (nat_cmp n e.0)) (below_all nat_cmp n es) h))
+      by (Some r) i zero l rest = rw (i, named e r i) (less_than n e.0 (first (is_lt (nat_cmp n e.0)) (below_all nat_cmp n es) h))
       by (Some r) i (suc k) l rest = let m = rw i at l in rw i (rest k (omega (arith, m)))
 
   pub waiting_rise : (es : List (ℕ × Object)) → IsTrue (is_sorted nat_cmp es) → Rising (names_of (waiting_in all p es))

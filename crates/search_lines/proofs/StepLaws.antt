@@ -1,11 +1,11 @@
 -- Steps from a label on.
 use Rattle.std.proofs.Common.{◌≡◌, ◌∙◌, ◌<◌, ◌≤◌, ℕ, suc, ◌+◌, List, [], ◌∷◌, ◌++◌, append_assoc, drop, length, get_or, length-drop, Option, Some, None, Bool, true, false, refl, sym, ap, arith}
 use Rattle.std.proofs.lemmas.List.{drop-drop, drop_more}
-use Rattle.pool_syntax.specs.Tokens.{Text}
+use Rattle.run_words.specs.Text.{Text}
 use Rattle.search_lines.specs.AnswerText.{step_line, steps_text}
 use Rattle.std.proofs.lemmas.Bool.Decides.{nat_tests}
-use Rattle.pool_syntax.specs.declared.words.Label.{Label}
-use Rattle.search_lines.specs.Steps.{are_one, first_of, is_same_object, local_of, steps, with_step}
+use Rattle.run_words.specs.declared.words.Label.{Label}
+use Rattle.search_lines.specs.Steps.{are_one, leading_locals, is_same_object, local_of, steps, with_step}
 
 same_object : (a b : Option ℕ) → is_same_object a b ≡ true → a ≡ b
 same_object (Some o) (Some q) h = let e : o ≡ q = grind (arith, nat_tests, h) in ap Some e
@@ -14,12 +14,12 @@ same_object None (Some q) h = absurd (cc)
 same_object None None h = absurd (cc)
 
 -- the first label's step, and the steps of the labels behind it
-pub first_step : (l : Label) (ls : List Label) → steps (l ∷ ls) ≡ (l, suc (first_of (local_of l) ls)) ∷ steps (drop (first_of (local_of l) ls) ls)
+pub first_step : (l : Label) (ls : List Label) → steps (l ∷ ls) ≡ (l, suc (leading_locals (local_of l) ls)) ∷ steps (drop (leading_locals (local_of l) ls) ls)
 first_step l [] = refl
 first_step l (m ∷ ms) = by (are_one l m) refl (first_step m ms)
   where
-    by : (b : Bool) → are_one l m ≡ b → steps (m ∷ ms) ≡ (m, suc (first_of (local_of m) ms)) ∷ steps (drop (first_of (local_of m) ms) ms)
-        → steps (l ∷ m ∷ ms) ≡ (l, suc (first_of (local_of l) (m ∷ ms))) ∷ steps (drop (first_of (local_of l) (m ∷ ms)) (m ∷ ms))
+    by : (b : Bool) → are_one l m ≡ b → steps (m ∷ ms) ≡ (m, suc (leading_locals (local_of m) ms)) ∷ steps (drop (leading_locals (local_of m) ms) ms)
+        → steps (l ∷ m ∷ ms) ≡ (l, suc (leading_locals (local_of l) (m ∷ ms))) ∷ steps (drop (leading_locals (local_of l) (m ∷ ms)) (m ∷ ms))
     by true e rest =
         let same : local_of l ≡ local_of m = same_object (local_of l) (local_of m) e in
         ap (with_step l) rest ∙ rw e (rw (sym same) refl)
@@ -27,7 +27,7 @@ first_step l (m ∷ ms) = by (are_one l m) refl (first_step m ms)
 
 -- one more line is written, of a label and so many that are one with it
 pub step_more : (names : List Text) (ls : List Label) (at : ℕ) (l : Label) (more : ℕ) (old text new : Text) → at < length ls → l ≡ get_or ls at l
-    → more ≡ first_of (local_of l) (drop (at + 1) ls) → more ≤ length (drop (at + 1) ls) → old ++ steps_text names (steps ls) ≡ text ++ steps_text names (steps (drop at ls))
+    → more ≡ leading_locals (local_of l) (drop (at + 1) ls) → more ≤ length (drop (at + 1) ls) → old ++ steps_text names (steps ls) ≡ text ++ steps_text names (steps (drop at ls))
     → new ≡ text ++ step_line names (l, 1 + more)
     → (at + (1 + more) ≤ length ls) × (old ++ steps_text names (steps ls) ≡ new ++ steps_text names (steps (drop (at + (1 + more)) ls)))
 step_more names ls at l more old text new inside is count within so_far wrote =

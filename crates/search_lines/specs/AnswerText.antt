@@ -1,7 +1,7 @@
 -- The text of what a search answers.
 use Rattle.std.specs.Prelude.{ℕ, List, [], ◌∷◌, ◌++◌, codes, decimal}
-use Rattle.pool_syntax.specs.Tokens.{Text}
-use Rattle.pool_syntax.specs.declared.words.Label.{Label}
+use Rattle.run_words.specs.Text.{Text}
+use Rattle.run_words.specs.declared.words.Label.{Label}
 use Rattle.record_lines.specs.RecordText.{label_words, object_text, text_at}
 use Rattle.wait_report.specs.declared.rows.ObjectRow.{ObjectRow}
 use Rattle.wait_report.specs.Report.{cycles_in, cycles_text, line, standing_words}

@@ -1,7 +1,7 @@
 -- The labels of a run as steps: each label is one, but local transitions of one object that follow one another are told together.
 use Rattle.std.specs.Prelude.{ℕ, suc, ◌==◌, List, [], ◌∷◌, Option, Some, None, is_some, Bool, false, if◌then◌else◌}
-use Rattle.pool_syntax.specs.declared.words.Label.{Label}
-use Rattle.pool_syntax.specs.declared.words.Label.TheVariants as L
+use Rattle.run_words.specs.declared.words.Label.{Label}
+use Rattle.run_words.specs.declared.words.Label.TheVariants as L
 
 -- the object of a local transition
 abbrev pub local_of : Label → Option ℕ
@@ -38,6 +38,6 @@ other_than_local [] = 0
 other_than_local (l ∷ ls) = if is_some (local_of l) then other_than_local ls else suc (other_than_local ls)
 
 -- for the code: how many local transitions of this object come first
-abbrev pub first_of : Option ℕ → List Label → ℕ
-first_of o [] = 0
-first_of o (l ∷ ls) = if is_same_object o (local_of l) then suc (first_of o ls) else 0
+abbrev pub leading_locals : Option ℕ → List Label → ℕ
+leading_locals o [] = 0
+leading_locals o (l ∷ ls) = if is_same_object o (local_of l) then suc (leading_locals o ls) else 0

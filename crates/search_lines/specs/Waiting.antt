@@ -1,9 +1,9 @@
 -- Who waits where nothing can go on: each object that is in a call or is to make one; and, where all are asked for, each that is at an answer or a select.
 use Rattle.std.specs.Prelude.{ℕ, List, filter_map, Option, Some, None, option_map, Bool, true, false}
 use Rattle.pool_syntax.specs.Terms.{ProgramTree}
-use Rattle.pool_syntax.specs.declared.words.Error.{Error}
-use Rattle.pool_syntax.specs.declared.words.Standing.{Standing}
-use Rattle.pool_syntax.specs.declared.words.Standing.TheVariants as Z
+use Rattle.run_words.specs.declared.words.Error.{Error}
+use Rattle.run_words.specs.declared.words.Standing.{Standing}
+use Rattle.run_words.specs.declared.words.Standing.TheVariants as Z
 use Rattle.pool_relation.specs.Action as A
 use Rattle.pool_relation.specs.Action.{Object, Action, action}
 use Rattle.pool_relation.specs.Configuration.{Configuration}

@@ -2,13 +2,13 @@
 ghost use Rattle.std.specs.Prelude.{◌≡◌, ◌<◌, ◌≤◌, [], ◌∷◌, ◌++◌, length, OnOk, map};
 ghost use Rattle.record_lines.specs.RecordText.{label_words, led, object_text, text_at, value_text};
 ghost use Rattle.search_lines.specs.AnswerText.{step_line, steps_text};
-ghost use Rattle.search_lines.specs.Steps.{first_of, is_same_object, local_of, other_than_local, steps};
+ghost use Rattle.search_lines.specs.Steps.{leading_locals, is_same_object, local_of, other_than_local, steps};
 
 use line_words::{
     push_args, push_count, push_error, push_item, push_name, push_number, push_object, push_value,
     push_word,
 };
-use pool_syntax::{Args, Label, NameId, Names};
+use run_words::{Args, Label, NameId, Names};
 use std::alloc::AllocError;
 
 /// Puts a word and two objects' names.
@@ -145,8 +145,8 @@ fn is_same_object(one: Option<u32>, other: Option<u32>) -> bool
 }
 
 /// How many local transitions of this object come first.
-fn first_of(object: Option<u32>, labels: &[Label]) -> usize
-    ensures count { result ≡ first_of object labels.now }
+fn leading_locals(object: Option<u32>, labels: &[Label]) -> usize
+    ensures count { result ≡ leading_locals object labels.now }
     ensures within { result ≤ length labels.now }
 {
     let mut count = 0;
@@ -166,7 +166,7 @@ pub fn push_steps(text: &mut Vec<u8>, names: &Names, labels: &[Label]) -> Result
     let mut at = 0;
     while at < labels.len() {
         let label = &labels[at];
-        let times = 1 + first_of(local_of(label), &labels[at + 1..]);
+        let times = 1 + leading_locals(local_of(label), &labels[at + 1..]);
         push_step(text, names, label, times)?;
         at += times;
     }

@@ -1,14 +1,14 @@
 -- What a record shows, a run leads to.
 use Rattle.std.proofs.Common.{◌≡◌, refl, sym, ap, ◌∙◌, ℕ, List, [], ◌∷◌, ◌++◌, Some}
-use Rattle.pool_syntax.specs.declared.words.Error.{Error}
-use Rattle.pool_syntax.specs.declared.words.Event.{Event}
-use Rattle.pool_syntax.specs.declared.words.Label.{Label}
-use Rattle.pool_syntax.specs.declared.words.Label.TheVariants as L
-use Rattle.pool_syntax.specs.declared.words.Placement.{Placement}
+use Rattle.run_words.specs.declared.words.Error.{Error}
+use Rattle.run_words.specs.declared.words.Event.{Event}
+use Rattle.run_words.specs.declared.words.Label.{Label}
+use Rattle.run_words.specs.declared.words.Label.TheVariants as L
+use Rattle.run_words.specs.declared.words.Placement.{Placement}
 use Rattle.pool_syntax.specs.Terms.{ProgramTree}
 use Rattle.mesh_semantics.specs.Delay.{Delay, no_delay, no_delay_on_wires}
 use Rattle.mesh_semantics.specs.Record.{Record, labels, root_name, record_of, record_on_wires}
-use Rattle.mesh_semantics.proofs.Laws.{given_by, required, same_some}
+use Rattle.run_words.proofs.Laws.{given_by, required, same_some}
 use Rattle.pool_relation.specs.Action.{Object, action}
 use Rattle.pool_relation.specs.Configuration.{Configuration, object_of, put_object}
 use Rattle.pool_relation.specs.Transition.{running, fails, transition, run}

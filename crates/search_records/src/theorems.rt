@@ -1,8 +1,8 @@
 //! The laws: each is the contract of a function that does nothing.
 ghost use Rattle.std.specs.Prelude.{ℕ, List};
 ghost use Rattle.pool_syntax.specs.Terms.{ProgramTree};
-ghost use Rattle.pool_syntax.specs.declared.words.Event.{Event};
-ghost use Rattle.pool_syntax.specs.declared.words.Placement.{Placement};
+ghost use Rattle.run_words.specs.declared.words.Event.{Event};
+ghost use Rattle.run_words.specs.declared.words.Placement.{Placement};
 ghost use Rattle.pool_relation.specs.Configuration.{Configuration};
 ghost use Rattle.mesh_semantics.specs.Record.{record_of, record_on_wires};
 ghost use Rattle.placed_terms.specs.Terms.{terms};

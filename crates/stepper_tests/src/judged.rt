@@ -4,9 +4,9 @@ use crate::runs::{number, redex_of, words_of};
 use class_check::{Checked, check};
 use pool_lexer::tokens;
 use pool_parser::parse;
-use pool_syntax::Names;
-use record_check::{Verdict, check_record};
+use record_check::check_record;
 use run_record::read_record;
+use run_words::{Names, Verdict};
 use std::alloc::{AllocError, Global};
 use std::test::Fail;
 

@@ -3,8 +3,8 @@ use crate::rows::{ALONE, CALLS, CREATION, FAULTS, MESSAGES, POSTS, SELECTS};
 use class_check::check;
 use pool_lexer::tokens;
 use pool_parser::parse;
-use pool_semantics::{Plain, Redex, Refuse};
-use pool_syntax::{Args, Error, Item, Label, NameId, Names, Value};
+use pool_semantics::{Plain, Refuse};
+use run_words::{Args, Error, Item, Label, NameId, Names, Redex, Value};
 use std::alloc::{AllocError, Global};
 use std::test::Fail;
 

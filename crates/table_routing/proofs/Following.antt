@@ -1,9 +1,9 @@
 -- Following a path by the table, a link at a time.
 use Rattle.std.proofs.Common.{◌≡◌, ◌≢◌, refl, sym, ap, subst, ◌∙◌, ℕ, suc, ◌+◌, ◌-◌, ◌*◌, ◌<◌, ◌≤◌, List, Bool, true, false, get_or, arith}
-use Rattle.pool_syntax.specs.declared.words.Placement.{Placement}
-use Rattle.mesh_semantics.specs.Paths.{is_cut, next}
-use Rattle.mesh_semantics.specs.Routes.{IsRouted, is_broken}
-use Rattle.mesh_semantics.proofs.Laws.{differ, equals, follow, followed, next_beside}
+use Rattle.run_words.specs.declared.words.Placement.{Placement}
+use Rattle.run_words.specs.Paths.{is_cut, next}
+use Rattle.run_words.specs.Routes.{IsRouted, is_broken}
+use Rattle.run_words.proofs.Laws.{differ, equals, follow, followed, next_beside}
 use Rattle.table_routing.specs.Tables.{AreNexts, size}
 use Rattle.table_routing.proofs.Places.{next_at}
 

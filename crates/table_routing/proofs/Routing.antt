@@ -2,11 +2,11 @@
 use Rattle.std.proofs.Common.{◌≡◌, ◌≢◌, ◌⊎◌, inl, inr, refl, sym, ap, ap₂, subst, ◌∙◌, ℕ, zero, suc, ◌+◌, ◌*◌, ◌/◌, ◌%◌, ◌<◌, Bool, true, false, ◌&&◌, ◌==◌, if◌then◌else◌, Some, List, [], ◌∷◌, length, get_or, set, drop, drop-cons, length-set, get_or-set_same, get_or-set_other, arith}
 use Rattle.std.proofs.lemmas.Nat.{div-add-mod', div-mul-add, mod-mul-add}
 use Rattle.std.specs.Option.{unwrap_or}
-use Rattle.pool_syntax.specs.declared.words.Placement.{Placement}
-use Rattle.pool_syntax.specs.declared.words.Route.{Route}
-use Rattle.mesh_semantics.specs.Paths.{next, route_of, toward}
-use Rattle.mesh_semantics.specs.Routes.{AreRoutes}
-use Rattle.mesh_semantics.proofs.Laws.{decide, equal, equals, first, second}
+use Rattle.run_words.specs.declared.words.Placement.{Placement}
+use Rattle.run_words.specs.declared.words.Route.{Route}
+use Rattle.run_words.specs.Paths.{next, route_of, toward}
+use Rattle.run_words.specs.Routes.{AreRoutes}
+use Rattle.run_words.proofs.Laws.{decide, equal, equals, first, second}
 use Rattle.table_routing.specs.Tables.{AreNexts, size, with_routes}
 use Rattle.table_routing.proofs.Places.{below}
 

@@ -1,9 +1,9 @@
 -- Searching for the first pair without route.
 use Rattle.std.proofs.Common.{◌≡◌, refl, ap, ◌∙◌, ℕ, suc, ◌+◌, ◌-◌, ◌<◌, List, ◌∷◌, Some, None, true, false, arith}
 use Rattle.std.specs.List.{range_with_len}
-use Rattle.pool_syntax.specs.declared.words.Placement.{Placement}
-use Rattle.mesh_semantics.specs.Tables.{Pair}
-use Rattle.mesh_semantics.specs.Routes.{broken_from, broken_to, is_broken}
+use Rattle.run_words.specs.declared.words.Placement.{Placement}
+use Rattle.run_words.specs.Tables.{Pair}
+use Rattle.run_words.specs.Routes.{broken_from, broken_to, is_broken}
 
 -- the numbers that are left begin with this one
 left : (k s : ℕ) → k < s → range_with_len k (s - k) ≡ k ∷ range_with_len (k + 1) (s - (k + 1))

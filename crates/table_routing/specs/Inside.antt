@@ -1,6 +1,6 @@
 -- What holds of the fields of a table.
 use Rattle.std.specs.Prelude.{◌≡◌, ◌*◌, None}
-use Rattle.mesh_semantics.specs.Routes.{IsRouted, without_route}
+use Rattle.run_words.specs.Routes.{IsRouted, without_route}
 use Rattle.table_routing.specs.Tables.{AreNexts, size}
 use Rattle.table_routing.specs.declared.table.Table.TheInside.{Inside}
 

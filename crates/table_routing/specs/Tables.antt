@@ -1,9 +1,9 @@
 -- What a table of a placement holds, and when there is none.
 use Rattle.std.specs.Prelude.{◌≡◌, ◌≢◌, ℕ, ◌*◌, ◌/◌, ◌%◌, ◌<◌, List, Bool, false, length, Option, Some, get_or}
-use Rattle.pool_syntax.specs.declared.words.Placement.{Placement}
-use Rattle.pool_syntax.specs.declared.words.Route.{Route}
-use Rattle.mesh_semantics.specs.Tables.{Pair}
-use Rattle.mesh_semantics.specs.Paths.{is_cut, next}
+use Rattle.run_words.specs.declared.words.Placement.{Placement}
+use Rattle.run_words.specs.declared.words.Route.{Route}
+use Rattle.run_words.specs.Tables.{Pair}
+use Rattle.run_words.specs.Paths.{is_cut, next}
 use Rattle.table_routing.specs.declared.fault.TableFault.{TableFault}
 use Rattle.table_routing.specs.declared.fault.TableFault.TheVariants as F
 

@@ -1,14 +1,14 @@
 //! The table of a placement.
 ghost use Rattle.std.specs.Prelude.{◌≡◌, ◌≢◌, ◌<◌, ◌≤◌, ◌*◌, ◌+◌, ◌↔◌, [], length, get_or, set, false, None, IsNone, IsTrue, IfOk, IfErr, IfSome};
 ghost use Rattle.std.specs.List.{range_with_len};
-ghost use Rattle.pool_syntax.specs.declared.words.Placement.{Placement};
-ghost use Rattle.mesh_semantics.specs.Paths.{IsLink, is_cut, next, toward};
-ghost use Rattle.mesh_semantics.specs.Routes.{IsRouted, broken_to, is_broken, without_route};
+ghost use Rattle.run_words.specs.declared.words.Placement.{Placement};
+ghost use Rattle.run_words.specs.Paths.{IsLink, is_cut, next, toward};
+ghost use Rattle.run_words.specs.Routes.{IsRouted, broken_to, is_broken, without_route};
 ghost use Rattle.table_routing.specs.Tables.{AreGaps, AreNexts, IsTold, size, with_routes};
 
 use crate::fault::TableFault;
 use mesh_routing::Mesh;
-use pool_syntax::{LinkId, Placement, Route};
+use run_words::{LinkId, Placement, Route};
 use std::alloc::{AllocError, Global};
 use std::marker::Model;
 
@@ -22,8 +22,8 @@ pub struct Table<'a> {
 }
 
 impl<'a> Model for Table<'a> {
-    ghost use Rattle.pool_syntax.specs.declared.words.Placement.{Placement};
-    ghost use Rattle.pool_syntax.specs.contracts.words.Placement as placement_of;
+    ghost use Rattle.run_words.specs.declared.words.Placement.{Placement};
+    ghost use Rattle.run_words.specs.contracts.words.Placement as placement_of;
 
     ghost Value = { Placement };
 

@@ -1,5 +1,5 @@
 -- The number of methods under way in a term of the stepper's form.
-use Rattle.std.proofs.Common.{◌≡◌, refl, ap, ap₂, ◌∙◌, ℕ, suc, ◌+◌, List, [], ◌∷◌, ◌++◌, length, Option, Some, None, arith}
+use Rattle.std.proofs.Common.{◌≡◌, refl, ap, ap₂, ◌∙◌, ℕ, suc, ◌+◌, List, [], ◌∷◌, ◌++◌, length, Option, Some, None, arith, append-nil}
 use Rattle.pool_syntax.specs.declared.tree.Expr.{Expr, Int, Bool, Nil, Me, Var, New, Unary', Binary', Call', Send', Row_of-Expr, end_of-Expr, more_of-Expr}
 use Rattle.pool_syntax.specs.declared.tree.Stmt as S
 use Rattle.pool_syntax.specs.declared.tree.Stmt.{Stmt, Row_of-Alt, end_of-Alt, more_of-Alt}
@@ -84,11 +84,6 @@ pub quiet_left : (gs : List Segment) → in_statements (left gs) ≡ []
 quiet_left [] = refl
 quiet_left (g ∷ gs) = in_append (left gs) (segment g) (quiet_left gs) ∙ quiet_segment g
 
--- contexts have what their inner part has
-pub no_more : (xs : List Activity) → xs ++ [] ≡ xs
-no_more [] = refl
-no_more (x ∷ xs) = ap (λ l. x ∷ l) (no_more xs)
-
 in_operands : (vs : List Operand) (es : Expressions) → in_expressions (operands vs es) ≡ in_expressions es
 in_operands [] es = refl
 in_operands (v ∷ vs) es = in_operands vs es
@@ -98,14 +93,14 @@ in_guarded [] alts = refl
 in_guarded (g ∷ gs) alts = in_guarded gs alts
 
 in_argument : (vs : List Operand) (e : Expression) (es : List Expr) → in_expressions (operands vs (T.Arg e (expressions_of es))) ≡ in_expression e
-in_argument vs e es = in_operands vs (T.Arg e (expressions_of es)) ∙ ap (λ l. in_expression e ++ l) (quiet_list es) ∙ no_more (in_expression e)
+in_argument vs e es = in_operands vs (T.Arg e (expressions_of es)) ∙ ap (λ l. in_expression e ++ l) (quiet_list es) ∙ append-nil (in_expression e)
 
 in_placed : (k : Place) (e : Expression) → in_expression (placed k e) ≡ in_expression e
 in_placed (P.Prefix op p) e = refl
-in_placed (P.Left op q p) e = ap (λ l. in_expression e ++ l) (quiet q.now) ∙ no_more (in_expression e)
+in_placed (P.Left op q p) e = ap (λ l. in_expression e ++ l) (quiet q.now) ∙ append-nil (in_expression e)
 in_placed (P.Right op l p) e = refl
 in_placed (P.CallArgument m vs es p) e = in_argument vs.items e es.now
-in_placed (P.Destination m es p) e = ap (λ l. in_expression e ++ l) (quiet_list es.now) ∙ no_more (in_expression e)
+in_placed (P.Destination m es p) e = ap (λ l. in_expression e ++ l) (quiet_list es.now) ∙ append-nil (in_expression e)
 in_placed (P.SendArgument to m vs es p) e = in_argument vs.items e es.now
 
 pub in_nested : (ks : List Place) (e : Expression) → in_expression (nested ks e) ≡ in_expression e
@@ -118,16 +113,16 @@ in_content (Valued e) = in_expression e
 in_content (Over v) = []
 
 pub in_slotted : (s : Slot) (gs : List Segment) (e : Expression) → in_content (slotted s (left gs) e) ≡ in_expression e
-in_slotted (L.Assign n) gs e = ap (λ l. in_expression e ++ l) (quiet_left gs) ∙ no_more (in_expression e)
-in_slotted L.Write gs e = ap (λ l. in_expression e ++ l) (quiet_left gs) ∙ no_more (in_expression e)
-in_slotted L.Do gs e = ap (λ l. in_expression e ++ l) (quiet_left gs) ∙ no_more (in_expression e)
-in_slotted (L.Destination m es) gs e = ap₂ (λ k l. (in_expression e ++ k) ++ l) (quiet_list es.now) (quiet_left gs) ∙ no_more (in_expression e ++ []) ∙ no_more (in_expression e)
-in_slotted (L.Argument to m vs es) gs e = ap₂ (λ k l. k ++ l) (in_argument vs.items e es.now) (quiet_left gs) ∙ no_more (in_expression e)
-in_slotted (L.If these those) gs e = ap (λ l. in_expression e ++ l) (quiet_left gs) ∙ no_more (in_expression e)
-in_slotted (L.Loop k body) gs e = ap (λ l. in_expression e ++ l) (quiet_left gs) ∙ no_more (in_expression e)
+in_slotted (L.Assign n) gs e = ap (λ l. in_expression e ++ l) (quiet_left gs) ∙ append-nil (in_expression e)
+in_slotted L.Write gs e = ap (λ l. in_expression e ++ l) (quiet_left gs) ∙ append-nil (in_expression e)
+in_slotted L.Do gs e = ap (λ l. in_expression e ++ l) (quiet_left gs) ∙ append-nil (in_expression e)
+in_slotted (L.Destination m es) gs e = ap₂ (λ k l. (in_expression e ++ k) ++ l) (quiet_list es.now) (quiet_left gs) ∙ append-nil (in_expression e ++ []) ∙ append-nil (in_expression e)
+in_slotted (L.Argument to m vs es) gs e = ap₂ (λ k l. k ++ l) (in_argument vs.items e es.now) (quiet_left gs) ∙ append-nil (in_expression e)
+in_slotted (L.If these those) gs e = ap (λ l. in_expression e ++ l) (quiet_left gs) ∙ append-nil (in_expression e)
+in_slotted (L.Loop k body) gs e = ap (λ l. in_expression e ++ l) (quiet_left gs) ∙ append-nil (in_expression e)
 in_slotted (L.Guard done at more) gs e =
-    ap₂ (λ k l. k ++ l) (in_guarded done.items (T.Alt e at.now.answer (statements_of at.now.work) (alternatives more.now)) ∙ ap (λ l. in_expression e ++ l) (quiet_alternatives more.now) ∙ no_more (in_expression e)) (quiet_left gs)
-    ∙ no_more (in_expression e)
+    ap₂ (λ k l. k ++ l) (in_guarded done.items (T.Alt e at.now.answer (statements_of at.now.work) (alternatives more.now)) ∙ ap (λ l. in_expression e ++ l) (quiet_alternatives more.now) ∙ append-nil (in_expression e)) (quiet_left gs)
+    ∙ append-nil (in_expression e)
 in_slotted L.Value gs e = refl
 
 -- the methods under way in what is left of one
@@ -140,18 +135,18 @@ quiet_behind (Some k) qs = quiet_statements qs
 
 in_bottom : (c : Content) → in_statements (bottom c) ≡ in_content c
 in_bottom (Running ss) = refl
-in_bottom (Valued e) = no_more (in_expression e)
+in_bottom (Valued e) = append-nil (in_expression e)
 in_bottom (Over v) = refl
 
 pub in_inside : (o : Outer) (st : Stage) (c : Content) → in_left (inside o st c) ≡ in_content c
-in_inside o (A.Body e qs) (Running ss) = ap₂ (λ k l. in_statements ss ++ (k ++ l)) (quiet e.now) (quiet_statements qs.now) ∙ no_more (in_statements ss)
-in_inside o (A.Body e qs) (Valued x) = ap (λ l. in_expression x ++ l) (quiet_statements qs.now) ∙ no_more (in_expression x)
+in_inside o (A.Body e qs) (Running ss) = ap₂ (λ k l. in_statements ss ++ (k ++ l)) (quiet e.now) (quiet_statements qs.now) ∙ append-nil (in_statements ss)
+in_inside o (A.Body e qs) (Valued x) = ap (λ l. in_expression x ++ l) (quiet_statements qs.now) ∙ append-nil (in_expression x)
 in_inside o (A.Body e qs) (Over v) = quiet_behind (caller_at o) qs.now
 in_inside o (A.Post v) c = in_bottom c
 
 pub one_around : (o : Outer) (k : Option ℕ) (m : ℕ) (t : Store) (b : Statements × Expression × Statements) → length (in_content (around o k m t b)) ≡ suc (length (in_left b))
 one_around (O.Expression ks s gs) k m t b = ap length (in_slotted s gs.items (nested ks.items (T.Frame m t b.0 b.1 b.2)) ∙ in_nested ks.items (T.Frame m t b.0 b.1 b.2))
-one_around (O.Statement j gs) k m t b = ap length (ap (λ l. (Serving m k ∷ in_left b) ++ l) (quiet_left gs.items) ∙ no_more (Serving m k ∷ in_left b))
+one_around (O.Statement j gs) k m t b = ap length (ap (λ l. (Serving m k ∷ in_left b) ++ l) (quiet_left gs.items) ∙ append-nil (Serving m k ∷ in_left b))
 
 none_before : (n : ℕ) → n ≡ 0 + n
 none_before n = omega arith

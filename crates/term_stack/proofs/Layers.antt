@@ -3,7 +3,8 @@ use Rattle.std.proofs.Common.{◌≡◌, refl, ap, ◌∙◌, ℕ, List, [], ◌
 use Rattle.pool_syntax.specs.TreeOf.{expressions_of, statements_of}
 use Rattle.pool_syntax.specs.Terms as T
 use Rattle.pool_syntax.specs.Terms.{Store, Expression, Expressions, Statement, Statements, Alternatives, append}
-use Rattle.pool_relation.specs.Reducible.{Reducible, Evaluated, At, Part, is_value, are_values, guards_are_values, as_expression, as_statements, assigned, fill_expression, fill_expressions, fill_statement, fill_statements, fill_guards, expression_redex, expressions_redex, statement_redex, statements_redex, guards_redex}
+use Rattle.pool_relation.specs.Reducible.{Reducible, Evaluated, At, Contractum, is_value, are_values, guards_are_values, as_expression, as_statements, assigned, fill_expression, fill_expressions, fill_statement, fill_statements, fill_guards, expression_redex, expressions_redex, statement_redex, statements_redex}
+use Rattle.pool_relation.specs.Reducible.{guards_redex}
 use Rattle.term_stack.specs.declared.parts.Operand.{Operand}
 use Rattle.term_stack.specs.declared.parts.Guarded.{Guarded}
 use Rattle.term_stack.specs.declared.parts.Place.{Place}
@@ -112,7 +113,7 @@ unfilled : (vs : List Operand) (e : Expression) (es : Expressions) → is_value 
 unfilled [] e es h = rw h refl
 unfilled (v ∷ vs) e es h = unfilled vs e es h
 
-fill_operands : (vs : List Operand) (e : Expression) (es : Expressions) (x : Part) → is_value e ≡ false → fill_expressions (operands vs (T.Arg e es)) x ≡ operands vs (T.Arg (fill_expression e x) es)
+fill_operands : (vs : List Operand) (e : Expression) (es : Expressions) (x : Contractum) → is_value e ≡ false → fill_expressions (operands vs (T.Arg e es)) x ≡ operands vs (T.Arg (fill_expression e x) es)
 fill_operands [] e es x h = rw h refl
 fill_operands (v ∷ vs) e es x h = ap (T.Arg (operand v)) (fill_operands vs e es x h)
 
@@ -120,7 +121,7 @@ unguarded : (gs : List Guarded) (e : Expression) (n : _) (ss : Statements) (alts
 unguarded [] e n ss alts h = rw h refl
 unguarded (g ∷ gs) e n ss alts h = unguarded gs e n ss alts h
 
-fill_guarded : (gs : List Guarded) (e : Expression) (n : _) (ss : Statements) (alts : Alternatives) (x : Part) → is_value e ≡ false → fill_guards (guarded gs (T.Alt e n ss alts)) x ≡ guarded gs (T.Alt (fill_expression e x) n ss alts)
+fill_guarded : (gs : List Guarded) (e : Expression) (n : _) (ss : Statements) (alts : Alternatives) (x : Contractum) → is_value e ≡ false → fill_guards (guarded gs (T.Alt e n ss alts)) x ≡ guarded gs (T.Alt (fill_expression e x) n ss alts)
 fill_guarded [] e n ss alts x h = rw h refl
 fill_guarded (g ∷ gs) e n ss alts x h = ap (T.Alt (operand g.guard) g.alt.now.answer (statements_of g.alt.now.work)) (fill_guarded gs e n ss alts x h)
 
@@ -136,7 +137,7 @@ pub open_nested : (ks : List Place) (e : Expression) → is_value e ≡ false �
 open_nested [] e h = h
 open_nested (k ∷ ks) e h = open_placed k (nested ks e)
 
-fill_placed : (k : Place) (e : Expression) (x : Part) → is_value e ≡ false → fill_expression (placed k e) x ≡ placed k (fill_expression e x)
+fill_placed : (k : Place) (e : Expression) (x : Contractum) → is_value e ≡ false → fill_expression (placed k e) x ≡ placed k (fill_expression e x)
 fill_placed (P.Prefix op p) e x h = rw h refl
 fill_placed (P.Left op q p) e x h = rw h refl
 fill_placed (P.Right op l p) e x h = rw h refl
@@ -144,7 +145,7 @@ fill_placed (P.CallArgument m vs es p) e x h = rw (unfilled vs.items e (expressi
 fill_placed (P.Destination m es p) e x h = rw h refl
 fill_placed (P.SendArgument to m vs es p) e x h = rw (unfilled vs.items e (expressions_of es.now) h, fill_operands vs.items e (expressions_of es.now) x h) refl
 
-pub fill_nested : (ks : List Place) (e : Expression) (x : Part) → is_value e ≡ false → fill_expression (nested ks e) x ≡ nested ks (fill_expression e x)
+pub fill_nested : (ks : List Place) (e : Expression) (x : Contractum) → is_value e ≡ false → fill_expression (nested ks e) x ≡ nested ks (fill_expression e x)
 fill_nested [] e x h = refl
 fill_nested (k ∷ ks) e x h = fill_placed k (nested ks e) x (open_nested ks e h) ∙ ap (placed k) (fill_nested ks e x h)
 
@@ -164,7 +165,7 @@ plain_slotted (L.Loop k body) ss e h = refl
 plain_slotted (L.Guard done at more) ss e h = refl
 plain_slotted L.Value ss e h = rw h refl
 
-pub fill_slotted : (s : Slot) (ss : Statements) (e : Expression) (x : Part) → is_value e ≡ false → refilled_content (slotted s ss e) x ≡ slotted s ss (fill_expression e x)
+pub fill_slotted : (s : Slot) (ss : Statements) (e : Expression) (x : Contractum) → is_value e ≡ false → refilled_content (slotted s ss e) x ≡ slotted s ss (fill_expression e x)
 fill_slotted (L.Assign n) ss e x h = rw h refl
 fill_slotted L.Write ss e x h = rw h refl
 fill_slotted L.Do ss e x h = rw h refl
@@ -184,7 +185,7 @@ pub plain_around : (o : Outer) (k : Option ℕ) (m : ℕ) (t : Store) (b : State
 plain_around (O.Expression ks s gs) k m t b = plain_slotted s _ (nested ks.items (T.Frame m t b.0 b.1 b.2)) (open_nested ks.items _ refl)
 plain_around (O.Statement j gs) k m t b = refl
 
-fill_frame : (o : Outer) (st : Stage) (m : ℕ) (t : Store) (c : Content) (x : Part) → is_plain c ≡ true
+fill_frame : (o : Outer) (st : Stage) (m : ℕ) (t : Store) (c : Content) (x : Contractum) → is_plain c ≡ true
     → fill_expression (T.Frame m t (inside o st c).0 (inside o st c).1 (inside o st c).2) x
     ≡ T.Frame m t (inside o st (refilled_content c x)).0 (inside o st (refilled_content c x)).1 (inside o st (refilled_content c x)).2
 fill_frame o st m t (Running T.Done) x h = absurd (grind arith)
@@ -194,7 +195,7 @@ fill_frame o (A.Body e qs) m t (Valued y) x h = let k : is_value y ≡ false = g
 fill_frame o (A.Post v) m t (Valued y) x h = let k : is_value y ≡ false = grind arith in rw k refl
 fill_frame o st m t (Over v) x h = absurd (grind arith)
 
-fill_serve : (o : Outer) (st : Stage) (m : ℕ) (t : Store) (c : Content) (x : Part) → is_plain c ≡ true
+fill_serve : (o : Outer) (st : Stage) (m : ℕ) (t : Store) (c : Content) (x : Contractum) → is_plain c ≡ true
     → fill_statement (T.Serve m (caller_of st o) t (inside o st c).0 (inside o st c).1 (inside o st c).2) x
     ≡ T.Then (T.Serve m (caller_of st o) t (inside o st (refilled_content c x)).0 (inside o st (refilled_content c x)).1 (inside o st (refilled_content c x)).2) T.Done
 fill_serve o st m t (Running T.Done) x h = absurd (grind arith)
@@ -204,7 +205,7 @@ fill_serve o (A.Body e qs) m t (Valued y) x h = let j : is_value y ≡ false = g
 fill_serve o (A.Post v) m t (Valued y) x h = let j : is_value y ≡ false = grind arith in rw j refl
 fill_serve o st m t (Over v) x h = absurd (grind arith)
 
-pub fill_around : (o : Outer) (st : Stage) (m : ℕ) (t : Store) (c : Content) (x : Part) → is_plain c ≡ true
+pub fill_around : (o : Outer) (st : Stage) (m : ℕ) (t : Store) (c : Content) (x : Contractum) → is_plain c ≡ true
     → refilled_content (around o (caller_of st o) m t (inside o st c)) x ≡ around o (caller_of st o) m t (inside o st (refilled_content c x))
 fill_around (O.Expression ks s gs) st m t c x h =
     let o = O.Expression ks s gs in
@@ -217,18 +218,18 @@ plain_layers : (xs : List Activation) (c : Content) → is_plain c ≡ true → 
 plain_layers [] c h = h
 plain_layers (a ∷ more) c h = plain_around a.outer (caller_of a.stage a.outer) a.method.0 a.temps.items _
 
-fill_layers : (xs : List Activation) (c : Content) (x : Part) → is_plain c ≡ true → refilled_content (layers xs c) x ≡ layers xs (refilled_content c x)
+fill_layers : (xs : List Activation) (c : Content) (x : Contractum) → is_plain c ≡ true → refilled_content (layers xs c) x ≡ layers xs (refilled_content c x)
 fill_layers [] c x h = refl
 fill_layers (a ∷ more) c x h =
     fill_around a.outer a.stage a.method.0 a.temps.items (layers more c) x (plain_layers more c h) ∙ ap (wrapped a) (fill_layers more c x h)
 
-fill_bottom : (c : Content) (x : Part) → is_plain c ≡ true → fill_statements (bottom c) x ≡ bottom (refilled_content c x)
+fill_bottom : (c : Content) (x : Contractum) → is_plain c ≡ true → fill_statements (bottom c) x ≡ bottom (refilled_content c x)
 fill_bottom (Running ss) x h = refl
 fill_bottom (Valued e) x h = let j : is_value e ≡ false = grind arith in rw j refl
 fill_bottom (Over v) x h = refl
 
 -- the term with another part in the place of its redex
-pub fill_term : (xs : List Activation) (c : Content) (x : Part) → is_plain c ≡ true → fill_statements (bottom (layers xs c)) x ≡ bottom (layers xs (refilled_content c x))
+pub fill_term : (xs : List Activation) (c : Content) (x : Contractum) → is_plain c ≡ true → fill_statements (bottom (layers xs c)) x ≡ bottom (layers xs (refilled_content c x))
 fill_term xs c x h = fill_bottom (layers xs c) x (plain_layers xs c h) ∙ ap bottom (fill_layers xs c x h)
 
 -- another part in the place of the redex itself
@@ -250,7 +251,7 @@ open_ready (Y.Call m vs p) = refl
 open_ready (Y.Send to m vs p) = refl
 open_ready (Y.Wait b m) = refl
 
-pub fill_ready : (r : Ready) (x : Part) → fill_expression (ready r) x ≡ as_expression x (ready r)
+pub fill_ready : (r : Ready) (x : Contractum) → fill_expression (ready r) x ≡ as_expression x (ready r)
 fill_ready (Y.Me p) x = refl
 fill_ready (Y.Variable n p) x = refl
 fill_ready (Y.Create c p) x = refl
@@ -260,7 +261,7 @@ fill_ready (Y.Call m vs p) x = rw (all_filled vs.items) refl
 fill_ready (Y.Send to m vs p) x = rw (all_filled vs.items) refl
 fill_ready (Y.Wait b m) x = refl
 
-pub fill_task : (k : Task) (x : Part) → fill_statement (task k) x ≡ as_statements x (task k)
+pub fill_task : (k : Task) (x : Contractum) → fill_statement (task k) x ≡ as_statements x (task k)
 fill_task (K.Assign n v) x = refl
 fill_task (K.Write v) x = refl
 fill_task (K.WriteText s) x = refl

@@ -4,7 +4,7 @@ use Rattle.std.specs.List.{list_any}
 use Rattle.term_stack.specs.declared.parts.Operand.{Operand}
 use Rattle.term_stack.specs.declared.parts.Guarded.{Guarded}
 use Rattle.pool_syntax.specs.declared.tree.Var.{Var}
-use Rattle.pool_syntax.specs.Values.{is_nil, not_bool, is_true}
+use Rattle.run_words.specs.Values.{is_nil, not_bool, is_true}
 use Rattle.pool_relation.specs.Action.{bind, nil_store}
 use Rattle.term_stack.specs.Reduced.{values, choices}
 

@@ -2,11 +2,10 @@
 use Rattle.std.proofs.Common.{◌≡◌, refl, ap, sym, ◌∙◌, List, [], ◌∷◌, ◌++◌, length, arith}
 use Rattle.pool_syntax.specs.declared.tree.Stmt.{Stmt}
 use Rattle.pool_syntax.specs.Terms as T
-use Rattle.pool_syntax.specs.Terms.{Expression, Expressions}
+use Rattle.pool_syntax.specs.Terms.{Expression, Expressions, Statements, Alternatives, append}
 use Rattle.term_stack.specs.declared.parts.Operand.{Operand}
 use Rattle.term_stack.specs.declared.parts.Place.{Place}
 use Rattle.pool_syntax.specs.TreeOf.{statements_of}
-use Rattle.pool_syntax.specs.Terms.{Statements, Alternatives, append}
 use Rattle.term_stack.specs.declared.parts.Guarded.{Guarded}
 use Rattle.term_stack.specs.declared.parts.Segment.{Segment}
 use Rattle.term_stack.specs.Parts.{operand, operands, placed, nested, guarded, segment, left}

@@ -1,6 +1,6 @@
 -- The arguments, the names and the guards of what comes next.
 use Rattle.std.specs.Prelude.{List, []}
-use Rattle.pool_syntax.specs.declared.words.Value.{Value}
+use Rattle.run_words.specs.declared.words.Value.{Value}
 use Rattle.pool_syntax.specs.declared.tree.Named.{Named}
 use Rattle.pool_relation.specs.Reducible.{Choice}
 use Rattle.term_stack.specs.declared.parts.Ready.{Ready}

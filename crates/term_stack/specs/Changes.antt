@@ -1,6 +1,6 @@
 -- What comes next, by its kind.
 use Rattle.std.specs.Prelude.{ℕ, ◌-◌, List, length, slice_get, Option, Some, None, is_some, Bool, true, false, not}
-use Rattle.pool_syntax.specs.declared.words.Value.{Value}
+use Rattle.run_words.specs.declared.words.Value.{Value}
 use Rattle.pool_syntax.specs.Terms as T
 use Rattle.pool_syntax.specs.Terms.{Statements}
 use Rattle.term_stack.specs.declared.parts.Task.{Task}
@@ -15,7 +15,7 @@ use Rattle.term_stack.specs.declared.parts.Operand.{Operand}
 use Rattle.term_stack.specs.declared.parts.Stage.{Stage}
 use Rattle.term_stack.specs.declared.parts.Stage.TheVariants as A
 use Rattle.term_stack.specs.declared.parts.Activation.{Activation}
-use Rattle.pool_relation.specs.Reducible.{Part, AsExpression, AsStatements}
+use Rattle.pool_relation.specs.Reducible.{Contractum, AsExpression, AsStatements}
 use Rattle.pool_relation.specs.Action.{literal}
 use Rattle.term_stack.specs.Parts.{Content, Running, nothing, task, slotted, nested, left, caller_of}
 use Rattle.term_stack.specs.Reduced.{assigns}
@@ -73,16 +73,16 @@ end_value (A.Body e qs) (N.Value v) = v
 end_value (A.Body e qs) _ = nothing
 
 -- what takes the place of a method that is left
-abbrev pub left_part : Outer → Value → Part
+abbrev pub left_part : Outer → Value → Contractum
 left_part (O.Expression ks s gs) v = AsExpression (literal v)
 left_part (O.Statement k gs) v = AsStatements T.Done
 
-abbrev pub last_part : Option Activation → Now → Part
+abbrev pub last_part : Option Activation → Now → Contractum
 last_part None n = AsStatements T.Done
 last_part (Some a) n = left_part a.outer (end_value a.stage n).value
 
 -- what takes the place of the innermost method at its end
-abbrev pub end_part : List Activation → Now → Part
+abbrev pub end_part : List Activation → Now → Contractum
 end_part calls n = last_part (slice_get calls (length calls - 1)) n
 
 -- whether a caller waits for the value of this method

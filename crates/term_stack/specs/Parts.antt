@@ -1,7 +1,7 @@
 -- What the plain stepper's contexts stand for.
 use Rattle.std.specs.Prelude.{◌≡◌, ℕ, ◌-◌, ◌<◌, List, [], ◌∷◌, length, slice_get, Option, Some, None, false}
 use denote.Bor.{Bor}
-use Rattle.pool_syntax.specs.declared.words.Value.TheVariants as V
+use Rattle.run_words.specs.declared.words.Value.TheVariants as V
 use Rattle.pool_syntax.specs.declared.tree.Alt.{Alt}
 use Rattle.pool_syntax.specs.declared.tree.Expr.{Expr}
 use Rattle.pool_syntax.specs.TreeOf.{expression_of, expressions_of, statements_of}

@@ -1,12 +1,12 @@
 -- The redex that the stepper's parts stand for, and the content with another part in its place.
 use Rattle.std.specs.Prelude.{◌≡◌, ℕ, List, [], ◌∷◌, Option, Bool, true, false, not}
-use Rattle.pool_syntax.specs.declared.words.Value.{Value}
-use Rattle.pool_syntax.specs.declared.words.Item.TheVariants as I
+use Rattle.run_words.specs.declared.words.Value.{Value}
+use Rattle.run_words.specs.declared.words.Item.TheVariants as I
 use Rattle.pool_syntax.specs.TreeOf.{expression_of, statements_of}
 use Rattle.pool_syntax.specs.Terms as T
 use Rattle.pool_syntax.specs.Terms.{Store, Expression, Statement, Statements, append}
 use Rattle.pool_relation.specs.Reducible as R
-use Rattle.pool_relation.specs.Reducible.{Choice, Reducible, Found, Evaluated, At, Part, is_value, fill_expression, fill_statements, expression_redex, statements_redex, left_served}
+use Rattle.pool_relation.specs.Reducible.{Choice, Reducible, Found, Evaluated, At, Contractum, is_value, fill_expression, fill_statements, expression_redex, statements_redex, left_served}
 use Rattle.term_stack.specs.declared.parts.Operand.{Operand}
 use Rattle.term_stack.specs.declared.parts.Guarded.{Guarded}
 use Rattle.term_stack.specs.declared.parts.Ready.{Ready}
@@ -42,7 +42,7 @@ reduced (Y.Create c p) = R.Make c.0
 reduced (Y.Prefix op v p) = R.Unary op v.value
 reduced (Y.Infix op v w p) = R.Binary op v.value w.value
 reduced (Y.Call m vs p) = R.Invoke m.0 (values vs.items)
-reduced (Y.Send to m vs p) = R.Request to.value m.0 (values vs.items)
+reduced (Y.Send to m vs p) = R.SynchronousSend to.value m.0 (values vs.items)
 reduced (Y.Wait b m) = R.Waiting b m.0
 
 -- the redex that a statement is
@@ -82,7 +82,7 @@ is_plain (Valued e) = not (is_value e)
 is_plain (Over v) = false
 
 -- a content with another part in the place of its redex
-abbrev pub refilled_content : Content → Part → Content
+abbrev pub refilled_content : Content → Contractum → Content
 refilled_content (Running ss) x = Running (fill_statements ss x)
 refilled_content (Valued e) x = Valued (fill_expression e x)
 refilled_content (Over v) x = Over v

@@ -137,7 +137,9 @@ fn guards<'a>(
     alts: &'a [Alt],
     done: &mut Vec<Guarded<'a>>,
 ) -> Result<Option<(&'a Alt, &'a [Alt])>, AllocError>
-    ensures some { IfOk result (λ r. IfSome r (λ s. guarded done.new.items (T.Alt (expression_of s.0.now.guard) s.0.now.answer (statements_of s.0.now.work) (alternatives s.1.now)) ≡ guarded done.old.items (alternatives alts.now))) }
+    ensures some { IfOk result
+        (λ r. IfSome r
+        (λ s. guarded done.new.items (T.Alt (expression_of s.0.now.guard) s.0.now.answer (statements_of s.0.now.work) (alternatives s.1.now)) ≡ guarded done.old.items (alternatives alts.now))) }
     ensures open { IfOk result (λ r. IfSome r (λ s. is_value (expression_of s.0.now.guard) ≡ false)) }
     ensures all { IfOk result (λ r. IfNone r (guarded done.new.items T.NoAlts ≡ guarded done.old.items (alternatives alts.now))) }
 {

@@ -1,5 +1,6 @@
 //! What an object has still to do, as a stack of contexts round its redex. All program text is shared with the program.
-use pool_syntax::{Alt, Expr, NameId, Named, Op, Stmt, Value};
+use pool_syntax::{Alt, Expr, Named, Stmt};
+use run_words::{NameId, Op, Value};
 
 /// A variable with its value.
 pub type Binding = (u32, Value);

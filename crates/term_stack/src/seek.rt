@@ -7,7 +7,8 @@ ghost use Rattle.term_stack.specs.Parts.{operand, operands, nested, stepped, rea
 ghost use Rattle.term_stack.specs.Weights.{weight, weights};
 
 use crate::parts::{Operand, Place, Ready};
-use pool_syntax::{Expr, NameId, Op, Value};
+use pool_syntax::Expr;
+use run_words::{NameId, Op, Value};
 use std::alloc::{AllocError, Global};
 
 /// The value of an expression that is a literal.

@@ -15,7 +15,8 @@ use crate::enter::{advance, before, enter, settle};
 use crate::parts::{
     Activation, Binding, Now, Operand, Outer, Ready, Segment, Slot, Stage, Task, Work,
 };
-use pool_syntax::{Expr, Method, NameId, Stmt, Value, Var};
+use pool_syntax::{Expr, Method, Stmt, Var};
+use run_words::{NameId, Value};
 use std::alloc::{AllocError, Global};
 use std::mem;
 
@@ -175,7 +176,8 @@ impl<'a> Work<'a> {
         value: Operand,
         post: &'a [Stmt],
     ) -> Result<(), AllocError>
-        ensures { OnOk result (term_of self.new ≡ bottom (layers self.old.calls.items (around call.entry.outer None call.entry.method.0 call.entry.temps.items (T.Done, operand value, statements_of post.now)))) }
+        ensures { OnOk result
+            (term_of self.new ≡ bottom (layers self.old.calls.items (around call.entry.outer None call.entry.method.0 call.entry.temps.items (T.Done, operand value, statements_of post.now)))) }
     {
         let mut call = call;
         call.stage = Stage::Post { value };
@@ -325,7 +327,10 @@ impl<'a> Work<'a> {
     ) -> Result<(), AllocError>
         requires statement { IsTrue (is_statement self.old.next) }
         requires plain { IsTrue (keeps_temps self.old.next) }
-        ensures { OnOk result (term_of self.new ≡ fill_statements (term_of self.old) (AsStatements (T.Then (T.If (expression_of cond.now) (append (statements_of body.now) (loop_of (expression_of cond.now) (statements_of body.now))) T.Done) T.Done))) }
+        ensures { OnOk result
+            (term_of self.new
+            ≡ fill_statements (term_of self.old)
+            (AsStatements (T.Then (T.If (expression_of cond.now) (append (statements_of body.now) (loop_of (expression_of cond.now) (statements_of body.now))) T.Done) T.Done))) }
     {
         let rest = self.take();
         let next = enter(alloc, cond, Slot::Loop { cond, body }, rest)?;
@@ -360,7 +365,11 @@ impl<'a> Work<'a> {
         method: &'a Method,
         args: &[Value],
     ) -> Result<(), AllocError>
-        ensures { OnOk result (term_of self.new ≡ bottom (layers self.old.calls.items (around outer.entry (caller_at outer.entry) method.now.name.name.0 (temps_of (method_tree method.now) args.now) (statements_of method.now.body, expression_of method.now.value, statements_of method.now.post)))) }
+        ensures { OnOk result
+            (term_of self.new
+            ≡ bottom (layers self.old.calls.items
+            (around outer.entry (caller_at outer.entry) method.now.name.name.0 (temps_of (method_tree method.now) args.now)
+            (statements_of method.now.body, expression_of method.now.value, statements_of method.now.post)))) }
     {
         let temps = temps_for(alloc, method, args)?;
         self.calls.push(Activation {
@@ -380,7 +389,12 @@ impl<'a> Work<'a> {
     #[tactic(auto, using(crate::proofs::Changing::expression_filled))]
     pub fn call(&mut self, alloc: Global, method: &'a Method) -> Result<(), AllocError>
         requires { IsTrue (is_call self.old.next) }
-        ensures { OnOk result (term_of self.new ≡ fill_statements (term_of self.old) (AsExpression (T.Frame method.now.name.name.0 (temps_of (method_tree method.now) (now_args self.old.next)) (statements_of method.now.body) (expression_of method.now.value) (statements_of method.now.post)))) }
+        ensures { OnOk result
+            (term_of self.new
+            ≡ fill_statements (term_of self.old)
+            (AsExpression
+            (T.Frame method.now.name.name.0 (temps_of (method_tree method.now) (now_args self.old.next)) (statements_of method.now.body) (expression_of method.now.value)
+            (statements_of method.now.post)))) }
     {
         match mem::replace(&mut self.next, Now::Over) {
             Now::Expression {
@@ -480,7 +494,12 @@ impl<'a> Work<'a> {
     ) -> Result<(), AllocError>
         requires statement { IsTrue (is_statement self.old.next) }
         requires plain { IsTrue (keeps_temps self.old.next) }
-        ensures { OnOk result (term_of self.new ≡ fill_statements (term_of self.old) (AsStatements (T.Then (T.Serve method.now.name.name.0 caller (temps_of (method_tree method.now) args.now) (statements_of method.now.body) (expression_of method.now.value) (statements_of method.now.post)) (statements_of after.now)))) }
+        ensures { OnOk result
+            (term_of self.new
+            ≡ fill_statements (term_of self.old)
+            (AsStatements
+            (T.Then (T.Serve method.now.name.name.0 caller (temps_of (method_tree method.now) args.now) (statements_of method.now.body) (expression_of method.now.value)
+            (statements_of method.now.post)) (statements_of after.now)))) }
     {
         let rest = before(after, self.take())?;
         self.begin(alloc, Outer::Statement { caller, rest }, method, args)

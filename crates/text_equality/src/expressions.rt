@@ -2,7 +2,8 @@
 ghost use Rattle.std.specs.Prelude.{◌≡◌, true};
 ghost use Rattle.pool_syntax.specs.TreeOf.{expression_of, expressions_of};
 
-use pool_syntax::{Expr, Op};
+use pool_syntax::Expr;
+use run_words::Op;
 
 /// Whether two operators are the same.
 pub fn same_operator(left: Op, right: Op) -> bool

@@ -1,7 +1,8 @@
 //! Names at their tokens.
 ghost use Rattle.std.specs.Prelude.{◌≡◌, true};
 
-use pool_syntax::{List, Named};
+use pool_syntax::Named;
+use run_words::List;
 
 /// Whether two names and their tokens are the same.
 pub fn same_named(left: Named, right: Named) -> bool

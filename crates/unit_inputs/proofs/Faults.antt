@@ -1,7 +1,7 @@
 -- A text says one file at most, and one with a fault is no verified file.
 use Rattle.std.proofs.Common.{◌≡◌, ◌∙◌, ◌⊎◌, inl, inr, ℕ, length, None, Result, Err, refl, sym, subst, arith}
-use Rattle.pool_syntax.specs.Tokens.{Text}
-use Rattle.object_code.specs.declared.file.UnitFile.{UnitFile}
+use Rattle.run_words.specs.Text.{Text}
+use Rattle.code_semantics.specs.declared.file.UnitFile.{UnitFile}
 use Rattle.object_code.specs.Decode.{Decoded, Says, BadBytes, NameTwice, decode}
 use Rattle.code_verdict.specs.Faults.{IsBadCode, IsBadHeading, IsBadMethod}
 use Rattle.code_verdict.specs.Sorts.{scope_by}

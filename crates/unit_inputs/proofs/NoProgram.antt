@@ -1,10 +1,11 @@
 -- Bytes that say an object code file have no tokens: behind its first word stands a byte that begins no piece.
 use Rattle.std.proofs.Common.{◌≡◌, refl, subst, ℕ, zero, suc, List, [], ◌∷◌, ◌++◌, length, drop, Bool, true, false, arith}
 use Rattle.std.specs.Prelude.{if◌then◌else◌, ◌==◌}
-use Rattle.mesh_semantics.proofs.Laws.{equal}
+use Rattle.run_words.proofs.Laws.{equal}
 use Rattle.pool_syntax.specs.declared.token.Token.{Token}
-use Rattle.pool_syntax.specs.Tokens.{Text, HasTokens, IsPieces, longest, longest_within}
-use Rattle.object_code.specs.declared.file.UnitFile.{UnitFile}
+use Rattle.run_words.specs.Text.{Text}
+use Rattle.pool_syntax.specs.Tokens.{HasTokens, IsPieces, longest, longest_within}
+use Rattle.code_semantics.specs.declared.file.UnitFile.{UnitFile}
 use Rattle.object_code.specs.FileBytes.{head_bytes}
 use Rattle.object_code.specs.Read.{Read, Got, Stop, then_read}
 use Rattle.object_code.specs.Decode.{Decoded, Says, BadBytes, behind_front, decode, decoded, read_exactly}

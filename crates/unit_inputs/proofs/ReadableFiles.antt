@@ -1,27 +1,27 @@
 -- The records of code of a verified file are readable: what is sent is a method of its receiver's class, and so a name, though a send that is not reached may name none.
 use Rattle.std.proofs.Common.{◌≡◌, ◌∙◌, refl, ap, ℕ, ◌≤◌, List, [], ◌∷◌, length, Some, is_some, true}
 use Rattle.std.specs.Prelude.{◌&&◌}
-use Rattle.pool_syntax.specs.declared.words.NameId.{NameId}
-use Rattle.pool_syntax.specs.declared.words.Value.{Value}
-use Rattle.pool_syntax.specs.declared.words.Event.{Event}
-use Rattle.pool_syntax.specs.declared.words.Label.TheVariants as L
-use Rattle.pool_syntax.specs.declared.words.Placement.{Placement}
-use Rattle.object_code.specs.declared.file.UnitFile.{UnitFile}
-use Rattle.object_code.specs.Kinds as C
-use Rattle.object_code.specs.Kinds.{code_kind}
-use Rattle.object_code.specs.Shaped.{IsShaped, IsWritable}
-use Rattle.object_code.specs.Suits.{Suits}
+use Rattle.run_words.specs.declared.words.NameId.{NameId}
+use Rattle.run_words.specs.declared.words.Value.{Value}
+use Rattle.run_words.specs.declared.words.Event.{Event}
+use Rattle.run_words.specs.declared.words.Label.TheVariants as L
+use Rattle.run_words.specs.declared.words.Placement.{Placement}
+use Rattle.code_semantics.specs.declared.file.UnitFile.{UnitFile}
+use Rattle.code_semantics.specs.Kinds as C
+use Rattle.code_semantics.specs.Kinds.{code_kind}
+use Rattle.code_semantics.specs.Shaped.{IsShaped, IsWritable}
+use Rattle.code_semantics.specs.Suits.{Suits}
 use Rattle.mesh_semantics.specs.Act.{id}
 use Rattle.mesh_semantics.specs.Config.{Config, object_of, messages_of}
 use Rattle.mesh_semantics.specs.Kind as K
 use Rattle.mesh_semantics.specs.Kind.{calls, posts}
 use Rattle.mesh_semantics.specs.Lawful.{Lawful}
-use Rattle.mesh_semantics.specs.Message.{Message}
+use Rattle.run_words.specs.Message.{Message}
 use Rattle.mesh_semantics.specs.Moves.{move, running}
 use Rattle.mesh_semantics.specs.Record.{record_of, record_on_wires, start}
-use Rattle.mesh_semantics.specs.Sound.{Each}
+use Rattle.run_words.specs.Tables.{Each}
 use Rattle.mesh_semantics.proofs.Basics.{running_gives}
-use Rattle.mesh_semantics.proofs.Laws.{first, equals, given_by, required, values_itself}
+use Rattle.run_words.proofs.Laws.{first, equals, given_by, required, values_itself}
 use Rattle.coded_objects.specs.Coded.{Placed, class_number, coded}
 use Rattle.coded_objects.specs.Made.{HasMade}
 use Rattle.coded_objects.specs.Tells.{IsAtCall}

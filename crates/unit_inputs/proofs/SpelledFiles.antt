@@ -4,22 +4,21 @@ use Rattle.std.specs.Prelude.{slice_get, FitsSigned}
 use Rattle.std.specs.Int.{w64}
 use Rattle.std.specs.List.{AllByRecursion as Each}
 use Rattle.std.proofs.lemmas.Bool.Decides.{nat_tests}
-use Rattle.pool_syntax.specs.Spelled.{is_name}
-use Rattle.pool_syntax.specs.Values.{is_in_range}
-use Rattle.object_code.specs.declared.unit.Instr.{Instr}
-use Rattle.object_code.specs.declared.unit.Instr.TheVariants as I
-use Rattle.object_code.specs.declared.unit.MethodCode.{MethodCode}
-use Rattle.object_code.specs.declared.unit.ClassCode.{ClassCode}
-use Rattle.object_code.specs.declared.file.UnitFile.{UnitFile}
-use Rattle.object_code.specs.declared.file.ClassKinds.{ClassKinds}
-use Rattle.object_code.specs.declared.file.MethodKinds.{MethodKinds}
-use Rattle.object_code.specs.Frames.{code_of, method_code}
-use Rattle.object_code.specs.FileBytes.{pairs}
-use Rattle.object_code.specs.Shaped.{AreShapedMethods, ClassIsWritable, InstrIsNumbered, IsShaped, IsWritable, MethodIsWritable}
-use Rattle.object_code.specs.Step.{Numbered, class_from, method_named}
+use Rattle.run_words.specs.Keywords.{is_name}
+use Rattle.run_words.specs.Values.{is_in_range}
+use Rattle.code_semantics.specs.declared.unit.Instr.{Instr}
+use Rattle.code_semantics.specs.declared.unit.Instr.TheVariants as I
+use Rattle.code_semantics.specs.declared.unit.MethodCode.{MethodCode}
+use Rattle.code_semantics.specs.declared.unit.ClassCode.{ClassCode}
+use Rattle.code_semantics.specs.declared.file.UnitFile.{UnitFile}
+use Rattle.code_semantics.specs.declared.file.ClassKinds.{ClassKinds}
+use Rattle.code_semantics.specs.declared.file.MethodKinds.{MethodKinds}
+use Rattle.code_semantics.specs.Frames.{code_of, method_code}
+use Rattle.code_semantics.specs.Shaped.{pairs, AreShapedMethods, ClassIsWritable, InstrIsNumbered, IsShaped, IsWritable, MethodIsWritable}
+use Rattle.code_semantics.specs.Step.{Numbered, class_from, method_named}
 use Rattle.mesh_semantics.specs.Act.{id}
-use Rattle.mesh_semantics.proofs.Laws.{same_some, given_by}
-use Rattle.unit_objects.proofs.Laws.{found_named}
+use Rattle.run_words.proofs.Laws.{same_some, given_by}
+use Rattle.code_semantics.proofs.Laws.{found_named}
 use Rattle.coded_objects.specs.Made.{HasInstr}
 use Rattle.coded_objects.specs.OfCode.{method_number}
 use Rattle.coded_objects.proofs.Methods.{number_of_named}

@@ -4,25 +4,25 @@ use Rattle.std.specs.Prelude.{slice_get, FitsSigned}
 use Rattle.std.specs.Int.{w64}
 use Rattle.std.specs.List.{AllByRecursion as Each}
 use Rattle.std.proofs.lemmas.Bool.Decides.{nat_tests}
-use Rattle.pool_syntax.specs.Spelled.{is_name, is_name_text}
-use Rattle.pool_syntax.specs.Values.{is_in_range}
-use Rattle.pool_syntax.specs.declared.words.NameId.{NameId}
-use Rattle.pool_syntax.specs.declared.tree.Kind.{Kind}
-use Rattle.pool_syntax.specs.declared.tree.Kind.TheVariants as K
-use Rattle.object_code.specs.declared.unit.AltCode.{AltCode}
-use Rattle.object_code.specs.declared.unit.Instr.{Instr}
-use Rattle.object_code.specs.declared.unit.Instr.TheVariants as I
-use Rattle.object_code.specs.declared.unit.MethodCode.{MethodCode}
-use Rattle.object_code.specs.declared.unit.ClassCode.{ClassCode}
-use Rattle.object_code.specs.declared.file.UnitFile.{UnitFile}
-use Rattle.object_code.specs.declared.file.ClassKinds.{ClassKinds}
-use Rattle.object_code.specs.declared.file.MethodKinds.{MethodKinds}
-use Rattle.object_code.specs.Frames.{code_of, method_code}
-use Rattle.object_code.specs.Proper.{AnswerOwn, AreOwn, AltsExist, Exists}
-use Rattle.object_code.specs.Shaped.{AlternativeHasNumbers, AreShapedClasses, AreShapedMethods, ClassHasNumbers, ClassIsShort, ClassKindsHaveNumbers, InstrHasNumbers, IsNumber, IsOptionOf, IsShaped, IsShort, IsWritable, KindIsNumbered, MethodHasNumbers, MethodIsShort, MethodKindsHaveNumbers, NameIsNumbered}
-use Rattle.object_code.specs.Step.{Numbered, class_from, method_named}
+use Rattle.run_words.specs.Keywords.{is_name, is_name_text}
+use Rattle.run_words.specs.Values.{is_in_range}
+use Rattle.run_words.specs.declared.words.NameId.{NameId}
+use Rattle.run_words.specs.declared.words.Kind.{Kind}
+use Rattle.run_words.specs.declared.words.Kind.TheVariants as K
+use Rattle.code_semantics.specs.declared.unit.AltCode.{AltCode}
+use Rattle.code_semantics.specs.declared.unit.Instr.{Instr}
+use Rattle.code_semantics.specs.declared.unit.Instr.TheVariants as I
+use Rattle.code_semantics.specs.declared.unit.MethodCode.{MethodCode}
+use Rattle.code_semantics.specs.declared.unit.ClassCode.{ClassCode}
+use Rattle.code_semantics.specs.declared.file.UnitFile.{UnitFile}
+use Rattle.code_semantics.specs.declared.file.ClassKinds.{ClassKinds}
+use Rattle.code_semantics.specs.declared.file.MethodKinds.{MethodKinds}
+use Rattle.code_semantics.specs.Frames.{code_of, method_code}
+use Rattle.code_semantics.specs.Proper.{AnswerOwn, AreOwn, AltsExist, Exists}
+use Rattle.code_semantics.specs.Shaped.{AlternativeHasNumbers, AreShapedClasses, AreShapedMethods, ClassHasNumbers, ClassIsShort, ClassKindsHaveNumbers, InstrHasNumbers, IsNumber, IsOptionOf, IsShaped, IsShort, IsWritable, KindIsNumbered, MethodHasNumbers, MethodIsShort, MethodKindsHaveNumbers, NameIsNumbered}
+use Rattle.code_semantics.specs.Step.{Numbered, class_from, method_named}
 use Rattle.object_code.proofs.Laws.{short_is_writable}
-use Rattle.mesh_semantics.specs.Sound as Sound
+use Rattle.run_words.specs.Tables as Sound
 use Rattle.coded_objects.specs.Made.{HasInstr}
 use Rattle.code_verdict.specs.Sorts.{CodeScope, Declared, declared_at}
 use Rattle.code_verdict.specs.Verified.{IsVerified, IsWellSorted, KindExists, ResultExists}

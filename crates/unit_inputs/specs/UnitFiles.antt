@@ -1,13 +1,13 @@
 -- Which texts are verified object code files, what their unit is, and the fault of another text.
 use Rattle.std.specs.Prelude.{◌≡◌, ◌⊎◌, length}
-use Rattle.pool_syntax.specs.Tokens.{Text}
+use Rattle.run_words.specs.Text.{Text}
 use Rattle.object_code.specs.declared.code_fault.CodeFault.{CodeFault}
 use Rattle.object_code.specs.declared.code_fault.CodeFault.TheVariants as Bytes
-use Rattle.object_code.specs.declared.file.UnitFile.{UnitFile}
-use Rattle.object_code.specs.declared.unit.Unit.{Unit as Code}
+use Rattle.code_semantics.specs.declared.file.UnitFile.{UnitFile}
+use Rattle.code_semantics.specs.declared.unit.Unit.{Unit as Code}
 use Rattle.object_code.specs.Decode.{Says, BadBytes, NameTwice, decode}
-use Rattle.object_code.specs.Proper.{IsProper}
-use Rattle.object_code.specs.Shaped.{IsShaped, IsWritable}
+use Rattle.code_semantics.specs.Proper.{IsProper}
+use Rattle.code_semantics.specs.Shaped.{IsShaped, IsWritable}
 use Rattle.code_verdict.specs.Faults.{IsBadCode, IsBadHeading}
 use Rattle.code_verdict.specs.Verified.{IsVerified}
 use Rattle.code_judge.specs.declared.fault.VerifyFault.{VerifyFault}

@@ -1,16 +1,17 @@
 //! Laws of verified object code files: each is the contract of a function that does nothing.
 ghost use Rattle.std.specs.Prelude.{◌≡◌, ◌≤◌, ℕ, List, length};
-ghost use Rattle.pool_syntax.specs.declared.words.Event.{Event};
-ghost use Rattle.pool_syntax.specs.declared.words.Placement.{Placement};
+ghost use Rattle.run_words.specs.declared.words.Event.{Event};
+ghost use Rattle.run_words.specs.declared.words.Placement.{Placement};
 ghost use Rattle.pool_syntax.specs.declared.token.Token.{Token};
-ghost use Rattle.pool_syntax.specs.Tokens.{HasTokens, Text};
-ghost use Rattle.object_code.specs.declared.file.UnitFile.{UnitFile};
+ghost use Rattle.pool_syntax.specs.Tokens.{HasTokens};
+ghost use Rattle.run_words.specs.Text.{Text};
+ghost use Rattle.code_semantics.specs.declared.file.UnitFile.{UnitFile};
 ghost use Rattle.object_code.specs.Decode.{Says, decode};
-ghost use Rattle.object_code.specs.Shaped.{IsShaped, IsWritable};
+ghost use Rattle.code_semantics.specs.Shaped.{IsShaped, IsWritable};
 ghost use Rattle.code_verdict.specs.Verified.{IsVerified};
-ghost use Rattle.object_code.specs.Suits.{Suits};
+ghost use Rattle.code_semantics.specs.Suits.{Suits};
 ghost use Rattle.mesh_semantics.specs.Record.{record_of, record_on_wires};
-ghost use Rattle.mesh_semantics.specs.Sound.{Each};
+ghost use Rattle.run_words.specs.Tables.{Each};
 ghost use Rattle.coded_objects.specs.Coded.{coded};
 ghost use Rattle.run_record.specs.Readable.{IsReadableEvent, IsRecord};
 ghost use Rattle.readable_records.specs.SpelledUnit.{IsSpelledUnit};

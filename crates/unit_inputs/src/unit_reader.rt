@@ -3,9 +3,10 @@ ghost use Rattle.std.specs.Prelude.{◌≡◌, ◌⊎◌, ◌≤◌, length, IfO
 ghost use Rattle.fault_lines.specs.declared.fault.UnitFault.TheVariants.{Memory};
 ghost use Rattle.unit_inputs.specs.UnitFiles.{IsUnitFault, IsUnitOfFile, fault_of_bytes, fault_of_code};
 
-use code_verify::{VerifyFault, verify};
+use code_judge::{VerifyFault, verify};
+use code_semantics::Unit;
 use fault_lines::UnitFault;
-use object_code::{CodeFault, Unit, decode};
+use object_code::{CodeFault, decode};
 use std::alloc::Global;
 
 /// Why bytes are no file.

@@ -6,9 +6,7 @@ ghost use Rattle.verdict_lines.specs.VerdictText.{redex_words, verdict_text, ver
 use line_words::{
     push_args, push_error, push_item, push_name, push_number, push_object, push_value, push_word,
 };
-use pool_semantics::Redex;
-use pool_syntax::{Args, NameId, Names};
-use record_check::Verdict;
+use run_words::{Args, NameId, Names, Redex, Verdict};
 use std::alloc::{AllocError, Global};
 
 /// Puts a message: its word, the receiver, the method and the arguments.

@@ -1,13 +1,15 @@
 //! Verdicts on files that were written by hand, and on files of programs.
-ghost use Rattle.object_code.specs.Shaped.{IsShaped};
+ghost use Rattle.code_semantics.specs.Shaped.{IsShaped};
 
 use crate::example_rows::PROGRAMS;
 use crate::file_rows::FILES;
 use class_check::check;
-use code_verify::{file_of, verify};
-use object_code::{UnitFile, decode};
+use code_semantics::UnitFile;
+use code_verify::verify;
+use object_code::decode;
 use pool_lexer::tokens;
 use pool_parser::parse;
+use program_file::file_of;
 use std::alloc::{AllocError, Global};
 use std::test::Fail;
 

@@ -2,9 +2,9 @@
 use Rattle.std.proofs.Common.{◌≡◌, ◌≢◌, ◌⊎◌, inl, inr, refl, sym, ap, subst, ◌∙◌, ℕ, zero, suc, ◌<◌, List, [], ◌∷◌, ◌++◌, length, set, get_or, replicate, Option, Some, None, Bool, true, false, not, cond, count_by, arith}
 use Rattle.std.proofs.lemmas.List.{get_or-set_same, get_or-set_other, length-set, length-replicate}
 use Rattle.std.proofs.lemmas.List.Sums.{sum_by-set}
-use Rattle.mesh_semantics.specs.Ways.{In}
+use Rattle.run_words.specs.Ways.{In}
 use Rattle.mesh_semantics.specs.Standing.{Closes, chase}
-use Rattle.mesh_semantics.proofs.Laws.{decide, same_some}
+use Rattle.run_words.proofs.Laws.{decide, same_some}
 use Rattle.mesh_semantics.proofs.Cycles.{chased, Begun, Is}
 use Rattle.wait_report.specs.Cycles.{jump, least_from, IsMarked}
 use Rattle.wait_report.proofs.Chains.{Chain, GoesOn, chain_push, reach, back, after, goes, least_found}

@@ -5,9 +5,9 @@ use Rattle.std.specs.Prelude.{filter_map}
 use Rattle.std.specs.List.{cons_option}
 use Rattle.std.proofs.Math.Seq.{drop-cons}
 use Rattle.std.proofs.lemmas.List.{length-map}
-use Rattle.mesh_semantics.specs.Partial.{◌>>=◌}
+use Rattle.run_words.specs.Partial.{◌>>=◌}
 use Rattle.mesh_semantics.specs.Standing.{chase}
-use Rattle.mesh_semantics.proofs.Laws.{decide, equals, differ}
+use Rattle.run_words.proofs.Laws.{decide, equals, differ}
 use Rattle.wait_report.specs.declared.rows.ObjectRow.{ObjectRow}
 use Rattle.wait_report.specs.Calls.{called, names_of, calls_of, Rising, IsNext, AreNext}
 use Rattle.wait_report.specs.Report.{called_in, cycles_text}

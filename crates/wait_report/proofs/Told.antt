@@ -1,11 +1,11 @@
 -- The text of a cycle under way.
-use Rattle.std.proofs.Common.{◌≡◌, ◌<◌, refl, sym, ap, ◌∙◌, ℕ, suc, ◌==◌, List, [], ◌∷◌, ◌++◌, length, map, get_or, take, Option, Some, None, true, false, nat_lt, cond, Result, Ok, Err, OnOk, arith}
+use Rattle.std.proofs.Common.{◌≡◌, ◌<◌, refl, sym, ap, ◌∙◌, ℕ, suc, ◌==◌, List, [], ◌∷◌, ◌++◌, length, map, get_or, take, Option, Some, None, true, false, nat_lt, cond, Result, Ok, Err, OnOk, arith, append-nil}
 use Rattle.std.specs.Prelude.{codes}
 use Rattle.std.proofs.lemmas.List.{append_assoc}
-use Rattle.pool_syntax.specs.Tokens.{Text}
-use Rattle.mesh_semantics.specs.Partial.{◌>>=◌}
+use Rattle.run_words.specs.Text.{Text}
+use Rattle.run_words.specs.Partial.{◌>>=◌}
 use Rattle.mesh_semantics.specs.Standing.{chase}
-use Rattle.mesh_semantics.proofs.Laws.{equals, differ}
+use Rattle.run_words.proofs.Laws.{equals, differ}
 use Rattle.record_lines.specs.RecordText.{led, object_text}
 use Rattle.wait_report.specs.Cycles.{jump, cycle_at}
 use Rattle.wait_report.proofs.Named.{stepped}
@@ -24,11 +24,7 @@ begins numbers None = refl
 begins numbers (Some ns) = refl
 
 led_more : (w : Text) (ws : List Text) → led (w ∷ ws) ≡ led (w ∷ []) ++ led ws
-led_more w ws = ap (λ z. 32 ∷ z) (ap (λ z. z ++ led ws) (sym (no_more w)))
-  where
-    no_more : (xs : Text) → xs ++ [] ≡ xs
-    no_more [] = refl
-    no_more (x ∷ xs) = ap (λ z. x ∷ z) (no_more xs)
+led_more w ws = ap (λ z. 32 ∷ z) (ap (λ z. z ++ led ws) (sym (append-nil w)))
 
 module _ (numbers : List ℕ) (next : List (Option ℕ)) (first : ℕ) where
   abbrev word : ℕ → Text

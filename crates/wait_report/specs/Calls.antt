@@ -1,7 +1,7 @@
 -- Which objects call which, by their places.
 use Rattle.std.specs.Prelude.{◌≡◌, ◌≢◌, ℕ, ◌<◌, List, length, get_or, map, Option, Some, None}
-use Rattle.pool_syntax.specs.declared.words.Standing.{Standing}
-use Rattle.pool_syntax.specs.declared.words.Standing.TheVariants as S
+use Rattle.run_words.specs.declared.words.Standing.{Standing}
+use Rattle.run_words.specs.declared.words.Standing.TheVariants as S
 use Rattle.wait_report.specs.declared.rows.ObjectRow.{ObjectRow}
 
 -- the name that an object calls

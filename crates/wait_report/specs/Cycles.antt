@@ -1,6 +1,6 @@
 -- Cycles by places.
 use Rattle.std.specs.Prelude.{◌≡◌, ◌≢◌, ℕ, ◌<◌, List, [], ◌∷◌, length, get_or, map, Option, Some, None, Bool, true, false, ◌==◌, nat_lt, if◌then◌else◌}
-use Rattle.pool_syntax.specs.Tokens.{Text}
+use Rattle.run_words.specs.Text.{Text}
 use Rattle.mesh_semantics.specs.Standing.{chase}
 use Rattle.wait_report.specs.Report.{cycle_line}
 

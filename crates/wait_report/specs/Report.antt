@@ -1,8 +1,8 @@
 -- The text of the report.
 use Rattle.std.specs.Prelude.{◌≡◌, ℕ, ◌<◌, ◌==◌, List, [], ◌∷◌, ◌++◌, length, map, filter_map, Option, Some, None, if◌then◌else◌, codes, decimal, slice_get}
-use Rattle.pool_syntax.specs.Tokens.{Text}
-use Rattle.pool_syntax.specs.declared.words.Standing.{Standing}
-use Rattle.pool_syntax.specs.declared.words.Standing.TheVariants as S
+use Rattle.run_words.specs.Text.{Text}
+use Rattle.run_words.specs.declared.words.Standing.{Standing}
+use Rattle.run_words.specs.declared.words.Standing.TheVariants as S
 use Rattle.mesh_semantics.specs.Standing.{chase}
 use Rattle.record_lines.specs.RecordText.{error_text, joined, object_text, text_at}
 use Rattle.wait_report.specs.declared.rows.ObjectRow.{ObjectRow}

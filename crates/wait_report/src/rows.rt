@@ -2,7 +2,7 @@
 ghost use Rattle.std.specs.Prelude.{◌≡◌, ◌≢◌, ◌<◌, ℕ, length, get_or, map, IfOk, IfSome, IfNone};
 ghost use Rattle.wait_report.specs.Calls.{called, AreNext, IsNext, Rising};
 
-use pool_syntax::{NameId, Standing};
+use run_words::{NameId, Standing};
 use std::alloc::{AllocError, Global};
 
 /// An object by its name, its class, and where it stands.

@@ -10,7 +10,7 @@ use crate::cycles::{put_cycle, starts};
 use crate::rows::{ObjectRow, callees, numbers};
 use crate::text::put_row;
 use pool_outside::{Sink, WriteFault, write_all_of};
-use pool_syntax::{List, Names};
+use run_words::{List, Names};
 use std::alloc::{AllocError, Global};
 
 /// Why no report was written whole: a write failed, or memory was not had.

@@ -1,8 +1,8 @@
 -- What a wire carries after each call.
 use Rattle.std.proofs.Common.{◌≡◌, refl, sym, subst, ◌∙◌, List, [], Option}
 use Rattle.std.specs.Prelude.{drop}
-use Rattle.pool_syntax.specs.declared.words.What.{What}
-use Rattle.pool_syntax.specs.declared.words.WireAct.{WireAct}
+use Rattle.run_words.specs.declared.words.What.{What}
+use Rattle.run_words.specs.declared.words.WireAct.{WireAct}
 use Rattle.mesh_semantics.specs.Wire.{wire_act}
 use Rattle.mesh_semantics.specs.KeptWire.{Carries, Follows, KeptWire, kept_act, whole}
 use Rattle.mesh_semantics.proofs.Laws.{act_carries}

@@ -2,7 +2,7 @@
 use Rattle.std.proofs.Common.{◌≡◌, refl, sym, ap, subst, ◌∙◌, ℕ, List, [], ◌∷◌, ◌++◌, Option, Some, None}
 use Rattle.std.specs.Prelude.{drop, option_map, slice_get}
 use Rattle.arrayvec.specs.ArrayVec.{ArrayVec}
-use Rattle.mesh_semantics.specs.Tables.{Each}
+use Rattle.run_words.specs.Tables.{Each}
 use Rattle.mesh_semantics.specs.Act.{first_of}
 use Rattle.mesh_semantics.specs.Wire.{coming_in}
 use Rattle.mesh_semantics.specs.KeptWire.{KeptWire}

@@ -1,7 +1,7 @@
 -- What stands behind bytes that stand behind others, and what is read of values one by one.
 use Rattle.std.proofs.Common.{◌≡◌, refl, sym, ap, ◌∙◌, ℕ, suc, List, [], ◌∷◌, ◌++◌, append_assoc, Some, None}
-use Rattle.pool_syntax.specs.declared.words.Value.{Value}
-use Rattle.mesh_semantics.specs.Partial.{◌>>=◌}
+use Rattle.run_words.specs.declared.words.Value.{Value}
+use Rattle.run_words.specs.Partial.{◌>>=◌}
 use Rattle.wire_link.specs.Bytes.{Read, read_value, read_values}
 
 pub behind : {X : Type 0} (xs ys zs a b : List X) → a ≡ xs ++ ys → b ≡ a ++ zs → b ≡ xs ++ (ys ++ zs)

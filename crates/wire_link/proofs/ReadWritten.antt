@@ -3,10 +3,10 @@ use Rattle.std.proofs.Common.{◌≡◌, refl, sym, ap, ◌∙◌, ℕ, suc, Lis
 use Rattle.std.specs.Prelude.{nat_le}
 use Rattle.std.specs.Int.{w32, w64, to_be_bytes, from_be_bytes, cast_signed, cast_unsigned}
 use Rattle.std.proofs.lemmas.Nat.{from_be_bytes-to_be_bytes_4, from_be_bytes-to_be_bytes_8}
-use Rattle.pool_syntax.specs.declared.words.Value.{Value}
-use Rattle.pool_syntax.specs.declared.words.Value.TheVariants as V
-use Rattle.mesh_semantics.specs.Partial.{◌>>=◌}
-use Rattle.mesh_semantics.specs.Tables.{Each}
+use Rattle.run_words.specs.declared.words.Value.{Value}
+use Rattle.run_words.specs.declared.words.Value.TheVariants as V
+use Rattle.run_words.specs.Partial.{◌>>=◌}
+use Rattle.run_words.specs.Tables.{Each}
 use Rattle.rendezvous_protocol.specs.declared.packet.Packet.{Packet}
 use Rattle.rendezvous_protocol.specs.declared.packet.Packet.TheVariants as P
 use Rattle.wire_link.specs.declared.frame.Frame.{Frame}

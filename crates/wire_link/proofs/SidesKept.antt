@@ -1,9 +1,9 @@
 -- The frames on one side after one was put last.
 use Rattle.std.proofs.Common.{◌≡◌, refl, sym, ap, subst, ◌∙◌, ℕ, suc, ◌<◌, List, [], ◌∷◌, ◌++◌, length, Some, true, false, nat_lt, arith}
 use Rattle.arrayvec.specs.ArrayVec.{ArrayVec}
-use Rattle.mesh_semantics.specs.Tables.{Each}
+use Rattle.run_words.specs.Tables.{Each}
 use Rattle.mesh_semantics.specs.Wire.{push_within}
-use Rattle.mesh_semantics.proofs.Laws.{each_append}
+use Rattle.run_words.proofs.Laws.{each_append}
 use Rattle.rendezvous_protocol.specs.declared.packet.Packet.{Packet}
 use Rattle.wire_link.specs.declared.frame.Frame.TheVariants as F
 use Rattle.wire_link.specs.Bytes.{bytes_of, decoded, FrameFits}

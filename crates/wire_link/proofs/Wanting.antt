@@ -2,10 +2,11 @@
 use Rattle.std.proofs.Common.{◌≡◌, refl, sym, ap, subst, ◌∙◌, ℕ, zero, suc, ◌+◌, ◌-◌, ◌<◌, ◌≤◌, ◌==◌, List, [], ◌∷◌, ◌++◌, length, Option, Some, None, Bool, true, false, if◌then◌else◌, arith}
 use Rattle.std.specs.Prelude.{drop, slice_get, take}
 use Rattle.std.proofs.lemmas.List.{drop-take, length-append, length-drop, length-take-le, take-append-drop}
-use Rattle.mesh_semantics.specs.Tables.{Each}
+use Rattle.run_words.specs.Tables.{Each}
 use Rattle.mesh_semantics.specs.Wire.{Frame, WireFacts}
 use Rattle.mesh_semantics.specs.KeptWire.{Carries, KeptWire, fresh_in, from_to, kept_wanted, whole}
-use Rattle.mesh_semantics.proofs.Laws.{each_map, equal, longer_carries}
+use Rattle.run_words.proofs.Laws.{each_map, equal}
+use Rattle.mesh_semantics.proofs.Laws.{longer_carries}
 use Rattle.rendezvous_protocol.specs.declared.packet.Packet.{Packet}
 use Rattle.wire_link.specs.Wires.{IsWanted}
 

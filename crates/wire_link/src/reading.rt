@@ -1,10 +1,11 @@
 //! The frame that bytes are of.
 ghost use Rattle.std.specs.Prelude.{◌≡◌, [], option_map};
-ghost use Rattle.wire_link.specs.Bytes.{data_frame, decoded, read_args, read_async, read_byte, read_create, read_created, read_integer, read_number, read_packet, read_request, read_result, read_truth, read_value};
+ghost use Rattle.wire_link.specs.Bytes.{data_frame, decoded, read_args, read_async, read_byte, read_create, read_created, read_integer, read_number, read_packet, read_request, read_result};
+ghost use Rattle.wire_link.specs.Bytes.{read_truth, read_value};
 
 use crate::frame::{Frame, FrameBytes};
-use pool_syntax::{Args, NameId, Value};
 use rendezvous_protocol::Packet;
+use run_words::{Args, NameId, Value};
 
 fn byte(bytes: &[u8]) -> Option<(u8, &[u8])>
     ensures { option_map (λ r. (r.0, r.1.now)) result ≡ read_byte bytes.now }

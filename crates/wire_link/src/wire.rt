@@ -1,7 +1,7 @@
 //! One link as a wire.
 ghost use Rattle.std.specs.Prelude.{◌≡◌, ◌+◌, ◌^◌, ◌<◌, ◌≤◌, List, [], length, drop, None, Some, if◌then◌else◌, nat_lt, option_map};
-ghost use Rattle.pool_syntax.specs.declared.words.What.TheVariants as W;
-ghost use Rattle.mesh_semantics.specs.Tables.{Each};
+ghost use Rattle.run_words.specs.declared.words.What.TheVariants as W;
+ghost use Rattle.run_words.specs.Tables.{Each};
 ghost use Rattle.mesh_semantics.specs.Wire.{capacity, coming_in, greater, push_within};
 ghost use Rattle.mesh_semantics.specs.KeptWire.{Carries, empty_kept, kept_coming, kept_act, kept_hear, kept_send, kept_take, kept_wanted, with_fresh};
 ghost use Rattle.rendezvous_protocol.specs.declared.packet.Packet.{Packet as AnyPacket};
@@ -37,9 +37,11 @@ pub enum Arrived {
     Next { packet: Packet },
 }
 
-/// What is kept of a link as a wire: it keeps numbers, copies of the at most eight packets that were sent and not acknowledged, and the frames under way as bytes, at most 16 on each side. No call takes memory.
+/// What is kept of a link as a wire: it keeps numbers, copies of the at most eight packets that were sent and not acknowledged, and the frames under way as
+/// bytes, at most 16 on each side. No call takes memory.
 ///
-/// A wire keeps no list of what entered; it *carries* lists (`Carries` of `mesh_semantics`). What the calls say of what is kept holds of every list that is carried: of each call that changes the wire by a clause
+/// A wire keeps no list of what entered; it *carries* lists (`Carries` of `mesh_semantics`). What the calls say of what is kept holds of every list that is
+/// carried: of each call that changes the wire by a clause
 /// of the law `theorems::each_call_carries_what_was_carried`, which says that the list is carried after it, that the same is told and that the change is that of the wire; of the others by
 /// `a_kept_wire_does_what_its_wire_does` of `mesh_semantics`, where a wire that carries a list also carries every longer one that begins with it.
 #[derive(Drop)]
@@ -225,7 +227,8 @@ impl Wire {
         }
     }
 
-    /// The bytes of the first frame of a side, which are its encoding, at most 96; they are those of the wire of every list that is carried, since no frame depends on it. None exactly where there is none.
+    /// The bytes of the first frame of a side, which are its encoding, at most 96; they are those of the wire of every list that is carried, since no frame
+    /// depends on it. None exactly where there is none.
     pub fn front(&self, side: Side) -> Option<&FrameBytes>
         ensures bytes { option_map (λ b. b.now.items) result ≡ option_map encoding (front_of side self.now) }
         ensures read { option_map (λ b. decoded b.now.items) result ≡ option_map Some (front_of side self.now) }

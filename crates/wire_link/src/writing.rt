@@ -6,8 +6,8 @@ ghost use Rattle.wire_link.specs.declared.frame.Frame.TheVariants as F;
 
 use crate::frame::{Frame, FrameBytes};
 use arrayvec::ArrayVec;
-use pool_syntax::{Args, Value};
 use rendezvous_protocol::Packet;
+use run_words::{Args, Value};
 
 /// Puts bytes behind those that are there.
 fn put(bytes: &mut FrameBytes, more: &[u8])

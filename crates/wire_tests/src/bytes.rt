@@ -1,7 +1,7 @@
 //! The bytes of frames, worked out by hand: a byte for the side, the number, a byte for the kind of packet, and its fields.
 use crate::steps::{Step, answer, packet};
-use pool_syntax::{Args, NameId, Value};
 use rendezvous_protocol::Packet;
+use run_words::{Args, NameId, Value};
 use std::test::Fail;
 use wire_link::{Frame, Side, Wire, decode, encode};
 

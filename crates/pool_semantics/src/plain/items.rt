@@ -1,8 +1,8 @@
 //! Equality of written items and of errors.
 ghost use Rattle.std.specs.Prelude.{◌≡◌, ◌==◌};
-ghost use Rattle.mesh_semantics.specs.Same.{is_same_item, error_number};
+ghost use Rattle.run_words.specs.Same.{is_same_item, error_number};
 
-use pool_syntax::{Error, Item};
+use run_words::{Error, Item};
 use value_operators::operators::same;
 
 /// Whether two written items are the same.

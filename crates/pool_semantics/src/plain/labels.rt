@@ -1,7 +1,7 @@
 //! The labels that a search tries.
 ghost use Rattle.std.specs.Prelude.{◌≡◌, ◌≤◌, ℕ, ◌++◌, Some, None, length, is_some, IfSome, IfNone, OnOk, true, false};
 ghost use Rattle.pool_syntax.specs.TreeOf.{program_of};
-ghost use Rattle.pool_syntax.specs.declared.words.Label.{Label};
+ghost use Rattle.run_words.specs.declared.words.Label.{Label};
 ghost use Rattle.pool_relation.specs.Action.{Object, action};
 ghost use Rattle.pool_relation.specs.Configuration.{Configuration, object_of};
 ghost use Rattle.pool_relation.specs.Transition.{transition};
@@ -21,7 +21,7 @@ use crate::plain::mail::Mail;
 use crate::plain::redex::few_args;
 use crate::plain::state::State;
 use plain_object::act::Act;
-use pool_syntax::Label;
+use run_words::Label;
 use std::alloc::AllocError;
 use std::collections::VecDeque;
 use term_stack::parts::{Now, Task, Work};
@@ -141,7 +141,8 @@ impl<'a> State<'a> {
     /// The labels of one object.
     fn push_object(&self, object: u32, name: u32, into: &mut Vec<Label>) -> Result<(), AllocError>
         requires { Sound (program_of self.now.program.now) (configuration self.now) }
-        ensures { (x : Object) → object_of (configuration self.now) object ≡ Some x → OnOk result (into.new.items ≡ into.old.items ++ own_labels name object (action (program_of self.now.program.now) object x)) }
+        ensures { (x : Object) → object_of (configuration self.now) object ≡ Some x
+            → OnOk result (into.new.items ≡ into.old.items ++ own_labels name object (action (program_of self.now.program.now) object x)) }
     {
         match self.next_of(object) {
             None => Ok(()),

@@ -2,7 +2,7 @@
 ghost use Rattle.std.specs.Prelude.{◌≡◌, ◌<◌, [], ◌∷◌, ◌++◌, OnOk, Some, None, IfSome, IfNone, length, map, slice_index_or, is_some, true, false};
 ghost use Rattle.std.specs.List.{list_any, remove};
 ghost use Rattle.std.specs.FinMap.{put};
-ghost use Rattle.mesh_semantics.specs.Tables.{pair_cmp, list_at, put_list};
+ghost use Rattle.run_words.specs.Tables.{pair_cmp, list_at, put_list};
 ghost use Rattle.std.specs.BTreeMap.{get};
 ghost use Rattle.std.specs.declared.collections.VecDeque.{VecDeque};
 ghost use Rattle.std.specs.Global.{Global};
@@ -14,7 +14,8 @@ ghost use Rattle.pool_semantics.specs.Mails.{message_of, posts, queued};
 
 use plain_object::act::Act;
 use plain_object::offers::{names_method, offer_to};
-use pool_syntax::{Args, NameId, Named};
+use pool_syntax::Named;
+use run_words::{Args, NameId};
 use std::alloc::{AllocError, Global};
 use std::collections::{BTreeMap, VecDeque};
 use term_stack::parts::Work;
@@ -68,7 +69,8 @@ pub fn post(
     receiver: u32,
     mail: Mail,
 ) -> Result<(), AllocError>
-    ensures { OnOk result (posts messages.new.entries ≡ put pair_cmp (sender, receiver) (list_at pair_cmp (sender, receiver) (posts messages.old.entries) ++ message_of mail ∷ []) (posts messages.old.entries)) }
+    ensures { OnOk result
+        (posts messages.new.entries ≡ put pair_cmp (sender, receiver) (list_at pair_cmp (sender, receiver) (posts messages.old.entries) ++ message_of mail ∷ []) (posts messages.old.entries)) }
 {
     match messages.get_mut(&(sender, receiver)) {
         Some(queue) => {
@@ -105,7 +107,8 @@ pub fn unpost(
     at: usize,
 )
     requires { (q : VecDeque Mail Global) → get pair_cmp messages.old (sender, receiver) ≡ Some q → at < length q.items }
-    ensures { (q : VecDeque Mail Global) → get pair_cmp messages.old (sender, receiver) ≡ Some q → posts messages.new.entries ≡ put_list pair_cmp (sender, receiver) (map message_of (remove q.items at)) (posts messages.old.entries) }
+    ensures { (q : VecDeque Mail Global) → get pair_cmp messages.old (sender, receiver) ≡ Some q
+        → posts messages.new.entries ≡ put_list pair_cmp (sender, receiver) (map message_of (remove q.items at)) (posts messages.old.entries) }
 {
     match messages.get_mut(&(sender, receiver)) {
         None => return,

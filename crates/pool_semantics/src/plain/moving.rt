@@ -13,7 +13,7 @@ use crate::plain::mail::{Mail, any_offered};
 use crate::plain::state::State;
 use plain_object::act::Act;
 use plain_object::offers::{has_open_plain, offer_to};
-use pool_syntax::NameId;
+use run_words::NameId;
 use std::collections::VecDeque;
 use term_stack::parts::Work;
 

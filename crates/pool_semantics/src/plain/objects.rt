@@ -23,7 +23,8 @@ pub fn update<'a>(
 ) -> Result<(), AllocError>
     requires { (t : Thing) → get nat_cmp objects.old name ≡ Some t → Fits t.work.calls.items t.work.next change.now }
     ensures others { (q : ℕ) → (q ≡ name → ⊥) → get nat_cmp objects.new q ≡ get nat_cmp objects.old q }
-    ensures changed { (t : Thing) → get nat_cmp objects.old name ≡ Some t → OnOk result (things objects.new.entries ≡ put nat_cmp name (changed (thing_object t) (now_args t.work.next) change.now) (things objects.old.entries)) }
+    ensures changed { (t : Thing) → get nat_cmp objects.old name ≡ Some t
+        → OnOk result (things objects.new.entries ≡ put nat_cmp name (changed (thing_object t) (now_args t.work.next) change.now) (things objects.old.entries)) }
 {
     match objects.get_mut(&name) {
         None => Ok(()),

@@ -7,26 +7,8 @@ ghost use Rattle.plain_object.specs.Acts.{acted};
 ghost use Rattle.pool_semantics.specs.Shown.{are_few, shown};
 
 use plain_object::act::Act;
-use pool_syntax::{Args, Error, Item, NameId, Value};
+use run_words::{Args, Redex};
 use term_stack::parts::{Now, Operand, Ready, Task, Work};
-
-/// What an object does next.
-#[derive(Clone, Copy, Debug, PartialEq, Eq)]
-pub enum Redex {
-    NoObject,
-    Finished,
-    Faulted,
-    Local,
-    New { class: NameId },
-    Send { to: u32, method: NameId, args: Args },
-    Async { to: u32, method: NameId, args: Args },
-    Write { item: Item },
-    Answer,
-    Select,
-    Return { value: Value },
-    Waits { on: u32 },
-    Fault { error: Error },
-}
 
 /// The values of at most 8 operands.
 #[tactic(auto, using(term_stack::proofs::Lengths::length_values))]

@@ -3,7 +3,7 @@ ghost use Rattle.std.specs.Prelude.{◌≡◌, Some, None, IfOk, IfSome, IfNone,
 ghost use Rattle.pool_syntax.specs.TreeOf.{program_of};
 ghost use Rattle.plain_object.specs.declared.thing.Thing.{Thing};
 ghost use Rattle.pool_relation.specs.Transition.{transition, running};
-ghost use Rattle.mesh_semantics.specs.Same.{error_number};
+ghost use Rattle.run_words.specs.Same.{error_number};
 ghost use Rattle.pool_relation.specs.Action.{action};
 ghost use Rattle.pool_relation.specs.Configuration.{object_of};
 ghost use Rattle.plain_object.specs.Acts.{acted};
@@ -15,13 +15,14 @@ ghost use Rattle.pool_semantics.specs.Plains.{Doing, Stepped, configuration};
 use crate::plain::items::{same_error, same_item};
 use crate::plain::mail::Mail;
 use crate::plain::objects::{add, update};
-use crate::plain::redex::{Redex, show};
+use crate::plain::redex::show;
 use plain_object::act::Act;
 use plain_object::change::Change;
 use plain_object::lookup::find_class;
 use plain_object::offers::plain_alt;
 use plain_object::thing::Thing;
-use pool_syntax::{Error, Item, Label, NameId, Program, Value};
+use pool_syntax::Program;
+use run_words::{Error, Item, Label, NameId, Redex, Value};
 use std::alloc::{AllocError, Global};
 use std::collections::{BTreeMap, VecDeque};
 
@@ -51,7 +52,10 @@ impl<'a> State<'a> {
 
     /// What an object does next, or would do if it had no fault, if it is there.
     pub fn next_of(&self, object: u32) -> Option<(&Thing<'a>, Act<'a>)>
-        ensures some { IfSome result (λ r. (object_of (configuration self.now) object ≡ Some (thing_object r.0.now)) × (action (program_of self.now.program.now) object (thing_object r.0.now) ≡ acted (thing_object r.0.now) (now_args r.0.now.work.next) (now_names r.0.now.work.next) (now_choices r.0.now.work.next) r.1)) }
+        ensures some { IfSome result
+            (λ r. (object_of (configuration self.now) object ≡ Some (thing_object r.0.now))
+            × (action (program_of self.now.program.now) object (thing_object r.0.now)
+            ≡ acted (thing_object r.0.now) (now_args r.0.now.work.next) (now_names r.0.now.work.next) (now_choices r.0.now.work.next) r.1)) }
         ensures none { IfNone result (object_of (configuration self.now) object ≡ None) }
     {
         match self.objects.get(&object) {

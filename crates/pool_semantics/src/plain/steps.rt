@@ -2,7 +2,7 @@
 ghost use Rattle.std.specs.Prelude.{◌≡◌, Some, None, ◌==◌, ◌&&◌, IfOk};
 ghost use Rattle.pool_syntax.specs.TreeOf.{program_of};
 ghost use Rattle.pool_relation.specs.Transition.{transition, has_message};
-ghost use Rattle.mesh_semantics.specs.Same.{are_same};
+ghost use Rattle.run_words.specs.Same.{are_same};
 ghost use Rattle.pool_relation.specs.Configuration.{messages_of};
 ghost use Rattle.pool_semantics.specs.Plains.{Stepped, configuration};
 
@@ -13,7 +13,8 @@ use plain_object::arguments::has_args;
 use plain_object::change::Change;
 use plain_object::lookup::find_method;
 use plain_object::offers::offer_to;
-use pool_syntax::{Args, Label, NameId, Named, Value};
+use pool_syntax::Named;
+use run_words::{Args, Label, NameId, Value};
 use std::alloc::AllocError;
 use value_operators::operators::same;
 

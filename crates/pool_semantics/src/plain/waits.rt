@@ -1,7 +1,7 @@
 //! Objects that wait in calls, that met an error, or that are left over.
 ghost use Rattle.std.specs.Prelude.{◌≡◌, ◌≢◌, ◌≤◌, ℕ, List, Some, None, IfSome, IfNone, true, false};
 ghost use Rattle.pool_syntax.specs.TreeOf.{program_of};
-ghost use Rattle.pool_syntax.specs.declared.words.Value.{Value};
+ghost use Rattle.run_words.specs.declared.words.Value.{Value};
 ghost use Rattle.pool_syntax.specs.declared.tree.Named.{Named};
 ghost use Rattle.pool_relation.specs.Reducible.{Choice};
 ghost use Rattle.pool_relation.specs.Action.{Object, action};
@@ -17,7 +17,7 @@ use crate::plain::Plain;
 use crate::plain::moving::lesser;
 use crate::plain::state::State;
 use plain_object::act::Act;
-use pool_syntax::NameId;
+use run_words::NameId;
 
 /// An object that is in a call, or is to make one, with the receiver and the method of the call.
 #[derive(Clone, Copy)]
@@ -102,7 +102,8 @@ impl<'a> Plain<'a> {
     /// The least object from this name on that met no error and is in a call, or is to make one.
     pub fn waiting(&self, from: u32) -> Option<Waiting>
         ensures waits { IfSome result (λ w. WaitsAt (program_tree self.now) (configuration_of self.now) w.object) }
-        ensures call { IfSome result (λ w. (x : Object) → object_of (configuration_of self.now) w.object ≡ Some x → call_of (action (program_tree self.now) w.object x) ≡ Some (w.receiver, w.method.0)) }
+        ensures call { IfSome result
+            (λ w. (x : Object) → object_of (configuration_of self.now) w.object ≡ Some x → call_of (action (program_tree self.now) w.object x) ≡ Some (w.receiver, w.method.0)) }
         ensures least { IfSome result (λ w. (from ≤ w.object) × ((o : ℕ) → from ≤ o → WaitsAt (program_tree self.now) (configuration_of self.now) o → w.object ≤ o)) }
         ensures none { IfNone result ((o : ℕ) → from ≤ o → ¬ (WaitsAt (program_tree self.now) (configuration_of self.now) o)) }
     {

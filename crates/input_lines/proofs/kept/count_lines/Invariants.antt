@@ -1,5 +1,5 @@
 use Rattle.std.proofs.Common.{◌≡◌, ◌+◌, ◌-◌, ◌≤◌, length, drop}
-use Rattle.pool_lexer.specs.Lines.{lines}
+use Rattle.run_words.specs.Lines.{lines}
 use Rattle.input_lines.proofs.kept.count_lines.Given as goal
 
 -- the lines so far and those that are left are all

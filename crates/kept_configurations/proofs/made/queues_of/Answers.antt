@@ -1,4 +1,4 @@
-use Rattle.mesh_semantics.specs.Tables.{pair_cmp}
+use Rattle.run_words.specs.Tables.{pair_cmp}
 use Rattle.pool_semantics.specs.Mails.{queued}
 use Rattle.kept_configurations.proofs.Sorted.{in_order}
 use Rattle.kept_configurations.proofs.made.queues_of.Goals as goal

@@ -1,7 +1,8 @@
 use Rattle.std.proofs.Common.{◌≡◌, suc, ◌-◌, ◌<◌, List, [], ◌∷◌, ◌++◌, length, Some, sym, ap, subst, ◌∙◌, arith, length-append}
 use Rattle.std.specs.Prelude.{option_map}
-use Rattle.pool_syntax.specs.declared.words.Value.{Value}
-use Rattle.line_reader.specs.Fields.{parts_left, then_some, values_within}
+use Rattle.run_words.specs.declared.words.Value.{Value}
+use Rattle.line_reader.specs.Fields.{parts_left, values_within}
+use Rattle.run_words.specs.Partial.{◌>>=◌}
 use Rattle.line_reader.proofs.Parting.{none_left, parts_length, value_more}
 use Rattle.line_reader.proofs.shown.args_in.Goals as goal
 
@@ -13,7 +14,7 @@ returns-then-len-eq8 c =
     let here = ap (λ o. parts_left 32 (option_map (λ t. t.now) o)) c.in-Some.is in
     let full : 8 - length args ≡ 0 = omega arith in
     let some = subst (λ ps. 0 < length ps) (sym here) (parts_length 32 text) in
-    sym (ap (λ o. then_some o (λ vs. Some (args ++ vs))) (none_left (8 - length args) _ full some)) ∙ l.invariant.values
+    sym (ap (λ o. o >>= λ vs. Some (args ++ vs)) (none_left (8 - length args) _ full some)) ∙ l.invariant.values
 
 pub loop-left-preserved : goal.loop-left-preserved
 loop-left-preserved c =
@@ -27,7 +28,7 @@ loop-left-preserved c =
     record {
       few = omega (arith, ap length c.add.ensures, length-append args (v ∷ []));
       values =
-          ap (λ xs. then_some (values_within (8 - length xs) ws) (λ vs. Some (xs ++ vs))) c.add.ensures
+          ap (λ xs. values_within (8 - length xs) ws >>= λ vs. Some (xs ++ vs)) c.add.ensures
           ∙ (sym (value_more (8 - length args) (8 - length (args ++ v ∷ [])) args v w ws left (sym c.in_ok-value.ensures))
-          ∙ (ap (λ ps. then_some (values_within (8 - length args) ps) (λ vs. Some (args ++ vs))) (sym (here ∙ c.cut-next.ensures.parts)) ∙ l.invariant.values));
+          ∙ (ap (λ ps. values_within (8 - length args) ps >>= λ vs. Some (args ++ vs)) (sym (here ∙ c.cut-next.ensures.parts)) ∙ l.invariant.values));
     }

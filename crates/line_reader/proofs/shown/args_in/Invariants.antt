@@ -1,6 +1,7 @@
 use Rattle.std.proofs.Common.{◌≡◌, ◌-◌, ◌≤◌, length, Some}
 use Rattle.std.specs.Prelude.{◌++◌, option_map}
-use Rattle.line_reader.specs.Fields.{parts_left, then_some, values_within}
+use Rattle.line_reader.specs.Fields.{parts_left, values_within}
+use Rattle.run_words.specs.Partial.{◌>>=◌}
 use Rattle.line_reader.proofs.shown.args_in.Given as goal
 
 -- the values so far and those that are left are all
@@ -8,7 +9,7 @@ abbrev pub invariant-loop-left : goal.invariant-loop-left
 invariant-loop-left l =
     record {
       few : length l.args ≤ 8;
-      values : then_some (values_within (8 - length l.args) (parts_left 32 (option_map (λ t. t.now) l.left))) (λ vs. Some (l.args ++ vs)) ≡ values_within 8 (parts_left 32 (option_map (λ t. t.now) l.rest));
+      values : (values_within (8 - length l.args) (parts_left 32 (option_map (λ t. t.now) l.left)) >>= λ vs. Some (l.args ++ vs)) ≡ values_within 8 (parts_left 32 (option_map (λ t. t.now) l.rest));
     }
 
 abbrev pub decreases-loop-left : goal.decreases-loop-left

@@ -1,5 +1,5 @@
 use Rattle.std.proofs.Common.{◌≡◌, drop}
-use Rattle.pool_syntax.specs.Tokens.{every}
+use Rattle.run_words.specs.Text.{every}
 use Rattle.line_reader.specs.Fields.{in_a_name}
 use Rattle.line_reader.proofs.spelled.are_in_a_name.Given as goal
 

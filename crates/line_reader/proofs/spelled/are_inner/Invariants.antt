@@ -1,5 +1,5 @@
 use Rattle.std.proofs.Common.{◌≡◌, drop}
-use Rattle.pool_syntax.specs.Tokens.{every, is_inner}
+use Rattle.run_words.specs.Text.{every, is_inner}
 use Rattle.line_reader.proofs.spelled.are_inner.Given as goal
 
 -- each byte so far passes

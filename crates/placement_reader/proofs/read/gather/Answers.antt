@@ -1,5 +1,5 @@
 use Rattle.std.proofs.Common.{◌≡◌, ◌+◌, drop, None, sym, ap, subst, ◌∙◌, arith}
-use Rattle.pool_lexer.specs.Lines.{lines, words}
+use Rattle.run_words.specs.Lines.{lines, words}
 use Rattle.std.specs.Prelude.{slice_range}
 use Rattle.input_lines.specs.Kept.{Kept, kept_from}
 use Rattle.placement_reader.specs.Forms.{AreFine, fault_or_bad, form_of}

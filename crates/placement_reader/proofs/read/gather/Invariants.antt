@@ -1,5 +1,5 @@
 use Rattle.std.proofs.Common.{◌≡◌, ◌+◌, ◌-◌, ◌≤◌, [], length, drop}
-use Rattle.pool_lexer.specs.Lines.{lines}
+use Rattle.run_words.specs.Lines.{lines}
 use Rattle.input_lines.specs.Kept.{kept_from}
 use Rattle.placement_reader.specs.Forms.{AreFine}
 use Rattle.placement_reader.specs.Placements.{first_fault, forms_of}

@@ -1,5 +1,5 @@
 use Rattle.std.proofs.Common.{◌≡◌, drop}
-use Rattle.object_code.specs.Suits.{most_vars}
+use Rattle.code_semantics.specs.Suits.{most_vars}
 use Rattle.placement_reader.proofs.Most.{greater}
 use Rattle.placement_reader.proofs.read.most_vars.Given as goal
 

@@ -1,11 +1,11 @@
 use Rattle.std.proofs.Common.{◌+◌, ◌*◌, ◌≤◌, drop, ap, sym, subst, ◌∙◌, length}
 use Rattle.std.specs.List.{All}
-use Rattle.pool_syntax.specs.declared.words.Placement.{Placement}
-use Rattle.object_code.specs.Suits.{IsFromTo, IsOfMesh, most_vars, nodes, words}
+use Rattle.run_words.specs.declared.words.Placement.{Placement}
+use Rattle.code_semantics.specs.Suits.{IsFromTo, IsOfMesh, most_vars, nodes, words}
 use Rattle.std.specs.Prelude.{slice_range}
-use Rattle.pool_lexer.specs.Lines.{lines, words as line_words}
+use Rattle.run_words.specs.Lines.{lines, words as line_words}
 use Rattle.input_lines.specs.Kept.{kept_from}
-use Rattle.mesh_semantics.proofs.Laws.{routed_ways}
+use Rattle.run_words.proofs.Laws.{routed_ways}
 use Rattle.placement_reader.specs.Forms.{AreFine, form_of}
 use Rattle.placement_reader.specs.Placements.{fault_in, placement_of, placement_of_lines}
 use Rattle.placement_reader.proofs.Faultless.{mesh_told, routed, told}

@@ -1,5 +1,5 @@
 use Rattle.std.proofs.Common.{◌≡◌, length}
-use Rattle.mesh_semantics.specs.Same.{are_same}
+use Rattle.run_words.specs.Same.{are_same}
 use Rattle.term_stack.specs.Reduced.{values}
 use Rattle.plain_object.proofs.arguments.same_operands.Given as goal
 

@@ -1,15 +1,15 @@
 use Rattle.std.proofs.Common.{◌≡◌, ◌∙◌, List, ap, subst}
-use Rattle.pool_syntax.specs.Tokens.{Text}
+use Rattle.run_words.specs.Text.{Text}
 use Rattle.pool_syntax.specs.Terms.{ProgramTree}
-use Rattle.pool_syntax.specs.declared.words.Line.{Line}
+use Rattle.run_words.specs.declared.words.Line.{Line}
 use Rattle.pool_machine.specs.Answers.{nothing_sent}
 use Rattle.placed_code.proofs.Laws.{parsed_checked}
 use Rattle.readable_records.specs.ReadsBack.{ReadsBack}
 use Rattle.readable_records.proofs.Laws.{parsed_distinct, reads_back}
 use Rattle.run_record.specs.Numbered.{lines_after}
 use Rattle.run_record.specs.Records as Rec
-use Rattle.record_check.specs.declared.lead.Verdict.{Verdict}
-use Rattle.record_check.specs.declared.lead.Verdict.TheVariants as V
+use Rattle.run_words.specs.declared.verdicts.Verdict.{Verdict}
+use Rattle.run_words.specs.declared.verdicts.Verdict.TheVariants as V
 use Rattle.record_check.specs.Verdicts.{Judged}
 use Rattle.verdict_lines.specs.VerdictText.{verdict_text}
 use Rattle.pool_driver.specs.Outputs.{status_of_verdict}

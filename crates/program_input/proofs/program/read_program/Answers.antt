@@ -1,5 +1,6 @@
 use Rattle.std.proofs.Common.{◌≡◌, ◌∙◌, ℕ, ◌+◌, List, Err, refl, sym, ap, subst}
-use Rattle.pool_syntax.specs.Tokens.{Text, HasTokens}
+use Rattle.run_words.specs.Text.{Text}
+use Rattle.pool_syntax.specs.Tokens.{HasTokens}
 use Rattle.pool_syntax.specs.Terms.{ProgramTree}
 use Rattle.pool_syntax.specs.Rules.{program}
 use Rattle.pool_syntax.specs.Grammar.{rule}

@@ -1,17 +1,17 @@
 -- Reading what was written gives the lines again, and they are a run.
 use Rattle.std.proofs.Common.{◌≡◌, ap, subst, ◌∙◌, List, true}
-use Rattle.pool_syntax.specs.Table.{is_distinct}
-use Rattle.pool_syntax.specs.Tokens.{Text}
+use Rattle.run_words.specs.Table.{is_distinct}
+use Rattle.run_words.specs.Text.{Text}
 use Rattle.pool_syntax.specs.Terms.{ProgramTree}
-use Rattle.pool_syntax.specs.declared.words.Line.{Line}
+use Rattle.run_words.specs.declared.words.Line.{Line}
 use Rattle.record_lines.specs.SecondForm.{text2}
 use Rattle.run_record.specs.Numbered.{lines_after}
 use Rattle.run_record.specs.Records.{record_of}
 use Rattle.run_record.specs.Readable.{IsRecord}
 use Rattle.record_laws.proofs.Names.{lines_back, record_placed}
 use Rattle.record_laws.proofs.SecondReading.{text2_read}
-use Rattle.record_check.specs.declared.lead.Verdict.{Verdict}
-use Rattle.record_check.specs.declared.lead.Verdict.TheVariants.{Yes}
+use Rattle.run_words.specs.declared.verdicts.Verdict.{Verdict}
+use Rattle.run_words.specs.declared.verdicts.Verdict.TheVariants.{Yes}
 use Rattle.record_check.specs.Judged.{IsRunOf}
 use Rattle.record_check.specs.Verdicts.{Judged}
 use Rattle.record_check.proofs.OneVerdict.{only_yes}

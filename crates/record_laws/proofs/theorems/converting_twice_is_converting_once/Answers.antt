@@ -1,6 +1,6 @@
 -- What is carried over is read as what it was made from, so that the same is made of it again.
 use Rattle.std.proofs.Common.{◌≡◌, ap, ◌∙◌, None, List, []}
-use Rattle.pool_syntax.specs.Tokens.{Text}
+use Rattle.run_words.specs.Text.{Text}
 use Rattle.line_reader.specs.Lines.{Told}
 use Rattle.record_lines.specs.SecondForm.{text2}
 use Rattle.run_record.specs.Numbered.{lines_after, names_after}

@@ -1,5 +1,5 @@
 use Rattle.std.proofs.Common.{refl, ◌∷◌, [], arith}
-use Rattle.pool_syntax.specs.declared.words.Event.TheVariants as V
+use Rattle.run_words.specs.declared.words.Event.TheVariants as V
 use Rattle.schedule_reader.specs.Events.{turns}
 use Rattle.input_lines.proofs.Laws.{more}
 use Rattle.schedule_reader.proofs.round.push_turns.Goals as goal

@@ -1,7 +1,7 @@
 use Rattle.std.proofs.Common.{rules, ◌≡◌, ◌-◌, ◌<◌, ap, slice_get, ◌∙◌, get_or, length, arith}
 use Rattle.std.proofs.lemmas.List.Sorted.{IsPartitionPoint-from_clause, IsPartitionedBy-leb}
 use Rattle.std.specs.Prelude.{nat_le}
-use Rattle.pool_syntax.specs.declared.words.Event.TheVariants.{Turn}
+use Rattle.run_words.specs.declared.words.Event.TheVariants.{Turn}
 use Rattle.schedule_reader.specs.declared.stretch.Part.TheVariants.{One}
 use Rattle.schedule_reader.specs.declared.stretch.Stretch.{Stretch}
 use Rattle.schedule_reader.specs.Stretches.{stretched}

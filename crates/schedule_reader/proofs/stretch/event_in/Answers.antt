@@ -1,7 +1,7 @@
 use Rattle.std.proofs.Common.{◌≡◌, ℕ, ◌-◌, ◌*◌, ◌%◌, ◌<◌, [], ◌∷◌, length, get_or, subst, sym, ap, ◌∙◌, slice_get, Some, arith}
 use Rattle.std.proofs.Math.Nat.{mod-one, mod-lt}
 use Rattle.std.proofs.lemmas.Option.{slice_get-get_or}
-use Rattle.pool_syntax.specs.declared.words.Event.TheVariants.{Turn}
+use Rattle.run_words.specs.declared.words.Event.TheVariants.{Turn}
 use Rattle.schedule_reader.specs.Stretches.{part_events}
 use Rattle.schedule_reader.proofs.Stretching.{get_repeat, not_empty}
 use Rattle.schedule_reader.proofs.stretch.event_in.Goals as goal

@@ -1,7 +1,7 @@
 use Rattle.std.proofs.Common.{◌∙◌, ◌<◌, ◌≤◌, ◌+◌, ◌-◌, List, ap, drop, take, length, subst, arith}
 use Rattle.std.proofs.lemmas.List.{take_rest}
-use Rattle.pool_syntax.specs.declared.words.Label.{Label}
-use Rattle.search_lines.specs.Steps.{first_of, local_of}
+use Rattle.run_words.specs.declared.words.Label.{Label}
+use Rattle.search_lines.specs.Steps.{leading_locals, local_of}
 use Rattle.search_lines.proofs.StepLaws.{step_more}
 use Rattle.search_lines.proofs.steps.push_steps.Goals as goal
 
@@ -11,6 +11,6 @@ loop-at-preserved c =
     let l = c.loop-at in
     let inside : l.at < length labels = omega (arith, c.loop-at-test.true) in
     let rest = take_rest labels (l.at + 1) in
-    step_more c.args.names.now labels l.at c.index-labels-at.result c.first_of-times.result c.args.text.now.items l.text.items c.push_step.new.text.items
-    inside (c.index-labels-at.is) (c.first_of-times.ensures.count ∙ ap (λ o. first_of o (take (length labels - (l.at + 1)) (drop (l.at + 1) labels))) c.local_of.ensures ∙ ap (first_of (local_of c.index-labels-at.result)) rest)
-    (subst (λ (xs : List Label). c.first_of-times.result ≤ length xs) rest c.first_of-times.ensures.within) l.invariant.1 c.in_ok-push_step.ensures
+    step_more c.args.names.now labels l.at c.index-labels-at.result c.leading_locals-times.result c.args.text.now.items l.text.items c.push_step.new.text.items
+    inside (c.index-labels-at.is) (c.leading_locals-times.ensures.count ∙ ap (λ o. leading_locals o (take (length labels - (l.at + 1)) (drop (l.at + 1) labels))) c.local_of.ensures ∙ ap (leading_locals (local_of c.index-labels-at.result)) rest)
+    (subst (λ (xs : List Label). c.leading_locals-times.result ≤ length xs) rest c.leading_locals-times.ensures.within) l.invariant.1 c.in_ok-push_step.ensures

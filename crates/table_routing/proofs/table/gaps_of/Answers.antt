@@ -1,6 +1,6 @@
 use Rattle.std.proofs.Common.{◌+◌, ◌/◌, ◌%◌, ◌∙◌, List, ap, sym, subst}
-use Rattle.pool_syntax.specs.declared.words.LinkId.{LinkId}
-use Rattle.mesh_semantics.specs.Paths.{is_cut}
+use Rattle.run_words.specs.declared.words.LinkId.{LinkId}
+use Rattle.run_words.specs.Paths.{is_cut}
 use Rattle.table_routing.specs.Tables.{AreGaps, size}
 use Rattle.table_routing.proofs.Places.{gap_more}
 use Rattle.table_routing.proofs.table.gaps_of.Goals as goal

@@ -1,6 +1,6 @@
 use Rattle.std.proofs.Common.{◌≡◌, ◌<◌, ◌+◌, ◌-◌, ◌*◌, true, false, sym, ap, subst, ◌∙◌, get_or, arith}
-use Rattle.mesh_semantics.specs.Paths.{is_cut, next}
-use Rattle.mesh_semantics.proofs.Laws.{follow}
+use Rattle.run_words.specs.Paths.{is_cut, next}
+use Rattle.run_words.proofs.Laws.{follow}
 use Rattle.table_routing.specs.Tables.{size}
 use Rattle.table_routing.proofs.Places.{below, gap_at, next_at}
 use Rattle.table_routing.proofs.Following.{at_cut, at_end, at_goal, at_link, next_inside, told}

@@ -1,6 +1,6 @@
 use Rattle.std.proofs.Common.{◌≡◌, ◌-◌, ◌<◌, List, suc, length, sym, subst, arith}
-use Rattle.pool_syntax.specs.declared.words.Route.{Route}
-use Rattle.mesh_semantics.specs.Routes.{AreRoutes}
+use Rattle.run_words.specs.declared.words.Route.{Route}
+use Rattle.run_words.specs.Routes.{AreRoutes}
 use Rattle.table_routing.proofs.Routing.{inside, put_at}
 use Rattle.table_routing.proofs.table.put_routes.Goals as goal
 

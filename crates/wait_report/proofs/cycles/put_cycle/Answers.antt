@@ -1,7 +1,7 @@
 use Rattle.std.proofs.Common.{rules, ◌≡◌, ◌≢◌, ◌<◌, ◌+◌, ◌-◌, ap, arith, sym, ◌∙◌, suc, [], ◌∷◌, ◌++◌, length, get_or, Some, None}
 use Rattle.std.proofs.lemmas.List.{append_assoc}
-use Rattle.pool_syntax.specs.Tokens.{Text}
-use Rattle.mesh_semantics.proofs.Laws.{same_some}
+use Rattle.run_words.specs.Text.{Text}
+use Rattle.run_words.proofs.Laws.{same_some}
 use Rattle.record_lines.specs.RecordText.{led, object_text}
 use Rattle.wait_report.specs.Cycles.{jump}
 use Rattle.wait_report.proofs.Told.{told_on, told_last, told_none, told_less, no_steps, in_turn, taken_back, on_ok}

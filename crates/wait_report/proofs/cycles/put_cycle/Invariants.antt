@@ -1,5 +1,5 @@
 use Rattle.std.proofs.Common.{◌≡◌, ◌<◌, ◌++◌, ◌-◌, length}
-use Rattle.pool_syntax.specs.Tokens.{Text}
+use Rattle.run_words.specs.Text.{Text}
 use Rattle.mesh_semantics.specs.Standing.{chase}
 use Rattle.wait_report.specs.Cycles.{jump, cycle_at}
 use Rattle.wait_report.proofs.Told.{ended}

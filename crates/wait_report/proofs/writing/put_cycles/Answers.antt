@@ -1,7 +1,7 @@
 use Rattle.std.proofs.Common.{rules, ◌≡◌, ◌<◌, ◌+◌, ap, arith, sym, ◌∙◌, subst, ℕ, List, ◌++◌, length, get_or, drop, false}
 use Rattle.std.proofs.lemmas.List.{append_assoc}
 use Rattle.mesh_semantics.specs.Standing.{chase}
-use Rattle.pool_syntax.specs.declared.words.Standing.TheVariants.{Ready}
+use Rattle.run_words.specs.declared.words.Standing.TheVariants.{Ready}
 use Rattle.wait_report.specs.declared.rows.ObjectRow.{ObjectRow}
 use Rattle.wait_report.specs.Calls.{names_of, AreNext, Rising}
 use Rattle.wait_report.specs.Cycles.{jump, cycle_at}

@@ -1,6 +1,6 @@
 use Rattle.std.proofs.Common.{◌≡◌, ◌<◌, ◌*◌, ap, arith, sym, ◌∙◌, subst, Some, None, slice_get}
 use Rattle.std.proofs.lemmas.Option.{slice_get_past}
-use Rattle.mesh_semantics.specs.Tables.{pair_cmp, list_at}
+use Rattle.run_words.specs.Tables.{pair_cmp, list_at}
 use Rattle.cell_pool.specs.Lists.{list_of}
 use Rattle.mesh_routing.specs.Links.{LinksOf}
 use Rattle.mesh_routing.proofs.Routed.{there_read}

@@ -1,5 +1,5 @@
 use Rattle.std.proofs.Common.{◌≡◌, ◌<◌, ◌-◌, ◌*◌, sym, subst}
-use Rattle.node_semantics.specs.Machine.{leaving}
+use Rattle.run_words.specs.Tables.{leaving}
 use Rattle.mesh_routing.specs.Links.{LinksOf}
 use Rattle.mesh_routing.proofs.Routed.{free_there}
 use Rattle.mesh_routing.proofs.links.Links.leaving.Goals as goal

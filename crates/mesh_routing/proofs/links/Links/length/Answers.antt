@@ -1,6 +1,5 @@
 use Rattle.std.proofs.Common.{◌≡◌, ◌<◌, ◌*◌, rules, ap, arith, sym, ◌∙◌, subst, length}
-use Rattle.mesh_semantics.specs.Tables.{pair_cmp, list_at}
-use Rattle.node_semantics.specs.Machine.{leaving}
+use Rattle.run_words.specs.Tables.{pair_cmp, list_at, leaving}
 use Rattle.mesh_routing.specs.Links.{LinksOf}
 use Rattle.mesh_routing.specs.Nodes.{view_of}
 use Rattle.mesh_routing.proofs.Routed.{one_there, there_read}

@@ -1,5 +1,5 @@
 use Rattle.std.proofs.Common.{◌≡◌, ◌<◌, ◌*◌, ap, sym, ◌∙◌, subst, set, drop, slice_get}
-use Rattle.mesh_semantics.specs.Tables.{pair_cmp, list_at, put_list}
+use Rattle.run_words.specs.Tables.{pair_cmp, list_at, put_list}
 use Rattle.cell_pool.specs.Lists.{list_of, with_list}
 use Rattle.mesh_routing.specs.Links.{LinksOf, with_links}
 use Rattle.mesh_routing.specs.Nodes.{node_of, view_of}

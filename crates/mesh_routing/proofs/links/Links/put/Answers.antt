@@ -1,6 +1,5 @@
 use Rattle.std.proofs.Common.{◌≡◌, ◌<◌, ◌≤◌, ◌*◌, sym, subst, [], ◌∷◌, ◌++◌, set, OnOk, IfErr, IsErr}
-use Rattle.node_semantics.specs.Machine.{leaving}
-use Rattle.mesh_semantics.specs.Tables.{pair_cmp, push_list}
+use Rattle.run_words.specs.Tables.{leaving, pair_cmp, push_list}
 use Rattle.cell_pool.specs.Lists.{list_of, with_list}
 use Rattle.mesh_routing.specs.Links.{LinksOf, with_links}
 use Rattle.mesh_routing.specs.Nodes.{view_of}

@@ -1,5 +1,5 @@
 use Rattle.std.proofs.Common.{rules, ◌≡◌, ◌+◌, ◌-◌}
-use Rattle.mesh_semantics.specs.Paths.{toward}
+use Rattle.run_words.specs.Paths.{toward}
 use Rattle.mesh_routing.proofs.Steps.{stepped}
 use Rattle.mesh_routing.proofs.mesh.Mesh.next.Goals as goal
 

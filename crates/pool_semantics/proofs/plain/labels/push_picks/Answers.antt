@@ -1,5 +1,5 @@
 use Rattle.std.proofs.Common.{◌≡◌, ◌≤◌, ◌∙◌, ◌+◌, ◌<◌, ◌++◌, [], ◌∷◌, ap, sym, subst, ℕ, suc, length, drop, append-nil, rules, arith}
-use Rattle.pool_syntax.specs.declared.words.Label.TheVariants as L
+use Rattle.run_words.specs.declared.words.Label.TheVariants as L
 use Rattle.term_stack.specs.Arguments.{now_choices}
 use Rattle.term_stack.specs.Reduced.{choices}
 use Rattle.search_laws.specs.Labels.{picks}

@@ -3,7 +3,7 @@ use Rattle.std.proofs.lemmas.Grind.{common_steps}
 use Rattle.std.specs.Option.{option_copied_mut}
 use Rattle.std.specs.Map.{lookup}
 use Rattle.std.specs.BTreeMap.{is_at, insert_entry}
-use Rattle.mesh_semantics.specs.Tables.{Pair, pair_cmp}
+use Rattle.run_words.specs.Tables.{Pair, pair_cmp}
 use Rattle.pool_semantics.specs.Mails.{posts}
 use Rattle.pool_semantics.proofs.Queued.{posted_last, posted_first}
 use Rattle.pool_semantics.proofs.plain.mail.post.Goals as goal

@@ -2,7 +2,7 @@ use Rattle.std.proofs.Common.{◌≡◌, ◌∙◌, ap, sym, Some}
 use Rattle.std.specs.Option.{option_copied_mut}
 use Rattle.std.specs.Map.{lookup, remove_entry}
 use Rattle.std.specs.BTreeMap.{is_at}
-use Rattle.mesh_semantics.specs.Tables.{Pair, pair_cmp}
+use Rattle.run_words.specs.Tables.{Pair, pair_cmp}
 use Rattle.pool_semantics.specs.Mails.{posts}
 use Rattle.pool_semantics.proofs.Queued.{unposted_some, unposted_none}
 use Rattle.pool_semantics.proofs.plain.mail.unpost.Goals as goal

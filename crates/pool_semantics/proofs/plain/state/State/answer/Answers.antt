@@ -4,7 +4,7 @@ use Rattle.std.specs.FinMap.{put}
 use Rattle.pool_syntax.specs.TreeOf.{program_of, method_tree, statements_of}
 use Rattle.pool_relation.specs.Action.{method_of}
 use Rattle.pool_relation.specs.Transition as X
-use Rattle.mesh_semantics.specs.Same.{are_same}
+use Rattle.run_words.specs.Same.{are_same}
 use Rattle.pool_relation.specs.Transition.{has_message}
 use Rattle.pool_relation.specs.Configuration.{messages_of}
 use Rattle.term_stack.specs.Arguments.{now_args, now_names, now_choices}

@@ -3,7 +3,7 @@ use Rattle.std.specs.Map.{lookup}
 use Rattle.std.specs.Map.Iter.{deref_pair}
 use Rattle.std.specs.BTreeMap.{is_at}
 use Rattle.std.proofs.lemmas.Map.Iter.{rest_more, rest_all, btree_map_turn}
-use Rattle.mesh_semantics.specs.Tables.{Pair, pair_cmp}
+use Rattle.run_words.specs.Tables.{Pair, pair_cmp}
 use Rattle.pool_syntax.specs.TreeOf.{program_of}
 use Rattle.pool_semantics.specs.Mails.{queued}
 use Rattle.pool_semantics.specs.Plains.{configuration}

@@ -1,4 +1,4 @@
-use Rattle.mesh_semantics.specs.Tables.{pair_cmp}
+use Rattle.run_words.specs.Tables.{pair_cmp}
 use Rattle.pool_syntax.specs.TreeOf.{program_of}
 use Rattle.pool_semantics.specs.Plains.{configuration}
 use Rattle.pool_semantics.proofs.Least.{Searched}

@@ -1,11 +1,10 @@
 use Rattle.std.proofs.Common.{◌≡◌, ◌∙◌, ap, ap₂, refl, sym, Some, true, false, ◌==◌, is_some, arith}
-use Rattle.pool_syntax.specs.TreeOf.{program_of}
+use Rattle.pool_syntax.specs.TreeOf.{program_of, class_tree}
 use Rattle.std.specs.Ordering.{nat_cmp}
 use Rattle.std.specs.BTreeMap.{get}
 use Rattle.std.specs.FinMap.{put}
 use Rattle.plain_object.specs.Looked.{class_seen}
 use Rattle.pool_syntax.specs.Classes.{class_of}
-use Rattle.pool_syntax.specs.TreeOf.{class_tree}
 use Rattle.pool_semantics.specs.Plains.{configuration}
 use Rattle.pool_semantics.proofs.Labels.{new_made, new_other, new_used, new_refused}
 use Rattle.pool_semantics.proofs.plain.state.State.new.Goals as goal

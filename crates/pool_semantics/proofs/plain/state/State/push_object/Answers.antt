@@ -1,6 +1,6 @@
 use Rattle.std.proofs.Common.{◌≡◌, ◌∙◌, ◌++◌, ap, sym, subst, is_some, OnOk, true}
 use Rattle.pool_syntax.specs.TreeOf.{program_of}
-use Rattle.mesh_semantics.proofs.Laws.{same_some}
+use Rattle.run_words.proofs.Laws.{same_some}
 use Rattle.pool_relation.specs.Action.{Action, action}
 use Rattle.search_laws.specs.Labels.{own_labels}
 use Rattle.term_stack.specs.Arguments.{now_args, now_names, now_choices}

@@ -2,8 +2,8 @@ use Rattle.std.proofs.Common.{◌≡◌, ◌∙◌, ap, ap₂, refl, sym, is_som
 use Rattle.std.specs.Ordering.{nat_cmp}
 use Rattle.std.specs.BTreeMap.{get}
 use Rattle.pool_syntax.specs.TreeOf.{program_of}
-use Rattle.mesh_semantics.specs.Tables.{Pair, pair_cmp, list_at}
-use Rattle.mesh_semantics.specs.Same.{are_same}
+use Rattle.run_words.specs.Tables.{Pair, pair_cmp, list_at}
+use Rattle.run_words.specs.Same.{are_same}
 use Rattle.term_stack.specs.Arguments.{now_args}
 use Rattle.pool_semantics.specs.Plains.{configuration}
 use Rattle.plain_object.specs.Acts.{posts_act}

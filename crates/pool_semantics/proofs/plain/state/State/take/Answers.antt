@@ -3,11 +3,11 @@ use Rattle.std.specs.Option.{option_copied}
 use Rattle.std.specs.List.{remove}
 use Rattle.pool_syntax.specs.TreeOf.{program_of, method_tree, statements_of}
 use Rattle.pool_relation.specs.Action.{method_of}
-use Rattle.mesh_semantics.specs.Tables.{Pair, pair_cmp, put_list}
+use Rattle.run_words.specs.Tables.{Pair, pair_cmp, put_list}
 use Rattle.pool_relation.specs.Transition as X
-use Rattle.mesh_semantics.specs.Same.{are_same}
+use Rattle.run_words.specs.Same.{are_same}
 use Rattle.pool_relation.specs.Transition.{first_message, without_first}
-use Rattle.mesh_semantics.specs.Message.{Message}
+use Rattle.run_words.specs.Message.{Message}
 use Rattle.pool_relation.specs.Configuration.{messages_of}
 use Rattle.term_stack.specs.Arguments.{now_names, now_choices}
 use Rattle.plain_object.specs.Things.{thing_object}
