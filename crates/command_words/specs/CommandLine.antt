@@ -1,5 +1,5 @@
 -- The command line as `clap` has it, and what its matches ask for.
-use Rattle.std.specs.Prelude.{List, Option, Some, None, option_map, option_and_then, true, codes, bytes_eq, if◌then◌else◌}
+use Rattle.std.specs.Prelude.{List, Option, Some, None, option_map, option_and_then, true, codes, fold, bytes_eq, if◌then◌else◌}
 use Rattle.run_words.specs.Text.{Text}
 use Rattle.run_words.specs.Lines.{decimal_of}
 use Rattle.clap.specs.Words.{App, Row, Rule, Shape, first_of, new_app, new_rule, with_rule, with_subcommand}
@@ -23,6 +23,14 @@ word_app name id = with_rule (new_app name) (positional id)
 -- a command of a program and a record
 abbrev pub checked_app : Text → App
 checked_app name = with_rule (with_rule (new_app name) (positional (codes "program"))) (positional (codes "record"))
+
+-- a command of the required words of these names
+abbrev pub words_app : Text → List Text → App
+words_app name ids = fold (λ a id. with_rule a (positional id)) (new_app name) ids
+
+-- a command with a subcommand for each row, of its name and the names of its words
+abbrev pub with_each : App → List (Text × List Text) → App
+with_each app rows = fold (λ a row. with_subcommand a (words_app row.0 row.1).top) app rows
 
 -- no program's name stands before the words, nothing asks for help, and there must be a subcommand
 abbrev pub settings : Shape → Shape

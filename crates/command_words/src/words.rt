@@ -1,11 +1,12 @@
 //! The words of the command line, read by `clap`.
 ghost use Rattle.std.specs.Prelude.{◌≡◌, IfOk, IfSome, List, codes, map, option_map, false};
 ghost use Rattle.std.specs.List.{list_any};
-ghost use Rattle.clap.specs.Words.{app_of, first_of, found_of, rows_of, rule_of, subcommand_rows_of};
+ghost use Rattle.clap.specs.Words.{app_of, first_of, found_of, new_app, rows_of, rule_of, subcommand_rows_of};
+ghost use Rattle.clap.specs.Simple.{on_top};
 ghost use Rattle.clap.specs.declared.builder.Command.TheViews.{out-Command as fields_of};
 ghost use Rattle.command_words.specs.Commands.{IsSized, is_option, request, request_of, ring_size, texts_of};
-ghost use Rattle.command_words.specs.CommandLine.{check_request, checked_app, convert_request, files_app, load_request, matched_request, pool_app, positional, program_request, ring_request};
-ghost use Rattle.command_words.specs.CommandLine.{run_request, word_app};
+ghost use Rattle.command_words.specs.CommandLine.{check_request, convert_request, load_request, matched_request, pool_app, program_request};
+ghost use Rattle.command_words.specs.CommandLine.{positional as rule_at, ring_request, run_request, settings, with_each, words_app};
 ghost use Rattle.run_words.specs.Lines.{decimal_of};
 
 use crate::command::{Ask, Command, Files, Show};
@@ -42,60 +43,83 @@ fn any_is_dashed(words: &[String]) -> bool
 
 /// A required positional argument.
 fn positional<'a>(alloc: Global, id: &'a str) -> Arg<'a>
-    ensures rule { rule_of result ≡ positional id.entry.now }
+    ensures rule { rule_of result ≡ rule_at id.entry.now }
     ensures local { result.global ≡ false }
 {
     Arg::new(alloc, id).required(true)
 }
 
-/// A subcommand of the names of three inputs, of which the first is a program or a unit file.
-fn of_files<'a>(alloc: Global, name: &'a str) -> Result<clap::Command<'a>, AllocError>
-    ensures app { IfOk result (λ c. app_of c ≡ files_app name.entry.now) }
+/// A command of the words of these names.
+fn of_words<'a>(
+    alloc: Global,
+    name: &'a str,
+    ids: &'a [&'a str],
+) -> Result<clap::Command<'a>, AllocError>
+    ensures app { IfOk result (λ c. app_of c ≡ words_app name.entry.now (map (λ id. id.now) ids.entry.now)) }
     ensures local { IfOk result (λ c. (fields_of c).has_globals ≡ false) }
 {
-    clap::Command::new(alloc, name)
-        .arg(positional(alloc, "program"))?
-        .arg(positional(alloc, "placement"))?
-        .arg(positional(alloc, "schedule"))
+    let mut command = clap::Command::new(alloc, name);
+    for id in ids {
+        let Ok(longer) = command.arg(positional(alloc, id)) else {
+            return Err(AllocError);
+        };
+        command = longer;
+    }
+    Ok(command)
 }
 
-/// A subcommand of one word.
-fn of_word<'a>(alloc: Global, name: &'a str, id: &'a str) -> Result<clap::Command<'a>, AllocError>
-    ensures app { IfOk result (λ c. app_of c ≡ word_app name.entry.now id.entry.now) }
-    ensures local { IfOk result (λ c. (fields_of c).has_globals ≡ false) }
+/// The command with a subcommand for each row, of its name and the names of its words.
+fn with_rows<'a>(
+    alloc: Global,
+    command: clap::Command<'a>,
+    rows: &[(&'a str, &'a [&'a str])],
+) -> Result<clap::Command<'a>, AllocError>
+    ensures { IfOk result (λ c. app_of c ≡ with_each (app_of command.entry) (map (λ row. (row.0.now, map (λ id. id.now) row.1.now)) rows.entry.now)) }
 {
-    clap::Command::new(alloc, name).arg(positional(alloc, id))
+    let mut line = command;
+    for row in rows {
+        let Ok(subcommand) = of_words(alloc, row.0, row.1) else {
+            return Err(AllocError);
+        };
+        let Ok(longer) = line.subcommand(subcommand) else {
+            return Err(AllocError);
+        };
+        line = longer;
+    }
+    Ok(line)
 }
 
-/// A subcommand of the names of a program and a record.
-fn of_record<'a>(alloc: Global, name: &'a str) -> Result<clap::Command<'a>, AllocError>
-    ensures app { IfOk result (λ c. app_of c ≡ checked_app name.entry.now) }
-    ensures local { IfOk result (λ c. (fields_of c).has_globals ≡ false) }
-{
-    clap::Command::new(alloc, name)
-        .arg(positional(alloc, "program"))?
-        .arg(positional(alloc, "record"))
-}
-
-/// The command line.
-fn command_line<'a>(alloc: Global) -> Result<clap::Command<'a>, AllocError>
-    ensures { IfOk result (λ c. app_of c ≡ pool_app) }
+/// The command line with no subcommand yet.
+fn bare_line<'a>(alloc: Global) -> clap::Command<'a>
+    ensures { app_of result ≡ on_top settings (new_app (codes "pool")) }
 {
     clap::Command::new(alloc, "pool")
         .no_binary_name(true)
         .disable_help_flag(true)
         .disable_help_subcommand(true)
         .subcommand_required(true)
-        .subcommand(of_files(alloc, "record")?)?
-        .subcommand(of_files(alloc, "run")?)?
-        .subcommand(of_files(alloc, "why")?)?
-        .subcommand(of_word(alloc, "print", "program")?)?
-        .subcommand(of_word(alloc, "code", "program")?)?
-        .subcommand(of_word(alloc, "ring", "cells")?)?
-        .subcommand(of_word(alloc, "convert", "record")?)?
-        .subcommand(of_record(alloc, "check")?)?
-        .subcommand(of_word(alloc, "build", "program")?)?
-        .subcommand(of_files(alloc, "load")?)
+}
+
+/// The command line.
+fn command_line<'a>(alloc: Global) -> Result<clap::Command<'a>, AllocError>
+    ensures { IfOk result (λ c. app_of c ≡ pool_app) }
+{
+    with_rows(
+        alloc,
+        bare_line(alloc),
+        &[
+            ("record", &["program", "placement", "schedule"]),
+            ("run", &["program", "placement", "schedule"]),
+            ("why", &["program", "placement", "schedule"]),
+            ("print", &["program"]),
+            ("code", &["program"]),
+            ("ring", &["cells"]),
+            ("convert", &["record"]),
+            ("check", &["program", "record"]),
+            ("build", &["program"]),
+            ("load", &["program", "placement", "schedule"]),
+        ],
+    )
 }
 
 /// The first value of an argument.
@@ -238,7 +262,10 @@ pub fn read_words<'a>(alloc: Global, words: &'a [String]) -> Result<Option<Comma
     if any_is_dashed(words) {
         return Ok(None);
     }
-    match command_line(alloc)?.try_get_matches_from(words) {
+    let Ok(line) = command_line(alloc) else {
+        return Err(AllocError);
+    };
+    match line.try_get_matches_from(words) {
         Ok(matches) => Ok(command(&matches)),
         Err(error) => match error.kind() {
             ErrorKind::OutOfMemory => Err(AllocError),

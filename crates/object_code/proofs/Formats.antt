@@ -185,6 +185,43 @@ then_wrote r bytes P f next bs y rest h e =
     let w = f.wrote bs t.0 t.1 h t.2 in
     (t.0, t.1, w.0, w.1, left_bytes bs (bytes t.0) t.1 h w.0, t.3)
 
+-- what was taken is the bytes of the value, which has the property
+pub record AreOf {A : Type 0} (bytes : A → Text) (P : A → Type 0) (taken : Text) (x : A) : Type 0 where
+  pub same : taken ≡ bytes x
+  pub kept : P x
+
+-- a reader takes a text from the front and makes a value of it, and the two belong together
+pub record Takes {B : Type 0} (r : Reader B) (Q : Text → B → Type 0) : Type 0 where
+  pub took : (bs : Text) (y : B) (rest : Text) → AreBytes bs → r bs ≡ Got y rest → (taken : Text) × (bs ≡ taken ++ rest) × Q taken y
+
+pub took_wrote : {A : Type 0} (r : Reader A) (bytes : A → Text) (P : A → Type 0) → Takes r (AreOf bytes P) → (bs : Text) (x : A) (rest : Text) → AreBytes bs → r bs ≡ Got x rest
+    → (bs ≡ bytes x ++ rest) × P x
+took_wrote r bytes P k bs x rest h e =
+    let t = k.took bs x rest h e in
+    (t.1 ∙ ap (λ z. z ++ rest) t.2.same, t.2.kept)
+
+module _ {A B : Type 0} (r : Reader A) (bytes : A → Text) (P : A → Type 0) (f : IsFormat r bytes P) (Q : Text → B → Type 0) where
+  -- the first of several parts
+  pub part_takes : (next : A → Reader B) → ((a : A) → P a → Takes (next a) (λ taken y. Q (bytes a ++ taken) y)) → Takes (λ bs. then_read (r bs) next) Q
+  part_takes next more = record { took = took }
+    where
+      took : (bs : Text) (y : B) (rest : Text) → AreBytes bs → then_read (r bs) next ≡ Got y rest → (taken : Text) × (bs ≡ taken ++ rest) × Q taken y
+      took bs y rest h e =
+          let t = then_wrote r bytes P f next bs y rest h e in
+          behind t.0 t.1 t.2 ((more t.0 t.3).took t.1 y rest t.4 t.5)
+        where
+          behind : (a : A) (mid : Text) → bs ≡ bytes a ++ mid → ((taken : Text) × (mid ≡ taken ++ rest) × Q (bytes a ++ taken) y) → (taken : Text) × (bs ≡ taken ++ rest) × Q taken y
+          behind a mid e u = (bytes a ++ u.0, e ∙ ap (λ z. bytes a ++ z) u.1 ∙ sym (append_assoc (bytes a) u.0 rest), u.2)
+
+  -- the last of them
+  pub last_takes : (make : A → B) → ((a : A) → P a → Q (bytes a) (make a)) → Takes (read_as make r) Q
+  last_takes make says = record { took = took }
+    where
+      took : (bs : Text) (y : B) (rest : Text) → AreBytes bs → read_as make r bs ≡ Got y rest → (taken : Text) × (bs ≡ taken ++ rest) × Q taken y
+      took bs y rest h e =
+          let t = as_wrote r bytes P f make bs y rest h e in
+          (bytes t.0, t.2, subst (Q (bytes t.0)) t.1 (says t.0 t.3))
+
 -- two parts
 module _ {A B C : Type 0} (r : Reader A) (s : Reader B) (rb : A → Text) (sb : B → Text) (P : A → Type 0) (Q : B → Type 0) (f : IsFormat r rb P) (g : IsFormat s sb Q) (make : A → B → C) where
   abbrev pub read_two : Reader C

@@ -14,7 +14,7 @@ use Rattle.object_code.specs.Read.{Read, Got, Stop, read_number, read_list}
 use Rattle.object_code.specs.FileBytes.{number_bytes, name_bytes, list_bytes, text_bytes, kind_bytes, option_bytes, instr_bytes, code_bytes, method_bytes, class_bytes, head_bytes, file_bytes}
 use Rattle.code_semantics.specs.Shaped.{pairs, AreShapedMethods, AreShapedClasses, IsShaped, IsNumber, IsListOf, IsShortText, NameIsNumbered, KindIsNumbered, IsOptionOf, InstrIsNumbered, CodeIsNumbered, MethodIsWritable, ClassIsWritable, IsWritable}
 use Rattle.object_code.specs.Decode.{read_name, read_text, read_kind, read_option, read_instr, read_code, method_of, behind_outcome, behind_temps, behind_params, behind_name, read_method, firsts, seconds, class_of, behind_methods, behind_vars, behind_class_name, read_class, read_exactly, file_of, behind_names, behind_front, read_file, first_twice, Decoded, Says, BadBytes, NameTwice, unless_twice, decoded, decode}
-use Rattle.object_code.proofs.Formats.{AreBytes, IsFormat, got_rest, then_got, then_wrote, left_bytes, seq, number_format, name_format, list_format, text_format, as_reads, as_wrote, two_read, two_wrote}
+use Rattle.object_code.proofs.Formats.{AreBytes, IsFormat, got_rest, then_got, left_bytes, seq, number_format, name_format, list_format, text_format, as_reads, two_read, two_wrote, AreOf, Takes, took_wrote, part_takes, last_takes}
 use Rattle.object_code.proofs.FileFormat.{kind_format, option_format, instr_format}
 
 -- pairs of two lists, and back
@@ -58,7 +58,7 @@ outcome_format = option_format read_kind kind_bytes KindIsNumbered kind_format
 
 -- a method
 pub method_format : IsFormat read_method method_bytes MethodIsWritable
-method_format = record { reads = reads; wrote = wrote }
+method_format = record { reads = reads; wrote = took_wrote read_method method_bytes MethodIsWritable taken }
   where
     reads : (m : MethodCode × MethodKinds) → MethodIsWritable m → (rest : Text) → read_method (method_bytes m ++ rest) ≡ Got m rest
     reads m h rest =
@@ -76,29 +76,21 @@ method_format = record { reads = reads; wrote = wrote }
         own : (m : MethodCode × MethodKinds) → m.0.temps ≡ length m.1.temps → method_of m.0.name m.0.params m.1.temps m.1.result (m.0.frame_words, m.0.code) ≡ m
         own m e = ap (λ n. (record m.0 { temps = n }, m.1)) (sym e)
 
-    wrote : (bs : Text) (m : MethodCode × MethodKinds) (rest : Text) → AreBytes bs → read_method bs ≡ Got m rest → (bs ≡ method_bytes m ++ rest) × MethodIsWritable m
-    wrote bs m rest h e =
-        let a = then_wrote read_name name_bytes NameIsNumbered name_format behind_name bs m rest h e in
-        let b = then_wrote read_number number_bytes IsNumber number_format (behind_params a.0) a.1 m rest a.4 a.5 in
-        let c = then_wrote (read_list read_kind) (list_bytes kind_bytes) (IsListOf KindIsNumbered) kinds_format (behind_temps a.0 b.0) b.1 m rest b.4 b.5 in
-        let d = then_wrote (read_option read_kind) (option_bytes kind_bytes) (IsOptionOf KindIsNumbered) outcome_format (behind_outcome a.0 b.0 c.0) c.1 m rest c.4 c.5 in
-        let f = as_wrote read_code (λ c. code_bytes c.0 c.1) (λ c. CodeIsNumbered c.0 c.1) object_code (method_of a.0 b.0 c.0 d.0) d.1 m rest d.4 d.5 in
-        let code = code_bytes f.0.0 f.0.1 in
-        let outcome = option_bytes kind_bytes d.0 in
-        let temps = list_bytes kind_bytes c.0 in
-        let params = number_bytes b.0 in (
-          a.2 ∙ ap (λ z. name_bytes a.0 ++ z) (b.2 ∙ ap (λ z. params ++ z) (c.2 ∙ ap (λ z. temps ++ z) (d.2 ∙ ap (λ z. outcome ++ z) f.2 ∙ sym (append_assoc outcome code rest))
-              ∙ sym (append_assoc temps (outcome ++ code) rest)) ∙ sym (append_assoc params (temps ++ (outcome ++ code)) rest))
-              ∙ sym (append_assoc (name_bytes a.0) (params ++ (temps ++ (outcome ++ code))) rest) ∙ ap (λ z. method_bytes z ++ rest) f.1,
-          subst MethodIsWritable f.1 (a.3, b.3, refl, c.3, d.3, f.3),
-        )
+    taken : Takes read_method (AreOf method_bytes MethodIsWritable)
+    taken =
+        part_takes read_name name_bytes NameIsNumbered name_format _ behind_name (λ n hn.
+        part_takes read_number number_bytes IsNumber number_format _ (behind_params n) (λ p hp.
+        part_takes (read_list read_kind) (list_bytes kind_bytes) (IsListOf KindIsNumbered) kinds_format _ (behind_temps n p) (λ t ht.
+        part_takes (read_option read_kind) (option_bytes kind_bytes) (IsOptionOf KindIsNumbered) outcome_format _ (behind_outcome n p t) (λ o ho.
+        last_takes read_code (λ c. code_bytes c.0 c.1) (λ c. CodeIsNumbered c.0 c.1) object_code _ (method_of n p t o) (λ c hc.
+        record { same = refl; kept = (hn, hp, refl, ht, ho, hc) })))))
 
 methods_format : IsFormat (read_list read_method) (list_bytes method_bytes) (IsListOf MethodIsWritable)
 methods_format = list_format read_method method_bytes MethodIsWritable method_format
 
 -- a class
 pub class_format : IsFormat read_class class_bytes ClassIsWritable
-class_format = record { reads = reads; wrote = wrote }
+class_format = record { reads = reads; wrote = took_wrote read_class class_bytes ClassIsWritable taken }
   where
     reads : (k : ClassCode × ClassKinds) → ClassIsWritable k → (rest : Text) → read_class (class_bytes k ++ rest) ≡ Got k rest
     reads k h rest =
@@ -118,20 +110,16 @@ class_format = record { reads = reads; wrote = wrote }
             ∙ ap (λ ms. (record k.0 { methods = ms }, record k.1 { methods = seconds (pairs k.0.methods k.1.methods) })) (firsts_pairs k.0.methods k.1.methods l)
             ∙ ap (λ ss. (k.0, record k.1 { methods = ss })) (seconds_pairs k.0.methods k.1.methods l)
 
-    wrote : (bs : Text) (k : ClassCode × ClassKinds) (rest : Text) → AreBytes bs → read_class bs ≡ Got k rest → (bs ≡ class_bytes k ++ rest) × ClassIsWritable k
-    wrote bs k rest h e =
-        let a = then_wrote read_name name_bytes NameIsNumbered name_format behind_class_name bs k rest h e in
-        let b = then_wrote (read_list read_kind) (list_bytes kind_bytes) (IsListOf KindIsNumbered) kinds_format (behind_vars a.0) a.1 k rest a.4 a.5 in
-        let c = then_wrote (read_list read_method) (list_bytes method_bytes) (IsListOf MethodIsWritable) methods_format (behind_methods a.0 b.0) b.1 k rest b.4 b.5 in
-        let f = as_wrote read_code (λ c. code_bytes c.0 c.1) (λ c. CodeIsNumbered c.0 c.1) object_code (class_of a.0 b.0 c.0) c.1 k rest c.4 c.5 in
-        let code = code_bytes f.0.0 f.0.1 in
-        let methods = list_bytes method_bytes c.0 in
-        let vars = list_bytes kind_bytes b.0 in
-        let same : list_bytes method_bytes c.0 ≡ list_bytes method_bytes (pairs (firsts c.0) (seconds c.0)) = ap (list_bytes method_bytes) (sym (pairs_of c.0)) in (
-          a.2 ∙ ap (λ z. name_bytes a.0 ++ z) (b.2 ∙ ap (λ z. vars ++ z) (c.2 ∙ ap (λ z. methods ++ z) f.2 ∙ sym (append_assoc methods code rest)) ∙ sym (append_assoc vars (methods ++ code) rest))
-              ∙ sym (append_assoc (name_bytes a.0) (vars ++ (methods ++ code)) rest) ∙ ap (λ z. (name_bytes a.0 ++ (vars ++ (z ++ code))) ++ rest) same ∙ ap (λ z. class_bytes z ++ rest) f.1,
-          subst ClassIsWritable f.1 (a.3, refl, b.3, as_many c.0, subst (IsListOf MethodIsWritable) (sym (pairs_of c.0)) c.3, f.3),
-        )
+    taken : Takes read_class (AreOf class_bytes ClassIsWritable)
+    taken =
+        part_takes read_name name_bytes NameIsNumbered name_format _ behind_class_name (λ n hn.
+        part_takes (read_list read_kind) (list_bytes kind_bytes) (IsListOf KindIsNumbered) kinds_format _ (behind_vars n) (λ v hv.
+        part_takes (read_list read_method) (list_bytes method_bytes) (IsListOf MethodIsWritable) methods_format _ (behind_methods n v) (λ ms hm.
+        last_takes read_code (λ c. code_bytes c.0 c.1) (λ c. CodeIsNumbered c.0 c.1) object_code _ (class_of n v ms) (λ c hc.
+        record {
+          same = ap (λ z. name_bytes n ++ (list_bytes kind_bytes v ++ (list_bytes method_bytes z ++ code_bytes c.0 c.1))) (sym (pairs_of ms));
+          kept = (hn, refl, hv, as_many ms, subst (IsListOf MethodIsWritable) (sym (pairs_of ms)) hm, hc);
+        }))))
 
 all_classes : IsFormat (read_list read_class) (list_bytes class_bytes) (IsListOf ClassIsWritable)
 all_classes = list_format read_class class_bytes ClassIsWritable class_format
@@ -165,18 +153,23 @@ file_read f h rest =
         ap (λ ks. record { unit = record { names = f.unit.names; classes = ks }; kinds = record { classes = seconds (pairs f.unit.classes f.kinds.classes) } }) (firsts_pairs f.unit.classes f.kinds.classes l)
         ∙ ap (λ qs. record { unit = f.unit; kinds = record { classes = qs } }) (seconds_pairs f.unit.classes f.kinds.classes l)
 
+behind_taken : Takes (behind_front tt) (λ taken f. AreOf file_bytes IsWritable (head_bytes ++ taken) f)
+behind_taken =
+    part_takes (read_list read_text) (list_bytes text_bytes) (IsListOf IsShortText) all_names _ behind_names (λ n hn.
+    last_takes (read_list read_class) (list_bytes class_bytes) (IsListOf ClassIsWritable) all_classes _ (file_of n) (λ ks hk.
+    record {
+      same = ap (λ z. head_bytes ++ (list_bytes text_bytes n ++ list_bytes class_bytes z)) (sym (pairs_of ks));
+      kept = record { names = hn; count = as_many ks; classes = subst (IsListOf ClassIsWritable) (sym (pairs_of ks)) hk };
+    }))
+
 pub file_wrote : (bs : Text) (f : UnitFile) (rest : Text) → AreBytes bs → read_file bs ≡ Got f rest → (bs ≡ file_bytes f ++ rest) × IsWritable f
 file_wrote bs f rest h e =
     let u = then_got (read_exactly head_bytes bs) behind_front f rest e in
     let front = head_wrote head_bytes bs u.1 u.0 u.2 in
-    let a = then_wrote (read_list read_text) (list_bytes text_bytes) (IsListOf IsShortText) all_names behind_names u.1 f rest (left_bytes bs head_bytes u.1 h front) u.3 in
-    let b = as_wrote (read_list read_class) (list_bytes class_bytes) (IsListOf ClassIsWritable) all_classes (file_of a.0) a.1 f rest a.4 a.5 in
-    let names = list_bytes text_bytes a.0 in
-    let same : list_bytes class_bytes b.0 ≡ list_bytes class_bytes (pairs (firsts b.0) (seconds b.0)) = ap (list_bytes class_bytes) (sym (pairs_of b.0)) in (
-      front ∙ ap (λ z. head_bytes ++ z) (a.2 ∙ ap (λ z. names ++ z) b.2 ∙ sym (append_assoc names (list_bytes class_bytes b.0) rest)) ∙ sym (append_assoc head_bytes (names ++ list_bytes class_bytes b.0) rest)
-          ∙ ap (λ z. (head_bytes ++ (names ++ z)) ++ rest) same ∙ ap (λ z. file_bytes z ++ rest) b.1,
-      subst IsWritable b.1 (record { names = a.3; count = as_many b.0; classes = subst (IsListOf ClassIsWritable) (sym (pairs_of b.0)) b.3 }),
-    )
+    behind u.1 front (behind_taken.took u.1 f rest (left_bytes bs head_bytes u.1 h front) u.3)
+  where
+    behind : (mid : Text) → bs ≡ head_bytes ++ mid → ((taken : Text) × (mid ≡ taken ++ rest) × AreOf file_bytes IsWritable (head_bytes ++ taken) f) → (bs ≡ file_bytes f ++ rest) × IsWritable f
+    behind mid e t = (e ∙ ap (λ z. head_bytes ++ z) t.1 ∙ sym (append_assoc head_bytes t.0 rest) ∙ ap (λ z. z ++ rest) t.2.same, t.2.kept)
 
 -- The bytes of a file say it, unless one of its names stands twice.
 pub decode_encode : (f : UnitFile) → IsWritable f → decode (file_bytes f) ≡ unless_twice f (first_twice 0 [] f.unit.names)

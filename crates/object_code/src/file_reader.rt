@@ -20,10 +20,12 @@ use std::alloc::{AllocError, Global};
 
 /// Something made of a part that is taken off the front, with what is left.
 macro_rules! made {
-    ($part:pat = $taken:expr => $made:expr) => {{
-        let ($part, rest) = $taken?;
-        Ok(($made, rest))
-    }};
+    ($part:pat = $taken:expr => $made:expr) => {
+        match $taken {
+            Ok(($part, rest)) => Ok(($made, rest)),
+            Err(fault) => Err(fault),
+        }
+    };
 }
 
 /// Takes a byte off the front.
@@ -184,37 +186,63 @@ fn take_sent(bytes: &[u8]) -> Result<((NameId, u32), &[u8]), Unread>
     made!(count = take_number(rest) => (method, count))
 }
 
+/// Takes what stands behind the byte of an instruction, where the byte is at most that of a branch.
+fn take_up_to_branch(byte: u8, rest: &[u8]) -> Result<(Instr, &[u8]), Unread>
+    requires { byte ≤ 12 }
+    ensures { Gives (λ r. Got r.0 r.1.now) result (read_instr (byte ∷ rest.now)) }
+{
+    match byte {
+        1 => take_integer(rest),
+        2 => made!(value = take_truth(rest) => Instr::PushBool(value)),
+        3 => Ok((Instr::PushNil, rest)),
+        4 => made!(at = take_number(rest) => Instr::Jump(at)),
+        5 => made!(var = take_number(rest) => Instr::LoadI(var)),
+        6 => made!(temp = take_number(rest) => Instr::LoadT(temp)),
+        7 => Ok((Instr::SelfRef, rest)),
+        8 => made!(var = take_number(rest) => Instr::StoreI(var)),
+        9 => made!(temp = take_number(rest) => Instr::StoreT(temp)),
+        10 => made!(op = take_operator(rest) => Instr::Oper(op)),
+        11 => Ok((Instr::Pop, rest)),
+        12 => made!(at = take_number(rest) => Instr::Branch(at)),
+        _ => Err(Unread::BadByte {
+            left: rest.len() + 1,
+        }),
+    }
+}
+
+/// Takes what stands behind the byte of an instruction, where the byte is at least that of a loop.
+fn take_from_loop(alloc: Global, byte: u8, rest: &[u8]) -> Result<(Instr, &[u8]), Unread>
+    requires { 12 < byte }
+    ensures { Gives (λ r. Got r.0 r.1.now) result (read_instr (byte ∷ rest.now)) }
+{
+    match byte {
+        13 => Ok((Instr::Loop, rest)),
+        14 => made!(method = take_name(rest) => Instr::Call(method)),
+        15 => Ok((Instr::Ret, rest)),
+        16 => made!(class = take_name(rest) => Instr::New(class)),
+        17 => made!((method, count) = take_sent(rest) => Instr::Send { method, count }),
+        18 => made!((method, count) = take_sent(rest) => Instr::Async { method, count }),
+        19 => Ok((Instr::Write, rest)),
+        20 => made!(text = take_name(rest) => Instr::WriteText(text)),
+        21 => made!(names = take_list(alloc, rest) => Instr::Answer { names }),
+        22 => made!(alts = take_list(alloc, rest) => Instr::Select { alts }),
+        23 => Ok((Instr::Halt, rest)),
+        24 => Ok((Instr::Post, rest)),
+        _ => Err(Unread::BadByte {
+            left: rest.len() + 1,
+        }),
+    }
+}
+
 impl Listed for Instr {
     ghost reader = { read_instr };
 
     fn take_item(alloc: Global, bytes: &[u8]) -> Result<(Instr, &[u8]), Unread> {
         let (byte, rest) = take_byte(bytes)?;
-        match byte {
-            1 => take_integer(rest),
-            2 => made!(value = take_truth(rest) => Instr::PushBool(value)),
-            3 => Ok((Instr::PushNil, rest)),
-            4 => made!(at = take_number(rest) => Instr::Jump(at)),
-            5 => made!(var = take_number(rest) => Instr::LoadI(var)),
-            6 => made!(temp = take_number(rest) => Instr::LoadT(temp)),
-            7 => Ok((Instr::SelfRef, rest)),
-            8 => made!(var = take_number(rest) => Instr::StoreI(var)),
-            9 => made!(temp = take_number(rest) => Instr::StoreT(temp)),
-            10 => made!(op = take_operator(rest) => Instr::Oper(op)),
-            11 => Ok((Instr::Pop, rest)),
-            12 => made!(at = take_number(rest) => Instr::Branch(at)),
-            13 => Ok((Instr::Loop, rest)),
-            14 => made!(method = take_name(rest) => Instr::Call(method)),
-            15 => Ok((Instr::Ret, rest)),
-            16 => made!(class = take_name(rest) => Instr::New(class)),
-            17 => made!((method, count) = take_sent(rest) => Instr::Send { method, count }),
-            18 => made!((method, count) = take_sent(rest) => Instr::Async { method, count }),
-            19 => Ok((Instr::Write, rest)),
-            20 => made!(text = take_name(rest) => Instr::WriteText(text)),
-            21 => made!(names = take_list(alloc, rest) => Instr::Answer { names }),
-            22 => made!(alts = take_list(alloc, rest) => Instr::Select { alts }),
-            23 => Ok((Instr::Halt, rest)),
-            24 => Ok((Instr::Post, rest)),
-            _ => Err(Unread::BadByte { left: bytes.len() }),
+        if byte > 12 {
+            take_from_loop(alloc, byte, rest)
+        } else {
+            take_up_to_branch(byte, rest)
         }
     }
 }

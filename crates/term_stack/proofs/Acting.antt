@@ -32,7 +32,7 @@ last_split (b ∷ d ∷ xs) a h =
     let g : suc (length xs) - 1 ≡ length xs = omega arith in
     let k : slice_get (d ∷ xs) (length (d ∷ xs) - 1) ≡ Some a = rw g (rw e at h) in
     let r = last_split (d ∷ xs) a k in
-    (b ∷ r.0, ap (λ l. b ∷ l) r.1)
+    (b ∷ r.0, ap (λ l. b ∷ l) {y = r.0 ++ a ∷ []} r.1)
 
 pub none_last : (xs : List Activation) → slice_get xs (length xs - 1) ≡ None → xs ≡ []
 none_last [] h = refl

@@ -12,7 +12,6 @@ use pool_syntax::{Alt, Expr, Named, Stmt};
 use std::alloc::{AllocError, Global};
 
 /// Goes on from a value in this place.
-#[tactic(auto, using(crate::proofs::Plugged::nested_more, crate::proofs::Plugged::operands_more))]
 fn resume<'a>(
     alloc: Global,
     value: Operand,
@@ -67,12 +66,16 @@ fn resume<'a>(
     }
 }
 
-/// The redex of a step.
-fn find<'a>(alloc: Global, step: Step<'a>, places: &mut Vec<Place<'a>>) -> Result<Ready, AllocError>
-    requires { IsOpen step }
-    ensures { IfOk result (λ r. nested places.new.items (ready r) ≡ nested places.old.items (stepped step.entry)) }
+/// The redex, from a value in this place on.
+fn find<'a>(
+    alloc: Global,
+    value: Operand,
+    place: Place<'a>,
+    places: &mut Vec<Place<'a>>,
+) -> Result<Ready, AllocError>
+    ensures { IfOk result (λ r. nested places.new.items (ready r) ≡ nested places.old.items (placed place.entry (operand value))) }
 {
-    match step {
+    match resume(alloc, value, place, places)? {
         Step::Found(redex) => Ok(redex),
         Step::Into(expr) => seek(alloc, expr, places),
     }
@@ -181,7 +184,6 @@ fn into_select<'a>(
 }
 
 /// Goes on from a value in this slot.
-#[tactic(auto, using(crate::proofs::Plugged::operands_more, crate::proofs::Plugged::guarded_more))]
 fn arrive<'a>(
     alloc: Global,
     value: Operand,
@@ -250,8 +252,7 @@ pub fn settle<'a>(
     match places.pop() {
         None => arrive(alloc, value, slot, rest),
         Some(place) => {
-            let step = resume(alloc, value, place, &mut places)?;
-            let redex = find(alloc, step, &mut places)?;
+            let redex = find(alloc, value, place, &mut places)?;
             Ok(Now::Expression {
                 redex,
                 places,

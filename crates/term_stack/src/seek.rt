@@ -3,7 +3,8 @@ ghost use Rattle.std.specs.Prelude.{◌≡◌, [], ◌∷◌, ◌++◌, ◌+◌,
 ghost use Rattle.pool_syntax.specs.TreeOf.{expression_of, expressions_of};
 ghost use Rattle.pool_syntax.specs.Terms.{Arg, NoArgs, Prefix, Infix, Call, Send};
 ghost use Rattle.pool_relation.specs.Reducible.{is_value};
-ghost use Rattle.term_stack.specs.Parts.{operand, operands, nested, stepped, ready, IsOpen, IsBelow};
+ghost use Rattle.term_stack.specs.Parts.{operand, operands, placed, nested, stepped, ready, IsOpen, IsBelow};
+ghost use Rattle.term_stack.specs.declared.seek.Step.TheVariants.{Into};
 ghost use Rattle.term_stack.specs.Weights.{weight, weights};
 
 use crate::parts::{Operand, Place, Ready};
@@ -61,8 +62,22 @@ pub enum Step<'a> {
     Into(&'a Expr),
 }
 
+/// Goes on in a part that is no literal, in this place.
+#[tactic(auto, using(crate::proofs::Plugged::nested_more))]
+#[inline(always)]
+fn go_into<'a>(
+    place: Place<'a>,
+    part: &'a Expr,
+    places: &mut Vec<Place<'a>>,
+) -> Result<Step<'a>, AllocError>
+    ensures { IfOk result (λ s. (s ≡ Into part.entry) × (nested places.new.items (expression_of part.now) ≡ nested places.old.items (placed place.entry (expression_of part.now)))) }
+{
+    places.push(place)?;
+    Ok(Step::Into(part))
+}
+
 /// Goes on in the arguments of an own call.
-#[tactic(auto, using(crate::proofs::Weights::weight_in, crate::proofs::Plugged::nested_more))]
+#[tactic(auto, using(crate::proofs::Weights::weight_in))]
 pub fn into_call<'a>(
     method: NameId,
     done: Vec<Operand>,
@@ -82,19 +97,19 @@ pub fn into_call<'a>(
             pos,
         })),
         Some((first, rest)) => {
-            places.push(Place::CallArgument {
+            let place = Place::CallArgument {
                 method,
                 done,
                 rest,
                 pos,
-            })?;
-            Ok(Step::Into(first))
+            };
+            go_into(place, first, places)
         }
     }
 }
 
 /// Goes on in the arguments of a send.
-#[tactic(auto, using(crate::proofs::Weights::weight_in, crate::proofs::Plugged::nested_more))]
+#[tactic(auto, using(crate::proofs::Weights::weight_in))]
 pub fn into_send<'a>(
     to: Operand,
     method: NameId,
@@ -116,20 +131,19 @@ pub fn into_send<'a>(
             pos,
         })),
         Some((first, rest)) => {
-            places.push(Place::SendArgument {
+            let place = Place::SendArgument {
                 to,
                 method,
                 done,
                 rest,
                 pos,
-            })?;
-            Ok(Step::Into(first))
+            };
+            go_into(place, first, places)
         }
     }
 }
 
 /// Goes on in the right operand.
-#[tactic(auto, using(crate::proofs::Plugged::nested_more))]
 pub fn into_right<'a>(
     op: Op,
     left: Operand,
@@ -149,12 +163,10 @@ pub fn into_right<'a>(
             pos,
         }));
     }
-    places.push(Place::Right { op, left, pos })?;
-    Ok(Step::Into(right))
+    go_into(Place::Right { op, left, pos }, right, places)
 }
 
 /// Goes on in the operand of a prefix operator.
-#[tactic(auto, using(crate::proofs::Plugged::nested_more))]
 fn into_operand<'a>(
     op: Op,
     arg: &'a Expr,
@@ -172,12 +184,10 @@ fn into_operand<'a>(
             pos,
         }));
     }
-    places.push(Place::Prefix { op, pos })?;
-    Ok(Step::Into(arg))
+    go_into(Place::Prefix { op, pos }, arg, places)
 }
 
 /// Goes on in the operands of an infix operator.
-#[tactic(auto, using(crate::proofs::Plugged::nested_more))]
 fn into_left<'a>(
     op: Op,
     left: &'a Expr,
@@ -192,12 +202,10 @@ fn into_left<'a>(
     if let Some(value) = literal(left) {
         return into_right(op, value, right, pos, places);
     }
-    places.push(Place::Left { op, right, pos })?;
-    Ok(Step::Into(left))
+    go_into(Place::Left { op, right, pos }, left, places)
 }
 
 /// Goes on in the destination of a send, and then in its arguments.
-#[tactic(auto, using(crate::proofs::Plugged::nested_more))]
 fn into_destination<'a>(
     alloc: Global,
     to: &'a Expr,
@@ -213,8 +221,7 @@ fn into_destination<'a>(
     if let Some(value) = literal(to) {
         return into_send(value, method, Vec::new(alloc), args, pos, places);
     }
-    places.push(Place::Destination { method, args, pos })?;
-    Ok(Step::Into(to))
+    go_into(Place::Destination { method, args, pos }, to, places)
 }
 
 /// One step on the way to the redex of an expression that is no literal.

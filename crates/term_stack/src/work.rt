@@ -1,5 +1,5 @@
 //! The changes of an object's work: another part takes the place of the redex.
-ghost use Rattle.std.specs.Prelude.{◌≡◌, [], ◌∷◌, ◌++◌, Some, OnOk, IfOk, IsTrue, length};
+ghost use Rattle.std.specs.Prelude.{◌≡◌, [], ◌∷◌, ◌++◌, Some, Ok, OnOk, IfOk, IsOkAnd, IsTrue, length};
 ghost use Rattle.pool_syntax.specs.TreeOf.{expression_of, statements_of, method_tree};
 ghost use Rattle.pool_syntax.specs.Terms as T;
 ghost use Rattle.pool_syntax.specs.Terms.{append};
@@ -167,6 +167,33 @@ impl<'a> Work<'a> {
         })
     }
 
+    /// Lets this come next.
+    #[inline(always)]
+    fn put(&mut self, next: Now<'a>)
+        ensures next { self.new.next ≡ next.entry }
+        ensures calls { self.new.calls ≡ self.old.calls }
+    {
+        self.next = next;
+    }
+
+    /// Lets this come next, where memory sufficed to make it.
+    #[inline(always)]
+    fn put_made(&mut self, next: Result<Now<'a>, AllocError>) -> Result<(), AllocError>
+        ensures { OnOk result ((next.entry ≡ Ok self.new.next) × (self.new.calls ≡ self.old.calls)) }
+    {
+        self.put(next?);
+        Ok(())
+    }
+
+    /// This method is the innermost from now on.
+    #[inline(always)]
+    fn stack(&mut self, call: Activation<'a>) -> Result<(), AllocError>
+        ensures { OnOk result ((self.new.calls.items ≡ self.old.calls.items ++ call.entry ∷ []) × (self.new.next ≡ self.old.next)) }
+    {
+        self.calls.push(call)?;
+        Ok(())
+    }
+
     /// The post statements of the method begin; its value is held.
     #[tactic(auto, using(crate::proofs::Coming::post_ahead, crate::proofs::Plugged::append_nothing))]
     fn begin_post(
@@ -181,19 +208,18 @@ impl<'a> Work<'a> {
     {
         let mut call = call;
         call.stage = Stage::Post { value };
-        self.calls.push(call)?;
+        self.stack(call)?;
         let rest = before(post, Vec::new(alloc))?;
-        self.next = advance(alloc, rest, None)?;
-        Ok(())
+        let next = advance(alloc, rest, None);
+        self.put_made(next)
     }
 
     /// Stands in this method.
     fn stand(&mut self, call: Activation<'a>, next: Now<'a>) -> Result<(), AllocError>
         ensures { OnOk result ((self.new.calls.items ≡ self.old.calls.items ++ call.entry ∷ []) × (self.new.next ≡ next.entry)) }
     {
-        self.next = next;
-        self.calls.push(call)?;
-        Ok(())
+        self.put(next);
+        self.stack(call)
     }
 
     /// Comes to an evaluated value in this method. Where a caller waits for it, the object stands there; else the post statements begin.
@@ -215,22 +241,31 @@ impl<'a> Work<'a> {
         }
     }
 
-    /// Comes to what is next. An evaluated value is passed where no caller waits for it.
-    fn come_to(&mut self, alloc: Global, next: Now<'a>) -> Result<(), AllocError>
-        ensures { OnOk result (term_of self.new ≡ bottom (layers self.old.calls.items (content next.entry))) }
+    /// An evaluated value is passed where no caller waits for it.
+    fn pass(&mut self, alloc: Global, value: Operand) -> Result<(), AllocError>
+        ensures { OnOk result (term_of self.new ≡ bottom (layers self.old.calls.items (Valued (operand value)))) }
     {
-        match next {
-            Now::Value { value } => match self.calls.pop() {
-                Some(call) => self.pass_in(alloc, call, value),
-                None => {
-                    self.next = dropped(alloc, value);
-                    Ok(())
-                }
-            },
-            other => {
-                self.next = other;
+        match self.calls.pop() {
+            Some(call) => self.pass_in(alloc, call, value),
+            None => {
+                self.put(dropped(alloc, value));
                 Ok(())
             }
+        }
+    }
+
+    /// Comes to what is next, where memory sufficed to make it. An evaluated value is passed where no caller waits for it.
+    fn come_to(
+        &mut self,
+        alloc: Global,
+        next: Result<Now<'a>, AllocError>,
+    ) -> Result<(), AllocError>
+        ensures { OnOk result (IsOkAnd next.entry (λ n. term_of self.new ≡ bottom (layers self.old.calls.items (content n)))) }
+    {
+        self.put(next?);
+        match self.next {
+            Now::Value { value } => self.pass(alloc, value),
+            _ => Ok(()),
         }
     }
 
@@ -240,7 +275,7 @@ impl<'a> Work<'a> {
         ensures { OnOk result (term_of self.new ≡ bottom (layers self.old.calls.items (Running (left rest.entry.items)))) }
     {
         let value = wanted(self.calls.as_slice());
-        let next = advance(alloc, rest, value)?;
+        let next = advance(alloc, rest, value);
         self.come_to(alloc, next)
     }
 
@@ -252,13 +287,14 @@ impl<'a> Work<'a> {
     {
         match mem::replace(&mut self.next, Now::Over) {
             Now::Expression {
-                redex: _,
+                redex,
                 places,
                 slot,
                 rest,
             } => {
+                mem::drop(redex);
                 let operand = Operand { value, pos: 0 };
-                let next = settle(alloc, operand, places, slot, rest)?;
+                let next = settle(alloc, operand, places, slot, rest);
                 self.come_to(alloc, next)
             }
             _ => unreachable!(),
@@ -333,7 +369,7 @@ impl<'a> Work<'a> {
             (AsStatements (T.Then (T.If (expression_of cond.now) (append (statements_of body.now) (loop_of (expression_of cond.now) (statements_of body.now))) T.Done) T.Done))) }
     {
         let rest = self.take();
-        let next = enter(alloc, cond, Slot::Loop { cond, body }, rest)?;
+        let next = enter(alloc, cond, Slot::Loop { cond, body }, rest);
         self.come_to(alloc, next)
     }
 
@@ -350,7 +386,7 @@ impl<'a> Work<'a> {
             Some(call) => {
                 let mut call = call;
                 set(&mut call.temps, name, value);
-                self.calls.push(call)?;
+                self.stack(call)?;
                 self.go_on(alloc, rest)
             }
         }
@@ -363,16 +399,15 @@ impl<'a> Work<'a> {
         alloc: Global,
         outer: Outer<'a>,
         method: &'a Method,
-        args: &[Value],
+        temps: Vec<Binding>,
     ) -> Result<(), AllocError>
         ensures { OnOk result
             (term_of self.new
             ≡ bottom (layers self.old.calls.items
-            (around outer.entry (caller_at outer.entry) method.now.name.name.0 (temps_of (method_tree method.now) args.now)
+            (around outer.entry (caller_at outer.entry) method.now.name.name.0 temps.items
             (statements_of method.now.body, expression_of method.now.value, statements_of method.now.post)))) }
     {
-        let temps = temps_for(alloc, method, args)?;
-        self.calls.push(Activation {
+        self.stack(Activation {
             outer,
             method: method.name.name,
             temps,
@@ -383,6 +418,23 @@ impl<'a> Work<'a> {
         })?;
         let body = before(method.body.items(), Vec::new(alloc))?;
         self.go_on(alloc, body)
+    }
+
+    /// The variables of the method in the own call that is the redex.
+    fn temps_of_call(&self, alloc: Global, method: &Method) -> Result<Vec<Binding>, AllocError>
+        requires { IsTrue (is_call self.now.next) }
+        ensures { IfOk result (λ t. t.items ≡ temps_of (method_tree method.now) (now_args self.now.next)) }
+    {
+        match &self.next {
+            Now::Expression {
+                redex: Ready::Call { args, .. },
+                ..
+            } => {
+                let args = values(alloc, args.as_slice())?;
+                temps_for(alloc, method, args.as_slice())
+            }
+            _ => unreachable!(),
+        }
     }
 
     /// The own call that is the redex begins.
@@ -396,20 +448,18 @@ impl<'a> Work<'a> {
             (T.Frame method.now.name.name.0 (temps_of (method_tree method.now) (now_args self.old.next)) (statements_of method.now.body) (expression_of method.now.value)
             (statements_of method.now.post)))) }
     {
+        let temps = self.temps_of_call(alloc, method)?;
         match mem::replace(&mut self.next, Now::Over) {
             Now::Expression {
                 redex,
                 places,
                 slot,
                 rest,
-            } => match redex {
-                Ready::Call { args, .. } => {
-                    let args = values(alloc, args.as_slice())?;
-                    let outer = Outer::Expression { places, slot, rest };
-                    self.begin(alloc, outer, method, args.as_slice())
-                }
-                _ => unreachable!(),
-            },
+            } => {
+                mem::drop(redex);
+                let outer = Outer::Expression { places, slot, rest };
+                self.begin(alloc, outer, method, temps)
+            }
             _ => unreachable!(),
         }
     }
@@ -422,12 +472,12 @@ impl<'a> Work<'a> {
     {
         match self.calls.pop() {
             None => {
-                self.next = Now::Over;
+                self.put(Now::Over);
                 Ok(())
             }
             Some(call) => {
                 let value = call.end_value(&self.next);
-                self.leave_to(alloc, call, value.value)
+                self.leave_to(alloc, call.outer, value.value)
             }
         }
     }
@@ -446,7 +496,7 @@ impl<'a> Work<'a> {
                 match call.stage {
                     Stage::Body { post, .. } => {
                         if post.is_empty() {
-                            self.leave_to(alloc, call, value.value)
+                            self.leave_to(alloc, call.outer, value.value)
                         } else {
                             self.begin_post(alloc, call, value, post)
                         }
@@ -458,24 +508,13 @@ impl<'a> Work<'a> {
     }
 
     /// Goes on where the method was called, with its value.
-    fn leave_to(
-        &mut self,
-        alloc: Global,
-        call: Activation<'a>,
-        value: Value,
-    ) -> Result<(), AllocError>
-        ensures { OnOk result (term_of self.new ≡ bottom (layers self.old.calls.items (after_left call.entry.outer value))) }
+    fn leave_to(&mut self, alloc: Global, outer: Outer<'a>, value: Value) -> Result<(), AllocError>
+        ensures { OnOk result (term_of self.new ≡ bottom (layers self.old.calls.items (after_left outer.entry value))) }
     {
-        let Activation {
-            outer,
-            method: _,
-            temps: _,
-            stage: _,
-        } = call;
         match outer {
             Outer::Expression { places, slot, rest } => {
                 let operand = Operand { value, pos: 0 };
-                let next = settle(alloc, operand, places, slot, rest)?;
+                let next = settle(alloc, operand, places, slot, rest);
                 self.come_to(alloc, next)
             }
             Outer::Statement { caller: _, rest } => self.go_on(alloc, rest),
@@ -501,8 +540,9 @@ impl<'a> Work<'a> {
             (T.Then (T.Serve method.now.name.name.0 caller (temps_of (method_tree method.now) args.now) (statements_of method.now.body) (expression_of method.now.value)
             (statements_of method.now.post)) (statements_of after.now)))) }
     {
+        let temps = temps_for(alloc, method, args)?;
         let rest = before(after, self.take())?;
-        self.begin(alloc, Outer::Statement { caller, rest }, method, args)
+        self.begin(alloc, Outer::Statement { caller, rest }, method, temps)
     }
 
     /// The send that is the redex is being served.
@@ -511,20 +551,8 @@ impl<'a> Work<'a> {
         requires { IsTrue (is_expression self.old.next) }
         ensures { term_of self.new ≡ fill_statements (term_of self.old) (AsExpression (T.Wait receiver method.0)) }
     {
-        match mem::replace(&mut self.next, Now::Over) {
-            Now::Expression {
-                redex: _,
-                places,
-                slot,
-                rest,
-            } => {
-                self.next = Now::Expression {
-                    redex: Ready::Wait { receiver, method },
-                    places,
-                    slot,
-                    rest,
-                };
-            }
+        match &mut self.next {
+            Now::Expression { redex, .. } => *redex = Ready::Wait { receiver, method },
             _ => unreachable!(),
         }
     }

@@ -1,26 +1,21 @@
-use Rattle.std.proofs.Common.{◌∙◌, ap, ap₂, true}
+use Rattle.std.proofs.Common.{◌∙◌, List, [], ◌∷◌, ap, codes}
 use Rattle.std.proofs.lemmas.Result.{IfOk-weaker}
-use Rattle.clap.specs.Words.{App, Shape, with_subcommand}
-use Rattle.clap.specs.Simple.{app_of_fields, on_top}
+use Rattle.clap.specs.Words.{App, Text}
+use Rattle.command_words.specs.CommandLine.{with_each}
 use Rattle.command_words.proofs.words.command_line.Goals as goal
 
-abbrev top : App → Shape
-top a = a.top
+abbrev of_files : Text → Text × List Text
+of_files name = (name, codes "program" ∷ codes "placement" ∷ codes "schedule" ∷ [])
+
+abbrev of_word : Text → Text → Text × List Text
+of_word name id = (name, id ∷ [])
+
+-- the rows of the command line
+abbrev rows : List (Text × List Text)
+rows =
+    of_files (codes "record") ∷ of_files (codes "run") ∷ of_files (codes "why")
+    ∷ of_word (codes "print") (codes "program") ∷ of_word (codes "code") (codes "program") ∷ of_word (codes "ring") (codes "cells") ∷ of_word (codes "convert") (codes "record")
+    ∷ (codes "check", codes "program" ∷ codes "record" ∷ []) ∷ of_word (codes "build") (codes "program") ∷ of_files (codes "load") ∷ []
 
 pub returns : goal.returns
-returns c =
-    let name = ap app_of_fields c.no_binary_name.ensures ∙ ap (on_top (λ s. record s { no_binary_name = true })) c.new.ensures.app in
-    let flag = ap app_of_fields c.disable_help_flag.ensures ∙ ap (on_top (λ s. record s { disable_help_flag = true })) name in
-    let help = ap app_of_fields c.disable_help_subcommand.ensures ∙ ap (on_top (λ s. record s { disable_help_subcommand = true })) flag in
-    let set = ap app_of_fields c.subcommand_required.ensures ∙ ap (on_top (λ s. record s { subcommand_required = true })) help in
-    let one = c.in_ok-subcommand.ensures.shape c.in_ok-of_files.ensures.local ∙ ap₂ with_subcommand set (ap top c.in_ok-of_files.ensures.app) in
-    let two = c.in_ok-subcommand-2.ensures.shape c.in_ok-of_files-2.ensures.local ∙ ap₂ with_subcommand one (ap top c.in_ok-of_files-2.ensures.app) in
-    let three = c.in_ok-subcommand-3.ensures.shape c.in_ok-of_files-3.ensures.local ∙ ap₂ with_subcommand two (ap top c.in_ok-of_files-3.ensures.app) in
-    let four = c.in_ok-subcommand-4.ensures.shape c.in_ok-of_word.ensures.local ∙ ap₂ with_subcommand three (ap top c.in_ok-of_word.ensures.app) in
-    let five = c.in_ok-subcommand-5.ensures.shape c.in_ok-of_word-2.ensures.local ∙ ap₂ with_subcommand four (ap top c.in_ok-of_word-2.ensures.app) in
-    let six = c.in_ok-subcommand-6.ensures.shape c.in_ok-of_word-3.ensures.local ∙ ap₂ with_subcommand five (ap top c.in_ok-of_word-3.ensures.app) in
-    let seven = c.in_ok-subcommand-7.ensures.shape c.in_ok-of_word-4.ensures.local ∙ ap₂ with_subcommand six (ap top c.in_ok-of_word-4.ensures.app) in
-    let eight = c.in_ok-subcommand-8.ensures.shape c.in_ok-of_record.ensures.local ∙ ap₂ with_subcommand seven (ap top c.in_ok-of_record.ensures.app) in
-    let nine = c.in_ok-subcommand-9.ensures.shape c.in_ok-of_word-5.ensures.local ∙ ap₂ with_subcommand eight (ap top c.in_ok-of_word-5.ensures.app) in
-    IfOk-weaker c.subcommand-10.result _ _
-    (λ r h. h.shape c.in_ok-of_files-4.ensures.local ∙ ap₂ with_subcommand nine (ap top c.in_ok-of_files-4.ensures.app)) c.subcommand-10.ensures
+returns c = IfOk-weaker c.with_rows.result _ _ (λ r h. h ∙ ap (λ (a : App). with_each a rows) c.bare_line.ensures) c.with_rows.ensures

@@ -3,8 +3,8 @@ use Rattle.std.proofs.lemmas.Grind.{common_steps}
 use Rattle.term_stack.proofs.Changing.{assigned_inside}
 use Rattle.term_stack.proofs.parts.Work.assign.Goals as goal
 
-pub returns-in_ok-push-in-Some : goal.returns-in_ok-push-in-Some
-returns-in_ok-push-in-Some c =
+pub returns-in_ok-stack-in-Some : goal.returns-in_ok-stack-in-Some
+returns-in_ok-stack-in-Some c =
     let a = c.in-Some.call in
     let b = record a { temps = c.set.new.bindings } in
     let ys = c.pop.new.self.items in
