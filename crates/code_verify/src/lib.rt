@@ -1,5 +1,7 @@
 //! The verifier of object code files, and the file of a program.
 #![tactic(auto)]
 
+mod unit_file;
+
 pub use code_judge::{Verified, VerifyFault, verify};
-pub use program_file::file_of;
+pub use unit_file::file_of;

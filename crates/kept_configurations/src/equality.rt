@@ -6,8 +6,8 @@ ghost use Rattle.kept_configurations.specs.Numbers.{queue_messages};
 use crate::numbered::{Numbered, Queue};
 use pool_semantics::Mail;
 use run_words::Value;
+use run_words::operators::same;
 use std::hash::{FoldHasher, Hasher};
-use value_operators::operators::same;
 
 #[tactic(auto, using(run_words::proofs::Laws::same_value))]
 fn same_values(left: &[Value], right: &[Value]) -> bool

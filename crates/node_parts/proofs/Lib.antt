@@ -6,3 +6,5 @@ pub mod Numbers
 pub mod Moving
 pub mod Adding
 pub mod Laws
+pub mod Passing
+pub mod Words

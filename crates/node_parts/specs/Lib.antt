@@ -4,3 +4,5 @@ pub mod OfUnit
 pub mod Views
 pub mod Choices
 pub mod Changes
+pub mod Bits
+pub mod Words

@@ -1,9 +1,11 @@
-//! The parts of a node, and the small changes of them: each changes one slot, and the bit that says whether its object can step.
+//! The parts of a node, which slots are ready among them, and the small changes of them: each changes one slot, and the bit
+//! that says whether its object can step.
 #![tactic(auto)]
 
 mod choice;
 mod moves;
 mod parts;
+mod ready;
 
 pub use choice::{called_place, first_possible};
 pub use moves::{
@@ -11,3 +13,4 @@ pub use moves::{
     settle_in,
 };
 pub use parts::{Parts, refresh};
+pub use ready::ReadySet;

@@ -10,12 +10,12 @@ ghost use Rattle.mailbox.specs.Mail.{box_of};
 ghost use Rattle.node_heap.specs.Heaps.{object_at};
 ghost use Rattle.node_parts.specs.Views.{arrivals_of, refreshed, slot_at};
 
+use crate::ReadySet;
 use crate::choice::first_possible;
 use code_semantics::Unit;
 use mailbox::Mailbox;
 use node_heap::Heap;
 use object_interp::can_step_alone;
-use ready_set::ReadySet;
 use rendezvous_protocol::Outstanding;
 use run_words::{Error, List};
 

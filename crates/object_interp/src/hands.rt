@@ -17,8 +17,8 @@ use crate::read::{class_place, last_values, value_at};
 use crate::words::{Hand, Need};
 use code_semantics::{Instr, Unit};
 use node_heap::Heap;
+use run_words::operators::Answer;
 use run_words::{Error, Item, Op, Serves, Value};
-use value_operators::operators::Answer;
 
 /// A language error is met.
 fn fault(error: Error) -> Hand

@@ -1,7 +1,7 @@
 //! One instruction, and the silent ones after it.
 ghost use Rattle.std.specs.Prelude.{◌≡◌, ◌<◌, ◌≤◌, ◌+◌, ◌^◌, ◌≢◌, true, false, suc, [], ◌∷◌, IsTrue, Some, None, IfSome, IfNone, is_some, length, slice_get, take};
 ghost use Rattle.run_words.specs.Values.{is_bool, is_prefix, is_true as holds};
-ghost use Rattle.value_operators.specs.Operated.{outcome_of};
+ghost use Rattle.run_words.specs.Operated.{outcome_of};
 ghost use Rattle.run_words.specs.declared.frames.Frame.{Frame};
 ghost use Rattle.code_semantics.specs.declared.unit.MethodCode.{MethodCode};
 ghost use Rattle.run_words.specs.Operands.{top, below, dropped, padded};
@@ -20,8 +20,8 @@ ghost use Rattle.object_interp.specs.Tops.{HasTop, class_in, code_in, instr_in, 
 use crate::read::{class_at, code_at, instr_at, last_values, method_place, name_at, value_at};
 use code_semantics::{Instr, MethodCode, Unit};
 use node_heap::{FrameHead, Heap, HeapFull};
+use run_words::operators::{Answer, on_ints, operate, operate_one};
 use run_words::{Args, NameId, Op, Serves, Value};
-use value_operators::operators::{Answer, on_ints, operate, operate_one};
 
 /// Whether a value is true.
 pub(crate) fn is_true(value: Value) -> bool

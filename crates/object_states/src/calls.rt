@@ -4,9 +4,9 @@ ghost use Rattle.term_stack.specs.Parts.{stopped, term_of};
 ghost use Rattle.object_states.specs.Alike.{AlikeCall, AlikeCalls, AlikeOuter, AlikeStage};
 
 use crate::parts::{same_operand, same_places, same_ready, same_rest, same_slot, same_task};
+use run_words::operators::same as same_value;
 use term_stack::parts::{Activation, Binding, Now, Outer, Stage, Work};
 use text_equality::{same_expression, same_statements};
-use value_operators::operators::same as same_value;
 
 #[tactic(auto, using(run_words::proofs::Laws::same_value))]
 fn same_binding(left: Binding, right: Binding) -> bool

@@ -3,12 +3,12 @@ ghost use Rattle.std.specs.Prelude.{◌≡◌, [], ◌∷◌, true};
 ghost use Rattle.term_stack.specs.Parts.{left, ready, segment, task};
 ghost use Rattle.object_states.specs.Alike.{AlikeGuards, AlikePlace, AlikePlaces, AlikeSlot};
 
+use run_words::operators::same as same_value;
 use term_stack::parts::{Guarded, Operand, Place, Ready, Segment, Slot, Task};
 use text_equality::{
     same_alternatives, same_answer, same_expression, same_expressions, same_named, same_names,
     same_operator, same_statements,
 };
-use value_operators::operators::same as same_value;
 
 #[tactic(auto, using(run_words::proofs::Laws::same_value))]
 pub fn same_operand(left: Operand, right: Operand) -> bool

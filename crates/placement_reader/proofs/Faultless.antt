@@ -4,7 +4,7 @@ use Rattle.std.proofs.lemmas.Bool.Decides.{nat_tests}
 use Rattle.run_words.specs.declared.words.LinkId.{LinkId}
 use Rattle.run_words.specs.declared.words.Placement.{Placement}
 use Rattle.run_words.specs.declared.words.Route.{Route}
-use Rattle.input_lines.specs.Kept.{Kept}
+use Rattle.run_words.specs.Kept.{Kept}
 use Rattle.code_semantics.specs.declared.unit.Unit.{Unit as Code}
 use Rattle.code_semantics.specs.Suits.{IsFromTo, most_vars}
 use Rattle.run_words.specs.Paths.{are_neighbours, is_cut, route_of}

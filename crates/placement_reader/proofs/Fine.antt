@@ -10,7 +10,7 @@ use Rattle.placement_reader.specs.declared.form.Form.{Form}
 use Rattle.placement_reader.specs.declared.form.Form.TheVariants as form
 use Rattle.placement_reader.specs.declared.form.Spot.{Spot}
 use Rattle.placement_reader.specs.declared.form.Spot.TheVariants as S
-use Rattle.input_lines.specs.Kept.{Kept}
+use Rattle.run_words.specs.Kept.{Kept}
 use Rattle.code_semantics.specs.declared.unit.Unit.{Unit as Code}
 use Rattle.placement_reader.specs.Placements.{first_fault, forms_of, places_of, with_form}
 use Rattle.std.specs.Option.{option_or}

@@ -4,7 +4,7 @@ use Rattle.std.proofs.lemmas.Bool.Decides.{nat_tests}
 use Rattle.run_words.specs.Text.{Text}
 use Rattle.run_words.specs.declared.words.Placement.{Placement}
 use Rattle.run_words.specs.Lines.{lines}
-use Rattle.input_lines.specs.Kept.{Kept, kept}
+use Rattle.run_words.specs.Kept.{Kept, kept}
 use Rattle.code_semantics.specs.declared.unit.Unit.{Unit as Code}
 use Rattle.code_semantics.specs.Suits.{IsFromTo, Suits, most_vars, words}
 use Rattle.run_words.specs.Tables.{Pair}

@@ -8,7 +8,7 @@ use Rattle.run_words.specs.declared.words.Place.TheVariants as P
 use Rattle.run_words.specs.declared.words.LinkId.{LinkId}
 use Rattle.run_words.specs.declared.words.Route.{Route}
 use Rattle.run_words.specs.Paths.{are_neighbours, is_cut, route_of}
-use Rattle.input_lines.specs.Kept.{number_of}
+use Rattle.run_words.specs.Kept.{number_of}
 use Rattle.code_semantics.specs.Suits.{IsFromTo, IsOfMesh}
 use Rattle.code_semantics.specs.declared.unit.ClassCode.{ClassCode}
 use Rattle.code_semantics.specs.declared.unit.Unit.{Unit as Code}

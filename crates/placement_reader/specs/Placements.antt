@@ -8,7 +8,7 @@ use Rattle.run_words.specs.declared.words.Placement.{Placement}
 use Rattle.run_words.specs.Tables.{Pair}
 use Rattle.run_words.specs.Routes.{without_route}
 use Rattle.run_words.specs.Lines.{lines}
-use Rattle.input_lines.specs.Kept.{Kept, kept}
+use Rattle.run_words.specs.Kept.{Kept, kept}
 use Rattle.code_semantics.specs.Suits.{IsFromTo, most_vars, words}
 use Rattle.code_semantics.specs.declared.unit.Unit.{Unit as Code}
 use Rattle.placement_reader.specs.declared.fault.PlacementFault.{PlacementFault}

@@ -1,12 +1,11 @@
 //! The forms of a placement's lines.
 ghost use Rattle.std.specs.Prelude.{◌≡◌};
 ghost use Rattle.run_words.specs.Lines.{words};
-ghost use Rattle.input_lines.specs.Kept.{number_of};
+ghost use Rattle.run_words.specs.Kept.{number_of};
 ghost use Rattle.placement_reader.specs.Forms.{class_named, class_numbered, count_form, form_of, form_of_four, form_of_three, kind_of, spot_of};
 
 use code_semantics::{ClassCode, Unit};
-use input_lines::{Few, few_words, number};
-use run_words::NameId;
+use run_words::{Few, NameId, few_words, number};
 
 /// What is counted at each node.
 #[derive(Clone, Copy)]

@@ -2,7 +2,7 @@
 ghost use Rattle.std.specs.Prelude.{◌≡◌, ◌+◌, ◌*◌, ◌≤◌, [], length, drop, unwrap_or, IfOk, IfErr, IfNone, IfSome, OnOk, Ok, Some, None};
 ghost use Rattle.std.specs.List.{All};
 ghost use Rattle.run_words.specs.Lines.{lines, words as line_words};
-ghost use Rattle.input_lines.specs.Kept.{kept_from};
+ghost use Rattle.run_words.specs.Kept.{kept_from};
 ghost use Rattle.code_semantics.specs.Suits.{IsFromTo, IsOfMesh, Suits, most_vars, words};
 ghost use Rattle.placement_reader.specs.declared.form.Count.TheVariants.{Objects, Frames, Cells};
 ghost use Rattle.run_words.specs.Routes.{IsRouted, without_route};
@@ -14,8 +14,7 @@ use crate::form::{Count, Form, Spot, form_in};
 use crate::forms::{number_in, spot_in};
 use crate::judge::{is_from_one, judge};
 use code_semantics::{ClassCode, Unit};
-use input_lines::{count_lines, next_kept};
-use run_words::{LinkId, List, Place, Placement, Route};
+use run_words::{LinkId, List, Place, Placement, Route, count_lines, next_kept};
 use std::alloc::{AllocError, Global};
 use table_routing::{Table, TableFault};
 

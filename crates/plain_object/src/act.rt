@@ -8,7 +8,7 @@ ghost use Rattle.pool_relation.specs.Action.{Object, action, redex_action, on_ou
 ghost use Rattle.run_words.specs.Values.{is_nil, not_bool, is_true};
 ghost use Rattle.term_stack.specs.Parts.{term_of, task as statement};
 ghost use Rattle.term_stack.specs.Reduced.{assigns, reduced, task_redex, last_redex, choices, temps_at};
-ghost use Rattle.value_operators.specs.Operated.{outcome_of};
+ghost use Rattle.run_words.specs.Operated.{outcome_of};
 ghost use Rattle.plain_object.specs.Acts.{acted, object_with, Suits, returns_act, waits_act, calls_act, posts_act};
 ghost use Rattle.term_stack.specs.Arguments.{ready_args, task_args, task_names, task_choices, now_args, now_names, now_choices};
 ghost use Rattle.run_words.specs.declared.words.Value.{Value};
@@ -20,9 +20,9 @@ ghost use Rattle.term_stack.specs.declared.parts.Now.{Now};
 use crate::change::Change;
 use crate::lookup::{find_class, find_method, value_of};
 use pool_syntax::Program;
+use run_words::operators::{Answer, operate, operate_one, same};
 use run_words::{Error, Item, NameId, Value};
 use term_stack::parts::{Activation, Binding, Guarded, Now, Operand, Outer, Ready, Task, Work};
-use value_operators::operators::{Answer, operate, operate_one, same};
 
 /// What an object does next. The arguments, names and guards are those of the redex.
 #[derive(Clone, Copy)]

@@ -5,8 +5,8 @@ ghost use Rattle.term_stack.specs.Reduced.{values};
 ghost use Rattle.term_stack.specs.Arguments.{now_args};
 
 use run_words::Value;
+use run_words::operators::same;
 use term_stack::parts::{Now, Operand, Ready, Task, Work};
-use value_operators::operators::same;
 
 /// Whether these operands have these values.
 fn same_operands(operands: &[Operand], args: &[Value]) -> bool

@@ -13,9 +13,8 @@ ghost use Rattle.pool_driver.specs.Headline.{ShowsOneRun};
 ghost use Rattle.pool_driver.specs.Inputs.{IsServable, MayOpen};
 ghost use Rattle.pool_driver.specs.Outputs.{IsWhole};
 
-use cli_words::behind_name;
 use pool_driver::{Status, pool};
-use pool_outside::{Files, Sink, StdFiles, StdSink};
+use pool_outside::{Files, Sink, StdFiles, StdSink, behind_name};
 use std::alloc::Global;
 use std::env;
 use std::process::ExitCode;

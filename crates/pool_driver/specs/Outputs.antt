@@ -26,7 +26,7 @@ use Rattle.wait_report.specs.Report.{report_text}
 use Rattle.run_words.specs.declared.verdicts.Verdict.{Verdict}
 use Rattle.run_words.specs.declared.verdicts.Verdict.TheVariants as V
 use Rattle.record_check.specs.Verdicts.{Judged}
-use Rattle.verdict_lines.specs.VerdictText.{verdict_text}
+use Rattle.record_check.specs.VerdictText.{verdict_text}
 use Rattle.verified_code.specs.DeclaredKinds.{file_of}
 use Rattle.unit_inputs.specs.UnitFiles.{IsVerifiedFile}
 

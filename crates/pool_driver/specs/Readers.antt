@@ -53,7 +53,7 @@ use Rattle.run_driver.specs.Loading.{lines_of, run_text}
 use Rattle.pool_driver.specs.Outputs.{IsRingOf, status_of_verdict}
 use Rattle.run_words.specs.declared.verdicts.Verdict.{Verdict}
 use Rattle.record_check.specs.Verdicts.{Judged}
-use Rattle.verdict_lines.specs.VerdictText.{verdict_text}
+use Rattle.record_check.specs.VerdictText.{verdict_text}
 use Rattle.pool_gen.specs.Ring.{ring_placement, ring_program, ring_schedule}
 use Rattle.pool_syntax.specs.Terms.{ProgramTree}
 use Rattle.outside_calls.specs.Reading.{Reading}

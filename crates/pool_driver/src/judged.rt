@@ -7,12 +7,11 @@ ghost use Rattle.pool_driver.specs.Readers.{Decides};
 use crate::outputs::Output;
 use class_check::Checked;
 use fault_lines::Stop;
-use record_check::check_record;
 use record_check::theorems::a_record_has_one_verdict;
+use record_check::{check_record, verdict_line};
 use run_driver::Status;
 use run_words::{Line, List, Names, Verdict};
 use std::alloc::{AllocError, Global};
-use verdict_lines::verdict_line;
 
 /// The status with which a verdict is written.
 fn status_of_verdict(verdict: &Verdict) -> Status

@@ -13,9 +13,9 @@ ghost use Rattle.fault_lines.specs.declared.fault.Fault.{Fault as AnyFault};
 ghost use Rattle.fault_lines.specs.declared.fault.Input.{Input as AnyInput};
 
 use code_semantics::{Unit, UnitFile};
+use code_verify::file_of;
 use fault_lines::{Input, Stop};
 use pool_compile::compile;
-use program_file::file_of;
 use program_input::{Parsed, judge_classes};
 use std::alloc::Global;
 

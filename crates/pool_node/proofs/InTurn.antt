@@ -8,7 +8,7 @@ use Rattle.mesh_semantics.specs.Language.{Language}
 use Rattle.run_words.specs.Tables.{Each}
 use Rattle.run_words.proofs.Laws.{first, second, same_some}
 use Rattle.node_semantics.specs.Node.{Slot, NodeState, arrivals, can_go, comes_after, name_at, placed, ready_slots, slot_in_turn}
-use Rattle.ready_set.specs.Bits.{first_bit}
+use Rattle.node_parts.specs.Bits.{first_bit}
 use Rattle.pool_node.specs.Bits.{bit_in_turn}
 
 module _ {S : Type 0} (f : ℕ × Slot S → Bool) where

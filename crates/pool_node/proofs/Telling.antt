@@ -36,7 +36,7 @@ use Rattle.node_parts.specs.declared.parts.Parts.{Parts}
 use Rattle.node_parts.specs.NodeOf.{NodeOf}
 use Rattle.node_parts.specs.OfUnit.{IsOfUnit}
 use Rattle.node_parts.specs.Views.{IsWhole, tail_of, slots_by, slots_of, node_of, slot_at}
-use Rattle.ready_set.specs.Bits.{first_bit, first_bit_from}
+use Rattle.node_parts.specs.Bits.{first_bit, first_bit_from}
 use Rattle.node_parts.proofs.Laws.{slots_length, slot_view, kind_seen}
 use Rattle.pool_node.proofs.Counting.{messages_seen}
 use Rattle.pool_node.proofs.InTurn.{bits_first}

@@ -16,7 +16,7 @@ ghost use Rattle.pool_node.specs.ActOf.{act_of};
 ghost use Rattle.pool_node.specs.declared.words.Room.{Room as OneRoom};
 ghost use Rattle.pool_node.specs.Acts.{IsActOf};
 ghost use Rattle.pool_node.specs.Made.{IsSet, IsTurned, kept};
-ghost use Rattle.ready_set.specs.Bits.{first_bit_from};
+ghost use Rattle.node_parts.specs.Bits.{first_bit_from};
 ghost use Rattle.pool_node.specs.Bits.{bit_in_turn};
 
 use crate::acts::{async_turn, call_turn, fault_turn, name_of, return_turn, write_turn};

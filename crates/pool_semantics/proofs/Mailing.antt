@@ -21,10 +21,10 @@ named_first names [] i e d lt h n = absurd (omega arith)
 named_first names (m ∷ ms) zero e d lt h n = rw n refl
 named_first names (m ∷ ms) (suc i) e d lt h n = let f : names_method names m.method.0 ≡ false = h 0 e (omega arith) in rw f (named_first names ms i e d (omega arith) (later names m ms i h) n)
 
-pub named_here : (names : List Named) (ms : List Mail) (i : ℕ) (e : Mail) → i < length ms → names_method names (slice_index_or ms i e).method.0 ≡ true → has_message names (map message_of ms) ≡ true
-named_here names [] i e lt n = absurd (omega arith)
-named_here names (m ∷ ms) zero e lt n = rw n refl
-named_here names (m ∷ ms) (suc i) e lt n = let r = named_here names ms i e (omega arith) n in grind (arith, r)
+pub named_at : (names : List Named) (ms : List Mail) (i : ℕ) (e : Mail) → i < length ms → names_method names (slice_index_or ms i e).method.0 ≡ true → has_message names (map message_of ms) ≡ true
+named_at names [] i e lt n = absurd (omega arith)
+named_at names (m ∷ ms) zero e lt n = rw n refl
+named_at names (m ∷ ms) (suc i) e lt n = let r = named_at names ms i e (omega arith) n in grind (arith, r)
 
 pub named_rest : (names : List Named) (ms : List Mail) (i : ℕ) (e : Mail) → i < length ms → NoneBefore names ms i → names_method names (slice_index_or ms i e).method.0 ≡ true → without_first names (map message_of ms) ≡ map message_of (remove ms i)
 named_rest names [] i e lt h n = absurd (omega arith)
@@ -37,9 +37,9 @@ pub named_none : (names : List Named) (ms : List Mail) (e : Mail) → NoneBefore
 named_none names [] e h = refl
 named_none names (m ∷ ms) e h = let f : names_method names m.method.0 ≡ false = h 0 e (omega arith) in rw f (named_none names ms e (later names m ms (length ms) h))
 
-pub first_none : (names : List Named) (ms : List Mail) (e : Mail) → NoneBefore names ms (length ms) → first_message names (map message_of ms) ≡ None
-first_none names [] e h = refl
-first_none names (m ∷ ms) e h = let f : names_method names m.method.0 ≡ false = h 0 e (omega arith) in rw f (first_none names ms e (later names m ms (length ms) h))
+pub none_in : (names : List Named) (ms : List Mail) (e : Mail) → NoneBefore names ms (length ms) → first_message names (map message_of ms) ≡ None
+none_in names [] e h = refl
+none_in names (m ∷ ms) e h = let f : names_method names m.method.0 ≡ false = h 0 e (omega arith) in rw f (none_in names ms e (later names m ms (length ms) h))
 
 -- no message before this place passes the test
 abbrev pub NoneSo : (ℕ → Bool) → List Mail → ℕ → Type 0

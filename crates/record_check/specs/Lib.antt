@@ -1,3 +1,4 @@
 pub mod Judged
 pub mod Leads
 pub mod Verdicts
+pub mod VerdictText

@@ -1,11 +1,16 @@
-//! The lines of a record as text, written without memory.
+//! The lines of a record as text, written without memory, and the words of lines, gathered in memory.
 #![tactic(auto)]
 
 mod asked;
 mod labels;
 mod parts;
 mod text;
+mod words;
 mod write;
 
 pub use asked::{asker, asker_of, is_asked, poster};
+pub use words::{
+    push_args, push_count, push_error, push_item, push_name, push_number, push_object,
+    push_object_name, push_value, push_word,
+};
 pub use write::{write_event2, write_form, write_item, write_line, write_line2};

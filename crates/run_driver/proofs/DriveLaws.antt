@@ -32,8 +32,8 @@ use Rattle.pool_machine.specs.AnswerOf.{Answer}
 use Rattle.pool_machine.specs.AnswerOf as O
 use Rattle.schedule_reader.specs.Schedules.{Plan}
 use Rattle.record_lines.specs.Writable.{IsWritable}
-use Rattle.request_numbers.specs.declared.asks.Asks.{Asks}
-use Rattle.request_numbers.specs.Table.{AreInTable, HasLast, InTable}
+use Rattle.run_record.specs.declared.asks.Asks.{Asks}
+use Rattle.run_record.specs.Table.{AreInTable, HasLast, InTable}
 use Rattle.command_words.specs.declared.command.Show.{Show}
 use Rattle.command_words.specs.declared.command.Show.TheVariants as Sh
 use Rattle.run_driver.specs.declared.status.Status.{Status}

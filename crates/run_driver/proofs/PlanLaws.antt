@@ -7,7 +7,7 @@ use Rattle.run_words.specs.declared.words.Event.TheVariants as V
 use Rattle.run_words.specs.declared.words.Placement.{Placement}
 use Rattle.run_words.specs.declared.words.LinkId.{LinkId}
 use Rattle.run_words.specs.Lines.{lines}
-use Rattle.input_lines.specs.Kept.{Kept, kept}
+use Rattle.run_words.specs.Kept.{Kept, kept}
 use Rattle.pool_machine.specs.Answers.{IsOfMesh, IsServed}
 use Rattle.schedule_reader.specs.declared.entry.Entry.{Entry}
 use Rattle.schedule_reader.specs.declared.fault.ScheduleFault.{ScheduleFault}

@@ -24,8 +24,8 @@ use Rattle.schedule_reader.specs.Schedules.{Plan}
 use Rattle.run_words.specs.Asks.{request_number_of}
 use Rattle.record_lines.specs.Writable.{IsWritable}
 use Rattle.record_lines.specs.SecondForm.{form_text, line_text2}
-use Rattle.request_numbers.specs.declared.asks.Asks.{Asks}
-use Rattle.request_numbers.specs.Table.{HasLast}
+use Rattle.run_record.specs.declared.asks.Asks.{Asks}
+use Rattle.run_record.specs.Table.{HasLast}
 use Rattle.command_words.specs.declared.command.Show.{Show}
 use Rattle.command_words.specs.declared.command.Show.TheVariants as Sh
 use Rattle.run_driver.specs.declared.drive.Ended.{Ended}

@@ -14,8 +14,8 @@ use Rattle.line_reader.specs.Parted.{IsCut}
 use Rattle.run_record.specs.declared.fault.RecordFault.{RecordFault}
 use Rattle.run_record.specs.declared.fault.RecordFault.TheVariants as fault
 use Rattle.line_reader.specs.Fields.{fields, parts, parts_left}
-use Rattle.request_numbers.specs.declared.posts.Posts.{Posts}
-use Rattle.request_numbers.specs.Posts.{HasPosts}
+use Rattle.run_record.specs.declared.posts.Posts.{Posts}
+use Rattle.run_record.specs.Posts.{HasPosts}
 use Rattle.run_record.specs.Numbered.{HasFront, IsTable, IsTold, lines_after, names_after, with_name}
 use Rattle.line_reader.specs.Lines.{Told}
 use Rattle.run_record.specs.Records.{Row, by_fault, is_empty, is_end, last_after, record_of, refused, row_fault, row_of, row_then, rows, rows_of, Rows, with_told}

@@ -3,3 +3,5 @@ pub mod Readable
 pub mod Records
 pub mod RowBy
 pub mod Steps
+pub mod Posts
+pub mod Table

@@ -6,16 +6,16 @@ ghost use Rattle.record_lines.specs.Writable.{IsWritable};
 ghost use Rattle.run_words.specs.Asks.{request_number_of};
 ghost use Rattle.line_reader.specs.Fields.{fields, parts};
 ghost use Rattle.run_record.specs.Numbered.{IsTable, IsTold, lines_after, names_after};
-ghost use Rattle.request_numbers.specs.Posts.{HasPosts};
+ghost use Rattle.run_record.specs.Posts.{HasPosts};
 ghost use Rattle.run_record.specs.Records.{done_of, follows, is_empty, is_end, last_after, record_of, row_fault, row_of, rows, rows_of, tail_row};
 ghost use Rattle.run_record.specs.RowBy.{row};
 ghost use Rattle.line_reader.specs.ToldBy.{told};
 
+use crate::Posts;
 use crate::fault::RecordFault;
 use crate::numbered::numbered;
 use crate::row::{Form, ReadRow, row_in};
 use line_reader::cut;
-use request_numbers::Posts;
 use run_words::{End, Line, List, Names};
 use std::alloc::Global;
 

@@ -1,4 +1,4 @@
--- The lemmas that other crates cite: on tests and chains of steps, tables, texts and names, and the paths of a mesh.
+-- The lemmas that other crates cite: on tests and chains of steps, tables, texts and names, the paths of a mesh, and lists that are made a number at a time.
 pub use Rattle.run_words.proofs.Texts.{is_among-last, text_at_place, name_of-missing}
 pub use Rattle.run_words.proofs.Listed.{listed_is}
 pub use Rattle.run_words.proofs.RunLaws.{every_front, every_past}
@@ -12,3 +12,4 @@ pub use Rattle.run_words.proofs.Followed.{follow, followed}
 pub use Rattle.run_words.proofs.LinkMaps.{tied_pair, untied_pair, listed_sorted, pushed_sorted, pushed_here, pushed_there, listed_here, listed_there, one_pair}
 pub use Rattle.run_words.proofs.Pigeons.{pigeons, Meets}
 pub use Rattle.run_words.proofs.EachLaws.{each_map, each_append, there_at, each_both}
+pub use Rattle.run_words.proofs.Ranges.{more}

@@ -16,4 +16,5 @@ pub mod Followed
 pub mod LinkMaps
 pub mod Pigeons
 pub mod EachLaws
+pub mod Ranges
 pub mod Laws

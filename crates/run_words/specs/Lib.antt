@@ -18,3 +18,6 @@ pub mod Keywords
 pub mod Sorts
 pub mod ObjectNames
 pub mod Operands
+pub mod Few
+pub mod Kept
+pub mod Operated

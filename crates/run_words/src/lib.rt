@@ -1,13 +1,16 @@
-//! The words of a run and what every crate above shares of them: values, labels, lines, placements and names; texts, their
-//! lines, words and numbers; tables by key, the paths of a mesh, and the lemmas on these.
+//! The words of a run and what every crate above shares of them: values and the operators on them, labels, lines, placements
+//! and names; texts, their lines, words and numbers, and the lines of an input that are not passed over; tables by key, the
+//! paths of a mesh, and the lemmas on these.
 #![tactic(auto)]
 
 mod args;
 mod frames;
+mod kept;
 mod keywords;
 mod lines;
 mod list;
 mod names;
+pub mod operators;
 mod places;
 mod scan;
 mod spelling;
@@ -16,6 +19,7 @@ mod words;
 
 pub use args::Args;
 pub use frames::{CodeObject, Frame};
+pub use kept::{Few, KeptLine, count_lines, few_words, next_kept, number};
 pub use keywords::Keyword;
 pub use lines::{decimal, next_line, next_word};
 pub use list::List;

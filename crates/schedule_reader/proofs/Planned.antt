@@ -6,7 +6,7 @@ use Rattle.run_words.specs.Text.{Text}
 use Rattle.run_words.specs.declared.words.Event.{Event}
 use Rattle.run_words.specs.declared.words.Placement.{Placement}
 use Rattle.run_words.specs.Lines.{lines}
-use Rattle.input_lines.specs.Kept.{Kept, kept, number_of}
+use Rattle.run_words.specs.Kept.{Kept, kept, number_of}
 use Rattle.run_words.specs.Paths.{IsLink, are_neighbours, is_cut}
 use Rattle.run_words.proofs.Laws.{neighbours, not_true, each_both}
 use Rattle.run_words.specs.Tables.{Each}

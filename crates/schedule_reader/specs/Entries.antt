@@ -7,7 +7,7 @@ use Rattle.run_words.specs.declared.words.LinkId.{LinkId}
 use Rattle.run_words.specs.declared.words.WireAct.{WireAct}
 use Rattle.run_words.specs.declared.words.WireAct.TheVariants as A
 use Rattle.run_words.specs.Paths.{are_neighbours, is_cut}
-use Rattle.input_lines.specs.Kept.{Kept, number_of}
+use Rattle.run_words.specs.Kept.{Kept, number_of}
 use Rattle.schedule_reader.specs.declared.entry.Entry.{Entry}
 use Rattle.schedule_reader.specs.declared.entry.Entry.TheVariants as E
 use Rattle.schedule_reader.specs.declared.fault.ScheduleFault.{ScheduleFault}

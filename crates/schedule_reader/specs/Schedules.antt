@@ -5,7 +5,7 @@ use Rattle.run_words.specs.Text.{Text}
 use Rattle.run_words.specs.declared.words.Event.{Event}
 use Rattle.run_words.specs.declared.words.LinkId.{LinkId}
 use Rattle.run_words.specs.Lines.{lines}
-use Rattle.input_lines.specs.Kept.{Kept, kept}
+use Rattle.run_words.specs.Kept.{Kept, kept}
 use Rattle.schedule_reader.specs.declared.entry.Entry.{Entry}
 use Rattle.schedule_reader.specs.declared.fault.ScheduleFault.{ScheduleFault}
 use Rattle.schedule_reader.specs.declared.fault.ScheduleFault.TheVariants as F

@@ -9,9 +9,8 @@ ghost use Rattle.schedule_reader.specs.Counts.{IsCountedLine, counted_of};
 use crate::fault::ScheduleFault;
 use crate::stretch::{Counted, Part};
 use crate::wire::{wire_of_four, wire_of_three};
-use input_lines::{Few, few_words, number};
 use mesh_routing::are_neighbours;
-use run_words::{Event, LinkId, WireAct};
+use run_words::{Event, Few, LinkId, WireAct, few_words, number};
 
 /// The most events of a schedule, and the greatest count of a line.
 pub const MOST_EVENTS: u64 = 2000000;

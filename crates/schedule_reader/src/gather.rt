@@ -2,7 +2,7 @@
 ghost use Rattle.std.specs.Prelude.{◌≡◌, ◌+◌, ◌*◌, ◌<◌, ◌≤◌, ◌++◌, [], ◌∷◌, length, drop, IfOk, IfErr, OnOk, None, Some};
 ghost use Rattle.std.specs.List.{repeat};
 ghost use Rattle.run_words.specs.Lines.{lines};
-ghost use Rattle.input_lines.specs.Kept.{kept_from};
+ghost use Rattle.run_words.specs.Kept.{kept_from};
 ghost use Rattle.schedule_reader.specs.Events.{events_of, round_of, total};
 ghost use Rattle.schedule_reader.specs.Schedules.{IsTold, entries_of, first_fault};
 ghost use Rattle.schedule_reader.specs.Stretches.{AreEnds, part_events, stretched};
@@ -11,8 +11,7 @@ use crate::entry::{MOST_EVENTS, judge};
 use crate::fault::ScheduleFault;
 use crate::opening::Opening;
 use crate::stretch::{Counted, Stretch, part_len};
-use input_lines::next_kept;
-use run_words::{Event, LinkId};
+use run_words::{Event, LinkId, next_kept};
 use std::alloc::{AllocError, Global};
 
 /// The stretches so far, where they have at most 2,000,000 events, and the number of all events.

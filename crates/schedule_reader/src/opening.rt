@@ -1,11 +1,11 @@
 //! Where the events of a schedule begin.
 ghost use Rattle.std.specs.Prelude.{◌≡◌, ◌+◌, ◌≤◌, length, drop};
 ghost use Rattle.run_words.specs.Lines.{lines};
-ghost use Rattle.input_lines.specs.Kept.{kept_from};
+ghost use Rattle.run_words.specs.Kept.{kept_from};
 ghost use Rattle.schedule_reader.specs.Schedules.{begins_lossy, without_wires};
 
 use crate::entry::is_lossy;
-use input_lines::next_kept;
+use run_words::next_kept;
 
 /// Whether a schedule is lossy, and where the lines of its events begin: at a byte, which begins the line of this number.
 #[derive(Clone, Copy)]

@@ -10,8 +10,7 @@ use crate::gather::gather;
 use crate::opening::behind_quantum;
 use crate::round::round;
 use crate::schedule::Schedule;
-use input_lines::{count_lines, next_kept};
-use run_words::Placement;
+use run_words::{Placement, count_lines, next_kept};
 use std::alloc::Global;
 
 /// The quantum of the first line that is kept, or that line's fault.

@@ -3,8 +3,7 @@ ghost use Rattle.std.specs.Prelude.{◌≡◌};
 ghost use Rattle.schedule_reader.specs.Entries.{ack_act, counted_act, frame_act, wire, wire_of_four, wire_of_three};
 
 use crate::entry::Entry;
-use input_lines::number;
-use run_words::WireAct;
+use run_words::{WireAct, number};
 
 /// An act of which a line may ask for many.
 fn counted_act(word: &[u8]) -> Option<WireAct>

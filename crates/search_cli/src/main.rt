@@ -20,8 +20,7 @@ ghost use Rattle.search_cli.specs.Words.{Search, search_of, texts_of};
 
 use crate::status::Status;
 use crate::top::pool_search;
-use cli_words::behind_name;
-use pool_outside::{Files, Sink, StdFiles, StdSink};
+use pool_outside::{Files, Sink, StdFiles, StdSink, behind_name};
 use std::alloc::Global;
 use std::env;
 use std::process::ExitCode;

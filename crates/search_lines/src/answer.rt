@@ -4,7 +4,7 @@ ghost use Rattle.search_lines.specs.AnswerText.{end_line, fault_text, finite_tex
 ghost use Rattle.wait_report.specs.Calls.{names_of, Rising};
 
 use crate::steps::{other_than_local, push_steps};
-use line_words::{push_count, push_word};
+use record_lines::{push_count, push_word};
 use run_words::{Label, Names};
 use std::alloc::{AllocError, Global};
 use wait_report::{ObjectRow, put_each_cycle, put_row};

@@ -4,7 +4,7 @@ ghost use Rattle.record_lines.specs.RecordText.{label_words, led, object_text, t
 ghost use Rattle.search_lines.specs.AnswerText.{step_line, steps_text};
 ghost use Rattle.search_lines.specs.Steps.{leading_locals, is_same_object, local_of, other_than_local, steps};
 
-use line_words::{
+use record_lines::{
     push_args, push_count, push_error, push_item, push_name, push_number, push_object, push_value,
     push_word,
 };

@@ -4,7 +4,7 @@ ghost use Rattle.record_lines.specs.RecordText.{led};
 ghost use Rattle.wait_report.specs.Report.{row_line, standing_words};
 
 use crate::rows::ObjectRow;
-use line_words::{push_error, push_name, push_number, push_object, push_object_name, push_word};
+use record_lines::{push_error, push_name, push_number, push_object, push_object_name, push_word};
 use run_words::{Names, Standing};
 use std::alloc::AllocError;
 

@@ -2,8 +2,8 @@
 ghost use Rattle.std.specs.Prelude.{◌≡◌, ◌==◌};
 ghost use Rattle.run_words.specs.Same.{is_same_item, error_number};
 
+use run_words::operators::same;
 use run_words::{Error, Item};
-use value_operators::operators::same;
 
 /// Whether two written items are the same.
 pub fn same_item(left: Item, right: Item) -> bool

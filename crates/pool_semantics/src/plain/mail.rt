@@ -28,7 +28,7 @@ pub struct Mail {
 }
 
 /// The place of the earliest message on one of these methods.
-#[tactic(auto, using(crate::proofs::Mailing::named_first, crate::proofs::Mailing::named_rest, crate::proofs::Mailing::named_here, crate::proofs::Mailing::named_none, crate::proofs::Mailing::first_none))]
+#[tactic(auto, using(crate::proofs::Mailing::named_first, crate::proofs::Mailing::named_rest, crate::proofs::Mailing::named_at, crate::proofs::Mailing::named_none, crate::proofs::Mailing::none_in))]
 pub fn first_named(queue: &VecDeque<Mail>, names: &[Named]) -> Option<usize>
     ensures range { IfSome result (λ i. i < length queue.now.items) }
     ensures here { IfSome result (λ i. has_message names.now (map message_of queue.now.items) ≡ true) }

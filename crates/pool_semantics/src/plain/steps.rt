@@ -14,9 +14,9 @@ use plain_object::change::Change;
 use plain_object::lookup::find_method;
 use plain_object::offers::offer_to;
 use pool_syntax::Named;
+use run_words::operators::same;
 use run_words::{Args, Label, NameId, Value};
 use std::alloc::AllocError;
-use value_operators::operators::same;
 
 /// Whether these values are the same, one by one.
 fn same_values(values: &[Value], args: &[Value]) -> bool

@@ -1,7 +1,7 @@
 use Rattle.std.proofs.Common.{◌≡◌, ◌+◌, drop, None, sym, ap, subst, ◌∙◌, arith}
 use Rattle.run_words.specs.Lines.{lines, words}
 use Rattle.std.specs.Prelude.{slice_range}
-use Rattle.input_lines.specs.Kept.{Kept, kept_from}
+use Rattle.run_words.specs.Kept.{Kept, kept_from}
 use Rattle.placement_reader.specs.Forms.{AreFine, fault_or_bad, form_of}
 use Rattle.placement_reader.specs.Placements.{first_fault, forms_of}
 use Rattle.placement_reader.proofs.Fine.{fine_push, step_fault, step_forms}

@@ -1,6 +1,6 @@
 use Rattle.std.proofs.Common.{◌≡◌, ◌+◌, ◌-◌, ◌≤◌, [], length, drop}
 use Rattle.run_words.specs.Lines.{lines}
-use Rattle.input_lines.specs.Kept.{kept_from}
+use Rattle.run_words.specs.Kept.{kept_from}
 use Rattle.placement_reader.specs.Forms.{AreFine}
 use Rattle.placement_reader.specs.Placements.{first_fault, forms_of}
 use Rattle.placement_reader.proofs.read.gather.Given as goal

@@ -4,7 +4,7 @@ use Rattle.run_words.specs.declared.words.Placement.{Placement}
 use Rattle.code_semantics.specs.Suits.{IsFromTo, IsOfMesh, most_vars, nodes, words}
 use Rattle.std.specs.Prelude.{slice_range}
 use Rattle.run_words.specs.Lines.{lines, words as line_words}
-use Rattle.input_lines.specs.Kept.{kept_from}
+use Rattle.run_words.specs.Kept.{kept_from}
 use Rattle.run_words.proofs.Laws.{routed_ways}
 use Rattle.placement_reader.specs.Forms.{AreFine, form_of}
 use Rattle.placement_reader.specs.Placements.{fault_in, placement_of, placement_of_lines}

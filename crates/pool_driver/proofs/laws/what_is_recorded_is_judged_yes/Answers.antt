@@ -11,7 +11,7 @@ use Rattle.run_record.specs.Records as Rec
 use Rattle.run_words.specs.declared.verdicts.Verdict.{Verdict}
 use Rattle.run_words.specs.declared.verdicts.Verdict.TheVariants as V
 use Rattle.record_check.specs.Verdicts.{Judged}
-use Rattle.verdict_lines.specs.VerdictText.{verdict_text}
+use Rattle.record_check.specs.VerdictText.{verdict_text}
 use Rattle.pool_driver.specs.Outputs.{status_of_verdict}
 use Rattle.pool_driver.specs.Runs.{Meaning, ShowsRun, record_of}
 use Rattle.pool_driver.proofs.laws.what_is_recorded_is_judged_yes.Goals as goal

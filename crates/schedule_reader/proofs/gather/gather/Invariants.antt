@@ -1,6 +1,6 @@
 use Rattle.std.proofs.Common.{◌≡◌, ◌+◌, ◌*◌, ◌-◌, ◌≤◌, ◌++◌, length, drop}
 use Rattle.run_words.specs.Lines.{lines}
-use Rattle.input_lines.specs.Kept.{kept_from}
+use Rattle.run_words.specs.Kept.{kept_from}
 use Rattle.schedule_reader.specs.Events.{events_of, total}
 use Rattle.schedule_reader.specs.Schedules.{entries_of, first_fault}
 use Rattle.schedule_reader.specs.Stretches.{AreEnds, stretched}

@@ -1,6 +1,0 @@
-//! The words that a program is called with.
-#![tactic(auto)]
-
-mod words;
-
-pub use words::behind_name;

@@ -1,6 +1,0 @@
-//! Which slots of a node are ready.
-#![tactic(auto)]
-
-mod ready;
-
-pub use ready::ReadySet;

@@ -1,6 +1,0 @@
-use Rattle.request_numbers.proofs.Asking.{AreAsked}
-use Rattle.request_numbers.proofs.posts.asks_of.Given as goal
-
--- the numbers so far and those of the lines that are left are all
-abbrev pub invariant-loop-line : goal.invariant-loop-line
-invariant-loop-line l = AreAsked l.lines l.line-index l.posts l.numbers

@@ -1,0 +1,12 @@
+-- What is kept of the lines so far: for each object the number of its latest post.
+use Rattle.std.specs.Prelude.{◌≡◌, ℕ, List}
+use Rattle.std.specs.Option.{unwrap_or}
+use Rattle.std.specs.Ordering.{nat_cmp}
+use Rattle.std.specs.BTreeMap.{get}
+use Rattle.run_words.specs.declared.words.Line.{Line}
+use Rattle.run_words.specs.Asks.{latest_post}
+use Rattle.run_record.specs.declared.posts.Posts.{Posts}
+
+-- these are the posts of lines of which the latest is the first
+abbrev pub HasPosts : Posts → List Line → Type 0
+HasPosts p earlier = (o : ℕ) → unwrap_or (get nat_cmp p.last o) 0 ≡ latest_post o earlier

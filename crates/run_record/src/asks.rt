@@ -1,0 +1,112 @@
+//! The request numbers of lines as they are made.
+ghost use Rattle.std.specs.Prelude.{◌≡◌, ◌≤◌, ◌<◌, ◌*◌, ℕ, [], ◌∷◌, List, get_or, length, IfOk, Some, true};
+ghost use Rattle.run_words.specs.declared.words.Line.{Line};
+ghost use Rattle.run_words.specs.declared.words.Line.TheVariants as R;
+ghost use Rattle.run_words.specs.declared.words.Event.{Event as OneEvent};
+ghost use Rattle.run_words.specs.Asks.{request_number_of, asker_of, is_post_of};
+
+use record_lines::{asker_of, poster};
+use run_words::{Event, Line, What};
+use std::alloc::{AllocError, Global};
+
+/// For each object of some nodes, with so many objects at most a node, the number of its latest post.
+#[derive(Drop)]
+pub struct Asks {
+    nodes: u32,
+    objects: u32,
+    last: Vec<u32>,
+    ghost size: { length last.items ≡ nodes * objects },
+    ghost few_nodes: { nodes ≤ 64 },
+    ghost few_objects: { objects ≤ 4096 },
+}
+
+impl Asks {
+    ghost use Rattle.run_record.specs.Table.{AreInTable, HasLast, InTable, place_of};
+
+    /// Nothing was posted.
+    pub fn make(alloc: Global, nodes: u32, objects: u32) -> Result<Asks, AllocError>
+        requires nodes { (1 ≤ nodes) × (nodes ≤ 64) }
+        requires objects { (1 ≤ objects) × (objects ≤ 4096) }
+        ensures size { IfOk result (λ a. (a.nodes ≡ nodes) × (a.objects ≡ objects)) }
+        ensures none { IfOk result (λ a. HasLast a []) }
+    {
+        let mut last = Vec::new(alloc);
+        last.resize(nodes as usize * objects as usize, 0)?;
+        Ok(Asks {
+            nodes,
+            objects,
+            last,
+        })
+    }
+
+    /// The place of an object in the table.
+    fn place(&self, object: u32) -> usize
+        requires { InTable self.now object }
+        ensures place { result ≡ place_of self.now object }
+        ensures inside { result < length self.now.last.items }
+    {
+        (object / 65536) as usize * self.objects as usize + (object % 65536) as usize
+    }
+
+    /// The request number of an event's line behind those given so far.
+    fn number(&self, event: Event, what: &What) -> u32
+        requires { (o : ℕ) → asker_of event what.now ≡ Some o → InTable self.now o }
+        ensures { (earlier : List Line) (n : ℕ) → HasLast self.now earlier → result ≡ request_number_of earlier (R.Event n event what.now) }
+    {
+        match asker_of(event, what) {
+            None => 0,
+            Some(object) => self.last[self.place(object)],
+        }
+    }
+
+    /// Keeps the number of an object's post.
+    fn put(&mut self, object: u32, number: u32)
+        requires { InTable self.old object }
+        ensures posted { get_or self.new.last.items (place_of self.new object) 0 ≡ number }
+        ensures others { (o : ℕ) → InTable self.new o → (o ≡ object → ⊥) → get_or self.new.last.items (place_of self.new o) 0 ≡ get_or self.old.last.items (place_of self.old o) 0 }
+        ensures size { (self.new.nodes ≡ self.old.nodes) × (self.new.objects ≡ self.old.objects) }
+    {
+        let place = self.place(object);
+        self.last[place] = number;
+    }
+
+    /// Keeps an event's line.
+    fn keep(&mut self, number: u32, what: &What)
+        requires { (o : ℕ) → is_post_of o what.now ≡ true → InTable self.old o }
+        ensures kept { (earlier : List Line) (e : OneEvent) → HasLast self.old earlier → HasLast self.new (R.Event number e what.now ∷ earlier) }
+        ensures size { (self.new.nodes ≡ self.old.nodes) × (self.new.objects ≡ self.old.objects) }
+    {
+        match poster(what) {
+            None => {}
+            Some(object) => self.put(object, number),
+        }
+    }
+
+    /// The request number of an event's line behind those given so far, among which it is from now on. Takes no memory.
+    pub fn of_event(&mut self, number: u32, event: Event, what: &What) -> u32
+        requires { AreInTable self.old (R.Event number event what.now) }
+        ensures number { (earlier : List Line) → HasLast self.old earlier
+            → (result ≡ request_number_of earlier (R.Event number event what.now)) × HasLast self.new (R.Event number event what.now ∷ earlier) }
+        ensures size { (self.new.nodes ≡ self.old.nodes) × (self.new.objects ≡ self.old.objects) }
+    {
+        let ask = self.number(event, what);
+        self.keep(number, what);
+        ask
+    }
+
+    /// The request number of a line behind those given so far, among which it is from now on. Takes no memory.
+    pub fn of(&mut self, line: &Line) -> u32
+        requires { AreInTable self.old line.now }
+        ensures number { (earlier : List Line) → HasLast self.old earlier → (result ≡ request_number_of earlier line.now) × HasLast self.new (line.now ∷ earlier) }
+        ensures size { (self.new.nodes ≡ self.old.nodes) × (self.new.objects ≡ self.old.objects) }
+    {
+        match line {
+            Line::Event {
+                number,
+                event,
+                what,
+            } => self.of_event(*number, *event, what),
+            _ => 0,
+        }
+    }
+}

@@ -1,4 +1,0 @@
-//! The operators on values, and their equality.
-#![tactic(auto)]
-
-pub mod operators;
