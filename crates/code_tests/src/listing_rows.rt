@@ -1,7 +1,7 @@
 //! Programs, each on a line of its own, with its listing below it and an empty line behind.
 
 /// One case for each kind of expression and statement, and the ways in which they stand in one another.
-pub const LISTINGS: &str = r##"class Main var x : Int body x := 2 + 3; write x end
+pub const LISTINGS: &str = "class Main var x : Int body x := 2 + 3; write x end
 class Main 1
 body 2
 0 PushInt 2
@@ -161,12 +161,13 @@ body 2
 28 Jump 12
 29 Halt
 
-class Log method put(n : Int, m : Int) begin write n; write "so" end method close() begin end body answer(put, close) end class Main var l : Log body l := new Log; l !! put(1, 2); l ! close(); new Log end
+class Log method put(n : Int, m : Int) begin write n; write \"so\" end method close() begin end body answer(put, close) end class Main var l \
+    : Log body l := new Log; l !! put(1, 2); l ! close(); new Log end
 class Log 0
 method put 2 3
 0 LoadT 0
 1 Write
-2 WriteText "so"
+2 WriteText \"so\"
 3 PushNil
 4 Ret
 method close 0 1
@@ -190,7 +191,8 @@ body 3
 10 Pop
 11 Halt
 
-class Main var x : Int method a() begin end method b() begin end body select when x > 0 answer(a, b) then select when true then write 1 end when false then write 2 end; write 3 end
+class Main var x : Int method a() begin end method b() begin end body select when x > 0 answer(a, b) then select when true then write 1 end \
+    when false then write 2 end; write 3 end
 class Main 1
 method a 0 1
 0 PushNil
@@ -255,4 +257,4 @@ body 1
 5 Answer m
 6 Jump 7
 7 Jump 0
-8 Halt"##;
+8 Halt";

@@ -4,7 +4,7 @@
 //! shows, with objects by their numbers, names and strings by their places in the table, and the times of a transition; of an end its kind and its numbers.
 
 /// Whole records.
-pub const RECORDS: &str = r##"-- Events and an end.
+pub const RECORDS: &str = "-- Events and an end.
 1 0: write 0 1 *1; quiet 1 | 1 turn 0 write 0.0 1~end quiet 1~
 quiet 0 | end quiet 0~
 schedule 0 | end schedule 0~
@@ -13,7 +13,9 @@ frames 0 0 | end full frames 0 0~
 cells 4294967295 0 | end full cells 4294967295 0~
 1 0: pass; 2 0-1: idle; 3 9: local 0 *2; schedule 3 | 1 turn 0 pass~2 link 0 1 idle~3 turn 9 local 0.0 2~end schedule 3~
 1 0: idle; heap 3 1 | 1 turn 0 idle~end full heap 3 1~
-1 0: new 0 1 #0 *1; 2 0: send 0 1 #1 *1; 3 0: write 0 #0 *1; 4 1: arrive 0 1 #1; 5 1: create 1 #2 0; quiet 5 | 1 turn 0 new 0.0 0.1 Cell~2 turn 0 send 0.0 0.1 put~3 turn 0 write 0.0 "Cell"~4 turn 1 arrive 0.0 0.1 put~5 turn 1 post create 0.1 Log 0~end quiet 5~
+1 0: new 0 1 #0 *1; 2 0: send 0 1 #1 *1; 3 0: write 0 #0 *1; 4 1: arrive 0 1 #1; 5 1: create 1 #2 0; quiet 5 | \
+    1 turn 0 new 0.0 0.1 Cell~2 turn 0 send 0.0 0.1 put~3 turn 0 write 0.0 \"Cell\"~4 turn 1 arrive 0.0 0.1 put~5 turn 1 post create 0.1 Log 0~end \
+    quiet 5~
 -- The end is missing, or has no line feed.
 BadLine 1 | 
 BadLine 2 | 1 turn 0 write 0.0 1~
@@ -97,4 +99,4 @@ OutOfOrder 2 | 1 turn 0 pass~end quiet 7~x~
 OutOfOrder 1 | 2 turn 0 pass~x~
 OutOfOrder 1 | 2 turn 0 pass~3 turn 0 pass~
 BadLine 3 | 1 turn 0 pass~end quiet 1~x~end quiet 1~
-OutOfOrder 3 | 1 turn 0 pass~end quiet 1~2 turn 0 pass~x~"##;
+OutOfOrder 3 | 1 turn 0 pass~end quiet 1~2 turn 0 pass~x~";

@@ -1,7 +1,8 @@
 //! Schedules and what is told of each, written by hand from the format.
 //!
-//! A row is what is told, a bar and a text; of a value these are the quantum, the number of events, the first twelve of them, and behind two points the last one, where
-//! it is none of these. A turn is its node, and a move on a link its two nodes; what happens on a wire stands before these, and behind the number of events whether links are wires. A line that begins with two dashes is a heading.
+//! A row is what is told, a bar and a text; of a value these are the quantum, the number of events, the first twelve of them, and
+//! behind two points the last one, where it is none of these. A turn is its node, and a move on a link its two nodes; what happens on
+//! a wire stands before these, and behind the number of events whether links are wires. A line that begins with two dashes is a heading.
 
 /// The quantum line.
 pub const QUANTA: &str = r##"-- The quantum at its limits, and one past them.
@@ -347,8 +348,9 @@ TooManyEvents 576000000000 | quantum 1~[1000:round 2000000~]"##,
 ];
 
 /// Wires that may lose, on the four nodes.
-pub const WIRES: &str = r##"-- The worked schedule.
-5 15 lossy 0 send:0-1 lose:0-1 send:0-1 twice:0-1 0-1 0-1 ack:0-1 1 send:1-0 1-0 ack:1-0 .. ack:0-1 | quantum 5~wires lossy~turn 0~send 0 1~lose 0 1~send 0 1~twice 0 1~link 0 1 2~ack 0 1~turn 1~send 1 0~link 1 0~ack 1 0~turn 0 2~ack 0 1
+pub const WIRES: &str = "-- The worked schedule.
+5 15 lossy 0 send:0-1 lose:0-1 send:0-1 twice:0-1 0-1 0-1 ack:0-1 1 send:1-0 1-0 ack:1-0 .. ack:0-1 | \
+    quantum 5~wires lossy~turn 0~send 0 1~lose 0 1~send 0 1~twice 0 1~link 0 1 2~ack 0 1~turn 1~send 1 0~link 1 0~ack 1 0~turn 0 2~ack 0 1
 -- Each word.
 1 1 lossy send:0-1 | quantum 1~wires lossy~send 0 1
 1 1 lossy ack:0-1 | quantum 1~wires lossy~ack 0 1
@@ -380,7 +382,7 @@ TooManyEvents 56000000 | quantum 1~wires lossy~round 2000000
 1 0 lossy | quantum 1~wires lossy~
 1 0 lossy | quantum 1^~>wires [3: ]lossy >^~
 1 0 lossy | # c~quantum 1~~# c~ ~wires lossy~# c
-1 1 lossy send:0-1 | ~quantum 1~# wires lossy~~wires lossy~~send 0 1"##;
+1 1 lossy send:0-1 | ~quantum 1~# wires lossy~~wires lossy~~send 0 1";
 
 /// What is wrong with wires.
 pub const WIRE_FAULTS: &str =
@@ -468,7 +470,7 @@ OutOfRange 4 | quantum 1~wires lossy~send 0 1~round 0
 NoSuchNode 4 | quantum 1~~wires lossy~lose 0 7~send 0 0"##;
 
 /// The four nodes without the link from 0 to 1.
-pub const AROUND_A_CUT: &str = r##"-- A line may not ask for it, and it goes in one direction.
+pub const AROUND_A_CUT: &str = "-- A line may not ask for it, and it goes in one direction.
 NoSuchLink 2 | quantum 1~link 0 1
 1 1 1-0 | quantum 1~link 1 0
 NoSuchLink 3 | quantum 1~wires lossy~link 0 1
@@ -481,12 +483,13 @@ NoSuchLink 3 | quantum 1~wires lossy~lose ack 0 1
 NoSuchLink 3 | quantum 1~wires lossy~twice ack 0 1
 NoSuchLink 3 | quantum 1~wires lossy~late ack 0 1
 NoSuchLink 3 | quantum 1~wires lossy~send 0 1 0
-1 8 lossy send:1-0 ack:1-0 lose:1-0 twice:1-0 late:1-0 lose-ack:1-0 twice-ack:1-0 late-ack:1-0 | quantum 1~wires lossy~send 1 0~ack 1 0~lose 1 0~twice 1 0~late 1 0~lose ack 1 0~twice ack 1 0~late ack 1 0
+1 8 lossy send:1-0 ack:1-0 lose:1-0 twice:1-0 late:1-0 lose-ack:1-0 twice-ack:1-0 late-ack:1-0 | \
+    quantum 1~wires lossy~send 1 0~ack 1 0~lose 1 0~twice 1 0~late 1 0~lose ack 1 0~twice ack 1 0~late ack 1 0
 -- A round passes it over.
 1 11 0 1 2 3 0-2 1-0 1-3 2-0 2-3 3-1 3-2 | quantum 1~round 1
 1 25 lossy 0 1 2 3 send:0-2 0-2 ack:0-2 send:1-0 1-0 ack:1-0 send:1-3 1-3 .. ack:3-2 | quantum 1~wires lossy~round 1
 1 2000000 lossy 0 1 2 3 send:0-2 0-2 ack:0-2 send:1-0 1-0 ack:1-0 send:1-3 1-3 .. ack:3-2 | quantum 1~wires lossy~round 80000
-TooManyEvents 2000001 | quantum 1~wires lossy~round 80000~late 1 0"##;
+TooManyEvents 2000001 | quantum 1~wires lossy~round 80000~late 1 0";
 
 /// A schedule on the four nodes.
 pub const ROUNDS: &str = "quantum 3~turn 1 2~round 2~link 2 3 3~turn 0~round 1000~link 3 1 5";

@@ -1,4 +1,4 @@
-//! Calls of `pool` over three texts in memory.
+//! Calls of `pool` over texts in memory.
 use pool_driver::{Status, pool};
 use pool_outside::{MemFiles, MemSink, NamedText};
 use std::alloc::{AllocError, Global};
@@ -12,7 +12,7 @@ pub struct Outcome {
 }
 
 /// The words of a line.
-fn words_of(alloc: Global, line: &str) -> Result<Vec<String>, AllocError> {
+pub fn words_of(alloc: Global, line: &str) -> Result<Vec<String>, AllocError> {
     let mut words = Vec::new(alloc);
     for word in line.split_ascii_whitespace() {
         words.push(String::from_str(alloc, word)?)?;
@@ -20,16 +20,10 @@ fn words_of(alloc: Global, line: &str) -> Result<Vec<String>, AllocError> {
     Ok(words)
 }
 
-/// What is answered to words with one space between them, where the texts stand under the names `P`, `L` and `S` and no call fails.
-pub fn answer(
-    alloc: Global,
-    line: &str,
-    program: &[u8],
-    placement: &[u8],
-    schedule: &[u8],
-) -> Result<Outcome, AllocError> {
+/// What is answered to words with one space between them, where these texts stand under these names and no call fails.
+pub fn call(alloc: Global, line: &str, named: &[(&str, &[u8])]) -> Result<Outcome, AllocError> {
     let mut texts = Vec::new(alloc);
-    for (name, text) in [("P", program), ("L", placement), ("S", schedule)] {
+    for (name, text) in named {
         texts.push(NamedText {
             name: String::from_str(alloc, name)?,
             text: Vec::from_slice(alloc, text)?,
@@ -45,6 +39,18 @@ pub fn answer(
         out: out.written().to_vec(alloc)?,
         err: err.written().to_vec(alloc)?,
     })
+}
+
+/// The same, where the texts stand under the names `P`, `L` and `S`.
+pub fn answer(
+    alloc: Global,
+    line: &str,
+    program: &[u8],
+    placement: &[u8],
+    schedule: &[u8],
+) -> Result<Outcome, AllocError> {
+    let named = [("P", program), ("L", placement), ("S", schedule)];
+    call(alloc, line, named.as_slice())
 }
 
 /// A text with `;` for each line feed.

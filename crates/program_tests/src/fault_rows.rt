@@ -584,7 +584,7 @@ accepted | class A method m() begin end body write 1 end
 accepted | class A body write 1 end class B body write 1 end"##;
 
 /// Limits.
-pub const LIMITS: &str = r##"-- At most 256 classes.
+pub const LIMITS: &str = "-- At most 256 classes.
 accepted | [256:class C$ body end ]
 Limit at token 1025 | [256:class C$ body end ]class L body end
 ClassTwice at token 1025 | [256:class C$ body end ]class C0 body end
@@ -648,8 +648,12 @@ accepted | class A method m(p : Int, q : Int) : Int begin result p end body writ
 Limit at token 277 | class A method m(p : Int, q : Int) : Int begin result p end body write [64:m(1, ]1[64:)] end
 Limit at token 275 | class A method m(p : Int, q : Int) : Int begin result p end body write [63:m(1, ]1 + 1[63:)] end
 accepted | class A method m(p : Int) : Int begin result p end body write [150:m(]1[150:)] end
-accepted | class A method m(a : Int, b : Int, c : Int, d : Int, e : Int, f : Int, g : Int, h : Int) : Int begin result a end body write [9:m(1, 2, 3, 4, 5, 6, 7, ]8[9:)] end
-Limit at token 193 | class A method m(a : Int, b : Int, c : Int, d : Int, e : Int, f : Int, g : Int, h : Int) : Int begin result a end body write [9:m(1, 2, 3, 4, 5, 6, 7, ]m(1, 2, 3, 4, 5, 6, 7, 8)[9:)] end
+accepted | \
+    class A method m(a : Int, b : Int, c : Int, d : Int, e : Int, f : Int, g : Int, h : Int) : Int begin result a end body write [9:m(1, 2, 3, 4, \
+    5, 6, 7, ]8[9:)] end
+Limit at token 193 | \
+    class A method m(a : Int, b : Int, c : Int, d : Int, e : Int, f : Int, g : Int, h : Int) : Int begin result a end body write [9:m(1, 2, 3, 4, \
+    5, 6, 7, ]m(1, 2, 3, 4, 5, 6, 7, 8)[9:)] end
 accepted | class A method m(p : Int) : Int begin result p end body write [63:self ! m(]1[63:)] end
 Limit at token 273 | class A method m(p : Int) : Int begin result p end body write [64:self ! m(]1[64:)] end
 Limit at token 273 | class A method m(p : Int) : Int begin result p end body write [64:self ! m(]self ! m(1)[64:)] end
@@ -665,10 +669,10 @@ Limit at token 196 | class A body select[63: when true then] when 1 < 2 then end
 Limit at token 197 | class A body select[64: when true then] when 1 < 2 then end end
 TypeDiffers at token 197 | class A body select[64: when true then] when 1 then end end
 UnknownVariable at token 197 | class A body select[64: when true then] when x then end end
-accepted | class A body select[64: when true then] write 1 + 1; select when true then end end end"##;
+accepted | class A body select[64: when true then] write 1 + 1; select when true then end end end";
 
 /// What operators and results are, and what is hidden.
-pub const PLACES: &str = r##"-- What operators need on their other sides.
+pub const PLACES: &str = "-- What operators need on their other sides.
 TypeDiffers at token 4 | class A body write true + 1 end
 TypeDiffers at token 6 | class A body write 1 - true end
 TypeDiffers at token 6 | class A body write 1 * self end
@@ -700,7 +704,9 @@ TypeDiffers at token 23 | class A var x : B method m() : A begin result self end
 TypeDiffers at token 14 | class A method m() : Int begin result 1 end body if m() then fi end
 TypeDiffers at token 16 | class A method m() : Int begin result 1 end body while self ! m() do od end
 TypeDiffers at token 19 | class A method m(p : Int) : Bool begin result true end body write m(m(1)) end
-accepted | class A var x : Int var y : Bool var z : A method m() : Int begin result 1 end method n() : Bool begin result true end method o() : A begin result self end body x := m(); y := n(); z := o(); x := self ! m(); y := z ! n(); z := o() ! o() end
+accepted | \
+    class A var x : Int var y : Bool var z : A method m() : Int begin result 1 end method n() : Bool begin result true end method o() : A begin \
+    result self end body x := m(); y := n(); z := o(); x := self ! m(); y := z ! n(); z := o() ! o() end
 UnknownMethod at token 17 | class A method m() : B begin result nil end body m() ! m() end class B method n() begin end body end
 accepted | class A method m() : B begin result nil end body m() ! n(); self ! m() !! n() end class B method n() begin end body end
 -- A method's value.
@@ -721,11 +727,10 @@ accepted | class A var x : Int method m(x : A) begin x ! m(nil) end body x := 1 
 UnknownMethod at token 16 | class A var x : B method m(x : A) begin x ! k() end method n() begin x ! k() end body end class B method k() begin end body end
 TypeDiffers at token 17 | class A var x : Bool method m(x : Int) : Bool begin result x end body end
 accepted | class A var x : Bool method m(x : Int) : Int begin result x end body x := m(1) == 1 end
-UnknownClass at token 11 | class A var x : Int method m(x : B) begin x := true; x ! k() end body x := 1 end"##;
+UnknownClass at token 11 | class A var x : Int method m(x : B) begin x := true; x ! k() end body x := 1 end";
 
 /// Several faults on one token, and operands held.
-pub const HELD: &str =
-    r##"-- Of faults on one token the least number is told, also at a destination.
+pub const HELD: &str = "-- Of faults on one token the least number is told, also at a destination.
 ArgumentCount at token 14 | class A method m() : Int begin result 1 end body write m(1) ! m() end
 ArgumentCount at token 9 | class A method m() begin end body m(1) ! m() end
 ArgumentCount at token 16 | class A method m() : Int begin result 1 end body write true == m(1) end
@@ -754,8 +759,12 @@ Limit at token 209 | class A method m(p : Int, q : Int) begin end body self !! m
 Limit at token 208 | class A method m(p : Int, q : Int) begin end body self !! m(1, [62:1 + (]1[62:)]) end
 accepted | class A method m(p : Int, q : Int) : Int begin result p end body write 1 + self ! m(1, [30:self ! m(1, ]1[30:)]) end
 Limit at token 213 | class A method m(p : Int, q : Int) : Int begin result p end body write [32:self ! m(1, ]1[32:)] end
-accepted | class A method m(a : Int, b : Int, c : Int, d : Int, e : Int, f : Int, g : Int, h : Int) : Int begin result a end body write [7:self ! m(1, 2, 3, 4, 5, 6, 7, ]m(1, 2, 3, 4, 5, 6, 7, 8)[7:)] end
-Limit at token 189 | class A method m(a : Int, b : Int, c : Int, d : Int, e : Int, f : Int, g : Int, h : Int) : Int begin result a end body write [8:self ! m(1, 2, 3, 4, 5, 6, 7, ]8[8:)] end
+accepted | \
+    class A method m(a : Int, b : Int, c : Int, d : Int, e : Int, f : Int, g : Int, h : Int) : Int begin result a end body write [7:self ! m(1, \
+    2, 3, 4, 5, 6, 7, ]m(1, 2, 3, 4, 5, 6, 7, 8)[7:)] end
+Limit at token 189 | \
+    class A method m(a : Int, b : Int, c : Int, d : Int, e : Int, f : Int, g : Int, h : Int) : Int begin result a end body write [8:self ! m(1, \
+    2, 3, 4, 5, 6, 7, ]8[8:)] end
 -- Destinations hold what their send holds.
 accepted | class A method m(p : Int, q : A) : A begin result q end body [63:m(1, ]self[63:)] ! m(1, nil) end
 Limit at token 276 | class A method m(p : Int, q : A) : A begin result q end body [64:m(1, ]self[64:)] ! m(1, nil) end
@@ -771,10 +780,10 @@ accepted | class A method m(p : Int) : Bool begin result true end body select[63
 Limit at token 215 | class A method m(p : Int, q : Int) : Bool begin result true end body select[63: when true then] when m(1, 2) then end end
 accepted | class A body select[63: when true then] when not true then end end
 Limit at token 197 | class A body select[64: when true then] when not true then end end
-accepted | class A method m() begin end body select[64: when true answer(m) then write 1 + 1] end end"##;
+accepted | class A method m() begin end body select[64: when true answer(m) then write 1 + 1] end end";
 
 /// The texts of the section on class faults in `docs/LANGUAGE.md`, and the shortest text of each fault.
-pub const LANGUAGE: &str = r##"-- The shortest text of each fault.
+pub const LANGUAGE: &str = "-- The shortest text of each fault.
 ClassTwice at token 5 | class A body end class A body end
 UnknownClass at token 5 | class A var x : B body end
 VariableTwice at token 5 | class A var x, x : Int body end
@@ -793,15 +802,24 @@ UnknownClass at token 28 | class Main~method total() : Int begin result price(2)
 UnknownClass at token 10 | class Main~var n : Int~body n := new Counter; n := true end
 VariableTwice at token 9 | class Counter~var count, step : Int~var count : Bool~body count := 1; step := 1 end
 MethodTwice at token 21 | class Counter~var count : Int~method add(n : Int) begin count := count + n end~method add() begin add(1) end~body count := 0; answer(add) end
-LocalTwice at token 18 | class Main~method gcd(a : Int, b : Int) : Int local r, b : Int~begin if b == 0 then r := a else r := gcd(b, a % b) fi result r end~body write gcd(252, 105) end
-UnknownVariable at token 39 | class Main~var sum : Int~method add(n : Int) local next : Int begin next := sum + n; sum := next end~body sum := 0; add(2); write next + 1 end
+LocalTwice at token 18 | \
+    class Main~method gcd(a : Int, b : Int) : Int local r, b : Int~begin if b == 0 then r := a else r := gcd(b, a % b) fi result r end~body write \
+    gcd(252, 105) end
+UnknownVariable at token 39 | \
+    class Main~var sum : Int~method add(n : Int) local next : Int begin next := sum + n; sum := next end~body sum := 0; add(2); write next + 1 end
 UnknownMethod at token 17 | class S body end~class Main~var s : S~var n : Int~body s ! go(); n := true end
-ArgumentCount at token 53 | class Main~method power(b : Int, n : Int) : Int local r : Int~begin r := 1; while n > 0 do r := r * b; n := n - 1 od result r end~body write power(2, 5) + power(2); write power(true, 2, 3) end
+ArgumentCount at token 53 | \
+    class Main~method power(b : Int, n : Int) : Int local r : Int~begin r := 1; while n > 0 do r := r * b; n := n - 1 od result r end~body write \
+    power(2, 5) + power(2); write power(true, 2, 3) end
 ArgumentCount at token 15 | class Main~method greet(n : Int) begin write n end~body write greet() end
 TypeDiffers at token 18 | class Main~var n : Int~var done : Bool~body n := 3; done := n - 1; while n do n := n - 1 od end
 TypeDiffers at token 16 | class Main~var n : Int~body n := 3; if n == (n > 2) then write n fi end
 TypeDiffers at token 30 | class Main~var n : Int~method twice(k : Int) : Int begin result k + k end~body n := twice(4); write n ! twice(true) end
 NoResult at token 34 | class Main~var total : Int~method add(n : Int) begin total := total + n end~body total := 0; add(1); total := total + add(2) end
 AnswerName at token 40 | class Store~method put(n : Int) begin write n end~body answer(put) end~class Main~var s : Store~body s := new Store; s !! put(1); answer(put) end
-AnswerName at token 43 | class Cell~var value : Int~method put(n : Int) begin value := n end~method get() : Int begin result value end~body answer(put); while true do answer(get, put, get) od end
-Limit at token 37 | class Main~method mean(a : Int, b : Int, c : Int, d : Int, e : Int, f : Int, g : Int, h : Int, i : Int) : Int~begin result (a + b + c + d + e + f + g + h + i) / 9 end~body write mean(1, 2, 3, 4, 5, 6, 7, 8, 9) end"##;
+AnswerName at token 43 | \
+    class Cell~var value : Int~method put(n : Int) begin value := n end~method get() : Int begin result value end~body answer(put); while true do \
+    answer(get, put, get) od end
+Limit at token 37 | \
+    class Main~method mean(a : Int, b : Int, c : Int, d : Int, e : Int, f : Int, g : Int, h : Int, i : Int) : Int~begin result (a + b + c + d + \
+    e + f + g + h + i) / 9 end~body write mean(1, 2, 3, 4, 5, 6, 7, 8, 9) end";

@@ -13,7 +13,8 @@ use std::test::Fail;
 
 /// Each keyword and sign, a name, an integer and a string, and the end of the text.
 const EACH_TOKEN: &str =
-    "class var method local begin result post end body if then else fi while do od answer select when write new self nil true false not and or Int Bool := : ; , ( ) ! !! == != < <= > >= + - * / % x 1 \"s\" END";
+    "class var method local begin result post end body if then else fi while do od answer select when write new self nil true false not and or Int \
+    Bool := : ; , ( ) ! !! == != < <= > >= + - * / % x 1 \"s\" END";
 
 /// Adds the part with a number in place of its `$`.
 fn push_numbered(text: &mut String, part: &str, number: usize) -> Result<(), AllocError> {

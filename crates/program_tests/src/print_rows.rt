@@ -345,17 +345,17 @@ m(00, 010) | m ( 0 , 10 )
 "##;
 
 /// Statements of a body.
-pub const STATEMENTS: &str = r##"-- Assignments and writes.
+pub const STATEMENTS: &str = "-- Assignments and writes.
 x:=1 | x := 1
 x := (1) | x := 1
 x := ((a or b)) | x := a or b
 x := (a == b) == c | x := ( a == b ) == c
 write(x) | write x
 write (a) or (b) | write a or b
-write "" | write ""
-write "  two  spaces  " | write "  two  spaces  "
-write "# ; ( 007 ) := class A body" | write "# ; ( 007 ) := class A body"
-write"a";write"\n'" | write "a" ;~write "\n'"
+write \"\" | write \"\"
+write \"  two  spaces  \" | write \"  two  spaces  \"
+write \"# ; ( 007 ) := class A body\" | write \"# ; ( 007 ) := class A body\"
+write\"a\";write\"\\n'\" | write \"a\" ;~write \"\\n'\"
 x := 1;y := 2;z := 3 | x := 1 ;~y := 2 ;~z := 3
 -- Conditions: an empty list behind `else` is left out with its `else`.
 if(a)then fi | if a then fi
@@ -409,11 +409,15 @@ answer(m) | answer ( m )
 answer(m,n,m) | answer ( m , n , m )
 select when (true) then end | select when true then end
 select when a answer(m) then end | select when a answer ( m ) then end
-select when (a or b) answer(m,n) then write (1); write 2 when not (c) then x := 1 end | select when a or b answer ( m , n ) then write 1 ;~write 2 when not c then x := 1 end
-select when a then answer(m) when (p ! m()) answer(n) then answer(n); answer(k) end | select when a then answer ( m ) when p ! m ( ) answer ( n ) then answer ( n ) ;~answer ( k ) end
+select when (a or b) answer(m,n) then write (1); write 2 when not (c) then x := 1 end | \
+    select when a or b answer ( m , n ) then write 1 ;~write 2 when not c then x := 1 end
+select when a then answer(m) when (p ! m()) answer(n) then answer(n); answer(k) end | \
+    select when a then answer ( m ) when p ! m ( ) answer ( n ) then answer ( n ) ;~answer ( k ) end
 select when a then select when (b) answer(m) then end when c then end | select when a then select when b answer ( m ) then end when c then end
-select when a answer(m) then select when b then end; select when (c) answer(n) then write 1 end when (d) then if e then else fi end; m() | select when a answer ( m ) then select when b then end ;~select when c answer ( n ) then write 1 end when d then if e then fi end ;~m ( )
-select when a then while b do select when c answer(m) then if d then select when e then end fi end od end | select when a then while b do select when c answer ( m ) then if d then select when e then end fi end od end
+select when a answer(m) then select when b then end; select when (c) answer(n) then write 1 end when (d) then if e then else fi end; m() | \
+    select when a answer ( m ) then select when b then end ;~select when c answer ( n ) then write 1 end when d then if e then fi end ;~m ( )
+select when a then while b do select when c answer(m) then if d then select when e then end fi end od end | \
+    select when a then while b do select when c answer ( m ) then if d then select when e then end fi end od end
 -- Canonical texts that nest two hundred deep, or nearly so.
 write (1[150: + 1])[50: + 1] | write 1[200: + 1]
 write [199:(]1[199: + 1)] + 1 | write 1[200: + 1]
@@ -422,13 +426,13 @@ write (self[100: ! m()])[99: ! m()] | write self[199: ! m ( )]
 m((1[150: + 1])[49: + 1]) | m ( 1[199: + 1] )
 write [100:1 - (]1[100:)] | write [99:1 - ( ]1 - 1[99: )]
 [100:if true then ]write (1[50: + 1])[50: + 1][100: fi] | [100:if true then ]write 1[100: + 1][100: fi]
-"##;
+";
 
 /// Whole programs, without the line feed behind a canonical text.
-pub const PROGRAMS: &str = r##"-- White space and comments.
+pub const PROGRAMS: &str = "-- White space and comments.
 class A body end | class A~body end
 ~ class^A~~body^~end~ | class A~body end
-# a comment~class A # another~body # a third ; ( "~end # the last | class A~body end
+# a comment~class A # another~body # a third ; ( \"~end # the last | class A~body end
 class A body write 1 # one~; # two~ write 2 end | class A~body write 1 ;~write 2 end
 class#~A#~body#~write(1)#~end | class A~body write 1 end
 -- One declaration for each variable, on a line of its own.
@@ -443,19 +447,24 @@ class A method m() local x : Int begin end body end | class A~method m ( ) local
 class A method m() local x, y : Int local z : A begin end body end | class A~method m ( ) local x : Int local y : Int local z : A begin end~body end
 class A method m() : Int begin result (007) end body end | class A~method m ( ) : Int begin result 7 end~body end
 class A method m() : A begin result (-x) ! m() end body end | class A~method m ( ) : A begin result ( - x ) ! m ( ) end~body end
-class A method m(p : Int, q : B) : Bool local r, s : Int local t : B begin r := (p); s := 1 result ((r == s) == (t)) end body end | class A~method m ( p : Int , q : B ) : Bool local r : Int local s : Int local t : B begin r := p ;~s := 1 result ( r == s ) == t end~body end
-class A method m() begin end method n() begin if a then else fi end body m(); n() end | class A~method m ( ) begin end~method n ( ) begin if a then fi end~body m ( ) ;~n ( ) end
+class A method m(p : Int, q : B) : Bool local r, s : Int local t : B begin r := (p); s := 1 result ((r == s) == (t)) end body end | \
+    class A~method m ( p : Int , q : B ) : Bool local r : Int local s : Int local t : B begin r := p ;~s := 1 result ( r == s ) == t end~body end
+class A method m() begin end method n() begin if a then else fi end body m(); n() end | \
+    class A~method m ( ) begin end~method n ( ) begin if a then fi end~body m ( ) ;~n ( ) end
 -- Post statements: they stand behind the result, and an empty list of them is left out.
 class A method m():Int begin result 1 post write 2 end body end | class A~method m ( ) : Int begin result 1 post write 2 end~body end
 class A method m() begin post write 1; write (2) end body end | class A~method m ( ) begin post write 1 ;~write 2 end~body end
 class A method m() begin write 1 post m() end body end | class A~method m ( ) begin write 1 post m ( ) end~body end
-class A method m() begin post end method n() : Bool begin result (true) post end body end | class A~method m ( ) begin end~method n ( ) : Bool begin result true end~body end
+class A method m() begin post end method n() : Bool begin result (true) post end body end | \
+    class A~method m ( ) begin end~method n ( ) : Bool begin result true end~body end
 -- More than one class.
 class A body end class B body end | class A~body end~class B~body end
-class A var x : B method m() begin end body x := new B end class B body end class C var y, z : A body (y) !! m(); write 1 end | class A~var x : B~method m ( ) begin end~body x := new B end~class B~body end~class C~var y : A~var z : A~body y !! m ( ) ;~write 1 end
+class A var x : B method m() begin end body x := new B end class B body end class C var y, z : A body (y) !! m(); write 1 end | \
+    class A~var x : B~method m ( ) begin end~body x := new B end~class B~body end~class C~var y : A~var z : A~body y !! m ( ) ;~write 1 end
 -- The classes need not fit.
-class A var x, x : B body x := (m(1)); y ! n(); answer(k); if (1) then fi end class A body end | class A~var x : B~var x : B~body x := m ( 1 ) ;~y ! n ( ) ;~answer ( k ) ;~if 1 then fi end~class A~body end
-"##;
+class A var x, x : B body x := (m(1)); y ! n(); answer(k); if (1) then fi end class A body end | \
+    class A~var x : B~var x : B~body x := m ( 1 ) ;~y ! n ( ) ;~answer ( k ) ;~if 1 then fi end~class A~body end
+";
 
 /// Statements whose canonical text is too deep to be read again, each with its first token that is.
 pub const TOO_DEEP: &str =

@@ -29,12 +29,16 @@ mesh 4 1 / cut 2 3 / cut 1 0 | NoRoute 0 3"##;
 
 /// A call: its name, the command, the status, the placement and the schedule with ` / ` for each line feed, and what is written on the two sinks, with `;` for each line feed, or a dash for nothing.
 pub const CALLS: &str =
-    r##"a create around a cut link | run | 0 | mesh 2 2 / cut 0 1 / route 0 1 2 / route 0 3 2 / place Child at 1 | quantum 5 / turn 0 / link 0 2 / link 2 3 / link 3 1 / turn 1 / link 1 0 / turn 0 2 | 7;1;end quiet 8; | -
-a pair of nodes without a route | record | 2 | mesh 2 2 / cut 0 1 / route 0 1 2 / place Child at 1 | quantum 5 / turn 0 / link 0 2 / link 2 3 / link 3 1 / turn 1 / link 1 0 / turn 0 2 | - | pool: placement: NoRoute 0 3;
-a route that comes back | record | 2 | mesh 2 2 / cut 0 1 / route 0 1 2 / route 0 3 2 / place Child at 1 / route 2 1 0 | quantum 5 / turn 0 / link 0 2 / link 2 3 / link 3 1 / turn 1 / link 1 0 / turn 0 2 | - | pool: placement: NoRoute 0 1;
+    "a create around a cut link | run | 0 | mesh 2 2 / cut 0 1 / route 0 1 2 / route 0 3 2 / place Child at 1 | \
+    quantum 5 / turn 0 / link 0 2 / link 2 3 / link 3 1 / turn 1 / link 1 0 / turn 0 2 | 7;1;end quiet 8; | -
+a pair of nodes without a route | record | 2 | mesh 2 2 / cut 0 1 / route 0 1 2 / place Child at 1 | \
+    quantum 5 / turn 0 / link 0 2 / link 2 3 / link 3 1 / turn 1 / link 1 0 / turn 0 2 | - | pool: placement: NoRoute 0 3;
+a route that comes back | record | 2 | mesh 2 2 / cut 0 1 / route 0 1 2 / route 0 3 2 / place Child at 1 / route 2 1 0 | \
+    quantum 5 / turn 0 / link 0 2 / link 2 3 / link 3 1 / turn 1 / link 1 0 / turn 0 2 | - | pool: placement: NoRoute 0 1;
 a move on a cut link | record | 2 | mesh 2 2 / cut 0 1 / route 0 1 2 / route 0 3 2 / place Child at 1 | quantum 5 / link 0 1 | - | pool: schedule: NoSuchLink at line 2;
-a cut between no neighbours | record | 2 | mesh 2 2 / cut 0 3 | quantum 5 / turn 0 / link 0 2 / link 2 3 / link 3 1 / turn 1 / link 1 0 / turn 0 2 | - | pool: placement: NoSuchLink at line 2;
-rounds over a mesh that misses a link | run | 0 | mesh 2 2 / cut 0 1 / route 0 1 2 / route 0 3 2 / place Child at 1 | quantum 5 / round 20 | 7;1;end quiet 34; | -"##;
+a cut between no neighbours | record | 2 | mesh 2 2 / cut 0 3 | quantum 5 / turn 0 / link 0 2 / link 2 3 / link 3 1 / turn 1 / link 1 0 / turn 0 2 | - | \
+    pool: placement: NoSuchLink at line 2;
+rounds over a mesh that misses a link | run | 0 | mesh 2 2 / cut 0 1 / route 0 1 2 / route 0 3 2 / place Child at 1 | quantum 5 / round 20 | 7;1;end quiet 34; | -";
 
 /// The lines that stand with ` / ` between them.
 pub fn lines_of(alloc: Global, row: &str) -> Result<String, AllocError> {

@@ -4,8 +4,8 @@ ghost use Rattle.std.specs.Prelude.{◌≡◌, false, IfOk, IfSome};
 ghost use Rattle.pool_semantics.specs.PlainOf.{is_spent};
 
 use class_check::Checked;
-use line_words::{push_args, push_error, push_number, push_value, push_word};
 use pool_semantics::{Plain, Refuse};
+use record_lines::{push_args, push_error, push_number, push_value, push_word};
 use run_words::{Args, Item, Label, NameId, Redex};
 use std::alloc::{AllocError, Global};
 use std::collections::BTreeSet;

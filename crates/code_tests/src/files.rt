@@ -5,11 +5,10 @@ use crate::example_rows::PROGRAMS;
 use crate::file_rows::FILES;
 use class_check::check;
 use code_semantics::UnitFile;
-use code_verify::verify;
+use code_verify::{file_of, verify};
 use object_code::decode;
 use pool_lexer::tokens;
 use pool_parser::parse;
-use program_file::file_of;
 use std::alloc::{AllocError, Global};
 use std::test::Fail;
 

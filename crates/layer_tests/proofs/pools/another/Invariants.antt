@@ -1,5 +1,5 @@
 use Rattle.std.proofs.Common.{◌≤◌, length}
-use Rattle.cell_tests.proofs.pools.another.Given as goal
+use Rattle.layer_tests.proofs.pools.another.Given as goal
 
 abbrev pub invariant-loop-number : goal.invariant-loop-number
 invariant-loop-number l = 2 ≤ length l.pool.lists

@@ -1,5 +1,5 @@
 //! The bounded buffer on four nodes, over drawn schedules that lose, double and hold back frames and acknowledgements: what is written is the same.
-use crate::calls::run;
+use crate::calls::answer;
 use rand_core::utils::NextWord;
 use rand_pcg::Lcg64Xsh32;
 use std::alloc::{AllocError, Global};
@@ -104,7 +104,7 @@ fn schedule(alloc: Global, draw: u64, rate: u32) -> Result<String, AllocError> {
 /// Whether the sum is written, and nothing else, and all is quiet at the end.
 fn holds(alloc: Global, draw: u64, rate: u32) -> Result<bool, AllocError> {
     let schedule = schedule(alloc, draw, rate)?;
-    let outcome = run(alloc, BUFFER, PLACEMENT, schedule.as_bytes())?;
+    let outcome = answer(alloc, "run P L S", BUFFER, PLACEMENT, schedule.as_bytes())?;
     Ok(outcome.out.starts_with(b"42\nend quiet ") && outcome.status.code() == 0)
 }
 

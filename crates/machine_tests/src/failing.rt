@@ -1,6 +1,7 @@
 //! A call between two nodes, with each call of its files failing in turn, with each room of its output, with reads of one byte, and with each front of
 //! its program: what is answered follows from the number of inputs and from the record.
-use crate::calls::{Inputs, Outcome, outcome_of, sink_of, texts_of, words_of};
+use crate::calls::{Outcome, words_of};
+use crate::sinks::{Inputs, outcome_of, sink_of, texts_of};
 use pool_driver::{Status, pool};
 use pool_outside::{MemFiles, PieceFiles};
 use std::alloc::{AllocError, Global};

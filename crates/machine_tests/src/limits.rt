@@ -1,5 +1,6 @@
 //! The last that is allowed of a limit, and the first that is refused; and an error sink with too little room.
-use crate::calls::{Inputs, Outcome, outcome_of, sink_of, texts_of, words_of};
+use crate::calls::{Outcome, words_of};
+use crate::sinks::{Inputs, outcome_of, sink_of, texts_of};
 use pool_driver::{Status, pool};
 use pool_outside::CalmFiles;
 use std::alloc::{AllocError, Global};

@@ -1,15 +1,8 @@
 //! Calls of `pool` whose files, output and error sink are chosen one by one.
+use crate::calls::Outcome;
 use pool_driver::Status;
 use pool_outside::{MemSink, NamedText};
 use std::alloc::{AllocError, Global};
-
-/// What a call answered, and what it wrote.
-#[derive(Drop)]
-pub struct Outcome {
-    pub status: Status,
-    pub out: Vec<u8>,
-    pub err: Vec<u8>,
-}
 
 /// A program, a placement and a schedule.
 #[derive(Clone, Copy)]
@@ -33,15 +26,6 @@ pub fn texts_of(alloc: Global, inputs: Inputs<'_>) -> Result<Vec<NamedText>, All
         })?;
     }
     Ok(texts)
-}
-
-/// The words of a line.
-pub fn words_of(alloc: Global, line: &str) -> Result<Vec<String>, AllocError> {
-    let mut words = Vec::new(alloc);
-    for word in line.split_ascii_whitespace() {
-        words.push(String::from_str(alloc, word)?)?;
-    }
-    Ok(words)
 }
 
 /// A sink that has so much room, and of which each write takes seven bytes at most.
