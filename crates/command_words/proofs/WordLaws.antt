@@ -12,7 +12,7 @@ use Rattle.clap.specs.declared.error.ErrorKind.{ErrorKind}
 use Rattle.clap.specs.declared.error.ErrorKind.TheVariants as kind
 use Rattle.clap.proofs.OnLiterals.{clap_on_literals}
 use Rattle.command_words.specs.Commands.{ask_of, is_option, request_of, show_of}
-use Rattle.command_words.specs.CommandLine.{checked_app, files_app, matched_request, pool_app, word_app}
+use Rattle.command_words.specs.CommandLine.{matched_request, pool_app, three_inputs, words_app}
 use Rattle.command_words.specs.declared.command.Ask.{Ask}
 use Rattle.command_words.specs.declared.command.Show.{Show}
 use Rattle.command_words.specs.declared.command.Ask.TheVariants as As
@@ -24,13 +24,13 @@ abbrev pub pool : App
 pool = built pool_app
 
 abbrev pub files_shape : Text → Shape
-files_shape name = built_leaf (inherited pool.top (files_app name).top)
+files_shape name = built_leaf (inherited pool.top (words_app name three_inputs).top)
 
 abbrev pub word_shape : Text → Text → Shape
-word_shape name id = built_leaf (inherited pool.top (word_app name id).top)
+word_shape name id = built_leaf (inherited pool.top (words_app name (id ∷ [])).top)
 
 abbrev pub checked_shape : Text → Shape
-checked_shape name = built_leaf (inherited pool.top (checked_app name).top)
+checked_shape name = built_leaf (inherited pool.top (words_app name (codes "program" ∷ codes "record" ∷ [])).top)
 
 subs_are : pool.subs ≡ files_shape (codes "record") ∷ files_shape (codes "run") ∷ files_shape (codes "why") ∷ word_shape (codes "print") (codes "program") ∷ word_shape (codes "code") (codes "program") ∷ word_shape (codes "ring") (codes "cells") ∷ word_shape (codes "convert") (codes "record") ∷ checked_shape (codes "check") ∷ word_shape (codes "build") (codes "program") ∷ files_shape (codes "load") ∷ []
 subs_are = refl

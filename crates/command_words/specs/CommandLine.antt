@@ -1,5 +1,5 @@
 -- The command line as `clap` has it, and what its matches ask for.
-use Rattle.std.specs.Prelude.{List, Option, Some, None, option_map, option_and_then, true, codes, fold, bytes_eq, if◌then◌else◌}
+use Rattle.std.specs.Prelude.{List, [], ◌∷◌, Option, Some, None, option_map, option_and_then, true, codes, fold, bytes_eq, if◌then◌else◌}
 use Rattle.run_words.specs.Text.{Text}
 use Rattle.run_words.specs.Lines.{decimal_of}
 use Rattle.clap.specs.Words.{App, Row, Rule, Shape, first_of, new_app, new_rule, with_rule, with_subcommand}
@@ -11,18 +11,6 @@ use Rattle.command_words.specs.declared.command.Show.{Show}
 -- a required positional argument of this name
 abbrev pub positional : Text → Rule
 positional id = record (new_rule id) { required = true }
-
--- a command of three names, of which the first is a program's or a unit file's
-abbrev pub files_app : Text → App
-files_app name = with_rule (with_rule (with_rule (new_app name) (positional (codes "program"))) (positional (codes "placement"))) (positional (codes "schedule"))
-
--- a command of one word
-abbrev pub word_app : Text → Text → App
-word_app name id = with_rule (new_app name) (positional id)
-
--- a command of a program and a record
-abbrev pub checked_app : Text → App
-checked_app name = with_rule (with_rule (new_app name) (positional (codes "program"))) (positional (codes "record"))
 
 -- a command of the required words of these names
 abbrev pub words_app : Text → List Text → App
@@ -36,14 +24,19 @@ with_each app rows = fold (λ a row. with_subcommand a (words_app row.0 row.1).t
 abbrev pub settings : Shape → Shape
 settings s = record s { no_binary_name = true; disable_help_flag = true; disable_help_subcommand = true; subcommand_required = true }
 
+-- the names of the words of a command that runs a program, or a unit file, which stands first
+abbrev pub three_inputs : List Text
+three_inputs = codes "program" ∷ codes "placement" ∷ codes "schedule" ∷ []
+
+-- the subcommands, each with the names of its words
+abbrev pub subcommands : List (Text × List Text)
+subcommands =
+    (codes "record", three_inputs) ∷ (codes "run", three_inputs) ∷ (codes "why", three_inputs)
+    ∷ (codes "print", codes "program" ∷ []) ∷ (codes "code", codes "program" ∷ []) ∷ (codes "ring", codes "cells" ∷ []) ∷ (codes "convert", codes "record" ∷ [])
+    ∷ (codes "check", codes "program" ∷ codes "record" ∷ []) ∷ (codes "build", codes "program" ∷ []) ∷ (codes "load", three_inputs) ∷ []
+
 abbrev pub pool_app : App
-pool_app =
-    with_subcommand (with_subcommand (with_subcommand (with_subcommand (with_subcommand
-    (with_subcommand (with_subcommand (with_subcommand (with_subcommand (with_subcommand (on_top settings (new_app (codes "pool")))
-    (files_app (codes "record")).top) (files_app (codes "run")).top) (files_app (codes "why")).top)
-    (word_app (codes "print") (codes "program")).top) (word_app (codes "code") (codes "program")).top)
-    (word_app (codes "ring") (codes "cells")).top) (word_app (codes "convert") (codes "record")).top)
-    (checked_app (codes "check")).top) (word_app (codes "build") (codes "program")).top) (files_app (codes "load")).top
+pool_app = with_each (on_top settings (new_app (codes "pool"))) subcommands
 
 -- what the matches of a subcommand ask for
 
