@@ -8,3 +8,4 @@ pub mod StatementParts
 pub mod DeclarationParts
 pub mod LeastLaws
 pub mod IndexLaws
+pub mod Grammatical

@@ -11,6 +11,7 @@ mod program;
 mod scope;
 mod sort;
 mod statements;
+pub mod theorems;
 
 pub use fault::ClassFault;
 pub use program::{Checked, check};

@@ -2,7 +2,8 @@
 ghost use Rattle.std.specs.Prelude.{◌≡◌, ◌≢◌, [], true, IfOk, IsOk, IsErr};
 ghost use Rattle.pool_syntax.specs.TreeOf.{program_of};
 ghost use Rattle.pool_syntax.specs.Typing.{faults};
-ghost use Rattle.pool_syntax.specs.Spelled.{is_spelled, IsGrammatical};
+ghost use Rattle.pool_grammar.specs.Programs.{IsGrammatical};
+ghost use Rattle.pool_syntax.specs.Spelled.{is_spelled};
 ghost use Rattle.class_check.specs.Least.{IsLeastFault};
 ghost use Rattle.class_check.specs.PairOf.{pair_of};
 ghost use Rattle.class_check.specs.declared.fault.ClassFault.{ClassFault as AFault};

@@ -15,7 +15,7 @@ use Rattle.pool_syntax.specs.declared.tree.Var.{Var}
 use Rattle.pool_syntax.specs.Terms as T
 use Rattle.pool_syntax.specs.Terms.{Expression, Expressions, Statement, Statements, Alternatives, MethodTree, ClassTree, ProgramTree}
 use Rattle.pool_syntax.specs.Classes.{named_method}
-use Rattle.pool_syntax.specs.Spelled.{IsGrammatical}
+use Rattle.pool_grammar.specs.Programs.{IsGrammatical}
 use Rattle.pool_syntax.specs.Typing.{Scope, own_method, names_faults, answer_faults, statement_faults, statements_faults, alternatives_faults, expression_faults, needs, value_needs, vars_faults, too_many, outcome_faults, behind_value, method_scope, method_tree_faults, class_scope, methods_faults, classes_faults, faults, contains, size}
 use Rattle.run_words.specs.Sorts.{BoolSort}
 use Rattle.code_semantics.specs.declared.unit.Instr.{Instr}
@@ -29,7 +29,7 @@ use Rattle.pool_compile.proofs.Counted.{nil_left, nil_right, no_fault}
 use Rattle.pool_compile.proofs.Greater.{more_left, more_right}
 use Rattle.pool_compile.proofs.Laws.{program_small, written}
 use Rattle.pool_compile.proofs.Limits.{class_parts, method_parts}
-use Rattle.verified_code.specs.DeclaredKinds.{method_kinds, class_kinds, file_of}
+use Rattle.code_laws.specs.DeclaredKinds.{method_kinds, class_kinds, file_of}
 
 -- tests and lists
 

@@ -2,7 +2,7 @@
 ghost use Rattle.std.specs.Prelude.{◌≡◌, ◌++◌, map, IfOk, OnOk};
 ghost use Rattle.pool_syntax.specs.TreeOf.{class_tree, method_tree, program_of};
 ghost use Rattle.code_semantics.specs.Shaped.{IsListOf, IsShaped, IsShort, IsShortList};
-ghost use Rattle.verified_code.specs.DeclaredKinds.{class_kinds, file_of, kinds_of, method_kinds};
+ghost use Rattle.code_laws.specs.DeclaredKinds.{class_kinds, file_of, kinds_of, method_kinds};
 ghost use Rattle.code_verdict.specs.Verdict.{Good, verdict};
 
 use class_check::Checked;

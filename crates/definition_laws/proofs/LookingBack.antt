@@ -2,7 +2,7 @@
 use Rattle.std.proofs.Common.{◌≡◌, refl, sym, ap, ◌∙◌, ℕ, zero, suc, ◌+◌, List, [], ◌∷◌, ◌++◌, reverse, take, slice_get, Some, Bool, true, false, arith}
 use Rattle.std.proofs.lemmas.List.{reverse-append, reverse-reverse}
 use Rattle.pool_syntax.specs.declared.token.Tok.{Tok}
-use Rattle.pool_syntax.specs.Nesting.{Role, opening, beginning, closing, operating, parting, plain, role, open_before, depth, nesting}
+use Rattle.pool_grammar.specs.Nesting.{Role, opening, beginning, closing, operating, parting, plain, role, open_before, depth, nesting}
 use Rattle.definition_laws.specs.Forward.{OpenParts, nothing_open, without_innermost, step, behind, outside, depth_at}
 
 -- what is open behind tokens, the nearest first

@@ -4,7 +4,7 @@ use Rattle.run_words.specs.declared.keywords.Keyword.TheVariants as word
 use Rattle.pool_syntax.specs.declared.token.Tok.{Tok}
 use Rattle.pool_syntax.specs.declared.token.Tok.TheVariants as tok
 use Rattle.pool_syntax.specs.declared.token.Sign.TheVariants as sign
-use Rattle.pool_syntax.specs.Nesting.{nesting, role}
+use Rattle.pool_grammar.specs.Nesting.{nesting, role}
 use Rattle.definition_laws.specs.Forward.{OpenParts, counts, hides, behind, depth_at, nothing_open}
 
 abbrev x : Tok

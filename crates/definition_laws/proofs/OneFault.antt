@@ -7,12 +7,12 @@ use Rattle.run_words.proofs.Laws.{same_some}
 use Rattle.pool_syntax.specs.declared.token.LexFault.{LexFault}
 use Rattle.pool_syntax.specs.declared.token.Tok.{Tok}
 use Rattle.pool_syntax.specs.declared.token.Token.{Token}
-use Rattle.pool_syntax.specs.Rules.{Phrase, program}
-use Rattle.pool_syntax.specs.Grammar.{rule}
-use Rattle.pool_syntax.specs.Derives.{Begins}
-use Rattle.pool_syntax.specs.Nesting.{nesting, depth, IsFirstTooDeep}
+use Rattle.pool_grammar.specs.Rules.{Phrase, program}
+use Rattle.pool_grammar.specs.Grammar.{rule}
+use Rattle.pool_grammar.specs.Derives.{Begins}
+use Rattle.pool_grammar.specs.Nesting.{nesting, depth, IsFirstTooDeep}
 use Rattle.pool_syntax.specs.Terms.{ProgramTree}
-use Rattle.pool_syntax.specs.Tokens.{HasTokens, IsFirstFault}
+use Rattle.pool_syntax.specs.Tokens.{HasTokens, IsFirstFault, toks}
 use Rattle.pool_syntax.specs.Typing as T
 use Rattle.pool_syntax.specs.Typing.{faults}
 use Rattle.pool_lexer.proofs.Wholes.{same_tokens, same_first_fault, not_both}
@@ -24,7 +24,7 @@ use Rattle.class_check.specs.declared.fault.ClassFault.{ClassFault}
 use Rattle.class_check.specs.declared.fault.ClassFault.TheVariants as C
 use Rattle.fault_lines.specs.declared.fault.Fault.{Fault}
 use Rattle.fault_lines.specs.declared.fault.Fault.TheVariants as F
-use Rattle.pool_syntax.specs.Programs.{toks, HasProgram, IsParsed, IsTextOf}
+use Rattle.pool_grammar.specs.Programs.{HasProgram, IsParsed, IsTextOf}
 use Rattle.program_input.specs.Programs.{IsFaultOfClasses, IsFaultOfText, IsSyntaxFault}
 use Rattle.program_input.specs.Readers.{HasTypedFault, IsTypedProgram}
 

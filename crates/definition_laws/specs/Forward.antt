@@ -1,7 +1,7 @@
 -- How deep a token stands, told from the first token on. What is open at a place are brackets, and operators whose expression is not over.
 use Rattle.std.specs.Prelude.{ℕ, suc, ◌+◌, List, [], ◌∷◌}
 use Rattle.pool_syntax.specs.declared.token.Tok.{Tok}
-use Rattle.pool_syntax.specs.Nesting.{Role, opening, beginning, closing, operating, parting, plain, role}
+use Rattle.pool_grammar.specs.Nesting.{Role, opening, beginning, closing, operating, parting, plain, role}
 
 -- A bracket that is open, with the number of operators that were under way around it when it was opened. It counts, with these operators; or it hides them, and does not count.
 pub data Bracket : Type 0 where

@@ -1,7 +1,7 @@
 //! How deep a token stands.
 ghost use Rattle.std.specs.Prelude.{◌≡◌, ℕ, List, Some, slice_get, take};
 ghost use Rattle.pool_syntax.specs.declared.token.Tok.{Tok};
-ghost use Rattle.pool_syntax.specs.Nesting.{nesting, role};
+ghost use Rattle.pool_grammar.specs.Nesting.{nesting, role};
 ghost use Rattle.definition_laws.specs.Forward.{behind, depth_at, nothing_open};
 
 /// Looking back from a token tells the same depth as going forward from the first: what is open behind the tokens before it, brackets and operators, and what the token adds.

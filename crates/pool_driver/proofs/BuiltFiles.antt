@@ -8,11 +8,11 @@ use Rattle.object_code.specs.FileBytes.{file_bytes}
 use Rattle.code_semantics.specs.Shaped.{IsShaped, IsShort}
 use Rattle.code_verdict.specs.Verdict.{Good, verdict}
 use Rattle.code_verdict.proofs.Laws.{good_is_verified}
-use Rattle.readable_records.proofs.Laws.{code_is_spelled, parsed_distinct}
+use Rattle.code_laws.proofs.Laws.{code_is_spelled, parsed_distinct}
 use Rattle.unit_inputs.specs.UnitFiles.{IsVerifiedFile}
 use Rattle.unit_inputs.proofs.Laws.{verified_writable}
-use Rattle.verified_code.specs.DeclaredKinds.{file_of}
-use Rattle.verified_code.proofs.Laws.{read_back}
+use Rattle.code_laws.specs.DeclaredKinds.{file_of}
+use Rattle.code_laws.proofs.Laws.{read_back}
 use Rattle.pool_driver.specs.Inputs.{unit_of}
 use Rattle.program_input.specs.Programs.{IsParsed}
 use Rattle.pool_driver.proofs.TextLaws.{parsed_bytes}

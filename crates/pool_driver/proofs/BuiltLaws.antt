@@ -11,14 +11,14 @@ use Rattle.pool_compile.specs.Code.{code}
 use Rattle.mesh_semantics.specs.Record as M
 use Rattle.mesh_semantics.specs.Record.{record_at}
 use Rattle.placed_terms.specs.Terms.{terms}
-use Rattle.placed_code.specs.CheckedProgram.{IsCheckedProgram}
-use Rattle.placed_code.proofs.Laws.{code_record, code_record_on_wires, parsed_checked, suits_fits}
+use Rattle.code_laws.specs.CheckedProgram.{IsCheckedProgram}
+use Rattle.code_laws.proofs.Laws.{code_record, code_record_on_wires, parsed_checked, suits_fits}
 use Rattle.coded_objects.specs.Coded.{coded}
 use Rattle.placement_reader.specs.Placements.{placement_of}
 use Rattle.run_record.specs.Readable.{IsRecord}
 use Rattle.record_lines.specs.SecondForm.{text2}
-use Rattle.verified_code.specs.DeclaredKinds.{file_of}
-use Rattle.verified_code.proofs.Laws.{file_is_shaped}
+use Rattle.code_laws.specs.DeclaredKinds.{file_of}
+use Rattle.code_laws.proofs.Laws.{file_is_shaped}
 use Rattle.unit_inputs.specs.UnitFiles.{IsVerifiedFile}
 use Rattle.unit_inputs.proofs.Laws.{no_program, said_once}
 use Rattle.command_words.specs.declared.command.Ask.TheVariants as As

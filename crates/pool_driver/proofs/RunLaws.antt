@@ -12,7 +12,7 @@ use Rattle.code_semantics.specs.declared.unit.ClassCode.{ClassCode}
 use Rattle.code_semantics.specs.Proper.{IsProper}
 use Rattle.code_semantics.specs.Suits.{Suits}
 use Rattle.run_record.specs.Readable.{IsRecord}
-use Rattle.readable_records.proofs.Laws.{program_reads, program_reads_on_wires, record_writable}
+use Rattle.code_laws.proofs.Laws.{program_reads, program_reads_on_wires, record_writable}
 use Rattle.pool_compile.specs.Code.{code}
 use Rattle.mesh_semantics.specs.Config.{Config}
 use Rattle.mesh_semantics.specs.Record as M
@@ -21,12 +21,12 @@ use Rattle.mesh_semantics.specs.Wired.{KeepsWires}
 use Rattle.placed_terms.specs.Terms.{terms}
 use Rattle.placed_terms.proofs.Laws.{answers, answers_on_wires, runs_from, runs_from_on_wires}
 use Rattle.std.proofs.lemmas.List.{append_assoc}
-use Rattle.placed_code.specs.CheckedProgram.{IsCheckedProgram}
-use Rattle.placed_code.proofs.Laws.{code_record, code_record_on_wires, code_simulates, parsed_checked, suits_fits}
+use Rattle.code_laws.specs.CheckedProgram.{IsCheckedProgram}
+use Rattle.code_laws.proofs.Laws.{code_record, code_record_on_wires, code_simulates, parsed_checked, suits_fits}
 use Rattle.coded_objects.specs.Coded.{Placed, coded}
 use Rattle.coded_objects.proofs.Laws.{code_fits}
-use Rattle.verified_code.specs.CodeRun.{IsCodeRun}
-use Rattle.verified_code.proofs.Laws.{code_answers, code_answers_on_wires, record_is_code_run, record_is_code_run_on_wires, verified_is_proper}
+use Rattle.code_laws.specs.CodeRun.{IsCodeRun}
+use Rattle.code_laws.proofs.Laws.{code_answers, code_answers_on_wires, record_is_code_run, record_is_code_run_on_wires, verified_is_proper}
 use Rattle.unit_inputs.specs.UnitFiles.{IsUnitOfFile, IsVerifiedFile}
 use Rattle.unit_inputs.proofs.Laws.{file_reads, file_reads_on_wires}
 use Rattle.code_semantics.specs.declared.file.UnitFile.{UnitFile}
@@ -41,7 +41,7 @@ use Rattle.mesh_semantics.specs.Simulates.{SameRecord, Zipped}
 use Rattle.mesh_semantics.specs.Standing as T
 use Rattle.mesh_semantics.specs.Standing.{standing}
 use Rattle.mesh_semantics.proofs.Laws.{no_wires_kept, record_keeps_wires, standing_same}
-use Rattle.placed_code.specs.Matches.{Matches}
+use Rattle.code_laws.specs.Matches.{Matches}
 use Rattle.placed_terms.specs.RunOf.{IsRunFrom, TypedTerms}
 use Rattle.wait_report.specs.declared.rows.ObjectRow.{ObjectRow}
 use Rattle.wait_report.specs.Report.{report_text}

@@ -10,7 +10,7 @@ use Rattle.pool_syntax.specs.Tokens.{IsFaultless, is_rest_of_string, is_string, 
 use Rattle.run_words.specs.Keywords.{keywords}
 use Rattle.run_words.specs.Table.{is_among, with_text}
 use Rattle.pool_syntax.specs.Terms.{ProgramTree}
-use Rattle.pool_syntax.specs.Programs.{IsParsed}
+use Rattle.pool_grammar.specs.Programs.{IsParsed}
 use Rattle.code_semantics.specs.Shaped.{IsListOf, IsShortList}
 use Rattle.run_words.proofs.Laws.{first, second}
 

@@ -3,7 +3,7 @@ use Rattle.std.specs.Prelude.{◌≡◌, ℕ, List, [], ◌++◌, Some, None, tr
 use Rattle.run_words.specs.Text.{Text}
 use Rattle.pool_syntax.specs.Terms.{ProgramTree}
 use Rattle.pool_syntax.specs.Typing.{faults}
-use Rattle.pool_syntax.specs.Programs.{IsParsed}
+use Rattle.pool_grammar.specs.Programs.{IsParsed}
 use Rattle.run_words.specs.declared.words.Label.{Label}
 use Rattle.run_words.specs.declared.words.Line.{Line}
 use Rattle.pool_relation.specs.Configuration.{Configuration}

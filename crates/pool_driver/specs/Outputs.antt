@@ -27,7 +27,7 @@ use Rattle.run_words.specs.declared.verdicts.Verdict.{Verdict}
 use Rattle.run_words.specs.declared.verdicts.Verdict.TheVariants as V
 use Rattle.record_check.specs.Verdicts.{Judged}
 use Rattle.record_check.specs.VerdictText.{verdict_text}
-use Rattle.verified_code.specs.DeclaredKinds.{file_of}
+use Rattle.code_laws.specs.DeclaredKinds.{file_of}
 use Rattle.unit_inputs.specs.UnitFiles.{IsVerifiedFile}
 
 -- what is shown of the run of the three texts

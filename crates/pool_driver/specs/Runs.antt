@@ -22,7 +22,7 @@ use Rattle.pool_driver.specs.Inputs.{unit_of}
 use Rattle.program_input.specs.Programs.{IsParsed}
 use Rattle.code_semantics.specs.declared.file.UnitFile.{UnitFile}
 use Rattle.coded_objects.specs.Coded.{Placed, coded}
-use Rattle.verified_code.specs.CodeRun.{IsCodeRun}
+use Rattle.code_laws.specs.CodeRun.{IsCodeRun}
 use Rattle.unit_inputs.specs.UnitFiles.{IsVerifiedFile}
 use Rattle.mesh_semantics.specs.Config.{Config}
 

@@ -1,10 +1,11 @@
 //! Laws of the top call's definitions: each is the contract of a function that does nothing.
 ghost use Rattle.std.specs.Prelude.{◌≡◌, true, length, [], ◌∷◌, codes, List as ListOf};
 ghost use Rattle.pool_syntax.specs.declared.token.Token.{Token as OneToken};
-ghost use Rattle.pool_syntax.specs.Spelled.{IsGrammatical, is_spelled};
+ghost use Rattle.pool_grammar.specs.Programs.{IsGrammatical, IsParsed, IsShallowBelow};
+ghost use Rattle.pool_syntax.specs.Spelled.{is_spelled};
 ghost use Rattle.pool_syntax.specs.Terms.{ProgramTree};
 ghost use Rattle.run_words.specs.Text.{Text};
-ghost use Rattle.pool_syntax.specs.Programs.{IsParsed, IsShallowBelow, toks};
+ghost use Rattle.pool_syntax.specs.Tokens.{toks};
 ghost use Rattle.command_words.specs.declared.command.Ask.TheVariants.{File as FileAsked};
 ghost use Rattle.command_words.specs.declared.command.Show.TheVariants.{Record as RecordShown};
 ghost use Rattle.fault_lines.specs.declared.fault.Input.TheVariants.{Placement as PlacementRead, Record as RecordRead, Schedule as ScheduleRead, Unit as UnitRead};

@@ -1,14 +1,15 @@
 //! Makes the code of a program that was read, and its object code file.
 ghost use Rattle.std.specs.Prelude.{◌≡◌, ◌≢◌, true, [], IfOk, IsOk, IsErr, Err};
 ghost use Rattle.pool_syntax.specs.TreeOf.{program_of};
-ghost use Rattle.pool_syntax.specs.Spelled.{IsGrammatical, is_spelled};
+ghost use Rattle.pool_grammar.specs.Programs.{IsGrammatical};
+ghost use Rattle.pool_syntax.specs.Spelled.{is_spelled};
 ghost use Rattle.pool_syntax.specs.Typing.{faults};
 ghost use Rattle.code_semantics.specs.Proper.{IsProper};
 ghost use Rattle.code_semantics.specs.Shaped.{IsListOf, IsShaped, IsShort, IsShortList};
 ghost use Rattle.pool_driver.specs.Inputs.{unit_of};
 ghost use Rattle.program_input.specs.Programs.{IsFaultOfClasses};
 ghost use Rattle.code_verdict.specs.Verdict.{Good, verdict};
-ghost use Rattle.verified_code.specs.DeclaredKinds.{file_of};
+ghost use Rattle.code_laws.specs.DeclaredKinds.{file_of};
 ghost use Rattle.fault_lines.specs.declared.fault.Fault.{Fault as AnyFault};
 ghost use Rattle.fault_lines.specs.declared.fault.Input.{Input as AnyInput};
 

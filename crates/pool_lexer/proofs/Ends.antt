@@ -1,11 +1,10 @@
 -- What a reader of a text's tokens can rest on.
 use Rattle.std.proofs.Common.{◌≡◌, ◌≢◌, ℕ, zero, suc, ◌+◌, ◌≤◌, List, [], ◌∷◌, length, slice_get, All, Some, inl, inr, sym, ap, subst, arith}
 use Rattle.run_words.specs.Text.{Text}
-use Rattle.pool_syntax.specs.Tokens.{HasTokens, texts_after, token_of, tokens_from}
+use Rattle.pool_syntax.specs.Tokens.{HasTokens, texts_after, token_of, tokens_from, toks}
 use Rattle.pool_syntax.specs.declared.token.Tok.{Tok}
 use Rattle.pool_syntax.specs.declared.token.Tok.TheVariants as tok
 use Rattle.pool_syntax.specs.declared.token.Token.{Token}
-use Rattle.pool_syntax.specs.Programs.{toks}
 use Rattle.pool_lexer.specs.Ended.{EndsInEnd, IsPlaced}
 use Rattle.pool_lexer.specs.Reading.{with_kept}
 use Rattle.pool_lexer.proofs.Kept.{cases_Option, texts_after-cons, token_placed, token_not_end}

@@ -9,8 +9,7 @@ use Rattle.pool_syntax.specs.declared.token.Token.{Token}
 use Rattle.run_words.specs.Table.{name_of}
 use Rattle.run_words.specs.Text.{Text, lookup, is_listed, every, is_inner, is_word, is_integer, value_of_digits}
 use Rattle.run_words.specs.Keywords.{keywords, is_name, is_string_number, is_string_text}
-use Rattle.pool_syntax.specs.Tokens.{signs, is_rest_of_string, is_string, piece_fault, kept_text, texts_after, token_of, tokens_from, IsFaultless, HasTokens}
-use Rattle.pool_syntax.specs.Programs.{toks}
+use Rattle.pool_syntax.specs.Tokens.{signs, is_rest_of_string, is_string, piece_fault, kept_text, texts_after, token_of, tokens_from, IsFaultless, HasTokens, toks}
 use Rattle.pool_syntax.specs.Spelled.{IsSpelledToken, AreSpelled}
 use Rattle.run_words.proofs.Laws.{text_at_place, listed_is}
 use Rattle.pool_lexer.specs.Reading.{with_kept}

@@ -1,8 +1,7 @@
 //! The tokens of a whole text, or its first fault.
 ghost use Rattle.std.specs.Prelude.{◌≡◌, ◌≢◌, ℕ, ◌+◌, ◌^◌, ◌<◌, ◌≤◌, ◌⊎◌, List as ItemList, [], ◌∷◌, ◌++◌, Err, IfOk, IfErr, OnOk, MatchResult, All, length};
-ghost use Rattle.pool_syntax.specs.Programs.{toks};
+ghost use Rattle.pool_syntax.specs.Tokens.{toks, HasTokens, IsFirstFault};
 ghost use Rattle.pool_syntax.specs.Spelled.{AreSpelled};
-ghost use Rattle.pool_syntax.specs.Tokens.{HasTokens, IsFirstFault};
 ghost use Rattle.pool_lexer.specs.Ended.{EndsInEnd, IsPlaced};
 ghost use Rattle.pool_lexer.specs.Reading.{TellsStep};
 

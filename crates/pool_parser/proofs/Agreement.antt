@@ -1,8 +1,8 @@
 -- Derivations look only at the tokens that they derive.
 use Rattle.std.proofs.Common.{◌≡◌, ℕ, ◌<◌, ◌≤◌, List, slice_get, ◌∙◌, arith}
 use Rattle.pool_syntax.specs.declared.token.Tok.{Tok}
-use Rattle.pool_syntax.specs.Rules.{Phrase, Tree, Part, word, sign, name, integer, string, end, operator, phrase, SemanticValue, Rule}
-use Rattle.pool_syntax.specs.Derives.{IsToken, Derives, nothing, token, inner, first, second, Begins, none, past_token, within, past, of_first, of_second}
+use Rattle.pool_grammar.specs.Rules.{Phrase, Tree, Part, word, sign, name, integer, string, end, operator, phrase, SemanticValue, Rule}
+use Rattle.pool_grammar.specs.Derives.{IsToken, Derives, nothing, token, inner, first, second, Begins, none, past_token, within, past, of_first, of_second}
 use Rattle.pool_parser.proofs.Reading.{at_least, begins_at_least}
 
 -- two lists have the same tokens below number n

@@ -7,9 +7,9 @@ use Rattle.pool_syntax.specs.declared.token.Tok.TheVariants as tok
 use Rattle.run_words.specs.declared.keywords.Keyword.TheVariants as kw
 use Rattle.pool_syntax.specs.declared.token.Sign.TheVariants as sg
 use Rattle.pool_syntax.specs.Terms.{Expression, Statement, If, While, Select, Statements, Done, Then, Alternatives, NoAlts}
-use Rattle.pool_syntax.specs.Rules.{Phrase, Tree, stmt, stmts, more_stmts, alt, more_alts, list, word, phrase, Rule, tree, then, either, OneAlternative}
-use Rattle.pool_syntax.specs.Grammar.{rule, expr, then_last, alt_last}
-use Rattle.pool_syntax.specs.Derives.{Derives}
+use Rattle.pool_grammar.specs.Rules.{Phrase, Tree, stmt, stmts, more_stmts, alt, more_alts, list, word, phrase, Rule, tree, then, either, OneAlternative}
+use Rattle.pool_grammar.specs.Grammar.{rule, expr, then_last, alt_last}
+use Rattle.pool_grammar.specs.Derives.{Derives}
 use Rattle.pool_parser.specs.Reads.{Outcome, read, refused, Reads, ReadsPhrase, Clear, Misses, begins_statement, strength}
 use Rattle.pool_parser.specs.Tails.{else_part, then_part}
 use Rattle.pool_parser.proofs.Reading.{reads_tree, reads_first, reads_second, reads_inner, reads_refused, reads_last, put, put-id, clear_tree, clear_inner, clear_either, clear_word, clear_sign, misses_token, misses_inner, off, off_tree}

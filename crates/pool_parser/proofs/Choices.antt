@@ -2,9 +2,9 @@
 use Rattle.std.proofs.Common.{◌≡◌, ℕ, ◌+◌, ◌≤◌, ⊎_elim, List, arith, subst, sym, eq-or-lt_of_le}
 use native.Mathlib.Decide.{dec_le}
 use Rattle.pool_syntax.specs.declared.token.Tok.{Tok}
-use Rattle.pool_syntax.specs.Rules.{Phrase, Tree, Part, phrase, SemanticValue, Rule, then, either}
-use Rattle.pool_syntax.specs.Grammar.{rule}
-use Rattle.pool_syntax.specs.Derives.{IsTerminal, Derives, first, second, Begins, of_first, of_second}
+use Rattle.pool_grammar.specs.Rules.{Phrase, Tree, Part, phrase, SemanticValue, Rule, then, either}
+use Rattle.pool_grammar.specs.Grammar.{rule}
+use Rattle.pool_grammar.specs.Derives.{IsTerminal, Derives, first, second, Begins, of_first, of_second}
 use Rattle.pool_parser.specs.Reads.{Outcome, read, refused, edge, Reads, Stops, Clear, Misses}
 use Rattle.pool_parser.proofs.Reading.{at_least, begins_at_least, front_of, shorter, Derives-token, Derives-inner, Derives-either, Begins-inner, Begins-either}
 

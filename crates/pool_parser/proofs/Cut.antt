@@ -3,7 +3,7 @@ use Rattle.std.proofs.Common.{◌≡◌, ◌≢◌, ℕ, zero, suc, ◌+◌, ◌
 use native.Mathlib.Decide.{dec_le}
 use Rattle.std.proofs.lemmas.Option.{slice_get-get_or}
 use Rattle.pool_lexer.specs.Ended.{EndsInEnd}
-use Rattle.pool_syntax.specs.Programs.{toks}
+use Rattle.pool_syntax.specs.Tokens.{toks}
 use Rattle.pool_syntax.specs.declared.token.Token.{Token}
 use Rattle.pool_syntax.specs.declared.token.Tok.{Tok}
 use Rattle.pool_syntax.specs.declared.token.Tok.TheVariants as tok

@@ -9,10 +9,10 @@ use Rattle.pool_syntax.specs.declared.token.Tok.TheVariants as tok
 use Rattle.run_words.specs.declared.keywords.Keyword.TheVariants as kw
 use Rattle.pool_syntax.specs.declared.token.Sign.TheVariants as sg
 use Rattle.pool_syntax.specs.Terms.{MethodTree, ClassTree, Statements, Done}
-use Rattle.pool_syntax.specs.Rules as r
-use Rattle.pool_syntax.specs.Rules.{Phrase, Tree, program, more_classes, class, more_vars, names, more_methods, method, params, more_params, param, more_locals, word, sign, name, end, phrase, Rule, tree, then, either, post, stmts}
-use Rattle.pool_syntax.specs.Grammar.{rule, variables, expr}
-use Rattle.pool_syntax.specs.Derives.{IsToken, Begins}
+use Rattle.pool_grammar.specs.Rules as r
+use Rattle.pool_grammar.specs.Rules.{Phrase, Tree, program, more_classes, class, more_vars, names, more_methods, method, params, more_params, param, more_locals, word, sign, name, end, phrase, Rule, tree, then, either, post, stmts}
+use Rattle.pool_grammar.specs.Grammar.{rule, variables, expr}
+use Rattle.pool_grammar.specs.Derives.{IsToken, Begins}
 use Rattle.pool_parser.specs.Reads.{Outcome, read, refused, Reads, ReadsPhrase, GoesOn, Stops, Clear, Misses}
 use Rattle.pool_parser.specs.Tails.{proper_part, result_part, body_part, declared_part}
 use Rattle.pool_parser.specs.Declarations.{ReadsDeclared}

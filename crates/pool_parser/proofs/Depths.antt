@@ -4,12 +4,12 @@ use Rattle.std.proofs.lemmas.List.{reverse-append}
 use Rattle.std.proofs.lemmas.Option.{slice_get-get_or}
 use Rattle.pool_syntax.specs.declared.token.Tok.{Tok}
 use Rattle.pool_syntax.specs.declared.token.Tok.TheVariants as tok
-use Rattle.pool_syntax.specs.Nesting.{Role, opening, beginning, closing, operating, parting, plain, role, open_before, depth, nesting}
+use Rattle.pool_grammar.specs.Nesting.{Role, opening, beginning, closing, operating, parting, plain, role, open_before, depth, nesting}
 use Rattle.pool_parser.specs.declared.nesting.TokenRole.{TokenRole}
 use Rattle.pool_parser.specs.declared.nesting.TokenRole.TheVariants.{Opening, Beginning, Closing, Operating, Parting, Plain}
 use Rattle.pool_parser.specs.declared.nesting.Level.{Level}
 use Rattle.pool_parser.specs.Depths.{role_of, depth_at, Counts}
-use Rattle.pool_syntax.specs.Programs.{IsShallowBelow}
+use Rattle.pool_grammar.specs.Programs.{IsShallowBelow}
 
 -- no token of these, of which the last comes first, stands too deep
 abbrev pub IsShallow : List Tok → Type 0

@@ -3,11 +3,11 @@ use Rattle.std.proofs.Common.{◌≡◌, ℕ, ◌+◌, ◌<◌, ◌≤◌, ◌�
 use Rattle.std.proofs.lemmas.Bool.{cases_lt}
 use Rattle.pool_syntax.specs.declared.token.Tok.{Tok}
 use Rattle.pool_syntax.specs.declared.tree.Program.{Program}
-use Rattle.pool_syntax.specs.Rules.{program}
-use Rattle.pool_syntax.specs.Grammar.{rule}
-use Rattle.pool_syntax.specs.Derives.{Begins, IsFirstUnexpected}
-use Rattle.pool_syntax.specs.Nesting.{nesting, IsFirstTooDeep}
-use Rattle.pool_syntax.specs.Programs.{HasProgram, IsShallowBelow}
+use Rattle.pool_grammar.specs.Rules.{program}
+use Rattle.pool_grammar.specs.Grammar.{rule}
+use Rattle.pool_grammar.specs.Derives.{Begins, IsFirstUnexpected}
+use Rattle.pool_grammar.specs.Nesting.{nesting, IsFirstTooDeep}
+use Rattle.pool_grammar.specs.Programs.{HasProgram, IsShallowBelow}
 use Rattle.pool_syntax.specs.TreeOf.{program_of}
 use Rattle.pool_parser.specs.declared.fault.SyntaxFault.{SyntaxFault}
 use Rattle.pool_parser.specs.declared.fault.SyntaxFault.TheVariants.{Unexpected, TooDeep, Memory}

@@ -1,19 +1,15 @@
--- The exits of `?`.
+-- The exits by which a fault is handed on.
 use Rattle.std.proofs.Common.{◌≡◌, ℕ, List, Result, Ok, Err}
-use Rattle.std.specs.Result.{IsErrAnd}
-use Rattle.std.proofs.lemmas.Result.{err_from_is_err_and}
 use Rattle.pool_syntax.specs.declared.token.Token.{Token}
 use Rattle.pool_syntax.specs.declared.token.Tok.{Tok}
 use Rattle.pool_syntax.specs.declared.tree.Var.{Var}
-use Rattle.pool_syntax.specs.declared.tree.Program.{Program}
-use Rattle.pool_syntax.specs.Rules.{Phrase, program, Tree, Rule}
-use Rattle.pool_syntax.specs.Grammar.{rule}
+use Rattle.pool_grammar.specs.Rules.{Phrase, Tree, Rule}
 use Rattle.pool_parser.specs.declared.fault.SyntaxFault.{SyntaxFault}
 use Rattle.pool_parser.specs.declared.fault.SyntaxFault.TheVariants.{Unexpected, TooDeep, Memory}
 use Rattle.pool_parser.specs.Reads.{Reads, read, refused}
 use Rattle.pool_parser.specs.Parses.{seen, ParsesRule, Refuses}
 use Rattle.pool_parser.specs.Tails.{declared_part}
-use Rattle.pool_parser.specs.Declarations.{RefusesDeclared, ParsesDeclared, ParsesProgram}
+use Rattle.pool_parser.specs.Declarations.{RefusesDeclared}
 
 -- where the rule r at i is refused, the rule s at j is refused at the same token
 pub passed_on : {ts : List Tok} {p q : Phrase} {r : Rule (Tree q)} {s : Rule (Tree p)} {i j : ℕ} → ((u : ℕ) → Reads ts q r i (refused u) → Reads ts p s j (refused u)) →
@@ -21,10 +17,6 @@ pub passed_on : {ts : List Tok} {p q : Phrase} {r : Rule (Tree q)} {s : Rule (Tr
 passed_on f (Unexpected u) R = f u R
 passed_on f (TooDeep u) R = R
 passed_on f Memory R = tt
-
--- what a `?` returns
-pub exit : {A : Type 0} (ts : List Token) (p : Phrase) (s : Rule (Tree p)) (j : ℕ) (v : A → Tree p) (e : SyntaxFault) (r : Result (A × ℕ) SyntaxFault) → IsErrAnd r (λ y. y ≡ e) → Refuses (seen ts) p s j e → ParsesRule ts p s j v r
-exit ts p s j v e r h R = let a = err_from_is_err_and r h in rw (a.1, a.2) R
 
 -- what `expect` refuses
 pub unexpected : (ts : List Tok) (p : Phrase) (s : Rule (Tree p)) (i u : ℕ) (e : SyntaxFault) → e ≡ Unexpected u → Reads ts p s i (refused u) → Refuses ts p s i e
@@ -40,9 +32,6 @@ relay ts p q s r i j v w f g (Err (TooDeep u)) R = R
 relay ts p q s r i j v w f g (Err Memory) R = tt
 
 -- the same where names, a colon and a kind are read in the middle of a rule
-
-pub exit_declared : (ts : List Token) (vs : List Var) (i : ℕ) (e : SyntaxFault) (r : Result (List Var × ℕ) SyntaxFault) → IsErrAnd r (λ y. y ≡ e) → RefusesDeclared (seen ts) vs i e → ParsesDeclared ts vs i r
-exit_declared ts vs i e r h R = let a = err_from_is_err_and r h in rw (a.1, a.2) R
 
 pub declared_on : {ts : List Tok} {q : Phrase} {r : Rule (Tree q)} {i j : ℕ} (vs : List Var) →
     ((u : ℕ) → Reads ts q r i (refused u) → (p : Phrase) (f : List Var → Rule (Tree p)) → Reads ts p (declared_part p vs f) j (refused u)) →
@@ -61,8 +50,3 @@ pub declared_off : {ts : List Tok} {p : Phrase} {s : Rule (Tree p)} {i j : ℕ} 
 declared_off vs f (Unexpected u) R = f u R
 declared_off vs f (TooDeep u) R = R
 declared_off vs f Memory R = tt
-
--- the same for the program
-
-pub exit_program : (ts : List Token) (e : SyntaxFault) (r : Result Program SyntaxFault) → IsErrAnd r (λ y. y ≡ e) → Refuses (seen ts) program (rule program) 0 e → ParsesProgram ts r
-exit_program ts e r h R = let a = err_from_is_err_and r h in rw (a.1, a.2) R

@@ -4,9 +4,9 @@ use Rattle.pool_syntax.specs.declared.token.Tok.{Tok}
 use Rattle.pool_syntax.specs.declared.token.Sign.TheVariants as sg
 use Rattle.pool_syntax.specs.declared.tree.Named.{Named}
 use Rattle.pool_syntax.specs.Terms.{Expression, Expressions, Send}
-use Rattle.pool_syntax.specs.Rules.{Phrase, Tree, expression, postfix, more_sends, args, invoke, sign, name, Rule, tree, then, phrase}
-use Rattle.pool_syntax.specs.Grammar.{rule}
-use Rattle.pool_syntax.specs.Derives.{IsToken, Derives, nothing, token, inner, first, second, Begins, none, within, past, past_token, of_first, of_second}
+use Rattle.pool_grammar.specs.Rules.{Phrase, Tree, expression, postfix, more_sends, args, invoke, sign, name, Rule, tree, then, phrase}
+use Rattle.pool_grammar.specs.Grammar.{rule}
+use Rattle.pool_grammar.specs.Derives.{IsToken, Derives, nothing, token, inner, first, second, Begins, none, within, past, past_token, of_first, of_second}
 use Rattle.pool_parser.proofs.Reading.{Derives-tree, Derives-token, Derives-inner, Derives-either, Begins-tree, Begins-token, Begins-inner, Begins-either, at_least}
 
 module _ (ts : List Tok) where

@@ -6,8 +6,8 @@ use Rattle.run_words.specs.declared.keywords.Keyword.TheVariants as kw
 use Rattle.pool_syntax.specs.declared.token.Sign.TheVariants as sg
 use Rattle.run_words.specs.declared.words.Op.{Op}
 use Rattle.pool_syntax.specs.Terms.{Expression, Infix}
-use Rattle.pool_syntax.specs.Rules.{Group, disjunction, conjunction, addition, multiplication, Level, group, comparison, factor, postfix, primary, expression, more_operands}
-use Rattle.pool_syntax.specs.Grammar.{rule, operator_of, operand}
+use Rattle.pool_grammar.specs.Rules.{Group, disjunction, conjunction, addition, multiplication, Level, group, comparison, factor, postfix, primary, expression, more_operands}
+use Rattle.pool_grammar.specs.Grammar.{rule, operator_of, operand}
 use Rattle.pool_parser.specs.Reads.{Outcome, read, refused, ReadsPhrase, Clear, strength, level_number}
 use Rattle.pool_parser.proofs.Reading.{reads_tree, reads_token, reads_first, reads_second, reads_inner, reads_refused, reads_last, put-id, clear_tree, clear_inner, clear_either, clear_token, misses_token, off, off_tree}
 

@@ -6,7 +6,7 @@ use Rattle.pool_syntax.specs.declared.tree.Expr.TheBlock.{hidden-the_row-Expr-0}
 use Rattle.pool_syntax.specs.declared.tree.Alt.{Alt}
 use Rattle.pool_syntax.specs.declared.tree.Stmt.{Stmt}
 use Rattle.pool_syntax.specs.Terms.{Expression, Expressions, Send, Arg, Then, Alt as OneMore}
-use Rattle.pool_syntax.specs.Grammar.{arg_last, then_last, alt_last}
+use Rattle.pool_grammar.specs.Grammar.{arg_last, then_last, alt_last}
 use Rattle.pool_syntax.specs.TreeOf.{expression_of, expression_row, expressions_of, statement_of, statements_of, alternatives_of}
 use Rattle.pool_syntax.proofs.Laws.{expression_row-all}
 use Rattle.pool_parser.specs.Alternatives.{alternative_of}

@@ -8,10 +8,10 @@ use Rattle.pool_syntax.specs.declared.token.Tok.{Tok}
 use Rattle.pool_syntax.specs.declared.token.Tok.TheVariants as tok
 use Rattle.run_words.specs.declared.keywords.Keyword.TheVariants as kw
 use Rattle.pool_syntax.specs.declared.token.Sign.TheVariants as sg
-use Rattle.pool_syntax.specs.Rules as r
-use Rattle.pool_syntax.specs.Rules.{names, more_names, list, Phrase, Tree, sign, name, phrase, Rule, tree, then}
-use Rattle.pool_syntax.specs.Grammar.{rule}
-use Rattle.pool_syntax.specs.Derives.{IsToken}
+use Rattle.pool_grammar.specs.Rules as r
+use Rattle.pool_grammar.specs.Rules.{names, more_names, list, Phrase, Tree, sign, name, phrase, Rule, tree, then}
+use Rattle.pool_grammar.specs.Grammar.{rule}
+use Rattle.pool_grammar.specs.Derives.{IsToken}
 use Rattle.pool_parser.specs.Reads.{Outcome, read, refused, Reads, ReadsPhrase, Clear}
 use Rattle.pool_parser.specs.Literals.{kind_of}
 use Rattle.pool_parser.proofs.Reading.{reads_tree, reads_token, reads_first, reads_second, reads_inner, reads_refused, reads_last, reads_nothing, put-id, clear_sign, misses_token, misses_either, off, off_tree}

@@ -6,8 +6,8 @@ use Rattle.pool_syntax.specs.declared.token.Tok.{Tok}
 use Rattle.pool_syntax.specs.declared.token.Tok.TheVariants as tok
 use Rattle.pool_syntax.specs.declared.tree.Named.{Named}
 use Rattle.run_words.specs.declared.words.NameId.{NameId}
-use Rattle.pool_syntax.specs.Rules.{Level, Phrase, Tree, word, sign, name, operator, SemanticValue, Rule, tree, then}
-use Rattle.pool_syntax.specs.Grammar.{operator_of}
+use Rattle.pool_grammar.specs.Rules.{Level, Phrase, Tree, word, sign, name, operator, SemanticValue, Rule, tree, then}
+use Rattle.pool_grammar.specs.Grammar.{operator_of}
 use Rattle.pool_parser.specs.Reads.{GoesOn, Outcome, read, refused, Reads, Clear, Misses, Off}
 use Rattle.pool_parser.proofs.Reading.{reads_tree, reads_token, reads_missing, misses_token, off}
 

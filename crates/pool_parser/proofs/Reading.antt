@@ -8,10 +8,10 @@ use Rattle.run_words.specs.declared.keywords.Keyword.{Keyword}
 use Rattle.pool_syntax.specs.declared.token.Sign.{Sign}
 use Rattle.run_words.specs.declared.words.NameId.{NameId}
 use Rattle.pool_syntax.specs.declared.tree.Named.{Named}
-use Rattle.pool_syntax.specs.Rules.{Phrase, Tree, Part, word, sign, name, integer, string, end, operator, phrase, SemanticValue, Rule, tree, then, either}
+use Rattle.pool_grammar.specs.Rules.{Phrase, Tree, Part, word, sign, name, integer, string, end, operator, phrase, SemanticValue, Rule, tree, then, either}
 use Rattle.run_words.specs.declared.words.Op.{Op}
-use Rattle.pool_syntax.specs.Grammar.{rule, operator_of}
-use Rattle.pool_syntax.specs.Derives.{IsToken, IsTerminal, Derives, nothing, token, inner, first, second, Begins, none, past_token, within, past, of_first, of_second}
+use Rattle.pool_grammar.specs.Grammar.{rule, operator_of}
+use Rattle.pool_grammar.specs.Derives.{IsToken, IsTerminal, Derives, nothing, token, inner, first, second, Begins, none, past_token, within, past, of_first, of_second}
 use Rattle.pool_parser.specs.Reads.{GoesOn, Stops, Outcome, read, refused, edge, Reads, Clear, Off, Misses, Within}
 
 le_or_ge : (k m : ℕ) → (k ≤ m) ⊎ (m ≤ k)

@@ -1,15 +1,16 @@
 -- What an answer on the whole list, or on its front, says of the program.
 use Rattle.std.proofs.Common.{◌≡◌, ℕ, ◌+◌, ◌-◌, ◌<◌, ◌≤◌, List, Result, Ok, Err, IfOk, MatchResult, length, take, min, refl, sym, subst₂, arith}
 use Rattle.pool_lexer.specs.Ended.{EndsInEnd}
-use Rattle.pool_syntax.specs.Programs.{toks, HasProgram, IsShallowBelow}
+use Rattle.pool_syntax.specs.Tokens.{toks}
+use Rattle.pool_grammar.specs.Programs.{HasProgram, IsShallowBelow}
 use Rattle.pool_syntax.specs.declared.token.Token.{Token}
 use Rattle.pool_syntax.specs.declared.token.Tok.{Tok}
 use Rattle.pool_syntax.specs.declared.tree.Program.{Program}
 use Rattle.pool_syntax.specs.Terms.{ProgramTree}
-use Rattle.pool_syntax.specs.Rules.{program}
-use Rattle.pool_syntax.specs.Grammar.{rule}
-use Rattle.pool_syntax.specs.Derives.{Begins, IsFirstUnexpected}
-use Rattle.pool_syntax.specs.Nesting.{nesting, IsFirstTooDeep}
+use Rattle.pool_grammar.specs.Rules.{program}
+use Rattle.pool_grammar.specs.Grammar.{rule}
+use Rattle.pool_grammar.specs.Derives.{Begins, IsFirstUnexpected}
+use Rattle.pool_grammar.specs.Nesting.{nesting, IsFirstTooDeep}
 use Rattle.pool_syntax.specs.TreeOf.{program_of}
 use Rattle.pool_parser.specs.declared.fault.SyntaxFault.{SyntaxFault}
 use Rattle.pool_parser.specs.declared.fault.SyntaxFault.TheVariants.{Unexpected, TooDeep, Memory}

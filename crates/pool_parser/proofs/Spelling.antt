@@ -9,18 +9,18 @@ use Rattle.pool_syntax.specs.declared.token.Tok.TheVariants as tok
 use Rattle.run_words.specs.declared.words.Value.TheVariants as value
 use Rattle.pool_syntax.specs.Terms as t
 use Rattle.pool_syntax.specs.Terms.{Expression, Expressions, Statement, Statements, Alternatives, MethodTree, ClassTree, ProgramTree}
-use Rattle.pool_syntax.specs.Rules as r
-use Rattle.pool_syntax.specs.Rules.{Group, Level, group, comparison, factor, postfix, primary, Phrase, Tree, program, more_classes, class, more_vars, names, more_names, more_methods, method, params, more_params, param, more_locals, stmts, more_stmts, stmt, invoke, alt, more_alts, list, expression, more_operands, more_sends, args, more_args, OneAlternative, Part, word, sign, name, integer, string, end, operator, phrase, SemanticValue, Rule, tree, then}
-use Rattle.pool_syntax.specs.Rules.{either, post}
-use Rattle.pool_syntax.specs.Grammar.{rule, arg_last, then_last, alt_last, variables}
-use Rattle.pool_syntax.specs.Derives.{IsToken, Derives, nothing, token, inner, first, second, IsProgram}
+use Rattle.pool_grammar.specs.Rules as r
+use Rattle.pool_grammar.specs.Rules.{Group, Level, group, comparison, factor, postfix, primary, Phrase, Tree, program, more_classes, class, more_vars, names, more_names, more_methods, method, params, more_params, param, more_locals, stmts, more_stmts, stmt, invoke, alt, more_alts, list, expression, more_operands, more_sends, args, more_args, OneAlternative, Part, word, sign, name, integer, string, end, operator, phrase, SemanticValue, Rule, tree, then}
+use Rattle.pool_grammar.specs.Rules.{either, post}
+use Rattle.pool_grammar.specs.Grammar.{rule, arg_last, then_last, alt_last, variables}
+use Rattle.pool_grammar.specs.Derives.{IsToken, Derives, nothing, token, inner, first, second, IsProgram}
 use Rattle.run_words.specs.Text.{Text}
 use Rattle.run_words.specs.Keywords.{is_name, is_string_number}
 use Rattle.pool_syntax.specs.Spelled.{is_literal, is_kind, is_outcome, are_names, are_answer_names, are_variables, is_spelled_expression, are_spelled_expressions, is_spelled_statement, are_spelled_statements, are_spelled_alternatives, are_spelled_methods, is_spelled, IsSpelledToken, AreSpelled}
 use Rattle.pool_syntax.specs.declared.tree.Program.{Program}
 use Rattle.pool_syntax.specs.TreeOf.{program_of}
 use Rattle.pool_parser.specs.declared.fault.SyntaxFault.{SyntaxFault}
-use Rattle.pool_syntax.specs.Programs.{HasProgram}
+use Rattle.pool_grammar.specs.Programs.{HasProgram}
 
 both : {a b : Bool} → IsTrue a → IsTrue b → IsTrue (a && b)
 both {a = true} h k = k

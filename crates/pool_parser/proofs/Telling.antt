@@ -8,9 +8,9 @@ use Rattle.pool_syntax.specs.declared.token.Tok.TheVariants as tok
 use Rattle.run_words.specs.declared.keywords.Keyword.TheVariants as kw
 use Rattle.pool_syntax.specs.declared.token.Sign.TheVariants as sg
 use Rattle.pool_syntax.specs.Terms.{Expression, Expressions, Variable, Statement, Assign, Write, WriteText, Do, Async, While, Answer, Select, NoAlts}
-use Rattle.pool_syntax.specs.Rules.{postfix, primary, expression, args, invoke, stmt, stmts, alt, more_alts, list, word, sign, name, string, phrase, Rule, tree, then, either}
-use Rattle.pool_syntax.specs.Grammar.{rule, expr, alt_last}
-use Rattle.pool_syntax.specs.Derives.{IsToken, Derives, Begins, none, past_token, within, past, of_first, of_second}
+use Rattle.pool_grammar.specs.Rules.{postfix, primary, expression, args, invoke, stmt, stmts, alt, more_alts, list, word, sign, name, string, phrase, Rule, tree, then, either}
+use Rattle.pool_grammar.specs.Grammar.{rule, expr, alt_last}
+use Rattle.pool_grammar.specs.Derives.{IsToken, Derives, Begins, none, past_token, within, past, of_first, of_second}
 use Rattle.pool_parser.specs.Reads.{GoesOn, Outcome, read, refused, Reads, ReadsPhrase, Clear, Misses, begins_statement}
 use Rattle.pool_parser.specs.Tails.{sending, else_part}
 use Rattle.pool_parser.proofs.Reading.{begins_at_least, front_of, Derives-tree, Derives-inner, Begins-tree, Begins-inner, reads_tree, reads_token, reads_first, reads_second, reads_inner, reads_refused, reads_last, reads_factored, reads_regrouped, put, clear_tree, clear_sign, misses_token, misses_either, misses_inner, off}

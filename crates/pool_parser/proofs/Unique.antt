@@ -8,11 +8,11 @@ use Rattle.run_words.specs.declared.keywords.Keyword.TheVariants as kw
 use Rattle.pool_syntax.specs.declared.token.Sign.TheVariants as sg
 use Rattle.pool_syntax.specs.Terms as t
 use Rattle.pool_syntax.specs.Terms.{Expression, Expressions, Statement, Statements, Alternatives, ProgramTree}
-use Rattle.pool_syntax.specs.Rules as r
-use Rattle.pool_syntax.specs.Rules.{Group, Level, group, comparison, factor, postfix, primary, Phrase, Tree, program, more_classes, class, more_vars, names, more_names, more_methods, method, params, more_params, param, more_locals, stmts, more_stmts, stmt, invoke, alt, more_alts, list, expression, more_operands, more_sends, args, more_args, Part, word, sign, name, integer, string, end, operator, phrase, SemanticValue, Rule, tree, then}
-use Rattle.pool_syntax.specs.Rules.{either, post}
-use Rattle.pool_syntax.specs.Grammar.{rule, expr}
-use Rattle.pool_syntax.specs.Derives.{IsToken, IsTerminal, Derives, nothing, token, inner, first, second, IsProgram}
+use Rattle.pool_grammar.specs.Rules as r
+use Rattle.pool_grammar.specs.Rules.{Group, Level, group, comparison, factor, postfix, primary, Phrase, Tree, program, more_classes, class, more_vars, names, more_names, more_methods, method, params, more_params, param, more_locals, stmts, more_stmts, stmt, invoke, alt, more_alts, list, expression, more_operands, more_sends, args, more_args, Part, word, sign, name, integer, string, end, operator, phrase, SemanticValue, Rule, tree, then}
+use Rattle.pool_grammar.specs.Rules.{either, post}
+use Rattle.pool_grammar.specs.Grammar.{rule, expr}
+use Rattle.pool_grammar.specs.Derives.{IsToken, IsTerminal, Derives, nothing, token, inner, first, second, IsProgram}
 use Rattle.pool_parser.specs.Reads.{GoesOn, Stops, Clear, Misses, read, refused, strength, level_number}
 use Rattle.pool_parser.specs.Tails.{proper_part, result_part}
 use Rattle.pool_parser.proofs.Reading.{at_least, front_of, token_one, Derives-tree, Derives-token, Derives-inner, Derives-either, clear_tree, clear_inner, clear_sign, misses_token, misses_either, misses_inner}

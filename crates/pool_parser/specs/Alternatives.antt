@@ -1,6 +1,6 @@
 -- The tree of one of the code's alternatives.
 use Rattle.pool_syntax.specs.declared.tree.Alt.{Alt}
-use Rattle.pool_syntax.specs.Rules.{OneAlternative}
+use Rattle.pool_grammar.specs.Rules.{OneAlternative}
 use Rattle.pool_syntax.specs.TreeOf.{expression_of, statements_of}
 
 abbrev pub alternative_of : Alt → OneAlternative

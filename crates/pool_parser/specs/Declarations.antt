@@ -4,8 +4,8 @@ use Rattle.pool_syntax.specs.declared.token.Token.{Token}
 use Rattle.pool_syntax.specs.declared.token.Tok.{Tok}
 use Rattle.pool_syntax.specs.declared.tree.Var.{Var}
 use Rattle.pool_syntax.specs.declared.tree.Program.{Program}
-use Rattle.pool_syntax.specs.Rules.{Phrase, program, Tree, Rule}
-use Rattle.pool_syntax.specs.Grammar.{rule}
+use Rattle.pool_grammar.specs.Rules.{Phrase, program, Tree, Rule}
+use Rattle.pool_grammar.specs.Grammar.{rule}
 use Rattle.pool_syntax.specs.TreeOf.{program_of}
 use Rattle.pool_parser.specs.declared.fault.SyntaxFault.{SyntaxFault}
 use Rattle.pool_parser.specs.declared.fault.SyntaxFault.TheVariants.{Unexpected, TooDeep, Memory}

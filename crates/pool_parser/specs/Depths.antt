@@ -1,8 +1,8 @@
 -- What the pass over the tokens keeps: how many brackets and operators hold the next token.
 use Rattle.std.specs.Prelude.{◌≡◌, ℕ, zero, suc, ◌+◌, Bool, true, false, List, [], ◌∷◌}
 use Rattle.pool_syntax.specs.declared.token.Tok.{Tok}
-use Rattle.pool_syntax.specs.Nesting as n
-use Rattle.pool_syntax.specs.Nesting.{open_before}
+use Rattle.pool_grammar.specs.Nesting as n
+use Rattle.pool_grammar.specs.Nesting.{open_before}
 use Rattle.pool_parser.specs.declared.nesting.TokenRole.{TokenRole}
 use Rattle.pool_parser.specs.declared.nesting.TokenRole.TheVariants.{Opening, Beginning, Closing, Operating, Parting, Plain}
 use Rattle.pool_parser.specs.declared.nesting.Level.{Level}

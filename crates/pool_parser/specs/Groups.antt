@@ -1,7 +1,7 @@
 -- The code's names of the levels that group to the left.
 use Rattle.pool_parser.specs.declared.expressions.Grouping.{Grouping}
 use Rattle.pool_parser.specs.declared.expressions.Grouping.TheVariants.{Or, And, Sum, Product}
-use Rattle.pool_syntax.specs.Rules.{Group, disjunction, conjunction, addition, multiplication}
+use Rattle.pool_grammar.specs.Rules.{Group, disjunction, conjunction, addition, multiplication}
 
 abbrev pub group_of : Grouping → Group
 group_of Or = disjunction

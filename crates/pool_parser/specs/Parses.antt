@@ -1,14 +1,14 @@
 -- What a function of the parser answers.
 use Rattle.std.specs.Prelude.{◌≡◌, ◌≢◌, ℕ, ◌+◌, ◌<◌, ◌≤◌, List, [], ◌∷◌, ◌++◌, length, Some, Result, Ok, Err, IfOk, slice_get, Bool, true, false}
-use Rattle.pool_syntax.specs.Programs.{toks}
+use Rattle.pool_syntax.specs.Tokens.{toks}
 use Rattle.pool_syntax.specs.declared.token.Token.{Token}
 use Rattle.pool_syntax.specs.declared.token.Tok.{Tok}
 use Rattle.pool_syntax.specs.declared.token.Tok.TheVariants as tok
 use Rattle.pool_syntax.specs.declared.tree.Expr.{Expr}
 use Rattle.pool_syntax.specs.Terms.{Expression}
-use Rattle.pool_syntax.specs.Rules.{Level, Phrase, Tree, Rule, expression, invoke}
-use Rattle.pool_syntax.specs.Grammar.{rule}
-use Rattle.pool_syntax.specs.Derives.{Derives}
+use Rattle.pool_grammar.specs.Rules.{Level, Phrase, Tree, Rule, expression, invoke}
+use Rattle.pool_grammar.specs.Grammar.{rule}
+use Rattle.pool_grammar.specs.Derives.{Derives}
 use Rattle.pool_syntax.specs.TreeOf.{expression_of}
 use Rattle.pool_parser.specs.declared.fault.SyntaxFault.{SyntaxFault}
 use Rattle.pool_parser.specs.declared.fault.SyntaxFault.TheVariants.{Unexpected, TooDeep, Memory}

@@ -4,12 +4,12 @@ use Rattle.pool_syntax.specs.declared.token.Tok.{Tok}
 use Rattle.pool_syntax.specs.declared.token.Tok.TheVariants.{Word, Sign, Name, Int}
 use Rattle.run_words.specs.declared.keywords.Keyword.TheVariants as kw
 use Rattle.pool_syntax.specs.declared.token.Sign.TheVariants as sg
-use Rattle.pool_syntax.specs.Rules as r
-use Rattle.pool_syntax.specs.Rules.{disjunction, conjunction, addition, multiplication, Level, group, comparison, factor, postfix, primary, Phrase, Tree, program, more_classes, class, more_vars}
-use Rattle.pool_syntax.specs.Rules.{names, more_names, more_methods, method, post, params, more_params, param, more_locals, stmts, more_stmts, stmt, invoke, alt, more_alts, list, expression}
-use Rattle.pool_syntax.specs.Rules.{more_operands, more_sends, args, more_args, Rule}
-use Rattle.pool_syntax.specs.Grammar.{rule}
-use Rattle.pool_syntax.specs.Derives.{Derives, Begins}
+use Rattle.pool_grammar.specs.Rules as r
+use Rattle.pool_grammar.specs.Rules.{disjunction, conjunction, addition, multiplication, Level, group, comparison, factor, postfix, primary, Phrase, Tree, program, more_classes, class, more_vars}
+use Rattle.pool_grammar.specs.Rules.{names, more_names, more_methods, method, post, params, more_params, param, more_locals, stmts, more_stmts, stmt, invoke, alt, more_alts, list, expression}
+use Rattle.pool_grammar.specs.Rules.{more_operands, more_sends, args, more_args, Rule}
+use Rattle.pool_grammar.specs.Grammar.{rule}
+use Rattle.pool_grammar.specs.Derives.{Derives, Begins}
 
 -- the tokens that begin a statement
 abbrev pub begins_statement : Tok → Bool

@@ -7,9 +7,9 @@ use Rattle.pool_syntax.specs.declared.tree.Named.{Named}
 use Rattle.pool_syntax.specs.declared.tree.Var.{Var}
 use Rattle.pool_syntax.specs.Terms as t
 use Rattle.pool_syntax.specs.Terms.{Expression, Statement, Statements, Done, MethodTree, ClassTree}
-use Rattle.pool_syntax.specs.Rules as r
-use Rattle.pool_syntax.specs.Rules.{postfix, expression, invoke, args, stmts, names, more_locals, post, Phrase, Tree, OneAlternative, Rule, word, sign, name, phrase, tree, ◌*>=◌, ◌*>◌, ◌or◌}
-use Rattle.pool_syntax.specs.Grammar.{expr, variables}
+use Rattle.pool_grammar.specs.Rules as r
+use Rattle.pool_grammar.specs.Rules.{postfix, expression, invoke, args, stmts, names, more_locals, post, Phrase, Tree, OneAlternative, Rule, word, sign, name, phrase, tree, ◌*>=◌, ◌*>◌, ◌or◌}
+use Rattle.pool_grammar.specs.Grammar.{expr, variables}
 
 -- of stmt: a statement that begins with a postfix
 abbrev pub sending : Rule Statement

@@ -1,9 +1,9 @@
 //! Variables, methods, classes and the program.
 ghost use Rattle.std.specs.Prelude.{◌≡◌, ◌+◌, ◌<◌, ◌≤◌, [], ◌++◌, length, map, ℕ, Some, IfOk, IfErr, slice_get, List as ListOf};
 ghost use Rattle.pool_syntax.specs.declared.tree.Var.{Var as OneVariable};
-ghost use Rattle.pool_syntax.specs.Rules.{more_vars, more_locals, params as params_phrase, more_params, param as param_phrase, method as method_phrase, more_methods, post as post_phrase};
-ghost use Rattle.pool_syntax.specs.Rules.{class as class_phrase, more_classes};
-ghost use Rattle.pool_syntax.specs.Grammar.{variables};
+ghost use Rattle.pool_grammar.specs.Rules.{more_vars, more_locals, params as params_phrase, more_params, param as param_phrase, method as method_phrase, more_methods, post as post_phrase};
+ghost use Rattle.pool_grammar.specs.Rules.{class as class_phrase, more_classes};
+ghost use Rattle.pool_grammar.specs.Grammar.{variables};
 ghost use Rattle.pool_syntax.specs.TreeOf.{method_tree, class_tree, statements_of};
 ghost use Rattle.pool_parser.specs.declared.fault.SyntaxFault.TheVariants.{Memory};
 ghost use Rattle.pool_parser.specs.Tails.{proper_part, result_part, body_part};
@@ -15,6 +15,7 @@ use crate::fault::SyntaxFault;
 use crate::naming::{kind, names};
 use crate::source::{Source, expect, expect_name, is_at};
 use crate::statements::statements;
+use crate::steps::{pushed, read};
 use pool_syntax::{ClassDecl, Expr, Method, Named, Program, Sign, Stmt, Tok, Token, Var};
 use run_words::{Keyword, Kind, List};
 use std::alloc::Global;
@@ -36,7 +37,7 @@ fn declare(
             pos: name.pos,
             kind_pos,
         };
-        vars.push(var)?;
+        vars = read!(pushed(vars, var));
     }
     Ok(vars)
 }
@@ -52,10 +53,10 @@ fn declared(
     ensures parses { ParsesDeclared source.entry.tokens.now vars at result }
     ensures next { Advances source.entry.tokens.now at result }
 {
-    let (names, next) = names(alloc, source, at)?;
-    expect(source, next, Tok::Sign(Sign::Colon))?;
-    let ((kind, kind_pos), after) = kind(source, next + 1)?;
-    Ok((declare(vars, names.items(), kind, kind_pos)?, after))
+    let (names, next) = read!(names(alloc, source, at));
+    read!(expect(source, next, Tok::Sign(Sign::Colon)));
+    let ((kind, kind_pos), after) = read!(kind(source, next + 1));
+    Ok((read!(declare(vars, names.items(), kind, kind_pos)), after))
 }
 
 /// The variables of a class.
@@ -67,7 +68,7 @@ fn fields(alloc: Global, source: Source, at: usize) -> Result<(List<Var>, usize)
     let mut vars = List::make(alloc);
     let mut next = at;
     'fields: while is_at(source, next, Tok::Word(Keyword::Var)) {
-        let (all, after) = declared(alloc, source, next + 1, vars)?;
+        let (all, after) = read!(declared(alloc, source, next + 1, vars));
         vars = all;
         next = after;
     }
@@ -83,7 +84,7 @@ fn locals(alloc: Global, source: Source, at: usize) -> Result<(List<Var>, usize)
     let mut vars = List::make(alloc);
     let mut next = at;
     'locals: while is_at(source, next, Tok::Word(Keyword::Local)) {
-        let (all, after) = declared(alloc, source, next + 1, vars)?;
+        let (all, after) = read!(declared(alloc, source, next + 1, vars));
         vars = all;
         next = after;
     }
@@ -96,9 +97,9 @@ fn param(source: Source, at: usize) -> Result<(Var, usize), SyntaxFault>
     ensures parses { Parses source.entry.tokens.now param_phrase at (λ v. v) result }
     ensures next { Advances source.entry.tokens.now at result }
 {
-    let name = expect_name(source, at)?;
-    expect(source, at + 1, Tok::Sign(Sign::Colon))?;
-    let ((kind, kind_pos), next) = kind(source, at + 2)?;
+    let name = read!(expect_name(source, at));
+    read!(expect(source, at + 1, Tok::Sign(Sign::Colon)));
+    let ((kind, kind_pos), next) = read!(kind(source, at + 2));
     let var = Var {
         name: name.name,
         kind,
@@ -114,15 +115,15 @@ fn params(alloc: Global, source: Source, at: usize) -> Result<(List<Var>, usize)
     ensures parses { Parses source.entry.tokens.now params_phrase at (λ vs. vs) result }
     ensures next { Advances source.entry.tokens.now at result }
 {
-    expect(source, at, Tok::Sign(Sign::LeftParen))?;
-    let mut params = List::make(alloc);
+    read!(expect(source, at, Tok::Sign(Sign::LeftParen)));
     if is_at(source, at + 1, Tok::Sign(Sign::RightParen)) {
-        return Ok((params, at + 2));
+        return Ok((List::make(alloc), at + 2));
     }
-    let (first, next) = param(source, at + 1)?;
-    params.push(first)?;
-    let (params, next) = further_params(source, next, params)?;
-    expect(source, next, Tok::Sign(Sign::RightParen))?;
+    let (first, next) = read!(param(source, at + 1));
+    let params = List::make(alloc);
+    let params = read!(pushed(params, first));
+    let (params, next) = read!(further_params(source, next, params));
+    read!(expect(source, next, Tok::Sign(Sign::RightParen)));
     Ok((params, next + 1))
 }
 
@@ -137,8 +138,8 @@ fn further_params(
 {
     let mut next = at;
     'params: while is_at(source, next, Tok::Sign(Sign::Comma)) {
-        let (param, after) = param(source, next + 1)?;
-        params.push(param)?;
+        let (param, after) = read!(param(source, next + 1));
+        params = read!(pushed(params, param));
         next = after;
     }
     Ok((params, next))
@@ -150,9 +151,9 @@ fn method(alloc: Global, source: Source, at: usize) -> Result<(Method, usize), S
     ensures parses { Parses source.entry.tokens.now method_phrase at method_tree result }
     ensures next { Advances source.entry.tokens.now at result }
 {
-    expect(source, at, Tok::Word(Keyword::Method))?;
-    let name = expect_name(source, at + 1)?;
-    let (params, next) = params(alloc, source, at + 2)?;
+    read!(expect(source, at, Tok::Word(Keyword::Method)));
+    let name = read!(expect_name(source, at + 1));
+    let (params, next) = read!(params(alloc, source, at + 2));
     if is_at(source, next, Tok::Sign(Sign::Colon)) {
         with_result(alloc, source, next, name, params)
     } else {
@@ -184,11 +185,11 @@ fn without_result(
     ensures parses { ParsesRule source.entry.tokens.now method_phrase (proper_part name params) at method_tree result }
     ensures next { Advances source.entry.tokens.now at result }
 {
-    let (locals, begin) = locals(alloc, source, at)?;
-    expect(source, begin, Tok::Word(Keyword::Begin))?;
-    let (body, next) = statements(alloc, source, begin + 1)?;
-    let (post, end) = post(alloc, source, next)?;
-    expect(source, end, Tok::Word(Keyword::End))?;
+    let (locals, begin) = read!(locals(alloc, source, at));
+    read!(expect(source, begin, Tok::Word(Keyword::Begin)));
+    let (body, next) = read!(statements(alloc, source, begin + 1));
+    let (post, end) = read!(post(alloc, source, next));
+    read!(expect(source, end, Tok::Word(Keyword::End)));
     let method = Method {
         name,
         params,
@@ -215,14 +216,14 @@ fn with_result(
     ensures parses { ParsesRule source.entry.tokens.now method_phrase (result_part name params) at method_tree result }
     ensures next { Advances source.entry.tokens.now at result }
 {
-    let ((kind, kind_pos), next) = kind(source, at + 1)?;
-    let (locals, begin) = locals(alloc, source, next)?;
-    expect(source, begin, Tok::Word(Keyword::Begin))?;
-    let (body, result) = statements(alloc, source, begin + 1)?;
-    expect(source, result, Tok::Word(Keyword::Result))?;
-    let (value, next) = grouped(alloc, source, result + 1, Grouping::Or)?;
-    let (post, end) = post(alloc, source, next)?;
-    expect(source, end, Tok::Word(Keyword::End))?;
+    let ((kind, kind_pos), next) = read!(kind(source, at + 1));
+    let (locals, begin) = read!(locals(alloc, source, next));
+    read!(expect(source, begin, Tok::Word(Keyword::Begin)));
+    let (body, result) = read!(statements(alloc, source, begin + 1));
+    read!(expect(source, result, Tok::Word(Keyword::Result)));
+    let (value, next) = read!(grouped(alloc, source, result + 1, Grouping::Or));
+    let (post, end) = read!(post(alloc, source, next), value);
+    read!(expect(source, end, Tok::Word(Keyword::End)), value);
     let method = Method {
         name,
         params,
@@ -245,8 +246,8 @@ fn methods(alloc: Global, source: Source, at: usize) -> Result<(List<Method>, us
     let mut methods = List::make(alloc);
     let mut next = at;
     'methods: while is_at(source, next, Tok::Word(Keyword::Method)) {
-        let (method, after) = method(alloc, source, next)?;
-        methods.push(method)?;
+        let (method, after) = read!(method(alloc, source, next));
+        methods = read!(pushed(methods, method));
         next = after;
     }
     Ok((methods, next))
@@ -257,10 +258,10 @@ fn class(alloc: Global, source: Source, at: usize) -> Result<(ClassDecl, usize),
     ensures parses { Parses source.entry.tokens.now class_phrase at class_tree result }
     ensures next { Advances source.entry.tokens.now at result }
 {
-    expect(source, at, Tok::Word(Keyword::Class))?;
-    let name = expect_name(source, at + 1)?;
-    let (vars, next) = fields(alloc, source, at + 2)?;
-    let (methods, body) = methods(alloc, source, next)?;
+    read!(expect(source, at, Tok::Word(Keyword::Class)));
+    let name = read!(expect_name(source, at + 1));
+    let (vars, next) = read!(fields(alloc, source, at + 2));
+    let (methods, body) = read!(methods(alloc, source, next));
     class_body(alloc, source, body, name, vars, methods)
 }
 
@@ -277,9 +278,9 @@ fn class_body(
     ensures parses { ParsesRule source.entry.tokens.now class_phrase (body_part name vars (map method_tree methods)) at class_tree result }
     ensures next { Advances source.entry.tokens.now at result }
 {
-    expect(source, at, Tok::Word(Keyword::Body))?;
-    let (body, end) = statements(alloc, source, at + 1)?;
-    expect(source, end, Tok::Word(Keyword::End))?;
+    read!(expect(source, at, Tok::Word(Keyword::Body)));
+    let (body, end) = read!(statements(alloc, source, at + 1));
+    read!(expect(source, end, Tok::Word(Keyword::End)));
     let class = ClassDecl {
         name,
         vars,
@@ -301,8 +302,8 @@ fn further_classes(
 {
     let mut next = at;
     'classes: while is_at(source, next, Tok::Word(Keyword::Class)) {
-        let (class, after) = class(alloc, source, next)?;
-        classes.push(class)?;
+        let (class, after) = read!(class(alloc, source, next));
+        classes = read!(pushed(classes, class));
         next = after;
     }
     Ok((classes, next))
@@ -313,10 +314,10 @@ pub fn program(alloc: Global, source: Source) -> Result<Program, SyntaxFault>
     requires once { (i : ℕ) → slice_get (seen source.tokens.now) i ≡ Some Tok.End → i ≡ length source.tokens.now }
     ensures { ParsesProgram source.entry.tokens.now result }
 {
-    let (first, next) = class(alloc, source, 0)?;
-    let mut classes = List::make(alloc);
-    classes.push(first)?;
-    let (classes, end) = further_classes(alloc, source, next, classes)?;
-    expect(source, end, Tok::End)?;
+    let (first, next) = read!(class(alloc, source, 0));
+    let classes = List::make(alloc);
+    let classes = read!(pushed(classes, first));
+    let (classes, end) = read!(further_classes(alloc, source, next, classes));
+    read!(expect(source, end, Tok::End));
     Ok(Program { classes })
 }

@@ -1,8 +1,8 @@
 //! Expressions: one function for each form of phrase.
 ghost use Rattle.std.specs.Prelude.{◌≡◌, ◌≢◌, ◌+◌, ◌<◌, ◌≤◌, length, Some, None, IfOk, IfErr, IfSome, option_map, slice_get};
-ghost use Rattle.pool_syntax.specs.Rules.{group, comparison as comparison_level, factor as factor_level, postfix as postfix_level, primary as primary_level, args as args_phrase, more_args};
-ghost use Rattle.pool_syntax.specs.Rules.{expression as expression_phrase};
-ghost use Rattle.pool_syntax.specs.Grammar.{operator_of, operand as operand_level};
+ghost use Rattle.pool_grammar.specs.Rules.{group, comparison as comparison_level, factor as factor_level, postfix as postfix_level, primary as primary_level, args as args_phrase, more_args};
+ghost use Rattle.pool_grammar.specs.Rules.{expression as expression_phrase};
+ghost use Rattle.pool_grammar.specs.Grammar.{operator_of, operand as operand_level};
 ghost use Rattle.pool_syntax.specs.Terms.{Infix, Prefix, Send};
 ghost use Rattle.pool_syntax.specs.TreeOf.{expression_of, expressions_of};
 ghost use Rattle.run_words.specs.declared.words.NameId.{NameId as AnyName};
@@ -15,6 +15,7 @@ ghost use Rattle.pool_parser.specs.Literals.{literal_of};
 
 use crate::fault::SyntaxFault;
 use crate::source::{Source, expect, expect_name, is_at, peek};
+use crate::steps::{pushed, read};
 use pool_syntax::{Expr, Named, Sign, Tok};
 use run_words::{Keyword, List, NameId, Op};
 use std::alloc::Global;
@@ -33,6 +34,20 @@ pub enum Grouping {
 pub struct PostfixTree {
     pub tree: Expr,
     pub invokes: bool,
+}
+
+/// The tree in a box. Where memory runs out, both the tree and the value behind it are dropped.
+macro_rules! boxed {
+    ($alloc:expr, $tree:ident $(, $owned:ident)?) => {
+        match Box::new($alloc, $tree) {
+            Ok(boxed) => boxed,
+            Err(failed) => {
+                drop(failed);
+                $(drop($owned);)?
+                return Err(SyntaxFault::Memory);
+            }
+        }
+    };
 }
 
 /// The operator of this level that the token is.
@@ -96,7 +111,7 @@ fn unary(alloc: Global, op: Op, arg: Expr, pos: u32) -> Result<Expr, SyntaxFault
     ensures ok { IfOk result (λ e. expression_of e ≡ Prefix op (expression_of arg) pos) }
     ensures err { IfErr result (λ e. e ≡ Memory) }
 {
-    let arg = Box::new(alloc, arg)?;
+    let arg = boxed!(alloc, arg);
     Ok(Expr::Unary { op, arg, pos })
 }
 
@@ -104,8 +119,8 @@ fn binary(alloc: Global, op: Op, left: Expr, right: Expr, pos: u32) -> Result<Ex
     ensures ok { IfOk result (λ e. expression_of e ≡ Infix op (expression_of left) (expression_of right) pos) }
     ensures err { IfErr result (λ e. e ≡ Memory) }
 {
-    let left = Box::new(alloc, left)?;
-    let right = Box::new(alloc, right)?;
+    let left = boxed!(alloc, left, right);
+    let right = boxed!(alloc, right);
     Ok(Expr::Binary {
         op,
         left,
@@ -118,7 +133,7 @@ fn send(alloc: Global, to: Expr, method: Named, args: List<Expr>) -> Result<Expr
     ensures ok { IfOk result (λ e. expression_of e ≡ Send (expression_of to) method.name.0 (expressions_of args) method.pos) }
     ensures err { IfErr result (λ e. e ≡ Memory) }
 {
-    let to = Box::new(alloc, to)?;
+    let to = boxed!(alloc, to);
     Ok(Expr::Send {
         to,
         method: method.name,
@@ -159,10 +174,10 @@ pub fn grouped(
     ensures parses { ParsesExpression source.entry.tokens.now (group (group_of grouping)) at result }
     ensures next { Advances source.entry.tokens.now at result }
 {
-    let (mut left, mut next) = operand(alloc, source, at, grouping)?;
+    let (mut left, mut next) = read!(operand(alloc, source, at, grouping));
     'operands: while let Some(op) = operator(grouping, peek(source, next)) {
-        let (right, after) = operand(alloc, source, next + 1, grouping)?;
-        left = binary(alloc, op, left, right, next as u32)?;
+        let (right, after) = read!(operand(alloc, source, next + 1, grouping), left);
+        left = read!(binary(alloc, op, left, right, next as u32));
         next = after;
     }
     Ok((left, next))
@@ -175,12 +190,12 @@ fn comparison(alloc: Global, source: Source, at: usize) -> Result<(Expr, usize),
     ensures parses { ParsesExpression source.entry.tokens.now comparison_level at result }
     ensures next { Advances source.entry.tokens.now at result }
 {
-    let (left, next) = grouped(alloc, source, at, Grouping::Sum)?;
+    let (left, next) = read!(grouped(alloc, source, at, Grouping::Sum));
     match comparison_operator(peek(source, next)) {
         None => Ok((left, next)),
         Some(op) => {
-            let (right, after) = grouped(alloc, source, next + 1, Grouping::Sum)?;
-            Ok((binary(alloc, op, left, right, next as u32)?, after))
+            let (right, after) = read!(grouped(alloc, source, next + 1, Grouping::Sum), left);
+            Ok((read!(binary(alloc, op, left, right, next as u32)), after))
         }
     }
 }
@@ -193,12 +208,12 @@ fn factor(alloc: Global, source: Source, at: usize) -> Result<(Expr, usize), Syn
 {
     match prefix_operator(peek(source, at)) {
         None => {
-            let (postfix, next) = postfix(alloc, source, at)?;
+            let (postfix, next) = read!(postfix(alloc, source, at));
             Ok((postfix.tree, next))
         }
         Some(op) => {
-            let (arg, next) = factor(alloc, source, at + 1)?;
-            Ok((unary(alloc, op, arg, at as u32)?, next))
+            let (arg, next) = read!(factor(alloc, source, at + 1));
+            Ok((read!(unary(alloc, op, arg, at as u32)), next))
         }
     }
 }
@@ -215,12 +230,12 @@ pub fn postfix(
     ensures invokes { TellsInvocation source.entry.tokens.now at result }
     ensures next { Advances source.entry.tokens.now at result }
 {
-    let (mut to, mut next) = primary(alloc, source, at)?;
+    let (mut to, mut next) = read!(primary(alloc, source, at));
     'sends: while is_at(source, next, Tok::Sign(Sign::Bang)) {
-        let method = expect_name(source, next + 1)?;
-        let (args, after) = arguments(alloc, source, next + 2)?;
+        let method = read!(expect_name(source, next + 1), to);
+        let (args, after) = read!(arguments(alloc, source, next + 2), to);
         to = PostfixTree {
-            tree: send(alloc, to.tree, method, args)?,
+            tree: read!(send(alloc, to.tree, method, args)),
             invokes: true,
         };
         next = after;
@@ -267,9 +282,9 @@ fn parenthesized(
     ensures invokes { TellsInvocation source.entry.tokens.now at result }
     ensures next { Advances source.entry.tokens.now at result }
 {
-    expect(source, at, Tok::Sign(Sign::LeftParen))?;
-    let (tree, next) = grouped(alloc, source, at + 1, Grouping::Or)?;
-    expect(source, next, Tok::Sign(Sign::RightParen))?;
+    read!(expect(source, at, Tok::Sign(Sign::LeftParen)));
+    let (tree, next) = read!(grouped(alloc, source, at + 1, Grouping::Or));
+    read!(expect(source, next, Tok::Sign(Sign::RightParen)), tree);
     Ok((
         PostfixTree {
             tree,
@@ -294,7 +309,7 @@ fn named(
     ensures next { Advances source.entry.tokens.now at result }
 {
     if is_at(source, at + 1, Tok::Sign(Sign::LeftParen)) {
-        let (args, next) = arguments(alloc, source, at + 1)?;
+        let (args, next) = read!(arguments(alloc, source, at + 1));
         let tree = Expr::Call {
             method: name,
             args,
@@ -331,8 +346,8 @@ fn created(source: Source, at: usize, word: Keyword) -> Result<(PostfixTree, usi
     ensures invokes { TellsInvocation source.entry.tokens.now at result }
     ensures next { Advances source.entry.tokens.now at result }
 {
-    expect(source, at, Tok::Word(Keyword::New))?;
-    let class = expect_name(source, at + 1)?;
+    read!(expect(source, at, Tok::Word(Keyword::New)));
+    let class = read!(expect_name(source, at + 1));
     let tree = Expr::New {
         class: class.name,
         pos: class.pos,
@@ -356,15 +371,15 @@ pub fn arguments(
     ensures parses { Parses source.entry.tokens.now args_phrase at expressions_of result }
     ensures next { Advances source.entry.tokens.now at result }
 {
-    expect(source, at, Tok::Sign(Sign::LeftParen))?;
-    let mut args = List::make(alloc);
+    read!(expect(source, at, Tok::Sign(Sign::LeftParen)));
     if is_at(source, at + 1, Tok::Sign(Sign::RightParen)) {
-        return Ok((args, at + 2));
+        return Ok((List::make(alloc), at + 2));
     }
-    let (first, next) = grouped(alloc, source, at + 1, Grouping::Or)?;
-    args.push(first)?;
-    let (args, next) = more_arguments(alloc, source, next, args)?;
-    expect(source, next, Tok::Sign(Sign::RightParen))?;
+    let (first, next) = read!(grouped(alloc, source, at + 1, Grouping::Or));
+    let args = List::make(alloc);
+    let args = read!(pushed(args, first));
+    let (args, next) = read!(more_arguments(alloc, source, next, args));
+    read!(expect(source, next, Tok::Sign(Sign::RightParen)));
     Ok((args, next + 1))
 }
 
@@ -381,8 +396,8 @@ fn more_arguments(
 {
     let mut next = at;
     'arguments: while is_at(source, next, Tok::Sign(Sign::Comma)) {
-        let (arg, after) = grouped(alloc, source, next + 1, Grouping::Or)?;
-        args.push(arg)?;
+        let (arg, after) = read!(grouped(alloc, source, next + 1, Grouping::Or));
+        args = read!(pushed(args, arg));
         next = after;
     }
     Ok((args, next))

@@ -1,12 +1,12 @@
 //! Laws of the grammar. Each is the contract of a function that does nothing.
 ghost use Rattle.std.specs.Prelude.{◌≡◌, ℕ, ◌≤◌, List as ListOf};
 ghost use Rattle.pool_syntax.specs.declared.token.Tok.{Tok as OneToken};
-ghost use Rattle.pool_syntax.specs.Rules.{Phrase, Tree};
-ghost use Rattle.pool_syntax.specs.Grammar.{rule};
-ghost use Rattle.pool_syntax.specs.Derives.{Derives, Begins, IsProgram};
+ghost use Rattle.pool_grammar.specs.Rules.{Phrase, Tree};
+ghost use Rattle.pool_grammar.specs.Grammar.{rule};
+ghost use Rattle.pool_grammar.specs.Derives.{Derives, Begins, IsProgram};
 ghost use Rattle.pool_syntax.specs.Terms.{ProgramTree};
 ghost use Rattle.run_words.specs.Text.{Text};
-ghost use Rattle.pool_syntax.specs.Programs.{IsParsed};
+ghost use Rattle.pool_grammar.specs.Programs.{IsParsed};
 
 /// Tokens that a phrase derives begin it.
 pub fn derived_begins()

@@ -10,6 +10,7 @@ mod nesting;
 mod parser;
 mod source;
 mod statements;
+mod steps;
 
 pub use fault::SyntaxFault;
 pub use parser::parse;

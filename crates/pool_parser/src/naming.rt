@@ -1,12 +1,13 @@
 //! Lists of names, and kinds.
 ghost use Rattle.std.specs.Prelude.{◌≡◌, ◌+◌, ◌<◌, ◌≤◌, length, List as ListOf};
 ghost use Rattle.pool_syntax.specs.declared.tree.Named.{Named as OneName};
-ghost use Rattle.pool_syntax.specs.Rules.{names as names_phrase, list as list_phrase, kind as kind_phrase};
+ghost use Rattle.pool_grammar.specs.Rules.{names as names_phrase, list as list_phrase, kind as kind_phrase};
 ghost use Rattle.pool_parser.specs.Literals.{kind_of};
 ghost use Rattle.pool_parser.specs.Parses.{Parses, Advances};
 
 use crate::fault::SyntaxFault;
 use crate::source::{Source, expect, expect_name, is_at, peek};
+use crate::steps::{pushed, read};
 use pool_syntax::{Named, Sign, Tok};
 use run_words::{Keyword, Kind, List};
 use std::alloc::Global;
@@ -41,13 +42,13 @@ pub fn names(alloc: Global, source: Source, at: usize) -> Result<(List<Named>, u
     ensures parses { Parses source.entry.tokens.now names_phrase at (λ ns. ns) result }
     ensures next { Advances source.entry.tokens.now at result }
 {
-    let first = expect_name(source, at)?;
-    let mut list = List::make(alloc);
-    list.push(first)?;
+    let first = read!(expect_name(source, at));
+    let list = List::make(alloc);
+    let mut list = read!(pushed(list, first));
     let mut next = at + 1;
     'names: while is_at(source, next, Tok::Sign(Sign::Comma)) {
-        let name = expect_name(source, next + 1)?;
-        list.push(name)?;
+        let name = read!(expect_name(source, next + 1));
+        list = read!(pushed(list, name));
         next += 2;
     }
     Ok((list, next))
@@ -63,8 +64,8 @@ pub fn answer_list(
     ensures parses { Parses source.entry.tokens.now list_phrase at (λ ns. ns) result }
     ensures next { Advances source.entry.tokens.now at result }
 {
-    expect(source, at, Tok::Sign(Sign::LeftParen))?;
-    let (list, next) = names(alloc, source, at + 1)?;
-    expect(source, next, Tok::Sign(Sign::RightParen))?;
+    read!(expect(source, at, Tok::Sign(Sign::LeftParen)));
+    let (list, next) = read!(names(alloc, source, at + 1));
+    read!(expect(source, next, Tok::Sign(Sign::RightParen)));
     Ok((list, next + 1))
 }

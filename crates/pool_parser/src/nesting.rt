@@ -1,8 +1,9 @@
 //! The first token that stands too deep, by one pass over the tokens.
 ghost use Rattle.std.specs.Prelude.{◌≡◌, ◌^◌, ◌<◌, ◌≤◌, ◌∷◌, length, reverse, slice_get, Ok, Some, None, IfOk, IfErr, IfSome, List as ListOf};
 ghost use Rattle.pool_syntax.specs.declared.token.Tok.{Tok as OneToken};
-ghost use Rattle.pool_syntax.specs.Programs.{IsShallowBelow, toks};
-ghost use Rattle.pool_syntax.specs.Nesting.{role as nesting_role, IsFirstTooDeep};
+ghost use Rattle.pool_syntax.specs.Tokens.{toks};
+ghost use Rattle.pool_grammar.specs.Programs.{IsShallowBelow};
+ghost use Rattle.pool_grammar.specs.Nesting.{role as nesting_role, IsFirstTooDeep};
 ghost use Rattle.pool_parser.specs.declared.fault.SyntaxFault.TheVariants.{Memory};
 ghost use Rattle.pool_parser.specs.Depths.{role_of, depth_at, Counts};
 

@@ -2,12 +2,13 @@
 ghost use Rattle.std.specs.Prelude.{◌≡◌, ℕ, ◌+◌, ◌^◌, ◌<◌, ◌≤◌, ◌⊎◌, length, take, Ok, Err, IfOk, IsTrue, MatchResult};
 ghost use Rattle.pool_lexer.specs.Ended.{EndsInEnd};
 ghost use Rattle.pool_syntax.specs.Terms.{ProgramTree};
-ghost use Rattle.pool_syntax.specs.Rules.{program as program_phrase};
-ghost use Rattle.pool_syntax.specs.Grammar.{rule};
-ghost use Rattle.pool_syntax.specs.Derives.{Begins, IsFirstUnexpected};
-ghost use Rattle.pool_syntax.specs.Nesting.{IsFirstTooDeep};
+ghost use Rattle.pool_grammar.specs.Rules.{program as program_phrase};
+ghost use Rattle.pool_grammar.specs.Grammar.{rule};
+ghost use Rattle.pool_grammar.specs.Derives.{Begins, IsFirstUnexpected};
+ghost use Rattle.pool_grammar.specs.Nesting.{IsFirstTooDeep};
 ghost use Rattle.pool_syntax.specs.TreeOf.{program_of};
-ghost use Rattle.pool_syntax.specs.Programs.{HasProgram, IsShallowBelow, toks};
+ghost use Rattle.pool_syntax.specs.Tokens.{toks};
+ghost use Rattle.pool_grammar.specs.Programs.{HasProgram, IsShallowBelow};
 ghost use Rattle.pool_syntax.specs.Spelled.{AreSpelled, is_spelled};
 ghost use Rattle.pool_parser.specs.declared.fault.SyntaxFault.TheVariants.{Memory};
 ghost use Rattle.pool_parser.specs.Declarations.{ParsesProgram};

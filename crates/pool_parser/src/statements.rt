@@ -1,7 +1,7 @@
 //! Statements: one function for each form of phrase.
 ghost use Rattle.std.specs.Prelude.{◌≡◌, ◌≢◌, ◌+◌, ◌<◌, ◌≤◌, length, Some, slice_get, List as ListOf, Option as OptionOf};
 ghost use Rattle.pool_syntax.specs.declared.tree.Named.{Named as OneName};
-ghost use Rattle.pool_syntax.specs.Rules.{stmts as stmts_phrase, more_stmts, stmt as stmt_phrase, alt as alt_phrase, more_alts};
+ghost use Rattle.pool_grammar.specs.Rules.{stmts as stmts_phrase, more_stmts, stmt as stmt_phrase, alt as alt_phrase, more_alts};
 ghost use Rattle.pool_syntax.specs.TreeOf.{alternatives_of, expression_of, statement_of, statements_of};
 ghost use Rattle.pool_parser.specs.Alternatives.{alternative_of};
 ghost use Rattle.pool_parser.specs.Reads.{begins_statement as token_begins_statement};
@@ -12,6 +12,7 @@ use crate::expressions::{Grouping, arguments, grouped, postfix};
 use crate::fault::SyntaxFault;
 use crate::naming::answer_list;
 use crate::source::{Source, expect, expect_name, is_at, peek};
+use crate::steps::{pushed, read};
 use pool_syntax::{Alt, Expr, Named, Sign, Stmt, Tok};
 use run_words::{Keyword, List};
 use std::alloc::Global;
@@ -42,10 +43,10 @@ fn sending(alloc: Global, source: Source, at: usize) -> Result<(Stmt, usize), Sy
     ensures parses { ParsesRule source.entry.tokens.now stmt_phrase sending_rule at statement_of result }
     ensures next { Advances source.entry.tokens.now at result }
 {
-    let (to, next) = postfix(alloc, source, at)?;
+    let (to, next) = read!(postfix(alloc, source, at));
     if is_at(source, next, Tok::Sign(Sign::BangBang)) {
-        let method = expect_name(source, next + 1)?;
-        let (args, after) = arguments(alloc, source, next + 2)?;
+        let method = read!(expect_name(source, next + 1), to);
+        let (args, after) = read!(arguments(alloc, source, next + 2), to);
         Ok((
             Stmt::Async {
                 to: to.tree,
@@ -57,6 +58,7 @@ fn sending(alloc: Global, source: Source, at: usize) -> Result<(Stmt, usize), Sy
     } else if to.invokes {
         Ok((Stmt::Do { value: to.tree }, next))
     } else {
+        drop(to);
         Err(SyntaxFault::Unexpected { token: next as u32 })
     }
 }
@@ -75,7 +77,7 @@ fn named_statement(
     ensures next { Advances source.entry.tokens.now at result }
 {
     if is_at(source, at + 1, Tok::Sign(Sign::Becomes)) {
-        let (value, next) = grouped(alloc, source, at + 2, Grouping::Or)?;
+        let (value, next) = read!(grouped(alloc, source, at + 2, Grouping::Or));
         Ok((Stmt::Assign { target, value }, next))
     } else {
         sending(alloc, source, at)
@@ -92,7 +94,7 @@ fn writing(alloc: Global, source: Source, at: usize) -> Result<(Stmt, usize), Sy
     match peek(source, at + 1) {
         Tok::Str(text) => Ok((Stmt::WriteText { text }, at + 2)),
         _ => {
-            let (value, next) = grouped(alloc, source, at + 1, Grouping::Or)?;
+            let (value, next) = read!(grouped(alloc, source, at + 1, Grouping::Or));
             Ok((Stmt::Write { value }, next))
         }
     }
@@ -105,7 +107,7 @@ fn answering(alloc: Global, source: Source, at: usize) -> Result<(Stmt, usize), 
     ensures parses { Parses source.entry.tokens.now stmt_phrase at statement_of result }
     ensures next { Advances source.entry.tokens.now at result }
 {
-    let (names, next) = answer_list(alloc, source, at + 1)?;
+    let (names, next) = read!(answer_list(alloc, source, at + 1));
     Ok((Stmt::Answer { names }, next))
 }
 
@@ -158,9 +160,9 @@ fn conditional(alloc: Global, source: Source, at: usize) -> Result<(Stmt, usize)
     ensures parses { Parses source.entry.tokens.now stmt_phrase at statement_of result }
     ensures next { Advances source.entry.tokens.now at result }
 {
-    let (cond, next) = grouped(alloc, source, at + 1, Grouping::Or)?;
-    expect(source, next, Tok::Word(Keyword::Then))?;
-    let (yes, after) = statements(alloc, source, next + 1)?;
+    let (cond, next) = read!(grouped(alloc, source, at + 1, Grouping::Or));
+    read!(expect(source, next, Tok::Word(Keyword::Then)), cond);
+    let (yes, after) = read!(statements(alloc, source, next + 1), cond);
     else_part(alloc, source, after, cond, yes)
 }
 
@@ -178,11 +180,11 @@ fn else_part(
     ensures next { Advances source.entry.tokens.now at result }
 {
     if is_at(source, at, Tok::Word(Keyword::Else)) {
-        let (no, next) = statements(alloc, source, at + 1)?;
-        expect(source, next, Tok::Word(Keyword::Fi))?;
+        let (no, next) = read!(statements(alloc, source, at + 1), cond);
+        read!(expect(source, next, Tok::Word(Keyword::Fi)), cond);
         Ok((Stmt::If { cond, yes, no }, next + 1))
     } else {
-        expect(source, at, Tok::Word(Keyword::Fi))?;
+        read!(expect(source, at, Tok::Word(Keyword::Fi)), cond);
         let no = List::make(alloc);
         Ok((Stmt::If { cond, yes, no }, at + 1))
     }
@@ -195,10 +197,10 @@ fn repetition(alloc: Global, source: Source, at: usize) -> Result<(Stmt, usize),
     ensures parses { Parses source.entry.tokens.now stmt_phrase at statement_of result }
     ensures next { Advances source.entry.tokens.now at result }
 {
-    let (cond, next) = grouped(alloc, source, at + 1, Grouping::Or)?;
-    expect(source, next, Tok::Word(Keyword::Do))?;
-    let (body, after) = statements(alloc, source, next + 1)?;
-    expect(source, after, Tok::Word(Keyword::Od))?;
+    let (cond, next) = read!(grouped(alloc, source, at + 1, Grouping::Or));
+    read!(expect(source, next, Tok::Word(Keyword::Do)), cond);
+    let (body, after) = read!(statements(alloc, source, next + 1), cond);
+    read!(expect(source, after, Tok::Word(Keyword::Od)), cond);
     Ok((Stmt::While { cond, body }, after + 1))
 }
 
@@ -209,11 +211,11 @@ fn selection(alloc: Global, source: Source, at: usize) -> Result<(Stmt, usize), 
     ensures parses { Parses source.entry.tokens.now stmt_phrase at statement_of result }
     ensures next { Advances source.entry.tokens.now at result }
 {
-    let (first, next) = alternative(alloc, source, at + 1)?;
-    let mut alts = List::make(alloc);
-    alts.push(first)?;
-    let (alts, after) = more_alternatives(alloc, source, next, alts)?;
-    expect(source, after, Tok::Word(Keyword::End))?;
+    let (first, next) = read!(alternative(alloc, source, at + 1));
+    let alts = List::make(alloc);
+    let alts = read!(pushed(alts, first));
+    let (alts, after) = read!(more_alternatives(alloc, source, next, alts));
+    read!(expect(source, after, Tok::Word(Keyword::End)));
     Ok((Stmt::Select { alts }, after + 1))
 }
 
@@ -230,8 +232,8 @@ fn more_alternatives(
 {
     let mut next = at;
     'alternatives: while is_at(source, next, Tok::Word(Keyword::When)) {
-        let (alt, after) = alternative(alloc, source, next)?;
-        alts.push(alt)?;
+        let (alt, after) = read!(alternative(alloc, source, next));
+        alts = read!(pushed(alts, alt));
         next = after;
     }
     Ok((alts, next))
@@ -243,10 +245,10 @@ fn alternative(alloc: Global, source: Source, at: usize) -> Result<(Alt, usize),
     ensures parses { Parses source.entry.tokens.now alt_phrase at alternative_of result }
     ensures next { Advances source.entry.tokens.now at result }
 {
-    expect(source, at, Tok::Word(Keyword::When))?;
-    let (guard, next) = grouped(alloc, source, at + 1, Grouping::Or)?;
+    read!(expect(source, at, Tok::Word(Keyword::When)));
+    let (guard, next) = read!(grouped(alloc, source, at + 1, Grouping::Or));
     if is_at(source, next, Tok::Word(Keyword::Answer)) {
-        let (names, after) = answer_list(alloc, source, next + 1)?;
+        let (names, after) = read!(answer_list(alloc, source, next + 1), guard);
         work(alloc, source, after, guard, Some(names))
     } else {
         work(alloc, source, next, guard, None)
@@ -266,8 +268,8 @@ fn work(
     ensures parses { ParsesRule source.entry.tokens.now alt_phrase (then_rule (expression_of guard) answer) at alternative_of result }
     ensures next { Advances source.entry.tokens.now at result }
 {
-    expect(source, at, Tok::Word(Keyword::Then))?;
-    let (work, next) = statements(alloc, source, at + 1)?;
+    read!(expect(source, at, Tok::Word(Keyword::Then)), guard, answer);
+    let (work, next) = read!(statements(alloc, source, at + 1), guard, answer);
     Ok((
         Alt {
             guard,
@@ -289,16 +291,16 @@ pub fn statements(
     ensures parses { Parses source.entry.tokens.now stmts_phrase at statements_of result }
     ensures next { Stays source.entry.tokens.now at result }
 {
-    let mut list = List::make(alloc);
     if !begins_statement(peek(source, at)) {
-        return Ok((list, at));
+        return Ok((List::make(alloc), at));
     }
-    let (first, after) = statement(alloc, source, at)?;
-    list.push(first)?;
+    let (first, after) = read!(statement(alloc, source, at));
+    let list = List::make(alloc);
+    let mut list = read!(pushed(list, first));
     let mut next = after;
     'statements: while is_at(source, next, Tok::Sign(Sign::Semicolon)) {
-        let (statement, after) = statement(alloc, source, next + 1)?;
-        list.push(statement)?;
+        let (statement, after) = read!(statement(alloc, source, next + 1));
+        list = read!(pushed(list, statement));
         next = after;
     }
     Ok((list, next))

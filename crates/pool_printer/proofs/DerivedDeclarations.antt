@@ -11,10 +11,10 @@ use Rattle.run_words.specs.declared.words.Kind.TheVariants as kind
 use Rattle.pool_syntax.specs.declared.tree.Named.{Named}
 use Rattle.pool_syntax.specs.declared.tree.Var.{Var}
 use Rattle.pool_syntax.specs.Terms.{Expression, Literal, Statements, MethodTree, ClassTree, Done, Then}
-use Rattle.pool_syntax.specs.Rules as r
-use Rattle.pool_syntax.specs.Rules.{names, stmts, more_names, more_vars, more_locals, params, more_params, param, method, more_methods, class, more_classes, post}
-use Rattle.pool_syntax.specs.Grammar.{rule, expr}
-use Rattle.pool_syntax.specs.Derives.{Derives, nothing, token, inner, first, second}
+use Rattle.pool_grammar.specs.Rules as r
+use Rattle.pool_grammar.specs.Rules.{names, stmts, more_names, more_vars, more_locals, params, more_params, param, method, more_methods, class, more_classes, post}
+use Rattle.pool_grammar.specs.Grammar.{rule, expr}
+use Rattle.pool_grammar.specs.Derives.{Derives, nothing, token, inner, first, second}
 use Rattle.pool_printer.specs.Canonical.{separated_by, led_by, kind_token, variable_tokens, declarations_tokens, expression_tokens, statements_tokens, method_tokens, methods_tokens, class_tokens, program_tokens, post_tokens}
 use Rattle.pool_printer.specs.Renumbered.{token_by}
 use Rattle.pool_printer.specs.Renamed.{renamed_name, renamed_kind, renamed_variable, renamed_expression, renamed_method, renamed_class, renamed_statements}

@@ -9,9 +9,9 @@ use Rattle.run_words.specs.declared.words.Value.TheVariants as value
 use Rattle.run_words.specs.declared.words.Op.{Op}
 use Rattle.run_words.specs.declared.words.Op.TheVariants as op
 use Rattle.pool_syntax.specs.Terms.{Expression, Literal, Me, Variable, Create, Prefix, Infix, Call, Send, Frame, Wait, Expressions, NoArgs, Arg}
-use Rattle.pool_syntax.specs.Rules.{Group, disjunction, conjunction, addition, multiplication, Level, group, comparison, factor, postfix, primary, expression, more_operands, more_sends, args, more_args}
-use Rattle.pool_syntax.specs.Grammar.{rule, operator_of, operand, arg_last}
-use Rattle.pool_syntax.specs.Derives.{Derives, nothing, token, inner, first, second}
+use Rattle.pool_grammar.specs.Rules.{Group, disjunction, conjunction, addition, multiplication, Level, group, comparison, factor, postfix, primary, expression, more_operands, more_sends, args, more_args}
+use Rattle.pool_grammar.specs.Grammar.{rule, operator_of, operand, arg_last}
+use Rattle.pool_grammar.specs.Derives.{Derives, nothing, token, inner, first, second}
 use Rattle.pool_printer.specs.Canonical.{operator_token, level, bare_tokens, argument_tokens, expression_tokens, separated_by, led_by}
 use Rattle.pool_printer.specs.Renumbered.{token_by}
 use Rattle.pool_printer.specs.Renamed.{renamed_expression, renamed_expressions}

@@ -9,12 +9,12 @@ use Rattle.run_words.specs.declared.words.Kind.{Kind}
 use Rattle.pool_syntax.specs.declared.tree.Named.{Named}
 use Rattle.pool_syntax.specs.Terms as T
 use Rattle.pool_syntax.specs.Terms.{Expression, Expressions, NoArgs, Arg, Statement, Statements, Done, Then, Alternatives, NoAlts, Alt, MethodTree, ClassTree, ProgramTree}
-use Rattle.pool_syntax.specs.Rules as r
-use Rattle.pool_syntax.specs.Rules.{Group, disjunction, conjunction, addition, multiplication, Level, group, comparison, factor, postfix, primary, Phrase, Tree, Part, SemanticValue, Rule, tree, then}
-use Rattle.pool_syntax.specs.Rules.{either}
-use Rattle.pool_syntax.specs.Grammar.{rule, operator_of, arg_last, then_last, alt_last}
-use Rattle.pool_syntax.specs.Derives.{IsToken, Derives, nothing, token, inner, first, second}
-use Rattle.pool_syntax.specs.Spelled.{IsGrammatical}
+use Rattle.pool_grammar.specs.Rules as r
+use Rattle.pool_grammar.specs.Rules.{Group, disjunction, conjunction, addition, multiplication, Level, group, comparison, factor, postfix, primary, Phrase, Tree, Part, SemanticValue, Rule, tree, then}
+use Rattle.pool_grammar.specs.Rules.{either}
+use Rattle.pool_grammar.specs.Grammar.{rule, operator_of, arg_last, then_last, alt_last}
+use Rattle.pool_grammar.specs.Derives.{IsToken, Derives, nothing, token, inner, first, second}
+use Rattle.pool_grammar.specs.Programs.{IsGrammatical}
 
 -- expressions
 

@@ -2,9 +2,9 @@
 use Rattle.std.proofs.Common.{◌≡◌, refl, ℕ, ◌+◌, List, [], ◌∷◌, ◌++◌, slice_get, Some, subst}
 use Rattle.pool_syntax.specs.declared.token.Tok.{Tok}
 use Rattle.pool_syntax.specs.declared.tree.Named.{Named}
-use Rattle.pool_syntax.specs.Rules.{Phrase, Tree, Rule, tree}
-use Rattle.pool_syntax.specs.Grammar.{rule}
-use Rattle.pool_syntax.specs.Derives.{Derives, nothing}
+use Rattle.pool_grammar.specs.Rules.{Phrase, Tree, Rule, tree}
+use Rattle.pool_grammar.specs.Grammar.{rule}
+use Rattle.pool_grammar.specs.Derives.{Derives, nothing}
 use Rattle.pool_printer.specs.Renumbered.{token_by}
 
 -- the tokens, with other numbers, stand in the list from number i up to number j

@@ -3,10 +3,10 @@ use Rattle.std.proofs.Common.{◌≡◌, refl, ap, ℕ, suc, ◌+◌, List, [], 
 use Rattle.pool_syntax.specs.declared.token.Tok.{Tok}
 use Rattle.pool_syntax.specs.declared.token.Tok.TheVariants.{End}
 use Rattle.pool_syntax.specs.Terms.{ProgramTree}
-use Rattle.pool_syntax.specs.Rules.{program, tree}
-use Rattle.pool_syntax.specs.Grammar.{rule}
-use Rattle.pool_syntax.specs.Derives.{Derives, nothing, token, inner, IsProgram}
-use Rattle.pool_syntax.specs.Spelled.{IsGrammatical}
+use Rattle.pool_grammar.specs.Rules.{program, tree}
+use Rattle.pool_grammar.specs.Grammar.{rule}
+use Rattle.pool_grammar.specs.Derives.{Derives, nothing, token, inner, IsProgram}
+use Rattle.pool_grammar.specs.Programs.{IsGrammatical}
 use Rattle.pool_printer.specs.Canonical.{class_tokens, program_tokens}
 use Rattle.pool_printer.specs.Renumbered.{token_by}
 use Rattle.pool_printer.specs.Renamed.{renamed}

@@ -6,9 +6,9 @@ use Rattle.run_words.specs.declared.keywords.Keyword.TheVariants as word
 use Rattle.pool_syntax.specs.declared.token.Sign.TheVariants as sign
 use Rattle.pool_syntax.specs.declared.tree.Named.{Named}
 use Rattle.pool_syntax.specs.Terms.{Expression, Literal, Me, Variable, Create, Prefix, Infix, Call, Send, Frame, Wait, Expressions, Statement, Assign, Write, WriteText, Do, Async, If, While, Answer, Select, Serve, Statements, Done, Then, Alternatives, NoAlts, Alt, append}
-use Rattle.pool_syntax.specs.Rules.{names, more_names, list, stmts, more_stmts, stmt, invoke, alt, more_alts, OneAlternative}
-use Rattle.pool_syntax.specs.Grammar.{rule, then_last, alt_last}
-use Rattle.pool_syntax.specs.Derives.{Derives, nothing, token, inner, first, second}
+use Rattle.pool_grammar.specs.Rules.{names, more_names, list, stmts, more_stmts, stmt, invoke, alt, more_alts, OneAlternative}
+use Rattle.pool_grammar.specs.Grammar.{rule, then_last, alt_last}
+use Rattle.pool_grammar.specs.Derives.{Derives, nothing, token, inner, first, second}
 use Rattle.pool_printer.specs.Canonical.{expression_tokens, call_tokens, led_by, names_tokens, answer_tokens, statement_tokens, statement_parts, statements_tokens, alternatives_tokens}
 use Rattle.pool_printer.specs.Renamed.{renamed_name, renamed_answer, renamed_expression, renamed_statement, renamed_statements, renamed_alternatives}
 use Rattle.pool_printer.proofs.DerivedForm.{IsInvocation, IsFilled, AnswerForm, HasAlternative, ExpressionForm, ArgumentsForm, StatementForm, StatementsForm, AlternativesForm}

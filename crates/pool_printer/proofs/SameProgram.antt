@@ -1,7 +1,8 @@
 -- The canonical text has the program.
 use Rattle.std.proofs.Common.{◌≡◌, sym, subst, true, List}
-use Rattle.pool_syntax.specs.Derives.{IsProgram}
-use Rattle.pool_syntax.specs.Spelled.{is_spelled, IsGrammatical}
+use Rattle.pool_grammar.specs.Derives.{IsProgram}
+use Rattle.pool_grammar.specs.Programs.{IsGrammatical}
+use Rattle.pool_syntax.specs.Spelled.{is_spelled}
 use Rattle.pool_syntax.specs.Terms.{ProgramTree}
 use Rattle.run_words.specs.Text.{Text}
 use Rattle.pool_syntax.specs.declared.token.Token.{Token}

@@ -1,6 +1,6 @@
 -- The program that the canonical text of a program has.
 use Rattle.std.specs.Prelude.{◌≡◌, List, map}
-use Rattle.pool_syntax.specs.Derives.{IsProgram}
+use Rattle.pool_grammar.specs.Derives.{IsProgram}
 use Rattle.pool_syntax.specs.Terms.{ProgramTree}
 use Rattle.run_words.specs.Text.{Text}
 use Rattle.pool_syntax.specs.declared.token.Token.{Token}

@@ -1,7 +1,8 @@
 //! Laws of the canonical text. Each is the contract of a function that does nothing.
 ghost use Rattle.std.specs.Prelude.{◌≡◌, true, List as ListOf};
 ghost use Rattle.pool_syntax.specs.declared.token.Token.{Token as OneToken};
-ghost use Rattle.pool_syntax.specs.Spelled.{IsGrammatical, is_spelled};
+ghost use Rattle.pool_grammar.specs.Programs.{IsGrammatical};
+ghost use Rattle.pool_syntax.specs.Spelled.{is_spelled};
 ghost use Rattle.pool_syntax.specs.Terms.{ProgramTree};
 ghost use Rattle.run_words.specs.Text.{Text};
 ghost use Rattle.pool_printer.specs.SameProgram.{IsSameProgram};

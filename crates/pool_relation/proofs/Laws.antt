@@ -5,7 +5,6 @@ pub use Rattle.pool_relation.proofs.Runs.{joined, none_joined}
 -- a lone object that is not ready
 pub use Rattle.pool_relation.proofs.Quiet.{Runs, not_there, there, runs, no_transition}
 -- programs of the grammar, and the configuration that a program starts in
-pub use Rattle.pool_relation.proofs.Grammatical.{derived_written, grammatical_written, has_a_class}
 pub use Rattle.pool_relation.proofs.FewParameters.{classes_few, few_parameters}
 pub use Rattle.pool_relation.proofs.Start.{start_typed, starts, last_first, class_parts}
 -- preservation and progress

@@ -7,7 +7,6 @@ pub mod Invariant
 pub mod Running
 pub mod Start
 pub mod Progress
-pub mod Grammatical
 pub mod FewParameters
 pub mod Laws
 mod Meets

@@ -1,7 +1,6 @@
 //! The laws of the relation: each is the contract of a function that does nothing.
 ghost use Rattle.std.specs.Prelude.{◌≡◌, ◌≢◌, ◌⊎◌, ◌++◌, ℕ, List, [], Some, None, false, IsTrue};
 ghost use Rattle.pool_syntax.specs.Terms.{ProgramTree};
-ghost use Rattle.pool_syntax.specs.Spelled.{IsGrammatical};
 ghost use Rattle.pool_syntax.specs.Typing.{faults};
 ghost use Rattle.run_words.specs.declared.words.Label.{Label};
 ghost use Rattle.pool_relation.specs.Action as A;
@@ -28,11 +27,6 @@ pub fn runs_join()
 /// A configuration of one object, without messages, has no transition where the object has a fault or is not ready.
 pub fn not_ready_has_no_transition()
     ensures { (p : ProgramTree) (root : ℕ) (x : Object) (l : Label) → (x.fault ≡ None → is_ready (action p root x) ≡ false) → transition p (alone root x) l ≡ None }
-{}
-
-/// A program of the grammar is written: nothing is under way in its text, each operator has its number of operands, and a method without result has the value nil.
-pub fn grammatical_is_written()
-    ensures { (p : ProgramTree) → IsGrammatical p → IsTrue (is_written p) }
 {}
 
 /// A program with a class starts, and where it has no faults, in a typed configuration.

@@ -4,11 +4,6 @@ pub mod Classes
 pub mod FaultNumbers
 pub mod Limits
 pub mod Typing
-pub mod Rules
-pub mod Grammar
-pub mod Derives
-pub mod Nesting
 pub mod Tokens
 pub mod Spelled
 pub mod Spelling
-pub mod Programs

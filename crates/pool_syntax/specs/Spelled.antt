@@ -1,5 +1,5 @@
 -- Programs whose names, strings and integers can be written as tokens: what the tokens of a text always give.
-use Rattle.std.specs.Prelude.{◌≤◌, pos, negsuc, List, [], ◌∷◌, length, Option, Some, None, Bool, true, false, ◌&&◌, nat_le, All, IsTrue}
+use Rattle.std.specs.Prelude.{pos, negsuc, List, [], ◌∷◌, Option, Some, None, Bool, true, false, ◌&&◌, nat_le, All, IsTrue}
 use Rattle.pool_syntax.specs.declared.token.Tok.{Tok}
 use Rattle.pool_syntax.specs.declared.token.Tok.TheVariants as tok
 use Rattle.run_words.specs.declared.words.Value.{Value}
@@ -11,7 +11,6 @@ use Rattle.pool_syntax.specs.declared.tree.Var.{Var}
 use Rattle.pool_syntax.specs.Terms.{Expression, Literal, Me, Variable, Create, Prefix, Infix, Call, Send, Frame, Wait, Expressions, NoArgs, Arg, Statement, Assign, Write, WriteText, Do, Async, If}
 use Rattle.pool_syntax.specs.Terms.{While, Answer, Select, Serve, Statements, Done, Then, Alternatives, NoAlts, Alt, MethodTree, ProgramTree}
 use Rattle.run_words.specs.Text.{Text}
-use Rattle.pool_syntax.specs.Derives.{IsProgram}
 use Rattle.run_words.specs.Keywords.{is_name, is_string_number}
 
 -- a value that a literal can have: no integer below 0 or from 2 ^ 63 on, and no object's name
@@ -110,7 +109,3 @@ is_spelled names [] = true
 is_spelled names (k ∷ ks) =
     is_name names k.name.name.0 && are_variables names k.vars && are_spelled_methods names k.methods
     && are_spelled_statements names k.body && is_spelled names ks
-
--- the program is one that the grammar has, for a list of at most 67,108,865 tokens
-abbrev pub IsGrammatical : ProgramTree → Type 0
-IsGrammatical p = (ts : List Tok) × (length ts ≤ 67108865) × IsProgram ts p

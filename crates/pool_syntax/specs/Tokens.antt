@@ -141,3 +141,7 @@ tokens_from names at (w ∷ ws) = elim (token_of names w) [
 -- The text has these tokens, and this table of the texts of its names and strings.
 abbrev pub HasTokens : Text → List Text → List Token → Type 0
 HasTokens s names ts = (ws : List Text) × IsPieces s ws [] × IsFaultless ws × (names ≡ texts_after [] ws) × (ts ≡ tokens_from names 0 ws)
+
+-- the tokens without their places
+abbrev pub toks : List Token → List Tok
+toks ts = map (λ t. t.tok) ts

@@ -1,5 +1,5 @@
-//! The language: tokens and trees of programs, and the definitions of the grammar, of nesting and of the class faults, which
-//! every crate that reads, judges or runs programs cites.
+//! The language: tokens and trees of programs, and the definitions of tokens of a text and of the class faults, which every crate
+//! that reads, judges or runs programs cites.
 #![tactic(auto)]
 
 mod token;

@@ -1,7 +1,8 @@
 -- What comes of reading inputs: an error is passed on, and a text that was read is judged.
 use Rattle.std.proofs.Common.{◌≡◌, ℕ, List, IfOk, MatchResult, Result, Ok, Err, true, ◌≢◌, refl, ap, subst}
 use Rattle.run_words.specs.Text.{Text}
-use Rattle.pool_syntax.specs.Spelled.{IsGrammatical, is_spelled}
+use Rattle.pool_grammar.specs.Programs.{IsGrammatical}
+use Rattle.pool_syntax.specs.Spelled.{is_spelled}
 use Rattle.pool_syntax.specs.Terms.{ProgramTree}
 use Rattle.pool_syntax.specs.TreeOf.{program_of}
 use Rattle.fault_lines.specs.declared.fault.Input.{Input}

@@ -3,15 +3,15 @@ use Rattle.std.specs.Prelude.{◌+◌, List}
 use Rattle.pool_syntax.specs.declared.token.Tok.{Tok}
 use Rattle.pool_syntax.specs.declared.token.Token.{Token}
 use Rattle.run_words.specs.Text.{Text}
-use Rattle.pool_syntax.specs.Tokens.{HasTokens, IsFirstFault}
+use Rattle.pool_syntax.specs.Tokens.{HasTokens, IsFirstFault, toks}
 use Rattle.pool_syntax.specs.Terms.{ProgramTree}
-use Rattle.pool_syntax.specs.Rules.{program}
-use Rattle.pool_syntax.specs.Grammar.{rule}
-use Rattle.pool_syntax.specs.Derives.{Begins, IsFirstUnexpected}
-use Rattle.pool_syntax.specs.Nesting.{IsFirstTooDeep}
+use Rattle.pool_grammar.specs.Rules.{program}
+use Rattle.pool_grammar.specs.Grammar.{rule}
+use Rattle.pool_grammar.specs.Derives.{Begins, IsFirstUnexpected}
+use Rattle.pool_grammar.specs.Nesting.{IsFirstTooDeep}
 use Rattle.pool_syntax.specs.Typing.{faults}
-use Rattle.pool_syntax.specs.Programs.{toks, HasProgram, IsShallowBelow}
-pub use Rattle.pool_syntax.specs.Programs.{IsParsed, IsTextOf, IsTypedText}
+use Rattle.pool_grammar.specs.Programs.{HasProgram, IsShallowBelow}
+pub use Rattle.pool_grammar.specs.Programs.{IsParsed, IsTextOf, IsTypedText}
 use Rattle.pool_parser.specs.declared.fault.SyntaxFault.{SyntaxFault}
 use Rattle.pool_parser.specs.declared.fault.SyntaxFault.TheVariants as Syntax
 use Rattle.class_check.specs.Least.{IsLeastFault}

@@ -4,7 +4,8 @@ use Rattle.pool_outside.specs.Outside.{Rose}
 use Rattle.run_words.specs.Text.{Text}
 use Rattle.pool_syntax.specs.Terms.{ProgramTree}
 use Rattle.pool_syntax.specs.Typing.{faults}
-use Rattle.pool_syntax.specs.Spelled.{IsGrammatical, is_spelled}
+use Rattle.pool_grammar.specs.Programs.{IsGrammatical}
+use Rattle.pool_syntax.specs.Spelled.{is_spelled}
 use Rattle.pool_syntax.specs.TreeOf.{program_of}
 use Rattle.pool_syntax.specs.declared.token.LexFault.{LexFault}
 use Rattle.pool_syntax.specs.declared.token.LexFault.TheVariants as Lex

@@ -3,7 +3,8 @@ ghost use Rattle.std.specs.Prelude.{◌≡◌, ◌≢◌, ◌≤◌, List, lengt
 ghost use Rattle.pool_syntax.specs.Terms.{ProgramTree};
 ghost use Rattle.run_words.specs.Text.{Text};
 ghost use Rattle.pool_syntax.specs.TreeOf.{program_of};
-ghost use Rattle.pool_syntax.specs.Spelled.{IsGrammatical, is_spelled};
+ghost use Rattle.pool_grammar.specs.Programs.{IsGrammatical};
+ghost use Rattle.pool_syntax.specs.Spelled.{is_spelled};
 ghost use Rattle.pool_syntax.specs.Typing.{faults};
 ghost use Rattle.program_input.specs.Readers.{stop_of_grammar, stop_of_tokens};
 ghost use Rattle.program_input.specs.Programs.{IsFaultOfClasses, IsFaultOfText, IsParsed};

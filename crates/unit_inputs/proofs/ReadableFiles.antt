@@ -29,13 +29,13 @@ use Rattle.coded_objects.proofs.Laws.{code_fits, made_lawful, made_start_sound}
 use Rattle.coded_objects.proofs.Tested.{send_is, async_is}
 use Rattle.code_verdict.specs.Sorts.{Signature}
 use Rattle.code_verdict.specs.Verified.{IsVerified}
-use Rattle.verified_code.specs.TypedCode.{IsMessageFor, IsTypedCode, class_in}
-use Rattle.verified_code.proofs.KeptTyped.{asked_class}
-use Rattle.verified_code.proofs.Laws.{start_typed, verified_is_proper, verified_lawful}
-use Rattle.verified_code.proofs.Objects.{kept_of}
-use Rattle.verified_code.proofs.Sent.{Asks}
+use Rattle.code_laws.specs.TypedCode.{IsMessageFor, IsTypedCode, class_in}
+use Rattle.code_laws.proofs.KeptTyped.{asked_class}
+use Rattle.code_laws.proofs.Laws.{start_typed, verified_is_proper, verified_lawful}
+use Rattle.code_laws.proofs.Objects.{kept_of}
+use Rattle.code_laws.proofs.Sent.{Asks}
 use Rattle.run_record.specs.Readable.{IsNamed, IsReadableEvent, IsRecord}
-use Rattle.readable_records.proofs.Laws.{ShowsNames, KeepsNames, record_reads, record_reads_on_wires}
+use Rattle.code_laws.proofs.Laws.{ShowsNames, KeepsNames, record_reads, record_reads_on_wires}
 use Rattle.unit_inputs.proofs.SpelledFiles.{method_named_so, verified_spelled}
 
 module _ (f : UnitFile) (shaped : IsShaped f) (good : IsVerified f) where

@@ -24,11 +24,11 @@ use Rattle.coded_objects.specs.OfCode.{method_number}
 use Rattle.coded_objects.proofs.Methods.{number_of_named}
 use Rattle.code_verdict.specs.Sorts.{Declared, Signature, declared_at, scope_by, signature_named}
 use Rattle.code_verdict.specs.Verified.{IsVerified, IsWellSorted}
-use Rattle.verified_code.proofs.Objects.{class_from_is}
-use Rattle.verified_code.proofs.Shaped.{class_shaped, class_there, kinds_of_class, kinds_of_method}
+use Rattle.code_laws.proofs.Objects.{class_from_is}
+use Rattle.code_laws.proofs.Shaped.{class_shaped, class_there, kinds_of_class, kinds_of_method}
 use Rattle.run_record.specs.Readable.{IsNamed, IsString}
-use Rattle.readable_records.specs.SpelledUnit.{IsSpelledUnit}
-use Rattle.readable_records.proofs.Laws.{named_reads, string_reads}
+use Rattle.code_laws.specs.SpelledUnit.{IsSpelledUnit}
+use Rattle.code_laws.proofs.Laws.{named_reads, string_reads}
 
 module _ (f : UnitFile) (shaped : IsShaped f) (good : IsVerified f) where
   -- an instruction of well-sorted code

@@ -27,7 +27,7 @@ use Rattle.coded_objects.specs.Made.{HasInstr}
 use Rattle.code_verdict.specs.Sorts.{CodeScope, Declared, declared_at}
 use Rattle.code_verdict.specs.Verified.{IsVerified, IsWellSorted, KindExists, ResultExists}
 use Rattle.code_verdict.proofs.Passing.{passes_below}
-use Rattle.verified_code.proofs.Shaped.{class_parts, class_shaped, class_there, kinds_of_method}
+use Rattle.code_laws.proofs.Shaped.{class_parts, class_shaped, class_there, kinds_of_method}
 use Rattle.unit_inputs.proofs.SpelledFiles.{class_named, each_at, method_is_name}
 
 each_from : {X : Type 0} (P : X → Type 0) (xs : List X) → ((n : ℕ) (x : X) → slice_get xs n ≡ Some x → P x) → Each P xs

@@ -14,7 +14,7 @@ ghost use Rattle.mesh_semantics.specs.Record.{record_of, record_on_wires};
 ghost use Rattle.run_words.specs.Tables.{Each};
 ghost use Rattle.coded_objects.specs.Coded.{coded};
 ghost use Rattle.run_record.specs.Readable.{IsReadableEvent, IsRecord};
-ghost use Rattle.readable_records.specs.SpelledUnit.{IsSpelledUnit};
+ghost use Rattle.code_laws.specs.SpelledUnit.{IsSpelledUnit};
 
 /// The classes of which the code of a verified file makes objects are called by names of the language, what it writes are strings of it, and its integers have 64 bits.
 pub fn verified_code_is_spelled()

@@ -1,4 +1,4 @@
-use Rattle.verified_code.specs.DeclaredKinds.{file_of}
+use Rattle.code_laws.specs.DeclaredKinds.{file_of}
 use Rattle.pool_driver.proofs.BuiltLaws.{loaded_as_recorded, placements_same, recorded_as_loaded, schedules_same}
 use Rattle.pool_driver.proofs.laws.what_is_built_is_loaded_as_recorded.Goals as goal
 

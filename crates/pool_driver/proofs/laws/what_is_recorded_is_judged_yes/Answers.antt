@@ -3,9 +3,9 @@ use Rattle.run_words.specs.Text.{Text}
 use Rattle.pool_syntax.specs.Terms.{ProgramTree}
 use Rattle.run_words.specs.declared.words.Line.{Line}
 use Rattle.pool_machine.specs.Answers.{nothing_sent}
-use Rattle.placed_code.proofs.Laws.{parsed_checked}
-use Rattle.readable_records.specs.ReadsBack.{ReadsBack}
-use Rattle.readable_records.proofs.Laws.{parsed_distinct, reads_back}
+use Rattle.code_laws.proofs.Laws.{parsed_checked}
+use Rattle.code_laws.specs.ReadsBack.{ReadsBack}
+use Rattle.code_laws.proofs.Laws.{parsed_distinct, reads_back}
 use Rattle.run_record.specs.Numbered.{lines_after}
 use Rattle.run_record.specs.Records as Rec
 use Rattle.run_words.specs.declared.verdicts.Verdict.{Verdict}

@@ -1,5 +1,5 @@
 use Rattle.std.proofs.Common.{◌≡◌, ◌++◌, take}
-use Rattle.pool_syntax.specs.Grammar.{variables}
+use Rattle.pool_grammar.specs.Grammar.{variables}
 use Rattle.pool_parser.proofs.declarations.declare.Given as goal
 
 -- the names up to here have their variables

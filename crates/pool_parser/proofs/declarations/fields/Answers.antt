@@ -1,17 +1,16 @@
 use Rattle.std.proofs.Common.{arith, rules}
-use Rattle.pool_parser.proofs.Exits.{exit, declared_off}
+use Rattle.pool_parser.proofs.Exits.{declared_off}
 use Rattle.pool_parser.proofs.Declaring.{vars_read, vars_refused, vars_end}
 use Rattle.pool_parser.proofs.declarations.fields.Goals as goal
 
-pub returns-in_err-all-clause-parses : goal.returns-in_err-all-clause-parses
-returns-in_err-all-clause-parses c = exit _ _ _ _ (λ vs. vs) _ _ c.from_residual.ensures.1
-    (declared_off _ (λ u R. c.fields.invariant.2 _ (vars_refused _ (c.fields-test.ensures.yes (search rules)) R)) _ c.in_err-all.ensures.parses)
+pub returns-in-Err-clause-parses : goal.returns-in-Err-clause-parses
+returns-in-Err-clause-parses c = declared_off _ (λ u R. c.fields.invariant.2 _ (vars_refused _ (c.fields-test.ensures.yes (search rules)) R)) _ c.in-Err.ensures.parses
 
 pub fields-preserved : goal.fields-preserved
 fields-preserved c = (
-  omega (arith, c.in_ok-all.ensures.next),
-  omega (arith, c.in_ok-all.ensures.next),
-  λ o R. c.fields.invariant.2 _ (vars_read _ _ o (c.fields-test.ensures.yes (search rules)) c.in_ok-all.ensures.parses R),
+  omega (arith, c.in-Ok.ensures.next),
+  omega (arith, c.in-Ok.ensures.next),
+  λ o R. c.fields.invariant.2 _ (vars_read _ _ o (c.fields-test.ensures.yes (search rules)) c.in-Ok.ensures.parses R),
 )
 
 pub returns-clause-parses : goal.returns-clause-parses

@@ -1,6 +1,6 @@
 use Rattle.std.proofs.Common.{◌-◌, ◌≤◌, List, [], map, length}
 use Rattle.pool_syntax.specs.Terms.{MethodTree}
-use Rattle.pool_syntax.specs.Rules.{more_methods}
+use Rattle.pool_grammar.specs.Rules.{more_methods}
 use Rattle.pool_syntax.specs.TreeOf.{method_tree}
 use Rattle.pool_parser.specs.Reads.{Outcome, ReadsPhrase}
 use Rattle.pool_parser.specs.Parses.{seen}

@@ -1,8 +1,8 @@
 use Rattle.std.proofs.Common.{◌+◌, ◌-◌, ◌<◌, ◌≤◌, length}
 use Rattle.pool_syntax.specs.Terms.{Expression, Expressions}
-use Rattle.pool_syntax.specs.Rules.{group, expression, postfix, more_operands, more_sends, more_args}
-use Rattle.pool_syntax.specs.Grammar.{rule}
-use Rattle.pool_syntax.specs.Derives.{Derives}
+use Rattle.pool_grammar.specs.Rules.{group, expression, postfix, more_operands, more_sends, more_args}
+use Rattle.pool_grammar.specs.Grammar.{rule}
+use Rattle.pool_grammar.specs.Derives.{Derives}
 use Rattle.pool_syntax.specs.TreeOf.{expression_of, expressions_of}
 use Rattle.pool_parser.specs.Reads.{Outcome, ReadsPhrase}
 use Rattle.pool_parser.specs.Parses.{seen, Invokes}

@@ -4,4 +4,4 @@ use Rattle.pool_parser.proofs.Lists.{send-tree}
 use Rattle.pool_parser.proofs.expressions.send.Goals as goal
 
 pub returns-clause-ok : goal.returns-clause-ok
-returns-clause-ok c = send-tree _ _ _ _ _ (ap expression_of c.in_ok-to.ensures.ok)
+returns-clause-ok c = send-tree _ _ _ _ _ (ap expression_of c.in-Ok.ensures.ok)

@@ -1,7 +1,8 @@
 use Rattle.std.proofs.Common.{◌≡◌, List, subst, sym}
 use Rattle.pool_syntax.specs.declared.token.Token.{Token}
 use Rattle.pool_syntax.specs.Terms.{ProgramTree}
-use Rattle.pool_syntax.specs.Programs.{toks, HasProgram}
+use Rattle.pool_syntax.specs.Tokens.{toks}
+use Rattle.pool_grammar.specs.Programs.{HasProgram}
 use Rattle.pool_lexer.proofs.Wholes.{same_tokens}
 use Rattle.pool_parser.proofs.Unique as unique
 use Rattle.pool_parser.proofs.laws.a_text_has_one_program.Goals as goal

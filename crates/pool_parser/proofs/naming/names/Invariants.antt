@@ -1,6 +1,6 @@
 use Rattle.std.proofs.Common.{◌-◌, ◌<◌, ◌≤◌, List, length}
 use Rattle.pool_syntax.specs.declared.tree.Named.{Named}
-use Rattle.pool_syntax.specs.Rules.{names, more_names}
+use Rattle.pool_grammar.specs.Rules.{names, more_names}
 use Rattle.pool_parser.specs.Reads.{Outcome, ReadsPhrase}
 use Rattle.pool_parser.specs.Parses.{seen}
 use Rattle.pool_parser.proofs.naming.names.Given as goal

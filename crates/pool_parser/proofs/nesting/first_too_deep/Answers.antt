@@ -1,6 +1,6 @@
 use Rattle.std.proofs.Common.{◌≡◌, ◌≤◌, ◌<◌, ◌∷◌, length, take, reverse, arith, true, false}
-use Rattle.pool_syntax.specs.Programs.{toks}
-use Rattle.pool_syntax.specs.Nesting.{depth, nesting}
+use Rattle.pool_syntax.specs.Tokens.{toks}
+use Rattle.pool_grammar.specs.Nesting.{depth, nesting}
 use Rattle.pool_parser.specs.Depths.{depth_at}
 use Rattle.pool_parser.proofs.Cut.{toks_length}
 use Rattle.pool_parser.proofs.Depths.{open_shallow, depth_counted, depth_bounded, before_next, shallow_next, nesting_next, shallow_below}

@@ -1,4 +1,4 @@
-use Rattle.pool_syntax.specs.Programs.{toks}
+use Rattle.pool_syntax.specs.Tokens.{toks}
 use Rattle.std.proofs.Common.{◌-◌, ◌≤◌, ◌∷◌, length, take, reverse}
 use Rattle.pool_parser.specs.Depths.{Counts}
 use Rattle.pool_parser.proofs.Depths.{IsShallow}

@@ -1,6 +1,6 @@
 use Rattle.std.proofs.Common.{◌-◌, ◌≤◌, length}
 use Rattle.pool_syntax.specs.Terms.{Statements, Alternatives}
-use Rattle.pool_syntax.specs.Rules.{stmts, more_stmts, more_alts}
+use Rattle.pool_grammar.specs.Rules.{stmts, more_stmts, more_alts}
 use Rattle.pool_syntax.specs.TreeOf.{statements_of, alternatives_of}
 use Rattle.pool_parser.specs.Reads.{Outcome, ReadsPhrase}
 use Rattle.pool_parser.specs.Parses.{seen}

@@ -1,11 +1,11 @@
 use Rattle.std.proofs.Common.{◌≡◌, ◌∙◌, ℕ, ◌+◌, List, Err, refl, sym, ap, subst}
 use Rattle.run_words.specs.Text.{Text}
-use Rattle.pool_syntax.specs.Tokens.{HasTokens}
+use Rattle.pool_syntax.specs.Tokens.{HasTokens, toks}
 use Rattle.pool_syntax.specs.Terms.{ProgramTree}
-use Rattle.pool_syntax.specs.Rules.{program}
-use Rattle.pool_syntax.specs.Grammar.{rule}
-use Rattle.pool_syntax.specs.Derives.{Begins, IsFirstUnexpected}
-use Rattle.pool_syntax.specs.Nesting.{IsFirstTooDeep}
+use Rattle.pool_grammar.specs.Rules.{program}
+use Rattle.pool_grammar.specs.Grammar.{rule}
+use Rattle.pool_grammar.specs.Derives.{Begins, IsFirstUnexpected}
+use Rattle.pool_grammar.specs.Nesting.{IsFirstTooDeep}
 use Rattle.pool_parser.specs.declared.fault.SyntaxFault.{SyntaxFault}
 use Rattle.pool_parser.specs.declared.fault.SyntaxFault.TheVariants as Syntax
 use Rattle.fault_lines.specs.declared.fault.Fault.{Fault}
@@ -15,7 +15,7 @@ use Rattle.fault_lines.specs.declared.fault.Input.TheVariants as I
 use Rattle.fault_lines.specs.declared.fault.Stop.TheVariants as T
 use Rattle.program_input.specs.Programs.{IsFaultOfText}
 use Rattle.pool_syntax.specs.declared.token.Token.{Token}
-use Rattle.pool_syntax.specs.Programs.{HasProgram, IsShallowBelow, toks}
+use Rattle.pool_grammar.specs.Programs.{HasProgram, IsShallowBelow}
 use Rattle.program_input.specs.Readers.{stop_of_tokens, stop_of_grammar}
 use Rattle.program_input.proofs.program.read_program.Goals as goal
 

@@ -1,7 +1,7 @@
 use Rattle.std.proofs.Common.{refl, arith}
 use Rattle.object_code.proofs.Laws.{encode_decode}
 use Rattle.object_code.proofs.Shorts.{are_bytes}
-use Rattle.verified_code.proofs.Laws.{verified_is_proper}
+use Rattle.code_laws.proofs.Laws.{verified_is_proper}
 use Rattle.unit_inputs.proofs.Faults.{verify_fault}
 use Rattle.unit_inputs.proofs.unit_reader.read_unit.Goals as goal
 

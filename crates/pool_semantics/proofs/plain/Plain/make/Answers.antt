@@ -7,7 +7,7 @@ use Rattle.pool_syntax.specs.TreeOf.{class_tree, program_of}
 use Rattle.pool_relation.specs.Configuration.{Configuration}
 use Rattle.plain_object.specs.Things.{thing_object, things}
 use Rattle.pool_semantics.specs.Mails.{posts}
-use Rattle.pool_relation.proofs.Laws.{grammatical_written, has_a_class}
+use Rattle.class_check.proofs.Grammatical.{grammatical_written, has_a_class}
 use Rattle.pool_semantics.proofs.RootClass.{none_last, started}
 use Rattle.pool_semantics.proofs.TypedFacts.{start_is_sound}
 use Rattle.pool_semantics.proofs.plain.Plain.make.Goals as goal

@@ -1,0 +1,5 @@
+use Rattle.class_check.proofs.Grammatical.{grammatical_written}
+use Rattle.class_check.proofs.theorems.grammatical_is_written.Goals as goal
+
+pub returns : goal.returns
+returns c = grammatical_written

@@ -1,0 +1,9 @@
+pub mod CheckedProgram
+pub mod Matches
+pub mod StandsAlike
+pub mod HasCode
+pub mod TypedCode
+pub mod CodeRun
+pub mod DeclaredKinds
+pub mod SpelledUnit
+pub mod ReadsBack

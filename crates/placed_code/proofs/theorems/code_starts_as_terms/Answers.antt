@@ -1,5 +1,0 @@
-use Rattle.placed_code.proofs.Records.{code_start}
-use Rattle.placed_code.proofs.theorems.code_starts_as_terms.Goals as goal
-
-pub returns : goal.returns
-returns c = λ p u l k checked unit s. code_start p u checked unit l k s

@@ -1,5 +1,0 @@
-use Rattle.placed_code.proofs.Reached.{has_code}
-use Rattle.placed_code.proofs.theorems.what_a_run_reaches_has_code.Goals as goal
-
-pub returns : goal.returns
-returns r = λ p u l first labs c checked unit proper starts leads. has_code p u checked unit proper l first labs c starts leads

@@ -1,4 +1,0 @@
-pub mod CheckedProgram
-pub mod Matches
-pub mod StandsAlike
-pub mod HasCode

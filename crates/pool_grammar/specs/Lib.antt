@@ -1,0 +1,5 @@
+pub mod Rules
+pub mod Grammar
+pub mod Derives
+pub mod Nesting
+pub mod Programs

@@ -1,0 +1,34 @@
+-- The program of a list of tokens, and the program of a text.
+use Rattle.std.specs.Prelude.{◌≡◌, ℕ, ◌<◌, ◌≤◌, List, [], length}
+use Rattle.pool_syntax.specs.declared.token.Tok.{Tok}
+use Rattle.pool_syntax.specs.declared.token.Token.{Token}
+use Rattle.run_words.specs.Text.{Text}
+use Rattle.pool_syntax.specs.Tokens.{HasTokens, toks}
+use Rattle.pool_syntax.specs.Terms.{ProgramTree}
+use Rattle.pool_grammar.specs.Derives.{IsProgram}
+use Rattle.pool_grammar.specs.Nesting.{nesting}
+use Rattle.pool_syntax.specs.Typing.{faults}
+
+-- no token stands too deep before this number
+abbrev pub IsShallowBelow : List Tok → ℕ → Type 0
+IsShallowBelow ts n = (k : ℕ) → k < n → nesting ts k ≤ 200
+
+-- the tokens are the program, and none stands too deep
+abbrev pub HasProgram : List Tok → ProgramTree → Type 0
+HasProgram ts p = IsProgram ts p × IsShallowBelow ts (length ts)
+
+-- the program is one that the grammar has, for a list of at most 67,108,865 tokens
+abbrev pub IsGrammatical : ProgramTree → Type 0
+IsGrammatical p = (ts : List Tok) × (length ts ≤ 67108865) × IsProgram ts p
+
+-- the text has the program, and this table of its names and strings
+abbrev pub IsParsed : Text → List Text → ProgramTree → Type 0
+IsParsed s names p = (ts : List Token) × HasTokens s names ts × HasProgram (toks ts) p
+
+-- the text has the program
+abbrev pub IsTextOf : Text → ProgramTree → Type 0
+IsTextOf s p = (names : List Text) × IsParsed s names p
+
+-- the text has the program, and it has no class faults
+abbrev pub IsTypedText : Text → ProgramTree → Type 0
+IsTypedText s p = IsTextOf s p × (faults p ≡ [])

@@ -1,5 +1,0 @@
-use Rattle.readable_records.proofs.ReadBack.{parsed_distinct, reads_back}
-use Rattle.readable_records.proofs.theorems.readable_records_are_read_back.Goals as goal
-
-pub returns : goal.returns
-returns x = λ source names p ls parsed h. reads_back names ls (parsed_distinct source names p parsed) h

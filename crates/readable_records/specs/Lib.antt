@@ -1,2 +1,0 @@
-pub mod SpelledUnit
-pub mod ReadsBack

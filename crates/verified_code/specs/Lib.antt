@@ -1,3 +1,0 @@
-pub mod TypedCode
-pub mod CodeRun
-pub mod DeclaredKinds
