@@ -3,8 +3,12 @@
 //! A row is what is told, a bar and a text; of a value these are the width, the height, the objects, frames and cells of a node, and the place of each class. A line
 //! that begins with two dashes is a heading.
 
-/// The mesh line.
-pub const MESHES: &str = r##"-- The mesh, and what is absent.
+/// Blocks of rows, each behind the program whose classes are placed. In the first the second of three classes has the most variables, 2; in the others no class has one, the only
+/// class has 16, one of two has 64, and there are 256 classes.
+pub const PLACEMENTS: &str =
+    r##"class Cell var next : Cell method link(c : Cell) begin next := c end body write "Word"; answer(link) end class Log var x, y : Int body end class Main var log : Log body log := new Log end
+-- The mesh line.
+-- The mesh, and what is absent.
 1 1 256 1024 1024 same same same | mesh 1 1
 1 1 256 1024 1024 same same same | mesh 1 1~
 2 3 256 1024 1024 same same same | mesh 2 3
@@ -54,10 +58,9 @@ BadLine 1 | MESH 1 1
 BadLine 1 | mes 1 1
 BadLine 1 | meshes 1 1
 BadLine 1 | "mesh" 1 1
-BadLine 1 | mesh é 1"##;
-
-/// What stands first.
-pub const FIRST_LINES: &str = r##"-- A line that is no mesh line comes first.
+BadLine 1 | mesh é 1
+-- What stands first.
+-- A line that is no mesh line comes first.
 BadLine 1 | objects 1
 BadLine 1 | objects 1~mesh 1 1
 BadLine 1 | frames 0~mesh 1 1
@@ -91,10 +94,9 @@ BadLine 301 | [300:~]
 1 1 256 1024 1024 same same same |  ~>~  ># c~##~  mesh 1 1
 1 1 256 1024 1024 same same same | [70:#~]mesh 1 1
 BadLine 71 | [70:# $~]mesh 1
-OutOfRange 70001 | [70000:~]mesh 0 1"##;
-
-/// Blanks, line ends and comments.
-pub const LINES: &str = r##"-- Spaces and tabs.
+OutOfRange 70001 | [70000:~]mesh 0 1
+-- Blanks, line ends and comments.
+-- Spaces and tabs.
 1 1 256 1024 1024 same same same | mesh>1>1
 1 1 256 1024 1024 same same same | >mesh 1>> 1> ~
 1 1 256 1024 1024 same same same |   mesh   1   1   
@@ -150,10 +152,9 @@ UnknownClass 2 | mesh 1 1~place #Main same
 BadLine 2 | mesh 1 1~x#
 BadLine 2 | mesh 1 1~// c
 BadLine 2 | mesh 1 1~-- c
-BadLine 2 | mesh 1 1~é"##;
-
-/// The numbers of a node's objects, frames and cells.
-pub const COUNTS: &str = r##"-- At the limits.
+BadLine 2 | mesh 1 1~é
+-- The numbers of a node's objects, frames and cells.
+-- At the limits.
 1 1 1 1024 1024 same same same | mesh 1 1~objects 1
 1 1 4096 1024 1024 same same same | mesh 1 1~objects 4096
 1 1 256 1 1024 same same same | mesh 1 1~frames 1
@@ -205,10 +206,9 @@ Repeated 4 | mesh 1 1~frames 4~cells 4~frames 4
 Repeated 3 | mesh 1 1~cells 1024~cells 1024
 Repeated 2 | mesh 1 1~mesh 1 1
 Repeated 3 | mesh 1 1~objects 4~mesh 2 2
-Repeated 5 | mesh 1 1~~#~frames 4~frames 4"##;
-
-/// The places of the classes.
-pub const PLACES: &str = r##"-- Where new objects of a class stand.
+Repeated 5 | mesh 1 1~~#~frames 4~frames 4
+-- The places of the classes.
+-- Where new objects of a class stand.
 2 3 256 1024 1024 same 5 same | mesh 2 3~place Log at 5
 2 3 256 1024 1024 0 same same | mesh 2 3~place Cell at 0
 2 3 256 1024 1024 same same spread | mesh 2 3~place Main spread
@@ -274,10 +274,9 @@ BadLine 2 | mesh 1 1~place Cell at 0.0
 Repeated 3 | mesh 1 1~place Cell same~place Cell same
 Repeated 3 | mesh 1 1~place Cell same~place Cell spread
 Repeated 4 | mesh 1 1~place Cell at 0~place Log at 0~place Cell at 0
-Repeated 5 | mesh 1 1~place Log same~place Main same~cells 3~place Main at 0"##;
-
-/// Cut links and routes.
-pub const ROUTES: &str = r##"-- Around a cut link, and back where a route leads back.
+Repeated 5 | mesh 1 1~place Log same~place Main same~cells 3~place Main at 0
+-- Cut links and routes.
+-- Around a cut link, and back where a route leads back.
 2 2 256 1024 1024 same same same 0-1 0:1:2 0:3:2 | mesh 2 2~cut 0 1~route 0 1 2~route 0 3 2
 2 2 256 1024 1024 same 1 same 0-1 0:1:2 0:3:2 | mesh 2 2~route 0 1 2~cut 0 1~place Log at 1~route 0 3 2
 NoRoute 0 3 | mesh 2 2~cut 0 1~route 0 1 2
@@ -315,10 +314,9 @@ BadLine 2 | mesh 2 2~route 0 1 2 3
 BadLine 2 | mesh 2 2~cut 0 x
 BadLine 1 | cut 0 1~mesh 2 2
 -- The number of words is judged first.
-TooLarge 102268928 | mesh 8 8~frames 16384~cut 0 1"##;
-
-/// Two faults.
-pub const PAIRS: &str = r##"-- On one line: the least.
+TooLarge 102268928 | mesh 8 8~frames 16384~cut 0 1
+-- Two faults.
+-- On one line: the least.
 BadLine 2 | mesh 1 1~place Foo
 BadLine 2 | mesh 1 1~place Foo at x
 BadLine 2 | mesh 1 1~place Foo at -1
@@ -379,10 +377,9 @@ BadLine 3 | mesh 8 8~frames 16384~x
 UnknownClass 3 | mesh 8 8~frames 16384~place Foo same
 Repeated 3 | mesh 8 8~frames 16384~mesh 1 1
 NoSuchNode 3 | mesh 8 8~frames 16384~place Main at 64
-OutOfRange 3 | mesh 8 8~frames 16384~cells 0"##;
-
-/// The words of the nodes, where a class has 2 variables and none has more.
-pub const SIZES: &str = r##"-- 64 nodes of 262,144 words, and one more of each.
+OutOfRange 3 | mesh 8 8~frames 16384~cells 0
+-- The words of the nodes, where a class has 2 variables and none has more.
+-- 64 nodes of 262,144 words, and one more of each.
 8 8 8 2000 2922 same same same | mesh 8 8~objects 8~frames 2000~cells 2922
 TooLarge 16777344 | mesh 8 8~objects 9~frames 2000~cells 2922
 TooLarge 16783360 | mesh 8 8~objects 8~frames 2001~cells 2922
@@ -393,30 +390,27 @@ TooLarge 102268928 | mesh 8 8~frames 16384
 TooLarge 126353408 | mesh 8 8~objects 4096~frames 16384~cells 16384~
 8 1 4096 16384 16384 same same same | mesh 8 1~objects 4096~frames 16384~cells 16384
 TooLarge 17768448 | mesh 3 3~objects 4096~frames 16384~cells 16384
-TooLarge 19742720 | mesh 2 5~cells 16384~frames 16384~objects 4096"##;
+TooLarge 19742720 | mesh 2 5~cells 16384~frames 16384~objects 4096
 
-/// The words of the nodes, where no class has a variable.
-pub const NONE: &str = r##"8 8 4096 2000 2922 same | mesh 8 8~objects 4096~frames 2000~cells 2922
+class Main body end
+8 8 4096 2000 2922 same | mesh 8 8~objects 4096~frames 2000~cells 2922
 TooLarge 16777728 | mesh 8 8~objects 1~frames 2000~cells 2923
-TooLarge 102236160 | mesh 8 8~frames 16384"##;
+TooLarge 102236160 | mesh 8 8~frames 16384
 
-/// The words of the nodes, where the only class has 16 variables.
-pub const SIXTEEN: &str = r##"8 8 1 2000 2922 same | mesh 8 8~objects 1~frames 2000~cells 2922
+class Main var [15:v$, ]v : Int body end
+8 8 1 2000 2922 same | mesh 8 8~objects 1~frames 2000~cells 2922
 TooLarge 16778752 | mesh 8 8~objects 1~frames 2000~cells 2923
-TooLarge 16778240 | mesh 8 8~objects 2~frames 2000~cells 2922"##;
+TooLarge 16778240 | mesh 8 8~objects 2~frames 2000~cells 2922
 
-/// The words of the nodes, where a class has 64 variables.
-pub const SIXTY_FOUR: &str = r##"8 8 2176 1024 1024 same same | mesh 8 8~objects 2176
+class Cell body end class Main var [63:v$, ]v : Int body end
+8 8 2176 1024 1024 same same | mesh 8 8~objects 2176
 TooLarge 16781312 | mesh 8 8~objects 2177
 8 8 256 1024 1024 same same | mesh 8 8
 TooLarge 142606336 | mesh 8 8~objects 4096~frames 16384~cells 16384
-8 4 4096 1024 1024 same spread | mesh 8 4~objects 4096~place Main spread"##;
+8 4 4096 1024 1024 same spread | mesh 8 4~objects 4096~place Main spread
 
-/// 256 classes.
-pub const MANY: &str = "[255:class C$ body end ]class Main body end";
-
-/// Placements for them.
-pub const CLASSES: &str = r##"2 2 256 1024 1024 [255:same ]same | mesh 2 2
+[255:class C$ body end ]class Main body end
+2 2 256 1024 1024 [255:same ]same | mesh 2 2
 2 2 256 1024 1024 [100:same ]3 [154:same ]same | mesh 2 2~place C100 at 3
 2 2 256 1024 1024 spread [253:same ]2 1 | mesh 2 2~place C254 at 2~place Main at 1~place C0 spread
 UnknownClass 2 | mesh 2 2~place C255 same

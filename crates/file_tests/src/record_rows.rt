@@ -1,7 +1,8 @@
 //! Records and what is told of each, written by hand from the format.
 //!
-//! A row is what is told, a bar and a text. Of lines these are told, with a semicolon between them: of an event its number, its node or its two nodes, and what it
-//! shows, with objects by their numbers, names and strings by their places in the table, and the times of a transition; of an end its kind and its numbers.
+//! A row is what is told, a bar and a text. Of lines these are told, with a semicolon between them: of an event its number, its node or, behind what happens on its
+//! wire, its two nodes, and what shows, with objects by their numbers, names and strings by their places in the table, and the times of a transition; of an end its kind
+//! and its numbers.
 
 /// Whole records.
 pub const RECORDS: &str = "-- Events and an end.
@@ -100,3 +101,80 @@ OutOfOrder 1 | 2 turn 0 pass~x~
 OutOfOrder 1 | 2 turn 0 pass~3 turn 0 pass~
 BadLine 3 | 1 turn 0 pass~end quiet 1~x~end quiet 1~
 OutOfOrder 3 | 1 turn 0 pass~end quiet 1~2 turn 0 pass~x~";
+
+/// Lines that are written. A row is what is told of the line, a bar, a number, the room of the sink, how many bytes it takes at a time, a bar and the text, in which the
+/// number stands in place of the `$`; behind what is told of a line that does not fit stands what is written of it.
+pub const WRITTEN: &str = r##"-- Transitions.
+3 7: local 131075 *7 | 3 600 256 | $ turn 7 local 2.3 7
+3 7: new 0 65536 #0 *1 | 3 600 256 | $ turn 7 new 0.0 1.0 put
+3 7: pick 1 4294967295 *1 | 3 600 256 | $ turn 7 pick 0.1 4294967295
+3 7: write 4294967295 #0 *1 | 3 600 256 | $ turn 7 write 65535.65535 "put"
+-- Values.
+3 7: write 0 0 *1 | 3 600 256 | $ turn 7 write 0.0 0
+3 7: return 65536 1 0 *1 | 3 600 256 | $ turn 7 return 1.0 0.1 0
+3 7: result 131075 0 | 3 600 256 | $ turn 7 result 2.3 0
+3 7: write 0 42 *1 | 3 600 256 | $ turn 7 write 0.0 42
+3 7: return 65536 1 42 *1 | 3 600 256 | $ turn 7 return 1.0 0.1 42
+3 7: result 131075 42 | 3 600 256 | $ turn 7 result 2.3 42
+3 7: write 0 -1 *1 | 3 600 256 | $ turn 7 write 0.0 -1
+3 7: return 65536 1 -1 *1 | 3 600 256 | $ turn 7 return 1.0 0.1 -1
+3 7: result 131075 -1 | 3 600 256 | $ turn 7 result 2.3 -1
+3 7: write 0 9223372036854775807 *1 | 3 600 256 | $ turn 7 write 0.0 9223372036854775807
+3 7: return 65536 1 9223372036854775807 *1 | 3 600 256 | $ turn 7 return 1.0 0.1 9223372036854775807
+3 7: result 131075 9223372036854775807 | 3 600 256 | $ turn 7 result 2.3 9223372036854775807
+3 7: write 0 -9223372036854775808 *1 | 3 600 256 | $ turn 7 write 0.0 -9223372036854775808
+3 7: return 65536 1 -9223372036854775808 *1 | 3 600 256 | $ turn 7 return 1.0 0.1 -9223372036854775808
+3 7: result 131075 -9223372036854775808 | 3 600 256 | $ turn 7 result 2.3 -9223372036854775808
+3 7: write 0 true *1 | 3 600 256 | $ turn 7 write 0.0 true
+3 7: return 65536 1 true *1 | 3 600 256 | $ turn 7 return 1.0 0.1 true
+3 7: result 131075 true | 3 600 256 | $ turn 7 result 2.3 true
+3 7: write 0 false *1 | 3 600 256 | $ turn 7 write 0.0 false
+3 7: return 65536 1 false *1 | 3 600 256 | $ turn 7 return 1.0 0.1 false
+3 7: result 131075 false | 3 600 256 | $ turn 7 result 2.3 false
+3 7: write 0 nil *1 | 3 600 256 | $ turn 7 write 0.0 nil
+3 7: return 65536 1 nil *1 | 3 600 256 | $ turn 7 return 1.0 0.1 nil
+3 7: result 131075 nil | 3 600 256 | $ turn 7 result 2.3 nil
+3 7: write 0 @0 *1 | 3 600 256 | $ turn 7 write 0.0 0.0
+3 7: return 65536 1 @0 *1 | 3 600 256 | $ turn 7 return 1.0 0.1 0.0
+3 7: result 131075 @0 | 3 600 256 | $ turn 7 result 2.3 0.0
+3 7: write 0 @65535 *1 | 3 600 256 | $ turn 7 write 0.0 0.65535
+3 7: return 65536 1 @65535 *1 | 3 600 256 | $ turn 7 return 1.0 0.1 0.65535
+3 7: result 131075 @65535 | 3 600 256 | $ turn 7 result 2.3 0.65535
+3 7: write 0 @65536 *1 | 3 600 256 | $ turn 7 write 0.0 1.0
+3 7: return 65536 1 @65536 *1 | 3 600 256 | $ turn 7 return 1.0 0.1 1.0
+3 7: result 131075 @65536 | 3 600 256 | $ turn 7 result 2.3 1.0
+3 7: write 0 @4294967295 *1 | 3 600 256 | $ turn 7 write 0.0 65535.65535
+3 7: return 65536 1 @4294967295 *1 | 3 600 256 | $ turn 7 return 1.0 0.1 65535.65535
+3 7: result 131075 @4294967295 | 3 600 256 | $ turn 7 result 2.3 65535.65535
+-- Faults.
+3 7: fault 2 NilDestination *1 | 3 600 256 | $ turn 7 fault 0.2 NilDestination
+3 7: fault 2 NilOperand *1 | 3 600 256 | $ turn 7 fault 0.2 NilOperand
+3 7: fault 2 Overflow *1 | 3 600 256 | $ turn 7 fault 0.2 Overflow
+3 7: fault 2 ZeroDivisor *1 | 3 600 256 | $ turn 7 fault 0.2 ZeroDivisor
+3 7: fault 2 NoOpenGuard *1 | 3 600 256 | $ turn 7 fault 0.2 NoOpenGuard
+-- Messages.
+3 7: answer 65536 1 #0 1 nil @131075 false *1 | 3 600 256 | $ turn 7 answer 1.0 0.1 put 1 nil 2.3 false
+3 7: send 1 65536 #0 *1 | 3 600 256 | $ turn 7 send 0.1 1.0 put
+3 7: take 65536 1 #0 *1 | 3 600 256 | $ turn 7 take 1.0 0.1 put
+3 7: call 1 65536 #0[8: -9223372036854775808] | 3 600 256 | $ turn 7 post call 0.1 1.0 put[8: -9223372036854775808]
+-- Delays.
+3 7: create 1 #0 4294967295 | 3 600 256 | $ turn 7 post create 0.1 put 4294967295
+3 7: arrive 1 65536 #0 | 3 600 256 | $ turn 7 arrive 0.1 1.0 put
+3 7: created 1 65536 | 3 600 256 | $ turn 7 created 0.1 1.0
+3 7: pass | 3 600 256 | $ turn 7 pass
+3 7: idle | 3 600 256 | $ turn 7 idle
+4294967295 10-4294967295: pass | 4294967295 600 256 | $ link 10 4294967295 pass
+-- Ends.
+quiet 0 | 0 600 256 | end quiet $
+schedule 2000000 | 2000000 600 256 | end schedule $
+heap 1 9 | 9 600 256 | end full heap 1 $
+frames 0 1 | 1 600 256 | end full frames 0 $
+cells 63 4294967295 | 4294967295 600 256 | end full cells 63 $
+-- The longest string and the shortest.
+2000000 63: write 4294967295 #0 *1 | 2000000 600 256 | $ turn 63 write 65535.65535 "[256:s]"
+2000000 63: write 4294967295 #0 *1 | 2000000 600 256 | $ turn 63 write 65535.65535 ""
+quiet 12 cut:  | 12 0 3 | end quiet $
+quiet 12 cut: e | 12 1 3 | end quiet $
+quiet 12 cut: end quiet  | 12 10 3 | end quiet $
+quiet 12 cut: end quiet 12 | 12 12 3 | end quiet $
+quiet 12 | 12 13 3 | end quiet $"##;

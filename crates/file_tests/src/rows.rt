@@ -1,60 +1,76 @@
-//! The texts of rows.
-//!
-//! In a row `~` is a line feed, `^` a carriage return and `>` a tab; `[N:PART]` is the part N times, with its number from 0 in place of a `$`.
-use std::alloc::{AllocError, Global};
+//! The readers, and the rows of whose text a reader tells another thing.
+use crate::page::{Page, bytes_of};
+use crate::placements::placement;
+use crate::programs::{listed, read};
+use crate::records::{record, written};
+use crate::scans::{decimals, lines, words};
+use crate::schedules::{numbered_event, schedule};
+use code_semantics::Unit;
+use run_words::Placement;
+use std::alloc::Global;
 
 /// The most bytes of a text that a reader is given.
-pub const MOST_BYTES: usize = 67108864;
+const MOST_BYTES: usize = 1048576;
 
-/// Adds the part with a number in place of its `$`.
-fn push_numbered(text: &mut String, part: &str, number: usize) -> Result<(), AllocError> {
-    match part.split_once('$') {
-        Some((before, after)) => write!(text, "{before}{number}{after}"),
-        None => text.push_str(part),
+/// What reads a text, and tells of it.
+#[derive(Clone, Copy)]
+pub enum Reader<'a> {
+    Lines,
+    Words,
+    Decimal,
+    Tokens,
+    Program,
+    Placement(&'a Unit),
+    Schedule(&'a Placement),
+    Event,
+    Record,
+    Written,
+}
+
+/// Puts what the reader tells of a text.
+fn tell(told: &mut Page, reader: Reader<'_>, text: &[u8]) {
+    if text.len() > MOST_BYTES {
+        return;
+    }
+    match reader {
+        Reader::Lines => lines(told, text),
+        Reader::Words => words(told, text),
+        Reader::Decimal => decimals(told, text),
+        Reader::Tokens => listed(told, text),
+        Reader::Program => {
+            let _ = read(told, text);
+        }
+        Reader::Placement(unit) => placement(told, text, unit),
+        Reader::Schedule(mesh) => schedule(told, text, mesh),
+        Reader::Event => numbered_event(told, text),
+        Reader::Record => record(told, text),
+        Reader::Written => written(told, text),
     }
 }
 
-/// Adds what stands behind the colon as often as the number before it says.
-fn push_repeated(text: &mut String, part: &str) -> Result<(), AllocError> {
-    if let Some((count, part)) = part.split_once(':') {
-        for number in 0..count.parse::<usize>().unwrap_or(0) {
-            push_numbered(text, part, number)?;
+/// What the reader tells of a row's text.
+fn told_of(alloc: Global, reader: Reader<'_>, text: &str) -> Page {
+    let mut told = Page::make(alloc);
+    tell(&mut told, reader, &bytes_of(alloc, text));
+    told
+}
+
+impl Page {
+    /// Puts a row of whose text another thing is told, and that thing. A row is what is to be told, a bar and a text.
+    fn row(&mut self, reader: Reader<'_>, row: &str) {
+        let (wanted, text) = row.split_once(" | ").unwrap_or(("a row", row));
+        let told = told_of(self.alloc, reader, text);
+        if told.text.trim_start().as_bytes() != bytes_of(self.alloc, wanted).as_slice() {
+            let _ = write!(self.text, "\n{row}\n  told:{}", told.text);
         }
     }
-    Ok(())
-}
 
-/// The row with its repeated parts spelled out.
-pub fn spread(alloc: Global, row: &str) -> Result<String, AllocError> {
-    let mut text = String::new(alloc);
-    for piece in row.split('[') {
-        match piece.split_once(']') {
-            Some((part, rest)) => {
-                push_repeated(&mut text, part)?;
-                text.push_str(rest)?;
+    /// Puts the rows of whose text another thing is told; a line that begins with two dashes is none.
+    pub fn rows(&mut self, reader: Reader<'_>, rows: &str) {
+        for row in rows.lines() {
+            if !row.starts_with("--") {
+                self.row(reader, row);
             }
-            None => text.push_str(piece)?,
         }
     }
-    Ok(text)
-}
-
-/// The bytes of a row's text.
-pub fn bytes_of(alloc: Global, row: &str) -> Result<Vec<u8>, AllocError> {
-    let text = spread(alloc, row)?;
-    let mut bytes = Vec::new(alloc);
-    for byte in text.as_bytes() {
-        bytes.push(match *byte {
-            b'~' => b'\n',
-            b'^' => b'\r',
-            b'>' => b'\t',
-            other => other,
-        })?;
-    }
-    Ok(bytes)
-}
-
-/// Adds a row of whose text another thing is told, and that thing.
-pub fn push_wrong(wrong: &mut String, row: &str, told: &str) -> Result<(), AllocError> {
-    write!(wrong, "{row}\n  told: {told}\n")
 }

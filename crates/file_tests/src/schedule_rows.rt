@@ -4,8 +4,10 @@
 //! behind two points the last one, where it is none of these. A turn is its node, and a move on a link its two nodes; what happens on
 //! a wire stands before these, and behind the number of events whether links are wires. A line that begins with two dashes is a heading.
 
-/// The quantum line.
-pub const QUANTA: &str = r##"-- The quantum at its limits, and one past them.
+/// Blocks of rows, each behind the width and the height of its mesh, of which the link from 0 to 1 is cut where it says so.
+pub const SCHEDULES: &str = "2 2
+-- The quantum line.
+-- The quantum at its limits, and one past them.
 1 0 | quantum 1
 1 0 | quantum 1~
 10000 0 | quantum 10000
@@ -47,10 +49,9 @@ BadLine 1 | round 0
 BadLine 3 | ~# c~turn 0
 BadLine 2 | quantum 1~quantum 1
 BadLine 2 | quantum 1~quantum 2
-BadLine 3 | quantum 1~turn 0~quantum 1"##;
-
-/// Blanks, line ends and comments.
-pub const ENDS: &str = r##"-- No line is left: one more than the number of lines.
+BadLine 3 | quantum 1~turn 0~quantum 1
+-- Blanks, line ends and comments.
+-- No line is left: one more than the number of lines.
 BadLine 1 | 
 BadLine 2 | ~
 BadLine 3 | ~~
@@ -89,10 +90,9 @@ BadLine 2 | quantum 1^~turn 2^
 BadLine 2 | quantum 1~^
 BadLine 2 | quantum 1~^^~
 BadLine 2 | quantum 1~turn 2^^~
-BadLine 1 | quantum 1^turn 2"##;
-
-/// Turns, moves and rounds on four nodes, two in a row.
-pub const TURNS: &str = r##"-- Turns.
+BadLine 1 | quantum 1^turn 2
+-- Turns, moves and rounds on four nodes, two in a row.
+-- Turns.
 5 1 0 | quantum 5~turn 0
 5 1 3 | quantum 5~turn 3
 5 3 2 2 2 | quantum 5~turn 2 3
@@ -177,10 +177,9 @@ BadLine 2 | quantum 5~round -1
 BadLine 2 | quantum 5~round x
 BadLine 2 | quantum 5~rounds 1
 BadLine 2 | quantum 5~objects 1
-BadLine 2 | quantum 5~place Main same"##;
-
-/// Two faults, on the same four nodes.
-pub const PAIRS: &str = r##"-- On one line: the least.
+BadLine 2 | quantum 5~place Main same
+-- Two faults, on the same four nodes.
+-- On one line: the least.
 BadLine 2 | quantum 1~turn 4 x
 BadLine 2 | quantum 1~turn 4 1 1
 BadLine 2 | quantum 1~link 4
@@ -232,125 +231,11 @@ BadLine 3 | quantum 1~round 2000000~x
 NoSuchNode 3 | quantum 1~round 2000000~turn 4
 NoSuchLink 3 | quantum 1~round 2000000~link 0 3
 OutOfRange 3 | quantum 1~round 2000000~turn 0 0
-OutOfRange 4 | quantum 1~turn 0 2000000~turn 0~round 0"##;
-
-/// Widths, heights and rows for them.
-pub const LINKS: [(u32, u32, &str); 6] = [
-    (
-        1,
-        1,
-        r##"1 3 0 0 0 | quantum 1~round 3
-1 1 0 | quantum 1~turn 0
-NoSuchNode 2 | quantum 1~turn 1
-NoSuchNode 2 | quantum 1~link 0 1
-NoSuchLink 2 | quantum 1~link 0 0"##,
-    ),
-    (
-        4,
-        1,
-        r##"1 10 0 1 2 3 0-1 1-0 1-2 2-1 2-3 3-2 | quantum 1~round 1
-1 3 0-1 3-2 2-1 | quantum 1~link 0 1~link 3 2~link 2 1
-NoSuchNode 2 | quantum 1~link 3 4
-NoSuchLink 2 | quantum 1~link 0 2
-NoSuchLink 2 | quantum 1~link 3 0"##,
-    ),
-    (
-        1,
-        4,
-        r##"1 10 0 1 2 3 0-1 1-0 1-2 2-1 2-3 3-2 | quantum 1~round 1
-1 3 0-1 3-2 2-1 | quantum 1~link 0 1~link 3 2~link 2 1
-NoSuchNode 2 | quantum 1~link 4 3
-NoSuchLink 2 | quantum 1~link 0 2
-NoSuchLink 2 | quantum 1~link 0 3"##,
-    ),
-    (
-        3,
-        2,
-        r##"1 20 0 1 2 3 4 5 0-1 0-3 1-0 1-2 1-4 2-1 .. 5-4 | quantum 1~round 1
-1 4 0-3 5-2 4-3 1-4 | quantum 1~link 0 3~link 5 2~link 4 3~link 1 4
-NoSuchLink 2 | quantum 1~link 2 3
-NoSuchLink 2 | quantum 1~link 3 2
-NoSuchLink 2 | quantum 1~link 0 2
-NoSuchLink 2 | quantum 1~link 0 4
-NoSuchLink 2 | quantum 1~link 1 5
-NoSuchLink 2 | quantum 1~link 0 5
-NoSuchNode 2 | quantum 1~link 0 6
-NoSuchNode 2 | quantum 1~link 6 3
-NoSuchNode 2 | quantum 1~turn 6"##,
-    ),
-    (
-        2,
-        3,
-        r##"1 20 0 1 2 3 4 5 0-1 0-2 1-0 1-3 2-0 2-3 .. 5-4 | quantum 1~round 1
-1 4 0-2 5-3 2-3 4-5 | quantum 1~link 0 2~link 5 3~link 2 3~link 4 5
-NoSuchLink 2 | quantum 1~link 1 2
-NoSuchLink 2 | quantum 1~link 3 4
-NoSuchLink 2 | quantum 1~link 0 3
-NoSuchLink 2 | quantum 1~link 0 4
-NoSuchLink 2 | quantum 1~link 1 5
-NoSuchNode 2 | quantum 1~link 5 6"##,
-    ),
-    (
-        8,
-        8,
-        r##"1 288 0 1 2 3 4 5 6 7 8 9 10 11 .. 63-62 | quantum 1~round 1
-1 4 0-8 55-63 15-7 62-61 | quantum 1~link 0 8~link 55 63~link 15 7~link 62 61
-1 1 63 | quantum 1~turn 63
-NoSuchNode 2 | quantum 1~turn 64
-NoSuchNode 2 | quantum 1~link 63 64
-NoSuchNode 2 | quantum 1~link 56 64
-NoSuchLink 2 | quantum 1~link 7 8
-NoSuchLink 2 | quantum 1~link 8 7
-NoSuchLink 2 | quantum 1~link 0 9
-NoSuchLink 2 | quantum 1~link 0 16
-NoSuchLink 2 | quantum 1~link 0 63"##,
-    ),
-];
-
-/// Widths, heights, and schedules of about the most events and of more.
-pub const MANY: [(u32, u32, &str); 3] = [
-    (
-        1,
-        1,
-        r##"1 2000000 [12:0 ].. 0 | quantum 1~round 2000000
-1 2000000 [12:0 ].. 0 | quantum 1~round 1999999~turn 0
-1 2000000 [12:0 ].. 0 | quantum 1~[2000:turn 0 1000~]
-1 2000 [12:0 ].. 0 | quantum 1~[2000:turn 0~]
-TooManyEvents 2000001 | quantum 1~round 2000000~turn 0
-TooManyEvents 2000001 | quantum 1~turn 0~round 2000000
-TooManyEvents 2000001 | quantum 1~[2000:turn 0 1000~]turn 0
-TooManyEvents 4000000 | quantum 1~turn 0 2000000~round 2000000
-TooManyEvents 4296000000 | quantum 1~[2148:turn 0 2000000~]"##,
-    ),
-    (
-        2,
-        2,
-        r##"1 1999992 0 1 2 3 0-1 0-2 1-0 1-3 2-0 2-3 3-1 3-2 .. 3-2 | quantum 1~round 166666
-1 2000000 0 1 2 3 0-1 0-2 1-0 1-3 2-0 2-3 3-1 3-2 .. 0 | quantum 1~round 166666~turn 0 8
-1 2000000 [12:0 ].. 0-1 | quantum 1~turn 0 1000000~link 0 1 1000000
-TooManyEvents 2000001 | quantum 1~round 166666~turn 0 9
-TooManyEvents 2000001 | quantum 1~turn 0 1000000~link 0 1 1000000~turn 3
-TooManyEvents 2000001 | quantum 1~turn 0 2000000~turn 0
-TooManyEvents 2000001 | quantum 1~link 0 1~turn 0 2000000
-TooManyEvents 2000004 | quantum 1~round 166667
-TooManyEvents 24000000 | quantum 1~round 2000000
-TooManyEvents 26000001 | quantum 1~turn 0 2000000~round 2000000~turn 0"##,
-    ),
-    (
-        8,
-        8,
-        r##"1 1999872 0 1 2 3 4 5 6 7 8 9 10 11 .. 63-62 | quantum 1~round 6944
-TooManyEvents 2000160 | quantum 1~round 6945
-TooManyEvents 576000000 | quantum 1~round 2000000
-TooManyEvents 4608000000 | quantum 1~[8:round 2000000~]
-TooManyEvents 576000000000 | quantum 1~[1000:round 2000000~]"##,
-    ),
-];
-
-/// Wires that may lose, on the four nodes.
-pub const WIRES: &str = "-- The worked schedule.
-5 15 lossy 0 send:0-1 lose:0-1 send:0-1 twice:0-1 0-1 0-1 ack:0-1 1 send:1-0 1-0 ack:1-0 .. ack:0-1 | \
-    quantum 5~wires lossy~turn 0~send 0 1~lose 0 1~send 0 1~twice 0 1~link 0 1 2~ack 0 1~turn 1~send 1 0~link 1 0~ack 1 0~turn 0 2~ack 0 1
+OutOfRange 4 | quantum 1~turn 0 2000000~turn 0~round 0
+-- Wires that may lose, on the four nodes.
+-- The worked schedule.
+5 15 lossy 0 send:0-1 lose:0-1 send:0-1 twice:0-1 0-1 0-1 ack:0-1 1 send:1-0 1-0 ack:1-0 .. ack:0-1 | quantum 5~wires lossy~turn 0~send 0 1~lose 0 1~send 0 \
+    1~twice 0 1~link 0 1 2~ack 0 1~turn 1~send 1 0~link 1 0~ack 1 0~turn 0 2~ack 0 1
 -- Each word.
 1 1 lossy send:0-1 | quantum 1~wires lossy~send 0 1
 1 1 lossy ack:0-1 | quantum 1~wires lossy~ack 0 1
@@ -382,11 +267,9 @@ TooManyEvents 56000000 | quantum 1~wires lossy~round 2000000
 1 0 lossy | quantum 1~wires lossy~
 1 0 lossy | quantum 1^~>wires [3: ]lossy >^~
 1 0 lossy | # c~quantum 1~~# c~ ~wires lossy~# c
-1 1 lossy send:0-1 | ~quantum 1~# wires lossy~~wires lossy~~send 0 1";
-
-/// What is wrong with wires.
-pub const WIRE_FAULTS: &str =
-    r##"-- The line stands once, directly behind the quantum, and is spelled so.
+1 1 lossy send:0-1 | ~quantum 1~# wires lossy~~wires lossy~~send 0 1
+-- What is wrong with wires.
+-- The line stands once, directly behind the quantum, and is spelled so.
 BadLine 1 | wires lossy
 BadLine 1 | wires lossy~quantum 1
 BadLine 3 | quantum 1~wires lossy~wires lossy
@@ -467,10 +350,21 @@ NoSuchLink 3 | quantum 1~wires lossy~ack 0 3 0
 OutOfRange 3 | quantum 1~wires lossy~send 0 1 0
 OutOfRange 3 | quantum 1~wires lossy~ack 0 1 2000001
 OutOfRange 4 | quantum 1~wires lossy~send 0 1~round 0
-NoSuchNode 4 | quantum 1~~wires lossy~lose 0 7~send 0 0"##;
+NoSuchNode 4 | quantum 1~~wires lossy~lose 0 7~send 0 0
+-- About the most events, and more.
+1 1999992 0 1 2 3 0-1 0-2 1-0 1-3 2-0 2-3 3-1 3-2 .. 3-2 | quantum 1~round 166666
+1 2000000 0 1 2 3 0-1 0-2 1-0 1-3 2-0 2-3 3-1 3-2 .. 0 | quantum 1~round 166666~turn 0 8
+1 2000000 [12:0 ].. 0-1 | quantum 1~turn 0 1000000~link 0 1 1000000
+TooManyEvents 2000001 | quantum 1~round 166666~turn 0 9
+TooManyEvents 2000001 | quantum 1~turn 0 1000000~link 0 1 1000000~turn 3
+TooManyEvents 2000001 | quantum 1~turn 0 2000000~turn 0
+TooManyEvents 2000001 | quantum 1~link 0 1~turn 0 2000000
+TooManyEvents 2000004 | quantum 1~round 166667
+TooManyEvents 24000000 | quantum 1~round 2000000
+TooManyEvents 26000001 | quantum 1~turn 0 2000000~round 2000000~turn 0
 
-/// The four nodes without the link from 0 to 1.
-pub const AROUND_A_CUT: &str = "-- A line may not ask for it, and it goes in one direction.
+2 2 cut
+-- A line may not ask for it, and it goes in one direction.
 NoSuchLink 2 | quantum 1~link 0 1
 1 1 1-0 | quantum 1~link 1 0
 NoSuchLink 3 | quantum 1~wires lossy~link 0 1
@@ -483,43 +377,116 @@ NoSuchLink 3 | quantum 1~wires lossy~lose ack 0 1
 NoSuchLink 3 | quantum 1~wires lossy~twice ack 0 1
 NoSuchLink 3 | quantum 1~wires lossy~late ack 0 1
 NoSuchLink 3 | quantum 1~wires lossy~send 0 1 0
-1 8 lossy send:1-0 ack:1-0 lose:1-0 twice:1-0 late:1-0 lose-ack:1-0 twice-ack:1-0 late-ack:1-0 | \
-    quantum 1~wires lossy~send 1 0~ack 1 0~lose 1 0~twice 1 0~late 1 0~lose ack 1 0~twice ack 1 0~late ack 1 0
+1 8 lossy send:1-0 ack:1-0 lose:1-0 twice:1-0 late:1-0 lose-ack:1-0 twice-ack:1-0 late-ack:1-0 | quantum 1~wires lossy~send 1 0~ack 1 0~lose 1 0~twice 1 \
+    0~late 1 0~lose ack 1 0~twice ack 1 0~late ack 1 0
 -- A round passes it over.
 1 11 0 1 2 3 0-2 1-0 1-3 2-0 2-3 3-1 3-2 | quantum 1~round 1
 1 25 lossy 0 1 2 3 send:0-2 0-2 ack:0-2 send:1-0 1-0 ack:1-0 send:1-3 1-3 .. ack:3-2 | quantum 1~wires lossy~round 1
 1 2000000 lossy 0 1 2 3 send:0-2 0-2 ack:0-2 send:1-0 1-0 ack:1-0 send:1-3 1-3 .. ack:3-2 | quantum 1~wires lossy~round 80000
-TooManyEvents 2000001 | quantum 1~wires lossy~round 80000~late 1 0";
+TooManyEvents 2000001 | quantum 1~wires lossy~round 80000~late 1 0
+
+1 1
+1 3 0 0 0 | quantum 1~round 3
+1 1 0 | quantum 1~turn 0
+NoSuchNode 2 | quantum 1~turn 1
+NoSuchNode 2 | quantum 1~link 0 1
+NoSuchLink 2 | quantum 1~link 0 0
+-- About the most events, and more.
+1 2000000 [12:0 ].. 0 | quantum 1~round 2000000
+1 2000000 [12:0 ].. 0 | quantum 1~round 1999999~turn 0
+1 2000000 [12:0 ].. 0 | quantum 1~[2000:turn 0 1000~]
+1 2000 [12:0 ].. 0 | quantum 1~[2000:turn 0~]
+TooManyEvents 2000001 | quantum 1~round 2000000~turn 0
+TooManyEvents 2000001 | quantum 1~turn 0~round 2000000
+TooManyEvents 2000001 | quantum 1~[2000:turn 0 1000~]turn 0
+TooManyEvents 4000000 | quantum 1~turn 0 2000000~round 2000000
+TooManyEvents 4296000000 | quantum 1~[2148:turn 0 2000000~]
+
+4 1
+1 10 0 1 2 3 0-1 1-0 1-2 2-1 2-3 3-2 | quantum 1~round 1
+1 3 0-1 3-2 2-1 | quantum 1~link 0 1~link 3 2~link 2 1
+NoSuchNode 2 | quantum 1~link 3 4
+NoSuchLink 2 | quantum 1~link 0 2
+NoSuchLink 2 | quantum 1~link 3 0
+
+1 4
+1 10 0 1 2 3 0-1 1-0 1-2 2-1 2-3 3-2 | quantum 1~round 1
+1 3 0-1 3-2 2-1 | quantum 1~link 0 1~link 3 2~link 2 1
+NoSuchNode 2 | quantum 1~link 4 3
+NoSuchLink 2 | quantum 1~link 0 2
+NoSuchLink 2 | quantum 1~link 0 3
+
+3 2
+1 20 0 1 2 3 4 5 0-1 0-3 1-0 1-2 1-4 2-1 .. 5-4 | quantum 1~round 1
+1 4 0-3 5-2 4-3 1-4 | quantum 1~link 0 3~link 5 2~link 4 3~link 1 4
+NoSuchLink 2 | quantum 1~link 2 3
+NoSuchLink 2 | quantum 1~link 3 2
+NoSuchLink 2 | quantum 1~link 0 2
+NoSuchLink 2 | quantum 1~link 0 4
+NoSuchLink 2 | quantum 1~link 1 5
+NoSuchLink 2 | quantum 1~link 0 5
+NoSuchNode 2 | quantum 1~link 0 6
+NoSuchNode 2 | quantum 1~link 6 3
+NoSuchNode 2 | quantum 1~turn 6
+
+2 3
+1 20 0 1 2 3 4 5 0-1 0-2 1-0 1-3 2-0 2-3 .. 5-4 | quantum 1~round 1
+1 4 0-2 5-3 2-3 4-5 | quantum 1~link 0 2~link 5 3~link 2 3~link 4 5
+NoSuchLink 2 | quantum 1~link 1 2
+NoSuchLink 2 | quantum 1~link 3 4
+NoSuchLink 2 | quantum 1~link 0 3
+NoSuchLink 2 | quantum 1~link 0 4
+NoSuchLink 2 | quantum 1~link 1 5
+NoSuchNode 2 | quantum 1~link 5 6
+
+8 8
+1 288 0 1 2 3 4 5 6 7 8 9 10 11 .. 63-62 | quantum 1~round 1
+1 4 0-8 55-63 15-7 62-61 | quantum 1~link 0 8~link 55 63~link 15 7~link 62 61
+1 1 63 | quantum 1~turn 63
+NoSuchNode 2 | quantum 1~turn 64
+NoSuchNode 2 | quantum 1~link 63 64
+NoSuchNode 2 | quantum 1~link 56 64
+NoSuchLink 2 | quantum 1~link 7 8
+NoSuchLink 2 | quantum 1~link 8 7
+NoSuchLink 2 | quantum 1~link 0 9
+NoSuchLink 2 | quantum 1~link 0 16
+NoSuchLink 2 | quantum 1~link 0 63
+-- About the most events, and more.
+1 1999872 0 1 2 3 4 5 6 7 8 9 10 11 .. 63-62 | quantum 1~round 6944
+TooManyEvents 2000160 | quantum 1~round 6945
+TooManyEvents 576000000 | quantum 1~round 2000000
+TooManyEvents 4608000000 | quantum 1~[8:round 2000000~]
+TooManyEvents 576000000000 | quantum 1~[1000:round 2000000~]";
 
 /// A schedule on the four nodes.
 pub const ROUNDS: &str = "quantum 3~turn 1 2~round 2~link 2 3 3~turn 0~round 1000~link 3 1 5";
 
-/// Its events by their numbers, from 0; nothing where there is none.
-pub const EVENTS: &str = "0: 1
-1: 1
-2: 0
-3: 1
-5: 3
-6: 0-1
-7: 0-2
-12: 3-1
-13: 3-2
-14: 0
-15: 1
-25: 3-2
-26: 2-3
-28: 2-3
-29: 0
-30: 0
-31: 1
-41: 3-2
-42: 0
-6029: 3-2
-6030: 0
-6031: 1
-6034: 0-1
-12029: 3-2
-12030: 3-1
-12034: 3-1
-12035:
-4294967295:";
+/// A row is an event and its number, from 0.
+pub const EVENTS: &str = "1 | 0
+1 | 1
+0 | 2
+1 | 3
+3 | 5
+0-1 | 6
+0-2 | 7
+3-1 | 12
+3-2 | 13
+0 | 14
+1 | 15
+3-2 | 25
+2-3 | 26
+2-3 | 28
+0 | 29
+0 | 30
+1 | 31
+3-2 | 41
+0 | 42
+3-2 | 6029
+0 | 6030
+1 | 6031
+0-1 | 6034
+3-2 | 12029
+3-1 | 12030
+3-1 | 12034
+none | 12035
+none | 4294967295";

@@ -1,2 +1,2 @@
-pub mod Known
 pub mod After
+pub mod Planned

@@ -23,18 +23,19 @@ pub fn answer(pool: &mut CellPool<u64>, call: Call, queue: usize, number: u64) -
     ensures { length pool.new.lists ≡ length pool.old.lists }
 {
     let place = number as usize;
+    let len = pool.len(queue);
     match call {
         Call::PushBack => pool.push_back(queue, number).err(),
         Call::PushFront => pool.push_front(queue, number).err(),
         Call::PopFront => pool.pop_front(queue),
-        Call::Remove if place < pool.len(queue) => Some(pool.remove(queue, place)),
-        Call::Double if place < pool.len(queue) => Some(double(pool.get_mut(queue, place))),
-        Call::Get if place < pool.len(queue) => Some(*pool.get(queue, place)),
+        Call::Remove if place < len => Some(pool.remove(queue, place)),
+        Call::Double if place < len => Some(double(pool.get_mut(queue, place))),
+        Call::Get if place < len => Some(*pool.get(queue, place)),
         Call::Position => match pool.position(queue, |value| *value == number) {
             Some(at) => Some(at as u64),
             None => None,
         },
-        Call::Len => Some(pool.len(queue) as u64),
+        Call::Len => Some(len as u64),
         Call::Free => Some(pool.free() as u64),
         _ => None,
     }

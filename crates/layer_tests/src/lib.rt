@@ -1,5 +1,5 @@
-//! Tests of the layers by their public calls, without the top call: a whole run; and the pool of cells and the mailbox, by rows that were
-//! worked out by hand and by long series beside plain lists.
+//! Tests of the layers by their public calls, without the top call: a whole run; tables of routes; and the pool of cells and the
+//! mailbox, by rows that were worked out by hand and by long series beside plain lists.
 #![tactic(auto)]
 
 #[cfg(test)]
@@ -12,5 +12,7 @@ mod pools;
 mod run;
 #[cfg(test)]
 mod series;
+#[cfg(test)]
+mod tables;
 #[cfg(test)]
 mod told;

@@ -1,65 +1,89 @@
 //! A mailbox of few cells, worked out by hand.
-ghost use Rattle.std.specs.Prelude.{◌≡◌, ◌<◌, length};
+ghost use Rattle.std.specs.Prelude.{◌≡◌, ◌≤◌, length};
 
 use mailbox::{Mailbox, Message};
 use run_words::{Args, List, NameId, Value};
 use std::test::Fail;
 
-fn message(from: u32, method: u32, call: Option<u32>) -> Message {
+// What is asked of a mailbox, and its answer: a message is put, or comes back; the first one with a name is taken from its place; or none has a name.
+#[derive(Clone, Copy)]
+enum Step {
+    Put,
+    Back,
+    Taken(usize),
+    Nothing,
+}
+
+// A step, the slot, the message by its sender, its method and its call, and how many messages are there after it.
+type Row = (Step, u32, u32, u32, Option<u32>, u32);
+
+const ROWS: &[Row] = &[
+    (Step::Put, 1, 10, 7, None, 1),
+    (Step::Put, 1, 11, 9, Some(3), 2),
+    (Step::Put, 1, 12, 8, None, 3),
+    (Step::Put, 0, 13, 8, Some(4), 4),
+    (Step::Back, 1, 14, 8, None, 4),
+    (Step::Taken(1), 1, 11, 9, Some(3), 3),
+    (Step::Put, 1, 14, 8, None, 4),
+    (Step::Taken(1), 1, 12, 8, None, 3),
+    (Step::Taken(1), 1, 14, 8, None, 2),
+    (Step::Nothing, 1, 0, 0, None, 2),
+    (Step::Taken(0), 0, 13, 8, Some(4), 1),
+];
+
+fn is_same(left: &Message, right: &Message) -> bool {
+    let head = left.from == right.from && left.method.0 == right.method.0;
+    head && left.call == right.call && left.args.values() == right.args.values()
+}
+
+/// Whether the mailbox answers as a row says.
+fn is_answered(mailbox: &mut Mailbox, names: &List<NameId>, row: &Row) -> bool
+    requires { 2 ≤ length mailbox.old.boxes }
+    ensures { length mailbox.new.boxes ≡ length mailbox.old.boxes }
+{
+    let (step, slot, from, method, call, _) = *row;
+    let method = NameId(method);
+    let to = slot % 2;
     let mut args = Args::make();
     args.add(Value::Int(7));
-    Message {
+    let message = Message {
         from,
-        method: NameId(method),
+        method,
         args,
         call,
+    };
+    match step {
+        Step::Put => mailbox.post(to, message).is_ok(),
+        Step::Back => match mailbox.post(to, message) {
+            Ok(()) => false,
+            Err(back) => is_same(&back, &message),
+        },
+        Step::Taken(place) => match mailbox.first(to, names) {
+            Some(at) => is_same(&mailbox.take(to, at), &message) & (at == place),
+            None => false,
+        },
+        Step::Nothing => mailbox.first(to, names).is_none(),
     }
 }
 
-fn arrives(mailbox: &mut Mailbox, to: u32, message: Message) -> Option<Message>
-    requires { to < length mailbox.old.boxes }
-    ensures { length mailbox.new.boxes ≡ length mailbox.old.boxes }
+/// Whether the mailbox answers as each row says, and then has so many messages.
+fn are_answered(mailbox: &mut Mailbox, names: &List<NameId>, rows: &[Row]) -> bool
+    requires { 2 ≤ length mailbox.old.boxes }
 {
-    mailbox.post(to, message).err()
-}
-
-/// The first message with one of the names, with its place, which is taken.
-fn taken(mailbox: &mut Mailbox, to: u32, names: &List<NameId>) -> Option<(usize, Message)>
-    requires { to < length mailbox.old.boxes }
-    ensures { length mailbox.new.boxes ≡ length mailbox.old.boxes }
-{
-    let place = mailbox.first(to, names)?;
-    Some((place, mailbox.take(to, place)))
+    for row in rows {
+        if !is_answered(mailbox, names, row) || mailbox.count() != row.5 {
+            return false;
+        }
+    }
+    true
 }
 
 #[test]
 fn the_first_with_a_name_is_taken_out_of_the_middle(rt: HostRuntime) -> Result<(), Fail> {
-    let mut names = List::make(rt.alloc());
-    names.push(NameId(8))?;
-    names.push(NameId(9))?;
     let mut mailbox = Mailbox::make(rt.alloc(), 2, 4)?;
-    assert!(rt; arrives(&mut mailbox, 1, message(10, 7, None)).is_none());
-    assert!(rt; arrives(&mut mailbox, 1, message(11, 9, Some(3))).is_none());
-    assert!(rt; arrives(&mut mailbox, 1, message(12, 8, None)).is_none());
-    assert!(rt; arrives(&mut mailbox, 0, message(13, 8, Some(4))).is_none());
-    let back = arrives(&mut mailbox, 1, message(14, 8, None));
-    assert_eq!(rt; back.map(|message| message.from), Some(14));
-    assert_eq!(rt; mailbox.count(), 4);
-
-    let (place, first) = taken(&mut mailbox, 1, &names).expect(&rt, "the message of 11");
-    assert_eq!(rt;
-        (place, first.from, first.method.0, first.call),
-        (1, 11, 9, Some(3))
-    );
-    assert!(rt; first.args.values() == [Value::Int(7)].as_slice());
-    assert_eq!(rt; mailbox.count(), 3);
-    assert!(rt; arrives(&mut mailbox, 1, message(14, 8, None)).is_none());
-    let (place, next) = taken(&mut mailbox, 1, &names).expect(&rt, "the message of 12");
-    assert_eq!(rt; (place, next.from), (1, 12));
-    let (place, last) = taken(&mut mailbox, 1, &names).expect(&rt, "the message of 14");
-    assert_eq!(rt; (place, last.from), (1, 14));
-    assert!(rt; taken(&mut mailbox, 1, &names).is_none());
-    let (place, other) = taken(&mut mailbox, 0, &names).expect(&rt, "the message of 13");
-    assert_eq!(rt; (place, other.from, mailbox.count()), (0, 13, 1));
+    let mut names = List::make(rt.alloc());
+    let _ = names.push(NameId(8));
+    let _ = names.push(NameId(9));
+    assert!(rt; are_answered(&mut mailbox, &names, ROWS));
     Ok(())
 }

@@ -1,8 +1,7 @@
 //! Pools of few cells, with answers that were worked out by hand.
-ghost use Rattle.std.specs.Prelude.{◌≤◌, length};
-
 use crate::calls::{Call, answer};
 use cell_pool::CellPool;
+use std::alloc::Global;
 use std::test::Fail;
 
 // A call, its queue, its number, and its answer.
@@ -70,28 +69,24 @@ const ONE_CELL: &[Row] = &[
     (Call::Free, 0, 0, Some(1)),
 ];
 
-/// The first row with another answer.
-fn another(pool: &mut CellPool<u64>, rows: &[Row]) -> Option<usize>
-    requires { 2 ≤ length pool.old.lists }
-{
-    for number in 0..rows.len() {
-        let (call, queue, given, want) = rows[number];
-        if answer(pool, call, queue % 2, given) != want {
-            return Some(number);
+/// Whether a pool of so many cells and two queues answers as the rows say.
+fn is_answered(alloc: Global, cells: usize, rows: &[Row]) -> bool {
+    let Ok(mut pool) = CellPool::make(alloc, cells, 2) else {
+        return false;
+    };
+    for (call, queue, number, want) in rows {
+        if answer(&mut pool, *call, *queue % 2, *number) != *want {
+            return false;
         }
     }
-    None
+    true
 }
 
 #[test]
 fn small_pools_answer_as_written(rt: HostRuntime) -> Result<(), Fail> {
     let alloc = rt.alloc();
-    assert_eq!(rt;
-        another(&mut CellPool::make(alloc, 3, 2)?, THREE_CELLS),
-        None
-    );
-    assert_eq!(rt; another(&mut CellPool::make(alloc, 2, 2)?, TWO_CELLS), None);
-    assert_eq!(rt; another(&mut CellPool::make(alloc, 0, 2)?, NO_CELL), None);
-    assert_eq!(rt; another(&mut CellPool::make(alloc, 1, 2)?, ONE_CELL), None);
+    let many = is_answered(alloc, 3, THREE_CELLS) & is_answered(alloc, 2, TWO_CELLS);
+    let few = is_answered(alloc, 0, NO_CELL) & is_answered(alloc, 1, ONE_CELL);
+    assert!(rt; many & few);
     Ok(())
 }

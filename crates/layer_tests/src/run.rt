@@ -1,22 +1,29 @@
 //! The record of a call between two nodes.
-ghost use Rattle.std.specs.Prelude.{◌≤◌, length, IfOk, IfSome};
+ghost use Rattle.std.specs.Prelude.{◌≡◌, ◌≤◌, IfSome, false, length, true};
 ghost use Rattle.code_semantics.specs.Proper.{IsProper};
 ghost use Rattle.code_semantics.specs.Suits.{Suits};
 ghost use Rattle.layer_tests.specs.Running.{IsRunning};
+ghost use Rattle.pool_lexer.specs.Ended.{EndsInEnd};
+ghost use Rattle.pool_syntax.specs.Tokens.{toks};
+ghost use Rattle.pool_syntax.specs.TreeOf.{program_of};
+ghost use Rattle.pool_grammar.specs.Programs.{IsGrammatical};
+ghost use Rattle.pool_syntax.specs.Spelled.{is_spelled, AreSpelled};
+ghost use Rattle.schedule_reader.specs.Plans.{IsPlanFor};
 
-use crate::told::{id_of_line, is_of_mesh, known};
+use crate::told::is_writable;
 use class_check::check;
 use code_semantics::Unit;
 use placement_reader::read_placement;
 use pool_compile::compile;
-use pool_lexer::tokens;
+use pool_lexer::{Tokens, tokens};
 use pool_machine::{Machine, Outcome};
 use pool_outside::MemSink;
 use pool_parser::parse;
+use pool_syntax::Program;
 use run_record::write_line;
 use run_words::{End, Line, Names, Placement};
 use schedule_reader::{Schedule, read_schedule};
-use std::alloc::{AllocError, Global};
+use std::alloc::Global;
 use std::test::Fail;
 
 const PROGRAM: &[u8] =
@@ -54,20 +61,9 @@ const RECORD: &[u8] = b"1 turn 0 post create 0.0 Server 1
 end quiet 12
 ";
 
-/// Writes a line whose name, if it has one, is this text of the table; whether it was written.
-fn write_named(line: &Line, names: &Names, text: &[u8], sink: &mut MemSink) -> bool
-    requires { length text.now ≤ 256 }
-{
-    match (known(names, text), id_of_line(line)) {
-        (Some(place), Some(id)) => id.0 == place.0 && write_line(line, names, sink).is_ok(),
-        (_, None) => write_line(line, names, sink).is_ok(),
-        (None, Some(_)) => false,
-    }
-}
-
-/// Writes a line, whose name, if it has one, is the class or the method of the server; whether it was written.
+/// Writes a line of the kinds above; whether it was written.
 fn write(line: &Line, names: &Names, sink: &mut MemSink) -> bool {
-    write_named(line, names, b"Server", sink) || write_named(line, names, b"twice", sink)
+    is_writable(line, names) && write_line(line, names, sink).is_ok()
 }
 
 /// Makes the events of a schedule until all is quiet, and writes the line of each, and then how the run ended.
@@ -79,22 +75,18 @@ fn write_run(
     sink: &mut MemSink,
 ) -> bool
     requires running { IsRunning placement.now machine.old }
-    requires wide { (1 ≤ placement.now.width) × (placement.now.width ≤ 8) }
-    requires high { (1 ≤ placement.now.height) × (placement.now.height ≤ 8) }
+    requires planned { IsPlanFor placement.now schedule.now }
+    requires calm { schedule.now.lossy ≡ false }
 {
     for place in 0..schedule.len() {
         if machine.is_quiet() {
-            let done = machine.done();
-            return write(&Line::End(End::Quiet { done }), names, sink);
+            continue;
+        }
+        if machine.done() == u32::MAX {
+            return false;
         }
         let event = schedule.event(place);
         let quantum = schedule.quantum();
-        if !is_of_mesh(placement, &event) {
-            return false;
-        }
-        if !(1..=10000).contains(&quantum) || machine.done() == u32::MAX {
-            return false;
-        }
         match machine.event(event, quantum) {
             Outcome::Line(line) => {
                 if !write(&line, names, sink) {
@@ -113,58 +105,105 @@ fn write_run(
     write(&Line::End(end), names, sink)
 }
 
-/// What is written of a run of the unit.
-fn record(
+/// Writes the record of a run of the unit; whether each line was written.
+fn runs(
     alloc: Global,
     unit: &Unit,
     placement: &Placement,
     schedule: &Schedule,
-) -> Result<Option<Vec<u8>>, AllocError>
+    sink: &mut MemSink,
+) -> bool
     requires proper { IsProper unit.now }
     requires suits { Suits placement.now unit.now }
+    requires planned { IsPlanFor placement.now schedule.now }
+    requires calm { schedule.now.lossy ≡ false }
 {
-    let mut sink = MemSink::make(alloc, 1048576, 4096, Vec::new(alloc))?;
-    let Ok(mut machine) = Machine::make(alloc, unit, placement, false) else {
-        return Err(AllocError);
+    match Machine::make(alloc, unit, placement, false) {
+        Ok(mut machine) => write_run(&mut machine, placement, schedule, &unit.names, sink),
+        Err(_) => false,
+    }
+}
+
+/// The same of a run by the schedule of a text.
+fn runs_planned(
+    alloc: Global,
+    unit: &Unit,
+    placement: &Placement,
+    text: &[u8],
+    sink: &mut MemSink,
+) -> bool
+    requires proper { IsProper unit.now }
+    requires suits { Suits placement.now unit.now }
+    requires small { length text.now ≤ 67108864 }
+{
+    match read_schedule(alloc, text, placement) {
+        Ok(schedule) => !schedule.lossy() && runs(alloc, unit, placement, &schedule, sink),
+        Err(_) => false,
+    }
+}
+
+/// The same of a run by the placement and the schedule.
+fn runs_placed(alloc: Global, unit: &Unit, sink: &mut MemSink) -> bool
+    requires proper { IsProper unit.now }
+{
+    match read_placement(alloc, PLACEMENT, unit) {
+        Ok(placement) => runs_planned(alloc, unit, &placement, SCHEDULE, sink),
+        Err(_) => false,
+    }
+}
+
+/// The code of a program.
+fn code_of(alloc: Global, program: &Program, names: &Names) -> Option<Unit>
+    requires grammatical { IsGrammatical (program_of program.now) }
+    requires spelled { is_spelled names.now (program_of program.now) ≡ true }
+    ensures { IfSome result IsProper }
+{
+    let Ok(checked) = check(alloc, program, names) else {
+        return None;
     };
-    let whole = write_run(&mut machine, placement, schedule, &unit.names, &mut sink);
-    let written = sink.written().to_vec(alloc)?;
-    Ok(if whole { Some(written) } else { None })
+    compile(alloc, &checked).ok()
+}
+
+/// The code of the program of these tokens.
+fn code_of_tokens(alloc: Global, read: &Tokens) -> Option<Unit>
+    requires ended { EndsInEnd (toks read.now.list) }
+    requires size { length read.now.list ≤ 67108865 }
+    requires spelled { AreSpelled read.now.names (toks read.now.list) }
+    ensures { IfSome result IsProper }
+{
+    match parse(alloc, read) {
+        Ok(program) => code_of(alloc, &program, &read.names),
+        Err(_) => None,
+    }
 }
 
 /// The code of the program.
-fn unit_of(alloc: Global) -> Result<Option<Unit>, AllocError>
-    ensures { IfOk result (λ u. IfSome u IsProper) }
+fn unit_of(alloc: Global) -> Option<Unit>
+    ensures { IfSome result IsProper }
 {
-    let Ok(read) = tokens(alloc, PROGRAM) else {
-        return Ok(None);
-    };
-    let Ok(program) = parse(alloc, &read) else {
-        return Ok(None);
-    };
-    let Ok(checked) = check(alloc, &program, &read.names) else {
-        return Ok(None);
-    };
-    Ok(compile(alloc, &checked).ok())
+    match tokens(alloc, PROGRAM) {
+        Ok(read) => code_of_tokens(alloc, &read),
+        Err(_) => None,
+    }
+}
+
+/// Writes the record of the run; whether each line was written.
+fn is_written(alloc: Global, sink: &mut MemSink) -> bool {
+    match unit_of(alloc) {
+        Some(unit) => runs_placed(alloc, &unit, sink),
+        None => false,
+    }
+}
+
+fn is_recorded(alloc: Global) -> bool {
+    match MemSink::make(alloc, 1048576, 4096, Vec::new(alloc)) {
+        Ok(mut sink) => is_written(alloc, &mut sink) & (sink.written() == RECORD),
+        Err(_) => false,
+    }
 }
 
 #[test]
 fn a_call_between_two_nodes_is_recorded(rt: HostRuntime) -> Result<(), Fail> {
-    let alloc = rt.alloc();
-    let unit = unit_of(alloc)?;
-    assert!(rt; unit.is_some());
-    let Some(unit) = unit else {
-        return Ok(());
-    };
-    let Ok(placement) = read_placement(alloc, PLACEMENT, &unit) else {
-        assert!(rt; false, "the placement is refused");
-        return Ok(());
-    };
-    let Ok(schedule) = read_schedule(alloc, SCHEDULE, &placement) else {
-        assert!(rt; false, "the schedule is refused");
-        return Ok(());
-    };
-    let written = record(alloc, &unit, &placement, &schedule)?;
-    assert!(rt; written.is_some_and(|bytes| bytes.as_slice() == RECORD));
+    assert!(rt; is_recorded(rt.alloc()));
     Ok(())
 }

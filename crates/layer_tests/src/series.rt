@@ -1,11 +1,11 @@
-//! Long series of calls that are drawn, on a pool and on plain lists.
-ghost use Rattle.std.specs.Prelude.{◌≡◌, ◌<◌, length};
+//! Long series of calls that are drawn, on a pool and on a plain list.
+ghost use Rattle.std.specs.Prelude.{◌≡◌, ◌<◌, IfSome, length};
 
 use crate::calls::{Call, answer};
 use cell_pool::CellPool;
 use rand_core::utils::NextWord;
 use rand_pcg::Pcg32;
-use std::alloc::{AllocError, Global};
+use std::alloc::Global;
 use std::test::Fail;
 
 // The cells, the queues, one more than the greatest number that is drawn, and the calls.
@@ -36,142 +36,129 @@ fn call_of(word: u32) -> Call {
     }
 }
 
-// What a pool is seen as: one list for each queue, and the number of cells.
+// What a pool is seen as: the values of all queues in one list, each with its queue, and the number of cells.
 #[derive(Drop)]
 struct Plain {
-    lists: Vec<Vec<u64>>,
+    values: Vec<(usize, u64)>,
     cells: usize,
 }
 
-impl Plain {
-    fn make(alloc: Global, cells: usize, queues: usize) -> Result<Plain, AllocError> {
-        let mut lists = Vec::new(alloc);
-        for queue in 0..queues {
-            lists.push(Vec::new(alloc))?;
-        }
-        Ok(Plain { lists, cells })
-    }
-
-    fn free(&self) -> usize {
-        let mut taken = 0usize;
-        for list in &self.lists {
-            taken = taken.saturating_add(list.len());
-        }
-        self.cells.saturating_sub(taken)
-    }
-
-    fn answer(&mut self, call: Call, queue: usize, number: u64) -> Result<Option<u64>, AllocError> {
-        let free = self.free();
-        let Some(list) = self.lists.get_mut(queue) else {
-            return Ok(None);
-        };
-        match call {
-            Call::PushBack | Call::PushFront if free == 0 => Ok(Some(number)),
-            Call::PushBack => {
-                list.push(number)?;
-                Ok(None)
+// How many values of a queue stand before the first that is the number, and whether it is there.
+fn before(values: &[(usize, u64)], queue: usize, number: Option<u64>) -> (u64, bool) {
+    let mut place = 0u64;
+    for (at, value) in values {
+        if *at == queue {
+            if number == Some(*value) {
+                return (place, true);
             }
-            Call::PushFront => {
-                list.insert(0, number)?;
-                Ok(None)
-            }
-            Call::Free => Ok(Some(free as u64)),
-            _ => Ok(of_list(list, call, number)),
+            place = place.saturating_add(1);
         }
     }
+    (place, false)
 }
 
-// The answer of a call that adds nothing.
-fn of_list(list: &mut Vec<u64>, call: Call, number: u64) -> Option<u64> {
-    let place = number as usize;
-    match call {
-        Call::PopFront if !list.is_empty() => Some(list.remove(0)),
-        Call::Remove if place < list.len() => Some(list.remove(place)),
-        Call::Double if place < list.len() => {
-            let was = list[place];
-            list[place] = was.saturating_mul(2);
-            Some(was)
-        }
-        Call::Get => list.get(place).copied(),
-        Call::Position => place_of(list, number),
-        Call::Len => Some(list.len() as u64),
-        _ => None,
-    }
-}
-
-fn place_of(list: &[u64], number: u64) -> Option<u64> {
-    for place in 0..list.len() {
-        if list[place] == number {
-            return Some(place as u64);
+// Where the value stands in the list that has so many of its queue before it.
+fn index_of(values: &[(usize, u64)], queue: usize, place: u64) -> Option<usize>
+    ensures { IfSome result (λ i. i < length values.now) }
+{
+    let mut left = place;
+    for index in 0..values.len() {
+        if values[index].0 == queue {
+            if left == 0 {
+                return Some(index);
+            }
+            left = left.saturating_sub(1);
         }
     }
     None
 }
 
-fn is_same_list(pool: &CellPool<u64>, queue: usize, list: &[u64]) -> bool
-    requires { queue < length pool.now.lists }
+impl Plain {
+    fn answer(&mut self, call: Call, queue: usize, number: u64) -> Option<u64> {
+        let free = self.cells.saturating_sub(self.values.len());
+        match call {
+            Call::PushBack | Call::PushFront if free == 0 => Some(number),
+            Call::PushBack => {
+                let _ = self.values.push((queue, number));
+                None
+            }
+            Call::PushFront => {
+                let _ = self.values.insert(0, (queue, number));
+                None
+            }
+            Call::Free => Some(free as u64),
+            Call::Len => Some(before(&self.values, queue, None).0),
+            Call::Position => match before(&self.values, queue, Some(number)) {
+                (place, true) => Some(place),
+                _ => None,
+            },
+            Call::PopFront => self.at(call, queue, 0),
+            _ => self.at(call, queue, number),
+        }
+    }
+
+    // The answer of a call for a value that is there.
+    fn at(&mut self, call: Call, queue: usize, place: u64) -> Option<u64> {
+        let index = index_of(&self.values, queue, place)?;
+        let value = self.values[index].1;
+        match call {
+            Call::Get => {}
+            Call::Double => self.values[index].1 = value.saturating_mul(2),
+            _ => {
+                self.values.remove(index);
+            }
+        }
+        Some(value)
+    }
+}
+
+// Whether each queue holds the same values.
+fn is_same(pool: &mut CellPool<u64>, plain: &mut Plain, queues: usize) -> bool
+    requires { length pool.old.lists ≡ queues }
 {
-    if pool.len(queue) != list.len() {
+    for queue in 0..queues {
+        let (count, _) = before(&plain.values, queue, None);
+        for place in 0..=count {
+            if answer(pool, Call::Get, queue, place) != plain.answer(Call::Get, queue, place) {
+                return false;
+            }
+        }
+    }
+    true
+}
+
+// Whether a pool answers each of the calls as the list, and then has the same values.
+fn is_answered(
+    alloc: Global,
+    draw: &mut Pcg32,
+    (cells, queues, most, calls): (usize, usize, u32, u32),
+) -> bool {
+    if queues == 0 || most == 0 {
         return false;
     }
-    for place in 0..list.len() {
-        if *pool.get(queue, place) != list[place] {
+    let Ok(mut pool) = CellPool::make(alloc, cells, queues) else {
+        return false;
+    };
+    let values = Vec::new(alloc);
+    let mut plain = Plain { values, cells };
+    for _ in 0..calls {
+        let call = call_of(draw.next_word());
+        let queue = draw.next_word() as usize % queues;
+        let number = (draw.next_word() % most) as u64;
+        if answer(&mut pool, call, queue, number) != plain.answer(call, queue, number) {
             return false;
         }
     }
-    true
-}
-
-fn is_same(pool: &CellPool<u64>, plain: &Plain, queues: usize) -> bool
-    requires { length pool.now.lists ≡ queues }
-{
-    for queue in 0..queues {
-        match plain.lists.get(queue) {
-            Some(list) if is_same_list(pool, queue, list) => {}
-            _ => return false,
-        }
-    }
-    true
-}
-
-// The number of the first call with another answer, or that of the calls where a queue then holds other values.
-fn another(
-    alloc: Global,
-    draw: &mut Pcg32,
-    cells: usize,
-    queues: usize,
-    most: u32,
-    calls: u32,
-) -> Result<Option<u32>, AllocError>
-    requires { (0 < queues) × (0 < most) }
-{
-    let mut pool = CellPool::make(alloc, cells, queues)?;
-    let mut plain = Plain::make(alloc, cells, queues)?;
-    for number in 0..calls {
-        let call = call_of(draw.next_word());
-        let queue = draw.next_word() as usize % queues;
-        let given = (draw.next_word() % most) as u64;
-        let told = answer(&mut pool, call, queue, given);
-        if told != plain.answer(call, queue, given)? {
-            return Ok(Some(number));
-        }
-    }
-    if is_same(&pool, &plain, queues) {
-        Ok(None)
-    } else {
-        Ok(Some(calls))
-    }
+    is_same(&mut pool, &mut plain, queues)
 }
 
 #[test]
 fn a_pool_answers_as_plain_lists(rt: HostRuntime) -> Result<(), Fail> {
     let mut draw = Pcg32::new(1, 1);
-    for (cells, queues, most, calls) in ROWS {
-        if *queues == 0 || *most == 0 {
-            continue;
-        }
-        let found = another(rt.alloc(), &mut draw, *cells, *queues, *most, *calls)?;
-        assert_eq!(rt; found, None, "{cells} cells");
+    let mut each = true;
+    for row in ROWS {
+        each &= is_answered(rt.alloc(), &mut draw, *row);
     }
+    assert!(rt; each);
     Ok(())
 }

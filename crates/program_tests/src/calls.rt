@@ -1,185 +1,159 @@
-//! Calls of `pool` over texts in memory.
+//! Calls of `pool` over texts in memory, as rows tell of them.
+//!
+//! A row's fields are the words, the status, the placement, the schedule, the program, the output and the error line; one that is left out
+//! at the end is empty. The texts stand under the names `L`, `S` and `P`. What a field spells, is said at `spell`. Of several statuses one
+//! is answered, and where two points stand in the output or in the error line, anything may be written.
+//!
+//! A table has such rows as frames, in a line that begins with two signs of equality, where `[N]` stands for a field of a row of the table,
+//! and ` || ` stands between two frames. A line that begins with two dashes and has no bar is a heading.
+use crate::printed::is_printed;
+use crate::spelled::{field, spell};
 use pool_driver::{Status, pool};
-use pool_outside::{MemFiles, MemSink, NamedText};
-use std::alloc::{AllocError, Global};
-use std::test::Fail;
+use pool_outside::{MemFiles, MemSink, NamedText, PieceFiles};
+use std::alloc::Global;
 
-/// What a call answered, and what it wrote.
-#[derive(Drop)]
-pub struct Outcome {
-    pub status: Status,
-    pub out: Vec<u8>,
-    pub err: Vec<u8>,
+/// What the files and the sinks of a call do, and how much of what its row says is then written.
+#[derive(Clone, Copy)]
+pub struct Case {
+    /// Whether each read gives one byte, and no call of the files fails.
+    pub by_bytes: bool,
+    /// Whether a write fails, or a sink has too little room: the status is then 6.
+    pub is_cut: bool,
+    /// How many bytes of the program there are at most.
+    pub program: usize,
+    /// The number of the call of the files that fails.
+    pub call: u64,
+    /// The numbers of the writes that fail, on the output and on the error sink.
+    pub writes: (u64, u64),
+    /// The rooms of the two sinks.
+    pub rooms: (usize, usize),
+    /// The most bytes that a write takes.
+    pub takes: usize,
+    /// How many bytes of the row's output and of its error line are written at most.
+    pub written: (usize, usize),
 }
 
-/// The texts of a program, a placement and a schedule, and the numbers of the calls that fail on the files and on the two sinks.
-#[derive(Drop)]
-pub struct World {
-    pub texts: Vec<NamedText>,
-    pub files: Vec<u64>,
-    pub out: Vec<u64>,
-    pub err: Vec<u64>,
-}
+/// The most bytes of an input, and one more.
+const LONGEST: usize = 1048577;
 
-/// These texts under the names `P`, `L` and `S`, where no call fails.
-pub fn world_of(
-    alloc: Global,
-    program: &[u8],
-    placement: &[u8],
-    schedule: &[u8],
-) -> Result<World, AllocError> {
-    let mut texts = Vec::new(alloc);
-    for (name, text) in [("P", program), ("L", placement), ("S", schedule)] {
-        texts.push(NamedText {
-            name: String::from_str(alloc, name)?,
-            text: Vec::from_slice(alloc, text)?,
-        })?;
-    }
-    Ok(World {
-        texts,
-        files: Vec::new(alloc),
-        out: Vec::new(alloc),
-        err: Vec::new(alloc),
-    })
-}
+/// The number of a call that is not made.
+pub const NEVER: u64 = 1000000000;
+
+/// A call in which nothing fails.
+pub const CALM: Case = Case {
+    by_bytes: false,
+    is_cut: false,
+    program: LONGEST,
+    call: NEVER,
+    writes: (NEVER, NEVER),
+    rooms: (65536, 200),
+    takes: 10,
+    written: (65536, 200),
+};
 
 /// The words of a line.
-pub fn words_of(alloc: Global, line: &str) -> Result<Vec<String>, AllocError> {
+fn words_of(alloc: Global, line: &str) -> Vec<String> {
     let mut words = Vec::new(alloc);
     for word in line.split_ascii_whitespace() {
-        words.push(String::from_str(alloc, word)?)?;
+        let _ = words.push(spell(alloc, word, ""));
     }
-    Ok(words)
+    words
 }
 
-/// What is answered to words with one space between them. The sinks have so much room, and take so many bytes at a time.
-pub fn answer(
+/// Adds the text that a field spells, or a front of it, under this name.
+fn add(alloc: Global, texts: &mut Vec<NamedText>, name: &str, spelled: &str, most: usize) {
+    let mut text = spell(alloc, spelled, "").into_bytes();
+    text.truncate(most);
+    let name = spell(alloc, name, "");
+    let _ = texts.push(NamedText { name, text });
+}
+
+/// The three texts of a row.
+fn texts_of(alloc: Global, row: &str, program: usize) -> Vec<NamedText> {
+    let mut texts = Vec::new(alloc);
+    add(alloc, &mut texts, "L", field(row, 2), LONGEST);
+    add(alloc, &mut texts, "S", field(row, 3), LONGEST);
+    add(alloc, &mut texts, "P", field(row, 4), program);
+    texts
+}
+
+/// A list of one number.
+fn only(alloc: Global, number: u64) -> Vec<u64> {
+    let mut numbers = Vec::new(alloc);
+    let _ = numbers.push(number);
+    numbers
+}
+
+/// A sink with so much room, of which a write takes so many bytes at most, and this write fails.
+pub fn sink(alloc: Global, room: usize, takes: usize, write: u64) -> Option<MemSink> {
+    MemSink::make(alloc, room, takes.max(1), only(alloc, write)).ok()
+}
+
+/// Whether this is written as a field spells it, or as a front of that with so many bytes.
+pub fn is_written(alloc: Global, bytes: &[u8], spelled: &str, most: usize) -> bool {
+    let text = spell(alloc, spelled, "");
+    match text.split_once("..") {
+        Some((front, back)) => {
+            bytes.starts_with(front.as_bytes()) && bytes.ends_with(back.as_bytes())
+        }
+        None => bytes == &text.as_bytes()[..most.min(text.len())],
+    }
+}
+
+/// Whether the status is among those of a field.
+fn is_among(status: u8, statuses: &str) -> bool {
+    for word in statuses.split(' ') {
+        if word.parse::<u8>().ok() == Some(status) {
+            return true;
+        }
+    }
+    false
+}
+
+/// Whether a call with this status wrote on its sinks what a row says, in this case.
+fn is_told(
     alloc: Global,
-    line: &str,
-    world: World,
-    rooms: (usize, usize),
-    takes: u16,
-) -> Result<Outcome, AllocError> {
-    let words = words_of(alloc, line)?;
-    let takes = takes as usize + 1;
-    let mut files = MemFiles::make(world.texts, world.files);
-    let mut out = MemSink::make(alloc, rooms.0, takes, world.out)?;
-    let mut err = MemSink::make(alloc, rooms.1, takes, world.err)?;
-    let status = pool(alloc, &words, &mut files, &mut out, &mut err);
-    Ok(Outcome {
-        status,
-        out: out.written().to_vec(alloc)?,
-        err: err.written().to_vec(alloc)?,
-    })
+    row: &str,
+    case: Case,
+    status: Status,
+    out: &MemSink,
+    err: &MemSink,
+) -> bool {
+    let statuses = if case.is_cut { "6" } else { field(row, 1) };
+    is_among(status.code(), statuses)
+        && is_written(alloc, out.written(), field(row, 5), case.written.0)
+        && is_written(alloc, err.written(), field(row, 6), case.written.1)
 }
 
-/// `record P L S` of a program over a schedule on one node, with ample room.
-pub fn calm(alloc: Global, program: &[u8], schedule: &[u8]) -> Result<Outcome, AllocError> {
-    let world = world_of(alloc, program, b"mesh 1 1\n", schedule)?;
-    answer(alloc, "record P L S", world, (4096, 200), 9)
+/// Whether a call with these sinks is answered as a row says, in this case.
+fn is_answered(alloc: Global, row: &str, case: Case, mut out: MemSink, mut err: MemSink) -> bool {
+    let words = words_of(alloc, field(row, 0));
+    let texts = texts_of(alloc, row, case.program);
+    let status = if case.by_bytes {
+        let mut files = PieceFiles::make(texts, 1);
+        pool(alloc, &words, &mut files, &mut out, &mut err)
+    } else {
+        let mut files = MemFiles::make(texts, only(alloc, case.call));
+        pool(alloc, &words, &mut files, &mut out, &mut err)
+    };
+    is_told(alloc, row, case, status, &out, &err)
 }
 
-/// `print P` of a program, with ample room.
-pub fn printed(alloc: Global, program: &[u8]) -> Result<Outcome, AllocError> {
-    let world = world_of(alloc, program, b"", b"")?;
-    answer(alloc, "print P", world, (65536, 200), 999)
+/// Whether a line of a table is no row.
+pub fn is_heading(line: &str) -> bool {
+    line.starts_with("-- ") && !line.contains(" | ")
 }
 
-/// Words, then what they are answered on one node: the status, the output and the error line, with `;` for each line feed.
-const LINES: &str = r"record P L S | 0 | record 2;1 turn 0 write 0.0 1;end quiet 1; | 
-print P | 0 | class Main;body write 1 end; | 
- | 64 |  | usage: pool record|run|why P L S, pool print|code P, pool ring K, pool convert R, pool check P R, pool build P, pool load U L S;
-record P L | 64 |  | usage: pool record|run|why P L S, pool print|code P, pool ring K, pool convert R, pool check P R, pool build P, pool load U L S;
-record P L S S | 64 |  | usage: pool record|run|why P L S, pool print|code P, pool ring K, pool convert R, pool check P R, pool build P, pool load U L S;
-print | 64 |  | usage: pool record|run|why P L S, pool print|code P, pool ring K, pool convert R, pool check P R, pool build P, pool load U L S;
-print P L | 64 |  | usage: pool record|run|why P L S, pool print|code P, pool ring K, pool convert R, pool check P R, pool build P, pool load U L S;
---help | 64 |  | usage: pool record|run|why P L S, pool print|code P, pool ring K, pool convert R, pool check P R, pool build P, pool load U L S;
-record -P L S | 64 |  | usage: pool record|run|why P L S, pool print|code P, pool ring K, pool convert R, pool check P R, pool build P, pool load U L S;
-record P L -S | 64 |  | usage: pool record|run|why P L S, pool print|code P, pool ring K, pool convert R, pool check P R, pool build P, pool load U L S;
-print -P | 64 |  | usage: pool record|run|why P L S, pool print|code P, pool ring K, pool convert R, pool check P R, pool build P, pool load U L S;
-Record P L S | 64 |  | usage: pool record|run|why P L S, pool print|code P, pool ring K, pool convert R, pool check P R, pool build P, pool load U L S;
-record N L S | 5 |  | pool: program: read fault;
-record P N S | 5 |  | pool: placement: read fault;
-record P L N | 5 |  | pool: schedule: read fault;
-print N | 5 |  | pool: program: read fault;
-record L L S | 2 |  | pool: program: Unexpected at token 0;
-convert P P | 64 |  | usage: pool record|run|why P L S, pool print|code P, pool ring K, pool convert R, pool check P R, pool build P, pool load U L S;
-convert N | 5 |  | pool: record: read fault;
-convert P | 2 |  | pool: record: BadLine at line 1;
-check P | 64 |  | usage: pool record|run|why P L S, pool print|code P, pool ring K, pool convert R, pool check P R, pool build P, pool load U L S;
-check P L S | 64 |  | usage: pool record|run|why P L S, pool print|code P, pool ring K, pool convert R, pool check P R, pool build P, pool load U L S;
-check -P L | 64 |  | usage: pool record|run|why P L S, pool print|code P, pool ring K, pool convert R, pool check P R, pool build P, pool load U L S;
-check P -L | 64 |  | usage: pool record|run|why P L S, pool print|code P, pool ring K, pool convert R, pool check P R, pool build P, pool load U L S;
-check N L | 5 |  | pool: program: read fault;
-check P N | 5 |  | pool: record: read fault;
-check P L | 2 |  | pool: record: BadLine at line 1;
-check S N | 2 |  | pool: program: Unexpected at token 0;
-record P P S | 2 |  | pool: placement: BadLine at line 1;
-record P S S | 2 |  | pool: placement: BadLine at line 1;
-record P L L | 2 |  | pool: schedule: BadLine at line 1;
-run P L S | 0 | 1;end quiet 1; | 
-run P L | 64 |  | usage: pool record|run|why P L S, pool print|code P, pool ring K, pool convert R, pool check P R, pool build P, pool load U L S;
-run P -L S | 64 |  | usage: pool record|run|why P L S, pool print|code P, pool ring K, pool convert R, pool check P R, pool build P, pool load U L S;
-run N L S | 5 |  | pool: program: read fault;
-code P | 0 | class Main 0;body 1;0 PushInt 1;1 Write;2 Halt; | 
-code P L | 64 |  | usage: pool record|run|why P L S, pool print|code P, pool ring K, pool convert R, pool check P R, pool build P, pool load U L S;
-code -P | 64 |  | usage: pool record|run|why P L S, pool print|code P, pool ring K, pool convert R, pool check P R, pool build P, pool load U L S;
-code N | 5 |  | pool: program: read fault;
-code S | 2 |  | pool: program: Unexpected at token 0;
-build | 64 |  | usage: pool record|run|why P L S, pool print|code P, pool ring K, pool convert R, pool check P R, pool build P, pool load U L S;
-build P L | 64 |  | usage: pool record|run|why P L S, pool print|code P, pool ring K, pool convert R, pool check P R, pool build P, pool load U L S;
-build -P | 64 |  | usage: pool record|run|why P L S, pool print|code P, pool ring K, pool convert R, pool check P R, pool build P, pool load U L S;
-build N | 5 |  | pool: program: read fault;
-build S | 2 |  | pool: program: Unexpected at token 0;
-why P L S | 0 | 0.0 Main finished;end quiet 1; | 
-why P L | 64 |  | usage: pool record|run|why P L S, pool print|code P, pool ring K, pool convert R, pool check P R, pool build P, pool load U L S;
-why P L -S | 64 |  | usage: pool record|run|why P L S, pool print|code P, pool ring K, pool convert R, pool check P R, pool build P, pool load U L S;
-ring | 64 |  | usage: pool record|run|why P L S, pool print|code P, pool ring K, pool convert R, pool check P R, pool build P, pool load U L S;
-ring 1 | 64 |  | usage: pool record|run|why P L S, pool print|code P, pool ring K, pool convert R, pool check P R, pool build P, pool load U L S;
-ring 1001 | 64 |  | usage: pool record|run|why P L S, pool print|code P, pool ring K, pool convert R, pool check P R, pool build P, pool load U L S;
-ring two | 64 |  | usage: pool record|run|why P L S, pool print|code P, pool ring K, pool convert R, pool check P R, pool build P, pool load U L S;
-ring 2 2 | 64 |  | usage: pool record|run|why P L S, pool print|code P, pool ring K, pool convert R, pool check P R, pool build P, pool load U L S;
-print S | 2 |  | pool: program: Unexpected at token 0;";
-
-/// A text with `;` for each line feed.
-pub fn as_row(alloc: Global, text: &[u8]) -> Result<Vec<u8>, AllocError> {
-    let mut row = Vec::new(alloc);
-    for byte in text {
-        row.push(if *byte == b'\n' { b';' } else { *byte })?;
+/// Whether a row in a frame holds, in this case.
+pub fn holds(alloc: Global, frame: &str, row: &str, case: Case) -> bool {
+    let row = spell(alloc, frame, row);
+    if field(row.as_str(), 0) == "canonical" {
+        return is_printed(alloc, field(row.as_str(), 1), field(row.as_str(), 2));
     }
-    Ok(row)
-}
-
-/// Whether the words of a row are answered what stands behind them.
-fn is_answered(alloc: Global, row: &str) -> Result<bool, AllocError> {
-    let Some((line, rest)) = row.split_once(" | ") else {
-        return Ok(false);
-    };
-    let Some((status, rest)) = rest.split_once(" | ") else {
-        return Ok(false);
-    };
-    let Some((out, err)) = rest.split_once(" | ") else {
-        return Ok(false);
-    };
-    let world = world_of(
-        alloc,
-        b"class Main body write 1 end",
-        b"mesh 1 1",
-        b"quantum 5\nturn 0 3",
-    )?;
-    let outcome = answer(alloc, line, world, (100, 200), 6)?;
-    let code = outcome.status.code() as usize;
-    Ok(
-        as_row(alloc, &outcome.out)?.as_slice() == out.as_bytes()
-            && as_row(alloc, &outcome.err)?.as_slice() == err.as_bytes()
-            && status.parse::<usize>().ok() == Some(code),
-    )
-}
-
-#[test]
-fn words_are_answered(rt: HostRuntime) -> Result<(), Fail> {
-    for row in LINES.lines() {
-        assert!(rt; is_answered(rt.alloc(), row)?, "{row}");
+    let out = sink(alloc, case.rooms.0, case.takes, case.writes.0);
+    let err = sink(alloc, case.rooms.1, case.takes, case.writes.1);
+    match (out, err) {
+        (Some(out), Some(err)) => is_answered(alloc, row.as_str(), case, out, err),
+        _ => false,
     }
-    Ok(())
 }

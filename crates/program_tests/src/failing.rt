@@ -1,129 +1,158 @@
-//! What is answered where a call of the files fails, or a write of a sink, in turn for each call and each room.
-use crate::calls::{Outcome, World, answer, world_of};
-use pool_driver::Status;
-use std::alloc::{AllocError, Global};
+//! What is answered where a call of the files fails, or a write of a sink, in turn for each call and each room, with reads of one byte,
+//! and with each front of a program.
+use crate::calls::{CALM, Case, NEVER, holds};
+use std::alloc::Global;
 use std::test::Fail;
 
-const RECORD: &[u8] = b"record 2\n1 turn 0 write 0.0 1\nend quiet 1\n";
+/// The frames of a write of 1, and of a call between two nodes. The fields are the status, the output and the error line.
+const ONE: &str =
+    "record P L S | [0] | mesh 1 1 | quantum 5~turn 0 3 | class Main body write 1 end | [1] | [2]";
 
-/// The calls on the files that are made where none fails: for each input one that opens it, one that gives its bytes, and
-/// one that gives its end.
-const CALLS: u64 = 9;
+const TWICE: &str = "record P L S | [0] | mesh 2 1~place Server at 1~ | \
+    quantum 10~turn 0~link 0 1~link 1 0~turn 0 2~link 0 1~turn 0~turn 1 3~link 1 0~turn 0~ | \
+    class Server method twice(n : Int) : Int begin result n + n end body answer(twice) end~class Main var s : Server body s := new Server; \
+    write s ! twice(21) end | [1] | [2]";
 
-/// Three inputs that are accepted.
-fn inputs(alloc: Global) -> Result<World, AllocError> {
-    world_of(
-        alloc,
-        b"class Main body write 1 end",
-        b"mesh 1 1",
-        b"quantum 5\nturn 0 3",
-    )
-}
+/// The frame of a program that ends too early.
+const SHORT: &str =
+    "record P L S | [0] | mesh 1 1 | quantum 5~turn 0 3 | class Main var x : Bool body if x | [1] | [2]";
 
-/// `record P L S` where this call on the files fails, and the output and the errors have so much room, of which a write
-/// takes seven bytes at most.
-fn recorded(
-    alloc: Global,
-    failing: u64,
-    out_room: usize,
-    err_room: usize,
-) -> Result<Outcome, AllocError> {
-    let mut inputs = inputs(alloc)?;
-    inputs.files.push(failing)?;
-    answer(alloc, "record P L S", inputs, (out_room, err_room), 6)
-}
+/// What they are answered where nothing fails.
+const WRITTEN: &str = "0 | record 2~1 turn 0 write 0.0 1~end quiet 1~";
 
-/// What is told where this call on the files fails.
-fn line_of(call: u64) -> &'static [u8] {
-    match call / 3 {
-        0 => b"pool: program: read fault\n",
-        1 => b"pool: placement: read fault\n",
-        _ => b"pool: schedule: read fault\n",
+const CALLED: &str =
+    "0 | record 2~1 turn 0 post create 0.0 Server 1~2 link 0 1 new 0.0 1.0 Server by 1~3 link 1 0 created 0.0 1.0 by 1~4 turn 0 local 0.0 2~\
+    5 turn 0 post call 0.0 1.0 twice 21~6 link 0 1 arrive 0.0 1.0 twice~7 turn 0 idle~8 turn 1 answer 1.0 0.0 twice 21 by 5~\
+    9 turn 1 local 1.0 3~10 turn 1 return 1.0 0.0 42 by 5~11 link 1 0 result 0.0 42 by 5~12 turn 0 write 0.0 42~end quiet 12~";
+
+const UNEXPECTED: &str = "2 |  | pool: program: Unexpected at token 9~";
+
+/// What is answered where a call of the files fails. For each input one call opens it, one gives its bytes, and one gives its end.
+const NO_PROGRAM: &str = "5 |  | pool: program: read fault~";
+
+const NO_PLACEMENT: &str = "5 |  | pool: placement: read fault~";
+
+const NO_SCHEDULE: &str = "5 |  | pool: schedule: read fault~";
+
+/// A row of the write of 1, the call of the files that fails, the writes that fail once on the output and on the error sink, and would
+/// succeed if they were tried again, and how much is written before them. Each line of the record is written by itself, and of a line a
+/// write takes ten bytes.
+const WRITES: [(&str, u64, u64, u64, usize); 9] = [
+    (WRITTEN, NEVER, 0, NEVER, 0),
+    (WRITTEN, NEVER, 1, NEVER, 9),
+    (WRITTEN, NEVER, 2, NEVER, 19),
+    (WRITTEN, NEVER, 3, NEVER, 29),
+    (WRITTEN, NEVER, 4, NEVER, 30),
+    (WRITTEN, NEVER, 5, NEVER, 40),
+    (NO_PLACEMENT, 4, NEVER, 0, 0),
+    (NO_PLACEMENT, 4, NEVER, 1, 10),
+    (NO_PLACEMENT, 4, NEVER, 2, 20),
+];
+
+/// Where the sinks have so much room, of the length of what is written.
+fn with_room(call: u64, room: usize, length: usize) -> Case {
+    Case {
+        is_cut: room < length,
+        call,
+        rooms: (room, room),
+        takes: 7,
+        written: (room, room),
+        ..CALM
     }
 }
 
+/// Whether a row holds in each room of its sinks: what is written is a front of so many bytes.
+fn holds_in_each_room(
+    alloc: Global,
+    frame: &str,
+    row: &str,
+    call: u64,
+    least: usize,
+    length: usize,
+) -> bool {
+    for room in least..length.saturating_add(1) {
+        if !holds(alloc, frame, row, with_room(call, room, length)) {
+            return false;
+        }
+    }
+    true
+}
+
+/// The length of what is written stands behind it.
+#[test]
+fn each_room_takes_a_front_of_what_is_written(rt: HostRuntime) -> Result<(), Fail> {
+    for (frame, row, length) in [
+        (ONE, WRITTEN, 42),
+        (TWICE, CALLED, 372),
+        (SHORT, UNEXPECTED, 37),
+    ] {
+        assert!(rt;
+            holds_in_each_room(rt.alloc(), frame, row, NEVER, 0, length),
+            "{row}"
+        );
+    }
+    Ok(())
+}
+
+/// With the least room of the sinks, and the length of the line that is told.
 #[test]
 fn each_failing_call_of_the_files_is_told(rt: HostRuntime) -> Result<(), Fail> {
-    for call in 0..CALLS {
-        let line = line_of(call);
-        for room in 0..=line.len() {
-            let answer = recorded(rt.alloc(), call, 100, room)?;
-            let whole = room == line.len();
-            assert_eq!(rt;
-                answer.status,
-                if whole {
-                    Status::ReadFault
-                } else {
-                    Status::WriteFault
-                },
-                "call {call}, room {room}"
+    for (frame, row, first, least, length) in [
+        (ONE, NO_PROGRAM, 0_u64, 0, 26),
+        (ONE, NO_PLACEMENT, 3, 0, 28),
+        (ONE, NO_SCHEDULE, 6, 0, 27),
+        (TWICE, NO_PROGRAM, 0, 26, 26),
+        (TWICE, NO_PLACEMENT, 3, 28, 28),
+        (TWICE, NO_SCHEDULE, 6, 27, 27),
+    ] {
+        for call in first..first.saturating_add(3) {
+            assert!(rt;
+                holds_in_each_room(rt.alloc(), frame, row, call, least, length),
+                "call {call}"
             );
-            assert_eq!(rt;
-                answer.err.as_slice(),
-                &line[..room],
-                "call {call}, room {room}"
-            );
-            assert_eq!(rt; answer.out.len(), 0, "call {call}, room {room}");
         }
     }
     Ok(())
 }
 
 #[test]
-fn each_room_takes_a_front_of_the_record(rt: HostRuntime) -> Result<(), Fail> {
-    for room in 0..=RECORD.len() {
-        let answer = recorded(rt.alloc(), CALLS, room, 0)?;
-        let whole = room == RECORD.len();
-        assert_eq!(rt;
-            answer.status,
-            if whole {
-                Status::Done
-            } else {
-                Status::WriteFault
-            },
-            "room {room}"
-        );
-        assert_eq!(rt; answer.out.as_slice(), &RECORD[..room], "room {room}");
-    }
-    Ok(())
-}
-
-/// What was written before the write of this number, of at most ten bytes each.
-fn front(line: &[u8], write: usize) -> &[u8] {
-    if write < 10 {
-        &line[..(write * 10).min(line.len())]
-    } else {
-        line
-    }
-}
-
-/// A write that fails once, and would succeed if it were tried again; with how many bytes of the record stand before it. Each line is written by itself.
-#[test]
 fn no_write_is_made_after_a_failed_one(rt: HostRuntime) -> Result<(), Fail> {
-    for (write, count) in [(0, 0), (1, 9), (2, 19), (3, 29), (4, 30), (5, 40)] {
-        let mut inputs = inputs(rt.alloc())?;
-        inputs.out.push(write)?;
-        let answer = answer(rt.alloc(), "record P L S", inputs, (100, 100), 9)?;
-        let front = &RECORD[..RECORD.len().min(count)];
-        assert_eq!(rt; answer.status, Status::WriteFault, "{write}");
-        assert_eq!(rt; answer.out.as_slice(), front, "{write}");
+    for (row, call, out, error, before) in WRITES {
+        let case = Case {
+            is_cut: true,
+            call,
+            writes: (out, error),
+            written: (before, before),
+            ..CALM
+        };
+        assert!(rt; holds(rt.alloc(), ONE, row, case), "{before}: {row}");
+    }
+    Ok(())
+}
+
+/// A front that has the first class, whole, and at most the line feed behind it, is a program of its own: the class has 86 bytes of the 158.
+#[test]
+fn each_front_of_a_program_is_refused_but_its_first_class(rt: HostRuntime) -> Result<(), Fail> {
+    for program in 0..158_usize {
+        let row = if program == 86 || program == 87 {
+            "0 | record 2~end quiet 0~"
+        } else {
+            "2 |  | pool: program: ..~"
+        };
+        assert!(rt;
+            holds(rt.alloc(), TWICE, row, Case { program, ..CALM }),
+            "length {program}"
+        );
     }
     Ok(())
 }
 
 #[test]
-fn no_line_is_begun_again_after_a_failed_write(rt: HostRuntime) -> Result<(), Fail> {
-    for write in 0..3 {
-        let mut inputs = inputs(rt.alloc())?;
-        inputs.files.push(4)?;
-        inputs.err.push(write)?;
-        let answer = answer(rt.alloc(), "record P L S", inputs, (100, 100), 9)?;
-        assert_eq!(rt; answer.status, Status::WriteFault, "{write}");
-        assert_eq!(rt;
-            answer.err.as_slice(),
-            front(line_of(4), write as usize),
-            "{write}"
-        );
-    }
+fn reads_of_one_byte_make_the_same_record(rt: HostRuntime) -> Result<(), Fail> {
+    let case = Case {
+        by_bytes: true,
+        ..CALM
+    };
+    assert!(rt; holds(rt.alloc(), TWICE, CALLED, case));
     Ok(())
 }

@@ -1,10 +1,10 @@
-//! Texts of programs and what is told of each, written by hand from the grammar and the rules of well-formed classes.
-//!
-//! A row is what is told, a bar and a text. A line that begins with two dashes is a heading. In a text, `[N:PART]` is the
-//! part N times, with its number from 0 in place of a `$`; `~` is a line feed, and `^` a carriage return.
+//! Texts of programs and what is told of each, written by hand from the grammar and the rules of well-formed classes. How a row reads, stands at the head of `calls`.
 
-/// White space, comments and tokens.
-pub const TOKENS: &str = r##"-- White space, comments and the texts that are no program.
+/// What is told, and a text.
+pub const FAULTS: &str = "\
+== record P L S | 2 | mesh 1 1~ | quantum 1~ | [1] |  | pool: program: [0]~ || print P | 2 |  |  | [1] |  | pool: program: [0]~
+-- White space, comments and tokens.
+-- White space, comments and the texts that are no program.
 Unexpected at token 0 | # class A body end
 Unexpected at token 0 | ~~
 accepted | class A body end
@@ -12,12 +12,12 @@ accepted | ~ class^A~~body^~end~
 accepted | # A~class A body end # end
 accepted | class#~A#~body# write~end#
 accepted | class A # body~ body end
-accepted | class A body write 1 # "~ ; write 2 end
+accepted | class A body write 1 # \"~ ; write 2 end
 accepted | class A body write 1 # é @ ~ ; write 2 # ^~ end
 Unexpected at token 3 | class A body # write 1^ write 2 end
 Unexpected at token 5 | class A body write 1#end
 Unexpected at token 6 | class A body write 1; # ~ end
-accepted | class A body write "# 1" end
+accepted | class A body write \"# 1\" end
 -- Bytes with which no token begins.
 BadByte at byte 6 | class é body end
 BadByte at byte 8 | class A @ body end
@@ -41,7 +41,7 @@ accepted | class A body write--1end
 accepted | class A body write(1)end
 accepted | class A var x:Int body x:=1;x:=x-1 end
 accepted | class A body if(true)then write 1else write 2fi end
-accepted | class A body write"s"end
+accepted | class A body write\"s\"end
 accepted | class A method m()begin end body self!!m();self!m()end
 Unexpected at token 0 | classA body end
 Unexpected at token 5 | class A body write 12ab end
@@ -87,22 +87,21 @@ Unexpected at token 3 | class A var self : Int body end
 UnknownClass at token 5 | class A var x : int body end
 UnknownVariable at token 8 | class A var x : Int body write X end
 -- Strings.
-accepted | class A body write "" end
-accepted | class A body write "[256:a]" end
-TooLong at byte 19 | class A body write "[257:a]" end
-OpenString at byte 19 | class A body write " end
-OpenString at byte 19 | class A body write "a~b" end
-OpenString at byte 19 | class A body write "a^" end
-OpenString at byte 19 | class A body write "é" end
-OpenString at byte 22 | class A body write "s"" end
-Unexpected at token 5 | class A body write "s""t" end
-Unexpected at token 5 | class A body write "s" + 1 end
-Unexpected at token 5 | class A body write ("s") end
-Unexpected at token 9 | class A var x : Int body x := "s" end
-Unexpected at token 5 | class A body m("s") end"##;
-
-/// Statements and declarations.
-pub const PHRASES: &str = r##"-- Conditionals, loops and lists of statements.
+accepted | class A body write \"\" end
+accepted | class A body write \"[256:a]\" end
+TooLong at byte 19 | class A body write \"[257:a]\" end
+OpenString at byte 19 | class A body write \" end
+OpenString at byte 19 | class A body write \"a~b\" end
+OpenString at byte 19 | class A body write \"a^\" end
+OpenString at byte 19 | class A body write \"é\" end
+OpenString at byte 22 | class A body write \"s\"\" end
+Unexpected at token 5 | class A body write \"s\"\"t\" end
+Unexpected at token 5 | class A body write \"s\" + 1 end
+Unexpected at token 5 | class A body write (\"s\") end
+Unexpected at token 9 | class A var x : Int body x := \"s\" end
+Unexpected at token 5 | class A body m(\"s\") end
+-- Statements and declarations.
+-- Conditionals, loops and lists of statements.
 accepted | class A body if true then else fi end
 accepted | class A body if true then write 1; write 2 else write 3; write 4 fi; write 5 end
 accepted | class A body if true then if false then fi else if true then fi fi end
@@ -142,7 +141,7 @@ Unexpected at token 8 | class A body (m()) end
 Unexpected at token 6 | class A body m() + 1 end
 Unexpected at token 3 | class A body -1 end
 Unexpected at token 3 | class A body not true end
-Unexpected at token 3 | class A body "s" end
+Unexpected at token 3 | class A body \"s\" end
 Unexpected at token 6 | class A body (1) := 1 end
 Unexpected at token 6 | class A body m() := 1 end
 Unexpected at token 8 | class A body self !! m() ! m() end
@@ -166,11 +165,9 @@ Unexpected at token 9 | class A method m() : Int begin end body end
 Unexpected at token 11 | class A method m() : Int begin result 1; write 2 end body end
 Unexpected at token 7 | class A method m() begin local p : Int end body end
 Unexpected at token 6 | class A method m() var p : Int begin end body end
-Unexpected at token 10 | class A method m() local p : Int : Int begin end body end"##;
-
-/// Levels of operators.
-pub const OPERATORS: &str =
-    r##"-- An operator's sort is that of the whole: the last taken of one level groups what is before it, and the loosest of several.
+Unexpected at token 10 | class A method m() local p : Int : Int begin end body end
+-- Levels of operators.
+-- An operator's sort is that of the whole: the last taken of one level groups what is before it, and the loosest of several.
 TypeDiffers at token 16 | class A var b : Bool var i : Int body b := 1 - 2 - 3 end
 TypeDiffers at token 14 | class A var b : Bool var i : Int body b := 1 - (2 - 3) end
 TypeDiffers at token 18 | class A var b : Bool var i : Int body b := 1 * 2 / 3 % 4 end
@@ -227,10 +224,9 @@ Unexpected at token 7 | class A body write m() (1) end
 Unexpected at token 6 | class A body write new A() end
 Unexpected at token 6 | class A body write self ! 1 end
 Unexpected at token 7 | class A body write self ! m end
-Unexpected at token 5 | class A body write x := 1 end"##;
-
-/// How deep tokens may stand.
-pub const NESTING: &str = r##"-- Two hundred brackets of each kind are open, and then one more.
+Unexpected at token 5 | class A body write x := 1 end
+-- How deep tokens may stand.
+-- Two hundred brackets of each kind are open, and then one more.
 accepted | class A body write [200:(]1[200:)] end
 TooDeep at token 204 | class A body write [201:(]1[201:)] end
 accepted | class A body [200:if true then ][200: fi] end
@@ -335,10 +331,9 @@ Unexpected at token 205 | class A body write [200:(]1 ( end
 TooDeep at token 204 | class A body write [201:(]) end
 TooDeep at token 204 | class A body write [300:(]1 ) ) end
 Unexpected at token 1803 | class A body [200:if true then ][200: fi][200:; if true then fi] fi end
-BadByte at byte 319 | class A body write [300:(]@ end"##;
-
-/// Names that stand twice, and names of nothing.
-pub const DECLARATIONS: &str = r##"-- A name of a class stands twice.
+BadByte at byte 319 | class A body write [300:(]@ end
+-- Names that stand twice, and names of nothing.
+-- A name of a class stands twice.
 ClassTwice at token 5 | class A body end class A body end
 ClassTwice at token 9 | class A body end class B body end class A body end class B body end
 ClassTwice at token 5 | class A body end class A body x := 1 end class A body end
@@ -381,7 +376,8 @@ LocalTwice at token 9 | class A method m() local p, p : Int begin end body end
 LocalTwice at token 15 | class A method m() local p : Int local q : Int local p : Bool begin p := true end body end
 LocalTwice at token 16 | class A method m(p : Int, q : Int) local r, q, p : B begin end body end
 LocalTwice at token 25 | class M var a : A body a ! m(1, true) end class A method m(p : Int, p : Bool) begin end body end
-Limit at token 67 | class M var a : A body a ! m(1, 2, 3, 4, 5, 6, 7, 8, 9) end class A method m(a : Int, b : Int, c : Int, d : Int, e : Int, f : Int, g : Int, h : Int, i : Int) begin end body end
+Limit at token 67 | class M var a : A body a ! m(1, 2, 3, 4, 5, 6, 7, 8, 9) end class A method m(a : Int, b : Int, c : Int, d : Int, e : Int, f : \
+    Int, g : Int, h : Int, i : Int) begin end body end
 accepted | class A method m(p : Int) begin end method n(p : Bool) local q : Int begin end method o() local p, q : A begin end body end
 -- One name may be a class, a variable, a method and a parameter.
 accepted | class A var A, m : Int method m() begin end body A := 1; m := A; m(); new A end
@@ -402,10 +398,9 @@ UnknownVariable at token 4 | class A body if x then y := 1 fi end
 UnknownVariable at token 15 | class A body if true then else while true do select when true then write x end od fi end
 UnknownVariable at token 3 | class A body x ! m(y) end
 UnknownVariable at token 3 | class A body # x := 1~ x !! m() end
-UnknownVariable at token 12 | class A method m() : Int begin write 1 result x end body write m() + true end"##;
-
-/// Methods, arguments and destinations.
-pub const CALLS: &str = r##"-- A class that no one makes is judged too.
+UnknownVariable at token 12 | class A method m() : Int begin write 1 result x end body write m() + true end
+-- Methods, arguments and destinations.
+-- A class that no one makes is judged too.
 UnknownVariable at token 8 | class A method m() begin write x end body end class M body write 1 end
 TypeDiffers at token 10 | class A method m() : Bool begin result 1 end body end class M body end
 NoResult at token 20 | class M body write 1 end class A method m() begin end method n() begin write m() end body end
@@ -463,10 +458,9 @@ TypeDiffers at token 10 | class A method m() begin end body (not self) ! m() end
 NoResult at token 9 | class A method m() begin end body m() ! m() end
 NoResult at token 11 | class A method m() begin end body self ! m() ! m() end
 NoResult at token 11 | class A method m() begin end body self ! m() !! m() end
-accepted | class A method m() : A begin result self end body m() ! m(); m() !! m(); self ! m() ! m() !! m(); new A ! m(); (self) ! m() end"##;
-
-/// What places and operators need.
-pub const SORTS: &str = r##"-- What an assignment, a condition and a guard need.
+accepted | class A method m() : A begin result self end body m() ! m(); m() !! m(); self ! m() ! m() !! m(); new A ! m(); (self) ! m() end
+-- What places and operators need.
+-- What an assignment, a condition and a guard need.
 TypeDiffers at token 9 | class A var x : Int body x := true end
 TypeDiffers at token 10 | class A var x : Bool body x := 1 + 1 end
 TypeDiffers at token 10 | class A var x : Int body x := 1 == 1 end
@@ -516,17 +510,17 @@ TypeDiffers at token 6 | class A body write 1 + true == true end
 NoResult at token 10 | class A method m() begin end body write m() == 1 end
 NoResult at token 12 | class A method m() begin end body write nil != m() end
 NoResult at token 12 | class A method m() begin end body write 1 == m() end
-accepted | class A var x : Int var b : B body write 1 == x; write x == nil; write nil != nil; write self != new A; write nil == self; write b != nil; write (1 == 2) == (nil != 2) end class B body end
+accepted | class A var x : Int var b : B body write 1 == x; write x == nil; write nil != nil; write self != new A; write nil == self; write b != \
+    nil; write (1 == 2) == (nil != 2) end class B body end
 -- Results.
 TypeDiffers at token 10 | class A method m() : Int begin result true end body end
 TypeDiffers at token 11 | class A method m() : Bool begin result 1 + x end body end
 TypeDiffers at token 10 | class A method m() : B begin result self end body end class B body end
 TypeDiffers at token 10 | class A method m() : A begin result 1 end body end
 NoResult at token 16 | class A method m() begin end method n() : Int begin result m() end body end
-accepted | class A method m() : A begin result self end method n() : Int begin result nil end method o() : Bool begin result n() == 1 end body end"##;
-
-/// Calls without result, answer lists, and several faults.
-pub const ABSENCES: &str = r##"-- A method without result leaves no value.
+accepted | class A method m() : A begin result self end method n() : Int begin result nil end method o() : Bool begin result n() == 1 end body end
+-- Calls without result, answer lists, and several faults.
+-- A method without result leaves no value.
 NoResult at token 10 | class A method m() begin end body write m() end
 NoResult at token 15 | class A var x : Int method m() begin end body x := m() end
 NoResult at token 10 | class A method m() begin end body if m() then fi end
@@ -553,15 +547,19 @@ AnswerName at token 23 | class A method m() begin end body select when true answ
 AnswerName at token 8 | class A body select when true answer(m) then write x end end
 TypeDiffers at token 5 | class A body select when 1 answer(m) then end end
 UnknownVariable at token 7 | class A body select when true then x := 1 when 1 then end end
-accepted | class A method m() begin end method n() begin answer(n, m) end body answer(m, n); answer(m); select when true answer(m) then answer(m) when true answer(m) then end end
+accepted | class A method m() begin end method n() begin answer(n, m) end body answer(m, n); answer(m); select when true answer(m) then answer(m) \
+    when true answer(m) then end end
 -- A method whose result kind is unknown gives a Broken value.
-UnknownClass at token 44 | class M var a : A var x : Int body write a ! m() + 1; if a ! m() then fi; x := a ! m() end class A method m() : B begin result nil end body end
+UnknownClass at token 44 | class M var a : A var x : Int body write a ! m() + 1; if a ! m() then fi; x := a ! m() end class A method m() : B begin \
+    result nil end body end
 UnknownClass at token 31 | class A method a() begin write b() + 1; if b() and not b() then fi end method b() : B begin result 1 end body end
 UnknownClass at token 37 | class M var a : A body a ! m() ! n(); a ! m() !! n(1, true) end class A method m() : B begin result 1 end body end
 UnknownVariable at token 14 | class M var a : A body if a ! m() then x := 1 fi end class A method m() : B begin result nil end body end
 UnknownClass at token 29 | class A method a() begin write self ! b() + 1; write - self ! b() end method b() : B begin result nil end body end
-UnknownClass at token 41 | class M var a : A body write a ! m() == 1; write true == a ! m(); write a ! m() != a end class A method m() : B begin result self end body end
-UnknownClass at token 51 | class M var a : A body a ! m(1); a ! m(true); a ! m(nil); a ! m(self); a ! m(1 < 2) end class A method m(p : B) begin end body end
+UnknownClass at token 41 | class M var a : A body write a ! m() == 1; write true == a ! m(); write a ! m() != a end class A method m() : B begin \
+    result self end body end
+UnknownClass at token 51 | class M var a : A body a ! m(1); a ! m(true); a ! m(nil); a ! m(self); a ! m(1 < 2) end class A method m(p : B) begin end \
+    body end
 NoResult at token 13 | class M var a : A body a ! m(a ! n()) end class A method m(p : B) begin end method n() begin end body end
 ArgumentCount at token 9 | class M var a : A body a ! m() end class A method m(p : B) begin end body end
 TypeDiffers at token 18 | class M var a : A var x : Int body x := a ! m() == 1 end class A method m() : B begin result nil end body end
@@ -575,16 +573,15 @@ UnknownMethod at token 11 | class A var x : Int body x := self ! m(1) end
 NoResult at token 17 | class A var x : Int method m() begin end body x := 1 + m() end
 -- Whatever is written has a value; a string is written too.
 accepted | class A body write true end
-accepted | class A body write "s" end
+accepted | class A body write \"s\" end
 accepted | class A body write nil; write self; write new A; write 1 == 2 end
 accepted | class A body write 1 + 1 end
 accepted | class A body write (- 1) end
 accepted | class A var x : Int body write 1 end
 accepted | class A method m() begin end body write 1 end
-accepted | class A body write 1 end class B body write 1 end"##;
-
-/// Limits.
-pub const LIMITS: &str = "-- At most 256 classes.
+accepted | class A body write 1 end class B body write 1 end
+-- Limits.
+-- At most 256 classes.
 accepted | [256:class C$ body end ]
 Limit at token 1025 | [256:class C$ body end ]class L body end
 ClassTwice at token 1025 | [256:class C$ body end ]class C0 body end
@@ -648,12 +645,10 @@ accepted | class A method m(p : Int, q : Int) : Int begin result p end body writ
 Limit at token 277 | class A method m(p : Int, q : Int) : Int begin result p end body write [64:m(1, ]1[64:)] end
 Limit at token 275 | class A method m(p : Int, q : Int) : Int begin result p end body write [63:m(1, ]1 + 1[63:)] end
 accepted | class A method m(p : Int) : Int begin result p end body write [150:m(]1[150:)] end
-accepted | \
-    class A method m(a : Int, b : Int, c : Int, d : Int, e : Int, f : Int, g : Int, h : Int) : Int begin result a end body write [9:m(1, 2, 3, 4, \
-    5, 6, 7, ]8[9:)] end
-Limit at token 193 | \
-    class A method m(a : Int, b : Int, c : Int, d : Int, e : Int, f : Int, g : Int, h : Int) : Int begin result a end body write [9:m(1, 2, 3, 4, \
-    5, 6, 7, ]m(1, 2, 3, 4, 5, 6, 7, 8)[9:)] end
+accepted | class A method m(a : Int, b : Int, c : Int, d : Int, e : Int, f : Int, g : Int, h : Int) : Int begin result a end body write [9:m(1, 2, \
+    3, 4, 5, 6, 7, ]8[9:)] end
+Limit at token 193 | class A method m(a : Int, b : Int, c : Int, d : Int, e : Int, f : Int, g : Int, h : Int) : Int begin result a end body write \
+    [9:m(1, 2, 3, 4, 5, 6, 7, ]m(1, 2, 3, 4, 5, 6, 7, 8)[9:)] end
 accepted | class A method m(p : Int) : Int begin result p end body write [63:self ! m(]1[63:)] end
 Limit at token 273 | class A method m(p : Int) : Int begin result p end body write [64:self ! m(]1[64:)] end
 Limit at token 273 | class A method m(p : Int) : Int begin result p end body write [64:self ! m(]self ! m(1)[64:)] end
@@ -669,10 +664,9 @@ Limit at token 196 | class A body select[63: when true then] when 1 < 2 then end
 Limit at token 197 | class A body select[64: when true then] when 1 < 2 then end end
 TypeDiffers at token 197 | class A body select[64: when true then] when 1 then end end
 UnknownVariable at token 197 | class A body select[64: when true then] when x then end end
-accepted | class A body select[64: when true then] write 1 + 1; select when true then end end end";
-
-/// What operators and results are, and what is hidden.
-pub const PLACES: &str = "-- What operators need on their other sides.
+accepted | class A body select[64: when true then] write 1 + 1; select when true then end end end
+-- What operators and results are, and what is hidden.
+-- What operators need on their other sides.
 TypeDiffers at token 4 | class A body write true + 1 end
 TypeDiffers at token 6 | class A body write 1 - true end
 TypeDiffers at token 6 | class A body write 1 * self end
@@ -695,7 +689,8 @@ UnknownVariable at token 6 | class A body write true == x end
 UnknownMethod at token 8 | class A body write 1 != self ! m() end
 TypeDiffers at token 10 | class A body write (1 == 2) != 3 end
 TypeDiffers at token 10 | class A var b : B body write b == self end class B body end
-UnknownClass at token 30 | class A method k() begin write m() == n(); write n() != m() end method m() : B begin result 1 end method n() : C begin result true end body end
+UnknownClass at token 30 | class A method k() begin write m() == n(); write n() != m() end method m() : B begin result 1 end method n() : C begin \
+    result true end body end
 -- A call and a send have the sort of their result.
 TypeDiffers at token 19 | class A var x : Int method m() : Bool begin result true end body x := m() end
 TypeDiffers at token 21 | class A var x : Bool method m() : Int begin result 1 end body x := self ! m() end
@@ -704,9 +699,8 @@ TypeDiffers at token 23 | class A var x : B method m() : A begin result self end
 TypeDiffers at token 14 | class A method m() : Int begin result 1 end body if m() then fi end
 TypeDiffers at token 16 | class A method m() : Int begin result 1 end body while self ! m() do od end
 TypeDiffers at token 19 | class A method m(p : Int) : Bool begin result true end body write m(m(1)) end
-accepted | \
-    class A var x : Int var y : Bool var z : A method m() : Int begin result 1 end method n() : Bool begin result true end method o() : A begin \
-    result self end body x := m(); y := n(); z := o(); x := self ! m(); y := z ! n(); z := o() ! o() end
+accepted | class A var x : Int var y : Bool var z : A method m() : Int begin result 1 end method n() : Bool begin result true end method o() : A \
+    begin result self end body x := m(); y := n(); z := o(); x := self ! m(); y := z ! n(); z := o() ! o() end
 UnknownMethod at token 17 | class A method m() : B begin result nil end body m() ! m() end class B method n() begin end body end
 accepted | class A method m() : B begin result nil end body m() ! n(); self ! m() !! n() end class B method n() begin end body end
 -- A method's value.
@@ -727,10 +721,9 @@ accepted | class A var x : Int method m(x : A) begin x ! m(nil) end body x := 1 
 UnknownMethod at token 16 | class A var x : B method m(x : A) begin x ! k() end method n() begin x ! k() end body end class B method k() begin end body end
 TypeDiffers at token 17 | class A var x : Bool method m(x : Int) : Bool begin result x end body end
 accepted | class A var x : Bool method m(x : Int) : Int begin result x end body x := m(1) == 1 end
-UnknownClass at token 11 | class A var x : Int method m(x : B) begin x := true; x ! k() end body x := 1 end";
-
-/// Several faults on one token, and operands held.
-pub const HELD: &str = "-- Of faults on one token the least number is told, also at a destination.
+UnknownClass at token 11 | class A var x : Int method m(x : B) begin x := true; x ! k() end body x := 1 end
+-- Several faults on one token, and operands held.
+-- Of faults on one token the least number is told, also at a destination.
 ArgumentCount at token 14 | class A method m() : Int begin result 1 end body write m(1) ! m() end
 ArgumentCount at token 9 | class A method m() begin end body m(1) ! m() end
 ArgumentCount at token 16 | class A method m() : Int begin result 1 end body write true == m(1) end
@@ -759,12 +752,10 @@ Limit at token 209 | class A method m(p : Int, q : Int) begin end body self !! m
 Limit at token 208 | class A method m(p : Int, q : Int) begin end body self !! m(1, [62:1 + (]1[62:)]) end
 accepted | class A method m(p : Int, q : Int) : Int begin result p end body write 1 + self ! m(1, [30:self ! m(1, ]1[30:)]) end
 Limit at token 213 | class A method m(p : Int, q : Int) : Int begin result p end body write [32:self ! m(1, ]1[32:)] end
-accepted | \
-    class A method m(a : Int, b : Int, c : Int, d : Int, e : Int, f : Int, g : Int, h : Int) : Int begin result a end body write [7:self ! m(1, \
-    2, 3, 4, 5, 6, 7, ]m(1, 2, 3, 4, 5, 6, 7, 8)[7:)] end
-Limit at token 189 | \
-    class A method m(a : Int, b : Int, c : Int, d : Int, e : Int, f : Int, g : Int, h : Int) : Int begin result a end body write [8:self ! m(1, \
-    2, 3, 4, 5, 6, 7, ]8[8:)] end
+accepted | class A method m(a : Int, b : Int, c : Int, d : Int, e : Int, f : Int, g : Int, h : Int) : Int begin result a end body write [7:self ! \
+    m(1, 2, 3, 4, 5, 6, 7, ]m(1, 2, 3, 4, 5, 6, 7, 8)[7:)] end
+Limit at token 189 | class A method m(a : Int, b : Int, c : Int, d : Int, e : Int, f : Int, g : Int, h : Int) : Int begin result a end body write \
+    [8:self ! m(1, 2, 3, 4, 5, 6, 7, ]8[8:)] end
 -- Destinations hold what their send holds.
 accepted | class A method m(p : Int, q : A) : A begin result q end body [63:m(1, ]self[63:)] ! m(1, nil) end
 Limit at token 276 | class A method m(p : Int, q : A) : A begin result q end body [64:m(1, ]self[64:)] ! m(1, nil) end
@@ -780,10 +771,9 @@ accepted | class A method m(p : Int) : Bool begin result true end body select[63
 Limit at token 215 | class A method m(p : Int, q : Int) : Bool begin result true end body select[63: when true then] when m(1, 2) then end end
 accepted | class A body select[63: when true then] when not true then end end
 Limit at token 197 | class A body select[64: when true then] when not true then end end
-accepted | class A method m() begin end body select[64: when true answer(m) then write 1 + 1] end end";
-
-/// The texts of the section on class faults in `docs/LANGUAGE.md`, and the shortest text of each fault.
-pub const LANGUAGE: &str = "-- The shortest text of each fault.
+accepted | class A method m() begin end body select[64: when true answer(m) then write 1 + 1] end end
+-- The texts of the section on class faults in `docs/LANGUAGE.md`, and the shortest text of each fault.
+-- The shortest text of each fault.
 ClassTwice at token 5 | class A body end class A body end
 UnknownClass at token 5 | class A var x : B body end
 VariableTwice at token 5 | class A var x, x : Int body end
@@ -798,28 +788,28 @@ AnswerName at token 5 | class A body answer(m) end
 Limit at token 37 | class A method m(a : Int, b : Int, c : Int, d : Int, e : Int, f : Int, g : Int, h : Int, i : Int) begin end body end
 -- The texts of the page on the language.
 ClassTwice at token 12 | class Cell~var Cell : Int~body Cell := 1 end~class Cell~body end~class Main~body new Cell end
-UnknownClass at token 28 | class Main~method total() : Int begin result price(2) + price(3) end~method price(n : Int) : Money begin result n end~body write total() end
+UnknownClass at token 28 | class Main~method total() : Int begin result price(2) + price(3) end~method price(n : Int) : Money begin result n \
+    end~body write total() end
 UnknownClass at token 10 | class Main~var n : Int~body n := new Counter; n := true end
 VariableTwice at token 9 | class Counter~var count, step : Int~var count : Bool~body count := 1; step := 1 end
-MethodTwice at token 21 | class Counter~var count : Int~method add(n : Int) begin count := count + n end~method add() begin add(1) end~body count := 0; answer(add) end
-LocalTwice at token 18 | \
-    class Main~method gcd(a : Int, b : Int) : Int local r, b : Int~begin if b == 0 then r := a else r := gcd(b, a % b) fi result r end~body write \
-    gcd(252, 105) end
-UnknownVariable at token 39 | \
-    class Main~var sum : Int~method add(n : Int) local next : Int begin next := sum + n; sum := next end~body sum := 0; add(2); write next + 1 end
+MethodTwice at token 21 | class Counter~var count : Int~method add(n : Int) begin count := count + n end~method add() begin add(1) end~body count := \
+    0; answer(add) end
+LocalTwice at token 18 | class Main~method gcd(a : Int, b : Int) : Int local r, b : Int~begin if b == 0 then r := a else r := gcd(b, a % b) fi \
+    result r end~body write gcd(252, 105) end
+UnknownVariable at token 39 | class Main~var sum : Int~method add(n : Int) local next : Int begin next := sum + n; sum := next end~body sum := 0; \
+    add(2); write next + 1 end
 UnknownMethod at token 17 | class S body end~class Main~var s : S~var n : Int~body s ! go(); n := true end
-ArgumentCount at token 53 | \
-    class Main~method power(b : Int, n : Int) : Int local r : Int~begin r := 1; while n > 0 do r := r * b; n := n - 1 od result r end~body write \
-    power(2, 5) + power(2); write power(true, 2, 3) end
+ArgumentCount at token 53 | class Main~method power(b : Int, n : Int) : Int local r : Int~begin r := 1; while n > 0 do r := r * b; n := n - 1 od \
+    result r end~body write power(2, 5) + power(2); write power(true, 2, 3) end
 ArgumentCount at token 15 | class Main~method greet(n : Int) begin write n end~body write greet() end
 TypeDiffers at token 18 | class Main~var n : Int~var done : Bool~body n := 3; done := n - 1; while n do n := n - 1 od end
 TypeDiffers at token 16 | class Main~var n : Int~body n := 3; if n == (n > 2) then write n fi end
 TypeDiffers at token 30 | class Main~var n : Int~method twice(k : Int) : Int begin result k + k end~body n := twice(4); write n ! twice(true) end
 NoResult at token 34 | class Main~var total : Int~method add(n : Int) begin total := total + n end~body total := 0; add(1); total := total + add(2) end
-AnswerName at token 40 | class Store~method put(n : Int) begin write n end~body answer(put) end~class Main~var s : Store~body s := new Store; s !! put(1); answer(put) end
-AnswerName at token 43 | \
-    class Cell~var value : Int~method put(n : Int) begin value := n end~method get() : Int begin result value end~body answer(put); while true do \
-    answer(get, put, get) od end
-Limit at token 37 | \
-    class Main~method mean(a : Int, b : Int, c : Int, d : Int, e : Int, f : Int, g : Int, h : Int, i : Int) : Int~begin result (a + b + c + d + \
-    e + f + g + h + i) / 9 end~body write mean(1, 2, 3, 4, 5, 6, 7, 8, 9) end";
+AnswerName at token 40 | class Store~method put(n : Int) begin write n end~body answer(put) end~class Main~var s : Store~body s := new Store; s !! \
+    put(1); answer(put) end
+AnswerName at token 43 | class Cell~var value : Int~method put(n : Int) begin value := n end~method get() : Int begin result value end~body \
+    answer(put); while true do answer(get, put, get) od end
+Limit at token 37 | class Main~method mean(a : Int, b : Int, c : Int, d : Int, e : Int, f : Int, g : Int, h : Int, i : Int) : Int~begin result (a + \
+    b + c + d + e + f + g + h + i) / 9 end~body write mean(1, 2, 3, 4, 5, 6, 7, 8, 9) end
+";

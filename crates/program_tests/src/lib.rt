@@ -1,12 +1,9 @@
-//! Tests of the top call over texts in memory: records, faults, canonical texts, object code files, failing calls, and the greatest inputs.
+//! Tests of the top call over texts in memory: words, runs on one node and on meshes, faults, records, canonical texts, object code
+//! files, limits, the greatest inputs, and failing calls.
 #![tactic(auto)]
 
 #[cfg(test)]
-mod built;
-#[cfg(test)]
 mod call_rows;
-#[cfg(test)]
-mod called;
 #[cfg(test)]
 mod calls;
 #[cfg(test)]
@@ -14,13 +11,11 @@ mod failing;
 #[cfg(test)]
 mod fault_rows;
 #[cfg(test)]
-mod faults;
+mod file_rows;
 #[cfg(test)]
 mod front_rows;
 #[cfg(test)]
-mod greatest;
-#[cfg(test)]
-mod loaded;
+mod limit_rows;
 #[cfg(test)]
 mod print_rows;
 #[cfg(test)]
@@ -28,4 +23,6 @@ mod printed;
 #[cfg(test)]
 mod run_rows;
 #[cfg(test)]
-mod runs;
+mod spelled;
+#[cfg(test)]
+mod tables;

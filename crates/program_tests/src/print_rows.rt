@@ -1,10 +1,11 @@
 //! Texts of programs and their canonical texts, written by hand from the grammar and the rules of the canonical text.
-//!
-//! A row is a text, a bar and its canonical text. A line that begins with two dashes is a heading. In both, `[N:PART]` is the
-//! part N times; `~` is a line feed, and `^` a carriage return.
+//! How a row reads, stands at the head of `calls`.
 
-/// Expressions behind `write`.
-pub const EXPRESSIONS: &str = r##"-- Operands of `or`: on the right `or` keeps its parentheses.
+/// Texts and their canonical texts.
+pub const PRINTS: &str = "\
+-- Expressions behind `write`.
+== canonical | class A body write [0] end | class A~body write [1] end~ || canonical | class A~body write [1] end~ | class A~body write [1] end~
+-- Operands of `or`: on the right `or` keeps its parentheses.
 (a or b) or c | a or b or c
 (a and b) or c | a and b or c
 (a == b) or c | a == b or c
@@ -342,10 +343,9 @@ Self | Self
 m(00, 010) | m ( 0 , 10 )
 9223372036854775807 | 9223372036854775807
 0009223372036854775807 | 9223372036854775807
-"##;
-
-/// Statements of a body.
-pub const STATEMENTS: &str = "-- Assignments and writes.
+-- Statements of a body.
+== canonical | class A body [0] end | class A~body [1] end~ || canonical | class A~body [1] end~ | class A~body [1] end~
+-- Assignments and writes.
 x:=1 | x := 1
 x := (1) | x := 1
 x := ((a or b)) | x := a or b
@@ -426,10 +426,9 @@ write (self[100: ! m()])[99: ! m()] | write self[199: ! m ( )]
 m((1[150: + 1])[49: + 1]) | m ( 1[199: + 1] )
 write [100:1 - (]1[100:)] | write [99:1 - ( ]1 - 1[99: )]
 [100:if true then ]write (1[50: + 1])[50: + 1][100: fi] | [100:if true then ]write 1[100: + 1][100: fi]
-";
-
-/// Whole programs, without the line feed behind a canonical text.
-pub const PROGRAMS: &str = "-- White space and comments.
+-- Whole programs, without the line feed behind a canonical text.
+== canonical | [0] | [1]~ || canonical | [1]~ | [1]~
+-- White space and comments.
 class A body end | class A~body end
 ~ class^A~~body^~end~ | class A~body end
 # a comment~class A # another~body # a third ; ( \"~end # the last | class A~body end
@@ -442,7 +441,8 @@ class A var a, b, c : Bool var A : B body a := (b) end | class A~var a : Bool~va
 -- Methods, their parameters, locals and results.
 class A method m() begin end body end | class A~method m ( ) begin end~body end
 class A method m(p:Int) begin end body end | class A~method m ( p : Int ) begin end~body end
-class A method m(p : Int, q : Bool, r : A) begin write 1; write (p) end body end | class A~method m ( p : Int , q : Bool , r : A ) begin write 1 ;~write p end~body end
+class A method m(p : Int, q : Bool, r : A) begin write 1; write (p) end body end | \
+    class A~method m ( p : Int , q : Bool , r : A ) begin write 1 ;~write p end~body end
 class A method m() local x : Int begin end body end | class A~method m ( ) local x : Int begin end~body end
 class A method m() local x, y : Int local z : A begin end body end | class A~method m ( ) local x : Int local y : Int local z : A begin end~body end
 class A method m() : Int begin result (007) end body end | class A~method m ( ) : Int begin result 7 end~body end
@@ -464,11 +464,10 @@ class A var x : B method m() begin end body x := new B end class B body end clas
 -- The classes need not fit.
 class A var x, x : B body x := (m(1)); y ! n(); answer(k); if (1) then fi end class A body end | \
     class A~var x : B~var x : B~body x := m ( 1 ) ;~y ! n ( ) ;~answer ( k ) ;~if 1 then fi end~class A~body end
-";
-
-/// Statements whose canonical text is too deep to be read again, each with its first token that is.
-pub const TOO_DEEP: &str =
-    r##"-- Operators inside parentheses stop to count where those are closed, and go on to count where those are dropped.
+-- Statements whose canonical text is too deep to be read again, each with its first token that is.
+== canonical | class A body [1] end | class A~body [2] end~ || record P L S | 2 | mesh 1 1~ | quantum 1~ | class A~body [2] end~ |  | \
+    pool: program: TooDeep at token [0]~ || print P | 2 |  |  | class A~body [2] end~ |  | pool: program: TooDeep at token [0]~
+-- Operators inside parentheses stop to count where those are closed, and go on to count where those are dropped.
 405 | write (1[150: + 1])[51: + 1] | write 1[201: + 1]
 405 | write [150:(]1[150: + 1)][51: + 1] | write 1[201: + 1]
 405 | write [199:(]1[199: + 1)][2: + 1] | write 1[201: + 1]
@@ -482,4 +481,4 @@ pub const TOO_DEEP: &str =
 404 | m((1[150: + 1])[50: + 1]) | m ( 1[200: + 1] )
 406 | x := (1[150: - 1])[51: - 1] | x := 1[201: - 1]
 505 | [100:if true then ]write (1[60: + 1])[60: + 1][100: fi] | [100:if true then ]write 1[120: + 1][100: fi]
-"##;
+";

@@ -1,90 +1,101 @@
-//! The canonical texts that are printed.
-use crate::faults::{bytes_of, is_told};
-use crate::print_rows::{EXPRESSIONS, PROGRAMS, STATEMENTS, TOO_DEEP};
+//! The canonical texts that are printed, whether the classes fit or not, and the tokens that may not come next.
+use crate::calls::{NEVER, is_heading, is_written, sink};
+use crate::front_rows::FRONTS;
+use crate::spelled::{field, spell};
 use pool_lexer::tokens;
-use pool_outside::MemSink;
-use pool_parser::parse;
+use pool_parser::{SyntaxFault, parse};
 use pool_printer::print;
-use std::alloc::{AllocError, Global};
+use std::alloc::Global;
 use std::test::Fail;
 
-/// The canonical text of the text's program, if it has one. Whether the classes fit is not asked.
-fn canonical(alloc: Global, text: &[u8]) -> Result<Option<Vec<u8>>, AllocError> {
-    if text.len() > 1048576 {
-        return Ok(None);
+/// Each keyword and sign, a name, an integer and a string, and the end of the text.
+const EACH_TOKEN: &str =
+    "class var method local begin result post end body if then else fi while do od answer select when write new self nil true false not and or Int \
+    Bool := : ; , ( ) ! !! == != < <= > >= + - * / % x 1 \"s\" END";
+
+/// The tokens for which a word of a row stands.
+fn tokens_of(word: &str) -> &str {
+    match word {
+        "NAME" => "x",
+        "KIND" => "Int Bool x",
+        "EXPRESSION" => "1 true false nil self x new ( not -",
+        "STATEMENT" => "x write if while answer select 1 true false nil self new (",
+        "OPERATOR" => "! * / % + - == != < <= > >= and or",
+        _ => word,
     }
-    let Ok(tokens) = tokens(alloc, text) else {
-        return Ok(None);
-    };
-    let Ok(program) = parse(alloc, &tokens) else {
-        return Ok(None);
-    };
-    let mut out = MemSink::make(alloc, 4096, 10, Vec::new(alloc))?;
-    match print(&program, &tokens.names, &mut out) {
-        Ok(()) => Ok(Some(out.written().to_vec(alloc)?)),
-        Err(_) => Ok(None),
-    }
 }
 
-/// The text that a frame is with this part in place of its `$`.
-fn framed(alloc: Global, frame: &str, part: &str) -> Result<Vec<u8>, AllocError> {
-    let (front, back) = frame.split_once('$').unwrap_or(("", ""));
-    let text = format!(in alloc; "{front}{part}{back}")?;
-    bytes_of(alloc, &text)
-}
-
-fn is_printed_as(alloc: Global, text: &[u8], wanted: &[u8]) -> Result<bool, AllocError> {
-    Ok(match canonical(alloc, text)? {
-        Some(printed) => printed.as_slice() == wanted,
-        None => false,
-    })
-}
-
-/// Whether a row's text is printed as its canonical text, and that one as itself; the frames are of the one and of the other.
-fn holds(alloc: Global, row: &str, frames: (&str, &str)) -> Result<bool, AllocError> {
-    let Some((text, canonical)) = row.split_once(" | ") else {
-        return Ok(row.starts_with("--"));
-    };
-    let text = framed(alloc, frames.0, text)?;
-    let canonical = framed(alloc, frames.1, canonical)?;
-    Ok(is_printed_as(alloc, &text, &canonical)? && is_printed_as(alloc, &canonical, &canonical)?)
-}
-
-/// Whether a row's text is printed as its canonical text, and that one is refused at the row's token.
-fn is_too_deep_again(alloc: Global, row: &str) -> Result<bool, AllocError> {
-    let Some((token, texts)) = row.split_once(" | ") else {
-        return Ok(row.starts_with("--"));
-    };
-    let Some((text, canonical)) = texts.split_once(" | ") else {
-        return Ok(false);
-    };
-    let text = framed(alloc, "class A body $ end", text)?;
-    let canonical = framed(alloc, "class A~body $ end~", canonical)?;
-    let told = format!(in alloc; "TooDeep at token {token}")?;
-    Ok(is_printed_as(alloc, &text, &canonical)? && is_told(alloc, &canonical, &told)?)
-}
-
-#[test]
-fn programs_are_printed_as_their_canonical_texts(rt: HostRuntime) -> Result<(), Fail> {
-    for (rows, frames) in [
-        (
-            EXPRESSIONS,
-            ("class A body write $ end", "class A~body write $ end~"),
-        ),
-        (STATEMENTS, ("class A body $ end", "class A~body $ end~")),
-        (PROGRAMS, ("$", "$~")),
-    ] {
-        for row in rows.lines() {
-            assert!(rt; holds(rt.alloc(), row, frames)?, "{row}");
+fn may_come(words: &str, token: &str) -> bool {
+    for word in words.split(' ') {
+        for each in tokens_of(word).split(' ') {
+            if each == token {
+                return true;
+            }
         }
     }
-    Ok(())
+    false
+}
+
+/// Whether the parser finds that the token at this place may not stand there.
+fn is_unexpected(alloc: Global, text: &str, place: usize) -> bool {
+    if text.len() > 1000 {
+        return false;
+    }
+    let Ok(tokens) = tokens(alloc, text.as_bytes()) else {
+        return false;
+    };
+    match parse(alloc, &tokens) {
+        Err(SyntaxFault::Unexpected { token }) => token as usize == place,
+        _ => false,
+    }
+}
+
+/// Whether the token is unexpected behind the front of a row exactly where it is not among those that may come next.
+fn is_told_behind(alloc: Global, row: &str, token: &str) -> bool {
+    let front = field(row, 0);
+    let place = front.split_ascii_whitespace().count();
+    let shown = if token == "END" { "" } else { token };
+    let mut text = String::new(alloc);
+    let _ = write!(text, "{front} {shown}");
+    is_unexpected(alloc, text.as_str(), place) != may_come(field(row, 1), token)
+}
+
+/// Whether a line of the fronts is a heading, or each token is told rightly behind its front.
+fn is_right_front(alloc: Global, row: &str) -> bool {
+    if is_heading(row) {
+        return true;
+    }
+    for token in EACH_TOKEN.split(' ') {
+        if !is_told_behind(alloc, row, token) {
+            return false;
+        }
+    }
+    true
+}
+
+/// Whether a text is printed as this canonical text. Whether the classes fit is not asked.
+pub fn is_printed(alloc: Global, text: &str, canonical: &str) -> bool {
+    let text = spell(alloc, text, "");
+    if text.len() > 1048576 {
+        return false;
+    }
+    let Ok(tokens) = tokens(alloc, text.as_bytes()) else {
+        return false;
+    };
+    let Ok(program) = parse(alloc, &tokens) else {
+        return false;
+    };
+    let Some(mut out) = sink(alloc, 4096, 10, NEVER) else {
+        return false;
+    };
+    print(&program, &tokens.names, &mut out).is_ok()
+        && is_written(alloc, out.written(), canonical, 4096)
 }
 
 #[test]
-fn dropped_parentheses_may_make_a_text_too_deep(rt: HostRuntime) -> Result<(), Fail> {
-    for row in TOO_DEEP.lines() {
-        assert!(rt; is_too_deep_again(rt.alloc(), row)?, "{row}");
+fn each_token_that_may_not_come_next_is_told(rt: HostRuntime) -> Result<(), Fail> {
+    for row in FRONTS.lines() {
+        assert!(rt; is_right_front(rt.alloc(), row), "{row}");
     }
     Ok(())
 }

@@ -2,6 +2,8 @@
 #![tactic(auto)]
 
 #[cfg(test)]
+mod blocks;
+#[cfg(test)]
 mod judged;
 #[cfg(test)]
 mod judged_rows;
@@ -9,3 +11,5 @@ mod judged_rows;
 mod rows;
 #[cfg(test)]
 mod runs;
+#[cfg(test)]
+mod texts;

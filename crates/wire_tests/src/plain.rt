@@ -1,58 +1,39 @@
-//! A wire as plain lists. What entered as the k-th packet has the name k, so that a frame is its number.
-use crate::steps::{Step, Told};
-use std::alloc::{AllocError, Global};
+//! A wire as plain lists. What entered behind k packets has the number k, and a frame is its number.
+use crate::steps::{Kind, Step, Told, name_of, of_kind};
+use arrayvec::ArrayVec;
 use wire_link::Side;
+
+// At most sixteen frames are under way on a side.
+type Frames = ArrayVec<u32, 16>;
 
 #[derive(Drop)]
 pub struct Plain {
-    entered: u32,
-    handed: u32,
+    pub entered: u32,
+    pub handed: u32,
     acked: u32,
     next: u32,
-    sent: u32,
-    frames: Vec<u32>,
-    acks: Vec<u32>,
+    frames: Frames,
+    acks: Frames,
 }
 
-// Puts a frame last where fewer than sixteen are under way, and says whether it did.
-fn put(frames: &mut Vec<u32>, number: u32) -> Result<bool, AllocError> {
-    if frames.len() >= 16 {
-        return Ok(false);
-    }
-    frames.push(number)?;
-    Ok(true)
-}
-
-fn first(frames: &mut Vec<u32>) -> Option<u32> {
-    if frames.is_empty() {
-        None
-    } else {
-        Some(frames.remove(0))
+// Puts a number last, if there is one and room for it, and tells it; else `Idle`.
+fn put(frames: &mut Frames, kind: Kind, number: Option<u32>) -> Told {
+    match number {
+        Some(number) if frames.try_push(number).is_ok() => Told(kind, number),
+        _ => Told(Kind::Idle, 0),
     }
 }
 
 impl Plain {
-    pub fn make(alloc: Global) -> Plain {
+    pub fn make() -> Plain {
         Plain {
             entered: 0,
             handed: 0,
             acked: 0,
             next: 0,
-            sent: 0,
-            frames: Vec::new(alloc),
-            acks: Vec::new(alloc),
+            frames: ArrayVec::new(),
+            acks: ArrayVec::new(),
         }
-    }
-
-    pub fn handed(&self) -> u32 {
-        self.handed
-    }
-
-    /// A packet enters; its name.
-    pub fn enter(&mut self) -> u32 {
-        let name = self.entered;
-        self.entered = name.saturating_add(1);
-        name
     }
 
     fn wants(&self) -> Option<u32> {
@@ -65,89 +46,64 @@ impl Plain {
         }
     }
 
-    fn send(&mut self) -> Result<Told, AllocError> {
+    fn send(&mut self) -> Told {
         let Some(number) = self.wants() else {
-            return Ok(Told::Idle);
+            return Told(Kind::Idle, 0);
         };
         self.next = number.saturating_add(1);
-        self.sent = self.sent.max(self.next);
-        if put(&mut self.frames, number)? {
-            Ok(Told::Frame(number))
+        if self.frames.try_push(number).is_ok() {
+            Told(Kind::Frame, number)
         } else {
-            Ok(Told::Lost(number))
+            Told(Kind::Lost, number)
         }
     }
 
-    fn arrive(&mut self) -> Result<Told, AllocError> {
-        let Some(number) = first(&mut self.frames) else {
-            return Ok(Told::Idle);
+    fn arrive(&mut self) -> Told {
+        let Some(number) = self.frames.pop_at(0) else {
+            return Told(Kind::Idle, 0);
         };
-        let told = if number == self.handed {
-            self.handed = number.saturating_add(1);
-            Told::Next(number)
-        } else {
-            Told::Stale(number)
-        };
-        put(&mut self.acks, self.handed)?;
-        Ok(told)
+        if number != self.handed {
+            put(&mut self.acks, Kind::Acked, Some(self.handed));
+            return Told(Kind::Stale, number);
+        }
+        self.handed = number.saturating_add(1);
+        put(&mut self.acks, Kind::Acked, Some(self.handed));
+        Told(Kind::Next, name_of(number))
     }
 
     fn ack(&mut self) -> Told {
-        let Some(number) = first(&mut self.acks) else {
-            return Told::Idle;
+        let Some(number) = self.acks.pop_at(0) else {
+            return Told(Kind::Idle, 0);
         };
         self.acked = self.acked.max(number);
         self.next = self.next.max(self.acked);
-        Told::Acked(number)
+        Told(Kind::Acked, number)
     }
 
-    fn frames_of(&mut self, side: Side) -> &mut Vec<u32> {
+    fn frames_of(&mut self, side: Side) -> &mut Frames {
         match side {
             Side::Data => &mut self.frames,
             Side::Ack => &mut self.acks,
         }
     }
 
-    fn lose(&mut self, side: Side) -> Told {
-        match first(self.frames_of(side)) {
-            Some(number) => Told::Lost(number),
-            None => Told::Idle,
-        }
-    }
-
-    fn twice(&mut self, side: Side) -> Result<Told, AllocError> {
-        let frames = self.frames_of(side);
-        let Some(number) = frames.first().copied() else {
-            return Ok(Told::Idle);
-        };
-        if put(frames, number)? {
-            Ok(Told::Frame(number))
-        } else {
-            Ok(Told::Idle)
-        }
-    }
-
-    fn late(&mut self, side: Side) -> Result<Told, AllocError> {
-        let frames = self.frames_of(side);
-        let Some(number) = first(frames) else {
-            return Ok(Told::Idle);
-        };
-        frames.push(number)?;
-        Ok(Told::Late(number))
-    }
-
-    pub fn answer(&mut self, step: Step) -> Result<Told, AllocError> {
+    pub fn answer(&mut self, step: Step) -> Told {
         match step {
-            Step::Wants => match self.wants() {
-                Some(number) => Ok(Told::Wants(number)),
-                None => Ok(Told::Idle),
-            },
+            Step::Wants => of_kind(Kind::Wants, self.wants()),
             Step::Send => self.send(),
             Step::Arrive => self.arrive(),
-            Step::Ack => Ok(self.ack()),
-            Step::Lose(side) => Ok(self.lose(side)),
-            Step::Twice(side) => self.twice(side),
-            Step::Late(side) => self.late(side),
+            Step::Ack => self.ack(),
+            Step::Lose(side) => of_kind(Kind::Lost, self.frames_of(side).pop_at(0)),
+            Step::Twice(side) => {
+                let frames = self.frames_of(side);
+                let first = frames.as_slice().first().copied();
+                put(frames, Kind::Frame, first)
+            }
+            Step::Late(side) => {
+                let frames = self.frames_of(side);
+                let first = frames.pop_at(0);
+                put(frames, Kind::Late, first)
+            }
         }
     }
 }

@@ -1,6 +1,5 @@
 //! What is asked of a wire, and what it answers.
-ghost use Rattle.std.specs.Prelude.{◌≡◌, ◌≤◌, ◌<◌, ◌+◌, ◌-◌, ◌^◌, IfSome, length};
-ghost use Rattle.mesh_semantics.specs.KeptWire.{fresh_in};
+ghost use Rattle.std.specs.Prelude.{◌≡◌, ◌==◌, Some, None, if◌then◌else◌};
 
 use rendezvous_protocol::Packet;
 use wire_link::{Arrived, Sent, Side, Wire};
@@ -17,120 +16,94 @@ pub enum Step {
     Late(Side),
 }
 
-/// What it answers: `Next` has the name in the packet that is handed out.
-#[derive(Clone, Copy, Debug, PartialEq, Eq)]
-pub enum Told {
+/// What it answers.
+#[derive(Clone, Copy)]
+pub enum Kind {
     Idle,
-    Wants(u32),
-    Frame(u32),
-    Lost(u32),
-    Stale(u32),
-    Next(u32),
-    Acked(u32),
-    Late(u32),
+    Wants,
+    Frame,
+    Lost,
+    Stale,
+    Next,
+    Acked,
+    Late,
 }
 
-/// A packet with this name.
-pub fn packet(name: u32) -> Packet {
+/// An answer with its number: that of a frame, the name in the packet that is handed out where it is `Next`, and 0 where it is `Idle`.
+#[derive(Clone, Copy)]
+pub struct Told(pub Kind, pub u32);
+
+/// The answer of this kind, which is `Idle` where there is no number.
+pub fn of_kind(kind: Kind, number: Option<u32>) -> Told {
+    match number {
+        Some(number) => Told(kind, number),
+        None => Told(Kind::Idle, 0),
+    }
+}
+
+pub fn is_same(left: Told, right: Told) -> bool {
+    left.0 as u8 == right.0 as u8 && left.1 == right.1
+}
+
+/// The name in the packet that entered behind so many.
+pub fn name_of(number: u32) -> u32 {
+    number.saturating_add(70)
+}
+
+/// The packet that entered behind so many.
+pub fn packet(number: u32) -> Packet {
     Packet::Created {
         number: 5,
         to: 65536,
-        name,
+        name: name_of(number),
     }
 }
 
-fn name_of(packet: &Packet) -> u32 {
-    match *packet {
-        Packet::Created { name, .. } => name,
-        _ => u32::MAX,
-    }
-}
-
-fn fresh_of(wire: &Wire, waiting: &[Packet], number: u32) -> Option<Packet>
-    requires { wire.now.handed ≤ wire.now.sent }
-    ensures { result ≡ fresh_in number wire.now waiting.now }
+// The packet, where it has the number of the first one that was never sent.
+fn fresh(wire: &Wire, number: u32, packet: Packet) -> Option<Packet>
+    ensures { result ≡ (if number == wire.now.sent then Some packet else None) }
 {
-    if number != wire.sent() {
-        return None;
-    }
-    match waiting.get((number - wire.handed()) as usize) {
-        Some(packet) => Some(*packet),
-        None => None,
+    if number == wire.sent() {
+        Some(packet)
+    } else {
+        None
     }
 }
 
-// The number of packets that entered, where it may be counted and all that was sent is among them.
-fn entered(wire: &Wire, waiting: &[Packet]) -> Option<u32>
-    ensures { IfSome result (λ n. (n ≡ wire.now.handed + length waiting.now) × (n < 2 ^ 32 - 1)) }
-{
-    let Some(most) = (u32::MAX - 1).checked_sub(wire.handed()) else {
-        return None;
+fn send(wire: &mut Wire, entered: u32) -> Told {
+    let Some(number) = wire.wants(entered) else {
+        return Told(Kind::Idle, 0);
     };
-    if waiting.len() > most as usize {
-        return None;
+    if number >= entered || wire.sent() > entered {
+        return Told(Kind::Idle, 0);
     }
-    Some(wire.handed() + waiting.len() as u32)
-}
-
-fn send_next(wire: &mut Wire, waiting: &[Packet]) -> Told {
-    let Some(count) = entered(wire, waiting) else {
-        return Told::Idle;
-    };
-    if wire.sent() < wire.handed() || wire.sent() > count {
-        return Told::Idle;
-    }
-    let Some(number) = wire.wants(count) else {
-        return Told::Idle;
-    };
-    if number >= count {
-        return Told::Idle;
-    }
-    let fresh = fresh_of(wire, waiting, number);
+    let fresh = fresh(wire, number, packet(number));
     match wire.send(number, fresh) {
-        Sent::Frame => Told::Frame(number),
-        Sent::Lost => Told::Lost(number),
+        Sent::Frame => Told(Kind::Frame, number),
+        Sent::Lost => Told(Kind::Lost, number),
     }
 }
 
 fn arrive(wire: &mut Wire) -> Told {
     match wire.arrive() {
-        Arrived::Empty => Told::Idle,
-        Arrived::Stale { number } => Told::Stale(number),
-        Arrived::Next { packet } => Told::Next(name_of(&packet)),
+        Arrived::Empty => Told(Kind::Idle, 0),
+        Arrived::Stale { number } => Told(Kind::Stale, number),
+        Arrived::Next { packet } => match packet {
+            Packet::Created { name, .. } => Told(Kind::Next, name),
+            _ => Told(Kind::Next, u32::MAX),
+        },
     }
 }
 
-fn wants(wire: &Wire, waiting: &[Packet]) -> Told {
-    let Some(count) = entered(wire, waiting) else {
-        return Told::Idle;
-    };
-    match wire.wants(count) {
-        Some(number) => Told::Wants(number),
-        None => Told::Idle,
-    }
-}
-
-/// What a wire answers on whose link these packets wait.
-pub fn answer(wire: &mut Wire, waiting: &[Packet], step: Step) -> Told {
+/// What a wire answers where so many packets entered.
+pub fn answer(wire: &mut Wire, entered: u32, step: Step) -> Told {
     match step {
-        Step::Wants => wants(wire, waiting),
-        Step::Send => send_next(wire, waiting),
+        Step::Wants => of_kind(Kind::Wants, wire.wants(entered)),
+        Step::Send => send(wire, entered),
         Step::Arrive => arrive(wire),
-        Step::Ack => match wire.ack() {
-            Some(number) => Told::Acked(number),
-            None => Told::Idle,
-        },
-        Step::Lose(side) => match wire.lose(side) {
-            Some(number) => Told::Lost(number),
-            None => Told::Idle,
-        },
-        Step::Twice(side) => match wire.twice(side) {
-            Some(number) => Told::Frame(number),
-            None => Told::Idle,
-        },
-        Step::Late(side) => match wire.late(side) {
-            Some(number) => Told::Late(number),
-            None => Told::Idle,
-        },
+        Step::Ack => of_kind(Kind::Acked, wire.ack()),
+        Step::Lose(side) => of_kind(Kind::Lost, wire.lose(side)),
+        Step::Twice(side) => of_kind(Kind::Frame, wire.twice(side)),
+        Step::Late(side) => of_kind(Kind::Late, wire.late(side)),
     }
 }

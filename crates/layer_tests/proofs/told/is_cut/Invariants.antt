@@ -1,7 +1,0 @@
-use Rattle.std.proofs.Common.{◌≡◌, drop}
-use Rattle.run_words.specs.Paths.{is_cut}
-use Rattle.layer_tests.proofs.told.is_cut.Given as goal
-
--- none of the cuts so far is the link
-abbrev pub invariant-loop-cut : goal.invariant-loop-cut
-invariant-loop-cut l = is_cut (drop l.cut-index l.cuts) l.from l.to ≡ is_cut l.cuts l.from l.to
