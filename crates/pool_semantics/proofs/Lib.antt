@@ -15,3 +15,4 @@ pub mod Listing
 pub mod Alternatives
 pub mod Free
 pub mod InCalls
+pub mod Adding

@@ -23,7 +23,6 @@ pub use crate::plain::waits::Waiting;
 use class_check::Checked;
 use plain_object::act::Act;
 use plain_object::frames::frames_after;
-use plain_object::thing::Thing;
 use run_words::Label;
 pub use run_words::Redex;
 use std::alloc::{AllocError, Global};
@@ -84,18 +83,22 @@ impl<'a> Plain<'a> {
         let Some(class) = program.program.classes.items().last() else {
             unreachable!();
         };
-        let thing = Thing::make(alloc, class)?;
         let mut objects = BTreeMap::new(alloc);
-        add(&mut objects, root, thing)?;
-        Ok(Plain {
-            state: State {
-                alloc,
-                program: program.program,
-                objects,
-                messages: BTreeMap::new(alloc),
-            },
-            spent: false,
-        })
+        match add(alloc, &mut objects, root, class) {
+            Err(error) => {
+                objects.destroy_empty();
+                Err(error)
+            }
+            Ok(()) => Ok(Plain {
+                state: State {
+                    alloc,
+                    program: program.program,
+                    objects,
+                    messages: BTreeMap::new(alloc),
+                },
+                spent: false,
+            }),
+        }
     }
 
     /// A typed configuration that was kept.

@@ -1,8 +1,10 @@
 //! The objects by their names.
-ghost use Rattle.std.specs.Prelude.{◌≡◌, ℕ, Some, None, OnOk, IfSome, IfNone};
+ghost use Rattle.std.specs.Prelude.{◌≡◌, ℕ, Some, None, OnOk, OnErr};
 ghost use Rattle.std.specs.Ordering.{nat_cmp};
-ghost use Rattle.std.specs.FinMap.{find, put};
-ghost use Rattle.std.specs.BTreeMap.{get};
+ghost use Rattle.std.specs.FinMap.{put};
+ghost use Rattle.std.specs.BTreeMap.{get, IsUnchanged};
+ghost use Rattle.pool_syntax.specs.TreeOf.{class_tree};
+ghost use Rattle.pool_relation.specs.Transition.{new_object};
 ghost use Rattle.plain_object.specs.declared.thing.Thing.{Thing};
 ghost use Rattle.plain_object.specs.Acts.{changed, Fits};
 ghost use Rattle.term_stack.specs.Arguments.{now_args};
@@ -10,6 +12,7 @@ ghost use Rattle.plain_object.specs.Things.{thing_object, things};
 
 use plain_object::change::Change;
 use plain_object::thing::Thing;
+use pool_syntax::ClassDecl;
 use std::alloc::{AllocError, Global};
 use std::collections::BTreeMap;
 
@@ -32,15 +35,22 @@ pub fn update<'a>(
     }
 }
 
-/// Adds an object, or puts it in the place of the one of this name.
-#[tactic(auto, using(crate::proofs::Stored::things_insert))]
+/// Adds a new object of this class, under a name that no object has; the objects stay as they are where memory runs out.
 pub fn add<'a>(
+    alloc: Global,
     objects: &mut BTreeMap<u32, Thing<'a>>,
     name: u32,
-    thing: Thing<'a>,
+    class: &'a ClassDecl,
 ) -> Result<(), AllocError>
-    ensures { OnOk result (things objects.new.entries ≡ put nat_cmp name (thing_object thing.entry) (things objects.old.entries)) }
+    requires { get nat_cmp objects.old name ≡ None }
+    ensures added { OnOk result (things objects.new.entries ≡ put nat_cmp name (new_object (class_tree class.now)) (things objects.old.entries)) }
+    ensures kept { OnErr result (IsUnchanged objects.old objects.new) }
 {
-    objects.insert(name, thing)?;
-    Ok(())
+    match objects.entry(name) {
+        Err(_) => Err(AllocError),
+        Ok(place) => match place.or_try_insert_with(|| Thing::make(alloc, class)) {
+            Err(error) => Err(error),
+            Ok(_added) => Ok(()),
+        },
+    }
 }

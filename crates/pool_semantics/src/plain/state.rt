@@ -101,8 +101,7 @@ impl<'a> State<'a> {
                         Some(declared) => {
                             let change = Change::Becomes(Value::Ref(name));
                             update(self.alloc, &mut self.objects, object, &change)?;
-                            let thing = Thing::make(self.alloc, declared)?;
-                            add(&mut self.objects, name, thing)?;
+                            add(self.alloc, &mut self.objects, name, declared)?;
                             Ok(true)
                         }
                     }

@@ -1,11 +1,12 @@
-use Rattle.std.proofs.Common.{◌≡◌, ◌∙◌, ap, [], length, map, ◌-◌, slice_get, Some, None, arith}
+use Rattle.std.proofs.Common.{◌≡◌, ◌∙◌, refl, ap, [], length, map, ◌-◌, slice_get, Some, None, arith}
 use Rattle.std.proofs.lemmas.Grind.{common_steps}
 use Rattle.std.proofs.Math.Logic.{∥∥₁_elim, ∥∥₁_map}
 use Rattle.std.specs.Ordering.{nat_cmp}
 use Rattle.std.specs.FinMap.{put}
 use Rattle.pool_syntax.specs.TreeOf.{class_tree, program_of}
 use Rattle.pool_relation.specs.Configuration.{Configuration}
-use Rattle.plain_object.specs.Things.{thing_object, things}
+use Rattle.pool_relation.specs.Transition.{new_object}
+use Rattle.plain_object.specs.Things.{things}
 use Rattle.pool_semantics.specs.Mails.{posts}
 use Rattle.class_check.proofs.Grammatical.{grammatical_written, has_a_class}
 use Rattle.pool_semantics.proofs.RootClass.{none_last, started}
@@ -18,24 +19,26 @@ unreachable-requires c =
     let h : slice_get cs (length cs - 1) ≡ None = grind (arith, common_steps) in
     ∥∥₁_elim c.args.program.now.grammatical (λ x y. absurd x) (λ g. has_a_class (program_of c.args.program.now.program.now) g (ap (map class_tree) (none_last cs h)))
 
-pub returns-clause-start : goal.returns-clause-start
-returns-clause-start c =
+pub returns-in-Ok-clause-start : goal.returns-in-Ok-clause-start
+returns-in-Ok-clause-start c =
     let cs = c.args.program.now.program.now.classes in
-    let h : slice_get cs (length cs - 1) ≡ Some c.in-Some.class.now = grind (arith, common_steps) in
+    let k = c.in-Some.class.now in
+    let h : slice_get cs (length cs - 1) ≡ Some k = grind (arith, common_steps) in
     let none : c.new-objects.result.entries ≡ [] = grind (arith, common_steps) in
     let quiet : c.new.result.entries ≡ [] = grind (arith, common_steps) in
-    let st = started cs c.in-Some.class.now c.args.root (thing_object c.in_ok-thing.thing) (things c.add.new.objects.entries) (posts c.new.result.entries) h c.in_ok-thing.ensures
-    (c.in_ok-add.ensures ∙ ap (λ es. put nat_cmp c.args.root (thing_object c.in_ok-thing.thing) (things es)) none) (ap posts quiet) in
+    let st = started cs k c.args.root (new_object (class_tree k)) (things c.add.new.objects.entries) (posts c.new.result.entries) h refl
+    (c.in-Ok.ensures.added ∙ ap (λ es. put nat_cmp c.args.root (new_object (class_tree k)) (things es)) none) (ap posts quiet) in
     st
 
 pub invariant_of-result : goal.invariant_of-result
 invariant_of-result c =
     let cs = c.args.program.now.program.now.classes in
-    let h : slice_get cs (length cs - 1) ≡ Some c.in-Some.class.now = grind (arith, common_steps) in
+    let k = c.in-Some.class.now in
+    let h : slice_get cs (length cs - 1) ≡ Some k = grind (arith, common_steps) in
     let none : c.new-objects.result.entries ≡ [] = grind (arith, common_steps) in
     let quiet : c.new.result.entries ≡ [] = grind (arith, common_steps) in
-    let st = started cs c.in-Some.class.now c.args.root (thing_object c.in_ok-thing.thing) (things c.add.new.objects.entries) (posts c.new.result.entries) h c.in_ok-thing.ensures
-    (c.in_ok-add.ensures ∙ ap (λ es. put nat_cmp c.args.root (thing_object c.in_ok-thing.thing) (things es)) none) (ap posts quiet) in
+    let st = started cs k c.args.root (new_object (class_tree k)) (things c.add.new.objects.entries) (posts c.new.result.entries) h refl
+    (c.in-Ok.ensures.added ∙ ap (λ es. put nat_cmp c.args.root (new_object (class_tree k)) (things es)) none) (ap posts quiet) in
     let p = program_of c.args.program.now.program.now in
     let d : Configuration = record { objects = things c.add.new.objects.entries; messages = posts c.new.result.entries } in
     record { typed = ∥∥₁_map c.args.program.now.grammatical (λ g _. start_is_sound p c.args.root d c.args.program.now.typed (grammatical_written p g) st) }
