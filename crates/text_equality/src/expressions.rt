@@ -7,14 +7,17 @@ use run_words::Op;
 
 /// Whether two operators are the same.
 pub fn same_operator(left: Op, right: Op) -> bool
-    ensures { result ≡ true → left ≡ right }
+    ensures same { result ≡ true → left ≡ right }
+    ensures different { left ≡ right → result ≡ true }
 {
     left as u8 == right as u8
 }
 
-/// Whether two expressions without parts are the same.
-fn same_leaf(left: &Expr, right: &Expr) -> bool
-    ensures { result ≡ true → expression_of left.now ≡ expression_of right.now }
+/// Whether two expressions are the same.
+#[cycle(expressions)]
+pub fn same_expression(left: &Expr, right: &Expr) -> bool
+    ensures same { result ≡ true → expression_of left.now ≡ expression_of right.now }
+    ensures different { expression_of left.now ≡ expression_of right.now → result ≡ true }
 {
     match (left, right) {
         (Expr::Int { value, pos }, Expr::Int { value: v, pos: p }) => *value == *v && *pos == *p,
@@ -23,16 +26,6 @@ fn same_leaf(left: &Expr, right: &Expr) -> bool
         (Expr::Me { pos }, Expr::Me { pos: p }) => *pos == *p,
         (Expr::Var { name, pos }, Expr::Var { name: n, pos: p }) => name.0 == n.0 && *pos == *p,
         (Expr::New { class, pos }, Expr::New { class: c, pos: p }) => class.0 == c.0 && *pos == *p,
-        _ => false,
-    }
-}
-
-/// Whether two expressions are the same.
-#[cycle(expressions)]
-pub fn same_expression(left: &Expr, right: &Expr) -> bool
-    ensures { result ≡ true → expression_of left.now ≡ expression_of right.now }
-{
-    match (left, right) {
         (
             Expr::Unary { op, arg, pos },
             Expr::Unary {
@@ -60,16 +53,6 @@ pub fn same_expression(left: &Expr, right: &Expr) -> bool
                 && same_expression(left, l)
                 && same_expression(right, r)
         }
-        _ => same_request(left, right),
-    }
-}
-
-/// Whether two calls or sends, or two expressions without parts, are the same.
-#[cycle(expressions)]
-fn same_request(left: &Expr, right: &Expr) -> bool
-    ensures { result ≡ true → expression_of left.now ≡ expression_of right.now }
-{
-    match (left, right) {
         (
             Expr::Call { method, args, pos },
             Expr::Call {
@@ -97,14 +80,15 @@ fn same_request(left: &Expr, right: &Expr) -> bool
                 && same_expression(to, t)
                 && same_expressions(args.items(), a.items())
         }
-        _ => same_leaf(left, right),
+        _ => false,
     }
 }
 
 /// Whether two lists of expressions are the same.
 #[cycle(expressions)]
 pub fn same_expressions(left: &[Expr], right: &[Expr]) -> bool
-    ensures { result ≡ true → expressions_of left.now ≡ expressions_of right.now }
+    ensures same { result ≡ true → expressions_of left.now ≡ expressions_of right.now }
+    ensures different { expressions_of left.now ≡ expressions_of right.now → result ≡ true }
 {
     if left.len() != right.len() {
         return false;

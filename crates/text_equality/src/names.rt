@@ -6,14 +6,16 @@ use run_words::List;
 
 /// Whether two names and their tokens are the same.
 pub fn same_named(left: Named, right: Named) -> bool
-    ensures { result ≡ true → left ≡ right }
+    ensures same { result ≡ true → left ≡ right }
+    ensures different { left ≡ right → result ≡ true }
 {
     left.name.0 == right.name.0 && left.pos == right.pos
 }
 
 /// Whether two lists of names are the same.
 pub fn same_names(left: &[Named], right: &[Named]) -> bool
-    ensures { result ≡ true → left.now ≡ right.now }
+    ensures same { result ≡ true → left.now ≡ right.now }
+    ensures different { left.now ≡ right.now → result ≡ true }
 {
     if left.len() != right.len() {
         return false;
@@ -28,7 +30,8 @@ pub fn same_names(left: &[Named], right: &[Named]) -> bool
 
 /// Whether two alternatives have the same answer list, or none.
 pub fn same_answer(left: &Option<List<Named>>, right: &Option<List<Named>>) -> bool
-    ensures { result ≡ true → left.now ≡ right.now }
+    ensures same { result ≡ true → left.now ≡ right.now }
+    ensures different { left.now ≡ right.now → result ≡ true }
 {
     match (left, right) {
         (Some(names), Some(others)) => same_names(names.items(), others.items()),

@@ -6,9 +6,11 @@ use crate::expressions::{same_expression, same_expressions};
 use crate::names::{same_answer, same_named, same_names};
 use pool_syntax::{Alt, Stmt};
 
-/// Whether two statements without statements inside are the same.
-fn same_plain(left: &Stmt, right: &Stmt) -> bool
-    ensures { result ≡ true → statement_of left.now ≡ statement_of right.now }
+/// Whether two statements are the same.
+#[cycle(statements)]
+fn same_statement(left: &Stmt, right: &Stmt) -> bool
+    ensures same { result ≡ true → statement_of left.now ≡ statement_of right.now }
+    ensures different { statement_of left.now ≡ statement_of right.now → result ≡ true }
 {
     match (left, right) {
         (
@@ -34,16 +36,6 @@ fn same_plain(left: &Stmt, right: &Stmt) -> bool
                 && same_expressions(args.items(), a.items())
         }
         (Stmt::Answer { names }, Stmt::Answer { names: n }) => same_names(names.items(), n.items()),
-        _ => false,
-    }
-}
-
-/// Whether two statements are the same.
-#[cycle(statements)]
-fn same_statement(left: &Stmt, right: &Stmt) -> bool
-    ensures { result ≡ true → statement_of left.now ≡ statement_of right.now }
-{
-    match (left, right) {
         (
             Stmt::If { cond, yes, no },
             Stmt::If {
@@ -62,14 +54,15 @@ fn same_statement(left: &Stmt, right: &Stmt) -> bool
         (Stmt::Select { alts }, Stmt::Select { alts: a }) => {
             same_alternatives(alts.items(), a.items())
         }
-        _ => same_plain(left, right),
+        _ => false,
     }
 }
 
 /// Whether two lists of statements are the same.
 #[cycle(statements)]
 pub fn same_statements(left: &[Stmt], right: &[Stmt]) -> bool
-    ensures { result ≡ true → statements_of left.now ≡ statements_of right.now }
+    ensures same { result ≡ true → statements_of left.now ≡ statements_of right.now }
+    ensures different { statements_of left.now ≡ statements_of right.now → result ≡ true }
 {
     if left.len() != right.len() {
         return false;
@@ -88,6 +81,7 @@ fn same_alternative(left: &Alt, right: &Alt) -> bool
     ensures guard { result ≡ true → expression_of left.now.guard ≡ expression_of right.now.guard }
     ensures answer { result ≡ true → left.now.answer ≡ right.now.answer }
     ensures work { result ≡ true → statements_of left.now.work ≡ statements_of right.now.work }
+    ensures different { expression_of left.now.guard ≡ expression_of right.now.guard → left.now.answer ≡ right.now.answer → statements_of left.now.work ≡ statements_of right.now.work → result ≡ true }
 {
     same_expression(&left.guard, &right.guard)
         && same_answer(&left.answer, &right.answer)
@@ -97,7 +91,8 @@ fn same_alternative(left: &Alt, right: &Alt) -> bool
 /// Whether two lists of alternatives are the same.
 #[cycle(statements)]
 pub fn same_alternatives(left: &[Alt], right: &[Alt]) -> bool
-    ensures { result ≡ true → alternatives_of left.now ≡ alternatives_of right.now }
+    ensures same { result ≡ true → alternatives_of left.now ≡ alternatives_of right.now }
+    ensures different { alternatives_of left.now ≡ alternatives_of right.now → result ≡ true }
 {
     if left.len() != right.len() {
         return false;
