@@ -414,6 +414,29 @@ fn bad_bytes(bytes: &[u8], left: usize) -> CodeFault
     }
 }
 
+/// The file that was taken off the front of these bytes: refused where something is left behind it, or a name of its table stands twice.
+fn whole_file(
+    bytes: &[u8],
+    file: UnitFile,
+    twice: Option<u32>,
+    rest: &[u8],
+) -> Result<UnitFile, CodeFault>
+    requires small { length bytes.now ≤ 67108864 }
+    requires given { (texts : texts_list Text) × (read_file bytes.now ≡ Got (with_names texts file) rest.now) × IsTable texts file.unit.names twice }
+    ensures says { IfOk result (λ f. decoded_bytes bytes.now ≡ Says f) }
+    ensures tells { IfErr result (λ e. Tells e (decoded_bytes bytes.now)) }
+    ensures shaped { IfOk result (λ f. IsShaped f) }
+    ensures short { IfOk result (λ f. IsShort f) }
+{
+    if !rest.is_empty() {
+        return Err(bad_bytes(bytes, rest.len()));
+    }
+    match twice {
+        Some(place) => Err(CodeFault::NameTwice { place }),
+        None => Ok(file),
+    }
+}
+
 /// The object code file that bytes say, at most 64 MiB of them. Its kinds are those of its unit, and each of its lists has fewer than 2^32 items. Memory grows with
 /// the bytes that are read, by no number that they tell.
 pub fn decode(alloc: Global, bytes: &[u8]) -> Result<UnitFile, CodeFault>
@@ -423,16 +446,9 @@ pub fn decode(alloc: Global, bytes: &[u8]) -> Result<UnitFile, CodeFault>
     ensures shaped { IfOk result (λ f. IsShaped f) }
     ensures short { IfOk result (λ f. IsShort f) }
 {
-    let (file, twice, rest) = match take_file(alloc, bytes) {
-        Ok(taken) => taken,
-        Err(Unread::BadByte { left }) => return Err(bad_bytes(bytes, left)),
-        Err(Unread::Memory) => return Err(CodeFault::Memory),
-    };
-    if !rest.is_empty() {
-        return Err(bad_bytes(bytes, rest.len()));
-    }
-    match twice {
-        Some(place) => Err(CodeFault::NameTwice { place }),
-        None => Ok(file),
+    match take_file(alloc, bytes) {
+        Ok((file, twice, rest)) => whole_file(bytes, file, twice, rest),
+        Err(Unread::BadByte { left }) => Err(bad_bytes(bytes, left)),
+        Err(Unread::Memory) => Err(CodeFault::Memory),
     }
 }
