@@ -1,5 +1,5 @@
 -- What the checker's sorts and scopes stand for, and the faults of what stands at a place by its sort and token.
-use Rattle.std.specs.Prelude.{ℕ, ◌++◌, map, List, [], ◌∷◌, Option, Some, None, false, is_some, not, if◌then◌else◌, option_map}
+use Rattle.std.specs.Prelude.{ℕ, ◌++◌, map, List, Option, Some, None, false, is_some, not, if◌then◌else◌, option_map}
 use Rattle.std.specs.Borrow.{Bor}
 use Rattle.std.specs.Option.{option_copied}
 use Rattle.run_words.specs.declared.words.Op.{Op}

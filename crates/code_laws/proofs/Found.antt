@@ -8,7 +8,6 @@ use Rattle.pool_syntax.specs.Terms.{MethodTree, ClassTree, ProgramTree}
 use Rattle.pool_syntax.specs.Classes.{class_of, named_method}
 use Rattle.pool_syntax.specs.Typing as Typing
 use Rattle.pool_syntax.specs.Typing.{var_of, contains}
-use Rattle.run_words.specs.Sorts.{ClassSort, BrokenSort}
 use Rattle.run_words.proofs.Laws.{same_some}
 use Rattle.pool_relation.proofs.Laws.{is_broken, OutcomeKnown}
 use Rattle.code_semantics.specs.Step.{method_from, class_from}

@@ -41,7 +41,7 @@ use Rattle.mesh_semantics.specs.Record.{after, record_from, record_at, record_of
 use Rattle.code_semantics.specs.OfUnit.{HoldsOfItem, IsObjectOf}
 use Rattle.coded_objects.specs.Coded.{Placed, kind_of, unless_served, coded}
 use Rattle.coded_objects.specs.OfCode.{Names}
-use Rattle.coded_objects.specs.Made.{HasInstr, IsMade, AreMadeArgs, IsMadeMessage, IsMadeItem, HasMade, IsMadeLabel}
+use Rattle.coded_objects.specs.Made.{HasInstr, IsMade, AreMadeArgs, IsMadeItem, HasMade, IsMadeLabel}
 use Rattle.coded_objects.specs.Tells.{IsBurst, HasSender, HasMessage, IsAtCall, IsWireNumber, Tells}
 use Rattle.coded_objects.specs.LabelThere.{LabelThere}
 use Rattle.coded_objects.proofs.Laws.{code_fits, start_there, IsMessageOf, made_lawful, made_start_sound, label_made, call_made, label_there, call_names, DueHas, IsTold, act_told, HandsAtMost, ActHands, act_hands}

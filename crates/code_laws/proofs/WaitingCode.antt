@@ -22,11 +22,11 @@ use Rattle.run_words.specs.Partial.{◌>>=◌}
 use Rattle.mesh_semantics.specs.Record.{record_of, record_on_wires}
 use Rattle.run_words.specs.Same.{are_same}
 use Rattle.mesh_semantics.specs.Waits.{IsAnswer, Waits}
-use Rattle.run_words.proofs.Laws.{first, second, equals, decide, same_some, given_by, required, find_put_same, find_put_other}
+use Rattle.run_words.proofs.Laws.{first, equals, decide, same_some, given_by, required, find_put_same, find_put_other}
 use Rattle.mesh_semantics.proofs.Laws.{fit_of, each_answers_post, each_answers_post_on_wires}
 use Rattle.coded_objects.specs.Coded.{Placed, placed, last_code, serves_for, coded}
 use Rattle.coded_objects.proofs.Laws.{start_there}
-use Rattle.coded_objects.proofs.Tested.{local_is, new_is, async_is, return_is, wait_is, write_is, fault_is, offered_is, pick_is}
+use Rattle.coded_objects.proofs.Tested.{local_is, async_is, return_is, wait_is, write_is, fault_is, offered_is, pick_is}
 use Rattle.code_verdict.specs.Verified.{IsVerified}
 use Rattle.code_laws.specs.TypedCode.{IsTypedCode}
 use Rattle.code_laws.proofs.KeptTyped.{verified_lawful}

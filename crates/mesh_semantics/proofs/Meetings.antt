@@ -16,7 +16,6 @@ use Rattle.mesh_semantics.specs.Config.{Config, object_of, put_object}
 use Rattle.mesh_semantics.specs.Moves.{move}
 use Rattle.mesh_semantics.specs.Delay as D
 use Rattle.mesh_semantics.specs.Delay.{Packet, Arrival, Holding, Delay, post, arrive, take_arrival, arrived_at, held, hold, free, made_by, count_made, cell_count}
-use Rattle.run_words.specs.ObjectNames.{node_of, slot_of}
 use Rattle.mesh_semantics.specs.Act.{id, labelled, object_count, frame_count, next_name, class_place, goal_by, goal_of, create_turn}
 use Rattle.mesh_semantics.specs.Sound.{Sent, entries, OwnedAt, Consistent, IsSound}
 use Rattle.mesh_semantics.specs.Fit.{Fit}

@@ -15,7 +15,7 @@ use Rattle.mesh_semantics.specs.Moves.{move}
 use Rattle.run_words.specs.Paths.{next, path}
 use Rattle.mesh_semantics.specs.Delay as D
 use Rattle.mesh_semantics.specs.Delay.{Packet, Arrival, Holding, Delay, post, arrive, is_for, take_arrival, arrived_at, held, hold, free, cell_count}
-use Rattle.run_words.specs.ObjectNames.{node_of, slot_of}
+use Rattle.run_words.specs.ObjectNames.{node_of}
 use Rattle.mesh_semantics.specs.Act.{id, labelled, send_turn, return_turn}
 use Rattle.run_words.specs.Tables.{Each}
 use Rattle.mesh_semantics.specs.Sound.{Entry, Sent, entries, is_wait, Owns, OwnedAt, letter_if, letters, notes, CallsLast, Has, IsThere, IsPlaced, Consistent, IsWithin, IsSound}

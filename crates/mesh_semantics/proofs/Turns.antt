@@ -16,7 +16,7 @@ use Rattle.mesh_semantics.specs.Config.{Config, object_of, put_object}
 use Rattle.mesh_semantics.specs.Moves.{move, moves, numbered, can_pick}
 use Rattle.mesh_semantics.specs.Delay as D
 use Rattle.mesh_semantics.specs.Delay.{Packet, Arrival, Holding, Delay, post, arrive, held, hold, free, count_made, stepped_last, cell_count}
-use Rattle.run_words.specs.ObjectNames.{node_of, slot_of}
+use Rattle.run_words.specs.ObjectNames.{node_of}
 use Rattle.mesh_semantics.specs.Act.{Acted, Acts, Full, Nothing, within, shows, labelled, object_count, frame_count, call_turn}
 use Rattle.mesh_semantics.specs.Sound.{Entry, Sent, Called, entries, call_by, Owns, OwnedAt, IsThere, Consistent, IsWithin, IsSound}
 use Rattle.run_words.specs.Ways.{Ways}

@@ -17,7 +17,7 @@ use Rattle.mesh_semantics.specs.Moves.{move}
 use Rattle.run_words.specs.Paths.{next}
 use Rattle.mesh_semantics.specs.Delay as D
 use Rattle.mesh_semantics.specs.Delay.{Packet, Holding, Delay, arrived_at, held, hold, post, made_by, count_made, NumberedPacket}
-use Rattle.run_words.specs.ObjectNames.{node_of, slot_of}
+use Rattle.run_words.specs.ObjectNames.{node_of}
 use Rattle.mesh_semantics.specs.Act as A
 use Rattle.mesh_semantics.specs.Act.{Acted, id, labelled, shows, create_turn, next_name, object_count, goal_by, goal_of, class_place}
 use Rattle.mesh_semantics.specs.Sound.{OwnedAt, entries, is_wait}

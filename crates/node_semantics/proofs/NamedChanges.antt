@@ -14,7 +14,7 @@ use Rattle.mesh_semantics.specs.Config.{Config, object_of, put_object}
 use Rattle.run_words.specs.Paths.{under, without_first}
 use Rattle.mesh_semantics.specs.Delay as D
 use Rattle.mesh_semantics.specs.Delay.{Packet, Arrival, Holding, Delay, arrived_at, held, made_by, count_made, is_for}
-use Rattle.run_words.specs.ObjectNames.{node_of, slot_of}
+use Rattle.run_words.specs.ObjectNames.{node_of}
 use Rattle.mesh_semantics.specs.Sound.{entries}
 use Rattle.run_words.specs.Ways.{In}
 use Rattle.node_semantics.specs.Node.{Slot, NumberedArrival, NodeState, arrivals, is_on}

@@ -7,7 +7,6 @@ use Rattle.mesh_semantics.specs.Language.{Language}
 use Rattle.mesh_semantics.specs.Config.{Config, object_of}
 use Rattle.mesh_semantics.specs.Delay as D
 use Rattle.mesh_semantics.specs.Delay.{Arrival, Holding, Delay, held, arrived_at}
-use Rattle.run_words.specs.ObjectNames.{node_of}
 use Rattle.mesh_semantics.specs.Sound.{is_wait}
 use Rattle.run_words.specs.Ways.{In}
 use Rattle.node_semantics.specs.Node.{Slot}

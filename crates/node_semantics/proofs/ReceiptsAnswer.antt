@@ -5,7 +5,6 @@ use Rattle.run_words.specs.declared.words.Placement.{Placement}
 use Rattle.mesh_semantics.specs.Language.{Language}
 use Rattle.mesh_semantics.specs.Delay as D
 use Rattle.mesh_semantics.specs.Delay.{Packet, Delay, NumberedPacket}
-use Rattle.run_words.specs.ObjectNames.{node_of}
 use Rattle.run_words.specs.Ways.{In}
 use Rattle.run_words.specs.declared.words.FullKind.{FullKind}
 use Rattle.run_words.specs.declared.words.FullKind.TheVariants as F

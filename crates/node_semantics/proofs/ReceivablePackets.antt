@@ -15,7 +15,7 @@ use Rattle.mesh_semantics.specs.Config.{Config, object_of}
 use Rattle.run_words.specs.Paths.{on_link, along, path}
 use Rattle.mesh_semantics.specs.Delay as D
 use Rattle.mesh_semantics.specs.Delay.{Packet, Arrival, Holding, Delay, held, arrived_at, NumberedPacket}
-use Rattle.run_words.specs.ObjectNames.{node_of, slot_of}
+use Rattle.run_words.specs.ObjectNames.{node_of}
 use Rattle.mesh_semantics.specs.Act.{first_of, goal_node}
 use Rattle.mesh_semantics.specs.Sound.{IsPlaced, IsThere, Has, Entry, Sent, Letter, notes, letter, letters, letters_in, Owns, OwnedAt, entries, IsSound}
 use Rattle.mesh_semantics.specs.Lawful.{Lawful}

@@ -19,7 +19,7 @@ use Rattle.mesh_semantics.specs.Moves.{move, offered, numbered, has_message, fir
 use Rattle.run_words.specs.Paths.{path, along, without_first}
 use Rattle.mesh_semantics.specs.Delay as D
 use Rattle.mesh_semantics.specs.Delay.{Packet, Arrival, Holding, Delay, arrived_at, held, free, take_arrival, is_for}
-use Rattle.run_words.specs.ObjectNames.{node_of, slot_of}
+use Rattle.run_words.specs.ObjectNames.{node_of}
 use Rattle.mesh_semantics.specs.Act.{id, labelled, first_arrival, is_possible, chosen_turn, choice_turn, accept_turn}
 use Rattle.mesh_semantics.specs.Sound.{Entry, Sent, Called, call_by, Owns, OwnedAt, entries, letter}
 use Rattle.mesh_semantics.specs.Lawful.{CanServe}

@@ -9,7 +9,7 @@ use Rattle.run_words.proofs.Laws.{first, second, same_some}
 use Rattle.mesh_semantics.specs.Kind as K
 use Rattle.mesh_semantics.specs.Kind.{Kind, Alternative, answered}
 use Rattle.mesh_semantics.specs.Language.{Language}
-use Rattle.mesh_semantics.specs.Delay.{Arrival, Packet, NumberedPacket}
+use Rattle.mesh_semantics.specs.Delay.{Arrival, Packet}
 use Rattle.run_words.specs.ObjectNames.{node_of}
 use Rattle.mesh_semantics.specs.Act.{first_arrival, first_of, is_possible, can_step, greatest}
 use Rattle.std.specs.Option.{option_or}

@@ -1,10 +1,9 @@
 -- Programs with post statements: the worked one, and three drawn at random with drawn placements and schedules. The lines of their runs were made by another program, which
 -- was written from the rules in words and shares nothing with the definitions; here they are what the definitions compute.
-use Rattle.std.proofs.Common.{◌≡◌, refl, ℕ, pos, negsuc, List, [], ◌∷◌, Option, Some, None, true, false}
-use Rattle.run_words.specs.declared.words.Op.TheVariants.{Add, And, Differs, Div, Less, LessEq, More, MoreEq, Mul, Neg, Not, Or, Rem, Same, Sub}
+use Rattle.std.proofs.Common.{◌≡◌, refl, ℕ, pos, negsuc, List, [], ◌∷◌, Option, Some, None}
+use Rattle.run_words.specs.declared.words.Op.TheVariants.{Add, Less, LessEq, Neg, Not, Same, Sub}
 use Rattle.run_words.specs.declared.words.Value.TheVariants as V
 use Rattle.run_words.specs.declared.words.Item.TheVariants as I
-use Rattle.run_words.specs.declared.words.Error.TheVariants as Er
 use Rattle.run_words.specs.declared.words.Label.TheVariants as L
 use Rattle.run_words.specs.declared.words.What.TheVariants as W
 use Rattle.run_words.specs.declared.words.Event.TheVariants.{Turn, Link}
@@ -17,7 +16,7 @@ use Rattle.pool_syntax.specs.Terms.{Statements, Expression, MethodTree, ProgramT
 use Rattle.mesh_semantics.specs.Act.{id}
 use Rattle.mesh_semantics.specs.Record.{record_of}
 use Rattle.placed_terms.specs.Terms.{terms}
-use Rattle.placed_terms.proofs.Words.{names, var, object_of_class, method, class, block, it, number, yes, no, me, nothing, new, prefix_of, infix_of, set, call, own, send, mesh, int, at, step, local, events, lines}
+use Rattle.placed_terms.proofs.Words.{names, var, object_of_class, method, class, block, it, number, yes, no, me, nothing, new, prefix_of, infix_of, set, call, send, mesh, at, step, local, lines}
 
 -- a method with post statements
 abbrev posting : ℕ → List Var → List Var → Option Kind → Statements → Expression → Statements → MethodTree

@@ -1,5 +1,5 @@
 -- A placement that a text is for the classes of a unit suits the unit.
-use Rattle.std.proofs.Common.{◌≡◌, refl, subst, ◌∙◌, ap, ℕ, ◌+◌, ◌*◌, ◌≤◌, List, [], ◌∷◌, length, Option, Some, None, Ok, Err, Result, IfSome, unwrap_or, Bool, true, false, ◌&&◌, nat_le, arith}
+use Rattle.std.proofs.Common.{◌≡◌, refl, subst, ℕ, ◌+◌, ◌*◌, ◌≤◌, List, [], ◌∷◌, length, Option, Some, None, Ok, Err, Result, IfSome, unwrap_or, Bool, true, false, ◌&&◌, nat_le, arith}
 use Rattle.std.proofs.lemmas.Bool.Decides.{nat_tests}
 use Rattle.run_words.specs.Text.{Text}
 use Rattle.run_words.specs.declared.words.Placement.{Placement}

@@ -1,13 +1,11 @@
 -- What was built of a program is loaded as the program is recorded.
-use Rattle.std.proofs.Common.{◌≡◌, ◌∙◌, refl, sym, ap, subst, ◌<◌, List, ◌∷◌, [], length, Ok}
+use Rattle.std.proofs.Common.{◌≡◌, ◌∙◌, refl, sym, ap, subst, List, ◌∷◌, [], Ok}
 use Rattle.run_words.specs.Text.{Text}
 use Rattle.pool_syntax.specs.Terms.{ProgramTree}
-use Rattle.run_words.specs.declared.words.Line.{Line}
 use Rattle.run_words.specs.declared.words.Placement.{Placement}
 use Rattle.code_semantics.specs.declared.unit.Unit.{Unit as Code}
 use Rattle.code_semantics.specs.declared.file.UnitFile.{UnitFile}
 use Rattle.code_semantics.specs.Suits.{Suits}
-use Rattle.pool_compile.specs.Code.{code}
 use Rattle.mesh_semantics.specs.Record as M
 use Rattle.mesh_semantics.specs.Record.{record_at}
 use Rattle.placed_terms.specs.Terms.{terms}

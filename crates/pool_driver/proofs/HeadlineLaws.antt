@@ -1,12 +1,12 @@
 -- The headline follows from how a call ends.
-use Rattle.std.proofs.Common.{◌≡◌, ◌∙◌, ◌⊎◌, inl, inr, ◌++◌, Bool, true, false, List, [], ◌∷◌, Option, Some, None, option_map, IfSome, refl, sym, subst, ap}
+use Rattle.std.proofs.Common.{◌≡◌, ◌∙◌, inl, inr, ◌++◌, Bool, true, false, List, [], ◌∷◌, Option, Some, None, option_map, IfSome, refl, sym, subst}
 use Rattle.std.specs.Prelude.{◌&&◌, not, codes, if◌then◌else◌}
 use Rattle.run_words.specs.Text.{Text}
 use Rattle.run_driver.specs.declared.status.Status.{Status}
 use Rattle.run_driver.specs.declared.status.Status.TheVariants as S
 use Rattle.run_driver.specs.Writing.{Writing, Wrote}
 use Rattle.command_words.specs.declared.command.Show.TheVariants as Sh
-use Rattle.command_words.specs.Commands.{FileNames, Request, of_run, is_option, request_of}
+use Rattle.command_words.specs.Commands.{Request, of_run, is_option, request_of}
 use Rattle.placed_terms.specs.Terms.{plain}
 use Rattle.mesh_semantics.specs.Record.{root_name}
 use Rattle.pool_driver.specs.Ends as E

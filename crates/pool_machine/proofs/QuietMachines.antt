@@ -1,5 +1,5 @@
 -- An idle event leaves a machine without wires as quiet as it was.
-use Rattle.std.proofs.Common.{◌≡◌, refl, sym, ap, ap₂, ◌∙◌, ℕ, List, map, Option, Some, None, is_some, Bool, false}
+use Rattle.std.proofs.Common.{◌≡◌, refl, sym, ap, ap₂, ◌∙◌, ℕ, List, map, Option, Some, None, is_some, false}
 use Rattle.std.specs.Option.{option_map}
 use Rattle.run_words.specs.declared.words.Event.{Event}
 use Rattle.run_words.specs.declared.words.Event.TheVariants as Ev
@@ -24,7 +24,7 @@ use Rattle.pool_machine.specs.Parts.{AreParts}
 use Rattle.pool_machine.specs.OnWires.{AreWired, Makes, machine_on}
 use Rattle.pool_machine.specs.Answers.{IsOfMesh}
 use Rattle.pool_machine.specs.DidOf as D
-use Rattle.pool_machine.proofs.PostedPackets.{Following, follows}
+use Rattle.pool_machine.proofs.PostedPackets.{follows}
 use Rattle.pool_machine.proofs.EventsOfMachines.{did_line, inside_mesh}
 use Rattle.pool_machine.proofs.ToldOfObjects.{quiet_is}
 

@@ -18,7 +18,6 @@ use Rattle.run_words.specs.ObjectNames as D
 use Rattle.mesh_semantics.specs.Kind.{Kind}
 use Rattle.node_semantics.specs.Node as N
 use Rattle.node_semantics.specs.Node.{Slot, NodeState, NodeActed, NumberedArrival, deliver, deliver_in, frames_in, message_count, name_at, packet_count, put_state, put_request, set_at, slot_act, within_node}
-use Rattle.mesh_semantics.specs.Delay.{NumberedPacket}
 use Rattle.node_semantics.proofs.Laws.{unused_number, set_length}
 use Rattle.rendezvous_protocol.specs.declared.packet.Packet.{Packet}
 use Rattle.rendezvous_protocol.specs.Packets.{numbered}

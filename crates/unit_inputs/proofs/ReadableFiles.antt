@@ -1,5 +1,5 @@
 -- The records of code of a verified file are readable: what is sent is a method of its receiver's class, and so a name, though a send that is not reached may name none.
-use Rattle.std.proofs.Common.{◌≡◌, ◌∙◌, refl, ap, ℕ, ◌≤◌, List, [], ◌∷◌, length, Some, is_some, true}
+use Rattle.std.proofs.Common.{◌≡◌, refl, ℕ, ◌≤◌, List, [], ◌∷◌, length, Some, is_some}
 use Rattle.std.specs.Prelude.{◌&&◌}
 use Rattle.run_words.specs.declared.words.NameId.{NameId}
 use Rattle.run_words.specs.declared.words.Value.{Value}
@@ -13,8 +13,7 @@ use Rattle.code_semantics.specs.Shaped.{IsShaped, IsWritable}
 use Rattle.code_semantics.specs.Suits.{Suits}
 use Rattle.mesh_semantics.specs.Act.{id}
 use Rattle.mesh_semantics.specs.Config.{Config, object_of, messages_of}
-use Rattle.mesh_semantics.specs.Kind as K
-use Rattle.mesh_semantics.specs.Kind.{calls, posts}
+use Rattle.mesh_semantics.specs.Kind.{posts}
 use Rattle.mesh_semantics.specs.Lawful.{Lawful}
 use Rattle.run_words.specs.Message.{Message}
 use Rattle.mesh_semantics.specs.Moves.{move, running}
@@ -22,7 +21,7 @@ use Rattle.mesh_semantics.specs.Record.{record_of, record_on_wires, start}
 use Rattle.run_words.specs.Tables.{Each}
 use Rattle.mesh_semantics.proofs.Basics.{running_gives}
 use Rattle.run_words.proofs.Laws.{first, equals, given_by, required, values_itself}
-use Rattle.coded_objects.specs.Coded.{Placed, class_number, coded}
+use Rattle.coded_objects.specs.Coded.{Placed, coded}
 use Rattle.coded_objects.specs.Made.{HasMade}
 use Rattle.coded_objects.specs.Tells.{IsAtCall}
 use Rattle.coded_objects.proofs.Laws.{code_fits, made_lawful, made_start_sound}

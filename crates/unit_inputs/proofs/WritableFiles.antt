@@ -1,5 +1,5 @@
 -- A verified file that is short can be written: each number of it has four bytes, where its integers have 64 bits and its names are of bytes.
-use Rattle.std.proofs.Common.{◌≡◌, ◌∙◌, refl, sym, ap, subst, IsTrue, ℕ, ℤ, pos, negsuc, zero, suc, ◌+◌, ◌^◌, ◌<◌, ◌≤◌, List, [], ◌∷◌, length, Option, Some, None, is_some, true, false, arith}
+use Rattle.std.proofs.Common.{◌≡◌, ◌∙◌, refl, ap, subst, IsTrue, ℕ, ℤ, pos, negsuc, zero, suc, ◌^◌, ◌<◌, ◌≤◌, List, [], ◌∷◌, length, Option, Some, None, is_some, true, false, arith}
 use Rattle.std.specs.Prelude.{slice_get, FitsSigned}
 use Rattle.std.specs.Int.{w64}
 use Rattle.std.specs.List.{AllByRecursion as Each}
@@ -17,7 +17,7 @@ use Rattle.code_semantics.specs.declared.unit.ClassCode.{ClassCode}
 use Rattle.code_semantics.specs.declared.file.UnitFile.{UnitFile}
 use Rattle.code_semantics.specs.declared.file.ClassKinds.{ClassKinds}
 use Rattle.code_semantics.specs.declared.file.MethodKinds.{MethodKinds}
-use Rattle.code_semantics.specs.Frames.{code_of, method_code}
+use Rattle.code_semantics.specs.Frames.{method_code}
 use Rattle.code_semantics.specs.Proper.{AnswerOwn, AreOwn, AltsExist, Exists}
 use Rattle.code_semantics.specs.Shaped.{AlternativeHasNumbers, AreShapedClasses, AreShapedMethods, ClassHasNumbers, ClassIsShort, ClassKindsHaveNumbers, InstrHasNumbers, IsNumber, IsOptionOf, IsShaped, IsShort, IsWritable, KindIsNumbered, MethodHasNumbers, MethodIsShort, MethodKindsHaveNumbers, NameIsNumbered}
 use Rattle.code_semantics.specs.Step.{Numbered, class_from, method_named}

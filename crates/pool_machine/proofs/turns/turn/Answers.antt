@@ -1,4 +1,4 @@
-use Rattle.std.proofs.Common.{◌≡◌, ◌*◌, ◌<◌, None, Some, refl, sym, subst, ◌∙◌, get_or}
+use Rattle.std.proofs.Common.{◌≡◌, ◌*◌, ◌<◌, None, Some, refl, sym, subst, get_or}
 use Rattle.mesh_semantics.specs.Act.{goal_node}
 use Rattle.run_words.specs.Tables.{leaving}
 use Rattle.rendezvous_protocol.specs.Packets.{numbered}
