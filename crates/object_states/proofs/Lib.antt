@@ -1,2 +1,4 @@
 pub mod Folds
+mod Itself
+mod Pairs
 pub mod Pushed

@@ -2,21 +2,24 @@
 ghost use Rattle.std.specs.Prelude.{◌≡◌, true};
 ghost use Rattle.term_stack.specs.Parts.{stopped, term_of};
 ghost use Rattle.object_states.specs.Alike.{AlikeCall, AlikeCalls, AlikeOuter, AlikeStage};
+ghost use Rattle.object_states.specs.Equal.{EqualCall, EqualNow, EqualOuter, EqualStage, EqualWork, Paired};
 
 use crate::parts::{same_operand, same_places, same_ready, same_rest, same_slot, same_task};
 use run_words::operators::same as same_value;
 use term_stack::parts::{Activation, Binding, Now, Outer, Stage, Work};
 use text_equality::{same_expression, same_statements};
 
-#[tactic(auto, using(run_words::proofs::Laws::same_value))]
+#[tactic(auto, using(run_words::proofs::Laws::same_value, run_words::proofs::Laws::value_itself))]
 fn same_binding(left: Binding, right: Binding) -> bool
-    ensures { result ≡ true → left ≡ right }
+    ensures same { result ≡ true → left ≡ right }
+    ensures different { left ≡ right → result ≡ true }
 {
     left.0 == right.0 && same_value(left.1, right.1)
 }
 
 pub fn same_bindings(left: &[Binding], right: &[Binding]) -> bool
-    ensures { result ≡ true → left.now ≡ right.now }
+    ensures same { result ≡ true → left.now ≡ right.now }
+    ensures different { left.now ≡ right.now → result ≡ true }
 {
     if left.len() != right.len() {
         return false;
@@ -30,7 +33,8 @@ pub fn same_bindings(left: &[Binding], right: &[Binding]) -> bool
 }
 
 fn same_next(next: &Now<'_>, other: &Now<'_>) -> bool
-    ensures { result ≡ true → stopped next.now ≡ stopped other.now }
+    ensures same { result ≡ true → stopped next.now ≡ stopped other.now }
+    ensures different { EqualNow next.now other.now → result ≡ true }
 {
     match (next, other) {
         (
@@ -62,7 +66,8 @@ fn same_next(next: &Now<'_>, other: &Now<'_>) -> bool
 }
 
 fn same_caller(left: Option<u32>, right: Option<u32>) -> bool
-    ensures { result ≡ true → left ≡ right }
+    ensures same { result ≡ true → left ≡ right }
+    ensures different { left ≡ right → result ≡ true }
 {
     match (left, right) {
         (Some(name), Some(other)) => name == other,
@@ -72,7 +77,8 @@ fn same_caller(left: Option<u32>, right: Option<u32>) -> bool
 }
 
 fn same_outer(outer: &Outer<'_>, other: &Outer<'_>) -> bool
-    ensures { result ≡ true → AlikeOuter outer.now other.now }
+    ensures same { result ≡ true → AlikeOuter outer.now other.now }
+    ensures different { EqualOuter outer.now other.now → result ≡ true }
 {
     match (outer, other) {
         (
@@ -95,7 +101,8 @@ fn same_outer(outer: &Outer<'_>, other: &Outer<'_>) -> bool
 }
 
 fn same_stage(stage: &Stage<'_>, other: &Stage<'_>) -> bool
-    ensures { result ≡ true → AlikeStage stage.now other.now }
+    ensures same { result ≡ true → AlikeStage stage.now other.now }
+    ensures different { EqualStage stage.now other.now → result ≡ true }
 {
     match (stage, other) {
         (Stage::Body { value, post }, Stage::Body { value: v, post: p }) => {
@@ -107,7 +114,8 @@ fn same_stage(stage: &Stage<'_>, other: &Stage<'_>) -> bool
 }
 
 fn same_call(call: &Activation<'_>, other: &Activation<'_>) -> bool
-    ensures { result ≡ true → AlikeCall call.now other.now }
+    ensures same { result ≡ true → AlikeCall call.now other.now }
+    ensures different { EqualCall call.now other.now → result ≡ true }
 {
     call.method.0 == other.method.0
         && same_bindings(call.temps.as_slice(), other.temps.as_slice())
@@ -116,7 +124,8 @@ fn same_call(call: &Activation<'_>, other: &Activation<'_>) -> bool
 }
 
 fn same_calls(left: &[Activation<'_>], right: &[Activation<'_>]) -> bool
-    ensures { result ≡ true → AlikeCalls left.now right.now }
+    ensures same { result ≡ true → AlikeCalls left.now right.now }
+    ensures different { Paired EqualCall left.now right.now → result ≡ true }
 {
     if left.len() != right.len() {
         return false;
@@ -131,7 +140,8 @@ fn same_calls(left: &[Activation<'_>], right: &[Activation<'_>]) -> bool
 
 /// Whether two works are the same.
 pub fn same_work(work: &Work<'_>, other: &Work<'_>) -> bool
-    ensures { result ≡ true → term_of work.now ≡ term_of other.now }
+    ensures same { result ≡ true → term_of work.now ≡ term_of other.now }
+    ensures different { EqualWork work.now other.now → result ≡ true }
 {
     same_next(&work.next, &other.next) && same_calls(work.calls.as_slice(), other.calls.as_slice())
 }

@@ -2,6 +2,7 @@
 ghost use Rattle.std.specs.Prelude.{◌≡◌, [], ◌∷◌, true};
 ghost use Rattle.term_stack.specs.Parts.{left, ready, segment, task};
 ghost use Rattle.object_states.specs.Alike.{AlikeGuards, AlikePlace, AlikePlaces, AlikeSlot};
+ghost use Rattle.object_states.specs.Equal.{EqualGuard, EqualPlace, EqualReady, EqualSegment, EqualSlot, EqualTask, Paired};
 
 use run_words::operators::same as same_value;
 use term_stack::parts::{Guarded, Operand, Place, Ready, Segment, Slot, Task};
@@ -10,15 +11,17 @@ use text_equality::{
     same_operator, same_statements,
 };
 
-#[tactic(auto, using(run_words::proofs::Laws::same_value))]
+#[tactic(auto, using(run_words::proofs::Laws::same_value, run_words::proofs::Laws::value_itself))]
 pub fn same_operand(left: Operand, right: Operand) -> bool
-    ensures { result ≡ true → left ≡ right }
+    ensures same { result ≡ true → left ≡ right }
+    ensures different { left ≡ right → result ≡ true }
 {
     same_value(left.value, right.value) && left.pos == right.pos
 }
 
 pub fn same_operands(left: &[Operand], right: &[Operand]) -> bool
-    ensures { result ≡ true → left.now ≡ right.now }
+    ensures same { result ≡ true → left.now ≡ right.now }
+    ensures different { left.now ≡ right.now → result ≡ true }
 {
     if left.len() != right.len() {
         return false;
@@ -32,7 +35,8 @@ pub fn same_operands(left: &[Operand], right: &[Operand]) -> bool
 }
 
 fn same_guard(left: &Guarded<'_>, right: &Guarded<'_>) -> bool
-    ensures { result ≡ true → AlikeGuards (left.now ∷ []) (right.now ∷ []) }
+    ensures same { result ≡ true → AlikeGuards (left.now ∷ []) (right.now ∷ []) }
+    ensures different { EqualGuard left.now right.now → result ≡ true }
 {
     same_operand(left.guard, right.guard)
         && same_answer(&left.alt.answer, &right.alt.answer)
@@ -40,7 +44,8 @@ fn same_guard(left: &Guarded<'_>, right: &Guarded<'_>) -> bool
 }
 
 fn same_guards(left: &[Guarded<'_>], right: &[Guarded<'_>]) -> bool
-    ensures { result ≡ true → AlikeGuards left.now right.now }
+    ensures same { result ≡ true → AlikeGuards left.now right.now }
+    ensures different { Paired EqualGuard left.now right.now → result ≡ true }
 {
     if left.len() != right.len() {
         return false;
@@ -53,11 +58,38 @@ fn same_guards(left: &[Guarded<'_>], right: &[Guarded<'_>]) -> bool
     true
 }
 
-/// Whether two places behind evaluated arguments are the same.
-fn same_argument_place(place: &Place<'_>, other: &Place<'_>) -> bool
-    ensures { result ≡ true → AlikePlace place.now other.now }
+fn same_place(place: &Place<'_>, other: &Place<'_>) -> bool
+    ensures same { result ≡ true → AlikePlace place.now other.now }
+    ensures different { EqualPlace place.now other.now → result ≡ true }
 {
     match (place, other) {
+        (Place::Prefix { op, pos }, Place::Prefix { op: o, pos: p }) => {
+            same_operator(*op, *o) && *pos == *p
+        }
+        (
+            Place::Left { op, right, pos },
+            Place::Left {
+                op: o,
+                right: r,
+                pos: p,
+            },
+        ) => { same_operator(*op, *o) && *pos == *p && same_expression(right, r) }
+        (
+            Place::Right { op, left, pos },
+            Place::Right {
+                op: o,
+                left: l,
+                pos: p,
+            },
+        ) => { same_operator(*op, *o) && *pos == *p && same_operand(*left, *l) }
+        (
+            Place::Destination { method, args, pos },
+            Place::Destination {
+                method: m,
+                args: a,
+                pos: p,
+            },
+        ) => { method.0 == m.0 && *pos == *p && same_expressions(args, a) }
         (
             Place::CallArgument {
                 method,
@@ -100,43 +132,9 @@ fn same_argument_place(place: &Place<'_>, other: &Place<'_>) -> bool
     }
 }
 
-fn same_place(place: &Place<'_>, other: &Place<'_>) -> bool
-    ensures { result ≡ true → AlikePlace place.now other.now }
-{
-    match (place, other) {
-        (Place::Prefix { op, pos }, Place::Prefix { op: o, pos: p }) => {
-            same_operator(*op, *o) && *pos == *p
-        }
-        (
-            Place::Left { op, right, pos },
-            Place::Left {
-                op: o,
-                right: r,
-                pos: p,
-            },
-        ) => { same_operator(*op, *o) && *pos == *p && same_expression(right, r) }
-        (
-            Place::Right { op, left, pos },
-            Place::Right {
-                op: o,
-                left: l,
-                pos: p,
-            },
-        ) => { same_operator(*op, *o) && *pos == *p && same_operand(*left, *l) }
-        (
-            Place::Destination { method, args, pos },
-            Place::Destination {
-                method: m,
-                args: a,
-                pos: p,
-            },
-        ) => { method.0 == m.0 && *pos == *p && same_expressions(args, a) }
-        _ => same_argument_place(place, other),
-    }
-}
-
 pub fn same_places(left: &[Place<'_>], right: &[Place<'_>]) -> bool
-    ensures { result ≡ true → AlikePlaces left.now right.now }
+    ensures same { result ≡ true → AlikePlaces left.now right.now }
+    ensures different { Paired EqualPlace left.now right.now → result ≡ true }
 {
     if left.len() != right.len() {
         return false;
@@ -149,11 +147,24 @@ pub fn same_places(left: &[Place<'_>], right: &[Place<'_>]) -> bool
     true
 }
 
-/// Whether two slots behind evaluated parts are the same.
-fn same_list_slot(slot: &Slot<'_>, other: &Slot<'_>) -> bool
-    ensures { result ≡ true → AlikeSlot slot.now other.now }
+pub fn same_slot(slot: &Slot<'_>, other: &Slot<'_>) -> bool
+    ensures same { result ≡ true → AlikeSlot slot.now other.now }
+    ensures different { EqualSlot slot.now other.now → result ≡ true }
 {
     match (slot, other) {
+        (Slot::Assign { target }, Slot::Assign { target: t }) => same_named(*target, *t),
+        (Slot::Write, Slot::Write) => true,
+        (Slot::Do, Slot::Do) => true,
+        (Slot::Destination { method, args }, Slot::Destination { method: m, args: a }) => {
+            same_named(*method, *m) && same_expressions(args, a)
+        }
+        (Slot::If { yes, no }, Slot::If { yes: y, no: n }) => {
+            same_statements(yes, y) && same_statements(no, n)
+        }
+        (Slot::Loop { cond, body }, Slot::Loop { cond: c, body: b }) => {
+            same_expression(cond, c) && same_statements(body, b)
+        }
+        (Slot::Value, Slot::Value) => true,
         (
             Slot::Argument {
                 to,
@@ -190,67 +201,9 @@ fn same_list_slot(slot: &Slot<'_>, other: &Slot<'_>) -> bool
     }
 }
 
-pub fn same_slot(slot: &Slot<'_>, other: &Slot<'_>) -> bool
-    ensures { result ≡ true → AlikeSlot slot.now other.now }
-{
-    match (slot, other) {
-        (Slot::Assign { target }, Slot::Assign { target: t }) => same_named(*target, *t),
-        (Slot::Write, Slot::Write) => true,
-        (Slot::Do, Slot::Do) => true,
-        (Slot::Destination { method, args }, Slot::Destination { method: m, args: a }) => {
-            same_named(*method, *m) && same_expressions(args, a)
-        }
-        (Slot::If { yes, no }, Slot::If { yes: y, no: n }) => {
-            same_statements(yes, y) && same_statements(no, n)
-        }
-        (Slot::Loop { cond, body }, Slot::Loop { cond: c, body: b }) => {
-            same_expression(cond, c) && same_statements(body, b)
-        }
-        (Slot::Value, Slot::Value) => true,
-        _ => same_list_slot(slot, other),
-    }
-}
-
-/// Whether two calls, sends or waits are the same.
-fn same_request(redex: &Ready, other: &Ready) -> bool
-    ensures { result ≡ true → ready redex.now ≡ ready other.now }
-{
-    match (redex, other) {
-        (
-            Ready::Call { method, args, pos },
-            Ready::Call {
-                method: m,
-                args: a,
-                pos: p,
-            },
-        ) => { method.0 == m.0 && *pos == *p && same_operands(args, a) }
-        (
-            Ready::Send {
-                to,
-                method,
-                args,
-                pos,
-            },
-            Ready::Send {
-                to: t,
-                method: m,
-                args: a,
-                pos: p,
-            },
-        ) => { method.0 == m.0 && *pos == *p && same_operand(*to, *t) && same_operands(args, a) }
-        (
-            Ready::Wait { receiver, method },
-            Ready::Wait {
-                receiver: r,
-                method: m,
-            },
-        ) => { *receiver == *r && method.0 == m.0 }
-        _ => false,
-    }
-}
-
 pub fn same_ready(redex: &Ready, other: &Ready) -> bool
-    ensures { result ≡ true → ready redex.now ≡ ready other.now }
+    ensures same { result ≡ true → ready redex.now ≡ ready other.now }
+    ensures different { EqualReady redex.now other.now → result ≡ true }
 {
     match (redex, other) {
         (Ready::Me { pos }, Ready::Me { pos: p }) => *pos == *p,
@@ -287,15 +240,64 @@ pub fn same_ready(redex: &Ready, other: &Ready) -> bool
                 && same_operand(*left, *l)
                 && same_operand(*right, *r)
         }
-        _ => same_request(redex, other),
+        (
+            Ready::Call { method, args, pos },
+            Ready::Call {
+                method: m,
+                args: a,
+                pos: p,
+            },
+        ) => { method.0 == m.0 && *pos == *p && same_operands(args, a) }
+        (
+            Ready::Send {
+                to,
+                method,
+                args,
+                pos,
+            },
+            Ready::Send {
+                to: t,
+                method: m,
+                args: a,
+                pos: p,
+            },
+        ) => { method.0 == m.0 && *pos == *p && same_operand(*to, *t) && same_operands(args, a) }
+        (
+            Ready::Wait { receiver, method },
+            Ready::Wait {
+                receiver: r,
+                method: m,
+            },
+        ) => { *receiver == *r && method.0 == m.0 }
+        _ => false,
     }
 }
 
-/// Whether two statements that branch are the same.
-fn same_branch(redex: &Task<'_>, other: &Task<'_>) -> bool
-    ensures { result ≡ true → task redex.now ≡ task other.now }
+pub fn same_task(redex: &Task<'_>, other: &Task<'_>) -> bool
+    ensures same { result ≡ true → task redex.now ≡ task other.now }
+    ensures different { EqualTask redex.now other.now → result ≡ true }
 {
     match (redex, other) {
+        (
+            Task::Assign { target, value },
+            Task::Assign {
+                target: t,
+                value: v,
+            },
+        ) => { same_named(*target, *t) && same_operand(*value, *v) }
+        (Task::Write { value }, Task::Write { value: v }) => same_operand(*value, *v),
+        (Task::WriteText { text }, Task::WriteText { text: t }) => text.0 == t.0,
+        (Task::Do { value }, Task::Do { value: v }) => same_operand(*value, *v),
+        (
+            Task::Async { to, method, args },
+            Task::Async {
+                to: t,
+                method: m,
+                args: a,
+            },
+        ) => { same_named(*method, *m) && same_operand(*to, *t) && same_operands(args, a) }
+        (Task::Answer { names }, Task::Answer { names: n }) => same_names(names, n),
+        (Task::Select { guards }, Task::Select { guards: g }) => { same_guards(guards, g) }
         (
             Task::If { cond, yes, no },
             Task::If {
@@ -319,36 +321,9 @@ fn same_branch(redex: &Task<'_>, other: &Task<'_>) -> bool
     }
 }
 
-pub fn same_task(redex: &Task<'_>, other: &Task<'_>) -> bool
-    ensures { result ≡ true → task redex.now ≡ task other.now }
-{
-    match (redex, other) {
-        (
-            Task::Assign { target, value },
-            Task::Assign {
-                target: t,
-                value: v,
-            },
-        ) => { same_named(*target, *t) && same_operand(*value, *v) }
-        (Task::Write { value }, Task::Write { value: v }) => same_operand(*value, *v),
-        (Task::WriteText { text }, Task::WriteText { text: t }) => text.0 == t.0,
-        (Task::Do { value }, Task::Do { value: v }) => same_operand(*value, *v),
-        (
-            Task::Async { to, method, args },
-            Task::Async {
-                to: t,
-                method: m,
-                args: a,
-            },
-        ) => { same_named(*method, *m) && same_operand(*to, *t) && same_operands(args, a) }
-        (Task::Answer { names }, Task::Answer { names: n }) => same_names(names, n),
-        (Task::Select { guards }, Task::Select { guards: g }) => { same_guards(guards, g) }
-        _ => same_branch(redex, other),
-    }
-}
-
 fn same_segment(part: &Segment<'_>, other: &Segment<'_>) -> bool
-    ensures { result ≡ true → segment part.now ≡ segment other.now }
+    ensures same { result ≡ true → segment part.now ≡ segment other.now }
+    ensures different { EqualSegment part.now other.now → result ≡ true }
 {
     match (part, other) {
         (Segment::Rest(statements), Segment::Rest(s)) => same_statements(statements, s),
@@ -360,7 +335,8 @@ fn same_segment(part: &Segment<'_>, other: &Segment<'_>) -> bool
 }
 
 pub fn same_rest(rest: &[Segment<'_>], other: &[Segment<'_>]) -> bool
-    ensures { result ≡ true → left rest.now ≡ left other.now }
+    ensures same { result ≡ true → left rest.now ≡ left other.now }
+    ensures different { Paired EqualSegment rest.now other.now → result ≡ true }
 {
     if rest.len() != other.len() {
         return false;
