@@ -1,14 +1,32 @@
-//! Code that is drawn: blocks, each reached with its own stack of sorts, in a drawn order, with instructions between them that are
-//! not reached.
-use crate::draw::{Draw, shuffled};
-use file_judge::{Code, Frame, Method, Sort, Step, Way, apply, is_string, longest_of, number_of};
-use std::alloc::{AllocError, Global};
+//! Codes that are drawn: blocks, each reached with its own stack of sorts, in a drawn order, with instructions between them that are
+//! not reached. An instruction for which there is no memory is left out.
+use crate::draw::Draw;
+use file_judge::{
+    Class, Code, File, Frame, Method, Sort, Step, Way, apply, is_string, longest_of, number_of,
+};
+use std::alloc::Global;
+use std::mem;
 
-/// Instructions, and the sorts of the operands behind them.
+/// The codes of a file so far, and the one that is under way.
 #[derive(Drop)]
-struct Block {
+struct Coding<'a> {
+    alloc: Global,
+    draw: Draw,
+    frame: Frame<'a>,
+    /// The sorts of operands with which blocks are reached.
+    sorts: Vec<Sort>,
+    /// Stacks, one behind the other, and where there the stack of each block starts and ends.
+    stacks: Vec<Sort>,
+    entries: Vec<(usize, usize)>,
+    /// The instructions of the blocks, where each block starts among them, and where the last one ends.
     steps: Vec<Step>,
+    starts: Vec<usize>,
+    /// The operands behind the instructions.
     stack: Vec<Sort>,
+    /// The instructions in the order in which they stand in the code, and where each block starts among those.
+    laid: Vec<Step>,
+    places: Vec<usize>,
+    codes: Vec<Code>,
 }
 
 fn step(alloc: Global, byte: u8, first: u32, second: u32) -> Step {
@@ -21,414 +39,415 @@ fn step(alloc: Global, byte: u8, first: u32, second: u32) -> Step {
     }
 }
 
-/// The place of a drawn one of the kinds that is this one.
-fn place_of(draw: &mut Draw, kinds: &[Sort], kind: Sort) -> Option<u32> {
-    let place = draw.below(kinds.len());
-    if kinds.get(place).copied() == Some(kind) {
-        Some(number_of(place))
-    } else {
-        None
-    }
-}
-
-/// Drawn names of methods of the class.
-fn answered(alloc: Global, draw: &mut Draw, frame: &Frame<'_>) -> Result<Vec<u32>, AllocError> {
-    let mut names = Vec::new(alloc);
-    for _ in 0..draw.below(4) {
-        if let Some(method) = frame
-            .class
-            .methods
-            .get(draw.below(frame.class.methods.len()))
-        {
-            names.push(method.name)?;
+impl<'a> Coding<'a> {
+    /// Adds an instruction where it can take the stack.
+    fn add_step(&mut self, one: Step) {
+        let mut stack = Vec::new(self.alloc);
+        let _ = stack.extend_from_slice(&self.stack);
+        if apply(&self.frame, &one, &mut stack) == Ok(true) && stack.len() <= 64 {
+            self.stack = stack;
+            let _ = self.steps.push(one);
         }
     }
-    Ok(names)
-}
 
-impl Block {
-    /// Adds an instruction where it can take the stack, and says whether it did.
-    fn add(&mut self, alloc: Global, frame: &Frame<'_>, step: Step) -> Result<bool, AllocError> {
-        let mut stack = Vec::from_slice(alloc, &self.stack)?;
-        if !apply(frame, &step, &mut stack)? || stack.len() > 64 {
-            return Ok(false);
+    /// Adds an instruction of at most two numbers where it can take the stack.
+    fn add(&mut self, byte: u8, first: u32, second: u32) {
+        self.add_step(step(self.alloc, byte, first, second));
+    }
+
+    /// The same with a drawn number.
+    fn add_drawn(&mut self, byte: u8, least: usize, most: usize) {
+        let number = self.draw.below(most).saturating_add(least);
+        self.add(byte, number_of(number), 0);
+    }
+
+    fn add_literal(&mut self) {
+        match self.draw.below(6) {
+            0 => self.add(1, 0x8000_0000, 0),
+            1 => self.add(1, 0x7fff_ffff, 0xffff_ffff),
+            2 => self.add(1, 0xffff_ffff, 0xffff_ffff),
+            _ => {
+                let number = number_of(self.draw.below(4));
+                self.add(1, 0, number);
+            }
         }
-        self.stack = stack;
-        self.steps.push(step)?;
-        Ok(true)
     }
 
     /// Pushes an operand of a kind, or of nil.
-    fn push(
-        &mut self,
-        alloc: Global,
-        draw: &mut Draw,
-        frame: &Frame<'_>,
-        sort: Sort,
-    ) -> Result<(), AllocError> {
-        let var = place_of(draw, &frame.class.vars, sort);
-        let temp = place_of(draw, frame.temps, sort);
-        let one = match (sort, var, temp) {
-            (_, Some(var), _) => step(alloc, 5, var, 0),
-            (_, _, Some(temp)) => step(alloc, 6, temp, 0),
-            (Sort::Int, _, _) => literal(alloc, draw),
-            (Sort::Bool, _, _) => step(alloc, 2, number_of(draw.below(2)), 0),
-            (Sort::Of(class), _, _) => {
-                if class == frame.class.name && draw.once_in(2) {
-                    step(alloc, 7, 0, 0)
+    fn push(&mut self, sort: Sort) {
+        let var = self.draw.below(self.frame.class.vars.len());
+        let temp = self.draw.below(self.frame.temps.len());
+        if self.frame.class.vars.get(var).copied() == Some(sort) {
+            return self.add(5, number_of(var), 0);
+        }
+        if self.frame.temps.get(temp).copied() == Some(sort) {
+            return self.add(6, number_of(temp), 0);
+        }
+        match sort {
+            Sort::Int => self.add_literal(),
+            Sort::Bool => self.add_drawn(2, 0, 2),
+            Sort::Of(class) => {
+                if class == self.frame.class.name && self.draw.once_in(2) {
+                    self.add(7, 0, 0);
                 } else {
-                    step(alloc, 16, class, 0)
+                    self.add(16, class, 0);
                 }
             }
-            _ => step(alloc, 3, 0, 0),
-        };
-        self.add(alloc, frame, one)?;
-        Ok(())
+            _ => self.add(3, 0, 0),
+        }
     }
 
     /// Pushes the arguments of a method.
-    fn push_arguments(
-        &mut self,
-        alloc: Global,
-        draw: &mut Draw,
-        frame: &Frame<'_>,
-        method: &Method,
-    ) -> Result<(), AllocError> {
+    fn push_arguments(&mut self, method: &Method) {
         for kind in method.temps.iter().take(method.params as usize) {
-            let sort = if draw.once_in(5) { Sort::Nil } else { *kind };
-            self.push(alloc, draw, frame, sort)?;
+            let sort = if self.draw.once_in(5) {
+                Sort::Nil
+            } else {
+                *kind
+            };
+            self.push(sort);
         }
-        Ok(())
     }
 
     /// A call of a method of the own class or of another one, or a message.
-    fn call(
-        &mut self,
-        alloc: Global,
-        draw: &mut Draw,
-        frame: &Frame<'_>,
-    ) -> Result<(), AllocError> {
-        let classes = &frame.file.classes;
-        let Some(class) = classes.get(draw.below(classes.len())) else {
-            return Ok(());
+    fn add_call(&mut self) {
+        let classes = &self.frame.file.classes;
+        let Some(class) = classes.get(self.draw.below(classes.len())) else {
+            return;
         };
-        let Some(method) = class.methods.get(draw.below(class.methods.len())) else {
-            return Ok(());
+        let Some(method) = class.methods.get(self.draw.below(class.methods.len())) else {
+            return;
         };
-        let own = class.name == frame.class.name && draw.once_in(3);
+        let own = class.name == self.frame.class.name && self.draw.once_in(3);
         if !own {
-            self.push(alloc, draw, frame, Sort::Of(class.name))?;
+            self.push(Sort::Of(class.name));
         }
-        self.push_arguments(alloc, draw, frame, method)?;
-        let byte = if draw.once_in(2) { 17 } else { 18 };
-        let one = if own {
-            step(alloc, 14, method.name, 0)
+        self.push_arguments(method);
+        let byte = if self.draw.once_in(2) { 17 } else { 18 };
+        if own {
+            self.add(14, method.name, 0);
         } else {
-            step(alloc, byte, method.name, method.params)
-        };
-        self.add(alloc, frame, one)?;
-        Ok(())
+            self.add(byte, method.name, method.params);
+        }
+    }
+
+    /// Drawn names of methods of the class.
+    fn answered(&mut self) -> Vec<u32> {
+        let mut names = Vec::new(self.alloc);
+        let methods = &self.frame.class.methods;
+        for _ in 0..self.draw.below(4) {
+            if let Some(method) = methods.get(self.draw.below(methods.len())) {
+                let _ = names.push(method.name);
+            }
+        }
+        names
+    }
+
+    fn add_answer(&mut self) {
+        let mut one = step(self.alloc, 21, 0, 0);
+        one.names = self.answered();
+        self.add_step(one);
+    }
+
+    /// A text that is written, if the one that is drawn may be.
+    fn add_text(&mut self) {
+        let number = number_of(self.draw.below(self.frame.file.names.len()));
+        if is_string(self.frame.file, number) {
+            self.add(20, number, 0);
+        } else {
+            self.add(13, 0, 0);
+        }
     }
 
     /// An instruction of any kind, if it can take the stack.
-    fn draw(
-        &mut self,
-        alloc: Global,
-        draw: &mut Draw,
-        frame: &Frame<'_>,
-    ) -> Result<(), AllocError> {
-        let one = match draw.below(22) {
-            0 | 1 => literal(alloc, draw),
-            2 => step(alloc, 2, number_of(draw.below(2)), 0),
-            3 => step(alloc, 3, 0, 0),
-            4 | 5 => step(alloc, 5, number_of(draw.below(frame.class.vars.len())), 0),
-            6 => step(alloc, 6, number_of(draw.below(frame.temps.len())), 0),
-            7 => step(alloc, 7, 0, 0),
-            8 | 9 => step(alloc, 8, number_of(draw.below(frame.class.vars.len())), 0),
-            10 => step(alloc, 9, number_of(draw.below(frame.temps.len())), 0),
-            11 | 12 => step(alloc, 10, number_of(draw.below(15)).saturating_add(1), 0),
-            13 => step(alloc, 11, 0, 0),
-            14 => step(alloc, 19, 0, 0),
-            15 => step(alloc, 24, 0, 0),
-            16 => {
-                let mut one = step(alloc, 21, 0, 0);
-                one.names = answered(alloc, draw, frame)?;
-                one
-            }
-            17 => text(alloc, draw, frame),
-            _ => return self.call(alloc, draw, frame),
-        };
-        self.add(alloc, frame, one)?;
-        Ok(())
+    fn add_any(&mut self) {
+        let vars = self.frame.class.vars.len();
+        let temps = self.frame.temps.len();
+        match self.draw.below(22) {
+            0 | 1 => self.add_literal(),
+            2 => self.add_drawn(2, 0, 2),
+            3 => self.add(3, 0, 0),
+            4 | 5 => self.add_drawn(5, 0, vars),
+            6 => self.add_drawn(6, 0, temps),
+            7 => self.add(7, 0, 0),
+            8 | 9 => self.add_drawn(8, 0, vars),
+            10 => self.add_drawn(9, 0, temps),
+            11 | 12 => self.add_drawn(10, 1, 15),
+            13 => self.add(11, 0, 0),
+            14 => self.add(19, 0, 0),
+            15 => self.add(24, 0, 0),
+            16 => self.add_answer(),
+            17 => self.add_text(),
+            _ => self.add_call(),
+        }
     }
 
-    /// Takes operands off, and pushes others, until the stack is this one.
-    fn fit(
-        &mut self,
-        alloc: Global,
-        draw: &mut Draw,
-        frame: &Frame<'_>,
-        wanted: &[Sort],
-    ) -> Result<(), AllocError> {
-        let mut same = 0_usize;
-        for (one, other) in self.stack.iter().zip(wanted) {
-            if *one != *other {
-                break;
+    /// Where the stack of a block starts and ends.
+    fn entry(&self, block: usize) -> (usize, usize) {
+        self.entries.get(block).copied().unwrap_or((0, 0))
+    }
+
+    /// The stack with which a block is reached.
+    fn wanted(&self, block: usize) -> &[Sort] {
+        let (start, end) = self.entry(block);
+        self.stacks.get(start..end).unwrap_or(&[])
+    }
+
+    /// How many operands of the stack are those with which a block is reached.
+    fn fitting(&self, block: usize) -> usize {
+        let wanted = self.wanted(block);
+        for place in 0..self.stack.len() {
+            if self.stack.get(place).copied() != wanted.get(place).copied() {
+                return place;
             }
-            same = same.saturating_add(1);
         }
+        self.stack.len()
+    }
+
+    /// Takes operands off, and pushes others, until the stack is the one with which a block is reached.
+    fn fit(&mut self, block: usize) {
+        let same = self.fitting(block);
         for _ in same..self.stack.len() {
-            self.add(alloc, frame, step(alloc, 11, 0, 0))?;
+            self.add(11, 0, 0);
         }
-        for sort in wanted.iter().skip(same) {
-            self.push(alloc, draw, frame, *sort)?;
+        let (start, end) = self.entry(block);
+        for place in start.saturating_add(same)..end {
+            let sort = self.stacks.get(place).copied().unwrap_or(Sort::Nil);
+            self.push(sort);
         }
-        Ok(())
     }
-}
 
-fn literal(alloc: Global, draw: &mut Draw) -> Step {
-    match draw.below(6) {
-        0 => step(alloc, 1, 0x8000_0000, 0),
-        1 => step(alloc, 1, 0x7fff_ffff, 0xffff_ffff),
-        2 => step(alloc, 1, 0xffff_ffff, 0xffff_ffff),
-        _ => step(alloc, 1, 0, number_of(draw.below(4))),
-    }
-}
-
-/// A text that is written, if the one that is drawn may be.
-fn text(alloc: Global, draw: &mut Draw, frame: &Frame<'_>) -> Step {
-    let number = number_of(draw.below(frame.file.names.len()));
-    if is_string(frame.file, number) {
-        step(alloc, 20, number, 0)
-    } else {
-        step(alloc, 13, 0, 0)
-    }
-}
-
-/// The stacks with which blocks are reached: the first and the last without operands.
-fn entries_of(
-    alloc: Global,
-    draw: &mut Draw,
-    frame: &Frame<'_>,
-) -> Result<Vec<Vec<Sort>>, AllocError> {
-    let mut sorts = vec![in alloc; Sort::Int, Sort::Bool, Sort::Nil]?;
-    for class in &frame.file.classes {
-        sorts.push(Sort::Of(class.name))?;
-    }
-    let mut entries = Vec::new(alloc);
-    entries.push(Vec::new(alloc))?;
-    for _ in 0..draw.below(7) {
-        let size = if draw.once_in(15) { 50 } else { 4 };
-        let mut stack = Vec::new(alloc);
-        for _ in 0..draw.below(size) {
-            stack.push(draw.one_of(&sorts))?;
+    /// A drawn stack with which a block is reached, or that of an earlier block.
+    fn draw_entry(&mut self) {
+        let most = if self.draw.once_in(15) { 50 } else { 4 };
+        let start = self.stacks.len();
+        for _ in 0..self.draw.below(most) {
+            let sort = self.draw.one_of(&self.sorts);
+            let _ = self.stacks.push(sort);
         }
-        if let Some(earlier) = entries.get(draw.below(entries.len())) {
-            if draw.once_in(2) {
-                stack = Vec::from_slice(alloc, earlier)?;
-            }
+        let mut entry = (start, self.stacks.len());
+        let earlier = self.draw.below(self.entries.len());
+        if self.draw.once_in(2) {
+            entry = self.entry(earlier);
         }
-        entries.push(stack)?;
+        let _ = self.entries.push(entry);
     }
-    entries.push(Vec::new(alloc))?;
-    Ok(entries)
-}
 
-/// A drawn block that is reached with the same stack as this one.
-fn alike(draw: &mut Draw, entries: &[Vec<Sort>], block: usize) -> usize {
-    let other = draw.below(entries.len());
-    match (entries.get(block), entries.get(other)) {
-        (Some(one), Some(stack)) if one.as_slice() == stack.as_slice() => other,
-        _ => block,
+    /// The stacks with which blocks are reached: the first and the last without operands.
+    fn draw_entries(&mut self) {
+        self.stacks.clear();
+        self.entries.clear();
+        let _ = self.entries.push((0, 0));
+        for _ in 0..self.draw.below(7) {
+            self.draw_entry();
+        }
+        let _ = self.entries.push((0, 0));
     }
-}
 
-impl Block {
+    /// A drawn block that is reached with the same stack as this one.
+    fn alike(&mut self, block: usize) -> usize {
+        let other = self.draw.below(self.entries.len());
+        if self.wanted(block) == self.wanted(other) {
+            other
+        } else {
+            block
+        }
+    }
+
     /// Ends a method with its value, or a body.
-    fn leave(
-        &mut self,
-        alloc: Global,
-        draw: &mut Draw,
-        frame: &Frame<'_>,
-    ) -> Result<(), AllocError> {
-        let Some(value) = frame.value else {
-            self.add(alloc, frame, step(alloc, 23, 0, 0))?;
-            return Ok(());
+    fn leave(&mut self) {
+        let Some(value) = self.frame.value else {
+            return self.add(23, 0, 0);
         };
-        self.fit(alloc, draw, frame, &[])?;
-        self.push(alloc, draw, frame, value)?;
-        if draw.once_in(3) {
-            self.add(alloc, frame, step(alloc, 24, 0, 0))?;
+        self.fit(0);
+        self.push(value);
+        if self.draw.once_in(3) {
+            self.add(24, 0, 0);
         }
-        self.add(alloc, frame, step(alloc, 15, 0, 0))?;
-        Ok(())
+        self.add(15, 0, 0);
     }
 
     /// Goes on in one of the blocks that are reached with one stack, by a select.
-    fn select(
-        &mut self,
-        alloc: Global,
-        draw: &mut Draw,
-        frame: &Frame<'_>,
-        entries: &[Vec<Sort>],
-        block: usize,
-    ) -> Result<(), AllocError> {
-        let mut one = step(alloc, 22, 0, 0);
-        for _ in 0..draw.below(3).saturating_add(1) {
-            self.push(alloc, draw, frame, Sort::Bool)?;
-            one.ways.push(Way {
-                names: answered(alloc, draw, frame)?,
-                at: number_of(alike(draw, entries, block)),
-            })?;
+    fn select(&mut self, block: usize) {
+        let mut one = step(self.alloc, 22, 0, 0);
+        for _ in 0..self.draw.below(3).saturating_add(1) {
+            self.push(Sort::Bool);
+            let names = self.answered();
+            let at = number_of(self.alike(block));
+            let _ = one.ways.push(Way { names, at });
         }
-        self.add(alloc, frame, one)?;
-        Ok(())
+        self.add_step(one);
     }
 
-    /// Ends the block.
-    fn end(
-        &mut self,
-        alloc: Global,
-        draw: &mut Draw,
-        frame: &Frame<'_>,
-        entries: &[Vec<Sort>],
-    ) -> Result<(), AllocError> {
-        let block = draw.below(entries.len());
-        let way = draw.below(6);
+    /// Ends a block.
+    fn end(&mut self) {
+        let block = self.draw.below(self.entries.len());
+        let way = self.draw.below(6);
         if way == 0 {
-            return self.leave(alloc, draw, frame);
+            return self.leave();
         }
-        if let Some(stack) = entries.get(block) {
-            self.fit(alloc, draw, frame, stack)?;
-        }
+        self.fit(block);
         if way == 1 {
-            return self.select(alloc, draw, frame, entries, block);
+            return self.select(block);
         }
         if way < 4 {
-            self.push(alloc, draw, frame, Sort::Bool)?;
-            let other = alike(draw, entries, block);
-            self.add(alloc, frame, step(alloc, 12, number_of(other), 0))?;
+            self.push(Sort::Bool);
+            let other = self.alike(block);
+            self.add(12, number_of(other), 0);
         }
-        self.add(alloc, frame, step(alloc, 4, number_of(block), 0))?;
-        Ok(())
+        self.add(4, number_of(block), 0);
     }
-}
 
-/// The instructions of a block: what is silent in it stands behind one that is not.
-fn block_of(
-    alloc: Global,
-    draw: &mut Draw,
-    frame: &Frame<'_>,
-    entries: &[Vec<Sort>],
-    number: usize,
-) -> Result<Vec<Step>, AllocError> {
-    let mut block = Block {
-        steps: vec![in alloc; step(alloc, 13, 0, 0)]?,
-        stack: match entries.get(number) {
-            Some(stack) => Vec::from_slice(alloc, stack)?,
-            None => Vec::new(alloc),
-        },
-    };
-    for _ in 0..draw.below(12) {
-        block.draw(alloc, draw, frame)?;
+    /// The instructions of a block: what is silent in it stands behind one that is not.
+    fn draw_block(&mut self, number: usize) {
+        let _ = self.starts.push(self.steps.len());
+        let (start, end) = self.entry(number);
+        self.stack.clear();
+        let _ = self
+            .stack
+            .extend_from_slice(self.stacks.get(start..end).unwrap_or(&[]));
+        self.add(13, 0, 0);
+        for _ in 0..self.draw.below(12) {
+            self.add_any();
+        }
+        if number.saturating_add(1) == self.entries.len() {
+            self.leave();
+        } else {
+            self.end();
+        }
     }
-    if number.saturating_add(1) == entries.len() {
-        block.leave(alloc, draw, frame)?;
-    } else {
-        block.end(alloc, draw, frame, entries)?;
-    }
-    Ok(block.steps)
-}
 
-/// Adds instructions that are not reached, none of them silent: they want operands, and the sends may name any text.
-fn add_unreached(
-    alloc: Global,
-    draw: &mut Draw,
-    frame: &Frame<'_>,
-    steps: &mut Vec<Step>,
-) -> Result<(), AllocError> {
-    for _ in 0..draw.below(3) {
-        let text = number_of(draw.below(frame.file.names.len()));
-        let one = match draw.below(4) {
-            0 => step(alloc, 17, text, number_of(draw.below(9))),
-            1 => step(alloc, 18, text, number_of(draw.below(9))),
-            2 => step(alloc, 10, number_of(draw.below(15)).saturating_add(1), 0),
-            _ => step(alloc, 19, 0, 0),
+    /// Puts the instructions of a block behind those that stand in the code.
+    fn lay(&mut self, block: usize) {
+        if let Some(place) = self.places.get_mut(block) {
+            *place = self.laid.len();
+        }
+        for place in at(&self.starts, block)..at(&self.starts, block.saturating_add(1)) {
+            if let Some(one) = self.steps.get_mut(place) {
+                let laid = mem::replace(one, step(self.alloc, 13, 0, 0));
+                let _ = self.laid.push(laid);
+            }
+        }
+    }
+
+    /// Puts instructions that are not reached behind those, none of them silent: they want operands, and the sends may name any text.
+    fn lay_unreached(&mut self) {
+        for _ in 0..self.draw.below(3) {
+            let text = number_of(self.draw.below(self.frame.file.names.len()));
+            let (byte, first, second) = match self.draw.below(4) {
+                0 => (17, text, self.draw.below(9)),
+                1 => (18, text, self.draw.below(9)),
+                2 => (10, number_of(self.draw.below(15)).saturating_add(1), 0),
+                _ => (19, 0, 0),
+            };
+            let _ = self
+                .laid
+                .push(step(self.alloc, byte, first, number_of(second)));
+        }
+    }
+
+    /// The blocks one behind the other, the first one first and the last one last.
+    fn lay_all(&mut self) {
+        let last = self.entries.len().saturating_sub(1);
+        let order = self.draw.shuffled(self.alloc, last.saturating_sub(1));
+        let _ = self.places.extend_from_slice(&self.starts);
+        self.lay(0);
+        self.lay_unreached();
+        for number in &order {
+            self.lay(number.saturating_add(1));
+            self.lay_unreached();
+        }
+        self.lay(last);
+        put_places(&mut self.laid, &self.places);
+    }
+
+    /// Adds the code of a method or a body.
+    fn add_code(&mut self, class: &'a Class, temps: &'a [Sort], value: Option<Sort>) {
+        self.frame.class = class;
+        self.frame.temps = temps;
+        self.frame.value = value;
+        self.steps.clear();
+        self.starts.clear();
+        self.places.clear();
+        self.draw_entries();
+        for number in 0..self.entries.len() {
+            self.draw_block(number);
+        }
+        let _ = self.starts.push(self.steps.len());
+        self.lay_all();
+        let words = match longest_of(self.alloc, &self.frame, &self.laid) {
+            Ok(Some(longest)) => number_of(temps.len().saturating_add(longest)),
+            _ => 0,
         };
-        steps.push(one)?;
+        let steps = mem::replace(&mut self.laid, Vec::new(self.alloc));
+        let _ = self.codes.push(Code { words, steps });
     }
-    Ok(())
+
+    /// Adds the codes of the methods of each class, and then its body's.
+    fn add_codes(&mut self, file: &'a File) {
+        for class in &file.classes {
+            for method in &class.methods {
+                let value = method.result.unwrap_or(Sort::Nil);
+                self.add_code(class, &method.temps, Some(value));
+            }
+            self.add_code(class, &[], None);
+        }
+    }
 }
 
-/// The place of a block.
-fn start_of(starts: &[usize], block: u32) -> u32 {
-    match starts.get(block as usize) {
-        Some(start) => number_of(*start),
-        None => 0,
-    }
+/// Where a block starts.
+fn at(starts: &[usize], block: usize) -> usize {
+    starts.get(block).copied().unwrap_or(0)
 }
 
 /// Puts the places of blocks where their numbers stood.
-fn put_places(steps: &mut Vec<Step>, starts: &[usize]) {
+fn put_places(steps: &mut Vec<Step>, places: &[usize]) {
     for one in steps {
         if one.byte == 4 || one.byte == 12 {
-            one.first = start_of(starts, one.first);
+            one.first = number_of(at(places, one.first as usize));
         }
         for way in &mut one.ways {
-            way.at = start_of(starts, way.at);
+            way.at = number_of(at(places, way.at as usize));
         }
     }
 }
 
-/// The blocks one behind the other, the first one first and the last one last, and the places where they start.
-fn laid_out(
-    alloc: Global,
-    draw: &mut Draw,
-    frame: &Frame<'_>,
-    blocks: Vec<Vec<Step>>,
-) -> Result<Vec<Step>, AllocError> {
-    let last = blocks.len().saturating_sub(1);
-    let mut order = vec![in alloc; 0]?;
-    for number in &shuffled(alloc, draw, last.saturating_sub(1))? {
-        order.push(number.saturating_add(1))?;
+/// The sorts of operands.
+fn sorts_of(alloc: Global, file: &File) -> Vec<Sort> {
+    let mut sorts = Vec::new(alloc);
+    let _ = sorts.push(Sort::Int);
+    let _ = sorts.push(Sort::Bool);
+    let _ = sorts.push(Sort::Nil);
+    for class in &file.classes {
+        let _ = sorts.push(Sort::Of(class.name));
     }
-    order.push(last)?;
-    let mut starts = Vec::new(alloc);
-    let mut left = Vec::new(alloc);
-    for block in blocks {
-        starts.push(0)?;
-        left.push(Some(block))?;
-    }
-    let mut steps = Vec::new(alloc);
-    for number in &order {
-        if let Some(start) = starts.get_mut(*number) {
-            *start = steps.len();
-        }
-        if let Some(block) = left.get_mut(*number) {
-            for one in block.take().into_iter().flatten() {
-                steps.push(one)?;
-            }
-        }
-        if *number != last {
-            add_unreached(alloc, draw, frame, &mut steps)?;
-        }
-    }
-    put_places(&mut steps, &starts);
-    Ok(steps)
+    sorts
 }
 
-/// A drawn code.
-pub fn code_of(alloc: Global, draw: &mut Draw, frame: &Frame<'_>) -> Result<Code, AllocError> {
-    let entries = entries_of(alloc, draw, frame)?;
-    let mut blocks = Vec::new(alloc);
-    for number in 0..entries.len() {
-        blocks.push(block_of(alloc, draw, frame, &entries, number)?)?;
-    }
-    let steps = laid_out(alloc, draw, frame, blocks)?;
-    let words = match longest_of(alloc, frame, &steps)? {
-        Some(longest) => number_of(frame.temps.len().saturating_add(longest)),
-        None => 0,
+/// The drawn codes of a file: of each class those of its methods, and then its body's.
+pub fn codes_of(alloc: Global, draw: Draw, file: &File) -> Vec<Code> {
+    let Some(class) = file.classes.first() else {
+        return Vec::new(alloc);
     };
-    Ok(Code { words, steps })
+    let mut coding = Coding {
+        alloc,
+        draw,
+        frame: Frame {
+            file,
+            class,
+            temps: &[],
+            value: None,
+        },
+        sorts: sorts_of(alloc, file),
+        stacks: Vec::new(alloc),
+        entries: Vec::new(alloc),
+        steps: Vec::new(alloc),
+        starts: Vec::new(alloc),
+        stack: Vec::new(alloc),
+        laid: Vec::new(alloc),
+        places: Vec::new(alloc),
+        codes: Vec::new(alloc),
+    };
+    coding.add_codes(file);
+    coding.codes
 }

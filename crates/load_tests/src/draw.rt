@@ -1,8 +1,8 @@
-//! Drawn numbers, and what follows from them.
+//! Drawn numbers, and what follows from them. What there is no memory for is left out.
 use file_judge::Sort;
 use rand_core::utils::NextWord;
 use rand_pcg::Lcg64Xsh32;
-use std::alloc::{AllocError, Global};
+use std::alloc::Global;
 
 /// What is drawn.
 #[derive(Drop)]
@@ -29,25 +29,23 @@ impl Draw {
 
     /// One of these sorts.
     pub fn one_of(&mut self, sorts: &[Sort]) -> Sort {
-        match sorts.get(self.below(sorts.len())) {
-            Some(sort) => *sort,
-            None => Sort::Int,
-        }
+        let place = self.below(sorts.len());
+        sorts.get(place).copied().unwrap_or(Sort::Int)
     }
-}
 
-/// Numbers from 0 in a drawn order.
-pub fn shuffled(alloc: Global, draw: &mut Draw, size: usize) -> Result<Vec<usize>, AllocError> {
-    let mut left = Vec::new(alloc);
-    for number in 0..size {
-        left.push(number)?;
-    }
-    let mut order = Vec::new(alloc);
-    for _ in 0..size {
-        let place = draw.below(left.len());
-        if place < left.len() {
-            order.push(left.remove(place))?;
+    /// Numbers from 0 in a drawn order.
+    pub fn shuffled(&mut self, alloc: Global, size: usize) -> Vec<usize> {
+        let mut numbers = Vec::new(alloc);
+        for number in 0..size {
+            let _ = numbers.push(number);
         }
+        for done in 0..size {
+            let place = self.below(size.saturating_sub(done));
+            if place < numbers.len() {
+                let number = numbers.remove(place);
+                let _ = numbers.push(number);
+            }
+        }
+        numbers
     }
-    Ok(order)
 }

@@ -1,8 +1,8 @@
 //! Files that are drawn: their names, their classes with kinds, and then their codes.
-use crate::code::code_of;
-use crate::draw::{Draw, shuffled};
-use file_judge::{Class, Code, File, Frame, Method, Sort, number_of};
-use std::alloc::{AllocError, Global};
+use crate::code::codes_of;
+use crate::draw::Draw;
+use file_judge::{Class, Code, File, Method, Sort, number_of};
+use std::alloc::Global;
 
 /// Texts, of which the first thirteen are names of the language.
 const TEXTS: [&[u8]; 20] = [
@@ -29,34 +29,16 @@ const TEXTS: [&[u8]; 20] = [
 ];
 
 /// How many of the texts are names.
-const NAMES: u32 = 13;
+const NAMES: usize = 13;
 
-/// The table of all texts in a drawn order, and the numbers of the names there.
-fn names_of(alloc: Global, draw: &mut Draw) -> Result<(Vec<Vec<u8>>, Vec<u32>), AllocError> {
-    let mut table = Vec::new(alloc);
-    let mut names = Vec::new(alloc);
-    for text in &shuffled(alloc, draw, TEXTS.len())? {
-        if let Some(bytes) = TEXTS.get(*text) {
-            if *text < NAMES as usize {
-                names.push(number_of(table.len()))?;
-            }
-            table.push(Vec::from_slice(alloc, bytes)?)?;
-        }
-    }
-    Ok((table, names))
-}
-
-fn kinds_of(
+/// A file under way, the numbers of the names in its table, and the sorts of its kinds. What there is no memory for is left out.
+#[derive(Drop)]
+struct Filing {
     alloc: Global,
-    draw: &mut Draw,
-    kinds: &[Sort],
-    size: usize,
-) -> Result<Vec<Sort>, AllocError> {
-    let mut drawn = Vec::new(alloc);
-    for _ in 0..size {
-        drawn.push(draw.one_of(kinds))?;
-    }
-    Ok(drawn)
+    draw: Draw,
+    file: File,
+    names: Vec<u32>,
+    kinds: Vec<Sort>,
 }
 
 fn no_code(alloc: Global) -> Code {
@@ -66,116 +48,114 @@ fn no_code(alloc: Global) -> Code {
     }
 }
 
-/// A method without code.
-fn method_of(
-    alloc: Global,
-    draw: &mut Draw,
-    kinds: &[Sort],
-    name: u32,
-) -> Result<Method, AllocError> {
-    let params = draw.below(4);
-    let temps = params.saturating_add(draw.below(3));
-    let result = if draw.once_in(3) {
-        None
-    } else {
-        Some(draw.one_of(kinds))
-    };
-    Ok(Method {
-        name,
-        params: number_of(params),
-        temps: kinds_of(alloc, draw, kinds, temps)?,
-        result,
-        code: no_code(alloc),
-    })
-}
-
-/// A class without codes, whose methods have the names behind its own, and so on from the first.
-fn class_of(
-    alloc: Global,
-    draw: &mut Draw,
-    kinds: &[Sort],
-    names: &[u32],
-    name: u32,
-) -> Result<Class, AllocError> {
-    let vars = draw.below(4);
-    let mut methods = Vec::new(alloc);
-    let first = draw.below(4);
-    for method in names.iter().skip(first).take(draw.below(4)) {
-        methods.push(method_of(alloc, draw, kinds, *method)?)?;
+impl Filing {
+    /// Adds a text to the table.
+    fn add_text(&mut self, text: usize) {
+        if text < NAMES {
+            let _ = self.names.push(number_of(self.file.names.len()));
+        }
+        let mut bytes = Vec::new(self.alloc);
+        let _ = bytes.extend_from_slice(TEXTS.get(text).copied().unwrap_or(b""));
+        let _ = self.file.names.push(bytes);
     }
-    Ok(Class {
-        name,
-        vars: kinds_of(alloc, draw, kinds, vars)?,
-        methods,
-        body: no_code(alloc),
-    })
-}
 
-/// The codes of the methods of a class, and then its body's.
-fn codes_of(
-    alloc: Global,
-    draw: &mut Draw,
-    file: &File,
-    class: &Class,
-) -> Result<Vec<Code>, AllocError> {
-    let mut codes = Vec::new(alloc);
-    for method in &class.methods {
-        let frame = Frame {
-            file,
-            class,
-            temps: &method.temps,
-            value: Some(method.result.unwrap_or(Sort::Nil)),
-        };
-        codes.push(code_of(alloc, draw, &frame)?)?;
-    }
-    let frame = Frame {
-        file,
-        class,
-        temps: &[],
-        value: None,
-    };
-    codes.push(code_of(alloc, draw, &frame)?)?;
-    Ok(codes)
-}
-
-fn put_codes(class: &mut Class, codes: Vec<Code>) {
-    let mut codes = codes.into_iter();
-    for method in &mut class.methods {
-        if let Some(code) = codes.next() {
-            method.code = code;
+    /// The table of all texts in a drawn order.
+    fn add_texts(&mut self) {
+        for text in &self.draw.shuffled(self.alloc, TEXTS.len()) {
+            self.add_text(*text);
         }
     }
-    if let Some(code) = codes.next() {
-        class.body = code;
+
+    fn kinds_of(&mut self, size: usize) -> Vec<Sort> {
+        let mut drawn = Vec::new(self.alloc);
+        for _ in 0..size {
+            let _ = drawn.push(self.draw.one_of(&self.kinds));
+        }
+        drawn
+    }
+
+    /// A method without code.
+    fn method_of(&mut self, name: u32) -> Method {
+        let params = self.draw.below(4);
+        let temps = params.saturating_add(self.draw.below(3));
+        let result = if self.draw.once_in(3) {
+            None
+        } else {
+            Some(self.draw.one_of(&self.kinds))
+        };
+        Method {
+            name,
+            params: number_of(params),
+            temps: self.kinds_of(temps),
+            result,
+            code: no_code(self.alloc),
+        }
+    }
+
+    /// Adds a class without codes, whose methods have names that stand one behind the other in the table.
+    fn add_class(&mut self, name: u32) {
+        let vars = self.draw.below(4);
+        let first = self.draw.below(4);
+        let mut methods = Vec::new(self.alloc);
+        for place in first..first.saturating_add(self.draw.below(4)) {
+            let method = self.names.get(place).copied().unwrap_or(0);
+            let _ = methods.push(self.method_of(method));
+        }
+        let one = Class {
+            name,
+            vars: self.kinds_of(vars),
+            methods,
+            body: no_code(self.alloc),
+        };
+        let _ = self.file.classes.push(one);
+    }
+
+    /// Adds the classes, whose kinds are known before.
+    fn add_classes(&mut self) {
+        let _ = self.kinds.push(Sort::Int);
+        let _ = self.kinds.push(Sort::Bool);
+        let size = self.draw.below(4).saturating_add(1);
+        for name in self.names.iter().take(size) {
+            let _ = self.kinds.push(Sort::Of(*name));
+        }
+        for place in 0..size {
+            let name = self.names.get(place).copied().unwrap_or(0);
+            self.add_class(name);
+        }
+    }
+}
+
+/// Puts the codes of the classes, one behind the other, where they belong.
+fn put_codes(file: &mut File, codes: Vec<Code>) {
+    let mut codes = codes.into_iter();
+    for class in &mut file.classes {
+        for method in &mut class.methods {
+            if let Some(code) = codes.next() {
+                method.code = code;
+            }
+        }
+        if let Some(code) = codes.next() {
+            class.body = code;
+        }
     }
 }
 
 /// The file of a number.
-pub fn file_of(alloc: Global, number: u64) -> Result<File, AllocError> {
-    let mut draw = Draw::make(number);
-    let (table, names) = names_of(alloc, &mut draw)?;
-    let mut kinds = vec![in alloc; Sort::Int, Sort::Bool]?;
-    let size = draw.below(4).saturating_add(1);
-    for name in names.iter().take(size) {
-        kinds.push(Sort::Of(*name))?;
-    }
-    let mut classes = Vec::new(alloc);
-    for name in names.iter().take(size) {
-        classes.push(class_of(alloc, &mut draw, &kinds, &names, *name)?)?;
-    }
-    let mut file = File {
-        names: table,
-        classes,
+pub fn file_of(alloc: Global, number: u64) -> File {
+    let mut filing = Filing {
+        alloc,
+        draw: Draw::make(number),
+        file: File {
+            names: Vec::new(alloc),
+            classes: Vec::new(alloc),
+        },
+        names: Vec::new(alloc),
+        kinds: Vec::new(alloc),
     };
-    let mut codes = Vec::new(alloc);
-    for class in &file.classes {
-        codes.push(codes_of(alloc, &mut draw, &file, class)?)?;
-    }
-    let mut codes = codes.into_iter();
-    for class in &mut file.classes {
-        if let Some(its_codes) = codes.next() {
-            put_codes(class, its_codes);
-        }
-    }
-    Ok(file)
+    filing.add_texts();
+    filing.add_classes();
+    let mut file = filing.file;
+    let codes = codes_of(alloc, filing.draw, &file);
+    put_codes(&mut file, codes);
+    file
 }

@@ -1,8 +1,8 @@
-//! Whether the values that a record shows are of the sorts that its file declares.
+//! Whether the values that a record shows are of the sorts that its file declares, and the status that it shows.
 use file_judge::{Class, File, Method, Sort};
 use run_record::label_of;
-use run_words::{Args, Label, Line, NameId, Value, What};
-use std::alloc::{AllocError, Global};
+use run_words::{Args, End, Label, Line, NameId, Value, What};
+use std::alloc::Global;
 
 /// An object, and the number of its class's name.
 #[derive(Drop)]
@@ -21,23 +21,14 @@ struct Served {
 
 /// What a record has shown of its objects.
 #[derive(Drop)]
-pub struct Shown<'a> {
+struct Shown<'a> {
     file: &'a File,
     made: Vec<Made>,
     served: Vec<Served>,
-    pub faults: u32,
+    faults: u32,
 }
 
 impl<'a> Shown<'a> {
-    pub fn make(alloc: Global, file: &'a File) -> Shown<'a> {
-        Shown {
-            file,
-            made: Vec::new(alloc),
-            served: Vec::new(alloc),
-            faults: 0,
-        }
-    }
-
     /// The class of an object: the last one, unless the object was shown to be made.
     fn class(&self, object: u32) -> Option<&'a Class> {
         for made in &self.made {
@@ -99,15 +90,15 @@ impl<'a> Shown<'a> {
         }
     }
 
-    /// Whether a transition is of right sorts.
-    fn takes(&mut self, label: &Label) -> Result<bool, AllocError> {
+    /// Whether a transition is of right sorts, and what it shows of its objects is noted.
+    fn takes(&mut self, label: &Label) -> bool {
         match label {
             Label::New { name, class, .. } => {
-                self.made.push(Made {
+                let made = Made {
                     object: *name,
                     class: class.0,
-                })?;
-                Ok(self.file.class(class.0).is_some())
+                };
+                self.made.push(made).is_ok() && self.file.class(class.0).is_some()
             }
             Label::Answer {
                 receiver,
@@ -115,40 +106,40 @@ impl<'a> Shown<'a> {
                 method,
                 args,
             } => {
-                self.served.push(Served {
+                let served = Served {
                     caller: *caller,
                     receiver: *receiver,
                     method: method.0,
-                })?;
-                Ok(self.are_taken(*receiver, *method, args))
+                };
+                self.served.push(served).is_ok() && self.are_taken(*receiver, *method, args)
             }
             Label::Send {
                 receiver,
                 method,
                 args,
                 ..
-            } => Ok(self.are_taken(*receiver, *method, args)),
+            } => self.are_taken(*receiver, *method, args),
             Label::Take {
                 receiver,
                 method,
                 args,
                 ..
-            } => Ok(self.are_taken(*receiver, *method, args)),
+            } => self.are_taken(*receiver, *method, args),
             Label::Return {
                 receiver,
                 caller,
                 value,
-            } => Ok(self.is_given(*receiver, *caller, *value)),
+            } => self.is_given(*receiver, *caller, *value),
             Label::Fault { .. } => {
                 self.faults = self.faults.saturating_add(1);
-                Ok(true)
+                true
             }
-            Label::Local { .. } | Label::Write { .. } | Label::Pick { .. } => Ok(true),
+            Label::Local { .. } | Label::Write { .. } | Label::Pick { .. } => true,
         }
     }
 
     /// Whether what a line shows is of right sorts.
-    pub fn shows(&mut self, line: &Line) -> Result<bool, AllocError> {
+    fn shows(&mut self, line: &Line) -> bool {
         if let Some(steps) = label_of(line) {
             return self.takes(&steps.label);
         }
@@ -161,12 +152,45 @@ impl<'a> Shown<'a> {
                     ..
                 },
                 ..
-            } => Ok(self.are_taken(*receiver, *method, args)),
+            } => self.are_taken(*receiver, *method, args),
             Line::Event {
                 what: What::PostCreate { class, .. },
                 ..
-            } => Ok(self.file.class(class.0).is_some()),
-            _ => Ok(true),
+            } => self.file.class(class.0).is_some(),
+            _ => true,
         }
+    }
+
+    /// Whether what each of these lines shows is of right sorts.
+    fn shows_each(&mut self, lines: &[Line]) -> bool {
+        for line in lines {
+            if !self.shows(line) {
+                return false;
+            }
+        }
+        true
+    }
+}
+
+/// The status of a record with this end and so many faults.
+fn status_at(end: End, faults: u32) -> u8 {
+    match end {
+        End::Quiet { .. } => { if faults == 0 { 0 } else { 1 } }
+        End::Schedule { .. } => 3,
+        End::Full { .. } => 4,
+    }
+}
+
+/// The status that lines show; `None` where the last of them is no end, or one shows a value of a wrong sort.
+pub fn status_of(alloc: Global, file: &File, lines: &[Line]) -> Option<u8> {
+    let mut shown = Shown {
+        file,
+        made: Vec::new(alloc),
+        served: Vec::new(alloc),
+        faults: 0,
+    };
+    match (shown.shows_each(lines), lines.last()) {
+        (true, Some(Line::End(end))) => Some(status_at(*end, shown.faults)),
+        _ => None,
     }
 }
