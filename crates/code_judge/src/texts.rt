@@ -1,59 +1,8 @@
 //! Names and strings.
 ghost use Rattle.std.specs.Prelude.{◌≡◌, option_map, slice_get};
 ghost use Rattle.run_words.specs.Keywords.{is_name, is_name_text, is_string_number, is_string_text};
-ghost use Rattle.run_words.specs.Text.{every, is_digit, is_inner, is_letter, is_word};
-ghost use Rattle.code_judge.specs.Inside.{in_a_name};
 
-use run_words::{NameId, Names, keyword};
-
-fn is_letter(byte: u8) -> bool
-    ensures { result ≡ is_letter byte }
-{
-    matches!(byte, b'A'..=b'Z' | b'a'..=b'z' | b'_')
-}
-
-fn is_digit(byte: u8) -> bool
-    ensures { result ≡ is_digit byte }
-{
-    matches!(byte, b'0'..=b'9')
-}
-
-fn is_inner(byte: u8) -> bool
-    ensures { result ≡ is_inner byte }
-{
-    matches!(byte, b' '..=b'~') && byte != b'"'
-}
-
-fn are_in_a_name(bytes: &[u8]) -> bool
-    ensures { result ≡ every in_a_name bytes.now }
-{
-    for byte in bytes {
-        if !is_letter(*byte) && !is_digit(*byte) {
-            return false;
-        }
-    }
-    true
-}
-
-fn are_inner(bytes: &[u8]) -> bool
-    ensures { result ≡ every is_inner bytes.now }
-{
-    for byte in bytes {
-        if !is_inner(*byte) {
-            return false;
-        }
-    }
-    true
-}
-
-fn is_word(word: &[u8]) -> bool
-    ensures { result ≡ is_word word.now }
-{
-    match word {
-        [first, rest @ ..] => is_letter(*first) && are_in_a_name(rest),
-        [] => false,
-    }
-}
+use run_words::{ByteSet, NameId, Names, all_in, is_word, keyword};
 
 #[tactic(auto, using(crate::proofs::Words::long_name, crate::proofs::Words::no_word, crate::proofs::Words::word_name))]
 fn is_name_text(text: &[u8]) -> bool
@@ -71,7 +20,7 @@ fn is_name_text(text: &[u8]) -> bool
 fn is_string_text(text: &[u8]) -> bool
     ensures { result ≡ is_string_text text.now }
 {
-    text.len() <= 256 && are_inner(text)
+    text.len() <= 256 && all_in(text, ByteSet::Inner)
 }
 
 /// The text of a number, if there is one.

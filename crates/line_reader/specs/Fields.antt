@@ -90,9 +90,6 @@ values_within n [] = Some []
 values_within zero (w ∷ ws) = None
 values_within (suc n) (w ∷ ws) = value_of w >>= λ v. values_within n ws >>= λ vs. Some (v ∷ vs)
 
-abbrev pub in_a_name : ℕ → Bool
-in_a_name c = is_letter c || is_digit c
-
 -- a name of a class or a method: no keyword, and at most 64 bytes
 abbrev pub is_name : Text → Bool
 is_name w = (is_word w && nat_le (length w) 64) && is_none (lookup keywords w)

@@ -1,11 +1,10 @@
 //! The numbers, names and values that words spell.
 ghost use Rattle.std.specs.Prelude.{◌≡◌, ◌≤◌, ◌<◌, length, option_map, IfSome};
-ghost use Rattle.run_words.specs.Text.{every, is_digit, is_inner, is_letter, is_word};
-ghost use Rattle.line_reader.specs.Fields.{begins_with, count_of, error_of, in_a_name, integer_of, name_of_word, name_or_integer, negative_of, number_of, object_of, point_from, positive_of};
+ghost use Rattle.line_reader.specs.Fields.{begins_with, count_of, error_of, integer_of, name_of_word, name_or_integer, negative_of, number_of, object_of, point_from, positive_of};
 ghost use Rattle.line_reader.specs.Fields.{string_of, value_of};
 
 use itoa::Buffer;
-use run_words::{Decimal, Error, Value, decimal, keyword};
+use run_words::{ByteSet, Decimal, Error, Value, all_in, decimal, is_word, keyword, object_name};
 
 /// The number below a limit whose text the word is.
 fn number(limit: u64, word: &[u8]) -> Option<u64>
@@ -60,7 +59,7 @@ pub fn object(word: &[u8]) -> Option<u32>
     let at = point(word)?;
     let node = number(65536, &word[0..at])?;
     let slot = number(65536, &word[at + 1..word.len()])?;
-    Some((node * 65536 + slot) as u32)
+    Some(object_name(node as u32, slot as u32))
 }
 
 pub fn begins_with(byte: u8, word: &[u8]) -> bool
@@ -123,55 +122,6 @@ pub fn value(word: &[u8]) -> Option<Value>
     name_or_integer(word)
 }
 
-fn is_letter(byte: u8) -> bool
-    ensures { result ≡ is_letter byte }
-{
-    matches!(byte, b'A'..=b'Z' | b'a'..=b'z' | b'_')
-}
-
-fn is_digit(byte: u8) -> bool
-    ensures { result ≡ is_digit byte }
-{
-    matches!(byte, b'0'..=b'9')
-}
-
-fn is_inner(byte: u8) -> bool
-    ensures { result ≡ is_inner byte }
-{
-    matches!(byte, b' '..=b'~') && byte != b'"'
-}
-
-fn are_in_a_name(bytes: &[u8]) -> bool
-    ensures { result ≡ every in_a_name bytes.now }
-{
-    for byte in bytes {
-        if !is_letter(*byte) && !is_digit(*byte) {
-            return false;
-        }
-    }
-    true
-}
-
-fn are_inner(bytes: &[u8]) -> bool
-    ensures { result ≡ every is_inner bytes.now }
-{
-    for byte in bytes {
-        if !is_inner(*byte) {
-            return false;
-        }
-    }
-    true
-}
-
-fn is_word(word: &[u8]) -> bool
-    ensures { result ≡ is_word word.now }
-{
-    match word {
-        [first, rest @ ..] => is_letter(*first) && are_in_a_name(rest),
-        [] => false,
-    }
-}
-
 /// The word, where it is a name of at most 64 bytes and no keyword.
 pub fn name(word: &[u8]) -> Option<&[u8]>
     ensures { option_map (λ w. w.now) result ≡ name_of_word word.now }
@@ -193,7 +143,7 @@ pub fn string(word: &[u8]) -> Option<&[u8]>
     if word[0] != b'"' || word[size - 1] != b'"' {
         return None;
     }
-    if are_inner(&word[1..size - 1]) {
+    if all_in(&word[1..size - 1], ByteSet::Inner) {
         return Some(&word[1..size - 1]);
     }
     None

@@ -37,12 +37,3 @@ abbrev pub serves_for_call : ℕ → Option ℕ → Serves
 serves_for_call from None = S.Sender
 serves_for_call from (Some number) = S.Caller from number
 
--- its caller, if it is a call
-abbrev pub caller_for_call : ℕ → Option ℕ → Option ℕ
-caller_for_call from None = None
-caller_for_call from (Some number) = Some from
-
--- the numbers with the one of the call in front
-abbrev pub with_number : Option ℕ → List ℕ → List ℕ
-with_number None ns = ns
-with_number (Some number) ns = number ∷ ns

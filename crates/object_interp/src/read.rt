@@ -11,7 +11,7 @@ ghost use Rattle.object_interp.specs.Tops.{HasTop, class_in, code_in, instr_in};
 
 use code_semantics::{ClassCode, Instr, Unit};
 use node_heap::Heap;
-use run_words::{Args, NameId, Value};
+use run_words::{Args, NameId, Value, object_name};
 
 /// The class of the slot's object.
 pub(crate) fn class_at<'a>(unit: &'a Unit, heap: &Heap, slot: u32) -> &'a ClassCode
@@ -74,7 +74,7 @@ pub(crate) fn name_at(heap: &Heap, slot: u32) -> u32
     ensures { result ≡ name_in heap.now slot }
 {
     let placed = heap.objects();
-    heap.node() * 65536 + slot.min(placed)
+    object_name(heap.node(), slot.min(placed))
 }
 
 /// The place of the first class of this name, or 0 where the unit has none.

@@ -4,7 +4,6 @@
 pub mod act;
 pub mod arguments;
 pub mod change;
-pub mod frames;
 pub mod lookup;
 pub mod offers;
 pub mod thing;

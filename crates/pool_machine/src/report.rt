@@ -18,7 +18,7 @@ use code_semantics::Unit;
 use mesh_routing::{Links, Mesh};
 use pool_node::Node;
 use rendezvous_protocol::Packet;
-use run_words::{NameId, Placement, Standing};
+use run_words::{NameId, Placement, Standing, node_of, slot_of};
 
 /// Whether an object of a node can step.
 pub(crate) fn can_step(unit: &Unit, nodes: &[Node]) -> bool
@@ -107,8 +107,8 @@ fn is_on_way(mesh: &Mesh, links: &Links<Packet>, name: u32) -> bool
 fn has_object(nodes: &[Node], name: u32) -> bool
     ensures { result ≡ is_some (slot_in (slice_get (map (λ n. n.state) nodes.now) (node_of name)) (slot_of name)) }
 {
-    let node = (name / 65536) as usize;
-    node < nodes.len() && name % 65536 < nodes[node].objects()
+    let node = node_of(name) as usize;
+    node < nodes.len() && slot_of(name) < nodes[node].objects()
 }
 
 /// Where the object of a name stands: due while its value is on a link, and else as its node says. `placement` is there
@@ -132,8 +132,8 @@ pub(crate) fn standing_in(
     if is_on_way(mesh, links, name) {
         return Some(Standing::Due);
     }
-    let node = (name / 65536) as usize;
-    Some(nodes[node].standing(unit, name % 65536))
+    let node = node_of(name) as usize;
+    Some(nodes[node].standing(unit, slot_of(name)))
 }
 
 /// The class of the object of a name.
@@ -144,7 +144,7 @@ pub(crate) fn class_in(unit: &Unit, nodes: &[Node], name: u32) -> Option<NameId>
     if !has_object(nodes, name) {
         return None;
     }
-    let node = (name / 65536) as usize;
-    let class = nodes[node].class_of(name % 65536);
+    let node = node_of(name) as usize;
+    let class = nodes[node].class_of(slot_of(name));
     Some(unit.classes.items()[class as usize].name)
 }

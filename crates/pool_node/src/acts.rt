@@ -22,7 +22,9 @@ use code_semantics::Unit;
 use mailbox::Message;
 use node_parts::{Parts, ask_in, deliver_in, fault_in, go_on_in, return_in, settle_in};
 use rendezvous_protocol::Packet;
-use run_words::{Args, Error, FullKind, Item, Label, NameId, Placement, Value, What};
+use run_words::{
+    Args, Error, FullKind, Item, Label, NameId, Placement, Value, What, node_of, object_name, slot_of,
+};
 
 /// The name of the object of a slot, also of the next one.
 pub(crate) fn name_of(parts: &Parts, slot: u32) -> u32
@@ -30,7 +32,7 @@ pub(crate) fn name_of(parts: &Parts, slot: u32) -> u32
     requires slot { slot ≤ length parts.now.heap.objects }
     ensures { result ≡ name_at parts.now.id slot }
 {
-    parts.heap.node() * 65536 + slot
+    object_name(parts.heap.node(), slot)
 }
 
 /// Whether no cell is free for one message more.
@@ -99,7 +101,7 @@ fn lacks(placement: &Placement, parts: &Parts, to: u32, leaving: u32) -> bool
     requires cells { message_count (slots_of parts.now) + leaving ≤ placement.now.cells }
     ensures { result ≡ lacks_cell placement.now leaving (node_of parts.now) to }
 {
-    if to / 65536 == parts.id && to % 65536 >= parts.heap.objects() {
+    if node_of(to) == parts.id && slot_of(to) >= parts.heap.objects() {
         return false;
     }
     no_cell(placement, parts, leaving)
@@ -112,7 +114,7 @@ pub(crate) fn deliver_to(unit: &Unit, parts: &mut Parts, to: u32, message: Messa
     requires room { D.slot_of to < length parts.old.heap.objects → lengths parts.old.mailbox.boxes < parts.old.mailbox.cells }
     ensures { IsMoved unit.now parts.old parts.new (deliver to (arrival_of message) (node_of parts.old).state) }
 {
-    let slot = to % 65536;
+    let slot = slot_of(to);
     if slot < parts.heap.objects() {
         deliver_in(unit, parts, slot, message);
     }
@@ -155,7 +157,7 @@ fn post(unit: &Unit, parts: &mut Parts, to: u32, message: Message, room: &mut Ro
         → (packet : Option OnePacket) × (act_of result room.new ≡ A.Line room.old.what packet)
         × IsLine unit.now l leaving room.old.what packet parts.old parts.new (posted room.old.what to message parts.old.id (node_of parts.old).state) }
 {
-    if to / 65536 == parts.id {
+    if node_of(to) == parts.id {
         deliver_to(unit, parts, to, message);
         Told::Line
     } else {
@@ -270,7 +272,7 @@ pub(crate) fn return_turn(
         caller,
         value,
     };
-    if caller / 65536 == parts.id {
+    if node_of(caller) == parts.id {
         return_in(unit, parts, slot);
         settle_if_out(unit, parts, number, value);
         room.what = step(label);

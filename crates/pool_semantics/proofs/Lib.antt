@@ -7,7 +7,6 @@ pub mod TypedFacts
 pub mod AlwaysShown
 pub mod RootClass
 pub mod SoundSteps
-pub mod NextFrames
 pub mod CanMove
 pub mod Least
 pub mod Searching

@@ -21,8 +21,6 @@ use crate::plain::objects::add;
 pub use crate::plain::state::State;
 pub use crate::plain::waits::Waiting;
 use class_check::Checked;
-use plain_object::act::Act;
-use plain_object::frames::frames_after;
 use run_words::Label;
 pub use run_words::Redex;
 use std::alloc::{AllocError, Global};
@@ -68,7 +66,7 @@ impl<'a> Plain<'a> {
     ghost use Rattle.run_words.specs.declared.words.Label.{Label};
     ghost use Rattle.pool_relation.specs.Action.{Object, action};
     ghost use Rattle.pool_relation.specs.Configuration.{object_of};
-    ghost use Rattle.pool_semantics.specs.PlainOf.{state_of, configuration_of, program_tree, is_spent, frames_next};
+    ghost use Rattle.pool_semantics.specs.PlainOf.{state_of, configuration_of, program_tree, is_spent};
     ghost use Rattle.pool_relation.specs.Typed.{GoesWrong, Typed};
     ghost use Rattle.pool_relation.specs.Progress.{HasOwnTransition};
     ghost use Rattle.pool_relation.specs.Transition.{transition, start};
@@ -133,19 +131,6 @@ impl<'a> Plain<'a> {
         match self.state.shown(object) {
             Some(redex) => redex,
             None => Redex::NoObject,
-        }
-    }
-
-    /// The number of methods under way in the object after its local transition; None exactly where it has none.
-    pub fn next_frames(&self, object: u32) -> Option<usize>
-        ensures { result ≡ frames_next (program_tree self.now) (configuration_of self.now) object }
-    {
-        match self.state.acting(object) {
-            None => None,
-            Some((thing, act)) => match act {
-                Act::Local(change) => Some(frames_after(&thing.work, &change)),
-                _ => None,
-            },
         }
     }
 

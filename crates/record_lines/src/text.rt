@@ -109,7 +109,7 @@ pub fn put_object(text: &mut LineText, object: u32)
     ensures size { array_vec_len text.new ≤ array_vec_len text.old + 12 }
 {
     text.push(b' ');
-    put_half(text, (object / 65536) as u16);
+    put_half(text, node_of(object) as u16);
     text.push(b'.');
-    put_half(text, (object % 65536) as u16);
+    put_half(text, slot_of(object) as u16);
 }

@@ -4,7 +4,7 @@ ghost use Rattle.std.specs.Fmt.{signed_decimal};
 ghost use Rattle.record_lines.specs.RecordText.{error_text, item_text, led, object_text, text_at, value_text};
 
 use itoa::Buffer;
-use run_words::{Args, Error, Item, NameId, Names, Value};
+use run_words::{Args, Error, Item, NameId, Names, Value, node_of, slot_of};
 use std::alloc::AllocError;
 
 /// Puts a space and a word behind the text.
@@ -53,9 +53,9 @@ fn push_digits(text: &mut Vec<u8>, number: u32) -> Result<(), AllocError>
 pub fn push_object_name(text: &mut Vec<u8>, object: u32) -> Result<(), AllocError>
     ensures { OnOk result (text.new.items ≡ text.old.items ++ object_text object) }
 {
-    push_digits(text, object / 65536)?;
+    push_digits(text, node_of(object))?;
     text.extend_from_slice(b".")?;
-    push_digits(text, object % 65536)
+    push_digits(text, slot_of(object))
 }
 
 /// Puts a space and an object's name.

@@ -3,7 +3,7 @@ ghost use Rattle.std.specs.Prelude.{◌≡◌};
 ghost use Rattle.mesh_semantics.specs.Act.{goal_node};
 ghost use Rattle.rendezvous_protocol.specs.Packets.{numbered};
 
-use run_words::{Args, NameId, Value};
+use run_words::{Args, NameId, Value, node_of};
 
 /// A packet. `from` and `to` are names of objects, and `number` is that of the request that the packet belongs to,
 /// as the requester's node gave it out; an asynchronous message belongs to none.
@@ -55,7 +55,7 @@ impl Default for Packet {
     }
 }
 
-/// The node that the packet goes to. The node of a name is the name divided by 65536.
+/// The node that the packet goes to.
 pub fn goal(packet: &Packet) -> u32
     ensures { result ≡ goal_node (numbered packet.now).packet }
 {
@@ -64,6 +64,6 @@ pub fn goal(packet: &Packet) -> u32
         Packet::Created { to, .. }
         | Packet::Request { to, .. }
         | Packet::Result { to, .. }
-        | Packet::Async { to, .. } => *to / 65536,
+        | Packet::Async { to, .. } => node_of(*to),
     }
 }

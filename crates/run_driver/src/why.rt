@@ -17,7 +17,7 @@ use crate::status::Status;
 use command_words::Show;
 use pool_machine::Machine;
 use pool_outside::Sink;
-use run_words::{Line, List, Names, Placement};
+use run_words::{Line, List, Names, Placement, object_name};
 use std::alloc::{AllocError, Global};
 use wait_report::{ObjectRow, ReportFault, report};
 
@@ -46,7 +46,7 @@ fn push_rows(rows: &mut List<ObjectRow>, machine: &Machine<'_>, node: u32) -> Re
         → OnOk result (rows.new ≡ rows_below machine.now.unit c d ((node + 1) * 65536)) }
 {
     for slot in 0..machine.objects_of(node) {
-        match row_at(machine, node * 65536 + slot) {
+        match row_at(machine, object_name(node, slot)) {
             Some(row) => match rows.push(row) {
                 Ok(()) => {}
                 Err(_) => return Err(AllocError),

@@ -6,7 +6,7 @@ ghost use Rattle.run_words.specs.declared.words.Event.{Event as OneEvent};
 ghost use Rattle.run_words.specs.Asks.{request_number_of, asker_of, is_post_of};
 
 use record_lines::{asker_of, poster};
-use run_words::{Event, Line, What};
+use run_words::{Event, Line, What, node_of, slot_of};
 use std::alloc::{AllocError, Global};
 
 /// For each object of some nodes, with so many objects at most a node, the number of its latest post.
@@ -45,7 +45,7 @@ impl Asks {
         ensures place { result ≡ place_of self.now object }
         ensures inside { result < length self.now.last.items }
     {
-        (object / 65536) as usize * self.objects as usize + (object % 65536) as usize
+        node_of(object) as usize * self.objects as usize + slot_of(object) as usize
     }
 
     /// The request number of an event's line behind those given so far.

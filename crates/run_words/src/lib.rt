@@ -10,6 +10,7 @@ mod keywords;
 mod lines;
 mod list;
 mod names;
+mod object_names;
 pub mod operators;
 mod places;
 mod scan;
@@ -24,8 +25,9 @@ pub use keywords::Keyword;
 pub use lines::{decimal, next_line, next_word};
 pub use list::List;
 pub use names::Names;
+pub use object_names::{node_of, object_name, slot_of};
 pub use places::{Decimal, LineAt, WordAt};
-pub use scan::{ByteSet, run_end};
+pub use scan::{ByteSet, all_in, is_word, run_end};
 pub use spelling::keyword;
 pub use verdicts::{Redex, Verdict};
 pub use words::{

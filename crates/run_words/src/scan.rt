@@ -2,6 +2,7 @@
 ghost use Rattle.std.specs.Prelude.{◌≡◌, ◌+◌, ◌≤◌, length, drop};
 ghost use Rattle.std.specs.List.{prefix_len};
 ghost use Rattle.run_words.specs.ByteSets.{is_in};
+ghost use Rattle.run_words.specs.Text.{every, is_word};
 
 #[derive(Clone, Copy)]
 pub enum ByteSet {
@@ -43,4 +44,26 @@ pub fn run_end(bytes: &[u8], from: usize, set: ByteSet) -> usize
         at += 1;
     }
     at
+}
+
+/// Whether each byte of a text is in a set.
+pub fn all_in(bytes: &[u8], set: ByteSet) -> bool
+    ensures { result ≡ every (is_in set) bytes.now }
+{
+    for byte in bytes {
+        if !set.has(*byte) {
+            return false;
+        }
+    }
+    true
+}
+
+/// Whether a text is a name or a keyword, of whatever length.
+pub fn is_word(text: &[u8]) -> bool
+    ensures { result ≡ is_word text.now }
+{
+    match text {
+        [first, rest @ ..] => ByteSet::Letter.has(*first) && all_in(rest, ByteSet::NameByte),
+        [] => false,
+    }
 }

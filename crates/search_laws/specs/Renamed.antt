@@ -19,10 +19,6 @@ pub record Renaming : Type 0 where
   pub from_to : (n : ℕ) → from (to n) ≡ n
   pub to_from : (n : ℕ) → to (from n) ≡ n
 
--- the other way
-abbrev pub inverse : Renaming → Renaming
-inverse f = record { to = f.from; from = f.to; from_to = f.to_from; to_from = f.from_to }
-
 -- a value, where each name became another
 abbrev pub renamed_value : (ℕ → ℕ) → Value → Value
 renamed_value f (V.Ref n) = V.Ref (f n)

@@ -6,4 +6,3 @@ pub mod Lengths
 pub mod Acting
 pub mod Changing
 pub mod Coming
-pub mod Frames
