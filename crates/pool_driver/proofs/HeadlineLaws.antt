@@ -13,6 +13,7 @@ use Rattle.pool_driver.specs.Ends as E
 use Rattle.outside_calls.specs.Reading.{Reading, Told}
 use Rattle.pool_driver.specs.Ends.{IsMade, Says, Ends}
 use Rattle.pool_driver.specs.Headline.{ShowsOneRun}
+use Rattle.pool_driver.proofs.LineKindLaws.{each_kind}
 use Rattle.pool_driver.specs.Inputs.{WereAccepted, inputs}
 use Rattle.pool_driver.specs.Outputs.{IsOutput, IsRunOf, IsWhole}
 use Rattle.pool_driver.specs.Runs.{record_of}
@@ -27,6 +28,7 @@ one_run source place plan text status h = record {
   lines = (record_of h.meaning).lines;
   written = h.written;
   ended = h.run.run.lines;
+  each = each_kind h.meaning.names 0 (record_of h.meaning).lines h.run.readable;
   root = root_name h.meaning.layout;
   first = h.run.first;
   starts = h.run.starts;

@@ -6,5 +6,6 @@ pub mod ConvertLaws
 pub mod ReadableLaws
 pub mod TextLaws
 pub mod HeadlineLaws
+pub mod LineKindLaws
 pub mod BuiltFiles
 pub mod BuiltLaws

@@ -11,9 +11,10 @@ use Rattle.pool_relation.specs.Transition.{run, start, transition}
 use Rattle.placed_terms.specs.RunOf.{GoesBy}
 use Rattle.mesh_semantics.specs.Record.{EndsOnce, labels, ends_quiet}
 use Rattle.record_lines.specs.SecondForm.{text2}
+use Rattle.pool_driver.specs.LineKinds.{EachIsOneOfThree}
 
--- The source is a program without class faults, and the bytes are the text of lines: event lines and then one end line. Their labels, in order, are one run of the transition
--- relation from the start; before and after each of them the configuration is typed, and no object goes wrong; and where the end is quiet no label is possible.
+-- The source is a program without class faults, and the bytes are the text of lines: event lines and then one end line. A line shows a transition once, or local ones at least
+-- once; or it is a named delay, or idle. The labels of the lines, in order, are one run of the transition relation from the start; before and after each of them the configuration is typed, and no object goes wrong; and where the end is quiet no label is possible.
 pub record ShowsOneRun (source bytes : Text) : Type 0 where
   pub names : List Text
   pub program : ProgramTree
@@ -22,6 +23,7 @@ pub record ShowsOneRun (source bytes : Text) : Type 0 where
   pub lines : List Line
   pub written : bytes ≡ text2 names lines
   pub ended : EndsOnce lines
+  pub each : EachIsOneOfThree lines
   pub root : ℕ
   pub first : Configuration
   pub starts : start program root ≡ Some first

@@ -4,4 +4,5 @@ pub mod Runs
 pub mod Outputs
 pub mod Ends
 pub mod Headline
+pub mod LineKinds
 pub mod Readers
