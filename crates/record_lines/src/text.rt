@@ -6,6 +6,7 @@ ghost use Rattle.record_lines.specs.RecordText.{led, object_text};
 
 use arrayvec::ArrayVec;
 use itoa::Buffer;
+use run_words::{node_of, slot_of};
 
 /// The text of a line, which has fewer than 528 bytes.
 pub type LineText = ArrayVec<u8, 528>;
