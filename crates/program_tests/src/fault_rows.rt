@@ -772,7 +772,7 @@ Limit at token 215 | class A method m(p : Int, q : Int) : Bool begin result true
 accepted | class A body select[63: when true then] when not true then end end
 Limit at token 197 | class A body select[64: when true then] when not true then end end
 accepted | class A method m() begin end body select[64: when true answer(m) then write 1 + 1] end end
--- The texts of the section on class faults in `docs/LANGUAGE.md`, and the shortest text of each fault.
+-- Class faults of small programs, and the shortest text of each fault, which `docs/REFERENCE.md` shows.
 -- The shortest text of each fault.
 ClassTwice at token 5 | class A body end class A body end
 UnknownClass at token 5 | class A var x : B body end
@@ -786,7 +786,7 @@ TypeDiffers at token 4 | class A body if 1 then fi end
 NoResult at token 10 | class A method m() begin end body write m() end
 AnswerName at token 5 | class A body answer(m) end
 Limit at token 37 | class A method m(a : Int, b : Int, c : Int, d : Int, e : Int, f : Int, g : Int, h : Int, i : Int) begin end body end
--- The texts of the page on the language.
+-- Small programs, one or two for each fault.
 ClassTwice at token 12 | class Cell~var Cell : Int~body Cell := 1 end~class Cell~body end~class Main~body new Cell end
 UnknownClass at token 28 | class Main~method total() : Int begin result price(2) + price(3) end~method price(n : Int) : Money begin result n \
     end~body write total() end
