@@ -1,10 +1,10 @@
 pub mod Blocks
-pub mod Firsts
-pub mod Grants
+pub mod LinearScan
+pub mod BlockAllocation
 pub mod Laws
 pub mod Links
 pub mod Moves
 pub mod Pools
 pub mod Queues
-pub mod Sharing
-pub mod Steps
+pub mod SharedRegion
+pub mod RegionWalks

@@ -1,4 +1,6 @@
-//! A fixed region of cells, taken once, and queues in it that are linked both ways.
+//! A fixed region of cells, allocated once, with doubly linked queues in it.
+//!
+//! Does not know: what the cells hold.
 #![tactic(auto)]
 
 mod parts;

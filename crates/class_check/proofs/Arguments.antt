@@ -6,13 +6,12 @@ use Rattle.pool_syntax.specs.declared.tree.Var.{Var}
 use Rattle.pool_syntax.specs.TreeOf.{expression_of, expressions_of}
 use Rattle.pool_syntax.specs.Terms.{Expressions, Expression, Arg}
 use Rattle.pool_syntax.specs.Typing.{Scope, expression_faults, arguments_faults, sort_of, position, size}
-use Rattle.run_words.specs.Sorts.{Sort}
-use Rattle.class_check.specs.Stands.{argument_faults}
+use Rattle.run_types.specs.Sorts.{Sort}
+use Rattle.class_check.specs.CheckerScopes.{argument_faults}
 use Rattle.class_check.specs.declared.fault.ClassFault.{ClassFault}
-use Rattle.class_check.specs.Least.{noted}
-use Rattle.class_check.specs.PairOf.{Notes, found_of}
-use Rattle.class_check.proofs.Held.{same_arguments}
-use Rattle.class_check.proofs.Noting.{noted_append}
+use Rattle.class_check.specs.NotedFaults.{noted, Notes, found_of}
+use Rattle.class_check.proofs.OperandLimit.{same_arguments}
+use Rattle.class_check.proofs.FaultAccumulation.{noted_append}
 
 pub size_of_all : (es : List Expr) → size (expressions_of es) ≡ length es
 size_of_all [] = refl

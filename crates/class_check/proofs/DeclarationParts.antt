@@ -11,10 +11,9 @@ use Rattle.pool_syntax.specs.FaultNumbers as N
 use Rattle.pool_syntax.specs.Limits as L
 use Rattle.pool_syntax.specs.Typing.{Scope, FaultAt, vars_faults, too_many, fault_if, kind_faults, method_tree_faults, methods_faults, classes_faults, class_scope, statements_faults}
 use Rattle.class_check.specs.declared.fault.ClassFault.{ClassFault}
-use Rattle.class_check.specs.Least.{noted}
-use Rattle.class_check.specs.PairOf.{Notes, found_of}
+use Rattle.class_check.specs.NotedFaults.{noted, Notes, found_of}
 use Rattle.class_check.specs.Before.{names_before}
-use Rattle.class_check.proofs.Noting.{noted_append}
+use Rattle.class_check.proofs.FaultAccumulation.{noted_append}
 use Rattle.class_check.proofs.BeforeLaws.{before_more, any_before, length-before}
 
 -- what is noted of the variables from one on is what is noted of it and then of those behind it

@@ -1,17 +1,17 @@
 -- The faults of an expression are those of its parts, one after another.
 use Rattle.std.proofs.Common.{◌≡◌, refl, sym, ℕ, ◌+◌, min, List, length, Option, arith}
-use Rattle.run_words.specs.declared.words.Op.{Op}
-use Rattle.run_words.specs.declared.words.Op.TheVariants as O
+use Rattle.run_types.specs.declared.types.Op.{Op}
+use Rattle.run_types.specs.declared.types.Op.TheVariants as O
 use Rattle.pool_syntax.specs.declared.tree.Expr.{Expr}
 use Rattle.pool_syntax.specs.Terms.{Expression, Infix, Call, Send, MethodTree}
 use Rattle.pool_syntax.specs.TreeOf.{expressions_of}
 use Rattle.pool_syntax.specs.Typing.{Scope, limit_faults, expression_faults, arguments_faults, method_faults, destination_faults, own_method, sent_method, params_of, needs_operands, sort_of, position}
-use Rattle.run_words.specs.Sorts.{Sort}
+use Rattle.run_types.specs.Sorts.{Sort}
 use Rattle.class_check.specs.declared.fault.ClassFault.{ClassFault}
-use Rattle.class_check.specs.PairOf.{Notes}
-use Rattle.class_check.specs.Stands.{operands_faults}
-use Rattle.class_check.proofs.Noting.{noted_append}
-use Rattle.class_check.proofs.Held.{same_faults, same_arguments}
+use Rattle.class_check.specs.NotedFaults.{Notes}
+use Rattle.class_check.specs.CheckerScopes.{operands_faults}
+use Rattle.class_check.proofs.FaultAccumulation.{noted_append}
+use Rattle.class_check.proofs.OperandLimit.{same_faults, same_arguments}
 use Rattle.class_check.proofs.Arguments.{size_of_all}
 
 operands_needed : (g : Scope) (op : Op) (l r : Expression) → needs_operands g op l r ≡ operands_faults op (sort_of g l) (position l) (sort_of g r) (position r)

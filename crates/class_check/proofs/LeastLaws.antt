@@ -2,7 +2,8 @@
 use Rattle.std.proofs.Common.{◌≡◌, refl, sym, subst, zero, suc, ◌⊎◌, inl, inr, ⊎_elim, Bool, true, false, List, [], ◌∷◌, Some, None, Contains, if◌then◌else◌, arith}
 use Rattle.std.proofs.lemmas.Bool.Decides.{nat_tests}
 use Rattle.pool_syntax.specs.Typing.{FaultAt}
-use Rattle.class_check.specs.Least.{IsBelow, IsLeastFault, is_below, lower, noted}
+use Rattle.class_check.specs.Least.{IsBelow, IsLeastFault}
+use Rattle.class_check.specs.NotedFaults.{is_below, lower, noted}
 
 not_below_itself : (x : FaultAt) → IsBelow x x → ⊥
 not_below_itself x (inl h) = omega arith

@@ -1,6 +1,6 @@
-pub mod Looked
-pub mod Noting
-pub mod Held
+pub mod NameLookup
+pub mod FaultAccumulation
+pub mod OperandLimit
 pub mod Arguments
 pub mod ExpressionParts
 pub mod BeforeLaws
@@ -8,4 +8,5 @@ pub mod StatementParts
 pub mod DeclarationParts
 pub mod LeastLaws
 pub mod IndexLaws
-pub mod Grammatical
+pub mod GrammaticalIsWritten
+pub mod Laws

@@ -10,13 +10,12 @@ use Rattle.pool_syntax.specs.Terms.{Expression, Async, Then, Alt as OneAlt, Meth
 use Rattle.pool_syntax.specs.TreeOf.{expression_of, expressions_of, statement_of, statements_of, alternatives_of}
 use Rattle.pool_syntax.specs.FaultNumbers.{answer_name}
 use Rattle.pool_syntax.specs.Typing.{Scope, needs, expression_faults, arguments_faults, destination_faults, answer_faults, statement_faults, statements_faults, alternatives_faults, names_faults, fault_if, own_method, sent_method, params_of, sort_of, position}
-use Rattle.run_words.specs.Sorts.{Sort, BoolSort}
+use Rattle.run_types.specs.Sorts.{Sort, BoolSort}
 use Rattle.class_check.specs.declared.fault.ClassFault.{ClassFault}
-use Rattle.class_check.specs.Least.{noted}
-use Rattle.class_check.specs.PairOf.{Notes, found_of}
+use Rattle.class_check.specs.NotedFaults.{noted, Notes, found_of}
 use Rattle.class_check.specs.Before.{names_before}
-use Rattle.class_check.proofs.Noting.{noted_append}
-use Rattle.class_check.proofs.Held.{same_faults}
+use Rattle.class_check.proofs.FaultAccumulation.{noted_append}
+use Rattle.class_check.proofs.OperandLimit.{same_faults}
 use Rattle.class_check.proofs.Arguments.{size_of_all}
 use Rattle.class_check.proofs.BeforeLaws.{before_more, any_before}
 

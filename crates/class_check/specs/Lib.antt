@@ -1,5 +1,6 @@
 pub mod Least
+pub mod NotedFaults
 pub mod PairOf
 pub mod Index
-pub mod Stands
+pub mod CheckerScopes
 pub mod Before

@@ -1,10 +1,8 @@
 -- The token and the number of a class fault.
-use Rattle.std.specs.Prelude.{List, Option, option_map, ◌≡◌}
 use Rattle.pool_syntax.specs.FaultNumbers as N
 use Rattle.pool_syntax.specs.Typing.{FaultAt}
 use Rattle.class_check.specs.declared.fault.ClassFault.{ClassFault}
 use Rattle.class_check.specs.declared.fault.ClassFault.TheVariants as F
-use Rattle.class_check.specs.Least.{noted}
 
 -- want of memory is no fault of the program, and has the number behind theirs, 13
 abbrev pub pair_of : ClassFault → FaultAt
@@ -21,11 +19,3 @@ pair_of (F.NoResult t) = (t, N.no_result)
 pair_of (F.AnswerName t) = (t, N.answer_name)
 pair_of (F.Limit t) = (t, N.limit)
 pair_of F.Memory = (0, 13)
-
--- the pair of the fault, if there is one
-abbrev pub found_of : Option ClassFault → Option FaultAt
-found_of first = option_map pair_of first
-
--- the first fault before and after these faults were noted
-abbrev pub Notes : Option ClassFault → Option ClassFault → List FaultAt → Type 0
-Notes before after fs = found_of after ≡ noted (found_of before) fs

@@ -4,7 +4,7 @@ ghost use Rattle.class_check.specs.Index.{IsIndex, AreIndexes};
 
 use crate::index::{Index, places_of};
 use pool_syntax::{ClassDecl, Method};
-use run_words::NameId;
+use run_types::NameId;
 use std::alloc::{AllocError, Global};
 use std::collections::HashMap;
 
@@ -41,7 +41,7 @@ impl<'a> Classes<'a> {
     ghost use Rattle.pool_syntax.specs.Classes.{class_of, named_method};
     ghost use Rattle.pool_syntax.specs.TreeOf.{class_tree};
     ghost use Rattle.pool_syntax.specs.Typing.{methods_of, methods_of_class};
-    ghost use Rattle.class_check.specs.Stands.{method_of};
+    ghost use Rattle.class_check.specs.CheckerScopes.{method_of};
 
     /// The index of the classes.
     pub fn index(&self) -> Index<'a, ClassDecl>
@@ -54,7 +54,7 @@ impl<'a> Classes<'a> {
     }
 
     /// The first class of this name.
-    #[tactic(auto, using(crate::proofs::Looked::class_of_found))]
+    #[tactic(auto, using(crate::proofs::NameLookup::class_of_found))]
     pub fn named(&self, name: NameId) -> Option<&'a ClassDecl>
         ensures { option_map class_tree (option_copied result) ≡ class_of (map class_tree self.now.list.now) name.0 }
     {

@@ -7,8 +7,9 @@ ghost use Rattle.pool_syntax.specs.TreeOf.{class_tree, expression_of, method_tre
 ghost use Rattle.pool_syntax.specs.Typing.{behind_value, class_scope, expression_faults, fault_if, faults, kind_faults, method_tree_faults, methods_faults, outcome_faults, statements_faults};
 ghost use Rattle.pool_syntax.specs.Typing.{too_many, value_needs, vars_faults};
 ghost use Rattle.class_check.specs.Before.{names_before};
-ghost use Rattle.class_check.specs.PairOf.{Notes, pair_of};
-ghost use Rattle.class_check.specs.Stands.{scope_of, twice_number};
+ghost use Rattle.class_check.specs.PairOf.{pair_of};
+ghost use Rattle.class_check.specs.NotedFaults.{Notes};
+ghost use Rattle.class_check.specs.CheckerScopes.{scope_of, twice_number};
 
 use crate::classes::{Classes, method_places};
 use crate::expressions::{placed, variable_at};
@@ -18,7 +19,7 @@ use crate::scope::Scope;
 use crate::sort::{kind_sort, note_misfit};
 use crate::statements::statements;
 use pool_syntax::{ClassDecl, Method, Stmt, Var};
-use run_words::{Kind, NameId};
+use run_types::{Kind, NameId};
 use std::alloc::{AllocError, Global};
 
 /// The most classes of a program.
@@ -70,7 +71,7 @@ fn is_twice(before: &Index<Var>, vars: &Index<Var>, place: usize, name: NameId) 
 }
 
 /// Notes a variable whose name stands twice, and a kind whose class does not exist.
-#[tactic(auto, using(crate::proofs::Noting::noted_append))]
+#[tactic(auto, using(crate::proofs::FaultAccumulation::noted_append))]
 fn variable(
     classes: &Classes,
     owner: Owner,
@@ -125,7 +126,7 @@ fn note_too_many_locals(most: usize, params: &[Var], locals: &[Var], first: &mut
 }
 
 /// Notes the faults of a method's value.
-#[tactic(auto, using(crate::proofs::Noting::noted_append))]
+#[tactic(auto, using(crate::proofs::FaultAccumulation::noted_append))]
 fn value(scope: &Scope, method: &Method, first: &mut Option<ClassFault>)
     ensures { Notes first.old first.new
         (expression_faults (scope_of scope.now) 0 (expression_of method.now.value)
@@ -146,7 +147,7 @@ fn outcome(classes: &Classes, method: &Method, first: &mut Option<ClassFault>)
 }
 
 /// Notes the faults of a method's declarations.
-#[tactic(auto, using(crate::proofs::Noting::noted_append, crate::proofs::DeclarationParts::both_variables))]
+#[tactic(auto, using(crate::proofs::FaultAccumulation::noted_append, crate::proofs::DeclarationParts::both_variables))]
 fn head(none: &Index<Var>, scope: &Scope, method: &Method, first: &mut Option<ClassFault>)
     requires none { none.now.list.now ≡ [] }
     requires params { scope.now.params.now.list.now ≡ method.now.params }
@@ -187,7 +188,7 @@ fn post(
 }
 
 /// Notes the faults inside a method.
-#[tactic(auto, using(crate::proofs::Noting::noted_append))]
+#[tactic(auto, using(crate::proofs::FaultAccumulation::noted_append))]
 fn inside(
     alloc: Global,
     none: &Index<Var>,
@@ -239,7 +240,7 @@ fn method(
 }
 
 /// Notes the faults of a method behind so many others, which may have its name.
-#[tactic(auto, using(crate::proofs::Noting::noted_append))]
+#[tactic(auto, using(crate::proofs::FaultAccumulation::noted_append))]
 fn next_method(
     alloc: Global,
     scope: &Scope,
@@ -276,7 +277,7 @@ fn methods(alloc: Global, scope: &Scope, first: &mut Option<ClassFault>) -> Resu
 }
 
 /// Notes the faults inside a class.
-#[tactic(auto, using(crate::proofs::Noting::noted_append))]
+#[tactic(auto, using(crate::proofs::FaultAccumulation::noted_append))]
 fn class(
     alloc: Global,
     classes: &Classes,
@@ -316,7 +317,7 @@ fn class(
 }
 
 /// Notes the faults of a class behind so many others, which may have its name.
-#[tactic(auto, using(crate::proofs::Noting::noted_append))]
+#[tactic(auto, using(crate::proofs::FaultAccumulation::noted_append))]
 fn next_class(
     alloc: Global,
     classes: &Classes,

@@ -5,15 +5,15 @@ ghost use Rattle.pool_syntax.specs.Limits.{most_operands};
 ghost use Rattle.pool_syntax.specs.TreeOf.{class_tree, expression_of, expressions_of};
 ghost use Rattle.pool_syntax.specs.Typing.{arguments_faults, destination_faults, expression_faults, limit_faults, method_faults, method_sort, name_sort, params_of, position, sent_method, send_sort};
 ghost use Rattle.pool_syntax.specs.Typing.{sort_of, is_broken_name, fault_if, no_result_faults, is_comparable, counted};
-ghost use Rattle.class_check.specs.PairOf.{Notes};
-ghost use Rattle.class_check.specs.Stands.{sort_tree, scope_of, method_of, argument_faults, operands_faults, creation_sort, creation_faults};
+ghost use Rattle.class_check.specs.NotedFaults.{Notes};
+ghost use Rattle.class_check.specs.CheckerScopes.{sort_tree, scope_of, method_of, argument_faults, operands_faults, creation_sort, creation_faults};
 
 use crate::classes::Classes;
 use crate::fault::{ClassFault, note};
 use crate::scope::Scope;
 use crate::sort::{Placed, Sort, kind_sort, note_misfit, note_no_result, op_sort, operand_sort};
 use pool_syntax::{Expr, Method, Named, Var};
-use run_words::{NameId, Op};
+use run_types::{NameId, Op};
 
 /// The token of an expression.
 fn position(expr: &Expr) -> u32

@@ -1,7 +1,7 @@
 //! The class faults, and the first of those that were met.
 ghost use Rattle.std.specs.Prelude.{◌≡◌, [], ◌∷◌};
-ghost use Rattle.class_check.specs.Least.{is_below};
-ghost use Rattle.class_check.specs.PairOf.{pair_of, Notes};
+ghost use Rattle.class_check.specs.NotedFaults.{is_below, Notes};
+ghost use Rattle.class_check.specs.PairOf.{pair_of};
 
 use thiserror::Error;
 

@@ -4,7 +4,7 @@ ghost use Rattle.std.specs.HashMap.{get};
 ghost use Rattle.class_check.specs.Index.{IsIndex, place_with};
 
 use crate::named::HasName;
-use run_words::NameId;
+use run_types::NameId;
 use std::alloc::{AllocError, Global};
 use std::collections::HashMap;
 

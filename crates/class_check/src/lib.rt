@@ -1,4 +1,6 @@
-//! The class faults of a program: whether it is typed, and if not, its first fault.
+//! Checks the classes of a program: returns the program as `Checked`, or its first class fault.
+//!
+//! Does not know: how a program runs.
 #![tactic(auto)]
 
 mod classes;

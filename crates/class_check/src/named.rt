@@ -2,7 +2,7 @@
 ghost use Rattle.std.specs.Prelude.{◌≡◌, ℕ};
 
 use pool_syntax::{ClassDecl, Method, Named, Var};
-use run_words::NameId;
+use run_types::NameId;
 
 /// What has a name.
 pub trait HasName {

@@ -2,7 +2,7 @@
 ghost use Rattle.std.specs.Prelude.{◌≡◌, ◌≢◌, [], true, IfOk, IsOk, IsErr};
 ghost use Rattle.pool_syntax.specs.TreeOf.{program_of};
 ghost use Rattle.pool_syntax.specs.Typing.{faults};
-ghost use Rattle.pool_grammar.specs.Programs.{IsGrammatical};
+ghost use Rattle.pool_grammar.specs.Grammatical.{IsGrammatical};
 ghost use Rattle.pool_syntax.specs.Spelled.{is_spelled};
 ghost use Rattle.class_check.specs.Least.{IsLeastFault};
 ghost use Rattle.class_check.specs.PairOf.{pair_of};
@@ -11,7 +11,7 @@ ghost use Rattle.class_check.specs.declared.fault.ClassFault.{ClassFault as AFau
 use crate::declarations::classes;
 use crate::fault::ClassFault;
 use pool_syntax::Program;
-use run_words::Names;
+use run_types::Names;
 use std::alloc::Global;
 
 /// A program without class faults, and the table of its names.

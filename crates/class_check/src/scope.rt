@@ -5,7 +5,7 @@ ghost use Rattle.class_check.specs.Index.{IsIndex};
 use crate::classes::Classes;
 use crate::index::Index;
 use pool_syntax::{ClassDecl, Method, Var};
-use run_words::{Kind, NameId};
+use run_types::{Kind, NameId};
 use std::collections::HashMap;
 
 /// Where an expression or a statement stands: outside a method without parameters and locals.
@@ -26,7 +26,7 @@ pub struct Scope<'a> {
 impl<'a> Scope<'a> {
     ghost use Rattle.std.specs.Prelude.{◌≡◌, ◌≤◌, is_some, not};
     ghost use Rattle.pool_syntax.specs.Typing.{name_sort, is_broken_name, own_method};
-    ghost use Rattle.class_check.specs.Stands.{scope_of, method_of, declared_sort};
+    ghost use Rattle.class_check.specs.CheckerScopes.{scope_of, method_of, declared_sort};
 
     /// How many operands are held before an outermost expression.
     pub fn held(&self) -> u8
@@ -47,14 +47,14 @@ impl<'a> Scope<'a> {
     }
 
     /// The method of this name in the own class.
-    #[tactic(auto, using(crate::proofs::Looked::named_method_found))]
+    #[tactic(auto, using(crate::proofs::NameLookup::named_method_found))]
     pub fn own_method(&self, name: NameId) -> Option<&'a Method>
         ensures { method_of result ≡ own_method (scope_of self.now) name.0 }
     {
         self.own_methods().first(name)
     }
 
-    #[tactic(auto, using(crate::proofs::Looked::var_of_both, crate::proofs::Looked::var_of_found))]
+    #[tactic(auto, using(crate::proofs::NameLookup::var_of_both, crate::proofs::NameLookup::var_of_found))]
     /// The kind of a name: of a parameter or local, or else of a variable of the class.
     pub fn kind_of(&self, name: NameId) -> Option<Kind>
         ensures known { is_some result ≡ not (is_broken_name (scope_of self.now) name.0) }

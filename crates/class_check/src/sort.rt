@@ -3,13 +3,13 @@ ghost use Rattle.std.specs.Prelude.{◌≡◌, ◌||◌, not, map};
 ghost use Rattle.pool_syntax.specs.Terms.{ClassTree};
 ghost use Rattle.pool_syntax.specs.TreeOf.{class_tree};
 ghost use Rattle.pool_syntax.specs.Typing.{kind_sort, is_open, is_comparable, counted, misfit, no_result_faults};
-ghost use Rattle.run_words.specs.Sorts.{op_sort, operand_sort, is_same_sort};
-ghost use Rattle.class_check.specs.PairOf.{Notes};
-ghost use Rattle.class_check.specs.Stands.{sort_tree};
+ghost use Rattle.run_types.specs.Sorts.{op_sort, operand_sort, is_same_sort};
+ghost use Rattle.class_check.specs.NotedFaults.{Notes};
+ghost use Rattle.class_check.specs.CheckerScopes.{sort_tree};
 
 use crate::classes::Classes;
 use crate::fault::{ClassFault, note};
-use run_words::{Kind, NameId, Op};
+use run_types::{Kind, NameId, Op};
 
 /// The sort of an expression.
 #[derive(Clone, Copy)]

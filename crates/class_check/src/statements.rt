@@ -2,10 +2,10 @@
 ghost use Rattle.std.specs.Prelude.{◌≡◌, ◌≤◌, ◌++◌, ◌||◌, [], not, is_some, OnOk};
 ghost use Rattle.pool_syntax.specs.FaultNumbers.{answer_name as answer_name_number};
 ghost use Rattle.pool_syntax.specs.TreeOf.{alternatives_of, expression_of, statement_of, statements_of};
-ghost use Rattle.run_words.specs.Sorts.{BoolSort};
+ghost use Rattle.run_types.specs.Sorts.{BoolSort};
 ghost use Rattle.pool_syntax.specs.Typing.{alternatives_faults, answer_faults, expression_faults, fault_if, own_method, names_faults, needs, needs_any, statement_faults, statements_faults};
-ghost use Rattle.class_check.specs.PairOf.{Notes};
-ghost use Rattle.class_check.specs.Stands.{scope_of};
+ghost use Rattle.class_check.specs.NotedFaults.{Notes};
+ghost use Rattle.class_check.specs.CheckerScopes.{scope_of};
 
 use crate::expressions::{arguments, note_destination, note_name, one_more, params_of, placed};
 use crate::fault::{ClassFault, note};
@@ -13,7 +13,7 @@ use crate::index::{Index, places_of};
 use crate::scope::Scope;
 use crate::sort::{Sort, note_misfit, note_no_result};
 use pool_syntax::{Alt, Expr, Named, Stmt};
-use run_words::List;
+use run_types::List;
 use std::alloc::{AllocError, Global};
 
 /// Notes a name of an answer list that is no method of the own class, or stands there again.
@@ -66,7 +66,7 @@ fn answer(
     }
 }
 
-#[tactic(auto, using(crate::proofs::Noting::noted_append))]
+#[tactic(auto, using(crate::proofs::FaultAccumulation::noted_append))]
 /// Notes the faults of a condition before which so many operands are held.
 fn condition(scope: &Scope, held: u8, expr: &Expr, first: &mut Option<ClassFault>)
     requires { held ≤ 64 }
@@ -76,7 +76,7 @@ fn condition(scope: &Scope, held: u8, expr: &Expr, first: &mut Option<ClassFault
     note_misfit(at, Sort::Bool, first);
 }
 
-#[tactic(auto, using(crate::proofs::Noting::noted_append))]
+#[tactic(auto, using(crate::proofs::FaultAccumulation::noted_append))]
 /// Notes the faults of a statement.
 #[cycle(statements)]
 fn statement(

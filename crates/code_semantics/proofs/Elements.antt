@@ -1,17 +1,17 @@
 -- Lists of values of which each has a property.
 use Rattle.std.proofs.Common.{◌≡◌, refl, ap, ℕ, zero, suc, ◌+◌, ◌≤◌, ℤ, pos, negsuc, List, [], ◌∷◌, length, Bool, true, false, arith}
 use Rattle.std.specs.Prelude.{slice_set, take, ◌+ℤ◌, ◌-ℤ◌, ◌*ℤ◌, neg_ℤ, int_lt, int_le, int_div, int_rem, not, ◌&&◌, ◌||◌, if◌then◌else◌}
-use Rattle.run_words.specs.declared.words.Value.{Value}
-use Rattle.run_words.specs.declared.words.Value.TheVariants as V
-use Rattle.run_words.specs.declared.words.Op.{Op}
-use Rattle.run_words.specs.declared.words.Op.TheVariants as O
-use Rattle.run_words.specs.declared.words.Error.TheVariants.{Overflow}
-use Rattle.run_words.specs.Values.{Gives, Fails, Outcome, number, quotient, remainder, is_in_range, is_same, on_ints, on_bools, negated, denied, prefix_value, infix_value, is_prefix}
-use Rattle.run_words.specs.Operands.{top, below, dropped, taken, nth, padded}
+use Rattle.run_types.specs.declared.types.Value.{Value}
+use Rattle.run_types.specs.declared.types.Value.TheVariants as V
+use Rattle.run_types.specs.declared.types.Op.{Op}
+use Rattle.run_types.specs.declared.types.Op.TheVariants as O
+use Rattle.run_types.specs.declared.types.Error.TheVariants.{Overflow}
+use Rattle.run_types.specs.Values.{Gives, Fails, Outcome, number, quotient, remainder, is_in_range, is_same, on_ints, on_bools, negated, denied, prefix_value, infix_value, is_prefix}
+use Rattle.run_types.specs.Operands.{top, below, dropped, taken, nth, padded}
 use Rattle.code_semantics.specs.Kinds.{operated}
 use Rattle.code_semantics.specs.Step.{outcome_value}
-use Rattle.run_words.specs.Tables.{Each}
-use Rattle.code_semantics.specs.OfUnit.{HoldsOfPlain, IsInRange}
+use Rattle.run_types.specs.Tables.{Each}
+use Rattle.code_semantics.specs.MadeNumbers.{HoldsOfPlain, IsInRange}
 
 -- lengths
 length_below : (vs : List Value) (n : ℕ) → suc n ≤ length vs → n ≤ length (below vs)

@@ -1,13 +1,13 @@
 -- What an object of code is, and how it is brought to a step instruction.
 use Rattle.std.specs.Prelude.{ℕ, zero, suc, List, [], ◌∷◌, length, Option, Some, None, slice_get}
-use Rattle.run_words.specs.declared.words.Value.{Value}
-use Rattle.run_words.specs.declared.words.Value.TheVariants as V
-use Rattle.run_words.specs.declared.words.Serves.{Serves}
-use Rattle.run_words.specs.declared.words.Serves.TheVariants as S
+use Rattle.run_types.specs.declared.types.Value.{Value}
+use Rattle.run_types.specs.declared.types.Value.TheVariants as V
+use Rattle.run_types.specs.declared.types.Serves.{Serves}
+use Rattle.run_types.specs.declared.types.Serves.TheVariants as S
 use Rattle.code_semantics.specs.declared.unit.Instr.{Instr}
 use Rattle.code_semantics.specs.declared.unit.Instr.TheVariants as I
-pub use Rattle.run_words.specs.declared.frames.Frame.{Frame}
-pub use Rattle.run_words.specs.declared.frames.CodeObject.{CodeObject}
+pub use Rattle.run_types.specs.declared.frames.Frame.{Frame}
+pub use Rattle.run_types.specs.declared.frames.CodeObject.{CodeObject}
 use Rattle.code_semantics.specs.declared.unit.MethodCode.{MethodCode}
 use Rattle.code_semantics.specs.declared.unit.ClassCode.{ClassCode}
 

@@ -1,23 +1,23 @@
 -- What an object of code does next.
 use Rattle.std.specs.Prelude.{ℕ, List, [], ◌∷◌, length, Option, Some, None, Bool, if◌then◌else◌, slice_get}
 use Rattle.std.specs.List.{list_any}
-use Rattle.run_words.specs.declared.words.NameId.{NameId}
-use Rattle.run_words.specs.declared.words.Value.{Value}
-use Rattle.run_words.specs.declared.words.Value.TheVariants as V
-use Rattle.run_words.specs.declared.words.Op.{Op}
-use Rattle.run_words.specs.declared.words.Item.{Item}
-use Rattle.run_words.specs.declared.words.Error.{Error}
-use Rattle.run_words.specs.declared.words.Error.TheVariants.{NilDestination, NilOperand, NoOpenGuard}
-use Rattle.run_words.specs.Values.{Outcome, Gives, Fails, WrongSort, prefix_value, infix_value, is_bool, is_true, not_bool, is_prefix}
+use Rattle.run_types.specs.declared.types.NameId.{NameId}
+use Rattle.run_types.specs.declared.types.Value.{Value}
+use Rattle.run_types.specs.declared.types.Value.TheVariants as V
+use Rattle.run_types.specs.declared.types.Op.{Op}
+use Rattle.run_types.specs.declared.types.Item.{Item}
+use Rattle.run_types.specs.declared.types.Error.{Error}
+use Rattle.run_types.specs.declared.types.Error.TheVariants.{NilDestination, NilOperand, NoOpenGuard}
+use Rattle.run_types.specs.Values.{Outcome, Gives, Fails, WrongSort, prefix_value, infix_value, is_bool, is_true, not_bool, is_prefix}
 use Rattle.code_semantics.specs.declared.unit.Instr.{Instr}
 use Rattle.code_semantics.specs.declared.unit.Instr.TheVariants as I
 use Rattle.code_semantics.specs.declared.unit.AltCode.{AltCode}
-use Rattle.run_words.specs.declared.words.Serves.{Serves}
-use Rattle.run_words.specs.declared.words.Serves.TheVariants as S
+use Rattle.run_types.specs.declared.types.Serves.{Serves}
+use Rattle.run_types.specs.declared.types.Serves.TheVariants as S
 use Rattle.code_semantics.specs.declared.unit.ClassCode.{ClassCode}
 use Rattle.code_semantics.specs.declared.unit.Unit.{Unit as Code}
 use Rattle.code_semantics.specs.Frames.{Frame, CodeObject, code_of}
-use Rattle.run_words.specs.Operands.{top, below, taken, dropped}
+use Rattle.run_types.specs.Operands.{top, below, taken, dropped}
 
 -- an alternative with its guard's value
 pub record Offered : Type 0 where

@@ -2,6 +2,12 @@ pub mod Frames
 pub mod Kinds
 pub mod Step
 pub mod Proper
+pub mod ReachedPlaces
 pub mod Suits
+pub mod NodeWords
 pub mod Shaped
+pub mod Pairs
 pub mod OfUnit
+pub mod Forget
+pub mod MadeNumbers
+pub mod StepInstructions

@@ -2,10 +2,10 @@
 use Rattle.std.specs.Prelude.{◌≡◌, ℕ, ◌<◌, ◌^◌, List, [], ◌∷◌, length, Option, Some, None, FitsSigned}
 use Rattle.std.specs.Int.{w64}
 use Rattle.std.specs.List.{AllByRecursion as Each}
-use Rattle.run_words.specs.Text.{Text}
-use Rattle.run_words.specs.declared.words.NameId.{NameId}
-use Rattle.run_words.specs.declared.words.Kind.{Kind}
-use Rattle.run_words.specs.declared.words.Kind.TheVariants as K
+use Rattle.text_scan.specs.Text.{Text}
+use Rattle.run_types.specs.declared.types.NameId.{NameId}
+use Rattle.run_types.specs.declared.types.Kind.{Kind}
+use Rattle.run_types.specs.declared.types.Kind.TheVariants as K
 use Rattle.code_semantics.specs.declared.unit.Instr.{Instr}
 use Rattle.code_semantics.specs.declared.unit.Instr.TheVariants as I
 use Rattle.code_semantics.specs.declared.unit.AltCode.{AltCode}
@@ -14,6 +14,7 @@ use Rattle.code_semantics.specs.declared.unit.ClassCode.{ClassCode}
 use Rattle.code_semantics.specs.declared.file.UnitFile.{UnitFile}
 use Rattle.code_semantics.specs.declared.file.ClassKinds.{ClassKinds}
 use Rattle.code_semantics.specs.declared.file.MethodKinds.{MethodKinds}
+use Rattle.code_semantics.specs.Pairs.{pairs}
 
 -- kinds for each method, as many as it has temps
 abbrev pub AreShapedMethods : List MethodCode → List MethodKinds → Type 0
@@ -82,11 +83,6 @@ abbrev pub MethodIsWritable : MethodCode × MethodKinds → Type 0
 MethodIsWritable m =
     NameIsNumbered m.0.name × IsNumber m.0.params × (m.0.temps ≡ length m.1.temps) × IsListOf KindIsNumbered m.1.temps × IsOptionOf KindIsNumbered m.1.result
     × CodeIsNumbered m.0.frame_words m.0.code
-
--- the items of two lists, side by side
-abbrev pub pairs : {A B : Type 0} → List A → List B → List (A × B)
-pairs (x ∷ xs) (y ∷ ys) = (x, y) ∷ pairs xs ys
-pairs _ _ = []
 
 -- a class and its kinds, which are as many as its variables, and for each method some
 abbrev pub ClassIsWritable : ClassCode × ClassKinds → Type 0

@@ -1,19 +1,19 @@
 -- What an object of code becomes.
 use Rattle.std.specs.Prelude.{ℕ, suc, ◌-◌, ◌==◌, List, [], ◌∷◌, length, Option, Some, None, Bool, true, false, if◌then◌else◌, slice_get, slice_set, take}
-use Rattle.run_words.specs.declared.words.NameId.{NameId}
-use Rattle.run_words.specs.declared.words.Value.{Value}
-use Rattle.run_words.specs.declared.words.Value.TheVariants as V
-use Rattle.run_words.specs.Values.{Outcome, Gives, is_true}
+use Rattle.run_types.specs.declared.types.NameId.{NameId}
+use Rattle.run_types.specs.declared.types.Value.{Value}
+use Rattle.run_types.specs.declared.types.Value.TheVariants as V
+use Rattle.run_types.specs.Values.{Outcome, Gives, is_true}
 use Rattle.code_semantics.specs.declared.unit.Instr.{Instr}
 use Rattle.code_semantics.specs.declared.unit.Instr.TheVariants as I
 use Rattle.code_semantics.specs.declared.unit.AltCode.{AltCode}
-use Rattle.run_words.specs.declared.words.Serves.{Serves}
-use Rattle.run_words.specs.declared.words.Serves.TheVariants as S
+use Rattle.run_types.specs.declared.types.Serves.{Serves}
+use Rattle.run_types.specs.declared.types.Serves.TheVariants as S
 use Rattle.code_semantics.specs.declared.unit.MethodCode.{MethodCode}
 use Rattle.code_semantics.specs.declared.unit.ClassCode.{ClassCode}
 use Rattle.code_semantics.specs.declared.unit.Unit.{Unit as Code}
 use Rattle.code_semantics.specs.Frames.{Frame, CodeObject, code_of, next, settled}
-use Rattle.run_words.specs.Operands.{top, below, taken, dropped, nth, padded}
+use Rattle.run_types.specs.Operands.{top, below, taken, dropped, nth, padded}
 use Rattle.code_semantics.specs.Kinds.{operated, arity}
 
 -- the object with this innermost frame, brought to a step instruction, over these

@@ -1,6 +1,6 @@
 //! A unit with its declared kinds, as an object code file holds it.
 use crate::unit::Unit;
-use run_words::{Kind, List};
+use run_types::{Kind, List};
 
 /// What an object code file holds: a unit, and the declared kinds of its variables, parameters, locals and results.
 #[derive(Drop)]

@@ -1,4 +1,6 @@
-//! The code of a program: its types, what an instruction does, which units are proper, and that each step keeps objects of a unit so.
+//! Object code: its types, the effect of each instruction, proper units, and the laws that steps preserve.
+//!
+//! Does not know: trees of programs and the compiler.
 #![tactic(auto)]
 
 mod file;

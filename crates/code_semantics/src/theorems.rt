@@ -1,19 +1,22 @@
 //! Laws of objects of a proper unit: each is the contract of a function that does nothing. What is said of each value is a property: a contract ranges over it as over
 //! what a function `all` gives, from the type parameter `K`.
 ghost use Rattle.std.specs.Prelude.{◌≡◌, ◌≤◌, ◌↔◌, ℕ, List, length, Option, Some, false, option_map, slice_get};
-ghost use Rattle.run_words.specs.declared.words.NameId.{NameId};
-ghost use Rattle.run_words.specs.declared.words.Value.{Value};
-ghost use Rattle.run_words.specs.declared.words.Value.TheVariants as V;
-ghost use Rattle.run_words.specs.declared.words.Serves.{Serves};
+ghost use Rattle.run_types.specs.declared.types.NameId.{NameId};
+ghost use Rattle.run_types.specs.declared.types.Value.{Value};
+ghost use Rattle.run_types.specs.declared.types.Value.TheVariants as V;
+ghost use Rattle.run_types.specs.declared.types.Serves.{Serves};
 ghost use Rattle.code_semantics.specs.declared.unit.Unit.{Unit as Code};
-ghost use Rattle.run_words.specs.declared.frames.CodeObject.{CodeObject};
+ghost use Rattle.run_types.specs.declared.frames.CodeObject.{CodeObject};
 ghost use Rattle.code_semantics.specs.Kinds as C;
 ghost use Rattle.code_semantics.specs.Kinds.{Offered, code_kind};
 ghost use Rattle.code_semantics.specs.Proper.{IsProper};
 ghost use Rattle.code_semantics.specs.Step.{is_own, code_stepped, code_given, code_gone_on, code_picked, code_serving, code_placed, code_made};
-ghost use Rattle.run_words.specs.Tables.{Each};
-ghost use Rattle.run_words.specs.Given.{IsGiven};
-ghost use Rattle.code_semantics.specs.OfUnit.{IsObjectOf, IsAtStep, HoldsOfPlain, IsMadeIn, IsAsking, IsChoosing, IsGoingOn, IsNamed, forget_serves, forget, forget_kind};
+ghost use Rattle.run_types.specs.Tables.{Each};
+ghost use Rattle.run_types.specs.GivenProperties.{IsGiven};
+ghost use Rattle.code_semantics.specs.OfUnit.{IsObjectOf};
+ghost use Rattle.code_semantics.specs.Forget.{forget_serves, forget, forget_kind};
+ghost use Rattle.code_semantics.specs.MadeNumbers.{HoldsOfPlain, IsMadeIn};
+ghost use Rattle.code_semantics.specs.StepInstructions.{IsAtStep, IsAsking, IsChoosing, IsGoingOn, IsNamed};
 
 /// Each step keeps an object of a proper unit one, whose values have the property if those do that come to it.
 pub fn steps_keep_objects_of_the_unit<K>()

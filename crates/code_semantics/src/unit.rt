@@ -1,6 +1,6 @@
 //! The code of a program: a unit, its classes, and their methods and instructions.
 
-use run_words::{List, NameId, Names, Op};
+use run_types::{List, NameId, Names, Op};
 
 /// The code of a program: the table of its names and strings, and its classes in the order of the text.
 /// The last class is the root class.

@@ -6,18 +6,18 @@ use Rattle.std.specs.List.{AllByRecursion as Each, IsDistinct, list_any}
 use Rattle.std.proofs.lemmas.Cmp.{nat_eq_equiv}
 use Rattle.std.proofs.lemmas.Map.Made.{length-le_from_is_member}
 use Rattle.std.proofs.lemmas.List.{length-map}
-use Rattle.run_words.proofs.Laws.{neither}
-use Rattle.run_words.specs.Text.{Text}
-use Rattle.run_words.specs.declared.words.Value.{Value}
-use Rattle.run_words.specs.declared.words.Value.TheVariants as V
+use Rattle.run_types.proofs.Laws.{neither}
+use Rattle.text_scan.specs.Text.{Text}
+use Rattle.run_types.specs.declared.types.Value.{Value}
+use Rattle.run_types.specs.declared.types.Value.TheVariants as V
 use Rattle.pool_syntax.specs.declared.tree.Named.{Named}
 use Rattle.pool_syntax.specs.declared.tree.Var.{Var}
 use Rattle.pool_syntax.specs.Terms as T
 use Rattle.pool_syntax.specs.Terms.{Expression, Expressions, Statement, Statements, Alternatives, MethodTree, ClassTree, ProgramTree}
 use Rattle.pool_syntax.specs.Classes.{named_method}
-use Rattle.pool_grammar.specs.Programs.{IsGrammatical}
+use Rattle.pool_grammar.specs.Grammatical.{IsGrammatical}
 use Rattle.pool_syntax.specs.Typing.{Scope, own_method, names_faults, answer_faults, statement_faults, statements_faults, alternatives_faults, expression_faults, needs, value_needs, vars_faults, too_many, outcome_faults, behind_value, method_scope, method_tree_faults, class_scope, methods_faults, classes_faults, faults, contains, size}
-use Rattle.run_words.specs.Sorts.{BoolSort}
+use Rattle.run_types.specs.Sorts.{BoolSort}
 use Rattle.code_semantics.specs.declared.unit.Instr.{Instr}
 use Rattle.code_semantics.specs.declared.unit.Instr.TheVariants as I
 use Rattle.code_semantics.specs.declared.unit.ClassCode.{ClassCode}
@@ -25,11 +25,8 @@ use Rattle.code_semantics.specs.Proper.{IsProper}
 use Rattle.code_semantics.specs.Shaped.{IsListOf, IsOptionOf, IsShortList, AlternativeIsShort, InstrIsShort, MethodIsShort, ClassIsShort, MethodKindsAreShort, ClassKindsAreShort, IsShort}
 use Rattle.pool_compile.specs.Code.{Numbering, name, push, load, store, number_of, expression_code, expressions_code, guards_code, statement_code, statements_code, alternatives_code, alternatives_at, answer_names, more, expression_words, guards_words, statement_words, statements_words, works_words, names_of, post_code, method_code_of, class_code, code}
 use Rattle.pool_compile.specs.Small.{AreShortMethods, AreShort, AreSmallMethods, IsSmall}
-use Rattle.pool_compile.proofs.Counted.{nil_left, nil_right, no_fault}
-use Rattle.pool_compile.proofs.Greater.{more_left, more_right}
-use Rattle.pool_compile.proofs.Laws.{program_small, written}
-use Rattle.pool_compile.proofs.Limits.{class_parts, method_parts}
-use Rattle.code_laws.specs.DeclaredKinds.{method_kinds, class_kinds, file_of}
+use Rattle.pool_compile.proofs.Laws.{nil_left, nil_right, no_fault, more_left, more_right, program_small, written, class_parts, method_parts}
+use Rattle.compiler_correctness.specs.DeclaredKinds.{method_kinds, class_kinds, file_of}
 
 -- tests and lists
 

@@ -1,7 +1,11 @@
-//! The verifier of object code files, and the file of a program.
+//! The public face of the verifier, and the object code file of a program with its declared kinds.
+//!
+//! Re-exports `verify`.
+//!
+//! Does not know: nodes and the bytes of files.
 #![tactic(auto)]
 
 mod unit_file;
 
-pub use code_judge::{Verified, VerifyFault, verify};
+pub use code_verifier::{Verified, VerifyFault, verify};
 pub use unit_file::file_of;

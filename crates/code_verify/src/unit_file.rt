@@ -2,14 +2,14 @@
 ghost use Rattle.std.specs.Prelude.{◌≡◌, ◌++◌, map, IfOk, OnOk};
 ghost use Rattle.pool_syntax.specs.TreeOf.{class_tree, method_tree, program_of};
 ghost use Rattle.code_semantics.specs.Shaped.{IsListOf, IsShaped, IsShort, IsShortList};
-ghost use Rattle.code_laws.specs.DeclaredKinds.{class_kinds, file_of, kinds_of, method_kinds};
-ghost use Rattle.code_verdict.specs.Verdict.{Good, verdict};
+ghost use Rattle.compiler_correctness.specs.DeclaredKinds.{class_kinds, file_of, kinds_of, method_kinds};
+ghost use Rattle.code_typing.specs.Verdict.{Good, verdict};
 
 use class_check::Checked;
 use code_semantics::{ClassKinds, Kinds, MethodKinds, UnitFile};
 use pool_compile::compile;
 use pool_syntax::{ClassDecl, Method, Var};
-use run_words::{Kind, List};
+use run_types::{Kind, List};
 use std::alloc::{AllocError, Global};
 
 /// Adds the kinds of variables.

@@ -2,7 +2,7 @@
 use Rattle.std.specs.Prelude.{ℕ, ◌+◌, ◌==◌, Bool, List, [], ◌∷◌, length, get_or, set, refl}
 use Rattle.std.specs.Coded.{Coded, code_by, coded×, coded_list, coded_ℕ}
 use Rattle.std.specs.List.{list_any}
-use Rattle.run_words.specs.declared.words.NameId.{NameId}
+use Rattle.run_types.specs.declared.types.NameId.{NameId}
 
 -- one list for each slot, in order of arrival, and the greatest number of messages of all slots together
 pub record Mail (X : Type 0) : Type 0 where

@@ -1,11 +1,13 @@
-//! The messages that stand at the objects of one node, each object's in order of arrival.
+//! The messages of one node: a queue for each slot, in order of arrival.
+//!
+//! Does not know: packets, and when an object answers a message.
 #![tactic(auto)]
 
 ghost use Rattle.std.specs.Prelude.{◌≡◌, ◌<◌, ◌≤◌, [], ◌∷◌, ◌++◌, ◌↔◌, length, position, remove, replicate, slice_get, Some, IsErr, OnOk, IfErr, IfOk};
 ghost use Rattle.mailbox.specs.Mail.{mail, lengths, box_of, with_box, is_named};
 
 use cell_pool::CellPool;
-use run_words::{Args, List, NameId};
+use run_types::{Args, List, NameId};
 use std::alloc::{AllocError, Global};
 use std::marker::Model;
 

@@ -1,7 +1,7 @@
-mod Steps
-mod Rising
-mod Found
-mod Sorted
-mod Leaving
-mod Changed
-mod Routed
+mod NeighbourSteps
+mod AscendingNodes
+mod LinkLookup
+mod SortedLinks
+mod OutgoingPackets
+mod LinkUpdate
+mod LinkCalls

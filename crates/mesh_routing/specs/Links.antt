@@ -1,8 +1,8 @@
 -- What a contract sees of the packets on the links of a mesh.
 use Rattle.std.specs.Prelude.{◌<◌, ℕ, ◌*◌, List, refl}
 use Rattle.std.specs.Coded.{Coded, code_by, coded×, coded_list, coded_ℕ}
-use Rattle.run_words.specs.Tables.{Pair}
-use Rattle.run_words.specs.Paths.{AreNeighbours}
+use Rattle.run_types.specs.Tables.{Pair}
+use Rattle.run_types.specs.Paths.{AreNeighbours}
 
 -- the width and height of the mesh, the cells of each node, and the packets by the ends of their link, the head first; a link without packets has no entry
 pub record LinksOf (X : Type 0) : Type 0 where

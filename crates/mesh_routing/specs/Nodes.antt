@@ -1,7 +1,7 @@
 -- The links as they are kept: for each node its cells, with a queue for each way out.
 use Rattle.std.specs.Prelude.{◌≡◌, ℕ, suc, ◌*◌, ◌<◌, List, [], ◌∷◌, ◌++◌, length, get_or}
 use Rattle.cell_pool.specs.Lists.{Pool, pool}
-use Rattle.run_words.specs.Tables.{Pair}
+use Rattle.run_types.specs.Tables.{Pair}
 use Rattle.mesh_routing.specs.Ways.{ends}
 use Rattle.mesh_routing.specs.Links.{LinksOf, links_of}
 

@@ -1,6 +1,6 @@
 //! Nodes beside each other.
 ghost use Rattle.std.specs.Prelude.{◌≡◌, ◌<◌, ◌≤◌};
-ghost use Rattle.run_words.specs.Paths.{are_adjacent, are_neighbours};
+ghost use Rattle.run_types.specs.Paths.{are_adjacent, are_neighbours};
 
 /// Whether one of the two numbers follows the other.
 fn are_adjacent(one: u64, other: u64) -> bool

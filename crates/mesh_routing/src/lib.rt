@@ -1,4 +1,6 @@
-//! The mesh of nodes, and the packets on the links between them.
+//! The mesh of nodes, and a queue for each link between neighbours.
+//!
+//! Does not know: the content of packets.
 #![tactic(auto)]
 
 mod beside;

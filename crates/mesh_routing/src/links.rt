@@ -1,7 +1,8 @@
 //! The packets on the links of a mesh.
 ghost use Rattle.std.specs.Prelude.{◌≡◌, ◌<◌, ◌≤◌, ◌*◌, ◌↔◌, [], drop, length, slice_get, IsErr, IsTrue, OnOk, IfErr, IfOk};
 ghost use Rattle.std.specs.Option.{option_copied};
-ghost use Rattle.run_words.specs.Tables.{pair_cmp, list_at, push_list, put_list, leaving};
+ghost use Rattle.run_types.specs.Tables.{pair_cmp, list_at, put_list};
+ghost use Rattle.run_types.specs.LinkTables.{push_list, leaving};
 ghost use Rattle.mesh_routing.specs.Links.{links_of, with_links, IsLinkOf};
 
 use crate::mesh::Mesh;

@@ -1,6 +1,6 @@
 //! The nodes and links of a mesh.
 ghost use Rattle.std.specs.Prelude.{◌≡◌, ◌<◌, ◌≤◌, ◌*◌, ◌↔◌, Some, IsNone, IsTrue, IfSome, length, slice_get};
-ghost use Rattle.run_words.specs.Paths.{toward, AreNeighbours};
+ghost use Rattle.run_types.specs.Paths.{toward, AreNeighbours};
 ghost use Rattle.mesh_routing.specs.Ways.{back, ends};
 
 use crate::beside::are_neighbours;

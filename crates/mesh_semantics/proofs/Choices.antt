@@ -1,11 +1,11 @@
 -- A select takes its first possible alternative, and a turn of local transitions makes one after the other.
 use Rattle.std.proofs.Common.{◌≡◌, ◌≢◌, refl, sym, ap, subst, ◌∙◌, ℕ, zero, suc, ◌+◌, List, [], ◌∷◌, replicate, Option, Some, None, is_some, Bool, true, false, ◌&&◌, slice_get, nat_le, arith}
 use Rattle.std.specs.List.{list_any}
-use Rattle.run_words.specs.declared.words.Label.{Label}
-use Rattle.run_words.specs.declared.words.Label.TheVariants as L
-use Rattle.run_words.specs.declared.words.Placement.{Placement}
-use Rattle.run_words.specs.Partial.{◌>>=◌, ◌>>◌, require}
-use Rattle.run_words.proofs.Laws.{first, second, same_some, given_by, required, find_put_same}
+use Rattle.run_types.specs.declared.types.Label.{Label}
+use Rattle.run_types.specs.declared.types.Label.TheVariants as L
+use Rattle.run_types.specs.declared.types.Placement.{Placement}
+use Rattle.run_types.specs.Partial.{◌>>=◌, ◌>>◌, require}
+use Rattle.run_types.proofs.Laws.{first, second, same_some, given_by, required, find_put_same}
 use Rattle.mesh_semantics.specs.Kind as K
 use Rattle.mesh_semantics.specs.Kind.{Kind, Alternative, is_local, has_name, answered, answers, is_plain, alternatives}
 use Rattle.mesh_semantics.specs.Language.{Language}
@@ -14,11 +14,11 @@ use Rattle.mesh_semantics.specs.Moves.{move, moves, running, offered, numbered}
 use Rattle.mesh_semantics.specs.Delay.{Arrival, Delay, arrived_at}
 use Rattle.mesh_semantics.specs.Act.{first_arrival, is_possible, accept_turn, chosen_turn, choice_turn, local_steps, within_frames, frame_count, greatest, step_count, local_turn}
 use Rattle.mesh_semantics.specs.Sound.{Consistent, IsWithin, IsSound}
-use Rattle.mesh_semantics.specs.Fit.{Fit}
+use Rattle.mesh_semantics.proofs.Fit.{Fit}
 use Rattle.mesh_semantics.specs.Lawful.{Lawful}
-use Rattle.mesh_semantics.proofs.Final.{has_arrived, answer_possible}
-use Rattle.mesh_semantics.proofs.Basics.{running_gives}
-use Rattle.mesh_semantics.proofs.Turns.{Nearly, Acting, own_change, own_elsewhere, pick_turn}
+use Rattle.mesh_semantics.proofs.QuietIsFinal.{has_arrived, answer_possible}
+use Rattle.mesh_semantics.proofs.ObjectChange.{running_gives}
+use Rattle.mesh_semantics.proofs.TurnInvariant.{Nearly, Acting, own_change, own_elsewhere, pick_turn}
 use Rattle.mesh_semantics.proofs.Takes.{arrived_named, answer_kept, take_kept}
 
 -- the first possible alternative of a list whose first has the number i

@@ -7,13 +7,14 @@ use Rattle.std.specs.declared.cmp.Ordering.TheVariants.{Less, Equal, Greater}
 use Rattle.std.specs.FinMap.{find, nat_cmp-IsAntisymmetric}
 use Rattle.std.specs.List.{cons_option}
 use Rattle.std.proofs.lemmas.List.{length-map}
-use Rattle.run_words.specs.Partial.{◌>>=◌}
-use Rattle.run_words.proofs.Laws.{equal, equals, differ, same_some, given_by}
+use Rattle.run_types.specs.Partial.{◌>>=◌}
+use Rattle.run_types.proofs.Laws.{equal, equals, differ, same_some, given_by}
 use Rattle.mesh_semantics.specs.Language.{Language}
 use Rattle.mesh_semantics.specs.Config.{Config, object_of}
 use Rattle.mesh_semantics.specs.Delay.{Delay}
-use Rattle.run_words.specs.Ways.{In, Once}
-use Rattle.mesh_semantics.specs.Standing.{standing, called_in, called_by, Closes, IsCycle, Contained, chase, cycles}
+use Rattle.run_types.specs.PathFacts.{In, Once}
+use Rattle.mesh_semantics.specs.Standing.{standing, chase}
+use Rattle.mesh_semantics.specs.Cycles.{called_in, called_by, Closes, IsCycle, Contained, cycles}
 
 module _ (calls : ℕ → Option ℕ) (first : ℕ) where
   -- what is chased from o begins with o

@@ -1,13 +1,14 @@
 -- Traffic over a mesh with one list of all links, as a delay has it, and that it is the traffic with a list for each link.
 use Rattle.std.proofs.Common.{◌≡◌, refl, sym, ap, subst, ◌∙◌, ℕ, ◌==◌, List, [], ◌∷◌, ◌++◌, Option, Some, None, Bool, true, false, if◌then◌else◌}
-use Rattle.run_words.specs.declared.words.Placement.{Placement}
-use Rattle.run_words.specs.Tables.{Pair, pair_cmp, list_at, put_list, push_list}
-use Rattle.run_words.specs.Paths.{next, on_link, put_last, move_head}
+use Rattle.run_types.specs.declared.types.Placement.{Placement}
+use Rattle.run_types.specs.Tables.{Pair, pair_cmp, list_at, put_list}
+use Rattle.run_types.specs.LinkTables.{push_list}
+use Rattle.run_types.specs.Paths.{next, on_link, put_last, move_head}
 use Rattle.mesh_semantics.specs.Act.{first_of}
 use Rattle.mesh_semantics.specs.Traffic as T
 use Rattle.mesh_semantics.specs.Traffic.{Load, Traffic, Change, Enter, Move, traffic}
-use Rattle.mesh_semantics.proofs.Lists.{Same, Is, Not, same, on_put_same, on_put_other, on_moved_same, on_moved_other}
-use Rattle.run_words.proofs.Laws.{put_list_same, put_list_other, push_list_same, push_list_other}
+use Rattle.mesh_semantics.proofs.LinksAndArrivals.{Same, Is, Not, same, on_put_same, on_put_other, on_moved_same, on_moved_other}
+use Rattle.run_types.proofs.Laws.{put_list_same, put_list_other, push_list_same, push_list_other}
 
 -- the same with one list of all links, each load with its link
 pub record Flat (X : Type 0) : Type 0 where

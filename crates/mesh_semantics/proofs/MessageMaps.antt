@@ -1,9 +1,9 @@
 -- The messages of a configuration after those of one pair were put.
 use Rattle.std.proofs.Common.{◌≡◌, ap, ℕ, List}
-use Rattle.run_words.specs.Tables.{Pair}
-use Rattle.run_words.specs.Message.{Message}
+use Rattle.run_types.specs.Tables.{Pair}
+use Rattle.run_types.specs.Message.{Message}
 use Rattle.mesh_semantics.specs.Config.{Config, messages_of, put_messages}
-use Rattle.run_words.proofs.Laws.{put_list_same, put_list_other}
+use Rattle.run_types.proofs.Laws.{put_list_same, put_list_other}
 
 module _ {S : Type 0} (c : Config S) where
   pub messages_same : (s r : ℕ) (ms : List Message) → messages_of (put_messages c s r ms) s r ≡ ms

@@ -4,34 +4,34 @@ use Rattle.std.specs.Prelude.{filter, length, drop}
 use Rattle.std.specs.List.{list_any}
 use Rattle.std.specs.Ordering.{nat_cmp}
 use Rattle.std.specs.FinMap.{find, put}
-use Rattle.run_words.specs.declared.words.Value.TheVariants as V
-use Rattle.run_words.specs.declared.words.Event.{Event}
-use Rattle.run_words.specs.declared.words.Event.TheVariants as Ev
-use Rattle.run_words.specs.declared.words.Label.{Label}
-use Rattle.run_words.specs.declared.words.Label.TheVariants as L
-use Rattle.run_words.specs.declared.words.What.{What}
-use Rattle.run_words.specs.declared.words.What.TheVariants as W'
-use Rattle.run_words.specs.declared.words.FullKind.TheVariants as F
-use Rattle.run_words.specs.declared.words.Placement.{Placement}
-use Rattle.run_words.specs.Tables.{Pair, pair_cmp}
-use Rattle.run_words.specs.Partial.{◌>>=◌}
+use Rattle.run_types.specs.declared.types.Value.TheVariants as V
+use Rattle.run_types.specs.declared.types.Event.{Event}
+use Rattle.run_types.specs.declared.types.Event.TheVariants as Ev
+use Rattle.run_types.specs.declared.types.Label.{Label}
+use Rattle.run_types.specs.declared.types.Label.TheVariants as L
+use Rattle.run_types.specs.declared.types.What.{What}
+use Rattle.run_types.specs.declared.types.What.TheVariants as W'
+use Rattle.run_types.specs.declared.types.FullKind.TheVariants as F
+use Rattle.run_types.specs.declared.types.Placement.{Placement}
+use Rattle.run_types.specs.Tables.{Pair, pair_cmp}
+use Rattle.run_types.specs.Partial.{◌>>=◌}
 use Rattle.mesh_semantics.specs.Kind as K
 use Rattle.mesh_semantics.specs.Kind.{Kind, Alternative}
 use Rattle.mesh_semantics.specs.Language.{Language}
 use Rattle.mesh_semantics.specs.Config.{Config}
 use Rattle.mesh_semantics.specs.Moves.{move}
-use Rattle.run_words.specs.Paths.{total, on_link, move_head}
+use Rattle.run_types.specs.Paths.{total, on_link, move_head}
 use Rattle.mesh_semantics.specs.Delay as D
 use Rattle.mesh_semantics.specs.Wire.{Wire, Coming, Empty, Stale, Next, coming, take, wire_act}
 use Rattle.mesh_semantics.specs.Delay.{Packet, Arrival, Wires, Delay, wire_at, enter_all, post, arrived_at, take_arrival, held, hold, free, count_made, stepped_last, cell_count}
-use Rattle.run_words.specs.ObjectNames.{node_of}
+use Rattle.run_types.specs.ObjectNames.{node_of}
 use Rattle.mesh_semantics.specs.Act.{id, object_count, frame_count, is_possible, can_step, is_ready, ready_at, first_of, first_arrival, is_above, turn_of, Acted, Acts, Full, Nothing, within, shows, labelled, within_frames, local_steps, greatest, step_count, local_turn, class_place, goal_by, goal_of, next_name, create_turn, sent, accept_turn, chosen_turn, choice_turn, object_turn, node_turn, received, goal_node, passed, link_move, plain_act, on_wires, wire_move, wire_turn, act_over, act, is_acknowledged, is_quiet}
 use Rattle.std.specs.Option.{option_or}
-use Rattle.run_words.specs.declared.words.Line.TheVariants as R'
-use Rattle.run_words.specs.declared.words.End.TheVariants as E'
+use Rattle.run_types.specs.declared.types.Line.TheVariants as R'
+use Rattle.run_types.specs.declared.types.End.TheVariants as E'
 use Rattle.mesh_semantics.specs.Record.{after, record_from}
 use Rattle.mesh_semantics.specs.Simulates.{Both, Simulates, Zipped, Related, SameAct}
-use Rattle.mesh_semantics.proofs.Simulated.{move_same}
+use Rattle.mesh_semantics.proofs.EventSimulation.{move_same}
 
 module _ {S T : Type 0} (g : Language S) (h : Language T) (W : Config S → Type 0) (R : ℕ → S → T → Type 0) (sim : Simulates g h W R) (kept : (c d : Config S) (lab : Label) → W c → move g c lab ≡ Some d → W d) where
   -- counts

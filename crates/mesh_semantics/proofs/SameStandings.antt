@@ -2,12 +2,13 @@
 use Rattle.std.proofs.Common.{◌≡◌, refl, ap, ap₂, ◌∙◌, ℕ, suc, List, [], ◌∷◌, length, Option, Some, None}
 use Rattle.std.specs.Prelude.{filter_map}
 use Rattle.mesh_semantics.specs.Language.{Language}
-use Rattle.run_words.specs.Partial.{◌>>=◌}
+use Rattle.run_types.specs.Partial.{◌>>=◌}
 use Rattle.mesh_semantics.specs.Config.{Config, object_of}
 use Rattle.mesh_semantics.specs.Delay.{Delay, held}
-use Rattle.mesh_semantics.specs.Standing.{standing, standing_of, called_in, called_by, chase, cycles}
+use Rattle.mesh_semantics.specs.Standing.{standing, standing_of, chase}
+use Rattle.mesh_semantics.specs.Cycles.{called_in, called_by, cycles}
 use Rattle.mesh_semantics.specs.Simulates.{Both, Simulates, Zipped, Related}
-use Rattle.mesh_semantics.proofs.Simulated.{found}
+use Rattle.mesh_semantics.proofs.EventSimulation.{found}
 
 module _ {S T : Type 0} (g : Language S) (h : Language T) (W : Config S → Type 0) (R : ℕ → S → T → Type 0) (sim : Simulates g h W R) where
   pub standing_same : (d : Delay) (o : ℕ) (x : S) (y : T) → R o x y → standing g d o x ≡ standing h d o y

@@ -2,33 +2,33 @@
 use Rattle.std.proofs.Common.{◌≡◌, ◌≢◌, ◌⊎◌, inl, inr, refl, sym, ap, subst, ◌∙◌, IsTrue, ℕ, ◌*◌, ◌<◌, ◌≤◌, ◌==◌, List, [], ◌∷◌, ◌++◌, append-nil, Option, Some, None, Bool, true, false, ◌&&◌, arith}
 use Rattle.std.specs.Ordering.{nat_cmp}
 use Rattle.std.specs.FinMap.{find, is_sorted}
-use Rattle.run_words.specs.declared.words.Value.{Value}
-use Rattle.run_words.specs.declared.words.Error.{Error}
-use Rattle.run_words.specs.declared.words.Label.TheVariants as L
-use Rattle.run_words.specs.declared.words.Placement.{Placement}
-use Rattle.run_words.proofs.Laws.{first, second, both, equal, equals, decide, differ, same_some, value_itself, values_itself, find_put_same, find_put_other, find_without_same, find_without_other, each_append}
+use Rattle.run_types.specs.declared.types.Value.{Value}
+use Rattle.run_types.specs.declared.types.Error.{Error}
+use Rattle.run_types.specs.declared.types.Label.TheVariants as L
+use Rattle.run_types.specs.declared.types.Placement.{Placement}
+use Rattle.run_types.proofs.Laws.{first, second, both, equal, equals, decide, differ, same_some, value_itself, values_itself, find_put_same, find_put_other, find_without_same, find_without_other, each_append}
 use Rattle.mesh_semantics.specs.Kind as K
 use Rattle.mesh_semantics.specs.Kind.{Kind, Alternative, has_name, answered, answers, alternatives}
 use Rattle.mesh_semantics.specs.Language.{Language}
 use Rattle.mesh_semantics.specs.Config.{Config, object_of, put_object, messages_of, put_messages}
 use Rattle.mesh_semantics.specs.Moves.{move}
-use Rattle.run_words.specs.Paths.{next, path}
+use Rattle.run_types.specs.Paths.{next, path}
 use Rattle.mesh_semantics.specs.Delay as D
 use Rattle.mesh_semantics.specs.Delay.{Packet, Arrival, Holding, Delay, post, arrive, is_for, take_arrival, arrived_at, held, hold, free, cell_count}
-use Rattle.run_words.specs.ObjectNames.{node_of}
+use Rattle.run_types.specs.ObjectNames.{node_of}
 use Rattle.mesh_semantics.specs.Act.{id, labelled, send_turn, return_turn}
-use Rattle.run_words.specs.Tables.{Each}
+use Rattle.run_types.specs.Tables.{Each}
 use Rattle.mesh_semantics.specs.Sound.{Entry, Sent, entries, is_wait, Owns, OwnedAt, letter_if, letters, notes, CallsLast, Has, IsThere, IsPlaced, Consistent, IsWithin, IsSound}
-use Rattle.mesh_semantics.specs.Fit.{Fit}
+use Rattle.mesh_semantics.proofs.Fit.{Fit}
 use Rattle.mesh_semantics.specs.Lawful.{Lawful}
 use Rattle.mesh_semantics.proofs.MessageMaps.{messages_same, messages_other}
-use Rattle.mesh_semantics.proofs.Along.{begins}
-use Rattle.mesh_semantics.proofs.Owned.{post_other, arrive_other}
-use Rattle.mesh_semantics.proofs.Lettered.{letters_post, letters_here}
-use Rattle.mesh_semantics.proofs.Basics.{there_put, runs, placed_grow, arrivals_grow, count_put, frames_put, frames_elsewhere, names_put}
-use Rattle.mesh_semantics.proofs.Posting.{Posts, posts_silent, notes_append, note_last, note_alone, no_calls, cells_post, cells_arrive}
-use Rattle.mesh_semantics.proofs.Shapes.{Any, sorted_put, shape_of, of_shape, Shifts, unshifted, change}
-use Rattle.mesh_semantics.proofs.Turns.{Nearly, Acting, owned_is, owns_nothing, own_elsewhere, one_label}
+use Rattle.mesh_semantics.proofs.PathTraffic.{begins}
+use Rattle.mesh_semantics.proofs.OwnedTraffic.{post_other, arrive_other}
+use Rattle.mesh_semantics.proofs.PairTraffic.{letters_post, letters_here}
+use Rattle.mesh_semantics.proofs.ObjectChange.{there_put, runs, placed_grow, arrivals_grow, count_put, frames_put, frames_elsewhere, names_put}
+use Rattle.mesh_semantics.proofs.PostedPackets.{Posts, posts_silent, notes_append, note_last, note_alone, no_calls, cells_post, cells_arrive}
+use Rattle.mesh_semantics.proofs.ObjectAndDelayChange.{Any, sorted_put, shape_of, of_shape, Shifts, unshifted, change}
+use Rattle.mesh_semantics.proofs.TurnInvariant.{Nearly, Acting, owned_is, owns_nothing, own_elsewhere, one_label}
 
 module _ {S : Type 0} (g : Language S) (W : Config S → Type 0) (law : Lawful g W) (l : Placement) (fit : Fit l) where
   -- a message of o to b has come on its way from the node n

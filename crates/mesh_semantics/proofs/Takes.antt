@@ -2,33 +2,33 @@
 use Rattle.std.proofs.Common.{◌≡◌, ◌≢◌, ◌⊎◌, inl, inr, refl, sym, ap, subst, ◌∙◌, IsTrue, ℕ, ◌+◌, ◌≤◌, ◌==◌, List, [], ◌∷◌, ◌++◌, Option, Some, None, Bool, true, false, ◌||◌, if◌then◌else◌}
 use Rattle.std.specs.Ordering.{nat_cmp}
 use Rattle.std.specs.FinMap.{is_sorted}
-use Rattle.run_words.specs.declared.words.Value.{Value}
-use Rattle.run_words.specs.declared.words.Error.{Error}
-use Rattle.run_words.specs.declared.words.Label.TheVariants as L
-use Rattle.run_words.specs.declared.words.Placement.{Placement}
-use Rattle.run_words.specs.Message.{Message}
-use Rattle.run_words.proofs.Laws.{first, equal, equals, decide, differ, same_some, values_itself, find_put_same, find_put_other, find_without_same, find_without_other}
+use Rattle.run_types.specs.declared.types.Value.{Value}
+use Rattle.run_types.specs.declared.types.Error.{Error}
+use Rattle.run_types.specs.declared.types.Label.TheVariants as L
+use Rattle.run_types.specs.declared.types.Placement.{Placement}
+use Rattle.run_types.specs.Message.{Message}
+use Rattle.run_types.proofs.Laws.{first, equal, equals, decide, differ, same_some, values_itself, find_put_same, find_put_other, find_without_same, find_without_other}
 use Rattle.mesh_semantics.specs.Kind as K
 use Rattle.mesh_semantics.specs.Kind.{Kind, Alternative, has_name, answered, answers, is_plain, alternatives}
 use Rattle.mesh_semantics.specs.Language.{Language}
 use Rattle.mesh_semantics.specs.Config.{Config, object_of, put_object, messages_of, put_messages}
 use Rattle.mesh_semantics.specs.Moves.{move, offered, has_message, first_message, without_message}
-use Rattle.run_words.specs.Paths.{path, total, along}
+use Rattle.run_types.specs.Paths.{path, total, along}
 use Rattle.mesh_semantics.specs.Delay as D
 use Rattle.mesh_semantics.specs.Delay.{Packet, Arrival, Holding, Delay, is_for, take_arrival, arrived_at, held, free, cell_count}
-use Rattle.run_words.specs.ObjectNames.{node_of}
+use Rattle.run_types.specs.ObjectNames.{node_of}
 use Rattle.mesh_semantics.specs.Act.{id, labelled, first_arrival}
-use Rattle.run_words.specs.Tables.{Each}
+use Rattle.run_types.specs.Tables.{Each}
 use Rattle.mesh_semantics.specs.Sound.{Sent, Called, entries, call_by, Owns, OwnedAt, letters_in, letter, letters, notes, CallsLast, IsThere, Consistent, IsWithin, IsSound}
-use Rattle.mesh_semantics.specs.Fit.{Fit}
+use Rattle.mesh_semantics.proofs.Fit.{Fit}
 use Rattle.mesh_semantics.specs.Lawful.{Lawful, CanServe}
-use Rattle.mesh_semantics.proofs.Final.{has_arrived}
+use Rattle.mesh_semantics.proofs.QuietIsFinal.{has_arrived}
 use Rattle.mesh_semantics.proofs.MessageMaps.{messages_same, messages_other}
-use Rattle.mesh_semantics.proofs.Owned.{is_call_of, arrived, taken_other, taken_own, taken_some}
-use Rattle.mesh_semantics.proofs.Taken.{rest_of, under_taken, under_other, kept, earliest, none_before, still_last}
-use Rattle.mesh_semantics.proofs.Basics.{there_put, runs, placed_grow, arrivals_grow, count_put, frames_put, frames_elsewhere, names_put, each_without, each_middle, total_without}
-use Rattle.mesh_semantics.proofs.Shapes.{Any, sorted_put, shape_of, of_shape, unshifted, change}
-use Rattle.mesh_semantics.proofs.Turns.{Nearly, Acting, owned_is, owns_nothing, own_elsewhere, one_label}
+use Rattle.mesh_semantics.proofs.OwnedTraffic.{is_call_of, arrived, taken_other, taken_own, taken_some}
+use Rattle.mesh_semantics.proofs.MessageRemoval.{rest_of, under_taken, under_other, kept, earliest, none_before, still_last}
+use Rattle.mesh_semantics.proofs.ObjectChange.{there_put, runs, placed_grow, arrivals_grow, count_put, frames_put, frames_elsewhere, names_put, each_without, each_middle, total_without}
+use Rattle.mesh_semantics.proofs.ObjectAndDelayChange.{Any, sorted_put, shape_of, of_shape, unshifted, change}
+use Rattle.mesh_semantics.proofs.TurnInvariant.{Nearly, Acting, owned_is, owns_nothing, own_elsewhere, one_label}
 
 -- the first arrived message on some methods
 pub arrived_named : (names : List ℕ) (box : List Arrival) (a : Arrival) → first_arrival names box ≡ Some a → (has_name names a.method ≡ true) × (has_arrived a.method box ≡ true)

@@ -2,14 +2,15 @@
 use Rattle.std.proofs.Common.{◌≡◌, refl, sym, ap, subst, ◌∙◌, ℕ, zero, suc, ◌+◌, ◌<◌, ◌≤◌, ◌==◌, List, [], ◌∷◌, ◌++◌, append-nil, append_assoc, length, Option, Some, None, Bool, true, false, if◌then◌else◌, nat_lt, arith, ltb-true}
 use Rattle.std.specs.Prelude.{slice_get}
 use Rattle.std.proofs.lemmas.List.{length-append}
-use Rattle.run_words.specs.declared.words.What.{What}
-use Rattle.run_words.specs.declared.words.What.TheVariants as W
-use Rattle.run_words.specs.declared.words.WireAct.{WireAct}
-use Rattle.run_words.specs.declared.words.WireAct.TheVariants as A
-use Rattle.run_words.specs.Tables.{Each}
+use Rattle.run_types.specs.declared.types.What.{What}
+use Rattle.run_types.specs.declared.types.What.TheVariants as W
+use Rattle.run_types.specs.declared.types.WireAct.{WireAct}
+use Rattle.run_types.specs.declared.types.WireAct.TheVariants as A
+use Rattle.run_types.specs.Tables.{Each}
 use Rattle.mesh_semantics.specs.Act.{first_of}
-use Rattle.mesh_semantics.specs.Wire.{Frame, Wire, empty_wire, window, capacity, greater, push_within, wanted_of, wanted, enter, launch, send_number, Empty, Stale, Next, coming_in, coming, take_frame, take, hear_number, hear, lose, twice, late, with_frames, with_acks, frame_number, ack_number, wire_act, WireFacts, Happening, Enters, Comes, On, changed, happen, happened, entered}
-use Rattle.run_words.proofs.Laws.{equal, same_some, each_map, each_append}
+use Rattle.mesh_semantics.specs.Wire.{Frame, Wire, empty_wire, window, capacity, greater, push_within, wanted_of, wanted, enter, launch, send_number, Empty, Stale, Next, coming_in, coming, take_frame, take, hear_number, hear, lose, twice, late, with_frames, with_acks, frame_number, ack_number, wire_act, WireFacts}
+use Rattle.mesh_semantics.specs.Happenings.{Happening, Enters, Comes, On, changed, happen, happened, entered}
+use Rattle.run_types.proofs.Laws.{equal, same_some, each_map, each_append}
 
 not_less : (a b : ℕ) → nat_lt a b ≡ false → b ≤ a
 not_less a b h = grind (arith, h)

@@ -3,8 +3,8 @@
 use Rattle.std.specs.Prelude.{ℕ, List, Option}
 use Rattle.std.specs.Ordering.{nat_cmp}
 use Rattle.std.specs.FinMap.{find, put}
-use Rattle.run_words.specs.Tables.{Pair, pair_cmp, list_at, put_list}
-use Rattle.run_words.specs.Message.{Message}
+use Rattle.run_types.specs.Tables.{Pair, pair_cmp, list_at, put_list}
+use Rattle.run_types.specs.Message.{Message}
 
 -- a pair without messages has no entry
 pub record Config (S : Type 0) : Type 0 where

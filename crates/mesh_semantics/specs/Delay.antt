@@ -4,13 +4,13 @@ use Rattle.std.specs.Prelude.{ℕ, ◌+◌, ◌==◌, List, [], ◌∷◌, ◌++
 use Rattle.std.specs.Option.{unwrap_or}
 use Rattle.std.specs.Ordering.{nat_cmp}
 use Rattle.std.specs.FinMap.{find, put}
-use Rattle.run_words.specs.declared.words.Value.{Value}
-use Rattle.run_words.specs.declared.words.Placement.{Placement}
-use Rattle.run_words.specs.Tables.{Pair, pair_cmp, without}
+use Rattle.run_types.specs.declared.types.Value.{Value}
+use Rattle.run_types.specs.declared.types.Placement.{Placement}
+use Rattle.run_types.specs.Tables.{Pair, pair_cmp, without}
 use Rattle.mesh_semantics.specs.Kind.{has_name}
 use Rattle.mesh_semantics.specs.Wire.{Wire, empty_wire, enter}
-use Rattle.run_words.specs.Paths.{next, total, under, without_first, put_last}
-use Rattle.run_words.specs.ObjectNames.{node_of, slot_of}
+use Rattle.run_types.specs.Paths.{next, total, under, without_first, put_last}
+use Rattle.run_types.specs.ObjectNames.{node_of, slot_of}
 
 -- what travels on links
 pub data Packet : Type 0 where
@@ -117,8 +117,3 @@ stepped_last n o d = record d { last = put nat_cmp n (slot_of o) d.last }
 -- the cells in use at a node: the messages arrived at its objects, and the packets on links that leave it
 abbrev pub cell_count : Delay → ℕ → ℕ
 cell_count d n = total (λ e. if node_of e.0 == n then 1 else 0) d.arrived + total (λ e. if e.0.0 == n then 1 else 0) d.links
-
--- a packet with the number of the request that it belongs to; an asynchronous message belongs to none
-pub record NumberedPacket : Type 0 where
-  pub number : Option ℕ
-  pub packet : Packet

@@ -1,9 +1,9 @@
 -- What is asked of a placement for a program, in whatever language its objects are written.
 use Rattle.std.specs.Prelude.{◌≡◌, ℕ, ◌*◌, ◌<◌, ◌≤◌, length, Some, slice_get}
-use Rattle.run_words.specs.declared.words.Place.TheVariants as Pl
-use Rattle.run_words.specs.declared.words.Placement.{Placement}
+use Rattle.run_types.specs.declared.types.Place.TheVariants as Pl
+use Rattle.run_types.specs.declared.types.Placement.{Placement}
 use Rattle.mesh_semantics.specs.Language.{Language}
-use Rattle.run_words.specs.Ways.{Ways}
+use Rattle.run_types.specs.PathFacts.{Ways}
 
 pub record FitFor {S : Type 0} (g : Language S) (l : Placement) : Type 0 where
   -- each pair of nodes has a path

@@ -1,10 +1,10 @@
 -- What is kept of a wire where its link's packets are at hand: neither what entered nor what was handed out, but how many were, and copies of what was sent and is not
 -- acknowledged. X is the type of packets, and rest is what entered and was not handed out.
 use Rattle.std.specs.Prelude.{◌≡◌, ℕ, ◌+◌, ◌-◌, ◌≤◌, ◌==◌, List, [], ◌∷◌, ◌++◌, length, take as first_of_list, drop, Option, Some, None, if◌then◌else◌, nat_lt, slice_get}
-use Rattle.run_words.specs.declared.words.What.{What}
-use Rattle.run_words.specs.declared.words.What.TheVariants as W
-use Rattle.run_words.specs.declared.words.WireAct.{WireAct}
-use Rattle.run_words.specs.declared.words.WireAct.TheVariants as A
+use Rattle.run_types.specs.declared.types.What.{What}
+use Rattle.run_types.specs.declared.types.What.TheVariants as W
+use Rattle.run_types.specs.declared.types.WireAct.{WireAct}
+use Rattle.run_types.specs.declared.types.WireAct.TheVariants as A
 use Rattle.mesh_semantics.specs.Wire.{Frame, Wire, WireFacts, Coming, capacity, greater, push_within, wanted_of, coming_in, lose, twice, late, frame_number, ack_number}
 
 pub record KeptWire (X : Type 0) : Type 0 where
@@ -107,11 +107,6 @@ kept_act A.Late rest v = with_kept_frames v (late frame_number v.frames)
 kept_act A.LoseAck rest v = with_kept_acks v (lose ack_number v.acks)
 kept_act A.TwiceAck rest v = with_kept_acks v (twice ack_number v.acks)
 kept_act A.LateAck rest v = with_kept_acks v (late ack_number v.acks)
-
--- the same of what is kept
-abbrev pub kept_result : {X : Type 0} → Option (What × Wire X) → Option (What × KeptWire X)
-kept_result None = None
-kept_result (Some r) = Some (r.0, kept_of r.1)
 
 -- the same is told, and what is then kept carries the list and is what is kept of the wire after it; or there is nothing to be done for both
 abbrev pub Follows : {X : Type 0} → List X → Option (What × KeptWire X) → Option (What × Wire X) → Type 0

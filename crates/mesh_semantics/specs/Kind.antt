@@ -1,11 +1,11 @@
 -- What an object does next, in whatever language it is written.
 use Rattle.std.specs.Prelude.{ℕ, ◌==◌, List, [], Option, Some, None, is_none, Bool, true, false, ◌&&◌}
 use Rattle.std.specs.List.{list_any}
-use Rattle.run_words.specs.declared.words.Value.{Value}
-use Rattle.run_words.specs.declared.words.Item.{Item}
-use Rattle.run_words.specs.declared.words.Error.{Error}
-use Rattle.run_words.specs.Values.{is_same}
-use Rattle.run_words.specs.Same.{are_same, is_same_item, error_number}
+use Rattle.run_types.specs.declared.types.Value.{Value}
+use Rattle.run_types.specs.declared.types.Item.{Item}
+use Rattle.run_types.specs.declared.types.Error.{Error}
+use Rattle.run_types.specs.Values.{is_same}
+use Rattle.run_types.specs.Same.{are_same, is_same_item, error_number}
 
 -- an alternative of a select whose guards are evaluated: the methods that it answers, or none where it is plain
 pub record Alternative : Type 0 where

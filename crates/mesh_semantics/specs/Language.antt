@@ -1,7 +1,7 @@
 -- A language of objects: what a state of an object does next, and what it becomes.
 use Rattle.std.specs.Prelude.{ℕ, List, Option}
-use Rattle.run_words.specs.declared.words.Value.{Value}
-use Rattle.run_words.specs.declared.words.Error.{Error}
+use Rattle.run_types.specs.declared.types.Value.{Value}
+use Rattle.run_types.specs.declared.types.Error.{Error}
 use Rattle.mesh_semantics.specs.Kind.{Kind}
 
 pub record Language (S : Type 0) : Type 0 where

@@ -2,11 +2,11 @@
 use Rattle.std.specs.Prelude.{◌≡◌, ℕ, List, Option, Some, None, false, IsTrue}
 use Rattle.std.specs.Ordering.{nat_cmp}
 use Rattle.std.specs.FinMap.{is_sorted}
-use Rattle.run_words.specs.declared.words.Value.{Value}
-use Rattle.run_words.specs.declared.words.Value.TheVariants as V
-use Rattle.run_words.specs.declared.words.Error.{Error}
-use Rattle.run_words.specs.declared.words.Label.{Label}
-use Rattle.run_words.specs.Message.{Message}
+use Rattle.run_types.specs.declared.types.Value.{Value}
+use Rattle.run_types.specs.declared.types.Value.TheVariants as V
+use Rattle.run_types.specs.declared.types.Error.{Error}
+use Rattle.run_types.specs.declared.types.Label.{Label}
+use Rattle.run_types.specs.Message.{Message}
 use Rattle.mesh_semantics.specs.Kind as K
 use Rattle.mesh_semantics.specs.Kind.{Kind, alternatives}
 use Rattle.mesh_semantics.specs.Language.{Language}

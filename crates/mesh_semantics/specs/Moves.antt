@@ -1,13 +1,13 @@
 -- The transition relation over objects of any language, and its runs. It knows no node, packet or delay. A label, where it is possible, determines
 -- the configuration after it.
 use Rattle.std.specs.Prelude.{ℕ, zero, suc, ◌+◌, ◌==◌, List, [], ◌∷◌, ◌++◌, Option, Some, None, is_some, is_none, Bool, false, not, ◌&&◌, ◌||◌, if◌then◌else◌, slice_get}
-use Rattle.run_words.specs.declared.words.Value.TheVariants as V
-use Rattle.run_words.specs.declared.words.Error.{Error}
-use Rattle.run_words.specs.declared.words.Label.{Label}
-use Rattle.run_words.specs.declared.words.Label.TheVariants as L
-use Rattle.run_words.specs.Partial.{◌>>=◌, ◌>>◌, require}
-use Rattle.run_words.specs.Same.{are_same}
-use Rattle.run_words.specs.Message.{Message}
+use Rattle.run_types.specs.declared.types.Value.TheVariants as V
+use Rattle.run_types.specs.declared.types.Error.{Error}
+use Rattle.run_types.specs.declared.types.Label.{Label}
+use Rattle.run_types.specs.declared.types.Label.TheVariants as L
+use Rattle.run_types.specs.Partial.{◌>>=◌, ◌>>◌, require}
+use Rattle.run_types.specs.Same.{are_same}
+use Rattle.run_types.specs.Message.{Message}
 use Rattle.mesh_semantics.specs.Kind.{Alternative, is_local, makes, calls, posts, returns, waits_on, writes, fails, has_name, answered, answers, is_plain, alternatives}
 use Rattle.mesh_semantics.specs.Language.{Language}
 use Rattle.mesh_semantics.specs.Config.{Config, object_of, put_object, messages_of, put_messages}

@@ -1,15 +1,15 @@
 -- What is asked of a language of objects so that a node can keep the number of a request beside the object as it posted it, and the numbers of the callers beside the object
 -- that serves them. W is what is kept of a configuration.
 use Rattle.std.specs.Prelude.{◌≡◌, ℕ, List, [], ◌∷◌, Option, Some, None, Bool, true, false}
-use Rattle.run_words.specs.declared.words.Value.{Value}
-use Rattle.run_words.specs.declared.words.Error.{Error}
+use Rattle.run_types.specs.declared.types.Value.{Value}
+use Rattle.run_types.specs.declared.types.Error.{Error}
 use Rattle.mesh_semantics.specs.Kind as K
 use Rattle.mesh_semantics.specs.Kind.{Kind, Alternative}
 use Rattle.mesh_semantics.specs.Language.{Language}
 use Rattle.mesh_semantics.specs.Config.{Config, object_of, messages_of}
-use Rattle.run_words.specs.Ways.{In}
-use Rattle.run_words.specs.declared.words.Value.TheVariants as V
-use Rattle.run_words.specs.Tables.{Each}
+use Rattle.run_types.specs.PathFacts.{In}
+use Rattle.run_types.specs.declared.types.Value.TheVariants as V
+use Rattle.run_types.specs.Tables.{Each}
 use Rattle.mesh_semantics.specs.Sound.{IsThere}
 
 -- an object that posts a request

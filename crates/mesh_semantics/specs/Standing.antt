@@ -1,16 +1,14 @@
--- Where each object stands, and the cycles of objects that each call the next.
-use Rattle.std.specs.Prelude.{◌≡◌, ◌⊎◌, ℕ, zero, suc, ◌<◌, ◌==◌, List, [], ◌∷◌, length, Option, Some, None, if◌then◌else◌, nat_lt, filter_map}
-use Rattle.run_words.specs.declared.words.Error.{Error}
-use Rattle.run_words.specs.Tables.{Pair}
-use Rattle.run_words.specs.Partial.{◌>>=◌}
+-- Where each object stands, and the names on a cycle of calls.
+use Rattle.std.specs.Prelude.{ℕ, zero, suc, ◌==◌, List, [], ◌∷◌, Option, Some, None, if◌then◌else◌, nat_lt}
+use Rattle.run_types.specs.declared.types.Error.{Error}
+use Rattle.run_types.specs.Tables.{Pair}
+use Rattle.run_types.specs.Partial.{◌>>=◌}
 use Rattle.mesh_semantics.specs.Kind as K
 use Rattle.mesh_semantics.specs.Kind.{Kind}
 use Rattle.mesh_semantics.specs.Language.{Language}
-use Rattle.mesh_semantics.specs.Config.{Config, object_of}
 use Rattle.mesh_semantics.specs.Delay as D
 use Rattle.mesh_semantics.specs.Delay.{Packet, Holding, Delay, held, arrived_at}
 use Rattle.mesh_semantics.specs.Act.{can_step}
-use Rattle.run_words.specs.Ways.{Once}
 
 pub data Standing : Type 0 where
   Ready : Standing
@@ -47,35 +45,7 @@ standing_of d o None t k = standing_by d o t k
 abbrev pub standing : {S : Type 0} → Language S → Delay → ℕ → S → Standing
 standing g d o x = standing_of d o (g.fault x) (held d o) (g.kind o x)
 
--- the object that it calls
-abbrev pub called_in : Standing → Option ℕ
-called_in (Calls b m) = Some b
-called_in _ = None
-
-abbrev pub called_by : {S : Type 0} → Language S → Config S → Delay → ℕ → Option ℕ
-called_by g c d o = object_of c o >>= λ x. called_in (standing g d o x)
-
--- names from o on, each above the first, that each call the next, where the last calls the first
-abbrev pub Closes : (ℕ → Option ℕ) → ℕ → List ℕ → Type 0
-Closes calls first [] = ⊥
-Closes calls first (o ∷ []) = calls o ≡ Some first
-Closes calls first (o ∷ b ∷ ns) = (calls o ≡ Some b) × (first < b) × Closes calls first (b ∷ ns)
-
--- a cycle of calls: distinct names, the least first, that each call the next, where the last calls the first
-abbrev pub IsCycle : (ℕ → Option ℕ) → List ℕ → Type 0
-IsCycle calls [] = ⊥
-IsCycle calls (o ∷ ns) = Once (o ∷ ns) × Closes calls o (o ∷ ns)
-
 -- such names that close, at most so many of them, if there are
 abbrev pub chase : (ℕ → Option ℕ) → ℕ → ℕ → ℕ → Option (List ℕ)
 chase calls zero first o = None
 chase calls (suc n) first o = calls o >>= λ b. if b == first then Some (o ∷ []) else (if nat_lt first b then (chase calls n first b >>= λ ns. Some (o ∷ ns)) else None)
-
--- the cycles, each from its least name on, in rising order of that name
-abbrev pub cycles : {S : Type 0} → Language S → Config S → Delay → List (List ℕ)
-cycles g c d = filter_map (λ e. chase (called_by g c d) (length c.objects) e.0 e.0) c.objects
-
--- a list of names is in the list
-abbrev pub Contained : List ℕ → List (List ℕ) → Type 0
-Contained ns [] = ⊥
-Contained ns (ms ∷ rest) = (ms ≡ ns) ⊎ Contained ns rest

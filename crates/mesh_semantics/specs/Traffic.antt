@@ -1,8 +1,9 @@
 -- What goes over the links of a mesh, whatever it is: values enter at the first link of a path and move along it, each link a queue.
-use Rattle.std.specs.Prelude.{◌≡◌, ℕ, ◌*◌, ◌<◌, ◌==◌, List, [], ◌∷◌, ◌++◌, ◌&&◌, if◌then◌else◌, flat_map}
-use Rattle.run_words.specs.declared.words.Placement.{Placement}
-use Rattle.run_words.specs.Tables.{Pair, pair_cmp, list_at, put_list, push_list}
-use Rattle.run_words.specs.Paths.{next}
+use Rattle.std.specs.Prelude.{ℕ, ◌*◌, ◌<◌, ◌==◌, List, [], ◌∷◌, ◌++◌, ◌&&◌, if◌then◌else◌, flat_map}
+use Rattle.run_types.specs.declared.types.Placement.{Placement}
+use Rattle.run_types.specs.Tables.{Pair, pair_cmp, list_at, put_list}
+use Rattle.run_types.specs.LinkTables.{push_list}
+use Rattle.run_types.specs.Paths.{next}
 
 -- a value on its way between two nodes
 pub record Load (X : Type 0) : Type 0 where
@@ -55,6 +56,3 @@ abbrev pub Inside : {X : Type 0} → Placement → List (Change X) → Type 0
 Inside l [] = Unit {0}
 Inside l (Enter a b v ∷ es) = (a < l.width * l.height) × (b < l.width * l.height) × Inside l es
 Inside l (Move k ∷ es) = Inside l es
-
-abbrev pub IsPrefix : {X : Type 0} → List X → List X → Type 0
-IsPrefix {X} xs ys = (rest : List X) × (xs ++ rest ≡ ys)

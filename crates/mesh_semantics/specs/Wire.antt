@@ -1,12 +1,11 @@
 -- A link as a wire that may lose, repeat and reorder what goes over it. What enters gets a number; at most eight numbers are under way unacknowledged, what is not
 -- acknowledged is sent again from the first such number on, and the far end hands out only the number that is next (go-back-N). X is the type of packets.
 use Rattle.std.specs.Prelude.{◌≡◌, ℕ, ◌+◌, ◌<◌, ◌≤◌, ◌==◌, List, [], ◌∷◌, ◌++◌, length, Option, Some, None, Bool, ◌&&◌, if◌then◌else◌, nat_lt, slice_get}
-use Rattle.run_words.specs.declared.words.What.{What}
-use Rattle.run_words.specs.declared.words.What.TheVariants as W
-use Rattle.run_words.specs.declared.words.WireAct.{WireAct}
-use Rattle.run_words.specs.declared.words.WireAct.TheVariants as A
-use Rattle.run_words.specs.Tables.{Each}
-use Rattle.mesh_semantics.specs.Traffic.{IsPrefix}
+use Rattle.run_types.specs.declared.types.What.{What}
+use Rattle.run_types.specs.declared.types.What.TheVariants as W
+use Rattle.run_types.specs.declared.types.WireAct.{WireAct}
+use Rattle.run_types.specs.declared.types.WireAct.TheVariants as A
+use Rattle.run_types.specs.Tables.{Each}
 
 -- a number, and what has it
 abbrev pub Frame : Type 0 → Type 0
@@ -143,6 +142,9 @@ wire_act A.LateAck w = with_acks w (late ack_number w.acks)
 abbrev pub is_done : {X : Type 0} → Wire X → Bool
 is_done w = w.acked == length w.put
 
+abbrev pub IsPrefix : {X : Type 0} → List X → List X → Type 0
+IsPrefix {X} xs ys = (rest : List X) × (xs ++ rest ≡ ys)
+
 -- What always holds of a wire: what was handed out is a front of what entered, in order; each frame carries what has its number; and the numbers are in their bounds.
 pub record WireFacts {X : Type 0} (w : Wire X) : Type 0 where
   pub in_order : IsPrefix w.handed w.put
@@ -154,35 +156,3 @@ pub record WireFacts {X : Type 0} (w : Wire X) : Type 0 where
   pub carried : Each (λ f. (f.0 < w.sent) × (slice_get w.put f.0 ≡ Some f.1)) w.frames
   pub told : Each (λ n. n ≤ length w.handed) w.acks
   pub capacities : (length w.frames ≤ capacity) × (length w.acks ≤ capacity)
-
--- whatever happens on one wire: a packet enters, the first frame comes to the far end, or one of the others
-pub data Happening (X : Type 0) : Type 0 where
-  Enters : (packet : X) → Happening X
-  Comes : Happening X
-  On : (act : WireAct) → Happening X
-
--- the wire after it, if there was something to be done
-abbrev pub changed : {X : Type 0} → Wire X → Option (What × Wire X) → Wire X
-changed w None = w
-changed w (Some r) = r.1
-
-abbrev pub happen : {X : Type 0} → Happening X → Wire X → Wire X
-happen (Enters x) w = enter x w
-happen Comes w = take w
-happen (On a) w = changed w (wire_act a w)
-
--- the wire after all that, from an empty one
-abbrev pub happened : {X : Type 0} → List (Happening X) → Wire X → Wire X
-happened [] w = w
-happened (h ∷ hs) w = happened hs (happen h w)
-
--- the packets that entered
-abbrev pub entered : {X : Type 0} → List (Happening X) → List X
-entered [] = []
-entered (Enters x ∷ hs) = x ∷ entered hs
-entered (_ ∷ hs) = entered hs
-
--- these packets enter, and nothing else happens
-abbrev pub enterings : {X : Type 0} → List X → List (Happening X)
-enterings [] = []
-enterings (x ∷ xs) = Enters x ∷ enterings xs

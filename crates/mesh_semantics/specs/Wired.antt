@@ -1,10 +1,10 @@
 -- What is kept of a delay whose links are wires: what is on a link is the rest of what entered its wire, behind what the wire has handed out.
-use Rattle.std.specs.Prelude.{◌≡◌, List, [], ◌++◌, Option, Some, None}
-use Rattle.run_words.specs.declared.words.WireAct.{WireAct}
-use Rattle.run_words.specs.Tables.{Pair}
-use Rattle.run_words.specs.Paths.{on_link}
-use Rattle.mesh_semantics.specs.Wire.{Happening, WireFacts, happened, wire_act}
-use Rattle.mesh_semantics.specs.Delay.{Packet, Wires, Delay, wire_at}
+use Rattle.std.specs.Prelude.{◌≡◌, [], ◌++◌, Option, Some, None}
+use Rattle.run_types.specs.declared.types.WireAct.{WireAct}
+use Rattle.run_types.specs.Tables.{Pair}
+use Rattle.run_types.specs.Paths.{on_link}
+use Rattle.mesh_semantics.specs.Wire.{WireFacts, wire_act}
+use Rattle.mesh_semantics.specs.Delay.{Wires, Delay, wire_at}
 
 -- the wire of a link
 pub record IsWireOf (ws : Wires) (d : Delay) (k : Pair) : Type 0 where
@@ -27,13 +27,3 @@ NothingComes (Some ws) d k = (wire_at ws k).frames ≡ []
 abbrev pub NothingDone : Option Wires → WireAct → Pair → Type 0
 NothingDone None a k = Unit {0}
 NothingDone (Some ws) a k = wire_act a (wire_at ws k) ≡ None
-
--- what becomes of a wire is what may happen on a wire
-abbrev pub IsReached : Wires → Wires → Pair → Type 0
-IsReached ws vs k = (hs : List (Happening Packet)) × (wire_at vs k ≡ happened hs (wire_at ws k))
-
-abbrev pub AreReached : Option Wires → Option Wires → Type 0
-AreReached None None = Unit {0}
-AreReached (Some ws) (Some vs) = (k : Pair) → IsReached ws vs k
-AreReached None (Some vs) = ⊥
-AreReached (Some ws) None = ⊥

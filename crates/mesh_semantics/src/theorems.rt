@@ -2,35 +2,39 @@
 //! are the type parameters `S` and `T`. What is kept of a configuration is a property, and how objects of two languages correspond a relation: a contract ranges over
 //! these as over what a function gives, from the type parameters `K` and `M`.
 ghost use Rattle.std.specs.Prelude.{◌≡◌, ◌≢◌, ◌<◌, ◌*◌, ℕ, ◌==◌, List, [], ◌++◌, length, drop, Option, Some, None, true, if◌then◌else◌, slice_get};
-ghost use Rattle.run_words.specs.declared.words.Label.{Label};
-ghost use Rattle.run_words.specs.declared.words.Event.{Event};
-ghost use Rattle.run_words.specs.declared.words.Event.TheVariants as Ev;
-ghost use Rattle.run_words.specs.declared.words.What.{What};
-ghost use Rattle.run_words.specs.declared.words.What.TheVariants as W;
-ghost use Rattle.run_words.specs.declared.words.WireAct.{WireAct};
-ghost use Rattle.run_words.specs.declared.words.Placement.{Placement};
+ghost use Rattle.run_types.specs.declared.types.Label.{Label};
+ghost use Rattle.run_types.specs.declared.types.Event.{Event};
+ghost use Rattle.run_types.specs.declared.types.Event.TheVariants as Ev;
+ghost use Rattle.run_types.specs.declared.types.What.{What};
+ghost use Rattle.run_types.specs.declared.types.What.TheVariants as W;
+ghost use Rattle.run_types.specs.declared.types.WireAct.{WireAct};
+ghost use Rattle.run_types.specs.declared.types.Placement.{Placement};
 ghost use Rattle.mesh_semantics.specs.Language.{Language};
 ghost use Rattle.mesh_semantics.specs.Config.{Config};
 ghost use Rattle.mesh_semantics.specs.Moves.{move};
-ghost use Rattle.run_words.specs.Tables.{Pair};
-ghost use Rattle.run_words.specs.Ways.{Ways};
-ghost use Rattle.run_words.specs.Routes.{IsRouted, without_route};
-ghost use Rattle.mesh_semantics.specs.Wire.{Happening, WireFacts, coming, empty_wire, entered, happened, send, take, wanted, wire_act};
+ghost use Rattle.run_types.specs.Tables.{Pair};
+ghost use Rattle.run_types.specs.PathFacts.{Ways};
+ghost use Rattle.run_types.specs.Routes.{without_route};
+ghost use Rattle.run_types.specs.RoutedPlacements.{IsRouted};
+ghost use Rattle.mesh_semantics.specs.Wire.{WireFacts, coming, empty_wire, send, take, wanted, wire_act, IsPrefix};
+ghost use Rattle.mesh_semantics.specs.Happenings.{Happening, entered, happened, AreReached};
 ghost use Rattle.mesh_semantics.specs.KeptWire.{Carries, Follows, KeptWire, empty_kept, kept_act, kept_coming, kept_send, kept_take, kept_wanted, whole};
-ghost use Rattle.mesh_semantics.specs.Traffic.{Change, Inside, IsPrefix, between, traffic, no_traffic, Traffic};
+ghost use Rattle.mesh_semantics.specs.Traffic.{Change, Inside, between, traffic, no_traffic, Traffic};
 ghost use Rattle.mesh_semantics.specs.Delay.{Delay, Wires, no_delay, no_delay_on_wires, wire_at};
 ghost use Rattle.mesh_semantics.specs.Act.{Acts, Nothing, act, is_quiet, ready_at};
-ghost use Rattle.mesh_semantics.specs.Record.{record_from, record_of, record_on_wires, start};
-ghost use Rattle.run_words.specs.Asks.{EachAnswersPost};
-ghost use Rattle.mesh_semantics.specs.Standing.{IsCycle, Contained, called_by, cycles, standing};
+ghost use Rattle.mesh_semantics.specs.Record.{record_from, start};
+ghost use Rattle.mesh_semantics.specs.RecordOf.{record_of, record_on_wires};
+ghost use Rattle.run_types.specs.Asks.{EachAnswersPost};
+ghost use Rattle.mesh_semantics.specs.Standing.{standing};
+ghost use Rattle.mesh_semantics.specs.Cycles.{IsCycle, Contained, called_by, cycles};
 ghost use Rattle.mesh_semantics.specs.Sound.{IsSound};
-ghost use Rattle.mesh_semantics.specs.Wired.{AreReached, KeepsWires, NothingComes, NothingDone};
+ghost use Rattle.mesh_semantics.specs.Wired.{KeepsWires, NothingComes, NothingDone};
 ghost use Rattle.mesh_semantics.specs.FitFor.{FitFor};
 ghost use Rattle.mesh_semantics.specs.Lawful.{Lawful};
 ghost use Rattle.mesh_semantics.specs.Waits.{Waits};
-ghost use Rattle.mesh_semantics.specs.Kept.{After, ShowsRun};
+ghost use Rattle.mesh_semantics.specs.EventSoundness.{After, ShowsRun};
 ghost use Rattle.mesh_semantics.specs.Simulates.{Simulates, Related, Corresponds, SameAct, SameRecord};
-ghost use Rattle.run_words.specs.Given.{IsGiven, AreGiven};
+ghost use Rattle.run_types.specs.GivenProperties.{IsGiven, AreGiven};
 
 /// Where no pair of nodes is without route, each path ends at its goal and has no node twice, and each of its steps is over a link of the mesh that is not cut; and only
 /// there. Without cuts and routes no pair is.

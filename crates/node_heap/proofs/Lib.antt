@@ -1,4 +1,4 @@
-pub mod Insides
+pub mod HeapAbstraction
 pub mod Objects
-pub mod Padding
+pub mod ArrayPrefix
 pub mod Stacks

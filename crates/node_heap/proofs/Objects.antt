@@ -2,15 +2,15 @@
 use Rattle.std.proofs.Common.{◌≡◌, refl, sym, ◌∙◌, ap, ℕ, zero, suc, ◌+◌, ◌-◌, ◌*◌, ◌<◌, ◌≤◌, List, [], ◌∷◌, ◌++◌, length, map, get_or, set, take, drop, replicate, arith, length-set, length-drop}
 use Rattle.std.proofs.Math.Seq.{take-set-lt}
 use Rattle.std.proofs.lemmas.List.{length-replicate, length-map, take-set-le, drop-drop, drop-set-lt, drop-set-add, drop-replicate}
-use Rattle.run_words.specs.declared.words.Value.{Value}
-use Rattle.run_words.specs.declared.words.Value.TheVariants.{Nil}
-use Rattle.run_words.specs.declared.frames.CodeObject.{CodeObject}
+use Rattle.run_types.specs.declared.types.Value.{Value}
+use Rattle.run_types.specs.declared.types.Value.TheVariants.{Nil}
+use Rattle.run_types.specs.declared.frames.CodeObject.{CodeObject}
 use Rattle.cell_pool.specs.Lists.{lengths}
 use Rattle.node_heap.specs.declared.cells.FrameCell.{FrameCell}
 use Rattle.node_heap.specs.declared.cells.Slot.{Slot}
 use Rattle.node_heap.specs.Heaps.{no_object, frames_of, nils}
 use Rattle.node_heap.specs.Layout.{frame_of, object_of, objects_of, IsLaid}
-use Rattle.node_heap.proofs.Padding.{nils-replicate, take-replicate}
+use Rattle.node_heap.proofs.ArrayPrefix.{nils-replicate, take-replicate}
 
 abbrev Queues : Type 0
 Queues = List (List FrameCell)

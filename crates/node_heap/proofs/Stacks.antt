@@ -1,9 +1,9 @@
 -- Values that are pushed on an array of 64 places and taken from it.
 use Rattle.std.proofs.Common.{◌≡◌, ◌≢◌, refl, sym, ◌∙◌, ap, ℕ, zero, suc, ◌+◌, ◌-◌, ◌<◌, ◌≤◌, List, ◌∷◌, length, get_or, set, arith, add-one, get_or-set_other, get_or-set_same}
 use Rattle.std.proofs.lemmas.List.{get_or_default}
-use Rattle.run_words.specs.declared.words.Value.{Value}
-use Rattle.run_words.specs.declared.words.Value.TheVariants.{Nil}
-use Rattle.run_words.specs.Operands.{top, below, dropped, nth}
+use Rattle.run_types.specs.declared.types.Value.{Value}
+use Rattle.run_types.specs.declared.types.Value.TheVariants.{Nil}
+use Rattle.run_types.specs.Operands.{top, below, dropped, nth}
 use Rattle.node_heap.specs.Rows.{stack}
 
 pub length-stack : (vs : List Value) (n : ℕ) → length (stack vs n) ≡ n

@@ -1,12 +1,12 @@
 -- What a contract sees of a heap: for each slot its object of code, and the limits.
 use Rattle.std.specs.Prelude.{ℕ, ◌+◌, List, [], ◌∷◌, length, get_or, slice_set, None, refl}
 use Rattle.std.specs.Coded.{Coded, code_by, coded×, coded_list, coded_ℕ}
-use Rattle.run_words.specs.declared.words.Value.{Value}
-use Rattle.run_words.specs.declared.words.Serves.TheVariants as S
-use Rattle.run_words.specs.declared.frames.Frame.{Frame}
-use Rattle.run_words.specs.declared.frames.CodeObject.{CodeObject}
-use Rattle.run_words.specs.Operands.{padded}
-use Rattle.node_heap.specs.declared.words.FrameHead.{FrameHead}
+use Rattle.run_types.specs.declared.types.Value.{Value}
+use Rattle.run_types.specs.declared.types.Serves.TheVariants as S
+use Rattle.run_types.specs.declared.frames.Frame.{Frame}
+use Rattle.run_types.specs.declared.frames.CodeObject.{CodeObject}
+use Rattle.run_types.specs.Operands.{padded}
+use Rattle.node_heap.specs.declared.types.FrameHead.{FrameHead}
 
 pub record HeapOf : Type 0 where
   -- the number of the node

@@ -1,9 +1,9 @@
 -- The objects of a heap, as its slots, its queues of frames and its row of variables make them.
 use Rattle.std.specs.Prelude.{◌≡◌, ℕ, ◌*◌, ◌<◌, ◌≤◌, List, [], ◌∷◌, length, map, take, drop, replicate}
-use Rattle.run_words.specs.declared.words.Value.{Value}
-use Rattle.run_words.specs.declared.words.Value.TheVariants.{Nil}
-use Rattle.run_words.specs.declared.frames.Frame.{Frame}
-use Rattle.run_words.specs.declared.frames.CodeObject.{CodeObject}
+use Rattle.run_types.specs.declared.types.Value.{Value}
+use Rattle.run_types.specs.declared.types.Value.TheVariants.{Nil}
+use Rattle.run_types.specs.declared.frames.Frame.{Frame}
+use Rattle.run_types.specs.declared.frames.CodeObject.{CodeObject}
 use Rattle.node_heap.specs.declared.cells.FrameCell.{FrameCell}
 use Rattle.node_heap.specs.declared.cells.Slot.{Slot}
 

@@ -1,7 +1,7 @@
 -- Values in an array, whose other places do not count.
 use Rattle.std.specs.Prelude.{ℕ, zero, suc, List, [], ◌∷◌, get_or}
-use Rattle.run_words.specs.declared.words.Value.{Value}
-use Rattle.run_words.specs.declared.words.Value.TheVariants.{Nil}
+use Rattle.run_types.specs.declared.types.Value.{Value}
+use Rattle.run_types.specs.declared.types.Value.TheVariants.{Nil}
 
 -- the first n values of an array, with the last one first
 abbrev pub stack : List Value → ℕ → List Value

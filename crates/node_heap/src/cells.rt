@@ -1,13 +1,13 @@
 //! What stands in the cells of a heap.
 ghost use Rattle.std.specs.Prelude.{◌≡◌, ◌<◌, ◌≤◌, ◌+◌, ◌^◌, suc, ◌∷◌, length};
-ghost use Rattle.run_words.specs.Operands.{top, below, dropped};
+ghost use Rattle.run_types.specs.Operands.{top, below, dropped};
 ghost use Rattle.node_heap.specs.Heaps.{frame_by, head_by};
 ghost use Rattle.node_heap.specs.Layout.{frame_of};
 
 use crate::operands::Operands;
 use crate::temps::Temps;
-use crate::words::FrameHead;
-use run_words::{Serves, Value};
+use crate::types::FrameHead;
+use run_types::{Serves, Value};
 
 /// A slot's class, by its place in the unit, and its number of variables.
 #[derive(Clone, Copy)]

@@ -1,15 +1,15 @@
 //! The objects of one node.
 ghost use Rattle.std.specs.Prelude.{◌≡◌, ◌<◌, ◌≤◌, ◌↔◌, ◌+◌, ◌^◌, suc, true, false, [], ◌∷◌, ◌++◌, length, slice_set, Some, IfOk, OnErr, OnOk, Err};
-ghost use Rattle.run_words.specs.declared.words.Serves.TheVariants as S;
-ghost use Rattle.run_words.specs.Operands.{top, below, dropped, nth};
+ghost use Rattle.run_types.specs.declared.types.Serves.TheVariants as S;
+ghost use Rattle.run_types.specs.Operands.{top, below, dropped, nth};
 ghost use Rattle.cell_pool.specs.Lists.{lengths, list_of, with_list, free_of};
 ghost use Rattle.node_heap.specs.Layout.{frame_of};
 ghost use Rattle.node_heap.specs.Heaps.{object_at, put_object, frames_used, unbegun, frame_by, head_by, top_in, under_top, top_at, put_top};
 
 use crate::cells::{FrameCell, Slot};
-use crate::words::{FrameHead, HeapFull, HeapLimits};
+use crate::types::{FrameHead, HeapFull, HeapLimits};
 use cell_pool::CellPool;
-use run_words::{Serves, Value};
+use run_types::{Serves, Value};
 use std::alloc::{AllocError, Global};
 use std::marker::Model;
 
@@ -24,7 +24,7 @@ pub struct Heap {
 }
 
 impl Model for Heap {
-    ghost use Rattle.run_words.specs.contracts.frames.CodeObject as image;
+    ghost use Rattle.run_types.specs.contracts.frames.CodeObject as image;
     ghost use Rattle.node_heap.specs.Heaps.{HeapOf, heap_code};
 
     ghost Value = { HeapOf };
@@ -47,7 +47,7 @@ fn begin_frame(frames: &mut CellPool<FrameCell>, queue: usize, head: FrameHead) 
     ensures begun { result ≡ true → (c : FrameCell) × (frame_of c ≡ frame_by head) × (frames.new ≡ with_list frames.old queue (c ∷ list_of frames.old queue)) }
     ensures same { result ≡ false → frames.new ≡ frames.old }
 {
-    if !frames.push_front_stale(queue) {
+    if !frames.push_front_reusing(queue) {
         return false;
     }
     let cell = frames.get_mut(queue, 0);

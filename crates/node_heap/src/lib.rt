@@ -1,11 +1,13 @@
-//! Object slots, variables and frames of one node, in memory that is taken once.
+//! Object slots, variables and frames of one node, in memory allocated once.
+//!
+//! Does not know: the meaning of instructions.
 #![tactic(auto)]
 
 mod cells;
 mod heap;
 mod operands;
 mod temps;
-mod words;
+mod types;
 
 pub use heap::Heap;
-pub use words::{FrameHead, HeapFull, HeapLimits};
+pub use types::{FrameHead, HeapFull, HeapLimits};

@@ -1,8 +1,8 @@
 //! The operands of a frame.
 ghost use Rattle.std.specs.Prelude.{◌≡◌, ◌<◌, ◌≤◌, ◌+◌, [], ◌∷◌, length};
-ghost use Rattle.run_words.specs.Operands.{top, below, dropped, nth};
+ghost use Rattle.run_types.specs.Operands.{top, below, dropped, nth};
 
-use run_words::Value;
+use run_types::Value;
 use std::marker::Model;
 
 /// At most 64 values, which contracts see as a list with the last one first. What stands behind them in the array is
@@ -15,7 +15,7 @@ pub struct Operands {
 
 impl Model for Operands {
     ghost use Rattle.std.specs.Prelude.{List as value_list, ◌≡◌, ◌≤◌, length};
-    ghost use Rattle.run_words.specs.declared.words.Value.{Value as OneValue};
+    ghost use Rattle.run_types.specs.declared.types.Value.{Value as OneValue};
     ghost use Rattle.node_heap.specs.Rows.{stack};
 
     ghost Value = { value_list OneValue };

@@ -1,9 +1,9 @@
 //! The temps of a frame.
 ghost use Rattle.std.specs.Prelude.{◌≡◌, ◌<◌, ◌≤◌, [], length, slice_set};
-ghost use Rattle.run_words.specs.Operands.{nth};
+ghost use Rattle.run_types.specs.Operands.{nth};
 ghost use Rattle.node_heap.specs.Heaps.{nils};
 
-use run_words::Value;
+use run_types::Value;
 use std::marker::Model;
 
 /// At most 32 values, which contracts see as a list. What stands behind them in the array is whatever was there.
@@ -15,7 +15,7 @@ pub struct Temps {
 
 impl Model for Temps {
     ghost use Rattle.std.specs.Prelude.{List as value_list, ◌≡◌, ◌≤◌, length, take as first_of};
-    ghost use Rattle.run_words.specs.declared.words.Value.{Value as OneValue};
+    ghost use Rattle.run_types.specs.declared.types.Value.{Value as OneValue};
 
     ghost Value = { value_list OneValue };
 

@@ -6,16 +6,16 @@ use Rattle.std.specs.Ordering.{nat_cmp, eq_by_cmp}
 use Rattle.std.specs.FinMap.{find, put}
 use Rattle.std.specs.FinMap.Entries.{find-put}
 use Rattle.std.proofs.lemmas.Option.{slice_get_past}
-use Rattle.run_words.specs.declared.words.Placement.{Placement}
-use Rattle.run_words.specs.Tables.{Pair, pair_cmp, list_at}
-use Rattle.run_words.proofs.Laws.{decide, find_put_same, find_put_other, tied_pair, untied_pair, pair_total}
+use Rattle.run_types.specs.declared.types.Placement.{Placement}
+use Rattle.run_types.specs.Tables.{Pair, pair_cmp, list_at}
+use Rattle.run_types.proofs.Laws.{decide, find_put_same, find_put_other, tied_pair, untied_pair, pair_total}
 use Rattle.mesh_semantics.specs.Language.{Language}
 use Rattle.mesh_semantics.specs.Config.{Config, object_of, put_object}
-use Rattle.run_words.specs.Paths.{on_link}
+use Rattle.run_types.specs.Paths.{on_link}
 use Rattle.mesh_semantics.specs.Delay.{Delay, arrived_at, held, made_by, count_made}
-use Rattle.run_words.specs.ObjectNames.{node_of, slot_of}
+use Rattle.run_types.specs.ObjectNames.{node_of, slot_of}
 use Rattle.mesh_semantics.specs.Sound.{entries}
-use Rattle.run_words.specs.Ways.{In}
+use Rattle.run_types.specs.PathFacts.{In}
 use Rattle.node_semantics.specs.Node.{NodeState, set_at, name_at, made_here, add_slot, fresh_slot, count_one}
 use Rattle.node_semantics.specs.Machine.{Machine}
 use Rattle.mesh_semantics.specs.Requests.{Requests}

@@ -8,11 +8,13 @@ use Rattle.std.specs.declared.cmp.Ordering.TheVariants.{Less, Equal, Greater}
 use Rattle.std.specs.FinMap.{nat_cmp-IsAntisymmetric, find}
 use Rattle.std.specs.FinMap.Entries.{is_sorted, below_all}
 use Rattle.std.proofs.lemmas.List.Sums.{sum_by-cons}
-use Rattle.run_words.specs.Tables.{Pair, pair_cmp, list_at, leaving}
-use Rattle.run_words.proofs.Laws.{decide, equal, equals, differ, first, second, both}
-use Rattle.run_words.specs.Paths.{total, under, is_link, on_link}
-use Rattle.mesh_semantics.specs.Delay.{Arrival, Packet, NumberedPacket}
-use Rattle.run_words.specs.ObjectNames.{node_of, slot_of}
+use Rattle.run_types.specs.Tables.{Pair, pair_cmp, list_at}
+use Rattle.run_types.specs.LinkTables.{leaving}
+use Rattle.run_types.proofs.Laws.{decide, equal, equals, differ, first, second, both}
+use Rattle.run_types.specs.Paths.{total, under, is_link, on_link}
+use Rattle.mesh_semantics.specs.Delay.{Arrival, Packet}
+use Rattle.mesh_semantics.specs.NumberedPackets.{NumberedPacket}
+use Rattle.run_types.specs.ObjectNames.{node_of, slot_of}
 use Rattle.node_semantics.specs.Node.{name_at, Slot, NumberedArrival, arrivals, message_count}
 use Rattle.node_semantics.specs.StandsFor.{packets}
 use Rattle.node_semantics.proofs.PostedLinks.{decide_link}

@@ -8,13 +8,13 @@ use Rattle.std.specs.declared.cmp.Ordering.TheVariants.{Less, Equal, Greater}
 use Rattle.std.specs.FinMap.{find}
 use Rattle.std.specs.FinMap.Entries.{is_sorted, below_all}
 use Rattle.std.proofs.lemmas.Option.{slice_get_within}
-use Rattle.run_words.specs.declared.words.Placement.{Placement}
-use Rattle.run_words.proofs.Laws.{first, second, same_some}
+use Rattle.run_types.specs.declared.types.Placement.{Placement}
+use Rattle.run_types.proofs.Laws.{first, second, same_some}
 use Rattle.mesh_semantics.specs.Language.{Language}
 use Rattle.mesh_semantics.specs.Config.{Config, object_of}
 use Rattle.mesh_semantics.specs.Delay.{Holding, Delay, held, arrived_at}
-use Rattle.run_words.specs.ObjectNames.{node_of, slot_of}
-use Rattle.run_words.specs.Tables.{Each}
+use Rattle.run_types.specs.ObjectNames.{node_of, slot_of}
+use Rattle.run_types.specs.Tables.{Each}
 use Rattle.node_semantics.specs.Node.{Slot, NodeState, name_at}
 use Rattle.node_semantics.specs.Machine.{Machine, any_faulted}
 use Rattle.mesh_semantics.specs.Requests.{KeepsClassAndFault}

@@ -2,8 +2,8 @@
 use Rattle.std.proofs.Common.{◌≡◌, ◌⊎◌, inl, inr, refl, sym, ap, ◌∙◌, ℕ, zero, suc, List, [], ◌∷◌, length, replicate, Some, Bool, true, false}
 use Rattle.std.specs.Prelude.{slice_get, ◌==◌}
 use Rattle.std.specs.Option.{unwrap_or}
-use Rattle.run_words.proofs.Laws.{same_some, equal, equals}
-use Rattle.run_words.specs.Ways.{In}
+use Rattle.run_types.proofs.Laws.{same_some, equal, equals}
+use Rattle.run_types.specs.PathFacts.{In}
 use Rattle.mesh_semantics.specs.Act.{class_place}
 
 later : (x k : ℕ) (ks : List ℕ) → (x == k) ≡ false → (x ≡ k) ⊎ In k ks → In k ks

@@ -1,23 +1,24 @@
 -- The turn that makes an object: on the own node, or by a packet.
 use Rattle.std.proofs.Common.{◌≡◌, ◌≢◌, ◌⊎◌, inl, inr, refl, sym, ap, subst, ◌∙◌, ℕ, ◌+◌, ◌*◌, ◌%◌, ◌<◌, ◌==◌, [], length, Option, Some, None, Bool, true, false, arith}
 use Rattle.std.specs.Prelude.{slice_get}
-use Rattle.run_words.specs.declared.words.Value.TheVariants as V
-use Rattle.run_words.specs.declared.words.Label.TheVariants as L
-use Rattle.run_words.specs.declared.words.What.TheVariants as Wt
-use Rattle.run_words.specs.declared.words.Place.{Place}
-use Rattle.run_words.specs.declared.words.Place.TheVariants as Pl
-use Rattle.run_words.specs.declared.words.Placement.{Placement}
-use Rattle.run_words.proofs.Laws.{decide, equals, same_some, find_put_same, find_put_other}
+use Rattle.run_types.specs.declared.types.Value.TheVariants as V
+use Rattle.run_types.specs.declared.types.Label.TheVariants as L
+use Rattle.run_types.specs.declared.types.What.TheVariants as Wt
+use Rattle.run_types.specs.declared.types.Place.{Place}
+use Rattle.run_types.specs.declared.types.Place.TheVariants as Pl
+use Rattle.run_types.specs.declared.types.Placement.{Placement}
+use Rattle.run_types.proofs.Laws.{decide, equals, same_some, find_put_same, find_put_other}
 use Rattle.mesh_semantics.proofs.Laws.{runs}
 use Rattle.mesh_semantics.specs.Kind as K
 use Rattle.mesh_semantics.specs.Kind.{Kind}
 use Rattle.mesh_semantics.specs.Language.{Language}
 use Rattle.mesh_semantics.specs.Config.{Config, object_of, put_object}
 use Rattle.mesh_semantics.specs.Moves.{move}
-use Rattle.run_words.specs.Paths.{next}
+use Rattle.run_types.specs.Paths.{next}
 use Rattle.mesh_semantics.specs.Delay as D
-use Rattle.mesh_semantics.specs.Delay.{Packet, Holding, Delay, arrived_at, held, hold, post, made_by, count_made, NumberedPacket}
-use Rattle.run_words.specs.ObjectNames.{node_of}
+use Rattle.mesh_semantics.specs.Delay.{Packet, Holding, Delay, arrived_at, held, hold, post, made_by, count_made}
+use Rattle.mesh_semantics.specs.NumberedPackets.{NumberedPacket}
+use Rattle.run_types.specs.ObjectNames.{node_of}
 use Rattle.mesh_semantics.specs.Act as A
 use Rattle.mesh_semantics.specs.Act.{Acted, id, labelled, shows, create_turn, next_name, object_count, goal_by, goal_of, class_place}
 use Rattle.mesh_semantics.specs.Sound.{OwnedAt, entries, is_wait}
@@ -27,7 +28,7 @@ use Rattle.node_semantics.specs.Machine.{Machine}
 use Rattle.node_semantics.specs.StandsFor.{request_of, PacketFits, MachineStandsFor}
 use Rattle.node_semantics.proofs.NamesAndSlots.{set_same, set_length}
 use Rattle.node_semantics.proofs.SmallChanges.{chain, post_stands}
-use Rattle.run_words.specs.Ways.{In}
+use Rattle.run_types.specs.PathFacts.{In}
 use Rattle.node_semantics.proofs.AddedObject.{count_stands, add_stands, is_new, no_object}
 use Rattle.node_semantics.proofs.OneObjectTurns.{Row, Turning, x₁, d₁}
 use Rattle.node_semantics.proofs.PostTurns.{state_stands, stands₁, aside_same, nothing, asked_stands, asked_number, asked_goal, own_o, slot_o}

@@ -2,25 +2,26 @@
 use Rattle.std.proofs.Common.{◌≡◌, ◌≢◌, refl, sym, subst, ℕ, ◌*◌, ◌<◌, Option, Some, None, is_none, true, false, ◌&&◌}
 use Rattle.std.specs.Prelude.{slice_get}
 use Rattle.std.specs.List.{list_any}
-use Rattle.run_words.specs.declared.words.Event.{Event}
-use Rattle.run_words.specs.declared.words.Event.TheVariants as Ev
-use Rattle.run_words.specs.declared.words.Placement.{Placement}
-use Rattle.run_words.proofs.Laws.{first, second, there_at}
+use Rattle.run_types.specs.declared.types.Event.{Event}
+use Rattle.run_types.specs.declared.types.Event.TheVariants as Ev
+use Rattle.run_types.specs.declared.types.Placement.{Placement}
+use Rattle.run_types.proofs.Laws.{first, second, there_at}
 use Rattle.mesh_semantics.specs.Kind as K
 use Rattle.mesh_semantics.specs.Kind.{Kind, Alternative}
 use Rattle.mesh_semantics.specs.Language.{Language}
 use Rattle.mesh_semantics.specs.Config.{Config, object_of}
 use Rattle.mesh_semantics.specs.Delay.{Delay, held, stepped_last}
-use Rattle.run_words.specs.ObjectNames.{node_of, slot_of}
+use Rattle.run_types.specs.ObjectNames.{node_of, slot_of}
 use Rattle.mesh_semantics.specs.Act.{plain_act, node_turn, object_turn, turn_of, can_step, is_possible}
 use Rattle.mesh_semantics.specs.Sound.{IsSound}
 use Rattle.mesh_semantics.specs.Lawful.{Lawful}
 use Rattle.node_semantics.specs.Node.{Slot, NodeState, name_at, can_go, arrivals, slot_act, slot_in_turn, turn_of_slot}
 use Rattle.node_semantics.specs.Machine.{Machine, plain_machine_act, turn_in, after_node}
-use Rattle.run_words.specs.Tables.{leaving}
+use Rattle.run_types.specs.LinkTables.{leaving}
 use Rattle.mesh_semantics.specs.Requests.{Requests}
 use Rattle.node_semantics.specs.StandsFor.{slot_at, slot_in, request_in, request_of, MachineStandsFor}
-use Rattle.node_semantics.specs.Agrees.{Agrees, IsOfMesh, IsFresh}
+use Rattle.node_semantics.specs.Agrees.{IsOfMesh, IsFresh}
+use Rattle.node_semantics.proofs.ActsAgree.{Agrees}
 use Rattle.node_semantics.proofs.LimitsAndTurn.{Chosen, NoOne, One, chosen, within_row}
 use Rattle.node_semantics.proofs.OneObjectTurns.{Row, Turning, spot_here, write_row, fault_row}
 use Rattle.node_semantics.proofs.ReturnTurns.{return_row}

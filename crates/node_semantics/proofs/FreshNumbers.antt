@@ -1,16 +1,16 @@
 -- There are numbers for the events of each schedule; and a test of numbers along a run.
 use Rattle.std.proofs.Common.{◌≡◌, ◌≢◌, ap, subst, ◌∙◌, ℕ, zero, suc, ◌+◌, ◌<◌, List, [], ◌∷◌, Option, Some, None, Bool, true, false, not, ◌&&◌, ◌||◌, arith}
 use Rattle.std.specs.Prelude.{slice_get}
-use Rattle.run_words.specs.declared.words.Event.{Event}
-use Rattle.run_words.specs.declared.words.Event.TheVariants as Ev
-use Rattle.run_words.specs.declared.words.Placement.{Placement}
-use Rattle.run_words.proofs.Laws.{same_some, equals, first, second}
+use Rattle.run_types.specs.declared.types.Event.{Event}
+use Rattle.run_types.specs.declared.types.Event.TheVariants as Ev
+use Rattle.run_types.specs.declared.types.Placement.{Placement}
+use Rattle.run_types.proofs.Laws.{same_some, equals, first, second}
 use Rattle.mesh_semantics.specs.Language.{Language}
 use Rattle.node_semantics.specs.Node.{Slot, NodeState, has_number}
 use Rattle.node_semantics.specs.Machine as M
 use Rattle.node_semantics.specs.Machine.{Machine, MachineActed, machine_act, machine_start, machine_start_on_wires, is_machine_quiet}
 use Rattle.node_semantics.specs.Agrees.{IsFresh, IsUnused}
-use Rattle.node_semantics.specs.Written.{Then, UnlessQuiet, AreFresh, AreFreshAt, FreshAlong, FreshAlongWires}
+use Rattle.node_semantics.specs.MachineLines.{Then, UnlessQuiet, AreFresh, AreFreshAt, FreshAlong, FreshAlongWires}
 
 abbrev above : Option ℕ → ℕ
 above None = 0

@@ -1,17 +1,18 @@
 -- Numbers that stand for a request: what a change leaves of them.
 use Rattle.std.proofs.Common.{◌≡◌, ◌≢◌, inl, inr, refl, sym, ap, ◌∙◌, ℕ, ◌==◌, List, [], ◌∷◌, Option, Some, None, Bool, true, false}
-use Rattle.run_words.specs.Tables.{Pair, Each}
-use Rattle.run_words.proofs.Laws.{equals, same_some}
+use Rattle.run_types.specs.Tables.{Pair, Each}
+use Rattle.run_types.proofs.Laws.{equals, same_some}
 use Rattle.mesh_semantics.proofs.Laws.{is_call_of}
 use Rattle.mesh_semantics.specs.Kind as K
 use Rattle.mesh_semantics.specs.Kind.{Kind}
 use Rattle.mesh_semantics.specs.Language.{Language}
 use Rattle.mesh_semantics.specs.Config.{Config, object_of}
-use Rattle.run_words.specs.Paths.{under, on_link, is_link}
+use Rattle.run_types.specs.Paths.{under, on_link, is_link}
 use Rattle.mesh_semantics.specs.Delay as D
-use Rattle.mesh_semantics.specs.Delay.{Packet, Arrival, Holding, Delay, arrived_at, held, NumberedPacket}
+use Rattle.mesh_semantics.specs.Delay.{Packet, Arrival, Holding, Delay, arrived_at, held}
+use Rattle.mesh_semantics.specs.NumberedPackets.{NumberedPacket}
 use Rattle.mesh_semantics.specs.Sound.{Sent, owns, sent_of, called_of, is_wait}
-use Rattle.run_words.specs.Ways.{In}
+use Rattle.run_types.specs.PathFacts.{In}
 use Rattle.node_semantics.specs.Node.{Slot, NumberedArrival, arrivals}
 use Rattle.node_semantics.specs.Machine.{Machine}
 use Rattle.mesh_semantics.specs.Requests.{Requests}

@@ -1,3 +1,4 @@
+pub mod ActsAgree
 pub mod ClassPlaces
 pub mod NamesAndSlots
 pub mod KeptNumbers
@@ -33,7 +34,7 @@ pub mod WiresAgree
 pub mod StartsAgree
 pub mod FreshNumbers
 pub mod SameLines
-pub mod NumbersOut
+pub mod OutstandingNumbers
 pub mod ClassAndFault
-pub mod SaysMore
+pub mod StrongerInvariant
 pub mod Laws

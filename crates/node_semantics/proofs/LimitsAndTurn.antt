@@ -3,16 +3,18 @@ use Rattle.std.proofs.Common.{◌≡◌, refl, sym, ap, ap₂, subst, ◌∙◌,
 use Rattle.std.specs.Prelude.{slice_get, filter}
 use Rattle.std.specs.Ordering.{nat_cmp}
 use Rattle.std.specs.FinMap.{find}
-use Rattle.run_words.specs.declared.words.What.{What}
-use Rattle.run_words.specs.declared.words.Placement.{Placement}
-use Rattle.run_words.specs.Tables.{Pair, pair_cmp, push_list, leaving}
-use Rattle.run_words.proofs.Laws.{equals, first, pushed_sorted}
+use Rattle.run_types.specs.declared.types.What.{What}
+use Rattle.run_types.specs.declared.types.Placement.{Placement}
+use Rattle.run_types.specs.Tables.{Pair, pair_cmp}
+use Rattle.run_types.specs.LinkTables.{push_list, leaving}
+use Rattle.run_types.proofs.Laws.{equals, first, pushed_sorted}
 use Rattle.mesh_semantics.specs.Kind as K
 use Rattle.mesh_semantics.specs.Kind.{Kind}
 use Rattle.mesh_semantics.specs.Language.{Language}
 use Rattle.mesh_semantics.specs.Config.{Config, object_of}
-use Rattle.run_words.specs.Paths.{total, next, put_last}
-use Rattle.mesh_semantics.specs.Delay.{Holding, Delay, arrived_at, held, cell_count, NumberedPacket}
+use Rattle.run_types.specs.Paths.{total, next, put_last}
+use Rattle.mesh_semantics.specs.Delay.{Holding, Delay, arrived_at, held, cell_count}
+use Rattle.mesh_semantics.specs.NumberedPackets.{NumberedPacket}
 use Rattle.mesh_semantics.specs.Act as A
 use Rattle.mesh_semantics.specs.Act.{Acted, within, object_count, frame_count, goal_node, is_ready, ready_at, turn_of, can_step, first_of}
 use Rattle.std.specs.Option.{option_or}
@@ -22,7 +24,7 @@ use Rattle.node_semantics.specs.Node.{Slot, NumberedArrival, NodeState, NodeActe
 use Rattle.node_semantics.specs.Machine.{Machine, post_packet, after_node}
 use Rattle.mesh_semantics.specs.Requests.{Requests}
 use Rattle.node_semantics.specs.StandsFor.{slot_at, SlotStandsFor, Free, Served, Posted, Due, IsOut, MachineStandsFor}
-use Rattle.node_semantics.specs.Agrees.{Agrees}
+use Rattle.node_semantics.proofs.ActsAgree.{Agrees}
 use Rattle.node_semantics.proofs.NamesAndSlots.{set_same, name_slot}
 use Rattle.node_semantics.proofs.PostedLinks.{posted_links}
 use Rattle.node_semantics.proofs.SlotsOfObjects.{Picks, Neither, Both, picks, filter_and, at}

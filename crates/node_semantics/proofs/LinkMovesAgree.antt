@@ -1,16 +1,18 @@
 -- The move of a link's head.
 use Rattle.std.proofs.Common.{◌≡◌, refl, sym, ap, subst, ◌∙◌, ℕ, ◌+◌, ◌*◌, ◌<◌, ◌≤◌, ◌==◌, List, [], ◌∷◌, Some, Bool, true, false, if◌then◌else◌, nat_lt, arith}
 use Rattle.std.specs.Prelude.{slice_get}
-use Rattle.run_words.specs.declared.words.Event.TheVariants as Ev
-use Rattle.run_words.specs.declared.words.What.TheVariants as Wt
-use Rattle.run_words.specs.declared.words.FullKind.TheVariants as F
-use Rattle.run_words.specs.declared.words.Placement.{Placement}
-use Rattle.run_words.specs.Tables.{Pair, pair_cmp, list_at, put_list, leaving}
-use Rattle.run_words.proofs.Laws.{equal, there_at}
+use Rattle.run_types.specs.declared.types.Event.TheVariants as Ev
+use Rattle.run_types.specs.declared.types.What.TheVariants as Wt
+use Rattle.run_types.specs.declared.types.FullKind.TheVariants as F
+use Rattle.run_types.specs.declared.types.Placement.{Placement}
+use Rattle.run_types.specs.Tables.{Pair, pair_cmp, list_at, put_list}
+use Rattle.run_types.specs.LinkTables.{leaving}
+use Rattle.run_types.proofs.Laws.{equal, there_at}
 use Rattle.mesh_semantics.specs.Language.{Language}
 use Rattle.mesh_semantics.specs.Config.{Config}
-use Rattle.run_words.specs.Paths.{next, on_link, move_head}
-use Rattle.mesh_semantics.specs.Delay.{Delay, post, cell_count, NumberedPacket}
+use Rattle.run_types.specs.Paths.{next, on_link, move_head}
+use Rattle.mesh_semantics.specs.Delay.{Delay, post, cell_count}
+use Rattle.mesh_semantics.specs.NumberedPackets.{NumberedPacket}
 use Rattle.mesh_semantics.specs.Act as A
 use Rattle.mesh_semantics.specs.Act.{plain_act, within, passed, link_move, goal_node, first_of, object_count, frame_count}
 use Rattle.mesh_semantics.specs.Sound.{IsSound}
@@ -20,7 +22,7 @@ use Rattle.node_semantics.specs.Machine as M
 use Rattle.node_semantics.specs.Machine.{Machine, plain_machine_act, move_in, come, post_packet}
 use Rattle.mesh_semantics.specs.Requests.{Requests}
 use Rattle.node_semantics.specs.StandsFor.{PacketFits, packets, MachineStandsFor}
-use Rattle.node_semantics.specs.Agrees.{Agrees}
+use Rattle.node_semantics.proofs.ActsAgree.{Agrees}
 use Rattle.node_semantics.proofs.KeptNumbers.{fits_kept}
 use Rattle.node_semantics.proofs.PostedLinks.{is_head}
 use Rattle.node_semantics.proofs.SmallChanges.{head_fits, head_stands, post_stands}

@@ -8,10 +8,11 @@ use Rattle.std.specs.declared.cmp.Ordering.TheVariants.{Less, Equal, Greater}
 use Rattle.std.specs.Prelude.{Some}
 use Rattle.std.specs.FinMap.{find}
 use Rattle.std.specs.FinMap.Entries.{is_sorted, below_all}
-use Rattle.run_words.specs.Tables.{Pair, pair_cmp, list_at}
-use Rattle.run_words.proofs.Laws.{equals, first, second}
-use Rattle.run_words.specs.Paths.{on_link, is_link}
-use Rattle.mesh_semantics.specs.Delay.{Packet, NumberedPacket}
+use Rattle.run_types.specs.Tables.{Pair, pair_cmp, list_at}
+use Rattle.run_types.proofs.Laws.{equals, first, second}
+use Rattle.run_types.specs.Paths.{on_link, is_link}
+use Rattle.mesh_semantics.specs.Delay.{Packet}
+use Rattle.mesh_semantics.specs.NumberedPackets.{NumberedPacket}
 use Rattle.node_semantics.specs.StandsFor.{packets}
 use Rattle.node_semantics.proofs.PostedLinks.{decide_link}
 use Rattle.node_semantics.proofs.CellCounts.{find_first, find_next, find_none}

@@ -3,20 +3,20 @@ use Rattle.std.proofs.Common.{◌≡◌, ◌≢◌, ◌⊎◌, inl, inr, refl, s
 use Rattle.std.specs.Prelude.{slice_get}
 use Rattle.std.specs.Ordering.{nat_cmp}
 use Rattle.std.specs.FinMap.{find, put}
-use Rattle.run_words.specs.declared.words.Value.{Value}
-use Rattle.run_words.specs.declared.words.Placement.{Placement}
-use Rattle.run_words.specs.Tables.{without, Each}
-use Rattle.run_words.proofs.Laws.{decide, equals, differ, same_some, find_put_same, find_put_other, find_without_same, find_without_other, each_append}
+use Rattle.run_types.specs.declared.types.Value.{Value}
+use Rattle.run_types.specs.declared.types.Placement.{Placement}
+use Rattle.run_types.specs.Tables.{without, Each}
+use Rattle.run_types.proofs.Laws.{decide, equals, differ, same_some, find_put_same, find_put_other, find_without_same, find_without_other, each_append}
 use Rattle.mesh_semantics.proofs.Laws.{under-append, under_taken, under_other, each_without}
 use Rattle.mesh_semantics.specs.Kind.{has_name}
 use Rattle.mesh_semantics.specs.Language.{Language}
 use Rattle.mesh_semantics.specs.Config.{Config, object_of, put_object}
-use Rattle.run_words.specs.Paths.{under, without_first}
+use Rattle.run_types.specs.Paths.{under, without_first}
 use Rattle.mesh_semantics.specs.Delay as D
 use Rattle.mesh_semantics.specs.Delay.{Packet, Arrival, Holding, Delay, arrived_at, held, made_by, count_made, is_for}
-use Rattle.run_words.specs.ObjectNames.{node_of}
+use Rattle.run_types.specs.ObjectNames.{node_of}
 use Rattle.mesh_semantics.specs.Sound.{entries}
-use Rattle.run_words.specs.Ways.{In}
+use Rattle.run_types.specs.PathFacts.{In}
 use Rattle.node_semantics.specs.Node.{Slot, NumberedArrival, NodeState, arrivals, is_on}
 use Rattle.node_semantics.specs.Machine.{Machine}
 use Rattle.mesh_semantics.specs.Requests.{posts_request}

@@ -1,15 +1,16 @@
 -- What stands at each name after a change.
 use Rattle.std.proofs.Common.{◌≡◌, ◌≢◌, refl, sym, subst, ℕ, List, [], ◌∷◌, Option, Some, None}
-use Rattle.run_words.specs.Tables.{Pair, Each}
+use Rattle.run_types.specs.Tables.{Pair, Each}
 use Rattle.mesh_semantics.specs.Language.{Language}
 use Rattle.mesh_semantics.specs.Config.{Config, object_of}
-use Rattle.run_words.specs.Paths.{on_link}
-use Rattle.mesh_semantics.specs.Delay.{Packet, Arrival, Holding, Delay, arrived_at, held, NumberedPacket}
-use Rattle.run_words.specs.declared.words.Placement.{Placement}
+use Rattle.run_types.specs.Paths.{on_link}
+use Rattle.mesh_semantics.specs.Delay.{Packet, Arrival, Holding, Delay, arrived_at, held}
+use Rattle.mesh_semantics.specs.NumberedPackets.{NumberedPacket}
+use Rattle.run_types.specs.declared.types.Placement.{Placement}
 use Rattle.mesh_semantics.specs.Sound.{entries, sent_of, called_of}
-use Rattle.run_words.specs.Ways.{In}
+use Rattle.run_types.specs.PathFacts.{In}
 use Rattle.mesh_semantics.proofs.Laws.{no_part}
-use Rattle.run_words.proofs.Laws.{each_map}
+use Rattle.run_types.proofs.Laws.{each_map}
 use Rattle.node_semantics.specs.Node.{Slot, arrivals}
 use Rattle.node_semantics.specs.Machine.{Machine}
 use Rattle.node_semantics.specs.StandsFor.{slot_at, Occupied, AtName, IsNumberOf, AreNumbersOf, caller_of, owner_of, HasSlot, PacketFits, packets, MailboxFits, CallersFit, MachineStandsFor}

@@ -1,8 +1,8 @@
 -- Names and slots: what a change of one slot leaves.
 use Rattle.std.proofs.Common.{◌≡◌, ◌≢◌, ◌⊎◌, inl, inr, refl, sym, ap, ap₂, ◌∙◌, ℕ, zero, suc, ◌<◌, List, [], ◌∷◌, ◌++◌, length, Some, arith}
 use Rattle.std.specs.Prelude.{slice_get}
-use Rattle.run_words.proofs.Laws.{decide}
-use Rattle.run_words.specs.ObjectNames.{node_of, slot_of}
+use Rattle.run_types.proofs.Laws.{decide}
+use Rattle.run_types.specs.ObjectNames.{node_of, slot_of}
 use Rattle.node_semantics.specs.Node.{Slot, NodeState, set_at, name_at}
 use Rattle.node_semantics.specs.Machine.{Machine}
 use Rattle.node_semantics.specs.StandsFor.{slot_in, slot_at}

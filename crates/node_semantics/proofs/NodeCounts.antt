@@ -5,15 +5,16 @@ use Rattle.std.specs.Ordering.{nat_cmp}
 use Rattle.std.specs.FinMap.{find}
 use Rattle.std.proofs.lemmas.List.Sums.{sum_by-cons}
 use Rattle.std.proofs.lemmas.Option.{slice_get_past, slice_get_within}
-use Rattle.run_words.specs.declared.words.Placement.{Placement}
+use Rattle.run_types.specs.declared.types.Placement.{Placement}
 use Rattle.mesh_semantics.specs.Language.{Language}
 use Rattle.mesh_semantics.specs.Config.{Config, object_of}
-use Rattle.run_words.specs.Paths.{under}
+use Rattle.run_types.specs.Paths.{under}
 use Rattle.mesh_semantics.specs.Delay.{Holding, Delay, arrived_at, held, cell_count}
-use Rattle.run_words.specs.ObjectNames.{node_of, slot_of}
+use Rattle.run_types.specs.ObjectNames.{node_of, slot_of}
 use Rattle.mesh_semantics.specs.Act.{object_count, frame_count}
 use Rattle.mesh_semantics.specs.Lawful.{Lawful}
-use Rattle.run_words.specs.Tables.{Each, leaving}
+use Rattle.run_types.specs.Tables.{Each}
+use Rattle.run_types.specs.LinkTables.{leaving}
 use Rattle.node_semantics.specs.Node.{Slot, NodeState, name_at, arrivals, frames_in, message_count}
 use Rattle.node_semantics.specs.Machine.{Machine}
 use Rattle.mesh_semantics.specs.Requests.{Requests}

@@ -3,23 +3,24 @@ use Rattle.std.proofs.Common.{◌≡◌, ◌≢◌, ◌⊎◌, inl, inr, refl, s
 use Rattle.std.specs.Prelude.{slice_get}
 use Rattle.std.specs.Ordering.{nat_cmp}
 use Rattle.std.specs.FinMap.{find}
-use Rattle.run_words.specs.declared.words.Item.{Item}
-use Rattle.run_words.specs.declared.words.Error.{Error}
-use Rattle.run_words.specs.declared.words.Label.{Label}
-use Rattle.run_words.specs.declared.words.Label.TheVariants as L
-use Rattle.run_words.specs.declared.words.What.TheVariants as Wt
-use Rattle.run_words.specs.declared.words.Placement.{Placement}
-use Rattle.run_words.specs.Tables.{Pair, pair_cmp, list_at, Each}
-use Rattle.run_words.proofs.Laws.{decide, find_put_same, find_put_other, item_itself, error_itself}
+use Rattle.run_types.specs.declared.types.Item.{Item}
+use Rattle.run_types.specs.declared.types.Error.{Error}
+use Rattle.run_types.specs.declared.types.Label.{Label}
+use Rattle.run_types.specs.declared.types.Label.TheVariants as L
+use Rattle.run_types.specs.declared.types.What.TheVariants as Wt
+use Rattle.run_types.specs.declared.types.Placement.{Placement}
+use Rattle.run_types.specs.Tables.{Pair, pair_cmp, list_at, Each}
+use Rattle.run_types.proofs.Laws.{decide, find_put_same, find_put_other, item_itself, error_itself}
 use Rattle.mesh_semantics.proofs.Laws.{runs}
 use Rattle.mesh_semantics.specs.Kind as K
 use Rattle.mesh_semantics.specs.Kind.{Kind, Alternative}
 use Rattle.mesh_semantics.specs.Language.{Language}
 use Rattle.mesh_semantics.specs.Config.{Config, object_of, put_object}
 use Rattle.mesh_semantics.specs.Moves.{move, can_pick, numbered}
-use Rattle.run_words.specs.Paths.{on_link}
-use Rattle.mesh_semantics.specs.Delay.{Delay, arrived_at, held, stepped_last, NumberedPacket}
-use Rattle.run_words.specs.ObjectNames.{node_of, slot_of}
+use Rattle.run_types.specs.Paths.{on_link}
+use Rattle.mesh_semantics.specs.Delay.{Delay, arrived_at, held, stepped_last}
+use Rattle.mesh_semantics.specs.NumberedPackets.{NumberedPacket}
+use Rattle.run_types.specs.ObjectNames.{node_of, slot_of}
 use Rattle.mesh_semantics.specs.Act as A
 use Rattle.mesh_semantics.specs.Act.{Acted, labelled, shows}
 use Rattle.mesh_semantics.specs.Sound.{IsSound}

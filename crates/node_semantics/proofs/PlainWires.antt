@@ -1,11 +1,12 @@
 -- What happens on a wire does not look at the numbers of requests: without them the same happens.
 use Rattle.std.proofs.Common.{◌≡◌, refl, sym, ap, ap₂, ◌∙◌, ℕ, zero, suc, ◌+◌, ◌==◌, List, [], ◌∷◌, ◌++◌, length, Option, Some, None, Bool, true, false, if◌then◌else◌, nat_lt}
 use Rattle.std.specs.Prelude.{slice_get}
-use Rattle.run_words.specs.declared.words.What.{What}
-use Rattle.run_words.specs.declared.words.What.TheVariants as W
-use Rattle.run_words.specs.declared.words.WireAct.{WireAct}
-use Rattle.run_words.specs.declared.words.WireAct.TheVariants as A
-use Rattle.mesh_semantics.specs.Delay.{Packet, NumberedPacket}
+use Rattle.run_types.specs.declared.types.What.{What}
+use Rattle.run_types.specs.declared.types.What.TheVariants as W
+use Rattle.run_types.specs.declared.types.WireAct.{WireAct}
+use Rattle.run_types.specs.declared.types.WireAct.TheVariants as A
+use Rattle.mesh_semantics.specs.Delay.{Packet}
+use Rattle.mesh_semantics.specs.NumberedPackets.{NumberedPacket}
 use Rattle.mesh_semantics.specs.Wire.{Frame, Wire, capacity, greater, push_within, wanted_of, wanted, enter, launch, send_number, Coming, Empty, Stale, Next, coming_in, coming, acknowledge, take_frame, take, hear_number, lose, twice, late, with_frames, with_acks, frame_number, ack_number, wire_act}
 use Rattle.node_semantics.specs.StandsFor.{packets}
 use Rattle.node_semantics.specs.WiresStandFor.{plain_frames, plain_wire}

@@ -3,27 +3,28 @@ use Rattle.std.proofs.Common.{◌≡◌, ◌≢◌, ◌⊎◌, inl, inr, refl, s
 use Rattle.std.specs.Prelude.{slice_get}
 use Rattle.std.specs.Ordering.{nat_cmp}
 use Rattle.std.specs.FinMap.{put}
-use Rattle.run_words.specs.declared.words.Value.{Value}
-use Rattle.run_words.specs.declared.words.Label.TheVariants as L
-use Rattle.run_words.specs.declared.words.What.TheVariants as Wt
-use Rattle.run_words.specs.declared.words.Placement.{Placement}
-use Rattle.run_words.specs.Tables.{Pair}
-use Rattle.run_words.specs.Message.{Message}
-use Rattle.run_words.proofs.Laws.{decide, equal, equals, find_put_same, find_put_other, values_itself}
+use Rattle.run_types.specs.declared.types.Value.{Value}
+use Rattle.run_types.specs.declared.types.Label.TheVariants as L
+use Rattle.run_types.specs.declared.types.What.TheVariants as Wt
+use Rattle.run_types.specs.declared.types.Placement.{Placement}
+use Rattle.run_types.specs.Tables.{Pair}
+use Rattle.run_types.specs.Message.{Message}
+use Rattle.run_types.proofs.Laws.{decide, equal, equals, find_put_same, find_put_other, values_itself}
 use Rattle.mesh_semantics.proofs.Laws.{runs}
 use Rattle.mesh_semantics.specs.Kind as K
 use Rattle.mesh_semantics.specs.Kind.{Kind, posts}
 use Rattle.mesh_semantics.specs.Language.{Language}
 use Rattle.mesh_semantics.specs.Config.{Config, object_of, put_object, put_messages, messages_of}
 use Rattle.mesh_semantics.specs.Moves.{move}
-use Rattle.run_words.specs.Paths.{next}
+use Rattle.run_types.specs.Paths.{next}
 use Rattle.mesh_semantics.specs.Delay as D
-use Rattle.mesh_semantics.specs.Delay.{Packet, Arrival, Holding, Delay, arrived_at, held, hold, post, arrive, stepped_last, count_made, NumberedPacket}
-use Rattle.run_words.specs.ObjectNames.{node_of, slot_of}
+use Rattle.mesh_semantics.specs.Delay.{Packet, Arrival, Holding, Delay, arrived_at, held, hold, post, arrive, stepped_last, count_made}
+use Rattle.mesh_semantics.specs.NumberedPackets.{NumberedPacket}
+use Rattle.run_types.specs.ObjectNames.{node_of, slot_of}
 use Rattle.mesh_semantics.specs.Act.{id, call_turn, send_turn}
 use Rattle.mesh_semantics.specs.Sound.{OwnedAt, entries, is_wait}
 use Rattle.mesh_semantics.specs.Lawful.{CanServe}
-use Rattle.run_words.specs.Ways.{In}
+use Rattle.run_types.specs.PathFacts.{In}
 use Rattle.node_semantics.specs.Node.{Slot, NumberedArrival, NodeState, set_at, name_at, put_state, put_request, deliver, deliver_in, message_act}
 use Rattle.node_semantics.specs.Machine.{Machine}
 use Rattle.node_semantics.specs.StandsFor.{slot_at, request_of, request_in, kept_goal_of, kept_goal_in, Free, HasSlot, IsNumberOf, AreNumbersOf, caller_of, MachineStandsFor}

@@ -1,10 +1,12 @@
 -- Links after a packet was put last on one, and after the head of one has left.
 use Rattle.std.proofs.Common.{◌≡◌, ◌≢◌, ◌⊎◌, inl, inr, refl, sym, ap, subst, ◌∙◌, List, [], ◌∷◌, ◌++◌, Some}
-use Rattle.run_words.specs.Tables.{Pair, pair_cmp, list_at, put_list, push_list, Each}
-use Rattle.run_words.proofs.Laws.{decide, pushed_here, pushed_there, listed_here, listed_there}
+use Rattle.run_types.specs.Tables.{Pair, pair_cmp, list_at, put_list, Each}
+use Rattle.run_types.specs.LinkTables.{push_list}
+use Rattle.run_types.proofs.Laws.{decide, pushed_here, pushed_there, listed_here, listed_there}
 use Rattle.mesh_semantics.proofs.Laws.{on_put_same, on_put_other, on_moved_same, on_moved_other}
-use Rattle.run_words.specs.Paths.{on_link, put_last, move_head}
-use Rattle.mesh_semantics.specs.Delay.{Packet, NumberedPacket}
+use Rattle.run_types.specs.Paths.{on_link, put_last, move_head}
+use Rattle.mesh_semantics.specs.Delay.{Packet}
+use Rattle.mesh_semantics.specs.NumberedPackets.{NumberedPacket}
 use Rattle.mesh_semantics.specs.Act.{first_of}
 use Rattle.node_semantics.specs.StandsFor.{packets}
 

@@ -7,14 +7,15 @@ use Rattle.std.specs.declared.cmp.Ordering.{Ordering}
 use Rattle.std.specs.declared.cmp.Ordering.TheVariants.{Less, Equal, Greater}
 use Rattle.std.specs.FinMap.{find}
 use Rattle.std.specs.FinMap.Entries.{is_sorted}
-use Rattle.run_words.specs.declared.words.Placement.{Placement}
-use Rattle.run_words.specs.Tables.{Pair, pair_cmp, list_at, has_some}
-use Rattle.run_words.proofs.Laws.{equals, second, there_at}
+use Rattle.run_types.specs.declared.types.Placement.{Placement}
+use Rattle.run_types.specs.Tables.{Pair, pair_cmp, list_at, has_some}
+use Rattle.run_types.proofs.Laws.{equals, second, there_at}
 use Rattle.mesh_semantics.specs.Language.{Language}
 use Rattle.mesh_semantics.specs.Config.{Config}
-use Rattle.run_words.specs.Paths.{on_link}
-use Rattle.mesh_semantics.specs.Delay.{Packet, Delay, NumberedPacket}
-use Rattle.run_words.specs.ObjectNames.{node_of}
+use Rattle.run_types.specs.Paths.{on_link}
+use Rattle.mesh_semantics.specs.Delay.{Packet, Delay}
+use Rattle.mesh_semantics.specs.NumberedPackets.{NumberedPacket}
+use Rattle.run_types.specs.ObjectNames.{node_of}
 use Rattle.mesh_semantics.specs.Act.{is_acknowledged, is_quiet, is_ready, ready_at, first_of}
 use Rattle.mesh_semantics.specs.Lawful.{Lawful}
 use Rattle.mesh_semantics.specs.Sound.{Consistent}

@@ -1,13 +1,14 @@
 -- A node that is given a packet that it may be given always answers.
 use Rattle.std.proofs.Common.{◌≢◌, refl, ℕ, Option, Some, None, Bool, true, false}
 use Rattle.std.specs.Prelude.{nat_lt, length, ◌+◌, if◌then◌else◌}
-use Rattle.run_words.specs.declared.words.Placement.{Placement}
+use Rattle.run_types.specs.declared.types.Placement.{Placement}
 use Rattle.mesh_semantics.specs.Language.{Language}
 use Rattle.mesh_semantics.specs.Delay as D
-use Rattle.mesh_semantics.specs.Delay.{Packet, Delay, NumberedPacket}
-use Rattle.run_words.specs.Ways.{In}
-use Rattle.run_words.specs.declared.words.FullKind.{FullKind}
-use Rattle.run_words.specs.declared.words.FullKind.TheVariants as F
+use Rattle.mesh_semantics.specs.Delay.{Packet, Delay}
+use Rattle.mesh_semantics.specs.NumberedPackets.{NumberedPacket}
+use Rattle.run_types.specs.PathFacts.{In}
+use Rattle.run_types.specs.declared.types.FullKind.{FullKind}
+use Rattle.run_types.specs.declared.types.FullKind.TheVariants as F
 use Rattle.node_semantics.specs.Node as N
 use Rattle.node_semantics.specs.Node.{IsStep, NodeState, NodeActed, turn_act, receipt_act, receipt, created_for, within_node, message_count, frames_in, packet_count}
 use Rattle.node_semantics.specs.Receives.{IsReceivable, Meets}

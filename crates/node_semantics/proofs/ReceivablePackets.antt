@@ -1,21 +1,22 @@
 -- What a packet meets that a node is given, with the names in it.
 use Rattle.std.proofs.Common.{◌≡◌, ◌≢◌, ◌⊎◌, inl, inr, refl, sym, subst, ◌∙◌, ℕ, ◌<◌, List, [], ◌∷◌, ◌++◌, Option, Some, None, Bool, true, false}
 use Rattle.std.specs.Prelude.{slice_get, flat_map}
-use Rattle.run_words.specs.declared.words.Value.{Value}
-use Rattle.run_words.specs.declared.words.Value.TheVariants as V
-use Rattle.run_words.specs.declared.words.Placement.{Placement}
-use Rattle.run_words.specs.Tables.{Pair, pair_cmp, list_at, put_list, Each}
-use Rattle.run_words.specs.Message.{Message}
-use Rattle.run_words.proofs.Laws.{equals, same_some}
+use Rattle.run_types.specs.declared.types.Value.{Value}
+use Rattle.run_types.specs.declared.types.Value.TheVariants as V
+use Rattle.run_types.specs.declared.types.Placement.{Placement}
+use Rattle.run_types.specs.Tables.{Pair, pair_cmp, list_at, put_list, Each}
+use Rattle.run_types.specs.Message.{Message}
+use Rattle.run_types.proofs.Laws.{equals, same_some}
 use Rattle.mesh_semantics.proofs.Laws.{each_head, moved_own, moved_some}
 use Rattle.mesh_semantics.specs.Kind as K
 use Rattle.mesh_semantics.specs.Kind.{Kind}
 use Rattle.mesh_semantics.specs.Language.{Language}
 use Rattle.mesh_semantics.specs.Config.{Config, object_of}
-use Rattle.run_words.specs.Paths.{on_link, along, path}
+use Rattle.run_types.specs.Paths.{on_link, along, path}
 use Rattle.mesh_semantics.specs.Delay as D
-use Rattle.mesh_semantics.specs.Delay.{Packet, Arrival, Holding, Delay, held, arrived_at, NumberedPacket}
-use Rattle.run_words.specs.ObjectNames.{node_of}
+use Rattle.mesh_semantics.specs.Delay.{Packet, Arrival, Holding, Delay, held, arrived_at}
+use Rattle.mesh_semantics.specs.NumberedPackets.{NumberedPacket}
+use Rattle.run_types.specs.ObjectNames.{node_of}
 use Rattle.mesh_semantics.specs.Act.{first_of, goal_node}
 use Rattle.mesh_semantics.specs.Sound.{IsPlaced, IsThere, Has, Entry, Sent, Letter, notes, letter, letters, letters_in, Owns, OwnedAt, entries, IsSound}
 use Rattle.mesh_semantics.specs.Lawful.{Lawful}

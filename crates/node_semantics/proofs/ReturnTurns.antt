@@ -4,25 +4,27 @@ use Rattle.std.specs.Prelude.{slice_get}
 use Rattle.std.specs.Ordering.{nat_cmp}
 use Rattle.std.specs.FinMap.{put}
 use Rattle.std.proofs.lemmas.Option.{slice_get_within}
-use Rattle.run_words.specs.declared.words.Value.{Value}
-use Rattle.run_words.specs.declared.words.Label.TheVariants as L
-use Rattle.run_words.specs.declared.words.What.TheVariants as Wt
-use Rattle.run_words.specs.declared.words.Placement.{Placement}
-use Rattle.run_words.specs.Tables.{Pair, pair_cmp, list_at, push_list, Each}
-use Rattle.run_words.proofs.Laws.{decide, equal, equals, same_some, find_put_same, find_put_other, find_without_same, find_without_other, value_itself, pushed_sorted}
+use Rattle.run_types.specs.declared.types.Value.{Value}
+use Rattle.run_types.specs.declared.types.Label.TheVariants as L
+use Rattle.run_types.specs.declared.types.What.TheVariants as Wt
+use Rattle.run_types.specs.declared.types.Placement.{Placement}
+use Rattle.run_types.specs.Tables.{Pair, pair_cmp, list_at, Each}
+use Rattle.run_types.specs.LinkTables.{push_list}
+use Rattle.run_types.proofs.Laws.{decide, equal, equals, same_some, find_put_same, find_put_other, find_without_same, find_without_other, value_itself, pushed_sorted}
 use Rattle.mesh_semantics.proofs.Laws.{runs}
 use Rattle.mesh_semantics.specs.Kind as K
 use Rattle.mesh_semantics.specs.Kind.{Kind, Alternative, returns, waits_on}
 use Rattle.mesh_semantics.specs.Language.{Language}
 use Rattle.mesh_semantics.specs.Config.{Config, object_of, put_object}
 use Rattle.mesh_semantics.specs.Moves.{move}
-use Rattle.run_words.specs.Paths.{next, on_link}
+use Rattle.run_types.specs.Paths.{next, on_link}
 use Rattle.mesh_semantics.specs.Delay as D
-use Rattle.mesh_semantics.specs.Delay.{Packet, Arrival, Holding, Delay, arrived_at, held, hold, free, post, made_by, stepped_last, NumberedPacket}
-use Rattle.run_words.specs.ObjectNames.{node_of, slot_of}
+use Rattle.mesh_semantics.specs.Delay.{Packet, Arrival, Holding, Delay, arrived_at, held, hold, free, post, made_by, stepped_last}
+use Rattle.mesh_semantics.specs.NumberedPackets.{NumberedPacket}
+use Rattle.run_types.specs.ObjectNames.{node_of, slot_of}
 use Rattle.mesh_semantics.specs.Act.{shows, return_turn}
 use Rattle.mesh_semantics.specs.Sound.{Owns, OwnedAt, entries}
-use Rattle.run_words.specs.Ways.{In}
+use Rattle.run_types.specs.PathFacts.{In}
 use Rattle.node_semantics.specs.Node.{Slot, NodeState, set_at, name_at, arrivals, settled, give_back, return_act}
 use Rattle.node_semantics.specs.Machine.{Machine}
 use Rattle.node_semantics.specs.StandsFor.{slot_at, request_of, request_in, SlotStandsFor, Free, Served, Due, HasSlot, PacketFits, IsNumberOf, AreNumbersOf, caller_of, MachineStandsFor}

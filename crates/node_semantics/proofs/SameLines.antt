@@ -1,29 +1,29 @@
 -- Over a whole schedule a machine writes the lines of the record.
 use Rattle.std.proofs.Common.{◌≡◌, refl, ap₂, ℕ, ◌+◌, List, [], ◌∷◌, Option, Some, None, Bool, true, false}
-use Rattle.run_words.specs.declared.words.Event.{Event}
-use Rattle.run_words.specs.declared.words.What.{What}
-use Rattle.run_words.specs.declared.words.End.TheVariants as E
-use Rattle.run_words.specs.declared.words.Line.{Line}
-use Rattle.run_words.specs.declared.words.Line.TheVariants as R
-use Rattle.run_words.specs.declared.words.Placement.{Placement}
+use Rattle.run_types.specs.declared.types.Event.{Event}
+use Rattle.run_types.specs.declared.types.What.{What}
+use Rattle.run_types.specs.declared.types.End.TheVariants as E
+use Rattle.run_types.specs.declared.types.Line.{Line}
+use Rattle.run_types.specs.declared.types.Line.TheVariants as R
+use Rattle.run_types.specs.declared.types.Placement.{Placement}
 use Rattle.mesh_semantics.specs.Language.{Language}
 use Rattle.mesh_semantics.specs.Config.{Config}
 use Rattle.mesh_semantics.specs.Delay.{Delay, no_delay, no_delay_on_wires}
 use Rattle.mesh_semantics.specs.Act as A
 use Rattle.mesh_semantics.specs.Act.{Acted, act, is_quiet}
-use Rattle.mesh_semantics.specs.Record.{Record, record_from, record_at, record_of, record_on_wires, after, ends, start}
-use Rattle.run_words.specs.Tables.{Each}
+use Rattle.mesh_semantics.specs.Record.{Record, record_from, record_at, after, ends, start}
+use Rattle.mesh_semantics.specs.RecordOf.{record_of, record_on_wires}
+use Rattle.run_types.specs.Tables.{Each}
 use Rattle.mesh_semantics.specs.Sound.{IsSound}
 use Rattle.mesh_semantics.specs.Lawful.{Lawful}
-use Rattle.mesh_semantics.specs.Fit.{Fit}
-use Rattle.mesh_semantics.specs.Kept.{After}
-use Rattle.mesh_semantics.proofs.Laws.{act_kept, with_wires}
+use Rattle.mesh_semantics.specs.EventSoundness.{After}
+use Rattle.mesh_semantics.proofs.Laws.{act_kept, with_wires, Fit}
 use Rattle.node_semantics.specs.Machine as M
 use Rattle.node_semantics.specs.Machine.{Machine, MachineActed, machine_act, machine_start, machine_start_on_wires, is_machine_quiet}
 use Rattle.mesh_semantics.specs.Requests.{Requests}
 use Rattle.node_semantics.specs.WiresStandFor.{StandsFor, AgreesOn, StartAgrees}
 use Rattle.node_semantics.specs.Agrees.{IsOfMesh, IsFresh}
-use Rattle.node_semantics.specs.Written.{goes_on, lines_from, lines_at, machine_lines, Then, UnlessQuiet, AreFresh, AreFreshAt, FreshAlong, FreshAlongWires, machine_lines_on_wires}
+use Rattle.node_semantics.specs.MachineLines.{goes_on, lines_from, lines_at, machine_lines, Then, UnlessQuiet, AreFresh, AreFreshAt, FreshAlong, FreshAlongWires, machine_lines_on_wires}
 use Rattle.node_semantics.proofs.WiresAgree.{event_agrees, acknowledged_same}
 use Rattle.node_semantics.proofs.QuietAgrees.{quiet_agrees}
 use Rattle.node_semantics.proofs.StartsAgree.{start_agrees, start_agrees_on_wires}

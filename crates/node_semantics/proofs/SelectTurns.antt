@@ -4,22 +4,22 @@ use Rattle.std.specs.Prelude.{slice_get}
 use Rattle.std.specs.List.{list_any}
 use Rattle.std.specs.Ordering.{nat_cmp}
 use Rattle.std.specs.FinMap.{find}
-use Rattle.run_words.specs.declared.words.Value.TheVariants as V
-use Rattle.run_words.specs.declared.words.Error.{Error}
-use Rattle.run_words.specs.declared.words.Label.TheVariants as L
-use Rattle.run_words.specs.declared.words.Placement.{Placement}
-use Rattle.run_words.specs.Tables.{without, Each}
-use Rattle.run_words.proofs.Laws.{equals, first, second, same_some, find_without_same, find_without_other, values_itself}
+use Rattle.run_types.specs.declared.types.Value.TheVariants as V
+use Rattle.run_types.specs.declared.types.Error.{Error}
+use Rattle.run_types.specs.declared.types.Label.TheVariants as L
+use Rattle.run_types.specs.declared.types.Placement.{Placement}
+use Rattle.run_types.specs.Tables.{without, Each}
+use Rattle.run_types.proofs.Laws.{equals, first, second, same_some, find_without_same, find_without_other, values_itself}
 use Rattle.mesh_semantics.proofs.Laws.{runs, taken_own, taken_some, is_call_of, none_before, earliest}
 use Rattle.mesh_semantics.specs.Kind as K
 use Rattle.mesh_semantics.specs.Kind.{Kind, Alternative, has_name, answered, answers, is_plain, alternatives}
 use Rattle.mesh_semantics.specs.Language.{Language}
 use Rattle.mesh_semantics.specs.Config.{Config, object_of, put_object, put_messages, messages_of}
 use Rattle.mesh_semantics.specs.Moves.{move, offered, numbered, has_message, first_message, without_message}
-use Rattle.run_words.specs.Paths.{path, along, without_first}
+use Rattle.run_types.specs.Paths.{path, along, without_first}
 use Rattle.mesh_semantics.specs.Delay as D
 use Rattle.mesh_semantics.specs.Delay.{Packet, Arrival, Holding, Delay, arrived_at, held, free, take_arrival, is_for}
-use Rattle.run_words.specs.ObjectNames.{node_of}
+use Rattle.run_types.specs.ObjectNames.{node_of}
 use Rattle.mesh_semantics.specs.Act.{id, labelled, first_arrival, is_possible, chosen_turn, choice_turn, accept_turn}
 use Rattle.mesh_semantics.specs.Sound.{Entry, Sent, Called, call_by, Owns, OwnedAt, entries, letter}
 use Rattle.mesh_semantics.specs.Lawful.{CanServe}

@@ -1,8 +1,8 @@
 -- A number that is settled: whose slot it changes.
 use Rattle.std.proofs.Common.{◌≡◌, refl, ap, ℕ, zero, suc, List, [], ◌∷◌, Option, Some, None, Bool, true, false, arith}
 use Rattle.std.specs.Prelude.{slice_get}
-use Rattle.run_words.specs.declared.words.Value.{Value}
-use Rattle.run_words.proofs.Laws.{equal, equals, same_some}
+use Rattle.run_types.specs.declared.types.Value.{Value}
+use Rattle.run_types.proofs.Laws.{equal, equals, same_some}
 use Rattle.mesh_semantics.specs.Language.{Language}
 use Rattle.node_semantics.specs.Node.{Slot, set_at, has_number, settled}
 

@@ -7,11 +7,11 @@ use Rattle.std.specs.declared.cmp.Ordering.TheVariants.{Less, Equal, Greater}
 use Rattle.std.specs.FinMap.{find}
 use Rattle.std.specs.FinMap.Entries.{is_sorted, below_all}
 use Rattle.std.proofs.lemmas.List.Sums.{sum_by-cons}
-use Rattle.run_words.proofs.Laws.{decide, equal, equals, first, second, each_map}
-use Rattle.run_words.specs.Paths.{total}
-use Rattle.run_words.specs.ObjectNames.{node_of, slot_of}
+use Rattle.run_types.proofs.Laws.{decide, equal, equals, first, second, each_map}
+use Rattle.run_types.specs.Paths.{total}
+use Rattle.run_types.specs.ObjectNames.{node_of, slot_of}
 use Rattle.mesh_semantics.specs.Act.{first_of}
-use Rattle.run_words.specs.Tables.{Each}
+use Rattle.run_types.specs.Tables.{Each}
 use Rattle.node_semantics.specs.Node.{name_at, placed}
 use Rattle.node_semantics.proofs.NamesAndSlots.{whole_name, name_node, name_slot}
 

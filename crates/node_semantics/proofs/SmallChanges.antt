@@ -3,14 +3,16 @@ use Rattle.std.proofs.Common.{◌≡◌, ◌≢◌, ◌⊎◌, inl, inr, refl, s
 use Rattle.std.specs.Prelude.{slice_get}
 use Rattle.std.specs.Ordering.{nat_cmp}
 use Rattle.std.specs.FinMap.{find}
-use Rattle.run_words.specs.declared.words.Placement.{Placement}
-use Rattle.run_words.specs.Tables.{Pair, pair_cmp, list_at, put_list, push_list, Each}
-use Rattle.run_words.proofs.Laws.{decide, find_put_same, find_put_other, each_map, pushed_sorted, listed_sorted}
+use Rattle.run_types.specs.declared.types.Placement.{Placement}
+use Rattle.run_types.specs.Tables.{Pair, pair_cmp, list_at, put_list, Each}
+use Rattle.run_types.specs.LinkTables.{push_list}
+use Rattle.run_types.proofs.Laws.{decide, find_put_same, find_put_other, each_map, pushed_sorted, listed_sorted}
 use Rattle.mesh_semantics.specs.Language.{Language}
 use Rattle.mesh_semantics.specs.Config.{Config, object_of, put_object}
-use Rattle.run_words.specs.Paths.{under, on_link, put_last, move_head}
-use Rattle.mesh_semantics.specs.Delay.{Arrival, Holding, Delay, arrived_at, held, made_by, NumberedPacket}
-use Rattle.run_words.specs.ObjectNames.{node_of, slot_of}
+use Rattle.run_types.specs.Paths.{under, on_link, put_last, move_head}
+use Rattle.mesh_semantics.specs.Delay.{Arrival, Holding, Delay, arrived_at, held, made_by}
+use Rattle.mesh_semantics.specs.NumberedPackets.{NumberedPacket}
+use Rattle.run_types.specs.ObjectNames.{node_of, slot_of}
 use Rattle.node_semantics.specs.Node.{Slot, NodeState, set_at}
 use Rattle.node_semantics.specs.Machine.{Machine}
 use Rattle.node_semantics.specs.StandsFor.{slot_at, request_of, HasSlot, PacketFits, MachineStandsFor, CountsMade}

@@ -4,14 +4,15 @@ use Rattle.std.specs.Prelude.{slice_get}
 use Rattle.std.specs.Ordering.{nat_cmp}
 use Rattle.std.specs.FinMap.{find}
 use Rattle.std.specs.FinMap.Entries.{is_sorted}
-use Rattle.run_words.specs.declared.words.Placement.{Placement}
-use Rattle.run_words.specs.Tables.{Pair, pair_cmp, list_at, Each}
-use Rattle.run_words.proofs.Laws.{decide, same_some}
+use Rattle.run_types.specs.declared.types.Placement.{Placement}
+use Rattle.run_types.specs.Tables.{Pair, pair_cmp, list_at, Each}
+use Rattle.run_types.proofs.Laws.{decide, same_some}
 use Rattle.mesh_semantics.specs.Language.{Language}
 use Rattle.mesh_semantics.specs.Config.{Config, object_of}
-use Rattle.run_words.specs.Paths.{on_link}
-use Rattle.mesh_semantics.specs.Delay.{Delay, arrived_at, held, made_by, NumberedPacket}
-use Rattle.run_words.specs.ObjectNames.{node_of}
+use Rattle.run_types.specs.Paths.{on_link}
+use Rattle.mesh_semantics.specs.Delay.{Delay, arrived_at, held, made_by}
+use Rattle.mesh_semantics.specs.NumberedPackets.{NumberedPacket}
+use Rattle.run_types.specs.ObjectNames.{node_of}
 use Rattle.node_semantics.specs.Node.{NodeState, set_at}
 use Rattle.node_semantics.specs.Machine.{Machine}
 use Rattle.node_semantics.specs.StandsFor.{slot_at, request_of, PacketFits, packets, MachineStandsFor, CountsMade}

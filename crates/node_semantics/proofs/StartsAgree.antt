@@ -2,15 +2,15 @@
 use Rattle.std.proofs.Common.{◌≡◌, ◌⊎◌, inl, inr, refl, sym, ap, subst, ◌∙◌, ℕ, zero, suc, ◌*◌, ◌<◌, ◌≤◌, List, [], ◌∷◌, length, replicate, Option, Some, None, arith}
 use Rattle.std.proofs.lemmas.List.{length-replicate}
 use Rattle.std.specs.Prelude.{slice_get}
-use Rattle.run_words.specs.declared.words.Placement.{Placement}
-use Rattle.run_words.proofs.Laws.{same_some, there_at}
+use Rattle.run_types.specs.declared.types.Placement.{Placement}
+use Rattle.run_types.proofs.Laws.{same_some, there_at}
 use Rattle.mesh_semantics.specs.Language.{Language}
 use Rattle.mesh_semantics.specs.Config.{Config}
 use Rattle.mesh_semantics.specs.Delay.{no_delay, no_delay_on_wires}
-use Rattle.run_words.specs.ObjectNames.{node_of, slot_of}
-use Rattle.mesh_semantics.specs.Fit.{Fit}
-use Rattle.run_words.specs.declared.words.Place.{Place}
-use Rattle.run_words.specs.declared.words.Place.TheVariants as Pl
+use Rattle.run_types.specs.ObjectNames.{node_of, slot_of}
+use Rattle.mesh_semantics.proofs.Laws.{Fit}
+use Rattle.run_types.specs.declared.types.Place.{Place}
+use Rattle.run_types.specs.declared.types.Place.TheVariants as Pl
 use Rattle.mesh_semantics.specs.Record.{start, last_place, root_name, root_node, with_root}
 use Rattle.node_semantics.specs.Node.{NodeState, name_at, set_at, fresh_slot}
 use Rattle.node_semantics.specs.Machine.{Machine, empty_node, machine_start, machine_start_on_wires, on_wires_from, start_with}

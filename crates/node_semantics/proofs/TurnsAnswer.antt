@@ -2,18 +2,18 @@
 use Rattle.std.proofs.Common.{◌≡◌, ◌≢◌, refl, ap, sym, subst, ◌∙◌, ℕ, zero, suc, ◌+◌, List, [], ◌∷◌, Option, Some, None, is_none, is_some, Bool, true, false, ◌&&◌, ◌||◌, ◌==◌, arith}
 use Rattle.std.specs.Prelude.{slice_get, filter}
 use Rattle.std.specs.List.{list_any}
-use Rattle.run_words.specs.declared.words.Value.{Value}
-use Rattle.run_words.specs.declared.words.What.{What}
-use Rattle.run_words.specs.declared.words.Placement.{Placement}
-use Rattle.run_words.proofs.Laws.{first, second, same_some}
+use Rattle.run_types.specs.declared.types.Value.{Value}
+use Rattle.run_types.specs.declared.types.What.{What}
+use Rattle.run_types.specs.declared.types.Placement.{Placement}
+use Rattle.run_types.proofs.Laws.{first, second, same_some}
 use Rattle.mesh_semantics.specs.Kind as K
 use Rattle.mesh_semantics.specs.Kind.{Kind, Alternative, answered}
 use Rattle.mesh_semantics.specs.Language.{Language}
 use Rattle.mesh_semantics.specs.Delay.{Arrival, Packet}
-use Rattle.run_words.specs.ObjectNames.{node_of}
+use Rattle.run_types.specs.ObjectNames.{node_of}
 use Rattle.mesh_semantics.specs.Act.{first_arrival, first_of, is_possible, can_step, greatest}
 use Rattle.std.specs.Option.{option_or}
-use Rattle.run_words.specs.Tables.{Each}
+use Rattle.run_types.specs.Tables.{Each}
 use Rattle.node_semantics.specs.Node as N
 use Rattle.node_semantics.specs.Node.{IsStep, NumberedArrival, Slot, NodeState, NodeActed, name_at, placed, arrivals, first_on, can_go, comes_after, ready_slots, slot_in_turn, local_state, local_act, room_for, steps_of, made_own, create_act, goal_here, count_one, message_act, taken_act, serve_act, chosen_act, choice_act, give_back, return_act, slot_act, turn_of_slot, turn_act, put_request, put_state}
 use Rattle.node_semantics.specs.CanTurn.{CanAct, CanTurn}

@@ -6,26 +6,29 @@ use Rattle.std.specs.Option.{unwrap_or}
 use Rattle.std.specs.declared.cmp.Ordering.{Ordering}
 use Rattle.std.specs.declared.cmp.Ordering.TheVariants.{Less, Equal, Greater}
 use Rattle.std.specs.FinMap.{find, put}
-use Rattle.run_words.specs.declared.words.Event.{Event}
-use Rattle.run_words.specs.declared.words.Event.TheVariants as Ev
-use Rattle.run_words.specs.declared.words.What.{What}
-use Rattle.run_words.specs.declared.words.What.TheVariants as Wt
-use Rattle.run_words.specs.declared.words.WireAct.{WireAct}
-use Rattle.run_words.specs.declared.words.FullKind.TheVariants as F
-use Rattle.run_words.specs.declared.words.Placement.{Placement}
-use Rattle.run_words.specs.Tables.{Pair, pair_cmp, list_at, put_list, push_list, has_some, leaving}
+use Rattle.run_types.specs.declared.types.Event.{Event}
+use Rattle.run_types.specs.declared.types.Event.TheVariants as Ev
+use Rattle.run_types.specs.declared.types.What.{What}
+use Rattle.run_types.specs.declared.types.What.TheVariants as Wt
+use Rattle.run_types.specs.declared.types.WireAct.{WireAct}
+use Rattle.run_types.specs.declared.types.FullKind.TheVariants as F
+use Rattle.run_types.specs.declared.types.Placement.{Placement}
+use Rattle.run_types.specs.Tables.{Pair, pair_cmp, list_at, put_list, has_some}
+use Rattle.run_types.specs.LinkTables.{push_list, leaving}
 use Rattle.mesh_semantics.specs.Language.{Language}
 use Rattle.mesh_semantics.specs.Config.{Config}
-use Rattle.run_words.specs.Paths.{next, is_link, on_link, move_head}
-use Rattle.mesh_semantics.specs.Wire.{Wire, empty_wire, WireFacts, Coming, Empty, Stale, Next, enter, coming, take, wire_act, changed, happened, enterings, is_done}
-use Rattle.mesh_semantics.specs.KeptWire.{KeptWire, empty_kept, kept_coming, kept_take, kept_act, kept_result}
-use Rattle.mesh_semantics.specs.Delay.{Packet, Wires, Delay, no_delay, no_delay_on_wires, wire_at, enter_all, NumberedPacket}
+use Rattle.run_types.specs.Paths.{next, is_link, on_link, move_head}
+use Rattle.mesh_semantics.specs.Wire.{Wire, empty_wire, WireFacts, Coming, Empty, Stale, Next, enter, coming, take, wire_act, is_done}
+use Rattle.mesh_semantics.specs.Happenings.{changed, happened}
+use Rattle.mesh_semantics.specs.KeptWire.{KeptWire, empty_kept, kept_coming, kept_take, kept_act}
+use Rattle.mesh_semantics.specs.Delay.{Packet, Wires, Delay, no_delay, no_delay_on_wires, wire_at, enter_all}
+use Rattle.mesh_semantics.specs.NumberedPackets.{NumberedPacket}
 use Rattle.mesh_semantics.specs.Act as A
 use Rattle.mesh_semantics.specs.Act.{Acted, plain_act, link_move, node_turn, turn_of, first_of, goal_node, on_wires, wire_move, wire_turn, act_over, act, is_acknowledged}
 use Rattle.mesh_semantics.specs.Sound.{IsSound}
 use Rattle.mesh_semantics.specs.Lawful.{Lawful}
-use Rattle.run_words.proofs.Laws.{equals, find_pair_same, find_pair_other, tested, all_tested, each_map, pushed_here, pushed_there, listed_here, listed_there}
-use Rattle.mesh_semantics.proofs.Laws.{at_same, at_other, PutsBehind, turn_enters, move_enters, enter_at, stale_handed, next_handed, act_handed, act_facts, take_facts, enter_facts, act_put, take_put, next_is_head, facts_empty, acknowledged_at, enter_same, take_same, kept_act_same, under-append, Behind}
+use Rattle.run_types.proofs.Laws.{equals, find_pair_same, find_pair_other, tested, all_tested, each_map, pushed_here, pushed_there, listed_here, listed_there}
+use Rattle.mesh_semantics.proofs.Laws.{at_same, at_other, PutsBehind, turn_enters, move_enters, enter_at, stale_handed, next_handed, act_handed, act_facts, take_facts, enter_facts, act_put, take_put, next_is_head, facts_empty, acknowledged_at, enter_same, take_same, kept_act_same, under-append, Behind, kept_result, enterings}
 use Rattle.node_semantics.specs.Node as N
 use Rattle.node_semantics.specs.Node.{NodeState, NodeActed, message_count, receipt_act, turn_act}
 use Rattle.node_semantics.specs.Machine as M
@@ -33,7 +36,8 @@ use Rattle.node_semantics.specs.Machine.{KeptWires, Machine, MachineActed, kept_
 use Rattle.mesh_semantics.specs.Requests.{Requests}
 use Rattle.node_semantics.specs.StandsFor.{packets, MachineStandsFor}
 use Rattle.node_semantics.specs.WiresStandFor.{WireStandsFor, WiresStandFor, StandsFor, AgreesOn}
-use Rattle.node_semantics.specs.Agrees.{Agrees, IsOfMesh, IsFresh}
+use Rattle.node_semantics.specs.Agrees.{IsOfMesh, IsFresh}
+use Rattle.node_semantics.proofs.ActsAgree.{Agrees}
 use Rattle.node_semantics.proofs.KeptNumbers.{fits_kept}
 use Rattle.node_semantics.proofs.PostedLinks.{decide_link, is_head, moved_links}
 use Rattle.node_semantics.proofs.PlainWires.{packets_join, packets_length, plain_enter, plain_coming, coming_plain, plain_take, plain_result, act_plain}

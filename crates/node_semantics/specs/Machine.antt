@@ -1,25 +1,26 @@
 -- A machine of nodes: its nodes, the links with the numbered packets on them, what one event does to it, when it is quiet, and how it starts.
 use Rattle.std.specs.Prelude.{ℕ, ◌+◌, ◌*◌, ◌==◌, List, [], ◌∷◌, length, Option, Some, None, is_some, Bool, true, false, not, ◌&&◌, ◌||◌, if◌then◌else◌, nat_lt, slice_get, replicate}
-use Rattle.run_words.specs.declared.words.What.{What}
-use Rattle.run_words.specs.declared.words.What.TheVariants as W
-use Rattle.run_words.specs.declared.words.Event.{Event}
-use Rattle.run_words.specs.declared.words.Event.TheVariants as Ev
-use Rattle.run_words.specs.declared.words.FullKind.{FullKind}
-use Rattle.run_words.specs.declared.words.FullKind.TheVariants as F
-use Rattle.run_words.specs.declared.words.Placement.{Placement}
+use Rattle.run_types.specs.declared.types.What.{What}
+use Rattle.run_types.specs.declared.types.What.TheVariants as W
+use Rattle.run_types.specs.declared.types.Event.{Event}
+use Rattle.run_types.specs.declared.types.Event.TheVariants as Ev
+use Rattle.run_types.specs.declared.types.FullKind.{FullKind}
+use Rattle.run_types.specs.declared.types.FullKind.TheVariants as F
+use Rattle.run_types.specs.declared.types.Placement.{Placement}
 use Rattle.std.specs.List.{list_any, list_all}
 use Rattle.std.specs.Option.{unwrap_or}
 use Rattle.std.specs.FinMap.{find, put}
-use Rattle.run_words.specs.Tables.{Pair, pair_cmp, list_at, put_list, push_list, has_some, leaving}
+use Rattle.run_types.specs.Tables.{Pair, pair_cmp, list_at, put_list, has_some}
+use Rattle.run_types.specs.LinkTables.{push_list, leaving}
 use Rattle.mesh_semantics.specs.Language.{Language}
-use Rattle.run_words.specs.Paths.{next}
+use Rattle.run_types.specs.Paths.{next}
 use Rattle.mesh_semantics.specs.Wire.{Coming, Empty, Stale, Next}
 use Rattle.mesh_semantics.specs.KeptWire.{KeptWire, empty_kept, kept_coming, kept_take, kept_act}
 use Rattle.mesh_semantics.specs.Act.{first_of, goal_node}
 use Rattle.mesh_semantics.specs.Record.{root_name}
-use Rattle.run_words.specs.ObjectNames.{node_of}
+use Rattle.run_types.specs.ObjectNames.{node_of}
 use Rattle.node_semantics.specs.Node as N
-use Rattle.mesh_semantics.specs.Delay.{NumberedPacket}
+use Rattle.mesh_semantics.specs.NumberedPackets.{NumberedPacket}
 use Rattle.node_semantics.specs.Node.{NodeState, NodeActed, set_at, message_count, turn_act, receipt_act, fresh_slot, ready_slots}
 
 abbrev pub KeptWires : Type 0

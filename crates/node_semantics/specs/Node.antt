@@ -6,24 +6,25 @@
 use Rattle.std.specs.Prelude.{ℕ, zero, suc, ◌+◌, ◌-◌, ◌*◌, ◌%◌, ◌==◌, List, [], ◌∷◌, ◌++◌, length, sum_by, filter, Option, Some, None, is_some, is_none, Bool, true, false, ◌&&◌, if◌then◌else◌, nat_le}
 use Rattle.std.specs.Prelude.{nat_lt, slice_get}
 use Rattle.std.specs.Option.{unwrap_or, option_or}
-use Rattle.run_words.specs.declared.words.Value.{Value}
-use Rattle.run_words.specs.declared.words.Value.TheVariants as V
-use Rattle.run_words.specs.declared.words.Label.TheVariants as L
-use Rattle.run_words.specs.declared.words.What.{What}
-use Rattle.run_words.specs.declared.words.What.TheVariants as W
-use Rattle.run_words.specs.declared.words.FullKind.{FullKind}
-use Rattle.run_words.specs.declared.words.FullKind.TheVariants as F
-use Rattle.run_words.specs.declared.words.Place.{Place}
-use Rattle.run_words.specs.declared.words.Place.TheVariants as Pl
-use Rattle.run_words.specs.declared.words.Placement.{Placement}
-use Rattle.run_words.specs.Partial.{◌>>=◌}
+use Rattle.run_types.specs.declared.types.Value.{Value}
+use Rattle.run_types.specs.declared.types.Value.TheVariants as V
+use Rattle.run_types.specs.declared.types.Label.TheVariants as L
+use Rattle.run_types.specs.declared.types.What.{What}
+use Rattle.run_types.specs.declared.types.What.TheVariants as W
+use Rattle.run_types.specs.declared.types.FullKind.{FullKind}
+use Rattle.run_types.specs.declared.types.FullKind.TheVariants as F
+use Rattle.run_types.specs.declared.types.Place.{Place}
+use Rattle.run_types.specs.declared.types.Place.TheVariants as Pl
+use Rattle.run_types.specs.declared.types.Placement.{Placement}
+use Rattle.run_types.specs.Partial.{◌>>=◌}
 use Rattle.mesh_semantics.specs.Kind as K
 use Rattle.mesh_semantics.specs.Kind.{Kind, Alternative, answered, has_name, is_local}
 use Rattle.mesh_semantics.specs.Language.{Language}
-use Rattle.run_words.specs.Paths.{without_first}
+use Rattle.run_types.specs.Paths.{without_first}
 use Rattle.mesh_semantics.specs.Delay as D
-use Rattle.mesh_semantics.specs.Delay.{Packet, Arrival, NumberedPacket}
-use Rattle.run_words.specs.ObjectNames.{node_of, slot_of}
+use Rattle.mesh_semantics.specs.Delay.{Packet, Arrival}
+use Rattle.mesh_semantics.specs.NumberedPackets.{NumberedPacket}
+use Rattle.run_types.specs.ObjectNames.{node_of, slot_of}
 use Rattle.mesh_semantics.specs.Act.{id, first_of, is_possible, can_step, greatest, class_place}
 
 -- a message that has arrived, with the number of the request if it is a call

@@ -3,7 +3,7 @@ use Rattle.std.specs.Prelude.{◌≡◌, ◌≢◌, ◌⊎◌, ℕ, Some, None, 
 use Rattle.mesh_semantics.specs.Language.{Language}
 use Rattle.mesh_semantics.specs.Config.{Config, object_of}
 use Rattle.mesh_semantics.specs.Delay.{Delay, held}
-use Rattle.run_words.specs.ObjectNames.{node_of}
+use Rattle.run_types.specs.ObjectNames.{node_of}
 use Rattle.mesh_semantics.specs.Sound.{is_wait}
 use Rattle.node_semantics.specs.Machine.{Machine}
 use Rattle.node_semantics.specs.StandsFor.{IsOut, request_of}

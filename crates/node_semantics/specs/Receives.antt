@@ -4,9 +4,9 @@ use Rattle.std.specs.Prelude.{◌≡◌, ◌≢◌, ℕ, List, [], ◌∷◌, Op
 use Rattle.mesh_semantics.specs.Language.{Language}
 use Rattle.mesh_semantics.specs.Delay as D
 use Rattle.mesh_semantics.specs.Delay.{Packet}
-use Rattle.run_words.specs.ObjectNames.{node_of, slot_of}
-use Rattle.run_words.specs.Tables.{Each}
-use Rattle.run_words.specs.Ways.{In}
+use Rattle.run_types.specs.ObjectNames.{node_of, slot_of}
+use Rattle.run_types.specs.Tables.{Each}
+use Rattle.run_types.specs.PathFacts.{In}
 use Rattle.node_semantics.specs.Node.{Slot, NodeState}
 use Rattle.node_semantics.specs.StandsFor.{caller_of}
 use Rattle.mesh_semantics.specs.Requests.{names_in}

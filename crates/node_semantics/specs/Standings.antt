@@ -1,13 +1,14 @@
 -- Where an object stands: as the node of its slot knows it, and as the machine knows it, which sees the links too.
 use Rattle.std.specs.Prelude.{◌≡◌, ℕ, ◌==◌, List, Option, Some, None, Bool, false, if◌then◌else◌}
 use Rattle.std.specs.List.{list_any}
-use Rattle.run_words.specs.declared.words.Error.{Error}
+use Rattle.run_types.specs.declared.types.Error.{Error}
 use Rattle.mesh_semantics.specs.Kind as K
 use Rattle.mesh_semantics.specs.Kind.{Kind}
 use Rattle.mesh_semantics.specs.Language.{Language}
-use Rattle.run_words.specs.Tables.{Pair}
+use Rattle.run_types.specs.Tables.{Pair}
 use Rattle.mesh_semantics.specs.Delay as D
-use Rattle.mesh_semantics.specs.Delay.{Packet, Arrival, NumberedPacket}
+use Rattle.mesh_semantics.specs.Delay.{Packet, Arrival}
+use Rattle.mesh_semantics.specs.NumberedPackets.{NumberedPacket}
 use Rattle.mesh_semantics.specs.Act.{can_step}
 use Rattle.mesh_semantics.specs.Standing as T
 use Rattle.mesh_semantics.specs.Standing.{Standing}

@@ -5,17 +5,18 @@ use Rattle.std.specs.Prelude.{◌≡◌, ◌≤◌, ◌*◌, IsTrue, ℕ, List, 
 use Rattle.std.specs.Ordering.{nat_cmp}
 use Rattle.std.specs.FinMap.{find}
 use Rattle.std.specs.FinMap.Entries.{is_sorted}
-use Rattle.run_words.specs.declared.words.Value.{Value}
-use Rattle.run_words.specs.declared.words.Placement.{Placement}
-use Rattle.run_words.specs.Tables.{Pair, pair_cmp, list_at, Each}
+use Rattle.run_types.specs.declared.types.Value.{Value}
+use Rattle.run_types.specs.declared.types.Placement.{Placement}
+use Rattle.run_types.specs.Tables.{Pair, pair_cmp, list_at, Each}
 use Rattle.mesh_semantics.specs.Kind as K
 use Rattle.mesh_semantics.specs.Language.{Language}
 use Rattle.mesh_semantics.specs.Config.{Config, object_of}
 use Rattle.mesh_semantics.specs.Delay as D
-use Rattle.mesh_semantics.specs.Delay.{Packet, Arrival, Holding, Delay, held, made_by, arrived_at, NumberedPacket}
-use Rattle.run_words.specs.ObjectNames.{node_of, slot_of}
-use Rattle.run_words.specs.Paths.{on_link}
-use Rattle.run_words.specs.Ways.{In}
+use Rattle.mesh_semantics.specs.Delay.{Packet, Arrival, Holding, Delay, held, made_by, arrived_at}
+use Rattle.mesh_semantics.specs.NumberedPackets.{NumberedPacket}
+use Rattle.run_types.specs.ObjectNames.{node_of, slot_of}
+use Rattle.run_types.specs.Paths.{on_link}
+use Rattle.run_types.specs.PathFacts.{In}
 use Rattle.node_semantics.specs.Node.{Slot, NodeState, made_here, arrivals}
 use Rattle.node_semantics.specs.Machine.{Machine}
 use Rattle.mesh_semantics.specs.Requests.{posts_request}

@@ -1,10 +1,11 @@
 -- What the kept wires of a machine stand for: those of the delay. What is kept of a wire is kept of one whose packets have their numbers, and which is the delay's without them.
 use Rattle.std.specs.Prelude.{◌≡◌, List, [], ◌∷◌, ◌++◌, Option, Some, None}
-use Rattle.run_words.specs.declared.words.Placement.{Placement}
-use Rattle.run_words.specs.Tables.{Pair, pair_cmp, list_at}
+use Rattle.run_types.specs.declared.types.Placement.{Placement}
+use Rattle.run_types.specs.Tables.{Pair, pair_cmp, list_at}
 use Rattle.mesh_semantics.specs.Language.{Language}
 use Rattle.mesh_semantics.specs.Config.{Config}
-use Rattle.mesh_semantics.specs.Delay.{Packet, Wires, Delay, wire_at, NumberedPacket}
+use Rattle.mesh_semantics.specs.Delay.{Packet, Wires, Delay, wire_at}
+use Rattle.mesh_semantics.specs.NumberedPackets.{NumberedPacket}
 use Rattle.mesh_semantics.specs.Wire.{Frame, Wire, WireFacts}
 use Rattle.mesh_semantics.specs.KeptWire.{KeptWire, kept_of}
 use Rattle.mesh_semantics.specs.Act as A

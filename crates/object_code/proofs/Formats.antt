@@ -6,9 +6,9 @@ use Rattle.std.specs.List.{AllByRecursion as Each}
 use Rattle.std.proofs.lemmas.Nat.{from_be_bytes-to_be_bytes_4, be_bytes_4}
 use Rattle.std.proofs.lemmas.List.{append_assoc, take-append-drop}
 use Rattle.std.proofs.Math.Seq.{take-append_seam, drop-append_seam}
-use Rattle.run_words.specs.Text.{Text}
+use Rattle.text_scan.specs.Text.{Text}
 use Rattle.object_code.specs.Read.{Read, Got, Stop, Reader, then_read, read_nothing, read_as, read_by, not_allowed, read_number, read_bytes, read_items, read_list}
-use Rattle.run_words.specs.declared.words.NameId.{NameId}
+use Rattle.run_types.specs.declared.types.NameId.{NameId}
 use Rattle.object_code.specs.FileBytes.{number_bytes, name_bytes, items_bytes, list_bytes, text_bytes}
 use Rattle.code_semantics.specs.Shaped.{IsNumber, NameIsNumbered, IsListOf, IsShortText}
 use Rattle.object_code.specs.Decode.{read_name, read_text}

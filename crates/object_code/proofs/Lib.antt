@@ -1,10 +1,10 @@
-pub mod Writing
+pub mod SequentialWrites
 pub mod ProperKnown
 pub mod Formats
 pub mod FileFormat
 pub mod WholeFile
-pub mod Fronts
-pub mod Ends
-pub mod Taking
+pub mod PrefixStability
+pub mod AcceptedPrefix
+pub mod ReadLoops
 pub mod Shorts
 pub mod Laws

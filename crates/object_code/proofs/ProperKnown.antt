@@ -4,7 +4,7 @@ use Rattle.std.specs.Prelude.{slice_get}
 use Rattle.std.specs.List.{All}
 use Rattle.std.proofs.lemmas.List.Elements.{All-nil, All-cons}
 use Rattle.std.proofs.lemmas.Option.{slice_get-get_or}
-use Rattle.run_words.specs.declared.words.NameId.{NameId}
+use Rattle.run_types.specs.declared.types.NameId.{NameId}
 use Rattle.code_semantics.specs.declared.unit.Instr.{Instr}
 use Rattle.code_semantics.specs.declared.unit.Instr.TheVariants as I
 use Rattle.code_semantics.specs.declared.unit.AltCode.{AltCode}
@@ -12,7 +12,8 @@ use Rattle.code_semantics.specs.declared.unit.MethodCode.{MethodCode}
 use Rattle.code_semantics.specs.declared.unit.ClassCode.{ClassCode}
 use Rattle.code_semantics.specs.declared.unit.Unit.{Unit as Code}
 use Rattle.object_code.specs.Known.{IsKnown, AnswerIsKnown, AlternativeIsKnown, InstrIsKnown, MethodIsKnown, IsKnownUnit}
-use Rattle.code_semantics.specs.Proper.{AreOwn, AnswerOwn, AltsExist, Exists, IsProperClass, IsProper}
+use Rattle.code_semantics.specs.Proper.{IsProperClass, IsProper}
+use Rattle.code_semantics.specs.ReachedPlaces.{AreOwn, AnswerOwn, AltsExist, Exists}
 use Rattle.code_semantics.specs.Step.{method_from, class_from}
 
 same_number : (a b n : ℕ) → (a == b) ≡ true → a < n → b < n

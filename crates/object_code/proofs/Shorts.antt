@@ -1,8 +1,8 @@
 -- A file that has bytes is short, and a file that is shaped, short and of numbers of its types has bytes.
 use Rattle.std.proofs.Common.{◌≡◌, sym, subst, ◌∙◌, ℕ, suc, ◌<◌, List, [], ◌∷◌, length, get_or, Option, Some, None, arith}
 use Rattle.std.specs.List.{AllByRecursion as Each}
-use Rattle.run_words.specs.Text.{Text}
-use Rattle.run_words.specs.declared.words.NameId.{NameId}
+use Rattle.text_scan.specs.Text.{Text}
+use Rattle.run_types.specs.declared.types.NameId.{NameId}
 use Rattle.code_semantics.specs.declared.unit.Instr.{Instr}
 use Rattle.code_semantics.specs.declared.unit.Instr.TheVariants as I
 use Rattle.code_semantics.specs.declared.unit.AltCode.{AltCode}
@@ -11,9 +11,10 @@ use Rattle.code_semantics.specs.declared.unit.ClassCode.{ClassCode}
 use Rattle.code_semantics.specs.declared.file.UnitFile.{UnitFile}
 use Rattle.code_semantics.specs.declared.file.ClassKinds.{ClassKinds}
 use Rattle.code_semantics.specs.declared.file.MethodKinds.{MethodKinds}
-use Rattle.code_semantics.specs.Shaped.{pairs, AreShapedMethods, AreShapedClasses, IsShaped, IsNumber, IsListOf, IsOptionOf, IsShortText, NameIsNumbered, AlternativeIsNumbered, InstrIsNumbered, MethodIsWritable, ClassIsWritable, IsWritable, IsShortList, AlternativeIsShort, InstrIsShort, MethodIsShort, ClassIsShort, MethodKindsAreShort, ClassKindsAreShort, IsShort, AlternativeHasNumbers, InstrHasNumbers, MethodHasNumbers, ClassHasNumbers, MethodKindsHaveNumbers, ClassKindsHaveNumbers, HasNumbers}
+use Rattle.code_semantics.specs.Shaped.{AreShapedMethods, AreShapedClasses, IsShaped, IsNumber, IsListOf, IsOptionOf, IsShortText, NameIsNumbered, AlternativeIsNumbered, InstrIsNumbered, MethodIsWritable, ClassIsWritable, IsWritable, IsShortList, AlternativeIsShort, InstrIsShort, MethodIsShort, ClassIsShort, MethodKindsAreShort, ClassKindsAreShort, IsShort, AlternativeHasNumbers, InstrHasNumbers, MethodHasNumbers, ClassHasNumbers, MethodKindsHaveNumbers, ClassKindsHaveNumbers, HasNumbers}
+use Rattle.code_semantics.specs.Pairs.{pairs}
 use Rattle.object_code.specs.Decode.{decode, Says}
-use Rattle.object_code.proofs.Writing.{as_many_pairs, shaped_many, shaped_methods}
+use Rattle.object_code.proofs.SequentialWrites.{as_many_pairs, shaped_many, shaped_methods}
 use Rattle.object_code.proofs.Formats.{AreBytes}
 use Rattle.object_code.proofs.WholeFile.{encode_decode, writable_is_shaped}
 

@@ -3,7 +3,7 @@ use Rattle.std.proofs.Common.{◌≡◌, refl, sym, ap, subst, ◌∙◌, ℕ, s
 use Rattle.std.specs.Prelude.{if◌then◌else◌}
 use Rattle.std.specs.List.{AllByRecursion as Each}
 use Rattle.std.proofs.lemmas.List.{append_assoc, append-nil}
-use Rattle.run_words.specs.Text.{Text}
+use Rattle.text_scan.specs.Text.{Text}
 use Rattle.code_semantics.specs.declared.unit.Instr.{Instr}
 use Rattle.code_semantics.specs.declared.unit.MethodCode.{MethodCode}
 use Rattle.code_semantics.specs.declared.unit.ClassCode.{ClassCode}
@@ -12,7 +12,8 @@ use Rattle.code_semantics.specs.declared.file.ClassKinds.{ClassKinds}
 use Rattle.code_semantics.specs.declared.file.MethodKinds.{MethodKinds}
 use Rattle.object_code.specs.Read.{Read, Got, Stop, read_number, read_list}
 use Rattle.object_code.specs.FileBytes.{number_bytes, name_bytes, list_bytes, text_bytes, kind_bytes, option_bytes, instr_bytes, code_bytes, method_bytes, class_bytes, head_bytes, file_bytes}
-use Rattle.code_semantics.specs.Shaped.{pairs, AreShapedMethods, AreShapedClasses, IsShaped, IsNumber, IsListOf, IsShortText, NameIsNumbered, KindIsNumbered, IsOptionOf, InstrIsNumbered, CodeIsNumbered, MethodIsWritable, ClassIsWritable, IsWritable}
+use Rattle.code_semantics.specs.Shaped.{AreShapedMethods, AreShapedClasses, IsShaped, IsNumber, IsListOf, IsShortText, NameIsNumbered, KindIsNumbered, IsOptionOf, InstrIsNumbered, CodeIsNumbered, MethodIsWritable, ClassIsWritable, IsWritable}
+use Rattle.code_semantics.specs.Pairs.{pairs}
 use Rattle.object_code.specs.Decode.{read_name, read_text, read_kind, read_option, read_instr, read_code, method_of, behind_outcome, behind_temps, behind_params, behind_name, read_method, firsts, seconds, class_of, behind_methods, behind_vars, behind_class_name, read_class, read_exactly, file_of, behind_names, behind_front, read_file, first_twice, Decoded, Says, BadBytes, NameTwice, unless_twice, decoded, decode}
 use Rattle.object_code.proofs.Formats.{AreBytes, IsFormat, got_rest, then_got, left_bytes, seq, number_format, name_format, list_format, text_format, as_reads, two_read, two_wrote, AreOf, Takes, took_wrote, part_takes, last_takes}
 use Rattle.object_code.proofs.FileFormat.{kind_format, option_format, instr_format}

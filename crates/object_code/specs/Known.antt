@@ -1,8 +1,8 @@
 -- Units whose names and strings are in their table.
 use Rattle.std.specs.Prelude.{◌<◌, List, Option, Some, None, length}
 use Rattle.std.specs.List.{All}
-use Rattle.run_words.specs.Text.{Text}
-use Rattle.run_words.specs.declared.words.NameId.{NameId}
+use Rattle.text_scan.specs.Text.{Text}
+use Rattle.run_types.specs.declared.types.NameId.{NameId}
 use Rattle.code_semantics.specs.declared.unit.Instr.{Instr}
 use Rattle.code_semantics.specs.declared.unit.Instr.TheVariants as I
 use Rattle.code_semantics.specs.declared.unit.AltCode.{AltCode}

@@ -1,7 +1,7 @@
 pub mod Listing
 pub mod Known
-pub mod Written
+pub mod SinkState
 pub mod Read
 pub mod FileBytes
 pub mod Decode
-pub mod Gives
+pub mod ReadResults

@@ -1,11 +1,11 @@
 -- The listing of a unit: a line for each class, method and body, and for each instruction.
 use Rattle.std.specs.Prelude.{ℕ, suc, List, [], ◌∷◌, ◌++◌, Option, Some, None, codes, decimal}
 use Rattle.std.specs.Fmt.{signed_decimal}
-use Rattle.run_words.specs.Table.{text_at}
-use Rattle.run_words.specs.Text.{Text, truth_text}
-use Rattle.run_words.specs.declared.words.NameId.{NameId}
-use Rattle.run_words.specs.declared.words.Op.{Op}
-use Rattle.run_words.specs.declared.words.Op.TheVariants as O
+use Rattle.run_types.specs.Table.{text_at}
+use Rattle.text_scan.specs.Text.{Text, truth_text}
+use Rattle.run_types.specs.declared.types.NameId.{NameId}
+use Rattle.run_types.specs.declared.types.Op.{Op}
+use Rattle.run_types.specs.declared.types.Op.TheVariants as O
 use Rattle.code_semantics.specs.declared.unit.Instr.{Instr}
 use Rattle.code_semantics.specs.declared.unit.Instr.TheVariants as I
 use Rattle.code_semantics.specs.declared.unit.AltCode.{AltCode}

@@ -1,7 +1,7 @@
 -- Reading bytes from the front: what was read and what is left of the bytes, or how many bytes are left from the first that is not allowed on.
 use Rattle.std.specs.Prelude.{ℕ, zero, suc, List, [], ◌∷◌, length, take, drop, Some, None, nat_le, slice_get, if◌then◌else◌}
 use Rattle.std.specs.Int.{w32, from_be_bytes}
-use Rattle.run_words.specs.Text.{Text}
+use Rattle.text_scan.specs.Text.{Text}
 
 pub data Read (A : Type 0) : Type 0 where
   Got : (value : A) (rest : Text) → Read A

@@ -1,21 +1,22 @@
 //! The object code file that bytes say.
 ghost use Rattle.std.specs.Prelude.{◌≡◌, ◌+◌, ◌-◌, ◌<◌, ◌≤◌, ◌^◌, ℕ, List as texts_list, [], ◌∷◌, ◌++◌, length, IfOk, IfErr};
-ghost use Rattle.run_words.specs.Text.{Text};
-ghost use Rattle.run_words.specs.declared.words.NameId.{NameId as Name};
+ghost use Rattle.text_scan.specs.Text.{Text};
+ghost use Rattle.run_types.specs.declared.types.NameId.{NameId as Name};
 ghost use Rattle.object_code.specs.declared.code_fault.CodeFault.TheVariants.{BadBytes};
 ghost use Rattle.object_code.specs.declared.code_fault.Unread.TheVariants.{BadByte};
 ghost use Rattle.code_semantics.specs.declared.unit.Instr.{Instr as Instruction};
 ghost use Rattle.object_code.specs.Decode.{Says, decode as decoded_bytes, read_alternative, read_class, read_code, read_exactly, read_file, read_instr, read_integer, read_kind, read_method};
 ghost use Rattle.object_code.specs.Decode.{read_name, read_operator, read_option, read_sent, read_text, read_truth};
-ghost use Rattle.code_semantics.specs.Shaped.{pairs, IsShaped, IsShort};
-ghost use Rattle.object_code.specs.Gives.{Gives, IsTable, Stops, Tells, with_names};
+ghost use Rattle.code_semantics.specs.Shaped.{IsShaped, IsShort};
+ghost use Rattle.code_semantics.specs.Pairs.{pairs};
+ghost use Rattle.object_code.specs.ReadResults.{Gives, IsTable, Stops, ReportsDecodeFault, with_names};
 ghost use Rattle.object_code.specs.Read.{Got, Reader, read_list, read_number};
 
 use crate::code_fault::{CodeFault, Unread};
 use code_semantics::{
     AltCode, BodyCode, ClassCode, ClassKinds, Instr, Kinds, MethodCode, MethodKinds, Unit, UnitFile,
 };
-use run_words::{Kind, List, NameId, Names, Op};
+use run_types::{Kind, List, NameId, Names, Op};
 use std::alloc::{AllocError, Global};
 
 /// Something made of a part that is taken off the front, with what is left.
@@ -424,7 +425,7 @@ fn whole_file(
     requires small { length bytes.now ≤ 67108864 }
     requires given { (texts : texts_list Text) × (read_file bytes.now ≡ Got (with_names texts file) rest.now) × IsTable texts file.unit.names twice }
     ensures says { IfOk result (λ f. decoded_bytes bytes.now ≡ Says f) }
-    ensures tells { IfErr result (λ e. Tells e (decoded_bytes bytes.now)) }
+    ensures tells { IfErr result (λ e. ReportsDecodeFault e (decoded_bytes bytes.now)) }
     ensures shaped { IfOk result (λ f. IsShaped f) }
     ensures short { IfOk result (λ f. IsShort f) }
 {
@@ -442,7 +443,7 @@ fn whole_file(
 pub fn decode(alloc: Global, bytes: &[u8]) -> Result<UnitFile, CodeFault>
     requires { length bytes.now ≤ 67108864 }
     ensures says { IfOk result (λ f. decoded_bytes bytes.now ≡ Says f) }
-    ensures tells { IfErr result (λ e. Tells e (decoded_bytes bytes.now)) }
+    ensures tells { IfErr result (λ e. ReportsDecodeFault e (decoded_bytes bytes.now)) }
     ensures shaped { IfOk result (λ f. IsShaped f) }
     ensures short { IfOk result (λ f. IsShort f) }
 {

@@ -1,17 +1,18 @@
 //! The bytes of an object code file.
 ghost use Rattle.std.specs.Prelude.{◌≡◌, ◌≤◌, ◌<◌, ◌^◌, ℕ, [], ◌∷◌, ◌++◌, length, take, option_map, OnOk, OnErr};
 ghost use Rattle.pool_outside.specs.Outside.{Rose, IsProperFront};
-ghost use Rattle.run_words.specs.Text.{Text};
+ghost use Rattle.text_scan.specs.Text.{Text};
 ghost use Rattle.object_code.specs.FileBytes.{alternative_bytes, class_bytes, code_bytes, file_bytes, instr_bytes, integer_bytes, items_bytes, kind_bytes, list_bytes, method_bytes, name_bytes};
 ghost use Rattle.object_code.specs.FileBytes.{number_bytes, operator_byte, option_bytes, text_bytes, truth_byte};
-ghost use Rattle.code_semantics.specs.Shaped.{pairs, AlternativeIsShort, AreShapedClasses, AreShapedMethods, ClassIsShort, ClassKindsAreShort, InstrIsShort, IsListOf, IsNumber, IsOptionOf, IsShaped};
+ghost use Rattle.code_semantics.specs.Shaped.{AlternativeIsShort, AreShapedClasses, AreShapedMethods, ClassIsShort, ClassKindsAreShort, InstrIsShort, IsListOf, IsNumber, IsOptionOf, IsShaped};
+ghost use Rattle.code_semantics.specs.Pairs.{pairs};
 ghost use Rattle.code_semantics.specs.Shaped.{IsShort, IsShortList, MethodIsShort, MethodKindsAreShort};
-ghost use Rattle.object_code.specs.Written.{Writes, state};
+ghost use Rattle.object_code.specs.SinkState.{Writes, state};
 
 use crate::listing::put;
 use code_semantics::{AltCode, ClassCode, ClassKinds, Instr, MethodCode, MethodKinds, UnitFile};
 use pool_outside::{Sink, WriteFault};
-use run_words::{Kind, List, NameId, Names, Op};
+use run_types::{Kind, List, NameId, Names, Op};
 
 fn put_byte<K: Sink>(sink: &mut K, failed: &mut bool, byte: u8)
     ensures { Writes (byte ∷ []) (state failed.old (K.written sink.old) (K.faults sink.old)) (state failed.new (K.written sink.new) (K.faults sink.new)) }

@@ -1,4 +1,8 @@
-//! Object code: units and their files, and the two forms in which they are written: the listing, and the bytes of an object code file.
+//! Writes and reads object code: the listing of a unit, and the bytes of an object code file.
+//!
+//! Re-exports the types of `code_semantics`.
+//!
+//! Does not know: how code runs, and which files are verified.
 #![tactic(auto)]
 
 mod code_fault;

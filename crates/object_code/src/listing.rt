@@ -6,14 +6,14 @@ ghost use Rattle.pool_outside.specs.Outside.{Rose, IsProperFront};
 ghost use Rattle.object_code.specs.Known.{AlternativeIsKnown, AnswerIsKnown, ClassIsKnown, InstrIsKnown, IsKnown, IsKnownUnit, MethodIsKnown};
 ghost use Rattle.object_code.specs.Listing.{alternative_text, alternatives_text, answer_text, body_text, class_text, classes_text, joined_text, led_by_commas, line_text, lines_text, listing};
 ghost use Rattle.object_code.specs.Listing.{method_text, methods_text, mnemonic_text, name_text, number_text, operands_text, operator_text, quoted_text, spaced_text, word_text};
-ghost use Rattle.run_words.specs.Text.{truth_text};
-ghost use Rattle.run_words.specs.Table.{text_at};
-ghost use Rattle.object_code.specs.Written.{Writes, state};
+ghost use Rattle.text_scan.specs.Text.{truth_text};
+ghost use Rattle.run_types.specs.Table.{text_at};
+ghost use Rattle.object_code.specs.SinkState.{Writes, state};
 
 use code_semantics::{AltCode, BodyCode, ClassCode, Instr, MethodCode, Unit};
 use itoa::Buffer;
 use pool_outside::{Sink, WriteFault, write_all_of};
-use run_words::{List, NameId, Names, Op};
+use run_types::{List, NameId, Names, Op};
 
 /// Writes the piece, unless a write has failed before.
 pub(crate) fn put<K: Sink>(sink: &mut K, failed: &mut bool, piece: &[u8])

@@ -1,7 +1,7 @@
 //! Laws of units: each is the contract of a function that does nothing.
 ghost use Rattle.std.specs.Prelude.{◌≡◌, ◌<◌, ℕ, suc, ◌++◌, [], length, take, None};
 ghost use Rattle.std.specs.List.{AllByRecursion};
-ghost use Rattle.run_words.specs.Text.{Text};
+ghost use Rattle.text_scan.specs.Text.{Text};
 ghost use Rattle.code_semantics.specs.declared.file.UnitFile.{UnitFile};
 ghost use Rattle.object_code.specs.Decode.{Says, BadBytes, decode, first_twice, unless_twice};
 ghost use Rattle.object_code.specs.FileBytes.{file_bytes};

@@ -2,12 +2,12 @@
 use Rattle.std.proofs.Common.{◌≡◌, refl, sym, ap, ◌∙◌, ℕ, zero, suc, ◌+◌, ◌-◌, ◌<◌, ◌≤◌, List, [], ◌∷◌, length, Option, Some, None, Bool, true, false, arith}
 use Rattle.std.specs.Prelude.{slice_get, ◌||◌, ◌&&◌, if◌then◌else◌, is_none}
 use Rattle.std.specs.List.{list_any}
-use Rattle.run_words.specs.declared.words.NameId.{NameId}
-use Rattle.run_words.specs.declared.words.Value.{Value}
-use Rattle.run_words.specs.declared.words.Value.TheVariants as V
-use Rattle.run_words.specs.Values.{is_true, not_bool}
+use Rattle.run_types.specs.declared.types.NameId.{NameId}
+use Rattle.run_types.specs.declared.types.Value.{Value}
+use Rattle.run_types.specs.declared.types.Value.TheVariants as V
+use Rattle.run_types.specs.Values.{is_true, not_bool}
 use Rattle.code_semantics.specs.declared.unit.AltCode.{AltCode}
-use Rattle.run_words.specs.Operands.{taken, nth}
+use Rattle.run_types.specs.Operands.{taken, nth}
 use Rattle.code_semantics.specs.Kinds.{offers}
 use Rattle.object_interp.specs.Choices.{offered_alt}
 use Rattle.object_interp.specs.Offers.{offer_at, open_names, is_open_plain}

@@ -1,9 +1,10 @@
-pub mod Acting
-pub mod Asking
-pub mod Bursting
-pub mod Facts
+pub mod TopFrames
+pub mod InstructionFacts
+pub mod RequestSteps
+pub mod BurstSteps
+pub mod InnermostFrame
 pub mod Guards
 pub mod Operands
-pub mod Settling
+pub mod SilentSteps
 pub mod Slots
-pub mod Stepping
+pub mod LocalSteps

@@ -2,8 +2,8 @@
 use Rattle.std.proofs.Common.{◌≡◌, refl, sym, ap, ◌∙◌, ℕ, zero, suc, ◌-◌, ◌<◌, List, [], ◌∷◌, length, arith}
 use Rattle.std.specs.Prelude.{slice_get, slice_set, take, min, Some, None}
 use Rattle.std.proofs.lemmas.List.{take_min}
-use Rattle.run_words.specs.declared.words.Value.{Value}
-use Rattle.run_words.specs.Operands.{top, below, dropped, taken, nth, padded}
+use Rattle.run_types.specs.declared.types.Value.{Value}
+use Rattle.run_types.specs.Operands.{top, below, dropped, taken, nth, padded}
 
 pub nth_zero : (vs : List Value) → nth vs 0 ≡ top vs
 nth_zero [] = refl
@@ -21,10 +21,6 @@ nth_top (suc n) vs = nth_below vs n ∙ nth_top n (below vs)
 pub taken_first : (n : ℕ) (vs args : List Value) → taken (suc n) vs args ≡ nth vs n ∷ taken n vs args
 taken_first zero vs args = ap (λ v. v ∷ args) (sym (nth_zero vs))
 taken_first (suc n) vs args = taken_first n (below vs) (top vs ∷ args) ∙ ap (λ v. v ∷ taken (suc n) vs args) (sym (nth_below vs n))
-
-pub below_dropped : (n : ℕ) (vs : List Value) → below (dropped n vs) ≡ dropped (suc n) vs
-below_dropped zero vs = refl
-below_dropped (suc n) vs = below_dropped n (below vs)
 
 pub length_below : (vs : List Value) → length (below vs) ≡ length vs - 1
 length_below [] = refl

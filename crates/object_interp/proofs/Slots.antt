@@ -1,7 +1,7 @@
 -- The object of a slot after another was put there.
 use Rattle.std.proofs.Common.{◌≡◌, refl, ap, ◌∙◌, ℕ, zero, suc, ◌<◌, List, [], ◌∷◌, length, set, get_or-set_same, length-set, arith}
 use Rattle.std.proofs.lemmas.List.{set-get_or}
-use Rattle.run_words.specs.declared.frames.CodeObject.{CodeObject}
+use Rattle.run_types.specs.declared.frames.CodeObject.{CodeObject}
 use Rattle.node_heap.specs.Heaps.{HeapOf, object_at, put_object, no_object}
 
 set_twice : {X : Type 0} (l : List X) (i : ℕ) (x y : X) → set (set l i x) i y ≡ set l i y

@@ -1,13 +1,13 @@
 -- A burst: local steps of one object, one after the other.
 use Rattle.std.specs.Prelude.{◌≡◌, ℕ, zero, suc, ◌+◌, ◌-◌, ◌*◌, ◌<◌, length, Bool, true, false, ◌&&◌, if◌then◌else◌, nat_le}
-use Rattle.run_words.specs.declared.frames.CodeObject.{CodeObject}
+use Rattle.run_types.specs.declared.frames.CodeObject.{CodeObject}
 use Rattle.code_semantics.specs.declared.unit.Unit.{Unit as Code}
 use Rattle.code_semantics.specs.Kinds as C
 use Rattle.code_semantics.specs.Kinds.{Kind, code_kind}
 use Rattle.code_semantics.specs.Step.{code_stepped}
 use Rattle.node_heap.specs.Heaps.{HeapOf, object_at, put_object, frames_used}
-use Rattle.object_interp.specs.declared.words.Burst.{Burst}
-use Rattle.object_interp.specs.declared.words.Burst.TheVariants as B
+use Rattle.object_interp.specs.declared.types.Burst.{Burst}
+use Rattle.object_interp.specs.declared.types.Burst.TheVariants as B
 use Rattle.object_interp.specs.Offers.{need_of}
 
 -- the name of the object of a slot

@@ -1,12 +1,12 @@
 -- Open alternatives of a select, and where a choice leads.
 use Rattle.std.specs.Prelude.{ℕ, zero, suc, ◌<◌, ◌≤◌, ◌^◌, List, length, Option, None, if◌then◌else◌, slice_get}
-use Rattle.run_words.specs.declared.words.Value.{Value}
-use Rattle.run_words.specs.Values.{is_true}
+use Rattle.run_types.specs.declared.types.Value.{Value}
+use Rattle.run_types.specs.Values.{is_true}
 use Rattle.code_semantics.specs.declared.unit.Instr.{Instr}
 use Rattle.code_semantics.specs.declared.unit.Instr.TheVariants as I
 use Rattle.code_semantics.specs.declared.unit.AltCode.{AltCode}
-use Rattle.run_words.specs.declared.frames.Frame.{Frame}
-use Rattle.run_words.specs.Operands.{nth}
+use Rattle.run_types.specs.declared.frames.Frame.{Frame}
+use Rattle.run_types.specs.Operands.{nth}
 
 -- the alternative of this number, from 1, if its guard is true
 abbrev pub offered_alt : List AltCode → List Value → ℕ → Option AltCode

@@ -2,5 +2,5 @@ pub mod Bursts
 pub mod Choices
 pub mod Moves
 pub mod Offers
-pub mod Rest
+pub mod SettledObject
 pub mod Tops

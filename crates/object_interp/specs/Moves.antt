@@ -1,15 +1,15 @@
 -- What an object becomes before the silent instructions after it are run.
 use Rattle.std.specs.Prelude.{◌≡◌, ℕ, suc, Bool, true, false, nat_lt, ◌<◌, ◌≤◌, ◌^◌, List, [], ◌∷◌, length, Option, Some, None, if◌then◌else◌, slice_set}
-use Rattle.run_words.specs.declared.words.Value.{Value}
-use Rattle.run_words.specs.declared.words.Value.TheVariants as V
-use Rattle.run_words.specs.declared.words.Serves.TheVariants as S
-use Rattle.run_words.specs.Values.{is_true}
+use Rattle.run_types.specs.declared.types.Value.{Value}
+use Rattle.run_types.specs.declared.types.Value.TheVariants as V
+use Rattle.run_types.specs.declared.types.Serves.TheVariants as S
+use Rattle.run_types.specs.Values.{is_true}
 use Rattle.code_semantics.specs.declared.unit.Instr.{Instr}
 use Rattle.code_semantics.specs.declared.unit.Instr.TheVariants as I
 use Rattle.code_semantics.specs.declared.unit.ClassCode.{ClassCode}
-use Rattle.run_words.specs.declared.frames.Frame.{Frame}
-use Rattle.run_words.specs.declared.frames.CodeObject.{CodeObject}
-use Rattle.run_words.specs.Operands.{top, below, taken, dropped, nth}
+use Rattle.run_types.specs.declared.frames.Frame.{Frame}
+use Rattle.run_types.specs.declared.frames.CodeObject.{CodeObject}
+use Rattle.run_types.specs.Operands.{top, below, taken, dropped, nth}
 use Rattle.code_semantics.specs.Frames.{next}
 use Rattle.code_semantics.specs.Kinds.{operated, arity}
 use Rattle.code_semantics.specs.Step.{Numbered, method_named, begun, outcome_value, is_own}

@@ -2,23 +2,23 @@
 use Rattle.std.specs.Prelude.{ℕ, zero, suc, ◌==◌, List, [], ◌∷◌, length, Option, Some, None, is_none, Bool, true, false, ◌&&◌, if◌then◌else◌, slice_get}
 use Rattle.std.specs.Option.{unwrap_or}
 use Rattle.std.specs.List.{list_any}
-use Rattle.run_words.specs.declared.words.NameId.{NameId}
+use Rattle.run_types.specs.declared.types.NameId.{NameId}
 use Rattle.code_semantics.specs.declared.unit.Instr.{Instr}
 use Rattle.code_semantics.specs.declared.unit.Instr.TheVariants as I
 use Rattle.code_semantics.specs.declared.unit.ClassCode.{ClassCode}
 use Rattle.code_semantics.specs.declared.unit.Unit.{Unit as Code}
-use Rattle.run_words.specs.declared.frames.Frame.{Frame}
-use Rattle.run_words.specs.declared.frames.CodeObject.{CodeObject}
+use Rattle.run_types.specs.declared.frames.Frame.{Frame}
+use Rattle.run_types.specs.declared.frames.CodeObject.{CodeObject}
 use Rattle.code_semantics.specs.Frames.{code_of}
-use Rattle.run_words.specs.Operands.{taken}
+use Rattle.run_types.specs.Operands.{taken}
 use Rattle.code_semantics.specs.Kinds as C
 use Rattle.code_semantics.specs.Kinds.{Kind, Offered, offers}
 use Rattle.code_semantics.specs.Step.{class_from}
-pub use Rattle.code_semantics.specs.OfUnit.{IsAsking, IsChoosing, IsGoingOn}
-use Rattle.object_interp.specs.declared.words.Need.{Need}
-use Rattle.object_interp.specs.declared.words.Need.TheVariants as N
-use Rattle.object_interp.specs.declared.words.Hand.{Hand}
-use Rattle.object_interp.specs.declared.words.Hand.TheVariants as H
+pub use Rattle.code_semantics.specs.StepInstructions.{IsAsking, IsChoosing, IsGoingOn}
+use Rattle.object_interp.specs.declared.types.Need.{Need}
+use Rattle.object_interp.specs.declared.types.Need.TheVariants as N
+use Rattle.object_interp.specs.declared.types.Hand.{Hand}
+use Rattle.object_interp.specs.declared.types.Hand.TheVariants as H
 
 -- the alternatives of the instruction at hand; an answer is one open alternative
 abbrev pub instr_offers : Frame → Option Instr → List Offered

@@ -3,10 +3,11 @@ use Rattle.std.specs.Prelude.{◌≡◌, List, ◌∷◌, Option, Some, slice_ge
 use Rattle.code_semantics.specs.declared.unit.Instr.{Instr}
 use Rattle.code_semantics.specs.declared.unit.ClassCode.{ClassCode}
 use Rattle.code_semantics.specs.declared.unit.Unit.{Unit as Code}
-use Rattle.run_words.specs.declared.frames.Frame.{Frame}
-use Rattle.run_words.specs.declared.frames.CodeObject.{CodeObject}
+use Rattle.run_types.specs.declared.frames.Frame.{Frame}
+use Rattle.run_types.specs.declared.frames.CodeObject.{CodeObject}
 use Rattle.code_semantics.specs.Frames.{code_of}
-use Rattle.code_semantics.specs.OfUnit.{IsFrameOf, AnyValue}
+use Rattle.code_semantics.specs.OfUnit.{IsFrameOf}
+use Rattle.code_semantics.specs.StepInstructions.{AnyValue}
 use Rattle.node_heap.specs.Heaps.{top_in, under_top}
 
 -- the class of an object
@@ -24,10 +25,6 @@ instr_in u x = slice_get (code_in u x) (top_in x.frames).at
 -- the object with this frame over these
 abbrev pub over : CodeObject → Frame → List Frame → CodeObject
 over x f fs = record x { frames = f ∷ fs }
-
--- the object with this frame in place of the innermost
-abbrev pub with_top : CodeObject → Frame → CodeObject
-with_top x f = over x f (under_top x.frames)
 
 -- it has a frame, and the innermost stands in code of its class
 pub record HasTop (u : Code) (x : CodeObject) : Type 0 where

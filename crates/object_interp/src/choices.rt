@@ -1,8 +1,8 @@
 //! What an object offers where it answers or selects.
 ghost use Rattle.std.specs.Prelude.{◌≡◌, ◌-◌, ◌<◌, ◌≤◌, [], Some, length, slice_get, is_some, IsTrue};
 ghost use Rattle.std.specs.Option.{option_copied};
-ghost use Rattle.run_words.specs.Values.{is_true as holds};
-ghost use Rattle.run_words.specs.Operands.{taken, nth};
+ghost use Rattle.run_types.specs.Values.{is_true as holds};
+ghost use Rattle.run_types.specs.Operands.{taken, nth};
 ghost use Rattle.code_semantics.specs.Step.{after_choice};
 ghost use Rattle.node_heap.specs.Heaps.{object_at, put_top, top_at};
 ghost use Rattle.object_interp.specs.Choices.{Chooses, NextIs, offered_alt};

@@ -1,10 +1,10 @@
 //! What an object does next.
 ghost use Rattle.std.specs.Prelude.{◌≡◌, ◌<◌, ◌≤◌, List, [], Some, length, if◌then◌else◌};
 ghost use Rattle.std.specs.List.{list_any};
-ghost use Rattle.run_words.specs.Values.{is_bool, is_true as holds, not_bool};
+ghost use Rattle.run_types.specs.Values.{is_bool, is_true as holds, not_bool};
 ghost use Rattle.code_semantics.specs.declared.unit.AltCode.{AltCode};
 ghost use Rattle.code_semantics.specs.declared.unit.Unit.{Unit as Code};
-ghost use Rattle.run_words.specs.Operands.{taken};
+ghost use Rattle.run_types.specs.Operands.{taken};
 ghost use Rattle.code_semantics.specs.Kinds as C;
 ghost use Rattle.code_semantics.specs.Kinds.{arity, instr_kind, operated, outcome_kind, return_kind, select_kind};
 ghost use Rattle.code_semantics.specs.Proper.{IsProper};
@@ -14,11 +14,11 @@ ghost use Rattle.object_interp.specs.Tops.{HasTop, instr_in};
 
 use crate::moves::{is_true, outcome};
 use crate::read::{class_place, last_values, value_at};
-use crate::words::{Hand, Need};
+use crate::types::{Hand, Need};
 use code_semantics::{Instr, Unit};
 use node_heap::Heap;
-use run_words::operators::Answer;
-use run_words::{Error, Item, Op, Serves, Value};
+use run_types::operators::Answer;
+use run_types::{Error, Item, Op, Serves, Value};
 
 /// A language error is met.
 fn fault(error: Error) -> Hand

@@ -1,25 +1,25 @@
 //! The instructions of one object.
 ghost use Rattle.std.specs.Prelude.{if◌then◌else◌, ◌==◌, ◌≡◌, ◌<◌, ◌≤◌, ◌↔◌, ℕ, true, false, length, Some, IsErr, OnOk, OnErr, Err};
 ghost use Rattle.std.specs.Option.{option_copied};
-ghost use Rattle.run_words.specs.declared.frames.CodeObject.{CodeObject};
+ghost use Rattle.run_types.specs.declared.frames.CodeObject.{CodeObject};
 ghost use Rattle.code_semantics.specs.Kinds.{code_kind, instr_kind};
 ghost use Rattle.code_semantics.specs.Step.{code_given, code_gone_on, code_picked, code_serving, is_own};
 ghost use Rattle.code_semantics.specs.Proper.{IsProper};
-ghost use Rattle.code_semantics.specs.OfUnit.{FitsUnit, IsAtStep};
+ghost use Rattle.code_semantics.specs.StepInstructions.{FitsUnit, IsAtStep};
 ghost use Rattle.node_heap.specs.Heaps.{object_at, put_object, top_at, frames_used};
 ghost use Rattle.object_interp.specs.Offers.{IsAsking, IsChoosing, IsGoingOn, IsSelecting, answers_to, hand_of, is_open_plain, need_of, offer_at, offers_at, open_names, steps_alone};
 ghost use Rattle.object_interp.specs.Bursts.{IsBurst, is_local};
-ghost use Rattle.object_interp.specs.Rest.{settled_at};
+ghost use Rattle.object_interp.specs.SettledObject.{settled_at};
 ghost use Rattle.object_interp.specs.Tops.{HasTop, instr_in};
 
 use crate::choices::{choose, open_alt};
 use crate::hands::{alone_at, hand_at};
 use crate::moves::{begin, frame_is_free, operands_asked, pass, settle, step};
 use crate::read::{class_at, code_at, instr_at, method_place};
-use crate::words::{Burst, Hand};
+use crate::types::{Burst, Hand};
 use code_semantics::{Instr, Unit};
 use node_heap::{Heap, HeapFull};
-use run_words::{Args, List, NameId, Serves, Value};
+use run_types::{Args, List, NameId, Serves, Value};
 
 /// The answer of a burst that is over after `done` steps, where a call is at hand and no frame is free.
 fn stopped_full(done: u32) -> Burst

@@ -1,27 +1,27 @@
 //! One instruction, and the silent ones after it.
 ghost use Rattle.std.specs.Prelude.{◌≡◌, ◌<◌, ◌≤◌, ◌+◌, ◌^◌, ◌≢◌, true, false, suc, [], ◌∷◌, IsTrue, Some, None, IfSome, IfNone, is_some, length, slice_get, take};
-ghost use Rattle.run_words.specs.Values.{is_bool, is_prefix, is_true as holds};
-ghost use Rattle.run_words.specs.Operated.{outcome_of};
-ghost use Rattle.run_words.specs.declared.frames.Frame.{Frame};
+ghost use Rattle.run_types.specs.Values.{is_bool, is_prefix, is_true as holds};
+ghost use Rattle.run_types.specs.Operated.{outcome_of};
+ghost use Rattle.run_types.specs.declared.frames.Frame.{Frame};
 ghost use Rattle.code_semantics.specs.declared.unit.MethodCode.{MethodCode};
-ghost use Rattle.run_words.specs.Operands.{top, below, dropped, padded};
+ghost use Rattle.run_types.specs.Operands.{top, below, dropped, padded};
 ghost use Rattle.code_semantics.specs.Frames.{next, post_passed, silent, settled, go_on_with};
 ghost use Rattle.code_semantics.specs.Kinds.{operated, arity, instr_kind, outcome_kind, return_kind};
 ghost use Rattle.code_semantics.specs.declared.unit.Unit.{Unit as Code};
 ghost use Rattle.code_semantics.specs.Step.{asked, begun, code_stepped, is_own, method_named, outcome_value};
 ghost use Rattle.code_semantics.specs.Proper.{IsProper};
-ghost use Rattle.code_semantics.specs.OfUnit.{FitsUnit, IsAtStep};
+ghost use Rattle.code_semantics.specs.StepInstructions.{FitsUnit, IsAtStep};
 ghost use Rattle.node_heap.specs.Heaps.{object_at, put_object, top_at, put_top, top_in, under_top, frames_used, nils};
 ghost use Rattle.object_interp.specs.Bursts.{name_in, is_local};
 ghost use Rattle.object_interp.specs.Moves.{Passes, RunsTo, branched, call_fits, ended, entered, gone, moved, replaced, stays_in_frame};
-ghost use Rattle.object_interp.specs.Rest.{settled_at};
+ghost use Rattle.object_interp.specs.SettledObject.{settled_at};
 ghost use Rattle.object_interp.specs.Tops.{HasTop, class_in, code_in, instr_in, over};
 
 use crate::read::{class_at, code_at, instr_at, last_values, method_place, name_at, value_at};
 use code_semantics::{Instr, MethodCode, Unit};
 use node_heap::{FrameHead, Heap, HeapFull};
-use run_words::operators::{Answer, on_ints, operate, operate_one};
-use run_words::{Args, NameId, Op, Serves, Value};
+use run_types::operators::{Answer, on_ints, operate, operate_one};
+use run_types::{Args, NameId, Op, Serves, Value};
 
 /// Whether a value is true.
 pub(crate) fn is_true(value: Value) -> bool

@@ -1,7 +1,7 @@
 //! What stands at hand: the code of the innermost frame, and its operands.
 ghost use Rattle.std.specs.Prelude.{◌≡◌, ◌<◌, ◌≤◌, ◌+◌, ◌*◌, [], IsTrue, Some, is_some, length, slice_get};
 ghost use Rattle.std.specs.Option.{unwrap_or};
-ghost use Rattle.run_words.specs.Operands.{taken, dropped, top};
+ghost use Rattle.run_types.specs.Operands.{taken, dropped, top};
 ghost use Rattle.code_semantics.specs.Step.{class_from, method_named};
 ghost use Rattle.code_semantics.specs.Proper.{IsProper, IsProperClass};
 ghost use Rattle.code_semantics.specs.declared.unit.MethodCode.{MethodCode};
@@ -11,7 +11,7 @@ ghost use Rattle.object_interp.specs.Tops.{HasTop, class_in, code_in, instr_in};
 
 use code_semantics::{ClassCode, Instr, Unit};
 use node_heap::Heap;
-use run_words::{Args, NameId, Value, object_name};
+use run_types::{Args, NameId, Value, object_name};
 
 /// The class of the slot's object.
 pub(crate) fn class_at<'a>(unit: &'a Unit, heap: &Heap, slot: u32) -> &'a ClassCode

@@ -1,5 +1,6 @@
-pub mod Fine
-mod Faultless
-pub mod Most
-pub mod Suiting
+pub mod FaultlessForms
+mod RoutedPlacement
+pub mod Maximum
+pub mod PlacementSuits
 mod Rows
+pub mod Laws

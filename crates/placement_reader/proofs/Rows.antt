@@ -1,7 +1,7 @@
 -- Worked placements, computed: of a unit with the classes A and B, B having 3 variables.
 use Rattle.std.proofs.Common.{◌≡◌, refl, ℕ, [], ◌∷◌}
 use Rattle.std.specs.Prelude.{Ok, Err, codes}
-use Rattle.run_words.specs.declared.words.Place.TheVariants as P
+use Rattle.run_types.specs.declared.types.Place.TheVariants as P
 use Rattle.code_semantics.specs.declared.unit.ClassCode.{ClassCode}
 use Rattle.code_semantics.specs.declared.unit.Unit.{Unit as Code}
 use Rattle.placement_reader.specs.declared.fault.PlacementFault.TheVariants as F

@@ -1,15 +1,14 @@
 -- The forms of a placement's lines, and their faults.
-use Rattle.std.specs.Prelude.{ℕ, ◌+◌, ◌<◌, List, [], ◌∷◌, Option, Some, None, is_some, Bool, true, false, ◌&&◌, not, nat_eq, nat_le, nat_lt, bytes_eq, codes}
-use Rattle.run_words.specs.Partial.{◌>>=◌, only_if, unless}
-use Rattle.run_words.specs.Table.{is_among, name_of}
-use Rattle.run_words.specs.Text.{Text}
-use Rattle.run_words.specs.declared.words.Place.{Place}
-use Rattle.run_words.specs.declared.words.Place.TheVariants as P
-use Rattle.run_words.specs.declared.words.LinkId.{LinkId}
-use Rattle.run_words.specs.declared.words.Route.{Route}
-use Rattle.run_words.specs.Paths.{are_neighbours, is_cut, route_of}
-use Rattle.run_words.specs.Kept.{number_of}
-use Rattle.code_semantics.specs.Suits.{IsFromTo, IsOfMesh}
+use Rattle.std.specs.Prelude.{ℕ, ◌+◌, List, [], ◌∷◌, Option, Some, None, is_some, Bool, true, false, ◌&&◌, not, nat_eq, nat_le, nat_lt, bytes_eq, codes}
+use Rattle.run_types.specs.Partial.{◌>>=◌, only_if, unless}
+use Rattle.run_types.specs.Table.{is_among, name_of}
+use Rattle.text_scan.specs.Text.{Text}
+use Rattle.run_types.specs.declared.types.Place.{Place}
+use Rattle.run_types.specs.declared.types.Place.TheVariants as P
+use Rattle.run_types.specs.declared.types.LinkId.{LinkId}
+use Rattle.run_types.specs.declared.types.Route.{Route}
+use Rattle.run_types.specs.Paths.{are_neighbours, is_cut, route_of}
+use Rattle.text_scan.specs.ContentLines.{number_of}
 use Rattle.code_semantics.specs.declared.unit.ClassCode.{ClassCode}
 use Rattle.code_semantics.specs.declared.unit.Unit.{Unit as Code}
 use Rattle.placement_reader.specs.declared.fault.PlacementFault.{PlacementFault}
@@ -169,15 +168,3 @@ place_of S.Spread = P.Spread
 abbrev pub place_or_same : Option Spot → Place
 place_or_same None = P.Same
 place_or_same (Some s) = place_of s
-
--- a form without fault: its number is in its range, or its nodes are of the mesh
-abbrev pub IsFine : ℕ → Form → Type 0
-IsFine nodes (form.Mesh w h) = Unit {0}
-IsFine nodes (form.Counted k n) = IsFromTo 1 (most k) n
-IsFine nodes (form.Placed c s) = IsOfMesh nodes (place_of s)
-IsFine nodes (form.Cut a b) = (a < nodes) × (b < nodes)
-IsFine nodes (form.Routed a g b) = (a < nodes) × (g < nodes) × (b < nodes)
-
-abbrev pub AreFine : ℕ → List Form → Type 0
-AreFine nodes [] = Unit {0}
-AreFine nodes (f ∷ fs) = IsFine nodes f × AreFine nodes fs

@@ -1,2 +1,3 @@
 pub mod Forms
+pub mod ReaderFacts
 pub mod Placements

@@ -1,22 +1,21 @@
 -- The placement that a text is, or its first fault.
-use Rattle.std.specs.Prelude.{◌≡◌, ℕ, ◌+◌, ◌*◌, List, [], ◌∷◌, ◌++◌, length, map, Option, Some, None, unwrap_or, Result, Ok, Err, true, false, ◌&&◌, nat_le}
+use Rattle.std.specs.Prelude.{ℕ, ◌+◌, ◌*◌, List, [], ◌∷◌, ◌++◌, length, map, Option, Some, None, unwrap_or, Result, Ok, Err, true, false, ◌&&◌, nat_le}
 use Rattle.std.specs.List.{range_with_len}
 use Rattle.std.specs.Option.{option_or}
-use Rattle.run_words.specs.Text.{Text}
-use Rattle.run_words.specs.declared.words.Place.{Place}
-use Rattle.run_words.specs.declared.words.Placement.{Placement}
-use Rattle.run_words.specs.Tables.{Pair}
-use Rattle.run_words.specs.Routes.{without_route}
-use Rattle.run_words.specs.Lines.{lines}
-use Rattle.run_words.specs.Kept.{Kept, kept}
-use Rattle.code_semantics.specs.Suits.{IsFromTo, most_vars, words}
+use Rattle.text_scan.specs.Text.{Text}
+use Rattle.run_types.specs.declared.types.Place.{Place}
+use Rattle.run_types.specs.declared.types.Placement.{Placement}
+use Rattle.run_types.specs.Tables.{Pair}
+use Rattle.run_types.specs.Routes.{without_route}
+use Rattle.text_scan.specs.Lines.{lines}
+use Rattle.text_scan.specs.ContentLines.{Kept, kept}
+use Rattle.code_semantics.specs.NodeWords.{most_vars, words}
 use Rattle.code_semantics.specs.declared.unit.Unit.{Unit as Code}
 use Rattle.placement_reader.specs.declared.fault.PlacementFault.{PlacementFault}
 use Rattle.placement_reader.specs.declared.fault.PlacementFault.TheVariants as F
 use Rattle.placement_reader.specs.declared.form.Form.{Form}
 use Rattle.placement_reader.specs.declared.form.Form.TheVariants as form
 use Rattle.placement_reader.specs.declared.form.Count.TheVariants as C
-use Rattle.placement_reader.specs.declared.read.Mesh.{Mesh}
 use Rattle.placement_reader.specs.Forms.{cuts_of, fault_or_bad, form_of, is_from_one, number_in, place_or_same, routes_of, spot_in}
 
 abbrev pub with_form : List Form → Option Form → List Form
@@ -73,13 +72,6 @@ mesh_fault line (Some (form.Placed c s)) = Some (F.BadLine line)
 mesh_fault line (Some (form.Cut a b)) = Some (F.BadLine line)
 mesh_fault line (Some (form.Routed a g b)) = Some (F.BadLine line)
 
--- the first line is this mesh
-pub record IsMeshLine (line : ℕ) (f : Option Form) (m : Mesh) : Type 0 where
-  pub form_is : f ≡ Some (form.Mesh m.width m.height)
-  pub faultless : mesh_fault line f ≡ None
-  pub width : IsFromTo 1 8 m.width
-  pub height : IsFromTo 1 8 m.height
-
 -- the mesh line, and the lines behind it
 abbrev pub with_mesh : Code → ℕ → Option Form → List Kept → Result Placement PlacementFault
 with_mesh u line None ks = Err (F.BadLine line)
@@ -98,18 +90,6 @@ placement_of_lines u count (k ∷ ks) = with_mesh u k.line (form_of u k.words) k
 -- the placement of a text, for the classes of a unit
 abbrev pub placement_of : Code → Text → Result Placement PlacementFault
 placement_of u s = placement_of_lines u (length (lines s)) (kept s)
-
--- The fault is this one, unless memory ran out.
-abbrev pub IsTold : PlacementFault → Option PlacementFault → Type 0
-IsTold (F.BadLine line) told = told ≡ Some (F.BadLine line)
-IsTold (F.UnknownClass line) told = told ≡ Some (F.UnknownClass line)
-IsTold (F.Repeated line) told = told ≡ Some (F.Repeated line)
-IsTold (F.NoSuchNode line) told = told ≡ Some (F.NoSuchNode line)
-IsTold (F.OutOfRange line) told = told ≡ Some (F.OutOfRange line)
-IsTold (F.TooLarge count) told = told ≡ Some (F.TooLarge count)
-IsTold F.Memory told = Unit {0}
-IsTold (F.NoSuchLink line) told = told ≡ Some (F.NoSuchLink line)
-IsTold (F.NoRoute from to) told = told ≡ Some (F.NoRoute from to)
 
 abbrev pub fault_in : Result Placement PlacementFault → Option PlacementFault
 fault_in (Ok p) = None

@@ -1,11 +1,12 @@
 //! The forms of a placement's lines.
 ghost use Rattle.std.specs.Prelude.{◌≡◌};
-ghost use Rattle.run_words.specs.Lines.{words};
-ghost use Rattle.run_words.specs.Kept.{number_of};
+ghost use Rattle.text_scan.specs.Lines.{words};
+ghost use Rattle.text_scan.specs.ContentLines.{number_of};
 ghost use Rattle.placement_reader.specs.Forms.{class_named, class_numbered, count_form, form_of, form_of_four, form_of_three, kind_of, spot_of};
 
 use code_semantics::{ClassCode, Unit};
-use run_words::{Few, NameId, few_words, number};
+use run_types::NameId;
+use text_scan::{UpToFour, number, split_up_to_four};
 
 /// What is counted at each node.
 #[derive(Clone, Copy)]
@@ -133,10 +134,12 @@ fn form_of_four(unit: &Unit, word: &[u8], first: &[u8], second: &[u8], third: &[
 pub fn form_in(unit: &Unit, line: &[u8]) -> Option<Form>
     ensures { result ≡ form_of unit.now (words line.now) }
 {
-    match few_words(line) {
-        Few::Two(word, first) => count_form(word, first),
-        Few::Three(word, first, second) => form_of_three(unit, word, first, second),
-        Few::Four(word, first, second, third) => form_of_four(unit, word, first, second, third),
+    match split_up_to_four(line) {
+        UpToFour::Two(word, first) => count_form(word, first),
+        UpToFour::Three(word, first, second) => form_of_three(unit, word, first, second),
+        UpToFour::Four(word, first, second, third) => form_of_four(
+            unit, word, first, second, third,
+        ),
         _ => None,
     }
 }

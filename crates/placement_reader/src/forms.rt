@@ -2,12 +2,13 @@
 ghost use Rattle.std.specs.Prelude.{◌≡◌, ◌≤◌, ◌<◌, [], ◌∷◌, length, IfOk};
 ghost use Rattle.std.specs.List.{range_with_len};
 ghost use Rattle.code_semantics.specs.Suits.{IsFromTo, IsOfMesh};
-ghost use Rattle.run_words.specs.Paths.{is_cut, route_of};
-ghost use Rattle.placement_reader.specs.Forms.{AreFine, cuts_of, is_class, is_kind, most, number_in, place_of, place_or_same, routes_of, spot_in};
+ghost use Rattle.run_types.specs.Paths.{is_cut, route_of};
+ghost use Rattle.placement_reader.specs.Forms.{cuts_of, is_class, is_kind, most, number_in, place_of, place_or_same, routes_of, spot_in};
+ghost use Rattle.placement_reader.specs.ReaderFacts.{AreWellFormed};
 ghost use Rattle.placement_reader.specs.Placements.{places_of};
 
 use crate::form::{Count, Form, Spot};
-use run_words::{List, Place};
+use run_types::{List, Place};
 use std::alloc::{AllocError, Global};
 
 fn is_kind(one: Count, other: Count) -> bool

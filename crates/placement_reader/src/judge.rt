@@ -1,8 +1,9 @@
 //! The fault of a line.
 ghost use Rattle.std.specs.Prelude.{◌≡◌, ◌≤◌, ◌<◌, ◌∷◌, IfOk, IfErr, Some, None};
-ghost use Rattle.run_words.specs.Lines.{words};
+ghost use Rattle.text_scan.specs.Lines.{words};
 ghost use Rattle.placement_reader.specs.declared.form.Form.TheVariants.{Counted, Cut, Placed, Routed};
-ghost use Rattle.placement_reader.specs.Forms.{IsFine, fault_of, fault_or_bad, form_of, is_from_one, is_there, most};
+ghost use Rattle.placement_reader.specs.Forms.{fault_of, fault_or_bad, form_of, is_from_one, is_there, most};
+ghost use Rattle.placement_reader.specs.ReaderFacts.{IsWellFormed};
 
 use crate::fault::PlacementFault;
 use crate::form::{Count, Form, Spot, form_in};
@@ -166,7 +167,7 @@ pub fn judge(
     requires width { 1 ≤ width }
     requires nodes { nodes ≤ 64 }
     ensures form { IfOk result (λ f. form_of unit.now (words line.now) ≡ Some f) }
-    ensures fine { IfOk result (λ f. IsFine nodes f) }
+    ensures fine { IfOk result (λ f. IsWellFormed nodes f) }
     ensures ok { IfOk result (λ f. fault_or_bad width nodes number earlier.now (form_of unit.now (words line.now)) ≡ None) }
     ensures err { IfErr result (λ f. fault_or_bad width nodes number earlier.now (form_of unit.now (words line.now)) ≡ Some f) }
 {

@@ -1,4 +1,6 @@
-//! Placements: the mesh, the limits of its nodes, and where new objects of each class stand.
+//! Reads a placement: mesh, routes, node limits, and where objects of each class are created; or its first fault.
+//!
+//! Does not know: trees of programs, schedules and machines.
 #![tactic(auto)]
 
 mod fault;

@@ -1,22 +1,26 @@
 //! Reads a placement.
 ghost use Rattle.std.specs.Prelude.{◌≡◌, ◌+◌, ◌*◌, ◌≤◌, [], length, drop, unwrap_or, IfOk, IfErr, IfNone, IfSome, OnOk, Ok, Some, None};
 ghost use Rattle.std.specs.List.{All};
-ghost use Rattle.run_words.specs.Lines.{lines, words as line_words};
-ghost use Rattle.run_words.specs.Kept.{kept_from};
-ghost use Rattle.code_semantics.specs.Suits.{IsFromTo, IsOfMesh, Suits, most_vars, words};
+ghost use Rattle.text_scan.specs.Lines.{lines, words as line_words};
+ghost use Rattle.text_scan.specs.ContentLines.{kept_from};
+ghost use Rattle.code_semantics.specs.Suits.{IsFromTo, IsOfMesh, Suits};
+ghost use Rattle.code_semantics.specs.NodeWords.{most_vars, words};
 ghost use Rattle.placement_reader.specs.declared.form.Count.TheVariants.{Objects, Frames, Cells};
-ghost use Rattle.run_words.specs.Routes.{IsRouted, without_route};
-ghost use Rattle.placement_reader.specs.Forms.{AreFine, cuts_of, form_of, most, number_in, place_or_same, routes_of, spot_in};
-ghost use Rattle.placement_reader.specs.Placements.{IsMeshLine, IsTold, connected, fault_in, first_fault, fitted, forms_of, mesh_fault, placement_of, places_of, value_of};
+ghost use Rattle.run_types.specs.Routes.{without_route};
+ghost use Rattle.run_types.specs.RoutedPlacements.{IsRouted};
+ghost use Rattle.placement_reader.specs.Forms.{cuts_of, form_of, most, number_in, place_or_same, routes_of, spot_in};
+ghost use Rattle.placement_reader.specs.ReaderFacts.{AreWellFormed, IsMeshLine, ReportsFault};
+ghost use Rattle.placement_reader.specs.Placements.{connected, fault_in, first_fault, fitted, forms_of, mesh_fault, placement_of, places_of, value_of};
 
 use crate::fault::PlacementFault;
 use crate::form::{Count, Form, Spot, form_in};
 use crate::forms::{number_in, spot_in};
 use crate::judge::{is_from_one, judge};
 use code_semantics::{ClassCode, Unit};
-use run_words::{LinkId, List, Place, Placement, Route, count_lines, next_kept};
+use run_types::{LinkId, List, Place, Placement, Route};
 use std::alloc::{AllocError, Global};
 use table_routing::{Table, TableFault};
+use text_scan::{count_lines, next_content_line};
 
 /// The most words that the nodes may take together.
 const MOST_WORDS: u64 = 16777216;
@@ -62,15 +66,15 @@ fn gather(
     requires within { from ≤ length bytes.now }
     requires small { length bytes.now ≤ 67108864 }
     requires few { line ≤ from + 1 }
-    ensures fine { IfOk result (λ fs. AreFine nodes fs.items) }
+    ensures fine { IfOk result (λ fs. AreWellFormed nodes fs.items) }
     ensures faultless { OnOk result (first_fault unit.now width nodes [] (kept_from line (lines (drop from bytes.now))) ≡ None) }
     ensures forms { IfOk result (λ fs. fs.items ≡ forms_of unit.now [] (kept_from line (lines (drop from bytes.now)))) }
-    ensures fault { IfErr result (λ f. IsTold f (first_fault unit.now width nodes [] (kept_from line (lines (drop from bytes.now))))) }
+    ensures fault { IfErr result (λ f. ReportsFault f (first_fault unit.now width nodes [] (kept_from line (lines (drop from bytes.now))))) }
 {
     let mut forms = Vec::new(alloc);
     let mut at = from;
     let mut number = line;
-    while let Some(found) = next_kept(bytes, at, number) {
+    while let Some(found) = next_content_line(bytes, at, number) {
         let form = judge(
             unit,
             width,
@@ -92,7 +96,7 @@ fn gather(
 /// Where new objects of a class stand.
 fn place_in(class: usize, nodes: u64, forms: &[Form]) -> Place
     requires small { nodes ≤ 64 }
-    requires fine { AreFine nodes forms.now }
+    requires fine { AreWellFormed nodes forms.now }
     ensures place { result ≡ place_or_same (spot_in class forms.now) }
     ensures there { IsOfMesh nodes result }
 {
@@ -112,7 +116,7 @@ fn places_in(
     forms: &[Form],
 ) -> Result<List<Place>, AllocError>
     requires small { nodes ≤ 64 }
-    requires fine { AreFine nodes forms.now }
+    requires fine { AreWellFormed nodes forms.now }
     ensures places { IfOk result (λ ps. ps ≡ places_of count forms.now) }
 {
     let mut places = List::make(alloc);
@@ -128,7 +132,7 @@ fn places_in(
 /// The cut links.
 fn cuts_in(alloc: Global, nodes: u64, forms: &[Form]) -> Result<List<LinkId>, AllocError>
     requires small { nodes ≤ 64 }
-    requires fine { AreFine nodes forms.now }
+    requires fine { AreWellFormed nodes forms.now }
     ensures { IfOk result (λ ks. ks ≡ cuts_of forms.now) }
 {
     let mut cuts = List::make(alloc);
@@ -149,7 +153,7 @@ fn cuts_in(alloc: Global, nodes: u64, forms: &[Form]) -> Result<List<LinkId>, Al
 /// The routes.
 fn routes_in(alloc: Global, nodes: u64, forms: &[Form]) -> Result<List<Route>, AllocError>
     requires small { nodes ≤ 64 }
-    requires fine { AreFine nodes forms.now }
+    requires fine { AreWellFormed nodes forms.now }
     ensures { IfOk result (λ rs. rs ≡ routes_of forms.now) }
 {
     let mut routes = List::make(alloc);
@@ -190,7 +194,7 @@ fn placement_in(
 ) -> Result<Placement, AllocError>
     requires width { IsFromTo 1 8 mesh.width }
     requires height { IsFromTo 1 8 mesh.height }
-    requires fine { AreFine (mesh.width * mesh.height) forms.now }
+    requires fine { AreWellFormed (mesh.width * mesh.height) forms.now }
     ensures value { IfOk result (λ p. p ≡ value_of unit.now mesh.width mesh.height forms.now) }
     ensures objects { IfOk result (λ p. IsFromTo 1 4096 p.objects) }
     ensures frames { IfOk result (λ p. IsFromTo 1 16384 p.frames) }
@@ -247,7 +251,7 @@ fn words(placement: &Placement, vars: u32) -> u64
 fn route_fault(alloc: Global, placement: &Placement) -> Option<PlacementFault>
     requires { IsRouted placement.now }
     ensures none { IfNone result (without_route placement.now ≡ None) }
-    ensures some { IfSome result (λ f. IsTold f (fault_in (connected (without_route placement.now) placement.now))) }
+    ensures some { IfSome result (λ f. ReportsFault f (fault_in (connected (without_route placement.now) placement.now))) }
 {
     match Table::make(alloc, placement) {
         Ok(_) => None,
@@ -261,9 +265,9 @@ pub fn read_placement(alloc: Global, bytes: &[u8], unit: &Unit) -> Result<Placem
     requires { length bytes.now ≤ 67108864 }
     ensures ok { IfOk result (λ p. placement_of unit.now bytes.now ≡ Ok p) }
     ensures suits { IfOk result (λ p. Suits p unit.now) }
-    ensures err { IfErr result (λ f. IsTold f (fault_in (placement_of unit.now bytes.now))) }
+    ensures err { IfErr result (λ f. ReportsFault f (fault_in (placement_of unit.now bytes.now))) }
 {
-    let Some(first) = next_kept(bytes, 0, 1) else {
+    let Some(first) = next_content_line(bytes, 0, 1) else {
         return Err(PlacementFault::BadLine {
             line: count_lines(bytes) + 1,
         });

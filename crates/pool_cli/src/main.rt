@@ -1,20 +1,22 @@
-//! The program: the words of the command line, the files of the system, and the two standard sinks.
+//! The program `pool`: runs the top-level function on the arguments, files and standard streams of the system.
+//!
+//! Does not know: what each command does.
 #![tactic(auto)]
 
-ghost use Rattle.run_driver.specs.Writing.{writing};
+ghost use Rattle.run_loop.specs.Writing.{writing};
 ghost use Rattle.std.specs.Prelude.{◌≡◌, ◌⊎◌, ◌-◌, ◌^◌, ◌≤◌, ◌<◌, ◌++◌, [], ◌∷◌, Some, false, codes, option_map, IfSome};
-ghost use Rattle.run_words.specs.Text.{Text};
+ghost use Rattle.text_scan.specs.Text.{Text};
 ghost use Rattle.std.specs.Process.{exit_status};
 ghost use Rattle.pool_outside.specs.Outside.{Rose};
 ghost use Rattle.pool_driver.specs.Commands.{Request, request_of, texts_of};
 ghost use Rattle.pool_driver.specs.Ends.{Ends, StaysWithin, reading};
-ghost use Rattle.run_driver.specs.Statuses.{code_of};
+ghost use Rattle.run_loop.specs.Statuses.{code_of};
 ghost use Rattle.pool_driver.specs.Headline.{ShowsOneRun};
 ghost use Rattle.pool_driver.specs.Inputs.{IsServable, MayOpen};
-ghost use Rattle.pool_driver.specs.Outputs.{IsWhole};
+ghost use Rattle.pool_driver.specs.Outputs.{WholeTextWritten};
 
 use pool_driver::{Status, pool};
-use pool_outside::{Files, Sink, StdFiles, StdSink, behind_name};
+use pool_outside::{Files, Sink, StdFiles, StdSink, args_after_program_name};
 use std::alloc::Global;
 use std::env;
 use std::process::ExitCode;
@@ -45,10 +47,10 @@ fn run<F: Files, K: Sink, E: Sink>(
     // Words of a command, accepted inputs and no fault in this call give the text whole, or nothing for want of memory.
     ensures complete { (r : Request) → request_of (texts_of words.now) ≡ Some r → IsServable (F.told files.old) r
         → ¬ (Rose (F.faults files.old) (F.faults files.new)) → ¬ (Rose (K.faults out.old) (K.faults out.new)) → ¬ (Rose (E.faults err.old) (E.faults err.new))
-        → ((status : Status) × IsWhole status × (exit_status result ≡ code_of status)) ⊎ (exit_status result ≡ 7) }
+        → ((status : Status) × WholeTextWritten status × (exit_status result ≡ code_of status)) ⊎ (exit_status result ≡ 7) }
 
     // The headline, by itself: where `record` ends with the number of a record, what it wrote is the text of lines that show one run of the program.
-    ensures headline { (p l s : Text) → texts_of words.now ≡ codes "record" ∷ p ∷ l ∷ s ∷ [] → (status : Status) → IsWhole status → exit_status result ≡ code_of status
+    ensures headline { (p l s : Text) → texts_of words.now ≡ codes "record" ∷ p ∷ l ∷ s ∷ [] → (status : Status) → WholeTextWritten status → exit_status result ≡ code_of status
         → (source : Text) × (bytes : Text) × IfSome (F.told files.old p) (λ t. source ≡ t)
         × (K.written out.new ≡ option_map (λ w. w ++ bytes) (K.written out.old)) × ShowsOneRun source bytes }
 {
@@ -57,7 +59,7 @@ fn run<F: Files, K: Sink, E: Sink>(
 
 fn main(rt: HostRuntime) -> ExitCode {
     let alloc = rt.alloc();
-    let Ok(words) = behind_name(alloc, env::args(&rt)) else {
+    let Ok(words) = args_after_program_name(alloc, env::args(&rt)) else {
         return ExitCode::from(Status::Memory.code());
     };
     let mut out = StdSink::make(rt.stdout());

@@ -1,10 +1,10 @@
 -- What frames that stand for a term say of its redex, and how another part takes the redex's place in both.
-use Rattle.run_words.specs.declared.frames.Frame.{Frame}
+use Rattle.run_types.specs.declared.frames.Frame.{Frame}
 use Rattle.std.proofs.Common.{◌≡◌, ap, ◌∙◌, subst, ℕ, suc, List, [], ◌∷◌, ◌++◌, length, Option, Some, is_some, IsTrue, Bool, true, false, ◌⊎◌, append_assoc}
 use Rattle.std.specs.Prelude.{slice_get, map}
-use Rattle.run_words.specs.declared.words.Value.{Value}
-use Rattle.run_words.specs.declared.words.Value.TheVariants as V
-use Rattle.run_words.specs.declared.words.Item.TheVariants as Item
+use Rattle.run_types.specs.declared.types.Value.{Value}
+use Rattle.run_types.specs.declared.types.Value.TheVariants as V
+use Rattle.run_types.specs.declared.types.Item.TheVariants as Item
 use Rattle.pool_syntax.specs.Terms as T
 use Rattle.pool_syntax.specs.Terms.{Store, Expression, Expressions, Statement, Statements, Alternatives, append}
 use Rattle.pool_relation.specs.Reducible as R
@@ -12,11 +12,11 @@ use Rattle.pool_relation.specs.Reducible.{Choice, Reducible, Found, Evaluated, A
 use Rattle.code_semantics.specs.declared.unit.Instr.{Instr}
 use Rattle.code_semantics.specs.declared.unit.Instr.TheVariants as I
 use Rattle.code_semantics.specs.declared.unit.AltCode.{AltCode}
-use Rattle.run_words.specs.declared.words.Serves.TheVariants as S
+use Rattle.run_types.specs.declared.types.Serves.TheVariants as S
 use Rattle.code_semantics.specs.declared.unit.ClassCode.{ClassCode}
 use Rattle.code_semantics.specs.Frames.{code_of, next, silent}
 use Rattle.pool_compile.specs.Code.{Numbering, name, load, store, answer_names}
-use Rattle.pool_compile.specs.Stands.{Point, Head, keys, frame_of, fresh, Ends, PointsOf, IsServing, push_all, Under, UnderStatement, UnderStatements}
+use Rattle.pool_compile.specs.StandsFor.{Point, Head, keys, frame_of, fresh, Ends, PointsOf, IsServing, push_all, Under, UnderStatement, UnderStatements}
 
 -- whether a redex is an expression
 abbrev pub is_inner : Reducible → Bool

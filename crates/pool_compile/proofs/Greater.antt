@@ -37,25 +37,6 @@ more_assoc a b c =
     (more_within (more a b) c (more a (more b c)) (more_within a b (more a (more b c)) (omega arith) (omega arith)) (omega arith))
     (more_within a (more b c) (more (more a b) c) (omega arith) (more_within b c (more (more a b) c) (omega arith) (omega arith)))
 
-pub more_zero : (n : ℕ) → more n 0 ≡ n
-more_zero n = equal _ _ (more_within n 0 n (omega arith) (omega arith)) (more_left n 0)
-
--- a part more
-pub more_parts : {A : Type 0} (all : List A → ℕ) (part : A → ℕ) (xs : List A) (i : ℕ) (x : A) (most now total : ℕ) → i < length xs → x ≡ get_or xs i x
-    → ((y : A) (ys : List A) → all (y ∷ ys) ≡ more (part y) (all ys)) → now ≡ more most (part x) → more most (all (drop i xs)) ≡ total → more now (all (drop (i + 1) xs)) ≡ total
-more_parts all part xs i x most now total within at unfolds e h =
-    ap (λ n. more n (all (drop (i + 1) xs))) e ∙ more_assoc most (part x) (all (drop (i + 1) xs))
-    ∙ ap (more most) (sym (at_drop_more all xs i x within ∙ ap (λ y. all (y ∷ drop (i + 1) xs)) (sym at) ∙ unfolds x (drop (i + 1) xs))) ∙ h
-
--- a part is at most the whole
-pub part_within : {A : Type 0} (all : List A → ℕ) (part : A → ℕ) (xs : List A) (i : ℕ) (x : A) (most total : ℕ) → i < length xs → x ≡ get_or xs i x
-    → ((y : A) (ys : List A) → all (y ∷ ys) ≡ more (part y) (all ys)) → more most (all (drop i xs)) ≡ total → part x ≤ total
-part_within all part xs i x most total within at unfolds h =
-    let e : all (drop i xs) ≡ more (part x) (all (drop (i + 1) xs)) = at_drop_more all xs i x within ∙ ap (λ y. all (y ∷ drop (i + 1) xs)) (sym at) ∙ unfolds x (drop (i + 1) xs) in
-    let a = more_right most (all (drop i xs)) in
-    let b = more_left (part x) (all (drop (i + 1) xs)) in
-    omega (arith, a, b, e, h)
-
 -- two parts, each right where it is no more than 64
 pub both : (m n a b : ℕ) → (m ≤ 64 → a ≡ m) → (n ≤ 64 → b ≡ n) → more m n ≤ 64 → more a b ≡ more m n
 both m n a b f g h =

@@ -2,22 +2,22 @@
 use Rattle.code_semantics.specs.declared.unit.ClassCode.{ClassCode}
 use Rattle.std.proofs.Common.{◌≡◌, refl, sym, ap, ◌∙◌, subst, ℕ, zero, suc, ◌+◌, ◌-◌, ◌<◌, ◌≤◌, List, [], ◌∷◌, ◌++◌, length, Option, Some, Bool, true, false, arith, length-append}
 use Rattle.std.specs.Prelude.{slice_get, map, nat_le, not, ◌&&◌, ◌==◌, if◌then◌else◌}
-use Rattle.run_words.specs.declared.words.Value.{Value}
-use Rattle.run_words.specs.declared.words.Value.TheVariants as V
-use Rattle.run_words.specs.declared.words.Op.{Op}
+use Rattle.run_types.specs.declared.types.Value.{Value}
+use Rattle.run_types.specs.declared.types.Value.TheVariants as V
+use Rattle.run_types.specs.declared.types.Op.{Op}
 use Rattle.pool_syntax.specs.Terms as T
-use Rattle.pool_syntax.specs.Terms.{Expression, Expressions, Statement, Statements, Alternatives}
+use Rattle.pool_syntax.specs.Terms.{Expression, Expressions, Statement, Statements, Alternatives, NoAlts, Alt}
 use Rattle.pool_syntax.specs.Typing.{size, contains}
-use Rattle.run_words.specs.Values.{is_prefix}
+use Rattle.run_types.specs.Values.{is_prefix}
 use Rattle.pool_relation.specs.Typed.{has_room}
 use Rattle.code_semantics.specs.declared.unit.Instr.{Instr}
 use Rattle.code_semantics.specs.declared.unit.Instr.TheVariants as I
 use Rattle.code_semantics.specs.declared.unit.AltCode.{AltCode}
 use Rattle.code_semantics.specs.Kinds.{arity}
 use Rattle.code_semantics.specs.Step.{method_named}
-use Rattle.code_semantics.specs.Proper.{takes, leaves, nexts, params_of}
-use Rattle.pool_compile.specs.Code.{Numbering, name, push, load, store, number_of, count, expression_code, expressions_code, guards_code, statement_code, statements_code, alternatives_code, alternatives_at}
-use Rattle.pool_compile.proofs.Coded.{Has, front, back, works_length}
+use Rattle.code_semantics.specs.ReachedPlaces.{takes, leaves, nexts, params_of}
+use Rattle.pool_compile.specs.Code.{Numbering, name, push, load, store, number_of, expression_code, expressions_code, guards_code, statement_code, statements_code, alternatives_code, alternatives_at}
+use Rattle.pool_compile.proofs.CodeAtStart.{Has, front, back, works_length}
 
 -- an expression before which h operands are held: there is room for each, and each own call has as many arguments as parameters
 abbrev mutual
@@ -77,6 +77,11 @@ height_next k h [] q i e = absurd (grind (arith, e))
 height_next k h (j ∷ c) (suc q) i e = height_next k (moved k h j) c q i e
 height_next k h (j ∷ []) zero i e = let f : j ≡ i = grind (arith, e) in ap (moved k h) f
 height_next k h (j ∷ l ∷ c) zero i e = let f : j ≡ i = grind (arith, e) in ap (moved k h) f
+
+-- the number of alternatives
+abbrev pub count : Alternatives → ℕ
+count NoAlts = 0
+count (Alt e names ss alts) = suc (count alts)
 
 module _ (k : Option ClassCode) (c : List Instr) where
   abbrev pub H : ℕ → ℕ

@@ -1,18 +1,18 @@
 -- The code's kind is the term's.
-use Rattle.run_words.specs.declared.frames.Frame.{Frame}
+use Rattle.run_types.specs.declared.frames.Frame.{Frame}
 use Rattle.std.proofs.Common.{◌≡◌, refl, sym, ap, ◌∙◌, subst, ℕ, suc, ◌+◌, List, [], ◌∷◌, ◌++◌, length, Option, Some, None, is_some, Bool, true, false, arith, inl, inr, append-nil}
 use Rattle.std.specs.Prelude.{map, if◌then◌else◌, ◌||◌}
 use Rattle.std.specs.List.{list_any}
-use Rattle.run_words.specs.declared.words.Op.{Op}
-use Rattle.run_words.specs.declared.words.Op.TheVariants as O
-use Rattle.run_words.specs.declared.words.Value.{Value}
-use Rattle.run_words.specs.declared.words.Value.TheVariants as V
-use Rattle.run_words.specs.declared.words.Item.TheVariants as Item
-use Rattle.run_words.specs.declared.words.Error.TheVariants.{NilOperand}
+use Rattle.run_types.specs.declared.types.Op.{Op}
+use Rattle.run_types.specs.declared.types.Op.TheVariants as O
+use Rattle.run_types.specs.declared.types.Value.{Value}
+use Rattle.run_types.specs.declared.types.Value.TheVariants as V
+use Rattle.run_types.specs.declared.types.Item.TheVariants as Item
+use Rattle.run_types.specs.declared.types.Error.TheVariants.{NilOperand}
 use Rattle.pool_syntax.specs.Terms as T
 use Rattle.pool_syntax.specs.Terms.{Store, ProgramTree, MethodTree, Statements}
 use Rattle.pool_syntax.specs.Classes.{class_of}
-use Rattle.run_words.specs.Values.{Outcome, Gives, Fails, WrongSort, prefix_value, infix_value, is_bool, is_nil, not_bool, is_true}
+use Rattle.run_types.specs.Values.{Outcome, Gives, Fails, WrongSort, prefix_value, infix_value, is_bool, is_nil, not_bool, is_true}
 use Rattle.pool_relation.specs.Reducible as R
 use Rattle.pool_relation.specs.Reducible.{Choice, Reducible, Contractum}
 use Rattle.pool_relation.specs.Action as A
@@ -21,12 +21,12 @@ use Rattle.code_semantics.specs.declared.unit.Instr.{Instr}
 use Rattle.code_semantics.specs.declared.unit.Instr.TheVariants as I
 use Rattle.code_semantics.specs.declared.unit.AltCode.{AltCode}
 use Rattle.code_semantics.specs.declared.unit.ClassCode.{ClassCode}
-use Rattle.run_words.specs.Operands.{top, taken, dropped}
+use Rattle.run_types.specs.Operands.{top, taken, dropped}
 use Rattle.code_semantics.specs.Kinds as K
 use Rattle.code_semantics.specs.Kinds.{Kind, instr_kind, frames_kind, operated, outcome_kind, sent_kind, select_kind, return_kind, offers}
 use Rattle.pool_syntax.specs.Typing.{contains}
 use Rattle.pool_compile.specs.Code.{Numbering, name, load, store, number_of}
-use Rattle.pool_compile.specs.Stands.{Point, Head, frame_of, push_all}
+use Rattle.pool_compile.specs.StandsFor.{Point, Head, frame_of, push_all}
 use Rattle.pool_compile.specs.Follows.{SameKind, offered}
 use Rattle.pool_compile.proofs.Focus.{Stand, Ending, Lists, guards_of, Focus, Spot, Returning}
 

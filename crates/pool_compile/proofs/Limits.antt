@@ -4,19 +4,20 @@ use Rattle.std.specs.Prelude.{map}
 use Rattle.std.proofs.Math.Logic.{∥∥₁_elim}
 use denote.Struct.Props.{props}
 use Rattle.pool_syntax.specs.declared.tree.Var.{Var}
-use Rattle.pool_grammar.specs.Programs.{IsGrammatical}
+use Rattle.pool_grammar.specs.Grammatical.{IsGrammatical}
 use Rattle.pool_syntax.specs.Terms as T
 use Rattle.pool_syntax.specs.Terms.{Expression, Expressions, Statement, Statements, Alternatives, MethodTree, ClassTree, ProgramTree}
 use Rattle.pool_syntax.specs.Typing.{Scope, expression_faults, statements_faults, contains, fault_if, vars_faults, too_many, methods_faults, method_tree_faults, classes_faults, class_scope, faults, behind_value, method_scope}
-use Rattle.run_words.proofs.Laws.{first, second}
+use Rattle.run_types.proofs.Laws.{first, second}
 use Rattle.pool_relation.specs.Typed.{has_room}
-use Rattle.pool_relation.specs.Written.{is_source, are_source_statements, is_value_for, are_written, is_written}
-use Rattle.class_check.proofs.Grammatical.{grammatical_written, has_a_class}
+use Rattle.pool_syntax.specs.Written.{are_written, is_written}
+use Rattle.pool_syntax.specs.SourceParts.{is_source, are_source_statements, is_value_for}
+use Rattle.class_check.proofs.Laws.{grammatical_written, has_a_class}
 use Rattle.pool_relation.proofs.Laws.{none2, none4}
 use Rattle.code_semantics.specs.declared.unit.ClassCode.{ClassCode}
 use Rattle.pool_compile.specs.Code.{more, expression_words, expressions_words, guards_words, statement_words, statements_words, works_words, names_of, method_code_of, class_code, code}
 use Rattle.pool_compile.specs.Small.{FramesAreSmall, HaveSmallFrames, AreSmallMethods, IsSmall}
-use Rattle.pool_compile.proofs.Counted.{counted, counted_statements, nil_left, nil_right}
+use Rattle.pool_compile.proofs.PartCounts.{counted, counted_statements, nil_left, nil_right}
 use Rattle.pool_compile.proofs.Greater.{more_within}
 use Rattle.pool_compile.proofs.Heights.{is_counted, are_counted, is_counted_statement, are_counted_statements, are_counted_guards, are_counted_works, first_room, room}
 

@@ -1,23 +1,23 @@
 -- The methods of a class in its code, and a method as it begins.
 use Rattle.std.proofs.Common.{◌≡◌, refl, sym, ap, ◌∙◌, subst, ℕ, suc, ◌+◌, ◌==◌, List, [], ◌∷◌, ◌++◌, length, Option, Some, Bool, true, false, inl, arith, inr}
 use Rattle.std.specs.Prelude.{slice_get, map, if◌then◌else◌}
-use Rattle.run_words.specs.declared.words.Value.{Value}
+use Rattle.run_types.specs.declared.types.Value.{Value}
 use Rattle.pool_syntax.specs.Terms.{Statements, Expression, MethodTree, ClassTree, ProgramTree, Done, Then}
 use Rattle.pool_syntax.specs.Classes.{class_of, named_method}
 use Rattle.pool_relation.specs.Reducible.{is_done}
 use Rattle.pool_relation.specs.Action.{temps_of}
 use Rattle.code_semantics.specs.declared.unit.Instr.{Instr}
 use Rattle.code_semantics.specs.declared.unit.Instr.TheVariants as I
-use Rattle.run_words.specs.declared.words.Serves.{Serves}
+use Rattle.run_types.specs.declared.types.Serves.{Serves}
 use Rattle.code_semantics.specs.declared.unit.ClassCode.{ClassCode}
 use Rattle.code_semantics.specs.Frames as F
 use Rattle.code_semantics.specs.Frames.{code_of}
 use Rattle.code_semantics.specs.Step.{Numbered, method_from, method_named, begun}
 use Rattle.pool_compile.specs.Code.{Numbering, name, names_of, method_code_of, class_code, method_instrs, statements_code, expression_code, post_code}
-use Rattle.pool_compile.specs.Stands.{Head, keys, frame_of, fresh, IsOf, InMethod, Under, UnderStatements, as_value, Behind}
-use Rattle.run_words.proofs.Laws.{first, second}
+use Rattle.pool_compile.specs.StandsFor.{Head, keys, frame_of, fresh, IsOf, InMethod, Under, UnderStatements, as_value, Behind}
+use Rattle.run_types.proofs.Laws.{first, second}
 use Rattle.pool_compile.specs.TextPrograms.{is_text, are_text_statements, is_text_method, are_text_methods, is_text_program}
-use Rattle.pool_compile.proofs.Coded.{Has, front, back, has_all, coded, coded_statements}
+use Rattle.pool_compile.proofs.CodeAtStart.{Has, front, back, has_all, coded, coded_statements}
 use Rattle.pool_compile.proofs.Stores.{temps_keys, temps_values}
 
 -- the class that a name finds

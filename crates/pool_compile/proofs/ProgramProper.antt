@@ -5,11 +5,12 @@ use Rattle.std.proofs.lemmas.List.{length-map}
 use Rattle.pool_syntax.specs.declared.tree.Var.{Var}
 use Rattle.pool_syntax.specs.Terms.{MethodTree, ClassTree, ProgramTree, Statements, Done, Then}
 use Rattle.pool_syntax.specs.Classes.{class_of, named_method}
-use Rattle.run_words.specs.Keywords.{is_name}
+use Rattle.text_scan.specs.Keywords.{is_name}
 use Rattle.pool_syntax.specs.Spelled.{is_outcome, are_variables, is_spelled_expression, are_spelled_statements, are_spelled_methods, is_spelled}
 use Rattle.pool_syntax.specs.Typing.{Scope, fault_if, vars_faults, methods_of_class, method_tree_faults, methods_faults, statements_faults, class_scope, classes_faults, faults}
-use Rattle.run_words.proofs.Laws.{first, second}
-use Rattle.pool_relation.specs.Written.{is_source, are_source_statements, is_value_for, are_written, is_written}
+use Rattle.run_types.proofs.Laws.{first, second}
+use Rattle.pool_syntax.specs.Written.{are_written, is_written}
+use Rattle.pool_syntax.specs.SourceParts.{is_source, are_source_statements, is_value_for}
 use Rattle.pool_relation.proofs.Laws.{vars_known, methods_checked, class_known, AllKnown, MethodKnown, Known, classes_few as few_classes}
 use Rattle.code_semantics.specs.declared.unit.Instr.TheVariants as I
 use Rattle.code_semantics.specs.declared.unit.MethodCode.{MethodCode}
@@ -18,8 +19,8 @@ use Rattle.code_semantics.specs.declared.unit.Unit.{Unit as Code}
 use Rattle.code_semantics.specs.Proper.{IsProperCode, IsProperClass, IsProper}
 use Rattle.pool_compile.specs.Code.{Numbering, names_of, statements_code, expression_code, method_instrs, body_instrs, method_code_of, class_code, code, post_code}
 use Rattle.pool_compile.specs.Small.{AreShortMethods, IsShortClass, AreShort}
-use Rattle.pool_compile.proofs.Counted.{counted_statements}
-use Rattle.pool_compile.proofs.Existing.{AllFit, fit_append, fit_at, exists_of, text_there, Ground, expression_fits, statements_fit}
+use Rattle.pool_compile.proofs.PartCounts.{counted_statements}
+use Rattle.pool_compile.proofs.NamesExist.{AllFit, fit_append, fit_at, exists_of, text_there, Ground, expression_fits, statements_fit}
 use Rattle.pool_compile.proofs.Limits.{class_parts, method_parts, method_within, no_more}
 use Rattle.pool_compile.proofs.ProperLaws.{fine_here, body_fine, method_fine, body_proper, method_proper}
 

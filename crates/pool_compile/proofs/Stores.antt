@@ -1,16 +1,16 @@
 -- Variables by name, and by number.
 use Rattle.std.proofs.Common.{◌≡◌, refl, sym, ap, ◌∙◌, ℕ, suc, ◌==◌, List, [], ◌∷◌, ◌++◌, length, Some, None, Bool, true, false, arith}
 use Rattle.std.specs.Prelude.{slice_set, if◌then◌else◌, take}
-use Rattle.run_words.specs.declared.words.Value.{Value}
-use Rattle.run_words.specs.declared.words.Value.TheVariants as V
+use Rattle.run_types.specs.declared.types.Value.{Value}
+use Rattle.run_types.specs.declared.types.Value.TheVariants as V
 use Rattle.pool_syntax.specs.declared.tree.Var.{Var}
 use Rattle.pool_syntax.specs.Terms.{Store, MethodTree}
 use Rattle.pool_syntax.specs.Typing.{contains}
 use Rattle.pool_relation.specs.Reducible.{set_value}
 use Rattle.pool_relation.specs.Action.{value_of, nil_store, bind, temps_of}
-use Rattle.run_words.specs.Operands.{nth, padded}
+use Rattle.run_types.specs.Operands.{nth, padded}
 use Rattle.pool_compile.specs.Code.{number_of, names_of}
-use Rattle.pool_compile.specs.Stands.{keys, values}
+use Rattle.pool_compile.specs.StandsFor.{keys, values}
 
 -- a variable that is there has its number's value
 abbrev pub IsFound : Store → ℕ → Value → Type 0

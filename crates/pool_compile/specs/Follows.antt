@@ -1,18 +1,18 @@
 -- Code does what its program does.
-use Rattle.run_words.specs.declared.frames.CodeObject.{CodeObject}
-use Rattle.run_words.specs.declared.frames.Frame.{Frame}
+use Rattle.run_types.specs.declared.frames.CodeObject.{CodeObject}
+use Rattle.run_types.specs.declared.frames.Frame.{Frame}
 use Rattle.std.specs.Prelude.{◌≡◌, ℕ, zero, suc, List, [], ◌∷◌, length, map, Option, Some, None, slice_get}
-use Rattle.run_words.specs.declared.words.Value.{Value}
-use Rattle.run_words.specs.declared.words.Item.{Item}
+use Rattle.run_types.specs.declared.types.Value.{Value}
+use Rattle.run_types.specs.declared.types.Item.{Item}
 use Rattle.pool_syntax.specs.Terms as T
 use Rattle.pool_syntax.specs.Terms.{Store, Statements, MethodTree, ProgramTree}
 use Rattle.pool_relation.specs.Reducible.{Choice, AsExpression, AsStatements}
 use Rattle.pool_relation.specs.Action as A
 use Rattle.pool_relation.specs.Action.{Object, Action, action, method_of}
-use Rattle.run_words.specs.Values.{is_true}
+use Rattle.run_types.specs.Values.{is_true}
 use Rattle.pool_relation.specs.Transition as X
 use Rattle.pool_relation.specs.Transition.{refilled, given, done, serving, picked}
-use Rattle.run_words.specs.declared.words.Serves.{Serves}
+use Rattle.run_types.specs.declared.types.Serves.{Serves}
 use Rattle.code_semantics.specs.declared.unit.ClassCode.{ClassCode}
 use Rattle.code_semantics.specs.declared.unit.Unit.{Unit as Code}
 use Rattle.code_semantics.specs.Kinds as K
@@ -20,7 +20,7 @@ use Rattle.code_semantics.specs.Kinds.{Kind, Offered, code_kind}
 use Rattle.code_semantics.specs.Frames.{code_of, silent}
 use Rattle.code_semantics.specs.Step.{code_stepped, code_given, code_gone_on, code_picked, code_serving}
 use Rattle.pool_compile.specs.Code.{name, answer_names}
-use Rattle.pool_compile.specs.Stands.{IsServing, StandsFor}
+use Rattle.pool_compile.specs.StandsFor.{IsServing, StandsFor}
 
 abbrev pub offered : Choice → Offered
 offered c = record { is_open = is_true c.guard; answer = answer_names c.answer }
@@ -57,21 +57,21 @@ work_at (A.Select choices) (suc j) = choice_work (slice_get choices j)
 work_at _ i = None
 
 -- code at a step instruction that stands for the object
-abbrev pub Stands : ProgramTree → Code → Object → CodeObject → Type 0
-Stands p u x y = StandsFor p x y × AtRest (slice_get u.classes y.class) y.frames
+abbrev pub Represents : ProgramTree → Code → Object → CodeObject → Type 0
+Represents p u x y = StandsFor p x y × AtRest (slice_get u.classes y.class) y.frames
 
 -- such code does what the object does, and stands for what it becomes
 pub record Follows (p : ProgramTree) (u : Code) (o : ℕ) (x : Object) (y : CodeObject) : Type 0 where
   pub kind : SameKind (action p o x) (code_kind u y)
-  pub local : (term : Statements) (vars : Store) → action p o x ≡ A.Local term vars → Stands p u (record x { term = term; vars = vars }) (code_stepped u o y)
-  pub made : (c : ℕ) (v : Value) → action p o x ≡ A.New c → Stands p u (given x v) (code_given u y v)
+  pub local : (term : Statements) (vars : Store) → action p o x ≡ A.Local term vars → Represents p u (record x { term = term; vars = vars }) (code_stepped u o y)
+  pub made : (c : ℕ) (v : Value) → action p o x ≡ A.New c → Represents p u (given x v) (code_given u y v)
   -- while the call is served the frames stay, and so they do while its result is on the way
-  pub held : (b m : ℕ) (args : List Value) → action p o x ≡ A.Send b m args → Stands p u (refilled x (AsExpression (T.Wait b m))) y
-  pub resumed : (b m : ℕ) (v : Value) → action p o x ≡ A.Waits b m → Stands p u (given x v) (code_given u y v)
-  pub wrote : (item : Item) → action p o x ≡ A.Write item → Stands p u (done x) (code_gone_on u y)
-  pub posted : (b m : ℕ) (args : List Value) → action p o x ≡ A.Async b m args → Stands p u (done x) (code_gone_on u y)
-  pub returned : (w : ℕ) (v : Value) → action p o x ≡ A.Return w v → Stands p u (X.returned x) (code_gone_on u y)
-  pub picks : (i : ℕ) (work : Statements) → picked (action p o x) i ≡ Some work → Stands p u (refilled x (AsStatements work)) (code_picked u y i)
+  pub held : (b m : ℕ) (args : List Value) → action p o x ≡ A.Send b m args → Represents p u (refilled x (AsExpression (T.Wait b m))) y
+  pub resumed : (b m : ℕ) (v : Value) → action p o x ≡ A.Waits b m → Represents p u (given x v) (code_given u y v)
+  pub wrote : (item : Item) → action p o x ≡ A.Write item → Represents p u (done x) (code_gone_on u y)
+  pub posted : (b m : ℕ) (args : List Value) → action p o x ≡ A.Async b m args → Represents p u (done x) (code_gone_on u y)
+  pub returned : (w : ℕ) (v : Value) → action p o x ≡ A.Return w v → Represents p u (X.returned x) (code_gone_on u y)
+  pub picks : (i : ℕ) (work : Statements) → picked (action p o x) i ≡ Some work → Represents p u (refilled x (AsStatements work)) (code_picked u y i)
   pub serves : (i m : ℕ) (work : Statements) (method : MethodTree) (args : List Value) (caller : Option ℕ) (w : Serves)
       → work_at (action p o x) i ≡ Some work → method_of p x.class m (length args) ≡ Some method → IsServing caller w
-      → (z : CodeObject) × (code_serving u y i (name m) args w ≡ Some z) × Stands p u (serving x method caller args work) z
+      → (z : CodeObject) × (code_serving u y i (name m) args w ≡ Some z) × Represents p u (serving x method caller args work) z

@@ -2,6 +2,6 @@ pub mod Code
 pub mod Jumps
 pub mod Numberings
 pub mod Small
-pub mod Stands
+pub mod StandsFor
 pub mod Follows
 pub mod TextPrograms

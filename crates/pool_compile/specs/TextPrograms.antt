@@ -1,7 +1,7 @@
 -- Programs as a text gives them: nothing of them is under way.
 use Rattle.std.proofs.Common.{Bool, true, false, List, [], ◌∷◌}
 use Rattle.std.specs.Prelude.{◌&&◌}
-use Rattle.run_words.specs.declared.words.Value.TheVariants as V
+use Rattle.run_types.specs.declared.types.Value.TheVariants as V
 use Rattle.pool_syntax.specs.Terms as T
 use Rattle.pool_syntax.specs.Terms.{Expression, Expressions, Statement, Statements, Alternatives, MethodTree, ProgramTree}
 

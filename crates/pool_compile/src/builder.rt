@@ -2,7 +2,7 @@
 ghost use Rattle.std.specs.Prelude.{◌≡◌, ◌<◌, ◌^◌, [], ◌∷◌, ◌++◌, length, slice_set, OnOk};
 
 use code_semantics::Instr;
-use run_words::List;
+use run_types::List;
 use std::alloc::{AllocError, Global};
 
 /// The instructions so far: fewer than 2^32, so that each place, and the one after the last, is a `u32`.

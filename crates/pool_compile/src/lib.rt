@@ -1,15 +1,17 @@
-//! From trees to code.
+//! Compiles a checked program to the unit that the definition gives for it.
+//!
+//! Does not know: nodes and schedules.
 #![tactic(auto)]
 
 mod builder;
 mod expressions;
 mod fault;
 mod numbers;
+mod operand_depth;
 mod program;
 mod scope;
 mod statements;
 mod theorems;
-mod words;
 
 pub use fault::CompileFault;
 pub use program::compile;

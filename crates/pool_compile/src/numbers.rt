@@ -7,7 +7,7 @@ ghost use Rattle.pool_compile.specs.Numberings.{numbering};
 use crate::scope::Numbers;
 use code_semantics::Instr;
 use pool_syntax::Var;
-use run_words::NameId;
+use run_types::NameId;
 use std::alloc::AllocError;
 
 /// The place of the first of the names that is this one; their number where none is.

@@ -10,13 +10,13 @@ use crate::builder::Builder;
 use crate::expressions::emit;
 use crate::fault::CompileFault;
 use crate::numbers::push_names;
+use crate::operand_depth::{expression_words, more, statements_words};
 use crate::scope::Numbers;
 use crate::statements::emit_statements;
-use crate::words::{expression_words, more, statements_words};
 use class_check::Checked;
 use code_semantics::{BodyCode, ClassCode, Instr, MethodCode, Unit};
 use pool_syntax::{ClassDecl, Method, Stmt, Var};
-use run_words::List;
+use run_types::List;
 use std::alloc::{AllocError, Global};
 
 /// The names of a method's parameters and locals.

@@ -12,7 +12,7 @@ use crate::expressions::{emit, emit_all};
 use crate::scope::Numbers;
 use code_semantics::{AltCode, Instr};
 use pool_syntax::{Alt, Named, Stmt};
-use run_words::{List, NameId};
+use run_types::{List, NameId};
 use std::alloc::{AllocError, Global};
 
 /// The names of a list.

@@ -1,20 +1,20 @@
 -- The bytes of the file of a program say this file, which is verified.
 use Rattle.std.proofs.Common.{◌≡◌, refl, sym, subst, true, List}
-use Rattle.run_words.specs.Text.{Text}
+use Rattle.text_scan.specs.Text.{Text}
 use Rattle.pool_syntax.specs.Terms.{ProgramTree}
 use Rattle.pool_syntax.specs.Spelled.{is_spelled}
 use Rattle.code_semantics.specs.declared.file.UnitFile.{UnitFile}
 use Rattle.object_code.specs.FileBytes.{file_bytes}
 use Rattle.code_semantics.specs.Shaped.{IsShaped, IsShort}
-use Rattle.code_verdict.specs.Verdict.{Good, verdict}
-use Rattle.code_verdict.proofs.Laws.{good_is_verified}
-use Rattle.code_laws.proofs.Laws.{code_is_spelled, parsed_distinct}
-use Rattle.unit_inputs.specs.UnitFiles.{IsVerifiedFile}
-use Rattle.unit_inputs.proofs.Laws.{verified_writable}
-use Rattle.code_laws.specs.DeclaredKinds.{file_of}
-use Rattle.code_laws.proofs.Laws.{read_back}
+use Rattle.code_typing.specs.Verdict.{Good, verdict}
+use Rattle.code_typing.proofs.Laws.{good_is_verified}
+use Rattle.compiler_correctness.proofs.Laws.{code_is_spelled, parsed_distinct}
+use Rattle.pool_driver.specs.UnitFiles.{IsVerifiedFile}
+use Rattle.pool_driver.proofs.WritableFiles.{verified_writable}
+use Rattle.compiler_correctness.specs.DeclaredKinds.{file_of}
+use Rattle.compiler_correctness.proofs.Laws.{read_back}
 use Rattle.pool_driver.specs.Inputs.{unit_of}
-use Rattle.program_input.specs.Programs.{IsParsed}
+use Rattle.command_inputs.specs.Programs.{IsParsed}
 use Rattle.pool_driver.proofs.TextLaws.{parsed_bytes}
 
 program_is_built : (source : Text) (names : List Text) (p : ProgramTree) → IsParsed source names p → is_spelled names p ≡ true → IsShaped (file_of names p) → IsShort (file_of names p)

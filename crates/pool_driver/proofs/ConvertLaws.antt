@@ -1,12 +1,12 @@
 -- The lines of a record, written one after another.
 use Rattle.std.proofs.Common.{◌≡◌, ◌∙◌, ◌+◌, ◌<◌, ◌++◌, ℕ, suc, List, [], ◌∷◌, length, drop, get_or, Result, Ok, Err, OnErr, refl, sym, ap, subst}
 use Rattle.std.proofs.lemmas.List.{append-nil, append_assoc, drop_more}
-use Rattle.run_words.specs.Text.{Text}
-use Rattle.run_words.specs.declared.words.Line.{Line}
-use Rattle.run_words.specs.Asks.{asks, asks_from}
-use Rattle.record_lines.specs.SecondForm.{form_text, line_text2, lines_text2, text2}
-use Rattle.run_driver.specs.Writing.{Writing, Wrote, WroteFront}
-use Rattle.run_driver.proofs.Laws.{Follows, front_of_both, front_of_first, then, wrote_both}
+use Rattle.text_scan.specs.Text.{Text}
+use Rattle.run_types.specs.declared.types.Line.{Line}
+use Rattle.run_types.specs.Asks.{asks, asks_from}
+use Rattle.record_writer.specs.SecondForm.{form_text, line_text2, lines_text2, text2}
+use Rattle.run_loop.specs.Writing.{Writing, Wrote, WroteFront}
+use Rattle.run_loop.proofs.Laws.{Follows, front_of_both, front_of_first, then, wrote_both}
 
 -- so many lines were written, and the rest is left
 pub record IsShowing (names : List Text) (lines : List Line) (numbers : List ℕ) (place : ℕ) (k : Writing) : Type 0 where

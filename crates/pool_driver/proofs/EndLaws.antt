@@ -2,45 +2,44 @@
 use Rattle.std.proofs.Common.{◌≡◌, ◌∙◌, ◌⊎◌, inl, inr, ◌≤◌, ◌||◌, ◌++◌, ℕ, Bool, true, false, List, [], ◌∷◌, length, Option, Some, None, Ok, Err, refl, sym, subst, arith}
 use Rattle.std.proofs.lemmas.List.{append-nil, append_assoc}
 use Rattle.pool_outside.specs.Outside.{Rose}
-use Rattle.run_words.specs.Text.{Text}
-use Rattle.run_words.specs.declared.words.End.{End}
-use Rattle.run_words.specs.declared.words.End.TheVariants as F
-use Rattle.run_words.specs.declared.words.Line.{Line}
-use Rattle.run_words.specs.declared.words.Line.TheVariants as R
-use Rattle.run_driver.specs.declared.status.Status.{Status}
-use Rattle.run_driver.specs.declared.status.Status.TheVariants as S
-use Rattle.fault_lines.specs.declared.fault.Input.{Input}
-use Rattle.fault_lines.specs.declared.fault.Fault.{Fault}
-use Rattle.fault_lines.specs.declared.fault.Stop.{Stop}
-use Rattle.fault_lines.specs.declared.fault.Stop.TheVariants as T
+use Rattle.text_scan.specs.Text.{Text}
+use Rattle.run_types.specs.declared.types.End.{End}
+use Rattle.run_types.specs.declared.types.End.TheVariants as F
+use Rattle.run_types.specs.declared.types.Line.{Line}
+use Rattle.run_types.specs.declared.types.Line.TheVariants as R
+use Rattle.run_loop.specs.declared.status.Status.{Status}
+use Rattle.run_loop.specs.declared.status.Status.TheVariants as S
+use Rattle.command_inputs.specs.declared.fault.Input.{Input}
+use Rattle.command_inputs.specs.declared.fault.Fault.{Fault}
+use Rattle.command_inputs.specs.declared.fault.InputError.{InputError}
+use Rattle.command_inputs.specs.declared.fault.InputError.TheVariants as T
 use Rattle.pool_driver.specs.declared.outputs.Output.{Output}
-use Rattle.command_words.specs.Commands.{Request, of_run, of_program, of_ring, of_convert, of_check, of_load}
-use Rattle.fault_lines.specs.FaultText.{refusal_line, unread_line, usage_line}
+use Rattle.command_line.specs.Commands.{Request, of_run, of_program, of_ring, of_convert, of_check, of_load}
+use Rattle.command_inputs.specs.FaultText.{refusal_line, unread_line, usage_line}
 use Rattle.pool_driver.specs.Inputs.{inputs, IsAccepted, HasFault, WereAccepted, AreAccepted, AreServed, IsServable, StopAt}
-use Rattle.outside_calls.specs.Reading.{Told, Reading, AllRead}
-use Rattle.program_input.specs.Inputs.{limit_of}
+use Rattle.pool_outside.specs.Reading.{Told, Reading, AllRead}
+use Rattle.command_inputs.specs.Inputs.{limit_of, Stops, too_long, faulty}
 use Rattle.pool_gen.specs.Ring.{ring_placement, ring_program, ring_schedule}
-use Rattle.fault_lines.specs.declared.fault.Input.TheVariants as I
-use Rattle.pool_driver.specs.Outputs.{IsOutput, IsWhole, status_of_verdict}
-use Rattle.run_words.specs.declared.verdicts.Verdict.{Verdict}
-use Rattle.run_words.specs.declared.verdicts.Verdict.TheVariants as V
+use Rattle.command_inputs.specs.declared.fault.Input.TheVariants as I
+use Rattle.pool_driver.specs.Outputs.{IsOutput, WholeTextWritten, status_of_verdict}
+use Rattle.run_types.specs.declared.verdicts.Verdict.{Verdict}
+use Rattle.run_types.specs.declared.verdicts.Verdict.TheVariants as V
 use Rattle.pool_driver.specs.Runs.{code_record_of, record_of}
-use Rattle.run_driver.specs.Shown.{ended, shows_fault, status_after}
+use Rattle.run_loop.specs.Shown.{ended, shows_fault, status_after}
 use Rattle.pool_driver.specs.Ends as E
-use Rattle.pool_driver.specs.Ends.{IsRefused, IsRingRefused, IsUnread, IsMade, Says, Ends}
-use Rattle.program_input.specs.Readers.{Stops, too_long, faulty}
-use Rattle.run_driver.specs.Writing.{Writing, IsIdle, Writes, Delivers}
+use Rattle.pool_driver.specs.Ends.{IsRefused, IsRingRefused, IsUnread, IsAnswered, Says, Ends}
+use Rattle.run_loop.specs.Writing.{Writing, IsIdle, Writes, Delivers}
 use Rattle.pool_driver.specs.Readers as D
-use Rattle.run_driver.specs.Writing as W
-use Rattle.pool_driver.specs.Readers.{Makes, Tells, text_of, status_of_output}
+use Rattle.run_loop.specs.Writing as W
+use Rattle.pool_driver.specs.Readers.{ResultsIn, ReportsInputError, text_of, status_of_output}
 
 -- what was asked for, or a front of it, or nothing for want of memory
-pub text_ends : (words : Option Request) (k : Reading) (out err : Writing) (r : Request) (o : Output) (status : Status) → words ≡ Some r → Makes k r (Ok o)
+pub text_ends : (words : Option Request) (k : Reading) (out err : Writing) (r : Request) (o : Output) (status : Status) → words ≡ Some r → ResultsIn k r (Ok o)
     → Delivers out (text_of o) (status_of_output o) status → IsIdle err → Ends words k out err status
-text_ends words k out err r o status is (D.made p e made printable) w idle = let same : p ≡ o = cc in by w (subst (λ (x : Output). IsMade k r (text_of x) (status_of_output x)) same made)
+text_ends words k out err r o status is (D.made p e made printable) w idle = let same : p ≡ o = cc in by w (subst (λ (x : Output). IsAnswered k r (text_of x) (status_of_output x)) same made)
   where
-    by : Delivers out (text_of o) (status_of_output o) status → IsMade k r (text_of o) (status_of_output o) → Ends words k out err status
-    by (W.written (W.whole wrote e)) made = E.whole r (text_of o) is (subst (λ (s : Status). IsMade k r (text_of o) s) (sym e) made) wrote idle
+    by : Delivers out (text_of o) (status_of_output o) status → IsAnswered k r (text_of o) (status_of_output o) → Ends words k out err status
+    by (W.written (W.whole wrote e)) made = E.whole r (text_of o) is (subst (λ (s : Status). IsAnswered k r (text_of o) s) (sym e) made) wrote idle
     by (W.written (W.cut front e)) made = E.cut r (text_of o) (status_of_output o) is made front idle e
     by (W.nothing quiet e) made = E.no_memory quiet idle e
 text_ends words k out err r o status is (D.refused input f e h) w idle = absurd (cc)
@@ -63,11 +62,11 @@ pub usage_ends : (words : Option Request) (k : Reading) (out err : Writing) (sta
 usage_ends words k out err status none opened calm w idle =
     line_ends words k out err usage_line S.Usage status (E.usage (record { none = none; opened = opened; calm = calm }) refl refl) w idle
 
-pub stop_ends : (words : Option Request) (k : Reading) (out err : Writing) (r : Request) (stop : Stop) (status : Status) → words ≡ Some r → Makes k r (Err stop)
-    → Tells err stop status → IsIdle out → Ends words k out err status
+pub stop_ends : (words : Option Request) (k : Reading) (out err : Writing) (r : Request) (stop : InputError) (status : Status) → words ≡ Some r → ResultsIn k r (Err stop)
+    → ReportsInputError err stop status → IsIdle out → Ends words k out err status
 stop_ends words k out err r stop status is makes (D.refusal input f e w) idle = by makes
   where
-    by : Makes k r (Err stop) → Ends words k out err status
+    by : ResultsIn k r (Err stop) → Ends words k out err status
     by (D.made o z made printable) = absurd (cc)
     by (D.refused i g z h) =
         let at : i ≡ input = cc in
@@ -83,7 +82,7 @@ stop_ends words k out err r stop status is makes (D.refusal input f e w) idle = 
     by (D.memory z) = absurd (let y : T.Refused input f ≡ T.Memory = cc in cc)
 stop_ends words k out err r stop status is makes (D.unread input e w) idle = by makes
   where
-    by : Makes k r (Err stop) → Ends words k out err status
+    by : ResultsIn k r (Err stop) → Ends words k out err status
     by (D.made o z made printable) = absurd (cc)
     by (D.refused i g z h) = absurd (let y : T.Unread input ≡ T.Refused i g = cc in cc)
     by (D.ring_refused i g z h) = absurd (let y : T.Unread input ≡ T.Refused i g = cc in cc)
@@ -95,44 +94,44 @@ stop_ends words k out err r stop status is makes (D.memory e quiet) idle = E.no_
 
 -- what is asked for is written with a status that says so
 
-ended_whole : (b : Bool) (e : End) → IsWhole (ended b e)
+ended_whole : (b : Bool) (e : End) → WholeTextWritten (ended b e)
 ended_whole true (F.Quiet done) = inr (inl refl)
 ended_whole false (F.Quiet done) = inl refl
 ended_whole b (F.Schedule done) = inr (inr (inl refl))
 ended_whole b (F.Full kind node done) = inr (inr (inr refl))
 
-status_whole : (b : Bool) (ls : List Line) → IsWhole (status_after b ls)
+status_whole : (b : Bool) (ls : List Line) → WholeTextWritten (status_after b ls)
 status_whole b [] = inl refl
 status_whole b (R.Event number e what ∷ ls) = status_whole (b || shows_fault what) ls
 status_whole b (R.End e ∷ ls) = ended_whole b e
 
-verdict_whole : (v : Verdict) → IsWhole (status_of_verdict v)
+verdict_whole : (v : Verdict) → WholeTextWritten (status_of_verdict v)
 verdict_whole V.Yes = inl refl
 verdict_whole (V.No number redex) = inr (inl refl)
 verdict_whole (V.Moving o) = inr (inl refl)
 
-output_whole : (r : Request) (texts : List Text) (text : Text) (s : Status) → IsOutput r texts text s → IsWhole s
+output_whole : (r : Request) (texts : List Text) (text : Text) (s : Status) → IsOutput r texts text s → WholeTextWritten s
 output_whole (of_run show names) [] text s h = absurd h
 output_whole (of_run show names) (p ∷ []) text s h = absurd h
 output_whole (of_run show names) (p ∷ l ∷ []) text s h = absurd h
-output_whole (of_run show names) (p ∷ l ∷ t ∷ []) text s h = subst IsWhole (sym h.ended) (status_whole false (record_of h.meaning).lines)
+output_whole (of_run show names) (p ∷ l ∷ t ∷ []) text s h = subst WholeTextWritten (sym h.ended) (status_whole false (record_of h.meaning).lines)
 output_whole (of_run show names) (p ∷ l ∷ t ∷ u ∷ us) text s h = absurd h
 output_whole (of_program ask name) [] text s h = absurd h
 output_whole (of_program ask name) (p ∷ []) text s h = inl h.1
 output_whole (of_program ask name) (p ∷ l ∷ ls) text s h = absurd h
-output_whole (of_ring k) [] text s h = subst IsWhole (sym h.ended) (status_whole false (record_of h.meaning).lines)
+output_whole (of_ring k) [] text s h = subst WholeTextWritten (sym h.ended) (status_whole false (record_of h.meaning).lines)
 output_whole (of_ring k) (p ∷ ps) text s h = absurd h
 output_whole (of_convert name) [] text s h = absurd h
 output_whole (of_convert name) (p ∷ []) text s h = inl h.1
 output_whole (of_convert name) (p ∷ l ∷ ls) text s h = absurd h
 output_whole (of_check name other) [] text s h = absurd h
 output_whole (of_check name other) (p ∷ []) text s h = absurd h
-output_whole (of_check name other) (p ∷ t ∷ []) text s h = subst IsWhole (sym h.ended) (verdict_whole h.verdict)
+output_whole (of_check name other) (p ∷ t ∷ []) text s h = subst WholeTextWritten (sym h.ended) (verdict_whole h.verdict)
 output_whole (of_check name other) (p ∷ t ∷ u ∷ us) text s h = absurd h
 output_whole (of_load file place plan) [] text s h = absurd h
 output_whole (of_load file place plan) (p ∷ []) text s h = absurd h
 output_whole (of_load file place plan) (p ∷ l ∷ []) text s h = absurd h
-output_whole (of_load file place plan) (p ∷ l ∷ t ∷ []) text s h = subst IsWhole (sym h.ended) (status_whole false (code_record_of h.meaning).lines)
+output_whole (of_load file place plan) (p ∷ l ∷ t ∷ []) text s h = subst WholeTextWritten (sym h.ended) (status_whole false (code_record_of h.meaning).lines)
 output_whole (of_load file place plan) (p ∷ l ∷ t ∷ u ∷ us) text s h = absurd h
 
 -- An input that is told, within the limit and accepted, does not stop a call.
@@ -198,7 +197,7 @@ never_said k words line status r is served read (E.unread q i at h e s) = read h
 
 -- So words of a command, accepted inputs and no fault give the whole text, or nothing for want of memory.
 completes : (words : Option Request) (k : Reading) (out err : Writing) (status : Status) → Ends words k out err status → (r : Request) → words ≡ Some r → IsServable k.told r
-    → ¬ (Rose k.faults k.failed) → ¬ (Rose out.faults out.failed) → ¬ (Rose err.faults err.failed) → IsWhole status ⊎ (status ≡ S.Memory)
+    → ¬ (Rose k.faults k.failed) → ¬ (Rose out.faults out.failed) → ¬ (Rose err.faults err.failed) → WholeTextWritten status ⊎ (status ≡ S.Memory)
 completes words k out err status (E.whole q text at made w idle) r is served read wrote told = inl (output_whole q made.texts text status made.output)
 completes words k out err status (E.said line says w idle) r is served read wrote told = absurd (never_said k words line status r is served read says)
 completes words k out err status (E.cut q text planned at made front idle e) r is served read wrote told = absurd (wrote front.rose)
@@ -210,14 +209,14 @@ completes words k out err status (E.no_memory idle quiet e) r is served read wro
 abbrev quiet : Option Text → ℕ → Writing
 quiet held faults = record { before = held; after = held; faults = faults; failed = faults }
 
-pub text_completes : (words : Option Request) (k : Reading) (out : Writing) (held : Option Text) (faults : ℕ) (q : Request) (o : Output) (status : Status) → words ≡ Some q → Makes k q (Ok o)
+pub text_completes : (words : Option Request) (k : Reading) (out : Writing) (held : Option Text) (faults : ℕ) (q : Request) (o : Output) (status : Status) → words ≡ Some q → ResultsIn k q (Ok o)
     → Delivers out (text_of o) (status_of_output o) status → (r : Request) → words ≡ Some r → IsServable k.told r → ¬ (Rose k.faults k.failed) → ¬ (Rose out.faults out.failed)
-    → ¬ (Rose faults faults) → IsWhole status ⊎ (status ≡ S.Memory)
+    → ¬ (Rose faults faults) → WholeTextWritten status ⊎ (status ≡ S.Memory)
 text_completes words k out held faults q o status is makes writes r at served read wrote told =
     completes words k out (quiet held faults) status (text_ends words k out (quiet held faults) q o status is makes writes (refl, refl)) r at served read wrote told
 
-pub stop_completes : (words : Option Request) (k : Reading) (err : Writing) (held : Option Text) (faults : ℕ) (q : Request) (stop : Stop) (status : Status) → words ≡ Some q → Makes k q (Err stop)
-    → Tells err stop status → (r : Request) → words ≡ Some r → IsServable k.told r → ¬ (Rose k.faults k.failed) → ¬ (Rose faults faults)
-    → ¬ (Rose err.faults err.failed) → IsWhole status ⊎ (status ≡ S.Memory)
+pub stop_completes : (words : Option Request) (k : Reading) (err : Writing) (held : Option Text) (faults : ℕ) (q : Request) (stop : InputError) (status : Status) → words ≡ Some q → ResultsIn k q (Err stop)
+    → ReportsInputError err stop status → (r : Request) → words ≡ Some r → IsServable k.told r → ¬ (Rose k.faults k.failed) → ¬ (Rose faults faults)
+    → ¬ (Rose err.faults err.failed) → WholeTextWritten status ⊎ (status ≡ S.Memory)
 stop_completes words k err held faults q stop status is makes tells r at served read wrote told =
     completes words k (quiet held faults) err status (stop_ends words k (quiet held faults) err q stop status is makes tells (refl, refl)) r at served read wrote told

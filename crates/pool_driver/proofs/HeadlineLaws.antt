@@ -1,21 +1,21 @@
 -- The headline follows from how a call ends.
 use Rattle.std.proofs.Common.{◌≡◌, ◌∙◌, inl, inr, ◌++◌, Bool, true, false, List, [], ◌∷◌, Option, Some, None, option_map, IfSome, refl, sym, subst}
 use Rattle.std.specs.Prelude.{◌&&◌, not, codes, if◌then◌else◌}
-use Rattle.run_words.specs.Text.{Text}
-use Rattle.run_driver.specs.declared.status.Status.{Status}
-use Rattle.run_driver.specs.declared.status.Status.TheVariants as S
-use Rattle.run_driver.specs.Writing.{Writing, Wrote}
-use Rattle.command_words.specs.declared.command.Show.TheVariants as Sh
-use Rattle.command_words.specs.Commands.{Request, of_run, is_option, request_of}
-use Rattle.placed_terms.specs.Terms.{plain}
+use Rattle.text_scan.specs.Text.{Text}
+use Rattle.run_loop.specs.declared.status.Status.{Status}
+use Rattle.run_loop.specs.declared.status.Status.TheVariants as S
+use Rattle.run_loop.specs.Writing.{Writing, Wrote}
+use Rattle.command_line.specs.declared.command.Show.TheVariants as Sh
+use Rattle.command_line.specs.Commands.{Request, of_run, is_option, request_of}
+use Rattle.mesh_of_terms.specs.Terms.{plain}
 use Rattle.mesh_semantics.specs.Record.{root_name}
 use Rattle.pool_driver.specs.Ends as E
-use Rattle.outside_calls.specs.Reading.{Reading, Told}
-use Rattle.pool_driver.specs.Ends.{IsMade, Says, Ends}
+use Rattle.pool_outside.specs.Reading.{Reading, Told}
+use Rattle.pool_driver.specs.Ends.{IsAnswered, Says, Ends}
 use Rattle.pool_driver.specs.Headline.{ShowsOneRun}
 use Rattle.pool_driver.proofs.LineKindLaws.{each_kind}
 use Rattle.pool_driver.specs.Inputs.{WereAccepted, inputs}
-use Rattle.pool_driver.specs.Outputs.{IsOutput, IsRunOf, IsWhole}
+use Rattle.pool_driver.specs.Outputs.{IsOutput, IsRunOf, WholeTextWritten}
 use Rattle.pool_driver.specs.Runs.{record_of}
 
 -- what a run of three texts shows
@@ -57,16 +57,16 @@ is_whole S.ScheduleOver = true
 is_whole S.Full = true
 is_whole _ = false
 
-whole_is : (s : Status) → IsWhole s → is_whole s ≡ true
+whole_is : (s : Status) → WholeTextWritten s → is_whole s ≡ true
 whole_is s (inl e) = subst (λ (x : Status). is_whole x ≡ true) (sym e) refl
 whole_is s (inr (inl e)) = subst (λ (x : Status). is_whole x ≡ true) (sym e) refl
 whole_is s (inr (inr (inl e))) = subst (λ (x : Status). is_whole x ≡ true) (sym e) refl
 whole_is s (inr (inr (inr e))) = subst (λ (x : Status). is_whole x ≡ true) (sym e) refl
 
-not_whole : (s t : Status) → s ≡ t → is_whole t ≡ false → IsWhole s → ⊥
+not_whole : (s t : Status) → s ≡ t → is_whole t ≡ false → WholeTextWritten s → ⊥
 not_whole s t e f h = absurd (let z : false ≡ true = sym f ∙ subst (λ (x : Status). is_whole x ≡ true) e (whole_is s h) in cc)
 
-said_not : (k : Reading) (words : Option Request) (line : Text) (status : Status) → Says k words line status → IsWhole status → ⊥
+said_not : (k : Reading) (words : Option Request) (line : Text) (status : Status) → Says k words line status → WholeTextWritten status → ⊥
 said_not k words line status (E.usage h e f) = not_whole status S.Usage f refl
 said_not k words line status (E.refusal r input fault i h e f) = not_whole status S.Refused f refl
 said_not k words line status (E.ring_refusal r input fault i h e f) = not_whole status S.Refused f refl
@@ -77,7 +77,7 @@ abbrev pub Written : Told → Text → Writing → Type 0
 Written told name out =
     (source : Text) × (bytes : Text) × IfSome (told name) (λ t. source ≡ t) × (out.after ≡ option_map (λ w. w ++ bytes) out.before) × ShowsOneRun source bytes
 
-made_shows : (k : Reading) (p l s : Text) (text : Text) (status : Status) (out : Writing) → IsMade k (of_run Sh.Record (record { program = p; placement = l; schedule = s })) text status
+made_shows : (k : Reading) (p l s : Text) (text : Text) (status : Status) (out : Writing) → IsAnswered k (of_run Sh.Record (record { program = p; placement = l; schedule = s })) text status
     → Wrote out text → Written k.told p out
 made_shows k p l s text status out made wrote = by made.texts made.accepted made.output
   where
@@ -92,13 +92,13 @@ made_shows k p l s text status out made wrote = by made.texts made.accepted made
     by (x ∷ y ∷ z ∷ w ∷ ws) a h = absurd h
 
 pub headline : (k : Reading) (out err : Writing) (status : Status) (words : List Text) → Ends (request_of words) k out err status → (p l s : Text)
-    → words ≡ codes "record" ∷ p ∷ l ∷ s ∷ [] → IsWhole status → Written k.told p out
+    → words ≡ codes "record" ∷ p ∷ l ∷ s ∷ [] → WholeTextWritten status → Written k.told p out
 headline k out err status words ends p l s is whole = by ends
   where
     by : Ends (request_of words) k out err status → Written k.told p out
     by (E.whole r text e made wrote idle) =
         let wanted = asked p l s r (subst (λ (ws : List Text). request_of ws ≡ Some r) is e) in
-        made_shows k p l s text status out (subst (λ (x : Request). IsMade k x text status) wanted made) wrote
+        made_shows k p l s text status out (subst (λ (x : Request). IsAnswered k x text status) wanted made) wrote
     by (E.said line says wrote idle) = absurd (said_not k (request_of words) line status says whole)
     by (E.cut r text planned e made wrote idle f) = absurd (not_whole status S.WriteFault f refl whole)
     by (E.line_cut line planned says wrote idle f) = absurd (not_whole status S.WriteFault f refl whole)

@@ -8,4 +8,10 @@ pub mod TextLaws
 pub mod HeadlineLaws
 pub mod LineKindLaws
 pub mod BuiltFiles
-pub mod BuiltLaws
+pub mod BuildThenLoad
+pub mod SpelledFiles
+pub mod ReadableFiles
+pub mod WritableFiles
+pub mod NoProgram
+pub mod OneFilePerText
+pub mod Laws

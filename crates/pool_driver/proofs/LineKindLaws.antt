@@ -1,12 +1,12 @@
 -- Lines that can be read back are each a transition, a named delay, or idle.
 use Rattle.std.proofs.Common.{◌≡◌, refl, ℕ, List, [], ◌∷◌}
-use Rattle.run_words.specs.Text.{Text}
-use Rattle.run_words.specs.declared.words.Label.{Label}
-use Rattle.run_words.specs.declared.words.Label.TheVariants as L
-use Rattle.run_words.specs.declared.words.What.{What}
-use Rattle.run_words.specs.declared.words.What.TheVariants as W
-use Rattle.run_words.specs.declared.words.Line.{Line}
-use Rattle.run_words.specs.declared.words.Line.TheVariants as R
+use Rattle.text_scan.specs.Text.{Text}
+use Rattle.run_types.specs.declared.types.Label.{Label}
+use Rattle.run_types.specs.declared.types.Label.TheVariants as L
+use Rattle.run_types.specs.declared.types.What.{What}
+use Rattle.run_types.specs.declared.types.What.TheVariants as W
+use Rattle.run_types.specs.declared.types.Line.{Line}
+use Rattle.run_types.specs.declared.types.Line.TheVariants as R
 use Rattle.run_record.specs.Readable.{IsReadableStep, IsReadableWhat, IsRecordFrom}
 use Rattle.pool_driver.specs.LineKinds.{IsTransition, IsOneOfThree, EachIsOneOfThree, transition, delay, idle}
 

@@ -1,41 +1,43 @@
 -- What a request makes of its inputs, one after another.
 use Rattle.std.proofs.Common.{◌≡◌, ◌∙◌, ◌+◌, ◌≤◌, ℕ, zero, suc, List, [], ◌∷◌, length, Option, None, Some, Bool, IsTrue, slice_get, Result, Ok, Err, false, refl, sym, ap, subst, arith}
-use Rattle.run_words.specs.Text.{Text}
+use Rattle.text_scan.specs.Text.{Text}
 use Rattle.pool_syntax.specs.TreeOf.{program_of}
 use Rattle.pool_syntax.specs.Typing.{faults}
-use Rattle.run_words.specs.declared.words.Line.{Line}
-use Rattle.program_input.specs.declared.program.Parsed.{Parsed}
-use Rattle.record_check.specs.Verdicts.{Judged}
-use Rattle.run_words.specs.declared.words.Placement.{Placement}
+use Rattle.run_types.specs.declared.types.Line.{Line}
+use Rattle.command_inputs.specs.declared.program.Parsed.{Parsed}
+use Rattle.record_check.specs.RecordJudgement.{Judged}
+use Rattle.run_types.specs.declared.types.Placement.{Placement}
 use Rattle.code_semantics.specs.declared.unit.Unit.{Unit as Code}
 use Rattle.placement_reader.specs.Placements.{placement_of}
 use Rattle.schedule_reader.specs.Schedules.{schedule_of}
-use Rattle.command_words.specs.declared.command.Ask.{Ask}
-use Rattle.command_words.specs.declared.command.Show.{Show}
-use Rattle.fault_lines.specs.declared.fault.Fault.{Fault}
-use Rattle.fault_lines.specs.declared.fault.Input.{Input}
-use Rattle.fault_lines.specs.declared.fault.Input.TheVariants as I
-use Rattle.fault_lines.specs.declared.fault.Stop.{Stop}
+use Rattle.command_line.specs.declared.command.Ask.{Ask}
+use Rattle.command_line.specs.declared.command.Show.{Show}
+use Rattle.command_inputs.specs.declared.fault.Fault.{Fault}
+use Rattle.command_inputs.specs.declared.fault.Input.{Input}
+use Rattle.command_inputs.specs.declared.fault.Input.TheVariants as I
+use Rattle.command_inputs.specs.declared.fault.InputError.{InputError}
 use Rattle.pool_driver.specs.declared.outputs.Output.{Output}
-use Rattle.command_words.specs.Commands.{FileNames, Request, of_run, of_program, of_ring, of_convert, of_check, of_load}
+use Rattle.command_line.specs.Commands.{FileNames, Request, of_run, of_program, of_ring, of_convert, of_check, of_load}
 use Rattle.pool_driver.specs.Inputs.{Gives, by_file, by_program, inputs, MayOpen, IsAccepted, HasFault, IsPlacementOf}
-use Rattle.program_input.specs.Inputs.{limit_of, most_bytes, most_of_record, most_of_unit, one_read, IsReadAs}
-use Rattle.unit_inputs.specs.UnitFiles.{IsUnitOfFile}
-use Rattle.unit_inputs.proofs.Laws.{no_program, said_once}
+use Rattle.command_inputs.specs.Inputs.{limit_of, most_bytes, most_of_record, most_of_unit, one_read, IsReadAs}
+use Rattle.pool_driver.specs.UnitOfFile.{IsUnitOfFile}
+use Rattle.pool_driver.proofs.NoProgram.{no_program}
+use Rattle.pool_driver.proofs.OneFilePerText.{said_once}
 use Rattle.code_semantics.specs.declared.file.UnitFile.{UnitFile}
 use Rattle.pool_driver.specs.Ends.{Reaches, StaysWithin}
-use Rattle.outside_calls.specs.Reading.{AllRead, Reading}
-use Rattle.fault_lines.specs.declared.fault.Stop.TheVariants as T
-use Rattle.run_driver.specs.declared.loaded.Loaded.{Loaded}
+use Rattle.pool_outside.specs.Reading.{AllRead, Reading}
+use Rattle.command_inputs.specs.declared.fault.InputError.TheVariants as T
+use Rattle.run_loop.specs.declared.loaded.Loaded.{Loaded}
 use Rattle.pool_gen.specs.Ring.{ring_placement, ring_program, ring_schedule}
 use Rattle.pool_driver.specs.Readers as D
-use Rattle.program_input.specs.Readers as J
-use Rattle.pool_driver.specs.Readers.{AreLinesOf, HasPlacementFault, HasRecordFault, HasScheduleFault, HasUnitFault, IsAcceptedPlacement, IsAcceptedSchedule, IsPlacedAs, IsScheduledAs, IsUnitOf, Loads, Makes, Rings, Decides}
-use Rattle.program_input.specs.Readers.{HasTypedFault, IsProgramOf, IsTypedProgram, Judges}
+use Rattle.command_inputs.specs.Readers as J
+use Rattle.pool_driver.specs.Readers.{AreLinesOf, HasPlacementFault, HasRecordFault, HasScheduleFault, HasUnitFault, IsAcceptedPlacement, IsAcceptedSchedule, IsPlacedAs, IsScheduledAs, IsUnitOf, Loads, ResultsIn, Rings, Decides}
+use Rattle.command_inputs.specs.Readers.{IsProgramOf, Judges}
+use Rattle.command_inputs.specs.Programs.{HasTypedFault, IsTypedProgram}
 
 -- for the same request
-pub makes_for : (k : Reading) (q r : Request) (result : Result Output Stop) → q ≡ r → Makes k q result → Makes k r result
-makes_for k q r result e h = subst (λ (x : Request). Makes k x result) e h
+pub makes_for : (k : Reading) (q r : Request) (result : Result Output InputError) → q ≡ r → ResultsIn k q result → ResultsIn k r result
+makes_for k q r result e h = subst (λ (x : Request). ResultsIn k x result) e h
 
 -- the open at a place may be of the name of the input there
 pub may_at : (may later : ℕ → Text → Bool) (r : Request) (opens now place : ℕ) (input : Input) (name : Text) → MayOpen may opens r → later ≡ may → now ≡ opens + place
@@ -262,7 +264,7 @@ module _ (s : Text) (u : Code) (is : IsUnitOfFile s u) where
 
 -- what comes of three texts, one after another
 
-module _ (p l s : Text) (stop : Stop) where
+module _ (p l s : Text) (stop : InputError) where
   pub loads_program : Judges I.Program IsTypedProgram HasTypedFault IsUnitOf p (Err stop) → Loads p l s (Err stop)
   loads_program (J.fits b e i) = absurd (cc)
   loads_program (J.fails f e x n) = let same : stop ≡ T.Refused I.Program f = cc in D.stops I.Program f (ap Err same) (x, n)
@@ -285,7 +287,7 @@ module _ (p l s : Text) (stop : Stop) where
   loads_schedule u place is placed (J.forgets e) = let same : stop ≡ T.Memory = cc in D.lacks (ap Err same)
 
 -- the same of texts that equal these
-pub loads_of : (p l s p' l' s' : Text) (result : Result Loaded Stop) → p ≡ p' → l ≡ l' → s ≡ s' → Loads p l s result → Loads p' l' s' result
+pub loads_of : (p l s p' l' s' : Text) (result : Result Loaded InputError) → p ≡ p' → l ≡ l' → s ≡ s' → Loads p l s result → Loads p' l' s' result
 loads_of p l s p' l' s' result a b c h =
     subst (λ (x : Text). Loads x l' s' result) a (subst (λ (x : Text). Loads p x s' result) b (subst (λ (x : Text). Loads p l x result) c h))
 
@@ -295,22 +297,22 @@ was_loaded p l s r (D.loads q e a b c) = let same : q ≡ r = cc in subst (λ (x
 was_loaded p l s r (D.stops i f e w) = absurd (cc)
 was_loaded p l s r (D.lacks e) = absurd (cc)
 
-pub ring_stops : (k : ℕ) (stop : Stop) → Loads (ring_program k) ring_placement (ring_schedule k) (Err stop) → Rings k (Err stop)
+pub ring_stops : (k : ℕ) (stop : InputError) → Loads (ring_program k) ring_placement (ring_schedule k) (Err stop) → Rings k (Err stop)
 ring_stops k stop (D.loads q e a b c) = absurd (cc)
 ring_stops k stop (D.stops i f e w) = let same : stop ≡ T.Refused i f = cc in D.stops i f (ap Err same) w
 ring_stops k stop (D.lacks e) = let same : stop ≡ T.Memory = cc in D.lacks (ap Err same)
 
 -- a ring opens nothing
-pub ring_makes : (k : Reading) (cells : ℕ) (result : Result Output Stop) → k.opened ≡ k.opens → k.live ≡ false → k.failed ≡ k.faults → Rings cells result → Makes k (of_ring cells) result
+pub ring_makes : (k : Reading) (cells : ℕ) (result : Result Output InputError) → k.opened ≡ k.opens → k.live ≡ false → k.failed ≡ k.faults → Rings cells result → ResultsIn k (of_ring cells) result
 ring_makes k cells result opened ended calm (D.rings o e is printable) =
     D.made o e (record { texts = []; accepted = tt; opened = opened ∙ none_opened k.opens; given = tt; ended = ended; calm = calm; output = is }) printable
 ring_makes k cells result opened ended calm (D.stops i f e w) = D.ring_refused i f e (record { cells = cells; ring = refl; why = w; opened = opened; calm = calm })
 ring_makes k cells result opened ended calm (D.lacks e) = D.memory e
 
 -- what comes of a program and a record, one after the other
-pub check_makes : (k : Reading) (name other s t : Text) (read : Parsed) (ls : List Line) (result : Result Output Stop) → IsReadAs k.told I.Program name s → IsProgramOf s read
+pub check_makes : (k : Reading) (name other s t : Text) (read : Parsed) (ls : List Line) (result : Result Output InputError) → IsReadAs k.told I.Program name s → IsProgramOf s read
     → faults (program_of read.program) ≡ [] → IsReadAs k.told I.Record other t → AreLinesOf read.names t ls → k.opened ≡ k.opens + 2 → length t ≡ k.given → k.live ≡ false → AllRead k
-    → Decides read.names (program_of read.program) ls result → Makes k (of_check name other) result
+    → Decides read.names (program_of read.program) ls result → ResultsIn k (of_check name other) result
 check_makes k name other s t read ls result first is typed second lines opened given ended calm (D.decides o v e j only text status printable) = D.made o e (record {
   texts = s ∷ t ∷ [];
   accepted = (first, (program_of read.program, ((read.names, is.parsed), typed)), (second, lines.0, tt));

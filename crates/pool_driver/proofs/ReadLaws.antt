@@ -1,49 +1,52 @@
 -- An input at which a request stops, and what the judges of the inputs say of a text.
 use Rattle.std.proofs.Common.{◌≡◌, ◌∙◌, ◌⊎◌, List, [], Some, None, IfOk, IsOk, IsErr, inl, inr, Result, Ok, Err, ◌≢◌, refl, sym, ap}
-use Rattle.run_words.specs.Text.{Text}
+use Rattle.text_scan.specs.Text.{Text}
 use Rattle.pool_syntax.specs.TreeOf.{program_of}
-use Rattle.fault_lines.specs.declared.fault.Input.{Input}
-use Rattle.fault_lines.specs.declared.fault.Input.TheVariants as I
-use Rattle.program_input.specs.declared.program.Parsed.{Parsed}
-use Rattle.program_input.specs.Programs.{IsFaultOfClasses}
+use Rattle.command_inputs.specs.declared.fault.Input.{Input}
+use Rattle.command_inputs.specs.declared.fault.Input.TheVariants as I
+use Rattle.command_inputs.specs.declared.program.Parsed.{Parsed}
+use Rattle.command_inputs.specs.Programs.{IsFaultOfClasses, HasTypedFault, IsTypedProgram}
 use Rattle.pool_syntax.specs.Typing.{faults}
-use Rattle.run_words.specs.declared.words.Placement.{Placement}
+use Rattle.run_types.specs.declared.types.Placement.{Placement}
 use Rattle.code_semantics.specs.declared.unit.Unit.{Unit as Code}
 use Rattle.code_semantics.specs.Proper.{IsProper}
 use Rattle.placement_reader.specs.declared.fault.PlacementFault.{PlacementFault}
 use Rattle.placement_reader.specs.declared.fault.PlacementFault.TheVariants as Place
 use Rattle.placement_reader.specs.Placements as Pl
+use Rattle.placement_reader.specs.ReaderFacts as ReaderFacts
 use Rattle.placement_reader.specs.Placements.{placement_of}
 use Rattle.schedule_reader.specs.declared.fault.ScheduleFault.{ScheduleFault}
 use Rattle.schedule_reader.specs.declared.fault.ScheduleFault.TheVariants as Timed
 use Rattle.schedule_reader.specs.Schedules as Sch
+use Rattle.schedule_reader.specs.ReaderFacts as ReaderFactss
 use Rattle.schedule_reader.specs.Schedules.{schedule_of}
-use Rattle.run_record.specs.Numbered.{IsTold}
+use Rattle.run_record.specs.ReaderFacts.{ReportsFault}
 use Rattle.run_record.specs.Records as Rec
 use Rattle.run_record.specs.declared.fault.RecordFault.{RecordFault}
 use Rattle.run_record.specs.declared.fault.RecordFault.TheVariants as Lines
-use Rattle.fault_lines.specs.declared.fault.UnitFault.{UnitFault}
-use Rattle.fault_lines.specs.declared.fault.UnitFault.TheVariants as Filed
-use Rattle.unit_inputs.specs.UnitFiles.{IsUnitFault, IsUnitOfFile}
-use Rattle.unit_inputs.proofs.Laws.{refused}
-use Rattle.fault_lines.specs.declared.fault.Fault.{Fault}
-use Rattle.fault_lines.specs.declared.fault.Fault.TheVariants as Why
-use Rattle.fault_lines.specs.declared.fault.Stop.{Stop}
-use Rattle.fault_lines.specs.declared.fault.Stop.TheVariants as T
-use Rattle.command_words.specs.Commands.{Request}
+use Rattle.command_inputs.specs.declared.fault.UnitFault.{UnitFault}
+use Rattle.command_inputs.specs.declared.fault.UnitFault.TheVariants as Filed
+use Rattle.pool_driver.specs.UnitFiles.{IsUnitFault}
+use Rattle.pool_driver.specs.UnitOfFile.{IsUnitOfFile}
+use Rattle.pool_driver.proofs.OneFilePerText.{refused}
+use Rattle.command_inputs.specs.declared.fault.Fault.{Fault}
+use Rattle.command_inputs.specs.declared.fault.Fault.TheVariants as Why
+use Rattle.command_inputs.specs.declared.fault.InputError.{InputError}
+use Rattle.command_inputs.specs.declared.fault.InputError.TheVariants as T
+use Rattle.command_line.specs.Commands.{Request}
 use Rattle.pool_driver.specs.Inputs.{IsAccepted, HasFault, unit_of}
-use Rattle.outside_calls.specs.Reading.{Reading}
+use Rattle.pool_outside.specs.Reading.{Reading}
 use Rattle.pool_driver.specs.Ends.{Reaches}
 use Rattle.pool_driver.specs.Readers as R
-use Rattle.program_input.specs.Readers as J
-use Rattle.pool_driver.specs.Readers.{HasPlacementFault, HasRecordFault, HasScheduleFault, HasUnitFault, IsAcceptedPlacement, IsAcceptedRecord, IsAcceptedSchedule, IsAcceptedUnit, IsPlacedAs, IsScheduledAs, IsUnitOf, Makes, stop_of_placement, stop_of_record, stop_of_schedule, stop_of_unit}
-use Rattle.program_input.proofs.Laws.{stops_as, judges_refusal}
-use Rattle.program_input.specs.Readers.{HasTypedFault, IsProgramOf, IsTypedProgram, Judges, Reads}
+use Rattle.command_inputs.specs.Readers as J
+use Rattle.pool_driver.specs.Readers.{HasPlacementFault, HasRecordFault, HasScheduleFault, HasUnitFault, IsAcceptedPlacement, IsAcceptedRecord, IsAcceptedSchedule, IsAcceptedUnit, IsPlacedAs, IsScheduledAs, IsUnitOf, ResultsIn, stop_of_placement, stop_of_record, stop_of_schedule, stop_of_unit}
+use Rattle.command_inputs.proofs.Laws.{stops_as, judges_refusal}
+use Rattle.command_inputs.specs.Readers.{IsProgramOf, Judges, Reads}
 
 module _ {A : Type 0} (k : Reading) (input : Input) (name : Text) (P : Text → Type 0) (F : Text → Fault → Type 0) (Is : Text → A → Type 0) where
   -- an input at which a request stops
-  pub stops_at : (r : Request) (stop : Stop) (reached : Reaches k r input name) → ((s : Text) (f : Fault) → F s f → HasFault reached.texts input s f) → ((s : Text) → IsAccepted reached.texts input s → P s)
-      → Reads k input name P F Is (Err stop) → Makes k r (Err stop)
+  pub stops_at : (r : Request) (stop : InputError) (reached : Reaches k r input name) → ((s : Text) (f : Fault) → F s f → HasFault reached.texts input s f) → ((s : Text) → IsAccepted reached.texts input s → P s)
+      → Reads k input name P F Is (Err stop) → ResultsIn k r (Err stop)
   stops_at r stop reached fault accept (J.read s a e w i c) = absurd (cc)
   stops_at r stop reached fault accept (J.refused f e w c) =
       let same : stop ≡ T.Refused input f = cc in
@@ -53,7 +56,7 @@ module _ {A : Type 0} (k : Reading) (input : Input) (name : Text) (P : Text → 
   stops_at r stop reached fault accept (J.memory e) = let same : stop ≡ T.Memory = cc in R.memory (ap Err same)
 
 -- what the compiler says of a program that was read
-pub unit_judged : (s : Text) (read : Parsed) (result : Result Code Stop) → IsProgramOf s read → IfOk result (λ u. u ≡ unit_of read.names (program_of read.program)) → IfOk result (λ u. IsProper u)
+pub unit_judged : (s : Text) (read : Parsed) (result : Result Code InputError) → IsProgramOf s read → IfOk result (λ u. u ≡ unit_of read.names (program_of read.program)) → IfOk result (λ u. IsProper u)
     → (IsOk result → faults (program_of read.program) ≡ []) → (faults (program_of read.program) ≡ [] → IsErr result → result ≡ Err T.Memory)
     → ((i : Input) (f : Fault) → result ≡ Err (T.Refused i f) → (i ≡ I.Program) × IsFaultOfClasses (program_of read.program) f) → ((i : Input) → result ≢ Err (T.Unread i))
     → Judges I.Program IsTypedProgram HasTypedFault IsUnitOf s result
@@ -70,11 +73,11 @@ unit_judged s read (Err stop) is code proper typed only refused unread =
 
 -- what the readers of a placement and of a schedule say of a text
 
-placement_fails : (u : Code) (s : Text) (f : PlacementFault) (stop : Stop) → stop ≡ T.Refused I.Placement (Why.Placement f) → Pl.fault_in (placement_of u s) ≡ Some f
+placement_fails : (u : Code) (s : Text) (f : PlacementFault) (stop : InputError) → stop ≡ T.Refused I.Placement (Why.Placement f) → Pl.fault_in (placement_of u s) ≡ Some f
     → Judges I.Placement (IsAcceptedPlacement u) (HasPlacementFault u) (IsPlacedAs u) s (Err stop)
 placement_fails u s f stop e told = J.fails (Why.Placement f) (ap Err e) (f, refl, told) (λ q. let z : None ≡ Some f = sym (ap Pl.fault_in q.1) ∙ told in cc)
 
-pub placement_refused : (u : Code) (s : Text) (f : PlacementFault) (stop : Stop) → stop ≡ stop_of_placement f → Pl.IsTold f (Pl.fault_in (placement_of u s))
+pub placement_refused : (u : Code) (s : Text) (f : PlacementFault) (stop : InputError) → stop ≡ stop_of_placement f → ReaderFacts.ReportsFault f (Pl.fault_in (placement_of u s))
     → Judges I.Placement (IsAcceptedPlacement u) (HasPlacementFault u) (IsPlacedAs u) s (Err stop)
 placement_refused u s (Place.BadLine line) stop e told = placement_fails u s (Place.BadLine line) stop e told
 placement_refused u s (Place.UnknownClass line) stop e told = placement_fails u s (Place.UnknownClass line) stop e told
@@ -86,11 +89,11 @@ placement_refused u s Place.Memory stop e told = J.forgets (ap Err e)
 placement_refused u s (Place.NoSuchLink line) stop e told = placement_fails u s (Place.NoSuchLink line) stop e told
 placement_refused u s (Place.NoRoute from to) stop e told = placement_fails u s (Place.NoRoute from to) stop e told
 
-schedule_fails : (l : Placement) (s : Text) (f : ScheduleFault) (stop : Stop) → stop ≡ T.Refused I.Schedule (Why.Schedule f) → Sch.fault_in (schedule_of l.width l.height l.cuts s) ≡ Some f
+schedule_fails : (l : Placement) (s : Text) (f : ScheduleFault) (stop : InputError) → stop ≡ T.Refused I.Schedule (Why.Schedule f) → Sch.fault_in (schedule_of l.width l.height l.cuts s) ≡ Some f
     → Judges I.Schedule (IsAcceptedSchedule l) (HasScheduleFault l) (IsScheduledAs l) s (Err stop)
 schedule_fails l s f stop e told = J.fails (Why.Schedule f) (ap Err e) (f, refl, told) (λ q. let z : None ≡ Some f = sym (ap Sch.fault_in q.1) ∙ told in cc)
 
-pub schedule_refused : (l : Placement) (s : Text) (f : ScheduleFault) (stop : Stop) → stop ≡ stop_of_schedule f → Sch.IsTold f (Sch.fault_in (schedule_of l.width l.height l.cuts s))
+pub schedule_refused : (l : Placement) (s : Text) (f : ScheduleFault) (stop : InputError) → stop ≡ stop_of_schedule f → ReaderFactss.ReportsFault f (Sch.fault_in (schedule_of l.width l.height l.cuts s))
     → Judges I.Schedule (IsAcceptedSchedule l) (HasScheduleFault l) (IsScheduledAs l) s (Err stop)
 schedule_refused l s (Timed.BadLine line) stop e told = schedule_fails l s (Timed.BadLine line) stop e told
 schedule_refused l s (Timed.NoSuchNode line) stop e told = schedule_fails l s (Timed.NoSuchNode line) stop e told
@@ -102,11 +105,11 @@ schedule_refused l s Timed.Memory stop e told = J.forgets (ap Err e)
 -- and the reader of a record
 
 module _ {A : Type 0} (To : Text → A → Type 0) where
-  record_fails : (s : Text) (f : RecordFault) (stop : Stop) → stop ≡ T.Refused I.Record (Why.Record f) → (Rec.record_of s).fault ≡ Some f
+  record_fails : (s : Text) (f : RecordFault) (stop : InputError) → stop ≡ T.Refused I.Record (Why.Record f) → (Rec.record_of s).fault ≡ Some f
       → Judges I.Record IsAcceptedRecord HasRecordFault To s (Err stop)
   record_fails s f stop e told = J.fails (Why.Record f) (ap Err e) (f, refl, told) (λ q. let z : None ≡ Some f = sym q ∙ told in cc)
 
-  pub record_refused : (s : Text) (f : RecordFault) (stop : Stop) → stop ≡ stop_of_record f → IsTold f (Rec.record_of s).fault → Judges I.Record IsAcceptedRecord HasRecordFault To s (Err stop)
+  pub record_refused : (s : Text) (f : RecordFault) (stop : InputError) → stop ≡ stop_of_record f → ReportsFault f (Rec.record_of s).fault → Judges I.Record IsAcceptedRecord HasRecordFault To s (Err stop)
   record_refused s (Lines.BadLine line) stop e told = record_fails s (Lines.BadLine line) stop e told
   record_refused s (Lines.OutOfOrder line) stop e told = record_fails s (Lines.OutOfOrder line) stop e told
   record_refused s (Lines.WrongAsk line) stop e told = record_fails s (Lines.WrongAsk line) stop e told
@@ -114,10 +117,10 @@ module _ {A : Type 0} (To : Text → A → Type 0) where
 
 -- and of an object code file
 
-unit_fails : (s : Text) (f : UnitFault) (stop : Stop) → stop ≡ T.Refused I.Unit (Why.Unit f) → IsUnitFault s f → Judges I.Unit IsAcceptedUnit HasUnitFault IsUnitOfFile s (Err stop)
+unit_fails : (s : Text) (f : UnitFault) (stop : InputError) → stop ≡ T.Refused I.Unit (Why.Unit f) → IsUnitFault s f → Judges I.Unit IsAcceptedUnit HasUnitFault IsUnitOfFile s (Err stop)
 unit_fails s f stop e told = J.fails (Why.Unit f) (ap Err e) (f, refl, told) (λ q. refused s f q.0 told q.1)
 
-pub unit_refused : (s : Text) (f : UnitFault) (stop : Stop) → stop ≡ stop_of_unit f → (f ≡ Filed.Memory) ⊎ IsUnitFault s f → Judges I.Unit IsAcceptedUnit HasUnitFault IsUnitOfFile s (Err stop)
+pub unit_refused : (s : Text) (f : UnitFault) (stop : InputError) → stop ≡ stop_of_unit f → (f ≡ Filed.Memory) ⊎ IsUnitFault s f → Judges I.Unit IsAcceptedUnit HasUnitFault IsUnitOfFile s (Err stop)
 unit_refused s (Filed.BadBytes at) stop e (inl z) = absurd (let y : Filed.BadBytes at ≡ Filed.Memory = z in cc)
 unit_refused s (Filed.BadBytes at) stop e (inr told) = unit_fails s (Filed.BadBytes at) stop e told
 unit_refused s (Filed.NameTwice place) stop e (inl z) = absurd (let y : Filed.NameTwice place ≡ Filed.Memory = z in cc)

@@ -1,12 +1,12 @@
 -- The record of the three texts is one that is read back.
 use Rattle.std.proofs.Common.{◌≡◌, ℕ, suc, ◌*◌, ◌<◌, ◌≤◌, Bool, List, [], ◌∷◌, slice_get, Some, refl, arith}
-use Rattle.run_words.specs.declared.words.Event.{Event}
-use Rattle.run_words.specs.declared.words.Event.TheVariants as V
-use Rattle.run_words.specs.declared.words.Placement.{Placement}
+use Rattle.run_types.specs.declared.types.Event.{Event}
+use Rattle.run_types.specs.declared.types.Event.TheVariants as V
+use Rattle.run_types.specs.declared.types.Placement.{Placement}
 use Rattle.code_semantics.specs.declared.unit.Unit.{Unit as Code}
 use Rattle.code_semantics.specs.Suits.{Suits}
-use Rattle.run_words.specs.Tables.{Each}
-use Rattle.run_words.specs.Paths.{IsLink}
+use Rattle.run_types.specs.Tables.{Each}
+use Rattle.run_types.specs.Paths.{IsLink}
 use Rattle.schedule_reader.specs.Plans.{IsEventOn}
 use Rattle.run_record.specs.Readable.{IsReadableEvent}
 

@@ -1,9 +1,9 @@
 -- From code to terms: what the three texts mean together, and what is shown of their run.
 use Rattle.std.proofs.Common.{◌≡◌, ◌∙◌, ◌++◌, ℕ, List, [], ◌∷◌, map, Option, Some, None, Bool, true, false, Ok, length, ◌<◌, refl, sym, ap, subst, arith}
-use Rattle.run_words.specs.Text.{Text}
+use Rattle.text_scan.specs.Text.{Text}
 use Rattle.pool_syntax.specs.Terms.{ClassTree, ProgramTree}
-use Rattle.run_words.specs.declared.words.Line.{Line}
-use Rattle.run_words.specs.declared.words.Placement.{Placement}
+use Rattle.run_types.specs.declared.types.Line.{Line}
+use Rattle.run_types.specs.declared.types.Placement.{Placement}
 use Rattle.pool_relation.specs.Action.{Object}
 use Rattle.pool_relation.specs.Configuration.{Configuration}
 use Rattle.pool_relation.specs.Transition.{last_class, start}
@@ -12,56 +12,58 @@ use Rattle.code_semantics.specs.declared.unit.ClassCode.{ClassCode}
 use Rattle.code_semantics.specs.Proper.{IsProper}
 use Rattle.code_semantics.specs.Suits.{Suits}
 use Rattle.run_record.specs.Readable.{IsRecord}
-use Rattle.code_laws.proofs.Laws.{program_reads, program_reads_on_wires, record_writable}
+use Rattle.compiler_correctness.proofs.Laws.{program_reads, program_reads_on_wires, record_writable}
 use Rattle.pool_compile.specs.Code.{code}
 use Rattle.mesh_semantics.specs.Config.{Config}
 use Rattle.mesh_semantics.specs.Record as M
 use Rattle.mesh_semantics.specs.Record.{record_at, root_name}
 use Rattle.mesh_semantics.specs.Wired.{KeepsWires}
-use Rattle.placed_terms.specs.Terms.{terms}
-use Rattle.placed_terms.proofs.Laws.{answers, answers_on_wires, runs_from, runs_from_on_wires}
+use Rattle.mesh_of_terms.specs.Terms.{terms}
+use Rattle.mesh_of_terms.proofs.Laws.{answers, answers_on_wires, runs_from, runs_from_on_wires}
 use Rattle.std.proofs.lemmas.List.{append_assoc}
-use Rattle.code_laws.specs.CheckedProgram.{IsCheckedProgram}
-use Rattle.code_laws.proofs.Laws.{code_record, code_record_on_wires, code_simulates, parsed_checked, suits_fits}
-use Rattle.coded_objects.specs.Coded.{Placed, coded}
-use Rattle.coded_objects.proofs.Laws.{code_fits}
-use Rattle.code_laws.specs.CodeRun.{IsCodeRun}
-use Rattle.code_laws.proofs.Laws.{code_answers, code_answers_on_wires, record_is_code_run, record_is_code_run_on_wires, verified_is_proper}
-use Rattle.unit_inputs.specs.UnitFiles.{IsUnitOfFile, IsVerifiedFile}
-use Rattle.unit_inputs.proofs.Laws.{file_reads, file_reads_on_wires}
+use Rattle.compiler_correctness.specs.CheckedProgram.{IsCheckedProgram}
+use Rattle.compiler_correctness.proofs.Laws.{code_record, code_record_on_wires, code_simulates, parsed_checked, suits_fits}
+use Rattle.mesh_of_code.specs.Coded.{Placed, coded}
+use Rattle.mesh_of_code.proofs.Laws.{code_fits}
+use Rattle.compiler_correctness.specs.CodeRun.{IsCodeRun}
+use Rattle.compiler_correctness.proofs.Laws.{code_answers, code_answers_on_wires, record_is_code_run, record_is_code_run_on_wires, verified_is_proper}
+use Rattle.pool_driver.specs.UnitFiles.{IsVerifiedFile}
+use Rattle.pool_driver.specs.UnitOfFile.{IsUnitOfFile}
+use Rattle.pool_driver.proofs.ReadableFiles.{file_reads, file_reads_on_wires}
 use Rattle.code_semantics.specs.declared.file.UnitFile.{UnitFile}
 use Rattle.code_semantics.specs.Shaped as File
 use Rattle.code_semantics.specs.Shaped.{IsShaped}
 use Rattle.mesh_semantics.specs.Language.{Language}
 use Rattle.std.specs.List.{AllByRecursion}
-use Rattle.record_lines.specs.Writable.{IsWritable}
+use Rattle.record_writer.specs.Writable.{IsWritable}
 use Rattle.mesh_semantics.specs.Act.{id}
 use Rattle.mesh_semantics.specs.Delay.{Delay, no_delay, no_delay_on_wires}
 use Rattle.mesh_semantics.specs.Simulates.{SameRecord, Zipped}
 use Rattle.mesh_semantics.specs.Standing as T
 use Rattle.mesh_semantics.specs.Standing.{standing}
 use Rattle.mesh_semantics.proofs.Laws.{no_wires_kept, record_keeps_wires, standing_same}
-use Rattle.code_laws.specs.Matches.{Matches}
-use Rattle.placed_terms.specs.RunOf.{IsRunFrom, TypedTerms}
+use Rattle.compiler_correctness.specs.Matches.{Matches}
+use Rattle.mesh_of_terms.specs.RunOf.{IsRunFrom, TypedTerms}
 use Rattle.wait_report.specs.declared.rows.ObjectRow.{ObjectRow}
 use Rattle.wait_report.specs.Report.{report_text}
-use Rattle.run_driver.specs.Reports.{row_in, row_of, rows_in, rows_of, standing_word}
-use Rattle.run_driver.specs.declared.loaded.Loaded.{Loaded}
+use Rattle.run_loop.specs.Reports.{row_in, row_of, rows_of, standing_word}
+use Rattle.run_loop.specs.ReportRows.{rows_in}
+use Rattle.run_loop.specs.declared.loaded.Loaded.{Loaded}
 use Rattle.placement_reader.specs.Placements.{placement_of}
 use Rattle.schedule_reader.specs.Schedules.{Plan}
-use Rattle.record_lines.specs.SecondForm.{form_text, line_text2, lines_text2, text2}
-use Rattle.run_words.specs.Asks.{EachAnswersPost, request_number_of, asks_from}
-use Rattle.pool_machine.specs.Answers.{nothing_sent}
-use Rattle.command_words.specs.declared.command.Show.{Show}
-use Rattle.command_words.specs.declared.command.Show.TheVariants as Sh
-use Rattle.run_driver.specs.Driving.{IsLoaded, IsPlanOn, shown_lines, shown_record}
+use Rattle.record_writer.specs.SecondForm.{form_text, line_text2, lines_text2, text2}
+use Rattle.run_types.specs.Asks.{EachAnswersPost, request_number_of, asks_from}
+use Rattle.pool_machine.specs.SentPackets.{nothing_sent}
+use Rattle.command_line.specs.declared.command.Show.{Show}
+use Rattle.command_line.specs.declared.command.Show.TheVariants as Sh
+use Rattle.run_loop.specs.RunOutput.{IsLoaded, IsPlanOn, shown_lines, shown_record}
 use Rattle.pool_driver.specs.Outputs.{IsLoadOf, IsRunOf, shown_text}
 use Rattle.pool_driver.specs.Inputs.{unit_of}
 use Rattle.pool_driver.specs.Readers.{IsPlacedAs, IsScheduledAs, IsUnitOf}
-use Rattle.run_driver.specs.Loading.{lines_of, run_of, run_text}
+use Rattle.run_loop.specs.Loading.{lines_of, run_of, run_text}
 use Rattle.pool_driver.specs.Runs.{CodeMeaning, Meaning, ShowsCodeRun, ShowsRun, record_of}
-use Rattle.run_driver.specs.Shown.{ends_text, ring_text, status_of, writes_of, writes_text}
-use Rattle.run_driver.proofs.Laws.{plan_is_on}
+use Rattle.run_loop.specs.Shown.{ends_text, ring_text, status_of, writes_of, writes_text}
+use Rattle.run_loop.proofs.Laws.{plan_is_on}
 use Rattle.pool_driver.proofs.ReadableLaws.{events_read}
 
 -- a program of which there is code has a last class, and starts

@@ -5,14 +5,14 @@ use Rattle.std.proofs.lemmas.Bool.{cases_Bool}
 use Rattle.std.proofs.lemmas.Bool.Decides.{nat_tests}
 use Rattle.std.proofs.lemmas.List.{length-append, length-take}
 use Rattle.pool_syntax.proofs.Laws.{pieces_count, piece_within}
-use Rattle.run_words.specs.Text.{Text, every, is_digit, is_inner, is_integer, is_letter, is_listed, is_word}
+use Rattle.text_scan.specs.Text.{Text, every, is_digit, is_inner, is_integer, is_letter, is_listed, is_word}
 use Rattle.pool_syntax.specs.Tokens.{IsFaultless, is_rest_of_string, is_string, kept_text, piece_fault, texts_after}
-use Rattle.run_words.specs.Keywords.{keywords}
-use Rattle.run_words.specs.Table.{is_among, with_text}
+use Rattle.text_scan.specs.Keywords.{keywords}
+use Rattle.run_types.specs.Table.{is_among, with_text}
 use Rattle.pool_syntax.specs.Terms.{ProgramTree}
 use Rattle.pool_grammar.specs.Programs.{IsParsed}
 use Rattle.code_semantics.specs.Shaped.{IsListOf, IsShortList}
-use Rattle.run_words.proofs.Laws.{first, second}
+use Rattle.run_types.proofs.Laws.{first, second}
 
 -- what holds of each text of a table
 

@@ -1,2 +1,2 @@
 -- The words of a command, which the crate of the command line reads.
-pub use Rattle.command_words.specs.Commands.{FileNames, Request, of_run, of_program, of_ring, of_load, request_of, texts_of}
+pub use Rattle.command_line.specs.Commands.{FileNames, Request, of_run, of_program, of_ring, of_load, request_of, texts_of}

@@ -1,19 +1,18 @@
 -- How a call of `pool` ends: what came of its inputs, and what was written.
 use Rattle.std.specs.Prelude.{◌≡◌, ℕ, ◌+◌, ◌≤◌, List, [], ◌∷◌, ◌++◌, length, slice_get, Option, Some, None, false}
 use Rattle.pool_outside.specs.Outside.{Rose}
-use Rattle.run_words.specs.Text.{Text}
-use Rattle.run_driver.specs.declared.status.Status.{Status}
-use Rattle.run_driver.specs.declared.status.Status.TheVariants as S
-use Rattle.outside_calls.specs.Reading.{Reading, AllRead}
-pub use Rattle.outside_calls.specs.Reading.{reading}
-use Rattle.outside_calls.specs.Writing.{Writing, IsIdle, Wrote, WroteFront}
-use Rattle.fault_lines.specs.declared.fault.Input.{Input}
-use Rattle.fault_lines.specs.declared.fault.Fault.{Fault}
-use Rattle.command_words.specs.Commands.{Request, of_ring}
+use Rattle.text_scan.specs.Text.{Text}
+use Rattle.run_loop.specs.declared.status.Status.{Status}
+use Rattle.run_loop.specs.declared.status.Status.TheVariants as S
+use Rattle.pool_outside.specs.Reading.{Reading, AllRead}
+pub use Rattle.pool_outside.specs.Reading.{reading}
+use Rattle.pool_outside.specs.Writing.{Writing, IsIdle, Wrote, WroteFront}
+use Rattle.command_inputs.specs.declared.fault.Input.{Input}
+use Rattle.command_inputs.specs.declared.fault.Fault.{Fault}
+use Rattle.command_line.specs.Commands.{Request, of_ring}
 use Rattle.pool_gen.specs.Ring.{ring_placement, ring_program, ring_schedule}
-use Rattle.fault_lines.specs.FaultText.{refusal_line, unread_line, usage_line}
-use Rattle.program_input.specs.Inputs.{limit_of, one_read}
-use Rattle.program_input.specs.Readers.{Stops}
+use Rattle.command_inputs.specs.FaultText.{refusal_line, unread_line, usage_line}
+use Rattle.command_inputs.specs.Inputs.{limit_of, one_read, Stops}
 use Rattle.pool_driver.specs.Inputs.{inputs, IsAccepted, HasFault, StopAt, WereAccepted}
 use Rattle.pool_driver.specs.Outputs.{IsOutput}
 
@@ -57,7 +56,7 @@ HasGiven [] given = Unit {0}
 HasGiven (s ∷ ss) given = last_length (s ∷ ss) ≡ given
 
 -- All inputs of the request were opened, each once and in their order, and read to their ends; no read failed, each is accepted, and this is what is asked for.
-pub record IsMade (k : Reading) (r : Request) (text : Text) (status : Status) : Type 0 where
+pub record IsAnswered (k : Reading) (r : Request) (text : Text) (status : Status) : Type 0 where
   pub texts : List Text
   pub accepted : WereAccepted k.told [] (inputs r) texts
   pub opened : k.opened ≡ k.opens + length (inputs r)
@@ -90,8 +89,8 @@ pub data Says (k : Reading) (words : Option Request) (line : Text) (status : Sta
 -- How a call ends. What is asked for was written whole on the output; or a line on the error sink, and nothing on the output; or one of the two was cut off by a
 -- failed write; or memory ran out before anything was written, of words of a command and of others alike, since reading the words takes memory too.
 pub data Ends (words : Option Request) (files : Reading) (out err : Writing) (status : Status) : Type 0 where
-  whole : (r : Request) (text : Text) → words ≡ Some r → IsMade files r text status → Wrote out text → IsIdle err → Ends words files out err status
+  whole : (r : Request) (text : Text) → words ≡ Some r → IsAnswered files r text status → Wrote out text → IsIdle err → Ends words files out err status
   said : (line : Text) → Says files words line status → Wrote err line → IsIdle out → Ends words files out err status
-  cut : (r : Request) (text : Text) (planned : Status) → words ≡ Some r → IsMade files r text planned → WroteFront out text → IsIdle err → status ≡ S.WriteFault → Ends words files out err status
+  cut : (r : Request) (text : Text) (planned : Status) → words ≡ Some r → IsAnswered files r text planned → WroteFront out text → IsIdle err → status ≡ S.WriteFault → Ends words files out err status
   line_cut : (line : Text) (planned : Status) → Says files words line planned → WroteFront err line → IsIdle out → status ≡ S.WriteFault → Ends words files out err status
   no_memory : IsIdle out → IsIdle err → status ≡ S.Memory → Ends words files out err status

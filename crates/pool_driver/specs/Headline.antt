@@ -1,16 +1,16 @@
 -- The headline by itself: what a call of `record` has written where it ended with the status of a record.
 use Rattle.std.specs.Prelude.{◌≡◌, ℕ, List, [], ◌++◌, Some, None, true}
-use Rattle.run_words.specs.Text.{Text}
+use Rattle.text_scan.specs.Text.{Text}
 use Rattle.pool_syntax.specs.Terms.{ProgramTree}
 use Rattle.pool_syntax.specs.Typing.{faults}
 use Rattle.pool_grammar.specs.Programs.{IsParsed}
-use Rattle.run_words.specs.declared.words.Label.{Label}
-use Rattle.run_words.specs.declared.words.Line.{Line}
+use Rattle.run_types.specs.declared.types.Label.{Label}
+use Rattle.run_types.specs.declared.types.Line.{Line}
 use Rattle.pool_relation.specs.Configuration.{Configuration}
 use Rattle.pool_relation.specs.Transition.{run, start, transition}
-use Rattle.placed_terms.specs.RunOf.{GoesBy}
+use Rattle.mesh_of_terms.specs.RunOf.{GoesBy}
 use Rattle.mesh_semantics.specs.Record.{EndsOnce, labels, ends_quiet}
-use Rattle.record_lines.specs.SecondForm.{text2}
+use Rattle.record_writer.specs.SecondForm.{text2}
 use Rattle.pool_driver.specs.LineKinds.{EachIsOneOfThree}
 
 -- The source is a program without class faults, and the bytes are the text of lines: event lines and then one end line. A line shows a transition once, or local ones at least

@@ -1,27 +1,27 @@
 -- The inputs of a request: their order, names and limits, what is read of them, and when the text of one is accepted or has a fault.
 use Rattle.std.specs.Prelude.{◌≡◌, ℕ, ◌+◌, ◌≤◌, List, [], ◌∷◌, ◌++◌, length, slice_get, Some, None, Ok, Bool, IsTrue, ◌⊎◌}
-use Rattle.run_words.specs.Text.{Text}
+use Rattle.text_scan.specs.Text.{Text}
 use Rattle.pool_syntax.specs.Terms.{ProgramTree}
 use Rattle.pool_syntax.specs.Typing.{faults}
-use Rattle.run_words.specs.declared.words.Placement.{Placement}
+use Rattle.run_types.specs.declared.types.Placement.{Placement}
 use Rattle.code_semantics.specs.declared.file.UnitFile.{UnitFile}
 use Rattle.code_semantics.specs.declared.unit.Unit.{Unit as Code}
-use Rattle.unit_inputs.specs.UnitFiles.{IsUnitFault, IsVerifiedFile}
+use Rattle.pool_driver.specs.UnitFiles.{IsUnitFault, IsVerifiedFile}
 use Rattle.pool_compile.specs.Code.{code}
 use Rattle.placement_reader.specs.Placements as P
 use Rattle.placement_reader.specs.Placements.{placement_of}
 use Rattle.schedule_reader.specs.Schedules as S
 use Rattle.schedule_reader.specs.Schedules.{Plan, schedule_of}
 use Rattle.pool_gen.specs.Ring.{ring_placement, ring_program, ring_schedule}
-use Rattle.fault_lines.specs.declared.fault.Input.{Input}
-use Rattle.fault_lines.specs.declared.fault.Input.TheVariants as I
-use Rattle.fault_lines.specs.declared.fault.Fault.{Fault}
-use Rattle.fault_lines.specs.declared.fault.Fault.TheVariants as F
+use Rattle.command_inputs.specs.declared.fault.Input.{Input}
+use Rattle.command_inputs.specs.declared.fault.Input.TheVariants as I
+use Rattle.command_inputs.specs.declared.fault.Fault.{Fault}
+use Rattle.command_inputs.specs.declared.fault.Fault.TheVariants as F
 use Rattle.run_record.specs.Records.{record_of}
-use Rattle.command_words.specs.Commands.{Request, of_run, of_program, of_ring, of_convert, of_check, of_load}
-use Rattle.outside_calls.specs.Reading.{Told}
-use Rattle.program_input.specs.Inputs.{limit_of, IsReadAs}
-use Rattle.program_input.specs.Programs.{IsParsed, IsTextOf, IsTypedText, IsFaultOfText, IsFaultOfClasses}
+use Rattle.command_line.specs.Commands.{Request, of_run, of_program, of_ring, of_convert, of_check, of_load}
+use Rattle.pool_outside.specs.Reading.{Told}
+use Rattle.command_inputs.specs.Inputs.{limit_of, IsReadAs}
+use Rattle.command_inputs.specs.Programs.{IsParsed, IsTextOf, IsTypedText, IsFaultOfText, IsFaultOfClasses}
 
 -- the inputs of a request with their names, in the order in which they are read
 abbrev pub inputs : Request → List (Input × Text)

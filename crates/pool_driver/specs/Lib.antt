@@ -6,3 +6,5 @@ pub mod Ends
 pub mod Headline
 pub mod LineKinds
 pub mod Readers
+pub mod UnitFiles
+pub mod UnitOfFile

@@ -1,10 +1,10 @@
 -- What a line of a record may show: a transition, a delay of the network by its name, or that nothing was ready.
 use Rattle.std.specs.Prelude.{◌≡◌, ◌<◌, List, [], ◌∷◌, ⊥}
-use Rattle.run_words.specs.declared.words.Label.TheVariants as L
-use Rattle.run_words.specs.declared.words.What.{What}
-use Rattle.run_words.specs.declared.words.What.TheVariants as W
-use Rattle.run_words.specs.declared.words.Line.{Line}
-use Rattle.run_words.specs.declared.words.Line.TheVariants as R
+use Rattle.run_types.specs.declared.types.Label.TheVariants as L
+use Rattle.run_types.specs.declared.types.What.{What}
+use Rattle.run_types.specs.declared.types.What.TheVariants as W
+use Rattle.run_types.specs.declared.types.Line.{Line}
+use Rattle.run_types.specs.declared.types.Line.TheVariants as R
 
 -- the line says that a transition was made once, or that local transitions were made at least once
 abbrev pub IsTransition : What → Type 0

@@ -1,34 +1,34 @@
 -- What a request makes of the texts of its inputs: a text, and the status with which it is written.
 use Rattle.std.specs.Prelude.{◌≡◌, ℕ, List, [], ◌∷◌, ◌++◌, None, ◌⊎◌}
-use Rattle.run_words.specs.Text.{Text}
+use Rattle.text_scan.specs.Text.{Text}
 use Rattle.pool_syntax.specs.Terms.{ProgramTree}
 use Rattle.pool_syntax.specs.Typing.{faults}
 use Rattle.object_code.specs.FileBytes.{file_bytes}
 use Rattle.object_code.specs.Listing.{listing}
 use Rattle.pool_printer.specs.Canonical.{canonical}
-use Rattle.record_lines.specs.SecondForm.{text2}
-use Rattle.run_driver.specs.declared.status.Status.{Status}
-use Rattle.run_driver.specs.declared.status.Status.TheVariants as S
-use Rattle.command_words.specs.declared.command.Show.{Show}
-use Rattle.command_words.specs.declared.command.Show.TheVariants as Sh
-use Rattle.command_words.specs.declared.command.Ask.{Ask}
-use Rattle.command_words.specs.declared.command.Ask.TheVariants as As
+use Rattle.record_writer.specs.SecondForm.{text2}
+use Rattle.run_loop.specs.declared.status.Status.{Status}
+use Rattle.run_loop.specs.declared.status.Status.TheVariants as S
+use Rattle.command_line.specs.declared.command.Show.{Show}
+use Rattle.command_line.specs.declared.command.Show.TheVariants as Sh
+use Rattle.command_line.specs.declared.command.Ask.{Ask}
+use Rattle.command_line.specs.declared.command.Ask.TheVariants as As
 use Rattle.run_record.specs.Numbered.{lines_after, names_after}
 use Rattle.run_record.specs.Records as Rec
-use Rattle.command_words.specs.Commands.{Request, of_run, of_program, of_ring, of_convert, of_check, of_load}
+use Rattle.command_line.specs.Commands.{Request, of_run, of_program, of_ring, of_convert, of_check, of_load}
 use Rattle.pool_driver.specs.Inputs.{unit_of}
-use Rattle.program_input.specs.Programs.{IsParsed}
-use Rattle.run_driver.specs.Reports.{rows_of}
+use Rattle.command_inputs.specs.Programs.{IsParsed}
+use Rattle.run_loop.specs.Reports.{rows_of}
 use Rattle.pool_driver.specs.Runs.{CodeMeaning, Meaning, ShowsCodeRun, ShowsRun, code_record_of, record_of}
-use Rattle.run_driver.specs.Shown.{ends_text, ring_text, status_of, writes_text}
+use Rattle.run_loop.specs.Shown.{ends_text, ring_text, status_of, writes_text}
 use Rattle.pool_gen.specs.Ring.{ring_placement, ring_program, ring_schedule}
 use Rattle.wait_report.specs.Report.{report_text}
-use Rattle.run_words.specs.declared.verdicts.Verdict.{Verdict}
-use Rattle.run_words.specs.declared.verdicts.Verdict.TheVariants as V
-use Rattle.record_check.specs.Verdicts.{Judged}
+use Rattle.run_types.specs.declared.verdicts.Verdict.{Verdict}
+use Rattle.run_types.specs.declared.verdicts.Verdict.TheVariants as V
+use Rattle.record_check.specs.RecordJudgement.{Judged}
 use Rattle.record_check.specs.VerdictText.{verdict_text}
-use Rattle.code_laws.specs.DeclaredKinds.{file_of}
-use Rattle.unit_inputs.specs.UnitFiles.{IsVerifiedFile}
+use Rattle.compiler_correctness.specs.DeclaredKinds.{file_of}
+use Rattle.pool_driver.specs.UnitFiles.{IsVerifiedFile}
 
 -- what is shown of the run of the three texts
 abbrev pub shown_text : {source place plan : Text} → Show → Meaning source place plan → Text
@@ -115,5 +115,5 @@ IsOutput (of_load unit_name place_name plan_name) (source ∷ placement ∷ sche
 IsOutput r _ text status = ⊥
 
 -- the status says that a text was written whole
-abbrev pub IsWhole : Status → Type 0
-IsWhole status = (status ≡ S.Done) ⊎ ((status ≡ S.DoneFaulted) ⊎ ((status ≡ S.ScheduleOver) ⊎ (status ≡ S.Full)))
+abbrev pub WholeTextWritten : Status → Type 0
+WholeTextWritten status = (status ≡ S.Done) ⊎ ((status ≡ S.DoneFaulted) ⊎ ((status ≡ S.ScheduleOver) ⊎ (status ≡ S.Full)))

@@ -1,10 +1,10 @@
 -- What comes of reading inputs, for the functions below the top call.
 use Rattle.std.specs.Prelude.{◌≡◌, ℕ, List, [], true, Some, None, Result, Ok, Err}
-use Rattle.run_words.specs.Text.{Text}
+use Rattle.text_scan.specs.Text.{Text}
 use Rattle.pool_syntax.specs.Spelled.{is_spelled}
 use Rattle.pool_syntax.specs.TreeOf.{program_of}
-use Rattle.run_words.specs.declared.words.Line.{Line}
-use Rattle.run_words.specs.declared.words.Placement.{Placement}
+use Rattle.run_types.specs.declared.types.Line.{Line}
+use Rattle.run_types.specs.declared.types.Placement.{Placement}
 use Rattle.pool_printer.specs.Canonical.{canonical}
 use Rattle.code_semantics.specs.declared.unit.Unit.{Unit as Code}
 use Rattle.object_code.specs.FileBytes.{file_bytes}
@@ -21,60 +21,60 @@ use Rattle.schedule_reader.specs.declared.fault.ScheduleFault.TheVariants as Tim
 use Rattle.schedule_reader.specs.Schedules as Sch
 use Rattle.schedule_reader.specs.Schedules.{Plan, schedule_of}
 use Rattle.std.specs.List.{All}
-use Rattle.run_words.specs.Asks.{asks}
-use Rattle.record_lines.specs.SecondForm.{text2}
-use Rattle.record_lines.specs.Writable.{IsWritable}
+use Rattle.run_types.specs.Asks.{asks}
+use Rattle.record_writer.specs.SecondForm.{text2}
+use Rattle.record_writer.specs.Writable.{IsWritable}
 use Rattle.run_record.specs.declared.fault.RecordFault.{RecordFault}
 use Rattle.run_record.specs.declared.fault.RecordFault.TheVariants as RecordFaults
 use Rattle.run_record.specs.Numbered.{lines_after, names_after}
 use Rattle.run_record.specs.Records as Rec
 use Rattle.pool_driver.specs.declared.converted.Recorded.{Recorded}
-use Rattle.run_driver.specs.declared.loaded.Loaded.{Loaded}
-use Rattle.fault_lines.specs.declared.fault.Input.{Input}
-use Rattle.fault_lines.specs.declared.fault.Input.TheVariants as I
-use Rattle.fault_lines.specs.declared.fault.Fault.{Fault}
-use Rattle.fault_lines.specs.declared.fault.Fault.TheVariants as F
-use Rattle.fault_lines.specs.declared.fault.Stop.{Stop}
-use Rattle.fault_lines.specs.declared.fault.Stop.TheVariants as T
+use Rattle.run_loop.specs.declared.loaded.Loaded.{Loaded}
+use Rattle.command_inputs.specs.declared.fault.Input.{Input}
+use Rattle.command_inputs.specs.declared.fault.Input.TheVariants as I
+use Rattle.command_inputs.specs.declared.fault.Fault.{Fault}
+use Rattle.command_inputs.specs.declared.fault.Fault.TheVariants as F
+use Rattle.command_inputs.specs.declared.fault.InputError.{InputError}
+use Rattle.command_inputs.specs.declared.fault.InputError.TheVariants as T
 use Rattle.pool_driver.specs.declared.outputs.Output.{Output}
 use Rattle.pool_driver.specs.declared.outputs.Output.TheVariants as O
-use Rattle.run_driver.specs.declared.status.Status.{Status}
-use Rattle.run_driver.specs.declared.status.Status.TheVariants as S
-use Rattle.command_words.specs.Commands.{Request}
-use Rattle.fault_lines.specs.FaultText.{refusal_line, unread_line}
+use Rattle.run_loop.specs.declared.status.Status.{Status}
+use Rattle.run_loop.specs.declared.status.Status.TheVariants as S
+use Rattle.command_line.specs.Commands.{Request}
+use Rattle.command_inputs.specs.FaultText.{refusal_line, unread_line}
 use Rattle.pool_driver.specs.Inputs.{IsCodeOf, StopAt}
-use Rattle.unit_inputs.specs.UnitFiles.{IsUnitFault, IsVerifiedFile}
+use Rattle.pool_driver.specs.UnitFiles.{IsUnitFault, IsVerifiedFile}
 use Rattle.code_semantics.specs.declared.file.UnitFile.{UnitFile}
-use Rattle.fault_lines.specs.declared.fault.UnitFault.{UnitFault}
-use Rattle.fault_lines.specs.declared.fault.UnitFault.TheVariants as Filed
-use Rattle.run_driver.specs.Driving.{IsLoaded}
-use Rattle.run_driver.specs.Shown.{ring_text, status_of}
-use Rattle.run_driver.specs.Loading.{lines_of, run_text}
+use Rattle.command_inputs.specs.declared.fault.UnitFault.{UnitFault}
+use Rattle.command_inputs.specs.declared.fault.UnitFault.TheVariants as Filed
+use Rattle.run_loop.specs.RunOutput.{IsLoaded}
+use Rattle.run_loop.specs.Shown.{ring_text, status_of}
+use Rattle.run_loop.specs.Loading.{lines_of, run_text}
 use Rattle.pool_driver.specs.Outputs.{IsRingOf, status_of_verdict}
-use Rattle.run_words.specs.declared.verdicts.Verdict.{Verdict}
-use Rattle.record_check.specs.Verdicts.{Judged}
+use Rattle.run_types.specs.declared.verdicts.Verdict.{Verdict}
+use Rattle.record_check.specs.RecordJudgement.{Judged}
 use Rattle.record_check.specs.VerdictText.{verdict_text}
 use Rattle.pool_gen.specs.Ring.{ring_placement, ring_program, ring_schedule}
 use Rattle.pool_syntax.specs.Terms.{ProgramTree}
-use Rattle.outside_calls.specs.Reading.{Reading}
-use Rattle.pool_driver.specs.Ends.{IsRefused, IsRingRefused, IsUnread, IsMade}
-use Rattle.run_driver.specs.Writing.{Writing, IsIdle, Writes}
+use Rattle.pool_outside.specs.Reading.{Reading}
+use Rattle.pool_driver.specs.Ends.{IsRefused, IsRingRefused, IsUnread, IsAnswered}
+use Rattle.run_loop.specs.Writing.{Writing, IsIdle, Writes}
 
 -- want of memory is no fault of the text
 
-abbrev pub stop_of_placement : PlacementFault → Stop
+abbrev pub stop_of_placement : PlacementFault → InputError
 stop_of_placement Place.Memory = T.Memory
 stop_of_placement f = T.Refused I.Placement (F.Placement f)
 
-abbrev pub stop_of_record : RecordFault → Stop
+abbrev pub stop_of_record : RecordFault → InputError
 stop_of_record RecordFaults.Memory = T.Memory
 stop_of_record f = T.Refused I.Record (F.Record f)
 
-abbrev pub stop_of_schedule : ScheduleFault → Stop
+abbrev pub stop_of_schedule : ScheduleFault → InputError
 stop_of_schedule Timed.Memory = T.Memory
 stop_of_schedule f = T.Refused I.Schedule (F.Schedule f)
 
-abbrev pub stop_of_unit : UnitFault → Stop
+abbrev pub stop_of_unit : UnitFault → InputError
 stop_of_unit Filed.Memory = T.Memory
 stop_of_unit f = T.Refused I.Unit (F.Unit f)
 
@@ -168,33 +168,33 @@ IsPrintable (O.Converted r) = IsShowable r
 IsPrintable (O.Verdict line status) = Unit {0}
 
 -- What comes of three texts: what is loaded of them; or the first that is not accepted, with its fault; or memory ran out.
-pub data Loads (program placement schedule : Text) (result : Result Loaded Stop) : Type 0 where
+pub data Loads (program placement schedule : Text) (result : Result Loaded InputError) : Type 0 where
   loads : (r : Loaded) → result ≡ Ok r → IsUnitOf program r.unit → IsPlacedAs r.unit placement r.placement → IsScheduledAs r.placement schedule r.schedule → Loads program placement schedule result
   stops : (input : Input) (f : Fault) → result ≡ Err (T.Refused input f) → StopAt program placement schedule input f → Loads program placement schedule result
   lacks : result ≡ Err T.Memory → Loads program placement schedule result
 
 -- what comes of the texts of a ring
-pub data Rings (k : ℕ) (result : Result Output Stop) : Type 0 where
+pub data Rings (k : ℕ) (result : Result Output InputError) : Type 0 where
   rings : (o : Output) → result ≡ Ok o → IsRingOf k (text_of o) (status_of_output o) → IsPrintable o → Rings k result
   stops : (input : Input) (f : Fault) → result ≡ Err (T.Refused input f) → StopAt (ring_program k) ring_placement (ring_schedule k) input f → Rings k result
   lacks : result ≡ Err T.Memory → Rings k result
 
 -- what comes of the lines of a record that are judged by a program with these names
-pub data Decides (names : List Text) (p : ProgramTree) (ls : List Line) (result : Result Output Stop) : Type 0 where
+pub data Decides (names : List Text) (p : ProgramTree) (ls : List Line) (result : Result Output InputError) : Type 0 where
   decides : (o : Output) (v : Verdict) → result ≡ Ok o → Judged p ls v → ((w : Verdict) → Judged p ls w → w ≡ v) → text_of o ≡ verdict_text names v → status_of_output o ≡ status_of_verdict v
       → IsPrintable o → Decides names p ls result
   lacks : result ≡ Err T.Memory → Decides names p ls result
 
 -- what comes of all inputs of a request
-pub data Makes (k : Reading) (r : Request) (result : Result Output Stop) : Type 0 where
-  made : (o : Output) → result ≡ Ok o → IsMade k r (text_of o) (status_of_output o) → IsPrintable o → Makes k r result
-  refused : (input : Input) (f : Fault) → result ≡ Err (T.Refused input f) → IsRefused k r input f → Makes k r result
-  ring_refused : (input : Input) (f : Fault) → result ≡ Err (T.Refused input f) → IsRingRefused k r input f → Makes k r result
-  unread : (input : Input) → result ≡ Err (T.Unread input) → IsUnread k r input → Makes k r result
-  memory : result ≡ Err T.Memory → Makes k r result
+pub data ResultsIn (k : Reading) (r : Request) (result : Result Output InputError) : Type 0 where
+  made : (o : Output) → result ≡ Ok o → IsAnswered k r (text_of o) (status_of_output o) → IsPrintable o → ResultsIn k r result
+  refused : (input : Input) (f : Fault) → result ≡ Err (T.Refused input f) → IsRefused k r input f → ResultsIn k r result
+  ring_refused : (input : Input) (f : Fault) → result ≡ Err (T.Refused input f) → IsRingRefused k r input f → ResultsIn k r result
+  unread : (input : Input) → result ≡ Err (T.Unread input) → IsUnread k r input → ResultsIn k r result
+  memory : result ≡ Err T.Memory → ResultsIn k r result
 
 -- a line for the reason was written, whole or a front of it; or nothing for want of memory
-pub data Tells (k : Writing) (stop : Stop) (status : Status) : Type 0 where
-  refusal : (input : Input) (f : Fault) → stop ≡ T.Refused input f → Writes k (refusal_line input f) S.Refused status → Tells k stop status
-  unread : (input : Input) → stop ≡ T.Unread input → Writes k (unread_line input) S.ReadFault status → Tells k stop status
-  memory : status ≡ S.Memory → IsIdle k → Tells k stop status
+pub data ReportsInputError (k : Writing) (stop : InputError) (status : Status) : Type 0 where
+  refusal : (input : Input) (f : Fault) → stop ≡ T.Refused input f → Writes k (refusal_line input f) S.Refused status → ReportsInputError k stop status
+  unread : (input : Input) → stop ≡ T.Unread input → Writes k (unread_line input) S.ReadFault status → ReportsInputError k stop status
+  memory : status ≡ S.Memory → IsIdle k → ReportsInputError k stop status

@@ -1,29 +1,29 @@
 -- What a program, a placement and a schedule mean together, and that their record shows a run; and the same of an object code file in place of a program.
 use Rattle.std.specs.Prelude.{◌≡◌, List, [], Ok, Some}
-use Rattle.run_words.specs.Text.{Text}
+use Rattle.text_scan.specs.Text.{Text}
 use Rattle.pool_syntax.specs.Terms.{ProgramTree}
 use Rattle.pool_syntax.specs.Typing.{faults}
-use Rattle.run_words.specs.declared.words.Placement.{Placement}
+use Rattle.run_types.specs.declared.types.Placement.{Placement}
 use Rattle.pool_relation.specs.Action.{Object}
 use Rattle.pool_relation.specs.Configuration.{Configuration}
 use Rattle.pool_relation.specs.Transition.{start}
-use Rattle.run_words.specs.Asks.{EachAnswersPost}
+use Rattle.run_types.specs.Asks.{EachAnswersPost}
 use Rattle.mesh_semantics.specs.Record as M
 use Rattle.mesh_semantics.specs.Record.{root_name}
 use Rattle.mesh_semantics.specs.Wired.{KeepsWires}
-use Rattle.placed_terms.specs.Terms.{terms}
-use Rattle.placed_terms.specs.RunOf.{IsRunFrom}
-use Rattle.pool_machine.specs.Answers.{nothing_sent}
+use Rattle.mesh_of_terms.specs.Terms.{terms}
+use Rattle.mesh_of_terms.specs.RunOf.{IsRunFrom}
+use Rattle.pool_machine.specs.SentPackets.{nothing_sent}
 use Rattle.placement_reader.specs.Placements.{placement_of}
 use Rattle.schedule_reader.specs.Schedules.{Plan, schedule_of}
 use Rattle.run_record.specs.Readable.{IsRecord}
-use Rattle.run_driver.specs.Shown.{record_over}
+use Rattle.run_loop.specs.Shown.{record_over}
 use Rattle.pool_driver.specs.Inputs.{unit_of}
-use Rattle.program_input.specs.Programs.{IsParsed}
+use Rattle.command_inputs.specs.Programs.{IsParsed}
 use Rattle.code_semantics.specs.declared.file.UnitFile.{UnitFile}
-use Rattle.coded_objects.specs.Coded.{Placed, coded}
-use Rattle.code_laws.specs.CodeRun.{IsCodeRun}
-use Rattle.unit_inputs.specs.UnitFiles.{IsVerifiedFile}
+use Rattle.mesh_of_code.specs.Coded.{Placed, coded}
+use Rattle.compiler_correctness.specs.CodeRun.{IsCodeRun}
+use Rattle.pool_driver.specs.UnitFiles.{IsVerifiedFile}
 use Rattle.mesh_semantics.specs.Config.{Config}
 
 -- the meaning of the three texts: a program without class faults with the table of its names, a placement of its classes, and a quantum and events on the placement's mesh,

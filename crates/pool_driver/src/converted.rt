@@ -1,16 +1,16 @@
 //! Records in either form, read, and written in the second form.
 ghost use Rattle.std.specs.Prelude.{◌≡◌, ◌<◌, ◌^◌, ◌≤◌, length, OnErr, OnOk};
 ghost use Rattle.std.specs.List.{All};
-ghost use Rattle.record_lines.specs.SecondForm.{lines_text2, text2};
-ghost use Rattle.record_lines.specs.Writable.{IsWritable};
-ghost use Rattle.run_driver.specs.Writing.{Wrote, WroteFront, writing};
+ghost use Rattle.record_writer.specs.SecondForm.{lines_text2, text2};
+ghost use Rattle.record_writer.specs.Writable.{IsWritable};
+ghost use Rattle.run_loop.specs.Writing.{Wrote, WroteFront, writing};
 ghost use Rattle.pool_driver.specs.Readers.{AreLinesOf, HasRecordFault, IsAcceptedRecord, IsRecordOf, IsShowable, stop_of_record};
-ghost use Rattle.program_input.specs.Readers.{Judges};
+ghost use Rattle.command_inputs.specs.Readers.{Judges};
 
-use fault_lines::{Fault, Input, Stop};
+use command_inputs::{Fault, Input, InputError};
 use pool_outside::{Sink, Text, WriteFault};
 use run_record::{RecordFault, asks_of, read_record, write_form, write_line2};
-use run_words::{Line, List, Names};
+use run_types::{Line, List, Names};
 use std::alloc::{AllocError, Global};
 
 /// The lines of a record, the request number of each, and the texts of their names.
@@ -22,12 +22,12 @@ pub struct Recorded {
 }
 
 /// Why a text is no record.
-fn record_stop(fault: RecordFault) -> Stop
+fn record_stop(fault: RecordFault) -> InputError
     ensures { result ≡ stop_of_record fault }
 {
     match fault {
-        RecordFault::Memory => Stop::Memory,
-        _ => Stop::Refused {
+        RecordFault::Memory => InputError::Memory,
+        _ => InputError::Refused {
             input: Input::Record,
             fault: Fault::Record(fault),
         },
@@ -35,7 +35,7 @@ fn record_stop(fault: RecordFault) -> Stop
 }
 
 /// Judges the text of a record, and takes the request numbers of its lines.
-pub fn judge_record(alloc: Global, bytes: &[u8]) -> Result<Recorded, Stop>
+pub fn judge_record(alloc: Global, bytes: &[u8]) -> Result<Recorded, InputError>
     requires { length bytes.now ≤ 67108864 }
     ensures { Judges Input.Record IsAcceptedRecord HasRecordFault IsRecordOf bytes.now result }
 {
@@ -46,19 +46,19 @@ pub fn judge_record(alloc: Global, bytes: &[u8]) -> Result<Recorded, Stop>
     };
     match asks_of(alloc, &lines) {
         Ok(asks) => Ok(Recorded { lines, asks, names }),
-        Err(AllocError) => Err(Stop::Memory),
+        Err(AllocError) => Err(InputError::Memory),
     }
 }
 
 /// Judges the text of a record that is read with a copy of these names: its lines.
-pub fn judge_lines(alloc: Global, bytes: &[u8], names: &Names) -> Result<List<Line>, Stop>
+pub fn judge_lines(alloc: Global, bytes: &[u8], names: &Names) -> Result<List<Line>, InputError>
     requires small { length bytes.now ≤ 67108864 }
     requires few { length names.now < 2 ^ 31 }
     ensures { Judges Input.Record IsAcceptedRecord HasRecordFault (AreLinesOf names.now) bytes.now result }
 {
     let mut copy = match names.copy() {
         Ok(copy) => copy,
-        Err(AllocError) => return Err(Stop::Memory),
+        Err(AllocError) => return Err(InputError::Memory),
     };
     match read_record(alloc, bytes, &mut copy) {
         Ok(lines) => Ok(lines),

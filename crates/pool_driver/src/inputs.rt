@@ -1,32 +1,32 @@
 //! Reads the inputs, each once, and judges each.
 ghost use Rattle.pool_driver.specs.Ends.{reading};
 ghost use Rattle.std.specs.Prelude.{◌≡◌, ◌<◌, ◌+◌, ◌-◌, ◌^◌, ◌≤◌, IsTrue, length, true};
-ghost use Rattle.program_input.specs.Inputs.{most_bytes, most_of_record, most_of_unit, one_read};
-ghost use Rattle.unit_inputs.specs.UnitFiles.{IsUnitOfFile};
+ghost use Rattle.command_inputs.specs.Inputs.{most_bytes, most_of_record, most_of_unit, one_read};
+ghost use Rattle.pool_driver.specs.UnitOfFile.{IsUnitOfFile};
 ghost use Rattle.pool_driver.specs.Readers.{AreLinesOf, HasPlacementFault, HasRecordFault, HasScheduleFault, HasUnitFault, IsAcceptedPlacement, IsAcceptedRecord, IsAcceptedSchedule, IsAcceptedUnit};
 ghost use Rattle.pool_driver.specs.Readers.{IsPlacedAs, IsRecordOf, IsScheduledAs, IsUnitOf, Loads, stop_of_placement, stop_of_schedule, stop_of_unit};
-ghost use Rattle.program_input.specs.Readers.{HasTypedFault, IsTypedProgram, Judges, Reads};
+ghost use Rattle.command_inputs.specs.Readers.{Judges, Reads};
+ghost use Rattle.command_inputs.specs.Programs.{HasTypedFault, IsTypedProgram};
 
 use crate::converted::{Recorded, judge_lines, judge_record};
 use crate::program::code_of;
+use crate::unit_reader::read_unit as read_verified;
 use code_semantics::Unit;
-use fault_lines::{Fault, Input, Stop, UnitFault};
+use command_inputs::{Fault, Input, InputError, UnitFault, read_input, read_parsed, read_program};
 use placement_reader::{PlacementFault, read_placement};
 use pool_outside::Files;
-use program_input::{read_input, read_parsed, read_program};
-use run_driver::Loaded;
-use run_words::{Line, List, Names, Placement};
+use run_loop::Loaded;
+use run_types::{Line, List, Names, Placement};
 use schedule_reader::{Schedule, ScheduleFault, read_schedule};
 use std::alloc::Global;
-use unit_inputs::read_unit as read_verified;
 
 /// Why a text is no placement.
-fn placement_stop(fault: PlacementFault) -> Stop
+fn placement_stop(fault: PlacementFault) -> InputError
     ensures { result ≡ stop_of_placement fault }
 {
     match fault {
-        PlacementFault::Memory => Stop::Memory,
-        _ => Stop::Refused {
+        PlacementFault::Memory => InputError::Memory,
+        _ => InputError::Refused {
             input: Input::Placement,
             fault: Fault::Placement(fault),
         },
@@ -34,12 +34,12 @@ fn placement_stop(fault: PlacementFault) -> Stop
 }
 
 /// Why a text is no schedule.
-fn schedule_stop(fault: ScheduleFault) -> Stop
+fn schedule_stop(fault: ScheduleFault) -> InputError
     ensures { result ≡ stop_of_schedule fault }
 {
     match fault {
-        ScheduleFault::Memory => Stop::Memory,
-        _ => Stop::Refused {
+        ScheduleFault::Memory => InputError::Memory,
+        _ => InputError::Refused {
             input: Input::Schedule,
             fault: Fault::Schedule(fault),
         },
@@ -47,12 +47,12 @@ fn schedule_stop(fault: ScheduleFault) -> Stop
 }
 
 /// Why a text is no verified object code file.
-fn unit_stop(fault: UnitFault) -> Stop
+fn unit_stop(fault: UnitFault) -> InputError
     ensures { result ≡ stop_of_unit fault }
 {
     match fault {
-        UnitFault::Memory => Stop::Memory,
-        _ => Stop::Refused {
+        UnitFault::Memory => InputError::Memory,
+        _ => InputError::Refused {
             input: Input::Unit,
             fault: Fault::Unit(fault),
         },
@@ -60,7 +60,7 @@ fn unit_stop(fault: UnitFault) -> Stop
 }
 
 /// Reads an object code file, and verifies it: its unit.
-pub fn read_file<F: Files>(alloc: Global, files: &mut F, name: &str) -> Result<Unit, Stop>
+pub fn read_file<F: Files>(alloc: Global, files: &mut F, name: &str) -> Result<Unit, InputError>
     requires allowed { IsTrue (F.may files.old (F.opens files.old) name.now) }
     requires countable { F.opens files.old < 2 ^ 64 - 1 }
     ensures reads { Reads (reading F.told F.opens F.given F.live F.faults files.old files.new) Input.Unit name.now IsAcceptedUnit HasUnitFault IsUnitOfFile result }
@@ -85,7 +85,7 @@ pub fn read_placed<F: Files>(
     files: &mut F,
     name: &str,
     unit: &Unit,
-) -> Result<Placement, Stop>
+) -> Result<Placement, InputError>
     requires allowed { IsTrue (F.may files.old (F.opens files.old) name.now) }
     requires countable { F.opens files.old < 2 ^ 64 - 1 }
     ensures reads { Reads (reading F.told F.opens F.given F.live F.faults files.old files.new) Input.Placement name.now
@@ -111,7 +111,7 @@ pub fn read_scheduled<F: Files>(
     files: &mut F,
     name: &str,
     placement: &Placement,
-) -> Result<Schedule, Stop>
+) -> Result<Schedule, InputError>
     requires allowed { IsTrue (F.may files.old (F.opens files.old) name.now) }
     requires countable { F.opens files.old < 2 ^ 64 - 1 }
     requires width { (1 ≤ placement.now.width) × (placement.now.width ≤ 8) }
@@ -134,7 +134,11 @@ pub fn read_scheduled<F: Files>(
 }
 
 /// Reads a record of either form.
-pub fn read_recorded<F: Files>(alloc: Global, files: &mut F, name: &str) -> Result<Recorded, Stop>
+pub fn read_recorded<F: Files>(
+    alloc: Global,
+    files: &mut F,
+    name: &str,
+) -> Result<Recorded, InputError>
     requires allowed { IsTrue (F.may files.old (F.opens files.old) name.now) }
     requires countable { F.opens files.old < 2 ^ 64 - 1 }
     ensures reads { Reads (reading F.told F.opens F.given F.live F.faults files.old files.new) Input.Record name.now IsAcceptedRecord HasRecordFault IsRecordOf result }
@@ -156,7 +160,7 @@ pub fn read_lines<F: Files>(
     files: &mut F,
     name: &str,
     names: &Names,
-) -> Result<List<Line>, Stop>
+) -> Result<List<Line>, InputError>
     requires allowed { IsTrue (F.may files.old (F.opens files.old) name.now) }
     requires countable { F.opens files.old < 2 ^ 64 - 1 }
     requires few { length names.now < 2 ^ 31 }
@@ -174,7 +178,7 @@ pub fn read_lines<F: Files>(
 }
 
 /// Reads a program whose classes have no fault, and makes its code.
-pub fn read_unit<F: Files>(alloc: Global, files: &mut F, name: &str) -> Result<Unit, Stop>
+pub fn read_unit<F: Files>(alloc: Global, files: &mut F, name: &str) -> Result<Unit, InputError>
     requires allowed { IsTrue (F.may files.old (F.opens files.old) name.now) }
     requires countable { F.opens files.old < 2 ^ 64 - 1 }
     ensures reads { Reads (reading F.told F.opens F.given F.live F.faults files.old files.new) Input.Program name.now IsTypedProgram HasTypedFault IsUnitOf result }
@@ -191,7 +195,7 @@ pub fn read_unit<F: Files>(alloc: Global, files: &mut F, name: &str) -> Result<U
 }
 
 /// Judges the text of a program, and makes its code.
-fn judge_program(alloc: Global, bytes: &[u8]) -> Result<Unit, Stop>
+fn judge_program(alloc: Global, bytes: &[u8]) -> Result<Unit, InputError>
     requires { length bytes.now ≤ 1048576 }
     ensures { Judges Input.Program IsTypedProgram HasTypedFault IsUnitOf bytes.now result }
 {
@@ -203,7 +207,7 @@ fn judge_program(alloc: Global, bytes: &[u8]) -> Result<Unit, Stop>
 }
 
 /// Judges the text of a placement of a unit.
-fn judge_placement(alloc: Global, bytes: &[u8], unit: &Unit) -> Result<Placement, Stop>
+fn judge_placement(alloc: Global, bytes: &[u8], unit: &Unit) -> Result<Placement, InputError>
     requires { length bytes.now ≤ 1048576 }
     ensures { Judges Input.Placement (IsAcceptedPlacement unit.now) (HasPlacementFault unit.now) (IsPlacedAs unit.now) bytes.now result }
 {
@@ -214,7 +218,11 @@ fn judge_placement(alloc: Global, bytes: &[u8], unit: &Unit) -> Result<Placement
 }
 
 /// Judges the text of a schedule of a placement.
-fn judge_schedule(alloc: Global, bytes: &[u8], placement: &Placement) -> Result<Schedule, Stop>
+fn judge_schedule(
+    alloc: Global,
+    bytes: &[u8],
+    placement: &Placement,
+) -> Result<Schedule, InputError>
     requires small { length bytes.now ≤ 1048576 }
     requires width { (1 ≤ placement.now.width) × (placement.now.width ≤ 8) }
     requires height { (1 ≤ placement.now.height) × (placement.now.height ≤ 8) }
@@ -232,7 +240,7 @@ pub fn load_texts(
     program: &[u8],
     placement: &[u8],
     schedule: &[u8],
-) -> Result<Loaded, Stop>
+) -> Result<Loaded, InputError>
     requires program { length program.now ≤ 1048576 }
     requires placement { length placement.now ≤ 1048576 }
     requires schedule { length schedule.now ≤ 1048576 }

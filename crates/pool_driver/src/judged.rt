@@ -6,11 +6,11 @@ ghost use Rattle.pool_driver.specs.Readers.{Decides};
 
 use crate::outputs::Output;
 use class_check::Checked;
-use fault_lines::Stop;
+use command_inputs::InputError;
 use record_check::theorems::a_record_has_one_verdict;
 use record_check::{check_record, verdict_line};
-use run_driver::Status;
-use run_words::{Line, List, Names, Verdict};
+use run_loop::Status;
+use run_types::{Line, List, Names, Verdict};
 use std::alloc::{AllocError, Global};
 
 /// The status with which a verdict is written.
@@ -29,19 +29,19 @@ pub fn judge(
     program: &Checked<'_>,
     names: &Names,
     lines: &List<Line>,
-) -> Result<Output, Stop>
+) -> Result<Output, InputError>
     ensures { Decides names.now (program_of program.now.program.now) lines.now result }
 {
     a_record_has_one_verdict();
     let verdict = match check_record(alloc, program, lines) {
         Ok(verdict) => verdict,
-        Err(AllocError) => return Err(Stop::Memory),
+        Err(AllocError) => return Err(InputError::Memory),
     };
     match verdict_line(alloc, &verdict, names) {
         Ok(line) => Ok(Output::Verdict {
             line,
             status: status_of_verdict(&verdict),
         }),
-        Err(AllocError) => Err(Stop::Memory),
+        Err(AllocError) => Err(InputError::Memory),
     }
 }

@@ -1,14 +1,20 @@
-//! The top call: from the words, the three texts and the two sinks to a status.
+//! The top-level function of `pool`: from words, files and two sinks to an exit status.
+//!
+//! Reads and verifies object code files.
+//!
+//! Does not know: the system's files and standard streams.
 #![tactic(auto)]
 
 mod converted;
 mod inputs;
 mod judged;
-pub mod laws;
 mod outputs;
 mod program;
 mod texts;
+pub mod theorems;
 mod top;
+mod unit_reader;
+pub mod unit_theorems;
 
-pub use run_driver::Status;
+pub use run_loop::Status;
 pub use top::pool;

@@ -1,10 +1,11 @@
 //! What a command makes of its inputs: each is read and judged before the next is opened.
 ghost use Rattle.std.specs.Prelude.{◌≡◌, ◌<◌, false, ◌+◌, ◌-◌, ◌^◌, ◌≤◌};
-ghost use Rattle.command_words.specs.Commands.{IsSized, names_of, of_check, of_convert, of_load, of_program, of_run, request};
+ghost use Rattle.command_line.specs.Commands.{of_check, of_convert, of_load, of_program, of_run};
+ghost use Rattle.command_line.specs.Requests.{IsSized, names_of, request};
 ghost use Rattle.pool_driver.specs.Ends.{StaysWithin, reading};
 ghost use Rattle.pool_driver.specs.Inputs.{MayOpen};
-ghost use Rattle.program_input.specs.Inputs.{most_bytes, most_of_record, one_read};
-ghost use Rattle.pool_driver.specs.Readers.{Makes, Rings};
+ghost use Rattle.command_inputs.specs.Inputs.{most_bytes, most_of_record, one_read};
+ghost use Rattle.pool_driver.specs.Readers.{ResultsIn, Rings};
 
 use crate::converted::Recorded;
 use crate::inputs::{
@@ -13,12 +14,11 @@ use crate::inputs::{
 use crate::judged::judge;
 use crate::program::file_of_parsed;
 use code_semantics::{Unit, UnitFile};
-use command_words::{Ask, Command, Files as FileNames, Show};
-use fault_lines::Stop;
+use command_inputs::{InputError, Parsed, judge_classes, read_parsed, read_typed};
+use command_line::{Ask, Command, Files as FileNames, Show};
 use pool_gen::ring;
 use pool_outside::Files;
-use program_input::{Parsed, judge_classes, read_parsed, read_typed};
-use run_driver::{Loaded, Status};
+use run_loop::{Loaded, Status};
 use std::alloc::Global;
 
 /// What is asked for, made or loaded and not yet written.
@@ -45,10 +45,10 @@ fn run_output<F: Files>(
     files: &mut F,
     show: Show,
     names: FileNames<'_>,
-) -> Result<Output, Stop>
+) -> Result<Output, InputError>
     requires countable { F.opens files.old ≤ 2 ^ 64 - 5 }
     requires allowed { MayOpen (F.may files.old) (F.opens files.old) (of_run show (names_of names)) }
-    ensures makes { Makes (reading F.told F.opens F.given F.live F.faults files.old files.new) (of_run show (names_of names.entry)) result }
+    ensures makes { ResultsIn (reading F.told F.opens F.given F.live F.faults files.old files.new) (of_run show (names_of names.entry)) result }
     ensures unread_within { F.given files.new ≤ most_bytes + one_read }
 {
     let unit = match read_unit(alloc, files, names.program) {
@@ -72,10 +72,14 @@ fn run_output<F: Files>(
 }
 
 /// The program of this name, whose canonical text is asked for.
-fn canonical_output<F: Files>(alloc: Global, files: &mut F, name: &str) -> Result<Output, Stop>
+fn canonical_output<F: Files>(
+    alloc: Global,
+    files: &mut F,
+    name: &str,
+) -> Result<Output, InputError>
     requires countable { F.opens files.old ≤ 2 ^ 64 - 5 }
     requires allowed { MayOpen (F.may files.old) (F.opens files.old) (of_program Ask.Canonical name.now) }
-    ensures makes { Makes (reading F.told F.opens F.given F.live F.faults files.old files.new) (of_program Ask.Canonical name.now) result }
+    ensures makes { ResultsIn (reading F.told F.opens F.given F.live F.faults files.old files.new) (of_program Ask.Canonical name.now) result }
     ensures unread_within { F.given files.new ≤ most_bytes + one_read }
 {
     match read_typed(alloc, files, name) {
@@ -85,10 +89,10 @@ fn canonical_output<F: Files>(alloc: Global, files: &mut F, name: &str) -> Resul
 }
 
 /// The code of the program of this name, whose listing is asked for.
-fn listing_output<F: Files>(alloc: Global, files: &mut F, name: &str) -> Result<Output, Stop>
+fn listing_output<F: Files>(alloc: Global, files: &mut F, name: &str) -> Result<Output, InputError>
     requires countable { F.opens files.old ≤ 2 ^ 64 - 5 }
     requires allowed { MayOpen (F.may files.old) (F.opens files.old) (of_program Ask.Listing name.now) }
-    ensures makes { Makes (reading F.told F.opens F.given F.live F.faults files.old files.new) (of_program Ask.Listing name.now) result }
+    ensures makes { ResultsIn (reading F.told F.opens F.given F.live F.faults files.old files.new) (of_program Ask.Listing name.now) result }
     ensures unread_within { F.given files.new ≤ most_bytes + one_read }
 {
     match read_unit(alloc, files, name) {
@@ -98,10 +102,10 @@ fn listing_output<F: Files>(alloc: Global, files: &mut F, name: &str) -> Result<
 }
 
 /// The object code file of the program of this name.
-fn file_output<F: Files>(alloc: Global, files: &mut F, name: &str) -> Result<Output, Stop>
+fn file_output<F: Files>(alloc: Global, files: &mut F, name: &str) -> Result<Output, InputError>
     requires countable { F.opens files.old ≤ 2 ^ 64 - 5 }
     requires allowed { MayOpen (F.may files.old) (F.opens files.old) (of_program Ask.File name.now) }
-    ensures makes { Makes (reading F.told F.opens F.given F.live F.faults files.old files.new) (of_program Ask.File name.now) result }
+    ensures makes { ResultsIn (reading F.told F.opens F.given F.live F.faults files.old files.new) (of_program Ask.File name.now) result }
     ensures unread_within { F.given files.new ≤ most_bytes + one_read }
 {
     let parsed = match read_parsed(alloc, files, name) {
@@ -120,10 +124,10 @@ fn program_output<F: Files>(
     files: &mut F,
     ask: Ask,
     name: &str,
-) -> Result<Output, Stop>
+) -> Result<Output, InputError>
     requires countable { F.opens files.old ≤ 2 ^ 64 - 5 }
     requires allowed { MayOpen (F.may files.old) (F.opens files.old) (of_program ask name.now) }
-    ensures makes { Makes (reading F.told F.opens F.given F.live F.faults files.old files.new) (of_program ask name.now) result }
+    ensures makes { ResultsIn (reading F.told F.opens F.given F.live F.faults files.old files.new) (of_program ask name.now) result }
     ensures unread_within { F.given files.new ≤ most_bytes + one_read }
 {
     match ask {
@@ -134,10 +138,10 @@ fn program_output<F: Files>(
 }
 
 /// The record of this name, which is asked for in the second form.
-fn convert_output<F: Files>(alloc: Global, files: &mut F, name: &str) -> Result<Output, Stop>
+fn convert_output<F: Files>(alloc: Global, files: &mut F, name: &str) -> Result<Output, InputError>
     requires countable { F.opens files.old ≤ 2 ^ 64 - 5 }
     requires allowed { MayOpen (F.may files.old) (F.opens files.old) (of_convert name.now) }
-    ensures makes { Makes (reading F.told F.opens F.given F.live F.faults files.old files.new) (of_convert name.now) result }
+    ensures makes { ResultsIn (reading F.told F.opens F.given F.live F.faults files.old files.new) (of_convert name.now) result }
     ensures unread_within { F.given files.new ≤ most_of_record + one_read }
 {
     match read_recorded(alloc, files, name) {
@@ -152,10 +156,10 @@ fn check_output<F: Files>(
     files: &mut F,
     program: &str,
     claim: &str,
-) -> Result<Output, Stop>
+) -> Result<Output, InputError>
     requires countable { F.opens files.old ≤ 2 ^ 64 - 5 }
     requires allowed { MayOpen (F.may files.old) (F.opens files.old) (of_check program.now claim.now) }
-    ensures makes { Makes (reading F.told F.opens F.given F.live F.faults files.old files.new) (of_check program.now claim.now) result }
+    ensures makes { ResultsIn (reading F.told F.opens F.given F.live F.faults files.old files.new) (of_check program.now claim.now) result }
     ensures unread_within { StaysWithin (reading F.told F.opens F.given F.live F.faults files.old files.new) (of_check program.now claim.now) }
 {
     let parsed = match read_parsed(alloc, files, program) {
@@ -180,10 +184,10 @@ fn load_output<F: Files>(
     file: &str,
     place: &str,
     plan: &str,
-) -> Result<Output, Stop>
+) -> Result<Output, InputError>
     requires countable { F.opens files.old ≤ 2 ^ 64 - 5 }
     requires allowed { MayOpen (F.may files.old) (F.opens files.old) (of_load file.now place.now plan.now) }
-    ensures makes { Makes (reading F.told F.opens F.given F.live F.faults files.old files.new) (of_load file.now place.now plan.now) result }
+    ensures makes { ResultsIn (reading F.told F.opens F.given F.live F.faults files.old files.new) (of_load file.now place.now plan.now) result }
     ensures unread_within { StaysWithin (reading F.told F.opens F.given F.live F.faults files.old files.new) (of_load file.now place.now plan.now) }
 {
     let unit = match read_file(alloc, files, file) {
@@ -210,13 +214,13 @@ fn load_output<F: Files>(
 }
 
 /// The run of the ring of so many cells.
-fn ring_output(alloc: Global, cells: u32) -> Result<Output, Stop>
+fn ring_output(alloc: Global, cells: u32) -> Result<Output, InputError>
     requires { (2 ≤ cells) × (cells ≤ 1000) }
     ensures { Rings cells result }
 {
     let texts = match ring(alloc, cells) {
         Ok(texts) => texts,
-        Err(_) => return Err(Stop::Memory),
+        Err(_) => return Err(InputError::Memory),
     };
     match load_texts(
         alloc,
@@ -234,12 +238,12 @@ pub fn make_output<F: Files>(
     alloc: Global,
     files: &mut F,
     command: Command<'_>,
-) -> Result<Output, Stop>
+) -> Result<Output, InputError>
     requires countable { F.opens files.old ≤ 2 ^ 64 - 5 }
     requires allowed { MayOpen (F.may files.old) (F.opens files.old) (request command) }
     requires not_live { F.live files.old ≡ false }
     requires sized { IsSized command }
-    ensures makes { Makes (reading F.told F.opens F.given F.live F.faults files.old files.new) (request command.entry) result }
+    ensures makes { ResultsIn (reading F.told F.opens F.given F.live F.faults files.old files.new) (request command.entry) result }
     ensures unread_within { StaysWithin (reading F.told F.opens F.given F.live F.faults files.old files.new) (request command.entry) }
 {
     match command {

@@ -1,35 +1,34 @@
 //! Makes the code of a program that was read, and its object code file.
 ghost use Rattle.std.specs.Prelude.{◌≡◌, ◌≢◌, true, [], IfOk, IsOk, IsErr, Err};
 ghost use Rattle.pool_syntax.specs.TreeOf.{program_of};
-ghost use Rattle.pool_grammar.specs.Programs.{IsGrammatical};
+ghost use Rattle.pool_grammar.specs.Grammatical.{IsGrammatical};
 ghost use Rattle.pool_syntax.specs.Spelled.{is_spelled};
 ghost use Rattle.pool_syntax.specs.Typing.{faults};
 ghost use Rattle.code_semantics.specs.Proper.{IsProper};
 ghost use Rattle.code_semantics.specs.Shaped.{IsListOf, IsShaped, IsShort, IsShortList};
 ghost use Rattle.pool_driver.specs.Inputs.{unit_of};
-ghost use Rattle.program_input.specs.Programs.{IsFaultOfClasses};
-ghost use Rattle.code_verdict.specs.Verdict.{Good, verdict};
-ghost use Rattle.code_laws.specs.DeclaredKinds.{file_of};
-ghost use Rattle.fault_lines.specs.declared.fault.Fault.{Fault as AnyFault};
-ghost use Rattle.fault_lines.specs.declared.fault.Input.{Input as AnyInput};
+ghost use Rattle.command_inputs.specs.Programs.{IsFaultOfClasses};
+ghost use Rattle.code_typing.specs.Verdict.{Good, verdict};
+ghost use Rattle.compiler_correctness.specs.DeclaredKinds.{file_of};
+ghost use Rattle.command_inputs.specs.declared.fault.Fault.{Fault as AnyFault};
+ghost use Rattle.command_inputs.specs.declared.fault.Input.{Input as AnyInput};
 
 use code_semantics::{Unit, UnitFile};
 use code_verify::file_of;
-use fault_lines::{Input, Stop};
+use command_inputs::{Input, InputError, Parsed, judge_classes};
 use pool_compile::compile;
-use program_input::{Parsed, judge_classes};
 use std::alloc::Global;
 
 /// The code of a program that was read, with a copy of its names, once its classes are judged.
-pub fn code_of(alloc: Global, parsed: &Parsed) -> Result<Unit, Stop>
+pub fn code_of(alloc: Global, parsed: &Parsed) -> Result<Unit, InputError>
     requires grammatical { IsGrammatical (program_of parsed.now.program) }
     requires spelled { is_spelled parsed.now.names (program_of parsed.now.program) ≡ true }
     ensures code { IfOk result (λ u. u ≡ unit_of parsed.now.names (program_of parsed.now.program)) }
     ensures proper { IfOk result (λ u. IsProper u) }
     ensures typed { IsOk result → faults (program_of parsed.now.program) ≡ [] }
-    ensures only { faults (program_of parsed.now.program) ≡ [] → IsErr result → result ≡ Err Stop.Memory }
-    ensures refused { (i : AnyInput) (f : AnyFault) → result ≡ Err (Stop.Refused i f) → (i ≡ Input.Program) × IsFaultOfClasses (program_of parsed.now.program) f }
-    ensures no_read { (i : AnyInput) → result ≢ Err (Stop.Unread i) }
+    ensures only { faults (program_of parsed.now.program) ≡ [] → IsErr result → result ≡ Err InputError.Memory }
+    ensures refused { (i : AnyInput) (f : AnyFault) → result ≡ Err (InputError.Refused i f) → (i ≡ Input.Program) × IsFaultOfClasses (program_of parsed.now.program) f }
+    ensures no_read { (i : AnyInput) → result ≢ Err (InputError.Unread i) }
 {
     let checked = match judge_classes(alloc, parsed) {
         Ok(checked) => checked,
@@ -37,12 +36,12 @@ pub fn code_of(alloc: Global, parsed: &Parsed) -> Result<Unit, Stop>
     };
     match compile(alloc, &checked) {
         Ok(unit) => Ok(unit),
-        Err(_) => Err(Stop::Memory),
+        Err(_) => Err(InputError::Memory),
     }
 }
 
 /// The object code file of a program that was read, with a copy of its names, once its classes are judged.
-pub fn file_of_parsed(alloc: Global, parsed: &Parsed) -> Result<UnitFile, Stop>
+pub fn file_of_parsed(alloc: Global, parsed: &Parsed) -> Result<UnitFile, InputError>
     requires grammatical { IsGrammatical (program_of parsed.now.program) }
     requires spelled { is_spelled parsed.now.names (program_of parsed.now.program) ≡ true }
     requires few { IsListOf IsShortList parsed.now.names }
@@ -51,9 +50,9 @@ pub fn file_of_parsed(alloc: Global, parsed: &Parsed) -> Result<UnitFile, Stop>
     ensures short { IfOk result (λ f. IsShort f) }
     ensures good { IfOk result (λ f. verdict f ≡ Good) }
     ensures typed { IsOk result → faults (program_of parsed.now.program) ≡ [] }
-    ensures only { faults (program_of parsed.now.program) ≡ [] → IsErr result → result ≡ Err Stop.Memory }
-    ensures refused { (i : AnyInput) (f : AnyFault) → result ≡ Err (Stop.Refused i f) → (i ≡ Input.Program) × IsFaultOfClasses (program_of parsed.now.program) f }
-    ensures no_read { (i : AnyInput) → result ≢ Err (Stop.Unread i) }
+    ensures only { faults (program_of parsed.now.program) ≡ [] → IsErr result → result ≡ Err InputError.Memory }
+    ensures refused { (i : AnyInput) (f : AnyFault) → result ≡ Err (InputError.Refused i f) → (i ≡ Input.Program) × IsFaultOfClasses (program_of parsed.now.program) f }
+    ensures no_read { (i : AnyInput) → result ≢ Err (InputError.Unread i) }
 {
     let checked = match judge_classes(alloc, parsed) {
         Ok(checked) => checked,
@@ -61,6 +60,6 @@ pub fn file_of_parsed(alloc: Global, parsed: &Parsed) -> Result<UnitFile, Stop>
     };
     match file_of(alloc, &checked) {
         Ok(file) => Ok(file),
-        Err(_) => Err(Stop::Memory),
+        Err(_) => Err(InputError::Memory),
     }
 }

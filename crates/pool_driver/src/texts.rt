@@ -9,10 +9,10 @@ ghost use Rattle.pool_syntax.specs.Spelled.{is_spelled};
 ghost use Rattle.pool_syntax.specs.TreeOf.{program_of};
 
 use code_semantics::{Unit, UnitFile};
+use command_inputs::Parsed;
 use object_code::{encode, list_code};
 use pool_outside::{Sink, Text, WriteFault};
 use pool_printer::print;
-use program_input::Parsed;
 
 /// The canonical text of a program.
 #[derive(Clone, Copy)]

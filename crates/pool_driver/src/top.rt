@@ -1,22 +1,22 @@
 //! The top call.
 ghost use Rattle.std.specs.Prelude.{◌≡◌, ◌⊎◌, ◌+◌, ◌-◌, ◌^◌, ◌≤◌, ◌<◌, ◌++◌, [], ◌∷◌, Some, codes, false, option_map, IfSome};
-ghost use Rattle.run_words.specs.Text.{Text};
+ghost use Rattle.text_scan.specs.Text.{Text};
 ghost use Rattle.pool_outside.specs.Outside.{Rose};
-ghost use Rattle.command_words.specs.Commands.{Request, request_of, texts_of};
+ghost use Rattle.command_line.specs.Commands.{Request, request_of, texts_of};
 ghost use Rattle.pool_driver.specs.Ends.{Ends, StaysWithin, reading};
 ghost use Rattle.pool_driver.specs.Headline.{ShowsOneRun};
 ghost use Rattle.pool_driver.specs.Inputs.{IsServable, MayOpen};
-ghost use Rattle.pool_driver.specs.Outputs.{IsWhole};
-ghost use Rattle.run_driver.specs.Writing.{Delivers, Writes, writing};
-ghost use Rattle.pool_driver.specs.Readers.{IsPrintable, Tells, status_of_output, text_of};
+ghost use Rattle.pool_driver.specs.Outputs.{WholeTextWritten};
+ghost use Rattle.run_loop.specs.Writing.{Delivers, Writes, writing};
+ghost use Rattle.pool_driver.specs.Readers.{IsPrintable, ReportsInputError, status_of_output, text_of};
 
 use crate::converted::SecondForm;
 use crate::outputs::{Output, make_output};
 use crate::texts::{CanonicalText, FileBytes, Listing};
-use command_words::{Show, read_words};
-use fault_lines::{Stop, line_of_refusal, line_of_unread};
+use command_inputs::{InputError, line_of_refusal, line_of_unread};
+use command_line::{Show, read_words};
 use pool_outside::{Files, Sink, Text, write_all_of, write_gathered};
-use run_driver::{Status, write_ring, write_run, write_why};
+use run_loop::{Status, write_ring, write_run, write_why};
 use std::alloc::{AllocError, Global};
 
 /// The usage line.
@@ -64,16 +64,16 @@ fn write_output<K: Sink>(alloc: Global, out: &mut K, output: &Output) -> Status
 }
 
 /// Writes on the error sink why nothing was made of the inputs.
-fn say_stop<E: Sink>(alloc: Global, err: &mut E, stop: Stop) -> Status
-    ensures { Tells (writing E.written E.faults err.old err.new) stop result }
+fn say_stop<E: Sink>(alloc: Global, err: &mut E, stop: InputError) -> Status
+    ensures { ReportsInputError (writing E.written E.faults err.old err.new) stop result }
 {
     match stop {
-        Stop::Memory => Status::Memory,
-        Stop::Refused { input, fault } => match line_of_refusal(alloc, input, fault) {
+        InputError::Memory => Status::Memory,
+        InputError::Refused { input, fault } => match line_of_refusal(alloc, input, fault) {
             Ok(line) => say(err, &line, Status::Refused),
             Err(_) => Status::Memory,
         },
-        Stop::Unread { input } => match line_of_unread(alloc, input) {
+        InputError::Unread { input } => match line_of_unread(alloc, input) {
             Ok(line) => say(err, &line, Status::ReadFault),
             Err(_) => Status::Memory,
         },
@@ -106,10 +106,10 @@ pub fn pool<F: Files, K: Sink, E: Sink>(
     // Words of a command, accepted inputs and no fault in this call give the text whole, or nothing for want of memory.
     ensures complete { (r : Request) → request_of (texts_of words.now) ≡ Some r → IsServable (F.told files.old) r
         → ¬ (Rose (F.faults files.old) (F.faults files.new)) → ¬ (Rose (K.faults out.old) (K.faults out.new)) → ¬ (Rose (E.faults err.old) (E.faults err.new))
-        → IsWhole result ⊎ (result ≡ Status.Memory) }
+        → WholeTextWritten result ⊎ (result ≡ Status.Memory) }
 
     // The headline, by itself: where `record` ends with the status of a record, what it wrote is the text of lines that show one run of the program.
-    ensures headline { (p l s : Text) → texts_of words.now ≡ codes "record" ∷ p ∷ l ∷ s ∷ [] → IsWhole result
+    ensures headline { (p l s : Text) → texts_of words.now ≡ codes "record" ∷ p ∷ l ∷ s ∷ [] → WholeTextWritten result
         → (source : Text) × (bytes : Text) × IfSome (F.told files.old p) (λ t. source ≡ t)
         × (K.written out.new ≡ option_map (λ w. w ++ bytes) (K.written out.old)) × ShowsOneRun source bytes }
 {

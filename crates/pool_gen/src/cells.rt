@@ -5,7 +5,7 @@ ghost use Rattle.pool_gen.specs.Ring.{ring_placement, ring_program, ring_schedul
 use crate::drawn::push_drawn;
 use crate::pieces::{push_number, push_piece};
 use rand_pcg::Lcg64Xsh32;
-use run_words::List;
+use run_types::List;
 use std::alloc::{AllocError, Global};
 
 // The program up to its first number of cells.

@@ -7,7 +7,7 @@ ghost use Rattle.pool_gen.specs.Ring.{drawn_line, drawn_lines};
 use crate::pieces::push_piece;
 use rand_core::utils::NextWord;
 use rand_pcg::Lcg64Xsh32;
-use run_words::List;
+use run_types::List;
 use std::alloc::AllocError;
 
 /// The line of a word: a turn of one of four nodes, or a link of the mesh of two rows and two columns.

@@ -1,4 +1,6 @@
-//! Generated inputs: the program of a ring of objects, with its placement and a drawn schedule.
+//! Generates the inputs of a ring of objects: its program, its placement, and a pseudo-random schedule.
+//!
+//! Does not know: how these texts are read or run.
 #![tactic(auto)]
 
 mod cells;

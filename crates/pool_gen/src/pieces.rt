@@ -2,7 +2,7 @@
 ghost use Rattle.std.specs.Prelude.{◌≡◌, ◌++◌, OnOk, decimal};
 
 use itoa::Buffer;
-use run_words::List;
+use run_types::List;
 use std::alloc::AllocError;
 
 /// Puts a piece behind the text.

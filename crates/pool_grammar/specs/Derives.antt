@@ -46,8 +46,3 @@ IsProgram ts p = Derives ts program (rule program) 0 (length ts) p
 -- Token number i is the first with which the tokens up to it begin no program.
 abbrev pub IsFirstUnexpected : List Tok → ℕ → Type 0
 IsFirstUnexpected ts i = Begins ts program (rule program) 0 i × (Begins ts program (rule program) 0 (i + 1) → ⊥)
-
--- a part that is one token
-abbrev pub IsTerminal : Part → Type 0
-IsTerminal (phrase p) = ⊥
-IsTerminal _ = Unit {0}

@@ -3,15 +3,15 @@
 use Rattle.std.specs.Prelude.{ℕ, List, [], ◌∷◌, ◌++◌, map, true, false, Option, Some, None}
 use Rattle.pool_syntax.specs.declared.token.Tok.{Tok}
 use Rattle.pool_syntax.specs.declared.token.Tok.TheVariants.{Word, Sign}
-use Rattle.run_words.specs.declared.keywords.Keyword.TheVariants.{Class, Var, Method, Local, Begin, Result, Post, End, Body, If, Then, Else, Fi, While, Do, Od, Answer, Select, When, Write, New}
-use Rattle.run_words.specs.declared.keywords.Keyword.TheVariants.{SelfWord, Nil, True, False, Not, And, Or, Int, Bool as BoolWord}
+use Rattle.text_scan.specs.declared.keywords.Keyword.TheVariants.{Class, Var, Method, Local, Begin, Result, Post, End, Body, If, Then, Else, Fi, While, Do, Od, Answer, Select, When, Write, New}
+use Rattle.text_scan.specs.declared.keywords.Keyword.TheVariants.{SelfWord, Nil, True, False, Not, And, Or, Int, Bool as BoolWord}
 use Rattle.pool_syntax.specs.declared.token.Sign.TheVariants.{Becomes, Colon, Semicolon, Comma, LeftParen, RightParen, Bang, BangBang, Equal, Differs, Less, LessEq, More, MoreEq, Plus, Minus, Star}
 use Rattle.pool_syntax.specs.declared.token.Sign.TheVariants.{Slash, Percent}
-use Rattle.run_words.specs.declared.words.Op.{Op}
-use Rattle.run_words.specs.declared.words.Op.TheVariants as op
-use Rattle.run_words.specs.declared.words.Value.TheVariants as value
-use Rattle.run_words.specs.declared.words.Kind.{Kind}
-use Rattle.run_words.specs.declared.words.Kind.TheVariants as kind
+use Rattle.run_types.specs.declared.types.Op.{Op}
+use Rattle.run_types.specs.declared.types.Op.TheVariants as op
+use Rattle.run_types.specs.declared.types.Value.TheVariants as value
+use Rattle.run_types.specs.declared.types.Kind.{Kind}
+use Rattle.run_types.specs.declared.types.Kind.TheVariants as kind
 use Rattle.pool_syntax.specs.declared.tree.Named.{Named}
 use Rattle.pool_syntax.specs.declared.tree.Var as variable
 use Rattle.pool_syntax.specs.Terms as t

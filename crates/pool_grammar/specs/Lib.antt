@@ -3,3 +3,4 @@ pub mod Grammar
 pub mod Derives
 pub mod Nesting
 pub mod Programs
+pub mod Grammatical

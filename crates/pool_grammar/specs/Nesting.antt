@@ -2,7 +2,7 @@
 use Rattle.std.specs.Prelude.{◌≡◌, ℕ, zero, suc, ◌+◌, ◌<◌, ◌≤◌, Bool, true, false, List, [], ◌∷◌, reverse, take}
 use Rattle.pool_syntax.specs.declared.token.Tok.{Tok}
 use Rattle.pool_syntax.specs.declared.token.Tok.TheVariants.{Word, Sign, End}
-use Rattle.run_words.specs.declared.keywords.Keyword.TheVariants as word
+use Rattle.text_scan.specs.declared.keywords.Keyword.TheVariants as word
 use Rattle.pool_syntax.specs.declared.token.Sign.TheVariants as sign
 
 -- what a token is to the nesting

@@ -2,7 +2,7 @@
 use Rattle.std.specs.Prelude.{◌≡◌, ℕ, ◌<◌, ◌≤◌, List, [], length}
 use Rattle.pool_syntax.specs.declared.token.Tok.{Tok}
 use Rattle.pool_syntax.specs.declared.token.Token.{Token}
-use Rattle.run_words.specs.Text.{Text}
+use Rattle.text_scan.specs.Text.{Text}
 use Rattle.pool_syntax.specs.Tokens.{HasTokens, toks}
 use Rattle.pool_syntax.specs.Terms.{ProgramTree}
 use Rattle.pool_grammar.specs.Derives.{IsProgram}
@@ -16,10 +16,6 @@ IsShallowBelow ts n = (k : ℕ) → k < n → nesting ts k ≤ 200
 -- the tokens are the program, and none stands too deep
 abbrev pub HasProgram : List Tok → ProgramTree → Type 0
 HasProgram ts p = IsProgram ts p × IsShallowBelow ts (length ts)
-
--- the program is one that the grammar has, for a list of at most 67,108,865 tokens
-abbrev pub IsGrammatical : ProgramTree → Type 0
-IsGrammatical p = (ts : List Tok) × (length ts ≤ 67108865) × IsProgram ts p
 
 -- the text has the program, and this table of its names and strings
 abbrev pub IsParsed : Text → List Text → ProgramTree → Type 0

@@ -1,10 +1,10 @@
 -- The phrases of the grammar, and the form of a rule.
 use Rattle.std.specs.Prelude.{ℕ, ℤ, List, Option}
-use Rattle.run_words.specs.declared.words.NameId.{NameId}
-use Rattle.run_words.specs.declared.words.Op.{Op}
-use Rattle.run_words.specs.declared.keywords.Keyword.{Keyword}
+use Rattle.run_types.specs.declared.types.NameId.{NameId}
+use Rattle.run_types.specs.declared.types.Op.{Op}
+use Rattle.text_scan.specs.declared.keywords.Keyword.{Keyword}
 use Rattle.pool_syntax.specs.declared.token.Sign.{Sign}
-use Rattle.run_words.specs.declared.words.Kind.{Kind}
+use Rattle.run_types.specs.declared.types.Kind.{Kind}
 use Rattle.pool_syntax.specs.declared.tree.Named.{Named}
 use Rattle.pool_syntax.specs.declared.tree.Var.{Var}
 use Rattle.pool_syntax.specs.Terms.{Expression, Expressions, Statement, Statements, Alternatives, MethodTree, ClassTree}

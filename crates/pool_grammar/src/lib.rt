@@ -1,3 +1,6 @@
-//! The grammar: which tokens are which program, how deep a token stands, and when a text is that of a program. There is no code here:
-//! what reads, writes or judges texts cites these definitions.
+//! The grammar: which tokens form which program, how deep a token is nested, and which texts are programs.
+//!
+//! Definitions only.
+//!
+//! Does not know: how a program is parsed or run.
 #![tactic(auto)]

@@ -3,16 +3,16 @@ use Rattle.std.proofs.Common.{◌≡◌, ◌≢◌, ℕ, zero, suc, ◌<◌, ◌
 use Rattle.std.specs.List.{prefix_len}
 use Rattle.std.proofs.lemmas.Bool.{cases_eq, cases_order, eq-eqb, ne_eqb}
 use Rattle.std.proofs.lemmas.List.Sums.{prefix_len-le-length}
-use Rattle.run_words.specs.Text.{Text, is_inner}
+use Rattle.text_scan.specs.Text.{Text, is_inner}
 use Rattle.pool_syntax.specs.Tokens.{is_piece, is_rest_of_string, longest, longest_within}
-use Rattle.run_words.specs.ByteSets.{is_in}
-use Rattle.run_words.specs.declared.scan.ByteSet.{ByteSet}
+use Rattle.text_scan.specs.ByteSets.{is_in}
+use Rattle.text_scan.specs.declared.scan.ByteSet.{ByteSet}
 use Rattle.pool_lexer.specs.declared.piece.Kind.{Kind}
 use Rattle.pool_lexer.specs.declared.piece.Kind.TheVariants.{Text as Quoted}
 use Rattle.pool_lexer.specs.Pieces.{IsKind, IsRun}
-use Rattle.run_words.proofs.Laws.{every_front, every_past}
+use Rattle.text_scan.proofs.Laws.{every_front, every_past}
 use Rattle.pool_lexer.proofs.Strings.{rest_short, rest_at, rest_long}
-use Rattle.pool_lexer.proofs.Fronts.{string_piece, string_kind}
+use Rattle.pool_lexer.proofs.FirstByte.{string_piece, string_kind}
 
 -- The fronts of more than n bytes are no pieces.
 abbrev pub NoneLonger : ℕ → Text → Type 0

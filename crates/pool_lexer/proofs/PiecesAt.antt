@@ -4,17 +4,17 @@ use Rattle.std.specs.List.{prefix_len}
 use Rattle.std.proofs.lemmas.List.{drop_more, length-drop, length-take, get_or-drop}
 use Rattle.std.proofs.lemmas.Bool.{ne_eqb}
 use Rattle.std.proofs.lemmas.List.Sums.{prefix_len-le-length}
-use Rattle.run_words.specs.Text.{Text, is_inner, lookup}
+use Rattle.text_scan.specs.Text.{Text, is_inner, lookup}
 use Rattle.pool_syntax.specs.Tokens.{longest, no_piece, signs}
 use Rattle.pool_syntax.specs.declared.token.Sign.{Sign}
 use Rattle.pool_syntax.specs.declared.token.LexFault.TheVariants.{OpenString, BadByte}
-use Rattle.run_words.specs.ByteSets.{is_in}
-use Rattle.run_words.specs.declared.scan.ByteSet.{ByteSet}
-use Rattle.run_words.specs.declared.scan.ByteSet.TheVariants.{Inner}
+use Rattle.text_scan.specs.ByteSets.{is_in}
+use Rattle.text_scan.specs.declared.scan.ByteSet.{ByteSet}
+use Rattle.text_scan.specs.declared.scan.ByteSet.TheVariants.{Inner}
 use Rattle.pool_lexer.specs.declared.piece.Kind.{Kind}
 use Rattle.pool_lexer.specs.declared.piece.Kind.TheVariants.{Text as Quoted, Sign as OfSign}
 use Rattle.pool_lexer.specs.Pieces.{IsKind, IsRun, IsNoRun, IsPieceAt}
-use Rattle.pool_lexer.proofs.Fronts.{sign_kind}
+use Rattle.pool_lexer.proofs.FirstByte.{sign_kind}
 use Rattle.pool_lexer.proofs.Signs.{front_same, longest_wide, longest_narrow, longest_none}
 use Rattle.pool_lexer.proofs.Longest.{some_run, longest_run, kind_of_run, longest_string, kind_of_string, longest_open}
 

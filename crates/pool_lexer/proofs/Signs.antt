@@ -2,12 +2,12 @@
 use Rattle.std.proofs.Common.{◌≡◌, ◌≢◌, ℕ, zero, suc, ◌<◌, Bool, true, false, ◌&&◌, nat_le, List, [], ◌∷◌, length, take, Some, None, is_some, bytes_eq, refl, ap, ◌∙◌, inl, inr, arith}
 use Rattle.std.proofs.lemmas.Bool.{cases_eq, and_parts, leb-true}
 use Rattle.std.proofs.lemmas.List.{length-take}
-use Rattle.run_words.specs.Text.{Text, is_listed, lookup}
+use Rattle.text_scan.specs.Text.{Text, is_listed, lookup}
 use Rattle.pool_syntax.specs.Tokens.{is_piece, longest, signs}
 use Rattle.pool_syntax.specs.declared.token.Sign.{Sign}
 use Rattle.pool_lexer.specs.Pieces.{IsNoRun}
-use Rattle.run_words.proofs.Laws.{listed_is}
-use Rattle.pool_lexer.proofs.Fronts.{sign_piece}
+use Rattle.text_scan.proofs.Laws.{listed_is}
+use Rattle.pool_lexer.proofs.FirstByte.{sign_piece}
 use Rattle.pool_lexer.proofs.Longest.{NoneLonger, longest_is, longest_no}
 
 -- whether no text of the table has more than n bytes

@@ -6,15 +6,16 @@ use Rattle.std.proofs.lemmas.List.{length-take}
 use Rattle.pool_syntax.specs.declared.token.Tok.{Tok}
 use Rattle.pool_syntax.specs.declared.token.Tok.TheVariants as tok
 use Rattle.pool_syntax.specs.declared.token.Token.{Token}
-use Rattle.run_words.specs.Table.{name_of}
-use Rattle.run_words.specs.Text.{Text, lookup, is_listed, every, is_inner, is_word, is_integer, value_of_digits}
-use Rattle.run_words.specs.Keywords.{keywords, is_name, is_string_number, is_string_text}
+use Rattle.run_types.specs.Table.{name_of}
+use Rattle.text_scan.specs.Text.{Text, lookup, is_listed, every, is_inner, is_word, is_integer, value_of_digits}
+use Rattle.text_scan.specs.Keywords.{keywords, is_name, is_string_number, is_string_text}
 use Rattle.pool_syntax.specs.Tokens.{signs, is_rest_of_string, is_string, piece_fault, kept_text, texts_after, token_of, tokens_from, IsFaultless, HasTokens, toks}
 use Rattle.pool_syntax.specs.Spelled.{IsSpelledToken, AreSpelled}
-use Rattle.run_words.proofs.Laws.{text_at_place, listed_is}
+use Rattle.run_types.proofs.Laws.{text_at_place}
+use Rattle.text_scan.proofs.Laws.{listed_is}
 use Rattle.pool_lexer.specs.Reading.{with_kept}
-use Rattle.pool_lexer.proofs.Ends.{all_more, all_none}
-use Rattle.pool_lexer.proofs.Kept.{cases_Option, some_same, kept_there, texts_after-cons}
+use Rattle.pool_lexer.proofs.TokenListInvariant.{all_more, all_none}
+use Rattle.pool_lexer.proofs.TableGrowth.{cases_Option, some_same, kept_there, texts_after-cons}
 use Rattle.pool_lexer.proofs.WordTokens.{name_kept}
 use Rattle.pool_syntax.proofs.Laws.{piece_within}
 

@@ -2,7 +2,7 @@
 use Rattle.std.proofs.Common.{◌≡◌, ℕ, zero, suc, ◌<◌, ◌≤◌, false, nat_eq, [], ◌∷◌, length, take, get_or, refl, arith}
 use Rattle.std.specs.List.{prefix_len}
 use Rattle.std.proofs.lemmas.Bool.Decides.{nat_tests}
-use Rattle.run_words.specs.Text.{Text, is_inner}
+use Rattle.text_scan.specs.Text.{Text, is_inner}
 use Rattle.pool_syntax.specs.Tokens.{is_rest_of_string}
 
 -- not before the end of the bytes that may stand inside

@@ -1,16 +1,16 @@
 -- Which token a word is, and what it keeps.
 use Rattle.std.proofs.Common.{◌≡◌, ℕ, ◌≤◌, true, false, length, List, Some, None, is_some, nat_le, ap, ◌∙◌}
 use Rattle.std.proofs.lemmas.Bool.{le-leb}
-use Rattle.run_words.specs.Table.{with_text, name_of}
-use Rattle.run_words.specs.Text.{Text, is_word, is_listed, lookup}
-use Rattle.run_words.specs.Keywords.{keywords}
+use Rattle.run_types.specs.Table.{with_text, name_of}
+use Rattle.text_scan.specs.Text.{Text, is_word, is_listed, lookup}
+use Rattle.text_scan.specs.Keywords.{keywords}
 use Rattle.pool_syntax.specs.Tokens.{kept_text, token_of, piece_fault}
-use Rattle.run_words.specs.declared.words.NameId.{NameId}
-use Rattle.run_words.specs.declared.keywords.Keyword.{Keyword}
+use Rattle.run_types.specs.declared.types.NameId.{NameId}
+use Rattle.text_scan.specs.declared.keywords.Keyword.{Keyword}
 use Rattle.pool_syntax.specs.declared.token.Tok.TheVariants as tok
 use Rattle.pool_syntax.specs.declared.token.LexFault.TheVariants.{TooLong}
 use Rattle.pool_lexer.specs.Reading.{IsRead, with_kept}
-use Rattle.run_words.proofs.Laws.{listed_is}
+use Rattle.text_scan.proofs.Laws.{listed_is}
 
 module _ (w : Text) (word : is_word w ≡ true) where
   keyword_kept : (k : Keyword) → lookup keywords w ≡ Some k → kept_text w ≡ None

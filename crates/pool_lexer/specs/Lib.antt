@@ -1,3 +1,3 @@
-pub mod Ended
+pub mod TokenLists
 pub mod Pieces
 pub mod Reading

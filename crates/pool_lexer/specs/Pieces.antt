@@ -1,10 +1,10 @@
 -- What a piece of a text is: nothing, or which token; and the pieces that are runs of bytes.
 use Rattle.std.specs.Prelude.{◌≡◌, ℕ, ◌+◌, ◌<◌, ◌≤◌, nat_eq, true, false, ◌∷◌, length, drop, slice_range, Option, Some, None, Result, Ok, Err}
-use Rattle.run_words.specs.Text.{Text, every, is_space, is_letter, is_digit, is_word, is_integer, lookup}
+use Rattle.text_scan.specs.Text.{Text, every, is_space, is_letter, is_digit, is_word, is_integer, lookup}
 use Rattle.pool_syntax.specs.Tokens.{is_string, is_piece, signs, longest, no_piece}
 use Rattle.pool_syntax.specs.declared.token.LexFault.{LexFault}
-use Rattle.run_words.specs.ByteSets.{is_in}
-use Rattle.run_words.specs.declared.scan.ByteSet.{ByteSet}
+use Rattle.text_scan.specs.ByteSets.{is_in}
+use Rattle.text_scan.specs.declared.scan.ByteSet.{ByteSet}
 use Rattle.pool_lexer.specs.declared.piece.Kind.{Kind}
 use Rattle.pool_lexer.specs.declared.piece.Kind.TheVariants.{Skipped, Word, Integer, Text as Quoted, Sign}
 use Rattle.pool_lexer.specs.declared.piece.Piece.{Piece}

@@ -1,7 +1,7 @@
 -- What reading one piece of a text gives.
 use Rattle.std.specs.Prelude.{◌≡◌, ℕ, ◌+◌, ◌<◌, ◌≤◌, List, [], ◌∷◌, ◌++◌, length, take, drop, Option, Some, None, Result, Ok, Err}
-use Rattle.run_words.specs.Table.{with_text}
-use Rattle.run_words.specs.Text.{Text}
+use Rattle.run_types.specs.Table.{with_text}
+use Rattle.text_scan.specs.Text.{Text}
 use Rattle.pool_syntax.specs.Tokens.{longest, piece_fault, fault_of, kept_text, token_of}
 use Rattle.pool_syntax.specs.declared.token.LexFault.{LexFault}
 use Rattle.pool_syntax.specs.declared.token.LexFault.TheVariants.{Memory, BadByte, IntegerTooLarge, OpenString, TooLong}
@@ -20,17 +20,17 @@ pub record IsRead (at : ℕ) (w : Text) (old new : List Text) (t : Option Tok) :
   pub token_is : t ≡ token_of old w
 
 -- The fault is this one, unless memory ran out.
-abbrev pub IsTold : LexFault → Option LexFault → Type 0
-IsTold Memory told = Unit {0}
-IsTold (BadByte at) told = told ≡ Some (BadByte at)
-IsTold (IntegerTooLarge at) told = told ≡ Some (IntegerTooLarge at)
-IsTold (OpenString at) told = told ≡ Some (OpenString at)
-IsTold (TooLong at) told = told ≡ Some (TooLong at)
+abbrev pub ReportsFault : LexFault → Option LexFault → Type 0
+ReportsFault Memory told = Unit {0}
+ReportsFault (BadByte at) told = told ≡ Some (BadByte at)
+ReportsFault (IntegerTooLarge at) told = told ≡ Some (IntegerTooLarge at)
+ReportsFault (OpenString at) told = told ≡ Some (OpenString at)
+ReportsFault (TooLong at) told = told ≡ Some (TooLong at)
 
 -- the token or the fault of a piece that begins at a place
 abbrev pub TellsToken : {A : Type 0} → (A → Option Tok) → ℕ → Text → List Text → List Text → Result A LexFault → Type 0
 TellsToken as_token at w old new (Ok t) = IsRead at w old new (as_token t)
-TellsToken as_token at w old new (Err f) = IsTold f (piece_fault at w)
+TellsToken as_token at w old new (Err f) = ReportsFault f (piece_fault at w)
 
 -- the token at a place, if there is one
 abbrev pub placed_at : ℕ → Option Tok → List Token
@@ -48,4 +48,4 @@ pub record IsStep (bytes : Text) (at : ℕ) (old new : Tokens) (next : ℕ) : Ty
 
 abbrev pub TellsStep : Text → ℕ → Tokens → Tokens → Result ℕ LexFault → Type 0
 TellsStep bytes at old new (Ok next) = IsStep bytes at old new next
-TellsStep bytes at old new (Err f) = IsTold f (fault_of at (drop at bytes))
+TellsStep bytes at old new (Err f) = ReportsFault f (fault_of at (drop at bytes))

@@ -2,14 +2,14 @@
 ghost use Rattle.std.specs.Prelude.{◌≡◌, ◌≢◌, ℕ, ◌+◌, ◌^◌, ◌<◌, ◌≤◌, ◌⊎◌, List as ItemList, [], ◌∷◌, ◌++◌, Err, IfOk, IfErr, OnOk, MatchResult, All, length};
 ghost use Rattle.pool_syntax.specs.Tokens.{toks, HasTokens, IsFirstFault};
 ghost use Rattle.pool_syntax.specs.Spelled.{AreSpelled};
-ghost use Rattle.pool_lexer.specs.Ended.{EndsInEnd, IsPlaced};
+ghost use Rattle.pool_lexer.specs.TokenLists.{EndsInEnd, IsPlaced};
 ghost use Rattle.pool_lexer.specs.Reading.{TellsStep};
 
 use crate::piece::piece_at;
 use crate::table::Tokens;
 use crate::token::token;
 use pool_syntax::{LexFault, Tok, Token};
-use run_words::{List, Names};
+use run_types::{List, Names};
 use std::alloc::Global;
 
 /// The tokens of a text of at most 64 MiB, or its first fault. The texts of names and strings are

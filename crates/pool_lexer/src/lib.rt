@@ -1,4 +1,6 @@
-//! Tokens of a program's text.
+//! Splits a program's text into tokens with a table of names, or reports the first fault.
+//!
+//! Does not know: the grammar.
 #![tactic(auto)]
 
 mod lexer;
@@ -9,5 +11,5 @@ mod token;
 
 pub use lexer::tokens;
 pub use pool_syntax::{LexFault, Sign, Tok, Token};
-pub use run_words::Keyword;
 pub use table::Tokens;
+pub use text_scan::Keyword;

@@ -4,7 +4,7 @@ ghost use Rattle.pool_lexer.specs.Pieces.{IsNoRun, RunOf, TellsPiece};
 
 use crate::spelling::sign;
 use pool_syntax::{LexFault, Sign};
-use run_words::{ByteSet, run_end};
+use text_scan::{ByteSet, run_end};
 
 /// Which token a piece is; white space and comments are skipped.
 #[derive(Clone, Copy)]

@@ -1,7 +1,7 @@
 //! Which keyword or sign a text is.
 ghost use Rattle.std.specs.Prelude.{◌≡◌, map};
 ghost use Rattle.pool_syntax.specs.Spelling.{sign_text};
-ghost use Rattle.run_words.specs.Text.{lookup};
+ghost use Rattle.text_scan.specs.Text.{lookup};
 ghost use Rattle.pool_syntax.specs.Tokens.{signs};
 
 use pool_syntax::Sign;

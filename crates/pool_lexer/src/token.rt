@@ -6,7 +6,8 @@ ghost use Rattle.pool_lexer.specs.declared.piece.Kind.TheVariants.{Word, Integer
 
 use crate::piece::Kind;
 use pool_syntax::{LexFault, Tok};
-use run_words::{Decimal, Names, decimal, keyword};
+use run_types::Names;
+use text_scan::{Decimal, decimal, keyword};
 
 /// The most bytes of a name.
 const NAME_LIMIT: usize = 64;

@@ -4,17 +4,17 @@ use Rattle.std.specs.Prelude.{slice_get}
 use Rattle.std.specs.Option.{option_map}
 use Rattle.std.proofs.lemmas.Option.{slice_get-map, slice_get-get_or}
 use Rattle.std.proofs.lemmas.List.{length-set}
-use Rattle.run_words.specs.declared.words.Placement.{Placement}
+use Rattle.run_types.specs.declared.types.Placement.{Placement}
 use Rattle.code_semantics.specs.declared.unit.Unit.{Unit as Code}
-use Rattle.run_words.specs.Tables.{Pair, no_entry_empty, Each}
-use Rattle.run_words.proofs.Laws.{same_some, decide}
+use Rattle.run_types.specs.Tables.{Pair, no_entry_empty, Each}
+use Rattle.run_types.proofs.Laws.{same_some, decide}
 use Rattle.node_semantics.specs.Node.{NodeState, set_at}
-use Rattle.coded_objects.specs.Coded.{Placed}
+use Rattle.mesh_of_code.specs.Coded.{Placed}
 use Rattle.mesh_routing.specs.Links.{LinksOf}
-use Rattle.node_parts.specs.NodeOf.{NodeOf}
-use Rattle.node_parts.specs.OfUnit.{IsOfPlacement, IsOfUnit}
+use Rattle.node_state.specs.NodeOf.{NodeOf}
+use Rattle.node_state.specs.OfUnit.{IsOfPlacement, IsOfUnit}
 use Rattle.rendezvous_protocol.specs.declared.packet.Packet.{Packet}
-use Rattle.pool_machine.specs.Parts.{AreOfUnit, AreParts, EachCount, IsNodeOf}
+use Rattle.pool_machine.specs.Parts.{AreOfUnit, NodesAreWellFormed, EachCount, IsNodeOf}
 
 module _ {X : Type 0} where
   -- the element at an index
@@ -68,8 +68,8 @@ node_kept u l i n n' x h fits e = record {
   });
 }
 
-module _ (u : Code) (l : Placement) (nodes : List NodeOf) (k : LinksOf Packet) (parts : AreParts u l nodes k) where
-  pub parts_changed : (i : ℕ) (n n' : NodeOf) → slice_get nodes i ≡ Some n → IsNodeOf u l i n' → AreParts u l (set nodes i n') k
+module _ (u : Code) (l : Placement) (nodes : List NodeOf) (k : LinksOf Packet) (parts : NodesAreWellFormed u l nodes k) where
+  pub parts_changed : (i : ℕ) (n n' : NodeOf) → slice_get nodes i ≡ Some n → IsNodeOf u l i n' → NodesAreWellFormed u l (set nodes i n') k
   parts_changed i n n' h is = record {
     proper = parts.proper;
     suits = parts.suits;
@@ -88,7 +88,7 @@ module _ (u : Code) (l : Placement) (nodes : List NodeOf) (k : LinksOf Packet) (
           subst (λ t. IsNodeOf u l t z) (sym s) (subst (IsNodeOf u l i) same is)
       by j z (inr s) e = parts.each j z (sym (set_there nodes i j n' s) ∙ e)
 
-  pub parts_moved : (links : List (Pair × List Packet)) → no_entry_empty links ≡ true → AreParts u l nodes (record k { links = links })
+  pub parts_moved : (links : List (Pair × List Packet)) → no_entry_empty links ≡ true → NodesAreWellFormed u l nodes (record k { links = links })
   parts_moved links h = record {
     proper = parts.proper;
     suits = parts.suits;
@@ -140,5 +140,5 @@ below most top (k ∷ ks) t h = ((let a = h.0 in omega (arith, a, t)), below mos
 pub counts_below : (most top : ℕ) (nodes : List NodeOf) → most < top → EachCount (λ k. k ≤ most) nodes → EachCount (λ k. k < top) nodes
 counts_below most top nodes t h i n e = below most top n.state.made t (h i n e)
 
-pub are_of_unit : (u : Code) (l : Placement) (nodes : List NodeOf) (k : LinksOf Packet) → AreParts u l nodes k → AreOfUnit u nodes
+pub are_of_unit : (u : Code) (l : Placement) (nodes : List NodeOf) (k : LinksOf Packet) → NodesAreWellFormed u l nodes k → AreOfUnit u nodes
 are_of_unit u l nodes k parts i n e = ((parts.each i n e).id, (parts.each i n e).of_unit)

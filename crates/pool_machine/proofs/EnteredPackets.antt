@@ -4,37 +4,39 @@ use Rattle.std.specs.Prelude.{slice_get}
 use Rattle.std.specs.FinMap.{put}
 use Rattle.std.specs.Option.{unwrap_or}
 use Rattle.std.proofs.lemmas.List.{length-append, length-map}
-use Rattle.run_words.specs.declared.words.Event.{Event}
-use Rattle.run_words.specs.declared.words.Event.TheVariants as Ev
-use Rattle.run_words.specs.declared.words.What.{What}
-use Rattle.run_words.specs.declared.words.WireAct.{WireAct}
-use Rattle.run_words.specs.declared.words.WireAct.TheVariants as A
-use Rattle.run_words.specs.declared.words.FullKind.TheVariants as F
-use Rattle.run_words.specs.declared.words.What.TheVariants as W
-use Rattle.run_words.specs.declared.words.Placement.{Placement}
+use Rattle.run_types.specs.declared.types.Event.{Event}
+use Rattle.run_types.specs.declared.types.Event.TheVariants as Ev
+use Rattle.run_types.specs.declared.types.What.{What}
+use Rattle.run_types.specs.declared.types.WireAct.{WireAct}
+use Rattle.run_types.specs.declared.types.WireAct.TheVariants as A
+use Rattle.run_types.specs.declared.types.FullKind.TheVariants as F
+use Rattle.run_types.specs.declared.types.What.TheVariants as W
+use Rattle.run_types.specs.declared.types.Placement.{Placement}
 use Rattle.code_semantics.specs.declared.unit.Unit.{Unit as Code}
 use Rattle.mesh_semantics.specs.Act.{goal_node}
-use Rattle.mesh_semantics.specs.Delay.{Wires, NumberedPacket}
+use Rattle.mesh_semantics.specs.Delay.{Wires}
+use Rattle.mesh_semantics.specs.NumberedPackets.{NumberedPacket}
 use Rattle.mesh_semantics.specs.Language.{Language}
-use Rattle.run_words.specs.Paths.{next}
-use Rattle.run_words.specs.Tables.{Pair, list_at, pair_cmp, push_list, put_list, leaving}
+use Rattle.run_types.specs.Paths.{next}
+use Rattle.run_types.specs.Tables.{Pair, list_at, pair_cmp, put_list}
+use Rattle.run_types.specs.LinkTables.{push_list, leaving}
 use Rattle.mesh_semantics.specs.Wire.{Coming, Empty, Stale, Next, Frame, twice, frame_number, ack_number, lose, late, greater}
 use Rattle.mesh_semantics.specs.KeptWire.{KeptWire, empty_kept, with_fresh, fresh_in, kept_act, kept_coming, kept_hear_number, kept_launch, kept_send_number, kept_take, kept_take_frame, kept_wanted, with_kept_acks, with_kept_frames}
-use Rattle.run_words.proofs.Laws.{find_pair_other, find_pair_same, listed_here, listed_there, pushed_here, pushed_there}
+use Rattle.run_types.proofs.Laws.{find_pair_other, find_pair_same, listed_here, listed_there, pushed_here, pushed_there}
 use Rattle.node_semantics.specs.Node as N
 use Rattle.node_semantics.specs.Node.{NodeActed, NodeState, message_count, receipt_act, turn_act}
 use Rattle.node_semantics.specs.Machine as M
 use Rattle.node_semantics.specs.Machine.{KeptWires, Machine, MachineActed, after_node, come, kept_at, kept_move, kept_turn, machine_act, move_in, post_packet, turn_in, with_kept}
 use Rattle.node_semantics.specs.WiresStandFor.{WiresStandFor}
-use Rattle.node_semantics.proofs.PostedLinks.{decide_link}
-use Rattle.coded_objects.specs.Coded.{coded}
+use Rattle.node_semantics.proofs.Laws.{decide_link}
+use Rattle.mesh_of_code.specs.Coded.{coded}
 use Rattle.rendezvous_protocol.specs.declared.packet.Packet.{Packet}
 use Rattle.rendezvous_protocol.specs.Packets.{numbered}
 use Rattle.mesh_routing.specs.Links.{LinksOf}
-use Rattle.node_parts.specs.NodeOf.{NodeOf}
+use Rattle.node_state.specs.NodeOf.{NodeOf}
 use Rattle.pool_machine.specs.MachineOf.{LinkWires, numbered_link, numbered_wires}
 use Rattle.pool_machine.specs.Parts.{machine_from}
-use Rattle.pool_machine.specs.OnWires.{AreWired, EachEntered, entered_at, machine_on, wire_of}
+use Rattle.pool_machine.specs.OnWires.{WiredMachineInvariant, EachEntered, entered_at, machine_on, wire_of}
 use Rattle.pool_machine.proofs.NumberedLinks.{list_numbered}
 use Rattle.pool_machine.proofs.NumberedWires.{kept_numbered}
 use Rattle.pool_machine.proofs.EventsOnWires.{kept_twice, move_same, turn_same}
@@ -236,7 +238,7 @@ entered_below most top None links h below = tt
 entered_below most top (Some ws) links h below = λ j. let b = below j in omega (arith, b, h)
 
 -- what was sent has entered, and what was handed out was sent
-module _ (u : Code) (l : Placement) (nodes : List NodeOf) (k : LinksOf Packet) (ws : LinkWires) (kept : AreWired u l nodes k (Some ws)) (j : Pair) where
+module _ (u : Code) (l : Placement) (nodes : List NodeOf) (k : LinksOf Packet) (ws : LinkWires) (kept : WiredMachineInvariant u l nodes k (Some ws)) (j : Pair) where
   stands_at : (o : Option Wires) → WiresStandFor (Some (numbered_wires ws)) o (map numbered_link k.links)
       → ((kept_at (numbered_wires ws) j).handed ≤ (kept_at (numbered_wires ws) j).sent) × ((kept_at (numbered_wires ws) j).sent ≤ (kept_at (numbered_wires ws) j).handed + length (list_at pair_cmp j (map numbered_link k.links)))
   stands_at None h = absurd h

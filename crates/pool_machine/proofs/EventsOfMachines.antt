@@ -1,29 +1,30 @@
 -- What an event of a machine leads to.
 use Rattle.std.proofs.Common.{◌≡◌, refl, sym, ap, ap₂, subst, ◌∙◌, ℕ, ◌+◌, ◌≤◌, List, length, Option, is_some}
-use Rattle.run_words.specs.declared.words.Event.{Event}
-use Rattle.run_words.specs.declared.words.Event.TheVariants as Ev
-use Rattle.run_words.specs.declared.words.What.{What}
-use Rattle.run_words.specs.declared.words.FullKind.{FullKind}
-use Rattle.run_words.specs.declared.words.Line.TheVariants as R
-use Rattle.run_words.specs.declared.words.Placement.{Placement}
+use Rattle.run_types.specs.declared.types.Event.{Event}
+use Rattle.run_types.specs.declared.types.Event.TheVariants as Ev
+use Rattle.run_types.specs.declared.types.What.{What}
+use Rattle.run_types.specs.declared.types.FullKind.{FullKind}
+use Rattle.run_types.specs.declared.types.Line.TheVariants as R
+use Rattle.run_types.specs.declared.types.Placement.{Placement}
 use Rattle.code_semantics.specs.declared.unit.Unit.{Unit as Code}
 use Rattle.mesh_semantics.specs.Config.{Config}
 use Rattle.mesh_semantics.specs.Delay.{Delay}
 use Rattle.mesh_semantics.specs.Act.{act}
 use Rattle.mesh_semantics.specs.Record.{shown}
-use Rattle.run_words.specs.Tables.{Pair}
+use Rattle.run_types.specs.Tables.{Pair}
 use Rattle.node_semantics.specs.Machine as M
 use Rattle.node_semantics.specs.Machine.{MachineActed}
 use Rattle.node_semantics.specs.WiresStandFor.{StandsFor}
 use Rattle.node_semantics.specs.Agrees as G
-use Rattle.coded_objects.specs.Coded.{Placed, coded}
+use Rattle.mesh_of_code.specs.Coded.{Placed, coded}
 use Rattle.rendezvous_protocol.specs.declared.packet.Packet.{Packet}
 use Rattle.mesh_routing.specs.Links.{LinksOf}
-use Rattle.node_parts.specs.NodeOf.{NodeOf}
+use Rattle.node_state.specs.NodeOf.{NodeOf}
 use Rattle.pool_machine.specs.MachineOf.{LinkWires, MachineOf}
-use Rattle.pool_machine.specs.Parts.{AreParts}
-use Rattle.pool_machine.specs.OnWires.{AreWired, EachEntered, HaveWires, IsDidOn, Makes, machine_on}
-use Rattle.pool_machine.specs.Answers.{IsOfMesh, IsOutcome, Stands, moved}
+use Rattle.pool_machine.specs.Parts.{NodesAreWellFormed}
+use Rattle.pool_machine.specs.OnWires.{WiredMachineInvariant, EachEntered, HaveWires, IsDidOn, EventMakes, machine_on}
+use Rattle.pool_machine.specs.Answers.{IsOfMesh, IsOutcome, MachineRepresents}
+use Rattle.pool_machine.specs.SentPackets.{moved}
 use Rattle.pool_machine.specs.DidOf.{Did}
 use Rattle.pool_machine.specs.DidOf as D
 use Rattle.pool_machine.specs.AnswerOf as O
@@ -48,22 +49,22 @@ module _ (nodes nodes' : List NodeOf) (k k' : LinksOf Packet) (ws ws' : Option L
   did_full kind node M.Nothing h = absurd h
 
 -- what an event did, for any machine that has these nodes, links and wires
-module _ (m : MachineOf) (k : LinksOf Packet) (links : k.links ≡ m.links) (parts : AreParts m.unit m.placement m.nodes k) (q : ℕ) (e : Event) (inside : IsOfMesh m.placement e)
+module _ (m : MachineOf) (k : LinksOf Packet) (links : k.links ≡ m.links) (parts : NodesAreWellFormed m.unit m.placement m.nodes k) (q : ℕ) (e : Event) (inside : IsOfMesh m.placement e)
     (nodes' : List NodeOf) (k' : LinksOf Packet) (ws' : Option LinkWires) where
   abbrev Stepped : Did → Type 0
-  Stepped did = Makes m.unit m.placement q e did m.nodes k m.wires nodes' k' ws'
+  Stepped did = EventMakes m.unit m.placement q e did m.nodes k m.wires nodes' k' ws'
 
-  stands_there : (c : Config Placed) (d : Delay) → Stands m c d → StandsFor (coded m.unit) m.placement (machine_on m.nodes k.links m.wires) c d
+  stands_there : (c : Config Placed) (d : Delay) → MachineRepresents m c d → StandsFor (coded m.unit) m.placement (machine_on m.nodes k.links m.wires) c d
   stands_there c d s = subst (λ z. StandsFor (coded m.unit) m.placement (machine_on m.nodes z m.wires) c d) (sym links) s.stands
 
-  pub goes_on : (what : What) → Stepped (D.Line what) → (c : Config Placed) (d : Delay) → Stands m c d
+  pub goes_on : (what : What) → Stepped (D.Line what) → (c : Config Placed) (d : Delay) → MachineRepresents m c d
       → Following m.unit m.placement c d q e what (machine_on nodes' k'.links ws')
   goes_on what h c d s =
       follows m.unit m.placement parts.proper parts.suits (machine_on m.nodes k.links m.wires) c d s.sound (stands_there c d s)
       q h.0 e (inside_mesh m.placement e inside) h.1 what (machine_on nodes' k'.links ws') (did_line m.nodes nodes' k k' m.wires ws' what _ h.2)
 
   pub line_outcome : (what : What) → Stepped (D.Line what) → is_some ws' ≡ is_some m.wires → (moves transitions : ℕ) → moves ≡ m.moves + moved e what → transitions ≡ m.transitions + length (shown what)
-      → (c : Config Placed) (d : Delay) → Stands m c d
+      → (c : Config Placed) (d : Delay) → MachineRepresents m c d
       → IsOutcome e m (O.Line (R.Event (m.done + 1) e what))
       (record { unit = m.unit; placement = m.placement; nodes = nodes'; links = k'.links; wires = ws'; done = m.done + 1; moves = moves; transitions = transitions })
       (act (coded m.unit) m.placement q c d e)
@@ -73,7 +74,7 @@ module _ (m : MachineOf) (k : LinksOf Packet) (links : k.links ≡ m.links) (par
       (record { unit = m.unit; placement = m.placement; nodes = nodes'; links = k'.links; wires = ws'; done = m.done + 1; moves = moves; transitions = transitions })) (sym f.act)
       (refl, record { unit = refl; placement = refl; lossy = lossy; done = refl; moves = mv; transitions = tr }, record { sound = f.sound; stands = f.stands })
 
-  pub full_outcome : (kind : FullKind) (node : ℕ) → Stepped (D.Full kind node) → (c : Config Placed) (d : Delay) → Stands m c d
+  pub full_outcome : (kind : FullKind) (node : ℕ) → Stepped (D.Full kind node) → (c : Config Placed) (d : Delay) → MachineRepresents m c d
       → IsOutcome e m (O.Full kind node) (record m { nodes = nodes'; links = k'.links; wires = ws' }) (act (coded m.unit) m.placement q c d e)
   full_outcome kind node h c d s =
       let z = did_full m.nodes nodes' k k' m.wires ws' kind node _ h.2 in
@@ -86,12 +87,12 @@ module _ (m : MachineOf) (k : LinksOf Packet) (links : k.links ≡ m.links) (par
       )
 
 -- what is kept after it
-module _ (u : Code) (l : Placement) (nodes : List NodeOf) (k : LinksOf Packet) (ws : Option LinkWires) (kept : AreWired u l nodes k ws) (q : ℕ) (e : Event) (inside : IsOfMesh l e)
+module _ (u : Code) (l : Placement) (nodes : List NodeOf) (k : LinksOf Packet) (ws : Option LinkWires) (kept : WiredMachineInvariant u l nodes k ws) (q : ℕ) (e : Event) (inside : IsOfMesh l e)
     (nodes' : List NodeOf) (k' : LinksOf Packet) (ws' : Option LinkWires) where
   abbrev SteppedTo : Did → Type 0
-  SteppedTo did = Makes u l q e did nodes k ws nodes' k' ws'
+  SteppedTo did = EventMakes u l q e did nodes k ws nodes' k' ws'
 
-  pub kept_line : AreParts u l nodes' k' → HaveWires l ws' → (what : What) → SteppedTo (D.Line what) → AreWired u l nodes' k' ws'
+  pub kept_line : NodesAreWellFormed u l nodes' k' → HaveWires l ws' → (what : What) → SteppedTo (D.Line what) → WiredMachineInvariant u l nodes' k' ws'
   kept_line parts there what h =
       let f = follows u l kept.parts.proper kept.parts.suits (machine_on nodes k.links ws) kept.config kept.delay kept.sound kept.stands
       q h.0 e (inside_mesh l e inside) h.1 what (machine_on nodes' k'.links ws') (did_line nodes nodes' k k' ws ws' what _ h.2) in
@@ -109,7 +110,7 @@ module _ (u : Code) (l : Placement) (nodes : List NodeOf) (k : LinksOf Packet) (
   pub same_wires : (kind : FullKind) (node : ℕ) → SteppedTo (D.Full kind node) → ws' ≡ ws
   same_wires kind node h = (did_full nodes nodes' k k' ws ws' kind node _ h.2).3
 
-  pub kept_full : (kind : FullKind) (node : ℕ) → SteppedTo (D.Full kind node) → AreWired u l nodes' k' ws'
+  pub kept_full : (kind : FullKind) (node : ℕ) → SteppedTo (D.Full kind node) → WiredMachineInvariant u l nodes' k' ws'
   kept_full kind node h =
-      subst (λ z. AreWired u l nodes' k' z) (sym (same_wires kind node h))
-      (subst (λ z. AreWired u l z k' ws) (sym (same_nodes kind node h)) (subst (λ z. AreWired u l nodes z ws) (sym (same_links kind node h)) kept))
+      subst (λ z. WiredMachineInvariant u l nodes' k' z) (sym (same_wires kind node h))
+      (subst (λ z. WiredMachineInvariant u l z k' ws) (sym (same_nodes kind node h)) (subst (λ z. WiredMachineInvariant u l nodes z ws) (sym (same_links kind node h)) kept))

@@ -2,36 +2,37 @@
 use Rattle.std.proofs.Common.{◌≡◌, ◌≢◌, ◌⊎◌, inl, inr, refl, sym, ap, ap₂, subst, ◌∙◌, ℕ, ◌+◌, ◌==◌, List, [], ◌∷◌, map, Option, Some, None, is_some, Bool, true, false, if◌then◌else◌, nat_lt}
 use Rattle.std.specs.Prelude.{slice_get}
 use Rattle.std.specs.FinMap.{put}
-use Rattle.run_words.specs.declared.words.Event.TheVariants as Ev
-use Rattle.run_words.specs.declared.words.What.{What}
-use Rattle.run_words.specs.declared.words.What.TheVariants as W
-use Rattle.run_words.specs.declared.words.WireAct.{WireAct}
-use Rattle.run_words.specs.declared.words.FullKind.TheVariants as F
-use Rattle.run_words.specs.declared.words.Placement.{Placement}
+use Rattle.run_types.specs.declared.types.Event.TheVariants as Ev
+use Rattle.run_types.specs.declared.types.What.{What}
+use Rattle.run_types.specs.declared.types.What.TheVariants as W
+use Rattle.run_types.specs.declared.types.WireAct.{WireAct}
+use Rattle.run_types.specs.declared.types.FullKind.TheVariants as F
+use Rattle.run_types.specs.declared.types.Placement.{Placement}
 use Rattle.code_semantics.specs.declared.unit.Unit.{Unit as Code}
 use Rattle.mesh_semantics.specs.Act.{goal_node}
 use Rattle.mesh_semantics.specs.Language.{Language}
-use Rattle.run_words.specs.Tables.{Pair, list_at, pair_cmp, put_list, leaving}
+use Rattle.run_types.specs.Tables.{Pair, list_at, pair_cmp, put_list}
+use Rattle.run_types.specs.LinkTables.{leaving}
 use Rattle.mesh_semantics.specs.Wire.{Coming, Empty, Stale, Next}
 use Rattle.mesh_semantics.specs.KeptWire.{KeptWire, kept_act, kept_coming, kept_take}
-use Rattle.run_words.proofs.Laws.{find_pair_other, find_pair_same}
+use Rattle.run_types.proofs.Laws.{find_pair_other, find_pair_same}
 use Rattle.node_semantics.specs.Node as N
 use Rattle.node_semantics.specs.Node.{NodeActed, NodeState, message_count, receipt_act, turn_act}
-use Rattle.mesh_semantics.specs.Delay.{NumberedPacket}
+use Rattle.mesh_semantics.specs.NumberedPackets.{NumberedPacket}
 use Rattle.node_semantics.specs.Machine as M
 use Rattle.node_semantics.specs.Machine.{KeptWires, Machine, MachineActed, after_node, come, kept_at, kept_move, kept_turn, machine_act, move_in, turn_in, with_kept}
 use Rattle.node_semantics.specs.Agrees.{IsFresh}
-use Rattle.node_semantics.proofs.PostedLinks.{decide_link}
-use Rattle.coded_objects.specs.Coded.{Placed, coded}
+use Rattle.node_semantics.proofs.Laws.{decide_link}
+use Rattle.mesh_of_code.specs.Coded.{Placed, coded}
 use Rattle.rendezvous_protocol.specs.declared.packet.Packet.{Packet}
 use Rattle.rendezvous_protocol.specs.Packets.{numbered}
 use Rattle.mesh_routing.specs.Links.{LinksOf}
-use Rattle.node_parts.specs.NodeOf.{NodeOf}
+use Rattle.node_state.specs.NodeOf.{NodeOf}
 use Rattle.wire_link.specs.Wires.{arrived_of}
 use Rattle.wire_link.specs.declared.wire.Arrived.TheVariants as R
 use Rattle.pool_machine.specs.MachineOf.{LinkWires, numbered_wires}
 use Rattle.pool_machine.specs.Parts.{IsDid, machine_from}
-use Rattle.pool_machine.specs.OnWires.{IsDidOn, IsToldAt, Makes, has_wire, machine_on, wire_of}
+use Rattle.pool_machine.specs.OnWires.{IsDidOn, LinkWireReports, EventMakes, has_wire, machine_on, wire_of}
 use Rattle.pool_machine.specs.DidOf.{Did}
 use Rattle.pool_machine.specs.DidOf as D
 use Rattle.pool_machine.proofs.NumberedLinks.{list_numbered}
@@ -101,7 +102,7 @@ module _ (nodes nodes' : List NodeOf) (k k' : LinksOf Packet) where
 -- a turn
 pub turn_wired : (u : Code) (l : Placement) (nodes nodes' : List NodeOf) (k k' : LinksOf Packet) (ws : Option LinkWires) (q n : ℕ) (did : Did)
     → (fresh : ℕ) × IsFresh (machine_from nodes k.links) fresh (Ev.Turn n) × IsDid did nodes k nodes' k' (machine_act (coded u) l q fresh (machine_from nodes k.links) (Ev.Turn n))
-    → Makes u l q (Ev.Turn n) did nodes k ws nodes' k' ws
+    → EventMakes u l q (Ev.Turn n) did nodes k ws nodes' k' ws
 turn_wired u l nodes nodes' k k' None q n did h = (h.0, h.1, did_plain nodes nodes' k k' did _ h.2)
 turn_wired u l nodes nodes' k k' (Some ws) q n did h = (
   h.0,
@@ -113,7 +114,7 @@ turn_wired u l nodes nodes' k k' (Some ws) q n did h = (
 -- the move of a link's head, where no link is a wire
 pub move_plain : (u : Code) (l : Placement) (nodes nodes' : List NodeOf) (k k' : LinksOf Packet) (q a b : ℕ) (did : Did)
     → IsDid did nodes k nodes' k' (move_in (coded u) l (machine_from nodes k.links) a b (map numbered (list_at pair_cmp (a, b) k.links)))
-    → Makes u l q (Ev.Link a b) did nodes k None nodes' k' None
+    → EventMakes u l q (Ev.Link a b) did nodes k None nodes' k' None
 move_plain u l nodes nodes' k k' q a b did h = (
   0,
   tt,
@@ -183,8 +184,8 @@ module _ (u : Code) (l : Placement) (nodes nodes' : List NodeOf) (k k' : LinksOf
         subst (IsDidOn (D.Full kind node) nodes k (Some ws) nodes' k' (Some ws)) (heads _ refl) (full_wired nodes nodes' k k' ws _ kind node _ d)
 
   -- what else happens on the wire
-  pub told_wired : (q : ℕ) (act : WireAct) (what : What) → IsToldAt ws (a, b) (kept_act act (list_at pair_cmp (a, b) k.links) (wire_of ws (a, b))) what ws'
-      → Makes u l q (Ev.Wire act a b) (D.Line what) nodes k (Some ws) nodes k (Some ws')
+  pub told_wired : (q : ℕ) (act : WireAct) (what : What) → LinkWireReports ws (a, b) (kept_act act (list_at pair_cmp (a, b) k.links) (wire_of ws (a, b))) what ws'
+      → EventMakes u l q (Ev.Wire act a b) (D.Line what) nodes k (Some ws) nodes k (Some ws')
   told_wired q act what h = (
     0,
     tt,
@@ -195,7 +196,7 @@ module _ (u : Code) (l : Placement) (nodes nodes' : List NodeOf) (k k' : LinksOf
       same : kept_act act (list_at pair_cmp (a, b) (machine_from nodes k.links).links) (kept_at (numbered_wires ws) (a, b)) ≡ numbered_result (kept_act act (list_at pair_cmp (a, b) k.links) (wire_of ws (a, b)))
       same = ap₂ (kept_act act) (list_numbered (a, b) k.links) (kept_numbered (a, b) ws) ∙ act_numbered act (list_at pair_cmp (a, b) k.links) (wire_of ws (a, b))
 
-      by : (r : Option (What × KeptWire Packet)) → IsToldAt ws (a, b) r what ws'
+      by : (r : Option (What × KeptWire Packet)) → LinkWireReports ws (a, b) r what ws'
           → IsDidOn (D.Line what) nodes k (Some ws) nodes k (Some ws') (kept_turn (machine_on nodes k.links (Some ws)) (numbered_wires ws) (a, b) (numbered_result r))
       by None i = (i.0, ap (λ (z : LinkWires). machine_on nodes k.links (Some z)) i.1)
       by (Some r) i = (
@@ -211,6 +212,6 @@ wire_stays k j v ws ws' e h = ap (λ z. has_wire z j) e ∙ by (decide_link j k)
     by (inl i) = subst (λ z. has_wire (put pair_cmp k v ws) z ≡ true) (sym i) (ap is_some (find_pair_same k v ws))
     by (inr n) = ap is_some (find_pair_other j k v ws n) ∙ h
 
-pub told_stays : (k j : Pair) (r : Option (What × KeptWire Packet)) (what : What) (ws ws' : LinkWires) → IsToldAt ws k r what ws' → has_wire ws j ≡ true → has_wire ws' j ≡ true
+pub told_stays : (k j : Pair) (r : Option (What × KeptWire Packet)) (what : What) (ws ws' : LinkWires) → LinkWireReports ws k r what ws' → has_wire ws j ≡ true → has_wire ws' j ≡ true
 told_stays k j None what ws ws' t h = ap (λ z. has_wire z j) t.1 ∙ h
 told_stays k j (Some r) what ws ws' t h = wire_stays k j r.1 ws ws' t.1 h

@@ -2,12 +2,12 @@
 use Rattle.std.proofs.Common.{◌≡◌, ◌≢◌, ◌⊎◌, inl, inr, sym, subst, ◌∙◌, ap, ℕ, ◌+◌, List, [], ◌∷◌, ◌++◌, length, Some}
 use Rattle.std.specs.Prelude.{slice_get}
 use Rattle.std.proofs.lemmas.List.{length_push}
-use Rattle.run_words.specs.declared.words.Placement.{Placement}
+use Rattle.run_types.specs.declared.types.Placement.{Placement}
 use Rattle.code_semantics.specs.declared.unit.Unit.{Unit as Code}
-use Rattle.run_words.proofs.Laws.{decide, same_some}
-use Rattle.node_semantics.proofs.NamesAndSlots.{last_there, front_there}
-use Rattle.node_parts.specs.NodeOf.{NodeOf}
-use Rattle.pool_machine.specs.Whole.{AreEmpty, IsEmptyNode}
+use Rattle.run_types.proofs.Laws.{decide, same_some}
+use Rattle.node_semantics.proofs.Laws.{last_there, front_there}
+use Rattle.node_state.specs.NodeOf.{NodeOf}
+use Rattle.pool_machine.specs.MachineInvariant.{AreEmpty, IsEmptyNode}
 
 pub node_made : (u : Code) (l : Placement) (size : ℕ) (nodes : List NodeOf) (n : NodeOf) → AreEmpty u l size nodes → IsEmptyNode u l size n → AreEmpty u l (size + 1) (nodes ++ n ∷ [])
 node_made u l size nodes n empty new = record { count = length_push nodes n ∙ ap (λ (k : ℕ). k + 1) empty.count; each = each }

@@ -1,40 +1,41 @@
 -- What the move of a link's head is for the whole machine.
 use Rattle.std.proofs.Common.{◌≡◌, ◌≢◌, inl, inr, refl, sym, ap, ap₂, subst, ◌∙◌, ℕ, ◌+◌, ◌*◌, ◌<◌, ◌≤◌, ◌==◌, List, [], ◌∷◌, length, map, set, get_or, drop, Option, Some, None, Bool, true, false, if◌then◌else◌, nat_lt, arith}
 use Rattle.std.specs.Prelude.{slice_get}
-use Rattle.run_words.specs.declared.words.Event.TheVariants as Ev
-use Rattle.run_words.specs.declared.words.What.{What}
-use Rattle.run_words.specs.declared.words.What.TheVariants as W
-use Rattle.run_words.specs.declared.words.FullKind.{FullKind}
-use Rattle.run_words.specs.declared.words.FullKind.TheVariants as F
-use Rattle.run_words.specs.declared.words.Placement.{Placement}
+use Rattle.run_types.specs.declared.types.Event.TheVariants as Ev
+use Rattle.run_types.specs.declared.types.What.{What}
+use Rattle.run_types.specs.declared.types.What.TheVariants as W
+use Rattle.run_types.specs.declared.types.FullKind.{FullKind}
+use Rattle.run_types.specs.declared.types.FullKind.TheVariants as F
+use Rattle.run_types.specs.declared.types.Placement.{Placement}
 use Rattle.code_semantics.specs.declared.unit.Unit.{Unit as Code}
-use Rattle.run_words.specs.Tables.{Pair, list_at, pair_cmp, push_list, put_list, Each, leaving}
-use Rattle.run_words.specs.Paths.{AreNeighbours, IsLink, next, on_link}
+use Rattle.run_types.specs.Tables.{Pair, list_at, pair_cmp, put_list, Each}
+use Rattle.run_types.specs.LinkTables.{push_list, leaving}
+use Rattle.run_types.specs.Paths.{AreNeighbours, IsLink, next, on_link}
 use Rattle.mesh_semantics.specs.Act.{goal_node}
 use Rattle.mesh_semantics.specs.Delay as Del
 use Rattle.mesh_semantics.specs.Sound.{IsPlaced}
-use Rattle.run_words.proofs.Laws.{equal, equals, same_some}
+use Rattle.run_types.proofs.Laws.{equal, equals, same_some}
 use Rattle.node_semantics.specs.Node as N
 use Rattle.node_semantics.specs.Node.{NodeState, NodeActed, created_for, frames_in, message_count, packet_count, receipt, receipt_act, within_node}
-use Rattle.mesh_semantics.specs.Delay.{NumberedPacket}
+use Rattle.mesh_semantics.specs.NumberedPackets.{NumberedPacket}
 use Rattle.node_semantics.specs.Machine as M
 use Rattle.node_semantics.specs.Machine.{Machine, MachineActed, after_node, come, machine_act, move_in, post_packet}
 use Rattle.node_semantics.specs.Receives.{IsReceivable}
 use Rattle.node_semantics.specs.StandsFor.{packets}
 use Rattle.node_semantics.proofs.Laws.{head_is_receivable}
-use Rattle.coded_objects.specs.Coded.{Placed, coded}
-use Rattle.coded_objects.specs.OfCode.{IsOfCode}
-use Rattle.coded_objects.proofs.Laws.{code_lawful, code_names, code_requests}
+use Rattle.mesh_of_code.specs.Coded.{Placed, coded}
+use Rattle.mesh_of_code.specs.CodeInvariant.{IsOfCode}
+use Rattle.mesh_of_code.proofs.Laws.{code_lawful, code_names, code_requests}
 use Rattle.rendezvous_protocol.specs.declared.packet.Packet.{Packet}
 use Rattle.rendezvous_protocol.specs.Packets.{numbered}
 use Rattle.mesh_routing.specs.Links.{LinksOf}
-use Rattle.node_parts.specs.NodeOf.{NodeOf}
-use Rattle.node_parts.specs.OfUnit.{IsOfUnit}
+use Rattle.node_state.specs.NodeOf.{NodeOf}
+use Rattle.node_state.specs.OfUnit.{IsOfUnit}
 use Rattle.pool_node.specs.Acts.{IsActOf}
 use Rattle.pool_node.specs.ActOf.{Act}
 use Rattle.pool_node.specs.ActOf as T
 use Rattle.pool_machine.specs.MachineOf.{numbered_link}
-use Rattle.pool_machine.specs.Parts.{AreKept, AreParts, IsDid, machine_from}
+use Rattle.pool_machine.specs.Parts.{NodesInvariant, NodesAreWellFormed, IsDid, machine_from}
 use Rattle.pool_machine.specs.DidOf as D
 use Rattle.pool_machine.proofs.NumberedLinks.{leaving_numbered, list_numbered, listed_elsewhere, listed_filled, listed_numbered, pushed_filled}
 use Rattle.pool_machine.proofs.ChangedNodes.{parts_moved, state_there}
@@ -100,7 +101,7 @@ never_idle u l i out x e n n' h = within_idle n n' u l out (receipt (coded u) i 
 abbrev pub headless : ℕ → ℕ → LinksOf Packet → LinksOf Packet
 headless a b k = record k { links = put_list pair_cmp (a, b) (drop 1 (list_at pair_cmp (a, b) k.links)) k.links }
 
-module _ (u : Code) (l : Placement) (nodes : List NodeOf) (k : LinksOf Packet) (kept : AreKept u l nodes k) (a b : ℕ) (link : IsLink l (a, b)) (d : NodeOf) (packet : Packet)
+module _ (u : Code) (l : Placement) (nodes : List NodeOf) (k : LinksOf Packet) (kept : NodesInvariant u l nodes k) (a b : ℕ) (link : IsLink l (a, b)) (d : NodeOf) (packet : Packet)
     (head : slice_get (list_at pair_cmp (a, b) k.links) 0 ≡ Some packet) where
   abbrev n : NodeOf
   n = get_or nodes b d
@@ -133,7 +134,7 @@ module _ (u : Code) (l : Placement) (nodes : List NodeOf) (k : LinksOf Packet) (
       ≡ move_in (coded u) l (machine_from nodes k.links) a b (map numbered (list_at pair_cmp (a, b) k.links))
   is_act q fresh = ap (λ z. move_in (coded u) l (machine_from nodes k.links) a b z) (list_numbered (a, b) k.links)
 
-  headless_parts : AreParts u l nodes (headless a b k)
+  headless_parts : NodesAreWellFormed u l nodes (headless a b k)
   headless_parts = parts_moved u l nodes k kept.parts (put_list pair_cmp (a, b) (drop 1 (list_at pair_cmp (a, b) k.links)) k.links)
       (listed_filled (a, b) (drop 1 (list_at pair_cmp (a, b) k.links)) k.links kept.parts.filled)
 
@@ -191,9 +192,9 @@ module _ (u : Code) (l : Placement) (nodes : List NodeOf) (k : LinksOf Packet) (
           (line_did u l nodes b (get_or nodes b d) here k (headless a b k) what answer n' _ (here_received (T.Line what answer) n' h)))
 
       pub move_parts : (what : What) (answer : Option Packet) (n' : NodeOf) (k' : LinksOf Packet) → Received (T.Line what answer) n' → IsOfUnit u n'
-          → k' ≡ links_after l b answer (headless a b k) → AreParts u l (set nodes b n') k'
+          → k' ≡ links_after l b answer (headless a b k) → NodesAreWellFormed u l (set nodes b n') k'
       move_parts what answer n' k' h fits e =
-          subst (AreParts u l (set nodes b n')) (sym e)
+          subst (NodesAreWellFormed u l (set nodes b n')) (sym e)
           (parts_after u l nodes b (get_or nodes b d) here k (headless a b k) answer headless_parts n'
           (node_after u l nodes b (get_or nodes b d) here k (headless a b k) headless_parts what answer n' _ h fits))
 
@@ -252,9 +253,9 @@ module _ (u : Code) (l : Placement) (nodes : List NodeOf) (k : LinksOf Packet) (
       pub pass_room : waiting + out + 1 ≤ l.cells → leaving (headless a b k).links b < l.cells
       pass_room h = let s = leaving_same in omega (arith, h, s, count)
 
-    pub pass_parts : (k' : LinksOf Packet) → k' ≡ links_after l b (Some packet) (headless a b k) → AreParts u l nodes k'
-    pass_parts k' e = subst (AreParts u l nodes) (sym e) (moved_on (headless a b k) headless_parts)
+    pub pass_parts : (k' : LinksOf Packet) → k' ≡ links_after l b (Some packet) (headless a b k) → NodesAreWellFormed u l nodes k'
+    pass_parts k' e = subst (NodesAreWellFormed u l nodes) (sym e) (moved_on (headless a b k) headless_parts)
       where
-        moved_on : (j : LinksOf Packet) → AreParts u l nodes j → AreParts u l nodes (links_after l b (Some packet) j)
+        moved_on : (j : LinksOf Packet) → NodesAreWellFormed u l nodes j → NodesAreWellFormed u l nodes (links_after l b (Some packet) j)
         moved_on j parts = parts_moved u l nodes j parts (push_list pair_cmp (b, next l b (goal_node (numbered packet).packet)) packet j.links)
             (pushed_filled (b, next l b (goal_node (numbered packet).packet)) packet j.links parts.filled)

@@ -2,27 +2,27 @@
 use Rattle.std.proofs.Common.{◌≡◌, ◌≢◌, ◌⊎◌, inl, inr, refl, sym, ap, subst, ◌∙◌, ℕ, ◌+◌, ◌*◌, ◌<◌, ◌≤◌, List, [], length, map, Option, Some, None, is_some, Bool, true, false, arith}
 use Rattle.std.specs.FinMap.{put}
 use Rattle.std.specs.Option.{unwrap_or}
-use Rattle.run_words.specs.declared.words.Placement.{Placement}
+use Rattle.run_types.specs.declared.types.Placement.{Placement}
 use Rattle.code_semantics.specs.declared.unit.Unit.{Unit as Code}
 use Rattle.mesh_semantics.specs.Config.{Config}
 use Rattle.mesh_semantics.specs.Delay.{no_delay}
-use Rattle.run_words.specs.Paths.{AreNeighbours}
+use Rattle.run_types.specs.Paths.{AreNeighbours}
 use Rattle.mesh_semantics.specs.Sound.{IsSound}
-use Rattle.run_words.specs.Tables.{Pair, list_at, pair_cmp}
+use Rattle.run_types.specs.Tables.{Pair, list_at, pair_cmp}
 use Rattle.mesh_semantics.specs.Wire.{empty_wire}
 use Rattle.mesh_semantics.specs.KeptWire.{KeptWire, empty_kept}
 use Rattle.mesh_semantics.proofs.Laws.{facts_empty}
-use Rattle.run_words.proofs.Laws.{find_pair_other, find_pair_same}
+use Rattle.run_types.proofs.Laws.{find_pair_other, find_pair_same}
 use Rattle.node_semantics.specs.WiresStandFor.{StandsFor}
-use Rattle.node_semantics.proofs.PostedLinks.{decide_link}
-use Rattle.coded_objects.specs.Coded.{Placed, coded}
-use Rattle.coded_objects.specs.OfCode.{IsOfCode}
+use Rattle.node_semantics.proofs.Laws.{decide_link}
+use Rattle.mesh_of_code.specs.Coded.{Placed, coded}
+use Rattle.mesh_of_code.specs.CodeInvariant.{IsOfCode}
 use Rattle.rendezvous_protocol.specs.declared.packet.Packet.{Packet}
-use Rattle.node_parts.specs.NodeOf.{NodeOf}
+use Rattle.node_state.specs.NodeOf.{NodeOf}
 use Rattle.pool_machine.specs.MachineOf.{LinkWires, numbered_link, numbered_wire, numbered_wires}
 use Rattle.pool_machine.specs.Parts.{machine_from}
 use Rattle.pool_machine.specs.OnWires.{AreMade, AreNew, EachEntered, HaveWires, has_wire, machine_on, wire_of}
-use Rattle.pool_machine.specs.Answers.{nothing_sent}
+use Rattle.pool_machine.specs.SentPackets.{nothing_sent}
 use Rattle.pool_machine.proofs.NumberedWires.{kept_numbered}
 use Rattle.pool_machine.proofs.WithoutWires.{sound_rewired, stands_rewired}
 

@@ -9,9 +9,10 @@ use Rattle.std.specs.FinMap.{nat_cmp-IsAntisymmetric}
 use Rattle.std.specs.FinMap.Entries.{by_order, find, put}
 use Rattle.std.proofs.lemmas.List.{map-append, length-map}
 use Rattle.std.proofs.lemmas.List.Sums.{sum_by-cons}
-use Rattle.run_words.specs.Tables.{Pair, pair_cmp, list_at, put_list, push_list, without, has_some, no_entry_empty, leaving}
-use Rattle.run_words.proofs.Laws.{first, second, both, equal}
-use Rattle.mesh_semantics.specs.Delay.{NumberedPacket}
+use Rattle.run_types.specs.Tables.{Pair, pair_cmp, list_at, put_list, without, has_some, no_entry_empty}
+use Rattle.run_types.specs.LinkTables.{push_list, leaving}
+use Rattle.run_types.proofs.Laws.{first, second, both, equal}
+use Rattle.mesh_semantics.specs.NumberedPackets.{NumberedPacket}
 use Rattle.rendezvous_protocol.specs.declared.packet.Packet.{Packet}
 use Rattle.rendezvous_protocol.specs.Packets.{numbered}
 use Rattle.pool_machine.specs.MachineOf.{numbered_link}

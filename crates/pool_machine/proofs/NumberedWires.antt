@@ -8,14 +8,14 @@ use Rattle.std.specs.declared.cmp.Ordering.TheVariants.{Less, Equal, Greater}
 use Rattle.std.specs.FinMap.Entries.{by_order, find, put}
 use Rattle.std.proofs.lemmas.List.{map-append, length-map}
 use Rattle.std.proofs.lemmas.Option.{slice_get-map}
-use Rattle.run_words.specs.declared.words.What.{What}
-use Rattle.run_words.specs.declared.words.What.TheVariants as W
-use Rattle.run_words.specs.declared.words.WireAct.{WireAct}
-use Rattle.run_words.specs.declared.words.WireAct.TheVariants as A
-use Rattle.run_words.specs.Tables.{Pair, pair_cmp}
+use Rattle.run_types.specs.declared.types.What.{What}
+use Rattle.run_types.specs.declared.types.What.TheVariants as W
+use Rattle.run_types.specs.declared.types.WireAct.{WireAct}
+use Rattle.run_types.specs.declared.types.WireAct.TheVariants as A
+use Rattle.run_types.specs.Tables.{Pair, pair_cmp}
 use Rattle.mesh_semantics.specs.Wire.{Frame, Coming, Empty, Stale, Next, capacity, greater, push_within, wanted_of, lose, twice, late, frame_number, ack_number}
 use Rattle.mesh_semantics.specs.KeptWire.{KeptWire, empty_kept, with_fresh, fresh_in, kept_launch, kept_send, kept_send_number, kept_wanted, kept_coming, kept_take, kept_take_frame, kept_hear_number, with_kept_frames, with_kept_acks, kept_act}
-use Rattle.mesh_semantics.specs.Delay.{NumberedPacket}
+use Rattle.mesh_semantics.specs.NumberedPackets.{NumberedPacket}
 use Rattle.node_semantics.specs.Machine.{kept_at}
 use Rattle.rendezvous_protocol.specs.declared.packet.Packet.{Packet}
 use Rattle.rendezvous_protocol.specs.Packets.{numbered}

@@ -1,22 +1,23 @@
 -- What an event leads to, for a machine of code: what it stands for then, and where a packet goes that was posted in it.
 use Rattle.std.proofs.Common.{◌≡◌, ◌≢◌, refl, sym, ap, ap₂, subst, ◌∙◌, ℕ, ◌+◌, ◌*◌, ◌<◌, ◌≤◌, ◌==◌, List, [], ◌∷◌, ◌++◌, length, Option, Some, None, Bool, true, false, if◌then◌else◌, nat_lt, arith}
-use Rattle.run_words.specs.declared.words.Event.{Event}
-use Rattle.run_words.specs.declared.words.What.{What}
-use Rattle.run_words.specs.declared.words.FullKind.{FullKind}
-use Rattle.run_words.specs.declared.words.Placement.{Placement}
+use Rattle.run_types.specs.declared.types.Event.{Event}
+use Rattle.run_types.specs.declared.types.What.{What}
+use Rattle.run_types.specs.declared.types.FullKind.{FullKind}
+use Rattle.run_types.specs.declared.types.Placement.{Placement}
 use Rattle.code_semantics.specs.declared.unit.Unit.{Unit as Code}
 use Rattle.code_semantics.specs.Proper.{IsProper}
 use Rattle.code_semantics.specs.Suits.{Suits}
-use Rattle.run_words.specs.Tables.{Pair, pair_cmp, list_at, Each}
+use Rattle.run_types.specs.Tables.{Pair, pair_cmp, list_at, Each}
 use Rattle.mesh_semantics.specs.Language.{Language}
 use Rattle.mesh_semantics.specs.Config.{Config}
-use Rattle.mesh_semantics.specs.Delay.{Packet, Delay, NumberedPacket}
-use Rattle.run_words.specs.Paths.{next, on_link, is_link}
+use Rattle.mesh_semantics.specs.Delay.{Packet, Delay}
+use Rattle.mesh_semantics.specs.NumberedPackets.{NumberedPacket}
+use Rattle.run_types.specs.Paths.{next, on_link, is_link}
 use Rattle.mesh_semantics.specs.Act as A
 use Rattle.mesh_semantics.specs.Act.{Acted, act, goal_node}
-use Rattle.mesh_semantics.specs.Kept.{After}
+use Rattle.mesh_semantics.specs.EventSoundness.{After}
 use Rattle.mesh_semantics.specs.Sound.{IsPlaced, IsSound}
-use Rattle.run_words.proofs.Laws.{first, second, equal, push_list_same}
+use Rattle.run_types.proofs.Laws.{first, second, equal, push_list_same}
 use Rattle.mesh_semantics.proofs.Laws.{act_kept, fit_of}
 use Rattle.node_semantics.specs.Node as N
 use Rattle.node_semantics.specs.Node.{NodeState, NodeActed, Slot, frames_in, message_count, packet_count, slot_act, slot_in_turn, turn_act, turn_of_slot, within_node, name_at}
@@ -26,9 +27,9 @@ use Rattle.node_semantics.specs.StandsFor.{packets}
 use Rattle.node_semantics.specs.WiresStandFor.{AgreesOn, StandsFor}
 use Rattle.node_semantics.specs.Agrees.{IsFresh, IsOfMesh}
 use Rattle.node_semantics.proofs.Laws.{event_agrees}
-use Rattle.coded_objects.specs.Coded.{Placed, coded}
-use Rattle.coded_objects.specs.OfCode.{IsOfCode}
-use Rattle.coded_objects.proofs.Laws.{code_fits, code_lawful, code_requests}
+use Rattle.mesh_of_code.specs.Coded.{Placed, coded}
+use Rattle.mesh_of_code.specs.CodeInvariant.{IsOfCode}
+use Rattle.mesh_of_code.proofs.Laws.{code_fits, code_lawful, code_requests}
 
 -- lists on a link
 

@@ -6,11 +6,11 @@ use Rattle.std.specs.Option.{option_map}
 use Rattle.std.proofs.lemmas.Option.{slice_get-map, slice_get_within}
 use Rattle.mesh_semantics.specs.Act.{first_of}
 use Rattle.mesh_semantics.specs.Language.{Language}
-use Rattle.run_words.proofs.Laws.{same_some}
+use Rattle.run_types.proofs.Laws.{same_some}
 use Rattle.node_semantics.specs.Node.{NodeState, ready_slots}
 use Rattle.node_semantics.specs.Machine.{any_ready}
-use Rattle.coded_objects.specs.Coded.{Placed}
-use Rattle.node_parts.specs.NodeOf.{NodeOf}
+use Rattle.mesh_of_code.specs.Coded.{Placed}
+use Rattle.node_state.specs.NodeOf.{NodeOf}
 
 module _ {X : Type 0} (t : X → Bool) where
   pub found_one : (xs : List X) (i : ℕ) (x : X) → slice_get xs i ≡ Some x → t x ≡ true → list_any t xs ≡ true

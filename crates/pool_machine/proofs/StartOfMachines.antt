@@ -1,35 +1,35 @@
 -- A machine that was just made stands for the start.
 use Rattle.std.proofs.Common.{◌≡◌, refl, sym, ap, ap₂, subst, ◌∙◌, ℕ, zero, suc, ◌*◌, ◌<◌, ◌≤◌, List, [], ◌∷◌, length, map, set, replicate, Option, Some, None, Bool, arith}
 use Rattle.std.specs.Prelude.{slice_get}
-use Rattle.run_words.specs.declared.words.Place.{Place}
-use Rattle.run_words.specs.declared.words.Place.TheVariants as Pl
-use Rattle.run_words.specs.declared.words.Placement.{Placement}
+use Rattle.run_types.specs.declared.types.Place.{Place}
+use Rattle.run_types.specs.declared.types.Place.TheVariants as Pl
+use Rattle.run_types.specs.declared.types.Placement.{Placement}
 use Rattle.code_semantics.specs.declared.unit.Unit.{Unit as Code}
 use Rattle.code_semantics.specs.Proper.{IsProper}
 use Rattle.code_semantics.specs.Suits.{Suits}
 use Rattle.mesh_semantics.specs.Config.{Config}
-use Rattle.mesh_semantics.specs.Delay.{no_delay, NumberedPacket}
-use Rattle.run_words.specs.ObjectNames.{node_of}
-use Rattle.mesh_semantics.specs.Fit.{Fit}
+use Rattle.mesh_semantics.specs.Delay.{no_delay}
+use Rattle.mesh_semantics.specs.NumberedPackets.{NumberedPacket}
+use Rattle.run_types.specs.ObjectNames.{node_of}
 use Rattle.mesh_semantics.specs.Record.{last_place, root_name, root_node, start}
-use Rattle.run_words.specs.Tables.{Each, Pair, no_entry_empty}
-use Rattle.mesh_semantics.proofs.Laws.{fit_of}
+use Rattle.run_types.specs.Tables.{Each, Pair, no_entry_empty}
+use Rattle.mesh_semantics.proofs.Laws.{fit_of, Fit}
 use Rattle.node_semantics.specs.Node.{NodeState, fresh_slot, set_at}
 use Rattle.node_semantics.specs.Machine.{empty_node, start_with}
 use Rattle.node_semantics.specs.WiresStandFor.{StandsFor, StartAgrees}
 use Rattle.node_semantics.proofs.Laws.{start_agrees}
-use Rattle.coded_objects.specs.Coded.{Placed, coded}
-use Rattle.coded_objects.specs.OfCode.{IsOfCode}
-use Rattle.coded_objects.proofs.Laws.{code_fits, code_requests, code_start_sound, start_there}
+use Rattle.mesh_of_code.specs.Coded.{Placed, coded}
+use Rattle.mesh_of_code.specs.CodeInvariant.{IsOfCode}
+use Rattle.mesh_of_code.proofs.Laws.{code_fits, code_requests, code_start_sound, start_there}
 use Rattle.rendezvous_protocol.specs.declared.packet.Packet.{Packet}
 use Rattle.mesh_routing.specs.Links.{LinksOf}
-use Rattle.node_parts.specs.NodeOf.{NodeOf}
-use Rattle.node_parts.specs.OfUnit.{IsOfUnit}
+use Rattle.node_state.specs.NodeOf.{NodeOf}
+use Rattle.node_state.specs.OfUnit.{IsOfUnit}
 use Rattle.pool_machine.specs.MachineOf.{LinkWires, numbered_link}
-use Rattle.pool_machine.specs.Parts.{AreParts, EachCount, machine_from}
-use Rattle.pool_machine.specs.OnWires.{AreMade, AreWired, EachEntered, machine_on}
-use Rattle.pool_machine.specs.Answers.{nothing_sent}
-use Rattle.pool_machine.specs.Whole.{AreEmpty}
+use Rattle.pool_machine.specs.Parts.{NodesAreWellFormed, EachCount, machine_from}
+use Rattle.pool_machine.specs.OnWires.{AreMade, WiredMachineInvariant, EachEntered, machine_on}
+use Rattle.pool_machine.specs.SentPackets.{nothing_sent}
+use Rattle.pool_machine.specs.MachineInvariant.{AreEmpty}
 use Rattle.pool_machine.proofs.NewWires.{made_entered, made_stand, made_there, sound_start}
 use Rattle.pool_machine.proofs.ChangedNodes.{counts_same, made_set, node_kept, parts_changed, states_set}
 
@@ -72,7 +72,7 @@ module _ (u : Code) (l : Placement) (proper : IsProper u) (suits : Suits l u) (n
     (i : ℕ) (root : i ≡ root_node (last_place l.places)) (n : NodeOf) (here : slice_get nodes i ≡ Some n) (y : Placed) (made : (coded u).root ≡ Some y)
     (n' : NodeOf) (is : n' ≡ record n { state = record n.state { slots = fresh_slot y ∷ [] }; ready = n'.ready }) (fits : IsOfUnit u n')
     (k : LinksOf Packet) (width : k.width ≡ l.width) (height : k.height ≡ l.height) (cells : k.cells ≡ l.cells) (links : k.links ≡ []) where
-  parts : AreParts u l (set nodes i n') k
+  parts : NodesAreWellFormed u l (set nodes i n') k
   parts =
       parts_changed u l nodes k
       (record {
@@ -120,7 +120,7 @@ module _ (u : Code) (l : Placement) (proper : IsProper u) (suits : Suits l u) (n
     pub stands_start : (c : Config Placed) → start (coded u) l ≡ Some c → StandsFor (coded u) l (machine_on (set nodes i n') k.links ws) c (nothing_sent lossy)
     stands_start c e = made_stand u l width' size (set nodes i n') k.links links lossy ws new c (begins c e)
 
-    pub wired_start : AreWired u l (set nodes i n') k ws
+    pub wired_start : WiredMachineInvariant u l (set nodes i n') k ws
     wired_start =
         let s = start_there u proper l in
         record {

@@ -3,35 +3,36 @@ use Rattle.std.proofs.Common.{◌≡◌, ◌≢◌, refl, sym, ap, ap₂, subst,
 use Rattle.std.specs.Prelude.{slice_get}
 use Rattle.std.specs.Option.{option_map}
 use Rattle.std.proofs.lemmas.Option.{slice_get-get_or}
-use Rattle.run_words.specs.declared.words.Event.TheVariants as Ev
-use Rattle.run_words.specs.declared.words.What.{What}
-use Rattle.run_words.specs.declared.words.What.TheVariants as W
-use Rattle.run_words.specs.declared.words.FullKind.{FullKind}
-use Rattle.run_words.specs.declared.words.Placement.{Placement}
+use Rattle.run_types.specs.declared.types.Event.TheVariants as Ev
+use Rattle.run_types.specs.declared.types.What.{What}
+use Rattle.run_types.specs.declared.types.What.TheVariants as W
+use Rattle.run_types.specs.declared.types.FullKind.{FullKind}
+use Rattle.run_types.specs.declared.types.Placement.{Placement}
 use Rattle.code_semantics.specs.declared.unit.Unit.{Unit as Code}
-use Rattle.run_words.specs.Tables.{Pair, pair_cmp, push_list, leaving}
-use Rattle.run_words.specs.Paths.{next}
+use Rattle.run_types.specs.Tables.{Pair, pair_cmp}
+use Rattle.run_types.specs.LinkTables.{push_list, leaving}
+use Rattle.run_types.specs.Paths.{next}
 use Rattle.mesh_semantics.specs.Act.{goal_node}
-use Rattle.run_words.proofs.Laws.{same_some}
+use Rattle.run_types.proofs.Laws.{same_some}
 use Rattle.node_semantics.specs.Node as N
 use Rattle.node_semantics.specs.Node.{NodeState, NodeActed, message_count, turn_act}
-use Rattle.mesh_semantics.specs.Delay.{NumberedPacket}
+use Rattle.mesh_semantics.specs.NumberedPackets.{NumberedPacket}
 use Rattle.node_semantics.specs.Machine.{after_node, machine_act, post_packet, turn_in}
 use Rattle.node_semantics.specs.Agrees.{IsFresh, IsUnused}
 use Rattle.node_semantics.proofs.Laws.{cells_count}
-use Rattle.coded_objects.specs.Coded.{Placed, coded}
-use Rattle.coded_objects.specs.OfCode.{IsOfCode}
-use Rattle.coded_objects.proofs.Laws.{code_lawful, code_requests}
+use Rattle.mesh_of_code.specs.Coded.{Placed, coded}
+use Rattle.mesh_of_code.specs.CodeInvariant.{IsOfCode}
+use Rattle.mesh_of_code.proofs.Laws.{code_lawful, code_requests}
 use Rattle.rendezvous_protocol.specs.declared.packet.Packet.{Packet}
 use Rattle.rendezvous_protocol.specs.Packets.{numbered}
 use Rattle.mesh_routing.specs.Links.{LinksOf}
-use Rattle.node_parts.specs.NodeOf.{NodeOf}
-use Rattle.node_parts.specs.OfUnit.{IsOfUnit}
+use Rattle.node_state.specs.NodeOf.{NodeOf}
+use Rattle.node_state.specs.OfUnit.{IsOfUnit}
 use Rattle.pool_node.specs.Acts.{IsActOf}
 use Rattle.pool_node.specs.ActOf.{Act}
 use Rattle.pool_node.specs.ActOf as T
 use Rattle.pool_machine.specs.MachineOf.{numbered_link}
-use Rattle.pool_machine.specs.Parts.{AreKept, AreParts, IsDid, IsNodeOf, machine_from}
+use Rattle.pool_machine.specs.Parts.{NodesInvariant, NodesAreWellFormed, IsDid, IsNodeOf, machine_from}
 use Rattle.pool_machine.specs.DidOf.{Did}
 use Rattle.pool_machine.specs.DidOf as D
 use Rattle.pool_machine.proofs.NumberedLinks.{leaving_numbered, push_numbered, pushed_filled}
@@ -85,14 +86,14 @@ module _ (u : Code) (l : Placement) (nodes : List NodeOf) (i : ℕ) (n : NodeOf)
             ap₂ (λ (x : List (NodeState Placed)) (y : List (Pair × List NumberedPacket)). record { nodes = x; links = y; wires = None }) states (after_numbered l i packet k),
       )
 
-  pub parts_after : (packet : Option Packet) → AreParts u l nodes k → (n' : NodeOf) → IsNodeOf u l i n' → AreParts u l (set nodes i n') (links_after l i packet k)
+  pub parts_after : (packet : Option Packet) → NodesAreWellFormed u l nodes k → (n' : NodeOf) → IsNodeOf u l i n' → NodesAreWellFormed u l (set nodes i n') (links_after l i packet k)
   parts_after None parts n' is = parts_changed u l nodes k parts i n n' here is
   parts_after (Some p) parts n' is =
       let z = parts_changed u l nodes k parts i n n' here is in
       parts_moved u l (set nodes i n') k z (push_list pair_cmp (i, next l i (goal_node (numbered p).packet)) p k.links)
       (pushed_filled (i, next l i (goal_node (numbered p).packet)) p k.links parts.filled)
 
-  pub node_after : AreParts u l nodes k → (what : What) (packet : Option Packet) (n' : NodeOf) (t : NodeActed Placed) → IsActOf (T.Line what packet) n n' t → IsOfUnit u n' → IsNodeOf u l i n'
+  pub node_after : NodesAreWellFormed u l nodes k → (what : What) (packet : Option Packet) (n' : NodeOf) (t : NodeActed Placed) → IsActOf (T.Line what packet) n n' t → IsOfUnit u n' → IsNodeOf u l i n'
   node_after parts what packet n' t h fits = let a = line_of what packet n n' t h in node_kept u l i n n' a.0 (parts.each i n here) fits a.2
 
 pub same_node : (u : Code) (l : Placement) (i : ℕ) (n n' : NodeOf) → IsNodeOf u l i n → n' ≡ n → IsNodeOf u l i n'
@@ -110,7 +111,7 @@ full_same kind n n' (N.Acts w p x) h = absurd h
 full_same kind n n' N.Idle h = absurd h
 full_same kind n n' N.Nothing h = absurd h
 
-module _ (u : Code) (l : Placement) (nodes : List NodeOf) (k : LinksOf Packet) (kept : AreKept u l nodes k) (i : ℕ) where
+module _ (u : Code) (l : Placement) (nodes : List NodeOf) (k : LinksOf Packet) (kept : NodesInvariant u l nodes k) (i : ℕ) where
   -- a node of the mesh is there
   pub is_there : i < l.width * l.height → i < length nodes
   is_there h = subst (λ z. i < z) (sym kept.parts.count) h
@@ -154,16 +155,13 @@ pub with_packet : (l t : Placement) (i : ℕ) (k new : LinksOf Packet) (packet :
 with_packet l t i k new packet p some table e =
     e ∙ ap (λ (z : Placement). record k { links = push_list pair_cmp (i, next z i (goal_node (numbered p).packet)) p k.links }) table ∙ ap (λ z. links_after l i z k) (sym some)
 
-pub without_packet : (l : Placement) (i : ℕ) (k : LinksOf Packet) (packet : Option Packet) → packet ≡ None → k ≡ links_after l i packet k
-without_packet l i k packet none = ap (λ z. links_after l i z k) (sym none)
-
 -- the whole turn
 abbrev Turned : Code → Placement → ℕ → List NodeOf → LinksOf Packet → ℕ → Did → NodeOf → LinksOf Packet → Type 0
 Turned u l q nodes k i did n' k' =
     (fresh : ℕ) × IsFresh (machine_from nodes k.links) fresh (Ev.Turn i)
     × IsDid did nodes k (set nodes i n') k' (machine_act (coded u) l q fresh (machine_from nodes k.links) (Ev.Turn i))
 
-module _ (u : Code) (l : Placement) (nodes : List NodeOf) (k : LinksOf Packet) (kept : AreKept u l nodes k) (i : ℕ) (inside : i < l.width * l.height) (d : NodeOf) where
+module _ (u : Code) (l : Placement) (nodes : List NodeOf) (k : LinksOf Packet) (kept : NodesInvariant u l nodes k) (i : ℕ) (inside : i < l.width * l.height) (d : NodeOf) where
   pub node_here : slice_get nodes i ≡ Some (get_or nodes i d)
   node_here = slice_get-get_or nodes i d (is_there u l nodes k kept i inside)
 
@@ -214,9 +212,9 @@ module _ (u : Code) (l : Placement) (nodes : List NodeOf) (k : LinksOf Packet) (
     )
 
     pub line_parts : (what : What) (packet : Option Packet) (n' : NodeOf) (k' : LinksOf Packet) → ActedAs (T.Line what packet) n' → IsOfUnit u n' → k' ≡ links_after l i packet k
-        → AreParts u l (set nodes i n') k'
+        → NodesAreWellFormed u l (set nodes i n') k'
     line_parts what packet n' k' h fits e =
-        subst (AreParts u l (set nodes i n')) (sym e)
+        subst (NodesAreWellFormed u l (set nodes i n')) (sym e)
         (parts_after u l nodes i (get_or nodes i d) node_here k k packet kept.parts n' (node_after u l nodes i (get_or nodes i d) node_here k k kept.parts what packet n' _ h.2 fits))
 
     pub line_posts : (what : What) (packet : Option Packet) (p : Packet) (n' : NodeOf) → packet ≡ Some p → ActedAs (T.Line what packet) n'
@@ -225,5 +223,5 @@ module _ (u : Code) (l : Placement) (nodes : List NodeOf) (k : LinksOf Packet) (
         turn_posts u l nodes k kept i (get_or nodes i d) node_here q h.0 inside h.1 what p n'
         (subst (λ z. IsActOf (T.Line what z) (get_or nodes i d) n' (turn_act (coded u) l q (get_or nodes i d).id (leaving k.links i) h.0 (get_or nodes i d).state)) some (act_there (T.Line what packet) n' h.0 h.2))
 
-  pub same_parts : (n' : NodeOf) → n' ≡ get_or nodes i d → AreParts u l (set nodes i n') k
+  pub same_parts : (n' : NodeOf) → n' ≡ get_or nodes i d → NodesAreWellFormed u l (set nodes i n') k
   same_parts n' e = parts_changed u l nodes k kept.parts i (get_or nodes i d) n' node_here (same_node u l i (get_or nodes i d) n' is_node e)

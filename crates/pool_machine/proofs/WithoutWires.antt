@@ -1,24 +1,24 @@
 -- Nodes and links stand for a configuration and a delay whatever their wires do: what is left out of sight here are the wires of both.
 use Rattle.std.proofs.Common.{List, Option, None, refl}
-use Rattle.run_words.specs.declared.words.Placement.{Placement}
+use Rattle.run_types.specs.declared.types.Placement.{Placement}
 use Rattle.code_semantics.specs.declared.unit.Unit.{Unit as Code}
 use Rattle.mesh_semantics.specs.Config.{Config}
 use Rattle.mesh_semantics.specs.Delay.{Wires, Delay}
 use Rattle.mesh_semantics.specs.Language.{Language}
 use Rattle.mesh_semantics.specs.Sound.{IsSound}
-use Rattle.run_words.specs.Tables.{Pair, list_at, pair_cmp}
-use Rattle.run_words.proofs.Laws.{each_map}
+use Rattle.run_types.specs.Tables.{Pair, list_at, pair_cmp}
+use Rattle.run_types.proofs.Laws.{each_map}
 use Rattle.node_semantics.specs.Machine.{KeptWires, Machine}
 use Rattle.node_semantics.specs.StandsFor.{MachineStandsFor}
 use Rattle.node_semantics.specs.WiresStandFor.{StandsFor}
-use Rattle.node_semantics.proofs.KeptNumbers.{fits_kept}
-use Rattle.coded_objects.specs.Coded.{coded}
+use Rattle.node_semantics.proofs.Laws.{fits_kept}
+use Rattle.mesh_of_code.specs.Coded.{coded}
 use Rattle.rendezvous_protocol.specs.declared.packet.Packet.{Packet}
 use Rattle.mesh_routing.specs.Links.{LinksOf}
-use Rattle.node_parts.specs.NodeOf.{NodeOf}
+use Rattle.node_state.specs.NodeOf.{NodeOf}
 use Rattle.pool_machine.specs.MachineOf.{LinkWires}
-use Rattle.pool_machine.specs.Parts.{AreKept, machine_from}
-use Rattle.pool_machine.specs.OnWires.{AreWired, machine_on}
+use Rattle.pool_machine.specs.Parts.{NodesInvariant, machine_from}
+use Rattle.pool_machine.specs.OnWires.{WiredMachineInvariant, machine_on}
 
 -- with other wires on both sides
 module _ {S : Type 0} (g : Language S) (l : Placement) (c : Config S) (d : Delay) (ws : Option Wires) where
@@ -50,7 +50,7 @@ pub stands_without : (u : Code) (l : Placement) (nodes : List NodeOf) (links : L
     → StandsFor (coded u) l (machine_on nodes links ws) c d → StandsFor (coded u) l (machine_from nodes links) c (unwired d)
 stands_without u l nodes links ws c d st = record { state = stands_rewired (coded u) l c d None (machine_on nodes links ws) None st.state; wires = tt }
 
-pub kept_without : (u : Code) (l : Placement) (nodes : List NodeOf) (k : LinksOf Packet) (ws : Option LinkWires) → AreWired u l nodes k ws → AreKept u l nodes k
+pub kept_without : (u : Code) (l : Placement) (nodes : List NodeOf) (k : LinksOf Packet) (ws : Option LinkWires) → WiredMachineInvariant u l nodes k ws → NodesInvariant u l nodes k
 kept_without u l nodes k ws w = record {
   parts = w.parts;
   config = w.config;

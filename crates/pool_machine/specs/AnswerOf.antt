@@ -1,14 +1,14 @@
 -- What an event did, and how a call tells it with the room that is lent for it.
 use Rattle.std.specs.Prelude.{ℕ}
-use Rattle.run_words.specs.declared.words.Event.{Event}
-use Rattle.run_words.specs.declared.words.What.{What}
-use Rattle.run_words.specs.declared.words.Line.{Line as OneLine}
-use Rattle.run_words.specs.declared.words.Line.TheVariants as R
-use Rattle.run_words.specs.declared.words.FullKind.{FullKind}
-use Rattle.pool_machine.specs.declared.words.EventTold.{EventTold}
-use Rattle.pool_machine.specs.declared.words.EventTold.TheVariants as T
-use Rattle.pool_machine.specs.declared.words.Outcome.{Outcome}
-use Rattle.pool_machine.specs.declared.words.Outcome.TheVariants as O
+use Rattle.run_types.specs.declared.types.Event.{Event}
+use Rattle.run_types.specs.declared.types.What.{What}
+use Rattle.run_types.specs.declared.types.Line.{Line as OneLine}
+use Rattle.run_types.specs.declared.types.Line.TheVariants as R
+use Rattle.run_types.specs.declared.types.FullKind.{FullKind}
+use Rattle.pool_machine.specs.declared.types.EventOutcome.{EventOutcome}
+use Rattle.pool_machine.specs.declared.types.EventOutcome.TheVariants as T
+use Rattle.pool_machine.specs.declared.types.Outcome.{Outcome}
+use Rattle.pool_machine.specs.declared.types.Outcome.TheVariants as O
 
 -- its line; or nothing, since it would pass this limit of a node
 pub data Answer : Type 0 where
@@ -16,7 +16,7 @@ pub data Answer : Type 0 where
   Full : (kind : FullKind) (node : ℕ) → Answer
 
 -- what is told of an event with this in the room
-abbrev pub answer_of : EventTold → Event → What → Answer
+abbrev pub answer_of : EventOutcome → Event → What → Answer
 answer_of (T.Line number) event what = Line (R.Event number event what)
 answer_of (T.Full kind node) event what = Full kind node
 

@@ -1,28 +1,28 @@
 -- What the calls of a machine tell, for every sound configuration of code with its delay that the machine stands for.
-use Rattle.std.specs.Prelude.{◌≡◌, ℕ, ◌+◌, ◌*◌, ◌<◌, length, Option, Some, Bool, true, is_some, if◌then◌else◌}
-use Rattle.run_words.specs.declared.words.Event.{Event}
-use Rattle.run_words.specs.declared.words.Event.TheVariants as Ev
-use Rattle.run_words.specs.declared.words.What.{What}
-use Rattle.run_words.specs.declared.words.What.TheVariants as W
-use Rattle.run_words.specs.declared.words.Line.TheVariants as R
-use Rattle.run_words.specs.declared.words.Placement.{Placement}
+use Rattle.std.specs.Prelude.{◌≡◌, ℕ, ◌+◌, ◌*◌, ◌<◌, length, Option, Some, Bool, true, is_some}
+use Rattle.run_types.specs.declared.types.Event.{Event}
+use Rattle.run_types.specs.declared.types.Event.TheVariants as Ev
+use Rattle.run_types.specs.declared.types.What.{What}
+use Rattle.run_types.specs.declared.types.Line.TheVariants as R
+use Rattle.run_types.specs.declared.types.Placement.{Placement}
 use Rattle.code_semantics.specs.declared.unit.Unit.{Unit as Code}
 use Rattle.mesh_semantics.specs.Config.{Config, object_of}
-use Rattle.mesh_semantics.specs.Delay.{Delay, no_delay, no_delay_on_wires}
+use Rattle.mesh_semantics.specs.Delay.{Delay}
 use Rattle.mesh_semantics.specs.Act as A
 use Rattle.mesh_semantics.specs.Act.{Acted}
-use Rattle.run_words.specs.Paths.{IsLink}
+use Rattle.run_types.specs.Paths.{IsLink}
 use Rattle.mesh_semantics.specs.Record.{shown, start}
 use Rattle.mesh_semantics.specs.Sound.{IsSound}
 use Rattle.mesh_semantics.specs.Standing as T
 use Rattle.mesh_semantics.specs.Standing.{standing}
-use Rattle.run_words.specs.Partial.{◌>>=◌}
+use Rattle.run_types.specs.Partial.{◌>>=◌}
 use Rattle.node_semantics.specs.WiresStandFor.{StandsFor}
-use Rattle.coded_objects.specs.Coded.{Placed, coded}
-use Rattle.coded_objects.specs.OfCode.{IsOfCode}
+use Rattle.mesh_of_code.specs.Coded.{Placed, coded}
+use Rattle.mesh_of_code.specs.CodeInvariant.{IsOfCode}
 use Rattle.pool_machine.specs.AnswerOf.{Answer}
 use Rattle.pool_machine.specs.AnswerOf as O
 use Rattle.pool_machine.specs.MachineOf.{MachineOf, machine_of}
+use Rattle.pool_machine.specs.SentPackets.{moved, nothing_sent}
 
 -- the node is of the mesh, or the link is
 abbrev pub IsOfMesh : Placement → Event → Type 0
@@ -37,21 +37,9 @@ IsServed lossy (Ev.Link a b) = Unit {0}
 IsServed lossy (Ev.Wire w a b) = lossy ≡ true
 
 -- the machine stands for a configuration of code with its delay, which is sound
-pub record Stands (m : MachineOf) (c : Config Placed) (d : Delay) : Type 0 where
+pub record MachineRepresents (m : MachineOf) (c : Config Placed) (d : Delay) : Type 0 where
   pub sound : IsSound (coded m.unit) (IsOfCode m.unit) m.placement c d
   pub stands : StandsFor (coded m.unit) m.placement (machine_of m) c d
-
--- one where a packet has left a link
-abbrev pub moved : Event → What → ℕ
-moved (Ev.Turn n) what = 0
-moved (Ev.Link a b) W.Idle = 0
-moved (Ev.Link a b) (W.Stale n) = 0
-moved (Ev.Link a b) what = 1
-moved (Ev.Wire w a b) what = 0
-
--- nothing is on its way, on links that are wires or not
-abbrev pub nothing_sent : Bool → Delay
-nothing_sent lossy = if lossy then no_delay_on_wires else no_delay
 
 -- A machine that was just made: it has done nothing, and stands for the start, with nothing on its way.
 pub record IsStart (u : Code) (l : Placement) (wired : Bool) (m : MachineOf) : Type 0 where
@@ -61,7 +49,7 @@ pub record IsStart (u : Code) (l : Placement) (wired : Bool) (m : MachineOf) : T
   pub done : m.done ≡ 0
   pub moves : m.moves ≡ 0
   pub transitions : m.transitions ≡ 0
-  pub stands : (c : Config Placed) → start (coded u) l ≡ Some c → Stands m c (nothing_sent wired)
+  pub stands : (c : Config Placed) → start (coded u) l ≡ Some c → MachineRepresents m c (nothing_sent wired)
 
 -- what is the same after an event
 pub record IsAfter (old new : MachineOf) (e : Event) (what : What) : Type 0 where
@@ -74,7 +62,7 @@ pub record IsAfter (old new : MachineOf) (e : Event) (what : What) : Type 0 wher
 
 -- The event's answer is that of the configuration: its line with the next number, and the machine then stands for what is after it; or its limit, and the machine is as before.
 abbrev pub IsOutcome : Event → MachineOf → Answer → MachineOf → Acted Placed → Type 0
-IsOutcome e old (O.Line line) new (A.Acts w c d) = (line ≡ R.Event (old.done + 1) e w) × IsAfter old new e w × Stands new c d
+IsOutcome e old (O.Line line) new (A.Acts w c d) = (line ≡ R.Event (old.done + 1) e w) × IsAfter old new e w × MachineRepresents new c d
 IsOutcome e old (O.Full kind node) new (A.Full k n) = (kind ≡ k) × (node ≡ n) × (new ≡ old)
 IsOutcome e old _ new _ = ⊥
 

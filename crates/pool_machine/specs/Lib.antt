@@ -1,8 +1,9 @@
 pub mod MachineOf
 pub mod Parts
 pub mod OnWires
-pub mod Whole
-pub mod Told
+pub mod MachineInvariant
+pub mod ObjectReport
 pub mod Answers
+pub mod SentPackets
 pub mod DidOf
 pub mod AnswerOf

@@ -2,17 +2,17 @@
 use Rattle.std.specs.Prelude.{ℕ, List, Option, map, refl}
 use Rattle.std.specs.Option.{option_map}
 use Rattle.std.specs.Coded.{Coded, code_by, coded×, coded_list, coded_option, coded_ℕ}
-use Rattle.run_words.specs.declared.words.Placement.{Placement}
+use Rattle.run_types.specs.declared.types.Placement.{Placement}
 use Rattle.code_semantics.specs.declared.unit.Unit.{Unit as Code}
-use Rattle.run_words.specs.Tables.{Pair}
+use Rattle.run_types.specs.Tables.{Pair}
 use Rattle.mesh_semantics.specs.Wire.{Frame}
 use Rattle.mesh_semantics.specs.KeptWire.{KeptWire}
-use Rattle.coded_objects.specs.Coded.{Placed}
-use Rattle.mesh_semantics.specs.Delay.{NumberedPacket}
+use Rattle.mesh_of_code.specs.Coded.{Placed}
+use Rattle.mesh_semantics.specs.NumberedPackets.{NumberedPacket}
 use Rattle.node_semantics.specs.Machine.{KeptWires, Machine}
 use Rattle.rendezvous_protocol.specs.declared.packet.Packet.{Packet}
 use Rattle.rendezvous_protocol.specs.Packets.{numbered}
-use Rattle.node_parts.specs.NodeOf.{NodeOf}
+use Rattle.node_state.specs.NodeOf.{NodeOf}
 
 -- what is kept of wires, by the ends of their links
 abbrev pub LinkWires : Type 0

@@ -3,28 +3,28 @@ use Rattle.std.specs.Prelude.{◌≡◌, ◌⊎◌, ℕ, ◌+◌, ◌<◌, ◌==
 use Rattle.std.specs.Option.{option_map, unwrap_or}
 use Rattle.std.specs.FinMap.{find, put}
 use Rattle.std.specs.BTreeMap.{BTreeMap}
-use Rattle.run_words.specs.declared.words.Event.{Event}
-use Rattle.run_words.specs.declared.words.What.{What}
-use Rattle.run_words.specs.declared.words.What.TheVariants as W
-use Rattle.run_words.specs.declared.words.Placement.{Placement}
+use Rattle.run_types.specs.declared.types.Event.{Event}
+use Rattle.run_types.specs.declared.types.What.{What}
+use Rattle.run_types.specs.declared.types.What.TheVariants as W
+use Rattle.run_types.specs.declared.types.Placement.{Placement}
 use Rattle.code_semantics.specs.declared.unit.Unit.{Unit as Code}
 use Rattle.mesh_semantics.specs.Config.{Config}
 use Rattle.mesh_semantics.specs.Delay.{Delay}
-use Rattle.run_words.specs.Paths.{AreNeighbours, IsLink}
+use Rattle.run_types.specs.Paths.{AreNeighbours, IsLink}
 use Rattle.mesh_semantics.specs.Sound.{IsSound}
-use Rattle.run_words.specs.Tables.{Pair, list_at, pair_cmp}
+use Rattle.run_types.specs.Tables.{Pair, list_at, pair_cmp}
 use Rattle.mesh_semantics.specs.KeptWire.{KeptWire, empty_kept}
-use Rattle.coded_objects.specs.Coded.{Placed, coded}
-use Rattle.coded_objects.specs.OfCode.{IsOfCode}
+use Rattle.mesh_of_code.specs.Coded.{Placed, coded}
+use Rattle.mesh_of_code.specs.CodeInvariant.{IsOfCode}
 use Rattle.node_semantics.specs.Machine as M
 use Rattle.node_semantics.specs.Machine.{Machine, MachineActed, machine_act}
 use Rattle.node_semantics.specs.Agrees.{IsFresh}
 use Rattle.node_semantics.specs.WiresStandFor.{StandsFor}
 use Rattle.rendezvous_protocol.specs.declared.packet.Packet.{Packet}
 use Rattle.mesh_routing.specs.Links.{LinksOf}
-use Rattle.node_parts.specs.NodeOf.{NodeOf}
+use Rattle.node_state.specs.NodeOf.{NodeOf}
 use Rattle.pool_machine.specs.MachineOf.{LinkWires, numbered_link, numbered_wires}
-use Rattle.pool_machine.specs.Parts.{AreParts}
+use Rattle.pool_machine.specs.Parts.{NodesAreWellFormed}
 use Rattle.pool_machine.specs.DidOf.{Did}
 use Rattle.pool_machine.specs.DidOf as D
 
@@ -75,8 +75,8 @@ AreMade width size true None = ⊥
 AreMade width size false (Some ws) = ⊥
 
 -- nodes, links and wires of the unit and the placement, with a sound configuration and its delay that they stand for
-pub record AreWired (u : Code) (l : Placement) (nodes : List NodeOf) (k : LinksOf Packet) (wires : Option LinkWires) : Type 0 where
-  pub parts : AreParts u l nodes k
+pub record WiredMachineInvariant (u : Code) (l : Placement) (nodes : List NodeOf) (k : LinksOf Packet) (wires : Option LinkWires) : Type 0 where
+  pub parts : NodesAreWellFormed u l nodes k
   pub there : HaveWires l wires
   pub config : Config Placed
   pub delay : Delay
@@ -84,14 +84,14 @@ pub record AreWired (u : Code) (l : Placement) (nodes : List NodeOf) (k : LinksO
   pub stands : StandsFor (coded u) l (machine_on nodes k.links wires) config delay
 
 -- what happened on a wire is told, and the wire is then as that says; or there was nothing to be done, and it is as it was
-abbrev pub IsTold : KeptWire Packet → Option (What × KeptWire Packet) → What → KeptWire Packet → Type 0
-IsTold old None what new = (what ≡ W.Idle) × (new ≡ old)
-IsTold old (Some r) what new = (r.0 ≡ what) × (r.1 ≡ new)
+abbrev pub WireReports : KeptWire Packet → Option (What × KeptWire Packet) → What → KeptWire Packet → Type 0
+WireReports old None what new = (what ≡ W.Idle) × (new ≡ old)
+WireReports old (Some r) what new = (r.0 ≡ what) × (r.1 ≡ new)
 
 -- the same of the wire of a link, where all others are as they were
-abbrev pub IsToldAt : LinkWires → Pair → Option (What × KeptWire Packet) → What → LinkWires → Type 0
-IsToldAt old k None what new = (what ≡ W.Idle) × (new ≡ old)
-IsToldAt old k (Some r) what new = (r.0 ≡ what) × (new ≡ put pair_cmp k r.1 old)
+abbrev pub LinkWireReports : LinkWires → Pair → Option (What × KeptWire Packet) → What → LinkWires → Type 0
+LinkWireReports old k None what new = (what ≡ W.Idle) × (new ≡ old)
+LinkWireReports old k (Some r) what new = (r.0 ≡ what) × (new ≡ put pair_cmp k r.1 old)
 
 -- what it tells is what the machine does by the definition, and it is then as that says
 abbrev pub IsDidOn : Did → List NodeOf → LinksOf Packet → Option LinkWires → List NodeOf → LinksOf Packet → Option LinkWires → MachineActed Placed → Type 0
@@ -100,6 +100,6 @@ IsDidOn (D.Full kind node) nodes links wires nodes' links' wires' (M.Full k n) =
 IsDidOn _ nodes links wires nodes' links' wires' _ = ⊥
 
 -- the event makes that by the definition, with some number for its request that is not out
-abbrev pub Makes : Code → Placement → ℕ → Event → Did → List NodeOf → LinksOf Packet → Option LinkWires → List NodeOf → LinksOf Packet → Option LinkWires → Type 0
-Makes u l q e did nodes links wires nodes' links' wires' =
+abbrev pub EventMakes : Code → Placement → ℕ → Event → Did → List NodeOf → LinksOf Packet → Option LinkWires → List NodeOf → LinksOf Packet → Option LinkWires → Type 0
+EventMakes u l q e did nodes links wires nodes' links' wires' =
     (fresh : ℕ) × IsFresh (machine_on nodes links.links wires) fresh e × IsDidOn did nodes links wires nodes' links' wires' (machine_act (coded u) l q fresh (machine_on nodes links.links wires) e)

@@ -1,23 +1,23 @@
 -- What a machine keeps of its nodes and links from one event to the next, and what a turn and a move of a link's head do to them; its wires are left out of sight.
 use Rattle.std.specs.Prelude.{◌≡◌, ℕ, ◌*◌, List, Some, None, true, length, map, slice_get}
-use Rattle.run_words.specs.declared.words.Placement.{Placement}
+use Rattle.run_types.specs.declared.types.Placement.{Placement}
 use Rattle.code_semantics.specs.declared.unit.Unit.{Unit as Code}
 use Rattle.code_semantics.specs.Proper.{IsProper}
 use Rattle.code_semantics.specs.Suits.{Suits}
 use Rattle.mesh_semantics.specs.Config.{Config}
 use Rattle.mesh_semantics.specs.Delay.{Delay}
-use Rattle.run_words.specs.Tables.{Each, Pair, no_entry_empty}
+use Rattle.run_types.specs.Tables.{Each, Pair, no_entry_empty}
 use Rattle.mesh_semantics.specs.Sound.{IsSound}
-use Rattle.coded_objects.specs.Coded.{Placed, coded}
-use Rattle.coded_objects.specs.OfCode.{IsOfCode}
+use Rattle.mesh_of_code.specs.Coded.{Placed, coded}
+use Rattle.mesh_of_code.specs.CodeInvariant.{IsOfCode}
 use Rattle.node_semantics.specs.Machine as M
 use Rattle.node_semantics.specs.Machine.{Machine, MachineActed}
 use Rattle.node_semantics.specs.WiresStandFor.{StandsFor}
 use Rattle.rendezvous_protocol.specs.declared.packet.Packet.{Packet}
 use Rattle.mesh_routing.specs.Links.{LinksOf}
 use Rattle.mesh_routing.specs.declared.mesh.Mesh.{Mesh}
-use Rattle.node_parts.specs.NodeOf.{NodeOf}
-use Rattle.node_parts.specs.OfUnit.{IsOfPlacement, IsOfUnit}
+use Rattle.node_state.specs.NodeOf.{NodeOf}
+use Rattle.node_state.specs.OfUnit.{IsOfPlacement, IsOfUnit}
 use Rattle.pool_machine.specs.MachineOf.{numbered_link}
 use Rattle.pool_machine.specs.DidOf.{Did}
 use Rattle.pool_machine.specs.DidOf as D
@@ -37,7 +37,7 @@ abbrev pub AreOfUnit : Code → List NodeOf → Type 0
 AreOfUnit u nodes = (i : ℕ) (n : NodeOf) → slice_get nodes i ≡ Some n → (n.id ≡ i) × IsOfUnit u n
 
 -- nodes and links of the unit and the placement
-pub record AreParts (u : Code) (l : Placement) (nodes : List NodeOf) (k : LinksOf Packet) : Type 0 where
+pub record NodesAreWellFormed (u : Code) (l : Placement) (nodes : List NodeOf) (k : LinksOf Packet) : Type 0 where
   pub proper : IsProper u
   pub suits : Suits l u
   pub count : length nodes ≡ l.width * l.height
@@ -48,8 +48,8 @@ pub record AreParts (u : Code) (l : Placement) (nodes : List NodeOf) (k : LinksO
   pub filled : no_entry_empty k.links ≡ true
 
 -- such nodes and links, with a sound configuration and its delay that they stand for where no link is a wire
-pub record AreKept (u : Code) (l : Placement) (nodes : List NodeOf) (k : LinksOf Packet) : Type 0 where
-  pub parts : AreParts u l nodes k
+pub record NodesInvariant (u : Code) (l : Placement) (nodes : List NodeOf) (k : LinksOf Packet) : Type 0 where
+  pub parts : NodesAreWellFormed u l nodes k
   pub config : Config Placed
   pub delay : Delay
   pub sound : IsSound (coded u) (IsOfCode u) l config delay

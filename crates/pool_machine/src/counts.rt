@@ -1,9 +1,9 @@
 //! What a machine counts of its events.
 ghost use Rattle.std.specs.Prelude.{◌≡◌, ◌<◌, ◌≤◌, ◌^◌, length};
 ghost use Rattle.mesh_semantics.specs.Record.{shown};
-ghost use Rattle.pool_machine.specs.Answers.{moved};
+ghost use Rattle.pool_machine.specs.SentPackets.{moved};
 
-use run_words::{Event, What};
+use run_types::{Event, What};
 
 /// One where a packet has left a link.
 pub(crate) fn moved_by(event: &Event, what: &What) -> u64

@@ -1,4 +1,6 @@
-//! The machine of a placed program: all nodes, and the links between them.
+//! The machine of a placed program: all nodes and the links between them, one event at a time.
+//!
+//! Does not know: trees of programs, texts and schedules.
 #![tactic(auto)]
 
 mod counts;
@@ -8,11 +10,11 @@ mod quiet;
 mod report;
 mod step;
 mod turns;
+mod types;
 mod wired;
 mod wires;
-mod words;
 
 pub use machine::Machine;
-pub use pool_node::Room;
-pub use run_words::Standing;
-pub use words::{EventTold, OpenFault, Outcome};
+pub use pool_node::StepOutput;
+pub use run_types::Standing;
+pub use types::{EventOutcome, OpenFault, Outcome};

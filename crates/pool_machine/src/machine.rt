@@ -7,25 +7,25 @@ ghost use Rattle.code_semantics.specs.Suits.{Suits};
 ghost use Rattle.mesh_semantics.specs.Config.{Config};
 ghost use Rattle.mesh_semantics.specs.Delay.{Delay};
 ghost use Rattle.mesh_semantics.specs.Act.{act, is_quiet, object_count};
-ghost use Rattle.run_words.specs.Routes.{IsRouted};
+ghost use Rattle.run_types.specs.RoutedPlacements.{IsRouted};
 ghost use Rattle.mesh_semantics.specs.Record.{last_place, root_node};
-ghost use Rattle.coded_objects.specs.Coded.{Placed, coded};
+ghost use Rattle.mesh_of_code.specs.Coded.{Placed, coded};
 ghost use Rattle.pool_node.specs.Acts.{told_standing};
 ghost use Rattle.pool_machine.specs.AnswerOf.{answer_of, answer_seen};
-ghost use Rattle.pool_machine.specs.Whole.{AreEmpty};
-ghost use Rattle.pool_machine.specs.Answers.{IsOfMesh, IsOutcome, IsServed, IsStart, Stands, class_at, standing_at};
+ghost use Rattle.pool_machine.specs.MachineInvariant.{AreEmpty};
+ghost use Rattle.pool_machine.specs.Answers.{IsOfMesh, IsOutcome, IsServed, IsStart, MachineRepresents, class_at, standing_at};
 
 use crate::counts::{moved_by, shown_by};
 use crate::quiet::{is_quiet_now, quiet_after};
 use crate::report::{class_in, has_faulted, standing_in};
 use crate::step::step;
+use crate::types::{EventOutcome, OpenFault, Outcome, StepOutcome};
 use crate::wires::{Wires, make_wires};
-use crate::words::{EventTold, Made, OpenFault, Outcome};
 use code_semantics::Unit;
 use mesh_routing::{Links, Mesh};
-use pool_node::{Node, Room};
+use pool_node::{Node, StepOutput};
 use rendezvous_protocol::Packet;
-use run_words::{Event, Line, NameId, Place, Placement, Standing};
+use run_types::{Event, Line, NameId, Place, Placement, Standing};
 use std::alloc::{AllocError, Global};
 use std::marker::Model;
 use table_routing::Table;
@@ -49,24 +49,24 @@ pub struct Machine<'a> {
 }
 
 impl<'a> Model for Machine<'a> {
-    ghost use Rattle.run_words.specs.contracts.frames.CodeObject as image;
+    ghost use Rattle.run_types.specs.contracts.frames.CodeObject as image;
     ghost use Rattle.code_semantics.specs.contracts.unit.Unit as unit_of;
-    ghost use Rattle.run_words.specs.contracts.words.Placement as placement_of;
-    ghost use Rattle.run_words.specs.contracts.words.Error as error;
-    ghost use Rattle.run_words.specs.contracts.words.Value as value;
+    ghost use Rattle.run_types.specs.contracts.types.Placement as placement_of;
+    ghost use Rattle.run_types.specs.contracts.types.Error as error;
+    ghost use Rattle.run_types.specs.contracts.types.Value as value;
     ghost use Rattle.rendezvous_protocol.specs.contracts.packet.Packet as packet;
-    ghost use Rattle.node_parts.specs.NodeOf.{node_code};
+    ghost use Rattle.node_state.specs.NodeOf.{node_code};
     ghost use Rattle.pool_machine.specs.MachineOf.{MachineOf, machine_code};
 
     ghost Value = { MachineOf };
 
     ghost coded = { machine_code unit_of.the_row.coded placement_of.the_row.coded (node_code image.the_row.coded error.the_row.coded value.the_row.coded) packet.the_row.coded };
 
-    ghost use Rattle.pool_machine.specs.Whole.{IsWhole, machine_view};
+    ghost use Rattle.pool_machine.specs.MachineInvariant.{MachineInvariant, machine_view};
 
     ghost view = { machine_view };
 
-    ghost invariant = { IsWhole };
+    ghost invariant = { MachineInvariant };
 }
 
 /// Makes all nodes of a mesh, without objects.
@@ -114,11 +114,11 @@ fn table_of<'a>(alloc: Global, placement: &'a Placement) -> Result<Table<'a>, Al
 }
 
 /// What is told with this in the room, as one value.
-fn outcome_told(told: EventTold, event: Event, room: &Room) -> Outcome
+fn outcome_told(told: EventOutcome, event: Event, room: &StepOutput) -> Outcome
     ensures { answer_seen result ≡ answer_of told event room.now.what }
 {
     match told {
-        EventTold::Line { number } => {
+        EventOutcome::Line { number } => {
             let what = room.what;
             Outcome::Line(Line::Event {
                 number,
@@ -126,7 +126,7 @@ fn outcome_told(told: EventTold, event: Event, room: &Room) -> Outcome
                 what,
             })
         }
-        EventTold::Full { kind, node } => Outcome::Full { kind, node },
+        EventOutcome::Full { kind, node } => Outcome::Full { kind, node },
     }
 }
 
@@ -181,21 +181,21 @@ impl<'a> Machine<'a> {
         requires served { IsServed (is_some self.old.wires) event }
         requires quantum { (1 ≤ quantum) × (quantum ≤ 10000) }
         requires few { self.old.done < 2 ^ 32 - 1 }
-        ensures { (c : Config Placed) (d : Delay) → Stands self.old c d
+        ensures { (c : Config Placed) (d : Delay) → MachineRepresents self.old c d
             → IsOutcome event self.old (answer_seen result) self.new (act (coded self.old.unit) self.old.placement quantum c d event) }
     {
-        let mut room = Room::make();
-        let told = self.event_in(event, quantum, &mut room);
+        let mut room = StepOutput::make();
+        let told = self.event_into(event, quantum, &mut room);
         outcome_told(told, event, &room)
     }
 
     /// Makes an event as `event` does, and tells what its line shows in the room that is lent.
-    pub fn event_in(&mut self, event: Event, quantum: u32, room: &mut Room) -> EventTold
+    pub fn event_into(&mut self, event: Event, quantum: u32, room: &mut StepOutput) -> EventOutcome
         requires mesh { IsOfMesh self.old.placement event }
         requires served { IsServed (is_some self.old.wires) event }
         requires quantum { (1 ≤ quantum) × (quantum ≤ 10000) }
         requires few { self.old.done < 2 ^ 32 - 1 }
-        ensures { (c : Config Placed) (d : Delay) → Stands self.old c d
+        ensures { (c : Config Placed) (d : Delay) → MachineRepresents self.old c d
             → IsOutcome event self.old (answer_of result event room.new.what) self.new (act (coded self.old.unit) self.old.placement quantum c d event) }
     {
         let did = step(
@@ -210,8 +210,8 @@ impl<'a> Machine<'a> {
             room,
         );
         match did {
-            Made::Full { kind, node } => EventTold::Full { kind, node },
-            Made::Line => {
+            StepOutcome::Full { kind, node } => EventOutcome::Full { kind, node },
+            StepOutcome::Line => {
                 self.done += 1;
                 self.moves += moved_by(&event, &room.what);
                 self.transitions += shown_by(&room.what);
@@ -223,14 +223,14 @@ impl<'a> Machine<'a> {
                     &room.what,
                     self.quiet,
                 );
-                EventTold::Line { number: self.done }
+                EventOutcome::Line { number: self.done }
             }
         }
     }
 
     /// Whether no packet is on a link, all that wires handed out is acknowledged, and no object is ready.
     pub fn is_quiet(&self) -> bool
-        ensures { (c : Config Placed) (d : Delay) → Stands self.now c d → result ≡ is_quiet (coded self.now.unit) c d }
+        ensures { (c : Config Placed) (d : Delay) → MachineRepresents self.now c d → result ≡ is_quiet (coded self.now.unit) c d }
     {
         self.quiet
     }
@@ -258,7 +258,7 @@ impl<'a> Machine<'a> {
 
     /// Whether an object has met a language error.
     pub fn any_faulted(&self) -> bool
-        ensures { (c : Config Placed) (d : Delay) → Stands self.now c d → result ≡ list_any (λ e. is_some e.1.fault) c.objects }
+        ensures { (c : Config Placed) (d : Delay) → MachineRepresents self.now c d → result ≡ list_any (λ e. is_some e.1.fault) c.objects }
     {
         has_faulted(self.nodes.as_slice())
     }
@@ -266,7 +266,7 @@ impl<'a> Machine<'a> {
     /// The number of objects of a node.
     pub fn objects_of(&self, node: u32) -> u32
         requires { node < self.now.placement.width * self.now.placement.height }
-        ensures count { (c : Config Placed) (d : Delay) → Stands self.now c d → result ≡ object_count c node }
+        ensures count { (c : Config Placed) (d : Delay) → MachineRepresents self.now c d → result ≡ object_count c node }
         ensures few { result ≤ 4096 }
     {
         self.nodes[node as usize].objects()
@@ -274,7 +274,7 @@ impl<'a> Machine<'a> {
 
     /// Where the object of a name stands. None exactly where no object has the name.
     pub fn status_of(&self, name: u32) -> Option<Standing>
-        ensures { (c : Config Placed) (d : Delay) → Stands self.now c d → option_map told_standing result ≡ standing_at self.now.unit c d name }
+        ensures { (c : Config Placed) (d : Delay) → MachineRepresents self.now c d → option_map told_standing result ≡ standing_at self.now.unit c d name }
     {
         standing_in(
             self.unit,
@@ -288,7 +288,7 @@ impl<'a> Machine<'a> {
 
     /// The class of the object of a name. None exactly where no object has the name.
     pub fn class_of(&self, name: u32) -> Option<NameId>
-        ensures { (c : Config Placed) (d : Delay) → Stands self.now c d → option_map (λ k. k.0) result ≡ class_at self.now.unit c name }
+        ensures { (c : Config Placed) (d : Delay) → MachineRepresents self.now c d → option_map (λ k. k.0) result ≡ class_at self.now.unit c name }
     {
         class_in(self.unit, self.nodes.as_slice(), name)
     }

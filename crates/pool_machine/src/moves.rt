@@ -1,21 +1,21 @@
 //! The move of a link's head.
 ghost use Rattle.std.specs.Prelude.{◌≡◌, ◌≢◌, map, Some, slice_get};
-ghost use Rattle.run_words.specs.Paths.{IsLink};
-ghost use Rattle.run_words.specs.Tables.{list_at, pair_cmp};
+ghost use Rattle.run_types.specs.Paths.{IsLink};
+ghost use Rattle.run_types.specs.Tables.{list_at, pair_cmp};
 ghost use Rattle.mesh_semantics.specs.Act.{goal_node};
-ghost use Rattle.coded_objects.specs.Coded.{coded};
+ghost use Rattle.mesh_of_code.specs.Coded.{coded};
 ghost use Rattle.node_semantics.specs.Machine.{move_in};
 ghost use Rattle.rendezvous_protocol.specs.Packets.{numbered};
 ghost use Rattle.pool_machine.specs.DidOf.{did_of};
-ghost use Rattle.pool_machine.specs.Parts.{AreKept, AreParts, EachCount, IsDid, machine_from};
+ghost use Rattle.pool_machine.specs.Parts.{NodesInvariant, NodesAreWellFormed, EachCount, IsDid, machine_from};
 
 use crate::turns::post;
-use crate::words::Made;
+use crate::types::StepOutcome;
 use code_semantics::Unit;
 use mesh_routing::Links;
-use pool_node::{Node, Room, Told};
+use pool_node::{Node, StepOutput, TurnOutcome};
 use rendezvous_protocol::{Packet, goal};
-use run_words::{FullKind, Placement, What};
+use run_types::{FullKind, Placement, What};
 use table_routing::Table;
 
 /// The head of a link at its goal: it is received, and leaves the link, unless a limit is met.
@@ -28,33 +28,33 @@ fn arrive(
     from: u32,
     to: u32,
     packet: Packet,
-    room: &mut Room,
-) -> Made
-    requires kept { AreKept unit.now placement.now nodes.old links.old }
+    room: &mut StepOutput,
+) -> StepOutcome
+    requires kept { NodesInvariant unit.now placement.now nodes.old links.old }
     requires table { table.now ≡ placement.now }
     requires link { IsLink placement.now (from, to) }
     requires head { slice_get (list_at pair_cmp (from, to) links.old.links) 0 ≡ Some packet }
     requires goal { goal_node (numbered packet).packet ≡ to }
     ensures act { IsDid (did_of result room.new.what) nodes.old links.old nodes.new links.new
         (move_in (coded unit.now) placement.now (machine_from nodes.old links.old.links) from to (map numbered (list_at pair_cmp (from, to) links.old.links))) }
-    ensures parts { AreParts unit.now placement.now nodes.new links.new }
+    ensures parts { NodesAreWellFormed unit.now placement.now nodes.new links.new }
     ensures counts { map (λ n. n.state.made) nodes.new ≡ map (λ n. n.state.made) nodes.old }
 {
     let leaving = links.leaving(to);
-    match nodes[to as usize].receive_in(unit, placement, packet, leaving, room) {
-        Told::Line => {
+    match nodes[to as usize].receive_into(unit, placement, packet, leaving, room) {
+        TurnOutcome::Line => {
             let _ = links.move_head(from, to);
-            Made::Line
+            StepOutcome::Line
         }
-        Told::Leaves => {
+        TurnOutcome::Leaves => {
             let _ = links.move_head(from, to);
             post(table, links, to, &room.packet);
-            Made::Line
+            StepOutcome::Line
         }
-        Told::Full { kind } => Made::Full { kind, node: to },
-        Told::Idle => {
+        TurnOutcome::Full { kind } => StepOutcome::Full { kind, node: to },
+        TurnOutcome::Idle => {
             room.what = What::Idle;
-            Made::Line
+            StepOutcome::Line
         }
     }
 }
@@ -69,21 +69,21 @@ fn pass(
     from: u32,
     to: u32,
     packet: Packet,
-    room: &mut Room,
-) -> Made
-    requires kept { AreKept unit.now placement.now nodes.now links.old }
+    room: &mut StepOutput,
+) -> StepOutcome
+    requires kept { NodesInvariant unit.now placement.now nodes.now links.old }
     requires table { table.now ≡ placement.now }
     requires link { IsLink placement.now (from, to) }
     requires head { slice_get (list_at pair_cmp (from, to) links.old.links) 0 ≡ Some packet }
     requires goal { goal_node (numbered packet).packet ≢ to }
     ensures act { IsDid (did_of result room.new.what) nodes.now links.old nodes.now links.new
         (move_in (coded unit.now) placement.now (machine_from nodes.now links.old.links) from to (map numbered (list_at pair_cmp (from, to) links.old.links))) }
-    ensures parts { AreParts unit.now placement.now nodes.now links.new }
+    ensures parts { NodesAreWellFormed unit.now placement.now nodes.now links.new }
 {
     let waiting = nodes[to as usize].messages();
     let leaving = links.leaving(to);
     if waiting + leaving + 1 > placement.cells {
-        return Made::Full {
+        return StepOutcome::Full {
             kind: FullKind::Cells,
             node: to,
         };
@@ -91,7 +91,7 @@ fn pass(
     let _ = links.move_head(from, to);
     post(table, links, to, &packet);
     room.what = What::Pass;
-    Made::Line
+    StepOutcome::Line
 }
 
 /// Makes a move of the head of a link.
@@ -103,19 +103,19 @@ pub(crate) fn move_link(
     links: &mut Links<Packet>,
     from: u32,
     to: u32,
-    room: &mut Room,
-) -> Made
-    requires kept { AreKept unit.now placement.now nodes.old links.old }
+    room: &mut StepOutput,
+) -> StepOutcome
+    requires kept { NodesInvariant unit.now placement.now nodes.old links.old }
     requires table { table.now ≡ placement.now }
     requires link { IsLink placement.now (from, to) }
     ensures act { IsDid (did_of result room.new.what) nodes.old links.old nodes.new links.new
         (move_in (coded unit.now) placement.now (machine_from nodes.old links.old.links) from to (map numbered (list_at pair_cmp (from, to) links.old.links))) }
-    ensures parts { AreParts unit.now placement.now nodes.new links.new }
+    ensures parts { NodesAreWellFormed unit.now placement.now nodes.new links.new }
     ensures counts { map (λ n. n.state.made) nodes.new ≡ map (λ n. n.state.made) nodes.old }
 {
     let Some(head) = links.head(from, to) else {
         room.what = What::Idle;
-        return Made::Line;
+        return StepOutcome::Line;
     };
     let packet = *head;
     if goal(&packet) == to {

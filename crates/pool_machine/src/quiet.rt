@@ -1,8 +1,8 @@
 //! Whether all of a machine is quiet.
 ghost use Rattle.std.specs.Prelude.{◌≡◌, None, true};
-ghost use Rattle.run_words.specs.Tables.{no_entry_empty};
-ghost use Rattle.run_words.specs.declared.words.What.TheVariants as W;
-ghost use Rattle.coded_objects.specs.Coded.{coded};
+ghost use Rattle.run_types.specs.Tables.{no_entry_empty};
+ghost use Rattle.run_types.specs.declared.types.What.TheVariants as W;
+ghost use Rattle.mesh_of_code.specs.Coded.{coded};
 ghost use Rattle.node_semantics.specs.Machine.{is_machine_quiet};
 ghost use Rattle.pool_machine.specs.Parts.{AreOfUnit};
 ghost use Rattle.pool_machine.specs.OnWires.{machine_on, wires_in};
@@ -13,7 +13,7 @@ use code_semantics::Unit;
 use mesh_routing::Links;
 use pool_node::Node;
 use rendezvous_protocol::Packet;
-use run_words::What;
+use run_types::What;
 
 /// Whether no packet is on a link, all that wires handed out is acknowledged, and no object can step.
 pub(crate) fn is_quiet_now(

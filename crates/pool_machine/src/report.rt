@@ -2,23 +2,23 @@
 ghost use Rattle.std.specs.Prelude.{◌≡◌, ◌<◌, ◌*◌, ◌↔◌, ℕ, Bool, true, false, map, is_some, slice_get, IsTrue};
 ghost use Rattle.std.specs.Option.{option_map};
 ghost use Rattle.std.specs.List.{list_any};
-ghost use Rattle.run_words.specs.Tables.{list_at, pair_cmp};
-ghost use Rattle.run_words.specs.Paths.{AreNeighbours};
-ghost use Rattle.run_words.specs.ObjectNames.{node_of, slot_of};
-ghost use Rattle.coded_objects.specs.Coded.{coded};
+ghost use Rattle.run_types.specs.Tables.{list_at, pair_cmp};
+ghost use Rattle.run_types.specs.Paths.{AreNeighbours};
+ghost use Rattle.run_types.specs.ObjectNames.{node_of, slot_of};
+ghost use Rattle.mesh_of_code.specs.Coded.{coded};
 ghost use Rattle.node_semantics.specs.Machine.{any_ready};
 ghost use Rattle.node_semantics.specs.Standings.{brings, machine_standing};
 ghost use Rattle.node_semantics.specs.StandsFor.{slot_in};
 ghost use Rattle.rendezvous_protocol.specs.Packets.{numbered};
 ghost use Rattle.pool_node.specs.Acts.{told_standing};
-ghost use Rattle.pool_machine.specs.Parts.{AreKept, AreOfUnit, IsMeshOf, machine_from};
-ghost use Rattle.pool_machine.specs.Told.{has_fault, is_brought, slot_class};
+ghost use Rattle.pool_machine.specs.Parts.{NodesInvariant, AreOfUnit, IsMeshOf, machine_from};
+ghost use Rattle.pool_machine.specs.ObjectReport.{has_fault, is_brought, slot_class};
 
 use code_semantics::Unit;
 use mesh_routing::{Links, Mesh};
 use pool_node::Node;
 use rendezvous_protocol::Packet;
-use run_words::{NameId, Placement, Standing, node_of, slot_of};
+use run_types::{NameId, Placement, Standing, node_of, slot_of};
 
 /// Whether an object of a node can step.
 pub(crate) fn can_step(unit: &Unit, nodes: &[Node]) -> bool
@@ -121,7 +121,7 @@ pub(crate) fn standing_in(
     links: &Links<Packet>,
     name: u32,
 ) -> Option<Standing>
-    requires kept { AreKept unit.now placement.now nodes.now links.now }
+    requires kept { NodesInvariant unit.now placement.now nodes.now links.now }
     requires mesh { IsMeshOf placement.now mesh.now }
     ensures { option_map told_standing result ≡ machine_standing (coded unit.now) (machine_from nodes.now links.now.links) name }
 {

@@ -1,22 +1,23 @@
 //! The turn of a node, and the packet that leaves it.
 ghost use Rattle.std.specs.Prelude.{◌≡◌, ◌≢◌, ◌<◌, ◌≤◌, ◌+◌, ◌-◌, ◌*◌, ◌^◌, ℕ};
-ghost use Rattle.run_words.specs.declared.words.Event.TheVariants as Ev;
-ghost use Rattle.run_words.specs.Tables.{pair_cmp, push_list, leaving};
-ghost use Rattle.run_words.specs.Paths.{next};
+ghost use Rattle.run_types.specs.declared.types.Event.TheVariants as Ev;
+ghost use Rattle.run_types.specs.Tables.{pair_cmp};
+ghost use Rattle.run_types.specs.LinkTables.{push_list, leaving};
+ghost use Rattle.run_types.specs.Paths.{next};
 ghost use Rattle.mesh_semantics.specs.Act.{goal_node};
-ghost use Rattle.coded_objects.specs.Coded.{coded};
+ghost use Rattle.mesh_of_code.specs.Coded.{coded};
 ghost use Rattle.node_semantics.specs.Machine.{machine_act};
 ghost use Rattle.node_semantics.specs.Agrees.{IsFresh};
 ghost use Rattle.rendezvous_protocol.specs.Packets.{numbered};
 ghost use Rattle.pool_machine.specs.DidOf.{did_of};
-ghost use Rattle.pool_machine.specs.Parts.{AreKept, AreParts, EachCount, IsDid, machine_from};
+ghost use Rattle.pool_machine.specs.Parts.{NodesInvariant, NodesAreWellFormed, EachCount, IsDid, machine_from};
 
-use crate::words::Made;
+use crate::types::StepOutcome;
 use code_semantics::Unit;
 use mesh_routing::Links;
-use pool_node::{Node, Room, Told};
+use pool_node::{Node, StepOutput, TurnOutcome};
 use rendezvous_protocol::{Packet, goal};
-use run_words::{Placement, What};
+use run_types::{Placement, What};
 use table_routing::Table;
 
 /// Puts a packet that leaves a node last on the first link to its goal.
@@ -45,9 +46,9 @@ pub(crate) fn turn(
     links: &mut Links<Packet>,
     node: u32,
     quantum: u32,
-    room: &mut Room,
-) -> Made
-    requires kept { AreKept unit.now placement.now nodes.old links.old }
+    room: &mut StepOutput,
+) -> StepOutcome
+    requires kept { NodesInvariant unit.now placement.now nodes.old links.old }
     requires table { table.now ≡ placement.now }
     requires node { node < placement.now.width * placement.now.height }
     requires quantum { 1 ≤ quantum }
@@ -55,20 +56,20 @@ pub(crate) fn turn(
     ensures act { (fresh : ℕ) × IsFresh (machine_from nodes.old links.old.links) fresh (Ev.Turn node)
         × IsDid (did_of result room.new.what) nodes.old links.old nodes.new links.new
         (machine_act (coded unit.now) placement.now quantum fresh (machine_from nodes.old links.old.links) (Ev.Turn node)) }
-    ensures parts { AreParts unit.now placement.now nodes.new links.new }
+    ensures parts { NodesAreWellFormed unit.now placement.now nodes.new links.new }
     ensures counts { (most : ℕ) → EachCount (λ k. k ≤ most) nodes.old → EachCount (λ k. k ≤ most + 1) nodes.new }
 {
     let leaving = links.leaving(node);
-    match nodes[node as usize].turn_in(unit, placement, quantum, leaving, room) {
-        Told::Line => Made::Line,
-        Told::Leaves => {
+    match nodes[node as usize].turn_into(unit, placement, quantum, leaving, room) {
+        TurnOutcome::Line => StepOutcome::Line,
+        TurnOutcome::Leaves => {
             post(table, links, node, &room.packet);
-            Made::Line
+            StepOutcome::Line
         }
-        Told::Full { kind } => Made::Full { kind, node },
-        Told::Idle => {
+        TurnOutcome::Full { kind } => StepOutcome::Full { kind, node },
+        TurnOutcome::Idle => {
             room.what = What::Idle;
-            Made::Line
+            StepOutcome::Line
         }
     }
 }

@@ -4,18 +4,18 @@ ghost use Rattle.std.specs.BTreeMap.{IsOrdered, values};
 ghost use Rattle.std.specs.List.{list_all};
 ghost use Rattle.std.specs.Option.{option_map};
 ghost use Rattle.std.specs.FinMap.{put};
-ghost use Rattle.run_words.specs.Tables.{list_at, pair_cmp};
+ghost use Rattle.run_types.specs.Tables.{list_at, pair_cmp};
 ghost use Rattle.mesh_semantics.specs.KeptWire.{fresh_in, kept_act, kept_coming, kept_take};
-ghost use Rattle.run_words.specs.declared.words.WireAct.TheVariants as A;
+ghost use Rattle.run_types.specs.declared.types.WireAct.TheVariants as A;
 ghost use Rattle.node_semantics.specs.Machine.{are_acknowledged};
 ghost use Rattle.mesh_routing.specs.Links.{IsLinkOf};
 ghost use Rattle.wire_link.specs.Wires.{arrived_of, late_of, lose_of, twice_of};
 ghost use Rattle.pool_machine.specs.MachineOf.{numbered_wires};
-ghost use Rattle.pool_machine.specs.OnWires.{AreMade, AreNew, IsTold, IsToldAt, entered_at, has_wire, is_done, wire_of, wires_in};
+ghost use Rattle.pool_machine.specs.OnWires.{AreMade, AreNew, WireReports, LinkWireReports, entered_at, has_wire, is_done, wire_of, wires_in};
 
 use mesh_routing::{Links, Mesh};
 use rendezvous_protocol::Packet;
-use run_words::{What, WireAct};
+use run_types::{What, WireAct};
 use std::alloc::{AllocError, Global};
 use std::collections::BTreeMap;
 use wire_link::{Arrived, Sent, Side, Wire};
@@ -127,7 +127,7 @@ fn send_on(wire: &mut Wire, links: &Links<Packet>, from: u32, to: u32) -> What
     requires handed { wire.old.handed ≤ wire.old.sent }
     requires sent { wire.old.sent ≤ wire.old.handed + length (list_at pair_cmp (from, to) links.now.links) }
     requires few { wire.old.handed + length (list_at pair_cmp (from, to) links.now.links) < 2 ^ 32 - 1 }
-    ensures { IsTold wire.old (kept_act A.Send (list_at pair_cmp (from, to) links.now.links) wire.old) result wire.new }
+    ensures { WireReports wire.old (kept_act A.Send (list_at pair_cmp (from, to) links.now.links) wire.old) result wire.new }
 {
     let entered = wire.handed() + links.length(from, to);
     let Some(number) = wire.wants(entered) else {
@@ -142,7 +142,7 @@ fn send_on(wire: &mut Wire, links: &Links<Packet>, from: u32, to: u32) -> What
 
 /// The first acknowledgement comes back, if there is one.
 fn ack_on(wire: &mut Wire) -> What
-    ensures { IsTold wire.old (kept_act A.Ack [] wire.old) result wire.new }
+    ensures { WireReports wire.old (kept_act A.Ack [] wire.old) result wire.new }
 {
     match wire.ack() {
         Some(number) => What::Acked { number },
@@ -152,7 +152,7 @@ fn ack_on(wire: &mut Wire) -> What
 
 /// The first frame of a side is lost, if there is one.
 fn lose_on(wire: &mut Wire, side: Side) -> What
-    ensures { IsTold wire.old (kept_act (lose_of side) [] wire.old) result wire.new }
+    ensures { WireReports wire.old (kept_act (lose_of side) [] wire.old) result wire.new }
 {
     match wire.lose(side) {
         Some(number) => What::Lost { number },
@@ -162,7 +162,7 @@ fn lose_on(wire: &mut Wire, side: Side) -> What
 
 /// The first frame of a side comes twice, if there is one and there is room.
 fn twice_on(wire: &mut Wire, side: Side) -> What
-    ensures { IsTold wire.old (kept_act (twice_of side) [] wire.old) result wire.new }
+    ensures { WireReports wire.old (kept_act (twice_of side) [] wire.old) result wire.new }
 {
     match wire.twice(side) {
         Some(number) => What::Frame { number },
@@ -172,7 +172,7 @@ fn twice_on(wire: &mut Wire, side: Side) -> What
 
 /// The first frame of a side falls behind the others, if there is one.
 fn late_on(wire: &mut Wire, side: Side) -> What
-    ensures { IsTold wire.old (kept_act (late_of side) [] wire.old) result wire.new }
+    ensures { WireReports wire.old (kept_act (late_of side) [] wire.old) result wire.new }
 {
     match wire.late(side) {
         Some(number) => What::Late { number },
@@ -186,7 +186,7 @@ fn act_on(wire: &mut Wire, links: &Links<Packet>, act: WireAct, from: u32, to: u
     requires handed { wire.old.handed ≤ wire.old.sent }
     requires sent { wire.old.sent ≤ wire.old.handed + length (list_at pair_cmp (from, to) links.now.links) }
     requires few { wire.old.handed + length (list_at pair_cmp (from, to) links.now.links) < 2 ^ 32 - 1 }
-    ensures { IsTold wire.old (kept_act act (list_at pair_cmp (from, to) links.now.links) wire.old) result wire.new }
+    ensures { WireReports wire.old (kept_act act (list_at pair_cmp (from, to) links.now.links) wire.old) result wire.new }
 {
     match act {
         WireAct::Send => send_on(wire, links, from, to),
@@ -213,7 +213,7 @@ pub(crate) fn act_at(
     requires handed { (wire_of wires.old.entries (from, to)).handed ≤ (wire_of wires.old.entries (from, to)).sent }
     requires sent { (wire_of wires.old.entries (from, to)).sent ≤ entered_at wires.old.entries links.now.links (from, to) }
     requires few { entered_at wires.old.entries links.now.links (from, to) < 2 ^ 32 - 1 }
-    ensures { IsToldAt wires.old.entries (from, to) (kept_act act (list_at pair_cmp (from, to) links.now.links) (wire_of wires.old.entries (from, to))) result wires.new.entries }
+    ensures { LinkWireReports wires.old.entries (from, to) (kept_act act (list_at pair_cmp (from, to) links.now.links) (wire_of wires.old.entries (from, to))) result wires.new.entries }
 {
     match wires.get_mut(&(from, to)) {
         Some(wire) => act_on(wire, links, act, from, to),

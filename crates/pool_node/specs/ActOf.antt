@@ -1,13 +1,13 @@
 -- What a node did, and how a call tells it with the room that is lent for it.
 use Rattle.std.specs.Prelude.{Option, Some, None}
-use Rattle.run_words.specs.declared.words.What.{What}
-use Rattle.run_words.specs.declared.words.FullKind.{FullKind}
+use Rattle.run_types.specs.declared.types.What.{What}
+use Rattle.run_types.specs.declared.types.FullKind.{FullKind}
 use Rattle.rendezvous_protocol.specs.declared.packet.Packet.{Packet}
-use Rattle.pool_node.specs.declared.words.Room.{Room}
-use Rattle.pool_node.specs.declared.words.Told.{Told}
-use Rattle.pool_node.specs.declared.words.Told.TheVariants as T
-use Rattle.pool_node.specs.declared.words.Act.{Act as Seen}
-use Rattle.pool_node.specs.declared.words.Act.TheVariants as S
+use Rattle.pool_node.specs.declared.types.StepOutput.{StepOutput}
+use Rattle.pool_node.specs.declared.types.TurnOutcome.{TurnOutcome}
+use Rattle.pool_node.specs.declared.types.TurnOutcome.TheVariants as T
+use Rattle.pool_node.specs.declared.types.Act.{Act as Seen}
+use Rattle.pool_node.specs.declared.types.Act.TheVariants as S
 
 -- nothing, since no object is ready; a step, with its line and the packet that leaves the node, if one does; or nothing, since the step would pass this limit
 pub data Act : Type 0 where
@@ -16,7 +16,7 @@ pub data Act : Type 0 where
   Full : (kind : FullKind) → Act
 
 -- what is told with this in the room
-abbrev pub act_of : Told → Room → Act
+abbrev pub act_of : TurnOutcome → StepOutput → Act
 act_of T.Idle room = Idle
 act_of T.Line room = Line room.what None
 act_of T.Leaves room = Line room.what (Some room.packet)

@@ -1,16 +1,16 @@
 -- What the calls of a node tell: its act by the definition of a node.
 use Rattle.std.specs.Prelude.{◌≡◌, Bool, true, false}
 use Rattle.std.specs.Option.{option_map}
-use Rattle.run_words.specs.declared.words.Standing.{Standing}
-use Rattle.run_words.specs.declared.words.Standing.TheVariants as Z
+use Rattle.run_types.specs.declared.types.Standing.{Standing}
+use Rattle.run_types.specs.declared.types.Standing.TheVariants as Z
 use Rattle.mesh_semantics.specs.Standing as T
-use Rattle.coded_objects.specs.Coded.{Placed}
+use Rattle.mesh_of_code.specs.Coded.{Placed}
 use Rattle.node_semantics.specs.Node as N
 use Rattle.node_semantics.specs.Node.{NodeActed}
 use Rattle.rendezvous_protocol.specs.Packets.{numbered}
 use Rattle.pool_node.specs.ActOf.{Act}
 use Rattle.pool_node.specs.ActOf as A
-use Rattle.node_parts.specs.NodeOf.{NodeOf}
+use Rattle.node_state.specs.NodeOf.{NodeOf}
 
 -- the call tells what the node did: nothing, a line with the packet that leaves, or a limit; and the node is then as it says
 abbrev pub IsActOf : Act → NodeOf → NodeOf → NodeActed Placed → Type 0

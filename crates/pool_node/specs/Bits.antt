@@ -1,7 +1,7 @@
 -- The bit of the object whose turn it is.
 use Rattle.std.specs.Prelude.{ℕ, ◌+◌, List, Option, Some, None, Bool}
 use Rattle.std.specs.Option.{option_or}
-use Rattle.node_parts.specs.Bits.{first_bit, first_bit_from}
+use Rattle.node_state.specs.Bits.{first_bit, first_bit_from}
 
 -- the first above the last, else the first
 abbrev pub bit_in_turn : Option ℕ → List Bool → Option ℕ

@@ -1,4 +1,4 @@
 pub mod ActOf
 pub mod Acts
-pub mod Made
+pub mod NodeSteps
 pub mod Bits

@@ -1,34 +1,35 @@
 //! The steps of an object of a node.
 ghost use Rattle.std.specs.Prelude.{◌≡◌, ℕ, ◌+◌, ◌<◌, ◌≤◌, not, false, None, length, get_or, nat_lt, Option};
-ghost use Rattle.run_words.specs.declared.words.Placement.{Placement as OnePlacement};
-ghost use Rattle.run_words.specs.declared.words.What.TheVariants as W;
+ghost use Rattle.run_types.specs.declared.types.Placement.{Placement as OnePlacement};
+ghost use Rattle.run_types.specs.declared.types.What.TheVariants as W;
 ghost use Rattle.rendezvous_protocol.specs.declared.packet.Packet.{Packet as OnePacket};
 ghost use Rattle.code_semantics.specs.Kinds as C;
 ghost use Rattle.code_semantics.specs.Kinds.{code_kind};
-ghost use Rattle.run_words.specs.ObjectNames as D;
+ghost use Rattle.run_types.specs.ObjectNames as D;
 ghost use Rattle.node_heap.specs.Heaps.{object_at};
 ghost use Rattle.node_semantics.specs.Node.{deliver, message_count, name_at, settled};
-ghost use Rattle.coded_objects.specs.Coded.{coded};
+ghost use Rattle.mesh_of_code.specs.Coded.{coded};
 ghost use Rattle.mailbox.specs.Mail.{lengths};
-ghost use Rattle.node_parts.specs.OfUnit.{IsOfUnit};
-ghost use Rattle.node_parts.specs.Views.{IsWhole, arrival_of, node_of, slots_of};
+ghost use Rattle.node_state.specs.OfUnit.{IsOfUnit};
+ghost use Rattle.node_state.specs.Views.{NodeInvariant, arrival_of, node_of, slots_of};
 ghost use Rattle.pool_node.specs.ActOf as A;
 ghost use Rattle.pool_node.specs.ActOf.{act_of};
-ghost use Rattle.pool_node.specs.Made.{IsLine, IsMoved, IsSet, IsTurned, lacks_cell, packet_by, posted};
+ghost use Rattle.pool_node.specs.NodeSteps.{IsLine, IsMoved, IsSet, IsTurned, lacks_cell, packet_by, posted};
 ghost use Rattle.rendezvous_protocol.specs.Packets.{numbered};
 
-use crate::words::{Room, Told};
+use crate::types::{StepOutput, TurnOutcome};
 use code_semantics::Unit;
 use mailbox::Message;
-use node_parts::{Parts, ask_in, deliver_in, fault_in, go_on_in, return_in, settle_in};
+use node_state::{NodeParts, ask_in, deliver_in, fault_in, go_on_in, return_in, settle_in};
 use rendezvous_protocol::Packet;
-use run_words::{
-    Args, Error, FullKind, Item, Label, NameId, Placement, Value, What, node_of, object_name, slot_of,
+use run_types::{
+    Args, Error, FullKind, Item, Label, NameId, Placement, Value, What, node_of, object_name,
+    slot_of,
 };
 
 /// The name of the object of a slot, also of the next one.
-pub(crate) fn name_of(parts: &Parts, slot: u32) -> u32
-    requires whole { IsWhole parts.now }
+pub(crate) fn name_of(parts: &NodeParts, slot: u32) -> u32
+    requires whole { NodeInvariant parts.now }
     requires slot { slot ≤ length parts.now.heap.objects }
     ensures { result ≡ name_at parts.now.id slot }
 {
@@ -36,8 +37,8 @@ pub(crate) fn name_of(parts: &Parts, slot: u32) -> u32
 }
 
 /// Whether no cell is free for one message more.
-pub(crate) fn no_cell(placement: &Placement, parts: &Parts, leaving: u32) -> bool
-    requires whole { IsWhole parts.now }
+pub(crate) fn no_cell(placement: &Placement, parts: &NodeParts, leaving: u32) -> bool
+    requires whole { NodeInvariant parts.now }
     requires cells { message_count (slots_of parts.now) + leaving ≤ placement.now.cells }
     ensures { result ≡ not (nat_lt (message_count (slots_of parts.now) + leaving) placement.now.cells) }
 {
@@ -55,12 +56,12 @@ pub(crate) fn step(label: Label) -> What
 /// Writes an item.
 pub(crate) fn write_turn(
     unit: &Unit,
-    parts: &mut Parts,
+    parts: &mut NodeParts,
     slot: u32,
     item: Item,
-    room: &mut Room,
-) -> Told
-    requires whole { IsWhole parts.old }
+    room: &mut StepOutput,
+) -> TurnOutcome
+    requires whole { NodeInvariant parts.old }
     requires unit { IsOfUnit unit.now (node_of parts.old) }
     requires slot { slot < length parts.old.heap.objects }
     requires free { get_or parts.old.outstanding slot None ≡ None }
@@ -70,18 +71,18 @@ pub(crate) fn write_turn(
     let object = name_of(parts, slot);
     go_on_in(unit, parts, slot);
     room.what = step(Label::Write { object, item });
-    Told::Line
+    TurnOutcome::Line
 }
 
 /// Meets an error.
 pub(crate) fn fault_turn(
     unit: &Unit,
-    parts: &mut Parts,
+    parts: &mut NodeParts,
     slot: u32,
     error: Error,
-    room: &mut Room,
-) -> Told
-    requires whole { IsWhole parts.old }
+    room: &mut StepOutput,
+) -> TurnOutcome
+    requires whole { NodeInvariant parts.old }
     requires unit { IsOfUnit unit.now (node_of parts.old) }
     requires slot { slot < length parts.old.heap.objects }
     requires free { get_or parts.old.outstanding slot None ≡ None }
@@ -91,13 +92,13 @@ pub(crate) fn fault_turn(
     let object = name_of(parts, slot);
     fault_in(unit, parts, slot, error);
     room.what = step(Label::Fault { object, error });
-    Told::Line
+    TurnOutcome::Line
 }
 
 /// Whether no cell is free for a message to the object of this name, and it takes one: it stands at an object of this
 /// node, or leaves.
-fn lacks(placement: &Placement, parts: &Parts, to: u32, leaving: u32) -> bool
-    requires whole { IsWhole parts.now }
+fn lacks(placement: &Placement, parts: &NodeParts, to: u32, leaving: u32) -> bool
+    requires whole { NodeInvariant parts.now }
     requires cells { message_count (slots_of parts.now) + leaving ≤ placement.now.cells }
     ensures { result ≡ lacks_cell placement.now leaving (node_of parts.now) to }
 {
@@ -108,8 +109,8 @@ fn lacks(placement: &Placement, parts: &Parts, to: u32, leaving: u32) -> bool
 }
 
 /// Puts a message last at the object of this name of the node, if it is there.
-pub(crate) fn deliver_to(unit: &Unit, parts: &mut Parts, to: u32, message: Message)
-    requires whole { IsWhole parts.old }
+pub(crate) fn deliver_to(unit: &Unit, parts: &mut NodeParts, to: u32, message: Message)
+    requires whole { NodeInvariant parts.old }
     requires unit { IsOfUnit unit.now (node_of parts.old) }
     requires room { D.slot_of to < length parts.old.heap.objects → lengths parts.old.mailbox.boxes < parts.old.mailbox.cells }
     ensures { IsMoved unit.now parts.old parts.new (deliver to (arrival_of message) (node_of parts.old).state) }
@@ -149,8 +150,14 @@ fn packet(to: u32, message: &Message) -> Packet
 
 /// Posts a message, for which a cell is free where it takes one. If it goes to another node, it leaves as the packet in the
 /// room.
-fn post(unit: &Unit, parts: &mut Parts, to: u32, message: Message, room: &mut Room) -> Told
-    requires whole { IsWhole parts.old }
+fn post(
+    unit: &Unit,
+    parts: &mut NodeParts,
+    to: u32,
+    message: Message,
+    room: &mut StepOutput,
+) -> TurnOutcome
+    requires whole { NodeInvariant parts.old }
     requires unit { IsOfUnit unit.now (node_of parts.old) }
     requires room { D.node_of to ≡ parts.old.id → D.slot_of to < length parts.old.heap.objects → lengths parts.old.mailbox.boxes < parts.old.mailbox.cells }
     ensures { (l : OnePlacement) (leaving : ℕ) → message_count (slots_of parts.old) + leaving ≤ l.cells → lacks_cell l leaving (node_of parts.old) to ≡ false
@@ -159,10 +166,10 @@ fn post(unit: &Unit, parts: &mut Parts, to: u32, message: Message, room: &mut Ro
 {
     if node_of(to) == parts.id {
         deliver_to(unit, parts, to, message);
-        Told::Line
+        TurnOutcome::Line
     } else {
         room.packet = packet(to, &message);
-        Told::Leaves
+        TurnOutcome::Leaves
     }
 }
 
@@ -170,14 +177,14 @@ fn post(unit: &Unit, parts: &mut Parts, to: u32, message: Message, room: &mut Ro
 pub(crate) fn async_turn(
     unit: &Unit,
     placement: &Placement,
-    parts: &mut Parts,
+    parts: &mut NodeParts,
     slot: u32,
     to: u32,
     method: NameId,
     args: Args,
     leaving: u32,
-    room: &mut Room,
-) -> Told
+    room: &mut StepOutput,
+) -> TurnOutcome
     requires set { IsSet unit.now placement.now leaving parts.old }
     requires slot { slot < length parts.old.heap.objects }
     requires free { get_or parts.old.outstanding slot None ≡ None }
@@ -185,7 +192,7 @@ pub(crate) fn async_turn(
     ensures { (q : ℕ) → IsTurned unit.now placement.now q leaving (act_of result room.new) parts.old parts.new slot }
 {
     if lacks(placement, parts, to, leaving) {
-        return Told::Full {
+        return TurnOutcome::Full {
             kind: FullKind::Cells,
         };
     }
@@ -211,14 +218,14 @@ pub(crate) fn async_turn(
 pub(crate) fn call_turn(
     unit: &Unit,
     placement: &Placement,
-    parts: &mut Parts,
+    parts: &mut NodeParts,
     slot: u32,
     to: u32,
     method: NameId,
     args: Args,
     leaving: u32,
-    room: &mut Room,
-) -> Told
+    room: &mut StepOutput,
+) -> TurnOutcome
     requires set { IsSet unit.now placement.now leaving parts.old }
     requires slot { slot < length parts.old.heap.objects }
     requires free { get_or parts.old.outstanding slot None ≡ None }
@@ -226,7 +233,7 @@ pub(crate) fn call_turn(
     ensures { (q : ℕ) → IsTurned unit.now placement.now q leaving (act_of result room.new) parts.old parts.new slot }
 {
     if lacks(placement, parts, to, leaving) {
-        return Told::Full {
+        return TurnOutcome::Full {
             kind: FullKind::Cells,
         };
     }
@@ -252,14 +259,14 @@ pub(crate) fn call_turn(
 pub(crate) fn return_turn(
     unit: &Unit,
     placement: &Placement,
-    parts: &mut Parts,
+    parts: &mut NodeParts,
     slot: u32,
     caller: u32,
     number: u32,
     value: Value,
     leaving: u32,
-    room: &mut Room,
-) -> Told
+    room: &mut StepOutput,
+) -> TurnOutcome
     requires set { IsSet unit.now placement.now leaving parts.old }
     requires slot { slot < length parts.old.heap.objects }
     requires free { get_or parts.old.outstanding slot None ≡ None }
@@ -276,10 +283,10 @@ pub(crate) fn return_turn(
         return_in(unit, parts, slot);
         settle_if_out(unit, parts, number, value);
         room.what = step(label);
-        return Told::Line;
+        return TurnOutcome::Line;
     }
     if no_cell(placement, parts, leaving) {
-        return Told::Full {
+        return TurnOutcome::Full {
             kind: FullKind::Cells,
         };
     }
@@ -290,12 +297,12 @@ pub(crate) fn return_turn(
         to: caller,
         value,
     };
-    Told::Leaves
+    TurnOutcome::Leaves
 }
 
 /// Gives the object whose request has this number its value, if there is one.
-pub(crate) fn settle_if_out(unit: &Unit, parts: &mut Parts, number: u32, value: Value)
-    requires whole { IsWhole parts.old }
+pub(crate) fn settle_if_out(unit: &Unit, parts: &mut NodeParts, number: u32, value: Value)
+    requires whole { NodeInvariant parts.old }
     requires unit { IsOfUnit unit.now (node_of parts.old) }
     ensures { IsMoved unit.now parts.old parts.new (record (node_of parts.old).state { slots = settled (coded unit.now) number value (slots_of parts.old) }) }
 {

@@ -1,4 +1,6 @@
-//! One node of a placed program: its objects of code, their messages, and the requests that are out.
+//! One node of a placed program: makes turns of its objects, and receives packets that reach their goal.
+//!
+//! Does not know: links and other nodes.
 #![tactic(auto)]
 
 mod acts;
@@ -9,7 +11,7 @@ mod receipt;
 mod serving;
 mod standing;
 mod turn;
-mod words;
+mod types;
 
 pub use node::Node;
-pub use words::{Act, Room, Told};
+pub use types::{Act, StepOutput, TurnOutcome};

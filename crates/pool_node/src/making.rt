@@ -1,27 +1,27 @@
 //! The steps of an object that makes an object.
 ghost use Rattle.std.specs.Prelude.{◌≡◌, ◌≢◌, ℕ, ◌+◌, ◌-◌, ◌*◌, ◌^◌, ◌<◌, ◌≤◌, None, Some, length, get_or, slice_get, slice_set};
-ghost use Rattle.run_words.specs.declared.words.Placement.{Placement as OnePlacement};
-ghost use Rattle.run_words.specs.declared.words.NameId.{NameId as OneName};
+ghost use Rattle.run_types.specs.declared.types.Placement.{Placement as OnePlacement};
+ghost use Rattle.run_types.specs.declared.types.NameId.{NameId as OneName};
 ghost use Rattle.code_semantics.specs.Kinds as C;
 ghost use Rattle.code_semantics.specs.Kinds.{code_kind};
 ghost use Rattle.code_semantics.specs.Step.{class_from};
 ghost use Rattle.node_heap.specs.Heaps.{object_at};
 ghost use Rattle.node_semantics.specs.Node.{goal_for};
-ghost use Rattle.node_parts.specs.OfUnit.{IsOfUnit};
-ghost use Rattle.node_parts.specs.Views.{IsWhole, node_of};
+ghost use Rattle.node_state.specs.OfUnit.{IsOfUnit};
+ghost use Rattle.node_state.specs.Views.{NodeInvariant, node_of};
 ghost use Rattle.pool_node.specs.ActOf.{act_of};
-ghost use Rattle.pool_node.specs.Made.{IsSet, IsTurned};
+ghost use Rattle.pool_node.specs.NodeSteps.{IsSet, IsTurned};
 
 use crate::acts::{name_of, no_cell, step};
-use crate::words::{Room, Told};
+use crate::types::{StepOutput, TurnOutcome};
 use code_semantics::Unit;
 use node_heap::HeapFull;
-use node_parts::{Parts, add_in, ask_in, give_in};
+use node_state::{NodeParts, add_in, ask_in, give_in};
 use rendezvous_protocol::Packet;
-use run_words::{FullKind, Label, Place, Placement, Value, What};
+use run_types::{FullKind, Label, Place, Placement, Value, What};
 
 /// The node of the next object that is made of the class at this place.
-fn goal_of(placement: &Placement, parts: &Parts, class: u32) -> u32
+fn goal_of(placement: &Placement, parts: &NodeParts, class: u32) -> u32
     requires places { class < length placement.now.places }
     requires made { class < length parts.now.made }
     requires size { (placement.now.width ≤ 8) × (placement.now.height ≤ 8) × (0 < placement.now.width * placement.now.height) }
@@ -39,7 +39,7 @@ fn goal_of(placement: &Placement, parts: &Parts, class: u32) -> u32
 }
 
 /// Counts one object more of the class at this place.
-fn count_in(parts: &mut Parts, class: u32)
+fn count_in(parts: &mut NodeParts, class: u32)
     requires class { class < length parts.old.made }
     requires few { get_or parts.old.made class 0 < 2 ^ 32 - 1 }
     ensures { parts.new ≡ record parts.old { made = slice_set parts.old.made class (get_or parts.old.made class 0 + 1) } }
@@ -49,8 +49,14 @@ fn count_in(parts: &mut Parts, class: u32)
 }
 
 /// Makes an object on the own node, unless there is no slot or no frame for it. Its maker has its name at once.
-fn create_here(unit: &Unit, parts: &mut Parts, slot: u32, class: u32, room: &mut Room) -> Told
-    requires whole { IsWhole parts.old }
+fn create_here(
+    unit: &Unit,
+    parts: &mut NodeParts,
+    slot: u32,
+    class: u32,
+    room: &mut StepOutput,
+) -> TurnOutcome
+    requires whole { NodeInvariant parts.old }
     requires unit { IsOfUnit unit.now (node_of parts.old) }
     requires slot { slot < length parts.old.heap.objects }
     requires free { get_or parts.old.outstanding slot None ≡ None }
@@ -72,12 +78,12 @@ fn create_here(unit: &Unit, parts: &mut Parts, slot: u32, class: u32, room: &mut
                 class: unit.classes.items()[class as usize].name,
             };
             room.what = step(label);
-            Told::Line
+            TurnOutcome::Line
         }
-        Err(HeapFull::Objects) => Told::Full {
+        Err(HeapFull::Objects) => TurnOutcome::Full {
             kind: FullKind::Heap,
         },
-        Err(HeapFull::Frames) => Told::Full {
+        Err(HeapFull::Frames) => TurnOutcome::Full {
             kind: FullKind::Frames,
         },
     }
@@ -87,13 +93,13 @@ fn create_here(unit: &Unit, parts: &mut Parts, slot: u32, class: u32, room: &mut
 fn create_there(
     unit: &Unit,
     placement: &Placement,
-    parts: &mut Parts,
+    parts: &mut NodeParts,
     slot: u32,
     class: u32,
     goal: u32,
     leaving: u32,
-    room: &mut Room,
-) -> Told
+    room: &mut StepOutput,
+) -> TurnOutcome
     requires set { IsSet unit.now placement.now leaving parts.old }
     requires slot { slot < length parts.old.heap.objects }
     requires free { get_or parts.old.outstanding slot None ≡ None }
@@ -105,7 +111,7 @@ fn create_there(
     ensures { (q : ℕ) → IsTurned unit.now placement.now q leaving (act_of result room.new) parts.old parts.new slot }
 {
     if no_cell(placement, parts, leaving) {
-        return Told::Full {
+        return TurnOutcome::Full {
             kind: FullKind::Cells,
         };
     }
@@ -124,19 +130,19 @@ fn create_there(
         class: name,
         node: goal,
     };
-    Told::Leaves
+    TurnOutcome::Leaves
 }
 
 /// Makes an object of the class at this place, or posts a request for it.
 pub(crate) fn create_turn(
     unit: &Unit,
     placement: &Placement,
-    parts: &mut Parts,
+    parts: &mut NodeParts,
     slot: u32,
     class: u32,
     leaving: u32,
-    room: &mut Room,
-) -> Told
+    room: &mut StepOutput,
+) -> TurnOutcome
     requires set { IsSet unit.now placement.now leaving parts.old }
     requires slot { slot < length parts.old.heap.objects }
     requires free { get_or parts.old.outstanding slot None ≡ None }

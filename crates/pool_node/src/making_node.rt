@@ -1,17 +1,17 @@
 //! What a new node is made of.
 ghost use Rattle.std.specs.Prelude.{◌≡◌, ◌<◌, ◌≤◌, [], Some, IfOk, replicate};
-ghost use Rattle.code_semantics.specs.Suits.{most_vars};
-ghost use Rattle.coded_objects.specs.Coded.{Placed, coded};
+ghost use Rattle.code_semantics.specs.NodeWords.{most_vars};
+ghost use Rattle.mesh_of_code.specs.Coded.{Placed, coded};
 ghost use Rattle.node_semantics.specs.Node.{name_at};
-ghost use Rattle.node_parts.specs.OfUnit.{IsOfUnit};
-ghost use Rattle.node_parts.specs.Views.{IsWhole, node_of, slots_of};
-ghost use Rattle.node_parts.specs.Changes.{IsAdded};
+ghost use Rattle.node_state.specs.OfUnit.{IsOfUnit};
+ghost use Rattle.node_state.specs.Views.{NodeInvariant, node_of, slots_of};
+ghost use Rattle.node_state.specs.Changes.{IsAdded};
 
 use crate::acts::name_of;
 use crate::receipt::class_named;
 use code_semantics::Unit;
-use node_parts::{Parts, add_in};
-use run_words::List;
+use node_state::{NodeParts, add_in};
+use run_types::List;
 use std::alloc::{AllocError, Global};
 
 /// So many times one value. Err where the memory is not had.
@@ -46,8 +46,8 @@ pub(crate) fn most_vars_of(unit: &Unit) -> u32
 }
 
 /// Places the root object in slot 0, and tells its name.
-pub(crate) fn start_in(unit: &Unit, parts: &mut Parts) -> u32
-    requires whole { IsWhole parts.old }
+pub(crate) fn start_in(unit: &Unit, parts: &mut NodeParts) -> u32
+    requires whole { NodeInvariant parts.old }
     requires unit { IsOfUnit unit.now (node_of parts.old) }
     requires empty { slots_of parts.old ≡ [] }
     ensures name { result ≡ name_at parts.old.id 0 }

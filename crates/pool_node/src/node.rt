@@ -2,17 +2,18 @@
 ghost use Rattle.std.specs.Prelude.{◌≡◌, ◌<◌, ◌≤◌, ◌+◌, ◌-◌, ◌*◌, ◌^◌, ℕ, [], ◌∷◌, length, slice_get, is_some, Some, IfOk};
 ghost use Rattle.std.specs.List.{list_any};
 ghost use Rattle.code_semantics.specs.Proper.{IsProper};
-ghost use Rattle.code_semantics.specs.Suits.{Suits, most_vars};
-ghost use Rattle.run_words.specs.Tables.{Each};
+ghost use Rattle.code_semantics.specs.Suits.{Suits};
+ghost use Rattle.code_semantics.specs.NodeWords.{most_vars};
+ghost use Rattle.run_types.specs.Tables.{Each};
 ghost use Rattle.mesh_semantics.specs.Act.{first_of};
-ghost use Rattle.coded_objects.specs.Coded.{Placed, coded};
+ghost use Rattle.mesh_of_code.specs.Coded.{Placed, coded};
 ghost use Rattle.node_semantics.specs.Node.{Slot, fresh_slot, message_count, name_at, ready_slots, receipt_act, turn_act};
 ghost use Rattle.node_semantics.specs.Machine.{empty_node};
 ghost use Rattle.node_semantics.specs.Agrees.{IsUnused};
 ghost use Rattle.node_semantics.specs.Receives.{IsReceivable};
 ghost use Rattle.node_semantics.specs.Standings.{slot_standing};
 ghost use Rattle.rendezvous_protocol.specs.Packets.{numbered};
-ghost use Rattle.node_parts.specs.OfUnit.{IsOfPlacement, IsOfUnit};
+ghost use Rattle.node_state.specs.OfUnit.{IsOfPlacement, IsOfUnit};
 ghost use Rattle.pool_node.specs.ActOf.{act_of, act_seen};
 ghost use Rattle.pool_node.specs.Acts.{IsActOf, told_standing};
 
@@ -20,13 +21,13 @@ use crate::making_node::{filled, most_vars_of, start_in};
 use crate::receipt::receipt_of;
 use crate::standing::{any_fault, standing_of};
 use crate::turn::{first_ready, turn_of};
-use crate::words::{Act, Room, Told};
+use crate::types::{Act, StepOutput, TurnOutcome};
 use code_semantics::Unit;
 use mailbox::Mailbox;
 use node_heap::{Heap, HeapLimits};
-use node_parts::{Parts, ReadySet};
+use node_state::{NodeParts, ReadySet};
 use rendezvous_protocol::{Outstanding, Packet};
-use run_words::{Placement, Standing};
+use run_types::{Placement, Standing};
 use std::alloc::{AllocError, Global};
 use std::marker::Model;
 
@@ -34,24 +35,24 @@ use std::marker::Model;
 /// last, and how many objects of each class its objects have made.
 #[derive(Drop)]
 pub struct Node {
-    parts: Parts,
+    parts: NodeParts,
 }
 
 impl Model for Node {
-    ghost use Rattle.run_words.specs.contracts.frames.CodeObject as image;
-    ghost use Rattle.run_words.specs.contracts.words.Error as error;
-    ghost use Rattle.run_words.specs.contracts.words.Value as value;
-    ghost use Rattle.node_parts.specs.NodeOf.{NodeOf, node_code};
+    ghost use Rattle.run_types.specs.contracts.frames.CodeObject as image;
+    ghost use Rattle.run_types.specs.contracts.types.Error as error;
+    ghost use Rattle.run_types.specs.contracts.types.Value as value;
+    ghost use Rattle.node_state.specs.NodeOf.{NodeOf, node_code};
 
     ghost Value = { NodeOf };
 
     ghost coded = { node_code image.the_row.coded error.the_row.coded value.the_row.coded };
 
-    ghost use Rattle.node_parts.specs.Views.{IsWhole, node_of};
+    ghost use Rattle.node_state.specs.Views.{NodeInvariant, node_of};
 
     ghost view = { λ n. node_of n.parts };
 
-    ghost invariant = { λ n. IsWhole n.parts };
+    ghost invariant = { λ n. NodeInvariant n.parts };
 }
 
 impl Node {
@@ -85,7 +86,7 @@ impl Node {
             frames: placement.frames,
             vars,
         };
-        let parts = Parts {
+        let parts = NodeParts {
             id,
             cells: placement.cells,
             heap: Heap::make(alloc, limits)?,
@@ -115,14 +116,14 @@ impl Node {
     /// `quantum` local transitions or one other step. `leaving` is the number of packets on the links that leave the
     /// node. `Idle` comes exactly where no object is ready, and `Full` exactly where the step would pass a limit, with
     /// the first of heap, frames and cells; the node is then as before.
-    pub fn turn_in(
+    pub fn turn_into(
         &mut self,
         unit: &Unit,
         placement: &Placement,
         quantum: u32,
         leaving: u32,
-        room: &mut Room,
-    ) -> Told
+        room: &mut StepOutput,
+    ) -> TurnOutcome
         requires unit { IsOfUnit unit.now self.old }
         requires placement { IsOfPlacement unit.now placement.now self.old }
         requires quantum { 1 ≤ quantum }
@@ -151,21 +152,21 @@ impl Node {
         ensures unit { IsOfUnit unit.now self.new }
         ensures counts { (most : ℕ) → Each (λ k. k ≤ most) self.old.state.made → Each (λ k. k ≤ most + 1) self.new.state.made }
     {
-        let mut room = Room::make();
-        let told = self.turn_in(unit, placement, quantum, leaving, &mut room);
+        let mut room = StepOutput::make();
+        let told = self.turn_into(unit, placement, quantum, leaving, &mut room);
         act_told(told, &room)
     }
 
     /// Receives a packet at its goal. `Full` comes exactly where that would pass a limit, with the first of heap, frames
     /// and cells; the node is then as before. `Idle` never comes.
-    pub fn receive_in(
+    pub fn receive_into(
         &mut self,
         unit: &Unit,
         placement: &Placement,
         packet: Packet,
         leaving: u32,
-        room: &mut Room,
-    ) -> Told
+        room: &mut StepOutput,
+    ) -> TurnOutcome
         requires unit { IsOfUnit unit.now self.old }
         requires placement { IsOfPlacement unit.now placement.now self.old }
         requires cells { message_count self.old.state.slots + leaving ≤ self.old.most_cells }
@@ -194,8 +195,8 @@ impl Node {
         ensures unit { IsOfUnit unit.now self.new }
         ensures made { self.new.state.made ≡ self.old.state.made }
     {
-        let mut room = Room::make();
-        let told = self.receive_in(unit, placement, packet, leaving, &mut room);
+        let mut room = StepOutput::make();
+        let told = self.receive_into(unit, placement, packet, leaving, &mut room);
         act_told(told, &room)
     }
 
@@ -250,19 +251,19 @@ impl Node {
 }
 
 /// What is told with this in the room, given whole.
-fn act_told(told: Told, room: &Room) -> Act
+fn act_told(told: TurnOutcome, room: &StepOutput) -> Act
     ensures { act_seen result ≡ act_of told room.now }
 {
     match told {
-        Told::Idle => Act::Idle,
-        Told::Line => Act::Line {
+        TurnOutcome::Idle => Act::Idle,
+        TurnOutcome::Line => Act::Line {
             what: room.what,
             packet: None,
         },
-        Told::Leaves => Act::Line {
+        TurnOutcome::Leaves => Act::Line {
             what: room.what,
             packet: Some(room.packet),
         },
-        Told::Full { kind } => Act::Full { kind },
+        TurnOutcome::Full { kind } => Act::Full { kind },
     }
 }

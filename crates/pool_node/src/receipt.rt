@@ -1,29 +1,29 @@
 //! The receipt of a packet at its goal.
 ghost use Rattle.std.specs.Prelude.{◌≡◌, ℕ, ◌+◌, ◌<◌, ◌≤◌, None, Some, length};
-ghost use Rattle.run_words.specs.declared.words.Placement.{Placement as OnePlacement};
-ghost use Rattle.run_words.specs.declared.words.What.TheVariants as W;
+ghost use Rattle.run_types.specs.declared.types.Placement.{Placement as OnePlacement};
+ghost use Rattle.run_types.specs.declared.types.What.TheVariants as W;
 ghost use Rattle.code_semantics.specs.Step.{class_from};
 ghost use Rattle.mesh_semantics.specs.Delay as D;
-ghost use Rattle.run_words.specs.ObjectNames as DObjectNames;
-ghost use Rattle.coded_objects.specs.Coded.{coded};
+ghost use Rattle.run_types.specs.ObjectNames as DObjectNames;
+ghost use Rattle.mesh_of_code.specs.Coded.{coded};
 ghost use Rattle.node_semantics.specs.Node as N;
 ghost use Rattle.node_semantics.specs.Node.{deliver, receipt, receipt_act, message_count};
 ghost use Rattle.node_semantics.specs.Receives.{IsReceivable};
 ghost use Rattle.rendezvous_protocol.specs.Packets.{numbered};
-ghost use Rattle.node_parts.specs.OfUnit.{IsOfPlacement, IsOfUnit};
+ghost use Rattle.node_state.specs.OfUnit.{IsOfPlacement, IsOfUnit};
 ghost use Rattle.pool_node.specs.ActOf.{act_of};
 ghost use Rattle.pool_node.specs.Acts.{IsActOf};
-ghost use Rattle.node_parts.specs.Views.{IsWhole, arrival_of, node_of, slots_of};
-ghost use Rattle.pool_node.specs.Made.{IsMade, IsSet, settled_number};
+ghost use Rattle.node_state.specs.Views.{NodeInvariant, arrival_of, node_of, slots_of};
+ghost use Rattle.pool_node.specs.NodeSteps.{ReportsAct, IsSet, settled_number};
 
 use crate::acts::{deliver_to, name_of, no_cell, settle_if_out, step};
-use crate::words::{Room, Told};
+use crate::types::{StepOutput, TurnOutcome};
 use code_semantics::Unit;
 use mailbox::Message;
 use node_heap::HeapFull;
-use node_parts::{Parts, add_in};
+use node_state::{NodeParts, add_in};
 use rendezvous_protocol::Packet;
-use run_words::{FullKind, Label, NameId, Placement, Value, What};
+use run_types::{FullKind, Label, NameId, Placement, Value, What};
 
 /// The place of the first class of this name.
 pub(crate) fn class_named(unit: &Unit, class: NameId) -> Option<u32>
@@ -43,33 +43,33 @@ pub(crate) fn class_named(unit: &Unit, class: NameId) -> Option<u32>
 fn receive_create(
     unit: &Unit,
     placement: &Placement,
-    parts: &mut Parts,
+    parts: &mut NodeParts,
     number: u32,
     from: u32,
     class: u32,
     name: NameId,
     leaving: u32,
-    room: &mut Room,
-) -> Told
+    room: &mut StepOutput,
+) -> TurnOutcome
     requires set { IsSet unit.now placement.now leaving parts.old }
     requires class { class < length unit.now.classes }
     requires named { class_from 0 unit.now.classes name ≡ Some class }
     ensures { (goal : ℕ)
-        → IsMade unit.now placement.now leaving (act_of result room.new) parts.old parts.new
+        → ReportsAct unit.now placement.now leaving (act_of result room.new) parts.old parts.new
         (receipt (coded unit.now) parts.old.id (node_of parts.old).state (Some number) (D.Create from goal name.0)) }
 {
     if parts.heap.objects() >= placement.objects {
-        return Told::Full {
+        return TurnOutcome::Full {
             kind: FullKind::Heap,
         };
     }
     if parts.heap.frames() >= placement.frames {
-        return Told::Full {
+        return TurnOutcome::Full {
             kind: FullKind::Frames,
         };
     }
     if no_cell(placement, parts, leaving) {
-        return Told::Full {
+        return TurnOutcome::Full {
             kind: FullKind::Cells,
         };
     }
@@ -87,49 +87,49 @@ fn receive_create(
                 to: from,
                 name: object,
             };
-            Told::Leaves
+            TurnOutcome::Leaves
         }
-        Err(HeapFull::Objects) => Told::Idle,
-        Err(HeapFull::Frames) => Told::Idle,
+        Err(HeapFull::Objects) => TurnOutcome::Idle,
+        Err(HeapFull::Frames) => TurnOutcome::Idle,
     }
 }
 
 /// Gives an object the value that has come.
 fn receive_value(
     unit: &Unit,
-    parts: &mut Parts,
+    parts: &mut NodeParts,
     number: u32,
     value: Value,
     what: What,
-    room: &mut Room,
-) -> Told
-    requires whole { IsWhole parts.old }
+    room: &mut StepOutput,
+) -> TurnOutcome
+    requires whole { NodeInvariant parts.old }
     requires unit { IsOfUnit unit.now (node_of parts.old) }
     ensures { (l : OnePlacement) (leaving : ℕ) → IsSet unit.now l leaving parts.old
-        → IsMade unit.now l leaving (act_of result room.new) parts.old parts.new (N.Acts what None (settled_number unit.now number value (node_of parts.old).state)) }
+        → ReportsAct unit.now l leaving (act_of result room.new) parts.old parts.new (N.Acts what None (settled_number unit.now number value (node_of parts.old).state)) }
 {
     settle_if_out(unit, parts, number, value);
     room.what = what;
-    Told::Line
+    TurnOutcome::Line
 }
 
 /// Puts a message that has arrived at its receiver, unless there is no cell for it.
 fn receive_message(
     unit: &Unit,
     placement: &Placement,
-    parts: &mut Parts,
+    parts: &mut NodeParts,
     to: u32,
     message: Message,
     leaving: u32,
-    room: &mut Room,
-) -> Told
+    room: &mut StepOutput,
+) -> TurnOutcome
     requires set { IsSet unit.now placement.now leaving parts.old }
     requires there { DObjectNames.slot_of to < length parts.old.heap.objects }
-    ensures { IsMade unit.now placement.now leaving (act_of result room.new) parts.old parts.new
+    ensures { ReportsAct unit.now placement.now leaving (act_of result room.new) parts.old parts.new
         (N.Acts (W.Arrive message.from to message.method) None (deliver to (arrival_of message) (node_of parts.old).state)) }
 {
     if no_cell(placement, parts, leaving) {
-        return Told::Full {
+        return TurnOutcome::Full {
             kind: FullKind::Cells,
         };
     }
@@ -139,21 +139,21 @@ fn receive_message(
         method: message.method,
     };
     deliver_to(unit, parts, to, message);
-    Told::Line
+    TurnOutcome::Line
 }
 
 /// What is done with a packet, before the limit of frames is asked.
 fn received(
     unit: &Unit,
     placement: &Placement,
-    parts: &mut Parts,
+    parts: &mut NodeParts,
     packet: Packet,
     leaving: u32,
-    room: &mut Room,
-) -> Told
+    room: &mut StepOutput,
+) -> TurnOutcome
     requires set { IsSet unit.now placement.now leaving parts.old }
     requires packet { IsReceivable (coded unit.now) parts.old.id (node_of parts.old).state (numbered packet).number (numbered packet).packet }
-    ensures { IsMade unit.now placement.now leaving (act_of result room.new) parts.old parts.new
+    ensures { ReportsAct unit.now placement.now leaving (act_of result room.new) parts.old parts.new
         (receipt (coded unit.now) parts.old.id (node_of parts.old).state (numbered packet).number (numbered packet).packet) }
 {
     match packet {
@@ -166,7 +166,7 @@ fn received(
             Some(place) => receive_create(
                 unit, placement, parts, number, from, place, class, leaving, room,
             ),
-            None => Told::Idle,
+            None => TurnOutcome::Idle,
         },
         Packet::Created { number, to, name } => {
             let what = What::Created { object: to, name };
@@ -212,19 +212,19 @@ fn received(
 pub(crate) fn receipt_of(
     unit: &Unit,
     placement: &Placement,
-    parts: &mut Parts,
+    parts: &mut NodeParts,
     packet: Packet,
     leaving: u32,
-    room: &mut Room,
-) -> Told
-    requires whole { IsWhole parts.old }
+    room: &mut StepOutput,
+) -> TurnOutcome
+    requires whole { NodeInvariant parts.old }
     requires unit { IsOfUnit unit.now (node_of parts.old) }
     requires placement { IsOfPlacement unit.now placement.now (node_of parts.old) }
     requires cells { message_count (slots_of parts.old) + leaving ≤ placement.now.cells }
     requires packet { IsReceivable (coded unit.now) parts.old.id (node_of parts.old).state (numbered packet).number (numbered packet).packet }
     ensures act { IsActOf (act_of result room.new) (node_of parts.old) (node_of parts.new)
         (receipt_act (coded unit.now) placement.now parts.old.id leaving (numbered packet) (node_of parts.old).state) }
-    ensures whole { IsWhole parts.new }
+    ensures whole { NodeInvariant parts.new }
     ensures unit { IsOfUnit unit.now (node_of parts.new) }
 {
     // Read for what it ensures: the frames are within their limit.

@@ -4,17 +4,17 @@ ghost use Rattle.code_semantics.specs.Kinds.{code_kind};
 ghost use Rattle.node_heap.specs.Heaps.{object_at};
 ghost use Rattle.mailbox.specs.Mail.{box_of};
 ghost use Rattle.object_interp.specs.Offers.{IsChoosing, offer_at, offers_at, open_names};
-ghost use Rattle.node_parts.specs.Choices.{first_of_these, place_called};
+ghost use Rattle.node_state.specs.Choices.{first_of_these, place_called};
 ghost use Rattle.pool_node.specs.ActOf.{act_of};
-ghost use Rattle.pool_node.specs.Made.{IsSet, IsTurned, taken_label};
+ghost use Rattle.pool_node.specs.NodeSteps.{IsSet, IsTurned, taken_label};
 
 use crate::acts::{name_of, step};
-use crate::words::{Room, Told};
+use crate::types::{StepOutput, TurnOutcome};
 use code_semantics::Unit;
 use mailbox::Message;
-use node_parts::{Parts, called_place, first_possible, pick_in, serve_in};
+use node_state::{NodeParts, called_place, first_possible, pick_in, serve_in};
 use object_interp::plain_alt;
-use run_words::{FullKind, Label, Placement};
+use run_types::{FullKind, Label, Placement};
 
 /// The label of a message that is taken: an answer to its caller, or an asynchronous message.
 fn label_of(object: u32, message: &Message) -> Label
@@ -47,12 +47,12 @@ fn label_of(object: u32, message: &Message) -> Label
 fn serve_turn(
     unit: &Unit,
     placement: &Placement,
-    parts: &mut Parts,
+    parts: &mut NodeParts,
     slot: u32,
     alt: u32,
     place: usize,
-    room: &mut Room,
-) -> Told
+    room: &mut StepOutput,
+) -> TurnOutcome
     requires set { (leaving : ℕ) × IsSet unit.now placement.now leaving parts.old }
     requires slot { slot < length parts.old.heap.objects }
     requires free { get_or parts.old.outstanding slot None ≡ None }
@@ -62,25 +62,25 @@ fn serve_turn(
     ensures { (q leaving : ℕ) → IsSet unit.now placement.now leaving parts.old → IsTurned unit.now placement.now q leaving (act_of result room.new) parts.old parts.new slot }
 {
     if parts.heap.frames() >= placement.frames {
-        return Told::Full {
+        return TurnOutcome::Full {
             kind: FullKind::Frames,
         };
     }
     let object = name_of(parts, slot);
     let message = serve_in(unit, parts, slot, alt, place);
     room.what = step(label_of(object, &message));
-    Told::Line
+    TurnOutcome::Line
 }
 
 /// Goes into alternative `alt`, the first that is possible.
 fn choose(
     unit: &Unit,
     placement: &Placement,
-    parts: &mut Parts,
+    parts: &mut NodeParts,
     slot: u32,
     alt: u32,
-    room: &mut Room,
-) -> Told
+    room: &mut StepOutput,
+) -> TurnOutcome
     requires set { (leaving : ℕ) × IsSet unit.now placement.now leaving parts.old }
     requires slot { slot < length parts.old.heap.objects }
     requires free { get_or parts.old.outstanding slot None ≡ None }
@@ -92,11 +92,11 @@ fn choose(
         let object = name_of(parts, slot);
         pick_in(unit, parts, slot, alt);
         room.what = step(Label::Pick { object, alt });
-        return Told::Line;
+        return TurnOutcome::Line;
     }
     match called_place(unit, &parts.heap, &parts.mailbox, slot, alt) {
         Some(place) => serve_turn(unit, placement, parts, slot, alt, place, room),
-        None => Told::Idle,
+        None => TurnOutcome::Idle,
     }
 }
 
@@ -104,10 +104,10 @@ fn choose(
 pub(crate) fn choose_turn(
     unit: &Unit,
     placement: &Placement,
-    parts: &mut Parts,
+    parts: &mut NodeParts,
     slot: u32,
-    room: &mut Room,
-) -> Told
+    room: &mut StepOutput,
+) -> TurnOutcome
     requires set { (leaving : ℕ) × IsSet unit.now placement.now leaving parts.old }
     requires slot { slot < length parts.old.heap.objects }
     requires free { get_or parts.old.outstanding slot None ≡ None }
@@ -117,6 +117,6 @@ pub(crate) fn choose_turn(
 {
     match first_possible(unit, &parts.heap, &parts.mailbox, slot) {
         Some(alt) => choose(unit, placement, parts, slot, alt, room),
-        None => Told::Idle,
+        None => TurnOutcome::Idle,
     }
 }

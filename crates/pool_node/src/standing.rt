@@ -1,8 +1,8 @@
 //! Where the objects of a node stand.
 ghost use Rattle.std.specs.Prelude.{◌≡◌, ◌<◌, length, is_some, Option as option, true, false};
-ghost use Rattle.run_words.specs.declared.words.Error.{Error as OneError};
+ghost use Rattle.run_types.specs.declared.types.Error.{Error as OneError};
 ghost use Rattle.std.specs.List.{list_any};
-ghost use Rattle.coded_objects.specs.Coded.{Placed, coded, kind_of};
+ghost use Rattle.mesh_of_code.specs.Coded.{Placed, coded, kind_of};
 ghost use Rattle.node_semantics.specs.Node.{Slot, arrivals, name_at};
 ghost use Rattle.node_semantics.specs.Standings.{slot_standing};
 ghost use Rattle.pool_node.specs.Acts.{chosen_standing, told_standing};
@@ -11,17 +11,17 @@ ghost use Rattle.object_interp.specs.Offers.{IsChoosing};
 ghost use Rattle.node_heap.specs.Heaps.{object_at};
 ghost use Rattle.mailbox.specs.Mail.{box_of};
 ghost use Rattle.mesh_semantics.specs.Act.{can_step};
-ghost use Rattle.node_parts.specs.OfUnit.{IsOfUnit};
-ghost use Rattle.node_parts.specs.Views.{IsWhole, arrivals_of, node_of, slot_at, slots_of};
+ghost use Rattle.node_state.specs.OfUnit.{IsOfUnit};
+ghost use Rattle.node_state.specs.Views.{NodeInvariant, arrivals_of, node_of, slot_at, slots_of};
 
 use code_semantics::Unit;
-use node_parts::{Parts, first_possible};
+use node_state::{NodeParts, first_possible};
 use object_interp::{Hand, Need, at_hand};
-use run_words::{Error, Standing};
+use run_types::{Error, Standing};
 
 /// Where the object of a slot stands while its request is out.
-fn asking(unit: &Unit, parts: &Parts, slot: u32) -> Standing
-    requires whole { IsWhole parts.now }
+fn asking(unit: &Unit, parts: &NodeParts, slot: u32) -> Standing
+    requires whole { NodeInvariant parts.now }
     requires unit { IsOfUnit unit.now (node_of parts.now) }
     requires slot { slot < length parts.now.heap.objects }
     requires out { is_some (slot_at parts.now slot).request ≡ true }
@@ -38,8 +38,8 @@ fn asking(unit: &Unit, parts: &Parts, slot: u32) -> Standing
 }
 
 /// Where the object of a slot stands.
-pub(crate) fn standing_of(unit: &Unit, parts: &Parts, slot: u32) -> Standing
-    requires whole { IsWhole parts.now }
+pub(crate) fn standing_of(unit: &Unit, parts: &NodeParts, slot: u32) -> Standing
+    requires whole { NodeInvariant parts.now }
     requires unit { IsOfUnit unit.now (node_of parts.now) }
     requires slot { slot < length parts.now.heap.objects }
     ensures { told_standing result ≡ slot_standing (coded unit.now) (name_at parts.now.id slot) (slot_at parts.now slot) }
@@ -54,8 +54,8 @@ pub(crate) fn standing_of(unit: &Unit, parts: &Parts, slot: u32) -> Standing
 }
 
 /// Where the object of a slot stands, of which no request is out and which has met no error.
-fn free_standing(unit: &Unit, parts: &Parts, slot: u32) -> Standing
-    requires whole { IsWhole parts.now }
+fn free_standing(unit: &Unit, parts: &NodeParts, slot: u32) -> Standing
+    requires whole { NodeInvariant parts.now }
     requires unit { IsOfUnit unit.now (node_of parts.now) }
     requires slot { slot < length parts.now.heap.objects }
     requires free { is_some (slot_at parts.now slot).request ≡ false }
@@ -71,8 +71,8 @@ fn free_standing(unit: &Unit, parts: &Parts, slot: u32) -> Standing
 }
 
 /// Where an object stands that answers or selects: it is ready where an alternative is possible.
-fn choosing(unit: &Unit, parts: &Parts, slot: u32) -> Standing
-    requires whole { IsWhole parts.now }
+fn choosing(unit: &Unit, parts: &NodeParts, slot: u32) -> Standing
+    requires whole { NodeInvariant parts.now }
     requires unit { IsOfUnit unit.now (node_of parts.now) }
     requires slot { slot < length parts.now.heap.objects }
     requires choosing { IsChoosing (code_kind unit.now (object_at parts.now.heap slot)) }
@@ -93,8 +93,8 @@ fn any_some(faults: &[Option<Error>]) -> bool
 }
 
 /// Whether an object of the node has met an error.
-pub(crate) fn any_fault(parts: &Parts) -> bool
-    requires whole { IsWhole parts.now }
+pub(crate) fn any_fault(parts: &NodeParts) -> bool
+    requires whole { NodeInvariant parts.now }
     ensures { result ≡ list_any (λ (s : Slot Placed). is_some s.state.fault) (slots_of parts.now) }
 {
     any_some(parts.faults.items())

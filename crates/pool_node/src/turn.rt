@@ -2,42 +2,42 @@
 ghost use Rattle.std.specs.Prelude.{◌≡◌, ℕ, ◌+◌, ◌-◌, ◌^◌, ◌<◌, ◌≤◌, true, None, Some, length, get_or, take};
 ghost use Rattle.code_semantics.specs.Kinds.{code_kind};
 ghost use Rattle.node_heap.specs.Heaps.{object_at};
-ghost use Rattle.run_words.specs.Tables.{Each};
+ghost use Rattle.run_types.specs.Tables.{Each};
 ghost use Rattle.mesh_semantics.specs.Act.{can_step};
-ghost use Rattle.coded_objects.specs.Coded.{coded, kind_of};
+ghost use Rattle.mesh_of_code.specs.Coded.{coded, kind_of};
 ghost use Rattle.mailbox.specs.Mail.{box_of};
-ghost use Rattle.object_interp.specs.declared.words.Hand.TheVariants as H;
+ghost use Rattle.object_interp.specs.declared.types.Hand.TheVariants as H;
 ghost use Rattle.object_interp.specs.Offers.{hand_of};
 ghost use Rattle.node_semantics.specs.Node.{arrivals, message_count, turn_act};
 ghost use Rattle.node_semantics.specs.Agrees.{IsUnused};
-ghost use Rattle.node_parts.specs.OfUnit.{IsOfPlacement, IsOfUnit};
-ghost use Rattle.node_parts.specs.Views.{IsWhole, arrivals_of, node_of, slots_of};
+ghost use Rattle.node_state.specs.OfUnit.{IsOfPlacement, IsOfUnit};
+ghost use Rattle.node_state.specs.Views.{NodeInvariant, arrivals_of, node_of, slots_of};
 ghost use Rattle.pool_node.specs.ActOf.{act_of};
-ghost use Rattle.pool_node.specs.declared.words.Room.{Room as OneRoom};
+ghost use Rattle.pool_node.specs.declared.types.StepOutput.{StepOutput as OneRoom};
 ghost use Rattle.pool_node.specs.Acts.{IsActOf};
-ghost use Rattle.pool_node.specs.Made.{IsSet, IsTurned, kept};
-ghost use Rattle.node_parts.specs.Bits.{first_bit_from};
+ghost use Rattle.pool_node.specs.NodeSteps.{IsSet, IsTurned, kept};
+ghost use Rattle.node_state.specs.Bits.{first_bit_from};
 ghost use Rattle.pool_node.specs.Bits.{bit_in_turn};
 
 use crate::acts::{async_turn, call_turn, fault_turn, name_of, return_turn, write_turn};
 use crate::making::create_turn;
 use crate::serving::choose_turn;
-use crate::words::{Room, Told};
+use crate::types::{StepOutput, TurnOutcome};
 use code_semantics::Unit;
-use node_parts::{Parts, refresh};
+use node_state::{NodeParts, refresh};
 use object_interp::{Burst, Need, burst};
-use run_words::{FullKind, Label, Placement, What};
+use run_types::{FullKind, Label, Placement, What};
 
 /// The step of a slot that needs this.
 fn need_turn(
     unit: &Unit,
     placement: &Placement,
-    parts: &mut Parts,
+    parts: &mut NodeParts,
     slot: u32,
     need: Need,
     leaving: u32,
-    room: &mut Room,
-) -> Told
+    room: &mut StepOutput,
+) -> TurnOutcome
     requires set { IsSet unit.now placement.now leaving parts.old }
     requires slot { slot < length parts.old.heap.objects }
     requires free { get_or parts.old.outstanding slot None ≡ None }
@@ -69,7 +69,7 @@ fn need_turn(
             unit, placement, parts, slot, caller, number, value, leaving, room,
         ),
         Need::Fault { error } => fault_turn(unit, parts, slot, error, room),
-        Need::Halted => Told::Idle,
+        Need::Halted => TurnOutcome::Idle,
     }
 }
 
@@ -77,12 +77,12 @@ fn need_turn(
 fn slot_turn(
     unit: &Unit,
     placement: &Placement,
-    parts: &mut Parts,
+    parts: &mut NodeParts,
     slot: u32,
     quantum: u32,
     leaving: u32,
-    room: &mut Room,
-) -> Told
+    room: &mut StepOutput,
+) -> TurnOutcome
     requires set { IsSet unit.now placement.now leaving parts.old }
     requires slot { slot < length parts.old.heap.objects }
     requires free { get_or parts.old.outstanding slot None ≡ None }
@@ -100,9 +100,9 @@ fn slot_turn(
                 label: Label::Local { object },
                 times: steps,
             };
-            Told::Line
+            TurnOutcome::Line
         }
-        Burst::FramesFull => Told::Full {
+        Burst::FramesFull => TurnOutcome::Full {
             kind: FullKind::Frames,
         },
         Burst::At(need) => need_turn(unit, placement, parts, slot, need, leaving, room),
@@ -110,16 +110,16 @@ fn slot_turn(
 }
 
 /// The least slot from this one on whose bit is set.
-pub(crate) fn first_ready(parts: &Parts, from: u32) -> Option<u32>
-    requires whole { IsWhole parts.now }
+pub(crate) fn first_ready(parts: &NodeParts, from: u32) -> Option<u32>
+    requires whole { NodeInvariant parts.now }
     ensures { result ≡ first_bit_from from (take (length parts.now.heap.objects) parts.now.ready) }
 {
     parts.ready.first_within(from, parts.heap.objects())
 }
 
 /// The slot in turn: the one of the least number above the last whose bit is set, else the least of all.
-fn slot_in_turn(parts: &Parts) -> Option<u32>
-    requires whole { IsWhole parts.now }
+fn slot_in_turn(parts: &NodeParts) -> Option<u32>
+    requires whole { NodeInvariant parts.now }
     ensures { result ≡ bit_in_turn parts.now.last (take (length parts.now.heap.objects) parts.now.ready) }
 {
     if let Some(last) = parts.last
@@ -134,14 +134,14 @@ fn slot_in_turn(parts: &Parts) -> Option<u32>
 }
 
 /// Where a limit is told, the last slot is the one from before.
-fn keep_last(parts: &mut Parts, told: Told, before: Option<u32>)
+fn keep_last(parts: &mut NodeParts, told: TurnOutcome, before: Option<u32>)
     ensures { (room : OneRoom) → parts.new ≡ kept (act_of told room) parts.old before }
 {
     match told {
-        Told::Full { .. } => parts.last = before,
-        Told::Idle => {}
-        Told::Line => {}
-        Told::Leaves => {}
+        TurnOutcome::Full { .. } => parts.last = before,
+        TurnOutcome::Idle => {}
+        TurnOutcome::Line => {}
+        TurnOutcome::Leaves => {}
     }
 }
 
@@ -149,13 +149,13 @@ fn keep_last(parts: &mut Parts, told: Told, before: Option<u32>)
 fn step_of(
     unit: &Unit,
     placement: &Placement,
-    parts: &mut Parts,
+    parts: &mut NodeParts,
     slot: u32,
     quantum: u32,
     leaving: u32,
-    room: &mut Room,
-) -> Told
-    requires whole { IsWhole parts.old }
+    room: &mut StepOutput,
+) -> TurnOutcome
+    requires whole { NodeInvariant parts.old }
     requires unit { IsOfUnit unit.now (node_of parts.old) }
     requires placement { IsOfPlacement unit.now placement.now (node_of parts.old) }
     requires quantum { 1 ≤ quantum }
@@ -164,7 +164,7 @@ fn step_of(
     requires turn { bit_in_turn parts.old.last (take (length parts.old.heap.objects) parts.old.ready) ≡ Some slot }
     ensures act { (fresh : ℕ) × IsUnused fresh (node_of parts.old).state
         × IsActOf (act_of result room.new) (node_of parts.old) (node_of parts.new) (turn_act (coded unit.now) placement.now quantum parts.old.id leaving fresh (node_of parts.old).state) }
-    ensures whole { IsWhole parts.new }
+    ensures whole { NodeInvariant parts.new }
     ensures unit { IsOfUnit unit.now (node_of parts.new) }
 {
     let before = parts.last;
@@ -182,12 +182,12 @@ fn step_of(
 pub(crate) fn turn_of(
     unit: &Unit,
     placement: &Placement,
-    parts: &mut Parts,
+    parts: &mut NodeParts,
     quantum: u32,
     leaving: u32,
-    room: &mut Room,
-) -> Told
-    requires whole { IsWhole parts.old }
+    room: &mut StepOutput,
+) -> TurnOutcome
+    requires whole { NodeInvariant parts.old }
     requires unit { IsOfUnit unit.now (node_of parts.old) }
     requires placement { IsOfPlacement unit.now placement.now (node_of parts.old) }
     requires quantum { 1 ≤ quantum }
@@ -195,11 +195,11 @@ pub(crate) fn turn_of(
     requires countable { Each (λ k. k < 2 ^ 32 - 1) parts.old.made }
     ensures act { (fresh : ℕ) × IsUnused fresh (node_of parts.old).state
         × IsActOf (act_of result room.new) (node_of parts.old) (node_of parts.new) (turn_act (coded unit.now) placement.now quantum parts.old.id leaving fresh (node_of parts.old).state) }
-    ensures whole { IsWhole parts.new }
+    ensures whole { NodeInvariant parts.new }
     ensures unit { IsOfUnit unit.now (node_of parts.new) }
 {
     match slot_in_turn(parts) {
         Some(slot) => step_of(unit, placement, parts, slot, quantum, leaving, room),
-        None => Told::Idle,
+        None => TurnOutcome::Idle,
     }
 }

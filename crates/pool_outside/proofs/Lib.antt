@@ -1,5 +1,5 @@
-pub mod Known
-pub mod Shelves
-pub mod Fronts
+pub mod KnownBytes
+pub mod FilesByName
+pub mod WrittenPrefixes
 pub mod Buffer
 pub mod Laws

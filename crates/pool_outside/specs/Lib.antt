@@ -1,3 +1,5 @@
+pub mod Reading
+pub mod Writing
 pub mod Outside
 pub mod Memory
 pub mod Edge

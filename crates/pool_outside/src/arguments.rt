@@ -8,7 +8,10 @@ use std::io::ErrorKind;
 use std::{env, io};
 
 /// The words behind the program's name. Arguments that are not text are no command's, and give none.
-pub fn behind_name(alloc: Global, args: io::Result<env::Args>) -> Result<Vec<String>, AllocError>
+pub fn args_after_program_name(
+    alloc: Global,
+    args: io::Result<env::Args>,
+) -> Result<Vec<String>, AllocError>
     ensures words { IfOk args (λ a. IfOk result (λ words. words.items ≡ drop 1 (into_iter_items a))) }
     ensures not_text { IfErr args (λ e. error_kind e ≢ ErrorKind.OutOfMemory → IsOkAnd result (λ words. words.items ≡ [])) }
     ensures memory { IfErr args (λ e. error_kind e ≡ ErrorKind.OutOfMemory → IsErr result) }

@@ -1,4 +1,7 @@
-//! What the program is called with, reads from and writes to: its words, files by their names, and sinks of bytes.
+//! Program arguments, files by name, and byte sinks: traits, implementations in memory and over the system, and
+//! definitions for contracts.
+//!
+//! Does not know: the meaning of the bytes.
 #![tactic(auto)]
 
 mod arguments;
@@ -8,7 +11,7 @@ mod edge;
 mod memory;
 mod outside;
 
-pub use arguments::behind_name;
+pub use arguments::args_after_program_name;
 pub use buffered::{Behind, Buffered, Text, write_gathered};
 pub use calls::{ReadFault, WriteFault, read_whole, write_all_of};
 pub use edge::{StdFiles, StdSink};

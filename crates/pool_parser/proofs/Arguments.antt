@@ -6,9 +6,10 @@ use Rattle.pool_syntax.specs.declared.token.Sign.TheVariants as sg
 use Rattle.pool_syntax.specs.Terms.{Expression, Expressions, NoArgs, Arg}
 use Rattle.pool_grammar.specs.Rules.{Phrase, Tree, args, more_args, sign, phrase, Rule, tree, then}
 use Rattle.pool_grammar.specs.Grammar.{rule, expr, arg_last}
-use Rattle.pool_parser.specs.Reads.{Outcome, read, refused, Reads, ReadsPhrase, Clear}
-use Rattle.pool_parser.proofs.Reading.{reads_tree, reads_first, reads_second, reads_inner, reads_refused, reads_last, reads_nothing, put-id, clear_tree, clear_inner, clear_either, clear_sign, misses_inner, off, off_tree}
-use Rattle.pool_parser.proofs.Parts.{sign_there, sign_read, off_sign}
+use Rattle.pool_parser.specs.Reads.{Outcome, read, refused, Reads, ReadsPhrase}
+use Rattle.pool_parser.proofs.ClearRules.{Clear}
+use Rattle.pool_parser.proofs.RuleComposition.{reads_tree, reads_first, reads_second, reads_inner, reads_refused, reads_last, reads_nothing, put-id, clear_tree, clear_inner, clear_either, clear_sign, misses_inner, off, off_tree}
+use Rattle.pool_parser.proofs.SingleTokens.{sign_there, sign_read, off_sign}
 use Rattle.pool_parser.proofs.Primaries.{misses_args, misses_expr, closes_expression}
 
 module _ {ts : List Tok} where

@@ -1,21 +1,22 @@
 -- How statements with lists in them, alternatives and lists of statements are read.
 use Rattle.std.proofs.Common.{◌≡◌, ◌≢◌, ℕ, ◌+◌, inl, inr, ⊎_elim, false, IsTrue, List, Option, Some, None, slice_get, refl, arith}
 use Rattle.pool_syntax.specs.declared.tree.Named.{Named}
-use Rattle.run_words.specs.declared.keywords.Keyword.{Keyword}
+use Rattle.text_scan.specs.declared.keywords.Keyword.{Keyword}
 use Rattle.pool_syntax.specs.declared.token.Tok.{Tok}
 use Rattle.pool_syntax.specs.declared.token.Tok.TheVariants as tok
-use Rattle.run_words.specs.declared.keywords.Keyword.TheVariants as kw
+use Rattle.text_scan.specs.declared.keywords.Keyword.TheVariants as kw
 use Rattle.pool_syntax.specs.declared.token.Sign.TheVariants as sg
 use Rattle.pool_syntax.specs.Terms.{Expression, Statement, If, While, Select, Statements, Done, Then, Alternatives, NoAlts}
 use Rattle.pool_grammar.specs.Rules.{Phrase, Tree, stmt, stmts, more_stmts, alt, more_alts, list, word, phrase, Rule, tree, then, either, OneAlternative}
 use Rattle.pool_grammar.specs.Grammar.{rule, expr, then_last, alt_last}
 use Rattle.pool_grammar.specs.Derives.{Derives}
-use Rattle.pool_parser.specs.Reads.{Outcome, read, refused, Reads, ReadsPhrase, Clear, Misses, begins_statement, strength}
+use Rattle.pool_parser.specs.Reads.{Outcome, read, refused, Reads, ReadsPhrase, begins_statement, strength}
+use Rattle.pool_parser.proofs.ClearRules.{Clear, Misses}
 use Rattle.pool_parser.specs.Tails.{else_part, then_part}
-use Rattle.pool_parser.proofs.Reading.{reads_tree, reads_first, reads_second, reads_inner, reads_refused, reads_last, put, put-id, clear_tree, clear_inner, clear_either, clear_word, clear_sign, misses_token, misses_inner, off, off_tree}
-use Rattle.pool_parser.proofs.Parts.{clear_any, sign_read, word_read, word_missing, off_sign, off_word}
+use Rattle.pool_parser.proofs.RuleComposition.{reads_tree, reads_first, reads_second, reads_inner, reads_refused, reads_last, put, put-id, clear_tree, clear_inner, clear_either, clear_word, clear_sign, misses_token, misses_inner, off, off_tree}
+use Rattle.pool_parser.proofs.SingleTokens.{clear_any, sign_read, word_read, word_missing, off_sign, off_word}
 use Rattle.pool_parser.proofs.Choices.{not_empty, clear_full}
-use Rattle.pool_parser.proofs.Telling.{misses_stmt, behind_if, behind_while, behind_select}
+use Rattle.pool_parser.proofs.SimpleStatements.{misses_stmt, behind_if, behind_while, behind_select}
 
 module _ {ts : List Tok} where
   pub ends_value : {w : Keyword} {p : Phrase} {f : ℕ → Rule (Tree p)} → strength (tok.Word w) ≡ 0 → Clear ts p (then (word w) f) expr

@@ -7,7 +7,7 @@ use Rattle.pool_syntax.specs.Terms.{Expression, Expressions, Send}
 use Rattle.pool_grammar.specs.Rules.{Phrase, Tree, expression, postfix, more_sends, args, invoke, sign, name, Rule, tree, then, phrase}
 use Rattle.pool_grammar.specs.Grammar.{rule}
 use Rattle.pool_grammar.specs.Derives.{IsToken, Derives, nothing, token, inner, first, second, Begins, none, within, past, past_token, of_first, of_second}
-use Rattle.pool_parser.proofs.Reading.{Derives-tree, Derives-token, Derives-inner, Derives-either, Begins-tree, Begins-token, Begins-inner, Begins-either, at_least}
+use Rattle.pool_parser.proofs.RuleComposition.{Derives-tree, Derives-token, Derives-inner, Derives-either, Begins-tree, Begins-token, Begins-inner, Begins-either, at_least}
 
 module _ (ts : List Tok) where
   -- one more send at the end; n bounds the length

@@ -2,14 +2,15 @@
 use Rattle.std.proofs.Common.{◌≡◌, ℕ, ◌+◌, ◌<◌, List, Some, None, slice_get, refl, arith}
 use Rattle.pool_syntax.specs.declared.token.Tok.{Tok}
 use Rattle.pool_syntax.specs.declared.token.Tok.TheVariants as tok
-use Rattle.run_words.specs.declared.keywords.Keyword.TheVariants as kw
+use Rattle.text_scan.specs.declared.keywords.Keyword.TheVariants as kw
 use Rattle.pool_syntax.specs.declared.token.Sign.TheVariants as sg
-use Rattle.run_words.specs.declared.words.Op.{Op}
+use Rattle.run_types.specs.declared.types.Op.{Op}
 use Rattle.pool_syntax.specs.Terms.{Expression, Infix}
 use Rattle.pool_grammar.specs.Rules.{Group, disjunction, conjunction, addition, multiplication, Level, group, comparison, factor, postfix, primary, expression, more_operands}
 use Rattle.pool_grammar.specs.Grammar.{rule, operator_of, operand}
-use Rattle.pool_parser.specs.Reads.{Outcome, read, refused, ReadsPhrase, Clear, strength, level_number}
-use Rattle.pool_parser.proofs.Reading.{reads_tree, reads_token, reads_first, reads_second, reads_inner, reads_refused, reads_last, put-id, clear_tree, clear_inner, clear_either, clear_token, misses_token, off, off_tree}
+use Rattle.pool_parser.specs.Reads.{Outcome, read, refused, ReadsPhrase, strength, level_number}
+use Rattle.pool_parser.proofs.ClearRules.{Clear}
+use Rattle.pool_parser.proofs.RuleComposition.{reads_tree, reads_token, reads_first, reads_second, reads_inner, reads_refused, reads_last, put-id, clear_tree, clear_inner, clear_either, clear_token, misses_token, off, off_tree}
 
 -- an operator between operands binds as its level says
 pub operator_strength : (l : Level) (t : Tok) (o : Op) → operator_of l t ≡ Some o → level_number l < 6 → strength t ≡ level_number l

@@ -1,6 +1,6 @@
 -- Lists of the code and lists of trees.
 use Rattle.std.proofs.Common.{◌≡◌, List, [], ◌∷◌, ◌++◌, map, refl, ap, ap₂, ℕ}
-use Rattle.run_words.specs.declared.words.NameId.{NameId}
+use Rattle.run_types.specs.declared.types.NameId.{NameId}
 use Rattle.pool_syntax.specs.declared.tree.Expr.{Expr}
 use Rattle.pool_syntax.specs.declared.tree.Expr.TheBlock.{hidden-the_row-Expr-0}
 use Rattle.pool_syntax.specs.declared.tree.Alt.{Alt}

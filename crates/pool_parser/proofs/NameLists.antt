@@ -1,21 +1,22 @@
 -- How names, answer lists and kinds are read.
 use Rattle.std.proofs.Common.{◌≡◌, ◌≢◌, ℕ, ◌+◌, List, [], ◌∷◌, ◌++◌, Some, None, slice_get, refl, subst, arith}
-use Rattle.run_words.specs.declared.words.NameId.{NameId}
+use Rattle.run_types.specs.declared.types.NameId.{NameId}
 use Rattle.pool_syntax.specs.declared.tree.Named.{Named}
-use Rattle.run_words.specs.declared.words.Kind.{Kind}
-use Rattle.run_words.specs.declared.words.Kind.TheVariants as kinds
+use Rattle.run_types.specs.declared.types.Kind.{Kind}
+use Rattle.run_types.specs.declared.types.Kind.TheVariants as kinds
 use Rattle.pool_syntax.specs.declared.token.Tok.{Tok}
 use Rattle.pool_syntax.specs.declared.token.Tok.TheVariants as tok
-use Rattle.run_words.specs.declared.keywords.Keyword.TheVariants as kw
+use Rattle.text_scan.specs.declared.keywords.Keyword.TheVariants as kw
 use Rattle.pool_syntax.specs.declared.token.Sign.TheVariants as sg
 use Rattle.pool_grammar.specs.Rules as r
 use Rattle.pool_grammar.specs.Rules.{names, more_names, list, Phrase, Tree, sign, name, phrase, Rule, tree, then}
 use Rattle.pool_grammar.specs.Grammar.{rule}
 use Rattle.pool_grammar.specs.Derives.{IsToken}
-use Rattle.pool_parser.specs.Reads.{Outcome, read, refused, Reads, ReadsPhrase, Clear}
+use Rattle.pool_parser.specs.Reads.{Outcome, read, refused, Reads, ReadsPhrase}
+use Rattle.pool_parser.proofs.ClearRules.{Clear}
 use Rattle.pool_parser.specs.Literals.{kind_of}
-use Rattle.pool_parser.proofs.Reading.{reads_tree, reads_token, reads_first, reads_second, reads_inner, reads_refused, reads_last, reads_nothing, put-id, clear_sign, misses_token, misses_either, off, off_tree}
-use Rattle.pool_parser.proofs.Parts.{sign_read, sign_missing, name_missing, off_sign}
+use Rattle.pool_parser.proofs.RuleComposition.{reads_tree, reads_token, reads_first, reads_second, reads_inner, reads_refused, reads_last, reads_nothing, put-id, clear_sign, misses_token, misses_either, off, off_tree}
+use Rattle.pool_parser.proofs.SingleTokens.{sign_read, sign_missing, name_missing, off_sign}
 
 module _ {ts : List Tok} where
   -- kinds

@@ -1,22 +1,23 @@
 -- How primaries, sends to them, factors and comparisons are read.
 use Rattle.std.proofs.Common.{◌≡◌, ◌≢◌, ℕ, ℤ, ◌+◌, ◌≤◌, ⊎_elim, Bool, true, false, List, Some, None, slice_get, refl, subst, arith, eq-or-lt_of_le}
-use Rattle.run_words.specs.declared.words.NameId.{NameId}
+use Rattle.run_types.specs.declared.types.NameId.{NameId}
 use Rattle.pool_syntax.specs.declared.tree.Named.{Named}
-use Rattle.run_words.specs.declared.keywords.Keyword.{Keyword}
+use Rattle.text_scan.specs.declared.keywords.Keyword.{Keyword}
 use Rattle.pool_syntax.specs.declared.token.Tok.{Tok}
 use Rattle.pool_syntax.specs.declared.token.Tok.TheVariants as tok
-use Rattle.run_words.specs.declared.keywords.Keyword.TheVariants as kw
+use Rattle.text_scan.specs.declared.keywords.Keyword.TheVariants as kw
 use Rattle.pool_syntax.specs.declared.token.Sign.TheVariants as sg
-use Rattle.run_words.specs.declared.words.Op.{Op}
-use Rattle.run_words.specs.declared.words.Value.TheVariants as value
+use Rattle.run_types.specs.declared.types.Op.{Op}
+use Rattle.run_types.specs.declared.types.Value.TheVariants as value
 use Rattle.pool_syntax.specs.Terms.{Expression, Expressions, Literal, Me, Variable, Create, Prefix, Infix, Call, Send}
 use Rattle.pool_grammar.specs.Rules.{addition, group, comparison, factor, postfix, primary, Phrase, Tree, expression, args, more_sends, invoke, sign, name, operator, phrase, Rule, tree, then, either}
 use Rattle.pool_grammar.specs.Grammar.{rule, operator_of, expr}
 use Rattle.pool_grammar.specs.Derives.{IsToken, Derives, nothing, token, inner, first, second}
-use Rattle.pool_parser.specs.Reads.{Outcome, read, refused, Reads, ReadsPhrase, Stops, Clear, Misses, strength}
+use Rattle.pool_parser.specs.Reads.{Outcome, read, refused, Reads, ReadsPhrase, Stops, strength}
+use Rattle.pool_parser.proofs.ClearRules.{Clear, Misses}
 use Rattle.pool_parser.specs.Literals.{literal_of}
-use Rattle.pool_parser.proofs.Reading.{at_least, front_of, Derives-tree, Derives-token, Derives-inner, Derives-either, reads_tree, reads_token, reads_first, reads_second, reads_inner, reads_refused, reads_last, reads_nothing, reads_factored, reads_regrouped, put, put-id, clear_tree, clear_inner, clear_either, clear_token, clear_sign, misses_token, misses_either, misses_inner, off, off_tree}
-use Rattle.pool_parser.proofs.Parts.{clash, clear_any, sign_read, name_missing, no_operator, off_sign}
+use Rattle.pool_parser.proofs.RuleComposition.{at_least, front_of, Derives-tree, Derives-token, Derives-inner, Derives-either, reads_tree, reads_token, reads_first, reads_second, reads_inner, reads_refused, reads_last, reads_nothing, reads_factored, reads_regrouped, put, put-id, clear_tree, clear_inner, clear_either, clear_token, clear_sign, misses_token, misses_either, misses_inner, off, off_tree}
+use Rattle.pool_parser.proofs.SingleTokens.{clash, clear_any, sign_read, name_missing, no_operator, off_sign}
 use Rattle.pool_parser.proofs.Levels.{operator_strength}
 
 -- the tokens that begin a primary

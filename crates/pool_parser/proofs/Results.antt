@@ -1,6 +1,6 @@
 -- What an answer on the whole list, or on its front, says of the program.
 use Rattle.std.proofs.Common.{◌≡◌, ℕ, ◌+◌, ◌-◌, ◌<◌, ◌≤◌, List, Result, Ok, Err, IfOk, MatchResult, length, take, min, refl, sym, subst₂, arith}
-use Rattle.pool_lexer.specs.Ended.{EndsInEnd}
+use Rattle.pool_lexer.specs.TokenLists.{EndsInEnd}
 use Rattle.pool_syntax.specs.Tokens.{toks}
 use Rattle.pool_grammar.specs.Programs.{HasProgram, IsShallowBelow}
 use Rattle.pool_syntax.specs.declared.token.Token.{Token}
@@ -17,9 +17,9 @@ use Rattle.pool_parser.specs.declared.fault.SyntaxFault.TheVariants.{Unexpected,
 use Rattle.pool_parser.specs.Reads.{ReadsPhrase, read, refused}
 use Rattle.pool_parser.specs.Parses.{seen}
 use Rattle.pool_parser.specs.Declarations.{AnswersProgram, ParsesProgram}
-use Rattle.pool_parser.proofs.Reading.{front_of, shorter, begins_within}
-use Rattle.pool_parser.proofs.Agreement.{AgreeBelow, Begins-agrees}
-use Rattle.pool_parser.proofs.Cut.{toks_length, whole_front, whole_length, front_agrees, front_reaches}
+use Rattle.pool_parser.proofs.RuleComposition.{front_of, shorter, begins_within}
+use Rattle.pool_parser.proofs.DerivationLocality.{AgreeBelow, Begins-agrees}
+use Rattle.pool_parser.proofs.TokenPrefix.{toks_length, whole_front, whole_length, front_agrees, front_reaches}
 
 -- all tokens but the last End were looked at
 pub whole_answer : (list : List Token) (n : ℕ) (r : Result Program SyntaxFault) → EndsInEnd (toks list) → n + 1 ≡ length list → ParsesProgram (take n list) r → AnswersProgram (toks list) (length (toks list)) r

@@ -1,8 +1,8 @@
 -- Ends of rules that are read by a function of their own.
 use Rattle.std.specs.Prelude.{List, [], ◌++◌, Option, None, Some}
-use Rattle.run_words.specs.declared.keywords.Keyword.TheVariants.{Begin, Result, End, Body, Then, Else, Fi}
+use Rattle.text_scan.specs.declared.keywords.Keyword.TheVariants.{Begin, Result, End, Body, Then, Else, Fi}
 use Rattle.pool_syntax.specs.declared.token.Sign.TheVariants.{Colon, BangBang}
-use Rattle.run_words.specs.declared.words.Value.TheVariants as value
+use Rattle.run_types.specs.declared.types.Value.TheVariants as value
 use Rattle.pool_syntax.specs.declared.tree.Named.{Named}
 use Rattle.pool_syntax.specs.declared.tree.Var.{Var}
 use Rattle.pool_syntax.specs.Terms as t

@@ -17,8 +17,9 @@ use crate::source::{Source, expect, expect_name, is_at};
 use crate::statements::statements;
 use crate::steps::{pushed, read};
 use pool_syntax::{ClassDecl, Expr, Method, Named, Program, Sign, Stmt, Tok, Token, Var};
-use run_words::{Keyword, Kind, List};
+use run_types::{Kind, List};
 use std::alloc::Global;
+use text_scan::Keyword;
 
 /// One variable of this kind for each name, behind those that are there.
 fn declare(

@@ -5,9 +5,9 @@ ghost use Rattle.pool_grammar.specs.Rules.{expression as expression_phrase};
 ghost use Rattle.pool_grammar.specs.Grammar.{operator_of, operand as operand_level};
 ghost use Rattle.pool_syntax.specs.Terms.{Infix, Prefix, Send};
 ghost use Rattle.pool_syntax.specs.TreeOf.{expression_of, expressions_of};
-ghost use Rattle.run_words.specs.declared.words.NameId.{NameId as AnyName};
+ghost use Rattle.run_types.specs.declared.types.NameId.{NameId as AnyName};
 ghost use Rattle.pool_syntax.specs.declared.token.Tok.{Tok as AnyTok};
-ghost use Rattle.run_words.specs.declared.keywords.Keyword.{Keyword as AnyWord};
+ghost use Rattle.text_scan.specs.declared.keywords.Keyword.{Keyword as AnyWord};
 ghost use Rattle.pool_parser.specs.declared.fault.SyntaxFault.TheVariants.{Memory};
 ghost use Rattle.pool_parser.specs.Parses.{seen, Parses, ParsesExpression, TellsInvocation, postfix_tree, Advances, Stays};
 ghost use Rattle.pool_parser.specs.Groups.{group_of};
@@ -17,8 +17,9 @@ use crate::fault::SyntaxFault;
 use crate::source::{Source, expect, expect_name, is_at, peek};
 use crate::steps::{pushed, read};
 use pool_syntax::{Expr, Named, Sign, Tok};
-use run_words::{Keyword, List, NameId, Op};
+use run_types::{List, NameId, Op};
 use std::alloc::Global;
+use text_scan::Keyword;
 
 /// The levels of operators whose repetition groups to the left.
 #[derive(Clone, Copy)]

@@ -5,7 +5,7 @@ ghost use Rattle.pool_grammar.specs.Rules.{Phrase, Tree};
 ghost use Rattle.pool_grammar.specs.Grammar.{rule};
 ghost use Rattle.pool_grammar.specs.Derives.{Derives, Begins, IsProgram};
 ghost use Rattle.pool_syntax.specs.Terms.{ProgramTree};
-ghost use Rattle.run_words.specs.Text.{Text};
+ghost use Rattle.text_scan.specs.Text.{Text};
 ghost use Rattle.pool_grammar.specs.Programs.{IsParsed};
 
 /// Tokens that a phrase derives begin it.

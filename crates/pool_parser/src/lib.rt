@@ -1,4 +1,6 @@
-//! The program of a list of tokens, or the place of its first fault.
+//! Parses a list of tokens: the one program that they form, or the first unexpected or too deep token.
+//!
+//! Does not know: what names mean.
 #![tactic(auto)]
 
 mod declarations;

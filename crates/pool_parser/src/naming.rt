@@ -9,8 +9,9 @@ use crate::fault::SyntaxFault;
 use crate::source::{Source, expect, expect_name, is_at, peek};
 use crate::steps::{pushed, read};
 use pool_syntax::{Named, Sign, Tok};
-use run_words::{Keyword, Kind, List};
+use run_types::{Kind, List};
 use std::alloc::Global;
+use text_scan::Keyword;
 
 /// The kind that the token is.
 fn token_kind(token: Tok) -> Option<Kind>

@@ -9,8 +9,8 @@ ghost use Rattle.pool_parser.specs.Depths.{role_of, depth_at, Counts};
 
 use crate::fault::SyntaxFault;
 use pool_syntax::{Sign, Tok, Token};
-use run_words::Keyword;
 use std::alloc::Global;
+use text_scan::Keyword;
 
 /// The deepest that a token may stand.
 const DEEPEST: u32 = 200;

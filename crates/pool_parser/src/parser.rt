@@ -1,6 +1,6 @@
 //! The program of a list of tokens.
 ghost use Rattle.std.specs.Prelude.{◌≡◌, ℕ, ◌+◌, ◌^◌, ◌<◌, ◌≤◌, ◌⊎◌, length, take, Ok, Err, IfOk, IsTrue, MatchResult};
-ghost use Rattle.pool_lexer.specs.Ended.{EndsInEnd};
+ghost use Rattle.pool_lexer.specs.TokenLists.{EndsInEnd};
 ghost use Rattle.pool_syntax.specs.Terms.{ProgramTree};
 ghost use Rattle.pool_grammar.specs.Rules.{program as program_phrase};
 ghost use Rattle.pool_grammar.specs.Grammar.{rule};

@@ -1,7 +1,7 @@
 //! One token at a time: those of a slice, and End behind them.
 ghost use Rattle.pool_syntax.specs.Tokens.{toks};
 ghost use Rattle.std.specs.Prelude.{◌≡◌, ◌≢◌, ◌^◌, ◌<◌, ◌≤◌, length, Some, IfOk, IfErr, OnOk, slice_get, IsTrue, IsFalse};
-ghost use Rattle.run_words.specs.declared.words.NameId.{NameId as AnyName};
+ghost use Rattle.run_types.specs.declared.types.NameId.{NameId as AnyName};
 ghost use Rattle.pool_parser.specs.Nested.{IsNestedBelow};
 ghost use Rattle.pool_parser.specs.Parses.{RunsToEnd, seen};
 

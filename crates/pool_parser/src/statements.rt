@@ -14,8 +14,9 @@ use crate::naming::answer_list;
 use crate::source::{Source, expect, expect_name, is_at, peek};
 use crate::steps::{pushed, read};
 use pool_syntax::{Alt, Expr, Named, Sign, Stmt, Tok};
-use run_words::{Keyword, List};
+use run_types::List;
 use std::alloc::Global;
+use text_scan::Keyword;
 
 /// Whether a statement begins with the token.
 fn begins_statement(token: Tok) -> bool

@@ -3,7 +3,7 @@ ghost use Rattle.std.specs.Prelude.{◌≡◌, ◌++◌, ◌∷◌, [], IfOk, If
 ghost use Rattle.pool_parser.specs.declared.fault.SyntaxFault.TheVariants.{Memory};
 
 use crate::fault::SyntaxFault;
-use run_words::List;
+use run_types::List;
 
 /// What a call has read. Where it has read nothing, its fault is handed on as it is, once the values behind the call are dropped.
 macro_rules! read {

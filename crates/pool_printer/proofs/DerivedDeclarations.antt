@@ -2,12 +2,12 @@
 use Rattle.std.proofs.Common.{◌≡◌, refl, sym, ℕ, ◌+◌, List, [], ◌∷◌, ◌++◌, map, slice_get, Option, Some, None, append_assoc, append-nil, subst}
 use Rattle.pool_syntax.specs.declared.token.Tok.{Tok}
 use Rattle.pool_syntax.specs.declared.token.Tok.TheVariants as tok
-use Rattle.run_words.specs.declared.keywords.Keyword.{Keyword}
-use Rattle.run_words.specs.declared.keywords.Keyword.TheVariants as word
+use Rattle.text_scan.specs.declared.keywords.Keyword.{Keyword}
+use Rattle.text_scan.specs.declared.keywords.Keyword.TheVariants as word
 use Rattle.pool_syntax.specs.declared.token.Sign.TheVariants as sign
-use Rattle.run_words.specs.declared.words.Value.TheVariants as value
-use Rattle.run_words.specs.declared.words.Kind.{Kind}
-use Rattle.run_words.specs.declared.words.Kind.TheVariants as kind
+use Rattle.run_types.specs.declared.types.Value.TheVariants as value
+use Rattle.run_types.specs.declared.types.Kind.{Kind}
+use Rattle.run_types.specs.declared.types.Kind.TheVariants as kind
 use Rattle.pool_syntax.specs.declared.tree.Named.{Named}
 use Rattle.pool_syntax.specs.declared.tree.Var.{Var}
 use Rattle.pool_syntax.specs.Terms.{Expression, Literal, Statements, MethodTree, ClassTree, Done, Then}

@@ -3,11 +3,11 @@ use Rattle.std.proofs.Common.{◌≡◌, refl, sym, ap, ℕ, zero, suc, ◌+◌,
 use Rattle.std.proofs.lemmas.Bool.{leb-true}
 use Rattle.pool_syntax.specs.declared.token.Tok.{Tok}
 use Rattle.pool_syntax.specs.declared.token.Tok.TheVariants as tok
-use Rattle.run_words.specs.declared.keywords.Keyword.TheVariants as word
+use Rattle.text_scan.specs.declared.keywords.Keyword.TheVariants as word
 use Rattle.pool_syntax.specs.declared.token.Sign.TheVariants as sign
-use Rattle.run_words.specs.declared.words.Value.TheVariants as value
-use Rattle.run_words.specs.declared.words.Op.{Op}
-use Rattle.run_words.specs.declared.words.Op.TheVariants as op
+use Rattle.run_types.specs.declared.types.Value.TheVariants as value
+use Rattle.run_types.specs.declared.types.Op.{Op}
+use Rattle.run_types.specs.declared.types.Op.TheVariants as op
 use Rattle.pool_syntax.specs.Terms.{Expression, Literal, Me, Variable, Create, Prefix, Infix, Call, Send, Frame, Wait, Expressions, NoArgs, Arg}
 use Rattle.pool_grammar.specs.Rules.{Group, disjunction, conjunction, addition, multiplication, Level, group, comparison, factor, postfix, primary, expression, more_operands, more_sends, args, more_args}
 use Rattle.pool_grammar.specs.Grammar.{rule, operator_of, operand, arg_last}

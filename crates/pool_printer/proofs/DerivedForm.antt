@@ -1,11 +1,11 @@
 -- The form of a program of the grammar.
 use Rattle.std.proofs.Common.{◌≡◌, refl, ℕ, List, [], ◌∷◌, ◌++◌, Bool, true, false, Option, Some, None, arith}
 use Rattle.pool_syntax.specs.declared.token.Tok.{Tok}
-use Rattle.run_words.specs.declared.words.Op.{Op}
-use Rattle.run_words.specs.declared.words.Op.TheVariants as op
-use Rattle.run_words.specs.declared.words.Value.{Value}
-use Rattle.run_words.specs.declared.words.Value.TheVariants as value
-use Rattle.run_words.specs.declared.words.Kind.{Kind}
+use Rattle.run_types.specs.declared.types.Op.{Op}
+use Rattle.run_types.specs.declared.types.Op.TheVariants as op
+use Rattle.run_types.specs.declared.types.Value.{Value}
+use Rattle.run_types.specs.declared.types.Value.TheVariants as value
+use Rattle.run_types.specs.declared.types.Kind.{Kind}
 use Rattle.pool_syntax.specs.declared.tree.Named.{Named}
 use Rattle.pool_syntax.specs.Terms as T
 use Rattle.pool_syntax.specs.Terms.{Expression, Expressions, NoArgs, Arg, Statement, Statements, Done, Then, Alternatives, NoAlts, Alt, MethodTree, ClassTree, ProgramTree}
@@ -14,7 +14,7 @@ use Rattle.pool_grammar.specs.Rules.{Group, disjunction, conjunction, addition, 
 use Rattle.pool_grammar.specs.Rules.{either}
 use Rattle.pool_grammar.specs.Grammar.{rule, operator_of, arg_last, then_last, alt_last}
 use Rattle.pool_grammar.specs.Derives.{IsToken, Derives, nothing, token, inner, first, second}
-use Rattle.pool_grammar.specs.Programs.{IsGrammatical}
+use Rattle.pool_grammar.specs.Grammatical.{IsGrammatical}
 
 -- expressions
 

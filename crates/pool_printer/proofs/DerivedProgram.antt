@@ -6,7 +6,7 @@ use Rattle.pool_syntax.specs.Terms.{ProgramTree}
 use Rattle.pool_grammar.specs.Rules.{program, tree}
 use Rattle.pool_grammar.specs.Grammar.{rule}
 use Rattle.pool_grammar.specs.Derives.{Derives, nothing, token, inner, IsProgram}
-use Rattle.pool_grammar.specs.Programs.{IsGrammatical}
+use Rattle.pool_grammar.specs.Grammatical.{IsGrammatical}
 use Rattle.pool_printer.specs.Canonical.{class_tokens, program_tokens}
 use Rattle.pool_printer.specs.Renumbered.{token_by}
 use Rattle.pool_printer.specs.Renamed.{renamed}

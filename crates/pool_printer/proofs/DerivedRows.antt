@@ -1,8 +1,8 @@
 -- A worked row of a program but for its positions.
 use Rattle.std.proofs.Common.{◌≡◌, refl, ◌+◌, [], ◌∷◌, Some, None, true, pos}
-use Rattle.run_words.specs.declared.words.Value.TheVariants as value
-use Rattle.run_words.specs.declared.words.Op.TheVariants as op
-use Rattle.run_words.specs.declared.words.Kind.TheVariants as kind
+use Rattle.run_types.specs.declared.types.Value.TheVariants as value
+use Rattle.run_types.specs.declared.types.Op.TheVariants as op
+use Rattle.run_types.specs.declared.types.Kind.TheVariants as kind
 use Rattle.pool_syntax.specs.Terms.{Literal, Me, Variable, Create, Prefix, Infix, Call, Send, NoArgs, Arg, Assign, Write, WriteText, Do, Async, If, While, Answer, Select, Done, Then, NoAlts, Alt, ProgramTree}
 use Rattle.pool_printer.specs.Renamed.{renamed}
 use Rattle.pool_printer.proofs.DerivedParts.{named}

@@ -1,16 +1,17 @@
+pub mod PartsFrom
 mod Rows
-pub mod Putting
-pub mod Places
-pub mod Needs
+pub mod SequentialOutput
+pub mod SeparatedParts
+pub mod ExpressionInPlace
 pub mod Sizes
-pub mod Bodies
-pub mod Declared
+pub mod StatementParts
+pub mod DeclarationParts
 pub mod SpelledKnown
 pub mod SpelledTokens
-pub mod Standing
-pub mod StandingSigns
-pub mod StandingTokens
-pub mod ReadBack
+pub mod LongestPieces
+pub mod SignPieces
+pub mod TokenPieces
+pub mod TokenRoundTrip
 pub mod DerivedForm
 pub mod DerivedParts
 pub mod DerivedExpressions
@@ -19,3 +20,4 @@ pub mod DerivedDeclarations
 pub mod DerivedProgram
 mod DerivedRows
 pub mod SameProgram
+pub mod Laws

@@ -1,15 +1,15 @@
 -- The canonical text has the program.
 use Rattle.std.proofs.Common.{◌≡◌, sym, subst, true, List}
 use Rattle.pool_grammar.specs.Derives.{IsProgram}
-use Rattle.pool_grammar.specs.Programs.{IsGrammatical}
+use Rattle.pool_grammar.specs.Grammatical.{IsGrammatical}
 use Rattle.pool_syntax.specs.Spelled.{is_spelled}
 use Rattle.pool_syntax.specs.Terms.{ProgramTree}
-use Rattle.run_words.specs.Text.{Text}
+use Rattle.text_scan.specs.Text.{Text}
 use Rattle.pool_syntax.specs.declared.token.Token.{Token}
 use Rattle.pool_printer.specs.ReadBack.{number_in}
 use Rattle.pool_printer.specs.SameProgram.{IsSameProgram}
 use Rattle.pool_printer.proofs.DerivedProgram.{canonical_derives}
-use Rattle.pool_printer.proofs.ReadBack.{canonical_tokens}
+use Rattle.pool_printer.proofs.TokenRoundTrip.{canonical_tokens}
 
 pub same_program : (names : List Text) (p : ProgramTree) → is_spelled names p ≡ true → IsGrammatical p
     → (other : List Text) × (ts : List Token) × (q : ProgramTree) × IsSameProgram names p other ts q

@@ -1,15 +1,15 @@
 -- The names and strings of a spelled program are in the table.
 use Rattle.std.proofs.Common.{◌≡◌, refl, Bool, true, List, [], ◌∷◌, Option, Some, None, slice_get, is_some}
 use Rattle.std.proofs.lemmas.Bool.{and_from}
-use Rattle.run_words.specs.Text.{Text}
-use Rattle.run_words.specs.Keywords.{is_name_text, is_string_text, text_passes}
+use Rattle.text_scan.specs.Text.{Text}
+use Rattle.text_scan.specs.Keywords.{is_name_text, is_string_text, text_passes}
 use Rattle.pool_syntax.specs.Spelled.{is_spelled}
 use Rattle.pool_syntax.specs.Terms.{ProgramTree}
 use Rattle.pool_syntax.specs.declared.token.Tok.{Tok}
 use Rattle.pool_syntax.specs.declared.token.Tok.TheVariants.{Word, Name, Int, Str, Sign, End}
 use Rattle.pool_printer.specs.Canonical.{program_tokens}
 use Rattle.pool_printer.specs.Known.{are_known, is_known}
-use Rattle.run_words.proofs.Laws.{second, first}
+use Rattle.run_types.proofs.Laws.{second, first}
 use Rattle.pool_printer.proofs.SpelledTokens.{is_spelled_token, are_spelled_tokens, spelled_tokens}
 
 passing : (test : Text → Bool) (o : Option Text) → text_passes test o ≡ true → is_some o ≡ true

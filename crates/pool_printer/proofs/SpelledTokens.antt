@@ -1,24 +1,24 @@
 -- The tokens of a spelled program are spelled over the table.
 use Rattle.std.proofs.Common.{◌≡◌, refl, ◌∙◌, ℕ, Bool, true, false, ◌&&◌, map, List, [], ◌∷◌, ◌++◌, Option, Some, None, nat_le, if◌then◌else◌, arith}
 use Rattle.std.proofs.lemmas.Bool.{and_from}
-use Rattle.run_words.specs.Text.{Text}
-use Rattle.run_words.specs.declared.words.Op.{Op}
-use Rattle.run_words.specs.declared.words.Op.TheVariants as op
-use Rattle.run_words.specs.declared.words.Value.TheVariants as value
-use Rattle.run_words.specs.declared.keywords.Keyword.{Keyword}
-use Rattle.run_words.specs.declared.keywords.Keyword.TheVariants as word
+use Rattle.text_scan.specs.Text.{Text}
+use Rattle.run_types.specs.declared.types.Op.{Op}
+use Rattle.run_types.specs.declared.types.Op.TheVariants as op
+use Rattle.run_types.specs.declared.types.Value.TheVariants as value
+use Rattle.text_scan.specs.declared.keywords.Keyword.{Keyword}
+use Rattle.text_scan.specs.declared.keywords.Keyword.TheVariants as word
 use Rattle.pool_syntax.specs.declared.token.Sign.TheVariants as sign
 use Rattle.pool_syntax.specs.declared.token.Tok.{Tok}
 use Rattle.pool_syntax.specs.declared.token.Tok.TheVariants.{Word, Name, Int, Str, Sign, End}
-use Rattle.run_words.specs.declared.words.Kind.{Kind}
-use Rattle.run_words.specs.declared.words.Kind.TheVariants as kind
+use Rattle.run_types.specs.declared.types.Kind.{Kind}
+use Rattle.run_types.specs.declared.types.Kind.TheVariants as kind
 use Rattle.pool_syntax.specs.declared.tree.Named.{Named}
 use Rattle.pool_syntax.specs.declared.tree.Var.{Var}
 use Rattle.pool_syntax.specs.Terms.{Expression, Literal, Me, Variable, Create, Prefix, Infix, Call, Send, Frame, Wait, Expressions, NoArgs, Arg, Statement, Assign, Write, WriteText, Do, Async, If, While, Answer, Select, Serve, Statements, Done, Then, Alternatives, NoAlts, Alt, MethodTree, ProgramTree}
-use Rattle.run_words.specs.Keywords.{is_name, is_string_number}
+use Rattle.text_scan.specs.Keywords.{is_name, is_string_number}
 use Rattle.pool_syntax.specs.Spelled.{is_literal, is_kind, are_names, are_answer_names, are_variables, is_spelled_expression, are_spelled_expressions, is_spelled_statement, are_spelled_statements, are_spelled_alternatives, is_outcome, are_spelled_methods, is_spelled}
 use Rattle.pool_printer.specs.Canonical.{led_by, separated_by, operator_token, in_place, level, left_need, right_need, bare_tokens, argument_tokens, expression_tokens, call_tokens, names_tokens, answer_tokens, else_tokens, statement_tokens, statement_parts, statements_tokens, alternatives_tokens, kind_token, variable_tokens, declarations_tokens, outcome_tokens, result_tokens, method_tokens, methods_tokens, class_tokens, program_tokens, post_tokens}
-use Rattle.run_words.proofs.Laws.{second as right_true, first as left_true}
+use Rattle.run_types.proofs.Laws.{second as right_true, first as left_true}
 
 -- a token whose name, string or integer is spelled over the table; the end of a text is none
 abbrev pub is_spelled_token : List Text → Tok → Bool

@@ -2,7 +2,7 @@ pub mod Renumbered
 pub mod Spelling
 pub mod Canonical
 pub mod Known
-pub mod Saying
+pub mod SinkState
 pub mod Parts
 pub mod ReadBack
 pub mod Renamed

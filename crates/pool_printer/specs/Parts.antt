@@ -1,6 +1,6 @@
 -- The tokens of one of the code's alternatives.
 use Rattle.std.specs.Prelude.{List, ◌∷◌}
-use Rattle.run_words.specs.declared.keywords.Keyword.TheVariants as word
+use Rattle.text_scan.specs.declared.keywords.Keyword.TheVariants as word
 use Rattle.pool_syntax.specs.declared.token.Tok.{Tok}
 use Rattle.pool_syntax.specs.declared.token.Tok.TheVariants.{Word}
 use Rattle.pool_syntax.specs.declared.tree.Alt.{Alt, out-Alt}

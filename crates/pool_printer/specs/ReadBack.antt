@@ -1,8 +1,8 @@
 -- What the canonical text of a program is read back as: the program's tokens, with the same texts.
 use Rattle.std.specs.Prelude.{◌≡◌, ℕ, List, [], ◌∷◌, ◌++◌, map}
 use Rattle.std.specs.List.{AllByRecursion}
-use Rattle.run_words.specs.Table.{name_of, text_at}
-use Rattle.run_words.specs.Text.{Text}
+use Rattle.run_types.specs.Table.{name_of, text_at}
+use Rattle.text_scan.specs.Text.{Text}
 use Rattle.pool_syntax.specs.Tokens.{HasTokens}
 use Rattle.pool_syntax.specs.Terms.{ProgramTree}
 use Rattle.pool_syntax.specs.declared.token.Tok.TheVariants.{End}

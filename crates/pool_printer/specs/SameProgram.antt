@@ -2,7 +2,7 @@
 use Rattle.std.specs.Prelude.{◌≡◌, List, map}
 use Rattle.pool_grammar.specs.Derives.{IsProgram}
 use Rattle.pool_syntax.specs.Terms.{ProgramTree}
-use Rattle.run_words.specs.Text.{Text}
+use Rattle.text_scan.specs.Text.{Text}
 use Rattle.pool_syntax.specs.declared.token.Token.{Token}
 use Rattle.pool_printer.specs.ReadBack.{number_in, IsReadBack}
 use Rattle.pool_printer.specs.Renamed.{renamed}

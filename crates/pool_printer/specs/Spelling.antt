@@ -1,10 +1,10 @@
 -- The text of a token.
 use Rattle.std.specs.Prelude.{List, [], ◌∷◌, ◌++◌}
 use Rattle.std.specs.Fmt.{signed_decimal}
-use Rattle.run_words.specs.Table.{text_at}
-use Rattle.run_words.specs.Keywords.{keyword_text}
+use Rattle.run_types.specs.Table.{text_at}
+use Rattle.text_scan.specs.Keywords.{keyword_text}
 use Rattle.pool_syntax.specs.Spelling.{sign_text}
-use Rattle.run_words.specs.Text.{Text}
+use Rattle.text_scan.specs.Text.{Text}
 use Rattle.pool_syntax.specs.declared.token.Tok.{Tok}
 use Rattle.pool_syntax.specs.declared.token.Tok.TheVariants as tok
 

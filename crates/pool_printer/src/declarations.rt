@@ -5,14 +5,15 @@ ghost use Rattle.pool_syntax.specs.declared.token.Tok.TheVariants.{Sign as SignT
 ghost use Rattle.pool_printer.specs.Canonical.{class_tokens, declarations_tokens, kind_token, method_tokens, methods_tokens, outcome_tokens, post_tokens, program_tokens, result_tokens, separated_by};
 ghost use Rattle.pool_printer.specs.Canonical.{variable_tokens};
 ghost use Rattle.pool_printer.specs.Known.{are_known};
-ghost use Rattle.pool_printer.specs.Saying.{Prints, state};
+ghost use Rattle.pool_printer.specs.SinkState.{Prints, state};
 
 use crate::expressions::{ANY, expression};
-use crate::saying::{Progress, say, say_all, separate};
 use crate::statements::statements;
+use crate::token_writer::{Progress, say, say_all, separate};
 use pool_outside::Sink;
 use pool_syntax::{ClassDecl, Expr, Method, Sign, Stmt, Tok, Var};
-use run_words::{Keyword, Kind, Names};
+use run_types::{Kind, Names};
+use text_scan::Keyword;
 
 fn kind_token(kind: Kind) -> Tok
     ensures { result ≡ kind_token kind }

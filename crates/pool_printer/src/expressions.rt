@@ -3,13 +3,14 @@ ghost use Rattle.std.specs.Prelude.{◌≡◌, true};
 ghost use Rattle.pool_syntax.specs.TreeOf.{expression_of, expressions_of};
 ghost use Rattle.pool_printer.specs.Canonical.{argument_tokens, bare_tokens, call_tokens, expression_tokens, left_need, level, operator_level, operator_token, right_need, separated_by, truth_token};
 ghost use Rattle.pool_printer.specs.Known.{are_known};
-ghost use Rattle.pool_printer.specs.Saying.{Prints, state};
+ghost use Rattle.pool_printer.specs.SinkState.{Prints, state};
 ghost use Rattle.pool_syntax.specs.declared.token.Tok.TheVariants.{Sign as SignToken};
 
-use crate::saying::{Progress, say, say_all, separate};
+use crate::token_writer::{Progress, say, say_all, separate};
 use pool_outside::Sink;
 use pool_syntax::{Expr, Sign, Tok};
-use run_words::{Keyword, NameId, Names, Op};
+use run_types::{NameId, Names, Op};
+use text_scan::Keyword;
 
 /// The need of a place that takes every expression.
 pub const ANY: u8 = 1;

@@ -1,10 +1,10 @@
 //! Laws of the canonical text. Each is the contract of a function that does nothing.
 ghost use Rattle.std.specs.Prelude.{◌≡◌, true, List as ListOf};
 ghost use Rattle.pool_syntax.specs.declared.token.Token.{Token as OneToken};
-ghost use Rattle.pool_grammar.specs.Programs.{IsGrammatical};
+ghost use Rattle.pool_grammar.specs.Grammatical.{IsGrammatical};
 ghost use Rattle.pool_syntax.specs.Spelled.{is_spelled};
 ghost use Rattle.pool_syntax.specs.Terms.{ProgramTree};
-ghost use Rattle.run_words.specs.Text.{Text};
+ghost use Rattle.text_scan.specs.Text.{Text};
 ghost use Rattle.pool_printer.specs.SameProgram.{IsSameProgram};
 
 /// The canonical text of a spelled program of the grammar has this program: the same but for positions, each name and string with the

@@ -1,11 +1,13 @@
-//! The canonical text of a program, written piece by piece to a sink.
+//! Writes the canonical text of a program to a sink, piece by piece.
+//!
+//! Does not know: files, and whether a program is typed.
 #![tactic(auto)]
 
 mod declarations;
 mod expressions;
 pub mod laws;
 mod program;
-mod saying;
 mod statements;
+mod token_writer;
 
 pub use program::print;

@@ -6,10 +6,10 @@ ghost use Rattle.pool_syntax.specs.TreeOf.{program_of};
 ghost use Rattle.pool_printer.specs.Canonical.{canonical};
 
 use crate::declarations::classes;
-use crate::saying::{Progress, put};
+use crate::token_writer::{Progress, put};
 use pool_outside::{Sink, WriteFault};
 use pool_syntax::Program;
-use run_words::Names;
+use run_types::Names;
 
 /// Writes the canonical text of the program. After a failed write nothing more is written. Takes no memory.
 pub fn print<K: Sink>(program: &Program, names: &Names, sink: &mut K) -> Result<(), WriteFault>

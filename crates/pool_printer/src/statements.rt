@@ -1,18 +1,19 @@
 //! The tokens of statements.
 ghost use Rattle.std.specs.Prelude.{◌≡◌, ◌∷◌, true};
-ghost use Rattle.run_words.specs.declared.keywords.Keyword.TheVariants.{Answer};
+ghost use Rattle.text_scan.specs.declared.keywords.Keyword.TheVariants.{Answer};
 ghost use Rattle.pool_syntax.specs.declared.token.Tok.TheVariants.{Word};
 ghost use Rattle.pool_syntax.specs.TreeOf.{alternatives_of, statement_of, statements_of};
 ghost use Rattle.pool_printer.specs.Canonical.{alternatives_tokens, answer_tokens, else_tokens, names_tokens, statement_tokens, statements_tokens};
 ghost use Rattle.pool_printer.specs.Known.{are_known};
 ghost use Rattle.pool_printer.specs.Parts.{alternative_tokens};
-ghost use Rattle.pool_printer.specs.Saying.{Prints, state};
+ghost use Rattle.pool_printer.specs.SinkState.{Prints, state};
 
 use crate::expressions::{ANY, SEND, call, expression};
-use crate::saying::{Progress, say, separate};
+use crate::token_writer::{Progress, say, separate};
 use pool_outside::Sink;
 use pool_syntax::{Alt, Named, Sign, Stmt, Tok};
-use run_words::{Keyword, List, Names};
+use run_types::{List, Names};
+use text_scan::Keyword;
 
 /// Writes names in parentheses.
 fn list<K: Sink>(names: &Names, sink: &mut K, progress: &mut Progress, list: &[Named])

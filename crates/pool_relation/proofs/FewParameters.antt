@@ -4,7 +4,7 @@ use Rattle.pool_syntax.specs.declared.tree.Var.{Var}
 use Rattle.pool_syntax.specs.Terms.{ProgramTree, ClassTree, MethodTree}
 use Rattle.pool_syntax.specs.Classes.{class_of, named_method}
 use Rattle.pool_syntax.specs.Typing.{Scope, faults, classes_faults, class_scope, methods_faults, method_tree_faults, statements_faults, vars_faults, fault_if, contains, too_many}
-use Rattle.run_words.proofs.Laws.{equal}
+use Rattle.run_types.proofs.Laws.{equal}
 use Rattle.pool_relation.specs.Action.{method_of, method_in, with_count}
 use Rattle.pool_relation.proofs.typing.Faults.{none2}
 

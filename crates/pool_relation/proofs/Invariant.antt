@@ -2,14 +2,14 @@
 use Rattle.std.proofs.Common.{◌≡◌, refl, IsTrue, ℕ, List, [], ◌∷◌, Option, Some, is_some, All}
 use Rattle.std.specs.Ordering.{nat_cmp}
 use Rattle.std.specs.FinMap.{is_sorted}
-use Rattle.run_words.specs.declared.words.Error.{Error}
+use Rattle.run_types.specs.declared.types.Error.{Error}
 use Rattle.pool_syntax.specs.Terms.{Store, ProgramTree}
 use Rattle.pool_syntax.specs.Classes.{class_of}
 use Rattle.pool_relation.specs.Reducible.{At, Waiting, statements_redex}
 use Rattle.pool_relation.specs.Action as A
 use Rattle.pool_relation.specs.Action.{Object, action}
-use Rattle.run_words.specs.Tables.{pair_cmp, no_entry_empty}
-use Rattle.run_words.specs.Message.{Message}
+use Rattle.run_types.specs.Tables.{pair_cmp, no_entry_empty}
+use Rattle.run_types.specs.Message.{Message}
 use Rattle.pool_relation.specs.Configuration.{Configuration, object_of, messages_of}
 use Rattle.pool_relation.specs.UnderWay.{serves}
 use Rattle.pool_relation.specs.Typed.{class_at, scope, IsMessageFor, Typed}

@@ -1,16 +1,16 @@
 mod Rows
 mod TypedRows
 pub mod Runs
-pub mod Quiet
+pub mod UnreadyHasNoStep
 pub mod Lookup
 pub mod Invariant
-pub mod Running
+pub mod FaultlessObject
 pub mod Start
 pub mod Progress
 pub mod FewParameters
 pub mod Laws
-mod Meets
-pub mod Truncated
+mod WorkedProgram
+pub mod TypedFromTruncation
 pub mod redex
 pub mod typing
 pub mod action

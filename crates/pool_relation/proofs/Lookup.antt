@@ -8,10 +8,10 @@ use Rattle.std.specs.Cmp.{nat_cmp_total, tied_itself, alike_right}
 use Rattle.std.specs.FinMap.Entries.{find, put, where_key, is_sorted, by_order, find-put, is_sorted-put, find-where_key, is_sorted-where_key}
 use Rattle.std.specs.FinMap.{nat_cmp-IsAntisymmetric}
 use Rattle.pool_relation.specs.Action.{Object}
-use Rattle.run_words.specs.Tables.{Pair, pair_cmp, has_some, no_entry_empty}
-use Rattle.run_words.specs.Message.{Message}
+use Rattle.run_types.specs.Tables.{Pair, pair_cmp, has_some, no_entry_empty}
+use Rattle.run_types.specs.Message.{Message}
 use Rattle.pool_relation.specs.Configuration.{Configuration, object_of, put_object, messages_of, put_messages}
-use Rattle.run_words.proofs.Laws.{first, second, both, T_true, true_T, pair_total}
+use Rattle.run_types.proofs.Laws.{first, second, both, T_true, true_T, pair_total}
 
 -- the object of each name after one was put: the new one, or as before
 pub data Put (c : Configuration) (o : ℕ) (y : Object) (q : ℕ) : Type 0 where

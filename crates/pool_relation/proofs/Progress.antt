@@ -4,26 +4,27 @@ use Rattle.std.specs.Ordering.{nat_cmp, is_eq}
 use Rattle.std.specs.declared.cmp.Ordering.{Ordering}
 use Rattle.std.specs.declared.cmp.Ordering.TheVariants.{Less, Equal, Greater}
 use Rattle.std.specs.FinMap.{find, nat_cmp-IsAntisymmetric}
-use Rattle.run_words.specs.declared.words.Error.{Error}
-use Rattle.run_words.specs.declared.words.Value.{Value}
-use Rattle.run_words.specs.declared.words.Value.TheVariants as V
-use Rattle.run_words.specs.declared.words.Item.{Item}
-use Rattle.run_words.specs.declared.words.Item.TheVariants as I
-use Rattle.run_words.specs.declared.words.Label.TheVariants as L
+use Rattle.run_types.specs.declared.types.Error.{Error}
+use Rattle.run_types.specs.declared.types.Value.{Value}
+use Rattle.run_types.specs.declared.types.Value.TheVariants as V
+use Rattle.run_types.specs.declared.types.Item.{Item}
+use Rattle.run_types.specs.declared.types.Item.TheVariants as I
+use Rattle.run_types.specs.declared.types.Label.TheVariants as L
 use Rattle.pool_syntax.specs.Terms.{ProgramTree, ClassTree}
 use Rattle.pool_syntax.specs.Classes.{class_of}
 use Rattle.pool_syntax.specs.Typing.{faults}
-use Rattle.run_words.specs.Values.{is_same, is_same_int}
+use Rattle.run_types.specs.Values.{is_same, is_same_int}
 use Rattle.pool_relation.specs.Action as A
 use Rattle.pool_relation.specs.Action.{Object, Action, action, method_of}
 use Rattle.pool_relation.specs.Configuration.{Configuration, object_of, put_object, messages_of, put_messages}
 use Rattle.pool_relation.specs.Transition.{running, done, returned, given, new_object}
-use Rattle.run_words.specs.Same.{are_same, is_same_item, error_number}
+use Rattle.run_types.specs.Same.{are_same, is_same_item, error_number}
 use Rattle.pool_relation.specs.UnderWay.{Serving, served_for, serves}
 use Rattle.pool_relation.specs.Typed.{class_at, CanTake, GoesWrong, Typed}
-use Rattle.pool_relation.specs.Written.{is_written}
-use Rattle.pool_relation.specs.Progress.{HasOwnTransition, IsCommunication}
-use Rattle.run_words.proofs.Laws.{equals, both, there_is}
+use Rattle.pool_syntax.specs.Written.{is_written}
+use Rattle.pool_relation.specs.Progress.{HasOwnTransition}
+use Rattle.pool_relation.specs.Communication.{IsCommunication}
+use Rattle.run_types.proofs.Laws.{equals, both, there_is}
 use Rattle.pool_relation.proofs.action.TypedAction.{CanReceive, TypedAction}
 use Rattle.pool_relation.proofs.Invariant.{classes, Invariant, invariant_of}
 use Rattle.pool_relation.proofs.preservation.OneObject.{object_typed_at}

@@ -1,15 +1,15 @@
 -- Worked rows, computed.
 use Rattle.std.proofs.Common.{◌≡◌, refl, ℕ, ◌+◌, ◌-◌, ◌^◌, pos, List, [], ◌∷◌, ◌++◌, zero, suc, Option, Some, None, true, false}
-use Rattle.run_words.specs.declared.words.Value.{Value}
-use Rattle.run_words.specs.declared.words.Value.TheVariants as V
-use Rattle.run_words.specs.declared.words.NameId.{NameId}
-use Rattle.run_words.specs.declared.words.Item.TheVariants as I
-use Rattle.run_words.specs.declared.words.Error.TheVariants as E
-use Rattle.run_words.specs.declared.words.Op.TheVariants as O
-use Rattle.run_words.specs.declared.words.Label.{Label}
-use Rattle.run_words.specs.declared.words.Label.TheVariants as L
-use Rattle.run_words.specs.declared.words.Kind.{Kind}
-use Rattle.run_words.specs.declared.words.Kind.TheVariants as K
+use Rattle.run_types.specs.declared.types.Value.{Value}
+use Rattle.run_types.specs.declared.types.Value.TheVariants as V
+use Rattle.run_types.specs.declared.types.NameId.{NameId}
+use Rattle.run_types.specs.declared.types.Item.TheVariants as I
+use Rattle.run_types.specs.declared.types.Error.TheVariants as E
+use Rattle.run_types.specs.declared.types.Op.TheVariants as O
+use Rattle.run_types.specs.declared.types.Label.{Label}
+use Rattle.run_types.specs.declared.types.Label.TheVariants as L
+use Rattle.run_types.specs.declared.types.Kind.{Kind}
+use Rattle.run_types.specs.declared.types.Kind.TheVariants as K
 use Rattle.pool_syntax.specs.declared.tree.Named.{Named}
 use Rattle.pool_syntax.specs.declared.tree.Var.{Var}
 use Rattle.pool_syntax.specs.Terms.{Expression, Literal, Me, Variable, Create, Prefix, Infix, Call, Send, NoArgs, Arg, Assign, Write, Do, Async, If, While, Answer, Select, Serve, Statements, Done, Then, NoAlts, Alt, MethodTree, ClassTree, ProgramTree}
@@ -17,7 +17,7 @@ use Rattle.pool_syntax.specs.Typing.{faults}
 use Rattle.pool_relation.specs.Action as A
 use Rattle.pool_relation.specs.Action.{Object, Action, action}
 use Rattle.pool_relation.specs.Configuration.{Configuration, object_of}
-use Rattle.run_words.specs.Partial.{◌>>=◌}
+use Rattle.run_types.specs.Partial.{◌>>=◌}
 use Rattle.pool_relation.specs.Transition.{run, start}
 
 abbrev name : ℕ → NameId

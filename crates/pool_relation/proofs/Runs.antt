@@ -1,9 +1,9 @@
 -- Runs of labels that are joined.
 use Rattle.std.proofs.Common.{◌≡◌, refl, sym, ◌∙◌, List, [], ◌∷◌, ◌++◌, Option, Some, None}
-use Rattle.run_words.specs.declared.words.Label.{Label}
+use Rattle.run_types.specs.declared.types.Label.{Label}
 use Rattle.pool_syntax.specs.Terms.{ProgramTree}
 use Rattle.pool_relation.specs.Configuration.{Configuration}
-use Rattle.run_words.specs.Partial.{◌>>=◌}
+use Rattle.run_types.specs.Partial.{◌>>=◌}
 use Rattle.pool_relation.specs.Transition.{transition, run}
 
 -- goes on from what is there

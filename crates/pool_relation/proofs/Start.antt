@@ -5,7 +5,7 @@ use Rattle.std.specs.Ordering.{nat_cmp, is_eq}
 use Rattle.std.specs.declared.cmp.Ordering.{Ordering}
 use Rattle.std.specs.declared.cmp.Ordering.TheVariants.{Less, Equal, Greater}
 use Rattle.std.specs.FinMap.{nat_cmp-IsAntisymmetric}
-use Rattle.run_words.specs.declared.words.Error.{Error}
+use Rattle.run_types.specs.declared.types.Error.{Error}
 use Rattle.pool_syntax.specs.Terms.{ClassTree, ProgramTree}
 use Rattle.pool_syntax.specs.Classes.{class_of}
 use Rattle.pool_syntax.specs.Typing.{faults, classes_faults, contains, fault_if, vars_faults, too_many, methods_faults, class_scope, statements_faults}
@@ -14,9 +14,9 @@ use Rattle.pool_relation.specs.Action.{Object, action}
 use Rattle.pool_relation.specs.Configuration.{Configuration, object_of}
 use Rattle.pool_relation.specs.Transition.{new_object, last_class, start}
 use Rattle.pool_relation.specs.UnderWay.{serves}
-use Rattle.pool_relation.specs.Written.{is_written}
+use Rattle.pool_syntax.specs.Written.{is_written}
 use Rattle.pool_relation.specs.Typed.{Typed}
-use Rattle.run_words.proofs.Laws.{equals, same_some, given_by}
+use Rattle.run_types.proofs.Laws.{equals, same_some, given_by}
 use Rattle.pool_relation.proofs.typing.TypedTerm.{Nothing, Methods, TypedStatements}
 use Rattle.pool_relation.proofs.typing.Faults.{none2, no_fault_if}
 use Rattle.pool_relation.proofs.redex.Idle.{statements_idle}

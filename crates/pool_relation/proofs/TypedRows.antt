@@ -1,8 +1,8 @@
 -- What a typed term may be and what not, on worked terms.
 use Rattle.std.proofs.Common.{◌≡◌, refl, ℕ, zero, suc, pos, [], ◌∷◌, None, Some, true, false}
-use Rattle.run_words.specs.declared.words.Value.TheVariants as V
-use Rattle.run_words.specs.declared.words.Op.TheVariants as O
-use Rattle.run_words.specs.declared.words.Kind.TheVariants as K
+use Rattle.run_types.specs.declared.types.Value.TheVariants as V
+use Rattle.run_types.specs.declared.types.Op.TheVariants as O
+use Rattle.run_types.specs.declared.types.Kind.TheVariants as K
 use Rattle.pool_syntax.specs.declared.tree.Named.{Named}
 use Rattle.pool_syntax.specs.Terms.{Expression, Literal, Prefix, Infix, Frame, Wait, Do, Statements, Done, Then, MethodTree, ProgramTree}
 use Rattle.pool_syntax.specs.Typing.{Scope, faults, statements_faults}

@@ -1,8 +1,8 @@
-pub mod Moves
+pub mod ObjectUpdates
 pub mod OneObject
 pub mod Messages
 pub mod LookupOfTwo
 pub mod NewObject
-pub mod Answered
-pub mod Returned
+pub mod CallAnswer
+pub mod CallReturn
 pub mod EachTransition

@@ -4,7 +4,7 @@ pub mod RedexOfExpression
 pub mod RedexOfStatement
 pub mod Replacement
 pub mod NoWait
-pub mod AsWait
+pub mod SendBecomesWait
 pub mod Idle
 pub mod Activities
 pub mod PartActivities

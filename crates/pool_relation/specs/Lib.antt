@@ -3,8 +3,8 @@ pub mod Action
 pub mod Configuration
 pub mod Transition
 pub mod UnderWay
-pub mod Written
 pub mod Typed
 pub mod Progress
+pub mod Communication
 pub mod Ready
 pub mod Alone

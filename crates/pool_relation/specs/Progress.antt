@@ -1,10 +1,8 @@
--- What it is for an object to be able to go on by itself, or to be where it meets another.
+-- What it is for an object to be able to go on by itself.
 use Rattle.std.specs.Prelude.{◌≡◌, ℕ, Some}
-use Rattle.run_words.specs.declared.words.Label.{Label}
-use Rattle.run_words.specs.declared.words.Label.TheVariants as L
+use Rattle.run_types.specs.declared.types.Label.{Label}
+use Rattle.run_types.specs.declared.types.Label.TheVariants as L
 use Rattle.pool_syntax.specs.Terms.{ProgramTree}
-use Rattle.pool_relation.specs.Action as A
-use Rattle.pool_relation.specs.Action.{Action}
 use Rattle.pool_relation.specs.Configuration.{Configuration}
 use Rattle.pool_relation.specs.Transition.{transition}
 
@@ -23,11 +21,3 @@ agent (L.Fault o e) = o
 -- the object can make a transition
 abbrev pub HasOwnTransition : ProgramTree → Configuration → ℕ → Type 0
 HasOwnTransition p c o = (l : Label) × (agent l ≡ o) × (d : Configuration) × (transition p c l ≡ Some d)
-
--- an action for which another object or a message is needed
-abbrev pub IsCommunication : Action → Type 0
-IsCommunication (A.Send b m args) = Unit {0}
-IsCommunication (A.Waits b m) = Unit {0}
-IsCommunication (A.Answer names) = Unit {0}
-IsCommunication (A.Select choices) = Unit {0}
-IsCommunication _ = ⊥

@@ -4,7 +4,7 @@ use Rattle.std.specs.List.{list_any}
 use Rattle.pool_relation.specs.Reducible.{Choice}
 use Rattle.pool_relation.specs.Action as A
 use Rattle.pool_relation.specs.Action.{Action}
-use Rattle.run_words.specs.Values.{is_true}
+use Rattle.run_types.specs.Values.{is_true}
 
 -- an alternative that is open and plain
 abbrev pub is_open_plain : Choice → Bool

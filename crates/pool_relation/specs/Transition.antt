@@ -1,23 +1,23 @@
 -- The transition relation: a label, where it is possible, determines the configuration after it.
 use Rattle.std.specs.Prelude.{ℕ, zero, suc, ◌==◌, List, [], ◌∷◌, ◌++◌, length, Option, Some, None, is_some, is_none, Bool, false, not, ◌&&◌, ◌||◌, if◌then◌else◌, slice_get}
 use Rattle.std.specs.List.{list_any}
-use Rattle.run_words.specs.declared.words.Value.{Value}
-use Rattle.run_words.specs.declared.words.Value.TheVariants as V
-use Rattle.run_words.specs.declared.words.Item.{Item}
-use Rattle.run_words.specs.declared.words.Error.{Error}
-use Rattle.run_words.specs.declared.words.Label.{Label}
-use Rattle.run_words.specs.declared.words.Label.TheVariants as L
+use Rattle.run_types.specs.declared.types.Value.{Value}
+use Rattle.run_types.specs.declared.types.Value.TheVariants as V
+use Rattle.run_types.specs.declared.types.Item.{Item}
+use Rattle.run_types.specs.declared.types.Error.{Error}
+use Rattle.run_types.specs.declared.types.Label.{Label}
+use Rattle.run_types.specs.declared.types.Label.TheVariants as L
 use Rattle.pool_syntax.specs.declared.tree.Named.{Named}
 use Rattle.pool_syntax.specs.Terms as T
 use Rattle.pool_syntax.specs.Terms.{Expression, Statements, MethodTree, ClassTree, ProgramTree, append}
-use Rattle.run_words.specs.Values.{is_same, is_true}
+use Rattle.run_types.specs.Values.{is_same, is_true}
 use Rattle.pool_relation.specs.Reducible.{Choice, Found, At, Finish, Contractum, AsExpression, AsStatements, statements_redex, fill_statements}
 use Rattle.pool_relation.specs.Action as A
 use Rattle.pool_syntax.specs.Classes.{class_of}
 use Rattle.pool_relation.specs.Action.{Object, Action, method_of, nil_store, temps_of, literal, action}
-use Rattle.run_words.specs.Message.{Message}
-use Rattle.run_words.specs.Partial.{◌>>=◌, ◌>>◌, require}
-use Rattle.run_words.specs.Same.{are_same, is_same_item, error_number}
+use Rattle.run_types.specs.Message.{Message}
+use Rattle.run_types.specs.Partial.{◌>>=◌, ◌>>◌, require}
+use Rattle.run_types.specs.Same.{are_same, is_same_item, error_number}
 use Rattle.pool_relation.specs.Configuration.{Configuration, object_of, put_object, messages_of, put_messages}
 
 -- an object that is there and has no fault

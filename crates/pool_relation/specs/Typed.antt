@@ -2,8 +2,8 @@
 use Rattle.std.specs.Prelude.{◌≡◌, ℕ, ◌+◌, ◌==◌, List, [], ◌∷◌, length, Option, Some, None, is_some, is_none, nat_le, Bool, true, false, not, ◌&&◌, ◌||◌, if◌then◌else◌, All, IsTrue}
 use Rattle.std.specs.FinMap.{is_sorted}
 use Rattle.std.specs.Ordering.{nat_cmp}
-use Rattle.run_words.specs.declared.words.Value.{Value}
-use Rattle.run_words.specs.declared.words.Error.{Error}
+use Rattle.run_types.specs.declared.types.Value.{Value}
+use Rattle.run_types.specs.declared.types.Error.{Error}
 use Rattle.pool_syntax.specs.declared.tree.Var.{Var}
 use Rattle.pool_syntax.specs.Terms.{Store, Expression, Literal, Me, Variable, Create, Prefix, Infix, Call, Send, Frame, Wait, Expressions, NoArgs, Arg, Statement, Assign, Write, WriteText, Do, Async}
 use Rattle.pool_syntax.specs.Terms.{If, While, Answer, Select, Serve, Statements, Done, Then, Alternatives, NoAlts, Alt, MethodTree, ProgramTree}
@@ -11,13 +11,13 @@ use Rattle.pool_relation.specs.Reducible.{is_value, is_done}
 use Rattle.pool_relation.specs.Action as A
 use Rattle.pool_syntax.specs.Classes.{class_of}
 use Rattle.pool_relation.specs.Action.{Object, Action, action, method_of}
-use Rattle.run_words.specs.Tables.{pair_cmp, no_entry_empty}
-use Rattle.run_words.specs.Message.{Message}
+use Rattle.run_types.specs.Tables.{pair_cmp, no_entry_empty}
+use Rattle.run_types.specs.Message.{Message}
 use Rattle.pool_relation.specs.Configuration.{Configuration, object_of, messages_of}
 use Rattle.pool_relation.specs.UnderWay.{serves}
-use Rattle.pool_relation.specs.Written.{is_prefix, is_source, are_source, are_source_statements, are_source_alternatives, is_value_for}
+use Rattle.pool_syntax.specs.SourceParts.{is_prefix, is_source, are_source, are_source_statements, are_source_alternatives, is_value_for}
 use Rattle.pool_syntax.specs.Typing.{Scope, kind_sort, value_sort, is_dangling, is_open, vars_of_class, statements_faults, own_method, temps_of_method, inside, behind_value}
-use Rattle.run_words.specs.Sorts.{is_same_sort}
+use Rattle.run_types.specs.Sorts.{is_same_sort}
 
 -- the class of an object
 abbrev pub class_at : Option Object → Option ℕ

@@ -2,7 +2,7 @@
 ghost use Rattle.std.specs.Prelude.{◌≡◌, ◌≢◌, ◌⊎◌, ◌++◌, ℕ, List, [], Some, None, false, IsTrue};
 ghost use Rattle.pool_syntax.specs.Terms.{ProgramTree};
 ghost use Rattle.pool_syntax.specs.Typing.{faults};
-ghost use Rattle.run_words.specs.declared.words.Label.{Label};
+ghost use Rattle.run_types.specs.declared.types.Label.{Label};
 ghost use Rattle.pool_relation.specs.Action as A;
 ghost use Rattle.pool_relation.specs.Action.{Object, action};
 ghost use Rattle.pool_relation.specs.Configuration.{Configuration, object_of};
@@ -10,8 +10,9 @@ ghost use Rattle.pool_relation.specs.Ready.{is_ready};
 ghost use Rattle.pool_relation.specs.Alone.{alone};
 ghost use Rattle.pool_relation.specs.Transition.{transition, run, start};
 ghost use Rattle.pool_relation.specs.Typed.{GoesWrong, Typed};
-ghost use Rattle.pool_relation.specs.Written.{is_written};
-ghost use Rattle.pool_relation.specs.Progress.{HasOwnTransition, IsCommunication};
+ghost use Rattle.pool_syntax.specs.Written.{is_written};
+ghost use Rattle.pool_relation.specs.Progress.{HasOwnTransition};
+ghost use Rattle.pool_relation.specs.Communication.{IsCommunication};
 
 /// A label that is possible determines the configuration after it.
 pub fn label_determines_its_transition()

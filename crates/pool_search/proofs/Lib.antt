@@ -1,5 +1,11 @@
-pub mod Growing
-pub mod Searched
-pub mod Settled
-pub mod Looked
-pub mod Judged
+pub mod SortedMaps
+pub mod ObjectNumbers
+pub mod StateTableGrowth
+pub mod NumberingSteps
+pub mod NumberingRoundTrip
+mod Rows
+pub mod ListGrowth
+pub mod SearchComplete
+pub mod RunExtension
+pub mod EntryExpansion
+pub mod ConfigurationClass

@@ -1,6 +1,6 @@
 -- What contracts see of what a search keeps.
 use Rattle.pool_syntax.specs.Terms.{ProgramTree}
-use Rattle.kept_configurations.specs.Lists.{kept_list, kept_program}
+use Rattle.pool_search.specs.VisitedConfigurations.{kept_list, kept_program}
 use Rattle.pool_search.specs.declared.explored.Explored.{Explored}
 use Rattle.pool_search.specs.Progress.{Entries}
 

@@ -1,14 +1,14 @@
 -- How far a search has come: the list that it keeps, and the place up to which it has looked.
 use Rattle.std.specs.Prelude.{◌≡◌, ◌≤◌, ◌⊎◌, ◌+◌, ℕ, List, ◌++◌, take, length, Some, None}
-use Rattle.run_words.specs.declared.words.Label.{Label}
+use Rattle.run_types.specs.declared.types.Label.{Label}
 use Rattle.pool_syntax.specs.Terms.{ProgramTree}
-use Rattle.run_words.specs.Tables.{Each}
+use Rattle.run_types.specs.Tables.{Each}
 use Rattle.pool_relation.specs.Configuration.{Configuration}
 use Rattle.pool_relation.specs.Transition.{transition, start}
 use Rattle.search_laws.specs.Search.{IsIn, IsInOrder, Settles}
 use Rattle.search_laws.specs.Labels.{LeadsInto, AreTried}
-use Rattle.pool_search.specs.declared.question.Question.{Question}
-use Rattle.pool_search.specs.Sought.{IsUnwanted}
+use Rattle.pool_search.specs.declared.queries.Query.{Query}
+use Rattle.pool_search.specs.SearchTargets.{IsUnwanted}
 
 -- configurations, each with the next name
 abbrev pub Entries : Type 0
@@ -30,7 +30,7 @@ abbrev pub IsLabelTried : ProgramTree → Entries → ℕ → Configuration → 
 IsLabelTried p es n c l = (transition p c l ≡ None) ⊎ LeadsInto p es n c l
 
 -- the start leads into the list, of each entry before the place all labels were tried, and none of these is what is asked for
-pub record IsSearchedTo (p : ProgramTree) (q : Question) (es : Entries) (at : ℕ) : Type 0 where
+pub record IsSearchedTo (p : ProgramTree) (q : Query) (es : Entries) (at : ℕ) : Type 0 where
   pub begins : (c : Configuration) → start p 0 ≡ Some c → (e : Configuration) × Settles p c e × IsIn 1 e es
   pub in_order : AllInOrder es
   pub tried : AreTried p es (take at es)
@@ -42,6 +42,6 @@ pub record HasTried (p : ProgramTree) (most : ℕ) (old new : Entries) (n : ℕ)
   pub tried : IsLabelTried p new n c l
 
 -- a list grew, and one more entry was looked at
-pub record HasSearched (p : ProgramTree) (q : Question) (old new : Entries) (at : ℕ) : Type 0 where
+pub record HasSearched (p : ProgramTree) (q : Query) (old new : Entries) (at : ℕ) : Type 0 where
   pub grows : Grows q.most old new
   pub goes_on : IsSearchedTo p q old at → IsSearchedTo p q new (at + 1)

@@ -7,12 +7,12 @@ ghost use Rattle.search_laws.specs.Labels.{labels_to_try, AllLeadInto};
 ghost use Rattle.pool_search.specs.Entries.{entries, searched};
 ghost use Rattle.pool_search.specs.Progress.{Grows, IsSearchedTo, HasTried, HasSearched};
 
-use crate::judging::{Sight, judge};
-use crate::question::Question;
+use crate::classifier::{Classification, judge};
+use crate::queries::Query;
 use crate::settling::settle;
-use kept_configurations::{Entry, Kept};
+use crate::visited::{Entry, VisitedSet};
 use pool_semantics::{Plain, Refuse};
-use run_words::Label;
+use run_types::Label;
 use std::alloc::{AllocError, Global};
 
 /// Where an entry comes from: the number of the entry before it, and the place of the label in the list of labels to try there.
@@ -25,7 +25,7 @@ pub struct Origin {
 /// The configurations that are kept, with the origin of each.
 #[derive(Drop)]
 pub struct Explored<'a> {
-    pub kept: Kept<'a>,
+    pub kept: VisitedSet<'a>,
     pub origins: Vec<Origin>,
 }
 
@@ -42,7 +42,7 @@ pub enum Visit {
 
 /// How a look at all entries ended.
 #[derive(Clone, Copy)]
-pub enum Ended {
+pub enum RunEnd {
     /// None of them is what is asked for.
     Whole,
     /// The one of this number is.
@@ -72,7 +72,7 @@ impl<'a> Explored<'a> {
         ensures program { IfOk result (λ e. searched e ≡ program_tree plain.now) }
         ensures none { IfOk result (λ e. entries e ≡ []) }
     {
-        let kept = Kept::make(alloc, plain)?;
+        let kept = VisitedSet::make(alloc, plain)?;
         Ok(Explored {
             kept,
             origins: Vec::new(alloc),
@@ -221,7 +221,7 @@ impl<'a> Explored<'a> {
     }
 
     /// Looks at an entry, and tries all its labels if it is not what is asked for.
-    fn visit(&mut self, alloc: Global, at: u32, question: &Question) -> Result<Visit, AllocError>
+    fn visit(&mut self, alloc: Global, at: u32, question: &Query) -> Result<Visit, AllocError>
         requires { at < length (entries self.old) }
         ensures program { searched self.new ≡ searched self.old }
         ensures done { result ≡ Ok Visit.Done → HasSearched (searched self.old) question.now (entries self.old) (entries self.new) at }
@@ -229,8 +229,8 @@ impl<'a> Explored<'a> {
         let next = self.kept.next_name(at as usize);
         let mut plain = self.kept.configuration(at as usize)?;
         match judge(&plain, question) {
-            Sight::Neither => {}
-            Sight::Stuck | Sight::Fault => return Ok(Visit::Shown),
+            Classification::Neither => {}
+            Classification::Stuck | Classification::Fault => return Ok(Visit::Shown),
         }
         if self.expand(alloc, &mut plain, at, next, question.most)? {
             return Ok(Visit::Done);
@@ -239,22 +239,22 @@ impl<'a> Explored<'a> {
     }
 
     /// Looks at the entries one after another, also at those that are added meanwhile.
-    pub fn look(&mut self, alloc: Global, question: &Question) -> Result<Ended, AllocError>
+    pub fn look(&mut self, alloc: Global, question: &Query) -> Result<RunEnd, AllocError>
         requires begun { IsSearchedTo (searched self.old) question.now (entries self.old) 0 }
         requires within { length (entries self.old) ≤ question.now.most }
         ensures program { searched self.new ≡ searched self.old }
-        ensures whole { result ≡ Ok Ended.Whole → IsSearchedTo (searched self.old) question.now (entries self.new) (length (entries self.new)) }
-        ensures within { result ≡ Ok Ended.Whole → length (entries self.new) ≤ question.now.most }
+        ensures whole { result ≡ Ok RunEnd.Whole → IsSearchedTo (searched self.old) question.now (entries self.new) (length (entries self.new)) }
+        ensures within { result ≡ Ok RunEnd.Whole → length (entries self.new) ≤ question.now.most }
     {
         let mut at = 0;
         while (at as usize) < self.kept.len() {
             match self.visit(alloc, at, question) {
                 Ok(Visit::Done) => at += 1,
-                Ok(Visit::Shown) => return Ok(Ended::Shown(at)),
-                Ok(Visit::Over) => return Ok(Ended::Over),
+                Ok(Visit::Shown) => return Ok(RunEnd::Shown(at)),
+                Ok(Visit::Over) => return Ok(RunEnd::Over),
                 Err(_) => return Err(AllocError),
             }
         }
-        Ok(Ended::Whole)
+        Ok(RunEnd::Whole)
     }
 }

@@ -1,12 +1,22 @@
-//! A search over all runs of a program: whether one gets stuck, or meets a language error.
+//! Searches all runs of a program, breadth first, for one that gets stuck or meets a run-time error.
+//!
+//! Stores each configuration once, with each object as the number of its state.
+//!
+//! Does not know: files, sinks and the text of answers.
 #![tactic(auto)]
 
+mod classifier;
+mod equality;
 mod explored;
-mod judging;
-mod question;
+mod made;
+mod numbered;
+mod queries;
+mod restored;
 mod retracing;
 mod searching;
 mod settling;
+mod visited;
 
-pub use question::{Found, Question, Wanted};
+pub use queries::{Query, SearchResult, Target};
 pub use searching::search;
+pub use visited::{Entry, VisitedSet};

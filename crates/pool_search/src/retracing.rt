@@ -4,15 +4,15 @@ ghost use Rattle.pool_syntax.specs.TreeOf.{program_of};
 ghost use Rattle.pool_relation.specs.Configuration.{Configuration};
 ghost use Rattle.pool_relation.specs.Transition.{run};
 ghost use Rattle.pool_semantics.specs.PlainOf.{configuration_of, program_tree, is_spent};
-ghost use Rattle.pool_search.specs.Sought.{IsAnswer};
+ghost use Rattle.pool_search.specs.SearchAnswers.{IsAnswer};
 
+use crate::classifier::{Classification, judge};
 use crate::explored::{Origin, name_after};
-use crate::judging::{Sight, judge};
-use crate::question::{Found, Question};
+use crate::queries::{Query, SearchResult};
 use crate::settling::settle_shown;
 use class_check::Checked;
 use pool_semantics::{Plain, Refuse};
-use run_words::Label;
+use run_types::Label;
 use std::alloc::{AllocError, Global};
 
 /// The places of the labels that lead to an entry, the last first. Nothing rests on them: the run is made again, and its end judged.
@@ -106,8 +106,8 @@ pub fn show(
     alloc: Global,
     program: &Checked<'_>,
     way: &[u32],
-    question: &Question,
-) -> Result<Option<Found>, AllocError>
+    question: &Query,
+) -> Result<Option<SearchResult>, AllocError>
     ensures { IfOk result (λ r. IfSome r (λ f. IsAnswer (program_of program.now.program.now) question.now f)) }
 {
     let mut plain = Plain::make(alloc, program, 0)?;
@@ -116,8 +116,8 @@ pub fn show(
         return Ok(None);
     }
     Ok(match judge(&plain, question) {
-        Sight::Stuck => Some(Found::Stuck(shown)),
-        Sight::Fault => Some(Found::Fault(shown)),
-        Sight::Neither => None,
+        Classification::Stuck => Some(SearchResult::Stuck(shown)),
+        Classification::Fault => Some(SearchResult::Fault(shown)),
+        Classification::Neither => None,
     })
 }

@@ -3,14 +3,15 @@ ghost use Rattle.std.specs.Prelude.{◌≡◌, ◌≤◌, ℕ, Ok, Some, IfOk, I
 ghost use Rattle.std.specs.Global.{Global};
 ghost use Rattle.std.specs.declared.vec.Vec.{Vec};
 ghost use Rattle.pool_syntax.specs.TreeOf.{program_of};
-ghost use Rattle.run_words.specs.declared.words.Label.{Label};
+ghost use Rattle.run_types.specs.declared.types.Label.{Label};
 ghost use Rattle.pool_search.specs.Entries.{entries, searched};
 ghost use Rattle.pool_search.specs.Progress.{IsSearchedTo};
-ghost use Rattle.pool_search.specs.Sought.{LeadsTo, IsWantedStuck, IsWantedFault, IsFinite, IsAnswer};
-ghost use Rattle.pool_search.specs.declared.question.Question.{Question};
+ghost use Rattle.pool_search.specs.SearchTargets.{LeadsTo, IsWantedStuck, IsWantedFault, IsFinite};
+ghost use Rattle.pool_search.specs.SearchAnswers.{IsAnswer};
+ghost use Rattle.pool_search.specs.declared.queries.Query.{Query};
 
-use crate::explored::{Ended, Explored, Origin};
-use crate::question::{Found, Question};
+use crate::explored::{Explored, Origin, RunEnd};
+use crate::queries::{Query, SearchResult};
 use crate::retracing::{show, way_to};
 use class_check::Checked;
 use pool_semantics::Plain;
@@ -23,7 +24,7 @@ fn begin<'a>(
     most: u32,
 ) -> Result<Option<Explored<'a>>, AllocError>
     ensures program { IfOk result (λ r. IfSome r (λ e. searched e ≡ program_of program.now.program.now)) }
-    ensures begun { IfOk result (λ r. IfSome r (λ e. (q : Question) → IsSearchedTo (searched e) q (entries e) 0)) }
+    ensures begun { IfOk result (λ r. IfSome r (λ e. (q : Query) → IsSearchedTo (searched e) q (entries e) 0)) }
     ensures within { IfOk result (λ r. IfSome r (λ e. length (entries e) ≤ most)) }
 {
     let mut plain = Plain::make(alloc, program, 0)?;
@@ -40,22 +41,22 @@ fn answer<'a>(
     alloc: Global,
     program: &Checked<'a>,
     explored: &mut Explored<'a>,
-    question: &Question,
-) -> Result<Found, AllocError>
+    question: &Query,
+) -> Result<SearchResult, AllocError>
     requires program { searched explored.old ≡ program_of program.now.program.now }
     requires begun { IsSearchedTo (searched explored.old) question.now (entries explored.old) 0 }
     requires within { length (entries explored.old) ≤ question.now.most }
     ensures { IfOk result (λ f. IsAnswer (program_of program.now.program.now) question.now f) }
 {
     let at = match explored.look(alloc, question)? {
-        Ended::Whole => return Ok(Found::Finite(explored.count(question.most))),
-        Ended::Over => return Ok(Found::Over(explored.count(question.most))),
-        Ended::Shown(at) => at,
+        RunEnd::Whole => return Ok(SearchResult::Finite(explored.count(question.most))),
+        RunEnd::Over => return Ok(SearchResult::Over(explored.count(question.most))),
+        RunEnd::Shown(at) => at,
     };
     let way = way_to(alloc, &explored.origins, at)?;
     match show(alloc, program, &way, question)? {
         Some(found) => Ok(found),
-        None => Ok(Found::Over(explored.count(question.most))),
+        None => Ok(SearchResult::Over(explored.count(question.most))),
     }
 }
 
@@ -65,16 +66,16 @@ fn answer<'a>(
 pub fn search(
     alloc: Global,
     program: &Checked<'_>,
-    question: &Question,
-) -> Result<Found, AllocError>
-    ensures stuck { (ls : Vec Label Global) → result ≡ Ok (Found.Stuck ls)
+    question: &Query,
+) -> Result<SearchResult, AllocError>
+    ensures stuck { (ls : Vec Label Global) → result ≡ Ok (SearchResult.Stuck ls)
         → LeadsTo (program_of program.now.program.now) ls.items (IsWantedStuck (program_of program.now.program.now) question.now) }
-    ensures fault { (ls : Vec Label Global) → result ≡ Ok (Found.Fault ls) → LeadsTo (program_of program.now.program.now) ls.items (IsWantedFault question.now) }
-    ensures finite { (k : ℕ) → result ≡ Ok (Found.Finite k) → IsFinite (program_of program.now.program.now) question.now k }
-    ensures over { (k : ℕ) → result ≡ Ok (Found.Over k) → k ≤ question.now.most }
+    ensures fault { (ls : Vec Label Global) → result ≡ Ok (SearchResult.Fault ls) → LeadsTo (program_of program.now.program.now) ls.items (IsWantedFault question.now) }
+    ensures finite { (k : ℕ) → result ≡ Ok (SearchResult.Finite k) → IsFinite (program_of program.now.program.now) question.now k }
+    ensures over { (k : ℕ) → result ≡ Ok (SearchResult.Over k) → k ≤ question.now.most }
 {
     let Some(mut explored) = begin(alloc, program, question.most)? else {
-        return Ok(Found::Over(0));
+        return Ok(SearchResult::Over(0));
     };
     answer(alloc, program, &mut explored, question)
 }

@@ -6,7 +6,7 @@ ghost use Rattle.pool_semantics.specs.PlainOf.{configuration_of, program_tree, i
 ghost use Rattle.search_laws.specs.Search.{needs_no_choice, Settles};
 
 use pool_semantics::{Plain, Refuse};
-use run_words::Label;
+use run_types::Label;
 use std::alloc::AllocError;
 
 /// How many transitions that need no choice are made between two configurations that are kept: a program may have an endless loop.

@@ -2,11 +2,11 @@
 use Rattle.std.proofs.Common.{◌≡◌, refl, sym, ap, ◌∙◌, subst, ℕ, ◌+◌, ◌-◌, ◌≤◌, ◌<◌, List, [], ◌∷◌, length, Option, Some, None, false, arith}
 use Rattle.std.specs.Prelude.{nat_le}
 use Rattle.std.proofs.lemmas.Bool.{leb-false}
-use Rattle.run_words.specs.declared.words.Value.{Value}
+use Rattle.run_types.specs.declared.types.Value.{Value}
 use Rattle.pool_syntax.specs.declared.tree.Var.{Var}
 use Rattle.pool_syntax.specs.Terms.{Store, Expression, Literal, Me, Variable, Create, Prefix, Infix, Call, Send, Frame, Wait, Expressions, NoArgs, Arg, Statement, Assign, Write, WriteText, Do, Async, If, While, Answer, Select, Serve, Statements, Done, Then, Alternatives, NoAlts, Alt, ProgramTree}
 use Rattle.pool_syntax.specs.FaultNumbers as N
-use Rattle.run_words.specs.Sorts.{BoolSort}
+use Rattle.run_types.specs.Sorts.{BoolSort}
 use Rattle.pool_syntax.specs.Typing.{Scope, limit_faults, fault_if, needs, needs_any, method_faults, destination_faults, value_needs, answer_faults, is_broken_name, inside, behind_value, own_method, params_of, sent_method, sort_of, size, position, kind_sort, expression_faults, arguments_faults, statement_faults, statements_faults}
 use Rattle.pool_syntax.specs.Typing.{alternatives_faults}
 use Rattle.pool_relation.specs.Reducible as R
@@ -14,17 +14,17 @@ use Rattle.pool_relation.specs.Reducible.{Choice, Reducible, Choose, Found, Eval
 use Rattle.pool_relation.specs.Configuration.{Configuration, object_of}
 use Rattle.pool_relation.specs.Typed.{scope}
 use Rattle.pool_relation.proofs.Laws.{none2, no_fault_if, passed, literal_is}
-use Rattle.plain_object.specs.declared.thing.Thing.{Thing}
-use Rattle.plain_object.specs.Things.{thing_object}
-use Rattle.term_stack.specs.declared.parts.Now.{Now}
-use Rattle.term_stack.specs.declared.parts.Now.TheVariants as W
-use Rattle.term_stack.specs.declared.parts.Task.{Task}
-use Rattle.term_stack.specs.declared.parts.Task.TheVariants as K
-use Rattle.term_stack.specs.declared.parts.Activation.{Activation}
-use Rattle.term_stack.specs.Arguments.{now_choices, task_choices}
-use Rattle.term_stack.specs.Parts.{stopped, layers, bottom, left}
-use Rattle.term_stack.specs.Reduced.{task_redex}
-use Rattle.term_stack.proofs.Acting.{statement_next}
+use Rattle.stepper_objects.specs.declared.object_state.ObjectState.{ObjectState}
+use Rattle.stepper_objects.specs.ObjectStates.{thing_object}
+use Rattle.stepper_terms.specs.declared.contexts.Focus.{Focus}
+use Rattle.stepper_terms.specs.declared.contexts.Focus.TheVariants as W
+use Rattle.stepper_terms.specs.declared.contexts.Task.{Task}
+use Rattle.stepper_terms.specs.declared.contexts.Task.TheVariants as K
+use Rattle.stepper_terms.specs.declared.contexts.Activation.{Activation}
+use Rattle.stepper_terms.specs.Arguments.{now_choices, task_choices}
+use Rattle.stepper_terms.specs.Parts.{stopped, layers, bottom, left}
+use Rattle.stepper_terms.specs.Reduced.{task_redex}
+use Rattle.stepper_terms.proofs.Laws.{statement_next}
 use Rattle.pool_semantics.specs.Sound.{Sound}
 
 -- a redex that is a choice has few alternatives
@@ -161,10 +161,10 @@ task_few : (k : Task) → HasFew (task_redex k) → length (task_choices k) ≤ 
 task_few (K.Select gs) h = h
 task_few _ h = omega arith
 
-next_few : (g : Scope) (xs : List Activation) (n : Now) → statements_faults g (bottom (layers xs (stopped n))) ≡ [] → length (now_choices n) ≤ 64
+next_few : (g : Scope) (xs : List Activation) (n : Focus) → statements_faults g (bottom (layers xs (stopped n))) ≡ [] → length (now_choices n) ≤ 64
 next_few g xs (W.Statement k gs) h =
     task_few k (subst (FindsFew (Unit {0})) (statement_next xs k (left gs.items)) (statements_few g [] (bottom (layers xs (stopped (W.Statement k gs)))) h))
 next_few g xs _ h = omega arith
 
-pub few_alternatives : (p : ProgramTree) (c : Configuration) (o : ℕ) (t : Thing) → Sound p c → object_of c o ≡ Some (thing_object t) → length (now_choices t.work.next) ≤ 64
+pub few_alternatives : (p : ProgramTree) (c : Configuration) (o : ℕ) (t : ObjectState) → Sound p c → object_of c o ≡ Some (thing_object t) → length (now_choices t.work.next) ≤ 64
 few_alternatives p c o t s e = next_few (scope p c t.class) t.work.calls.items t.work.next (s.typed.term o (thing_object t) e)

@@ -1,13 +1,13 @@
 -- In a typed configuration each object shows something.
 use Rattle.std.proofs.Common.{◌≡◌, refl, ◌≤◌, ◌-◌, ℕ, List, length, Option, Some, None, is_some, true, false, arith, eq-eqb}
-use Rattle.run_words.specs.declared.words.Value.{Value}
-use Rattle.run_words.specs.declared.words.Error.{Error}
+use Rattle.run_types.specs.declared.types.Value.{Value}
+use Rattle.run_types.specs.declared.types.Error.{Error}
 use Rattle.pool_syntax.specs.Terms.{ProgramTree}
 use Rattle.pool_relation.specs.Action as A
 use Rattle.pool_relation.specs.Action.{Object, Action, action, method_of}
 use Rattle.pool_relation.specs.Configuration.{Configuration, object_of}
 use Rattle.pool_relation.specs.Typed.{CanTake, GoesWrong}
-use Rattle.run_words.specs.declared.verdicts.Redex.{Redex}
+use Rattle.run_types.specs.declared.verdicts.Redex.{Redex}
 use Rattle.pool_semantics.specs.Sound.{Sound}
 use Rattle.pool_semantics.specs.Shown.{are_few, shown, shown_of, shown_if, shown_at}
 use Rattle.pool_relation.proofs.Laws.{few_parameters}

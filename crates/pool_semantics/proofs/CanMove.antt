@@ -2,29 +2,31 @@
 use Rattle.std.proofs.Common.{◌≡◌, ◌≢◌, ◌⊎◌, inl, inr, refl, sym, ap, subst, ◌∙◌, ℕ, zero, suc, ◌==◌, List, [], ◌∷◌, length, Option, Some, None, is_some, is_none, Bool, true, false, not}
 use Rattle.std.specs.Prelude.{◌&&◌, slice_get}
 use Rattle.std.specs.List.{list_any}
-use Rattle.run_words.specs.declared.words.Value.{Value}
-use Rattle.run_words.specs.declared.words.Item.{Item}
-use Rattle.run_words.specs.declared.words.Error.{Error}
-use Rattle.run_words.specs.declared.words.Label.{Label}
-use Rattle.run_words.specs.declared.words.Label.TheVariants as L
+use Rattle.run_types.specs.declared.types.Value.{Value}
+use Rattle.run_types.specs.declared.types.Item.{Item}
+use Rattle.run_types.specs.declared.types.Error.{Error}
+use Rattle.run_types.specs.declared.types.Label.{Label}
+use Rattle.run_types.specs.declared.types.Label.TheVariants as L
 use Rattle.pool_syntax.specs.declared.tree.Named.{Named}
 use Rattle.pool_syntax.specs.Terms as T
 use Rattle.pool_syntax.specs.Terms.{Statements, MethodTree, ProgramTree}
-use Rattle.run_words.specs.Values.{is_true}
-use Rattle.run_words.specs.Message.{Message}
-use Rattle.run_words.specs.Same.{are_same}
-use Rattle.run_words.proofs.Laws.{first, second, equal, equals, same_some, given_by, required, same_values, values_itself}
+use Rattle.run_types.specs.Values.{is_true}
+use Rattle.run_types.specs.Message.{Message}
+use Rattle.run_types.specs.Same.{are_same}
+use Rattle.run_types.proofs.Laws.{first, second, equal, equals, same_some, given_by, required, same_values, values_itself}
 use Rattle.pool_relation.specs.Reducible.{Choice, AsExpression, AsStatements}
 use Rattle.pool_relation.specs.Action as A
 use Rattle.pool_relation.specs.Action.{Object, Action, action, method_of}
 use Rattle.pool_relation.specs.Configuration.{Configuration, object_of, put_object, messages_of, put_messages}
-use Rattle.pool_relation.specs.Progress.{agent, IsCommunication, HasOwnTransition}
+use Rattle.pool_relation.specs.Progress.{agent, HasOwnTransition}
+use Rattle.pool_relation.specs.Communication.{IsCommunication}
 use Rattle.pool_relation.specs.Ready.{is_open_plain}
 use Rattle.pool_relation.specs.Typed.{CanTake, GoesWrong, IsMessageFor}
 use Rattle.pool_relation.specs.Transition.{Offer, offer, select_offer, answered, names_method, running, local_step, makes, calls, posts, returns, waits_on, writes, fails, picked, plain_choice, first_message, has_message, without_first, refilled, serving, transition}
 use Rattle.pool_relation.proofs.Laws.{not_wrong, goes_on_or_meets, first_fits, running_is}
 use Rattle.pool_semantics.specs.Sound.{Sound}
-use Rattle.pool_semantics.specs.Moving.{goes_alone, is_offered, Answers, alone, answers, Moves, by_object, by_message}
+use Rattle.pool_semantics.specs.Moving.{goes_alone, is_offered, Answers, alone, answers}
+use Rattle.pool_semantics.proofs.MovingObjects.{Moves, by_object, by_message}
 
 -- what the tests of labels say of an action
 

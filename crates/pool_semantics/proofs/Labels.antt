@@ -4,51 +4,51 @@ use Rattle.std.specs.Ordering.{nat_cmp}
 use Rattle.std.specs.FinMap.{find}
 use Rattle.std.specs.BTreeMap.{BTreeMap, get}
 use Rattle.std.specs.Option.{option_map}
-use Rattle.run_words.specs.declared.words.Error.{Error}
-use Rattle.run_words.specs.declared.words.Label.TheVariants as L
-use Rattle.run_words.specs.declared.words.NameId.{NameId}
-use Rattle.run_words.specs.declared.words.Item.{Item}
-use Rattle.run_words.specs.declared.words.Value.{Value}
-use Rattle.run_words.specs.declared.words.Value.TheVariants as V
+use Rattle.run_types.specs.declared.types.Error.{Error}
+use Rattle.run_types.specs.declared.types.Label.TheVariants as L
+use Rattle.run_types.specs.declared.types.NameId.{NameId}
+use Rattle.run_types.specs.declared.types.Item.{Item}
+use Rattle.run_types.specs.declared.types.Value.{Value}
+use Rattle.run_types.specs.declared.types.Value.TheVariants as V
 use Rattle.pool_syntax.specs.Classes.{class_of}
 use Rattle.pool_syntax.specs.Terms.{Statements, MethodTree, ClassTree, ProgramTree}
 use Rattle.pool_relation.specs.Reducible.{Choice, AsStatements, AsExpression}
 use Rattle.pool_relation.specs.Action as A
-use Rattle.plain_object.specs.declared.thing.Thing.{Thing}
-use Rattle.plain_object.specs.declared.change.Change.{Change}
-use Rattle.plain_object.specs.declared.act.Act.{Act}
-use Rattle.plain_object.specs.declared.act.Act.TheVariants as C
-use Rattle.plain_object.specs.declared.change.Change.TheVariants as H
+use Rattle.stepper_objects.specs.declared.object_state.ObjectState.{ObjectState}
+use Rattle.stepper_objects.specs.declared.change.Change.{Change}
+use Rattle.stepper_objects.specs.declared.act.Act.{Act}
+use Rattle.stepper_objects.specs.declared.act.Act.TheVariants as C
+use Rattle.stepper_objects.specs.declared.change.Change.TheVariants as H
 use Rattle.pool_relation.specs.Action.{Object, action, method_of}
-use Rattle.run_words.specs.Tables.{Pair}
-use Rattle.run_words.specs.Message.{Message}
+use Rattle.run_types.specs.Tables.{Pair}
+use Rattle.run_types.specs.Message.{Message}
 use Rattle.pool_relation.specs.Configuration.{Configuration, object_of, put_object, messages_of, put_messages}
-use Rattle.run_words.specs.Partial.{◌>>=◌, ◌>>◌, require}
+use Rattle.run_types.specs.Partial.{◌>>=◌, ◌>>◌, require}
 use Rattle.pool_relation.specs.Transition.{transition, running, without_fault, local_step, makes, writes, fails, returns, waits_on, calls, posts, offer, has_message, first_message, without_first, serving, picked, refilled, new_object}
-use Rattle.run_words.specs.Same.{are_same, is_same_item, error_number}
-use Rattle.plain_object.specs.Acts.{acted, changed, is_local, returns_act, waits_act, calls_act, posts_act}
-use Rattle.term_stack.specs.Arguments.{now_args, now_names, now_choices}
-use Rattle.plain_object.specs.Things.{thing_object, things}
+use Rattle.run_types.specs.Same.{are_same, is_same_item, error_number}
+use Rattle.stepper_objects.specs.Acts.{acted, changed, is_local, returns_act, waits_act, calls_act, posts_act}
+use Rattle.stepper_terms.specs.Arguments.{now_args, now_names, now_choices}
+use Rattle.stepper_objects.specs.ObjectStates.{thing_object, things}
 use Rattle.pool_syntax.specs.Terms as T
 use Rattle.pool_syntax.specs.declared.tree.Named.{Named}
 use Rattle.pool_relation.specs.Transition as X
-use Rattle.plain_object.specs.Offers.{offer_act}
-use Rattle.run_words.specs.declared.verdicts.Redex.TheVariants as R
+use Rattle.stepper_objects.specs.Offers.{offer_act}
+use Rattle.run_types.specs.declared.verdicts.Redex.TheVariants as R
 use Rattle.pool_semantics.specs.Shown.{shown, shown_of, shown_if, shown_at}
 use Rattle.pool_semantics.specs.Plains.{Doing}
-use Rattle.pool_semantics.proofs.Stored.{things_lookup}
+use Rattle.pool_semantics.proofs.MapAbstraction.{things_lookup}
 
 -- the objects of this map, and these messages
-abbrev pub with_objects : BTreeMap ℕ Thing → List (Pair × List Message) → Configuration
+abbrev pub with_objects : BTreeMap ℕ ObjectState → List (Pair × List Message) → Configuration
 with_objects m ms = record { objects = things m.entries; messages = ms }
 
-pub running_none : (m : BTreeMap ℕ Thing) (ms : List (Pair × List Message)) (o : ℕ) → get nat_cmp m o ≡ None → running (with_objects m ms) o ≡ None
+pub running_none : (m : BTreeMap ℕ ObjectState) (ms : List (Pair × List Message)) (o : ℕ) → get nat_cmp m o ≡ None → running (with_objects m ms) o ≡ None
 running_none m ms o h = let e = things_lookup o m.entries in rw (e, h) refl
 
-pub running_faulted : (m : BTreeMap ℕ Thing) (ms : List (Pair × List Message)) (o : ℕ) (t : Thing) (e : Error) → get nat_cmp m o ≡ Some t → t.fault ≡ Some e → running (with_objects m ms) o ≡ None
+pub running_faulted : (m : BTreeMap ℕ ObjectState) (ms : List (Pair × List Message)) (o : ℕ) (t : ObjectState) (e : Error) → get nat_cmp m o ≡ Some t → t.fault ≡ Some e → running (with_objects m ms) o ≡ None
 running_faulted m ms o t e h f = let k = things_lookup o m.entries in rw (k, h, f) refl
 
-pub running_doing : (p : ProgramTree) (m : BTreeMap ℕ Thing) (ms : List (Pair × List Message)) (o : ℕ) (t : Thing) (a : Act) → Doing p m o t a → running (with_objects m ms) o ≡ Some (thing_object t)
+pub running_doing : (p : ProgramTree) (m : BTreeMap ℕ ObjectState) (ms : List (Pair × List Message)) (o : ℕ) (t : ObjectState) (a : Act) → Doing p m o t a → running (with_objects m ms) o ≡ Some (thing_object t)
 running_doing p m ms o t a d = let k = things_lookup o m.entries in rw (k, d.found, d.sound) refl
 
 -- local transitions
@@ -68,12 +68,12 @@ changed_keeps x vs (H.Call m) e = refl
 changed_keeps x vs (H.Leave v) e = refl
 changed_keeps x vs H.End e = refl
 
-pub local_made : (p : ProgramTree) (m : BTreeMap ℕ Thing) (ms : List (Pair × List Message)) (o : ℕ) (t : Thing) (h : Change) → Doing p m o t (C.Local h)
+pub local_made : (p : ProgramTree) (m : BTreeMap ℕ ObjectState) (ms : List (Pair × List Message)) (o : ℕ) (t : ObjectState) (h : Change) → Doing p m o t (C.Local h)
     → transition p (with_objects m ms) (L.Local o) ≡ Some (put_object (with_objects m ms) o (changed (thing_object t) (now_args t.work.next) h))
 local_made p m ms o t h d =
     rw (running_doing p m ms o t (C.Local h) d, d.gives) (ap (λ y. Some (put_object (with_objects m ms) o y)) (changed_keeps (thing_object t) (now_args t.work.next) h d.suits.1))
 
-pub local_refused : (p : ProgramTree) (m : BTreeMap ℕ Thing) (ms : List (Pair × List Message)) (o : ℕ) (t : Thing) (a : Act) → Doing p m o t a → ((h : Change) → a ≡ C.Local h → ⊥) → transition p (with_objects m ms) (L.Local o) ≡ None
+pub local_refused : (p : ProgramTree) (m : BTreeMap ℕ ObjectState) (ms : List (Pair × List Message)) (o : ℕ) (t : ObjectState) (a : Act) → Doing p m o t a → ((h : Change) → a ≡ C.Local h → ⊥) → transition p (with_objects m ms) (L.Local o) ≡ None
 local_refused p m ms o t (C.Local h) d n = absurd (n h refl)
 local_refused p m ms o t C.Finished d n = rw (running_doing p m ms o t C.Finished d, d.gives) refl
 local_refused p m ms o t (C.Fault e) d n = rw (running_doing p m ms o t (C.Fault e) d, d.gives) refl
@@ -96,15 +96,15 @@ writes_acted : (x : Object) (vs : _) (ns : _) (cs : _) (a : Act) (j : Item) → 
 writes_acted x vs ns cs (C.Write i) j = refl
 writes_acted x vs ns cs _ j = refl
 
-write_is : (p : ProgramTree) (m : BTreeMap ℕ Thing) (ms : List (Pair × List Message)) (o : ℕ) (t : Thing) (a : Act) (j : Item) → Doing p m o t a
+write_is : (p : ProgramTree) (m : BTreeMap ℕ ObjectState) (ms : List (Pair × List Message)) (o : ℕ) (t : ObjectState) (a : Act) (j : Item) → Doing p m o t a
     → transition p (with_objects m ms) (L.Write o j) ≡ (require (writes_act a j) >> Some (put_object (with_objects m ms) o (changed (thing_object t) (now_args t.work.next) H.Done)))
 write_is p m ms o t a j d = rw (running_doing p m ms o t a d, d.gives, writes_acted (thing_object t) (now_args t.work.next) (now_names t.work.next) (now_choices t.work.next) a j) refl
 
-pub write_made : (p : ProgramTree) (m : BTreeMap ℕ Thing) (ms : List (Pair × List Message)) (o : ℕ) (t : Thing) (i j : Item) → Doing p m o t (C.Write i) → is_same_item i j ≡ true
+pub write_made : (p : ProgramTree) (m : BTreeMap ℕ ObjectState) (ms : List (Pair × List Message)) (o : ℕ) (t : ObjectState) (i j : Item) → Doing p m o t (C.Write i) → is_same_item i j ≡ true
     → transition p (with_objects m ms) (L.Write o j) ≡ Some (put_object (with_objects m ms) o (changed (thing_object t) (now_args t.work.next) H.Done))
 write_made p m ms o t i j d h = write_is p m ms o t (C.Write i) j d ∙ rw h refl
 
-pub write_other : (p : ProgramTree) (m : BTreeMap ℕ Thing) (ms : List (Pair × List Message)) (o : ℕ) (t : Thing) (i j : Item) → Doing p m o t (C.Write i) → is_same_item i j ≡ false
+pub write_other : (p : ProgramTree) (m : BTreeMap ℕ ObjectState) (ms : List (Pair × List Message)) (o : ℕ) (t : ObjectState) (i j : Item) → Doing p m o t (C.Write i) → is_same_item i j ≡ false
     → transition p (with_objects m ms) (L.Write o j) ≡ None
 write_other p m ms o t i j d h = write_is p m ms o t (C.Write i) j d ∙ rw h refl
 
@@ -112,7 +112,7 @@ no_write : (a : Act) (j : Item) → ((i : Item) → a ≡ C.Write i → ⊥) →
 no_write (C.Write i) j n = absurd (n i refl)
 no_write _ j n = refl
 
-pub write_refused : (p : ProgramTree) (m : BTreeMap ℕ Thing) (ms : List (Pair × List Message)) (o : ℕ) (t : Thing) (a : Act) (j : Item) → Doing p m o t a → ((i : Item) → a ≡ C.Write i → ⊥)
+pub write_refused : (p : ProgramTree) (m : BTreeMap ℕ ObjectState) (ms : List (Pair × List Message)) (o : ℕ) (t : ObjectState) (a : Act) (j : Item) → Doing p m o t a → ((i : Item) → a ≡ C.Write i → ⊥)
     → transition p (with_objects m ms) (L.Write o j) ≡ None
 write_refused p m ms o t a j d n = write_is p m ms o t a j d ∙ rw (no_write a j n) refl
 
@@ -125,15 +125,15 @@ fails_acted : (x : Object) (vs : _) (ns : _) (cs : _) (a : Act) (f : Error) → 
 fails_acted x vs ns cs (C.Fault e) f = refl
 fails_acted x vs ns cs _ f = refl
 
-fault_is : (p : ProgramTree) (m : BTreeMap ℕ Thing) (ms : List (Pair × List Message)) (o : ℕ) (t : Thing) (a : Act) (f : Error) → Doing p m o t a
+fault_is : (p : ProgramTree) (m : BTreeMap ℕ ObjectState) (ms : List (Pair × List Message)) (o : ℕ) (t : ObjectState) (a : Act) (f : Error) → Doing p m o t a
     → transition p (with_objects m ms) (L.Fault o f) ≡ (require (fails_act a f) >> Some (put_object (with_objects m ms) o (changed (thing_object t) (now_args t.work.next) (H.Fault f))))
 fault_is p m ms o t a f d = rw (running_doing p m ms o t a d, d.gives, fails_acted (thing_object t) (now_args t.work.next) (now_names t.work.next) (now_choices t.work.next) a f) refl
 
-pub fault_made : (p : ProgramTree) (m : BTreeMap ℕ Thing) (ms : List (Pair × List Message)) (o : ℕ) (t : Thing) (e f : Error) → Doing p m o t (C.Fault e) → (error_number e == error_number f) ≡ true
+pub fault_made : (p : ProgramTree) (m : BTreeMap ℕ ObjectState) (ms : List (Pair × List Message)) (o : ℕ) (t : ObjectState) (e f : Error) → Doing p m o t (C.Fault e) → (error_number e == error_number f) ≡ true
     → transition p (with_objects m ms) (L.Fault o f) ≡ Some (put_object (with_objects m ms) o (changed (thing_object t) (now_args t.work.next) (H.Fault f)))
 fault_made p m ms o t e f d h = fault_is p m ms o t (C.Fault e) f d ∙ rw h refl
 
-pub fault_other : (p : ProgramTree) (m : BTreeMap ℕ Thing) (ms : List (Pair × List Message)) (o : ℕ) (t : Thing) (e f : Error) → Doing p m o t (C.Fault e) → (error_number e == error_number f) ≡ false
+pub fault_other : (p : ProgramTree) (m : BTreeMap ℕ ObjectState) (ms : List (Pair × List Message)) (o : ℕ) (t : ObjectState) (e f : Error) → Doing p m o t (C.Fault e) → (error_number e == error_number f) ≡ false
     → transition p (with_objects m ms) (L.Fault o f) ≡ None
 fault_other p m ms o t e f d h = fault_is p m ms o t (C.Fault e) f d ∙ rw h refl
 
@@ -141,7 +141,7 @@ no_fault : (a : Act) (f : Error) → ((e : Error) → a ≡ C.Fault e → ⊥) �
 no_fault (C.Fault e) f n = absurd (n e refl)
 no_fault _ f n = refl
 
-pub fault_refused : (p : ProgramTree) (m : BTreeMap ℕ Thing) (ms : List (Pair × List Message)) (o : ℕ) (t : Thing) (a : Act) (f : Error) → Doing p m o t a → ((e : Error) → a ≡ C.Fault e → ⊥)
+pub fault_refused : (p : ProgramTree) (m : BTreeMap ℕ ObjectState) (ms : List (Pair × List Message)) (o : ℕ) (t : ObjectState) (a : Act) (f : Error) → Doing p m o t a → ((e : Error) → a ≡ C.Fault e → ⊥)
     → transition p (with_objects m ms) (L.Fault o f) ≡ None
 fault_refused p m ms o t a f d n = fault_is p m ms o t a f d ∙ rw (no_fault a f n) refl
 
@@ -154,7 +154,7 @@ picked_acted : (x : Object) (vs : _) (ns : _) (cs : _) (a : Act) (i : ℕ) → p
 picked_acted x vs ns cs C.Select i = refl
 picked_acted x vs ns cs _ i = refl
 
-pub pick_is : (p : ProgramTree) (m : BTreeMap ℕ Thing) (ms : List (Pair × List Message)) (o : ℕ) (t : Thing) (a : Act) (i : ℕ) → Doing p m o t a
+pub pick_is : (p : ProgramTree) (m : BTreeMap ℕ ObjectState) (ms : List (Pair × List Message)) (o : ℕ) (t : ObjectState) (a : Act) (i : ℕ) → Doing p m o t a
     → transition p (with_objects m ms) (L.Pick o i) ≡ (picked_act a (now_choices t.work.next) i >>= λ work. Some (put_object (with_objects m ms) o (refilled (thing_object t) (AsStatements work))))
 pick_is p m ms o t a i d = rw (running_doing p m ms o t a d, d.gives, picked_acted (thing_object t) (now_args t.work.next) (now_names t.work.next) (now_choices t.work.next) a i) refl
 
@@ -162,15 +162,15 @@ no_pick : (a : Act) (cs : List Choice) (i : ℕ) → (a ≡ C.Select → ⊥) �
 no_pick C.Select cs i n = absurd (n refl)
 no_pick _ cs i n = refl
 
-pub pick_refused : (p : ProgramTree) (m : BTreeMap ℕ Thing) (ms : List (Pair × List Message)) (o : ℕ) (t : Thing) (a : Act) (i : ℕ) → Doing p m o t a → (a ≡ C.Select → ⊥)
+pub pick_refused : (p : ProgramTree) (m : BTreeMap ℕ ObjectState) (ms : List (Pair × List Message)) (o : ℕ) (t : ObjectState) (a : Act) (i : ℕ) → Doing p m o t a → (a ≡ C.Select → ⊥)
     → transition p (with_objects m ms) (L.Pick o i) ≡ None
 pick_refused p m ms o t a i d n = pick_is p m ms o t a i d ∙ rw (no_pick a (now_choices t.work.next) i n) refl
 
-pub pick_other : (p : ProgramTree) (m : BTreeMap ℕ Thing) (ms : List (Pair × List Message)) (o : ℕ) (t : Thing) (i : ℕ) → Doing p m o t C.Select → picked (A.Select (now_choices t.work.next)) i ≡ None
+pub pick_other : (p : ProgramTree) (m : BTreeMap ℕ ObjectState) (ms : List (Pair × List Message)) (o : ℕ) (t : ObjectState) (i : ℕ) → Doing p m o t C.Select → picked (A.Select (now_choices t.work.next)) i ≡ None
     → transition p (with_objects m ms) (L.Pick o i) ≡ None
 pick_other p m ms o t i d h = pick_is p m ms o t C.Select i d ∙ rw h refl
 
-pub pick_made : (p : ProgramTree) (m : BTreeMap ℕ Thing) (ms : List (Pair × List Message)) (o : ℕ) (t : Thing) (i : ℕ) (work : Statements) → Doing p m o t C.Select → picked (A.Select (now_choices t.work.next)) i ≡ Some work
+pub pick_made : (p : ProgramTree) (m : BTreeMap ℕ ObjectState) (ms : List (Pair × List Message)) (o : ℕ) (t : ObjectState) (i : ℕ) (work : Statements) → Doing p m o t C.Select → picked (A.Select (now_choices t.work.next)) i ≡ Some work
     → transition p (with_objects m ms) (L.Pick o i) ≡ Some (put_object (with_objects m ms) o (refilled (thing_object t) (AsStatements work)))
 pick_made p m ms o t i work d h = pick_is p m ms o t C.Select i d ∙ rw h refl
 
@@ -183,7 +183,7 @@ makes_acted : (x : Object) (vs : _) (ns : _) (cs : _) (a : Act) (k : ℕ) → ma
 makes_acted x vs ns cs (C.New c) k = refl
 makes_acted x vs ns cs _ k = refl
 
-pub new_is : (p : ProgramTree) (m : BTreeMap ℕ Thing) (ms : List (Pair × List Message)) (o n : ℕ) (k : NameId) (t : Thing) (a : Act) → Doing p m o t a
+pub new_is : (p : ProgramTree) (m : BTreeMap ℕ ObjectState) (ms : List (Pair × List Message)) (o n : ℕ) (k : NameId) (t : ObjectState) (a : Act) → Doing p m o t a
     → transition p (with_objects m ms) (L.New o n k)
     ≡ (require (makes_act a k.0 && is_none (object_of (with_objects m ms) n)) >> (class_of p k.0 >>= λ class. Some (put_object (put_object (with_objects m ms) o (changed (thing_object t) (now_args t.work.next) (H.Becomes (V.Ref n)))) n (new_object class))))
 new_is p m ms o n k t a d = rw (running_doing p m ms o t a d, d.gives, makes_acted (thing_object t) (now_args t.work.next) (now_names t.work.next) (now_choices t.work.next) a k.0) refl
@@ -192,19 +192,19 @@ no_new : (a : Act) (k : ℕ) → ((c : NameId) → a ≡ C.New c → ⊥) → ma
 no_new (C.New c) k n = absurd (n c refl)
 no_new _ k n = refl
 
-pub new_refused : (p : ProgramTree) (m : BTreeMap ℕ Thing) (ms : List (Pair × List Message)) (o n : ℕ) (k : NameId) (t : Thing) (a : Act) → Doing p m o t a → ((c : NameId) → a ≡ C.New c → ⊥)
+pub new_refused : (p : ProgramTree) (m : BTreeMap ℕ ObjectState) (ms : List (Pair × List Message)) (o n : ℕ) (k : NameId) (t : ObjectState) (a : Act) → Doing p m o t a → ((c : NameId) → a ≡ C.New c → ⊥)
     → transition p (with_objects m ms) (L.New o n k) ≡ None
 new_refused p m ms o n k t a d h = new_is p m ms o n k t a d ∙ rw (no_new a k.0 h) refl
 
-pub new_other : (p : ProgramTree) (m : BTreeMap ℕ Thing) (ms : List (Pair × List Message)) (o n : ℕ) (k c : NameId) (t : Thing) → Doing p m o t (C.New c) → (c.0 == k.0) ≡ false
+pub new_other : (p : ProgramTree) (m : BTreeMap ℕ ObjectState) (ms : List (Pair × List Message)) (o n : ℕ) (k c : NameId) (t : ObjectState) → Doing p m o t (C.New c) → (c.0 == k.0) ≡ false
     → transition p (with_objects m ms) (L.New o n k) ≡ None
 new_other p m ms o n k c t d h = new_is p m ms o n k t (C.New c) d ∙ rw h refl
 
-taken : (r : Option Thing) → is_some r ≡ true → is_none (option_map thing_object r) ≡ false
+taken : (r : Option ObjectState) → is_some r ≡ true → is_none (option_map thing_object r) ≡ false
 taken None h = absurd (grind arith)
 taken (Some t) h = refl
 
-untaken : (r : Option Thing) → is_some r ≡ false → is_none (option_map thing_object r) ≡ true
+untaken : (r : Option ObjectState) → is_some r ≡ false → is_none (option_map thing_object r) ≡ true
 untaken None h = refl
 untaken (Some t) h = absurd (grind arith)
 
@@ -212,7 +212,7 @@ and_false : (b : Bool) → (b && false) ≡ false
 and_false true = refl
 and_false false = refl
 
-pub new_used : (p : ProgramTree) (m : BTreeMap ℕ Thing) (ms : List (Pair × List Message)) (o n : ℕ) (k c : NameId) (t : Thing) → Doing p m o t (C.New c) → is_some (get nat_cmp m n) ≡ true
+pub new_used : (p : ProgramTree) (m : BTreeMap ℕ ObjectState) (ms : List (Pair × List Message)) (o n : ℕ) (k c : NameId) (t : ObjectState) → Doing p m o t (C.New c) → is_some (get nat_cmp m n) ≡ true
     → transition p (with_objects m ms) (L.New o n k) ≡ None
 new_used p m ms o n k c t d h =
     let e : is_none (find nat_cmp n (things m.entries)) ≡ false = ap is_none (things_lookup n m.entries) ∙ taken (get nat_cmp m n) h in
@@ -222,7 +222,7 @@ nothing : (r : Option (Unit {0})) (o : Option Configuration) → o ≡ None → 
 nothing None o h = refl
 nothing (Some u) o h = h
 
-pub new_made : (p : ProgramTree) (m : BTreeMap ℕ Thing) (ms : List (Pair × List Message)) (o n : ℕ) (k c : NameId) (t : Thing) (class : ClassTree) → Doing p m o t (C.New c) → (c.0 == k.0) ≡ true → is_some (get nat_cmp m n) ≡ false → class_of p k.0 ≡ Some class
+pub new_made : (p : ProgramTree) (m : BTreeMap ℕ ObjectState) (ms : List (Pair × List Message)) (o n : ℕ) (k c : NameId) (t : ObjectState) (class : ClassTree) → Doing p m o t (C.New c) → (c.0 == k.0) ≡ true → is_some (get nat_cmp m n) ≡ false → class_of p k.0 ≡ Some class
     → transition p (with_objects m ms) (L.New o n k) ≡ Some (put_object (put_object (with_objects m ms) o (changed (thing_object t) (now_args t.work.next) (H.Becomes (V.Ref n)))) n (new_object class))
 new_made p m ms o n k c t class d h g f =
     let e : is_none (find nat_cmp n (things m.entries)) ≡ true = ap is_none (things_lookup n m.entries) ∙ untaken (get nat_cmp m n) g in
@@ -241,14 +241,14 @@ bind_none : (r : Option Object) (f : Object → Option Configuration) → ((x : 
 bind_none None f h = refl
 bind_none (Some x) f h = h x
 
-pub return_is : (p : ProgramTree) (m : BTreeMap ℕ Thing) (ms : List (Pair × List Message)) (b o : ℕ) (v : Value) (y x : Thing) (a1 a2 : Act) → Doing p m b y a1 → Doing p m o x a2
+pub return_is : (p : ProgramTree) (m : BTreeMap ℕ ObjectState) (ms : List (Pair × List Message)) (b o : ℕ) (v : Value) (y x : ObjectState) (a1 a2 : Act) → Doing p m b y a1 → Doing p m o x a2
     → transition p (with_objects m ms) (L.Return b o v)
     ≡ (require (returns_act a1 o v && waits_act a2 b) >> Some (put_object (put_object (with_objects m ms) b (changed (thing_object y) (now_args y.work.next) H.Returned)) o (changed (thing_object x) (now_args x.work.next) (H.Becomes v))))
 return_is p m ms b o v y x a1 a2 d g =
     rw (running_doing p m ms b y a1 d, running_doing p m ms o x a2 g, d.gives, g.gives, returns_acted (thing_object y) (now_args y.work.next) (now_names y.work.next) (now_choices y.work.next) a1 o v, waits_acted (thing_object x) (now_args x.work.next) (now_names x.work.next) (now_choices x.work.next) a2 b) refl
 
 -- the receiver is at no such return
-pub return_refused : (p : ProgramTree) (m : BTreeMap ℕ Thing) (ms : List (Pair × List Message)) (b o : ℕ) (v : Value) (y : Thing) (a : Act) → Doing p m b y a → returns_act a o v ≡ false
+pub return_refused : (p : ProgramTree) (m : BTreeMap ℕ ObjectState) (ms : List (Pair × List Message)) (b o : ℕ) (v : Value) (y : ObjectState) (a : Act) → Doing p m b y a → returns_act a o v ≡ false
     → transition p (with_objects m ms) (L.Return b o v) ≡ None
 return_refused p m ms b o v y a d h =
     rw (running_doing p m ms b y a d, d.gives, returns_acted (thing_object y) (now_args y.work.next) (now_names y.work.next) (now_choices y.work.next) a o v, h)
@@ -258,23 +258,23 @@ both_false : (a b : Bool) → b ≡ false → (a && b) ≡ false
 both_false true b h = h
 both_false false b h = refl
 
-pub return_unawaited : (p : ProgramTree) (m : BTreeMap ℕ Thing) (ms : List (Pair × List Message)) (b o : ℕ) (v : Value) (y x : Thing) (a1 a2 : Act) → Doing p m b y a1 → Doing p m o x a2 → waits_act a2 b ≡ false
+pub return_unawaited : (p : ProgramTree) (m : BTreeMap ℕ ObjectState) (ms : List (Pair × List Message)) (b o : ℕ) (v : Value) (y x : ObjectState) (a1 a2 : Act) → Doing p m b y a1 → Doing p m o x a2 → waits_act a2 b ≡ false
     → transition p (with_objects m ms) (L.Return b o v) ≡ None
 return_unawaited p m ms b o v y x a1 a2 d g h = let k = both_false (returns_act a1 o v) (waits_act a2 b) h in return_is p m ms b o v y x a1 a2 d g ∙ rw k refl
 
-pub return_made : (p : ProgramTree) (m : BTreeMap ℕ Thing) (ms : List (Pair × List Message)) (b o : ℕ) (v : Value) (y x : Thing) (a1 a2 : Act) → Doing p m b y a1 → Doing p m o x a2 → returns_act a1 o v ≡ true → waits_act a2 b ≡ true
+pub return_made : (p : ProgramTree) (m : BTreeMap ℕ ObjectState) (ms : List (Pair × List Message)) (b o : ℕ) (v : Value) (y x : ObjectState) (a1 a2 : Act) → Doing p m b y a1 → Doing p m o x a2 → returns_act a1 o v ≡ true → waits_act a2 b ≡ true
     → transition p (with_objects m ms) (L.Return b o v) ≡ Some (put_object (put_object (with_objects m ms) b (changed (thing_object y) (now_args y.work.next) H.Returned)) o (changed (thing_object x) (now_args x.work.next) (H.Becomes v)))
 return_made p m ms b o v y x a1 a2 d g h k = return_is p m ms b o v y x a1 a2 d g ∙ rw (h, k) refl
 
 -- who returns does not wait
-pub return_apart : (p : ProgramTree) (m : BTreeMap ℕ Thing) (b o k q : ℕ) (v : Value) (n : NameId) (y x : Thing) → Doing p m b y (C.Return k v) → Doing p m o x (C.Waits q n) → o ≡ b → ⊥
+pub return_apart : (p : ProgramTree) (m : BTreeMap ℕ ObjectState) (b o k q : ℕ) (v : Value) (n : NameId) (y x : ObjectState) → Doing p m b y (C.Return k v) → Doing p m o x (C.Waits q n) → o ≡ b → ⊥
 return_apart p m b o k q v n y x d g e =
     let f : Some y ≡ Some x = sym d.found ∙ ap (get nat_cmp m) (sym e) ∙ g.found in
     let same : y ≡ x = cc in
     let z : A.Return k v ≡ A.Waits q n.0 = sym d.gives ∙ ap₂ (λ w u. action p w (thing_object u)) (sym e) same ∙ g.gives in
     cc
 
-pub return_by_two : (p : ProgramTree) (m : BTreeMap ℕ Thing) (b o : ℕ) (v : Value) (y x : Thing) (a1 a2 : Act) → Doing p m b y a1 → Doing p m o x a2 → returns_act a1 o v ≡ true → waits_act a2 b ≡ true → o ≡ b → ⊥
+pub return_by_two : (p : ProgramTree) (m : BTreeMap ℕ ObjectState) (b o : ℕ) (v : Value) (y x : ObjectState) (a1 a2 : Act) → Doing p m b y a1 → Doing p m o x a2 → returns_act a1 o v ≡ true → waits_act a2 b ≡ true → o ≡ b → ⊥
 return_by_two p m b o v y x (C.Return k w) (C.Waits q n) d g h i e = return_apart p m b o k q w n y x d g e
 return_by_two p m b o v y x (C.Return k w) _ d g h i e = grind arith
 return_by_two p m b o v y x _ a2 d g h i e = grind arith
@@ -294,30 +294,30 @@ abbrev pub answered_by : ProgramTree → Configuration → ℕ → ℕ → NameI
 answered_by p c b o n args x y w =
     w >>= λ v. require (not (has_message v.names (messages_of c o b))) >> (method_of p y.class n.0 (length args) >>= λ k. Some (put_object (put_object c o (refilled x (AsExpression (T.Wait b n.0)))) b (serving y k (Some o) args v.work)))
 
-pub answer_is : (p : ProgramTree) (m : BTreeMap ℕ Thing) (ms : List (Pair × List Message)) (b o : ℕ) (n : NameId) (args : List Value) (x y : Thing) (a1 a2 : Act) → Doing p m o x a1 → Doing p m b y a2
+pub answer_is : (p : ProgramTree) (m : BTreeMap ℕ ObjectState) (ms : List (Pair × List Message)) (b o : ℕ) (n : NameId) (args : List Value) (x y : ObjectState) (a1 a2 : Act) → Doing p m o x a1 → Doing p m b y a2
     → transition p (with_objects m ms) (L.Answer b o n args)
     ≡ (require (calls_act a1 b n.0 (are_same (now_args x.work.next) args)) >> answered_by p (with_objects m ms) b o n args (thing_object x) (thing_object y) (offer_act a2 (now_names y.work.next) (now_choices y.work.next) n.0))
 answer_is p m ms b o n args x y a1 a2 d g =
     rw (running_doing p m ms o x a1 d, running_doing p m ms b y a2 g, d.gives, g.gives, calls_acted (thing_object x) (now_args x.work.next) (now_names x.work.next) (now_choices x.work.next) a1 b n.0 args, offer_acted (thing_object y) (now_args y.work.next) (now_names y.work.next) (now_choices y.work.next) a2 n.0) refl
 
-pub answer_refused : (p : ProgramTree) (m : BTreeMap ℕ Thing) (ms : List (Pair × List Message)) (b o : ℕ) (n : NameId) (args : List Value) (x : Thing) (a : Act) → Doing p m o x a → calls_act a b n.0 (are_same (now_args x.work.next) args) ≡ false
+pub answer_refused : (p : ProgramTree) (m : BTreeMap ℕ ObjectState) (ms : List (Pair × List Message)) (b o : ℕ) (n : NameId) (args : List Value) (x : ObjectState) (a : Act) → Doing p m o x a → calls_act a b n.0 (are_same (now_args x.work.next) args) ≡ false
     → transition p (with_objects m ms) (L.Answer b o n args) ≡ None
 answer_refused p m ms b o n args x a d h =
     rw (running_doing p m ms o x a d, d.gives, calls_acted (thing_object x) (now_args x.work.next) (now_names x.work.next) (now_choices x.work.next) a b n.0 args, h)
     (bind_none (running (with_objects m ms) b) _ (λ y. refl))
 
-pub answer_without : (p : ProgramTree) (m : BTreeMap ℕ Thing) (ms : List (Pair × List Message)) (b o : ℕ) (n : NameId) (args : List Value) (x y : Thing) (a1 a2 : Act) → Doing p m o x a1 → Doing p m b y a2
+pub answer_without : (p : ProgramTree) (m : BTreeMap ℕ ObjectState) (ms : List (Pair × List Message)) (b o : ℕ) (n : NameId) (args : List Value) (x y : ObjectState) (a1 a2 : Act) → Doing p m o x a1 → Doing p m b y a2
     → answered_by p (with_objects m ms) b o n args (thing_object x) (thing_object y) (offer_act a2 (now_names y.work.next) (now_choices y.work.next) n.0) ≡ None
     → transition p (with_objects m ms) (L.Answer b o n args) ≡ None
 answer_without p m ms b o n args x y a1 a2 d g h =
     answer_is p m ms b o n args x y a1 a2 d g ∙ nothing (require (calls_act a1 b n.0 (are_same (now_args x.work.next) args))) _ h
 
-pub answer_made : (p : ProgramTree) (m : BTreeMap ℕ Thing) (ms : List (Pair × List Message)) (b o : ℕ) (n : NameId) (args : List Value) (x y : Thing) (a1 a2 : Act) → Doing p m o x a1 → Doing p m b y a2 → calls_act a1 b n.0 (are_same (now_args x.work.next) args) ≡ true
+pub answer_made : (p : ProgramTree) (m : BTreeMap ℕ ObjectState) (ms : List (Pair × List Message)) (b o : ℕ) (n : NameId) (args : List Value) (x y : ObjectState) (a1 a2 : Act) → Doing p m o x a1 → Doing p m b y a2 → calls_act a1 b n.0 (are_same (now_args x.work.next) args) ≡ true
     → transition p (with_objects m ms) (L.Answer b o n args) ≡ answered_by p (with_objects m ms) b o n args (thing_object x) (thing_object y) (offer_act a2 (now_names y.work.next) (now_choices y.work.next) n.0)
 answer_made p m ms b o n args x y a1 a2 d g h = answer_is p m ms b o n args x y a1 a2 d g ∙ rw h refl
 
 -- who calls offers nothing
-pub answer_by_two : (p : ProgramTree) (m : BTreeMap ℕ Thing) (b o : ℕ) (n : NameId) (t : Bool) (x y : Thing) (a1 a2 : Act) (v : X.Offer) → Doing p m o x a1 → Doing p m b y a2 → calls_act a1 b n.0 t ≡ true → offer_act a2 (now_names y.work.next) (now_choices y.work.next) n.0 ≡ Some v → b ≡ o → ⊥
+pub answer_by_two : (p : ProgramTree) (m : BTreeMap ℕ ObjectState) (b o : ℕ) (n : NameId) (t : Bool) (x y : ObjectState) (a1 a2 : Act) (v : X.Offer) → Doing p m o x a1 → Doing p m b y a2 → calls_act a1 b n.0 t ≡ true → offer_act a2 (now_names y.work.next) (now_choices y.work.next) n.0 ≡ Some v → b ≡ o → ⊥
 answer_by_two p m b o n t x y (C.Send q k) C.Answer v d g h i e =
     let f : Some x ≡ Some y = sym d.found ∙ ap (get nat_cmp m) (sym e) ∙ g.found in
     let same : x ≡ y = cc in
@@ -349,30 +349,30 @@ posts_acted : (x : Object) (vs : List Value) (ns : _) (cs : _) (a : Act) (b n : 
 posts_acted x vs ns cs (C.Async b k) r n args = refl
 posts_acted x vs ns cs _ r n args = refl
 
-send_is : (p : ProgramTree) (m : BTreeMap ℕ Thing) (ms : List (Pair × List Message)) (o b : ℕ) (n : NameId) (args : List Value) (x : Thing) (a : Act) → Doing p m o x a
+send_is : (p : ProgramTree) (m : BTreeMap ℕ ObjectState) (ms : List (Pair × List Message)) (o b : ℕ) (n : NameId) (args : List Value) (x : ObjectState) (a : Act) → Doing p m o x a
     → transition p (with_objects m ms) (L.Send o b n args)
     ≡ (require (posts_act a b n.0 (are_same (now_args x.work.next) args) && is_some (object_of (with_objects m ms) b)) >> Some (put_messages (put_object (with_objects m ms) o (changed (thing_object x) (now_args x.work.next) H.Done)) o b (messages_of (with_objects m ms) o b ++ record { method = n.0; args = args } ∷ [])))
 send_is p m ms o b n args x a d =
     rw (running_doing p m ms o x a d, d.gives, posts_acted (thing_object x) (now_args x.work.next) (now_names x.work.next) (now_choices x.work.next) a b n.0 args) refl
 
-pub send_refused : (p : ProgramTree) (m : BTreeMap ℕ Thing) (ms : List (Pair × List Message)) (o b : ℕ) (n : NameId) (args : List Value) (x : Thing) (a : Act) → Doing p m o x a → posts_act a b n.0 (are_same (now_args x.work.next) args) ≡ false
+pub send_refused : (p : ProgramTree) (m : BTreeMap ℕ ObjectState) (ms : List (Pair × List Message)) (o b : ℕ) (n : NameId) (args : List Value) (x : ObjectState) (a : Act) → Doing p m o x a → posts_act a b n.0 (are_same (now_args x.work.next) args) ≡ false
     → transition p (with_objects m ms) (L.Send o b n args) ≡ None
 send_refused p m ms o b n args x a d h = send_is p m ms o b n args x a d ∙ rw h refl
 
-present : (r : Option Thing) → is_some (option_map thing_object r) ≡ is_some r
+present : (r : Option ObjectState) → is_some (option_map thing_object r) ≡ is_some r
 present None = refl
 present (Some t) = refl
 
-there : (m : BTreeMap ℕ Thing) (ms : List (Pair × List Message)) (b : ℕ) → is_some (object_of (with_objects m ms) b) ≡ is_some (get nat_cmp m b)
+there : (m : BTreeMap ℕ ObjectState) (ms : List (Pair × List Message)) (b : ℕ) → is_some (object_of (with_objects m ms) b) ≡ is_some (get nat_cmp m b)
 there m ms b = ap is_some (things_lookup b m.entries) ∙ present (get nat_cmp m b)
 
-pub send_nowhere : (p : ProgramTree) (m : BTreeMap ℕ Thing) (ms : List (Pair × List Message)) (o b : ℕ) (n : NameId) (args : List Value) (x : Thing) (a : Act) → Doing p m o x a → is_some (get nat_cmp m b) ≡ false
+pub send_nowhere : (p : ProgramTree) (m : BTreeMap ℕ ObjectState) (ms : List (Pair × List Message)) (o b : ℕ) (n : NameId) (args : List Value) (x : ObjectState) (a : Act) → Doing p m o x a → is_some (get nat_cmp m b) ≡ false
     → transition p (with_objects m ms) (L.Send o b n args) ≡ None
 send_nowhere p m ms o b n args x a d h =
     let k = both_false (posts_act a b n.0 (are_same (now_args x.work.next) args)) (is_some (object_of (with_objects m ms) b)) (there m ms b ∙ h) in
     send_is p m ms o b n args x a d ∙ rw k refl
 
-pub send_made : (p : ProgramTree) (m : BTreeMap ℕ Thing) (ms : List (Pair × List Message)) (o b : ℕ) (n : NameId) (args : List Value) (x : Thing) (a : Act) → Doing p m o x a → posts_act a b n.0 (are_same (now_args x.work.next) args) ≡ true → is_some (get nat_cmp m b) ≡ true
+pub send_made : (p : ProgramTree) (m : BTreeMap ℕ ObjectState) (ms : List (Pair × List Message)) (o b : ℕ) (n : NameId) (args : List Value) (x : ObjectState) (a : Act) → Doing p m o x a → posts_act a b n.0 (are_same (now_args x.work.next) args) ≡ true → is_some (get nat_cmp m b) ≡ true
     → transition p (with_objects m ms) (L.Send o b n args) ≡ Some (put_messages (put_object (with_objects m ms) o (changed (thing_object x) (now_args x.work.next) H.Done)) o b (messages_of (with_objects m ms) o b ++ record { method = n.0; args = args } ∷ []))
 send_made p m ms o b n args x a d h k = let j = there m ms b ∙ k in send_is p m ms o b n args x a d ∙ rw (h, j) refl
 
@@ -381,7 +381,7 @@ abbrev pub taken_by : ProgramTree → Configuration → ℕ → ℕ → NameId �
 taken_by p c b s n args y w =
     w >>= λ v. first_message v.names (messages_of c s b) >>= λ first. require (first.method == n.0 && are_same first.args args) >> (method_of p y.class n.0 (length args) >>= λ k. Some (put_messages (put_object c b (serving y k None args v.work)) s b (without_first v.names (messages_of c s b))))
 
-pub take_is : (p : ProgramTree) (m : BTreeMap ℕ Thing) (ms : List (Pair × List Message)) (b s : ℕ) (n : NameId) (args : List Value) (y : Thing) (a : Act) → Doing p m b y a
+pub take_is : (p : ProgramTree) (m : BTreeMap ℕ ObjectState) (ms : List (Pair × List Message)) (b s : ℕ) (n : NameId) (args : List Value) (y : ObjectState) (a : Act) → Doing p m b y a
     → transition p (with_objects m ms) (L.Take b s n args) ≡ taken_by p (with_objects m ms) b s n args (thing_object y) (offer_act a (now_names y.work.next) (now_choices y.work.next) n.0)
 take_is p m ms b s n args y a d =
     rw (running_doing p m ms b y a d, d.gives, offer_acted (thing_object y) (now_args y.work.next) (now_names y.work.next) (now_choices y.work.next) a n.0) refl
@@ -403,19 +403,19 @@ pub taken_some : (p : ProgramTree) (c : Configuration) (b s : ℕ) (n : NameId) 
 taken_some p c b s n args y w v f k h i j l = rw (h, i, j, l) refl
 
 -- what is shown
-pub shown_doing : (p : ProgramTree) (m : BTreeMap ℕ Thing) (ms : List (Pair × List Message)) (o : ℕ) (t : Thing) (a : Act) → Doing p m o t a
+pub shown_doing : (p : ProgramTree) (m : BTreeMap ℕ ObjectState) (ms : List (Pair × List Message)) (o : ℕ) (t : ObjectState) (a : Act) → Doing p m o t a
     → shown_at p (with_objects m ms) o ≡ shown (acted (thing_object t) (now_args t.work.next) (now_names t.work.next) (now_choices t.work.next) a)
 shown_doing p m ms o t a d =
     ap (shown_if p o) (things_lookup o m.entries ∙ ap (option_map thing_object) d.found) ∙ ap (shown_of p o (thing_object t)) d.sound ∙ ap shown d.gives
 
-pub shown_missing : (p : ProgramTree) (m : BTreeMap ℕ Thing) (ms : List (Pair × List Message)) (o : ℕ) → is_some (get nat_cmp m o) ≡ false → shown_at p (with_objects m ms) o ≡ Some R.NoObject
+pub shown_missing : (p : ProgramTree) (m : BTreeMap ℕ ObjectState) (ms : List (Pair × List Message)) (o : ℕ) → is_some (get nat_cmp m o) ≡ false → shown_at p (with_objects m ms) o ≡ Some R.NoObject
 shown_missing p m ms o h = ap (shown_if p o) (things_lookup o m.entries) ∙ by (get nat_cmp m o) h
   where
-    by : (r : Option Thing) → is_some r ≡ false → shown_if p o (option_map thing_object r) ≡ Some R.NoObject
+    by : (r : Option ObjectState) → is_some r ≡ false → shown_if p o (option_map thing_object r) ≡ Some R.NoObject
     by None j = refl
     by (Some t) j = absurd (grind arith)
 
-pub shown_faulted : (p : ProgramTree) (m : BTreeMap ℕ Thing) (ms : List (Pair × List Message)) (o : ℕ) → is_some (get nat_cmp m o) ≡ true → running (with_objects m ms) o ≡ None → shown_at p (with_objects m ms) o ≡ Some R.Faulted
+pub shown_faulted : (p : ProgramTree) (m : BTreeMap ℕ ObjectState) (ms : List (Pair × List Message)) (o : ℕ) → is_some (get nat_cmp m o) ≡ true → running (with_objects m ms) o ≡ None → shown_at p (with_objects m ms) o ≡ Some R.Faulted
 shown_faulted p m ms o h g = by (object_of (with_objects m ms) o) (there m ms o ∙ h) g
   where
     of_fault : (x : Object) (f : Option Error) → without_fault x f ≡ None → shown_of p o x f ≡ Some R.Faulted

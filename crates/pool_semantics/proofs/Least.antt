@@ -5,7 +5,7 @@ use Rattle.std.specs.declared.cmp.Ordering.{Ordering}
 use Rattle.std.specs.declared.cmp.Ordering.TheVariants.{Less, Equal, Greater}
 use Rattle.std.specs.Map.{lookup}
 use Rattle.std.specs.BTreeMap.{is_at}
-use Rattle.pool_semantics.specs.Moving.{Tells, IsLeast, lesser}
+use Rattle.pool_semantics.specs.Moving.{IsTheOne, IsLeast, lesser}
 
 -- the lesser of two
 
@@ -48,7 +48,7 @@ pub record Searched {K X : Type 0} (cmp : K → K → Ordering) (R : K → ℕ �
 pub begun : {K X : Type 0} (cmp : K → K → Ordering) (R : K → ℕ → Type 0) (es : List (K × X)) → ((k : K) (b : ℕ) → R k b → is_some (lookup (is_at (cmp k)) es) ≡ true) → Searched cmp R None es
 begun cmp R es f = record { holds = tt; left = λ k b h. inl (f k b h) }
 
-pub one_less : {K X : Type 0} (cmp : K → K → Ordering) (R : K → ℕ → Type 0) (best r : Option ℕ) (e : K × X) (es : List (K × X)) → ((k : K) → cmp k e.0 ≡ Equal → k ≡ e.0) → Tells (R e.0) r
+pub one_less : {K X : Type 0} (cmp : K → K → Ordering) (R : K → ℕ → Type 0) (best r : Option ℕ) (e : K × X) (es : List (K × X)) → ((k : K) → cmp k e.0 ≡ Equal → k ≡ e.0) → IsTheOne (R e.0) r
     → Searched cmp R best (e ∷ es) → Searched cmp R (lesser best r) es
 one_less {K = K} {X = X} cmp R best r e es same t s = record { holds = lesser_holds (λ b. (k : K) × R k b) best r s.holds (given r t.holds); left = λ k b h. by k b h (cmp k e.0) refl (s.left k b h) }
   where

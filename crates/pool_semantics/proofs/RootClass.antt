@@ -6,8 +6,8 @@ use Rattle.std.specs.FinMap.{put}
 use Rattle.pool_syntax.specs.declared.tree.ClassDecl.{ClassDecl}
 use Rattle.pool_syntax.specs.TreeOf.{class_tree}
 use Rattle.pool_relation.specs.Action.{Object}
-use Rattle.run_words.specs.Message.{Message}
-use Rattle.run_words.specs.Tables.{Pair}
+use Rattle.run_types.specs.Message.{Message}
+use Rattle.run_types.specs.Tables.{Pair}
 use Rattle.pool_relation.specs.Transition.{last_class, start, new_object}
 
 last_is : (cs : List ClassDecl) (k : ClassDecl) → slice_get cs (length cs - 1) ≡ Some k → last_class (map class_tree cs) ≡ Some (class_tree k)

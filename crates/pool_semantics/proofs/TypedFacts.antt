@@ -1,13 +1,13 @@
 -- What the stepper needs of typed configurations, from the laws of the relation on typing.
 use Rattle.std.proofs.Common.{◌≡◌, ℕ, [], Some, IsTrue}
-use Rattle.run_words.specs.declared.words.Label.{Label}
+use Rattle.run_types.specs.declared.types.Label.{Label}
 use Rattle.pool_syntax.specs.Terms.{ProgramTree}
 use Rattle.pool_syntax.specs.Typing.{faults}
 use Rattle.pool_relation.specs.Action.{Object, action}
 use Rattle.pool_relation.specs.Configuration.{Configuration, object_of}
 use Rattle.pool_relation.specs.Transition.{transition, start}
 use Rattle.pool_relation.specs.Typed.{GoesWrong}
-use Rattle.pool_relation.specs.Written.{is_written}
+use Rattle.pool_syntax.specs.Written.{is_written}
 use Rattle.pool_semantics.specs.Sound.{Sound}
 use Rattle.pool_relation.proofs.Laws.{not_wrong, typed_kept, start_typed}
 

@@ -4,4 +4,4 @@ pub mod Shown
 pub mod Sound
 pub mod PlainOf
 pub mod Moving
-pub mod Trying
+pub mod SearchQueries

@@ -2,9 +2,9 @@
 use Rattle.std.specs.Prelude.{List, map}
 use Rattle.std.specs.declared.collections.VecDeque.{VecDeque}
 use Rattle.std.specs.Global.{Global}
-use Rattle.run_words.specs.Tables.{Pair}
+use Rattle.run_types.specs.Tables.{Pair}
 use Rattle.pool_semantics.specs.declared.plain.mail.Mail.{Mail}
-use Rattle.run_words.specs.Message.{Message}
+use Rattle.run_types.specs.Message.{Message}
 
 -- a message
 abbrev pub message_of : Mail → Message

@@ -1,10 +1,10 @@
 -- What makes an object able to move: it goes on alone, answers a caller, or takes a message.
 use Rattle.std.specs.Prelude.{◌≡◌, ℕ, ◌≤◌, List, Option, Some, None, is_some, min, IfSome, IsSomeAnd, Bool, true, false, not}
 use Rattle.std.specs.List.{list_any}
-use Rattle.run_words.specs.declared.words.Value.{Value}
+use Rattle.run_types.specs.declared.types.Value.{Value}
 use Rattle.pool_syntax.specs.Terms.{ProgramTree}
-use Rattle.run_words.specs.Message.{Message}
-use Rattle.run_words.specs.Partial.{◌>>=◌, require}
+use Rattle.run_types.specs.Message.{Message}
+use Rattle.run_types.specs.Partial.{◌>>=◌, require}
 use Rattle.pool_relation.specs.Action as A
 use Rattle.pool_relation.specs.Action.{Object, Action, action}
 use Rattle.pool_relation.specs.Configuration.{Configuration, messages_of}
@@ -54,13 +54,8 @@ pub data MovesBy (p : ProgramTree) (c : Configuration) (o b : ℕ) : Type 0 wher
   alone : (x : Object) → running c o ≡ Some x → goes_alone (action p o x) ≡ true → o ≡ b → MovesBy p c o b
   answers : Answers p c o b → MovesBy p c o b
 
--- b moves: by what an object does next, or by a message
-pub data Moves (p : ProgramTree) (c : Configuration) (b : ℕ) : Type 0 where
-  by_object : (o : ℕ) → MovesBy p c o b → Moves p c b
-  by_message : (s : ℕ) → Takes p c b (messages_of c s b) → Moves p c b
-
 -- this is the one number of a kind, or there is none
-pub record Tells (P : ℕ → Type 0) (r : Option ℕ) : Type 0 where
+pub record IsTheOne (P : ℕ → Type 0) (r : Option ℕ) : Type 0 where
   pub holds : IfSome r P
   pub only : (b : ℕ) → P b → r ≡ Some b
 

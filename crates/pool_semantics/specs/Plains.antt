@@ -3,22 +3,22 @@ use Rattle.std.specs.Prelude.{◌≡◌, ℕ, map, Option, Some, None, Bool, tru
 use Rattle.std.specs.Ordering.{nat_cmp}
 use Rattle.std.specs.BTreeMap.{BTreeMap, get}
 use Rattle.pool_syntax.specs.Terms.{ProgramTree}
-use Rattle.plain_object.specs.declared.thing.Thing.{Thing}
-use Rattle.plain_object.specs.declared.act.Act.{Act}
+use Rattle.stepper_objects.specs.declared.object_state.ObjectState.{ObjectState}
+use Rattle.stepper_objects.specs.declared.act.Act.{Act}
 use Rattle.pool_semantics.specs.declared.plain.state.State.{State}
 use Rattle.pool_relation.specs.Action.{action}
 use Rattle.pool_relation.specs.Configuration.{Configuration}
-use Rattle.plain_object.specs.Acts.{acted, Suits}
-use Rattle.term_stack.specs.Arguments.{now_args, now_names, now_choices}
+use Rattle.stepper_objects.specs.Acts.{acted, Suits}
+use Rattle.stepper_terms.specs.Arguments.{now_args, now_names, now_choices}
 use Rattle.pool_semantics.specs.Mails.{message_of}
-use Rattle.plain_object.specs.Things.{thing_object, things}
+use Rattle.stepper_objects.specs.ObjectStates.{thing_object, things}
 
 -- the configuration
 abbrev pub configuration : State → Configuration
 configuration s = record { objects = things s.objects.entries; messages = map (λ e. (e.0, map message_of e.1.items)) s.messages.entries }
 
 -- the object of the name o is t, which has no fault and does this next
-pub record Doing (p : ProgramTree) (m : BTreeMap ℕ Thing) (o : ℕ) (t : Thing) (a : Act) : Type 0 where
+pub record Doing (p : ProgramTree) (m : BTreeMap ℕ ObjectState) (o : ℕ) (t : ObjectState) (a : Act) : Type 0 where
   pub found : get nat_cmp m o ≡ Some t
   pub sound : t.fault ≡ None
   pub gives : action p o (thing_object t) ≡ acted (thing_object t) (now_args t.work.next) (now_names t.work.next) (now_choices t.work.next) a

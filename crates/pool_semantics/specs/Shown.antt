@@ -1,13 +1,13 @@
 -- What a configuration shows of an object.
 use Rattle.std.specs.Prelude.{◌≡◌, ℕ, ◌-◌, ◌==◌, List, length, Option, Some, None, Bool, if◌then◌else◌}
-use Rattle.run_words.specs.declared.words.Value.{Value}
-use Rattle.run_words.specs.declared.words.Error.{Error}
+use Rattle.run_types.specs.declared.types.Value.{Value}
+use Rattle.run_types.specs.declared.types.Error.{Error}
 use Rattle.pool_syntax.specs.Terms.{ProgramTree}
 use Rattle.pool_relation.specs.Action as A
 use Rattle.pool_relation.specs.Action.{Object, Action, action}
 use Rattle.pool_relation.specs.Configuration.{Configuration, object_of}
-use Rattle.run_words.specs.declared.verdicts.Redex.{Redex}
-use Rattle.run_words.specs.declared.verdicts.Redex.TheVariants as R
+use Rattle.run_types.specs.declared.verdicts.Redex.{Redex}
+use Rattle.run_types.specs.declared.verdicts.Redex.TheVariants as R
 
 -- whether these are at most 8
 abbrev pub are_few : List Value → Bool

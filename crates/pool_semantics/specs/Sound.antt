@@ -3,7 +3,7 @@ use Rattle.std.specs.Prelude.{◌≡◌, [], IsTrue}
 use Rattle.pool_syntax.specs.Terms.{ProgramTree}
 use Rattle.pool_syntax.specs.Typing.{faults}
 use Rattle.pool_relation.specs.Configuration.{Configuration}
-use Rattle.pool_relation.specs.Written.{is_written}
+use Rattle.pool_syntax.specs.Written.{is_written}
 use Rattle.pool_relation.specs.Typed.{Typed}
 
 -- a typed configuration of a program without faults

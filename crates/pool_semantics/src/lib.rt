@@ -1,4 +1,7 @@
-//! A plain stepper of POOL's transition relation over unplaced objects.
+//! A stepper for the transition relation: makes any transition by its label, and lists the labels that a search must
+//! try.
+//!
+//! Does not know: nodes, records and the configurations that a search has visited.
 #![tactic(auto)]
 
 mod plain;

@@ -21,8 +21,8 @@ use crate::plain::objects::add;
 pub use crate::plain::state::State;
 pub use crate::plain::waits::Waiting;
 use class_check::Checked;
-use run_words::Label;
-pub use run_words::Redex;
+use run_types::Label;
+pub use run_types::Redex;
 use std::alloc::{AllocError, Global};
 use std::collections::BTreeMap;
 
@@ -63,7 +63,7 @@ pub fn agent(label: &Label) -> u32
 
 impl<'a> Plain<'a> {
     ghost use Rattle.std.specs.Prelude.{◌<◌, Some, None, Err, IfOk, IfSome, IfNone, OnOk, true};
-    ghost use Rattle.run_words.specs.declared.words.Label.{Label};
+    ghost use Rattle.run_types.specs.declared.types.Label.{Label};
     ghost use Rattle.pool_relation.specs.Action.{Object, action};
     ghost use Rattle.pool_relation.specs.Configuration.{object_of};
     ghost use Rattle.pool_semantics.specs.PlainOf.{state_of, configuration_of, program_tree, is_spent};

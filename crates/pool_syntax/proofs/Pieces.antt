@@ -1,7 +1,7 @@
 -- The pieces of a text: how many there are, and how long one may be.
 use Rattle.std.proofs.Common.{◌≤◌, List, [], ◌∷◌, length, drop, arith, ◌≡◌, ℕ, Bool, true, false, Option, Some, None, nat_le, refl}
 use Rattle.std.proofs.lemmas.List.{length-drop}
-use Rattle.run_words.specs.Text.{Text}
+use Rattle.text_scan.specs.Text.{Text}
 use Rattle.pool_syntax.specs.Tokens.{longest, IsPieces}
 use Rattle.pool_syntax.specs.declared.token.LexFault.{LexFault}
 

@@ -1,6 +1,6 @@
 -- The lists inside the code's trees are lists of the definitions' trees.
 use Rattle.std.proofs.Common.{◌≡◌, List, refl, sym, ap, ap₂, ◌∙◌, ℕ}
-use Rattle.run_words.specs.declared.words.NameId.{NameId}
+use Rattle.run_types.specs.declared.types.NameId.{NameId}
 use Rattle.pool_syntax.specs.declared.tree.Expr.{Expr, Row_of-Expr, end_of-Expr, more_of-Expr, items-the_row-Expr, items_hidden-the_row-Expr-0}
 use Rattle.pool_syntax.specs.declared.tree.Expr.TheBlock.{hidden-the_row-Expr-0}
 use Rattle.pool_syntax.specs.declared.tree.Expr.TheVariants as made

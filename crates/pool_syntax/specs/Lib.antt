@@ -1,3 +1,5 @@
+pub mod Written
+pub mod SourceParts
 pub mod Terms
 pub mod TreeOf
 pub mod Classes

@@ -2,16 +2,16 @@
 use Rattle.std.specs.Prelude.{pos, negsuc, List, [], ◌∷◌, Option, Some, None, Bool, true, false, ◌&&◌, nat_le, All, IsTrue}
 use Rattle.pool_syntax.specs.declared.token.Tok.{Tok}
 use Rattle.pool_syntax.specs.declared.token.Tok.TheVariants as tok
-use Rattle.run_words.specs.declared.words.Value.{Value}
-use Rattle.run_words.specs.declared.words.Value.TheVariants as value
-use Rattle.run_words.specs.declared.words.Kind.{Kind}
-use Rattle.run_words.specs.declared.words.Kind.TheVariants as kind
+use Rattle.run_types.specs.declared.types.Value.{Value}
+use Rattle.run_types.specs.declared.types.Value.TheVariants as value
+use Rattle.run_types.specs.declared.types.Kind.{Kind}
+use Rattle.run_types.specs.declared.types.Kind.TheVariants as kind
 use Rattle.pool_syntax.specs.declared.tree.Named.{Named}
 use Rattle.pool_syntax.specs.declared.tree.Var.{Var}
 use Rattle.pool_syntax.specs.Terms.{Expression, Literal, Me, Variable, Create, Prefix, Infix, Call, Send, Frame, Wait, Expressions, NoArgs, Arg, Statement, Assign, Write, WriteText, Do, Async, If}
 use Rattle.pool_syntax.specs.Terms.{While, Answer, Select, Serve, Statements, Done, Then, Alternatives, NoAlts, Alt, MethodTree, ProgramTree}
-use Rattle.run_words.specs.Text.{Text}
-use Rattle.run_words.specs.Keywords.{is_name, is_string_number}
+use Rattle.text_scan.specs.Text.{Text}
+use Rattle.text_scan.specs.Keywords.{is_name, is_string_number}
 
 -- a value that a literal can have: no integer below 0 or from 2 ^ 63 on, and no object's name
 abbrev pub is_literal : Value → Bool

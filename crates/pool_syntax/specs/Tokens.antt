@@ -2,8 +2,8 @@
 use Rattle.std.specs.Prelude.{◌≡◌, ℕ, zero, suc, ◌+◌, ◌-◌, ◌≤◌, Bool, true, false, ◌&&◌, ◌||◌, not, List, [], ◌∷◌, map, length, take, drop, Option, Some, None, nat_le, nat_eq, pos}
 use Rattle.std.specs.List.{AllByRecursion}
 use Rattle.pool_syntax.specs.Spelling.{sign_text}
-use Rattle.run_words.specs.Table.{with_text, name_of}
-use Rattle.run_words.specs.declared.words.NameId.{NameId}
+use Rattle.run_types.specs.Table.{with_text, name_of}
+use Rattle.run_types.specs.declared.types.NameId.{NameId}
 use Rattle.pool_syntax.specs.declared.token.Sign.{Sign}
 use Rattle.pool_syntax.specs.declared.token.Sign.TheVariants as sign
 use Rattle.pool_syntax.specs.declared.token.Tok.{Tok}
@@ -11,8 +11,8 @@ use Rattle.pool_syntax.specs.declared.token.Tok.TheVariants as tok
 use Rattle.pool_syntax.specs.declared.token.Token.{Token}
 use Rattle.pool_syntax.specs.declared.token.LexFault.{LexFault}
 use Rattle.pool_syntax.specs.declared.token.LexFault.TheVariants.{BadByte, IntegerTooLarge, OpenString, TooLong}
-use Rattle.run_words.specs.Text.{Text, lookup, is_listed, every, is_space, is_word, is_integer, is_inner, value_of_digits}
-use Rattle.run_words.specs.Keywords.{keywords}
+use Rattle.text_scan.specs.Text.{Text, lookup, is_listed, every, is_space, is_word, is_integer, is_inner, value_of_digits}
+use Rattle.text_scan.specs.Keywords.{keywords}
 
 -- the words and the signs, each behind its text
 

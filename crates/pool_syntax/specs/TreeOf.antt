@@ -1,6 +1,6 @@
 -- What the code's trees stand for.
 use Rattle.std.specs.Prelude.{List, [], ◌∷◌, map}
-use Rattle.run_words.specs.declared.words.Value.TheVariants as V
+use Rattle.run_types.specs.declared.types.Value.TheVariants as V
 use Rattle.pool_syntax.specs.declared.tree.Expr.{Expr, Int, Bool, Nil, Me, Var, New, Unary', Binary', Call', Send', Row_of-Expr, end_of-Expr, more_of-Expr}
 use Rattle.pool_syntax.specs.declared.tree.Stmt as S
 use Rattle.pool_syntax.specs.declared.tree.Stmt.{Stmt, Row_of-Stmt, Row_of-Alt, end_of-Stmt, more_of-Stmt, end_of-Alt, more_of-Alt}

@@ -1,5 +1,6 @@
-//! The language: tokens and trees of programs, and the definitions of tokens of a text and of the class faults, which every crate
-//! that reads, judges or runs programs cites.
+//! The language: tokens and trees of programs, and the definitions of tokens, class faults and written programs.
+//!
+//! Does not know: the grammar and the transition relation.
 #![tactic(auto)]
 
 mod token;

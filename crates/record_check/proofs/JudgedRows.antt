@@ -1,27 +1,26 @@
 -- The record of a call between two nodes, judged: as it was written, with one local transition too few, and without its last event.
 use Rattle.std.proofs.Common.{◌≡◌, refl, ℕ, zero, suc, ◌*◌, ◌<◌, List, [], ◌∷◌, ◌++◌, Option, Some, None, slice_get, arith}
-use Rattle.run_words.specs.declared.words.Label.TheVariants as L
-use Rattle.run_words.specs.declared.words.What.{What}
-use Rattle.run_words.specs.declared.words.What.TheVariants as W
-use Rattle.run_words.specs.declared.words.Item.TheVariants as I
-use Rattle.run_words.specs.declared.words.Event.{Event}
-use Rattle.run_words.specs.declared.words.Event.TheVariants.{Turn, Link}
-use Rattle.run_words.specs.declared.words.End.TheVariants.{Quiet}
-use Rattle.run_words.specs.declared.words.Line.{Line}
-use Rattle.run_words.specs.declared.words.Line.TheVariants as R
-use Rattle.run_words.specs.declared.words.Place.TheVariants as Pl
+use Rattle.run_types.specs.declared.types.Label.TheVariants as L
+use Rattle.run_types.specs.declared.types.What.{What}
+use Rattle.run_types.specs.declared.types.What.TheVariants as W
+use Rattle.run_types.specs.declared.types.Item.TheVariants as I
+use Rattle.run_types.specs.declared.types.Event.{Event}
+use Rattle.run_types.specs.declared.types.Event.TheVariants.{Turn, Link}
+use Rattle.run_types.specs.declared.types.End.TheVariants.{Quiet}
+use Rattle.run_types.specs.declared.types.Line.{Line}
+use Rattle.run_types.specs.declared.types.Line.TheVariants as R
+use Rattle.run_types.specs.declared.types.Place.TheVariants as Pl
 use Rattle.pool_relation.specs.Configuration.{Configuration}
 use Rattle.pool_relation.specs.Transition.{run, start, transition}
 use Rattle.mesh_semantics.specs.Act.{id}
-use Rattle.run_words.specs.Asks.{asks}
+use Rattle.run_types.specs.Asks.{asks}
 use Rattle.mesh_semantics.specs.FitFor.{FitFor}
 use Rattle.mesh_semantics.specs.Record.{labels}
-use Rattle.run_words.proofs.Laws.{plain_ways}
-use Rattle.placed_terms.specs.Terms.{terms}
-use Rattle.placed_terms.proofs.Words.{turns, int, at, step, local, written, lines, numbered}
-use Rattle.placed_terms.proofs.TwoNodes.{Server, twice, program, placement}
-use Rattle.record_check.specs.Judged.{IsRunOf, StopsAt, StillMoves}
-use Rattle.record_check.proofs.Written.{is_run}
+use Rattle.run_types.proofs.Laws.{plain_ways}
+use Rattle.mesh_of_terms.specs.Terms.{terms}
+use Rattle.mesh_of_terms.proofs.Laws.{turns, int, at, step, local, written, lines, numbered, Server, two_nodes_twice as twice, two_nodes_program as program, two_nodes_placement as placement}
+use Rattle.record_check.specs.RecordJudgement.{IsRunOf, StopsAt, StillMoves}
+use Rattle.record_check.proofs.RecordIsRun.{is_run}
 
 abbrev schedule : List Event
 schedule = Turn 0 ∷ Link 0 1 ∷ Link 1 0 ∷ turns 0 2 ++ Link 0 1 ∷ Turn 0 ∷ turns 1 3 ++ Link 1 0 ∷ Turn 0 ∷ []

@@ -1,6 +1,6 @@
-pub mod Ending
-pub mod Leading
-pub mod Lone
+pub mod EndVerdict
+pub mod RunExtension
+pub mod LoneObject
 pub mod OneVerdict
-pub mod Written
+pub mod RecordIsRun
 mod JudgedRows

@@ -1,23 +1,22 @@
 -- Lines have one verdict: a record that is a run has yes alone, the first label that is not possible is one, and the least object that moves is one.
 use Rattle.std.proofs.Common.{◌≡◌, refl, sym, ap, ap₂, subst, ◌∙◌, ℕ, zero, suc, ◌<◌, List, [], ◌∷◌, ◌++◌, replicate, Some, None, append_assoc, arith}
 use Rattle.pool_syntax.specs.Terms.{ProgramTree}
-use Rattle.run_words.specs.declared.words.Label.{Label}
-use Rattle.run_words.specs.declared.words.Line.{Line}
-use Rattle.run_words.specs.declared.words.Line.TheVariants as R
-use Rattle.run_words.specs.declared.words.What.TheVariants as W
+use Rattle.run_types.specs.declared.types.Label.{Label}
+use Rattle.run_types.specs.declared.types.Line.{Line}
+use Rattle.run_types.specs.declared.types.Line.TheVariants as R
+use Rattle.run_types.specs.declared.types.What.TheVariants as W
 use Rattle.pool_relation.specs.Configuration.{Configuration}
 use Rattle.pool_relation.specs.Progress.{agent, HasOwnTransition}
 use Rattle.pool_relation.specs.Transition.{transition, run, start}
 use Rattle.pool_relation.proofs.Laws.{joined}
-use Rattle.run_words.specs.Partial.{◌>>=◌}
+use Rattle.run_types.specs.Partial.{◌>>=◌}
 use Rattle.mesh_semantics.specs.Record.{labels, labels_of}
-use Rattle.run_words.proofs.Laws.{same_some}
+use Rattle.run_types.proofs.Laws.{same_some}
 use Rattle.pool_semantics.specs.Shown.{Shows, shown_at}
-use Rattle.run_words.specs.declared.verdicts.Redex.{Redex}
-use Rattle.run_words.specs.declared.verdicts.Verdict.{Verdict}
-use Rattle.run_words.specs.declared.verdicts.Verdict.TheVariants as V
-use Rattle.record_check.specs.Judged.{root, IsRunOf, LeadsTo, StopsAt, StillMoves}
-use Rattle.record_check.specs.Verdicts.{Judged}
+use Rattle.run_types.specs.declared.verdicts.Redex.{Redex}
+use Rattle.run_types.specs.declared.verdicts.Verdict.{Verdict}
+use Rattle.run_types.specs.declared.verdicts.Verdict.TheVariants as V
+use Rattle.record_check.specs.RecordJudgement.{root, IsRunOf, LeadsTo, StopsAt, StillMoves, Judged}
 
 labels_split : (xs ys : List Line) → labels (xs ++ ys) ≡ labels xs ++ labels ys
 labels_split [] ys = refl

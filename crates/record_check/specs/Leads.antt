@@ -1,15 +1,15 @@
 -- Where the labels of a record lead a stepper.
 use Rattle.std.specs.Prelude.{◌≡◌, List, false}
 use Rattle.pool_syntax.specs.Terms.{ProgramTree}
-use Rattle.run_words.specs.declared.words.Label.{Label}
-use Rattle.run_words.specs.declared.words.Line.{Line}
+use Rattle.run_types.specs.declared.types.Label.{Label}
+use Rattle.run_types.specs.declared.types.Line.{Line}
 use Rattle.pool_relation.specs.Configuration.{Configuration}
 use Rattle.pool_relation.specs.Progress.{agent}
 use Rattle.pool_semantics.specs.PlainOf.{configuration_of, program_tree, is_spent}
 use Rattle.pool_semantics.specs.Shown.{Shows}
 use Rattle.record_check.specs.declared.labels.Followed.{Followed}
 use Rattle.record_check.specs.declared.labels.Followed.TheVariants as F
-use Rattle.record_check.specs.Judged.{LeadsTo, StopsAt}
+use Rattle.record_check.specs.RecordJudgement.{LeadsTo, StopsAt}
 
 -- to a line that stops, or to the end, where the stepper stands for the last configuration and is not spent
 abbrev pub Leads : ProgramTree → List Line → Followed → Type 0

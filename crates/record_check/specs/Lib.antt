@@ -1,4 +1,4 @@
-pub mod Judged
+pub mod RecordJudgement
 pub mod Leads
 pub mod Verdicts
 pub mod VerdictText

@@ -1,11 +1,11 @@
 -- The text of a verdict, with the words that the lines of records have for names, values and language errors.
 use Rattle.std.specs.Prelude.{◌++◌, List, [], ◌∷◌, codes, decimal, map}
-use Rattle.run_words.specs.Text.{Text}
-use Rattle.run_words.specs.declared.verdicts.Redex.{Redex}
-use Rattle.run_words.specs.declared.verdicts.Redex.TheVariants as R
-use Rattle.record_lines.specs.RecordText.{error_text, item_text, joined, object_text, text_at, value_text}
-use Rattle.run_words.specs.declared.verdicts.Verdict.{Verdict}
-use Rattle.run_words.specs.declared.verdicts.Verdict.TheVariants as V
+use Rattle.text_scan.specs.Text.{Text}
+use Rattle.run_types.specs.declared.verdicts.Redex.{Redex}
+use Rattle.run_types.specs.declared.verdicts.Redex.TheVariants as R
+use Rattle.record_writer.specs.RecordText.{error_text, item_text, joined, object_text, text_at, value_text}
+use Rattle.run_types.specs.declared.verdicts.Verdict.{Verdict}
+use Rattle.run_types.specs.declared.verdicts.Verdict.TheVariants as V
 
 -- what an object is at
 abbrev pub redex_words : List Text → Redex → List Text

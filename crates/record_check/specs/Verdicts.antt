@@ -1,20 +1,17 @@
--- What a judge of a record answers, and how far the lines of a record lead.
+-- How far the lines of a record lead.
 use Rattle.std.specs.Prelude.{◌≡◌, ℕ, ◌<◌, List, ◌∷◌, ◌++◌, replicate, Some, None}
 use Rattle.pool_syntax.specs.Terms.{ProgramTree}
-use Rattle.run_words.specs.declared.words.Label.{Label}
-use Rattle.run_words.specs.declared.words.What.TheVariants as W
-use Rattle.run_words.specs.declared.words.Event.{Event}
-use Rattle.run_words.specs.declared.words.Line.{Line}
-use Rattle.run_words.specs.declared.words.Line.TheVariants as R
+use Rattle.run_types.specs.declared.types.Label.{Label}
+use Rattle.run_types.specs.declared.types.What.TheVariants as W
+use Rattle.run_types.specs.declared.types.Event.{Event}
+use Rattle.run_types.specs.declared.types.Line.{Line}
+use Rattle.run_types.specs.declared.types.Line.TheVariants as R
 use Rattle.pool_relation.specs.Configuration.{Configuration}
 use Rattle.pool_relation.specs.Progress.{agent}
 use Rattle.pool_relation.specs.Transition.{transition, run}
 use Rattle.mesh_semantics.specs.Record.{labels}
 use Rattle.pool_semantics.specs.Shown.{Shows}
-use Rattle.run_words.specs.declared.verdicts.Redex.{Redex}
-use Rattle.run_words.specs.declared.verdicts.Verdict.{Verdict}
-use Rattle.run_words.specs.declared.verdicts.Verdict.TheVariants as V
-use Rattle.record_check.specs.Judged.{IsRunOf, StopsAt, StillMoves}
+use Rattle.run_types.specs.declared.verdicts.Redex.{Redex}
 
 -- fewer transitions of the label than so many lead from c to d, where it is not possible, and its object is at this
 pub record StopsAfter (p : ProgramTree) (c : Configuration) (lab : Label) (times : ℕ) (d : Configuration) (redex : Redex) : Type 0 where
@@ -41,9 +38,3 @@ pub record StopsIn (p : ProgramTree) (c : Configuration) (ls : List Line) (numbe
   pub between : Configuration
   pub leads : run p c (labels before) ≡ Some between
   pub stops : StopsLine p between line number d redex
-
--- a verdict says what the record is
-abbrev pub Judged : ProgramTree → List Line → Verdict → Type 0
-Judged p ls V.Yes = IsRunOf p ls
-Judged p ls (V.No number redex) = (d : Configuration) × (lab : Label) × StopsAt p ls number d lab × Shows p d (agent lab) redex
-Judged p ls (V.Moving o) = StillMoves p ls o

@@ -1,21 +1,21 @@
 //! Judges the labels of a record, from the start of its root.
 ghost use Rattle.std.specs.Prelude.{◌≡◌, ◌++◌, List, [], Some, IfOk, IfSome, IfNone};
 ghost use Rattle.pool_syntax.specs.TreeOf.{program_of};
-ghost use Rattle.run_words.specs.declared.words.Label.{Label};
+ghost use Rattle.run_types.specs.declared.types.Label.{Label};
 ghost use Rattle.mesh_semantics.specs.Record.{ends_quiet, is_quiet_end, labels, labels_of};
-ghost use Rattle.record_check.specs.Judged.{first_agent, root};
+ghost use Rattle.record_check.specs.RecordJudgement.{first_agent, root};
 ghost use Rattle.record_check.specs.Leads.{Leads};
 
-use crate::lead::{Stop, follow};
+use crate::lead::{Mismatch, follow};
 use class_check::Checked;
 use pool_semantics::{Plain, agent};
-use run_words::{End, Line, What};
+use run_types::{End, Line, What};
 use std::alloc::{AllocError, Global};
 
 /// Where the labels of a record lead: to a line that stops, or to the end.
 #[derive(Drop)]
 pub enum Followed<'a> {
-    Stopped(Stop),
+    Stopped(Mismatch),
     Led(Plain<'a>),
 }
 

@@ -6,18 +6,18 @@ ghost use Rattle.pool_semantics.specs.PlainOf.{configuration_of, program_tree, i
 ghost use Rattle.record_check.specs.Verdicts.{StopsAfter, StopsIn, StopsLine};
 
 use pool_semantics::{Plain, Refuse};
-use run_words::{Label, Line, Redex, What};
+use run_types::{Label, Line, Redex, What};
 use std::alloc::AllocError;
 
 /// A line that shows a transition that is not possible, and what its object is at.
 #[derive(Clone, Copy)]
-pub struct Stop {
+pub struct Mismatch {
     pub number: u32,
     pub redex: Redex,
 }
 
 /// Makes the label's transition so often; the redex where one is not possible.
-#[tactic(auto, using(crate::proofs::Leading::one_more))]
+#[tactic(auto, using(crate::proofs::RunExtension::one_more))]
 fn make_times(plain: &mut Plain<'_>, label: &Label, times: u32) -> Result<Option<Redex>, AllocError>
     ensures program { program_tree plain.new ≡ program_tree plain.old }
     ensures going_on { IfOk result (λ _. is_spent plain.old ≡ false → is_spent plain.new ≡ false) }
@@ -35,7 +35,7 @@ fn make_times(plain: &mut Plain<'_>, label: &Label, times: u32) -> Result<Option
 }
 
 /// Makes the transitions that a line shows, up to the first that is not possible.
-fn follow_line(plain: &mut Plain<'_>, line: &Line) -> Result<Option<Stop>, AllocError>
+fn follow_line(plain: &mut Plain<'_>, line: &Line) -> Result<Option<Mismatch>, AllocError>
     ensures program { program_tree plain.new ≡ program_tree plain.old }
     ensures going_on { IfOk result (λ _. is_spent plain.old ≡ false → is_spent plain.new ≡ false) }
     ensures leads { IfOk result (λ r. IfNone r (run (program_tree plain.old) (configuration_of plain.old) (labels_of line.now) ≡ Some (configuration_of plain.new))) }
@@ -48,7 +48,7 @@ fn follow_line(plain: &mut Plain<'_>, line: &Line) -> Result<Option<Stop>, Alloc
             ..
         } => match make_times(plain, label, *times) {
             Ok(None) => Ok(None),
-            Ok(Some(redex)) => Ok(Some(Stop {
+            Ok(Some(redex)) => Ok(Some(Mismatch {
                 number: *number,
                 redex,
             })),
@@ -59,7 +59,7 @@ fn follow_line(plain: &mut Plain<'_>, line: &Line) -> Result<Option<Stop>, Alloc
 }
 
 /// Makes the transitions that the lines show, up to the first that is not possible.
-pub fn follow(plain: &mut Plain<'_>, lines: &[Line]) -> Result<Option<Stop>, AllocError>
+pub fn follow(plain: &mut Plain<'_>, lines: &[Line]) -> Result<Option<Mismatch>, AllocError>
     ensures program { program_tree plain.new ≡ program_tree plain.old }
     ensures going_on { IfOk result (λ _. is_spent plain.old ≡ false → is_spent plain.new ≡ false) }
     ensures leads { IfOk result (λ r. IfNone r (run (program_tree plain.old) (configuration_of plain.old) (labels lines.now) ≡ Some (configuration_of plain.new))) }

@@ -1,4 +1,6 @@
-//! Judges a record: whether it is a run of a program, and the line that tells so.
+//! Judges with the stepper whether a record is a run of its program, and gives the line of the verdict.
+//!
+//! Does not know: files, object code, and how nodes and their machine are implemented.
 #![tactic(auto)]
 
 mod labels;

@@ -1,12 +1,12 @@
 //! A verdict as a line.
 ghost use Rattle.std.specs.Prelude.{◌≡◌, [], ◌∷◌, ◌++◌, IfOk, OnOk, codes, map};
-ghost use Rattle.record_lines.specs.RecordText.{led, object_text, text_at, value_text};
+ghost use Rattle.record_writer.specs.RecordText.{led, object_text, text_at, value_text};
 ghost use Rattle.record_check.specs.VerdictText.{redex_words, verdict_text, verdict_words};
 
-use record_lines::{
+use record_writer::{
     push_args, push_error, push_item, push_name, push_number, push_object, push_value, push_word,
 };
-use run_words::{Args, NameId, Names, Redex, Verdict};
+use run_types::{Args, NameId, Names, Redex, Verdict};
 use std::alloc::{AllocError, Global};
 
 /// Puts a message: its word, the receiver, the method and the arguments.

@@ -1,29 +1,29 @@
 //! Laws of judged records: each is the contract of a function that does nothing.
 ghost use Rattle.std.specs.Prelude.{◌≡◌, ℕ, List, [], Some, IsTrue, true};
-ghost use Rattle.run_words.specs.Table.{is_distinct};
-ghost use Rattle.run_words.specs.Text.{Text};
+ghost use Rattle.run_types.specs.Table.{is_distinct};
+ghost use Rattle.text_scan.specs.Text.{Text};
 ghost use Rattle.pool_syntax.specs.Terms.{ProgramTree};
 ghost use Rattle.pool_syntax.specs.Typing.{faults};
-ghost use Rattle.run_words.specs.declared.words.Event.{Event};
-ghost use Rattle.run_words.specs.declared.words.Line.{Line};
-ghost use Rattle.run_words.specs.declared.words.Placement.{Placement};
+ghost use Rattle.run_types.specs.declared.types.Event.{Event};
+ghost use Rattle.run_types.specs.declared.types.Line.{Line};
+ghost use Rattle.run_types.specs.declared.types.Placement.{Placement};
 ghost use Rattle.pool_relation.specs.Action.{Object};
 ghost use Rattle.pool_relation.specs.Configuration.{Configuration};
 ghost use Rattle.pool_relation.specs.Transition.{start};
-ghost use Rattle.pool_relation.specs.Written.{is_written};
+ghost use Rattle.pool_syntax.specs.Written.{is_written};
 ghost use Rattle.mesh_semantics.specs.Delay.{Delay};
 ghost use Rattle.mesh_semantics.specs.FitFor.{FitFor};
-ghost use Rattle.mesh_semantics.specs.Record.{Record, record_of, record_on_wires, root_name};
-ghost use Rattle.placed_terms.specs.RunOf.{IsRunFrom};
-ghost use Rattle.placed_terms.specs.Terms.{terms};
-ghost use Rattle.record_lines.specs.SecondForm.{text2};
+ghost use Rattle.mesh_semantics.specs.Record.{Record, root_name};
+ghost use Rattle.mesh_semantics.specs.RecordOf.{record_of, record_on_wires};
+ghost use Rattle.mesh_of_terms.specs.RunOf.{IsRunFrom};
+ghost use Rattle.mesh_of_terms.specs.Terms.{terms};
+ghost use Rattle.record_writer.specs.SecondForm.{text2};
 ghost use Rattle.run_record.specs.Numbered.{lines_after};
 ghost use Rattle.run_record.specs.Records.{record_of as read_of};
 ghost use Rattle.run_record.specs.Readable.{IsRecord};
-ghost use Rattle.run_words.specs.declared.verdicts.Verdict.{Verdict as Verdicts};
-ghost use Rattle.run_words.specs.declared.verdicts.Verdict.TheVariants.{Yes};
-ghost use Rattle.record_check.specs.Judged.{IsRunOf};
-ghost use Rattle.record_check.specs.Verdicts.{Judged};
+ghost use Rattle.run_types.specs.declared.verdicts.Verdict.{Verdict as Verdicts};
+ghost use Rattle.run_types.specs.declared.verdicts.Verdict.TheVariants.{Yes};
+ghost use Rattle.record_check.specs.RecordJudgement.{IsRunOf, Judged};
 
 /// The record of a program without faults on any mesh, with or without wires, is a run of the program, told by its lines alone.
 pub fn a_written_record_is_a_run()

@@ -2,13 +2,12 @@
 ghost use Rattle.std.specs.Prelude.{◌≡◌, IfOk, false};
 ghost use Rattle.pool_syntax.specs.TreeOf.{program_of};
 ghost use Rattle.pool_semantics.specs.PlainOf.{configuration_of, program_tree, is_spent};
-ghost use Rattle.record_check.specs.Judged.{LeadsTo};
-ghost use Rattle.record_check.specs.Verdicts.{Judged};
+ghost use Rattle.record_check.specs.RecordJudgement.{LeadsTo, Judged};
 
 use crate::labels::{Followed, is_quiet, judge_labels};
 use class_check::Checked;
 use pool_semantics::Plain;
-use run_words::{Line, List, Verdict};
+use run_types::{Line, List, Verdict};
 use std::alloc::{AllocError, Global};
 
 /// The verdict where all labels are possible and lead here.

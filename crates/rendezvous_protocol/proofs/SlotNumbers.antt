@@ -9,7 +9,7 @@ use Rattle.std.proofs.lemmas.List.Folds.{sum_by-replicate}
 use Rattle.slab.specs.Slab.{Slab, get, slab_len, Updates}
 use Rattle.rendezvous_protocol.specs.Numbers.{is_number}
 use Rattle.rendezvous_protocol.specs.Outstanding.{AreOut}
-use Rattle.rendezvous_protocol.proofs.Places.{same_some, at_same, at_other, in_row, found, place_of}
+use Rattle.rendezvous_protocol.proofs.ListUpdate.{same_some, at_same, at_other, in_row, found, place_of}
 
 -- the count after a value was put
 counted : (xs : List (Option ℕ)) (i : ℕ) (x y : Option ℕ) → slice_get xs i ≡ Some x

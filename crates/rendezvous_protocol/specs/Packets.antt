@@ -1,7 +1,7 @@
 -- What a packet says, with the number of its request.
 use Rattle.std.specs.Prelude.{Some, None}
 use Rattle.mesh_semantics.specs.Delay as D
-use Rattle.mesh_semantics.specs.Delay.{NumberedPacket}
+use Rattle.mesh_semantics.specs.NumberedPackets.{NumberedPacket}
 use Rattle.rendezvous_protocol.specs.declared.packet.Packet.{Packet}
 use Rattle.rendezvous_protocol.specs.declared.packet.Packet.TheVariants as P
 

@@ -1,4 +1,6 @@
-//! The packets that nodes send to one another, and the numbers of the requests that are out.
+//! The packets between nodes, and the number of each slot's outstanding request.
+//!
+//! Does not know: how packets travel.
 #![tactic(auto)]
 
 mod outstanding;

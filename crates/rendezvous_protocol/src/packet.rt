@@ -3,7 +3,7 @@ ghost use Rattle.std.specs.Prelude.{◌≡◌};
 ghost use Rattle.mesh_semantics.specs.Act.{goal_node};
 ghost use Rattle.rendezvous_protocol.specs.Packets.{numbered};
 
-use run_words::{Args, NameId, Value, node_of};
+use run_types::{Args, NameId, Value, node_of};
 
 /// A packet. `from` and `to` are names of objects, and `number` is that of the request that the packet belongs to,
 /// as the requester's node gave it out; an asynchronous message belongs to none.

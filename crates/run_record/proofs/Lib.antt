@@ -1,7 +1,17 @@
-pub mod Carried
-pub mod Fitting
+pub mod WordSplit
+pub mod DecimalRoundTrip
+pub mod ObjectNameRoundTrip
+pub mod ValueRoundTrip
+pub mod TextRoundTrip
+pub mod ShownRoundTrip
+pub mod LineRoundTrip
+pub mod SecondFormRoundTrip
+pub mod NameRoundTrip
+pub mod LineOrder
+pub mod RequestSuffix
+pub mod ReadIsReadable
 pub mod Laws
-pub mod Rows
+pub mod ParsedLines
 mod WireRows
-pub mod Asking
+pub mod LineRequests
 pub mod Places

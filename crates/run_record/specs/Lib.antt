@@ -1,7 +1,9 @@
+pub mod Converted
 pub mod Numbered
+pub mod ReaderFacts
 pub mod Readable
 pub mod Records
-pub mod RowBy
+pub mod ParsedLines
 pub mod Steps
 pub mod Posts
 pub mod Table

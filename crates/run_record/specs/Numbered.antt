@@ -1,19 +1,17 @@
 -- A record's lines with the numbers of their names in a table, and the table with these names.
-use Rattle.std.specs.Prelude.{◌≡◌, List, [], ◌∷◌, ◌++◌, Option, Some, None}
-use Rattle.run_words.specs.Table.{name_of, with_text}
-use Rattle.run_words.specs.Text.{Text}
-use Rattle.run_words.specs.declared.words.NameId.{NameId}
-use Rattle.run_words.specs.declared.words.Item.{Item}
-use Rattle.run_words.specs.declared.words.Item.TheVariants as I
-use Rattle.run_words.specs.declared.words.Label.{Label}
-use Rattle.run_words.specs.declared.words.Label.TheVariants as L
-use Rattle.run_words.specs.declared.words.What.{What}
-use Rattle.run_words.specs.declared.words.What.TheVariants as W
-use Rattle.run_words.specs.declared.words.Line.{Line}
-use Rattle.run_words.specs.declared.words.Line.TheVariants as R
-use Rattle.run_record.specs.declared.fault.RecordFault.{RecordFault}
-use Rattle.run_record.specs.declared.fault.RecordFault.TheVariants as fault
-use Rattle.line_reader.specs.Lines.{Told}
+use Rattle.std.specs.Prelude.{List, [], ◌∷◌, Option, Some, None}
+use Rattle.run_types.specs.Table.{name_of, with_text}
+use Rattle.text_scan.specs.Text.{Text}
+use Rattle.run_types.specs.declared.types.NameId.{NameId}
+use Rattle.run_types.specs.declared.types.Item.{Item}
+use Rattle.run_types.specs.declared.types.Item.TheVariants as I
+use Rattle.run_types.specs.declared.types.Label.{Label}
+use Rattle.run_types.specs.declared.types.Label.TheVariants as L
+use Rattle.run_types.specs.declared.types.What.{What}
+use Rattle.run_types.specs.declared.types.What.TheVariants as W
+use Rattle.run_types.specs.declared.types.Line.{Line}
+use Rattle.run_types.specs.declared.types.Line.TheVariants as R
+use Rattle.record_parser.specs.Lines.{Told}
 
 -- the same with this number of its name, if it has one
 abbrev pub item_with : NameId → Item → Item
@@ -70,24 +68,3 @@ names_after names (t ∷ ts) = names_after (with_name names t.text) ts
 abbrev pub lines_after : List Text → List Told → List Line
 lines_after names [] = []
 lines_after names (t ∷ ts) = numbered names t ∷ lines_after (with_name names t.text) ts
-
--- The fault is this one, unless memory ran out.
-abbrev pub IsTold : RecordFault → Option RecordFault → Type 0
-IsTold (fault.BadLine line) told = told ≡ Some (fault.BadLine line)
-IsTold (fault.OutOfOrder line) told = told ≡ Some (fault.OutOfOrder line)
-IsTold (fault.WrongAsk line) told = told ≡ Some (fault.WrongAsk line)
-IsTold fault.Memory told = Unit {0}
-
--- the texts of a front of these lines went into the table
-pub record HasFront (new old : List Text) (told : List Told) : Type 0 where
-  pub before : List Told
-  pub behind : List Told
-  pub all : before ++ behind ≡ told
-  pub table : new ≡ names_after old before
-
--- The texts of these lines went into the table, or, where memory ran out, of a front of them.
-abbrev pub IsTable : RecordFault → List Text → List Text → List Told → Type 0
-IsTable (fault.BadLine line) new old told = new ≡ names_after old told
-IsTable (fault.OutOfOrder line) new old told = new ≡ names_after old told
-IsTable (fault.WrongAsk line) new old told = new ≡ names_after old told
-IsTable fault.Memory new old told = HasFront new old told

@@ -3,8 +3,8 @@ use Rattle.std.specs.Prelude.{◌≡◌, ℕ, List}
 use Rattle.std.specs.Option.{unwrap_or}
 use Rattle.std.specs.Ordering.{nat_cmp}
 use Rattle.std.specs.BTreeMap.{get}
-use Rattle.run_words.specs.declared.words.Line.{Line}
-use Rattle.run_words.specs.Asks.{latest_post}
+use Rattle.run_types.specs.declared.types.Line.{Line}
+use Rattle.run_types.specs.Asks.{latest_post}
 use Rattle.run_record.specs.declared.posts.Posts.{Posts}
 
 -- these are the posts of lines of which the latest is the first

@@ -1,24 +1,24 @@
 -- Lines whose text is read back: their numbers, names, strings and values are within the ranges of the format, and they stand in the order of a record.
 use Rattle.std.specs.Prelude.{◌≡◌, ℕ, ◌+◌, ◌<◌, ◌≤◌, List, [], ◌∷◌, length, true}
-use Rattle.run_words.specs.Text.{Text, every, is_inner}
-use Rattle.run_words.specs.Values.{is_in_range}
-use Rattle.run_words.specs.declared.words.NameId.{NameId}
-use Rattle.run_words.specs.declared.words.Value.{Value}
-use Rattle.run_words.specs.declared.words.Value.TheVariants as V
-use Rattle.run_words.specs.declared.words.Item.{Item}
-use Rattle.run_words.specs.declared.words.Item.TheVariants as I
-use Rattle.run_words.specs.declared.words.Label.{Label}
-use Rattle.run_words.specs.declared.words.Label.TheVariants as L
-use Rattle.run_words.specs.declared.words.What.{What}
-use Rattle.run_words.specs.declared.words.What.TheVariants as W
-use Rattle.run_words.specs.declared.words.Event.{Event}
-use Rattle.run_words.specs.declared.words.Event.TheVariants as E
-use Rattle.run_words.specs.declared.words.End.{End}
-use Rattle.run_words.specs.declared.words.End.TheVariants as F
-use Rattle.run_words.specs.declared.words.Line.{Line}
-use Rattle.run_words.specs.declared.words.Line.TheVariants as R
-use Rattle.record_lines.specs.RecordText.{text_at}
-use Rattle.line_reader.specs.Fields.{is_name}
+use Rattle.text_scan.specs.Text.{Text, every, is_inner}
+use Rattle.run_types.specs.Values.{is_in_range}
+use Rattle.run_types.specs.declared.types.NameId.{NameId}
+use Rattle.run_types.specs.declared.types.Value.{Value}
+use Rattle.run_types.specs.declared.types.Value.TheVariants as V
+use Rattle.run_types.specs.declared.types.Item.{Item}
+use Rattle.run_types.specs.declared.types.Item.TheVariants as I
+use Rattle.run_types.specs.declared.types.Label.{Label}
+use Rattle.run_types.specs.declared.types.Label.TheVariants as L
+use Rattle.run_types.specs.declared.types.What.{What}
+use Rattle.run_types.specs.declared.types.What.TheVariants as W
+use Rattle.run_types.specs.declared.types.Event.{Event}
+use Rattle.run_types.specs.declared.types.Event.TheVariants as E
+use Rattle.run_types.specs.declared.types.End.{End}
+use Rattle.run_types.specs.declared.types.End.TheVariants as F
+use Rattle.run_types.specs.declared.types.Line.{Line}
+use Rattle.run_types.specs.declared.types.Line.TheVariants as R
+use Rattle.record_writer.specs.RecordText.{text_at}
+use Rattle.record_parser.specs.Fields.{is_name}
 use Rattle.run_record.specs.Records.{done_of}
 
 -- a number of 32 bits: a count, a node, or the number of an object's name

@@ -1,20 +1,20 @@
 -- What a record's text says, in either form: its lines, each with the text of its name, and the first fault.
 use Rattle.std.specs.Prelude.{ℕ, ◌+◌, List, [], ◌∷◌, Option, Some, None, Bool, true, false, ◌&&◌, not, nat_eq, nat_le, bytes_eq, codes}
-use Rattle.run_words.specs.Text.{Text}
-use Rattle.run_words.specs.declared.words.End.{End}
-use Rattle.run_words.specs.declared.words.End.TheVariants as F
-use Rattle.run_words.specs.declared.words.Line.{Line}
-use Rattle.run_words.specs.declared.words.Line.TheVariants as R
-use Rattle.run_words.specs.Asks.{request_number_of, is_asked}
-use Rattle.record_lines.specs.SecondForm.{form_text}
-use Rattle.line_reader.specs.Fields.{count_of, fields, parts}
-use Rattle.run_words.specs.Partial.{only_if, ◌>>=◌}
-use Rattle.line_reader.specs.Lines.{Told, line_of}
+use Rattle.text_scan.specs.Text.{Text}
+use Rattle.run_types.specs.declared.types.End.{End}
+use Rattle.run_types.specs.declared.types.End.TheVariants as F
+use Rattle.run_types.specs.declared.types.Line.{Line}
+use Rattle.run_types.specs.declared.types.Line.TheVariants as R
+use Rattle.run_types.specs.Asks.{request_number_of, is_asked}
+use Rattle.record_writer.specs.SecondForm.{form_text}
+use Rattle.record_parser.specs.Fields.{count_of, fields, parts}
+use Rattle.run_types.specs.Partial.{only_if, ◌>>=◌}
+use Rattle.record_parser.specs.Lines.{Told, line_of}
 use Rattle.std.specs.Option.{option_or}
 use Rattle.run_record.specs.declared.fault.RecordFault.{RecordFault}
 use Rattle.run_record.specs.declared.fault.RecordFault.TheVariants as fault
-use Rattle.run_record.specs.declared.row.Form.{Form}
-use Rattle.run_record.specs.declared.row.Form.TheVariants as form
+use Rattle.run_record.specs.declared.parsed_line.RecordVersion.{RecordVersion}
+use Rattle.run_record.specs.declared.parsed_line.RecordVersion.TheVariants as form
 
 -- a line with the request number that it carries, if it carries one
 pub record Row : Type 0 where
@@ -43,7 +43,7 @@ asked_for n t = only_if (is_asked t.line) (Some (record { told = t; ask = Some n
 abbrev pub second_of : List Text → Option Row
 second_of ws = option_or (line_of ws >>= unasked) (asked_by ws >>= λ r. line_of r.0 >>= asked_for r.1)
 
-abbrev pub row_of : Form → List Text → Option Row
+abbrev pub row_of : RecordVersion → List Text → Option Row
 row_of form.First ws = line_of ws >>= unnumbered
 row_of form.Second ws = second_of ws
 
@@ -106,7 +106,7 @@ row_then None next = record { told = []; fault = None }
 row_then (Some r) next = with_told r.told (next r)
 
 -- the rest of the rows behind these lines, of which the latest is the first: after so many lines of the text, the last event's number, and whether the end has come
-abbrev pub rows : Form → List Line → ℕ → ℕ → Bool → List Text → Rows
+abbrev pub rows : RecordVersion → List Line → ℕ → ℕ → Bool → List Text → Rows
 rows f earlier seen last ended [] = refused (fault.BadLine (seen + 1))
 rows f earlier seen last ended (p ∷ []) = tail_row seen ended p
 rows f earlier seen last ended (p ∷ q ∷ ps) =

@@ -1,9 +1,9 @@
 -- The transitions that a line shows.
 use Rattle.std.specs.Prelude.{Option, Some, None}
-use Rattle.run_words.specs.declared.words.What.{What}
-use Rattle.run_words.specs.declared.words.What.TheVariants as W
-use Rattle.run_words.specs.declared.words.Line.{Line}
-use Rattle.run_words.specs.declared.words.Line.TheVariants as R
+use Rattle.run_types.specs.declared.types.What.{What}
+use Rattle.run_types.specs.declared.types.What.TheVariants as W
+use Rattle.run_types.specs.declared.types.Line.{Line}
+use Rattle.run_types.specs.declared.types.Line.TheVariants as R
 use Rattle.run_record.specs.declared.steps.Steps.{Steps}
 
 -- None where a packet leaves, goes on or arrives, where an object hears of another or of its result, and where nothing was ready

@@ -1,8 +1,8 @@
 -- What a table keeps of the lines so far: for each of its objects the number of its latest post.
 use Rattle.std.specs.Prelude.{◌≡◌, ℕ, ◌+◌, ◌*◌, ◌/◌, ◌%◌, ◌<◌, List, get_or, Some, Bool, true, false}
-use Rattle.run_words.specs.declared.words.Line.{Line}
-use Rattle.run_words.specs.declared.words.Line.TheVariants as R
-use Rattle.run_words.specs.Asks.{asker, latest_post, is_post_of}
+use Rattle.run_types.specs.declared.types.Line.{Line}
+use Rattle.run_types.specs.declared.types.Line.TheVariants as R
+use Rattle.run_types.specs.Asks.{asker, latest_post, is_post_of}
 use Rattle.run_record.specs.declared.asks.Asks.{Asks}
 
 -- the object is of one of the table's nodes, and has one of its slots

@@ -1,12 +1,12 @@
 //! The request numbers of lines as they are made.
 ghost use Rattle.std.specs.Prelude.{◌≡◌, ◌≤◌, ◌<◌, ◌*◌, ℕ, [], ◌∷◌, List, get_or, length, IfOk, Some, true};
-ghost use Rattle.run_words.specs.declared.words.Line.{Line};
-ghost use Rattle.run_words.specs.declared.words.Line.TheVariants as R;
-ghost use Rattle.run_words.specs.declared.words.Event.{Event as OneEvent};
-ghost use Rattle.run_words.specs.Asks.{request_number_of, asker_of, is_post_of};
+ghost use Rattle.run_types.specs.declared.types.Line.{Line};
+ghost use Rattle.run_types.specs.declared.types.Line.TheVariants as R;
+ghost use Rattle.run_types.specs.declared.types.Event.{Event as OneEvent};
+ghost use Rattle.run_types.specs.Asks.{request_number_of, asker_of, is_post_of};
 
-use record_lines::{asker_of, poster};
-use run_words::{Event, Line, What, node_of, slot_of};
+use record_writer::{asker_of, poster};
+use run_types::{Event, Line, What, node_of, slot_of};
 use std::alloc::{AllocError, Global};
 
 /// For each object of some nodes, with so many objects at most a node, the number of its latest post.

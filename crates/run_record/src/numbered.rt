@@ -1,10 +1,10 @@
 //! Lines with the numbers of their names.
 ghost use Rattle.std.specs.Prelude.{◌≡◌, ◌+◌, ◌<◌, ◌≤◌, ◌^◌, length, IfOk, OnErr, OnOk};
 ghost use Rattle.run_record.specs.Numbered.{item_with, label_with, line_with, numbered, what_with, with_name};
-ghost use Rattle.line_reader.specs.ToldBy.{told};
+ghost use Rattle.record_parser.specs.ReadLineView.{told};
 
-use line_reader::ReadLine;
-use run_words::{Item, Label, Line, NameId, Names, What};
+use record_parser::ReadLine;
+use run_types::{Item, Label, Line, NameId, Names, What};
 use std::alloc::AllocError;
 
 fn item_with(id: NameId, item: Item) -> Item

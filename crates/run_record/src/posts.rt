@@ -1,11 +1,11 @@
 //! The request numbers of lines with any names.
 ghost use Rattle.std.specs.Prelude.{◌≡◌, ◌≤◌, ◌+◌, ℕ, [], ◌∷◌, List, length, IfOk, OnOk};
-ghost use Rattle.run_words.specs.declared.words.Line.{Line};
-ghost use Rattle.run_words.specs.Asks.{request_number_of, asks, asks_from, asker};
+ghost use Rattle.run_types.specs.declared.types.Line.{Line};
+ghost use Rattle.run_types.specs.Asks.{request_number_of, asks, asks_from, asker};
 ghost use Rattle.run_record.specs.Posts.{HasPosts};
 
-use record_lines::{asker, poster};
-use run_words::{Line, List};
+use record_writer::{asker, poster};
+use run_types::{Line, List};
 use std::alloc::{AllocError, Global};
 use std::collections::BTreeMap;
 

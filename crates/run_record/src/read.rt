@@ -1,22 +1,23 @@
 //! Reads a record.
 ghost use Rattle.std.specs.Prelude.{◌≡◌, ◌+◌, ◌<◌, ◌≤◌, ◌^◌, [], length, IfOk, IfErr, OnOk, Some, None, false, option_map};
 ghost use Rattle.std.specs.List.{All};
-ghost use Rattle.run_words.specs.declared.words.Line.{Line};
-ghost use Rattle.record_lines.specs.Writable.{IsWritable};
-ghost use Rattle.run_words.specs.Asks.{request_number_of};
-ghost use Rattle.line_reader.specs.Fields.{fields, parts};
-ghost use Rattle.run_record.specs.Numbered.{IsTable, IsTold, lines_after, names_after};
+ghost use Rattle.run_types.specs.declared.types.Line.{Line};
+ghost use Rattle.record_writer.specs.Writable.{IsWritable};
+ghost use Rattle.run_types.specs.Asks.{request_number_of};
+ghost use Rattle.record_parser.specs.Fields.{fields, parts};
+ghost use Rattle.run_record.specs.Numbered.{lines_after, names_after};
+ghost use Rattle.run_record.specs.ReaderFacts.{IsTable, ReportsFault};
 ghost use Rattle.run_record.specs.Posts.{HasPosts};
 ghost use Rattle.run_record.specs.Records.{done_of, follows, is_empty, is_end, last_after, record_of, row_fault, row_of, rows, rows_of, tail_row};
-ghost use Rattle.run_record.specs.RowBy.{row};
-ghost use Rattle.line_reader.specs.ToldBy.{told};
+ghost use Rattle.run_record.specs.ParsedLines.{row};
+ghost use Rattle.record_parser.specs.ReadLineView.{told};
 
 use crate::Posts;
 use crate::fault::RecordFault;
 use crate::numbered::numbered;
-use crate::row::{Form, ReadRow, row_in};
-use line_reader::cut;
-use run_words::{End, Line, List, Names};
+use crate::parsed_line::{ParsedLine, RecordVersion, row_in};
+use record_parser::cut;
+use run_types::{End, Line, List, Names};
 use std::alloc::Global;
 
 fn done_of(end: End) -> u32
@@ -59,13 +60,13 @@ fn is_end(line: &Line) -> bool
 
 /// What a line says that stands behind so many others, the last event having this number; or its fault.
 fn judge<'a>(
-    form: Form,
+    form: RecordVersion,
     posts: &Posts,
     seen: u32,
     last: u32,
     ended: bool,
     line: &'a [u8],
-) -> Result<ReadRow<'a>, RecordFault>
+) -> Result<ParsedLine<'a>, RecordFault>
     requires few { seen ≤ 67108864 }
     requires last { last ≤ 2000000 }
     ensures line { IfOk result (λ r. row_of form (fields line.now) ≡ Some (row r)) }
@@ -93,13 +94,13 @@ fn judge<'a>(
 /// The form of a record's text, the text behind the line that says so, and the number of such lines.
 #[derive(Clone, Copy)]
 pub struct Opening<'a> {
-    pub form: Form,
+    pub form: RecordVersion,
     pub text: &'a [u8],
     pub seen: u32,
 }
 
 /// Tells the form by the first line.
-#[tactic(auto, using(crate::proofs::Rows::second_rows, crate::proofs::Rows::first_rows))]
+#[tactic(auto, using(crate::proofs::ParsedLines::second_rows, crate::proofs::ParsedLines::first_rows))]
 fn form_of(bytes: &[u8]) -> Opening<'_>
     ensures rows { rows result.form [] result.seen 0 false (parts 10 result.text.now) ≡ record_of bytes.now }
     ensures shorter { result.seen + length result.text.now ≤ length bytes.now }
@@ -107,20 +108,20 @@ fn form_of(bytes: &[u8]) -> Opening<'_>
     let first = cut(b'\n', bytes);
     match first.rest {
         None => Opening {
-            form: Form::First,
+            form: RecordVersion::First,
             text: bytes,
             seen: 0,
         },
         Some(left) => {
             if first.first == b"record 2".as_slice() {
                 return Opening {
-                    form: Form::Second,
+                    form: RecordVersion::Second,
                     text: left,
                     seen: 1,
                 };
             }
             Opening {
-                form: Form::First,
+                form: RecordVersion::First,
                 text: bytes,
                 seen: 0,
             }
@@ -141,7 +142,7 @@ pub fn read_record(
     ensures lines { IfOk result (λ ls. ls ≡ lines_after names.old (record_of bytes.now).told) }
     ensures names { OnOk result (names.new ≡ names_after names.old (record_of bytes.now).told) }
     ensures writable { IfOk result (All (IsWritable names.new)) }
-    ensures fault { IfErr result (λ f. IsTold f (record_of bytes.now).fault) }
+    ensures fault { IfErr result (λ f. ReportsFault f (record_of bytes.now).fault) }
     ensures kept { IfErr result (λ f. IsTable f names.new names.old (record_of bytes.now).told) }
 {
     let mut lines = List::make(alloc);

@@ -2,7 +2,7 @@
 ghost use Rattle.std.specs.Prelude.{◌≡◌};
 ghost use Rattle.run_record.specs.Steps.{steps_of};
 
-use run_words::{Label, Line, What};
+use run_types::{Label, Line, What};
 
 /// A transition, and how often it is made: once, but for local transitions.
 #[derive(Clone, Copy)]

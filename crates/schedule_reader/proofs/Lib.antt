@@ -1,5 +1,5 @@
 pub mod Laws
-pub mod Planned
+pub mod ScheduleFitsMesh
 mod Rows
 pub mod Rounds
-pub mod Stretching
+pub mod EventRuns

@@ -1,7 +1,7 @@
 -- The turns and moves of a round, a node at a time.
 use Rattle.std.proofs.Common.{◌≡◌, ℕ, Bool, true, false, List, [], ◌∷◌, ◌++◌, refl, ap, cond, filter, flat_map}
-use Rattle.run_words.specs.declared.words.Event.{Event}
-use Rattle.run_words.specs.declared.words.LinkId.{LinkId}
+use Rattle.run_types.specs.declared.types.Event.{Event}
+use Rattle.run_types.specs.declared.types.LinkId.{LinkId}
 use Rattle.schedule_reader.specs.Entries.{has_link}
 use Rattle.schedule_reader.specs.Events.{moves_to, round_on}
 

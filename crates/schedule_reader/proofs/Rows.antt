@@ -1,8 +1,8 @@
 -- Worked schedules, computed.
 use Rattle.std.proofs.Common.{◌≡◌, refl, [], ◌∷◌}
 use Rattle.std.specs.Prelude.{Ok, Err, true, false, codes}
-use Rattle.run_words.specs.declared.words.Event.TheVariants.{Turn, Link, Wire}
-use Rattle.run_words.specs.declared.words.WireAct.TheVariants as A
+use Rattle.run_types.specs.declared.types.Event.TheVariants.{Turn, Link, Wire}
+use Rattle.run_types.specs.declared.types.WireAct.TheVariants as A
 use Rattle.schedule_reader.specs.declared.fault.ScheduleFault.TheVariants as F
 use Rattle.schedule_reader.specs.Schedules.{schedule_of}
 

@@ -1,13 +1,13 @@
 -- What a line of a schedule says, and its faults.
 use Rattle.std.specs.Prelude.{ℕ, ◌*◌, List, [], ◌∷◌, Option, Some, None, Bool, true, false, not, ◌&&◌, if◌then◌else◌, nat_le, nat_lt, bytes_eq, codes}
 use Rattle.std.specs.Option.{option_or}
-use Rattle.run_words.specs.Partial.{◌>>=◌, only_if, unless}
-use Rattle.run_words.specs.Text.{Text}
-use Rattle.run_words.specs.declared.words.LinkId.{LinkId}
-use Rattle.run_words.specs.declared.words.WireAct.{WireAct}
-use Rattle.run_words.specs.declared.words.WireAct.TheVariants as A
-use Rattle.run_words.specs.Paths.{are_neighbours, is_cut}
-use Rattle.run_words.specs.Kept.{Kept, number_of}
+use Rattle.run_types.specs.Partial.{◌>>=◌, only_if, unless}
+use Rattle.text_scan.specs.Text.{Text}
+use Rattle.run_types.specs.declared.types.LinkId.{LinkId}
+use Rattle.run_types.specs.declared.types.WireAct.{WireAct}
+use Rattle.run_types.specs.declared.types.WireAct.TheVariants as A
+use Rattle.run_types.specs.Paths.{are_neighbours, is_cut}
+use Rattle.text_scan.specs.ContentLines.{Kept, number_of}
 use Rattle.schedule_reader.specs.declared.entry.Entry.{Entry}
 use Rattle.schedule_reader.specs.declared.entry.Entry.TheVariants as E
 use Rattle.schedule_reader.specs.declared.fault.ScheduleFault.{ScheduleFault}

@@ -1,12 +1,12 @@
 -- The events of entries, as a list.
 use Rattle.std.specs.Prelude.{ℕ, ◌+◌, ◌*◌, List, [], ◌∷◌, ◌++◌, Bool, true, false, length, map, filter, flat_map}
 use Rattle.std.specs.List.{repeat, range_with_len}
-use Rattle.run_words.specs.declared.words.Event.{Event}
-use Rattle.run_words.specs.declared.words.Event.TheVariants as V
-use Rattle.run_words.specs.declared.words.WireAct.TheVariants as A
+use Rattle.run_types.specs.declared.types.Event.{Event}
+use Rattle.run_types.specs.declared.types.Event.TheVariants as V
+use Rattle.run_types.specs.declared.types.WireAct.TheVariants as A
 use Rattle.schedule_reader.specs.declared.entry.Entry.{Entry}
 use Rattle.schedule_reader.specs.declared.entry.Entry.TheVariants as E
-use Rattle.run_words.specs.declared.words.LinkId.{LinkId}
+use Rattle.run_types.specs.declared.types.LinkId.{LinkId}
 use Rattle.schedule_reader.specs.Entries.{has_link}
 
 abbrev pub turns : List ℕ → List Event

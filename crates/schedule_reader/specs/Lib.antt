@@ -1,6 +1,7 @@
-pub mod Counts
+pub mod Repeats
 pub mod Entries
 pub mod Events
 pub mod Plans
 pub mod Schedules
-pub mod Stretches
+pub mod ReaderFacts
+pub mod EventRuns

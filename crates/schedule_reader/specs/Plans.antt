@@ -1,9 +1,9 @@
 -- What a schedule asks of a mesh.
 use Rattle.std.specs.Prelude.{◌≡◌, ℕ, ◌*◌, ◌<◌, ◌≤◌, Some, Bool, true, slice_get}
-use Rattle.run_words.specs.declared.words.Event.{Event}
-use Rattle.run_words.specs.declared.words.Event.TheVariants as V
-use Rattle.run_words.specs.declared.words.Placement.{Placement}
-use Rattle.run_words.specs.Paths.{IsLink}
+use Rattle.run_types.specs.declared.types.Event.{Event}
+use Rattle.run_types.specs.declared.types.Event.TheVariants as V
+use Rattle.run_types.specs.declared.types.Placement.{Placement}
+use Rattle.run_types.specs.Paths.{IsLink}
 use Rattle.schedule_reader.specs.Schedules.{Plan}
 
 -- an event of a node of the mesh, or of a link that is not cut; on wires only where links are wires

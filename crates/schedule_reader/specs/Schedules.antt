@@ -1,11 +1,11 @@
 -- The schedule that a text is, or its first fault.
-use Rattle.std.specs.Prelude.{◌≡◌, ℕ, ◌+◌, List, [], ◌∷◌, length, Option, Some, None, Result, Ok, Err, Bool, true, false, ◌&&◌, if◌then◌else◌, nat_le}
+use Rattle.std.specs.Prelude.{ℕ, ◌+◌, List, [], ◌∷◌, length, Option, Some, None, Result, Ok, Err, Bool, true, false, ◌&&◌, if◌then◌else◌, nat_le}
 use Rattle.std.specs.Option.{option_or}
-use Rattle.run_words.specs.Text.{Text}
-use Rattle.run_words.specs.declared.words.Event.{Event}
-use Rattle.run_words.specs.declared.words.LinkId.{LinkId}
-use Rattle.run_words.specs.Lines.{lines}
-use Rattle.run_words.specs.Kept.{Kept, kept}
+use Rattle.text_scan.specs.Text.{Text}
+use Rattle.run_types.specs.declared.types.Event.{Event}
+use Rattle.run_types.specs.declared.types.LinkId.{LinkId}
+use Rattle.text_scan.specs.Lines.{lines}
+use Rattle.text_scan.specs.ContentLines.{Kept, kept}
 use Rattle.schedule_reader.specs.declared.entry.Entry.{Entry}
 use Rattle.schedule_reader.specs.declared.fault.ScheduleFault.{ScheduleFault}
 use Rattle.schedule_reader.specs.declared.fault.ScheduleFault.TheVariants as F
@@ -75,15 +75,6 @@ schedule_of_lines w h cuts count (k ∷ ks) = with_quantum w h cuts k.line (quan
 -- the schedule of a text, in a mesh of w times h nodes that misses these links
 abbrev pub schedule_of : ℕ → ℕ → List LinkId → Text → Result Plan ScheduleFault
 schedule_of w h cuts s = schedule_of_lines w h cuts (length (lines s)) (kept s)
-
--- The fault is this one, unless memory ran out.
-abbrev pub IsTold : ScheduleFault → Option ScheduleFault → Type 0
-IsTold (F.BadLine line) told = told ≡ Some (F.BadLine line)
-IsTold (F.NoSuchNode line) told = told ≡ Some (F.NoSuchNode line)
-IsTold (F.NoSuchLink line) told = told ≡ Some (F.NoSuchLink line)
-IsTold (F.OutOfRange line) told = told ≡ Some (F.OutOfRange line)
-IsTold (F.TooManyEvents count) told = told ≡ Some (F.TooManyEvents count)
-IsTold F.Memory told = Unit {0}
 
 abbrev pub fault_in : Result Plan ScheduleFault → Option ScheduleFault
 fault_in (Ok plan) = None

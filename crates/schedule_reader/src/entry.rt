@@ -1,16 +1,17 @@
 //! What a line of a schedule says.
 ghost use Rattle.std.specs.Prelude.{◌≡◌, ◌+◌, ◌*◌, ◌<◌, ◌≤◌, length, IfOk, IfErr, IfNone, Some, None, true, false};
-ghost use Rattle.run_words.specs.Lines.{words};
-ghost use Rattle.run_words.specs.Paths.{is_cut};
+ghost use Rattle.text_scan.specs.Lines.{words};
+ghost use Rattle.run_types.specs.Paths.{is_cut};
 ghost use Rattle.schedule_reader.specs.Entries.{entry_of, entry_of_four, entry_of_three, entry_of_two, fault_of, fault_or_bad, has_link, is_count, is_lossy, link_fault, plain_entry_of, quantum_of};
 ghost use Rattle.schedule_reader.specs.Entries.{wire_entry_of};
-ghost use Rattle.schedule_reader.specs.Counts.{IsCountedLine, counted_of};
+ghost use Rattle.schedule_reader.specs.Repeats.{IsCountedLine, counted_of};
 
+use crate::event_runs::{Repeat, RunItem};
 use crate::fault::ScheduleFault;
-use crate::stretch::{Counted, Part};
 use crate::wire::{wire_of_four, wire_of_three};
 use mesh_routing::are_neighbours;
-use run_words::{Event, Few, LinkId, WireAct, few_words, number};
+use run_types::{Event, LinkId, WireAct};
+use text_scan::{UpToFour, number, split_up_to_four};
 
 /// The most events of a schedule, and the greatest count of a line.
 pub const MOST_EVENTS: u64 = 2000000;
@@ -83,10 +84,10 @@ fn entry_of_four(word: &[u8], first: &[u8], second: &[u8], third: &[u8]) -> Opti
 fn plain_entry_in(line: &[u8]) -> Option<Entry>
     ensures { result ≡ plain_entry_of (words line.now) }
 {
-    match few_words(line) {
-        Few::Two(word, first) => entry_of_two(word, first),
-        Few::Three(word, first, second) => entry_of_three(word, first, second),
-        Few::Four(word, first, second, third) => entry_of_four(word, first, second, third),
+    match split_up_to_four(line) {
+        UpToFour::Two(word, first) => entry_of_two(word, first),
+        UpToFour::Three(word, first, second) => entry_of_three(word, first, second),
+        UpToFour::Four(word, first, second, third) => entry_of_four(word, first, second, third),
         _ => None,
     }
 }
@@ -94,9 +95,9 @@ fn plain_entry_in(line: &[u8]) -> Option<Entry>
 fn wire_entry_in(line: &[u8]) -> Option<Entry>
     ensures { result ≡ wire_entry_of (words line.now) }
 {
-    match few_words(line) {
-        Few::Three(word, first, second) => wire_of_three(word, first, second),
-        Few::Four(word, first, second, third) => wire_of_four(word, first, second, third),
+    match split_up_to_four(line) {
+        UpToFour::Three(word, first, second) => wire_of_three(word, first, second),
+        UpToFour::Four(word, first, second, third) => wire_of_four(word, first, second, third),
         _ => None,
     }
 }
@@ -115,8 +116,8 @@ fn entry_in(lossy: bool, line: &[u8]) -> Option<Entry>
 pub fn quantum_in(line: &[u8]) -> Option<u64>
     ensures { result ≡ quantum_of (words line.now) }
 {
-    match few_words(line) {
-        Few::Two(word, first) if word == b"quantum".as_slice() => number(first),
+    match split_up_to_four(line) {
+        UpToFour::Two(word, first) if word == b"quantum".as_slice() => number(first),
         _ => None,
     }
 }
@@ -125,8 +126,8 @@ pub fn quantum_in(line: &[u8]) -> Option<u64>
 pub fn is_lossy(line: &[u8]) -> bool
     ensures { result ≡ is_lossy (words line.now) }
 {
-    match few_words(line) {
-        Few::Two(word, first) => word == b"wires".as_slice() && first == b"lossy".as_slice(),
+    match split_up_to_four(line) {
+        UpToFour::Two(word, first) => word == b"wires".as_slice() && first == b"lossy".as_slice(),
         _ => false,
     }
 }
@@ -160,14 +161,14 @@ fn is_count(count: u64) -> bool
 }
 
 /// So many of a part, where the count is from 1 to 2,000,000.
-fn counted(line: u32, count: u64, part: Part) -> Result<Counted, ScheduleFault>
+fn counted(line: u32, count: u64, part: RunItem) -> Result<Repeat, ScheduleFault>
     ensures ok { IfOk result (λ c. (is_count count ≡ true) × (c ≡ record { count = count; part = part })) }
     ensures err { IfErr result (λ f. (is_count count ≡ false) × (f ≡ ScheduleFault.OutOfRange line)) }
 {
     if !is_count(count) {
         return Err(ScheduleFault::OutOfRange { line });
     }
-    Ok(Counted {
+    Ok(Repeat {
         count: count as u32,
         part,
     })
@@ -202,13 +203,13 @@ fn link_fault(
 }
 
 /// So many of one event. The link's ends are nodes of the mesh, and the count is in its range.
-fn times(count: u64, event: Event) -> Counted
+fn times(count: u64, event: Event) -> Repeat
     requires { count ≤ 2000000 }
-    ensures { result ≡ record { count = count; part = Part.One event } }
+    ensures { result ≡ record { count = count; part = RunItem.One event } }
 {
-    Counted {
+    Repeat {
         count: count as u32,
-        part: Part::One(event),
+        part: RunItem::One(event),
     }
 }
 
@@ -219,7 +220,7 @@ fn checked(
     cuts: &[LinkId],
     line: u32,
     entry: Entry,
-) -> Result<Counted, ScheduleFault>
+) -> Result<Repeat, ScheduleFault>
     requires width { (1 ≤ width) × (width ≤ 8) }
     requires height { (1 ≤ height) × (height ≤ 8) }
     ensures ok { IfOk result (λ c. (fault_of width height cuts.now line entry ≡ None) × (c ≡ counted_of entry)) }
@@ -231,7 +232,7 @@ fn checked(
                 return Err(ScheduleFault::NoSuchNode { line });
             }
             let event = Event::Turn { node: node as u32 };
-            counted(line, count, Part::One(event))
+            counted(line, count, RunItem::One(event))
         }
         Entry::Link { from, to, count } => {
             if let Some(fault) = link_fault(width, height, cuts, line, from, to, count) {
@@ -243,7 +244,7 @@ fn checked(
             };
             Ok(times(count, event))
         }
-        Entry::Round { count } => counted(line, count, Part::Round),
+        Entry::Round { count } => counted(line, count, RunItem::Round),
         Entry::Wire {
             act,
             from,
@@ -271,7 +272,7 @@ pub fn judge(
     lossy: bool,
     number: u32,
     line: &[u8],
-) -> Result<Counted, ScheduleFault>
+) -> Result<Repeat, ScheduleFault>
     requires width { (1 ≤ width) × (width ≤ 8) }
     requires height { (1 ≤ height) × (height ≤ 8) }
     ensures ok { IfOk result (λ c. IsCountedLine width height cuts.now lossy number (words line.now) c) }

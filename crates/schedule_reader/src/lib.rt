@@ -1,18 +1,20 @@
-//! Schedules: a quantum, and events that are answered by their number.
+//! Reads a schedule: a quantum and events, found by number; or the fault of its first faulty line.
+//!
+//! Does not know: the effect of events.
 #![tactic(auto)]
 
-mod counted;
+mod collect;
 mod entry;
+mod event_runs;
 mod fault;
-mod gather;
 mod opening;
 mod read;
 mod round;
 mod schedule;
-mod stretch;
+mod theorems;
 mod wire;
 
-pub use counted::{events_are_counted, events_are_of_the_mesh};
 pub use fault::ScheduleFault;
 pub use read::read_schedule;
 pub use schedule::Schedule;
+pub use theorems::{events_are_counted, events_are_of_the_mesh};

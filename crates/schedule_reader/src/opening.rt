@@ -1,11 +1,11 @@
 //! Where the events of a schedule begin.
 ghost use Rattle.std.specs.Prelude.{◌≡◌, ◌+◌, ◌≤◌, length, drop};
-ghost use Rattle.run_words.specs.Lines.{lines};
-ghost use Rattle.run_words.specs.Kept.{kept_from};
+ghost use Rattle.text_scan.specs.Lines.{lines};
+ghost use Rattle.text_scan.specs.ContentLines.{kept_from};
 ghost use Rattle.schedule_reader.specs.Schedules.{begins_lossy, without_wires};
 
 use crate::entry::is_lossy;
-use run_words::next_kept;
+use text_scan::next_content_line;
 
 /// Whether a schedule is lossy, and where the lines of its events begin: at a byte, which begins the line of this number.
 #[derive(Clone, Copy)]
@@ -25,7 +25,7 @@ pub fn behind_quantum(bytes: &[u8], from: usize, line: u32) -> Opening
     ensures lossy { result.lossy ≡ begins_lossy (kept_from line (lines (drop from bytes.now))) }
     ensures lines { kept_from result.line (lines (drop result.at bytes.now)) ≡ without_wires (kept_from line (lines (drop from bytes.now))) }
 {
-    match next_kept(bytes, from, line) {
+    match next_content_line(bytes, from, line) {
         Some(found) if is_lossy(&bytes[found.start..found.end]) => Opening {
             lossy: true,
             at: found.next,

@@ -1,17 +1,19 @@
 //! Reads a schedule.
 ghost use Rattle.std.specs.Prelude.{◌≡◌, ◌≤◌, length, IfOk, IfErr, Ok, Some, None};
-ghost use Rattle.run_words.specs.Lines.{words};
+ghost use Rattle.text_scan.specs.Lines.{words};
 ghost use Rattle.schedule_reader.specs.Entries.{quantum_of};
-ghost use Rattle.schedule_reader.specs.Schedules.{IsTold, fault_in, quantum_fault, schedule_of};
+ghost use Rattle.schedule_reader.specs.Schedules.{fault_in, quantum_fault, schedule_of};
+ghost use Rattle.schedule_reader.specs.ReaderFacts.{ReportsFault};
 
+use crate::collect::gather;
 use crate::entry::{MOST_EVENTS, quantum_in};
 use crate::fault::ScheduleFault;
-use crate::gather::gather;
 use crate::opening::behind_quantum;
 use crate::round::round;
 use crate::schedule::Schedule;
-use run_words::{Placement, count_lines, next_kept};
+use run_types::Placement;
 use std::alloc::Global;
+use text_scan::{count_lines, next_content_line};
 
 /// The quantum of the first line that is kept, or that line's fault.
 fn first_quantum(line: u32, bytes: &[u8]) -> Result<u32, ScheduleFault>
@@ -35,9 +37,9 @@ pub fn read_schedule(
     requires width { (1 ≤ placement.now.width) × (placement.now.width ≤ 8) }
     requires height { (1 ≤ placement.now.height) × (placement.now.height ≤ 8) }
     ensures ok { IfOk result (λ s. schedule_of placement.now.width placement.now.height placement.now.cuts bytes.now ≡ Ok s) }
-    ensures err { IfErr result (λ f. IsTold f (fault_in (schedule_of placement.now.width placement.now.height placement.now.cuts bytes.now))) }
+    ensures err { IfErr result (λ f. ReportsFault f (fault_in (schedule_of placement.now.width placement.now.height placement.now.cuts bytes.now))) }
 {
-    let Some(first) = next_kept(bytes, 0, 1) else {
+    let Some(first) = next_content_line(bytes, 0, 1) else {
         return Err(ScheduleFault::BadLine {
             line: count_lines(bytes) + 1,
         });

@@ -4,7 +4,7 @@ ghost use Rattle.schedule_reader.specs.Events.{moves_from, moves_to, round_of, r
 ghost use Rattle.std.specs.List.{range_with_len};
 
 use crate::entry::has_link;
-use run_words::{Event, LinkId, WireAct};
+use run_types::{Event, LinkId, WireAct};
 use std::alloc::{AllocError, Global};
 
 /// Puts a turn of each node.

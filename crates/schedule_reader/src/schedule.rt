@@ -1,8 +1,8 @@
 //! A schedule.
 ghost use Rattle.std.specs.Prelude.{◌≡◌, ◌<◌, length, Some, slice_get};
 
-use crate::stretch::{Stretch, event_at};
-use run_words::Event;
+use crate::event_runs::{EventRun, event_at};
+use run_types::Event;
 use std::marker::Model;
 
 /// A quantum, whether links are wires that may lose, and a list of events, which are kept as a line of the text has them: a `round` is not spelled out, nor is a count.
@@ -11,13 +11,13 @@ pub struct Schedule {
     pub(crate) quantum: u32,
     pub(crate) lossy: bool,
     pub(crate) round: Vec<Event>,
-    pub(crate) stretches: Vec<Stretch>,
+    pub(crate) stretches: Vec<EventRun>,
     pub(crate) last: u32,
 }
 
 impl Model for Schedule {
     ghost use Rattle.schedule_reader.specs.Schedules.{Plan};
-    ghost use Rattle.schedule_reader.specs.Stretches.{AreEnds, stretched};
+    ghost use Rattle.schedule_reader.specs.EventRuns.{AreEnds, stretched};
 
     ghost Value = { Plan };
 

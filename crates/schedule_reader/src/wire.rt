@@ -3,7 +3,8 @@ ghost use Rattle.std.specs.Prelude.{◌≡◌};
 ghost use Rattle.schedule_reader.specs.Entries.{ack_act, counted_act, frame_act, wire, wire_of_four, wire_of_three};
 
 use crate::entry::Entry;
-use run_words::{WireAct, number};
+use run_types::WireAct;
+use text_scan::number;
 
 /// An act of which a line may ask for many.
 fn counted_act(word: &[u8]) -> Option<WireAct>

@@ -1,27 +1,29 @@
 -- How a call ends: what came of the program, and what was written of it.
 use Rattle.std.proofs.Common.{◌≡◌, ◌∙◌, ◌⊎◌, inl, inr, ◌≤◌, ℕ, length, Option, Some, None, Ok, Err, refl, sym, ap, subst, arith}
 use Rattle.pool_outside.specs.Outside.{Rose}
-use Rattle.run_words.specs.Text.{Text}
-use Rattle.fault_lines.specs.declared.fault.Input.{Input}
-use Rattle.fault_lines.specs.declared.fault.Input.TheVariants as I
-use Rattle.fault_lines.specs.declared.fault.Fault.{Fault}
-use Rattle.fault_lines.specs.declared.fault.Stop.{Stop}
-use Rattle.fault_lines.specs.declared.fault.Stop.TheVariants as T
-use Rattle.fault_lines.specs.FaultText.{refusal_line, unread_line}
-use Rattle.outside_calls.specs.Reading.{Reading, AllRead}
-use Rattle.outside_calls.specs.Writing.{Writing, IsIdle}
-use Rattle.program_input.specs.Readers as R
-use Rattle.program_input.specs.Readers.{HasTypedFault, IsTypedProgram, Reads, Stops, too_long, faulty}
-use Rattle.program_input.proofs.Laws.{was_read}
+use Rattle.text_scan.specs.Text.{Text}
+use Rattle.command_inputs.specs.declared.fault.Input.{Input}
+use Rattle.command_inputs.specs.declared.fault.Input.TheVariants as I
+use Rattle.command_inputs.specs.declared.fault.Fault.{Fault}
+use Rattle.command_inputs.specs.declared.fault.InputError.{InputError}
+use Rattle.command_inputs.specs.declared.fault.InputError.TheVariants as T
+use Rattle.command_inputs.specs.FaultText.{refusal_line, unread_line}
+use Rattle.pool_outside.specs.Reading.{Reading, AllRead}
+use Rattle.pool_outside.specs.Writing.{Writing, IsIdle}
+use Rattle.command_inputs.specs.Readers as R
+use Rattle.command_inputs.specs.Readers.{Reads}
+use Rattle.command_inputs.specs.Inputs.{Stops, too_long, faulty}
+use Rattle.command_inputs.specs.Programs.{HasTypedFault, IsTypedProgram}
+use Rattle.command_inputs.proofs.Laws.{was_read}
 use Rattle.search_cli.specs.declared.answers.Answer.{Answer}
 use Rattle.search_cli.specs.declared.status.Status.{Status}
 use Rattle.search_cli.specs.declared.status.Status.TheVariants as S
 use Rattle.search_cli.specs.Answers as A
-use Rattle.search_cli.specs.Answers.{Answers, IsAnswerOn, IsWhole}
+use Rattle.search_cli.specs.Answers.{Answers, IsAnswerOn, WholeTextWritten}
 use Rattle.search_cli.specs.Ends as E
-use Rattle.search_cli.specs.Ends.{Ends, IsMade, IsOpened, IsRefused, IsServed, Says, Writes, usage_line}
-use Rattle.search_cli.specs.Telling as D
-use Rattle.search_cli.specs.Telling.{Tells}
+use Rattle.search_cli.specs.Ends.{Ends, IsAnswered, IsOpened, IsRefused, IsServed, Says, usage_line}
+use Rattle.search_cli.specs.InputErrorLine as D
+use Rattle.search_cli.specs.InputErrorLine.{ReportsInputError, Writes}
 use Rattle.search_cli.specs.Words.{Search}
 
 -- the same piece
@@ -33,28 +35,28 @@ pub answer_ends : (words : Option Search) (k : Reading) (out err : Writing) (s :
     → Reads k I.Program s.name IsTypedProgram HasTypedFault (IsAnswerOn s.question) (Ok a) → Writes out a.text.items a.status status → IsIdle err → Ends words k out err status
 answer_ends words k out err s a status is opened reads w idle = by w
   where
-    made : IsMade k s a
+    made : IsAnswered k s a
     made =
         let h = was_read k I.Program s.name IsTypedProgram HasTypedFault (IsAnswerOn s.question) a reads in
         record { source = h.0; opened = opened; read = h.1; calm = h.3; answer = h.2 }
 
     by : Writes out a.text.items a.status status → Ends words k out err status
-    by (E.all wrote e) = E.whole s a is made e wrote idle
-    by (E.part front e) = E.cut s a is made front idle e
+    by (D.all wrote e) = E.whole s a is made e wrote idle
+    by (D.part front e) = E.cut s a is made front idle e
 
 -- a line, or a front of it
 line_ends : (words : Option Search) (k : Reading) (out err : Writing) (line : Text) (planned status : Status) → Says k words line planned → Writes err line planned status → IsIdle out
     → Ends words k out err status
-line_ends words k out err line planned status says (E.all wrote e) idle = E.said line (subst (Says k words line) (sym e) says) wrote idle
-line_ends words k out err line planned status says (E.part front e) idle = E.line_cut line planned says front idle e
+line_ends words k out err line planned status says (D.all wrote e) idle = E.said line (subst (Says k words line) (sym e) says) wrote idle
+line_ends words k out err line planned status says (D.part front e) idle = E.line_cut line planned says front idle e
 
 pub usage_ends : (words : Option Search) (k : Reading) (out err : Writing) (status : Status) → words ≡ None → k.opened ≡ k.opens → AllRead k → Writes err usage_line S.Usage status → IsIdle out
     → Ends words k out err status
 usage_ends words k out err status none opened calm w idle =
     line_ends words k out err usage_line S.Usage status (E.usage (record { none = none; opened = opened; calm = calm }) refl refl) w idle
 
-pub stop_ends : (words : Option Search) (k : Reading) (out err : Writing) (s : Search) (stop : Stop) (status : Status) → words ≡ Some s → IsOpened k
-    → Reads {A = Answer} k I.Program s.name IsTypedProgram HasTypedFault (IsAnswerOn s.question) (Err stop) → Tells err stop status → IsIdle out → Ends words k out err status
+pub stop_ends : (words : Option Search) (k : Reading) (out err : Writing) (s : Search) (stop : InputError) (status : Status) → words ≡ Some s → IsOpened k
+    → Reads {A = Answer} k I.Program s.name IsTypedProgram HasTypedFault (IsAnswerOn s.question) (Err stop) → ReportsInputError err stop status → IsIdle out → Ends words k out err status
 stop_ends words k out err s stop status is opened reads (D.refusal input f e w) idle = by reads
   where
     by : Reads {A = Answer} k I.Program s.name IsTypedProgram HasTypedFault (IsAnswerOn s.question) (Err stop) → Ends words k out err status
@@ -80,10 +82,10 @@ stop_ends words k out err s stop status is opened reads (D.unread input e w) idl
 stop_ends words k out err s stop status is opened reads (D.memory e quiet) idle = E.no_memory idle quiet e
 
 -- an answer is written with a status that says so
-answer_whole : (q : Search) (source : Text) (a : Answer) → IsAnswerOn q.question source a → IsWhole a.status
+answer_whole : (q : Search) (source : Text) (a : Answer) → IsAnswerOn q.question source a → WholeTextWritten a.status
 answer_whole q source a h = by h.answers
   where
-    by : Answers h.names h.program q.question a.text.items a.status → IsWhole a.status
+    by : Answers h.names h.program q.question a.text.items a.status → WholeTextWritten a.status
     by (A.stuck ls run t s) = inr (inl s)
     by (A.faulty ls run t s) = inr (inl s)
     by (A.finite kept none t s) = inl s
@@ -108,8 +110,8 @@ never_said k words line status s is served read (E.unread q at h e z) = read h.r
 
 -- So words of a search, an accepted program and no fault give an answer whole, or nothing for want of memory.
 completes : (words : Option Search) (k : Reading) (out err : Writing) (status : Status) → Ends words k out err status → (s : Search) → words ≡ Some s → IsServed k.told s
-    → ¬ (Rose k.faults k.failed) → ¬ (Rose out.faults out.failed) → ¬ (Rose err.faults err.failed) → IsWhole status ⊎ (status ≡ S.Memory)
-completes words k out err status (E.whole q a at made e w idle) s is served read wrote told = inl (subst IsWhole (sym e) (answer_whole q made.source a made.answer))
+    → ¬ (Rose k.faults k.failed) → ¬ (Rose out.faults out.failed) → ¬ (Rose err.faults err.failed) → WholeTextWritten status ⊎ (status ≡ S.Memory)
+completes words k out err status (E.whole q a at made e w idle) s is served read wrote told = inl (subst WholeTextWritten (sym e) (answer_whole q made.source a made.answer))
 completes words k out err status (E.said line says w idle) s is served read wrote told = absurd (never_said k words line status s is served read says)
 completes words k out err status (E.cut q a at made front idle e) s is served read wrote told = absurd (wrote front.rose)
 completes words k out err status (E.line_cut line planned says front idle e) s is served read wrote told = absurd (told front.rose)
@@ -122,12 +124,12 @@ quiet held faults = record { before = held; after = held; faults = faults; faile
 
 pub answer_completes : (words : Option Search) (k : Reading) (out : Writing) (held : Option Text) (faults : ℕ) (q : Search) (a : Answer) (status : Status) → words ≡ Some q → IsOpened k
     → Reads k I.Program q.name IsTypedProgram HasTypedFault (IsAnswerOn q.question) (Ok a) → Writes out a.text.items a.status status → (s : Search) → words ≡ Some s → IsServed k.told s
-    → ¬ (Rose k.faults k.failed) → ¬ (Rose out.faults out.failed) → ¬ (Rose faults faults) → IsWhole status ⊎ (status ≡ S.Memory)
+    → ¬ (Rose k.faults k.failed) → ¬ (Rose out.faults out.failed) → ¬ (Rose faults faults) → WholeTextWritten status ⊎ (status ≡ S.Memory)
 answer_completes words k out held faults q a status is opened reads writes s at served read wrote told =
     completes words k out (quiet held faults) status (answer_ends words k out (quiet held faults) q a status is opened reads writes (refl, refl)) s at served read wrote told
 
-pub stop_completes : (words : Option Search) (k : Reading) (err : Writing) (held : Option Text) (faults : ℕ) (q : Search) (stop : Stop) (status : Status) → words ≡ Some q → IsOpened k
-    → Reads {A = Answer} k I.Program q.name IsTypedProgram HasTypedFault (IsAnswerOn q.question) (Err stop) → Tells err stop status → (s : Search) → words ≡ Some s → IsServed k.told s
-    → ¬ (Rose k.faults k.failed) → ¬ (Rose faults faults) → ¬ (Rose err.faults err.failed) → IsWhole status ⊎ (status ≡ S.Memory)
+pub stop_completes : (words : Option Search) (k : Reading) (err : Writing) (held : Option Text) (faults : ℕ) (q : Search) (stop : InputError) (status : Status) → words ≡ Some q → IsOpened k
+    → Reads {A = Answer} k I.Program q.name IsTypedProgram HasTypedFault (IsAnswerOn q.question) (Err stop) → ReportsInputError err stop status → (s : Search) → words ≡ Some s → IsServed k.told s
+    → ¬ (Rose k.faults k.failed) → ¬ (Rose faults faults) → ¬ (Rose err.faults err.failed) → WholeTextWritten status ⊎ (status ≡ S.Memory)
 stop_completes words k err held faults q stop status is opened reads tells s at served read wrote told =
     completes words k (quiet held faults) err status (stop_ends words k (quiet held faults) err q stop status is opened reads tells (refl, refl)) s at served read wrote told

@@ -1,2 +1,5 @@
 pub mod EndLaws
 pub mod RunLaws
+pub mod StepLaws
+pub mod AscendingWaiters
+pub mod Laws

@@ -1,14 +1,14 @@
 -- Labels that lead from the start to a configuration, made one after another.
 use Rattle.std.proofs.Common.{◌≡◌, ◌∙◌, ◌<◌, ◌≤◌, ◌+◌, ℕ, List, ◌∷◌, length, drop, get_or, Option, Some, None, refl, sym, ap}
 use Rattle.std.proofs.lemmas.List.{drop_all, drop_more}
-use Rattle.run_words.specs.declared.words.Label.{Label}
+use Rattle.run_types.specs.declared.types.Label.{Label}
 use Rattle.pool_syntax.specs.Terms.{ProgramTree}
-use Rattle.run_words.specs.Partial.{◌>>=◌}
+use Rattle.run_types.specs.Partial.{◌>>=◌}
 use Rattle.pool_relation.specs.Configuration.{Configuration}
 use Rattle.pool_relation.specs.Transition.{run, start, transition}
 use Rattle.search_laws.specs.Search.{IsInOrder}
 use Rattle.search_laws.proofs.Laws.{sorted_after, start_sorted}
-use Rattle.pool_search.specs.Sought.{LeadsTo}
+use Rattle.pool_search.specs.SearchTargets.{LeadsTo}
 
 -- so many of the labels were made, and the others are left
 pub record IsUnderWay (p : ProgramTree) (ls : List Label) (at : ℕ) (c : Configuration) : Type 0 where

@@ -1,14 +1,14 @@
--- How a call of `pool_search` ends: what came of its program, and what was written.
+-- How a call of `search_command` ends: what came of its program, and what was written.
 use Rattle.std.specs.Prelude.{◌≡◌, ◌+◌, ◌≤◌, length, Option, Some, None, codes}
 use Rattle.pool_outside.specs.Outside.{Rose}
-use Rattle.run_words.specs.Text.{Text}
-use Rattle.fault_lines.specs.declared.fault.Input.TheVariants as I
-use Rattle.fault_lines.specs.declared.fault.Fault.{Fault}
-use Rattle.fault_lines.specs.FaultText.{refusal_line, unread_line}
-use Rattle.outside_calls.specs.Reading.{Told, Reading, AllRead}
-use Rattle.outside_calls.specs.Writing.{Writing, IsIdle, Wrote, WroteFront}
-use Rattle.program_input.specs.Inputs.{limit_of, one_read}
-use Rattle.program_input.specs.Readers.{HasTypedFault, IsTypedProgram, Stops, WasRead}
+use Rattle.text_scan.specs.Text.{Text}
+use Rattle.command_inputs.specs.declared.fault.Input.TheVariants as I
+use Rattle.command_inputs.specs.declared.fault.Fault.{Fault}
+use Rattle.command_inputs.specs.FaultText.{refusal_line, unread_line}
+use Rattle.pool_outside.specs.Reading.{Told, Reading, AllRead}
+use Rattle.pool_outside.specs.Writing.{Writing, IsIdle, Wrote, WroteFront}
+use Rattle.command_inputs.specs.Inputs.{limit_of, one_read, Stops, WasRead}
+use Rattle.command_inputs.specs.Programs.{HasTypedFault, IsTypedProgram}
 use Rattle.search_cli.specs.declared.answers.Answer.{Answer}
 use Rattle.search_cli.specs.declared.status.Status.{Status}
 use Rattle.search_cli.specs.declared.status.Status.TheVariants as S
@@ -27,7 +27,7 @@ abbrev pub StaysWithin : Reading → Type 0
 StaysWithin k = IsOpened k → k.given ≤ limit_of I.Program + one_read
 
 -- The program was read to its end, no read failed, and this is answered of it.
-pub record IsMade (k : Reading) (s : Search) (a : Answer) : Type 0 where
+pub record IsAnswered (k : Reading) (s : Search) (a : Answer) : Type 0 where
   pub source : Text
   pub opened : IsOpened k
   pub read : WasRead k I.Program s.name source
@@ -61,16 +61,11 @@ pub data Says (k : Reading) (words : Option Search) (line : Text) (status : Stat
 -- How a call ends. The answer was written whole on the output; or a line on the error sink, and nothing on the output; or one of the two was cut off by a failed write; or
 -- memory ran out before anything was written.
 pub data Ends (words : Option Search) (files : Reading) (out err : Writing) (status : Status) : Type 0 where
-  whole : (s : Search) (a : Answer) → words ≡ Some s → IsMade files s a → status ≡ a.status → Wrote out a.text.items → IsIdle err → Ends words files out err status
+  whole : (s : Search) (a : Answer) → words ≡ Some s → IsAnswered files s a → status ≡ a.status → Wrote out a.text.items → IsIdle err → Ends words files out err status
   said : (line : Text) → Says files words line status → Wrote err line → IsIdle out → Ends words files out err status
-  cut : (s : Search) (a : Answer) → words ≡ Some s → IsMade files s a → WroteFront out a.text.items → IsIdle err → status ≡ S.WriteFault → Ends words files out err status
+  cut : (s : Search) (a : Answer) → words ≡ Some s → IsAnswered files s a → WroteFront out a.text.items → IsIdle err → status ≡ S.WriteFault → Ends words files out err status
   line_cut : (line : Text) (planned : Status) → Says files words line planned → WroteFront err line → IsIdle out → status ≡ S.WriteFault → Ends words files out err status
   no_memory : IsIdle out → IsIdle err → status ≡ S.Memory → Ends words files out err status
-
--- a piece was written whole, with this status, or a front of it
-pub data Writes (k : Writing) (piece : Text) (planned status : Status) : Type 0 where
-  all : Wrote k piece → status ≡ planned → Writes k piece planned status
-  part : WroteFront k piece → status ≡ S.WriteFault → Writes k piece planned status
 
 -- under the name a text is told that is within the limit, and a program without class faults
 pub record IsServed (told : Told) (s : Search) : Type 0 where

@@ -1,5 +1,10 @@
 pub mod Words
+pub mod AskedSearch
 pub mod Answers
 pub mod Statuses
 pub mod Ends
-pub mod Telling
+pub mod InputErrorLine
+pub mod Steps
+pub mod LeadingSteps
+pub mod Waiting
+pub mod AnswerText

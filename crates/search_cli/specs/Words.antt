@@ -1,21 +1,20 @@
 -- The words of a search.
 use Rattle.std.specs.Prelude.{ℕ, List, [], ◌∷◌, ◌&&◌, nat_eq, nat_le, Option, Some, None, option_map, option_and_then, Bool, true, false, if◌then◌else◌, bytes_eq, codes, map, string_bytes, String}
-use Rattle.run_words.specs.Text.{Text}
-use Rattle.run_words.specs.Lines.{decimal_of}
-use Rattle.run_words.specs.declared.places.Decimal.{Decimal}
-use Rattle.run_words.specs.declared.places.Decimal.TheVariants as Number
-use Rattle.pool_search.specs.declared.question.Question.{Question}
-use Rattle.pool_search.specs.declared.question.Wanted.{Wanted}
-use Rattle.pool_search.specs.declared.question.Wanted.TheVariants as W
-use Rattle.search_cli.specs.declared.words.Asked.{Asked}
+use Rattle.text_scan.specs.Text.{Text}
+use Rattle.text_scan.specs.Lines.{decimal_of}
+use Rattle.text_scan.specs.declared.spans.Decimal.{Decimal}
+use Rattle.text_scan.specs.declared.spans.Decimal.TheVariants as Number
+use Rattle.pool_search.specs.declared.queries.Query.{Query}
+use Rattle.pool_search.specs.declared.queries.Target.{Target}
+use Rattle.pool_search.specs.declared.queries.Target.TheVariants as W
 
 -- what is asked of the program of a name
 pub record Search : Type 0 where
-  pub question : Question
+  pub question : Query
   pub name : Text
 
 -- what a search looks for
-abbrev pub wanted_of : Text → Option Wanted
+abbrev pub wanted_of : Text → Option Target
 wanted_of w = if bytes_eq w (codes "stuck") then Some W.Stuck else (if bytes_eq w (codes "fault") then Some W.Fault else None)
 
 -- from 1 to 10,000,000 configurations
@@ -29,7 +28,7 @@ abbrev pub is_dashed : Text → Bool
 is_dashed [] = false
 is_dashed (b ∷ bs) = nat_eq b 45
 
-abbrev pub search_for : Wanted → Bool → Text → Text → Option Search
+abbrev pub search_for : Target → Bool → Text → Text → Option Search
 search_for wanted all name n =
     if is_dashed name then None
     else option_map (λ most. record { question = record { wanted = wanted; all = all; most = most }; name = name }) (most_of (decimal_of n))
@@ -47,7 +46,3 @@ search_of (a ∷ b ∷ c ∷ d ∷ e ∷ ws) = None
 -- the words as texts
 abbrev pub texts_of : {A : Type 0} → List (String A) → List Text
 texts_of words = map string_bytes words
-
--- what the code has of it
-abbrev pub search : Asked → Search
-search a = record { question = a.question; name = a.name.now }

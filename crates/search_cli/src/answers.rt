@@ -1,22 +1,23 @@
 //! What is answered of a program.
-ghost use Rattle.outside_calls.specs.Reading.{reading};
+ghost use Rattle.pool_outside.specs.Reading.{reading};
 ghost use Rattle.std.specs.Prelude.{◌≡◌, ◌+◌, ◌-◌, ◌^◌, ◌<◌, ◌≤◌, IfOk, IsTrue};
 ghost use Rattle.pool_syntax.specs.TreeOf.{program_of};
-ghost use Rattle.pool_search.specs.Sought.{IsWantedStuck, LeadsTo};
-ghost use Rattle.program_input.specs.Inputs.{most_bytes, one_read};
-ghost use Rattle.program_input.specs.Readers.{HasTypedFault, IsTypedProgram, Reads};
+ghost use Rattle.pool_search.specs.SearchTargets.{IsWantedStuck, LeadsTo};
+ghost use Rattle.command_inputs.specs.Inputs.{most_bytes, one_read};
+ghost use Rattle.command_inputs.specs.Readers.{Reads};
+ghost use Rattle.command_inputs.specs.Programs.{HasTypedFault, IsTypedProgram};
 ghost use Rattle.search_cli.specs.Answers.{Answers, IsAnswerOn};
 
+use crate::answer::{fault_text, finite_text, over_text, stuck_text};
 use crate::shown::replay;
 use crate::status::Status;
+use crate::waiting::waiting_rows;
 use crate::words::Asked;
 use class_check::Checked;
-use fault_lines::{Input, Stop};
+use command_inputs::{Input, InputError, judge_classes, read_parsed};
 use pool_outside::Files;
-use pool_search::{Found, Question, search};
-use program_input::{judge_classes, read_parsed};
-use run_words::{Label, Names};
-use search_lines::{fault_text, finite_text, over_text, stuck_text, waiting_rows};
+use pool_search::{Query, SearchResult, search};
+use run_types::{Label, Names};
 use std::alloc::{AllocError, Global};
 
 /// The text of an answer, and the status with which it is written.
@@ -31,7 +32,7 @@ fn stuck_answer(
     alloc: Global,
     program: &Checked<'_>,
     names: &Names,
-    question: &Question,
+    question: &Query,
     labels: &[Label],
 ) -> Result<Answer, AllocError>
     requires { LeadsTo (program_of program.now.program.now) labels.now (IsWantedStuck (program_of program.now.program.now) question.now) }
@@ -51,21 +52,21 @@ fn answer_of(
     alloc: Global,
     program: &Checked<'_>,
     names: &Names,
-    question: &Question,
+    question: &Query,
 ) -> Result<Answer, AllocError>
     ensures { IfOk result (λ a. Answers names.now (program_of program.now.program.now) question.now a.text.items a.status) }
 {
     match search(alloc, program, question) {
-        Ok(Found::Stuck(labels)) => stuck_answer(alloc, program, names, question, &labels),
-        Ok(Found::Fault(labels)) => Ok(Answer {
+        Ok(SearchResult::Stuck(labels)) => stuck_answer(alloc, program, names, question, &labels),
+        Ok(SearchResult::Fault(labels)) => Ok(Answer {
             text: fault_text(alloc, names, &labels)?,
             status: Status::Shown,
         }),
-        Ok(Found::Finite(kept)) => Ok(Answer {
+        Ok(SearchResult::Finite(kept)) => Ok(Answer {
             text: finite_text(alloc, kept as usize)?,
             status: Status::Finite,
         }),
-        Ok(Found::Over(kept)) => Ok(Answer {
+        Ok(SearchResult::Over(kept)) => Ok(Answer {
             text: over_text(alloc, kept as usize)?,
             status: Status::Over,
         }),
@@ -78,7 +79,7 @@ pub fn make_answer<F: Files>(
     alloc: Global,
     files: &mut F,
     asked: &Asked<'_>,
-) -> Result<Answer, Stop>
+) -> Result<Answer, InputError>
     requires allowed { IsTrue (F.may files.old (F.opens files.old) asked.now.name.now) }
     requires countable { F.opens files.old < 2 ^ 64 - 1 }
     ensures reads { Reads (reading F.told F.opens F.given F.live F.faults files.old files.new) Input.Program asked.now.name.now IsTypedProgram HasTypedFault (IsAnswerOn asked.now.question) result }
@@ -95,6 +96,6 @@ pub fn make_answer<F: Files>(
     };
     match answer_of(alloc, &checked, &parsed.names, &asked.question) {
         Ok(answer) => Ok(answer),
-        Err(AllocError) => Err(Stop::Memory),
+        Err(AllocError) => Err(InputError::Memory),
     }
 }

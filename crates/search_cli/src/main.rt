@@ -1,26 +1,30 @@
-//! A search over all runs of a program: from the words, the program's text and the two sinks to a status; and the program that
-//! runs it on the words of the command line, the files of the system, and the two standard sinks.
+//! The program `search`: from words, a program's text and two sinks to the text of an answer and an exit status.
+//!
+//! Does not know: how the search works.
 #![tactic(auto)]
 
+mod answer;
 mod answers;
 mod shown;
 mod status;
+mod steps;
 mod top;
+mod waiting;
 mod words;
 
-ghost use Rattle.outside_calls.specs.Reading.{reading};
-ghost use Rattle.outside_calls.specs.Writing.{writing};
+ghost use Rattle.pool_outside.specs.Reading.{reading};
+ghost use Rattle.pool_outside.specs.Writing.{writing};
 ghost use Rattle.std.specs.Prelude.{◌≡◌, ◌⊎◌, ◌-◌, ◌^◌, ◌<◌, Some, false, IfSome, IsTrue};
 ghost use Rattle.std.specs.Process.{exit_status};
 ghost use Rattle.pool_outside.specs.Outside.{Rose};
-ghost use Rattle.search_cli.specs.Answers.{IsWhole};
+ghost use Rattle.search_cli.specs.Answers.{WholeTextWritten};
 ghost use Rattle.search_cli.specs.Ends.{Ends, IsServed, StaysWithin};
 ghost use Rattle.search_cli.specs.Statuses.{code_of};
 ghost use Rattle.search_cli.specs.Words.{Search, search_of, texts_of};
 
 use crate::status::Status;
-use crate::top::pool_search;
-use pool_outside::{Files, Sink, StdFiles, StdSink, behind_name};
+use crate::top::search_command;
+use pool_outside::{Files, Sink, StdFiles, StdSink, args_after_program_name};
 use std::alloc::Global;
 use std::env;
 use std::process::ExitCode;
@@ -51,14 +55,14 @@ fn run<F: Files, K: Sink, E: Sink>(
     // Words of a search, an accepted program and no fault in this call give an answer whole, or nothing for want of memory.
     ensures complete { (s : Search) → search_of (texts_of words.now) ≡ Some s → IsServed (F.told files.old) s
         → ¬ (Rose (F.faults files.old) (F.faults files.new)) → ¬ (Rose (K.faults out.old) (K.faults out.new)) → ¬ (Rose (E.faults err.old) (E.faults err.new))
-        → ((status : Status) × IsWhole status × (exit_status result ≡ code_of status)) ⊎ (exit_status result ≡ 7) }
+        → ((status : Status) × WholeTextWritten status × (exit_status result ≡ code_of status)) ⊎ (exit_status result ≡ 7) }
 {
-    ExitCode::from(pool_search(alloc, words, files, out, err).code())
+    ExitCode::from(search_command(alloc, words, files, out, err).code())
 }
 
 fn main(rt: HostRuntime) -> ExitCode {
     let alloc = rt.alloc();
-    let Ok(words) = behind_name(alloc, env::args(&rt)) else {
+    let Ok(words) = args_after_program_name(alloc, env::args(&rt)) else {
         return ExitCode::from(Status::Memory.code());
     };
     let mut out = StdSink::make(rt.stdout());

@@ -1,13 +1,13 @@
 //! The configuration to which a run leads.
 ghost use Rattle.std.specs.Prelude.{◌≡◌, IfOk};
 ghost use Rattle.pool_syntax.specs.TreeOf.{program_of};
-ghost use Rattle.pool_search.specs.Sought.{LeadsTo};
+ghost use Rattle.pool_search.specs.SearchTargets.{LeadsTo};
 ghost use Rattle.search_laws.specs.Search.{IsInOrder};
 ghost use Rattle.pool_semantics.specs.PlainOf.{configuration_of, program_tree};
 
 use class_check::Checked;
 use pool_semantics::{Plain, Refuse};
-use run_words::Label;
+use run_types::Label;
 use std::alloc::{AllocError, Global};
 
 /// Makes the run of these labels from the start of the program.

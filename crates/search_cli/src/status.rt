@@ -2,7 +2,7 @@
 ghost use Rattle.std.specs.Prelude.{◌≡◌};
 ghost use Rattle.search_cli.specs.Statuses.{code_of};
 
-/// How a call of `pool_search` ends.
+/// How a call of `search_command` ends.
 #[derive(Clone, Copy, Debug, PartialEq, Eq)]
 pub enum Status {
     /// No run leads to what is looked for.

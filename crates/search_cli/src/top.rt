@@ -1,18 +1,18 @@
 //! The top call.
-ghost use Rattle.outside_calls.specs.Reading.{reading};
-ghost use Rattle.outside_calls.specs.Writing.{writing};
+ghost use Rattle.pool_outside.specs.Reading.{reading};
+ghost use Rattle.pool_outside.specs.Writing.{writing};
 ghost use Rattle.std.specs.Prelude.{◌≡◌, ◌⊎◌, ◌-◌, ◌^◌, ◌<◌, Some, false, Result, Err, IfSome, IsTrue};
 ghost use Rattle.pool_outside.specs.Outside.{Rose};
-ghost use Rattle.fault_lines.specs.FaultText.{refusal_line, unread_line};
-ghost use Rattle.search_cli.specs.Answers.{IsWhole};
-ghost use Rattle.search_cli.specs.Ends.{Ends, IsServed, StaysWithin, Writes};
-ghost use Rattle.search_cli.specs.Telling.{Tells};
+ghost use Rattle.command_inputs.specs.FaultText.{refusal_line, unread_line};
+ghost use Rattle.search_cli.specs.Answers.{WholeTextWritten};
+ghost use Rattle.search_cli.specs.Ends.{Ends, IsServed, StaysWithin};
+ghost use Rattle.search_cli.specs.InputErrorLine.{ReportsInputError, Writes};
 ghost use Rattle.search_cli.specs.Words.{Search, search_of, texts_of};
 
 use crate::answers::make_answer;
 use crate::status::Status;
 use crate::words::read_words;
-use fault_lines::{Stop, line_of_refusal, line_of_unread};
+use command_inputs::{InputError, line_of_refusal, line_of_unread};
 use pool_outside::{Files, Sink, write_all_of};
 use std::alloc::Global;
 
@@ -30,16 +30,16 @@ fn say<K: Sink>(sink: &mut K, piece: &[u8], status: Status) -> Status
 }
 
 /// Writes on the error sink why nothing is answered.
-fn say_stop<E: Sink>(alloc: Global, err: &mut E, stop: Stop) -> Status
-    ensures { Tells (writing E.written E.faults err.old err.new) stop result }
+fn say_stop<E: Sink>(alloc: Global, err: &mut E, stop: InputError) -> Status
+    ensures { ReportsInputError (writing E.written E.faults err.old err.new) stop result }
 {
     match stop {
-        Stop::Memory => Status::Memory,
-        Stop::Refused { input, fault } => match line_of_refusal(alloc, input, fault) {
+        InputError::Memory => Status::Memory,
+        InputError::Refused { input, fault } => match line_of_refusal(alloc, input, fault) {
             Ok(line) => say(err, &line, Status::Refused),
             Err(_) => Status::Memory,
         },
-        Stop::Unread { input } => match line_of_unread(alloc, input) {
+        InputError::Unread { input } => match line_of_unread(alloc, input) {
             Ok(line) => say(err, &line, Status::ReadFault),
             Err(_) => Status::Memory,
         },
@@ -47,7 +47,7 @@ fn say_stop<E: Sink>(alloc: Global, err: &mut E, stop: Stop) -> Status
 }
 
 /// Searches all runs of a program: the words after the program's name, the files that it may read, and the sinks for its answer and its error line.
-pub fn pool_search<F: Files, K: Sink, E: Sink>(
+pub fn search_command<F: Files, K: Sink, E: Sink>(
     alloc: Global,
     words: &[String],
     files: &mut F,
@@ -72,7 +72,7 @@ pub fn pool_search<F: Files, K: Sink, E: Sink>(
     // Words of a search, an accepted program and no fault in this call give an answer whole, or nothing for want of memory.
     ensures complete { (s : Search) → search_of (texts_of words.now) ≡ Some s → IsServed (F.told files.old) s
         → ¬ (Rose (F.faults files.old) (F.faults files.new)) → ¬ (Rose (K.faults out.old) (K.faults out.new)) → ¬ (Rose (E.faults err.old) (E.faults err.new))
-        → IsWhole result ⊎ (result ≡ Status.Memory) }
+        → WholeTextWritten result ⊎ (result ≡ Status.Memory) }
 {
     match read_words(words) {
         Some(asked) => match make_answer(alloc, files, &asked) {

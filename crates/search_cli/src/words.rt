@@ -1,10 +1,11 @@
 //! The words of a search.
 ghost use Rattle.std.specs.Prelude.{◌≡◌, [], ◌∷◌, option_map};
-ghost use Rattle.run_words.specs.Lines.{decimal_of};
-ghost use Rattle.search_cli.specs.Words.{is_dashed, most_of, search, search_for, search_of, texts_of, wanted_of};
+ghost use Rattle.text_scan.specs.Lines.{decimal_of};
+ghost use Rattle.search_cli.specs.Words.{is_dashed, most_of, search_for, search_of, texts_of, wanted_of};
+ghost use Rattle.search_cli.specs.AskedSearch.{search};
 
-use pool_search::{Question, Wanted};
-use run_words::{Decimal, decimal};
+use pool_search::{Query, Target};
+use text_scan::{Decimal, decimal};
 
 /// The fewest and the most configurations that may be kept.
 const FEWEST: u64 = 1;
@@ -14,7 +15,7 @@ const MOST: u64 = 10_000_000;
 /// What is asked of the program of a name.
 #[derive(Clone, Copy)]
 pub struct Asked<'a> {
-    pub question: Question,
+    pub question: Query,
     pub name: &'a str,
 }
 
@@ -29,12 +30,12 @@ fn is_dashed(word: &str) -> bool
 }
 
 /// What a search looks for.
-fn wanted_of(word: &str) -> Option<Wanted>
+fn wanted_of(word: &str) -> Option<Target>
     ensures { result ≡ wanted_of word.now }
 {
     match word {
-        "stuck" => Some(Wanted::Stuck),
-        "fault" => Some(Wanted::Fault),
+        "stuck" => Some(Target::Stuck),
+        "fault" => Some(Target::Fault),
         _ => None,
     }
 }
@@ -57,7 +58,7 @@ fn most_of(word: &str) -> Option<u32>
 }
 
 /// The search for this of the program of a name, where the other word is a number.
-fn search_for<'a>(wanted: Wanted, all: bool, name: &'a str, word: &str) -> Option<Asked<'a>>
+fn search_for<'a>(wanted: Target, all: bool, name: &'a str, word: &str) -> Option<Asked<'a>>
     ensures { option_map search result ≡ search_for wanted all name.entry.now word.now }
 {
     if is_dashed(name) {
@@ -65,7 +66,7 @@ fn search_for<'a>(wanted: Wanted, all: bool, name: &'a str, word: &str) -> Optio
     }
     match most_of(word) {
         Some(most) => Some(Asked {
-            question: Question { wanted, all, most },
+            question: Query { wanted, all, most },
             name,
         }),
         None => None,
@@ -77,7 +78,7 @@ fn search_of_three<'a>(first: &str, name: &'a str, word: &str) -> Option<Asked<'
     ensures { option_map search result ≡ search_of (first.now ∷ name.entry.now ∷ word.now ∷ []) }
 {
     if first == "all" {
-        return search_for(Wanted::Both, true, name, word);
+        return search_for(Target::Both, true, name, word);
     }
     match wanted_of(first) {
         Some(wanted) => search_for(wanted, false, name, word),
@@ -103,7 +104,7 @@ pub fn read_words<'a>(words: &'a [String]) -> Option<Asked<'a>>
     ensures { option_map search result ≡ search_of (texts_of words.now) }
 {
     match words {
-        [name, most] => search_for(Wanted::Both, false, name.as_str(), most.as_str()),
+        [name, most] => search_for(Target::Both, false, name.as_str(), most.as_str()),
         [first, name, most] => search_of_three(first.as_str(), name.as_str(), most.as_str()),
         [first, second, name, most] => search_of_four(
             first.as_str(),

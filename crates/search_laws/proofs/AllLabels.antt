@@ -6,18 +6,18 @@ use Rattle.std.specs.declared.cmp.Ordering.{Ordering}
 use Rattle.std.specs.declared.cmp.Ordering.TheVariants.{Less, Equal, Greater}
 use Rattle.std.specs.FinMap.{nat_cmp-IsAntisymmetric}
 use Rattle.std.specs.FinMap.Entries.{find}
-use Rattle.run_words.specs.declared.words.Value.{Value}
-use Rattle.run_words.specs.declared.words.Item.{Item}
-use Rattle.run_words.specs.declared.words.Error.{Error}
-use Rattle.run_words.specs.declared.words.NameId.{NameId}
+use Rattle.run_types.specs.declared.types.Value.{Value}
+use Rattle.run_types.specs.declared.types.Item.{Item}
+use Rattle.run_types.specs.declared.types.Error.{Error}
+use Rattle.run_types.specs.declared.types.NameId.{NameId}
 use Rattle.pool_syntax.specs.declared.tree.Named.{Named}
-use Rattle.run_words.specs.declared.words.Label.{Label}
-use Rattle.run_words.specs.declared.words.Label.TheVariants as L
+use Rattle.run_types.specs.declared.types.Label.{Label}
+use Rattle.run_types.specs.declared.types.Label.TheVariants as L
 use Rattle.pool_syntax.specs.Terms.{Statements, ProgramTree}
-use Rattle.run_words.specs.Message.{Message}
-use Rattle.run_words.specs.Same.{are_same}
-use Rattle.run_words.specs.Tables.{Pair, pair_cmp}
-use Rattle.run_words.proofs.Laws.{first, second, equal, given_by, required, same_some, same_value, same_values, same_error, one_pair}
+use Rattle.run_types.specs.Message.{Message}
+use Rattle.run_types.specs.Same.{are_same}
+use Rattle.run_types.specs.Tables.{Pair, pair_cmp}
+use Rattle.run_types.proofs.Laws.{first, second, equal, given_by, required, same_some, same_value, same_values, same_error, one_pair}
 use Rattle.pool_relation.specs.Reducible.{Choice}
 use Rattle.pool_relation.specs.Action as A
 use Rattle.pool_relation.specs.Action.{Object, Action, action}

@@ -1,15 +1,15 @@
 -- An error that an object has met stays through each transition that needs no choice.
 use Rattle.std.proofs.Common.{◌≡◌, ◌≢◌, sym, ap, ◌∙◌, ℕ, Some, None, is_some, true, ◌&&◌}
-use Rattle.run_words.specs.declared.words.Label.{Label}
-use Rattle.run_words.specs.declared.words.Label.TheVariants as L
+use Rattle.run_types.specs.declared.types.Label.{Label}
+use Rattle.run_types.specs.declared.types.Label.TheVariants as L
 use Rattle.pool_syntax.specs.Terms.{ProgramTree}
-use Rattle.run_words.proofs.Laws.{given_by, required, same_some}
+use Rattle.run_types.proofs.Laws.{given_by, required, same_some}
 use Rattle.pool_relation.specs.Action.{Object, action}
 use Rattle.pool_relation.specs.Configuration.{Configuration, object_of, put_object}
 use Rattle.pool_relation.specs.Transition.{running, local_step, posts, returns, waits_on, writes, fails, done, returned, given, transition}
 use Rattle.pool_relation.proofs.Laws.{running_is}
 use Rattle.search_laws.specs.Search.{needs_no_choice}
-use Rattle.search_laws.proofs.Orders.{at_another}
+use Rattle.search_laws.proofs.PutsCommute.{at_another}
 
 module _ (p : ProgramTree) (c e : Configuration) (q : ℕ) (z : Object) (there : object_of c q ≡ Some z) (met : z.fault ≢ None) where
   -- it is none that goes on

@@ -1,21 +1,21 @@
 -- What steps that need no choice keep is found by a search that follows them to their ends, where a run leads to it.
 use Rattle.std.proofs.Common.{◌≡◌, ◌≢◌, ◌≤◌, ◌⊎◌, inl, inr, refl, sym, ap, ◌∙◌, subst, ℕ, zero, suc, List, [], ◌∷◌, length, map, Option, Some, None, true, arith}
-use Rattle.run_words.specs.declared.words.Label.{Label}
+use Rattle.run_types.specs.declared.types.Label.{Label}
 use Rattle.pool_syntax.specs.Terms.{ProgramTree, ClassTree}
-use Rattle.run_words.specs.Partial.{◌>>=◌}
+use Rattle.run_types.specs.Partial.{◌>>=◌}
 use Rattle.pool_relation.specs.Configuration.{Configuration}
 use Rattle.pool_relation.specs.Transition.{transition, run, last_class, start}
-use Rattle.search_laws.specs.Renamed.{Renaming, renamed_program, renamed_label, IsRenamed}
-use Rattle.search_laws.specs.Search.{IsNameless, IsReached, IsFaulty, after, names_next, in_order, IsIn, IsWholeAfterSettling}
+use Rattle.search_laws.specs.Renamed.{Renaming, renamed_program, renamed_label, IsRenamed, IsNameless}
+use Rattle.search_laws.specs.Search.{IsReached, IsFaulty, after, names_next, in_order, IsIn, IsClosedAfterSettling}
 use Rattle.search_laws.proofs.RenamedTransition.{Alike, Neither, Both}
 use Rattle.search_laws.proofs.RenamedRun.{run_renamed, makes_none}
-use Rattle.search_laws.proofs.Arranged.{swap_first, swapped, same_all, arranged}
-use Rattle.search_laws.proofs.Complete.{lone, below_start, lone_renamed, fault_kept}
-use Rattle.search_laws.proofs.Reduced.{stays, both_hold, First, first_of, joined_step, Settles, Settled, Goes}
-use Rattle.run_words.proofs.Laws.{second, first as first_holds}
-use Rattle.search_laws.proofs.Steps.{Alone, alone_makes_none, same_label, commutes}
+use Rattle.search_laws.proofs.NamesInOrder.{swap_first, swapped, same_all, arranged}
+use Rattle.search_laws.proofs.SearchCompleteness.{lone, below_start, lone_renamed, fault_kept}
+use Rattle.search_laws.proofs.ReducedSearch.{stays, both_hold, First, first_of, joined_step, Settles, Settled, Goes}
+use Rattle.run_types.proofs.Laws.{second, first as first_holds}
+use Rattle.search_laws.proofs.Commutation.{Alone, alone_makes_none, same_label, commutes}
 use Rattle.search_laws.proofs.Faults.{fault_stays}
-use Rattle.search_laws.proofs.Settling.{settles, start_sorted, sorted_after}
+use Rattle.search_laws.proofs.ChoiceFreeRuns.{settles, start_sorted, sorted_after}
 
 module _ (p : ProgramTree) (Alone : Configuration → Label → Type 0)
     (same : (c : Configuration) (k : Label) → Alone c k → (l : Label) → (l ≡ k) ⊎ (l ≢ k))
@@ -114,7 +114,7 @@ alone_keeps_faults p c e k a i faulty =
     }
 
 -- where a list is whole after such transitions and none of it is faulty, no run whatever leads to a faulty configuration
-pub never_faulty_after_settling : (p : ProgramTree) (es : List (ℕ × Configuration)) → IsNameless p → IsWholeAfterSettling p es
+pub never_faulty_after_settling : (p : ProgramTree) (es : List (ℕ × Configuration)) → IsNameless p → IsClosedAfterSettling p es
     → ((n : ℕ) (c : Configuration) → IsIn n c es → ¬ (IsFaulty c)) → (d : Configuration) → IsReached p d → ¬ (IsFaulty d)
 never_faulty_after_settling p es less whole none d reached faulty = by (last_class p) refl reached.starts
   where

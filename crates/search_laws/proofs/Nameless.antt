@@ -9,8 +9,7 @@ use Rattle.pool_syntax.specs.declared.tree.Program.{Program}
 use Rattle.pool_syntax.specs.Terms as T
 use Rattle.pool_syntax.specs.Terms.{MethodTree, ClassTree}
 use Rattle.pool_syntax.specs.TreeOf.{expression_of, expression_row, expressions_of, statement_of, statement_row, alternative_row, statements_of, method_tree, class_tree, program_of}
-use Rattle.search_laws.specs.Renamed.{renamed_expression, renamed_expressions, renamed_statement, renamed_statements, renamed_alternatives, renamed_method, renamed_class}
-use Rattle.search_laws.specs.Search.{IsNameless}
+use Rattle.search_laws.specs.Renamed.{renamed_expression, renamed_expressions, renamed_statement, renamed_statements, renamed_alternatives, renamed_method, renamed_class, IsNameless}
 
 module _ (f : ℕ → ℕ) where
   mutual

@@ -1,13 +1,13 @@
 -- Where no label is possible that names a new object with one unused name, none is possible.
 use Rattle.std.proofs.Common.{◌≡◌, refl, sym, ap, ◌∙◌, ℕ, Option, Some, None, is_none, Bool, true, false, ◌&&◌}
-use Rattle.run_words.specs.declared.words.NameId.{NameId}
-use Rattle.run_words.specs.declared.words.Value.TheVariants as V
-use Rattle.run_words.specs.declared.words.Label.{Label}
-use Rattle.run_words.specs.declared.words.Label.TheVariants as L
+use Rattle.run_types.specs.declared.types.NameId.{NameId}
+use Rattle.run_types.specs.declared.types.Value.TheVariants as V
+use Rattle.run_types.specs.declared.types.Label.{Label}
+use Rattle.run_types.specs.declared.types.Label.TheVariants as L
 use Rattle.pool_syntax.specs.Terms.{ProgramTree, ClassTree}
 use Rattle.pool_syntax.specs.Classes.{class_of}
-use Rattle.run_words.specs.Partial.{◌>>=◌, ◌>>◌, require}
-use Rattle.run_words.proofs.Laws.{equals}
+use Rattle.run_types.specs.Partial.{◌>>=◌, ◌>>◌, require}
+use Rattle.run_types.proofs.Laws.{equals}
 use Rattle.pool_relation.specs.Action.{Object, action}
 use Rattle.pool_relation.specs.Configuration.{Configuration, object_of, put_object}
 use Rattle.pool_relation.specs.Transition.{running, makes, given, new_object, transition}

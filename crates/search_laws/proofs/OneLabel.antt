@@ -1,15 +1,15 @@
 -- An object that is to make a local transition, to write, to post, to meet an error, to return, or that waits, takes part in one label only.
 use Rattle.std.proofs.Common.{◌≡◌, refl, sym, ap, ◌∙◌, subst, IsTrue, ℕ, List, Some, is_some, is_none, true, ◌&&◌, ◌==◌}
-use Rattle.run_words.specs.declared.words.Value.{Value}
-use Rattle.run_words.specs.declared.words.Item.{Item}
-use Rattle.run_words.specs.declared.words.Item.TheVariants as I
-use Rattle.run_words.specs.declared.words.Error.{Error}
-use Rattle.run_words.specs.declared.words.NameId.{NameId}
-use Rattle.run_words.specs.declared.words.Label.{Label}
-use Rattle.run_words.specs.declared.words.Label.TheVariants as L
+use Rattle.run_types.specs.declared.types.Value.{Value}
+use Rattle.run_types.specs.declared.types.Item.{Item}
+use Rattle.run_types.specs.declared.types.Item.TheVariants as I
+use Rattle.run_types.specs.declared.types.Error.{Error}
+use Rattle.run_types.specs.declared.types.NameId.{NameId}
+use Rattle.run_types.specs.declared.types.Label.{Label}
+use Rattle.run_types.specs.declared.types.Label.TheVariants as L
 use Rattle.pool_syntax.specs.Terms.{ProgramTree}
-use Rattle.run_words.specs.Same.{are_same, is_same_item}
-use Rattle.run_words.proofs.Laws.{first, second, equal, given_by, required, same_some, same_value, same_values, same_error}
+use Rattle.run_types.specs.Same.{are_same, is_same_item}
+use Rattle.run_types.proofs.Laws.{first, second, equal, given_by, required, same_some, same_value, same_values, same_error}
 use Rattle.pool_relation.specs.Action as A
 use Rattle.pool_relation.specs.Action.{Object, Action, action}
 use Rattle.pool_relation.specs.Configuration.{Configuration, object_of}

@@ -3,16 +3,16 @@ use Rattle.std.proofs.Common.{◌≡◌, refl, ap, ◌∙◌, ℕ, ℤ, pos, neg
 use Rattle.std.specs.Prelude.{int_div, int_rem, neg_ℤ, ◌+ℤ◌, ◌-ℤ◌, ◌*ℤ◌}
 use Rattle.std.specs.List.{list_any}
 use Rattle.std.proofs.lemmas.List.{length-map}
-use Rattle.run_words.specs.declared.words.Value.{Value}
-use Rattle.run_words.specs.declared.words.Value.TheVariants as V
-use Rattle.run_words.specs.declared.words.Op.{Op}
-use Rattle.run_words.specs.declared.words.Op.TheVariants as O
-use Rattle.run_words.specs.declared.words.Error.TheVariants.{Overflow}
+use Rattle.run_types.specs.declared.types.Value.{Value}
+use Rattle.run_types.specs.declared.types.Value.TheVariants as V
+use Rattle.run_types.specs.declared.types.Op.{Op}
+use Rattle.run_types.specs.declared.types.Op.TheVariants as O
+use Rattle.run_types.specs.declared.types.Error.TheVariants.{Overflow}
 use Rattle.pool_syntax.specs.declared.tree.Var.{Var}
 use Rattle.pool_syntax.specs.Terms as T
 use Rattle.pool_syntax.specs.Terms.{Store, Statements, MethodTree, ClassTree, ProgramTree, append}
 use Rattle.pool_syntax.specs.Classes.{class_of, named_method}
-use Rattle.run_words.specs.Values.{Outcome, Gives, Fails, WrongSort, is_in_range, number, truth, quotient, remainder, is_same, on_ints, on_bools, prefix_value, infix_value, negated, denied, is_nil, not_bool, is_true}
+use Rattle.run_types.specs.Values.{Outcome, Gives, Fails, WrongSort, is_in_range, number, truth, quotient, remainder, is_same, on_ints, on_bools, prefix_value, infix_value, negated, denied, is_nil, not_bool, is_true}
 use Rattle.pool_relation.specs.Reducible as R
 use Rattle.pool_relation.specs.Reducible.{Choice, Reducible, Found, Evaluated, At, Contractum, AsExpression, AsStatements, set_value, fill_statements, statements_redex}
 use Rattle.pool_relation.specs.Action as A

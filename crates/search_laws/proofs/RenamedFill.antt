@@ -1,6 +1,6 @@
 -- A renamed part in the place of a renamed term's redex.
 use Rattle.std.proofs.Common.{◌≡◌, refl, ap, ◌∙◌, ℕ, [], ◌∷◌, Option, Some, None, Bool, true, false, ◌==◌, if◌then◌else◌}
-use Rattle.run_words.specs.declared.words.Value.{Value}
+use Rattle.run_types.specs.declared.types.Value.{Value}
 use Rattle.pool_syntax.specs.Terms.{Store, Expression, Literal, Me, Variable, Create, Prefix, Infix, Call, Send, Frame, Wait, Expressions, NoArgs, Arg, Statement, Assign, Write, WriteText, Do, Async, If, While, Answer, Select, Serve, Statements, Done, Then, Alternatives, NoAlts, Alt, append}
 use Rattle.pool_relation.specs.Reducible.{is_value, are_values, guards_are_values, is_done, is_over, Contractum, AsExpression, AsStatements, as_expression, as_statements, set_value, assigned, fill_expression, fill_expressions, fill_statement, fill_statements}
 use Rattle.pool_relation.specs.Reducible.{fill_guards}

@@ -1,6 +1,6 @@
 -- The redex of a renamed term is the renamed redex, and a renamed part takes its place.
 use Rattle.std.proofs.Common.{◌≡◌, refl, ap, ◌∙◌, ℕ, ◌∷◌, map, Option, Some, None}
-use Rattle.run_words.specs.declared.words.Item.TheVariants as I
+use Rattle.run_types.specs.declared.types.Item.TheVariants as I
 use Rattle.pool_syntax.specs.Terms.{Store, Expression, Literal, Me, Variable, Create, Prefix, Infix, Call, Send, Frame, Wait, Expressions, NoArgs, Arg, Statement, Assign, Write, WriteText, Do, Async, If, While, Answer, Select, Serve, Statements, Done, Then, Alternatives, NoAlts, Alt}
 use Rattle.pool_relation.specs.Reducible.{Choice, Reducible, Found, Evaluated, At, and_then, in_post, left_served, OwnName, Read, Make, Unary, Binary, Invoke, SynchronousSend, Leave, Waiting, Set, Print, Drop, Post, Branch, Loop, Accept, Choose, Finish, Contractum, AsExpression, AsStatements, expression_redex, expressions_redex, statement_redex, statements_redex}
 use Rattle.pool_relation.specs.Reducible.{guards_redex}

@@ -1,17 +1,17 @@
 -- Runs under other names: each run is, under other names, one that names new objects in order.
 use Rattle.std.proofs.Common.{◌≡◌, refl, sym, ap, ◌∙◌, ℕ, List, [], ◌∷◌, length, map, Option, Some, None, is_some, is_none, Bool, true, false, not, ◌&&◌, ◌||◌, ◌==◌}
-use Rattle.run_words.specs.declared.words.Value.TheVariants as V
-use Rattle.run_words.specs.declared.words.NameId.{NameId}
-use Rattle.run_words.specs.declared.words.Label.{Label}
-use Rattle.run_words.specs.declared.words.Label.TheVariants as L
+use Rattle.run_types.specs.declared.types.Value.TheVariants as V
+use Rattle.run_types.specs.declared.types.NameId.{NameId}
+use Rattle.run_types.specs.declared.types.Label.{Label}
+use Rattle.run_types.specs.declared.types.Label.TheVariants as L
 use Rattle.pool_syntax.specs.Terms.{ProgramTree}
-use Rattle.run_words.specs.Partial.{◌>>=◌, ◌>>◌, require}
-use Rattle.run_words.proofs.Laws.{equal, equals, second}
+use Rattle.run_types.specs.Partial.{◌>>=◌, ◌>>◌, require}
+use Rattle.run_types.proofs.Laws.{equal, equals, second}
 use Rattle.pool_relation.specs.Action.{Object, method_of, action}
 use Rattle.pool_relation.specs.Reducible.{AsExpression, AsStatements}
 use Rattle.pool_syntax.specs.Terms as T
 use Rattle.pool_syntax.specs.Classes.{class_of}
-use Rattle.run_words.specs.Same.{are_same}
+use Rattle.run_types.specs.Same.{are_same}
 use Rattle.pool_relation.specs.Configuration.{Configuration, object_of, put_object, messages_of}
 use Rattle.pool_relation.specs.Transition.{without_fault, running, local_step, makes, calls, posts, returns, waits_on, writes, fails, picked, offer, has_message, first_message, refilled, done, returned, given, serving, new_object, transition, run}
 use Rattle.search_laws.specs.Renamed.{Renaming, renamed_program, renamed_label, IsRenamed}

@@ -1,22 +1,22 @@
 -- A renamed label leads from a renamed configuration to a renamed one, and exactly where the label does.
 use Rattle.std.proofs.Common.{◌≡◌, ◌≢◌, refl, sym, ap, ◌∙◌, subst, ℕ, zero, suc, List, [], ◌∷◌, ◌++◌, length, map, option_map, Option, Some, None, is_some, is_none, Bool, true, false, not, ◌&&◌, ◌||◌, ◌==◌, slice_get}
 use Rattle.std.proofs.lemmas.List.{map-append, length-map}
-use Rattle.run_words.specs.declared.words.Value.{Value}
-use Rattle.run_words.specs.declared.words.Value.TheVariants as V
-use Rattle.run_words.specs.declared.words.Item.{Item}
-use Rattle.run_words.specs.declared.words.Item.TheVariants as I
-use Rattle.run_words.specs.declared.words.Error.{Error}
-use Rattle.run_words.specs.declared.words.Label.{Label}
-use Rattle.run_words.specs.declared.words.Label.TheVariants as L
+use Rattle.run_types.specs.declared.types.Value.{Value}
+use Rattle.run_types.specs.declared.types.Value.TheVariants as V
+use Rattle.run_types.specs.declared.types.Item.{Item}
+use Rattle.run_types.specs.declared.types.Item.TheVariants as I
+use Rattle.run_types.specs.declared.types.Error.{Error}
+use Rattle.run_types.specs.declared.types.Label.{Label}
+use Rattle.run_types.specs.declared.types.Label.TheVariants as L
 use Rattle.pool_syntax.specs.declared.tree.Named.{Named}
 use Rattle.pool_syntax.specs.Terms as T
 use Rattle.pool_syntax.specs.Terms.{Store, Expression, Statements, MethodTree, ClassTree, ProgramTree}
 use Rattle.pool_syntax.specs.Classes.{class_of}
-use Rattle.run_words.specs.Values.{is_true}
-use Rattle.run_words.specs.Message.{Message}
-use Rattle.run_words.specs.Partial.{◌>>=◌, ◌>>◌, require}
-use Rattle.run_words.specs.Same.{are_same, is_same_item}
-use Rattle.run_words.proofs.Laws.{equal, equals, put_list_same}
+use Rattle.run_types.specs.Values.{is_true}
+use Rattle.run_types.specs.Message.{Message}
+use Rattle.run_types.specs.Partial.{◌>>=◌, ◌>>◌, require}
+use Rattle.run_types.specs.Same.{are_same, is_same_item}
+use Rattle.run_types.proofs.Laws.{equal, equals, put_list_same}
 use Rattle.pool_relation.specs.Reducible as R
 use Rattle.pool_relation.specs.Reducible.{Choice, Found, Evaluated, At, Contractum, AsExpression, AsStatements, statements_redex}
 use Rattle.pool_relation.specs.Action as A

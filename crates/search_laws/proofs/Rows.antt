@@ -1,26 +1,27 @@
 -- Worked rows, computed: a program that is stuck, and one that has three configurations to keep and is never stuck or faulty.
 use Rattle.std.proofs.Common.{◌≡◌, inl, inr, refl, sym, ap, ◌∙◌, subst, ℕ, pos, List, [], ◌∷◌, ◌++◌, Option, Some, None}
-use Rattle.run_words.specs.declared.words.Value.{Value}
-use Rattle.run_words.specs.declared.words.Value.TheVariants as V
-use Rattle.run_words.specs.declared.words.NameId.{NameId}
-use Rattle.run_words.specs.declared.words.Item.TheVariants as I
-use Rattle.run_words.specs.declared.words.Op.TheVariants as O
-use Rattle.run_words.specs.declared.words.Label.{Label}
-use Rattle.run_words.specs.declared.words.Label.TheVariants as L
-use Rattle.run_words.specs.declared.words.Kind.{Kind}
-use Rattle.run_words.specs.declared.words.Kind.TheVariants as K
+use Rattle.run_types.specs.declared.types.Value.{Value}
+use Rattle.run_types.specs.declared.types.Value.TheVariants as V
+use Rattle.run_types.specs.declared.types.NameId.{NameId}
+use Rattle.run_types.specs.declared.types.Item.TheVariants as I
+use Rattle.run_types.specs.declared.types.Op.TheVariants as O
+use Rattle.run_types.specs.declared.types.Label.{Label}
+use Rattle.run_types.specs.declared.types.Label.TheVariants as L
+use Rattle.run_types.specs.declared.types.Kind.{Kind}
+use Rattle.run_types.specs.declared.types.Kind.TheVariants as K
 use Rattle.pool_syntax.specs.declared.tree.Named.{Named}
 use Rattle.pool_syntax.specs.declared.tree.Var.{Var}
 use Rattle.pool_syntax.specs.Terms.{Expression, Literal, Me, Variable, Create, Infix, Send, NoArgs, Arg, Assign, Write, Answer, Done, Then, MethodTree, ClassTree, ProgramTree}
-use Rattle.run_words.specs.Partial.{◌>>=◌}
-use Rattle.run_words.proofs.Laws.{same_some}
+use Rattle.run_types.specs.Partial.{◌>>=◌}
+use Rattle.run_types.proofs.Laws.{same_some}
 use Rattle.pool_relation.specs.Configuration.{Configuration}
 use Rattle.pool_relation.specs.Transition.{transition, run, start}
-use Rattle.search_laws.specs.Search.{IsNameless, IsReached, IsStuck, IsFaulty, WaitsAt, IsIn, Settles, Settled}
+use Rattle.search_laws.specs.Search.{IsReached, IsStuck, IsFaulty, WaitsAt, IsIn, Settles, Settled}
+use Rattle.search_laws.specs.Renamed.{IsNameless}
 use Rattle.search_laws.specs.Labels.{labels_to_try, IsTried}
 use Rattle.search_laws.proofs.AllLabels.{at_end_by_trying}
-use Rattle.search_laws.proofs.Settling.{never_stuck_after_settling}
-use Rattle.search_laws.proofs.Tried.{settles_by, whole_by_trying, nobody_waits, nobody_faulty}
+use Rattle.search_laws.proofs.ChoiceFreeRuns.{never_stuck_after_settling}
+use Rattle.search_laws.proofs.AllLabelsTried.{settles_by, whole_by_trying, nobody_waits, nobody_faulty}
 use Rattle.search_laws.proofs.KeptOnTheWay.{never_faulty_after_settling}
 
 abbrev name : ℕ → NameId

@@ -1,29 +1,29 @@
 -- A search that follows transitions which need no choice, and keeps only what stands after them, sees every stuck configuration, and every unfinished one.
 use Rattle.std.proofs.Common.{◌≡◌, refl, sym, ap, ◌∙◌, subst, ℕ, List, length, map, Option, Some, None, arith}
 use Rattle.pool_syntax.specs.Terms.{ProgramTree, ClassTree}
-use Rattle.run_words.specs.Partial.{◌>>=◌}
+use Rattle.run_types.specs.Partial.{◌>>=◌}
 use Rattle.pool_relation.specs.Configuration.{Configuration}
 use Rattle.pool_relation.specs.Transition.{run, last_class, start}
-use Rattle.search_laws.specs.Renamed.{Renaming, renamed_program, renamed_label, IsRenamed}
-use Rattle.search_laws.specs.Search.{IsNameless, IsReached, IsAtEnd, IsStuck, IsUnfinished, IsIn}
+use Rattle.search_laws.specs.Renamed.{Renaming, renamed_program, renamed_label, IsRenamed, IsNameless}
+use Rattle.search_laws.specs.Search.{IsReached, IsAtEnd, IsStuck, IsUnfinished, IsIn}
 use Rattle.search_laws.proofs.RenamedTransition.{Alike, Neither, Both}
 use Rattle.search_laws.proofs.RenamedRun.{run_renamed}
-use Rattle.search_laws.proofs.Arranged.{swap_first, swapped, same_all, arranged}
-use Rattle.search_laws.proofs.Complete.{lone, below_start, lone_renamed, stuck_kept, unfinished_kept}
-use Rattle.search_laws.proofs.Steps.{Alone, alone_makes_none, same_label, commutes}
-use Rattle.search_laws.proofs.Reduced.{Settles, IsClosedAfter, without_all, ends_are_in}
+use Rattle.search_laws.proofs.NamesInOrder.{swap_first, swapped, same_all, arranged}
+use Rattle.search_laws.proofs.SearchCompleteness.{lone, below_start, lone_renamed, stuck_kept, unfinished_kept}
+use Rattle.search_laws.proofs.Commutation.{Alone, alone_makes_none, same_label, commutes}
+use Rattle.search_laws.proofs.ReducedSearch.{Settles, IsClosedAfter, without_all, ends_are_in}
 
 -- transitions that need no choice, one after another
 abbrev pub SettlesAlone : ProgramTree → Configuration → Configuration → Type 0
 SettlesAlone p = Settles p (Alone p) (same_label p) (alone_makes_none p) (commutes p)
 
 -- all that a search has to see that follows such transitions
-pub record IsWholeAfter (p : ProgramTree) (es : List (ℕ × Configuration)) : Type 0 where
+pub record IsClosedAfter (p : ProgramTree) (es : List (ℕ × Configuration)) : Type 0 where
   pub begins : (c : Configuration) → start p 0 ≡ Some c → (f : Configuration) × SettlesAlone p c f × IsIn 1 f es
   pub closed : IsClosedAfter p (Alone p) (same_label p) (alone_makes_none p) (commutes p) es
 
 -- a reached configuration without transition is, under other names, in the list
-pub ends_are_seen : (p : ProgramTree) (es : List (ℕ × Configuration)) → IsNameless p → IsWholeAfter p es → (d : Configuration) → IsReached p d
+pub ends_are_seen : (p : ProgramTree) (es : List (ℕ × Configuration)) → IsNameless p → IsClosedAfter p es → (d : Configuration) → IsReached p d
     → ((g : Renaming) (x : Configuration) → IsRenamed g.to d x → IsAtEnd p x)
     → (g : Renaming) × (x : Configuration) × (m : ℕ) × IsRenamed g.to d x × IsIn m x es
 ends_are_seen p es less whole d reached ended = by (last_class p) refl reached.starts
@@ -60,13 +60,13 @@ ends_are_seen p es less whole d reached ended = by (last_class p) refl reached.s
         go k i (ap (λ c. run p c reached.labels) is ∙ reached.leads)
 
 -- where no configuration of the list is stuck, or unfinished, no run whatever leads to such a one
-pub never_stuck_after : (p : ProgramTree) (es : List (ℕ × Configuration)) → IsNameless p → IsWholeAfter p es → ((n : ℕ) (c : Configuration) → IsIn n c es → ¬ (IsStuck p c))
+pub never_stuck_after : (p : ProgramTree) (es : List (ℕ × Configuration)) → IsNameless p → IsClosedAfter p es → ((n : ℕ) (c : Configuration) → IsIn n c es → ¬ (IsStuck p c))
     → (d : Configuration) → IsReached p d → ¬ (IsStuck p d)
 never_stuck_after p es less whole none d reached stuck =
     let s = ends_are_seen p es less whole d reached (λ g x named. (stuck_kept g p d x less named stuck).at_end) in
     none s.2 s.1 s.4 (stuck_kept s.0 p d s.1 less s.3 stuck)
 
-pub never_unfinished_after : (p : ProgramTree) (es : List (ℕ × Configuration)) → IsNameless p → IsWholeAfter p es → ((n : ℕ) (c : Configuration) → IsIn n c es → ¬ (IsUnfinished p c))
+pub never_unfinished_after : (p : ProgramTree) (es : List (ℕ × Configuration)) → IsNameless p → IsClosedAfter p es → ((n : ℕ) (c : Configuration) → IsIn n c es → ¬ (IsUnfinished p c))
     → (d : Configuration) → IsReached p d → ¬ (IsUnfinished p d)
 never_unfinished_after p es less whole none d reached unfinished =
     let s = ends_are_seen p es less whole d reached (λ g x named. (unfinished_kept g p d x less named unfinished).at_end) in

@@ -1,3 +1,4 @@
 pub mod Renamed
 pub mod Search
+pub mod ClosedLists
 pub mod Labels

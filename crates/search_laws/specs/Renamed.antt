@@ -1,14 +1,14 @@
 -- Values, terms, objects, messages and labels with other names of objects.
 use Rattle.std.specs.Prelude.{◌≡◌, ℕ, [], ◌∷◌, Option, Some, None, option_map, map}
-use Rattle.run_words.specs.declared.words.Value.{Value}
-use Rattle.run_words.specs.declared.words.Value.TheVariants as V
-use Rattle.run_words.specs.declared.words.Item.{Item}
-use Rattle.run_words.specs.declared.words.Item.TheVariants as I
-use Rattle.run_words.specs.declared.words.Label.{Label}
-use Rattle.run_words.specs.declared.words.Label.TheVariants as L
+use Rattle.run_types.specs.declared.types.Value.{Value}
+use Rattle.run_types.specs.declared.types.Value.TheVariants as V
+use Rattle.run_types.specs.declared.types.Item.{Item}
+use Rattle.run_types.specs.declared.types.Item.TheVariants as I
+use Rattle.run_types.specs.declared.types.Label.{Label}
+use Rattle.run_types.specs.declared.types.Label.TheVariants as L
 use Rattle.pool_syntax.specs.Terms.{Store, Expression, Literal, Me, Variable, Create, Prefix, Infix, Call, Send, Frame, Wait, Expressions, NoArgs, Arg, Statement, Assign, Write, WriteText, Do, Async}
 use Rattle.pool_syntax.specs.Terms.{If, While, Answer, Select, Serve, Statements, Done, Then, Alternatives, NoAlts, Alt, MethodTree, ClassTree, ProgramTree}
-use Rattle.run_words.specs.Message.{Message}
+use Rattle.run_types.specs.Message.{Message}
 use Rattle.pool_relation.specs.Action.{Object}
 use Rattle.pool_relation.specs.Configuration.{Configuration, object_of, messages_of}
 
@@ -105,3 +105,7 @@ renamed_label f (L.Fault o e) = L.Fault (f o) e
 pub record IsRenamed (f : ℕ → ℕ) (c d : Configuration) : Type 0 where
   pub objects : (o : ℕ) → object_of d (f o) ≡ option_map (renamed_object f) (object_of c o)
   pub messages : (s r : ℕ) → messages_of d (f s) (f r) ≡ map (renamed_message f) (messages_of c s r)
+
+-- no text names an object
+abbrev pub IsNameless : ProgramTree → Type 0
+IsNameless p = (f : ℕ → ℕ) → renamed_program f p ≡ p

@@ -1,20 +1,15 @@
 -- What a search over all runs is about: reached, stuck and faulty configurations, and sets that no step leaves.
 use Rattle.std.specs.Ordering.{nat_cmp}
-use Rattle.run_words.specs.Tables.{pair_cmp, has_some}
+use Rattle.run_types.specs.Tables.{pair_cmp, has_some}
 use Rattle.std.specs.FinMap.Entries.{is_sorted}
 use Rattle.std.specs.Prelude.{◌≡◌, ◌≢◌, ◌⊎◌, ◌==◌, ℕ, suc, List, [], ◌∷◌, Some, None, Bool, true, false, IsTrue, ◌&&◌}
-use Rattle.run_words.specs.declared.words.Label.{Label}
-use Rattle.run_words.specs.declared.words.Label.TheVariants as L
+use Rattle.run_types.specs.declared.types.Label.{Label}
+use Rattle.run_types.specs.declared.types.Label.TheVariants as L
 use Rattle.pool_syntax.specs.Terms.{ProgramTree}
 use Rattle.pool_relation.specs.Action as A
 use Rattle.pool_relation.specs.Action.{Object, Action, action}
 use Rattle.pool_relation.specs.Configuration.{Configuration, object_of, messages_of}
 use Rattle.pool_relation.specs.Transition.{transition, run, start}
-use Rattle.search_laws.specs.Renamed.{renamed_program}
-
--- no text names an object
-abbrev pub IsNameless : ProgramTree → Type 0
-IsNameless p = (f : ℕ → ℕ) → renamed_program f p ≡ p
 
 -- some run leads there from the start, whatever name the first object has
 pub record IsReached (p : ProgramTree) (d : Configuration) : Type 0 where
@@ -98,15 +93,6 @@ abbrev pub IsIn : ℕ → Configuration → List (ℕ × Configuration) → Type
 IsIn n c [] = ⊥
 IsIn n c (e ∷ es) = ((e.0 ≡ n) × (e.1 ≡ c)) ⊎ IsIn n c es
 
--- no step that names new objects in order leaves the list
-abbrev pub IsClosed : ProgramTree → List (ℕ × Configuration) → Type 0
-IsClosed p es = (n : ℕ) (c d : Configuration) (l : Label) → IsIn n c es → names_next n l ≡ true → transition p c l ≡ Some d → IsIn (after n l) d es
-
--- all that a search has to see: the start is in the list, and no step leaves it
-pub record IsWhole (p : ProgramTree) (es : List (ℕ × Configuration)) : Type 0 where
-  pub begins : (c : Configuration) → start p 0 ≡ Some c → IsIn 1 c es
-  pub closed : IsClosed p es
-
 -- a transition whose place in a run does not matter: what an object does by itself but New and Pick, and a return
 abbrev pub needs_no_choice : Label → Bool
 needs_no_choice (L.Local o) = true
@@ -125,8 +111,8 @@ pub data Settles (p : ProgramTree) : Configuration → Configuration → Type 0 
 abbrev pub IsInOrder : Configuration → Type 0
 IsInOrder c = IsTrue (is_sorted nat_cmp c.objects) × IsTrue (is_sorted pair_cmp c.messages)
 
--- the same as IsWhole for a search that follows such transitions, as many as it likes, and keeps only what is after them
-pub record IsWholeAfterSettling (p : ProgramTree) (es : List (ℕ × Configuration)) : Type 0 where
+-- the same as `IsClosedSearch` for a search that follows such transitions, as many as it likes, and keeps only what is after them
+pub record IsClosedAfterSettling (p : ProgramTree) (es : List (ℕ × Configuration)) : Type 0 where
   pub in_order : (n : ℕ) (c : Configuration) → IsIn n c es → IsInOrder c
   pub begins : (c : Configuration) → start p 0 ≡ Some c → (e : Configuration) × Settles p c e × IsIn 1 e es
   pub closed : (n : ℕ) (c d : Configuration) (l : Label) → IsIn n c es → names_next n l ≡ true → transition p c l ≡ Some d

@@ -1,4 +1,8 @@
-//! What a search over all runs of a program may leave out: names, and the order of transitions that need no choice. Laws over the relation of `pool_relation`; there is no code.
+//! What a search over all runs may leave out: names of objects, and orders of transitions that need no choice.
+//!
+//! Definitions and laws only.
+//!
+//! Does not know: how a search stores or visits configurations.
 #![tactic(auto)]
 
 pub mod theorems;

@@ -1,14 +1,15 @@
 //! The laws: each is the contract of a function that does nothing.
 ghost use Rattle.std.specs.Prelude.{◌≡◌, ℕ, List, None, Some, true};
 ghost use Rattle.pool_syntax.specs.declared.tree.Program.{Program};
-ghost use Rattle.run_words.specs.declared.words.Label.{Label};
+ghost use Rattle.run_types.specs.declared.types.Label.{Label};
 ghost use Rattle.pool_syntax.specs.Terms.{ProgramTree};
 ghost use Rattle.pool_syntax.specs.TreeOf.{program_of};
 ghost use Rattle.pool_relation.specs.Configuration.{Configuration, object_of};
 ghost use Rattle.pool_relation.specs.Transition.{transition};
-ghost use Rattle.search_laws.specs.Renamed.{Renaming, renamed_program, renamed_label, IsRenamed};
+ghost use Rattle.search_laws.specs.Renamed.{Renaming, renamed_program, renamed_label, IsRenamed, IsNameless};
 ghost use Rattle.search_laws.specs.Labels.{IsAmong, labels_to_try, IsTried};
-ghost use Rattle.search_laws.specs.Search.{IsNameless, IsReached, IsAtEnd, IsStuck, IsUnfinished, IsFaulty, IsIn, IsWhole, IsWholeAfterSettling, names_next};
+ghost use Rattle.search_laws.specs.Search.{IsReached, IsAtEnd, IsStuck, IsUnfinished, IsFaulty, IsIn, IsClosedAfterSettling, names_next};
+ghost use Rattle.search_laws.specs.ClosedLists.{IsClosedSearch};
 
 /// Under other names, one to one, the same labels are possible and lead to the same configurations.
 pub fn names_do_not_matter()
@@ -31,22 +32,22 @@ pub fn one_name_shows_the_end()
 
 /// A list that has the start, and that no step leaves which names new objects in order, misses nothing: where none of it is stuck, unfinished or faulty, no run leads to what is.
 pub fn a_whole_list_misses_nothing()
-    ensures stuck { (p : ProgramTree) (es : List (ℕ × Configuration)) (d : Configuration) → IsNameless p → IsWhole p es
+    ensures stuck { (p : ProgramTree) (es : List (ℕ × Configuration)) (d : Configuration) → IsNameless p → IsClosedSearch p es
         → ((n : ℕ) (c : Configuration) → IsIn n c es → ¬ (IsStuck p c)) → IsReached p d → ¬ (IsStuck p d) }
-    ensures unfinished { (p : ProgramTree) (es : List (ℕ × Configuration)) (d : Configuration) → IsNameless p → IsWhole p es
+    ensures unfinished { (p : ProgramTree) (es : List (ℕ × Configuration)) (d : Configuration) → IsNameless p → IsClosedSearch p es
         → ((n : ℕ) (c : Configuration) → IsIn n c es → ¬ (IsUnfinished p c)) → IsReached p d → ¬ (IsUnfinished p d) }
-    ensures faulty { (p : ProgramTree) (es : List (ℕ × Configuration)) (d : Configuration) → IsNameless p → IsWhole p es
+    ensures faulty { (p : ProgramTree) (es : List (ℕ × Configuration)) (d : Configuration) → IsNameless p → IsClosedSearch p es
         → ((n : ℕ) (c : Configuration) → IsIn n c es → ¬ (IsFaulty c)) → IsReached p d → ¬ (IsFaulty d) }
 {}
 
 /// The same of a search that follows transitions which need no choice - local ones, writes, asynchronous sends, returns and errors - and keeps only what is after them:
 /// no other order has to be looked at.
 pub fn some_transitions_need_no_choice()
-    ensures stuck { (p : ProgramTree) (es : List (ℕ × Configuration)) (d : Configuration) → IsNameless p → IsWholeAfterSettling p es
+    ensures stuck { (p : ProgramTree) (es : List (ℕ × Configuration)) (d : Configuration) → IsNameless p → IsClosedAfterSettling p es
         → ((n : ℕ) (c : Configuration) → IsIn n c es → ¬ (IsStuck p c)) → IsReached p d → ¬ (IsStuck p d) }
-    ensures unfinished { (p : ProgramTree) (es : List (ℕ × Configuration)) (d : Configuration) → IsNameless p → IsWholeAfterSettling p es
+    ensures unfinished { (p : ProgramTree) (es : List (ℕ × Configuration)) (d : Configuration) → IsNameless p → IsClosedAfterSettling p es
         → ((n : ℕ) (c : Configuration) → IsIn n c es → ¬ (IsUnfinished p c)) → IsReached p d → ¬ (IsUnfinished p d) }
-    ensures faulty { (p : ProgramTree) (es : List (ℕ × Configuration)) (d : Configuration) → IsNameless p → IsWholeAfterSettling p es
+    ensures faulty { (p : ProgramTree) (es : List (ℕ × Configuration)) (d : Configuration) → IsNameless p → IsClosedAfterSettling p es
         → ((n : ℕ) (c : Configuration) → IsIn n c es → ¬ (IsFaulty c)) → IsReached p d → ¬ (IsFaulty d) }
 {}
 
@@ -57,5 +58,5 @@ pub fn no_other_label_is_possible()
 
 /// A list into which the start leads, and each label to try of each of its configurations, is whole.
 pub fn a_tried_list_is_whole()
-    ensures { (p : ProgramTree) (es : List (ℕ × Configuration)) → IsTried p es → IsWholeAfterSettling p es }
+    ensures { (p : ProgramTree) (es : List (ℕ × Configuration)) → IsTried p es → IsClosedAfterSettling p es }
 {}

@@ -1,4 +1,4 @@
 mod Places
-mod Following
-mod Routing
-mod Searching
+mod PathWalk
+mod RouteInsertion
+mod MissingRoute

@@ -1,2 +1,2 @@
 pub mod Tables
-pub mod Inside
+pub mod TableInvariant

@@ -1,9 +1,9 @@
 -- What a table of a placement holds, and when there is none.
 use Rattle.std.specs.Prelude.{◌≡◌, ◌≢◌, ℕ, ◌*◌, ◌/◌, ◌%◌, ◌<◌, List, Bool, false, length, Option, Some, get_or}
-use Rattle.run_words.specs.declared.words.Placement.{Placement}
-use Rattle.run_words.specs.declared.words.Route.{Route}
-use Rattle.run_words.specs.Tables.{Pair}
-use Rattle.run_words.specs.Paths.{is_cut, next}
+use Rattle.run_types.specs.declared.types.Placement.{Placement}
+use Rattle.run_types.specs.declared.types.Route.{Route}
+use Rattle.run_types.specs.Tables.{Pair}
+use Rattle.run_types.specs.Paths.{is_cut, next}
 use Rattle.table_routing.specs.declared.fault.TableFault.{TableFault}
 use Rattle.table_routing.specs.declared.fault.TableFault.TheVariants as F
 
@@ -26,6 +26,6 @@ pub record AreGaps (l : Placement) (n : ℕ) (gs : List Bool) : Type 0 where
   pub each : (i : ℕ) → i < n → get_or gs i false ≡ is_cut l.cuts (i / size l) (i % size l)
 
 -- The pair is the first without route, unless memory ran out.
-abbrev pub IsTold : TableFault → Option Pair → Type 0
-IsTold (F.NoRoute from to) told = told ≡ Some (from, to)
-IsTold F.Memory told = Unit {0}
+abbrev pub ReportsFault : TableFault → Option Pair → Type 0
+ReportsFault (F.NoRoute from to) told = told ≡ Some (from, to)
+ReportsFault F.Memory told = Unit {0}

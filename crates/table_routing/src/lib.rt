@@ -1,4 +1,6 @@
-//! The routes of a placement whose mesh may miss links: the next node on each path, and the first pair of nodes without one.
+//! The routing table of a placement with routes and cut links, or the first pair of nodes without a route.
+//!
+//! Does not know: packets.
 #![tactic(auto)]
 
 mod fault;

@@ -1,14 +1,15 @@
 //! The table of a placement.
 ghost use Rattle.std.specs.Prelude.{◌≡◌, ◌≢◌, ◌<◌, ◌≤◌, ◌*◌, ◌+◌, ◌↔◌, [], length, get_or, set, false, None, IsNone, IsTrue, IfOk, IfErr, IfSome};
 ghost use Rattle.std.specs.List.{range_with_len};
-ghost use Rattle.run_words.specs.declared.words.Placement.{Placement};
-ghost use Rattle.run_words.specs.Paths.{IsLink, is_cut, next, toward};
-ghost use Rattle.run_words.specs.Routes.{IsRouted, broken_to, is_broken, without_route};
-ghost use Rattle.table_routing.specs.Tables.{AreGaps, AreNexts, IsTold, size, with_routes};
+ghost use Rattle.run_types.specs.declared.types.Placement.{Placement};
+ghost use Rattle.run_types.specs.Paths.{IsLink, is_cut, next, toward};
+ghost use Rattle.run_types.specs.Routes.{broken_to, is_broken, without_route};
+ghost use Rattle.run_types.specs.RoutedPlacements.{IsRouted};
+ghost use Rattle.table_routing.specs.Tables.{AreGaps, AreNexts, ReportsFault, size, with_routes};
 
 use crate::fault::TableFault;
 use mesh_routing::Mesh;
-use run_words::{LinkId, Placement, Route};
+use run_types::{LinkId, Placement, Route};
 use std::alloc::{AllocError, Global};
 use std::marker::Model;
 
@@ -22,14 +23,14 @@ pub struct Table<'a> {
 }
 
 impl<'a> Model for Table<'a> {
-    ghost use Rattle.run_words.specs.declared.words.Placement.{Placement};
-    ghost use Rattle.run_words.specs.contracts.words.Placement as placement_of;
+    ghost use Rattle.run_types.specs.declared.types.Placement.{Placement};
+    ghost use Rattle.run_types.specs.contracts.types.Placement as placement_of;
 
     ghost Value = { Placement };
 
     ghost coded = { placement_of.the_row.coded };
 
-    ghost use Rattle.table_routing.specs.Inside.{IsTable};
+    ghost use Rattle.table_routing.specs.TableInvariant.{IsTable};
 
     ghost view = { λ t. t.placement.now };
 
@@ -193,7 +194,7 @@ impl<'a> Table<'a> {
     pub fn make(alloc: Global, placement: &'a Placement) -> Result<Table<'a>, TableFault>
         requires routed { IsRouted placement.now }
         ensures ok { IfOk result (λ t. (t ≡ placement.now) × (without_route placement.now ≡ None)) }
-        ensures err { IfErr result (λ f. IsTold f (without_route placement.now)) }
+        ensures err { IfErr result (λ f. ReportsFault f (without_route placement.now)) }
     {
         let mesh = Mesh::make(placement.width, placement.height);
         let mut nexts = ways_of(alloc, placement, &mesh)?;

@@ -1,8 +1,8 @@
 -- Chains of places that each come after the one before, and the cycles that they close.
 use Rattle.std.proofs.Common.{◌≡◌, ◌≢◌, ◌⊎◌, inl, inr, refl, sym, ap, subst, ◌∙◌, ℕ, ◌<◌, ◌≤◌, ◌==◌, List, [], ◌∷◌, ◌++◌, Option, Some, None, Bool, true, false, nat_lt, cond, arith}
-use Rattle.run_words.specs.Ways.{In}
-use Rattle.mesh_semantics.specs.Standing.{Closes}
-use Rattle.run_words.proofs.Laws.{decide, equals, differ, same_some}
+use Rattle.run_types.specs.PathFacts.{In}
+use Rattle.mesh_semantics.specs.Cycles.{Closes}
+use Rattle.run_types.proofs.Laws.{decide, equals, differ, same_some}
 use Rattle.wait_report.specs.Cycles.{least_of, least_from}
 
 module _ (jump : ℕ → Option ℕ) where

@@ -1,12 +1,12 @@
 -- The cycles that are told are the cycles.
 use Rattle.std.proofs.Common.{◌≡◌, inl, inr, refl, sym, ap, ◌∙◌, ℕ, ◌==◌, List, [], ◌∷◌, Some, Bool, true, false, cond}
 use Rattle.mesh_semantics.proofs.Laws.{every_cycle_among, is_cycle_among}
-use Rattle.run_words.specs.Ways.{In}
-use Rattle.mesh_semantics.specs.Standing.{IsCycle, Contained}
-use Rattle.run_words.proofs.Laws.{equal}
+use Rattle.run_types.specs.PathFacts.{In}
+use Rattle.mesh_semantics.specs.Cycles.{IsCycle, Contained}
+use Rattle.run_types.proofs.Laws.{equal}
 use Rattle.wait_report.specs.declared.rows.ObjectRow.{ObjectRow}
-use Rattle.wait_report.specs.Calls.{called, names_of}
-use Rattle.wait_report.specs.Report.{called_in, cycles_in}
+use Rattle.wait_report.specs.Calls.{names_of}
+use Rattle.wait_report.specs.Report.{called_in, cycles_in, called}
 
 -- who calls has a row
 caller_there : (rows : List ObjectRow) (o b : ℕ) → called_in rows o ≡ Some b → In o (names_of rows)

@@ -1,5 +1,6 @@
+pub mod LeastLeft
 mod Chains
 mod EachCycle
-mod Marks
-mod Named
-mod Told
+mod WalkMarks
+mod CyclesByName
+mod CycleText

@@ -1,18 +1,7 @@
 -- Which objects call which, by their places.
 use Rattle.std.specs.Prelude.{◌≡◌, ◌≢◌, ℕ, ◌<◌, List, length, get_or, map, Option, Some, None}
-use Rattle.run_words.specs.declared.words.Standing.{Standing}
-use Rattle.run_words.specs.declared.words.Standing.TheVariants as S
 use Rattle.wait_report.specs.declared.rows.ObjectRow.{ObjectRow}
-
--- the name that an object calls
-abbrev pub called : Standing → Option ℕ
-called (S.Calls b m) = Some b
-called S.Ready = None
-called S.Finished = None
-called (S.Faulted e) = None
-called (S.Creates c n) = None
-called S.Due = None
-called S.Awaits = None
+use Rattle.wait_report.specs.Report.{called}
 
 abbrev pub names_of : List ObjectRow → List ℕ
 names_of rows = map (λ r. r.name) rows

@@ -1,6 +1,6 @@
 -- Cycles by places.
 use Rattle.std.specs.Prelude.{◌≡◌, ◌≢◌, ℕ, ◌<◌, List, [], ◌∷◌, length, get_or, map, Option, Some, None, Bool, true, false, ◌==◌, nat_lt, if◌then◌else◌}
-use Rattle.run_words.specs.Text.{Text}
+use Rattle.text_scan.specs.Text.{Text}
 use Rattle.mesh_semantics.specs.Standing.{chase}
 use Rattle.wait_report.specs.Report.{cycle_line}
 
@@ -37,8 +37,3 @@ pub record IsMarked (next : List (Option ℕ)) (seen starts : List Bool) : Type 
   pub starts_many : length starts ≡ length next
   pub closed : (k j : ℕ) → get_or seen k false ≡ true → jump next k ≡ Some j → get_or seen j false ≡ true
   pub starts_at : (i : ℕ) (ns : List ℕ) → get_or seen i false ≡ true → chase (jump next) (length next) i i ≡ Some ns → get_or starts i false ≡ true
-
--- the least so far, if `at` has come, and what is left
-abbrev pub least_left : ℕ → Option ℕ → List ℕ → Option ℕ
-least_left at None xs = least_from at xs
-least_left at (Some l) xs = Some (least_of l xs)

@@ -1,3 +1,4 @@
 pub mod Report
+pub mod KnownRows
 pub mod Calls
 pub mod Cycles

@@ -1,12 +1,11 @@
 -- The text of the report.
-use Rattle.std.specs.Prelude.{◌≡◌, ℕ, ◌<◌, ◌==◌, List, [], ◌∷◌, ◌++◌, length, map, filter_map, Option, Some, None, if◌then◌else◌, codes, decimal, slice_get}
-use Rattle.run_words.specs.Text.{Text}
-use Rattle.run_words.specs.declared.words.Standing.{Standing}
-use Rattle.run_words.specs.declared.words.Standing.TheVariants as S
+use Rattle.std.specs.Prelude.{ℕ, ◌==◌, List, [], ◌∷◌, ◌++◌, length, map, filter_map, Option, None, if◌then◌else◌, codes, decimal, Some}
+use Rattle.text_scan.specs.Text.{Text}
+use Rattle.run_types.specs.declared.types.Standing.{Standing}
+use Rattle.run_types.specs.declared.types.Standing.TheVariants as S
 use Rattle.mesh_semantics.specs.Standing.{chase}
-use Rattle.record_lines.specs.RecordText.{error_text, joined, object_text, text_at}
+use Rattle.record_writer.specs.RecordText.{error_text, joined, object_text, text_at}
 use Rattle.wait_report.specs.declared.rows.ObjectRow.{ObjectRow}
-use Rattle.wait_report.specs.Calls.{called}
 
 -- where an object stands
 abbrev pub standing_words : List Text → Standing → List Text
@@ -29,6 +28,16 @@ abbrev pub rows_text : List Text → List ObjectRow → Text
 rows_text names [] = []
 rows_text names (r ∷ rows) = row_line names r ++ rows_text names rows
 
+-- the name that an object calls
+abbrev pub called : Standing → Option ℕ
+called (S.Calls b m) = Some b
+called S.Ready = None
+called S.Finished = None
+called (S.Faulted e) = None
+called (S.Creates c n) = None
+called S.Due = None
+called S.Awaits = None
+
 -- the name that the object of a name calls
 abbrev pub called_in : List ObjectRow → ℕ → Option ℕ
 called_in [] o = None
@@ -48,19 +57,3 @@ cycles_text (ns ∷ rest) = cycle_line ns ++ cycles_text rest
 -- a line for each object, and one for each cycle
 abbrev pub report_text : List Text → List ObjectRow → Text
 report_text names rows = rows_text names rows ++ cycles_text (cycles_in rows)
-
--- the names in it are known
-abbrev pub IsKnown : List Text → Standing → Type 0
-IsKnown names (S.Calls b m) = m.0 < length names
-IsKnown names (S.Creates c n) = c.0 < length names
-IsKnown names S.Ready = Unit {0}
-IsKnown names S.Finished = Unit {0}
-IsKnown names (S.Faulted e) = Unit {0}
-IsKnown names S.Due = Unit {0}
-IsKnown names S.Awaits = Unit {0}
-
-abbrev pub IsKnownAt : List Text → ObjectRow → Type 0
-IsKnownAt names r = (r.class.0 < length names) × IsKnown names r.standing
-
-abbrev pub AreKnown : List Text → List ObjectRow → Type 0
-AreKnown names rows = (k : ℕ) (r : ObjectRow) → slice_get rows k ≡ Some r → IsKnownAt names r

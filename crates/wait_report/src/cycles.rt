@@ -4,7 +4,7 @@ ghost use Rattle.mesh_semantics.specs.Standing.{chase};
 ghost use Rattle.wait_report.specs.Cycles.{jump, cycle_at, least_from, AreWithin, AreStarts, IsMarked};
 
 use crate::text::put;
-use record_lines::push_object;
+use record_writer::push_object;
 use std::alloc::{AllocError, Global};
 
 /// Puts the line of the cycle that is told from this place on; nothing where none is.

@@ -1,4 +1,6 @@
-//! What the objects of a machine that stands still wait for, and the cycles of objects that each call the next.
+//! Reports what each object does or waits for at the end of a run, and the cycles of calls among objects.
+//!
+//! Does not know: how the machine is implemented.
 #![tactic(auto)]
 
 mod cycles;

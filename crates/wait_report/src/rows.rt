@@ -1,8 +1,9 @@
 //! Objects, and which of them call which.
 ghost use Rattle.std.specs.Prelude.{◌≡◌, ◌≢◌, ◌<◌, ℕ, length, get_or, map, IfOk, IfSome, IfNone};
-ghost use Rattle.wait_report.specs.Calls.{called, AreNext, IsNext, Rising};
+ghost use Rattle.wait_report.specs.Calls.{AreNext, IsNext, Rising};
+ghost use Rattle.wait_report.specs.Report.{called};
 
-use run_words::{NameId, Standing};
+use run_types::{NameId, Standing};
 use std::alloc::{AllocError, Global};
 
 /// An object by its name, its class, and where it stands.

@@ -1,11 +1,11 @@
 //! The text of the report.
 ghost use Rattle.std.specs.Prelude.{◌≡◌, [], ◌∷◌, ◌++◌, OnOk};
-ghost use Rattle.record_lines.specs.RecordText.{led};
+ghost use Rattle.record_writer.specs.RecordText.{led};
 ghost use Rattle.wait_report.specs.Report.{row_line, standing_words};
 
 use crate::rows::ObjectRow;
-use record_lines::{push_error, push_name, push_number, push_object, push_object_name, push_word};
-use run_words::{Names, Standing};
+use record_writer::{push_error, push_name, push_number, push_object, push_object_name, push_word};
+use run_types::{Names, Standing};
 use std::alloc::AllocError;
 
 /// Puts bytes behind the text.

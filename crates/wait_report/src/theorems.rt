@@ -1,6 +1,6 @@
 //! A law of the definitions alone: the contract of a function that does nothing.
 ghost use Rattle.std.specs.Prelude.{ℕ, List};
-ghost use Rattle.mesh_semantics.specs.Standing.{Contained, IsCycle};
+ghost use Rattle.mesh_semantics.specs.Cycles.{Contained, IsCycle};
 ghost use Rattle.wait_report.specs.declared.rows.ObjectRow.{ObjectRow};
 ghost use Rattle.wait_report.specs.Report.{called_in, cycles_in};
 

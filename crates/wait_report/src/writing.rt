@@ -3,14 +3,15 @@ ghost use Rattle.std.specs.Prelude.{◌≡◌, ◌≤◌, ℕ, ◌++◌, length,
 ghost use Rattle.pool_outside.specs.Outside.{Rose, IsProperFront};
 ghost use Rattle.wait_report.specs.Calls.{names_of, AreNext, Rising};
 ghost use Rattle.wait_report.specs.Cycles.{AreStarts};
-ghost use Rattle.wait_report.specs.Report.{cycles_in, cycles_text, report_text, rows_text, AreKnown};
+ghost use Rattle.wait_report.specs.Report.{cycles_in, cycles_text, report_text, rows_text};
+ghost use Rattle.wait_report.specs.KnownRows.{AreKnown};
 ghost use Rattle.wait_report.specs.declared.writing.ReportFault.TheVariants.{Failed as SinkFailed, Memory as NoMemory};
 
 use crate::cycles::{put_cycle, starts};
 use crate::rows::{ObjectRow, callees, numbers};
 use crate::text::put_row;
 use pool_outside::{Sink, WriteFault, write_all_of};
-use run_words::{List, Names};
+use run_types::{List, Names};
 use std::alloc::{AllocError, Global};
 
 /// Why no report was written whole: a write failed, or memory was not had.

@@ -1,11 +1,11 @@
-pub mod ReadWritten
-pub mod WrittenRead
-pub mod Joining
-pub mod SidesKept
+pub mod WriteThenRead
+pub mod ReadThenWrite
+pub mod ByteConcatenation
+pub mod SideAppend
 pub mod WiresMemory
-pub mod Carried
-pub mod Wanting
-mod Fronts
+pub mod CarriedPackets
+pub mod WantedNumbers
+mod FirstFrame
 mod Rings
 mod Rows
 pub mod Laws

@@ -1,8 +1,8 @@
 -- Two packets over a wire, on which a frame falls behind: what is kept of the wire, call by call.
 use Rattle.std.proofs.Common.{◌≡◌, refl, [], Option, Some, None}
-use Rattle.run_words.specs.declared.words.What.{What}
-use Rattle.run_words.specs.declared.words.What.TheVariants as W
-use Rattle.run_words.specs.declared.words.WireAct.TheVariants as A
+use Rattle.run_types.specs.declared.types.What.{What}
+use Rattle.run_types.specs.declared.types.What.TheVariants as W
+use Rattle.run_types.specs.declared.types.WireAct.TheVariants as A
 use Rattle.mesh_semantics.specs.Wire.{Stale, Next}
 use Rattle.mesh_semantics.specs.KeptWire.{KeptWire, empty_kept, kept_act, kept_coming, kept_send, kept_take, kept_wanted}
 use Rattle.rendezvous_protocol.specs.declared.packet.Packet.{Packet}

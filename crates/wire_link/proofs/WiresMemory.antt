@@ -3,14 +3,14 @@ use Rattle.std.proofs.Common.{◌≡◌, refl, sym, ap, subst, ◌∙◌, ℕ, �
 use Rattle.std.specs.Prelude.{drop, slice_get}
 use Rattle.std.proofs.lemmas.List.{length-drop, length-take-le}
 use Rattle.arrayvec.specs.ArrayVec.{ArrayVec}
-use Rattle.run_words.specs.declared.words.What.{What}
-use Rattle.run_words.specs.declared.words.What.TheVariants as W
-use Rattle.run_words.specs.Tables.{Each}
-use Rattle.run_words.specs.declared.words.WireAct.{WireAct}
-use Rattle.run_words.specs.declared.words.WireAct.TheVariants as A
+use Rattle.run_types.specs.declared.types.What.{What}
+use Rattle.run_types.specs.declared.types.What.TheVariants as W
+use Rattle.run_types.specs.Tables.{Each}
+use Rattle.run_types.specs.declared.types.WireAct.{WireAct}
+use Rattle.run_types.specs.declared.types.WireAct.TheVariants as A
 use Rattle.mesh_semantics.specs.Wire.{Frame as Numbered, Wire, WireFacts, capacity, greater, push_within, hear, send, late, frame_number, ack_number, wire_act}
 use Rattle.mesh_semantics.specs.KeptWire.{KeptWire, Carries, Follows, whole, hand_out, kept_take_frame, kept_take, kept_hear_number, kept_hear, with_fresh, kept_launch, kept_send, with_kept_frames, with_kept_acks, kept_act}
-use Rattle.run_words.proofs.Laws.{equal}
+use Rattle.run_types.proofs.Laws.{equal}
 use Rattle.mesh_semantics.proofs.Laws.{Wanted, wanted_is, take_carries, hear_carries, act_carries, send_carries}
 use Rattle.rendezvous_protocol.specs.declared.packet.Packet.{Packet}
 use Rattle.wire_link.specs.Wires.{IsAck, IsData, IsWanted, IsWire, acks_in, frames_in, view_of}

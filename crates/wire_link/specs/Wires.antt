@@ -1,17 +1,17 @@
 -- What is kept of a wire in memory: its numbers, copies of packets, and frames as bytes.
 use Rattle.std.specs.Prelude.{◌≡◌, ℕ, ◌==◌, List, [], ◌∷◌, ◌++◌, length, Option, Some, None, if◌then◌else◌, slice_get, option_map}
 use Rattle.arrayvec.specs.ArrayVec.{ArrayVec}
-use Rattle.run_words.specs.Tables.{Each}
+use Rattle.run_types.specs.Tables.{Each}
 use Rattle.mesh_semantics.specs.Act.{first_of}
 use Rattle.mesh_semantics.specs.Wire.{Frame as Numbered, Coming, Empty, Stale, Next}
 use Rattle.mesh_semantics.specs.KeptWire.{KeptWire, Carries, kept_wanted}
 use Rattle.rendezvous_protocol.specs.declared.packet.Packet.{Packet}
 use Rattle.wire_link.specs.declared.frame.Frame.{Frame}
 use Rattle.wire_link.specs.declared.frame.Frame.TheVariants as F
-use Rattle.run_words.specs.declared.words.What.{What}
-use Rattle.run_words.specs.declared.words.What.TheVariants as W
-use Rattle.run_words.specs.declared.words.WireAct.{WireAct}
-use Rattle.run_words.specs.declared.words.WireAct.TheVariants as A
+use Rattle.run_types.specs.declared.types.What.{What}
+use Rattle.run_types.specs.declared.types.What.TheVariants as W
+use Rattle.run_types.specs.declared.types.WireAct.{WireAct}
+use Rattle.run_types.specs.declared.types.WireAct.TheVariants as A
 use Rattle.wire_link.specs.declared.wire.Side.{Side}
 use Rattle.wire_link.specs.declared.wire.Side.TheVariants as D
 use Rattle.wire_link.specs.declared.wire.Sent.{Sent}

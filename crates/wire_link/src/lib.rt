@@ -1,4 +1,6 @@
-//! A link as a wire that may lose, repeat and reorder its frames, in fixed memory, and the bytes of its frames.
+//! A link as a wire that may lose, repeat and reorder frames: go-back-N in fixed memory, and frames as bytes.
+//!
+//! Does not know: routes and other links.
 #![tactic(auto)]
 
 mod frame;

@@ -5,7 +5,7 @@ ghost use Rattle.wire_link.specs.Bytes.{read_truth, read_value};
 
 use crate::frame::{Frame, FrameBytes};
 use rendezvous_protocol::Packet;
-use run_words::{Args, NameId, Value};
+use run_types::{Args, NameId, Value};
 
 fn byte(bytes: &[u8]) -> Option<(u8, &[u8])>
     ensures { option_map (λ r. (r.0, r.1.now)) result ≡ read_byte bytes.now }

@@ -1,6 +1,6 @@
 //! The frames on one side of a wire, as bytes.
 ghost use Rattle.std.specs.Prelude.{◌≡◌, length, nat_lt};
-ghost use Rattle.run_words.specs.Tables.{Each};
+ghost use Rattle.run_types.specs.Tables.{Each};
 ghost use Rattle.mesh_semantics.specs.Act.{first_of};
 ghost use Rattle.mesh_semantics.specs.Wire.{capacity, push_within};
 ghost use Rattle.wire_link.specs.Wires.{IsAck, IsData, TakesAck, TakesData, ack_in, acks_in, data_in, frames_in};

@@ -1,6 +1,6 @@
 //! Laws of the bytes of frames, and of what a wire carries after each call, over the definitions alone: each is the contract of a function that does nothing.
 ghost use Rattle.std.specs.Prelude.{◌≡◌, ℕ, ◌==◌, List, [], length, Option, Some, None, if◌then◌else◌, option_map, slice_get};
-ghost use Rattle.run_words.specs.declared.words.What.TheVariants as W;
+ghost use Rattle.run_types.specs.declared.types.What.TheVariants as W;
 ghost use Rattle.mesh_semantics.specs.Wire.{hear, send, take, wire_act};
 ghost use Rattle.mesh_semantics.specs.KeptWire.{Carries, Follows, KeptWire, kept_act, kept_hear, kept_send, kept_take, kept_wanted, whole};
 ghost use Rattle.rendezvous_protocol.specs.declared.packet.Packet.{Packet};

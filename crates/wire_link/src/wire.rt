@@ -1,7 +1,7 @@
 //! One link as a wire.
 ghost use Rattle.std.specs.Prelude.{◌≡◌, ◌+◌, ◌^◌, ◌<◌, ◌≤◌, List, [], length, drop, None, Some, if◌then◌else◌, nat_lt, option_map};
-ghost use Rattle.run_words.specs.declared.words.What.TheVariants as W;
-ghost use Rattle.run_words.specs.Tables.{Each};
+ghost use Rattle.run_types.specs.declared.types.What.TheVariants as W;
+ghost use Rattle.run_types.specs.Tables.{Each};
 ghost use Rattle.mesh_semantics.specs.Wire.{capacity, coming_in, greater, push_within};
 ghost use Rattle.mesh_semantics.specs.KeptWire.{Carries, empty_kept, kept_coming, kept_act, kept_hear, kept_send, kept_take, kept_wanted, with_fresh};
 ghost use Rattle.rendezvous_protocol.specs.declared.packet.Packet.{Packet as AnyPacket};

@@ -7,7 +7,7 @@ ghost use Rattle.wire_link.specs.declared.frame.Frame.TheVariants as F;
 use crate::frame::{Frame, FrameBytes};
 use arrayvec::ArrayVec;
 use rendezvous_protocol::Packet;
-use run_words::{Args, Value};
+use run_types::{Args, Value};
 
 /// Puts bytes behind those that are there.
 fn put(bytes: &mut FrameBytes, more: &[u8])

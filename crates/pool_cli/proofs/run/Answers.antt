@@ -1,9 +1,9 @@
 -- The ends of `pool`, at the numbers of the statuses.
 use Rattle.std.proofs.Common.{◌≡◌, ◌∙◌, ◌⊎◌, ◌≤◌, ℕ, arith, inl, inr, refl, ap, subst, sym}
-use Rattle.run_driver.specs.declared.status.Status.{Status}
-use Rattle.run_driver.specs.declared.status.Status.TheVariants as S
-use Rattle.run_driver.specs.Statuses.{code_of}
-use Rattle.pool_driver.specs.Outputs.{IsWhole}
+use Rattle.run_loop.specs.declared.status.Status.{Status}
+use Rattle.run_loop.specs.declared.status.Status.TheVariants as S
+use Rattle.run_loop.specs.Statuses.{code_of}
+use Rattle.pool_driver.specs.Outputs.{WholeTextWritten}
 use Rattle.pool_cli.proofs.run.Goals as goal
 
 pub returns-clause-ends : goal.returns-clause-ends
@@ -20,7 +20,7 @@ returns-clause-complete g c r words served read out err =
 abbrev IsWholeNumber : ℕ → Type 0
 IsWholeNumber n = (n ≡ 0) ⊎ ((n ≡ 1) ⊎ ((n ≡ 3) ⊎ (n ≡ 4)))
 
-number_of : (s : Status) → IsWhole s → IsWholeNumber (code_of s)
+number_of : (s : Status) → WholeTextWritten s → IsWholeNumber (code_of s)
 number_of s (inl e) = inl (ap code_of e)
 number_of s (inr (inl e)) = inr (inl (ap code_of e))
 number_of s (inr (inr (inl e))) = inr (inr (inl (ap code_of e)))
@@ -36,7 +36,7 @@ no_other n (inr k) (inr (inl e)) = omega (arith, k, e)
 no_other n (inr k) (inr (inr (inl e))) = omega (arith, k, e)
 no_other n (inr k) (inr (inr (inr e))) = omega (arith, k, e)
 
-whole_by : (s : Status) → IsWholeNumber (code_of s) → IsWhole s
+whole_by : (s : Status) → IsWholeNumber (code_of s) → WholeTextWritten s
 whole_by S.Done h = inl refl
 whole_by S.DoneFaulted h = inr (inl refl)
 whole_by S.ScheduleOver h = inr (inr (inl refl))

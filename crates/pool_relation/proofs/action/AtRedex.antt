@@ -1,15 +1,15 @@
 -- What is known at the redex of an object, and what is kept where a part takes its place.
 use Rattle.std.proofs.Common.{◌≡◌, refl, sym, ap, ◌∙◌, IsTrue, ℕ, List, [], ◌∷◌, ◌++◌, Option, Some, None, Bool, true, false, ◌==◌, if◌then◌else◌}
-use Rattle.run_words.specs.declared.words.Value.{Value}
+use Rattle.run_types.specs.declared.types.Value.{Value}
 use Rattle.pool_syntax.specs.Terms.{Store, Expression, Statements, ProgramTree}
-use Rattle.run_words.specs.Sorts.{Sort}
+use Rattle.run_types.specs.Sorts.{Sort}
 use Rattle.pool_syntax.specs.Typing.{Scope, value_sort, is_dangling}
 use Rattle.pool_relation.specs.Reducible.{Reducible, Contractum, AsExpression, AsStatements, fill_statements}
 use Rattle.pool_relation.specs.Action.{Object, literal}
 use Rattle.pool_relation.specs.UnderWay.{Activity, Own, Serving, in_statements, served_for, serves}
 use Rattle.pool_relation.proofs.typing.TypedTerm.{Holds, Methods, has_methods}
 use Rattle.pool_relation.proofs.typing.Sorts.{MayBecome}
-use Rattle.pool_relation.proofs.typing.Grown.{Grows}
+use Rattle.pool_relation.proofs.typing.AddedObjects.{Grows}
 use Rattle.pool_relation.proofs.redex.TypedRedex.{at, AnExpression, Suits, Replacement, NewStatements}
 use Rattle.pool_relation.proofs.action.TypedAction.{place, Steps}
 use Rattle.pool_relation.proofs.redex.Activities.{Activities, Matches, in_part, is_statement}

@@ -1,27 +1,27 @@
 -- What a typed object does next where its redex is an expression.
 use Rattle.std.proofs.Common.{◌≡◌, refl, ap, IsTrue, ℕ, List, [], ◌∷◌, ◌++◌, length, Option, Some, None, is_some, true, false, ◌||◌, arith}
-use Rattle.run_words.specs.declared.words.Value.{Value}
-use Rattle.run_words.specs.declared.words.Value.TheVariants as V
-use Rattle.run_words.specs.declared.words.Op.{Op}
+use Rattle.run_types.specs.declared.types.Value.{Value}
+use Rattle.run_types.specs.declared.types.Value.TheVariants as V
+use Rattle.run_types.specs.declared.types.Op.{Op}
 use Rattle.pool_syntax.specs.Terms as T
 use Rattle.pool_syntax.specs.Terms.{Store, Expression, Statements, MethodTree, ClassTree, ProgramTree, append}
 use Rattle.pool_syntax.specs.Classes.{class_of, named_method}
-use Rattle.run_words.specs.Sorts.{Sort, IntSort, BoolSort, ClassSort, NilSort, BrokenSort, is_same_sort, op_sort}
+use Rattle.run_types.specs.Sorts.{Sort, IntSort, BoolSort, ClassSort, NilSort, BrokenSort, is_same_sort, op_sort}
 use Rattle.pool_syntax.specs.Typing.{is_open, methods_of, methods_of_class, params_of, sent_method, own_sort, inside, behind_value, Scope, value_sort, object_sort, is_dangling, send_sort, vars_of_class, faults, name_sort}
-use Rattle.run_words.specs.Values.{Outcome, Gives, Fails, WrongSort, prefix_value, infix_value}
+use Rattle.run_types.specs.Values.{Outcome, Gives, Fails, WrongSort, prefix_value, infix_value}
 use Rattle.pool_relation.specs.Reducible as R
 use Rattle.pool_relation.specs.Reducible.{Choice, Reducible, Found, Evaluated, At, Contractum, AsExpression, AsStatements, fill_statements, statements_redex}
 use Rattle.pool_relation.specs.Action.{Object, redex_action, method_of, method_in, with_count, temps_of, value_of, literal, becomes_value, on_outcome, read}
-use Rattle.pool_relation.specs.Written.{is_written}
+use Rattle.pool_syntax.specs.Written.{is_written}
 use Rattle.pool_relation.specs.Typed.{has_room}
 use Rattle.pool_relation.specs.UnderWay.{Activity, Own, served_for}
 use Rattle.pool_relation.proofs.typing.TypedTerm.{Methods, Waits, takes, is_destination, TypedExpression}
 use Rattle.pool_relation.proofs.typing.Sorts.{MayBecome, Stays, Opens}
-use Rattle.pool_relation.proofs.typing.Begun.{running_scope, method_begins, call_begun}
-use Rattle.pool_relation.proofs.typing.Declared.{Valued, Has, Lacks, valued, fits_parts}
-use Rattle.run_words.proofs.Laws.{equal, true_not}
+use Rattle.pool_relation.proofs.typing.MethodStart.{running_scope, method_begins, call_begun}
+use Rattle.pool_relation.proofs.typing.DeclaredStores.{Valued, Has, Lacks, valued, fits_parts}
+use Rattle.run_types.proofs.Laws.{equal, true_not}
 use Rattle.pool_relation.proofs.redex.TypedRedex.{Spot, at, FitValues, AnExpression, Suits, Replacement, NewStatements}
-use Rattle.pool_relation.proofs.redex.AsWait.{statements_wait}
+use Rattle.pool_relation.proofs.redex.SendBecomesWait.{statements_wait}
 use Rattle.pool_relation.proofs.typing.Outcomes.{HasOutcome, prefix_has, infix_has}
 use Rattle.pool_relation.proofs.action.TypedAction.{place, VarsFit, CanReceive, TypedAction}
 use Rattle.pool_relation.proofs.redex.Idle.{statements_idle, expression_idle}

@@ -6,12 +6,12 @@ use Rattle.pool_syntax.specs.Typing.{faults}
 use Rattle.pool_relation.specs.Reducible as R
 use Rattle.pool_relation.specs.Reducible.{Choice, Reducible, Found, Evaluated, At, Contractum, AsExpression, AsStatements, fill_statements, statements_redex}
 use Rattle.pool_relation.specs.Action.{Object, action, redex_action, found_action}
-use Rattle.pool_relation.specs.Written.{is_written}
+use Rattle.pool_syntax.specs.Written.{is_written}
 use Rattle.pool_relation.proofs.typing.TypedTerm.{Waits}
-use Rattle.pool_relation.proofs.typing.Grown.{statements_grown}
-use Rattle.pool_relation.proofs.typing.Declared.{Known}
+use Rattle.pool_relation.proofs.typing.AddedObjects.{statements_grown}
+use Rattle.pool_relation.proofs.typing.DeclaredStores.{Known}
 use Rattle.pool_relation.proofs.action.TypedAction.{place, VarsFit, TypedAction, TypedObject}
-use Rattle.pool_relation.proofs.typing.Checked.{class_known}
+use Rattle.pool_relation.proofs.typing.CheckedProgram.{class_known}
 use Rattle.pool_relation.proofs.redex.Replacement.{statements_at}
 use Rattle.pool_relation.proofs.redex.TermActivities.{statements_activities}
 use Rattle.pool_relation.proofs.action.AtRedex.{ReplacementAt, ActivitiesAt}

@@ -1,12 +1,12 @@
 -- An object waits next only where its redex is a wait.
 use Rattle.std.proofs.Common.{◌≡◌, refl, ap, ◌∙◌, ℕ, List, [], length, Option, Some, None, is_some, Bool, true, false, if◌then◌else◌, arith}
 use Rattle.std.specs.List.{list_any}
-use Rattle.run_words.specs.declared.words.Error.TheVariants.{NoOpenGuard, NilOperand}
-use Rattle.run_words.specs.declared.words.Value.{Value}
-use Rattle.run_words.specs.declared.words.Value.TheVariants as V
+use Rattle.run_types.specs.declared.types.Error.TheVariants.{NoOpenGuard, NilOperand}
+use Rattle.run_types.specs.declared.types.Value.{Value}
+use Rattle.run_types.specs.declared.types.Value.TheVariants as V
 use Rattle.pool_syntax.specs.Terms.{Store, Statements, MethodTree, ProgramTree}
 use Rattle.pool_syntax.specs.Classes.{class_of}
-use Rattle.run_words.specs.Values.{Outcome, Gives, Fails, WrongSort, prefix_value, infix_value, is_nil, not_bool, is_true}
+use Rattle.run_types.specs.Values.{Outcome, Gives, Fails, WrongSort, prefix_value, infix_value, is_nil, not_bool, is_true}
 use Rattle.pool_relation.specs.Reducible as R
 use Rattle.pool_relation.specs.Reducible.{Choice, Reducible, Found, Evaluated, At, Waiting, statements_redex}
 use Rattle.pool_relation.specs.Action as A

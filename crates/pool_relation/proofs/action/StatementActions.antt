@@ -1,16 +1,16 @@
 -- What a typed object does next where its redex is a statement, or a message that it sends.
 use Rattle.std.proofs.Common.{◌≡◌, refl, sym, ap, ◌∙◌, subst, IsTrue, ℕ, List, [], ◌∷◌, ◌++◌, append-nil, Option, Some, None, Bool, true, false, if◌then◌else◌, arith}
 use Rattle.std.specs.List.{list_any}
-use Rattle.run_words.specs.declared.words.Error.TheVariants.{NoOpenGuard}
-use Rattle.run_words.specs.declared.words.Value.{Value}
-use Rattle.run_words.specs.declared.words.Item.{Item}
+use Rattle.run_types.specs.declared.types.Error.TheVariants.{NoOpenGuard}
+use Rattle.run_types.specs.declared.types.Value.{Value}
+use Rattle.run_types.specs.declared.types.Item.{Item}
 use Rattle.pool_syntax.specs.declared.tree.Named.{Named}
 use Rattle.pool_syntax.specs.declared.tree.Var.{Var}
 use Rattle.pool_syntax.specs.Terms as T
 use Rattle.pool_syntax.specs.Terms.{Store, Expression, Statements, MethodTree, ClassTree, ProgramTree, append}
 use Rattle.pool_syntax.specs.Classes.{class_of}
 use Rattle.pool_syntax.specs.Typing.{var_of, kind_sort, Scope, value_sort, vars_of_class, name_sort}
-use Rattle.run_words.specs.Values.{is_nil, not_bool, is_true}
+use Rattle.run_types.specs.Values.{is_nil, not_bool, is_true}
 use Rattle.pool_relation.specs.Reducible as R
 use Rattle.pool_relation.specs.Reducible.{Choice, Reducible, Found, Evaluated, At, Contractum, AsExpression, AsStatements, fill_statements, statements_redex}
 use Rattle.pool_relation.specs.Action as A
@@ -18,9 +18,9 @@ use Rattle.pool_relation.specs.Action.{Object, Action, action, redex_action, fou
 use Rattle.pool_relation.specs.Transition.{returned, work_left}
 use Rattle.pool_relation.specs.UnderWay.{in_statements, served_for, serves}
 use Rattle.pool_relation.proofs.typing.TypedTerm.{Nothing, Methods, fits_need, TypedStatements}
-use Rattle.pool_relation.proofs.typing.Declared.{Known, set_fits, Valued, Has, Lacks, valued}
+use Rattle.pool_relation.proofs.typing.DeclaredStores.{Known, set_fits, Valued, Has, Lacks, valued}
 use Rattle.pool_relation.proofs.redex.TypedRedex.{at, TypedChoices, Suits, Replacement, NewStatements}
-use Rattle.pool_relation.proofs.typing.Weaker.{nothing_below, expression_weaker, statements_weaker, append_typed}
+use Rattle.pool_relation.proofs.typing.Weakening.{nothing_below, expression_weaker, statements_weaker, append_typed}
 use Rattle.pool_relation.proofs.typing.Outcomes.{IsTruth, Truth, NoTruth, truth_is}
 use Rattle.pool_relation.proofs.action.TypedAction.{place, VarsFit, Steps, TakesStatements, TypedAction}
 use Rattle.pool_relation.proofs.redex.Idle.{statements_idle, expression_idle}

@@ -1,7 +1,7 @@
 -- What an object's next action needs and leaves, where its variables and its term are typed.
 use Rattle.std.proofs.Common.{◌≡◌, IsTrue, ℕ, List, [], ◌∷◌, ◌++◌, length, Option, Some, is_some, false}
-use Rattle.run_words.specs.declared.words.Value.{Value}
-use Rattle.run_words.specs.declared.words.Value.TheVariants as V
+use Rattle.run_types.specs.declared.types.Value.{Value}
+use Rattle.run_types.specs.declared.types.Value.TheVariants as V
 use Rattle.pool_syntax.specs.Terms as T
 use Rattle.pool_syntax.specs.Terms.{Store, Statements, MethodTree, ProgramTree}
 use Rattle.pool_syntax.specs.Classes.{class_of}
@@ -14,8 +14,8 @@ use Rattle.pool_relation.specs.Transition.{refilled, done, returned, given}
 use Rattle.pool_relation.specs.UnderWay.{Activity, Serving, served_for, serves}
 use Rattle.pool_relation.proofs.typing.TypedTerm.{Methods, Waits, gives, TypedStatements}
 use Rattle.pool_relation.proofs.typing.Sorts.{MayBecome}
-use Rattle.pool_relation.proofs.typing.Grown.{Grows}
-use Rattle.pool_relation.proofs.typing.Begun.{running_scope}
+use Rattle.pool_relation.proofs.typing.AddedObjects.{Grows}
+use Rattle.pool_relation.proofs.typing.MethodStart.{running_scope}
 use Rattle.pool_relation.proofs.redex.TypedRedex.{Spot, at, FitValues, TypedChoices}
 
 -- where the term of the object stands

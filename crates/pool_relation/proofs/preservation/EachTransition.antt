@@ -1,20 +1,20 @@
 -- Each transition keeps a typed configuration so.
 use Rattle.std.proofs.Common.{◌≡◌, subst, Some, List, [], ◌∷◌, IsTrue}
-use Rattle.run_words.specs.declared.words.Label.{Label}
-use Rattle.run_words.specs.declared.words.Label.TheVariants as L
+use Rattle.run_types.specs.declared.types.Label.{Label}
+use Rattle.run_types.specs.declared.types.Label.TheVariants as L
 use Rattle.pool_syntax.specs.Terms.{ProgramTree}
 use Rattle.pool_syntax.specs.Typing.{faults}
 use Rattle.pool_relation.specs.Configuration.{Configuration}
 use Rattle.pool_relation.specs.Transition.{transition, run}
-use Rattle.pool_relation.specs.Written.{is_written}
+use Rattle.pool_syntax.specs.Written.{is_written}
 use Rattle.pool_relation.specs.Typed.{Typed}
 use Rattle.pool_relation.proofs.Invariant.{Invariant, invariant_of, typed_of}
-use Rattle.run_words.proofs.Laws.{same_some, given_by}
+use Rattle.run_types.proofs.Laws.{same_some, given_by}
 use Rattle.pool_relation.proofs.preservation.OneObject.{local_kept, write_kept, fault_kept, pick_kept}
 use Rattle.pool_relation.proofs.preservation.Messages.{send_kept, take_kept}
 use Rattle.pool_relation.proofs.preservation.NewObject.{new_kept}
-use Rattle.pool_relation.proofs.preservation.Answered.{answer_kept}
-use Rattle.pool_relation.proofs.preservation.Returned.{return_kept}
+use Rattle.pool_relation.proofs.preservation.CallAnswer.{answer_kept}
+use Rattle.pool_relation.proofs.preservation.CallReturn.{return_kept}
 
 invariant_kept : (p : ProgramTree) (c d : Configuration) (l : Label) → faults p ≡ [] → IsTrue (is_written p) → Invariant p c
     → transition p c l ≡ Some d → Invariant p d

@@ -1,17 +1,17 @@
 -- Two objects are put.
 use Rattle.std.proofs.Common.{◌≡◌, refl, sym, ap, ◌∙◌, subst, IsTrue, ℕ, Some, is_some, ◌⊎◌, inl, inr, ◌≢◌}
-use Rattle.run_words.specs.declared.words.Error.{Error}
+use Rattle.run_types.specs.declared.types.Error.{Error}
 use Rattle.pool_syntax.specs.Terms.{ProgramTree}
 use Rattle.pool_syntax.specs.Classes.{class_of}
 use Rattle.pool_relation.specs.Action as A
 use Rattle.pool_relation.specs.Action.{Object, action}
 use Rattle.pool_relation.specs.Configuration.{Configuration, object_of, put_object}
-use Rattle.pool_relation.proofs.typing.Grown.{Grows}
+use Rattle.pool_relation.proofs.typing.AddedObjects.{Grows}
 use Rattle.pool_relation.proofs.action.TypedAction.{TypedObject}
 use Rattle.pool_relation.proofs.Lookup.{Put, New, Old, put_cases}
 use Rattle.pool_relation.proofs.Invariant.{classes}
-use Rattle.pool_relation.proofs.preservation.Moves.{Anew, Moves, forward_grows, object_grown}
-use Rattle.run_words.proofs.Laws.{same_some}
+use Rattle.pool_relation.proofs.preservation.ObjectUpdates.{Anew, Moves, forward_grows, object_grown}
+use Rattle.run_types.proofs.Laws.{same_some}
 
 -- each name after two objects were put
 pub data Lookup (c : Configuration) (o : ℕ) (y : Object) (n : ℕ) (z : Object) (q : ℕ) : Type 0 where

@@ -1,37 +1,37 @@
 -- An asynchronous message is sent, or taken: a typed configuration stays so.
 use Rattle.std.proofs.Common.{◌≡◌, refl, sym, ap, ◌∙◌, subst, IsTrue, ℕ, List, [], ◌∷◌, ◌++◌, length, Option, Some, None, is_some, All, Bool, true, false, ◌&&◌, ◌||◌, ◌==◌, append-nil, if◌then◌else◌, arith}
 use Rattle.std.proofs.lemmas.List.Elements.{All-cons, All-nil, All-append, All-head, All-tail}
-use Rattle.run_words.specs.declared.words.Value.{Value}
-use Rattle.run_words.specs.declared.words.NameId.{NameId}
-use Rattle.run_words.specs.declared.words.Label.TheVariants as L
+use Rattle.run_types.specs.declared.types.Value.{Value}
+use Rattle.run_types.specs.declared.types.NameId.{NameId}
+use Rattle.run_types.specs.declared.types.Label.TheVariants as L
 use Rattle.pool_syntax.specs.declared.tree.Named.{Named}
 use Rattle.pool_syntax.specs.declared.tree.Var.{Var}
 use Rattle.pool_syntax.specs.Terms as T
 use Rattle.pool_syntax.specs.Terms.{Store, Statements, MethodTree, ProgramTree}
-use Rattle.run_words.specs.Sorts.{Sort, IntSort, BoolSort, ClassSort, NilSort, NoSort, BrokenSort, is_same_sort}
+use Rattle.run_types.specs.Sorts.{Sort, IntSort, BoolSort, ClassSort, NilSort, NoSort, BrokenSort, is_same_sort}
 use Rattle.pool_syntax.specs.Typing.{Scope, faults, kind_sort, value_sort, is_open, inside, behind_value}
 use Rattle.pool_relation.specs.Action as A
 use Rattle.pool_relation.specs.Action.{Object, Action, action, method_of, temps_of}
-use Rattle.run_words.specs.Values.{is_true}
+use Rattle.run_types.specs.Values.{is_true}
 use Rattle.pool_relation.specs.Reducible.{Choice}
-use Rattle.run_words.specs.Tables.{pair_cmp, put_list}
-use Rattle.run_words.specs.Message.{Message}
+use Rattle.run_types.specs.Tables.{pair_cmp, put_list}
+use Rattle.run_types.specs.Message.{Message}
 use Rattle.pool_relation.specs.Configuration.{Configuration, object_of, put_object, messages_of, put_messages}
 use Rattle.pool_relation.specs.Transition.{running, posts, done, serving, transition, Offer, offer, select_offer, answered, names_method, first_message, without_first}
-use Rattle.run_words.specs.Same.{are_same}
+use Rattle.run_types.specs.Same.{are_same}
 use Rattle.pool_relation.specs.UnderWay.{Activity, Serving, in_statements, in_expression, served_for, serves}
 use Rattle.pool_relation.specs.Typed.{class_at, scope, fits, all_fit, IsMessageFor}
-use Rattle.pool_relation.specs.Written.{is_written}
-use Rattle.run_words.proofs.Laws.{first, second, both, equal, same_some, there_is, given_by, required, same_values}
+use Rattle.pool_syntax.specs.Written.{is_written}
+use Rattle.run_types.proofs.Laws.{first, second, both, equal, same_some, there_is, given_by, required, same_values}
 use Rattle.pool_relation.proofs.typing.TypedTerm.{Nothing, Methods, has_no_sort, fits_need, TypedStatements}
-use Rattle.pool_relation.proofs.typing.Declared.{AllKnown, fits_var, fits_parts}
-use Rattle.pool_relation.proofs.typing.Begun.{method_begins, serve_begun}
+use Rattle.pool_relation.proofs.typing.DeclaredStores.{AllKnown, fits_var, fits_parts}
+use Rattle.pool_relation.proofs.typing.MethodStart.{method_begins, serve_begun}
 use Rattle.pool_relation.proofs.redex.TypedRedex.{Spot, at, FitValues, TypedChoices}
 use Rattle.pool_relation.proofs.redex.Idle.{statements_idle, expression_idle}
 use Rattle.pool_relation.proofs.action.TypedAction.{place, CanReceive, TakesStatements, TypedAction}
 use Rattle.pool_relation.proofs.Lookup.{objects_in_order, messages_in_order, no_empty_messages, PutMessages, NewMessages, OldMessages, put_messages_cases}
 use Rattle.pool_relation.proofs.Invariant.{classes, FitsAt, MessagesFit, Invariant}
-use Rattle.pool_relation.proofs.Running.{running_is}
+use Rattle.pool_relation.proofs.FaultlessObject.{running_is}
 use Rattle.pool_relation.proofs.action.NextWaits.{is_waits, does_not_wait}
 use Rattle.pool_relation.proofs.preservation.OneObject.{object_typed_at, one_step, stepped, no_fault}
 

@@ -1,8 +1,8 @@
 -- An object is made: a typed configuration stays so.
 use Rattle.std.proofs.Common.{◌≡◌, refl, sym, ap, ◌∙◌, subst, IsTrue, ℕ, [], Option, Some, None, is_some, is_none, ◌&&◌, ◌⊎◌, inl, inr, arith}
-use Rattle.run_words.specs.declared.words.Value.TheVariants as V
-use Rattle.run_words.specs.declared.words.NameId.{NameId}
-use Rattle.run_words.specs.declared.words.Label.TheVariants as L
+use Rattle.run_types.specs.declared.types.Value.TheVariants as V
+use Rattle.run_types.specs.declared.types.NameId.{NameId}
+use Rattle.run_types.specs.declared.types.Label.TheVariants as L
 use Rattle.pool_syntax.specs.Terms.{ClassTree, ProgramTree}
 use Rattle.pool_syntax.specs.Classes.{class_of}
 use Rattle.pool_syntax.specs.Typing.{faults, vars_of_class}
@@ -12,20 +12,20 @@ use Rattle.pool_relation.specs.Configuration.{Configuration, object_of, put_obje
 use Rattle.pool_relation.specs.Transition.{running, makes, given, new_object, transition}
 use Rattle.pool_relation.specs.UnderWay.{serves}
 use Rattle.pool_relation.specs.Typed.{class_at, is_store_of}
-use Rattle.pool_relation.specs.Written.{is_written}
-use Rattle.run_words.proofs.Laws.{first, second, equal, same_some, given_by, required}
+use Rattle.pool_syntax.specs.Written.{is_written}
+use Rattle.run_types.proofs.Laws.{first, second, equal, same_some, given_by, required}
 use Rattle.pool_relation.proofs.typing.TypedTerm.{Nothing, Methods, Waits, TypedStatements}
-use Rattle.pool_relation.proofs.typing.Weaker.{nothing_below, statements_weaker}
-use Rattle.pool_relation.proofs.typing.Grown.{Grows}
-use Rattle.pool_relation.proofs.typing.Checked.{class_checked}
-use Rattle.pool_relation.proofs.typing.Begun.{body_begun, new_store_fits}
+use Rattle.pool_relation.proofs.typing.Weakening.{nothing_below, statements_weaker}
+use Rattle.pool_relation.proofs.typing.AddedObjects.{Grows}
+use Rattle.pool_relation.proofs.typing.CheckedProgram.{class_checked}
+use Rattle.pool_relation.proofs.typing.MethodStart.{body_begun, new_store_fits}
 use Rattle.pool_relation.proofs.redex.Idle.{statements_idle}
 use Rattle.pool_relation.proofs.action.TypedAction.{place, Steps, TypedAction, TypedObject}
 use Rattle.pool_relation.proofs.Lookup.{objects_in_order}
 use Rattle.pool_relation.proofs.Invariant.{classes, Invariant}
 use Rattle.pool_relation.proofs.preservation.LookupOfTwo.{Lookup, Added, Replaced, AsBefore, look_up}
-use Rattle.pool_relation.proofs.preservation.Moves.{Anew, Moves, forward_grows, object_grown, objects_kept, messages_kept, Calm, serving_kept}
-use Rattle.pool_relation.proofs.Running.{running_is}
+use Rattle.pool_relation.proofs.preservation.ObjectUpdates.{Anew, Moves, forward_grows, object_grown, objects_kept, messages_kept, Calm, serving_kept}
+use Rattle.pool_relation.proofs.FaultlessObject.{running_is}
 use Rattle.pool_relation.proofs.action.NextWaits.{is_waits, does_not_wait}
 use Rattle.pool_relation.proofs.preservation.OneObject.{object_typed_at, stepped, no_fault}
 

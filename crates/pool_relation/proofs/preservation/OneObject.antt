@@ -1,32 +1,32 @@
 -- Transitions of one object alone keep a typed configuration so.
 use Rattle.std.proofs.Common.{◌≡◌, refl, sym, ap, ◌∙◌, subst, IsTrue, ℕ, suc, zero, List, [], ◌∷◌, Option, Some, None, is_none, false, ◌&&◌, slice_get, append-nil, arith}
-use Rattle.run_words.specs.declared.words.Error.{Error}
-use Rattle.run_words.specs.declared.words.Item.{Item}
-use Rattle.run_words.specs.declared.words.Label.TheVariants as L
+use Rattle.run_types.specs.declared.types.Error.{Error}
+use Rattle.run_types.specs.declared.types.Item.{Item}
+use Rattle.run_types.specs.declared.types.Label.TheVariants as L
 use Rattle.pool_syntax.specs.Terms.{Store, Statements, ProgramTree}
 use Rattle.pool_syntax.specs.Typing.{Scope, faults}
 use Rattle.pool_relation.specs.Action as A
 use Rattle.pool_relation.specs.Action.{Object, Action, action}
-use Rattle.run_words.specs.Values.{is_true}
+use Rattle.run_types.specs.Values.{is_true}
 use Rattle.pool_relation.specs.Reducible.{Choice, AsStatements}
-use Rattle.run_words.specs.Tables.{Pair}
-use Rattle.run_words.specs.Message.{Message}
+use Rattle.run_types.specs.Tables.{Pair}
+use Rattle.run_types.specs.Message.{Message}
 use Rattle.pool_relation.specs.Configuration.{Configuration, object_of, put_object, messages_of}
 use Rattle.pool_relation.specs.Transition.{running, local_step, writes, fails, picked, plain_choice, done, refilled, transition}
 use Rattle.pool_relation.specs.UnderWay.{serves}
 use Rattle.pool_relation.specs.Typed.{class_at}
-use Rattle.pool_relation.specs.Written.{is_written}
+use Rattle.pool_syntax.specs.Written.{is_written}
 use Rattle.pool_relation.proofs.typing.TypedTerm.{Nothing, Methods, Waits, TypedStatements}
-use Rattle.pool_relation.proofs.typing.Weaker.{Below, nothing_below, statements_weaker}
+use Rattle.pool_relation.proofs.typing.Weakening.{Below, nothing_below, statements_weaker}
 use Rattle.pool_relation.proofs.redex.TypedRedex.{at, TypedChoices}
 use Rattle.pool_relation.proofs.action.TypedAction.{place, VarsFit, Steps, TypedAction, TypedObject}
 use Rattle.pool_relation.proofs.action.NextAction.{action_typed}
 use Rattle.pool_relation.proofs.redex.Idle.{statements_idle}
 use Rattle.pool_relation.proofs.Lookup.{objects_in_order}
 use Rattle.pool_relation.proofs.Invariant.{classes, MessagesFit, InOrder, Invariant}
-use Rattle.pool_relation.proofs.preservation.Moves.{objects_kept, messages_kept, serving_kept, after_put, put_moves, put_calm}
-use Rattle.run_words.proofs.Laws.{given_by, required, same_error}
-use Rattle.pool_relation.proofs.Running.{running_is}
+use Rattle.pool_relation.proofs.preservation.ObjectUpdates.{objects_kept, messages_kept, serving_kept, after_put, put_moves, put_calm}
+use Rattle.run_types.proofs.Laws.{given_by, required, same_error}
+use Rattle.pool_relation.proofs.FaultlessObject.{running_is}
 use Rattle.pool_relation.proofs.action.NextWaits.{is_waits, does_not_wait}
 
 pub methods_below : Below Methods Waits

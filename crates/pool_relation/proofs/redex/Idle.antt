@@ -1,6 +1,6 @@
 -- Parts in which nothing is under way: those that are typed so, and those without a redex.
 use Rattle.std.proofs.Common.{◌≡◌, refl, ap, ℕ, ◌+◌, List, [], ◌∷◌, arith}
-use Rattle.run_words.specs.declared.words.Value.{Value}
+use Rattle.run_types.specs.declared.types.Value.{Value}
 use Rattle.pool_syntax.specs.declared.tree.Var.{Var}
 use Rattle.pool_syntax.specs.Terms.{Store, Expression, Literal, Me, Variable, Create, Prefix, Infix, Call, Send, Frame, Wait, Expressions, NoArgs, Arg, Statement, Assign, Write, WriteText, Do, Async, If, While, Answer, Select, Serve, Statements, Done, Then, Alternatives, NoAlts, Alt}
 use Rattle.pool_syntax.specs.Typing.{Scope, sort_of, own_method, params_of, sent_method}
@@ -8,7 +8,7 @@ use Rattle.pool_relation.specs.Reducible.{Choice, Evaluated, is_value, expressio
 use Rattle.pool_relation.specs.UnderWay.{in_expression, in_expressions, in_statement, in_statements, in_guards}
 use Rattle.pool_relation.proofs.typing.TypedTerm.{Nothing, past, TypedExpression, TypedArguments, TypedStatement, TypedStatements, TypedAlternatives}
 use Rattle.pool_relation.proofs.redex.RedexSearch.{passed, literal_is}
-use Rattle.pool_relation.proofs.typing.Weaker.{past_below_all, expression_weaker, arguments_weaker, alternatives_weaker}
+use Rattle.pool_relation.proofs.typing.Weakening.{past_below_all, expression_weaker, arguments_weaker, alternatives_weaker}
 
 -- nothing is under way in a part that is typed so
 mutual

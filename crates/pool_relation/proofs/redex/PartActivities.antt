@@ -1,8 +1,8 @@
 -- What is under way in a part, by what is under way in the parts inside.
 use Rattle.std.proofs.Common.{◌≡◌, refl, ap, ◌∙◌, ℕ, ◌+◌, List, [], ◌∷◌, ◌++◌, append-nil, Option, Some, None, is_none, true, false, ◌⊎◌, inl, inr, arith}
-use Rattle.run_words.specs.declared.words.Value.{Value}
-use Rattle.run_words.specs.declared.words.Op.{Op}
-use Rattle.run_words.specs.declared.words.Item.TheVariants as I
+use Rattle.run_types.specs.declared.types.Value.{Value}
+use Rattle.run_types.specs.declared.types.Op.{Op}
+use Rattle.run_types.specs.declared.types.Item.TheVariants as I
 use Rattle.pool_syntax.specs.declared.tree.Named.{Named}
 use Rattle.pool_syntax.specs.declared.tree.Var.{Var}
 use Rattle.pool_syntax.specs.Terms.{Store, Expression, Prefix, Infix, Call, Send, Frame, Expressions, Arg, Assign, Write, Do, Async, If, Select, Serve, Statements, Done, Then, Alternatives, Alt}

@@ -1,11 +1,11 @@
 -- The redex of a typed expression, part by part.
 use Rattle.std.proofs.Common.{◌≡◌, refl, ap, subst, IsTrue, ℕ, suc, ◌+◌, List, [], ◌∷◌, length, Option, true, false, ◌⊎◌, inl, inr}
-use Rattle.run_words.specs.declared.words.Value.{Value}
-use Rattle.run_words.specs.declared.words.Op.{Op}
+use Rattle.run_types.specs.declared.types.Value.{Value}
+use Rattle.run_types.specs.declared.types.Op.{Op}
 use Rattle.pool_syntax.specs.declared.tree.Named.{Named}
 use Rattle.pool_syntax.specs.declared.tree.Var.{Var}
 use Rattle.pool_syntax.specs.Terms.{Store, Expression, Prefix, Infix, Call, Send, Expressions, NoArgs, Arg, Statement, Statements, Alternatives, NoAlts, Alt}
-use Rattle.run_words.specs.Sorts.{Sort, op_sort}
+use Rattle.run_types.specs.Sorts.{Sort, op_sort}
 use Rattle.pool_syntax.specs.Typing.{Scope, value_sort, is_dangling, sort_of, own_sort, send_sort, own_method, params_of, sent_method, size}
 use Rattle.pool_relation.specs.Reducible.{Choice, Reducible, Evaluated, At, and_then, Unary, Binary, Invoke, SynchronousSend, Contractum, is_value, as_expression, as_statements, fill_expression, expression_redex, expressions_redex}
 use Rattle.pool_relation.specs.Reducible.{guards_redex}
@@ -13,7 +13,7 @@ use Rattle.pool_relation.specs.Typed.{is_store_of, has_room}
 use Rattle.pool_relation.proofs.typing.TypedTerm.{Holds, Nothing, Waits, past, TypedExpression, TypedArguments, TypedStatements, TypedAlternatives}
 use Rattle.pool_relation.proofs.redex.RedexSearch.{split, split_last, split_more, passed, literal_is, not_value, not_values, arguments_are}
 use Rattle.pool_relation.proofs.typing.Sorts.{MayBecome, Stays, need_kept, sort_kept, operands_left, operands_right, destination_kept, send_kept, arguments_kept}
-use Rattle.pool_relation.proofs.typing.Weaker.{nothing_below, expression_weaker, arguments_weaker, alternatives_weaker, value_weaker}
+use Rattle.pool_relation.proofs.typing.Weakening.{nothing_below, expression_weaker, arguments_weaker, alternatives_weaker, value_weaker}
 use Rattle.pool_relation.proofs.redex.TypedRedex.{TypedRedex, FitValues, AnExpression, SomeStatements, Suits, Replacement, wider, NewExpression, NewArguments, NewAlternatives, AtExpression, AtArguments, AtAlternatives, TypedChoices}
 
 -- what a literal is and fits

@@ -1,20 +1,20 @@
 -- The redex of a typed term, part by part.
 use Rattle.std.proofs.Common.{◌≡◌, refl, IsTrue, ℕ, ◌+◌, List, Option, Some, None, is_none, true, false, ◌⊎◌, inl, inr, arith}
-use Rattle.run_words.specs.declared.words.Value.{Value}
-use Rattle.run_words.specs.declared.words.Item.TheVariants as I
-use Rattle.run_words.specs.declared.words.Kind.{Kind}
+use Rattle.run_types.specs.declared.types.Value.{Value}
+use Rattle.run_types.specs.declared.types.Item.TheVariants as I
+use Rattle.run_types.specs.declared.types.Kind.{Kind}
 use Rattle.pool_syntax.specs.Terms.{Store, Expression, Literal, Frame, Expressions, Assign, Write, Do, Async, If, Select, Serve, Statements, Done, Then, Alternatives, MethodTree}
 use Rattle.pool_syntax.specs.Typing.{Scope, value_sort, sort_of, inside, behind_value, own_method, params_of, sent_method, size}
 use Rattle.pool_relation.specs.Reducible.{Choice, Reducible, Evaluated, At, and_then, Leave, Set, Print, Drop, Post, Branch, Choose, Finish, left_served, is_over, assigned, Contractum, AsExpression, AsStatements, is_value, is_done, fill_expression, fill_statements, expression_redex, expressions_redex}
 use Rattle.pool_relation.specs.Reducible.{guards_redex}
 use Rattle.pool_relation.specs.Action.{literal}
-use Rattle.pool_relation.specs.Written.{is_nil_value, is_value_for}
+use Rattle.pool_syntax.specs.SourceParts.{is_nil_value, is_value_for}
 use Rattle.pool_relation.specs.Typed.{is_store_of, is_value_of}
 use Rattle.pool_relation.proofs.typing.TypedTerm.{Holds, Nothing, Waits, has_methods, past, TypedExpression, TypedArguments, TypedStatement, TypedStatements}
 use Rattle.pool_relation.proofs.redex.RedexSearch.{split, split_last, not_value, not_values, not_guards, arguments_are, guards_are, InMethod, InBody, InValue, InPost, AtEnd, in_method}
 use Rattle.pool_relation.proofs.typing.Sorts.{Stays, need_kept, sort_kept, destination_kept, arguments_kept, gives_kept}
-use Rattle.pool_relation.proofs.typing.Weaker.{nothing_below, expression_weaker, statements_weaker, arguments_weaker, value_weaker}
-use Rattle.pool_relation.proofs.typing.Declared.{Known, temps_known, assigned_fits, gives_known}
+use Rattle.pool_relation.proofs.typing.Weakening.{nothing_below, expression_weaker, statements_weaker, arguments_weaker, value_weaker}
+use Rattle.pool_relation.proofs.typing.DeclaredStores.{Known, temps_known, assigned_fits, gives_known}
 use Rattle.pool_relation.proofs.redex.TypedRedex.{Replacement, wider, NewExpression, NewStatement, NewStatements, AtExpression, AtArguments, AtStatement, AtStatements, AtAlternatives}
 use Rattle.pool_relation.proofs.redex.RedexOfExpression.{literal_typed, arguments_fit, choices_fit, here, placed_statements}
 

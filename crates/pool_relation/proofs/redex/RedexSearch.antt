@@ -1,7 +1,7 @@
 -- The search for the redex: where it ends, and what has none.
 use Rattle.std.proofs.Common.{◌≡◌, refl, sym, ap, ◌∙◌, ℕ, List, [], ◌∷◌, Option, Some, None, Bool, true, false, ◌⊎◌, inl, inr, arith}
-use Rattle.run_words.specs.declared.words.Value.{Value}
-use Rattle.run_words.specs.declared.words.Item.TheVariants as I
+use Rattle.run_types.specs.declared.types.Value.{Value}
+use Rattle.run_types.specs.declared.types.Item.TheVariants as I
 use Rattle.pool_syntax.specs.Terms.{Store, Expression, Literal, Me, Variable, Create, Prefix, Infix, Call, Send, Frame, Wait, Expressions, NoArgs, Arg, Statement, Assign, Write, WriteText, Do, Async, If, While, Answer, Select, Serve, Statements, Done, Then, Alternatives, NoAlts, Alt}
 use Rattle.pool_relation.specs.Reducible.{Choice, Reducible, Found, Evaluated, At, and_then, Unary, Binary, Invoke, SynchronousSend, Leave, Set, Print, Drop, Post, Branch, Choose, Finish, in_post, left_served, is_over, is_value, are_values, guards_are_values, is_done, expression_redex, expressions_redex, statement_redex, statements_redex}
 use Rattle.pool_relation.specs.Reducible.{guards_redex}

@@ -1,16 +1,16 @@
 -- A typed term with a redex: what is known there, and that the term stays typed where a suitable part takes its place.
 use Rattle.std.proofs.Common.{◌≡◌, sym, IsTrue, ℕ, ◌+◌, List, [], ◌∷◌, is_none}
-use Rattle.run_words.specs.declared.words.Item.TheVariants as I
+use Rattle.run_types.specs.declared.types.Item.TheVariants as I
 use Rattle.pool_syntax.specs.declared.tree.Var.{Var}
 use Rattle.pool_syntax.specs.Terms.{Store, Expression, Literal, Me, Variable, Create, Prefix, Infix, Call, Send, Frame, Wait, Expressions, NoArgs, Arg, Statement, Assign, Write, WriteText, Do, Async, If, While, Answer, Select, Serve, Statements, Done, Then, Alternatives, NoAlts, Alt}
-use Rattle.run_words.specs.Sorts.{ClassSort}
+use Rattle.run_types.specs.Sorts.{ClassSort}
 use Rattle.pool_syntax.specs.Typing.{Scope, name_sort, object_sort, send_sort, sort_of, inside, behind_value, own_method, params_of, sent_method}
 use Rattle.pool_relation.specs.Reducible.{Reducible, Found, At, OwnName, Read, Make, Waiting, Print, Loop, Accept, is_value, is_done, fill_statement}
 use Rattle.pool_relation.specs.Typed.{is_store_of}
 use Rattle.pool_relation.proofs.typing.TypedTerm.{Holds, Waits, has_methods, past, TypedExpression, TypedArguments, TypedStatement, TypedStatements, TypedAlternatives}
 use Rattle.pool_relation.proofs.redex.RedexSearch.{at_is_no_value}
-use Rattle.pool_relation.proofs.typing.Weaker.{past_below_all, below_twice, below_thrice, expression_weaker, statements_weaker, arguments_weaker, alternatives_weaker, append_typed}
-use Rattle.pool_relation.proofs.typing.Declared.{Known}
+use Rattle.pool_relation.proofs.typing.Weakening.{past_below_all, below_twice, below_thrice, expression_weaker, statements_weaker, arguments_weaker, alternatives_weaker, append_typed}
+use Rattle.pool_relation.proofs.typing.DeclaredStores.{Known}
 use Rattle.pool_relation.proofs.redex.TypedRedex.{wider, AtExpression, AtArguments, AtStatement, AtStatements, AtAlternatives}
 use Rattle.pool_relation.proofs.redex.RedexOfExpression.{here, placed, placed_statements, prefix_replacement, infix_replacement, call_replacement, send_replacement, arguments_replacement, alternatives_replacement}
 use Rattle.pool_relation.proofs.redex.RedexOfStatement.{frame_replacement, serve_replacement, assign_replacement, write_replacement, do_replacement, if_replacement, select_replacement, async_replacement}

@@ -1,6 +1,6 @@
 -- The methods under way in a term end with what its redex ends.
 use Rattle.std.proofs.Common.{◌≡◌, refl, sym, ◌∙◌, ℕ, ◌+◌, List, [], ◌∷◌, is_none, append-nil}
-use Rattle.run_words.specs.declared.words.Item.TheVariants as I
+use Rattle.run_types.specs.declared.types.Item.TheVariants as I
 use Rattle.pool_syntax.specs.declared.tree.Var.{Var}
 use Rattle.pool_syntax.specs.Terms.{Store, Expression, Literal, Me, Variable, Create, Prefix, Infix, Call, Send, Frame, Wait, Expressions, NoArgs, Arg, Statement, Assign, Write, WriteText, Do, Async, If, While, Answer, Select, Serve, Statements, Done, Then, Alternatives, NoAlts, Alt}
 use Rattle.pool_syntax.specs.Typing.{Scope, sort_of, inside, behind_value, own_method, params_of, sent_method}
@@ -8,7 +8,7 @@ use Rattle.pool_relation.specs.Reducible.{Reducible, Found, At, OwnName, Read, M
 use Rattle.pool_relation.specs.UnderWay.{in_statement, in_statements}
 use Rattle.pool_relation.proofs.typing.TypedTerm.{Waits, past, TypedExpression, TypedArguments, TypedStatement, TypedStatements, TypedAlternatives}
 use Rattle.pool_relation.proofs.redex.RedexSearch.{at_is_no_value}
-use Rattle.pool_relation.proofs.typing.Weaker.{past_below_all, below_twice, below_thrice, expression_weaker, statements_weaker, arguments_weaker, alternatives_weaker}
+use Rattle.pool_relation.proofs.typing.Weakening.{past_below_all, below_twice, below_thrice, expression_weaker, statements_weaker, arguments_weaker, alternatives_weaker}
 use Rattle.pool_relation.proofs.redex.Idle.{statements_idle}
 use Rattle.pool_relation.proofs.redex.Activities.{same, at_once, placed_expression, placed_statement, append_activities, ExpressionActivities, ArgumentsActivities, StatementActivities, StatementsActivities, AlternativesActivities}
 use Rattle.pool_relation.proofs.redex.PartActivities.{prefix_activities, infix_activities, call_activities, send_activities, frame_activities, argument_activities, guard_activities, assign_activities, write_activities, do_activities, if_activities, select_activities, async_activities, serve_activities}

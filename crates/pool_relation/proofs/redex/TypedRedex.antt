@@ -1,16 +1,16 @@
 -- What is known of a redex in a typed term, and what may take its place.
 use Rattle.std.proofs.Common.{◌≡◌, IsTrue, ℕ, List, [], ◌∷◌, length, is_some, false}
-use Rattle.run_words.specs.declared.words.Value.{Value}
+use Rattle.run_types.specs.declared.types.Value.{Value}
 use Rattle.pool_syntax.specs.declared.tree.Var.{Var}
 use Rattle.pool_syntax.specs.Terms.{Store, Expression, Expressions, Statement, Statements, Alternatives}
 use Rattle.pool_syntax.specs.Classes.{class_of}
-use Rattle.run_words.specs.Sorts.{Sort, BoolSort, ClassSort, op_sort, operand_sort}
+use Rattle.run_types.specs.Sorts.{Sort, BoolSort, ClassSort, op_sort, operand_sort}
 use Rattle.pool_syntax.specs.Typing.{Scope, kind_sort, name_sort, value_sort, object_sort, is_dangling, sort_of, own_sort, send_sort, is_broken_name, own_method, params_of, sent_method, names_faults, answer_faults, size}
 use Rattle.pool_relation.specs.Reducible.{Choice, Reducible, OwnName, Read, Make, Unary, Binary, Invoke, SynchronousSend, Leave, Waiting, Set, Print, Drop, Post, Branch, Loop, Accept, Choose, Finish, Contractum, AsExpression, AsStatements, fill_expression, fill_expressions, fill_statement, fill_statements, fill_guards, At, expression_redex, expressions_redex, statement_redex, statements_redex}
 use Rattle.pool_relation.specs.Reducible.{guards_redex}
 use Rattle.pool_relation.specs.Action.{literal}
 use Rattle.pool_relation.specs.Typed.{is_store_of, has_room}
-use Rattle.pool_relation.specs.Written.{is_prefix}
+use Rattle.pool_syntax.specs.SourceParts.{is_prefix}
 use Rattle.pool_relation.proofs.typing.TypedTerm.{Holds, Nothing, fits_need, fit_operands, takes, is_destination, TypedExpression, TypedArguments, TypedStatements, TypedAlternatives}
 use Rattle.pool_relation.proofs.typing.Sorts.{MayBecome}
 

@@ -1,14 +1,14 @@
 -- Lists of faults that are empty, as tests.
 use Rattle.std.proofs.Common.{◌≡◌, refl, IsTrue, ℕ, List, [], ◌∷◌, ◌++◌, Option, Some, None, Bool, true, false, not, ◌&&◌, nat_le, arith}
-use Rattle.run_words.specs.declared.words.Op.{Op}
-use Rattle.run_words.specs.declared.words.Op.TheVariants as O
-use Rattle.run_words.specs.declared.words.Kind.{Kind}
+use Rattle.run_types.specs.declared.types.Op.{Op}
+use Rattle.run_types.specs.declared.types.Op.TheVariants as O
+use Rattle.run_types.specs.declared.types.Kind.{Kind}
 use Rattle.pool_syntax.specs.Terms.{Expression, MethodTree}
-use Rattle.run_words.specs.Sorts.{Sort, IntSort, BoolSort, ClassSort, NilSort, NoSort, BrokenSort, operand_sort}
+use Rattle.run_types.specs.Sorts.{Sort, IntSort, BoolSort, ClassSort, NilSort, NoSort, BrokenSort, operand_sort}
 use Rattle.pool_syntax.specs.Typing.{Scope, kind_sort, sort_of, fault_if, no_result_faults, misfit, needs, needs_alike, needs_operands, limit_faults, method_faults, destination_faults, value_needs, position, counted}
 use Rattle.pool_syntax.specs.Typing.{is_comparable}
 use Rattle.pool_relation.specs.Typed.{has_room}
-use Rattle.run_words.proofs.Laws.{not_true, true_not}
+use Rattle.run_types.proofs.Laws.{not_true, true_not}
 use Rattle.pool_relation.proofs.typing.TypedTerm.{has_no_sort, fits_need, fit_operands, takes, is_destination, gives, fits_outcome}
 
 -- both lists are empty

@@ -1,20 +1,20 @@
 -- The terms of a typed configuration, by the one test of typed parts.
 use Rattle.std.proofs.Common.{◌≡◌, refl, IsTrue, ℕ, ◌+◌, List, [], ◌∷◌, Option, Some, None, is_some, is_none, Bool, true, false, not, ◌&&◌, if◌then◌else◌, arith}
-use Rattle.run_words.specs.declared.words.Value.{Value}
+use Rattle.run_types.specs.declared.types.Value.{Value}
 use Rattle.pool_syntax.specs.declared.tree.Var.{Var}
 use Rattle.pool_syntax.specs.Terms.{Store, Expression, Literal, Me, Variable, Create, Prefix, Infix, Call, Send, Frame, Wait, Expressions, NoArgs, Arg, Statement, Assign, Write, WriteText, Do, Async, If, While, Answer, Select, Serve, Statements, Done, Then, Alternatives, NoAlts, Alt}
 use Rattle.pool_syntax.specs.Typing.{Scope, sort_of, position, inside, behind_value, own_method, params_of, sent_method, temps_of_method, size, kind_sort, name_sort, expression_faults, arguments_faults, statement_faults, statements_faults, alternatives_faults}
-use Rattle.run_words.specs.Sorts.{BoolSort, operand_sort}
+use Rattle.run_types.specs.Sorts.{BoolSort, operand_sort}
 use Rattle.pool_relation.specs.Reducible.{Found, Evaluated, At, Waiting, is_value, is_done, expression_redex, expressions_redex, statement_redex, statements_redex, guards_redex}
-use Rattle.pool_relation.specs.Written.{is_source, are_source, are_source_statements, are_source_alternatives, is_prefix}
+use Rattle.pool_syntax.specs.SourceParts.{is_source, are_source, are_source_statements, are_source_alternatives, is_prefix}
 use Rattle.pool_relation.specs.Typed.{is_store_of, is_sound, are_sound, is_sound_statement, are_sound_statements, are_sound_alternatives, has_room, is_value_of}
-use Rattle.run_words.proofs.Laws.{first, second, not_true, true_not}
+use Rattle.run_types.proofs.Laws.{first, second, not_true, true_not}
 use Rattle.pool_relation.proofs.typing.TypedTerm.{Holds, Nothing, Waits, past, TypedExpression, TypedArguments, TypedStatement, TypedStatements, TypedAlternatives}
 use Rattle.pool_relation.proofs.redex.RedexSearch.{value_found}
 use Rattle.pool_relation.proofs.typing.Faults.{none2, none3, none4, none5, no_fault_if, room_of, sort_of_none, fits_of_none, operands_of_none, takes_of_none, destination_of_none, gives_of_none}
-use Rattle.pool_relation.proofs.typing.Weaker.{nothing_below, statements_weaker}
+use Rattle.pool_relation.proofs.typing.Weakening.{nothing_below, statements_weaker}
 use Rattle.pool_relation.proofs.typing.ToTyped.{are_sound_behind}
-use Rattle.pool_relation.proofs.typing.Written.{expression_written, arguments_written, statements_written, alternatives_written}
+use Rattle.pool_relation.proofs.typing.SourceIsTyped.{expression_written, arguments_written, statements_written, alternatives_written}
 
 -- an object that a part waits for is there
 abbrev pub WaitKnown : {A : Type 0} → Scope → Found A → Type 0

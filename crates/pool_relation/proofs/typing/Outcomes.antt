@@ -1,15 +1,15 @@
 -- Operators on values of fitting sorts.
 use Rattle.std.proofs.Common.{◌≡◌, refl, IsTrue, suc, zero, ℤ, pos, negsuc, ◌+ℤ◌, ◌-ℤ◌, ◌*ℤ◌, neg_ℤ, int_div, int_rem, int_lt, int_le, Bool, true, false, ◌&&◌, ◌||◌, if◌then◌else◌, arith}
-use Rattle.run_words.specs.declared.words.Value.{Value}
-use Rattle.run_words.specs.declared.words.Value.TheVariants as V
-use Rattle.run_words.specs.declared.words.Op.{Op}
-use Rattle.run_words.specs.declared.words.Op.TheVariants as O
-use Rattle.run_words.specs.declared.words.Error.TheVariants as E
-use Rattle.run_words.specs.Sorts.{Sort, IntSort, BoolSort, op_sort, operand_sort}
+use Rattle.run_types.specs.declared.types.Value.{Value}
+use Rattle.run_types.specs.declared.types.Value.TheVariants as V
+use Rattle.run_types.specs.declared.types.Op.{Op}
+use Rattle.run_types.specs.declared.types.Op.TheVariants as O
+use Rattle.run_types.specs.declared.types.Error.TheVariants as E
+use Rattle.run_types.specs.Sorts.{Sort, IntSort, BoolSort, op_sort, operand_sort}
 use Rattle.pool_syntax.specs.Typing.{Scope, value_sort, is_dangling}
-use Rattle.run_words.specs.Values.{Outcome, Gives, Fails, WrongSort, is_in_range, number, truth, quotient, remainder, on_ints, on_bools, negated, denied, infix_value, prefix_value}
-use Rattle.pool_relation.specs.Written.{is_prefix}
-use Rattle.run_words.proofs.Laws.{first, second}
+use Rattle.run_types.specs.Values.{Outcome, Gives, Fails, WrongSort, is_in_range, number, truth, quotient, remainder, on_ints, on_bools, negated, denied, infix_value, prefix_value}
+use Rattle.pool_syntax.specs.SourceParts.{is_prefix}
+use Rattle.run_types.proofs.Laws.{first, second}
 use Rattle.pool_relation.proofs.typing.TypedTerm.{fits_need, fit_operands, has_no_sort}
 
 -- an outcome of this sort, or a language error

@@ -1,11 +1,11 @@
 -- Which sort an expression may come to have: its own, one that fits every kind, or any where it had none.
 use Rattle.std.proofs.Common.{◌≡◌, refl, ap, IsTrue, ℕ, ◌+◌, List, [], ◌∷◌, Option, Some, None, Bool, true, false, not, ◌&&◌, arith, eqb→eq}
-use Rattle.run_words.specs.declared.words.Op.{Op}
-use Rattle.run_words.specs.declared.words.Op.TheVariants as O
-use Rattle.run_words.specs.declared.words.Kind.{Kind}
+use Rattle.run_types.specs.declared.types.Op.{Op}
+use Rattle.run_types.specs.declared.types.Op.TheVariants as O
+use Rattle.run_types.specs.declared.types.Kind.{Kind}
 use Rattle.pool_syntax.specs.declared.tree.Var.{Var}
 use Rattle.pool_syntax.specs.Terms.{Expressions, NoArgs, Arg, MethodTree, ProgramTree}
-use Rattle.run_words.specs.Sorts.{Sort, IntSort, BoolSort, ClassSort, NilSort, NoSort, BrokenSort, operand_sort}
+use Rattle.run_types.specs.Sorts.{Sort, IntSort, BoolSort, ClassSort, NilSort, NoSort, BrokenSort, operand_sort}
 use Rattle.pool_syntax.specs.Typing.{Scope, kind_sort, send_sort, is_open, is_comparable, sort_of, params_of, sent_method}
 use Rattle.pool_relation.specs.Reducible.{is_value}
 use Rattle.pool_relation.proofs.typing.TypedTerm.{Holds, past, has_no_sort, is_broken, fits_need, fit_operands, is_destination, gives, fits_outcome, TypedArguments}

@@ -3,13 +3,13 @@ use Rattle.std.proofs.Common.{◌≡◌, refl, IsTrue, ℕ, ◌+◌, List, [], �
 use Rattle.pool_syntax.specs.declared.tree.Var.{Var}
 use Rattle.pool_syntax.specs.Terms.{Expression, Literal, Me, Variable, Create, Prefix, Infix, Call, Send, Frame, Wait, Expressions, NoArgs, Arg, Statement, Assign, Write, WriteText, Do, Async, If, While, Answer, Select, Serve, Statements, Done, Then, Alternatives, NoAlts, Alt}
 use Rattle.pool_syntax.specs.Typing.{Scope, sort_of, position, inside, behind_value, own_method, params_of, sent_method, size, kind_sort, name_sort, expression_faults, arguments_faults, statement_faults, statements_faults, alternatives_faults}
-use Rattle.run_words.specs.Sorts.{BoolSort, operand_sort}
+use Rattle.run_types.specs.Sorts.{BoolSort, operand_sort}
 use Rattle.pool_relation.specs.Reducible.{is_value, is_done}
-use Rattle.pool_relation.specs.Written.{is_source, are_source, is_source_statement, are_source_statements, are_source_alternatives}
+use Rattle.pool_syntax.specs.SourceParts.{is_source, are_source, is_source_statement, are_source_statements, are_source_alternatives}
 use Rattle.pool_relation.specs.Typed.{is_sound, are_sound, is_sound_statement, are_sound_statements, are_sound_alternatives}
-use Rattle.run_words.proofs.Laws.{both}
+use Rattle.run_types.proofs.Laws.{both}
 use Rattle.pool_relation.proofs.typing.TypedTerm.{Holds, Nothing, past, TypedExpression, TypedArguments, TypedStatement, TypedStatements, TypedAlternatives}
-use Rattle.pool_relation.proofs.typing.Weaker.{past_below_all, expression_weaker, statements_weaker, arguments_weaker, alternatives_weaker}
+use Rattle.pool_relation.proofs.typing.Weakening.{past_below_all, expression_weaker, statements_weaker, arguments_weaker, alternatives_weaker}
 use Rattle.pool_relation.proofs.typing.Faults.{empty2, empty3, empty4, empty5, fault_if_none, limit_of, none_of_sort, none_of_fits, none_of_operands, none_of_takes, none_of_destination, none_of_gives}
 
 -- where nothing is under way, the part is source

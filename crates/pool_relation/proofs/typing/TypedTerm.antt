@@ -1,16 +1,16 @@
 -- One test for a typed part of a term: its faults, its form, and what may be under way in it.
 use Rattle.std.proofs.Common.{◌≡◌, IsTrue, ℕ, ◌+◌, List, [], ◌∷◌, length, Option, Some, None, is_some, is_none, Bool, true, false, not, ◌&&◌, ◌||◌, ◌==◌, if◌then◌else◌}
-use Rattle.run_words.specs.declared.words.Op.{Op}
-use Rattle.run_words.specs.declared.words.Op.TheVariants as O
-use Rattle.run_words.specs.declared.words.Kind.{Kind}
+use Rattle.run_types.specs.declared.types.Op.{Op}
+use Rattle.run_types.specs.declared.types.Op.TheVariants as O
+use Rattle.run_types.specs.declared.types.Kind.{Kind}
 use Rattle.pool_syntax.specs.declared.tree.Var.{Var}
 use Rattle.pool_syntax.specs.Terms.{Expression, Literal, Me, Variable, Create, Prefix, Infix, Call, Send, Frame, Wait, Expressions, NoArgs, Arg, Statement, Assign, Write, WriteText, Do, Async, If, While, Answer, Select, Serve, Statements, Done, Then, Alternatives, NoAlts, Alt, MethodTree, ProgramTree}
 use Rattle.pool_syntax.specs.Classes.{class_of, named_method}
-use Rattle.run_words.specs.Sorts.{Sort, BoolSort, ClassSort, NilSort, NoSort, BrokenSort, operand_sort, is_same_sort}
+use Rattle.run_types.specs.Sorts.{Sort, BoolSort, ClassSort, NilSort, NoSort, BrokenSort, operand_sort, is_same_sort}
 use Rattle.pool_syntax.specs.Typing.{Scope, kind_sort, name_sort, is_dangling, sort_of, is_open, is_broken_name, is_comparable, params_of, size, sent_method, methods_of, own_method, temps_of_method, inside, behind_value, names_faults, answer_faults}
 use Rattle.pool_relation.specs.Reducible.{is_value, is_done}
 use Rattle.pool_relation.specs.Typed.{is_store_of, has_room, is_value_of}
-use Rattle.pool_relation.specs.Written.{is_prefix}
+use Rattle.pool_syntax.specs.SourceParts.{is_prefix}
 
 -- what may be under way in a part: nothing, methods, or a wait too
 pub data Holds : Type 0 where

@@ -1,9 +1,9 @@
 //! Equality of written items and of errors.
 ghost use Rattle.std.specs.Prelude.{◌≡◌, ◌==◌};
-ghost use Rattle.run_words.specs.Same.{is_same_item, error_number};
+ghost use Rattle.run_types.specs.Same.{is_same_item, error_number};
 
-use run_words::operators::same;
-use run_words::{Error, Item};
+use run_types::operators::same;
+use run_types::{Error, Item};
 
 /// Whether two written items are the same.
 pub fn same_item(left: Item, right: Item) -> bool

@@ -1,33 +1,33 @@
 //! The labels that a search tries.
 ghost use Rattle.std.specs.Prelude.{◌≡◌, ◌≤◌, ℕ, ◌++◌, Some, None, length, is_some, IfSome, IfNone, OnOk, true, false};
 ghost use Rattle.pool_syntax.specs.TreeOf.{program_of};
-ghost use Rattle.run_words.specs.declared.words.Label.{Label};
+ghost use Rattle.run_types.specs.declared.types.Label.{Label};
 ghost use Rattle.pool_relation.specs.Action.{Object, action};
 ghost use Rattle.pool_relation.specs.Configuration.{Configuration, object_of};
 ghost use Rattle.pool_relation.specs.Transition.{transition};
 ghost use Rattle.search_laws.specs.Labels.{own_labels, object_labels, message_labels, labels_to_try, picks, takes};
 ghost use Rattle.search_laws.specs.Search.{needs_no_choice};
-ghost use Rattle.term_stack.specs.Arguments.{now_args, now_names, now_choices};
-ghost use Rattle.plain_object.specs.Acts.{acted};
+ghost use Rattle.stepper_terms.specs.Arguments.{now_args, now_names, now_choices};
+ghost use Rattle.stepper_objects.specs.Acts.{acted};
 ghost use Rattle.pool_semantics.specs.Mails.{queued};
 ghost use Rattle.pool_semantics.specs.PlainOf.{configuration_of, program_tree, is_spent};
 ghost use Rattle.pool_semantics.specs.Plains.{configuration};
 ghost use Rattle.pool_semantics.specs.Shown.{shown};
 ghost use Rattle.pool_semantics.specs.Sound.{Sound};
-ghost use Rattle.pool_semantics.specs.Trying.{free_label, free_at};
+ghost use Rattle.pool_semantics.specs.SearchQueries.{free_label, free_at};
 
 use crate::plain::Plain;
 use crate::plain::mail::Mail;
 use crate::plain::redex::few_args;
 use crate::plain::state::State;
-use plain_object::act::Act;
-use run_words::Label;
+use run_types::Label;
 use std::alloc::AllocError;
 use std::collections::VecDeque;
-use term_stack::parts::{Now, Task, Work};
+use stepper_objects::act::Act;
+use stepper_terms::contexts::{Continuation, Focus, Task};
 
 /// The label of an act that needs no choice.
-fn free_label(object: u32, work: &Work<'_>, act: &Act<'_>) -> Option<Label>
+fn free_label(object: u32, work: &Continuation<'_>, act: &Act<'_>) -> Option<Label>
     ensures { (x : Object) → is_some (shown (acted x (now_args work.now.next) (now_names work.now.next) (now_choices work.now.next) act.now)) ≡ true
         → result ≡ free_label object (acted x (now_args work.now.next) (now_names work.now.next) (now_choices work.now.next) act.now) }
 {
@@ -54,11 +54,11 @@ fn free_label(object: u32, work: &Work<'_>, act: &Act<'_>) -> Option<Label>
 }
 
 /// Each alternative of what comes next, by its number.
-fn push_picks(into: &mut Vec<Label>, object: u32, work: &Work<'_>) -> Result<(), AllocError>
+fn push_picks(into: &mut Vec<Label>, object: u32, work: &Continuation<'_>) -> Result<(), AllocError>
     requires { length (now_choices work.now.next) ≤ 64 }
     ensures { OnOk result (into.new.items ≡ into.old.items ++ picks object 1 (now_choices work.now.next)) }
 {
-    let Now::Statement {
+    let Focus::Statement {
         task: Task::Select { guards },
         ..
     } = &work.next
@@ -78,7 +78,7 @@ fn push_own(
     into: &mut Vec<Label>,
     name: u32,
     object: u32,
-    work: &Work<'_>,
+    work: &Continuation<'_>,
     act: &Act<'_>,
 ) -> Result<(), AllocError>
     requires { length (now_choices work.now.next) ≤ 64 }

@@ -2,23 +2,23 @@
 ghost use Rattle.std.specs.Prelude.{◌≡◌, ◌<◌, [], ◌∷◌, ◌++◌, OnOk, Some, None, IfSome, IfNone, length, map, slice_index_or, is_some, true, false};
 ghost use Rattle.std.specs.List.{list_any, remove};
 ghost use Rattle.std.specs.FinMap.{put};
-ghost use Rattle.run_words.specs.Tables.{pair_cmp, list_at, put_list};
+ghost use Rattle.run_types.specs.Tables.{pair_cmp, list_at, put_list};
 ghost use Rattle.std.specs.BTreeMap.{get};
 ghost use Rattle.std.specs.declared.collections.VecDeque.{VecDeque};
 ghost use Rattle.std.specs.Global.{Global};
 ghost use Rattle.pool_relation.specs.Transition.{has_message, first_message, without_first};
 ghost use Rattle.pool_semantics.specs.declared.plain.mail.Mail.{Mail};
-ghost use Rattle.term_stack.specs.Arguments.{now_names, now_choices};
-ghost use Rattle.plain_object.specs.Offers.{offer_act};
+ghost use Rattle.stepper_terms.specs.Arguments.{now_names, now_choices};
+ghost use Rattle.stepper_objects.specs.Offers.{offer_act};
 ghost use Rattle.pool_semantics.specs.Mails.{message_of, posts, queued};
 
-use plain_object::act::Act;
-use plain_object::offers::{names_method, offer_to};
 use pool_syntax::Named;
-use run_words::{Args, NameId};
+use run_types::{Args, NameId};
 use std::alloc::{AllocError, Global};
 use std::collections::{BTreeMap, VecDeque};
-use term_stack::parts::Work;
+use stepper_objects::act::Act;
+use stepper_objects::offers::{names_method, offer_to};
+use stepper_terms::contexts::Continuation;
 
 /// An asynchronous message that was not yet taken.
 #[derive(Clone, Copy)]
@@ -28,7 +28,7 @@ pub struct Mail {
 }
 
 /// The place of the earliest message on one of these methods.
-#[tactic(auto, using(crate::proofs::Mailing::named_first, crate::proofs::Mailing::named_rest, crate::proofs::Mailing::named_at, crate::proofs::Mailing::named_none, crate::proofs::Mailing::none_in))]
+#[tactic(auto, using(crate::proofs::EarliestMessage::named_first, crate::proofs::EarliestMessage::named_rest, crate::proofs::EarliestMessage::named_at, crate::proofs::EarliestMessage::named_none, crate::proofs::EarliestMessage::none_in))]
 pub fn first_named(queue: &VecDeque<Mail>, names: &[Named]) -> Option<usize>
     ensures range { IfSome result (λ i. i < length queue.now.items) }
     ensures here { IfSome result (λ i. has_message names.now (map message_of queue.now.items) ≡ true) }
@@ -48,7 +48,7 @@ pub fn first_named(queue: &VecDeque<Mail>, names: &[Named]) -> Option<usize>
 }
 
 /// Whether an object that does this next offers the method of a message.
-pub fn any_offered(queue: &VecDeque<Mail>, work: &Work<'_>, act: &Act<'_>) -> bool
+pub fn any_offered(queue: &VecDeque<Mail>, work: &Continuation<'_>, act: &Act<'_>) -> bool
     ensures { result ≡ list_any (λ m. is_some (offer_act act.now (now_names work.now.next) (now_choices work.now.next) m.method)) (queued queue.now) }
 {
     let mut at = 0;

@@ -3,19 +3,19 @@ ghost use Rattle.std.specs.Prelude.{◌≡◌, ℕ};
 ghost use Rattle.pool_syntax.specs.TreeOf.{program_of};
 ghost use Rattle.pool_relation.specs.Action.{Object};
 ghost use Rattle.pool_relation.specs.Configuration.{messages_of};
-ghost use Rattle.term_stack.specs.Arguments.{now_args, now_names, now_choices};
-ghost use Rattle.plain_object.specs.Acts.{acted};
+ghost use Rattle.stepper_terms.specs.Arguments.{now_args, now_names, now_choices};
+ghost use Rattle.stepper_objects.specs.Acts.{acted};
 ghost use Rattle.pool_semantics.specs.Mails.{queued};
-ghost use Rattle.pool_semantics.specs.Moving.{lesser, goes_alone, would_answer, MovesBy, Takes, Tells, IsLeast};
+ghost use Rattle.pool_semantics.specs.Moving.{lesser, goes_alone, would_answer, MovesBy, Takes, IsTheOne, IsLeast};
 ghost use Rattle.pool_semantics.specs.Plains.{configuration};
 
 use crate::plain::mail::{Mail, any_offered};
 use crate::plain::state::State;
-use plain_object::act::Act;
-use plain_object::offers::{has_open_plain, offer_to};
-use run_words::NameId;
+use run_types::NameId;
 use std::collections::VecDeque;
-use term_stack::parts::Work;
+use stepper_objects::act::Act;
+use stepper_objects::offers::{has_open_plain, offer_to};
+use stepper_terms::contexts::Continuation;
 
 /// The lesser of two names, or the one that is there.
 pub fn lesser(left: Option<u32>, right: Option<u32>) -> Option<u32>
@@ -31,7 +31,7 @@ pub fn lesser(left: Option<u32>, right: Option<u32>) -> Option<u32>
 }
 
 /// Whether an object that does this next needs neither a message nor a caller.
-fn goes_alone(work: &Work<'_>, act: &Act<'_>) -> bool
+fn goes_alone(work: &Continuation<'_>, act: &Act<'_>) -> bool
     ensures { (x : Object) → result ≡ goes_alone (acted x (now_args work.now.next) (now_names work.now.next) (now_choices work.now.next) act.now) }
 {
     match act {
@@ -62,7 +62,7 @@ impl<'a> State<'a> {
 
     /// The object that moves by what this one does next: itself, or the one that answers its call.
     fn moved_by(&self, object: u32) -> Option<u32>
-        ensures { Tells (MovesBy (program_of self.now.program.now) (configuration self.now) object) result }
+        ensures { IsTheOne (MovesBy (program_of self.now.program.now) (configuration self.now) object) result }
     {
         match self.acting(object) {
             None => None,
@@ -75,7 +75,7 @@ impl<'a> State<'a> {
 
     /// The receiver, where it takes a message of the queue.
     fn taker(&self, receiver: u32, queue: &VecDeque<Mail>) -> Option<u32>
-        ensures { Tells (λ b. (b ≡ receiver) × Takes (program_of self.now.program.now) (configuration self.now) b (queued queue.now)) result }
+        ensures { IsTheOne (λ b. (b ≡ receiver) × Takes (program_of self.now.program.now) (configuration self.now) b (queued queue.now)) result }
     {
         match self.acting(receiver) {
             None => None,

@@ -5,28 +5,28 @@ ghost use Rattle.std.specs.FinMap.{put};
 ghost use Rattle.std.specs.BTreeMap.{get, IsUnchanged};
 ghost use Rattle.pool_syntax.specs.TreeOf.{class_tree};
 ghost use Rattle.pool_relation.specs.Transition.{new_object};
-ghost use Rattle.plain_object.specs.declared.thing.Thing.{Thing};
-ghost use Rattle.plain_object.specs.Acts.{changed, Fits};
-ghost use Rattle.term_stack.specs.Arguments.{now_args};
-ghost use Rattle.plain_object.specs.Things.{thing_object, things};
+ghost use Rattle.stepper_objects.specs.declared.object_state.ObjectState.{ObjectState};
+ghost use Rattle.stepper_objects.specs.Acts.{changed, Fits};
+ghost use Rattle.stepper_terms.specs.Arguments.{now_args};
+ghost use Rattle.stepper_objects.specs.ObjectStates.{thing_object, things};
 
-use plain_object::change::Change;
-use plain_object::thing::Thing;
 use pool_syntax::ClassDecl;
 use std::alloc::{AllocError, Global};
 use std::collections::BTreeMap;
+use stepper_objects::change::Change;
+use stepper_objects::object_state::ObjectState;
 
 /// Changes the object of this name, if it is there.
-#[tactic(auto, using(crate::proofs::Stored::things_set, crate::proofs::Stored::others_set))]
+#[tactic(auto, using(crate::proofs::MapAbstraction::things_set, crate::proofs::MapAbstraction::others_set))]
 pub fn update<'a>(
     alloc: Global,
-    objects: &mut BTreeMap<u32, Thing<'a>>,
+    objects: &mut BTreeMap<u32, ObjectState<'a>>,
     name: u32,
     change: &Change<'a>,
 ) -> Result<(), AllocError>
-    requires { (t : Thing) → get nat_cmp objects.old name ≡ Some t → Fits t.work.calls.items t.work.next change.now }
+    requires { (t : ObjectState) → get nat_cmp objects.old name ≡ Some t → Fits t.work.calls.items t.work.next change.now }
     ensures others { (q : ℕ) → (q ≡ name → ⊥) → get nat_cmp objects.new q ≡ get nat_cmp objects.old q }
-    ensures changed { (t : Thing) → get nat_cmp objects.old name ≡ Some t
+    ensures changed { (t : ObjectState) → get nat_cmp objects.old name ≡ Some t
         → OnOk result (things objects.new.entries ≡ put nat_cmp name (changed (thing_object t) (now_args t.work.next) change.now) (things objects.old.entries)) }
 {
     match objects.get_mut(&name) {
@@ -38,7 +38,7 @@ pub fn update<'a>(
 /// Adds a new object of this class, under a name that no object has; the objects stay as they are where memory runs out.
 pub fn add<'a>(
     alloc: Global,
-    objects: &mut BTreeMap<u32, Thing<'a>>,
+    objects: &mut BTreeMap<u32, ObjectState<'a>>,
     name: u32,
     class: &'a ClassDecl,
 ) -> Result<(), AllocError>
@@ -48,7 +48,7 @@ pub fn add<'a>(
 {
     match objects.entry(name) {
         Err(_) => Err(AllocError),
-        Ok(place) => match place.or_try_insert_with(|| Thing::make(alloc, class)) {
+        Ok(place) => match place.or_try_insert_with(|| ObjectState::make(alloc, class)) {
             Err(error) => Err(error),
             Ok(_added) => Ok(()),
         },

@@ -1,17 +1,17 @@
 //! What an object does next, as callers see it.
 ghost use Rattle.std.specs.Prelude.{◌≡◌, IfSome, IfNone, true, false};
-ghost use Rattle.term_stack.specs.Reduced.{values};
-ghost use Rattle.term_stack.specs.Arguments.{now_args, now_names, now_choices};
+ghost use Rattle.stepper_terms.specs.Reduced.{values};
+ghost use Rattle.stepper_terms.specs.Arguments.{now_args, now_names, now_choices};
 ghost use Rattle.pool_relation.specs.Action.{Object};
-ghost use Rattle.plain_object.specs.Acts.{acted};
+ghost use Rattle.stepper_objects.specs.Acts.{acted};
 ghost use Rattle.pool_semantics.specs.Shown.{are_few, shown};
 
-use plain_object::act::Act;
-use run_words::{Args, Redex};
-use term_stack::parts::{Now, Operand, Ready, Task, Work};
+use run_types::{Args, Redex};
+use stepper_objects::act::Act;
+use stepper_terms::contexts::{Continuation, Focus, Operand, Ready, Task};
 
 /// The values of at most 8 operands.
-#[tactic(auto, using(term_stack::proofs::Lengths::length_values))]
+#[tactic(auto, using(stepper_terms::proofs::Laws::length_values))]
 fn few(operands: &[Operand]) -> Option<Args>
     ensures some { IfSome result (λ a. a ≡ values operands.now) }
     ensures few { IfSome result (λ _. are_few (values operands.now) ≡ true) }
@@ -30,18 +30,18 @@ fn few(operands: &[Operand]) -> Option<Args>
 }
 
 /// The arguments of the redex, if they are at most 8.
-pub fn few_args(work: &Work<'_>) -> Option<Args>
+pub fn few_args(work: &Continuation<'_>) -> Option<Args>
     ensures some { IfSome result (λ a. a ≡ now_args work.now.next) }
     ensures few { IfSome result (λ _. are_few (now_args work.now.next) ≡ true) }
     ensures many { IfNone result (are_few (now_args work.now.next) ≡ false) }
 {
     match &work.next {
-        Now::Expression { redex, .. } => match redex {
+        Focus::Expression { redex, .. } => match redex {
             Ready::Call { args, .. } => few(args.as_slice()),
             Ready::Send { args, .. } => few(args.as_slice()),
             _ => few(&[]),
         },
-        Now::Statement { task, .. } => match task {
+        Focus::Statement { task, .. } => match task {
             Task::Async { args, .. } => few(args.as_slice()),
             _ => few(&[]),
         },
@@ -50,7 +50,7 @@ pub fn few_args(work: &Work<'_>) -> Option<Args>
 }
 
 /// What is shown of this act.
-pub fn show(work: &Work<'_>, act: &Act<'_>) -> Option<Redex>
+pub fn show(work: &Continuation<'_>, act: &Act<'_>) -> Option<Redex>
     ensures { (x : Object) → result ≡ shown (acted x (now_args work.now.next) (now_names work.now.next) (now_choices work.now.next) act.now) }
 {
     match *act {

@@ -1,14 +1,14 @@
 //! Objects and messages, and the transitions by their labels.
 ghost use Rattle.std.specs.Prelude.{◌≡◌, Some, None, IfOk, IfSome, IfNone, true, false};
 ghost use Rattle.pool_syntax.specs.TreeOf.{program_of};
-ghost use Rattle.plain_object.specs.declared.thing.Thing.{Thing};
+ghost use Rattle.stepper_objects.specs.declared.object_state.ObjectState.{ObjectState};
 ghost use Rattle.pool_relation.specs.Transition.{transition, running};
-ghost use Rattle.run_words.specs.Same.{error_number};
+ghost use Rattle.run_types.specs.Same.{error_number};
 ghost use Rattle.pool_relation.specs.Action.{action};
 ghost use Rattle.pool_relation.specs.Configuration.{object_of};
-ghost use Rattle.plain_object.specs.Acts.{acted};
-ghost use Rattle.plain_object.specs.Things.{thing_object};
-ghost use Rattle.term_stack.specs.Arguments.{now_args, now_names, now_choices};
+ghost use Rattle.stepper_objects.specs.Acts.{acted};
+ghost use Rattle.stepper_objects.specs.ObjectStates.{thing_object};
+ghost use Rattle.stepper_terms.specs.Arguments.{now_args, now_names, now_choices};
 ghost use Rattle.pool_semantics.specs.Shown.{shown_at};
 ghost use Rattle.pool_semantics.specs.Plains.{Doing, Stepped, configuration};
 
@@ -16,28 +16,28 @@ use crate::plain::items::{same_error, same_item};
 use crate::plain::mail::Mail;
 use crate::plain::objects::{add, update};
 use crate::plain::redex::show;
-use plain_object::act::Act;
-use plain_object::change::Change;
-use plain_object::lookup::find_class;
-use plain_object::offers::plain_alt;
-use plain_object::thing::Thing;
 use pool_syntax::Program;
-use run_words::{Error, Item, Label, NameId, Redex, Value};
+use run_types::{Error, Item, Label, NameId, Redex, Value};
 use std::alloc::{AllocError, Global};
 use std::collections::{BTreeMap, VecDeque};
+use stepper_objects::act::Act;
+use stepper_objects::change::Change;
+use stepper_objects::lookup::find_class;
+use stepper_objects::object_state::ObjectState;
+use stepper_objects::offers::plain_alt;
 
 /// A configuration.
 #[derive(Drop)]
 pub struct State<'a> {
     pub alloc: Global,
     pub program: &'a Program,
-    pub objects: BTreeMap<u32, Thing<'a>>,
+    pub objects: BTreeMap<u32, ObjectState<'a>>,
     pub messages: BTreeMap<(u32, u32), VecDeque<Mail>>,
 }
 
 impl<'a> State<'a> {
     /// What an object does next, if it is there and has no fault.
-    pub fn acting(&self, object: u32) -> Option<(&Thing<'a>, Act<'a>)>
+    pub fn acting(&self, object: u32) -> Option<(&ObjectState<'a>, Act<'a>)>
         ensures some { IfSome result (λ r. Doing (program_of self.now.program.now) self.now.objects object r.0.now r.1) }
         ensures none { IfNone result (running (configuration self.now) object ≡ None) }
     {
@@ -51,7 +51,7 @@ impl<'a> State<'a> {
     }
 
     /// What an object does next, or would do if it had no fault, if it is there.
-    pub fn next_of(&self, object: u32) -> Option<(&Thing<'a>, Act<'a>)>
+    pub fn next_of(&self, object: u32) -> Option<(&ObjectState<'a>, Act<'a>)>
         ensures some { IfSome result
             (λ r. (object_of (configuration self.now) object ≡ Some (thing_object r.0.now))
             × (action (program_of self.now.program.now) object (thing_object r.0.now)

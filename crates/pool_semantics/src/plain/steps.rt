@@ -2,21 +2,21 @@
 ghost use Rattle.std.specs.Prelude.{◌≡◌, Some, None, ◌==◌, ◌&&◌, IfOk};
 ghost use Rattle.pool_syntax.specs.TreeOf.{program_of};
 ghost use Rattle.pool_relation.specs.Transition.{transition, has_message};
-ghost use Rattle.run_words.specs.Same.{are_same};
+ghost use Rattle.run_types.specs.Same.{are_same};
 ghost use Rattle.pool_relation.specs.Configuration.{messages_of};
 ghost use Rattle.pool_semantics.specs.Plains.{Stepped, configuration};
 
 use crate::plain::mail::{Mail, first_named, post, unpost};
 use crate::plain::objects::update;
 use crate::plain::state::State;
-use plain_object::arguments::has_args;
-use plain_object::change::Change;
-use plain_object::lookup::find_method;
-use plain_object::offers::offer_to;
 use pool_syntax::Named;
-use run_words::operators::same;
-use run_words::{Args, Label, NameId, Value};
+use run_types::operators::same;
+use run_types::{Args, Label, NameId, Value};
 use std::alloc::AllocError;
+use stepper_objects::arguments::has_args;
+use stepper_objects::change::Change;
+use stepper_objects::lookup::find_method;
+use stepper_objects::offers::offer_to;
 
 /// Whether these values are the same, one by one.
 fn same_values(values: &[Value], args: &[Value]) -> bool

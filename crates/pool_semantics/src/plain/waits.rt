@@ -1,23 +1,23 @@
 //! Objects that wait in calls, that met an error, or that are left over.
 ghost use Rattle.std.specs.Prelude.{◌≡◌, ◌≢◌, ◌≤◌, ℕ, List, Some, None, IfSome, IfNone, true, false};
 ghost use Rattle.pool_syntax.specs.TreeOf.{program_of};
-ghost use Rattle.run_words.specs.declared.words.Value.{Value};
+ghost use Rattle.run_types.specs.declared.types.Value.{Value};
 ghost use Rattle.pool_syntax.specs.declared.tree.Named.{Named};
 ghost use Rattle.pool_relation.specs.Reducible.{Choice};
 ghost use Rattle.pool_relation.specs.Action.{Object, action};
 ghost use Rattle.pool_relation.specs.Configuration.{object_of};
 ghost use Rattle.search_laws.specs.Search.{is_left_over, WaitsAt, StaysAt, HasLeftOver, IsFaulty};
-ghost use Rattle.plain_object.specs.Acts.{acted};
-ghost use Rattle.pool_semantics.specs.Moving.{Tells, IsLeast};
+ghost use Rattle.stepper_objects.specs.Acts.{acted};
+ghost use Rattle.pool_semantics.specs.Moving.{IsTheOne, IsLeast};
 ghost use Rattle.pool_semantics.specs.PlainOf.{configuration_of, program_tree, is_spent};
 ghost use Rattle.pool_semantics.specs.Plains.{configuration};
-ghost use Rattle.pool_semantics.specs.Trying.{call_of, called, WaitsFrom};
+ghost use Rattle.pool_semantics.specs.SearchQueries.{call_of, called, WaitsFrom};
 
 use crate::plain::Plain;
 use crate::plain::moving::lesser;
 use crate::plain::state::State;
-use plain_object::act::Act;
-use run_words::NameId;
+use run_types::NameId;
+use stepper_objects::act::Act;
 
 /// An object that is in a call, or is to make one, with the receiver and the method of the call.
 #[derive(Clone, Copy)]
@@ -51,7 +51,7 @@ fn stays(act: &Act<'_>) -> bool
 impl<'a> State<'a> {
     /// The object, where its name is this one or a greater, and it waits.
     fn waits_from(&self, object: u32, from: u32) -> Option<u32>
-        ensures { Tells (WaitsFrom (program_of self.now.program.now) (configuration self.now) from object) result }
+        ensures { IsTheOne (WaitsFrom (program_of self.now.program.now) (configuration self.now) from object) result }
     {
         if object < from {
             return None;

@@ -1,5 +1,5 @@
 -- `allocate` makes the new block a row of empty cells, and keeps the right to give it back. Assumes `Logic`.
-use Rattle.cell_pool.proofs.Steps.{◌≡◌, ℕ, ◌*◌, ◌<◌, ◌^◌, [], ◌∷◌, length, refl, ap, sym, subst, arith, proved, None, type_size, ftrue, flft, fact, named, w64, inst_fn, Val, vptr, vstruct, vcons, vnil, tables, ‵, raw, ◌⊛◌, later, at_ret, ◌$◌, ◌∵◌, !, qed, done, move, keep, drop, use1, use2, use3, split, join, await, fjoin, feq_i, flt_i, suffices, frame, whole, agg, enter, of_opd, lit, bin, and_then, no_more, stop, fld, first, exec, returns, alloc_all, pass_all, free_all, look_at, get, get_in, sets, sets_last, lands_as, env, usize, RefOf, yes, RattleType, param, layout, Ptr, block_ptr, ShrRef, shr_vals, shr_Tells, plain, nothing, heard, owned, pure_i, uint_vals, uint_Tells, Stays, says, stay_dropped, walk_of, ends_at, Goes-dropped, after, head, arm_body, ◌⊑◌, Post, any_q, size_word, align_word, switches_on, get_tag, is, live, vrt, in_variant, calls_at, framed, replicate, length-replicate, split3, fsplit, vint, Sq, prop}
+use Rattle.cell_pool.proofs.RegionWalks.{◌≡◌, ℕ, ◌*◌, ◌<◌, ◌^◌, [], ◌∷◌, length, refl, ap, sym, subst, arith, proved, None, type_size, ftrue, flft, fact, named, w64, inst_fn, Val, vptr, vstruct, vcons, vnil, tables, ‵, raw, ◌⊛◌, later, at_ret, ◌$◌, ◌∵◌, !, qed, done, move, keep, drop, use1, use2, use3, split, join, await, fjoin, feq_i, flt_i, suffices, frame, whole, agg, enter, of_opd, lit, bin, and_then, no_more, stop, fld, first, exec, returns, alloc_all, pass_all, free_all, look_at, get, get_in, sets, sets_last, lands_as, env, usize, RefOf, yes, RattleType, param, layout, Ptr, block_ptr, ShrRef, shr_vals, shr_Tells, plain, nothing, heard, owned, pure_i, uint_vals, uint_Tells, Stays, says, stay_dropped, walk_of, ends_at, Goes-dropped, after, head, arm_body, ◌⊑◌, Post, any_q, size_word, align_word, switches_on, get_tag, is, live, vrt, in_variant, calls_at, framed, replicate, length-replicate, split3, fsplit, vint, Sq, prop}
 use mathlib.Core.Bool.{true, false}
 use lib.Dec.{lit<}
 use mir.Syntax.{Body, ty_array}
@@ -26,7 +26,7 @@ use Rattle.cell_pool.specs.declared.region.Region.{Region}
 use Rattle.cell_pool.specs.contracts.region.Region.{the_row as region_row, the_type as region_type}
 use Rattle.cell_pool.specs.contracts.region.Place.{the_row as place_row}
 use Rattle.cell_pool.specs.contracts.region.Deed.{the_row as deed_row, the_type as deed_type}
-use Rattle.cell_pool.proofs.Grants.{args, block_of_cells, block_size, block_align, capped_product, cells_of_room, mark, three, three_made}
+use Rattle.cell_pool.proofs.BlockAllocation.{args, block_of_cells, block_size, block_align, capped_product, cells_of_room, mark, three, three_made}
 use Rattle.cell_pool.specs.contracts.region.allocate as f
 use Rattle.cell_pool.proofs.region.allocate.Statement.{statement}
 use Rattle.cell_pool.proofs.region.allocate.Code as code

@@ -2,9 +2,8 @@ use Rattle.std.proofs.Common.{◌≡◌, [], take, drop, map}
 use Rattle.pool_syntax.specs.TreeOf.{method_tree}
 use Rattle.pool_syntax.specs.Typing.{methods_faults}
 use Rattle.class_check.specs.Before.{names_before}
-use Rattle.class_check.specs.Least.{noted}
-use Rattle.class_check.specs.PairOf.{found_of}
-use Rattle.class_check.specs.Stands.{scope_of}
+use Rattle.class_check.specs.NotedFaults.{noted, found_of}
+use Rattle.class_check.specs.CheckerScopes.{scope_of}
 use Rattle.class_check.proofs.declarations.methods.Given as goal
 
 -- noting the rest gives what noting all gives

@@ -1,8 +1,8 @@
 use Rattle.std.proofs.Common.{◌≡◌, ap, ◌∙◌, arith, rules}
 use Rattle.pool_syntax.specs.Terms.{Call, Send}
 use Rattle.pool_syntax.specs.TreeOf.{expression_of, expressions_of}
-use Rattle.class_check.specs.Stands.{sort_tree, scope_of, method_of}
-use Rattle.class_check.proofs.Noting.{noted_append}
+use Rattle.class_check.specs.CheckerScopes.{sort_tree, scope_of, method_of}
+use Rattle.class_check.proofs.FaultAccumulation.{noted_append}
 use Rattle.pool_syntax.proofs.Laws.{call_tree, send_tree}
 use Rattle.class_check.proofs.ExpressionParts.{binary_noted, call_noted, send_noted}
 use Rattle.class_check.proofs.Arguments.{argument_noted}

@@ -1,9 +1,8 @@
 use Rattle.std.proofs.Common.{◌≡◌, ◌≤◌, drop}
 use Rattle.pool_syntax.specs.TreeOf.{expressions_of}
 use Rattle.pool_syntax.specs.Typing.{arguments_faults}
-use Rattle.class_check.specs.Least.{noted}
-use Rattle.class_check.specs.PairOf.{found_of}
-use Rattle.class_check.specs.Stands.{scope_of}
+use Rattle.class_check.specs.NotedFaults.{noted, found_of}
+use Rattle.class_check.specs.CheckerScopes.{scope_of}
 use Rattle.class_check.proofs.expressions.+expressions.Given as goal
 
 -- noting the rest gives what noting all gives

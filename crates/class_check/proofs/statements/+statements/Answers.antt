@@ -1,8 +1,8 @@
 use Rattle.std.proofs.Common.{◌≡◌, ap, ◌∙◌, arith, rules}
 use Rattle.pool_syntax.specs.Terms.{If, While, Select}
 use Rattle.pool_syntax.specs.TreeOf.{expression_of, statement_of, statements_of, alternatives_of}
-use Rattle.class_check.specs.Stands.{scope_of, sort_tree, method_of}
-use Rattle.class_check.proofs.Noting.{noted_append}
+use Rattle.class_check.specs.CheckerScopes.{scope_of, sort_tree, method_of}
+use Rattle.class_check.proofs.FaultAccumulation.{noted_append}
 use Rattle.pool_syntax.proofs.Laws.{if_tree, while_tree, select_tree}
 use Rattle.class_check.proofs.StatementParts.{async_noted, statement_noted, alternative_noted}
 use Rattle.class_check.proofs.statements.+statements.Goals as goal

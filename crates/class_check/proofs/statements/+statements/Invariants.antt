@@ -1,9 +1,8 @@
 use Rattle.std.proofs.Common.{◌≡◌, ◌+◌, min, drop}
 use Rattle.pool_syntax.specs.TreeOf.{statements_of, alternatives_of}
 use Rattle.pool_syntax.specs.Typing.{statements_faults, alternatives_faults}
-use Rattle.class_check.specs.Least.{noted}
-use Rattle.class_check.specs.PairOf.{found_of}
-use Rattle.class_check.specs.Stands.{scope_of}
+use Rattle.class_check.specs.NotedFaults.{noted, found_of}
+use Rattle.class_check.specs.CheckerScopes.{scope_of}
 use Rattle.class_check.proofs.statements.+statements.Given as goal
 
 -- noting the rest gives what noting all gives

@@ -1,6 +1,6 @@
 use Rattle.std.proofs.Common.{◌∙◌, arith, get_or}
 use Rattle.pool_syntax.specs.declared.tree.Named.{Named}
-use Rattle.class_check.specs.Stands.{scope_of}
+use Rattle.class_check.specs.CheckerScopes.{scope_of}
 use Rattle.std.proofs.lemmas.List.{get_or_default}
 use Rattle.class_check.proofs.StatementParts.{name_noted}
 use Rattle.class_check.proofs.statements.each_answer_name.Goals as goal

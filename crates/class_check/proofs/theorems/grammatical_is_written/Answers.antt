@@ -1,4 +1,4 @@
-use Rattle.class_check.proofs.Grammatical.{grammatical_written}
+use Rattle.class_check.proofs.GrammaticalIsWritten.{grammatical_written}
 use Rattle.class_check.proofs.theorems.grammatical_is_written.Goals as goal
 
 pub returns : goal.returns

@@ -1,5 +1,5 @@
-use Rattle.run_words.specs.Given.{IsGiven}
-use Rattle.code_semantics.proofs.Keeping.{placed_is_of, placed_rests, made_is_of, made_rests}
+use Rattle.run_types.specs.GivenProperties.{IsGiven}
+use Rattle.code_semantics.proofs.StepInvariant.{placed_is_of, placed_rests, made_is_of, made_rests}
 use Rattle.code_semantics.proofs.theorems.new_objects_are_of_the_unit.Goals as goal
 
 pub returns-clause-placed : goal.returns-clause-placed

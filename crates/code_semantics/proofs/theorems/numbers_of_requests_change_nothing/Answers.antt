@@ -1,5 +1,5 @@
-use Rattle.run_words.specs.Given.{IsGiven}
-use Rattle.code_semantics.proofs.Forgetting.{forget_stepped, forget_given, forget_gone_on, forget_picked, forget_serving, forget_placed, forget_code_kind, forget_of, forget_at_step}
+use Rattle.run_types.specs.GivenProperties.{IsGiven}
+use Rattle.code_semantics.proofs.NumberErasure.{forget_stepped, forget_given, forget_gone_on, forget_picked, forget_serving, forget_placed, forget_code_kind, forget_of, forget_at_step}
 use Rattle.code_semantics.proofs.theorems.numbers_of_requests_change_nothing.Goals as goal
 
 pub returns-clause-stepped : goal.returns-clause-stepped

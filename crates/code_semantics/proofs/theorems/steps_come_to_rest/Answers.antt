@@ -1,5 +1,5 @@
-use Rattle.run_words.specs.Given.{IsGiven}
-use Rattle.code_semantics.proofs.Keeping.{stepped_rests, given_rests, gone_on_rests, picked_rests, serving_rests}
+use Rattle.run_types.specs.GivenProperties.{IsGiven}
+use Rattle.code_semantics.proofs.StepInvariant.{stepped_rests, given_rests, gone_on_rests, picked_rests, serving_rests}
 use Rattle.code_semantics.proofs.theorems.steps_come_to_rest.Goals as goal
 
 pub returns-clause-stepped : goal.returns-clause-stepped

@@ -1,5 +1,5 @@
-use Rattle.run_words.specs.Given.{IsGiven}
-use Rattle.code_semantics.proofs.Keeping.{stepped_of, given_of, gone_on_of, picked_of, serving_of}
+use Rattle.run_types.specs.GivenProperties.{IsGiven}
+use Rattle.code_semantics.proofs.StepInvariant.{stepped_of, given_of, gone_on_of, picked_of, serving_of}
 use Rattle.code_semantics.proofs.theorems.steps_keep_objects_of_the_unit.Goals as goal
 
 pub returns-clause-stepped : goal.returns-clause-stepped

@@ -1,5 +1,5 @@
-use Rattle.run_words.specs.Given.{IsGiven}
-use Rattle.code_semantics.proofs.Asked.{send_values, async_values, return_value}
+use Rattle.run_types.specs.GivenProperties.{IsGiven}
+use Rattle.code_semantics.proofs.KindsWellFormed.{send_values, async_values, return_value}
 use Rattle.code_semantics.proofs.theorems.values_that_leave_have_the_property.Goals as goal
 
 pub returns-clause-called : goal.returns-clause-called

@@ -1,5 +1,5 @@
-use Rattle.run_words.specs.Given.{IsGiven}
-use Rattle.code_semantics.proofs.Asked.{made_there, served_there, chosen_there}
+use Rattle.run_types.specs.GivenProperties.{IsGiven}
+use Rattle.code_semantics.proofs.KindsWellFormed.{made_there, served_there, chosen_there}
 use Rattle.code_semantics.proofs.theorems.what_is_named_is_there.Goals as goal
 
 pub returns-clause-made : goal.returns-clause-made

@@ -1,6 +1,6 @@
 use Rattle.std.proofs.Common.{◌≡◌, map, take}
 use Rattle.pool_syntax.specs.TreeOf.{method_tree}
-use Rattle.code_laws.specs.DeclaredKinds.{method_kinds}
+use Rattle.compiler_correctness.specs.DeclaredKinds.{method_kinds}
 use Rattle.code_verify.proofs.unit_file.class_kinds.Given as goal
 
 abbrev pub invariant-loop-method : goal.invariant-loop-method

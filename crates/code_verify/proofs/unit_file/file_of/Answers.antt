@@ -6,10 +6,10 @@ use Rattle.pool_compile.specs.Code.{code}
 use Rattle.pool_compile.specs.Small.{AreShort}
 use Rattle.pool_syntax.specs.TreeOf.{program_of}
 use Rattle.code_verify.proofs.ShortCode.{file_is_short}
-use Rattle.code_laws.specs.DeclaredKinds.{file_of}
-use Rattle.code_verdict.specs.Verdict.{Good, verdict}
-use Rattle.code_verdict.proofs.Laws.{verified_is_good}
-use Rattle.code_laws.proofs.Laws.{file_is_shaped, grammatical_verified}
+use Rattle.compiler_correctness.specs.DeclaredKinds.{file_of}
+use Rattle.code_typing.specs.Verdict.{Good, verdict}
+use Rattle.code_typing.proofs.Laws.{verified_is_good}
+use Rattle.compiler_correctness.proofs.Laws.{file_is_shaped, grammatical_verified}
 use Rattle.code_verify.proofs.unit_file.file_of.Goals as goal
 
 pub returns-clause-shaped : goal.returns-clause-shaped

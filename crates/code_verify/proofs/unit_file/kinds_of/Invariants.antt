@@ -1,6 +1,6 @@
 use Rattle.std.proofs.Common.{◌≡◌, map, take}
 use Rattle.pool_syntax.specs.TreeOf.{class_tree}
-use Rattle.code_laws.specs.DeclaredKinds.{class_kinds}
+use Rattle.compiler_correctness.specs.DeclaredKinds.{class_kinds}
 use Rattle.code_verify.proofs.unit_file.kinds_of.Given as goal
 
 abbrev pub invariant-loop-class : goal.invariant-loop-class

@@ -1,5 +1,5 @@
 use Rattle.std.proofs.Common.{◌≡◌, ◌++◌, take}
-use Rattle.code_laws.specs.DeclaredKinds.{kinds_of}
+use Rattle.compiler_correctness.specs.DeclaredKinds.{kinds_of}
 use Rattle.code_verify.proofs.unit_file.push_kinds.Given as goal
 
 abbrev pub invariant-loop-var : goal.invariant-loop-var

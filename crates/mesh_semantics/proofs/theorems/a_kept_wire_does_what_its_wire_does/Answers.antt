@@ -1,5 +1,5 @@
 use Rattle.std.proofs.Common.{refl}
-use Rattle.mesh_semantics.proofs.KeptWires.{empty_carries, longer_carries, coming_carries, take_carries, send_carries, act_carries}
+use Rattle.mesh_semantics.proofs.KeptWireSimulation.{empty_carries, longer_carries, coming_carries, take_carries, send_carries, act_carries}
 use Rattle.mesh_semantics.proofs.theorems.a_kept_wire_does_what_its_wire_does.Goals as goal
 
 pub returns-clause-empty : goal.returns-clause-empty

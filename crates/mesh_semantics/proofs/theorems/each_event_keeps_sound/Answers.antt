@@ -1,6 +1,6 @@
-use Rattle.run_words.specs.Given.{IsGiven}
-use Rattle.mesh_semantics.proofs.Fitting.{fit_of}
-use Rattle.mesh_semantics.proofs.Events.{act_kept}
+use Rattle.run_types.specs.GivenProperties.{IsGiven}
+use Rattle.mesh_semantics.proofs.PlacementFit.{fit_of}
+use Rattle.mesh_semantics.proofs.EventSoundness.{act_kept}
 use Rattle.mesh_semantics.proofs.theorems.each_event_keeps_sound.Goals as goal
 
 pub returns : goal.returns

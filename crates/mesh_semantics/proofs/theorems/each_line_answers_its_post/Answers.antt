@@ -1,6 +1,6 @@
-use Rattle.run_words.specs.Given.{IsGiven}
-use Rattle.mesh_semantics.proofs.Fitting.{fit_of}
-use Rattle.mesh_semantics.proofs.Asked.{each_answers_post, each_answers_post_on_wires}
+use Rattle.run_types.specs.GivenProperties.{IsGiven}
+use Rattle.mesh_semantics.proofs.PlacementFit.{fit_of}
+use Rattle.mesh_semantics.proofs.AnsweredPosts.{each_answers_post, each_answers_post_on_wires}
 use Rattle.mesh_semantics.proofs.theorems.each_line_answers_its_post.Goals as goal
 
 pub returns-clause-answers : goal.returns-clause-answers

@@ -1,7 +1,7 @@
-use Rattle.run_words.specs.Given.{IsGiven, AreGiven}
+use Rattle.run_types.specs.GivenProperties.{IsGiven, AreGiven}
 use Rattle.mesh_semantics.specs.Simulates.{Corresponds}
-use Rattle.mesh_semantics.proofs.LawfulAcross.{lawful_across}
-use Rattle.mesh_semantics.proofs.Across.{sound_across}
+use Rattle.mesh_semantics.proofs.LawfulnessTransfer.{lawful_across}
+use Rattle.mesh_semantics.proofs.SoundnessTransfer.{sound_across}
 use Rattle.mesh_semantics.proofs.theorems.laws_go_across.Goals as goal
 
 pub returns-clause-lawful : goal.returns-clause-lawful

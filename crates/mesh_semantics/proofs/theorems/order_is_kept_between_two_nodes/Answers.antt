@@ -1,4 +1,4 @@
-use Rattle.mesh_semantics.proofs.InOrder.{in_order}
+use Rattle.mesh_semantics.proofs.FifoTraffic.{in_order}
 use Rattle.mesh_semantics.proofs.theorems.order_is_kept_between_two_nodes.Goals as goal
 
 pub returns : goal.returns

@@ -1,4 +1,4 @@
-use Rattle.run_words.proofs.Laws.{plain_ways, routed_ways, ways_have_routes}
+use Rattle.run_types.proofs.Laws.{plain_ways, routed_ways, ways_have_routes}
 use Rattle.mesh_semantics.proofs.theorems.paths_end_without_a_node_twice.Goals as goal
 
 pub returns-clause-routed : goal.returns-clause-routed

@@ -1,5 +1,5 @@
-use Rattle.run_words.specs.Given.{IsGiven}
-use Rattle.mesh_semantics.proofs.Final.{no_transition}
+use Rattle.run_types.specs.GivenProperties.{IsGiven}
+use Rattle.mesh_semantics.proofs.QuietIsFinal.{no_transition}
 use Rattle.mesh_semantics.proofs.theorems.quiet_has_no_transition.Goals as goal
 
 pub returns : goal.returns

@@ -1,4 +1,4 @@
-use Rattle.mesh_semantics.proofs.WiresKept.{quiet_acknowledged}
+use Rattle.mesh_semantics.proofs.EventWireInvariant.{quiet_acknowledged}
 use Rattle.mesh_semantics.proofs.theorems.quiet_wires_are_acknowledged.Goals as goal
 
 pub returns : goal.returns

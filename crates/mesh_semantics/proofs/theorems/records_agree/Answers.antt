@@ -1,5 +1,5 @@
-use Rattle.run_words.specs.Given.{IsGiven, AreGiven}
-use Rattle.mesh_semantics.proofs.Fitting.{fit_of}
+use Rattle.run_types.specs.GivenProperties.{IsGiven, AreGiven}
+use Rattle.mesh_semantics.proofs.PlacementFit.{fit_of}
 use Rattle.mesh_semantics.proofs.SameRecords.{records_agree}
 use Rattle.mesh_semantics.proofs.theorems.records_agree.Goals as goal
 

@@ -1,6 +1,6 @@
-use Rattle.run_words.specs.Given.{IsGiven}
-use Rattle.mesh_semantics.proofs.Fitting.{fit_of}
-use Rattle.mesh_semantics.proofs.Events.{record_shows}
+use Rattle.run_types.specs.GivenProperties.{IsGiven}
+use Rattle.mesh_semantics.proofs.PlacementFit.{fit_of}
+use Rattle.mesh_semantics.proofs.EventSoundness.{record_shows}
 use Rattle.mesh_semantics.proofs.theorems.records_show_runs.Goals as goal
 
 pub returns : goal.returns

@@ -1,4 +1,4 @@
-use Rattle.run_words.specs.Given.{IsGiven, AreGiven}
+use Rattle.run_types.specs.GivenProperties.{IsGiven, AreGiven}
 use Rattle.mesh_semantics.proofs.SameStandings.{standing_same, cycles_same}
 use Rattle.mesh_semantics.proofs.theorems.standings_agree.Goals as goal
 

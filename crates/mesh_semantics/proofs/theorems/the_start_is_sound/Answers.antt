@@ -1,7 +1,7 @@
 use Rattle.std.specs.Prelude.{[]}
-use Rattle.run_words.specs.Given.{IsGiven}
+use Rattle.run_types.specs.GivenProperties.{IsGiven}
 use Rattle.mesh_semantics.specs.Delay.{no_delay}
-use Rattle.mesh_semantics.proofs.Started.{placed_start_sound, with_wires}
+use Rattle.mesh_semantics.proofs.SoundStart.{placed_start_sound, with_wires}
 use Rattle.mesh_semantics.proofs.theorems.the_start_is_sound.Goals as goal
 
 pub returns-clause-start : goal.returns-clause-start

@@ -1,4 +1,4 @@
-use Rattle.mesh_semantics.proofs.WiresKept.{KeepsOn, act_keeps_wires, record_keeps_wires, no_wires_kept}
+use Rattle.mesh_semantics.proofs.EventWireInvariant.{KeepsOn, act_keeps_wires, record_keeps_wires, no_wires_kept}
 use Rattle.std.proofs.Common.{subst}
 use Rattle.mesh_semantics.proofs.theorems.wires_are_kept.Goals as goal
 

@@ -1,4 +1,4 @@
-use Rattle.run_words.specs.Given.{IsGiven}
+use Rattle.run_types.specs.GivenProperties.{IsGiven}
 use Rattle.mesh_semantics.proofs.Laws.{fit_of}
 use Rattle.node_semantics.proofs.WiresAgree.{event_agrees}
 use Rattle.node_semantics.proofs.theorems.a_machine_does_what_it_stands_for.Goals as goal

@@ -1,4 +1,4 @@
-use Rattle.run_words.specs.Given.{IsGiven}
+use Rattle.run_types.specs.GivenProperties.{IsGiven}
 use Rattle.node_semantics.proofs.QuietAgrees.{quiet_agrees}
 use Rattle.node_semantics.proofs.WiresAgree.{acknowledged_same}
 use Rattle.node_semantics.proofs.theorems.a_machine_is_quiet_as_what_it_stands_for.Goals as goal

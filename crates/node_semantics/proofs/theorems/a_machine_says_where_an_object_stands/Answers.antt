@@ -1,4 +1,4 @@
-use Rattle.run_words.specs.Given.{IsGiven}
+use Rattle.run_types.specs.GivenProperties.{IsGiven}
 use Rattle.node_semantics.proofs.MachineStandings.{object_stands, nothing_stands}
 use Rattle.node_semantics.proofs.theorems.a_machine_says_where_an_object_stands.Goals as goal
 

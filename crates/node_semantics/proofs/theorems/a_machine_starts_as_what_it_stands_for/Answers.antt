@@ -1,4 +1,4 @@
-use Rattle.run_words.specs.Given.{IsGiven}
+use Rattle.run_types.specs.GivenProperties.{IsGiven}
 use Rattle.mesh_semantics.proofs.Laws.{fit_of}
 use Rattle.node_semantics.proofs.StartsAgree.{start_agrees, start_agrees_on_wires}
 use Rattle.node_semantics.proofs.theorems.a_machine_starts_as_what_it_stands_for.Goals as goal

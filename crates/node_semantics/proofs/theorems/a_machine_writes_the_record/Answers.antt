@@ -1,4 +1,4 @@
-use Rattle.run_words.specs.Given.{IsGiven}
+use Rattle.run_types.specs.GivenProperties.{IsGiven}
 use Rattle.mesh_semantics.proofs.Laws.{fit_of}
 use Rattle.node_semantics.proofs.SameLines.{same_lines, same_lines_on_wires}
 use Rattle.node_semantics.proofs.theorems.a_machine_writes_the_record.Goals as goal

@@ -1,4 +1,4 @@
-use Rattle.run_words.specs.Given.{IsGiven}
+use Rattle.run_types.specs.GivenProperties.{IsGiven}
 use Rattle.node_semantics.proofs.NodeCounts.{objects_count, frames_count, cells_count}
 use Rattle.node_semantics.proofs.theorems.a_node_counts_what_it_stands_for.Goals as goal
 

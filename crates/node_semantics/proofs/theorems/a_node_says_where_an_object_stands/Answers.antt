@@ -1,4 +1,4 @@
-use Rattle.run_words.specs.Given.{IsGiven}
+use Rattle.run_types.specs.GivenProperties.{IsGiven}
 use Rattle.node_semantics.proofs.NodeStandings.{node_says}
 use Rattle.node_semantics.proofs.theorems.a_node_says_where_an_object_stands.Goals as goal
 

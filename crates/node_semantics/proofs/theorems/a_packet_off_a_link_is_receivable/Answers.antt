@@ -1,4 +1,4 @@
-use Rattle.run_words.specs.Given.{IsGiven}
+use Rattle.run_types.specs.GivenProperties.{IsGiven}
 use Rattle.mesh_semantics.proofs.Laws.{fit_of}
 use Rattle.node_semantics.proofs.ReceivablePackets.{head_is_receivable}
 use Rattle.node_semantics.proofs.theorems.a_packet_off_a_link_is_receivable.Goals as goal

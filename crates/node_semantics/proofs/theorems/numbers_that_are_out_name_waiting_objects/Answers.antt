@@ -1,5 +1,5 @@
-use Rattle.run_words.specs.Given.{IsGiven}
-use Rattle.node_semantics.proofs.NumbersOut.{outstanding}
+use Rattle.run_types.specs.GivenProperties.{IsGiven}
+use Rattle.node_semantics.proofs.OutstandingNumbers.{outstanding}
 use Rattle.node_semantics.proofs.theorems.numbers_that_are_out_name_waiting_objects.Goals as goal
 
 pub returns : goal.returns

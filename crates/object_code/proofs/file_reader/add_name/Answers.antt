@@ -1,6 +1,6 @@
 use Rattle.std.proofs.Common.{◌≡◌, true, false, rules}
 use Rattle.std.specs.Prelude.{is_some}
-use Rattle.object_code.proofs.Taking.{table_again, table_grows, table_stays}
+use Rattle.object_code.proofs.ReadLoops.{table_again, table_grows, table_stays}
 use Rattle.object_code.proofs.file_reader.add_name.Goals as goal
 
 pub returns-then-is_some-clause-table : goal.returns-then-is_some-clause-table

@@ -1,4 +1,4 @@
-use Rattle.object_code.proofs.Taking.{class_taken}
+use Rattle.object_code.proofs.ReadLoops.{class_taken}
 use Rattle.object_code.proofs.file_reader.take_class.Goals as goal
 
 pub returns : goal.returns

@@ -1,8 +1,8 @@
 use Rattle.std.proofs.Common.{◌≡◌, ◌-◌, length}
 use Rattle.object_code.specs.Read.{read_items, read_list}
-use Rattle.code_semantics.specs.Shaped.{pairs}
+use Rattle.code_semantics.specs.Pairs.{pairs}
 use Rattle.object_code.specs.Decode.{read_class}
-use Rattle.object_code.proofs.Taking.{with_front}
+use Rattle.object_code.proofs.ReadLoops.{with_front}
 use Rattle.object_code.proofs.file_reader.take_classes.Given as goal
 
 abbrev pub invariant-loop : goal.invariant-loop

@@ -1,6 +1,6 @@
 use Rattle.std.proofs.Common.{arith}
 use Rattle.std.proofs.lemmas.Result.{err_from_is_err_and}
-use Rattle.object_code.proofs.Taking.{exactly_done, exactly_short}
+use Rattle.object_code.proofs.ReadLoops.{exactly_done, exactly_short}
 use Rattle.object_code.proofs.file_reader.take_exactly.Goals as goal
 
 pub returns-in_err-first : goal.returns-in_err-first

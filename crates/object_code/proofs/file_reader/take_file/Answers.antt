@@ -1,4 +1,4 @@
-use Rattle.object_code.proofs.Taking.{file_taken}
+use Rattle.object_code.proofs.ReadLoops.{file_taken}
 use Rattle.object_code.proofs.file_reader.take_file.Goals as goal
 
 pub returns-clause-given : goal.returns-clause-given

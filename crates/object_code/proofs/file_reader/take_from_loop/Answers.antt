@@ -1,6 +1,6 @@
 use Rattle.std.proofs.Common.{◌≡◌, ap, ◌∙◌, refl, suc, ◌+◌, ◌<◌, ◌∷◌, length, arith}
 use Rattle.object_code.specs.Read.{Stop}
-use Rattle.object_code.proofs.Taking.{no_instr}
+use Rattle.object_code.proofs.ReadLoops.{no_instr}
 use Rattle.object_code.proofs.file_reader.take_from_loop.Goals as goal
 
 pub returns-in_default : goal.returns-in_default

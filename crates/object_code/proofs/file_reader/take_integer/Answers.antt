@@ -2,7 +2,7 @@ use Rattle.std.proofs.Common.{◌≡◌, refl, sym, ap, ◌∙◌, ℕ, suc, ℤ
 use Rattle.std.specs.Prelude.{◌^◌}
 use Rattle.std.specs.Int.{w64, from_be_bytes, cast_signed, cast_unsigned}
 use Rattle.std.proofs.lemmas.Int.{of_z-to_z}
-use Rattle.run_words.specs.Text.{Text}
+use Rattle.text_scan.specs.Text.{Text}
 use Rattle.code_semantics.specs.declared.unit.Instr.TheVariants as I
 use Rattle.object_code.specs.Read.{Got, Stop}
 use Rattle.object_code.specs.Decode.{read_integer}

@@ -2,7 +2,7 @@ use Rattle.std.proofs.Common.{◌∷◌, [], arith}
 use Rattle.std.proofs.lemmas.List.{length-append}
 use Rattle.std.proofs.lemmas.Result.{err_from_is_err_and}
 use Rattle.object_code.specs.Read.{read_list}
-use Rattle.object_code.proofs.Taking.{list_goes_on, list_is_done, list_stops}
+use Rattle.object_code.proofs.ReadLoops.{list_goes_on, list_is_done, list_stops}
 use Rattle.object_code.proofs.file_reader.take_list.Goals as goal
 
 pub returns-in_err-item-clause-given : goal.returns-in_err-item-clause-given

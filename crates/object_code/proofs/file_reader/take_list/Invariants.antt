@@ -1,6 +1,6 @@
 use Rattle.std.proofs.Common.{◌≡◌, ◌-◌, ◌≤◌, length}
 use Rattle.object_code.specs.Read.{read_items, read_list}
-use Rattle.object_code.proofs.Taking.{with_front}
+use Rattle.object_code.proofs.ReadLoops.{with_front}
 use Rattle.object_code.proofs.file_reader.take_list.Given as goal
 
 abbrev pub invariant-loop : goal.invariant-loop

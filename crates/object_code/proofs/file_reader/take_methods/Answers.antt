@@ -2,9 +2,9 @@ use Rattle.std.proofs.Common.{◌≡◌, ap, ◌∙◌, ◌++◌, ◌∷◌, [],
 use Rattle.std.proofs.lemmas.List.{length-append}
 use Rattle.std.proofs.lemmas.Result.{err_from_is_err_and}
 use Rattle.object_code.specs.Read.{read_list}
-use Rattle.code_semantics.specs.Shaped.{pairs}
+use Rattle.code_semantics.specs.Pairs.{pairs}
 use Rattle.object_code.specs.Decode.{read_method}
-use Rattle.object_code.proofs.Taking.{list_goes_on, list_is_done, list_stops, pairs_push}
+use Rattle.object_code.proofs.ReadLoops.{list_goes_on, list_is_done, list_stops, pairs_push}
 use Rattle.object_code.proofs.file_reader.take_methods.Goals as goal
 
 pub returns-in_err-method-clause-given : goal.returns-in_err-method-clause-given

@@ -1,4 +1,4 @@
-use Rattle.object_code.proofs.Taking.{taken_all, taken_on}
+use Rattle.object_code.proofs.ReadLoops.{taken_all, taken_on}
 use Rattle.object_code.proofs.file_reader.take_names.Goals as goal
 
 pub loop-preserved : goal.loop-preserved

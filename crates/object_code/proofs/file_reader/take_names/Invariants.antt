@@ -1,4 +1,4 @@
-use Rattle.object_code.proofs.Taking.{HasTaken}
+use Rattle.object_code.proofs.ReadLoops.{HasTaken}
 use Rattle.object_code.proofs.file_reader.take_names.Given as goal
 
 abbrev pub invariant-loop : goal.invariant-loop

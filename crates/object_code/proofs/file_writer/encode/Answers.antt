@@ -1,5 +1,5 @@
 use Rattle.std.proofs.Common.{refl}
-use Rattle.object_code.proofs.Writing.{front}
+use Rattle.object_code.proofs.SequentialWrites.{front}
 use Rattle.object_code.proofs.file_writer.encode.Goals as goal
 
 pub returns-then-failed-clause-front : goal.returns-then-failed-clause-front

@@ -1,7 +1,7 @@
 use Rattle.std.proofs.Common.{sym, ap, subst, ◌∙◌, ◌∷◌}
 use Rattle.object_code.specs.FileBytes.{list_bytes, name_bytes, option_bytes}
 use Rattle.code_semantics.specs.Shaped.{IsListOf, IsOptionOf, IsShortList}
-use Rattle.object_code.proofs.Writing.{each_any, same}
+use Rattle.object_code.proofs.SequentialWrites.{each_any, same}
 use Rattle.object_code.proofs.file_writer.put_answered.Goals as goal
 
 pub put_listed-requires : goal.put_listed-requires

@@ -1,7 +1,7 @@
 use Rattle.std.proofs.Common.{ap, ◌∙◌}
 use Rattle.object_code.specs.FileBytes.{code_bytes, kind_bytes, list_bytes, method_bytes}
-use Rattle.code_semantics.specs.Shaped.{pairs}
-use Rattle.object_code.proofs.Writing.{same, then}
+use Rattle.code_semantics.specs.Pairs.{pairs}
+use Rattle.object_code.proofs.SequentialWrites.{same, then}
 use Rattle.object_code.proofs.file_writer.put_class.Goals as goal
 
 pub returns : goal.returns

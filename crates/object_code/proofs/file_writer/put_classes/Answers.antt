@@ -1,8 +1,9 @@
 use Rattle.std.proofs.Common.{sym, ap, ◌++◌, drop, arith}
 use Rattle.std.proofs.lemmas.List.{at_drop_all}
 use Rattle.object_code.specs.FileBytes.{items_bytes, class_bytes, number_bytes}
-use Rattle.code_semantics.specs.Shaped.{pairs, ClassIsShort, ClassKindsAreShort}
-use Rattle.object_code.proofs.Writing.{as_many_pairs, each_holds, pair_at, rests_begin, rests_end, rests_step, same, shaped_many, shaped_there, then}
+use Rattle.code_semantics.specs.Shaped.{ClassIsShort, ClassKindsAreShort}
+use Rattle.code_semantics.specs.Pairs.{pairs}
+use Rattle.object_code.proofs.SequentialWrites.{as_many_pairs, each_holds, pair_at, rests_begin, rests_end, rests_step, same, shaped_many, shaped_there, then}
 use Rattle.object_code.proofs.file_writer.put_classes.Goals as goal
 
 pub bounds-kinds-place : goal.bounds-kinds-place

@@ -1,7 +1,7 @@
 use Rattle.std.proofs.Common.{ap, ◌∙◌}
 use Rattle.object_code.specs.FileBytes.{class_bytes, list_bytes}
-use Rattle.code_semantics.specs.Shaped.{pairs}
-use Rattle.object_code.proofs.Writing.{same, then}
+use Rattle.code_semantics.specs.Pairs.{pairs}
+use Rattle.object_code.proofs.SequentialWrites.{same, then}
 use Rattle.object_code.proofs.file_writer.put_file.Goals as goal
 
 pub returns : goal.returns

@@ -1,6 +1,6 @@
 use Rattle.std.proofs.Common.{◌≡◌, rules}
 use Rattle.object_code.specs.FileBytes.{number_bytes}
-use Rattle.object_code.proofs.Writing.{same}
+use Rattle.object_code.proofs.SequentialWrites.{same}
 use Rattle.object_code.proofs.file_writer.put_four.Goals as goal
 
 pub returns : goal.returns

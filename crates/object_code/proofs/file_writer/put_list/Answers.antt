@@ -1,7 +1,7 @@
 use Rattle.std.proofs.Common.{refl, arith}
 use Rattle.std.proofs.lemmas.List.{at_drop_all}
 use Rattle.object_code.specs.FileBytes.{items_bytes}
-use Rattle.object_code.proofs.Writing.{each_holds, parts_at, rests_begin, rests_end, rests_step, then}
+use Rattle.object_code.proofs.SequentialWrites.{each_holds, parts_at, rests_begin, rests_end, rests_step, then}
 use Rattle.object_code.proofs.file_writer.put_list.Goals as goal
 
 pub put_item-requires : goal.put_item-requires

@@ -2,7 +2,7 @@ use Rattle.std.proofs.Common.{◌≡◌, ap, ◌∙◌, ◌∷◌, []}
 use Rattle.std.specs.Int.{w64, to_be_bytes, cast_unsigned}
 use Rattle.std.proofs.lemmas.Int.{to_z-of_z}
 use Rattle.object_code.specs.FileBytes.{integer_bytes}
-use Rattle.object_code.proofs.Writing.{same, then}
+use Rattle.object_code.proofs.SequentialWrites.{same, then}
 use Rattle.object_code.proofs.file_writer.put_long.Goals as goal
 
 pub returns : goal.returns

@@ -1,6 +1,6 @@
 use Rattle.std.proofs.Common.{ap}
 use Rattle.object_code.specs.FileBytes.{code_bytes, kind_bytes, list_bytes}
-use Rattle.object_code.proofs.Writing.{same, then}
+use Rattle.object_code.proofs.SequentialWrites.{same, then}
 use Rattle.object_code.proofs.file_writer.put_method.Goals as goal
 
 pub returns : goal.returns

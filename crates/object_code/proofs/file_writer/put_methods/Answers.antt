@@ -1,8 +1,9 @@
 use Rattle.std.proofs.Common.{sym, ap, ◌++◌, drop, arith}
 use Rattle.std.proofs.lemmas.List.{at_drop_all}
 use Rattle.object_code.specs.FileBytes.{items_bytes, method_bytes, number_bytes}
-use Rattle.code_semantics.specs.Shaped.{pairs, MethodIsShort, MethodKindsAreShort}
-use Rattle.object_code.proofs.Writing.{as_many_pairs, each_holds, pair_at, rests_begin, rests_end, rests_step, same, then}
+use Rattle.code_semantics.specs.Shaped.{MethodIsShort, MethodKindsAreShort}
+use Rattle.code_semantics.specs.Pairs.{pairs}
+use Rattle.object_code.proofs.SequentialWrites.{as_many_pairs, each_holds, pair_at, rests_begin, rests_end, rests_step, same, then}
 use Rattle.object_code.proofs.file_writer.put_methods.Goals as goal
 
 pub put_method-requires-clause-method : goal.put_method-requires-clause-method

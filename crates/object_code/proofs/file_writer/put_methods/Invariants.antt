@@ -1,8 +1,8 @@
 use Rattle.std.proofs.Common.{drop}
 use Rattle.object_code.specs.FileBytes.{items_bytes, method_bytes}
-use Rattle.code_semantics.specs.Shaped.{pairs}
-use Rattle.object_code.specs.Written.{state}
-use Rattle.object_code.proofs.Writing.{Rests}
+use Rattle.code_semantics.specs.Pairs.{pairs}
+use Rattle.object_code.specs.SinkState.{state}
+use Rattle.object_code.proofs.SequentialWrites.{Rests}
 use Rattle.object_code.proofs.file_writer.put_methods.Given as goal
 
 abbrev pub invariant-loop-place : goal.invariant-loop-place

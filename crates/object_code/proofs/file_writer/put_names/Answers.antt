@@ -2,7 +2,7 @@ use Rattle.std.proofs.Common.{ap, arith}
 use Rattle.std.proofs.lemmas.List.{at_drop_all}
 use Rattle.object_code.specs.FileBytes.{items_bytes, number_bytes, text_bytes}
 use Rattle.code_semantics.specs.Shaped.{IsShortList}
-use Rattle.object_code.proofs.Writing.{each_got, rests_begin, rests_end, rests_step, same, text_at_drop, then}
+use Rattle.object_code.proofs.SequentialWrites.{each_got, rests_begin, rests_end, rests_step, same, text_at_drop, then}
 use Rattle.object_code.proofs.file_writer.put_names.Goals as goal
 
 pub put_counted-requires : goal.put_counted-requires

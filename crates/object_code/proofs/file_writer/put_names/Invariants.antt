@@ -1,7 +1,7 @@
 use Rattle.std.proofs.Common.{drop}
 use Rattle.object_code.specs.FileBytes.{items_bytes, text_bytes}
-use Rattle.object_code.specs.Written.{state}
-use Rattle.object_code.proofs.Writing.{Rests}
+use Rattle.object_code.specs.SinkState.{state}
+use Rattle.object_code.proofs.SequentialWrites.{Rests}
 use Rattle.object_code.proofs.file_writer.put_names.Given as goal
 
 abbrev pub invariant-loop-number : goal.invariant-loop-number

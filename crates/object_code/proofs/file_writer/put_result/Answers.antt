@@ -1,6 +1,6 @@
 use Rattle.std.proofs.Common.{sym, ap}
 use Rattle.object_code.specs.FileBytes.{kind_bytes, option_bytes}
-use Rattle.object_code.proofs.Writing.{same, then}
+use Rattle.object_code.proofs.SequentialWrites.{same, then}
 use Rattle.object_code.proofs.file_writer.put_result.Goals as goal
 
 pub returns-in-None : goal.returns-in-None

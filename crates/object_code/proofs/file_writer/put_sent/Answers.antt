@@ -1,4 +1,4 @@
-use Rattle.object_code.proofs.Writing.{then}
+use Rattle.object_code.proofs.SequentialWrites.{then}
 use Rattle.object_code.proofs.file_writer.put_sent.Goals as goal
 
 pub returns : goal.returns

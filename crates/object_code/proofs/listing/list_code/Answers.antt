@@ -1,6 +1,6 @@
 use Rattle.std.proofs.Common.{refl, ap}
 use Rattle.object_code.specs.Listing.{classes_text}
-use Rattle.object_code.proofs.Writing.{front, same}
+use Rattle.object_code.proofs.SequentialWrites.{front, same}
 use Rattle.object_code.proofs.listing.list_code.Goals as goal
 
 pub returns-then-failed-clause-front : goal.returns-then-failed-clause-front

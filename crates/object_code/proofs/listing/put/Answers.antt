@@ -1,5 +1,5 @@
 use Rattle.std.proofs.Common.{refl}
-use Rattle.object_code.specs.Written.{cut}
+use Rattle.object_code.specs.SinkState.{cut}
 use Rattle.object_code.proofs.listing.put.Goals as goal
 
 pub returns-in-Err : goal.returns-in-Err

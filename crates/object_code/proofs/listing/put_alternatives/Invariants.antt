@@ -1,7 +1,7 @@
 use Rattle.std.proofs.Common.{drop}
 use Rattle.object_code.specs.Listing.{alternatives_text}
-use Rattle.object_code.specs.Written.{state}
-use Rattle.object_code.proofs.Writing.{Rests}
+use Rattle.object_code.specs.SinkState.{state}
+use Rattle.object_code.proofs.SequentialWrites.{Rests}
 use Rattle.object_code.proofs.listing.put_alternatives.Given as goal
 
 abbrev pub invariant-loop-alt : goal.invariant-loop-alt

@@ -1,6 +1,6 @@
 use Rattle.std.proofs.Common.{sym, ap, ◌∙◌}
 use Rattle.object_code.specs.Listing.{answer_text, joined_text}
-use Rattle.object_code.proofs.Writing.{same}
+use Rattle.object_code.proofs.SequentialWrites.{same}
 use Rattle.object_code.proofs.listing.put_answer.Goals as goal
 
 pub returns-in-Some : goal.returns-in-Some

@@ -2,7 +2,7 @@ use Rattle.std.proofs.Common.{refl, arith}
 use Rattle.std.proofs.lemmas.List.{at_drop_all}
 use Rattle.object_code.specs.Known.{ClassIsKnown}
 use Rattle.object_code.specs.Listing.{class_text, classes_text}
-use Rattle.object_code.proofs.Writing.{holds_at, parts_at, rests_begin, rests_end, rests_step}
+use Rattle.object_code.proofs.SequentialWrites.{holds_at, parts_at, rests_begin, rests_end, rests_step}
 use Rattle.object_code.proofs.listing.put_classes.Goals as goal
 
 pub put_class-requires : goal.put_class-requires

@@ -1,7 +1,7 @@
 use Rattle.std.proofs.Common.{drop}
 use Rattle.object_code.specs.Listing.{classes_text}
-use Rattle.object_code.specs.Written.{state}
-use Rattle.object_code.proofs.Writing.{Rests}
+use Rattle.object_code.specs.SinkState.{state}
+use Rattle.object_code.proofs.SequentialWrites.{Rests}
 use Rattle.object_code.proofs.listing.put_classes.Given as goal
 
 abbrev pub invariant-loop-class : goal.invariant-loop-class

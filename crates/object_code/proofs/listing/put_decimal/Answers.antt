@@ -1,5 +1,5 @@
 use Rattle.std.proofs.Common.{◌≡◌, decimal, rules}
-use Rattle.object_code.proofs.Writing.{same}
+use Rattle.object_code.proofs.SequentialWrites.{same}
 use Rattle.object_code.proofs.listing.put_decimal.Goals as goal
 
 pub returns : goal.returns

@@ -3,7 +3,7 @@ use Rattle.std.specs.Fmt.{signed_decimal}
 use Rattle.std.specs.Int.{w64}
 use Rattle.std.proofs.lemmas.Int.{to_z-of_z}
 use Rattle.object_code.specs.Listing.{word_text}
-use Rattle.object_code.proofs.Writing.{same}
+use Rattle.object_code.proofs.SequentialWrites.{same}
 use Rattle.object_code.proofs.listing.put_integer.Goals as goal
 
 pub returns : goal.returns

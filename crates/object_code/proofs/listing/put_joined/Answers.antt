@@ -1,6 +1,6 @@
 use Rattle.std.proofs.Common.{sym, ap}
 use Rattle.object_code.specs.Listing.{joined_text}
-use Rattle.object_code.proofs.Writing.{same, then}
+use Rattle.object_code.proofs.SequentialWrites.{same, then}
 use Rattle.object_code.proofs.listing.put_joined.Goals as goal
 
 pub returns-in-Some : goal.returns-in-Some

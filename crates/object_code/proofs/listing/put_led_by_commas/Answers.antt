@@ -3,8 +3,8 @@ use Rattle.std.proofs.lemmas.List.{at_drop_all}
 use Rattle.std.proofs.lemmas.List.Elements.{All-get_or}
 use Rattle.object_code.specs.Known.{IsKnown}
 use Rattle.object_code.specs.Listing.{led_by_commas}
-use Rattle.run_words.specs.Table.{text_at}
-use Rattle.object_code.proofs.Writing.{parts_read, rests_begin, rests_end, rests_step, then}
+use Rattle.run_types.specs.Table.{text_at}
+use Rattle.object_code.proofs.SequentialWrites.{parts_read, rests_begin, rests_end, rests_step, then}
 use Rattle.object_code.proofs.listing.put_led_by_commas.Goals as goal
 
 pub put_text-requires : goal.put_text-requires

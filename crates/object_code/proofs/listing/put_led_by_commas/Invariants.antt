@@ -1,7 +1,7 @@
 use Rattle.std.proofs.Common.{drop}
 use Rattle.object_code.specs.Listing.{led_by_commas}
-use Rattle.object_code.specs.Written.{state}
-use Rattle.object_code.proofs.Writing.{Rests}
+use Rattle.object_code.specs.SinkState.{state}
+use Rattle.object_code.proofs.SequentialWrites.{Rests}
 use Rattle.object_code.proofs.listing.put_led_by_commas.Given as goal
 
 abbrev pub invariant-loop-id : goal.invariant-loop-id

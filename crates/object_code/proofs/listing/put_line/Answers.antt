@@ -1,6 +1,6 @@
 use Rattle.std.proofs.Common.{ap}
 use Rattle.object_code.specs.Listing.{word_text}
-use Rattle.object_code.proofs.Writing.{same, then}
+use Rattle.object_code.proofs.SequentialWrites.{same, then}
 use Rattle.object_code.proofs.listing.put_line.Goals as goal
 
 pub returns : goal.returns

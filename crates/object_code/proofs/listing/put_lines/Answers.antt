@@ -2,7 +2,7 @@ use Rattle.std.proofs.Common.{arith}
 use Rattle.std.proofs.lemmas.List.{at_drop_all}
 use Rattle.object_code.specs.Known.{InstrIsKnown}
 use Rattle.object_code.specs.Listing.{lines_text}
-use Rattle.object_code.proofs.Writing.{holds_at, lines_at, rests_begin, rests_end, rests_step}
+use Rattle.object_code.proofs.SequentialWrites.{holds_at, lines_at, rests_begin, rests_end, rests_step}
 use Rattle.object_code.proofs.listing.put_lines.Goals as goal
 
 pub put_line-requires : goal.put_line-requires

@@ -2,7 +2,7 @@ use Rattle.std.proofs.Common.{refl, arith}
 use Rattle.std.proofs.lemmas.List.{at_drop_all}
 use Rattle.object_code.specs.Known.{MethodIsKnown}
 use Rattle.object_code.specs.Listing.{method_text, methods_text}
-use Rattle.object_code.proofs.Writing.{holds_at, parts_at, rests_begin, rests_end, rests_step}
+use Rattle.object_code.proofs.SequentialWrites.{holds_at, parts_at, rests_begin, rests_end, rests_step}
 use Rattle.object_code.proofs.listing.put_methods.Goals as goal
 
 pub put_method-requires : goal.put_method-requires

@@ -1,7 +1,7 @@
 use Rattle.std.proofs.Common.{sym, ap, ◌∙◌, rules}
 use Rattle.std.specs.Fmt.{signed_decimal}
 use Rattle.object_code.specs.Listing.{alternatives_text, operands_text, spaced_text, word_text}
-use Rattle.object_code.proofs.Writing.{same}
+use Rattle.object_code.proofs.SequentialWrites.{same}
 use Rattle.object_code.proofs.listing.put_operands.Goals as goal
 
 pub returns-in-PushInt : goal.returns-in-PushInt

@@ -3,7 +3,7 @@ use Rattle.std.proofs.lemmas.List.{at_drop_all}
 use Rattle.std.proofs.lemmas.List.Elements.{All-get_or}
 use Rattle.object_code.specs.Known.{IsKnown}
 use Rattle.object_code.specs.Listing.{name_text, spaced_text}
-use Rattle.object_code.proofs.Writing.{parts_read, rests_begin, rests_end, rests_step}
+use Rattle.object_code.proofs.SequentialWrites.{parts_read, rests_begin, rests_end, rests_step}
 use Rattle.object_code.proofs.listing.put_spaced.Goals as goal
 
 pub put_name-requires : goal.put_name-requires

@@ -1,4 +1,4 @@
-use Rattle.object_code.proofs.Writing.{same, text_of}
+use Rattle.object_code.proofs.SequentialWrites.{same, text_of}
 use Rattle.object_code.proofs.listing.put_text.Goals as goal
 
 pub returns : goal.returns

@@ -1,7 +1,7 @@
 use Rattle.std.proofs.Common.{ap, ◌++◌, length, take}
 use Rattle.object_code.specs.Decode.{decoded}
-use Rattle.object_code.proofs.Ends.{begins_file}
-use Rattle.object_code.proofs.Fronts.{bad_byte_stays}
+use Rattle.object_code.proofs.AcceptedPrefix.{begins_file}
+use Rattle.object_code.proofs.PrefixStability.{bad_byte_stays}
 use Rattle.object_code.proofs.theorems.the_bad_byte_is_the_first.Goals as goal
 
 pub returns-clause-begins : goal.returns-clause-begins

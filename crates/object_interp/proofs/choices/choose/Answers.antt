@@ -1,11 +1,11 @@
 use Rattle.std.proofs.Common.{◌≡◌, sym, ap, ◌∙◌, subst, ◌-◌, ◌<◌, length, Some, get_or, arith}
 use Rattle.std.specs.Prelude.{slice_get}
 use Rattle.std.proofs.lemmas.Option.{slice_get-get_or}
-use Rattle.run_words.specs.Operands.{dropped}
+use Rattle.run_types.specs.Operands.{dropped}
 use Rattle.code_semantics.specs.Step.{after_choice, at_alternative}
 use Rattle.node_heap.specs.Heaps.{object_at, put_object, top_in, top_at}
 use Rattle.object_interp.specs.Choices.{Chooses}
-use Rattle.object_interp.specs.Tops.{with_top}
+use Rattle.object_interp.proofs.TopFrames.{with_top}
 use Rattle.object_interp.proofs.Slots.{put_then}
 use Rattle.object_interp.proofs.choices.choose.Goals as goal
 

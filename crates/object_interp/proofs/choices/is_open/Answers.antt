@@ -1,5 +1,5 @@
 use Rattle.std.proofs.Common.{sym, ap, ◌∙◌}
-use Rattle.run_words.specs.Values.{is_true}
+use Rattle.run_types.specs.Values.{is_true}
 use Rattle.node_heap.specs.Heaps.{top_at}
 use Rattle.object_interp.proofs.Operands.{nth_taken}
 use Rattle.object_interp.proofs.choices.is_open.Goals as goal

@@ -1,8 +1,8 @@
 use Rattle.std.proofs.Common.{◌∙◌, ap, length, Some, arith}
 use Rattle.code_semantics.specs.declared.unit.Instr.TheVariants as I
 use Rattle.node_heap.specs.Heaps.{object_at, top_at}
-use Rattle.object_interp.proofs.Acting.{instr_known}
-use Rattle.object_interp.proofs.Asking.{else_alone}
+use Rattle.object_interp.proofs.InstructionFacts.{instr_known}
+use Rattle.object_interp.proofs.RequestSteps.{else_alone}
 use Rattle.object_interp.proofs.hands.alone_at.Goals as goal
 
 pub overflow_cast-items : goal.overflow_cast-items

@@ -1,9 +1,9 @@
 use Rattle.std.proofs.Common.{◌≡◌, ◌⊎◌, inl, inr, ◌∙◌, ap, ◌<◌, length, Some, arith}
 use Rattle.code_semantics.specs.declared.unit.Instr.TheVariants as I
-use Rattle.run_words.specs.declared.frames.CodeObject.{CodeObject}
+use Rattle.run_types.specs.declared.frames.CodeObject.{CodeObject}
 use Rattle.code_semantics.specs.declared.unit.Unit.{Unit as Code}
 use Rattle.node_heap.specs.Heaps.{object_at, top_in}
-use Rattle.object_interp.proofs.Acting.{instr_known}
+use Rattle.object_interp.proofs.InstructionFacts.{instr_known}
 use Rattle.object_interp.proofs.hands.hand_at.Goals as goal
 
 pub operator_hand-requires-clause-enough : goal.operator_hand-requires-clause-enough

@@ -1,8 +1,8 @@
 -- What holds of one of all holds of one of those that are left.
 use Rattle.std.proofs.Common.{◌≡◌, ◌-◌, []}
 use Rattle.std.specs.List.{list_any}
-use Rattle.run_words.specs.Values.{is_true}
-use Rattle.run_words.specs.Operands.{taken}
+use Rattle.run_types.specs.Values.{is_true}
+use Rattle.run_types.specs.Operands.{taken}
 use Rattle.node_heap.specs.Heaps.{top_at}
 use Rattle.object_interp.proofs.hands.has_open_guard.Given as goal
 

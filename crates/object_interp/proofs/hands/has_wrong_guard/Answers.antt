@@ -1,8 +1,8 @@
 use Rattle.std.proofs.Common.{sym, ap, ◌∙◌, ◌-◌, ◌+◌, []}
 use Rattle.std.specs.Prelude.{◌||◌}
 use Rattle.std.specs.List.{list_any}
-use Rattle.run_words.specs.Values.{not_bool}
-use Rattle.run_words.specs.Operands.{taken}
+use Rattle.run_types.specs.Values.{not_bool}
+use Rattle.run_types.specs.Operands.{taken}
 use Rattle.node_heap.specs.Heaps.{top_at}
 use Rattle.object_interp.proofs.Guards.{any_here, is_no_bool}
 use Rattle.object_interp.proofs.hands.has_wrong_guard.Goals as goal

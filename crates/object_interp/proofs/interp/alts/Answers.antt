@@ -1,9 +1,9 @@
 use Rattle.std.proofs.Common.{ap, ◌∙◌, length, Some, arith}
 use Rattle.code_semantics.specs.declared.unit.Instr.TheVariants as I
 use Rattle.node_heap.specs.Heaps.{object_at}
-use Rattle.object_interp.proofs.Facts.{has_top}
-use Rattle.object_interp.proofs.Acting.{instr_known}
-use Rattle.object_interp.proofs.Asking.{count_offered}
+use Rattle.object_interp.proofs.InnermostFrame.{has_top}
+use Rattle.object_interp.proofs.InstructionFacts.{instr_known}
+use Rattle.object_interp.proofs.RequestSteps.{count_offered}
 use Rattle.object_interp.proofs.interp.alts.Goals as goal
 
 pub overflow_cast-result : goal.overflow_cast-result

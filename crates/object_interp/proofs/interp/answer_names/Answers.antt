@@ -1,9 +1,9 @@
 use Rattle.std.proofs.Common.{sym, ap, ◌∙◌, length, Some, None, arith}
 use Rattle.code_semantics.specs.declared.unit.Instr.TheVariants as I
 use Rattle.node_heap.specs.Heaps.{object_at}
-use Rattle.object_interp.proofs.Facts.{has_top}
-use Rattle.object_interp.proofs.Acting.{instr_known}
-use Rattle.object_interp.proofs.Asking.{names_offered}
+use Rattle.object_interp.proofs.InnermostFrame.{has_top}
+use Rattle.object_interp.proofs.InstructionFacts.{instr_known}
+use Rattle.object_interp.proofs.RequestSteps.{names_offered}
 use Rattle.object_interp.proofs.interp.answer_names.Goals as goal
 
 pub open_alt-requires-clause-enough : goal.open_alt-requires-clause-enough

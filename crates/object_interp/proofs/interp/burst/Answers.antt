@@ -2,13 +2,13 @@ use Rattle.std.proofs.Common.{◌∙◌, sym, ap, subst, Some}
 use Rattle.std.specs.Prelude.{if◌then◌else◌, ◌==◌}
 use Rattle.code_semantics.specs.Kinds.{instr_kind}
 use Rattle.node_heap.specs.Heaps.{object_at, top_at}
-use Rattle.object_interp.specs.declared.words.Burst.TheVariants as B
+use Rattle.object_interp.specs.declared.types.Burst.TheVariants as B
 use Rattle.object_interp.specs.Bursts.{IsBurst, is_local}
 use Rattle.object_interp.specs.Offers.{need_of}
 use Rattle.object_interp.specs.Tops.{instr_in}
-use Rattle.object_interp.proofs.Asking.{kind_top}
-use Rattle.object_interp.proofs.Bursting.{call_local, ends_at, ends_full, more_bursting, start_bursting}
-use Rattle.object_interp.proofs.Facts.{has_top, hand_there, hand_within}
+use Rattle.object_interp.proofs.RequestSteps.{kind_top}
+use Rattle.object_interp.proofs.BurstSteps.{call_local, ends_at, ends_full, more_bursting, start_bursting}
+use Rattle.object_interp.proofs.InnermostFrame.{has_top, hand_there, hand_within}
 use Rattle.object_interp.proofs.interp.burst.Goals as goal
 
 pub loop-done-init : goal.loop-done-init

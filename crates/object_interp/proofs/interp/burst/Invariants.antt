@@ -1,7 +1,7 @@
 use Rattle.std.proofs.Common.{◌≡◌}
 use Rattle.node_heap.specs.Heaps.{object_at}
 use Rattle.object_interp.specs.Tops.{code_in}
-use Rattle.object_interp.proofs.Bursting.{Bursting}
+use Rattle.object_interp.proofs.BurstSteps.{Bursting}
 use Rattle.object_interp.proofs.interp.burst.Given as goal
 
 abbrev pub invariant-loop-done : goal.invariant-loop-done

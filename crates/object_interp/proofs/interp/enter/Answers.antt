@@ -2,18 +2,18 @@ use Rattle.std.specs.Prelude.{IsTrue, is_some}
 use Rattle.std.proofs.lemmas.Option.{slice_get_within}
 use Rattle.std.proofs.Common.{◌≡◌, ◌<◌, sym, ap, ◌∙◌, subst, refl, ◌∷◌, length, Some, arith}
 use Rattle.node_heap.specs.Heaps.{object_at, put_object, frames_used, top_at, under_top}
-use Rattle.code_semantics.specs.OfUnit.{AnyValue, FitsUnit, IsAtStep}
-use Rattle.code_semantics.proofs.Laws.{plain_any, each_any, serving_of, serving_rests}
+use Rattle.code_semantics.specs.StepInstructions.{AnyValue, FitsUnit, IsAtStep}
+use Rattle.code_semantics.proofs.Laws.{plain_any, each_any, serving_of, serving_rests, same_some}
 use Rattle.code_semantics.specs.Step.{after_choice, begun, code_serving, method_named}
-use Rattle.object_interp.specs.Rest.{settled_at}
-use Rattle.object_interp.specs.Tops.{HasTop, over, with_top}
-use Rattle.object_interp.proofs.Facts.{has_top, at_hand}
+use Rattle.object_interp.specs.SettledObject.{settled_at}
+use Rattle.object_interp.specs.Tops.{HasTop, over}
+use Rattle.object_interp.proofs.TopFrames.{with_top}
+use Rattle.object_interp.proofs.InnermostFrame.{has_top, at_hand}
 use Rattle.object_interp.proofs.Slots.{put_then, object_then}
-use Rattle.object_interp.proofs.Asking.{answered_own, answering_is_offered, chooses, next_is, offers_top, serving_top}
+use Rattle.object_interp.proofs.RequestSteps.{answered_own, answering_is_offered, chooses, next_is, offers_top, serving_top}
 use Rattle.object_interp.specs.Offers.{answers_to, instr_offers, offer_at, open_names}
-use Rattle.code_semantics.proofs.Resting.{same_some}
-use Rattle.object_interp.proofs.Acting.{found, frames_put}
-use Rattle.object_interp.proofs.Stepping.{begun_frame, top_over}
+use Rattle.object_interp.proofs.InstructionFacts.{found, frames_put}
+use Rattle.object_interp.proofs.LocalSteps.{begun_frame, top_over}
 use Rattle.object_interp.proofs.interp.enter.Goals as goal
 
 pub method_place-place-requires-clause-has : goal.method_place-place-requires-clause-has

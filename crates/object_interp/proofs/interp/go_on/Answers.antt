@@ -1,15 +1,15 @@
 use Rattle.std.proofs.Common.{◌≡◌, sym, ap, ◌∙◌, subst}
 use Rattle.node_heap.specs.Heaps.{object_at, put_object, top_at, under_top}
-use Rattle.code_semantics.specs.OfUnit.{AnyValue, FitsUnit, IsAtStep}
+use Rattle.code_semantics.specs.StepInstructions.{AnyValue, FitsUnit, IsAtStep}
 use Rattle.code_semantics.proofs.Laws.{plain_any, gone_on_of, gone_on_rests}
 use Rattle.code_semantics.specs.Step.{code_gone_on}
-use Rattle.object_interp.specs.Rest.{settled_at}
+use Rattle.object_interp.specs.SettledObject.{settled_at}
 use Rattle.object_interp.specs.Tops.{HasTop}
-use Rattle.object_interp.proofs.Facts.{has_top}
+use Rattle.object_interp.proofs.InnermostFrame.{has_top}
 use Rattle.object_interp.proofs.Slots.{put_then, object_then}
-use Rattle.object_interp.proofs.Asking.{gone_has_top, gone_top, passes, settled_gone}
+use Rattle.object_interp.proofs.RequestSteps.{gone_has_top, gone_top, passes, settled_gone}
 use Rattle.object_interp.specs.Moves.{gone}
-use Rattle.object_interp.proofs.Stepping.{settled_same}
+use Rattle.object_interp.proofs.LocalSteps.{settled_same}
 use Rattle.object_interp.proofs.interp.go_on.Goals as goal
 
 pub pass-requires-clause-passes : goal.pass-requires-clause-passes

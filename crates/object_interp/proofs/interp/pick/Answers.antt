@@ -1,13 +1,14 @@
 use Rattle.std.proofs.Common.{◌≡◌, sym, ap, ◌∙◌, subst, Some}
 use Rattle.node_heap.specs.Heaps.{object_at, put_object, top_at}
-use Rattle.code_semantics.specs.OfUnit.{AnyValue, FitsUnit, IsAtStep}
+use Rattle.code_semantics.specs.StepInstructions.{AnyValue, FitsUnit, IsAtStep}
 use Rattle.code_semantics.proofs.Laws.{plain_any, picked_of, picked_rests}
 use Rattle.code_semantics.specs.Step.{after_choice, code_picked}
-use Rattle.object_interp.specs.Rest.{settled_at}
-use Rattle.object_interp.specs.Tops.{HasTop, with_top}
-use Rattle.object_interp.proofs.Facts.{has_top}
+use Rattle.object_interp.specs.SettledObject.{settled_at}
+use Rattle.object_interp.specs.Tops.{HasTop}
+use Rattle.object_interp.proofs.TopFrames.{with_top}
+use Rattle.object_interp.proofs.InnermostFrame.{has_top}
 use Rattle.object_interp.proofs.Slots.{put_then, object_then}
-use Rattle.object_interp.proofs.Asking.{chooses, chosen_has_top, next_is, offers_top, picked_top, plain_is_offered, selecting_chooses}
+use Rattle.object_interp.proofs.RequestSteps.{chooses, chosen_has_top, next_is, offers_top, picked_top, plain_is_offered, selecting_chooses}
 use Rattle.code_semantics.specs.Kinds.{code_kind}
 use Rattle.object_interp.specs.Offers.{instr_offers, is_open_plain, offer_at}
 use Rattle.object_interp.proofs.interp.pick.Goals as goal

@@ -1,13 +1,14 @@
 use Rattle.std.proofs.Common.{◌≡◌, sym, ap, ◌∙◌, subst, arith}
 use Rattle.node_heap.specs.Heaps.{object_at, put_object, top_at}
-use Rattle.code_semantics.specs.OfUnit.{AnyValue, FitsUnit, IsAtStep}
+use Rattle.code_semantics.specs.StepInstructions.{AnyValue, FitsUnit, IsAtStep}
 use Rattle.code_semantics.proofs.Laws.{plain_any, given_of, given_rests}
 use Rattle.code_semantics.specs.Step.{code_given}
-use Rattle.object_interp.specs.Rest.{settled_at}
-use Rattle.object_interp.specs.Tops.{HasTop, with_top}
-use Rattle.object_interp.proofs.Facts.{has_top}
+use Rattle.object_interp.specs.SettledObject.{settled_at}
+use Rattle.object_interp.specs.Tops.{HasTop}
+use Rattle.object_interp.proofs.TopFrames.{with_top}
+use Rattle.object_interp.proofs.InnermostFrame.{has_top}
 use Rattle.object_interp.proofs.Slots.{put_then, object_then}
-use Rattle.object_interp.proofs.Asking.{answerable, given_has_top, given_top}
+use Rattle.object_interp.proofs.RequestSteps.{answerable, given_has_top, given_top}
 use Rattle.object_interp.specs.Moves.{replaced}
 use Rattle.object_interp.proofs.interp.resume_with.Goals as goal
 

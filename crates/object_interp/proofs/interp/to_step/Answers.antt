@@ -1,9 +1,9 @@
 use Rattle.std.proofs.Common.{sym, subst}
 use Rattle.node_heap.specs.Heaps.{object_at}
-use Rattle.code_semantics.specs.OfUnit.{FitsUnit, IsAtStep}
-use Rattle.object_interp.specs.Rest.{settled_at}
-use Rattle.object_interp.proofs.Asking.{settled_fits, settled_at_step}
-use Rattle.object_interp.proofs.Facts.{has_top}
+use Rattle.code_semantics.specs.StepInstructions.{FitsUnit, IsAtStep}
+use Rattle.object_interp.specs.SettledObject.{settled_at}
+use Rattle.object_interp.proofs.RequestSteps.{settled_fits, settled_at_step}
+use Rattle.object_interp.proofs.InnermostFrame.{has_top}
 use Rattle.object_interp.proofs.Slots.{object_then}
 use Rattle.object_interp.proofs.interp.to_step.Goals as goal
 

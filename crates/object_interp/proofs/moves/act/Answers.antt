@@ -1,14 +1,15 @@
 use Rattle.std.proofs.Common.{inl, refl, ◌∙◌, sym, ap, suc, length, Some, arith}
 use Rattle.std.specs.Prelude.{slice_set}
 use Rattle.code_semantics.specs.declared.unit.Instr.TheVariants as I
-use Rattle.run_words.specs.Operands.{below}
+use Rattle.run_types.specs.Operands.{below}
 use Rattle.code_semantics.specs.Frames.{next}
 use Rattle.node_heap.specs.Heaps.{object_at, put_object, top_in, top_at, under_top}
 use Rattle.object_interp.specs.Bursts.{name_in}
 use Rattle.object_interp.specs.Moves.{moved}
-use Rattle.object_interp.specs.Tops.{class_in, with_top}
-use Rattle.object_interp.proofs.Facts.{has_top}
-use Rattle.object_interp.proofs.Acting.{instr_known, ret_frames}
+use Rattle.object_interp.specs.Tops.{class_in}
+use Rattle.object_interp.proofs.TopFrames.{with_top}
+use Rattle.object_interp.proofs.InnermostFrame.{has_top}
+use Rattle.object_interp.proofs.InstructionFacts.{instr_known, ret_frames}
 use Rattle.object_interp.proofs.Slots.{put_then, object_then}
 use Rattle.object_interp.proofs.moves.act.Goals as goal
 

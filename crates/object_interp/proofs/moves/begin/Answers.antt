@@ -1,8 +1,9 @@
 use Rattle.std.proofs.Common.{◌≡◌, ◌∙◌, ap, sym, ◌∷◌, [], length, take, arith}
 use Rattle.std.proofs.Common as R
-use Rattle.run_words.specs.Operands.{padded}
+use Rattle.run_types.specs.Operands.{padded}
 use Rattle.node_heap.specs.Heaps.{object_at, put_object, frame_by, nils, top_in}
-use Rattle.object_interp.specs.Tops.{over, with_top}
+use Rattle.object_interp.specs.Tops.{over}
+use Rattle.object_interp.proofs.TopFrames.{with_top}
 use Rattle.code_semantics.proofs.Laws.{length_padded}
 use Rattle.object_interp.proofs.Slots.{put_then, object_then}
 use Rattle.object_interp.proofs.moves.begin.Goals as goal

@@ -1,14 +1,15 @@
 use Rattle.std.proofs.Common.{◌≡◌, ◌∙◌, sym, ap, ◌<◌, length, arith}
 use Rattle.std.proofs.lemmas.Option.{slice_get_within}
-use Rattle.run_words.specs.declared.words.Serves.TheVariants as S
-use Rattle.run_words.specs.Operands.{dropped}
+use Rattle.run_types.specs.declared.types.Serves.TheVariants as S
+use Rattle.run_types.specs.Operands.{dropped}
 use Rattle.code_semantics.specs.Frames.{next}
 use Rattle.code_semantics.specs.Step.{begun}
 use Rattle.node_heap.specs.Heaps.{object_at, put_object, frames_used, top_in, top_at, under_top}
 use Rattle.object_interp.specs.Moves.{entered}
-use Rattle.object_interp.specs.Tops.{over, with_top}
-use Rattle.object_interp.proofs.Facts.{has_top}
-use Rattle.object_interp.proofs.Acting.{callee, has_method, frames_put}
+use Rattle.object_interp.specs.Tops.{over}
+use Rattle.object_interp.proofs.TopFrames.{with_top}
+use Rattle.object_interp.proofs.InnermostFrame.{has_top}
+use Rattle.object_interp.proofs.InstructionFacts.{callee, has_method, frames_put}
 use Rattle.object_interp.proofs.Slots.{put_then, object_then}
 use Rattle.object_interp.proofs.moves.call.Goals as goal
 

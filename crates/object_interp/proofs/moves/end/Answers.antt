@@ -1,7 +1,7 @@
 use Rattle.std.proofs.Common.{◌∙◌, ap, sym, ◌∷◌}
 use Rattle.node_heap.specs.Heaps.{object_at, put_object, top_in, top_at, under_top}
-use Rattle.object_interp.specs.Tops.{with_top}
-use Rattle.object_interp.proofs.Facts.{ended_own}
+use Rattle.object_interp.proofs.TopFrames.{with_top}
+use Rattle.object_interp.proofs.InnermostFrame.{ended_own}
 use Rattle.object_interp.proofs.Slots.{put_then}
 use Rattle.object_interp.proofs.moves.end.Goals as goal
 

@@ -1,14 +1,14 @@
 use Rattle.std.proofs.Common.{◌≡◌, ◌∙◌, ap, sym, suc, ◌+◌, ◌<◌, length, take, Some, get_or, arith, min}
 use Rattle.std.specs.Prelude.{slice_get, slice_set, pos}
 use Rattle.std.proofs.lemmas.Option.{slice_get-get_or}
-use Rattle.run_words.specs.declared.words.Value.TheVariants as V
-use Rattle.run_words.specs.Operands.{padded}
+use Rattle.run_types.specs.declared.types.Value.TheVariants as V
+use Rattle.run_types.specs.Operands.{padded}
 use Rattle.node_heap.specs.Heaps.{object_at, put_object, top_in, top_at}
-use Rattle.object_interp.specs.Tops.{with_top}
+use Rattle.object_interp.proofs.TopFrames.{with_top}
 use Rattle.object_interp.proofs.Operands.{padded_set, take_most}
 use Rattle.code_semantics.proofs.Laws.{length_padded}
-use Rattle.object_interp.proofs.Settling.{same_top}
-use Rattle.object_interp.proofs.Facts.{some_frames}
+use Rattle.object_interp.proofs.SilentSteps.{same_top}
+use Rattle.object_interp.proofs.InnermostFrame.{some_frames}
 use Rattle.object_interp.proofs.Slots.{put_then, put_same, object_then, still_there}
 use Rattle.object_interp.proofs.moves.fill.Goals as goal
 

@@ -1,6 +1,6 @@
 -- So far that many parameters have their values.
 use Rattle.std.proofs.Common.{◌≡◌, length, take}
-use Rattle.run_words.specs.Operands.{padded}
+use Rattle.run_types.specs.Operands.{padded}
 use Rattle.node_heap.specs.Heaps.{put_top, top_at}
 use Rattle.object_interp.proofs.moves.fill.Given as goal
 

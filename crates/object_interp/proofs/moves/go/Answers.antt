@@ -1,10 +1,10 @@
 use Rattle.std.proofs.Common.{◌≡◌, ap, ◌∙◌, sym, suc, false}
 use Rattle.std.specs.Prelude.{if◌then◌else◌}
-use Rattle.run_words.specs.Values.{is_true}
-use Rattle.run_words.specs.Operands.{top, below}
+use Rattle.run_types.specs.Values.{is_true}
+use Rattle.run_types.specs.Operands.{top, below}
 use Rattle.code_semantics.specs.Frames.{next}
 use Rattle.node_heap.specs.Heaps.{object_at, put_object, top_in, top_at}
-use Rattle.object_interp.specs.Tops.{with_top}
+use Rattle.object_interp.proofs.TopFrames.{with_top}
 use Rattle.object_interp.proofs.Slots.{put_then}
 use Rattle.object_interp.proofs.moves.go.Goals as goal
 

@@ -1,10 +1,10 @@
 use Rattle.std.proofs.Common.{◌≡◌, ◌+◌, sym, ap, ◌∙◌, suc, arith}
-use Rattle.run_words.specs.declared.words.Serves.TheVariants as S
-use Rattle.run_words.specs.Operands.{dropped}
+use Rattle.run_types.specs.declared.types.Serves.TheVariants as S
+use Rattle.run_types.specs.Operands.{dropped}
 use Rattle.code_semantics.specs.Frames.{next}
 use Rattle.node_heap.specs.Heaps.{object_at, put_object, top_in, top_at, under_top}
 use Rattle.object_interp.specs.Moves.{gone}
-use Rattle.object_interp.specs.Tops.{with_top}
+use Rattle.object_interp.proofs.TopFrames.{with_top}
 use Rattle.object_interp.proofs.Slots.{put_then}
 use Rattle.object_interp.proofs.moves.pass.Goals as goal
 

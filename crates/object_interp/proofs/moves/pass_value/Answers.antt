@@ -1,7 +1,7 @@
 use Rattle.std.proofs.Common.{ap, ◌∙◌}
 use Rattle.code_semantics.specs.Frames.{next}
 use Rattle.node_heap.specs.Heaps.{top_at}
-use Rattle.object_interp.proofs.Settling.{passed_else}
+use Rattle.object_interp.proofs.SilentSteps.{passed_else}
 use Rattle.object_interp.proofs.moves.pass_value.Goals as goal
 
 pub advance-requires : goal.advance-requires

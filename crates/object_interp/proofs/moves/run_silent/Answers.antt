@@ -1,5 +1,5 @@
 use Rattle.std.proofs.Common.{◌∷◌, ◌∙◌, ap, Some, arith}
-use Rattle.run_words.specs.declared.words.Value.TheVariants as V
+use Rattle.run_types.specs.declared.types.Value.TheVariants as V
 use Rattle.code_semantics.specs.Frames.{next, silent}
 use Rattle.node_heap.specs.Heaps.{top_at}
 use Rattle.object_interp.proofs.moves.run_silent.Goals as goal

@@ -1,5 +1,5 @@
 use Rattle.std.proofs.Common.{◌∙◌, sym}
-use Rattle.object_interp.proofs.Settling.{settled_in}
+use Rattle.object_interp.proofs.SilentSteps.{settled_in}
 use Rattle.object_interp.proofs.moves.settle.Goals as goal
 
 pub settle_in-requires-clause-top : goal.settle_in-requires-clause-top

@@ -1,7 +1,7 @@
 use Rattle.std.proofs.Common.{◌-◌, ◌+◌, sym, ap, ◌∙◌, length, Some, arith}
 use Rattle.code_semantics.specs.Frames.{silent}
 use Rattle.node_heap.specs.Heaps.{top_at}
-use Rattle.object_interp.proofs.Settling.{all_settled, end_settling, more_settling, next_fits, place_within, instr_there, settled_in, start_settling, top_now}
+use Rattle.object_interp.proofs.SilentSteps.{all_settled, end_settling, more_settling, next_fits, place_within, instr_there, settled_in, start_settling, top_now}
 use Rattle.object_interp.proofs.moves.settle_in.Goals as goal
 
 pub bounds-code-at : goal.bounds-code-at

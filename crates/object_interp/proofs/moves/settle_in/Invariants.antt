@@ -1,5 +1,5 @@
 use Rattle.std.proofs.Common.{◌-◌, length}
-use Rattle.object_interp.proofs.Settling.{SettlingIn}
+use Rattle.object_interp.proofs.SilentSteps.{SettlingIn}
 use Rattle.object_interp.proofs.moves.settle_in.Given as goal
 
 abbrev pub invariant-loop-turn : goal.invariant-loop-turn

@@ -1,13 +1,13 @@
 use Rattle.std.proofs.Common.{◌≡◌, refl, ◌∙◌, sym, ap, subst}
-use Rattle.run_words.specs.declared.frames.CodeObject.{CodeObject}
+use Rattle.run_types.specs.declared.frames.CodeObject.{CodeObject}
 use Rattle.node_heap.specs.Heaps.{object_at, put_object, top_at, under_top}
 use Rattle.object_interp.specs.Bursts.{name_in}
 use Rattle.object_interp.specs.Moves.{moved}
-use Rattle.object_interp.specs.Rest.{settled_at}
+use Rattle.object_interp.specs.SettledObject.{settled_at}
 use Rattle.object_interp.specs.Tops.{HasTop, class_in, code_in}
-use Rattle.object_interp.proofs.Facts.{has_top}
-use Rattle.object_interp.proofs.Settling.{settled_code, settled_in}
-use Rattle.object_interp.proofs.Stepping.{code_kept, moved_top, settled_moved, settled_same, stepped_top}
+use Rattle.object_interp.proofs.InnermostFrame.{has_top}
+use Rattle.object_interp.proofs.SilentSteps.{settled_code, settled_in}
+use Rattle.object_interp.proofs.LocalSteps.{code_kept, moved_top, settled_moved, settled_same, stepped_top}
 use Rattle.object_interp.proofs.Slots.{object_then, put_then, still_there}
 use Rattle.object_interp.proofs.moves.step.Goals as goal
 

@@ -3,7 +3,7 @@ use Rattle.std.specs.Prelude.{slice_get}
 use Rattle.std.proofs.lemmas.Option.{slice_get_within, slice_get_read}
 use Rattle.node_heap.specs.Heaps.{object_at, top_at}
 use Rattle.object_interp.specs.Tops.{code_in}
-use Rattle.object_interp.proofs.Facts.{at_hand}
+use Rattle.object_interp.proofs.InnermostFrame.{at_hand}
 use Rattle.object_interp.proofs.read.instr_at.Goals as goal
 
 pub bounds-code_at-at : goal.bounds-code_at-at

@@ -1,5 +1,5 @@
 use Rattle.std.proofs.Common.{◌≡◌, ◌+◌, ◌-◌, suc, ap, ◌∙◌, sym, [], ◌∷◌, ◌++◌, length, append_assoc, length-append, arith}
-use Rattle.run_words.specs.Operands.{taken, nth}
+use Rattle.run_types.specs.Operands.{taken, nth}
 use Rattle.node_heap.specs.Heaps.{top_at}
 use Rattle.object_interp.proofs.Operands.{taken_first}
 use Rattle.object_interp.proofs.read.last_values.Goals as goal

@@ -1,6 +1,6 @@
 -- The values so far, and those that are left, are all.
 use Rattle.std.proofs.Common.{◌≡◌, ◌-◌, [], ◌++◌, length}
-use Rattle.run_words.specs.Operands.{taken}
+use Rattle.run_types.specs.Operands.{taken}
 use Rattle.node_heap.specs.Heaps.{top_at}
 use Rattle.object_interp.proofs.read.last_values.Given as goal
 

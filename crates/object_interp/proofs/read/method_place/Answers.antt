@@ -1,7 +1,7 @@
 use Rattle.std.proofs.Common.{ap, ◌∙◌, sym, length, arith}
 use Rattle.std.proofs.lemmas.Option.{slice_get_read}
 use Rattle.std.specs.Prelude.{slice_get}
-use Rattle.object_interp.proofs.Facts.{method_first}
+use Rattle.object_interp.proofs.InnermostFrame.{method_first}
 use Rattle.object_interp.proofs.read.method_place.Goals as goal
 
 pub returns-then-method-name : goal.returns-then-method-name

@@ -1,5 +1,5 @@
 use Rattle.std.proofs.Common.{◌≡◌, drop}
-use Rattle.run_words.specs.Paths.{is_cut}
+use Rattle.run_types.specs.Paths.{is_cut}
 use Rattle.placement_reader.specs.Forms.{cuts_of}
 use Rattle.placement_reader.proofs.forms.is_cut.Given as goal
 

@@ -1,5 +1,5 @@
 use Rattle.std.proofs.Common.{◌≡◌, drop}
-use Rattle.run_words.specs.Paths.{route_of}
+use Rattle.run_types.specs.Paths.{route_of}
 use Rattle.placement_reader.specs.Forms.{routes_of}
 use Rattle.placement_reader.proofs.forms.route_in.Given as goal
 

@@ -1,5 +1,5 @@
 use Rattle.std.proofs.Common.{sym, ◌∙◌}
-use Rattle.placement_reader.proofs.Faultless.{fine_of}
+use Rattle.placement_reader.proofs.RoutedPlacement.{fine_of}
 use Rattle.placement_reader.proofs.judge.judge.Goals as goal
 
 pub returns-in-None-clause-fine : goal.returns-in-None-clause-fine

@@ -1,10 +1,11 @@
 use Rattle.std.proofs.Common.{◌≡◌, ◌+◌, drop, None, sym, ap, subst, ◌∙◌, arith}
-use Rattle.run_words.specs.Lines.{lines, words}
+use Rattle.text_scan.specs.Lines.{lines, words}
 use Rattle.std.specs.Prelude.{slice_range}
-use Rattle.run_words.specs.Kept.{Kept, kept_from}
-use Rattle.placement_reader.specs.Forms.{AreFine, fault_or_bad, form_of}
+use Rattle.text_scan.specs.ContentLines.{Kept, kept_from}
+use Rattle.placement_reader.specs.Forms.{fault_or_bad, form_of}
+use Rattle.placement_reader.specs.ReaderFacts.{AreWellFormed}
 use Rattle.placement_reader.specs.Placements.{first_fault, forms_of}
-use Rattle.placement_reader.proofs.Fine.{fine_push, step_fault, step_forms}
+use Rattle.placement_reader.proofs.FaultlessForms.{fine_push, step_fault, step_forms}
 use Rattle.placement_reader.proofs.read.gather.Goals as goal
 
 pub loop-found-preserved : goal.loop-found-preserved
@@ -22,7 +23,7 @@ loop-found-preserved c =
     record {
       within = c.in-Some.ensures.ordered.2;
       few = omega (arith, c.in-Some.ensures.few);
-      fine = subst (AreFine nodes) (sym c.in-Ok.ensures.items) (fine_push nodes forms f i.fine c.in_ok-form.ensures.fine);
+      fine = subst (AreWellFormed nodes) (sym c.in-Ok.ensures.items) (fine_push nodes forms f i.fine c.in_ok-form.ensures.fine);
       fault =
           i.fault ∙ (ap (first_fault u c.args.width nodes forms) c.in-Some.ensures.line ∙ (step_fault u c.args.width nodes forms k f left c.in_ok-form.ensures.form ok
           ∙ ap (λ fs. first_fault u c.args.width nodes fs left) (sym c.in-Ok.ensures.items)));

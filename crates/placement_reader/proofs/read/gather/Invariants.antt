@@ -1,7 +1,7 @@
 use Rattle.std.proofs.Common.{◌≡◌, ◌+◌, ◌-◌, ◌≤◌, [], length, drop}
-use Rattle.run_words.specs.Lines.{lines}
-use Rattle.run_words.specs.Kept.{kept_from}
-use Rattle.placement_reader.specs.Forms.{AreFine}
+use Rattle.text_scan.specs.Lines.{lines}
+use Rattle.text_scan.specs.ContentLines.{kept_from}
+use Rattle.placement_reader.specs.ReaderFacts.{AreWellFormed}
 use Rattle.placement_reader.specs.Placements.{first_fault, forms_of}
 use Rattle.placement_reader.proofs.read.gather.Given as goal
 
@@ -13,7 +13,7 @@ invariant-loop-found l =
     record {
       within : l.at ≤ length l.bytes;
       few : l.number ≤ l.at + 1;
-      fine : AreFine l.nodes l.forms.items;
+      fine : AreWellFormed l.nodes l.forms.items;
       fault : first_fault l.unit l.width l.nodes [] all ≡ first_fault l.unit l.width l.nodes l.forms.items left;
       forms : forms_of l.unit [] all ≡ forms_of l.unit l.forms.items left;
     }

@@ -1,6 +1,6 @@
 use Rattle.std.proofs.Common.{◌≡◌, drop}
-use Rattle.code_semantics.specs.Suits.{most_vars}
-use Rattle.placement_reader.proofs.Most.{greater}
+use Rattle.code_semantics.specs.NodeWords.{most_vars}
+use Rattle.placement_reader.proofs.Maximum.{greater}
 use Rattle.placement_reader.proofs.read.most_vars.Given as goal
 
 -- the greatest of the number so far and those that are left is the greatest of all

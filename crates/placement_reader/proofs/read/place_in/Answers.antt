@@ -1,5 +1,5 @@
 use Rattle.std.proofs.Common.{◌<◌, Some, sym, ap, ◌∙◌, arith}
-use Rattle.placement_reader.proofs.Fine.{spot_at}
+use Rattle.placement_reader.proofs.FaultlessForms.{spot_at}
 use Rattle.placement_reader.proofs.read.place_in.Goals as goal
 use Rattle.placement_reader.proofs.read.place_in.Goals.{In-Some-At}
 

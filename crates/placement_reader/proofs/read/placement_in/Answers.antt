@@ -1,5 +1,5 @@
 use Rattle.placement_reader.specs.declared.form.Count.TheVariants.{Objects, Frames, Cells}
-use Rattle.placement_reader.proofs.Fine.{number_fine}
+use Rattle.placement_reader.proofs.FaultlessForms.{number_fine}
 use Rattle.placement_reader.proofs.read.placement_in.Goals as goal
 
 pub number_or-objects-requires-clause-fine : goal.number_or-objects-requires-clause-fine

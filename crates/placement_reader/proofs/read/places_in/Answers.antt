@@ -1,6 +1,6 @@
 use Rattle.std.proofs.Common.{◌++◌, ◌∷◌, [], map, refl, ap, ◌∙◌, ◌+◌, ◌-◌, arith}
 use Rattle.std.specs.List.{range_with_len}
-use Rattle.run_words.proofs.Laws.{more}
+use Rattle.run_types.proofs.Laws.{more}
 use Rattle.placement_reader.specs.Forms.{place_or_same, spot_in}
 use Rattle.placement_reader.proofs.read.places_in.Goals as goal
 

@@ -1,15 +1,17 @@
 use Rattle.std.proofs.Common.{◌+◌, ◌*◌, ◌≤◌, drop, ap, sym, subst, ◌∙◌, length}
 use Rattle.std.specs.List.{All}
-use Rattle.run_words.specs.declared.words.Placement.{Placement}
-use Rattle.code_semantics.specs.Suits.{IsFromTo, IsOfMesh, most_vars, nodes, words}
+use Rattle.run_types.specs.declared.types.Placement.{Placement}
+use Rattle.code_semantics.specs.Suits.{IsFromTo, IsOfMesh}
+use Rattle.code_semantics.specs.NodeWords.{most_vars, nodes, words}
 use Rattle.std.specs.Prelude.{slice_range}
-use Rattle.run_words.specs.Lines.{lines, words as line_words}
-use Rattle.run_words.specs.Kept.{kept_from}
-use Rattle.run_words.proofs.Laws.{routed_ways}
-use Rattle.placement_reader.specs.Forms.{AreFine, form_of}
+use Rattle.text_scan.specs.Lines.{lines, words as line_words}
+use Rattle.text_scan.specs.ContentLines.{kept_from}
+use Rattle.run_types.proofs.Laws.{routed_ways}
+use Rattle.placement_reader.specs.Forms.{form_of}
+use Rattle.placement_reader.specs.ReaderFacts.{AreWellFormed}
 use Rattle.placement_reader.specs.Placements.{fault_in, placement_of, placement_of_lines}
-use Rattle.placement_reader.proofs.Faultless.{mesh_told, routed, told}
-use Rattle.placement_reader.proofs.Fine.{counted, places_there}
+use Rattle.placement_reader.proofs.RoutedPlacement.{mesh_told, routed, told}
+use Rattle.placement_reader.proofs.FaultlessForms.{counted, places_there}
 use Rattle.placement_reader.proofs.read.read_placement.Goals as goal
 
 pub route_fault-requires : goal.route_fault-requires
@@ -32,8 +34,8 @@ returns-clause-suits c =
     let mesh = c.in-Ok.mesh in
     let fs = c.as_slice.result.now in
     let value = c.in_ok-placement.ensures.value in
-    let fine : AreFine (mesh.width * mesh.height) fs =
-    subst (λ n. AreFine n fs) c.from-nodes.ensures (subst (AreFine c.from-nodes.result) (sym c.as_slice.ensures.value) c.in_ok-forms.ensures.fine) in
+    let fine : AreWellFormed (mesh.width * mesh.height) fs =
+    subst (λ n. AreWellFormed n fs) c.from-nodes.ensures (subst (AreWellFormed c.from-nodes.result) (sym c.as_slice.ensures.value) c.in_ok-forms.ensures.fine) in
     let routes =
     routed u mesh.width mesh.height c.from-nodes.result c.from-width.result fs
     (kept_from (c.in-Some.first.line + 1) (lines (drop c.in-Some.first.next c.args.bytes.now))) c.in_ok-placement.placement value

@@ -5,7 +5,7 @@ use Rattle.pool_syntax.specs.Typing.{size}
 use Rattle.code_semantics.specs.declared.unit.Instr.TheVariants as I
 use Rattle.pool_compile.specs.Code.{expression_code, expressions_code}
 use Rattle.pool_compile.specs.Numberings.{numbering}
-use Rattle.pool_compile.proofs.Emitting.{few, on_ok, part_at, put_all, put_part, size_is, then}
+use Rattle.pool_compile.proofs.AppendedCode.{few, on_ok, part_at, put_all, put_part, size_is, then}
 use Rattle.pool_syntax.proofs.Laws.{call_tree, send_tree}
 use Rattle.pool_compile.proofs.expressions.+expressions.Goals as goal
 

@@ -1,6 +1,6 @@
 use Rattle.std.proofs.Common.{sym}
 use Rattle.pool_compile.specs.Numberings.{numbering}
-use Rattle.pool_compile.proofs.Emitting.{on_ok, put_post}
+use Rattle.pool_compile.proofs.AppendedCode.{on_ok, put_post}
 use Rattle.pool_compile.proofs.program.emit_end.Goals as goal
 
 pub returns : goal.returns

@@ -9,8 +9,8 @@ use Rattle.code_semantics.specs.declared.unit.Instr.TheVariants as I
 use Rattle.pool_compile.specs.Code.{alternatives_at, alternatives_code, expression_code, expressions_code, statement_code, statements_code}
 use Rattle.pool_compile.specs.Jumps.{jumps_at}
 use Rattle.pool_compile.specs.Numberings.{numbering}
-use Rattle.pool_compile.proofs.Emitting.{few, on_ok, put_all, size_is, then}
-use Rattle.pool_compile.proofs.Patching.{jumps_are_there, patch_if, patch_select, patch_while, put_jump, put_statement, put_target, put_work, select_is_there}
+use Rattle.pool_compile.proofs.AppendedCode.{few, on_ok, put_all, size_is, then}
+use Rattle.pool_compile.proofs.JumpPatches.{jumps_are_there, patch_if, patch_select, patch_while, put_jump, put_statement, put_target, put_work, select_is_there}
 use Rattle.pool_compile.proofs.statements.+statements.Goals as goal
 
 pub emit_select-fill-requires : goal.emit_select-fill-requires

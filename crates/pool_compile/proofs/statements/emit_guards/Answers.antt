@@ -4,7 +4,7 @@ use Rattle.pool_syntax.specs.declared.tree.Alt.{out-Alt}
 use Rattle.pool_syntax.specs.TreeOf.{expression_of, alternatives_of}
 use Rattle.pool_compile.specs.Code.{expression_code, guards_code}
 use Rattle.pool_compile.specs.Numberings.{numbering}
-use Rattle.pool_compile.proofs.Emitting.{part_at, put_all, put_part}
+use Rattle.pool_compile.proofs.AppendedCode.{part_at, put_all, put_part}
 use Rattle.pool_compile.proofs.statements.emit_guards.Goals as goal
 
 pub loop-alt-preserved : goal.loop-alt-preserved

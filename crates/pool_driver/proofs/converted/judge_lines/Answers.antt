@@ -1,8 +1,8 @@
 use Rattle.std.proofs.Common.{◌∙◌, ◌<◌, ◌^◌, List, ap, length, refl, subst, sym}
-use Rattle.run_words.specs.Text.{Text}
+use Rattle.text_scan.specs.Text.{Text}
 use Rattle.run_record.specs.Numbered.{lines_after}
 use Rattle.run_record.specs.Records.{record_of}
-use Rattle.program_input.specs.Readers as R
+use Rattle.command_inputs.specs.Readers as R
 use Rattle.pool_driver.specs.Readers.{AreLinesOf}
 use Rattle.pool_driver.proofs.ReadLaws.{record_refused}
 use Rattle.pool_driver.proofs.converted.judge_lines.Goals as goal

@@ -1,8 +1,8 @@
 use Rattle.std.proofs.Common.{◌∙◌, List, ap, refl}
-use Rattle.run_words.specs.Text.{Text}
+use Rattle.text_scan.specs.Text.{Text}
 use Rattle.run_record.specs.Numbered.{lines_after, names_after}
 use Rattle.run_record.specs.Records.{record_of}
-use Rattle.program_input.specs.Readers as R
+use Rattle.command_inputs.specs.Readers as R
 use Rattle.pool_driver.specs.Readers.{IsRecordOf}
 use Rattle.pool_driver.proofs.ReadLaws.{record_refused}
 use Rattle.pool_driver.proofs.converted.judge_record.Goals as goal

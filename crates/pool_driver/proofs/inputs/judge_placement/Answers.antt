@@ -1,5 +1,5 @@
 use Rattle.std.proofs.Common.{refl}
-use Rattle.program_input.specs.Readers as R
+use Rattle.command_inputs.specs.Readers as R
 use Rattle.pool_driver.proofs.ReadLaws.{placement_refused}
 use Rattle.pool_driver.proofs.inputs.judge_placement.Goals as goal
 

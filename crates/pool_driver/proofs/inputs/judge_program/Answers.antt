@@ -1,10 +1,10 @@
 use Rattle.std.proofs.Common.{inl}
-use Rattle.fault_lines.specs.declared.fault.Input.TheVariants as I
-use Rattle.program_input.specs.Programs.{IsFaultOfText}
+use Rattle.command_inputs.specs.declared.fault.Input.TheVariants as I
+use Rattle.command_inputs.specs.Programs.{IsFaultOfText, HasTypedFault, IsTypedProgram}
 use Rattle.pool_driver.specs.Readers.{IsUnitOf}
-use Rattle.program_input.specs.Readers.{HasTypedFault, IsAnyProgram, IsProgramOf, IsTypedProgram}
+use Rattle.command_inputs.specs.Readers.{IsAnyProgram, IsProgramOf}
 use Rattle.pool_driver.proofs.ReadLaws.{unit_judged}
-use Rattle.program_input.proofs.Laws.{fits_is, judge_passed, program_judged}
+use Rattle.command_inputs.proofs.Laws.{fits_is, judge_passed, program_judged}
 use Rattle.pool_driver.proofs.inputs.judge_program.Goals as goal
 
 pub returns-in-Err : goal.returns-in-Err

@@ -1,7 +1,7 @@
 use Rattle.std.proofs.Common.{refl}
 use Rattle.pool_driver.specs.Readers as R
 use Rattle.pool_driver.proofs.OutputLaws.{loads_placement, loads_program, loads_schedule}
-use Rattle.program_input.proofs.Laws.{fits_is}
+use Rattle.command_inputs.proofs.Laws.{fits_is}
 use Rattle.pool_driver.proofs.inputs.load_texts.Goals as goal
 
 pub returns-in-Err : goal.returns-in-Err

@@ -1,9 +1,10 @@
 use Rattle.std.proofs.Common.{◌≡◌, ◌∙◌, ◌⊎◌, ℕ, List, refl, subst}
-use Rattle.fault_lines.specs.declared.fault.UnitFault.TheVariants as Filed
-use Rattle.unit_inputs.specs.UnitFiles.{IsUnitFault, IsUnitOfFile}
-use Rattle.program_input.specs.Readers as R
+use Rattle.command_inputs.specs.declared.fault.UnitFault.TheVariants as Filed
+use Rattle.pool_driver.specs.UnitFiles.{IsUnitFault}
+use Rattle.pool_driver.specs.UnitOfFile.{IsUnitOfFile}
+use Rattle.command_inputs.specs.Readers as R
 use Rattle.pool_driver.proofs.ReadLaws.{unit_refused}
-use Rattle.program_input.proofs.Laws.{passed_on, judged}
+use Rattle.command_inputs.proofs.Laws.{passed_on, judged}
 use Rattle.pool_driver.proofs.inputs.read_file.Goals as goal
 
 pub returns-in-Err-clause-reads : goal.returns-in-Err-clause-reads

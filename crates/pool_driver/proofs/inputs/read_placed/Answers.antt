@@ -1,9 +1,10 @@
 use Rattle.std.proofs.Common.{◌≡◌, ◌∙◌, ℕ, List, Ok, refl, subst}
 use Rattle.placement_reader.specs.Placements as Pl
+use Rattle.placement_reader.specs.ReaderFacts as ReaderFacts
 use Rattle.placement_reader.specs.Placements.{placement_of}
-use Rattle.program_input.specs.Readers as R
+use Rattle.command_inputs.specs.Readers as R
 use Rattle.pool_driver.proofs.ReadLaws.{placement_refused}
-use Rattle.program_input.proofs.Laws.{passed_on, judged}
+use Rattle.command_inputs.proofs.Laws.{passed_on, judged}
 use Rattle.pool_driver.proofs.inputs.read_placed.Goals as goal
 
 pub returns-in-Err-clause-reads : goal.returns-in-Err-clause-reads
@@ -17,4 +18,4 @@ pub returns-clause-reads : goal.returns-clause-reads
 returns-clause-reads g c =
     judged _ _ _ _ _ _ _ _ _ c.in-Ok.text _ c.in-Ok.ensures.reads (λ s is.
     placement_refused c.args.unit.now s c.in-Err-read_placement.fault c.placement_stop.result c.placement_stop.ensures
-    (subst (λ (t : List ℕ). Pl.IsTold c.in-Err-read_placement.fault (Pl.fault_in (placement_of c.args.unit.now t))) (c.deref.ensures.value ∙ is) c.in-Err-read_placement.ensures.err))
+    (subst (λ (t : List ℕ). ReaderFacts.ReportsFault c.in-Err-read_placement.fault (Pl.fault_in (placement_of c.args.unit.now t))) (c.deref.ensures.value ∙ is) c.in-Err-read_placement.ensures.err))

@@ -1,6 +1,6 @@
 use Rattle.std.proofs.Common.{inl}
 use Rattle.pool_driver.proofs.ReadLaws.{unit_judged}
-use Rattle.program_input.proofs.Laws.{passed_on, judged}
+use Rattle.command_inputs.proofs.Laws.{passed_on, judged}
 use Rattle.pool_driver.proofs.inputs.read_unit.Goals as goal
 
 pub returns-in-Err-clause-reads : goal.returns-in-Err-clause-reads

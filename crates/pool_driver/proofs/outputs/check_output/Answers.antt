@@ -2,14 +2,15 @@ use Rattle.std.proofs.Common.{◌≡◌, ◌∙◌, ◌<◌, ◌≤◌, ◌^◌,
 use Rattle.pool_syntax.specs.Terms.{ProgramTree}
 use Rattle.pool_syntax.specs.TreeOf.{program_of}
 use Rattle.pool_syntax.specs.Typing.{faults}
-use Rattle.fault_lines.specs.declared.fault.Input.TheVariants as I
-use Rattle.fault_lines.specs.declared.fault.Stop.TheVariants as T
-use Rattle.command_words.specs.Commands.{of_check}
+use Rattle.command_inputs.specs.declared.fault.Input.TheVariants as I
+use Rattle.command_inputs.specs.declared.fault.InputError.TheVariants as T
+use Rattle.command_line.specs.Commands.{of_check}
 use Rattle.pool_driver.specs.Readers.{Decides}
-use Rattle.program_input.specs.Readers.{HasTypedFault, IsTypedProgram, IsTypedProgramOf}
+use Rattle.command_inputs.specs.Readers.{IsTypedProgramOf}
+use Rattle.command_inputs.specs.Programs.{HasTypedFault, IsTypedProgram}
 use Rattle.pool_driver.proofs.OutputLaws.{check_makes, judge_within, judged_fault, judged_within, may_at, none_opened, reaches_judge, reaches_judged, two_opened}
 use Rattle.pool_driver.proofs.ReadLaws.{stops_at}
-use Rattle.program_input.proofs.Laws.{judged, judges_refusal, since, was_read}
+use Rattle.command_inputs.proofs.Laws.{judged, judges_refusal, since, was_read}
 use Rattle.pool_driver.proofs.TextLaws.{parsed_few}
 use Rattle.pool_driver.proofs.outputs.check_output.Goals as goal
 

@@ -1,12 +1,12 @@
 use Rattle.std.proofs.Common.{◌∷◌, [], ap₂, refl}
-use Rattle.fault_lines.specs.declared.fault.Input.TheVariants as I
-use Rattle.record_lines.specs.SecondForm.{text2}
-use Rattle.command_words.specs.Commands.{of_convert}
+use Rattle.command_inputs.specs.declared.fault.Input.TheVariants as I
+use Rattle.record_writer.specs.SecondForm.{text2}
+use Rattle.command_line.specs.Commands.{of_convert}
 use Rattle.pool_driver.specs.declared.outputs.Output.TheVariants as O
 use Rattle.pool_driver.specs.Readers as R
 use Rattle.pool_driver.proofs.OutputLaws.{may_at, none_opened, reaches_record, record_fault}
 use Rattle.pool_driver.proofs.ReadLaws.{stops_at}
-use Rattle.program_input.proofs.Laws.{was_read}
+use Rattle.command_inputs.proofs.Laws.{was_read}
 use Rattle.pool_driver.proofs.outputs.convert_output.Goals as goal
 
 pub read_recorded-requires-clause-allowed : goal.read_recorded-requires-clause-allowed

@@ -2,17 +2,18 @@ use Rattle.std.proofs.Common.{◌≡◌, ◌∙◌, ◌∷◌, [], Err, ap, inl,
 use Rattle.pool_syntax.specs.TreeOf.{program_of}
 use Rattle.pool_syntax.specs.Typing.{faults}
 use Rattle.object_code.specs.FileBytes.{file_bytes}
-use Rattle.fault_lines.specs.declared.fault.Input.TheVariants as I
-use Rattle.fault_lines.specs.declared.fault.Stop.TheVariants as T
-use Rattle.command_words.specs.declared.command.Ask.TheVariants as As
+use Rattle.command_inputs.specs.declared.fault.Input.TheVariants as I
+use Rattle.command_inputs.specs.declared.fault.InputError.TheVariants as T
+use Rattle.command_line.specs.declared.command.Ask.TheVariants as As
 use Rattle.pool_driver.specs.declared.outputs.Output.TheVariants as O
-use Rattle.command_words.specs.Commands.{of_program}
+use Rattle.command_line.specs.Commands.{of_program}
 use Rattle.pool_driver.specs.Inputs.{IsAccepted}
 use Rattle.pool_driver.specs.Readers as R
-use Rattle.program_input.specs.Readers.{HasTypedFault, IsTypedProgram, IsTypedProgramOf}
+use Rattle.command_inputs.specs.Readers.{IsTypedProgramOf}
+use Rattle.command_inputs.specs.Programs.{HasTypedFault, IsTypedProgram}
 use Rattle.pool_driver.proofs.OutputLaws.{may_at, none_opened, reaches_asked}
 use Rattle.pool_driver.proofs.ReadLaws.{stops_at}
-use Rattle.program_input.proofs.Laws.{judged, judges_refusal, was_read}
+use Rattle.command_inputs.proofs.Laws.{judged, judges_refusal, was_read}
 use Rattle.pool_driver.proofs.BuiltFiles.{file_is_built}
 use Rattle.pool_driver.proofs.TextLaws.{parsed_listed}
 use Rattle.pool_driver.proofs.outputs.file_output.Goals as goal

@@ -1,13 +1,13 @@
 use Rattle.std.proofs.Common.{◌∷◌, [], refl, ap}
 use Rattle.object_code.specs.Listing.{listing}
-use Rattle.fault_lines.specs.declared.fault.Input.TheVariants as I
-use Rattle.command_words.specs.declared.command.Ask.TheVariants as As
+use Rattle.command_inputs.specs.declared.fault.Input.TheVariants as I
+use Rattle.command_line.specs.declared.command.Ask.TheVariants as As
 use Rattle.pool_driver.specs.declared.outputs.Output.TheVariants as O
-use Rattle.command_words.specs.Commands.{of_program}
+use Rattle.command_line.specs.Commands.{of_program}
 use Rattle.pool_driver.specs.Readers as R
 use Rattle.pool_driver.proofs.OutputLaws.{accepts, may_at, none_opened, reaches_asked}
 use Rattle.pool_driver.proofs.ReadLaws.{stops_at}
-use Rattle.program_input.proofs.Laws.{was_read}
+use Rattle.command_inputs.proofs.Laws.{was_read}
 use Rattle.pool_driver.proofs.outputs.listing_output.Goals as goal
 
 pub read_unit-requires-clause-allowed : goal.read_unit-requires-clause-allowed

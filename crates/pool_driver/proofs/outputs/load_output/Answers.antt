@@ -1,12 +1,12 @@
 use Rattle.std.proofs.Common.{◌∙◌, ◌∷◌, [], refl}
-use Rattle.fault_lines.specs.declared.fault.Input.TheVariants as I
+use Rattle.command_inputs.specs.declared.fault.Input.TheVariants as I
 use Rattle.pool_driver.specs.declared.outputs.Output.TheVariants as O
-use Rattle.command_words.specs.declared.command.Show.TheVariants as Sh
-use Rattle.command_words.specs.Commands.{of_load}
+use Rattle.command_line.specs.declared.command.Show.TheVariants as Sh
+use Rattle.command_line.specs.Commands.{of_load}
 use Rattle.pool_driver.specs.Readers as R
 use Rattle.pool_driver.proofs.OutputLaws.{file_accepted, file_fault, file_placement_accepted, file_placement_fault, file_places, file_schedule_accepted, file_schedule_fault, file_within, load_within, may_at, none_opened, reaches_file, reaches_file_placement, reaches_file_schedule, three_opened, two_opened}
 use Rattle.pool_driver.proofs.ReadLaws.{stops_at}
-use Rattle.program_input.proofs.Laws.{since, was_read}
+use Rattle.command_inputs.proofs.Laws.{since, was_read}
 use Rattle.pool_driver.proofs.RunLaws.{file_is_loaded, load_is}
 use Rattle.pool_driver.proofs.outputs.load_output.Goals as goal
 

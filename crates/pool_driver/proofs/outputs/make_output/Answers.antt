@@ -1,5 +1,5 @@
 use Rattle.std.proofs.Common.{ap, refl, sym, subst}
-use Rattle.command_words.specs.Commands.{request, names_of}
+use Rattle.command_line.specs.Requests.{request, names_of}
 use Rattle.pool_driver.specs.Inputs.{MayOpen}
 use Rattle.pool_driver.proofs.OutputLaws.{convert_within, makes_for, program_within, ring_makes, ring_within, run_within, stays_for}
 use Rattle.pool_driver.proofs.outputs.make_output.Goals as goal

@@ -1,6 +1,6 @@
 use Rattle.std.proofs.Common.{ap, sym}
-use Rattle.command_words.specs.declared.command.Ask.{Ask}
-use Rattle.command_words.specs.Commands.{of_program}
+use Rattle.command_line.specs.declared.command.Ask.{Ask}
+use Rattle.command_line.specs.Commands.{of_program}
 use Rattle.pool_driver.proofs.OutputLaws.{makes_for}
 use Rattle.pool_driver.proofs.outputs.program_output.Goals as goal
 

@@ -1,11 +1,12 @@
 use Rattle.std.proofs.Common.{◌∙◌, ◌∷◌, [], refl}
-use Rattle.fault_lines.specs.declared.fault.Input.TheVariants as I
+use Rattle.command_inputs.specs.declared.fault.Input.TheVariants as I
 use Rattle.pool_driver.specs.declared.outputs.Output.TheVariants as O
-use Rattle.command_words.specs.Commands.{names_of, of_run}
+use Rattle.command_line.specs.Commands.{of_run}
+use Rattle.command_line.specs.Requests.{names_of}
 use Rattle.pool_driver.specs.Readers as R
 use Rattle.pool_driver.proofs.OutputLaws.{accepts, may_at, none_opened, placement_accepted, placement_fault, places, reaches_placement, reaches_program, reaches_schedule, schedule_accepted, schedule_fault, three_opened, two_opened}
 use Rattle.pool_driver.proofs.ReadLaws.{stops_at}
-use Rattle.program_input.proofs.Laws.{since, was_read}
+use Rattle.command_inputs.proofs.Laws.{since, was_read}
 use Rattle.pool_driver.proofs.RunLaws.{loaded, run_is}
 use Rattle.pool_driver.proofs.outputs.run_output.Goals as goal
 

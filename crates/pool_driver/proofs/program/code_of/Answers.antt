@@ -1,5 +1,5 @@
 use Rattle.std.proofs.Common.{◌≡◌, ap, Err}
-use Rattle.fault_lines.specs.declared.fault.Stop.TheVariants as T
+use Rattle.command_inputs.specs.declared.fault.InputError.TheVariants as T
 use Rattle.pool_driver.proofs.program.code_of.Goals as goal
 
 pub returns-in-Err-clause-refused : goal.returns-in-Err-clause-refused

@@ -1,5 +1,6 @@
 use Rattle.std.proofs.Common.{◌≡◌, ◌∙◌, Some, option_map, ap, sym, refl, inr}
-use Rattle.command_words.specs.Commands.{Request, request}
+use Rattle.command_line.specs.Commands.{Request}
+use Rattle.command_line.specs.Requests.{request}
 use Rattle.pool_driver.specs.Ends as E
 use Rattle.pool_driver.proofs.EndLaws.{stop_completes, stop_ends, text_completes, text_ends, usage_ends}
 use Rattle.pool_driver.proofs.HeadlineLaws.{headline}

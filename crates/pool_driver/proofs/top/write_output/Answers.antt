@@ -1,11 +1,11 @@
 use Rattle.std.proofs.Common.{◌≡◌, ◌∙◌, ap, subst, sym}
 use Rattle.object_code.proofs.Laws.{proper_known}
-use Rattle.command_words.specs.declared.command.Show.{Show}
-use Rattle.command_words.specs.declared.command.Show.TheVariants as Sh
+use Rattle.command_line.specs.declared.command.Show.{Show}
+use Rattle.command_line.specs.declared.command.Show.TheVariants as Sh
 use Rattle.pool_driver.specs.declared.outputs.Output.{Output}
 use Rattle.pool_driver.specs.declared.outputs.Output.TheVariants as O
 use Rattle.pool_driver.specs.Readers.{IsPrintable, status_of_output, text_of}
-use Rattle.run_driver.specs.Writing.{Delivers, Writing, written}
+use Rattle.run_loop.specs.Writing.{Delivers, Writing, written}
 use Rattle.pool_driver.proofs.EndLaws.{writes_as}
 use Rattle.pool_driver.proofs.top.write_output.Goals as goal
 

@@ -1,7 +1,7 @@
 use Rattle.std.proofs.Common.{refl, sym}
 use Rattle.std.proofs.lemmas.List.{append-nil}
 use Rattle.std.proofs.lemmas.Result.{err_from_is_err_and}
-use Rattle.pool_lexer.proofs.Steps.{step_is, fault_is}
+use Rattle.pool_lexer.proofs.PieceStep.{step_is, fault_is}
 use Rattle.pool_lexer.proofs.lexer.read_piece.Goals as goal
 
 pub returns-in_err-tok : goal.returns-in_err-tok

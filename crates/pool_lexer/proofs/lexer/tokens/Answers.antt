@@ -1,10 +1,10 @@
 use Rattle.std.proofs.Common.{◌≡◌, Err, inl, inr, sym, subst, ap, ◌∙◌, arith}
 use Rattle.std.proofs.lemmas.Result.{err_from_is_err_and}
 use Rattle.pool_syntax.specs.Tokens.{HasTokens, IsFirstFault}
-use Rattle.pool_lexer.proofs.Ends.{ended_of, placed_of, count_of}
-use Rattle.pool_lexer.proofs.Rests.{read_more, room_more, read_all, read_fault, only_memory, no_other}
+use Rattle.pool_lexer.proofs.TokenListInvariant.{ended_of, placed_of, count_of}
+use Rattle.pool_lexer.proofs.RestToWhole.{read_more, room_more, read_all, read_fault, only_memory, no_other}
 use Rattle.pool_lexer.proofs.SpelledTokens.{spelled_of}
-use Rattle.pool_lexer.proofs.Wholes.{same_tokens, not_both}
+use Rattle.pool_lexer.proofs.TokensOrFault.{same_tokens, not_both}
 use Rattle.pool_lexer.proofs.lexer.tokens.Goals as goal
 use Rattle.pool_lexer.proofs.lexer.tokens.Goals.{In_ok-push}
 

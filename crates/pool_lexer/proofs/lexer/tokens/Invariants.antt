@@ -1,5 +1,5 @@
 use Rattle.std.proofs.Common.{◌≤◌, ◌-◌, length}
-use Rattle.pool_lexer.proofs.Rests.{IsReadTo}
+use Rattle.pool_lexer.proofs.RestToWhole.{IsReadTo}
 use Rattle.pool_lexer.proofs.lexer.tokens.Given as goal
 
 abbrev pub invariant-loop-at : goal.invariant-loop-at

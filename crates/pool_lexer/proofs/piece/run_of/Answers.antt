@@ -1,4 +1,4 @@
-use Rattle.pool_lexer.proofs.Fronts.{white_run, comment_run, word_run, integer_run}
+use Rattle.pool_lexer.proofs.FirstByte.{white_run, comment_run, word_run, integer_run}
 use Rattle.pool_lexer.proofs.piece.run_of.Goals as goal
 
 pub returns-then-has : goal.returns-then-has

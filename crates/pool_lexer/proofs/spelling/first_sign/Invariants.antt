@@ -1,6 +1,6 @@
 use Rattle.std.proofs.Common.{◌≡◌, map, drop}
 use Rattle.pool_syntax.specs.Spelling.{sign_text}
-use Rattle.run_words.specs.Text.{lookup}
+use Rattle.text_scan.specs.Text.{lookup}
 use Rattle.pool_lexer.proofs.spelling.first_sign.Given as goal
 
 -- the signs passed so far have another text

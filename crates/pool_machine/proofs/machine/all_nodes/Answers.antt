@@ -1,7 +1,7 @@
 use Rattle.std.proofs.Common.{sym, ◌+◌, List, subst}
-use Rattle.node_parts.specs.NodeOf.{NodeOf}
+use Rattle.node_state.specs.NodeOf.{NodeOf}
 use Rattle.pool_machine.proofs.MadeNodes.{node_made}
-use Rattle.pool_machine.specs.Whole.{AreEmpty, IsEmptyNode}
+use Rattle.pool_machine.specs.MachineInvariant.{AreEmpty, IsEmptyNode}
 use Rattle.pool_machine.proofs.machine.all_nodes.Goals as goal
 
 pub loop-id-preserved : goal.loop-id-preserved

@@ -1,4 +1,4 @@
-use Rattle.pool_machine.specs.Whole.{AreEmpty}
+use Rattle.pool_machine.specs.MachineInvariant.{AreEmpty}
 use Rattle.pool_machine.proofs.machine.all_nodes.Given as goal
 
 abbrev pub invariant-loop-id : goal.invariant-loop-id

@@ -1,7 +1,7 @@
 use Rattle.std.proofs.Common.{◌≡◌, ◌-◌, List, [], ◌∷◌, length, suc, sym, ap, ◌∙◌, Some, arith}
 use Rattle.std.specs.Prelude.{slice_get}
 use Rattle.std.specs.Option.{option_copied}
-use Rattle.run_words.specs.declared.words.Place.{Place}
+use Rattle.run_types.specs.declared.types.Place.{Place}
 use Rattle.mesh_semantics.specs.Record.{last_place, root_node}
 use Rattle.pool_machine.proofs.machine.root_of.Goals as goal
 

@@ -1,8 +1,8 @@
 use Rattle.std.proofs.Common.{List, refl, sym, ap, subst, ◌∙◌, map}
 use Rattle.std.specs.Option.{option_copied}
-use Rattle.run_words.specs.declared.words.What.TheVariants as W
-use Rattle.run_words.specs.Tables.{list_at, pair_cmp}
-use Rattle.coded_objects.specs.Coded.{coded}
+use Rattle.run_types.specs.declared.types.What.TheVariants as W
+use Rattle.run_types.specs.Tables.{list_at, pair_cmp}
+use Rattle.mesh_of_code.specs.Coded.{coded}
 use Rattle.node_semantics.specs.Machine.{move_in}
 use Rattle.rendezvous_protocol.specs.declared.packet.Packet.{Packet}
 use Rattle.rendezvous_protocol.specs.Packets.{numbered}

@@ -1,11 +1,11 @@
 use Rattle.std.proofs.Common.{◌≡◌, ◌*◌, ◌<◌, sym, ap, subst, ◌∙◌, refl, get_or, Some, arith}
 use Rattle.mesh_semantics.specs.Act.{goal_node}
-use Rattle.run_words.specs.Tables.{leaving}
+use Rattle.run_types.specs.LinkTables.{leaving}
 use Rattle.node_semantics.specs.Node.{message_count}
-use Rattle.node_parts.specs.NodeOf.{NodeOf}
+use Rattle.node_state.specs.NodeOf.{NodeOf}
 use Rattle.mesh_routing.specs.Links.{LinksOf}
 use Rattle.rendezvous_protocol.specs.Packets.{numbered}
-use Rattle.run_words.specs.declared.words.Placement.{Placement}
+use Rattle.run_types.specs.declared.types.Placement.{Placement}
 use Rattle.pool_machine.proofs.MovesOfHeads.{full_pass, goal_inside, headless, line_pass, pass_parts, pass_room}
 use Rattle.pool_machine.proofs.TurnsOfNodes.{cells_within, links_after, node_here, with_packet}
 use Rattle.pool_machine.proofs.moves.pass.Goals as goal

@@ -1,10 +1,10 @@
 use Rattle.std.proofs.Common.{sym, ◌≡◌, refl, ap, ◌∙◌, map, not, ◌&&◌}
 use Rattle.std.specs.Option.{option_map}
-use Rattle.coded_objects.specs.Coded.{coded}
+use Rattle.mesh_of_code.specs.Coded.{coded}
 use Rattle.node_semantics.specs.Machine.{any_ready, are_acknowledged}
 use Rattle.pool_machine.specs.MachineOf.{numbered_wires}
 use Rattle.pool_machine.specs.OnWires.{wires_in}
-use Rattle.pool_machine.proofs.ToldOfObjects.{settled_told}
+use Rattle.pool_machine.proofs.ReportedStandings.{settled_told}
 use Rattle.pool_machine.proofs.quiet.is_quiet_now.Goals as goal
 use Rattle.pool_machine.proofs.quiet.is_quiet_now.Goals.{then-is_empty, else-is_empty}
 

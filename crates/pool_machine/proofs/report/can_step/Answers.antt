@@ -1,7 +1,7 @@
 use Rattle.std.proofs.Common.{◌≡◌, ◌+◌, map, sym, ap, ◌∙◌, is_some, false, arith}
 use Rattle.mesh_semantics.specs.Act.{first_of}
 use Rattle.std.proofs.lemmas.Option.{slice_get_within}
-use Rattle.coded_objects.specs.Coded.{Placed, coded}
+use Rattle.mesh_of_code.specs.Coded.{Placed, coded}
 use Rattle.node_semantics.specs.Node.{NodeState, ready_slots}
 use Rattle.pool_machine.proofs.ChangedNodes.{element, state_there}
 use Rattle.pool_machine.proofs.Searches.{node_behind, none_ready, one_further, ready_found}

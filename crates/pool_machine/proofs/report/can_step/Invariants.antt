@@ -1,9 +1,9 @@
 use Rattle.std.proofs.Common.{◌≡◌, ◌<◌, ℕ, false, is_some}
 use Rattle.std.specs.Prelude.{Some, slice_get}
 use Rattle.mesh_semantics.specs.Act.{first_of}
-use Rattle.coded_objects.specs.Coded.{coded}
+use Rattle.mesh_of_code.specs.Coded.{coded}
 use Rattle.node_semantics.specs.Node.{ready_slots}
-use Rattle.node_parts.specs.NodeOf.{NodeOf}
+use Rattle.node_state.specs.NodeOf.{NodeOf}
 use Rattle.pool_machine.proofs.report.can_step.Given as goal
 
 abbrev pub invariant-loop-node : goal.invariant-loop-node

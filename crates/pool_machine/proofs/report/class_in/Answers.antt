@@ -1,6 +1,6 @@
 use Rattle.std.proofs.Common.{◌<◌, List, sym, ap, subst, ◌∙◌, length, get_or, Some}
 use Rattle.code_semantics.specs.declared.unit.ClassCode.{ClassCode}
-use Rattle.pool_machine.proofs.ToldOfObjects.{Found, class_below, class_is_told, found_at, slot_found}
+use Rattle.pool_machine.proofs.ReportedStandings.{Found, class_below, class_is_told, found_at, slot_found}
 use Rattle.pool_machine.proofs.report.class_in.Goals as goal
 
 pub bounds-items-class : goal.bounds-items-class

@@ -1,7 +1,7 @@
 use Rattle.std.proofs.Common.{◌≡◌, map, sym, ap, ◌∙◌, is_some, false, arith}
 use Rattle.std.specs.List.{list_any}
 use Rattle.std.proofs.lemmas.Option.{slice_get_within}
-use Rattle.coded_objects.specs.Coded.{Placed}
+use Rattle.mesh_of_code.specs.Coded.{Placed}
 use Rattle.node_semantics.specs.Node.{NodeState, Slot}
 use Rattle.pool_machine.proofs.ChangedNodes.{element, state_there}
 use Rattle.pool_machine.proofs.Searches.{found_none, found_one, node_behind, one_further}

@@ -1,9 +1,9 @@
 use Rattle.std.proofs.Common.{◌≡◌, ◌<◌, ℕ, false, is_some}
 use Rattle.std.specs.Prelude.{Some, slice_get}
 use Rattle.std.specs.List.{list_any}
-use Rattle.coded_objects.specs.Coded.{Placed}
+use Rattle.mesh_of_code.specs.Coded.{Placed}
 use Rattle.node_semantics.specs.Node.{Slot}
-use Rattle.node_parts.specs.NodeOf.{NodeOf}
+use Rattle.node_state.specs.NodeOf.{NodeOf}
 use Rattle.pool_machine.proofs.report.has_faulted.Given as goal
 
 abbrev pub invariant-loop-node : goal.invariant-loop-node

@@ -1,8 +1,8 @@
 use Rattle.std.proofs.Common.{◌≡◌, ◌<◌, ◌*◌, ℕ, false, below_more}
-use Rattle.run_words.specs.Tables.{list_at, pair_cmp}
-use Rattle.run_words.specs.Paths.{AreNeighbours}
-use Rattle.pool_machine.specs.Told.{is_brought}
-use Rattle.pool_machine.proofs.Brought.{nothing_leaves}
+use Rattle.run_types.specs.Tables.{list_at, pair_cmp}
+use Rattle.run_types.specs.Paths.{AreNeighbours}
+use Rattle.pool_machine.specs.ObjectReport.{is_brought}
+use Rattle.pool_machine.proofs.ValuePackets.{nothing_leaves}
 use Rattle.pool_machine.proofs.report.is_on_way.Goals as goal
 use Rattle.pool_machine.proofs.report.is_on_way.Goals.{else-leaving-gt0-via-then-leaving-gt0+else-node_brings, else-leaving-gt0-via-else-leaving-gt0}
 

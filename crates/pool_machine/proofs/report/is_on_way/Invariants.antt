@@ -1,7 +1,7 @@
 use Rattle.std.proofs.Common.{◌≡◌, ◌<◌, ◌*◌, ℕ, false}
-use Rattle.run_words.specs.Tables.{list_at, pair_cmp}
-use Rattle.run_words.specs.Paths.{AreNeighbours}
-use Rattle.pool_machine.specs.Told.{is_brought}
+use Rattle.run_types.specs.Tables.{list_at, pair_cmp}
+use Rattle.run_types.specs.Paths.{AreNeighbours}
+use Rattle.pool_machine.specs.ObjectReport.{is_brought}
 use Rattle.pool_machine.proofs.report.is_on_way.Given as goal
 
 abbrev pub invariant-loop-from : goal.invariant-loop-from

@@ -1,7 +1,7 @@
 use Rattle.std.proofs.Common.{◌≡◌, sym, ap, ◌∙◌, false, arith}
 use Rattle.std.specs.Prelude.{Some, None, slice_get}
 use Rattle.std.specs.Option.{option_copied}
-use Rattle.run_words.specs.Tables.{list_at, pair_cmp}
+use Rattle.run_types.specs.Tables.{list_at, pair_cmp}
 use Rattle.node_semantics.specs.Standings.{brings}
 use Rattle.rendezvous_protocol.specs.declared.packet.Packet.{Packet}
 use Rattle.rendezvous_protocol.specs.Packets.{numbered}

@@ -1,6 +1,6 @@
 use Rattle.std.proofs.Common.{◌≡◌, ◌<◌, ℕ, false}
 use Rattle.std.specs.Prelude.{Some, slice_get}
-use Rattle.run_words.specs.Tables.{list_at, pair_cmp}
+use Rattle.run_types.specs.Tables.{list_at, pair_cmp}
 use Rattle.node_semantics.specs.Standings.{brings}
 use Rattle.rendezvous_protocol.specs.declared.packet.Packet.{Packet}
 use Rattle.rendezvous_protocol.specs.Packets.{numbered}

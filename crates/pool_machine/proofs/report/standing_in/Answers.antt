@@ -1,8 +1,8 @@
 use Rattle.std.proofs.Common.{sym, ◌∙◌}
 use Rattle.std.proofs.lemmas.Option.{slice_get_within}
 use Rattle.pool_node.specs.Acts.{told_standing}
-use Rattle.run_words.specs.ObjectNames.{node_of, slot_of}
-use Rattle.pool_machine.proofs.ToldOfObjects.{Found, due_told, found_at, none_on_mesh, on_way, slot_found, slot_told}
+use Rattle.run_types.specs.ObjectNames.{node_of, slot_of}
+use Rattle.pool_machine.proofs.ReportedStandings.{Found, due_told, found_at, none_on_mesh, on_way, slot_found, slot_told}
 use Rattle.pool_machine.proofs.report.standing_in.Goals as goal
 
 pub returns-then-is_on_way : goal.returns-then-is_on_way

@@ -1,6 +1,6 @@
 use Rattle.std.proofs.Common.{◌<◌, ◌*◌, subst}
 use Rattle.std.specs.Prelude.{IfSome}
-use Rattle.run_words.specs.Paths.{AreNeighbours, IsLink}
+use Rattle.run_types.specs.Paths.{AreNeighbours, IsLink}
 use Rattle.pool_machine.proofs.turns.post.Goals as goal
 
 pub put-requires : goal.put-requires

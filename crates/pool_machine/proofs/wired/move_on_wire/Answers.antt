@@ -1,6 +1,6 @@
 use Rattle.std.proofs.Common.{◌∙◌, sym, subst, Some}
 use Rattle.mesh_semantics.specs.KeptWire.{kept_coming, kept_take}
-use Rattle.coded_objects.specs.Coded.{coded}
+use Rattle.mesh_of_code.specs.Coded.{coded}
 use Rattle.node_semantics.specs.Machine.{kept_at, kept_move}
 use Rattle.pool_machine.specs.DidOf.{did_of}
 use Rattle.pool_machine.specs.MachineOf.{numbered_wires}

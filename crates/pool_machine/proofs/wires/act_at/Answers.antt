@@ -3,11 +3,11 @@ use Rattle.std.specs.Option.{option_copied_mut}
 use Rattle.std.specs.Map.{lookup}
 use Rattle.std.specs.BTreeMap.{is_at}
 use Rattle.mesh_semantics.specs.KeptWire.{KeptWire, kept_act}
-use Rattle.run_words.specs.Tables.{Pair, list_at, pair_cmp}
+use Rattle.run_types.specs.Tables.{Pair, list_at, pair_cmp}
 use Rattle.rendezvous_protocol.specs.declared.packet.Packet.{Packet}
 use Rattle.pool_machine.specs.MachineOf.{LinkWires}
-use Rattle.pool_machine.specs.OnWires.{IsToldAt}
-use Rattle.pool_machine.proofs.KeptMaps.{told_at, wire_found}
+use Rattle.pool_machine.specs.OnWires.{LinkWireReports}
+use Rattle.pool_machine.proofs.WireMap.{told_at, wire_found}
 use Rattle.pool_machine.proofs.wires.act_at.Goals as goal
 
 pub returns-in-Some : goal.returns-in-Some
@@ -15,6 +15,6 @@ returns-in-Some c =
     let es : LinkWires = c.args.wires.now.entries in
     let k : Pair = (c.args.from, c.args.to) in
     let h : lookup (is_at (pair_cmp k)) es ≡ Some c.in-Some.wire.now = sym c.get_mut.ensures.value ∙ ap option_copied_mut c.in-Some.is in
-    subst (λ (v : KeptWire Packet). IsToldAt es k (kept_act c.args.act (list_at pair_cmp k c.args.links.now.links) v) c.act_on.result (c.get_mut.follows.lender c.act_on.new.wire).entries)
+    subst (λ (v : KeptWire Packet). LinkWireReports es k (kept_act c.args.act (list_at pair_cmp k c.args.links.now.links) v) c.act_on.result (c.get_mut.follows.lender c.act_on.new.wire).entries)
     (sym (wire_found es k c.in-Some.wire.now h))
     (told_at es k c.in-Some.wire.now h c.get_mut.ensures.ordered c.act_on.new.wire (c.get_mut.follows.lender c.act_on.new.wire).entries (c.get_mut.follows.holds c.act_on.new.wire).0 _ _ c.act_on.ensures)

@@ -1,9 +1,9 @@
 use Rattle.std.proofs.Common.{◌≡◌, ◌∙◌, ◌*◌, ◌+◌, sym, ap, subst, true, arith}
 use Rattle.std.specs.FinMap.{put}
-use Rattle.run_words.specs.Tables.{pair_cmp}
+use Rattle.run_types.specs.Tables.{pair_cmp}
 use Rattle.mesh_semantics.specs.KeptWire.{KeptWire}
 use Rattle.pool_machine.specs.OnWires.{AreNew}
-use Rattle.pool_machine.proofs.KeptMaps.{inserted_is}
+use Rattle.pool_machine.proofs.WireMap.{inserted_is}
 use Rattle.pool_machine.proofs.NewWires.{node_added, none_added, one_added}
 use Rattle.pool_machine.proofs.wires.add_wires.Goals as goal
 use Rattle.pool_machine.proofs.wires.add_wires.Goals.{then-is_link+in_ok-insert, else-is_link}

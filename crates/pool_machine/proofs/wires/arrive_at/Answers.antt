@@ -4,9 +4,9 @@ use Rattle.std.specs.Map.{lookup}
 use Rattle.std.specs.BTreeMap.{is_at}
 use Rattle.std.specs.FinMap.{put}
 use Rattle.mesh_semantics.specs.KeptWire.{kept_take}
-use Rattle.run_words.specs.Tables.{Pair, pair_cmp}
+use Rattle.run_types.specs.Tables.{Pair, pair_cmp}
 use Rattle.pool_machine.specs.MachineOf.{LinkWires}
-use Rattle.pool_machine.proofs.KeptMaps.{changed_is, wire_found}
+use Rattle.pool_machine.proofs.WireMap.{changed_is, wire_found}
 use Rattle.pool_machine.proofs.wires.arrive_at.Goals as goal
 
 pub returns-in-Some : goal.returns-in-Some

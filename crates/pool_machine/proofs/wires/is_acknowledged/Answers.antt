@@ -3,7 +3,7 @@ use Rattle.std.specs.Option.{option_map}
 use Rattle.node_semantics.specs.Machine.{are_acknowledged}
 use Rattle.pool_machine.specs.MachineOf.{numbered_wires}
 use Rattle.pool_machine.specs.OnWires.{wires_in}
-use Rattle.pool_machine.proofs.Acknowledged.{acknowledged_is}
+use Rattle.pool_machine.proofs.AllAcknowledged.{acknowledged_is}
 use Rattle.pool_machine.proofs.wires.is_acknowledged.Goals as goal
 
 pub returns-in-Some : goal.returns-in-Some

@@ -1,6 +1,6 @@
 use Rattle.std.proofs.Common.{◌+◌, ◌∙◌, sym, ap, ap₂}
 use Rattle.mesh_semantics.specs.KeptWire.{kept_wanted}
-use Rattle.run_words.specs.Tables.{list_at, pair_cmp}
+use Rattle.run_types.specs.Tables.{list_at, pair_cmp}
 use Rattle.wire_link.proofs.Laws.{link_wanted}
 use Rattle.pool_machine.proofs.wires.send_on.Goals as goal
 

@@ -1,9 +1,9 @@
 use Rattle.std.proofs.Common.{refl, sym, subst, ap, ◌∙◌}
-use Rattle.run_words.specs.declared.words.Label.TheVariants as L
-use Rattle.run_words.specs.declared.words.What.TheVariants as W
+use Rattle.run_types.specs.declared.types.Label.TheVariants as L
+use Rattle.run_types.specs.declared.types.What.TheVariants as W
 use Rattle.pool_node.specs.ActOf.{Act}
-use Rattle.pool_node.specs.Made.{IsTurned}
-use Rattle.pool_node.proofs.Posting.{async_made, async_full, room_kept, cells_kept, lacks_kept}
+use Rattle.pool_node.specs.NodeSteps.{IsTurned}
+use Rattle.pool_node.proofs.PostStep.{async_made, async_full, room_kept, cells_kept, lacks_kept}
 use Rattle.pool_node.proofs.acts.async_turn.Goals as goal
 
 pub returns-then-lacks : goal.returns-then-lacks

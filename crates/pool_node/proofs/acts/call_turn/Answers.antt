@@ -1,8 +1,8 @@
 use Rattle.std.proofs.Common.{refl, sym, subst, ap, ◌∙◌, get_or, ℕ, List}
-use Rattle.run_words.specs.declared.words.What.TheVariants as W
+use Rattle.run_types.specs.declared.types.What.TheVariants as W
 use Rattle.pool_node.specs.ActOf.{Act}
-use Rattle.pool_node.specs.Made.{IsTurned}
-use Rattle.pool_node.proofs.Posting.{call_made, call_full, room_kept, cells_kept, lacks_kept}
+use Rattle.pool_node.specs.NodeSteps.{IsTurned}
+use Rattle.pool_node.proofs.PostStep.{call_made, call_full, room_kept, cells_kept, lacks_kept}
 use Rattle.pool_node.proofs.acts.call_turn.Goals as goal
 
 pub returns-then-lacks : goal.returns-then-lacks

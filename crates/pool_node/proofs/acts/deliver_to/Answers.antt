@@ -1,6 +1,6 @@
 use Rattle.std.proofs.Common.{arith}
-use Rattle.node_parts.specs.Views.{arrival_of}
-use Rattle.pool_node.proofs.Turning.{delivered_there, delivered_nowhere}
+use Rattle.node_state.specs.Views.{arrival_of}
+use Rattle.pool_node.proofs.StepFromChanges.{delivered_there, delivered_nowhere}
 use Rattle.pool_node.proofs.acts.deliver_to.Goals as goal
 
 pub returns-then-slot-objects : goal.returns-then-slot-objects

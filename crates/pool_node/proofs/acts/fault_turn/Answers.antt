@@ -1,7 +1,7 @@
 use Rattle.std.proofs.Common.{ap, ◌∙◌}
-use Rattle.run_words.specs.declared.words.Label.TheVariants as L
-use Rattle.run_words.specs.declared.words.What.TheVariants as W
-use Rattle.pool_node.proofs.Turning.{fault_made}
+use Rattle.run_types.specs.declared.types.Label.TheVariants as L
+use Rattle.run_types.specs.declared.types.What.TheVariants as W
+use Rattle.pool_node.proofs.StepFromChanges.{fault_made}
 use Rattle.pool_node.proofs.acts.fault_turn.Goals as goal
 
 pub returns : goal.returns

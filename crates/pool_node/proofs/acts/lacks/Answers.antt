@@ -1,8 +1,8 @@
 use Rattle.std.proofs.Common.{arith}
 use Rattle.pool_node.proofs.acts.lacks.Goals.{else-to-parts-via-then-to-parts+else-to-objects, else-to-parts-via-else-to-parts}
-use Rattle.node_parts.specs.Views.{node_of}
-use Rattle.node_parts.proofs.Laws.{slots_length}
-use Rattle.pool_node.proofs.Posting.{lacks_not_there, lacks_if}
+use Rattle.node_state.specs.Views.{node_of}
+use Rattle.node_state.proofs.Laws.{slots_length}
+use Rattle.pool_node.proofs.PostStep.{lacks_not_there, lacks_if}
 use Rattle.pool_node.proofs.acts.lacks.Goals as goal
 
 pub returns-then-to-objects : goal.returns-then-to-objects

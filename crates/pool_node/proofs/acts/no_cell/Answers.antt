@@ -1,9 +1,9 @@
 use Rattle.std.proofs.Common.{◌≡◌, ℕ, ◌+◌, not, ap, ◌∙◌, arith}
 use Rattle.std.specs.Prelude.{nat_lt}
 use Rattle.node_semantics.specs.Node.{message_count}
-use Rattle.node_parts.specs.Views.{slots_of}
-use Rattle.pool_node.proofs.Counting.{messages_seen}
-use Rattle.pool_node.proofs.Posting.{le_not}
+use Rattle.node_state.specs.Views.{slots_of}
+use Rattle.pool_node.proofs.NodeLimits.{messages_seen}
+use Rattle.pool_node.proofs.PostStep.{le_not}
 use Rattle.pool_node.proofs.acts.no_cell.Goals as goal
 
 pub overflow_add-result : goal.overflow_add-result

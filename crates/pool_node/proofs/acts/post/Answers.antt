@@ -1,5 +1,5 @@
 use Rattle.std.proofs.Common.{None, Some, refl, arith, rules}
-use Rattle.pool_node.proofs.Posting.{posted_here}
+use Rattle.pool_node.proofs.PostStep.{posted_here}
 use Rattle.pool_node.proofs.acts.post.Goals as goal
 
 pub returns-then-to-parts : goal.returns-then-to-parts

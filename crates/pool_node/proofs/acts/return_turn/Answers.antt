@@ -1,8 +1,8 @@
 use Rattle.std.proofs.Common.{sym, ap, ◌∙◌, arith}
 use Rattle.std.proofs.lemmas.Bool.Decides.{nat_tests}
-use Rattle.run_words.specs.declared.words.Label.TheVariants as L
-use Rattle.run_words.specs.declared.words.What.TheVariants as W
-use Rattle.pool_node.proofs.Returning.{return_here, return_away, return_full}
+use Rattle.run_types.specs.declared.types.Label.TheVariants as L
+use Rattle.run_types.specs.declared.types.What.TheVariants as W
+use Rattle.pool_node.proofs.ReturnStep.{return_here, return_away, return_full}
 use Rattle.pool_node.proofs.acts.return_turn.Goals as goal
 
 pub returns-then-caller-parts : goal.returns-then-caller-parts

@@ -1,5 +1,5 @@
 use Rattle.std.proofs.Common.{sym, ◌∙◌}
-use Rattle.pool_node.proofs.Returning.{settled_moved, settled_nowhere}
+use Rattle.pool_node.proofs.ReturnStep.{settled_moved, settled_nowhere}
 use Rattle.pool_node.proofs.acts.settle_if_out.Goals as goal
 
 pub returns-then-is_out : goal.returns-then-is_out

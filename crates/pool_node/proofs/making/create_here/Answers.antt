@@ -1,9 +1,9 @@
 use Rattle.std.proofs.Common.{refl, ap, ap₂, ◌∙◌, ℕ}
-use Rattle.run_words.specs.declared.words.NameId.{NameId}
-use Rattle.run_words.specs.declared.words.Label.TheVariants as L
-use Rattle.run_words.specs.declared.words.What.TheVariants as W
+use Rattle.run_types.specs.declared.types.NameId.{NameId}
+use Rattle.run_types.specs.declared.types.Label.TheVariants as L
+use Rattle.run_types.specs.declared.types.What.TheVariants as W
 use Rattle.node_semantics.specs.Node.{name_at}
-use Rattle.pool_node.proofs.Creating.{free_kept, asks_kept, here_made, here_heap, here_frames, some_placed, class_name}
+use Rattle.pool_node.proofs.CreateStep.{free_kept, asks_kept, here_made, here_heap, here_frames, some_placed, class_name}
 use Rattle.pool_node.proofs.making.create_here.Goals as goal
 
 pub give_in-requires-clause-free : goal.give_in-requires-clause-free

@@ -1,5 +1,5 @@
 use Rattle.std.proofs.Common.{sym, refl, ◌∙◌}
-use Rattle.pool_node.proofs.Creating.{there_full, there_made, class_name}
+use Rattle.pool_node.proofs.CreateStep.{there_full, there_made, class_name}
 use Rattle.pool_node.proofs.making.create_there.Goals as goal
 
 pub returns-then-no_cell : goal.returns-then-no_cell

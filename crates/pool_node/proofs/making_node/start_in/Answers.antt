@@ -1,10 +1,10 @@
 use Rattle.std.proofs.Common.{◌≡◌, List, length, sym, ap, ◌∙◌, arith}
-use Rattle.run_words.specs.declared.frames.CodeObject.{CodeObject}
+use Rattle.run_types.specs.declared.frames.CodeObject.{CodeObject}
 use Rattle.node_heap.specs.Heaps.{frames_of}
-use Rattle.coded_objects.specs.Coded.{placed}
-use Rattle.pool_node.proofs.Creating.{class_below}
-use Rattle.node_parts.proofs.Laws.{on_ok}
-use Rattle.pool_node.proofs.Telling.{nothing_there, ok_of, root_is, root_named}
+use Rattle.mesh_of_code.specs.Coded.{placed}
+use Rattle.pool_node.proofs.CreateStep.{class_below}
+use Rattle.node_state.proofs.Laws.{on_ok}
+use Rattle.pool_node.proofs.NodeReport.{nothing_there, ok_of, root_is, root_named}
 use Rattle.pool_node.proofs.making_node.start_in.Goals as goal
 
 pub add_in-requires-clause-class : goal.add_in-requires-clause-class

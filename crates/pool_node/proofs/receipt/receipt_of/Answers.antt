@@ -1,6 +1,6 @@
 use Rattle.std.proofs.Common.{arith}
 use Rattle.pool_node.specs.ActOf.{act_of}
-use Rattle.pool_node.proofs.Acting.{made_acts}
+use Rattle.pool_node.proofs.NodeAct.{made_acts}
 use Rattle.pool_node.proofs.receipt.receipt_of.Goals as goal
 
 pub returns-clause-act : goal.returns-clause-act

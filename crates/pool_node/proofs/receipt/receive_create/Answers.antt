@@ -1,7 +1,7 @@
 use Rattle.std.proofs.Common.{refl, sym, ap, ◌∙◌, arith}
 use Rattle.node_semantics.specs.Node.{name_at}
-use Rattle.pool_node.proofs.Creating.{some_placed}
-use Rattle.pool_node.proofs.Receiving.{create_heap, create_frames, create_cells, create_made}
+use Rattle.pool_node.proofs.CreateStep.{some_placed}
+use Rattle.pool_node.proofs.PacketReceipt.{create_heap, create_frames, create_cells, create_made}
 use Rattle.pool_node.proofs.receipt.receive_create.Goals as goal
 
 pub returns-then-objects-placement : goal.returns-then-objects-placement

@@ -1,6 +1,6 @@
 use Rattle.std.proofs.Common.{refl, sym, ◌∙◌}
-use Rattle.run_words.specs.declared.words.What.TheVariants as W
-use Rattle.pool_node.proofs.Receiving.{message_full, message_room, message_made}
+use Rattle.run_types.specs.declared.types.What.TheVariants as W
+use Rattle.pool_node.proofs.PacketReceipt.{message_full, message_room, message_made}
 use Rattle.pool_node.proofs.receipt.receive_message.Goals as goal
 
 pub returns-then-no_cell : goal.returns-then-no_cell

@@ -1,4 +1,4 @@
-use Rattle.pool_node.proofs.Receiving.{value_made}
+use Rattle.pool_node.proofs.PacketReceipt.{value_made}
 use Rattle.pool_node.proofs.receipt.receive_value.Goals as goal
 
 pub returns : goal.returns

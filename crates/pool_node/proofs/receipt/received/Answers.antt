@@ -1,14 +1,14 @@
 use Rattle.std.proofs.Common.{sym, subst, ◌∙◌}
-use Rattle.coded_objects.specs.Coded.{coded}
+use Rattle.mesh_of_code.specs.Coded.{coded}
 use Rattle.node_semantics.specs.Node.{receipt}
 use Rattle.node_semantics.specs.Receives.{IsReceivable}
 use Rattle.rendezvous_protocol.specs.declared.packet.Packet.{Packet}
 use Rattle.rendezvous_protocol.specs.Packets.{numbered}
-use Rattle.node_parts.specs.Views.{node_of}
+use Rattle.node_state.specs.Views.{node_of}
 use Rattle.pool_node.specs.ActOf.{act_of}
-use Rattle.pool_node.specs.Made.{IsMade}
-use Rattle.pool_node.proofs.Creating.{class_below}
-use Rattle.pool_node.proofs.Receiving.{named_there, object_there}
+use Rattle.pool_node.specs.NodeSteps.{ReportsAct}
+use Rattle.pool_node.proofs.CreateStep.{class_below}
+use Rattle.pool_node.proofs.PacketReceipt.{named_there, object_there}
 use Rattle.pool_node.proofs.receipt.received.Goals as goal
 
 pub receive_create-requires-clause-class : goal.receive_create-requires-clause-class
@@ -22,7 +22,7 @@ receive_message-requires-in-Async-clause-there c = object_there c.args.parts.now
 
 pub returns-in-Some : goal.returns-in-Some
 returns-in-Some c =
-    subst (λ (z : Packet). IsMade c.args.unit.now c.args.placement.now c.args.leaving (act_of c.receive_create.result c.receive_create.new.room) c.args.parts.now c.receive_create.new.parts
+    subst (λ (z : Packet). ReportsAct c.args.unit.now c.args.placement.now c.args.leaving (act_of c.receive_create.result c.receive_create.new.room) c.args.parts.now c.receive_create.new.parts
     (receipt (coded c.args.unit.now) c.args.parts.now.id (node_of c.args.parts.now).state (numbered z).number (numbered z).packet)) (sym c.in-Create.is) (c.receive_create.ensures c.in-Create.node)
 
 pub returns-in-None : goal.returns-in-None

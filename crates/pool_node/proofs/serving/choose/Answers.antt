@@ -1,8 +1,8 @@
 use Rattle.std.proofs.Common.{sym, ap, ◌∙◌}
-use Rattle.run_words.specs.declared.words.Label.TheVariants as L
-use Rattle.run_words.specs.declared.words.What.TheVariants as W
-use Rattle.node_parts.proofs.Laws.{slot_real}
-use Rattle.pool_node.proofs.Taking.{pick_made, some_way}
+use Rattle.run_types.specs.declared.types.Label.TheVariants as L
+use Rattle.run_types.specs.declared.types.What.TheVariants as W
+use Rattle.node_state.proofs.Laws.{slot_real}
+use Rattle.pool_node.proofs.AnswerStep.{pick_made, some_way}
 use Rattle.pool_node.proofs.serving.choose.Goals as goal
 
 pub plain_alt-requires-clause-fits : goal.plain_alt-requires-clause-fits

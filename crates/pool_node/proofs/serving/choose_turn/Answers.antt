@@ -1,4 +1,4 @@
-use Rattle.node_parts.proofs.Laws.{slot_real}
+use Rattle.node_state.proofs.Laws.{slot_real}
 use Rattle.pool_node.proofs.serving.choose_turn.Goals as goal
 
 pub first_possible-requires-clause-fits : goal.first_possible-requires-clause-fits

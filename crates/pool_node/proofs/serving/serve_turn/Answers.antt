@@ -1,8 +1,8 @@
 use Rattle.std.proofs.Common.{ap, ◌∙◌, arith}
-use Rattle.run_words.specs.declared.words.Label.{Label}
-use Rattle.run_words.specs.declared.words.What.TheVariants as W
-use Rattle.pool_node.specs.Made.{taken_label}
-use Rattle.pool_node.proofs.Taking.{serve_full, serve_made, answers_it}
+use Rattle.run_types.specs.declared.types.Label.{Label}
+use Rattle.run_types.specs.declared.types.What.TheVariants as W
+use Rattle.pool_node.specs.NodeSteps.{taken_label}
+use Rattle.pool_node.proofs.AnswerStep.{serve_full, serve_made, answers_it}
 use Rattle.pool_node.proofs.serving.serve_turn.Goals as goal
 
 pub returns-then-frames-placement : goal.returns-then-frames-placement

@@ -1,7 +1,7 @@
 use Rattle.std.proofs.Common.{ap, ◌∙◌, List, Option, is_some}
 use Rattle.std.specs.List.{list_any}
-use Rattle.run_words.specs.declared.words.Error.{Error}
-use Rattle.pool_node.proofs.Telling.{any_is}
+use Rattle.run_types.specs.declared.types.Error.{Error}
+use Rattle.pool_node.proofs.NodeReport.{any_is}
 use Rattle.pool_node.proofs.standing.any_fault.Goals as goal
 
 pub returns : goal.returns

@@ -2,9 +2,9 @@ use Rattle.std.proofs.Common.{ap, length, List, ℕ, get_or, arith}
 use Rattle.code_semantics.specs.declared.unit.ClassCode.{ClassCode}
 use Rattle.code_semantics.specs.Kinds.{code_kind}
 use Rattle.node_heap.specs.Heaps.{object_at}
-use Rattle.node_parts.proofs.Laws.{slot_real, hand_new}
-use Rattle.pool_node.proofs.Creating.{class_found, class_below, class_name}
-use Rattle.pool_node.proofs.Telling.{creates}
+use Rattle.node_state.proofs.Laws.{slot_real, hand_new}
+use Rattle.pool_node.proofs.CreateStep.{class_found, class_below, class_name}
+use Rattle.pool_node.proofs.NodeReport.{creates}
 use Rattle.pool_node.proofs.standing.asking.Goals as goal
 
 pub at_hand-requires-clause-fits : goal.at_hand-requires-clause-fits

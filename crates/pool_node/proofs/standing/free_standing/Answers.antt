@@ -1,4 +1,4 @@
-use Rattle.node_parts.proofs.Laws.{slot_real}
+use Rattle.node_state.proofs.Laws.{slot_real}
 use Rattle.pool_node.proofs.standing.free_standing.Goals as goal
 
 pub at_hand-requires-clause-fits : goal.at_hand-requires-clause-fits

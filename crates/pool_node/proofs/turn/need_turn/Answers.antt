@@ -2,10 +2,10 @@ use Rattle.std.proofs.Common.{sym, ap, ◌∙◌}
 use Rattle.code_semantics.specs.Kinds.{code_kind}
 use Rattle.node_heap.specs.Heaps.{object_at}
 use Rattle.mailbox.specs.Mail.{box_of}
-use Rattle.object_interp.specs.declared.words.Need.{Need}
-use Rattle.object_interp.specs.declared.words.Hand.TheVariants as H
-use Rattle.node_parts.proofs.Laws.{slot_real, hand_new, hand_answer, hand_select, selecting_chooses, can_choose}
-use Rattle.pool_node.proofs.Creating.{class_found, class_below}
+use Rattle.object_interp.specs.declared.types.Need.{Need}
+use Rattle.object_interp.specs.declared.types.Hand.TheVariants as H
+use Rattle.node_state.proofs.Laws.{slot_real, hand_new, hand_answer, hand_select, selecting_chooses, can_choose}
+use Rattle.pool_node.proofs.CreateStep.{class_found, class_below}
 use Rattle.pool_node.proofs.turn.need_turn.Goals as goal
 
 pub create_turn-requires-clause-kind : goal.create_turn-requires-clause-kind

@@ -1,20 +1,20 @@
 use Rattle.std.proofs.Common.{sym, ap, subst, ◌∙◌, ◌≡◌, ◌<◌, true, length}
-use Rattle.run_words.specs.declared.words.Label.TheVariants as L
-use Rattle.run_words.specs.declared.words.What.TheVariants as W
+use Rattle.run_types.specs.declared.types.Label.TheVariants as L
+use Rattle.run_types.specs.declared.types.What.TheVariants as W
 use Rattle.code_semantics.specs.Kinds.{code_kind}
 use Rattle.node_heap.specs.Heaps.{HeapOf, object_at}
 use Rattle.mailbox.specs.Mail.{box_of}
 use Rattle.mesh_semantics.specs.Act.{can_step}
-use Rattle.coded_objects.specs.Coded.{kind_of}
+use Rattle.mesh_of_code.specs.Coded.{kind_of}
 use Rattle.node_semantics.specs.Node.{arrivals}
-use Rattle.object_interp.specs.declared.words.Need.{Need}
-use Rattle.object_interp.specs.declared.words.Hand.TheVariants as H
+use Rattle.object_interp.specs.declared.types.Need.{Need}
+use Rattle.object_interp.specs.declared.types.Hand.TheVariants as H
 use Rattle.object_interp.specs.Offers.{hand_of}
-use Rattle.node_parts.specs.Views.{arrivals_of}
-use Rattle.node_parts.proofs.Laws.{slot_real}
+use Rattle.node_state.specs.Views.{arrivals_of}
+use Rattle.node_state.proofs.Laws.{slot_real}
 use Rattle.pool_node.specs.ActOf.{act_of}
-use Rattle.pool_node.specs.Made.{IsSet, IsTurned}
-use Rattle.pool_node.proofs.Bursting.{begins_local, local_full, local_made, none_local}
+use Rattle.pool_node.specs.NodeSteps.{IsSet, IsTurned}
+use Rattle.pool_node.proofs.LocalTurn.{begins_local, local_full, local_made, none_local}
 use Rattle.pool_node.proofs.turn.slot_turn.Goals as goal
 
 pub burst-requires-clause-fits : goal.burst-requires-clause-fits

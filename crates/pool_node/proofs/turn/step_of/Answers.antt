@@ -1,6 +1,6 @@
 use Rattle.std.proofs.Common.{arith}
 use Rattle.pool_node.specs.ActOf.{act_of}
-use Rattle.pool_node.proofs.Acting.{turn_slot, begun_set, steps_now, turn_acts}
+use Rattle.pool_node.proofs.NodeAct.{turn_slot, begun_set, steps_now, turn_acts}
 use Rattle.pool_node.proofs.turn.step_of.Goals as goal
 
 pub slot_turn-told-requires-clause-set : goal.slot_turn-told-requires-clause-set

@@ -1,5 +1,5 @@
 use Rattle.std.proofs.Common.{sym, ◌∙◌}
-use Rattle.pool_node.proofs.Acting.{idle_acts}
+use Rattle.pool_node.proofs.NodeAct.{idle_acts}
 use Rattle.pool_node.proofs.turn.turn_of.Goals as goal
 
 pub returns-in-None-clause-act : goal.returns-in-None-clause-act

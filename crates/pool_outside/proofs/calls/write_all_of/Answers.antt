@@ -1,5 +1,5 @@
 use Rattle.std.proofs.Common.{arith}
-use Rattle.pool_outside.proofs.Known.{write_more}
+use Rattle.pool_outside.proofs.KnownBytes.{write_more}
 use Rattle.pool_outside.proofs.calls.write_all_of.Goals as goal
 
 pub loop-at-preserved : goal.loop-at-preserved

@@ -1,5 +1,5 @@
 use Rattle.std.proofs.Common.{arith, ℕ, List, ap, ◌∙◌}
-use Rattle.pool_outside.proofs.Shelves.{found_at}
+use Rattle.pool_outside.proofs.FilesByName.{found_at}
 use Rattle.pool_outside.proofs.memory.index_of.Goals as goal
 
 pub returns-then-eq : goal.returns-then-eq

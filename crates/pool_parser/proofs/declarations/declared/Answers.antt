@@ -1,5 +1,5 @@
 use Rattle.pool_parser.proofs.Exits.{declared_on, declared_unexpected}
-use Rattle.pool_parser.proofs.Declaring.{declared_refused, colon_missing, kind_wrong, declared_read}
+use Rattle.pool_parser.proofs.DeclarationRules.{declared_refused, colon_missing, kind_wrong, declared_read}
 use Rattle.pool_parser.proofs.declarations.declared.Goals as goal
 
 pub returns-in-Err-clause-parses : goal.returns-in-Err-clause-parses

@@ -1,6 +1,6 @@
 use Rattle.std.proofs.Common.{arith, rules}
 use Rattle.pool_parser.proofs.Exits.{declared_off}
-use Rattle.pool_parser.proofs.Declaring.{vars_read, vars_refused, vars_end}
+use Rattle.pool_parser.proofs.DeclarationRules.{vars_read, vars_refused, vars_end}
 use Rattle.pool_parser.proofs.declarations.fields.Goals as goal
 
 pub returns-in-Err-clause-parses : goal.returns-in-Err-clause-parses

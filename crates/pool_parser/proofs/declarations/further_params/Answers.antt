@@ -1,6 +1,6 @@
 use Rattle.std.proofs.Common.{arith, rules}
 use Rattle.pool_parser.proofs.Exits.{passed_on}
-use Rattle.pool_parser.proofs.Declaring.{next_read, next_refused, params_end}
+use Rattle.pool_parser.proofs.DeclarationRules.{next_read, next_refused, params_end}
 use Rattle.pool_parser.proofs.declarations.further_params.Goals as goal
 
 pub returns-in-Err-clause-parses : goal.returns-in-Err-clause-parses

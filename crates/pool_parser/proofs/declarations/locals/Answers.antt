@@ -1,6 +1,6 @@
 use Rattle.std.proofs.Common.{arith, rules}
 use Rattle.pool_parser.proofs.Exits.{declared_off}
-use Rattle.pool_parser.proofs.Declaring.{locals_read, locals_refused, locals_end}
+use Rattle.pool_parser.proofs.DeclarationRules.{locals_read, locals_refused, locals_end}
 use Rattle.pool_parser.proofs.declarations.locals.Goals as goal
 
 pub returns-in-Err-clause-parses : goal.returns-in-Err-clause-parses

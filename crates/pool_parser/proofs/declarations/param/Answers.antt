@@ -1,5 +1,5 @@
 use Rattle.pool_parser.proofs.Exits.{passed_on, unexpected}
-use Rattle.pool_parser.proofs.Declaring.{param_missing, param_colon, param_refused, param_read}
+use Rattle.pool_parser.proofs.DeclarationRules.{param_missing, param_colon, param_refused, param_read}
 use Rattle.pool_parser.proofs.declarations.param.Goals as goal
 
 pub returns-in-Err-clause-parses : goal.returns-in-Err-clause-parses

@@ -2,7 +2,7 @@ use Rattle.std.proofs.Common.{rules}
 use Rattle.pool_syntax.specs.TreeOf.{statements_of}
 use Rattle.pool_parser.specs.Reads.{read, refused}
 use Rattle.pool_parser.proofs.Exits.{relay}
-use Rattle.pool_parser.proofs.Declaring.{no_post, post_read}
+use Rattle.pool_parser.proofs.DeclarationRules.{no_post, post_read}
 use Rattle.pool_parser.proofs.declarations.post.Goals as goal
 
 pub returns-then-not-is_at-clause-parses : goal.returns-then-not-is_at-clause-parses

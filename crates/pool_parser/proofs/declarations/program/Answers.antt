@@ -1,5 +1,5 @@
 use Rattle.pool_parser.proofs.Exits.{passed_on, unexpected}
-use Rattle.pool_parser.proofs.Declaring.{program_refused, program_refused_later, program_more, program_read}
+use Rattle.pool_parser.proofs.DeclarationRules.{program_refused, program_refused_later, program_more, program_read}
 use Rattle.pool_parser.proofs.declarations.program.Goals as goal
 
 pub returns-in-Err : goal.returns-in-Err

@@ -1,7 +1,7 @@
 use Rattle.pool_parser.proofs.Exits.{passed_on, unexpected}
-use Rattle.pool_parser.proofs.Reading.{reads_inner, reads_refused}
-use Rattle.pool_parser.proofs.Parts.{word_read, word_there, word_missing}
-use Rattle.pool_parser.proofs.Declaring.{ends_locals, after_body, ends_post}
+use Rattle.pool_parser.proofs.RuleComposition.{reads_inner, reads_refused}
+use Rattle.pool_parser.proofs.SingleTokens.{word_read, word_there, word_missing}
+use Rattle.pool_parser.proofs.DeclarationRules.{ends_locals, after_body, ends_post}
 use Rattle.pool_parser.proofs.declarations.without_result.Goals as goal
 
 pub returns-in-Err-clause-parses : goal.returns-in-Err-clause-parses

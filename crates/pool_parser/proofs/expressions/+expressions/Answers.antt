@@ -2,8 +2,8 @@ use Rattle.std.proofs.Common.{arith, rules, sym}
 use Rattle.pool_parser.specs.Reads.{read, refused}
 use Rattle.pool_parser.proofs.Exits.{passed_on, unexpected}
 use Rattle.pool_parser.proofs.Invocation.{invoke_postfix}
-use Rattle.pool_parser.proofs.Seen.{seen_within}
-use Rattle.pool_parser.proofs.Parts.{sign_there, sign_missing}
+use Rattle.pool_parser.proofs.ParserTokens.{seen_within}
+use Rattle.pool_parser.proofs.SingleTokens.{sign_there, sign_missing}
 use Rattle.pool_parser.proofs.Levels.{grouped_read, grouped_refused, operator_read, operator_refused, operators_end}
 use Rattle.pool_parser.proofs.Primaries.{comparison_one, comparison_two, comparison_refused, prefix_read, plain_read, literal_read, literal_not, variable_read, call_read, inside_read, inside_refused, primary_refused, other_begins_none, postfix_read, postfix_refused, postfix_alone, send_read, send_refused, send_missing, sends_end, call_invokes, send_invokes, not_invoke}
 use Rattle.pool_parser.proofs.Arguments.{args_missing, args_empty, args_read, args_refused, args_refused_later, arg_read, arg_refused, arg_end}

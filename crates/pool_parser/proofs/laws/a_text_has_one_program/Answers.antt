@@ -3,8 +3,8 @@ use Rattle.pool_syntax.specs.declared.token.Token.{Token}
 use Rattle.pool_syntax.specs.Terms.{ProgramTree}
 use Rattle.pool_syntax.specs.Tokens.{toks}
 use Rattle.pool_grammar.specs.Programs.{HasProgram}
-use Rattle.pool_lexer.proofs.Wholes.{same_tokens}
-use Rattle.pool_parser.proofs.Unique as unique
+use Rattle.pool_lexer.proofs.Laws.{same_tokens}
+use Rattle.pool_parser.proofs.Unambiguity as unique
 use Rattle.pool_parser.proofs.laws.a_text_has_one_program.Goals as goal
 
 by : (ts us : List Token) (p q : ProgramTree) → ts ≡ us → HasProgram (toks ts) p → HasProgram (toks us) q → p ≡ q

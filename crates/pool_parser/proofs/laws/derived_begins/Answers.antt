@@ -1,4 +1,4 @@
-use Rattle.pool_parser.proofs.Reading.{begun_of}
+use Rattle.pool_parser.proofs.RuleComposition.{begun_of}
 use Rattle.pool_parser.proofs.laws.derived_begins.Goals as goal
 
 pub returns : goal.returns

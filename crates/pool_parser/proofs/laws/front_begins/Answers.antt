@@ -1,4 +1,4 @@
-use Rattle.pool_parser.proofs.Reading.{shorter}
+use Rattle.pool_parser.proofs.RuleComposition.{shorter}
 use Rattle.pool_parser.proofs.laws.front_begins.Goals as goal
 
 pub returns : goal.returns

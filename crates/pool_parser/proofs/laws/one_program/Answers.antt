@@ -1,4 +1,4 @@
-use Rattle.pool_parser.proofs.Unique as unique
+use Rattle.pool_parser.proofs.Unambiguity as unique
 use Rattle.pool_parser.proofs.laws.one_program.Goals as goal
 
 pub returns : goal.returns

@@ -1,5 +1,5 @@
 use Rattle.pool_parser.proofs.Exits.{passed_on, unexpected}
-use Rattle.pool_parser.proofs.Parts.{sign_there, sign_missing}
+use Rattle.pool_parser.proofs.SingleTokens.{sign_there, sign_missing}
 use Rattle.pool_parser.proofs.NameLists.{list_missing, list_refused, list_read}
 use Rattle.pool_parser.proofs.naming.answer_list.Goals as goal
 

@@ -1,7 +1,7 @@
 use Rattle.std.proofs.Common.{◌+◌, ◌≤◌, length, arith, rules}
 use Rattle.pool_parser.proofs.Exits.{unexpected}
 use Rattle.pool_parser.proofs.NameLists.{names_read, names_missing, more_read, more_missing, names_end}
-use Rattle.pool_parser.proofs.Seen.{seen_ended}
+use Rattle.pool_parser.proofs.ParserTokens.{seen_ended}
 use Rattle.pool_parser.proofs.naming.names.Goals as goal
 
 pub returns-in-Err-clause-parses : goal.returns-in-Err-clause-parses

@@ -2,7 +2,7 @@ use Rattle.std.proofs.Common.{◌≡◌, ◌≤◌, ◌<◌, ◌∷◌, length, 
 use Rattle.pool_syntax.specs.Tokens.{toks}
 use Rattle.pool_grammar.specs.Nesting.{depth, nesting}
 use Rattle.pool_parser.specs.Depths.{depth_at}
-use Rattle.pool_parser.proofs.Cut.{toks_length}
+use Rattle.pool_parser.proofs.TokenPrefix.{toks_length}
 use Rattle.pool_parser.proofs.Depths.{open_shallow, depth_counted, depth_bounded, before_next, shallow_next, nesting_next, shallow_below}
 use Rattle.pool_parser.proofs.nesting.first_too_deep.Goals as goal
 

@@ -1,5 +1,5 @@
-use Rattle.pool_parser.proofs.Spelling.{result_spelled}
-use Rattle.pool_parser.proofs.Exact.{unexpected_there, too_deep_there}
+use Rattle.pool_parser.proofs.SpelledTrees.{result_spelled}
+use Rattle.pool_parser.proofs.FaultPosition.{unexpected_there, too_deep_there}
 use Rattle.pool_parser.proofs.parser.parse.Goals as goal
 
 pub returns-clause-unexpected : goal.returns-clause-unexpected

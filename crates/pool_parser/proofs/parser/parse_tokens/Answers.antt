@@ -1,5 +1,5 @@
 use Rattle.std.proofs.Common.{◌≡◌, ◌+◌, ◌-◌, Ok, length, ap, arith}
-use Rattle.pool_parser.proofs.Cut.{toks_length}
+use Rattle.pool_parser.proofs.TokenPrefix.{toks_length}
 use Rattle.pool_parser.proofs.Results.{whole_answer, shallow_all, answer_ok, answer_unexpected, answer_only}
 use Rattle.pool_parser.proofs.parser.parse_tokens.Goals as goal
 

@@ -1,6 +1,6 @@
 use Rattle.std.proofs.Common.{arith}
-use Rattle.pool_parser.proofs.Seen.{seen_ended}
-use Rattle.pool_parser.proofs.Cut.{nested_front, once_front}
+use Rattle.pool_parser.proofs.ParserTokens.{seen_ended}
+use Rattle.pool_parser.proofs.TokenPrefix.{nested_front, once_front}
 use Rattle.pool_parser.proofs.parser.program_of_front.Goals as goal
 
 pub invariant_of-program-clause-ended : goal.invariant_of-program-clause-ended

@@ -1,6 +1,6 @@
 use Rattle.std.proofs.Common.{refl}
 use Rattle.std.proofs.lemmas.Option.{slice_get_read, slice_get_past}
-use Rattle.pool_parser.proofs.Seen.{seen_inside, seen_end}
+use Rattle.pool_parser.proofs.ParserTokens.{seen_inside, seen_end}
 use Rattle.pool_parser.proofs.source.peek.Goals as goal
 
 pub returns-in-Some : goal.returns-in-Some

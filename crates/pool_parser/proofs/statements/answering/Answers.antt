@@ -1,6 +1,6 @@
 use Rattle.pool_parser.specs.Reads.{read, refused}
 use Rattle.pool_parser.proofs.Exits.{passed_on}
-use Rattle.pool_parser.proofs.Telling.{answer_read}
+use Rattle.pool_parser.proofs.SimpleStatements.{answer_read}
 use Rattle.pool_parser.proofs.statements.answering.Goals as goal
 
 pub returns-in-Err-clause-parses : goal.returns-in-Err-clause-parses

@@ -1,7 +1,7 @@
 use Rattle.std.proofs.Common.{rules}
 use Rattle.pool_parser.specs.Reads.{read, refused}
 use Rattle.pool_parser.proofs.Exits.{passed_on, unexpected}
-use Rattle.pool_parser.proofs.Telling.{sending_refused, sending_alone, sending_none, sending_missing, sending_read}
+use Rattle.pool_parser.proofs.SimpleStatements.{sending_refused, sending_alone, sending_none, sending_missing, sending_read}
 use Rattle.pool_parser.proofs.statements.sending.Goals as goal
 
 pub returns-in-Err-clause-parses : goal.returns-in-Err-clause-parses

@@ -1,7 +1,7 @@
 use Rattle.std.proofs.Common.{arith, rules}
 use Rattle.pool_parser.specs.Reads.{read, refused}
 use Rattle.pool_parser.proofs.Exits.{passed_on}
-use Rattle.pool_parser.proofs.Telling.{text_read, write_read}
+use Rattle.pool_parser.proofs.SimpleStatements.{text_read, write_read}
 use Rattle.pool_parser.proofs.statements.writing.Goals as goal
 
 pub returns-in-Str-clause-parses : goal.returns-in-Str-clause-parses

@@ -1,14 +1,14 @@
 use Rattle.std.proofs.Common.{ap, ◌∙◌, List, map}
 use Rattle.pool_syntax.specs.declared.token.Tok.{Tok}
-use Rattle.run_words.specs.declared.keywords.Keyword.TheVariants as word
+use Rattle.text_scan.specs.declared.keywords.Keyword.TheVariants as word
 use Rattle.pool_syntax.specs.declared.tree.Method.{Method}
 use Rattle.pool_syntax.specs.declared.tree.Stmt.{Stmt}
 use Rattle.pool_syntax.specs.declared.tree.Var.{Var}
 use Rattle.pool_syntax.specs.TreeOf.{class_tree, method_tree, statements_of}
 use Rattle.pool_printer.specs.Canonical.{declarations_tokens, methods_tokens, statements_tokens}
 use Rattle.pool_printer.specs.Known.{are_known}
-use Rattle.pool_printer.proofs.Declared.{known_class}
-use Rattle.pool_printer.proofs.Putting.{prints_append, prints_more, prints_same}
+use Rattle.pool_printer.proofs.DeclarationParts.{known_class}
+use Rattle.pool_printer.proofs.SequentialOutput.{prints_append, prints_more, prints_same}
 use Rattle.pool_printer.proofs.declarations.class.Goals as goal
 
 abbrev vars_of : List Var → List Tok

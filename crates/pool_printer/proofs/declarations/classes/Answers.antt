@@ -3,8 +3,8 @@ use Rattle.std.proofs.lemmas.List.{at_drop_all}
 use Rattle.pool_syntax.specs.TreeOf.{class_tree}
 use Rattle.pool_printer.specs.Canonical.{class_tokens, program_tokens}
 use Rattle.pool_printer.specs.Known.{are_known}
-use Rattle.pool_printer.proofs.Declared.{classes_more}
-use Rattle.pool_printer.proofs.Places.{known_left, rests_end, rests_step}
+use Rattle.pool_printer.proofs.DeclarationParts.{classes_more}
+use Rattle.pool_printer.proofs.SeparatedParts.{known_left, rests_end, rests_step}
 use Rattle.pool_printer.proofs.declarations.classes.Goals as goal
 
 pub class-requires : goal.class-requires

@@ -1,8 +1,8 @@
 use Rattle.std.proofs.Common.{drop, map}
 use Rattle.pool_syntax.specs.TreeOf.{class_tree}
 use Rattle.pool_printer.specs.Canonical.{program_tokens}
-use Rattle.pool_printer.specs.Saying.{state}
-use Rattle.pool_printer.proofs.Places.{Rests}
+use Rattle.pool_printer.specs.SinkState.{state}
+use Rattle.pool_printer.proofs.SeparatedParts.{Rests}
 use Rattle.pool_printer.proofs.declarations.classes.Given as goal
 
 abbrev pub invariant-loop-next : goal.invariant-loop-next

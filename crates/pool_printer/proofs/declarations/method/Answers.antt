@@ -1,15 +1,15 @@
 use Rattle.std.proofs.Common.{ap, ◌∙◌, List, map}
 use Rattle.pool_syntax.specs.declared.token.Tok.{Tok}
 use Rattle.pool_syntax.specs.declared.token.Tok.TheVariants.{Sign}
-use Rattle.run_words.specs.declared.keywords.Keyword.TheVariants as word
+use Rattle.text_scan.specs.declared.keywords.Keyword.TheVariants as word
 use Rattle.pool_syntax.specs.declared.token.Sign.TheVariants as sign
 use Rattle.pool_syntax.specs.declared.tree.Stmt.{Stmt}
 use Rattle.pool_syntax.specs.declared.tree.Var.{Var}
 use Rattle.pool_syntax.specs.TreeOf.{method_tree, statements_of}
 use Rattle.pool_printer.specs.Canonical.{declarations_tokens, separated_by, statements_tokens, variable_tokens, post_tokens}
 use Rattle.pool_printer.specs.Known.{are_known}
-use Rattle.pool_printer.proofs.Declared.{known_method}
-use Rattle.pool_printer.proofs.Putting.{prints_append, prints_more, prints_same}
+use Rattle.pool_printer.proofs.DeclarationParts.{known_method}
+use Rattle.pool_printer.proofs.SequentialOutput.{prints_append, prints_more, prints_same}
 use Rattle.pool_printer.proofs.declarations.method.Goals as goal
 
 abbrev params_of : List Var → List Tok

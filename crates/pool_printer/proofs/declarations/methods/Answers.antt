@@ -3,8 +3,8 @@ use Rattle.std.proofs.lemmas.List.{at_drop_all}
 use Rattle.pool_syntax.specs.TreeOf.{method_tree}
 use Rattle.pool_printer.specs.Canonical.{method_tokens, methods_tokens}
 use Rattle.pool_printer.specs.Known.{are_known}
-use Rattle.pool_printer.proofs.Declared.{methods_more}
-use Rattle.pool_printer.proofs.Places.{known_left, rests_end, rests_step}
+use Rattle.pool_printer.proofs.DeclarationParts.{methods_more}
+use Rattle.pool_printer.proofs.SeparatedParts.{known_left, rests_end, rests_step}
 use Rattle.pool_printer.proofs.declarations.methods.Goals as goal
 
 pub method-requires : goal.method-requires

@@ -2,7 +2,7 @@ use Rattle.std.proofs.Common.{sym, ap, ◌∙◌, [], ◌∷◌}
 use Rattle.pool_syntax.specs.declared.token.Tok.TheVariants.{Sign}
 use Rattle.pool_syntax.specs.declared.token.Sign.TheVariants as sign
 use Rattle.pool_printer.specs.Canonical.{outcome_tokens}
-use Rattle.pool_printer.proofs.Putting.{prints_more, prints_same}
+use Rattle.pool_printer.proofs.SequentialOutput.{prints_more, prints_same}
 use Rattle.pool_printer.proofs.declarations.outcome.Goals as goal
 
 pub returns-in-Some : goal.returns-in-Some

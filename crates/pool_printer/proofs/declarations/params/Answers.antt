@@ -1,12 +1,13 @@
 use Rattle.std.proofs.Common.{refl, ◌+◌, drop, get_or, map, arith}
 use Rattle.pool_syntax.specs.declared.token.Tok.TheVariants.{Sign}
 use Rattle.pool_syntax.specs.declared.token.Sign.TheVariants as sign
-use Rattle.run_words.specs.declared.words.Kind.TheVariants as kind
+use Rattle.run_types.specs.declared.types.Kind.TheVariants as kind
 use Rattle.pool_syntax.specs.declared.tree.Var.{Var}
 use Rattle.pool_printer.specs.Canonical.{variable_tokens}
-use Rattle.pool_printer.specs.Saying.{from_place, separator_at}
-use Rattle.pool_printer.proofs.Needs.{known_part}
-use Rattle.pool_printer.proofs.Places.{no_more, parts_at, rests_end, rests_step}
+use Rattle.pool_printer.specs.SinkState.{separator_at}
+use Rattle.pool_printer.proofs.PartsFrom.{from_place}
+use Rattle.pool_printer.proofs.ExpressionInPlace.{known_part}
+use Rattle.pool_printer.proofs.SeparatedParts.{no_more, parts_at, rests_end, rests_step}
 use Rattle.pool_printer.proofs.declarations.params.Goals as goal
 
 pub variable-requires : goal.variable-requires

@@ -2,8 +2,9 @@ use Rattle.std.proofs.Common.{drop, map}
 use Rattle.pool_syntax.specs.declared.token.Tok.TheVariants.{Sign}
 use Rattle.pool_syntax.specs.declared.token.Sign.TheVariants as sign
 use Rattle.pool_printer.specs.Canonical.{separated_by, variable_tokens}
-use Rattle.pool_printer.specs.Saying.{state, from_place}
-use Rattle.pool_printer.proofs.Places.{Rests}
+use Rattle.pool_printer.specs.SinkState.{state}
+use Rattle.pool_printer.proofs.PartsFrom.{from_place}
+use Rattle.pool_printer.proofs.SeparatedParts.{Rests}
 use Rattle.pool_printer.proofs.declarations.params.Given as goal
 
 abbrev pub invariant-loop-i : goal.invariant-loop-i

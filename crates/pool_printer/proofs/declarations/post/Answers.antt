@@ -1,6 +1,6 @@
 use Rattle.std.proofs.Common.{sym}
-use Rattle.pool_printer.proofs.Declared.{post_there}
-use Rattle.pool_printer.proofs.Putting.{prints_more, prints_same}
+use Rattle.pool_printer.proofs.DeclarationParts.{post_there}
+use Rattle.pool_printer.proofs.SequentialOutput.{prints_more, prints_same}
 use Rattle.pool_printer.proofs.declarations.post.Goals as goal
 
 pub returns-then-not-is_empty : goal.returns-then-not-is_empty

@@ -1,7 +1,7 @@
 use Rattle.std.proofs.Common.{sym, ap}
 use Rattle.pool_syntax.specs.TreeOf.{expression_of}
 use Rattle.pool_printer.specs.Canonical.{result_tokens}
-use Rattle.pool_printer.proofs.Putting.{prints_more, prints_same}
+use Rattle.pool_printer.proofs.SequentialOutput.{prints_more, prints_same}
 use Rattle.pool_printer.proofs.declarations.value.Goals as goal
 
 pub returns-in-Some : goal.returns-in-Some

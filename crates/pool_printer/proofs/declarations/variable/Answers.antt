@@ -1,7 +1,7 @@
 use Rattle.std.proofs.Common.{ap, [], ◌∷◌}
 use Rattle.pool_syntax.specs.declared.token.Tok.TheVariants.{Name, Sign}
 use Rattle.pool_syntax.specs.declared.token.Sign.TheVariants as sign
-use Rattle.pool_printer.proofs.Putting.{prints_same}
+use Rattle.pool_printer.proofs.SequentialOutput.{prints_same}
 use Rattle.pool_printer.proofs.declarations.variable.Goals as goal
 
 pub returns : goal.returns

@@ -1,12 +1,12 @@
 use Rattle.std.proofs.Common.{sym, ap, ◌∙◌, ◌+◌, drop, get_or, arith}
 use Rattle.std.proofs.lemmas.List.{at_drop_all}
-use Rattle.run_words.specs.declared.words.Kind.TheVariants as kind
+use Rattle.run_types.specs.declared.types.Kind.TheVariants as kind
 use Rattle.pool_syntax.specs.declared.tree.Var.{Var}
 use Rattle.pool_printer.specs.Canonical.{declarations_tokens, variable_tokens}
 use Rattle.pool_printer.specs.Known.{are_known}
-use Rattle.pool_printer.proofs.Declared.{variables_more}
-use Rattle.pool_printer.proofs.Places.{known_left, rests_end, rests_step}
-use Rattle.pool_printer.proofs.Putting.{prints_more}
+use Rattle.pool_printer.proofs.DeclarationParts.{variables_more}
+use Rattle.pool_printer.proofs.SeparatedParts.{known_left, rests_end, rests_step}
+use Rattle.pool_printer.proofs.SequentialOutput.{prints_more}
 use Rattle.pool_printer.proofs.declarations.variables.Goals as goal
 
 pub variable-requires : goal.variable-requires

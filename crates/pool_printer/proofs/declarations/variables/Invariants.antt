@@ -1,7 +1,7 @@
 use Rattle.std.proofs.Common.{drop}
 use Rattle.pool_printer.specs.Canonical.{declarations_tokens}
-use Rattle.pool_printer.specs.Saying.{state}
-use Rattle.pool_printer.proofs.Places.{Rests}
+use Rattle.pool_printer.specs.SinkState.{state}
+use Rattle.pool_printer.proofs.SeparatedParts.{Rests}
 use Rattle.pool_printer.proofs.declarations.variables.Given as goal
 
 abbrev pub invariant-loop-var : goal.invariant-loop-var

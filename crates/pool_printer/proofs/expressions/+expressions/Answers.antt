@@ -9,13 +9,14 @@ use Rattle.pool_syntax.specs.Terms.{Call, Send}
 use Rattle.pool_syntax.specs.TreeOf.{expression_of, expressions_of}
 use Rattle.pool_printer.specs.Canonical.{argument_tokens, bare_tokens, call_tokens, expression_tokens, level, separated_by}
 use Rattle.pool_printer.specs.Known.{are_known}
-use Rattle.pool_printer.specs.Saying.{from_place, separator_at}
-use Rattle.pool_printer.proofs.Places.{known_left, rests_step, rests_end, no_more}
-use Rattle.run_words.proofs.Laws.{second}
-use Rattle.pool_printer.proofs.Putting.{prints_append, prints_more, prints_same}
+use Rattle.pool_printer.specs.SinkState.{separator_at}
+use Rattle.pool_printer.proofs.PartsFrom.{from_place}
+use Rattle.pool_printer.proofs.SeparatedParts.{known_left, rests_step, rests_end, no_more}
+use Rattle.run_types.proofs.Laws.{second}
+use Rattle.pool_printer.proofs.SequentialOutput.{prints_append, prints_more, prints_same}
 use Rattle.pool_printer.proofs.Sizes.{size, size_all, argument_size}
 use Rattle.pool_syntax.proofs.Laws.{call_tree, send_tree}
-use Rattle.pool_printer.proofs.Needs.{arguments_more, in_place_high, in_place_low, known_in_place, known_infix, known_part, known_send}
+use Rattle.pool_printer.proofs.ExpressionInPlace.{arguments_more, in_place_high, in_place_low, known_in_place, known_infix, known_part, known_send}
 use Rattle.pool_printer.proofs.expressions.+expressions.Goals as goal
 
 abbrev size_of : Expr → ℕ

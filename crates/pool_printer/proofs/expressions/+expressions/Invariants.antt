@@ -3,8 +3,9 @@ use Rattle.pool_syntax.specs.declared.token.Tok.TheVariants.{Sign}
 use Rattle.pool_syntax.specs.declared.token.Sign.TheVariants as sign
 use Rattle.pool_syntax.specs.TreeOf.{expression_of, expressions_of}
 use Rattle.pool_printer.specs.Canonical.{argument_tokens, separated_by}
-use Rattle.pool_printer.specs.Saying.{state, from_place}
-use Rattle.pool_printer.proofs.Places.{Rests}
+use Rattle.pool_printer.specs.SinkState.{state}
+use Rattle.pool_printer.proofs.PartsFrom.{from_place}
+use Rattle.pool_printer.proofs.SeparatedParts.{Rests}
 use Rattle.pool_printer.proofs.Sizes.{size, size_all}
 use Rattle.pool_printer.proofs.expressions.+expressions.Given as goal
 

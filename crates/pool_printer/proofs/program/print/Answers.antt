@@ -2,7 +2,7 @@ use Rattle.std.proofs.Common.{refl, ap, ◌∙◌, map}
 use Rattle.pool_syntax.specs.TreeOf.{class_tree, program_of}
 use Rattle.pool_printer.specs.Canonical.{canonical, program_tokens}
 use Rattle.pool_printer.specs.Known.{are_known}
-use Rattle.pool_printer.proofs.Putting.{put_front, puts_append, puts_same}
+use Rattle.pool_printer.proofs.SequentialOutput.{put_front, puts_append, puts_same}
 use Rattle.pool_printer.proofs.SpelledKnown.{spelled_known}
 use Rattle.pool_printer.proofs.program.print.Goals as goal
 

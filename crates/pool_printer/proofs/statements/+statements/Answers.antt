@@ -3,7 +3,7 @@ use Rattle.std.proofs.lemmas.Grind.{common_steps}
 use Rattle.std.proofs.lemmas.List.{at_drop_all}
 use Rattle.pool_syntax.specs.declared.token.Tok.{Tok}
 use Rattle.pool_syntax.specs.declared.token.Tok.TheVariants.{Sign, Word}
-use Rattle.run_words.specs.declared.keywords.Keyword.TheVariants as word
+use Rattle.text_scan.specs.declared.keywords.Keyword.TheVariants as word
 use Rattle.pool_syntax.specs.declared.token.Sign.TheVariants as sign
 use Rattle.pool_syntax.specs.declared.tree.Stmt.{Stmt}
 use Rattle.pool_syntax.specs.Terms.{If, While, Select}
@@ -11,11 +11,12 @@ use Rattle.pool_syntax.specs.TreeOf.{expression_of, expressions_of, statement_of
 use Rattle.pool_printer.specs.Canonical.{alternatives_tokens, call_tokens, else_tokens, names_tokens, statement_parts, statement_tokens, statements_tokens}
 use Rattle.pool_printer.specs.Known.{are_known}
 use Rattle.pool_printer.specs.Parts.{alternative_tokens}
-use Rattle.pool_printer.specs.Saying.{from_place, separator_at}
-use Rattle.pool_printer.proofs.Bodies.{alternatives_more, else_there, known_alternative, known_async, known_if, known_select, known_while, statements_more}
-use Rattle.pool_printer.proofs.Needs.{known_part}
-use Rattle.pool_printer.proofs.Places.{known_left, no_more, rests_step, rests_end}
-use Rattle.pool_printer.proofs.Putting.{prints_append, prints_more, prints_same}
+use Rattle.pool_printer.specs.SinkState.{separator_at}
+use Rattle.pool_printer.proofs.PartsFrom.{from_place}
+use Rattle.pool_printer.proofs.StatementParts.{alternatives_more, else_there, known_alternative, known_async, known_if, known_select, known_while, statements_more}
+use Rattle.pool_printer.proofs.ExpressionInPlace.{known_part}
+use Rattle.pool_printer.proofs.SeparatedParts.{known_left, no_more, rests_step, rests_end}
+use Rattle.pool_printer.proofs.SequentialOutput.{prints_append, prints_more, prints_same}
 use Rattle.pool_printer.proofs.Sizes.{alternative_length, length_of, length_of_all, length_of_alternatives, statement_length}
 use Rattle.pool_syntax.proofs.Laws.{if_tree, while_tree, select_tree}
 use Rattle.pool_printer.proofs.statements.+statements.Goals as goal

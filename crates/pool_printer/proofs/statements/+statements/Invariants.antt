@@ -4,8 +4,9 @@ use Rattle.pool_syntax.specs.declared.token.Sign.TheVariants as sign
 use Rattle.pool_syntax.specs.declared.tree.Alt.{out-Alt}
 use Rattle.pool_syntax.specs.TreeOf.{statement_of, statements_of, alternatives_of}
 use Rattle.pool_printer.specs.Canonical.{alternatives_tokens, statement_parts, statements_tokens}
-use Rattle.pool_printer.specs.Saying.{state, from_place}
-use Rattle.pool_printer.proofs.Places.{Rests}
+use Rattle.pool_printer.specs.SinkState.{state}
+use Rattle.pool_printer.proofs.PartsFrom.{from_place}
+use Rattle.pool_printer.proofs.SeparatedParts.{Rests}
 use Rattle.pool_printer.proofs.Sizes.{length_of, length_of_all, length_of_alternatives}
 use Rattle.pool_printer.proofs.statements.+statements.Given as goal
 

@@ -1,8 +1,8 @@
 use Rattle.std.proofs.Common.{ap, sym, ◌∙◌, ◌∷◌}
 use Rattle.pool_syntax.specs.declared.token.Tok.TheVariants.{Word}
-use Rattle.run_words.specs.declared.keywords.Keyword.TheVariants as word
+use Rattle.text_scan.specs.declared.keywords.Keyword.TheVariants as word
 use Rattle.pool_printer.specs.Canonical.{answer_tokens, names_tokens}
-use Rattle.pool_printer.proofs.Putting.{prints_same}
+use Rattle.pool_printer.proofs.SequentialOutput.{prints_same}
 use Rattle.pool_printer.proofs.statements.answer.Goals as goal
 
 pub returns-in-Some : goal.returns-in-Some

@@ -1,4 +1,4 @@
-use Rattle.pool_printer.proofs.Putting.{prints_more}
+use Rattle.pool_printer.proofs.SequentialOutput.{prints_more}
 use Rattle.pool_printer.proofs.statements.answer_to.Goals as goal
 
 pub returns : goal.returns

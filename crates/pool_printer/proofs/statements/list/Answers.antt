@@ -3,8 +3,8 @@ use Rattle.pool_syntax.specs.declared.token.Tok.TheVariants.{Name, Sign}
 use Rattle.pool_syntax.specs.declared.token.Sign.TheVariants as sign
 use Rattle.pool_syntax.specs.declared.tree.Named.{Named}
 use Rattle.pool_printer.specs.Canonical.{separated_by}
-use Rattle.pool_printer.proofs.Places.{known_left, no_more, parts_at, rests_begin, rests_end, rests_step}
-use Rattle.pool_printer.proofs.Putting.{prints_append, prints_more}
+use Rattle.pool_printer.proofs.SeparatedParts.{known_left, no_more, parts_at, rests_begin, rests_end, rests_step}
+use Rattle.pool_printer.proofs.SequentialOutput.{prints_append, prints_more}
 use Rattle.pool_printer.proofs.statements.list.Goals as goal
 
 pub loop-i-init : goal.loop-i-init

@@ -1,4 +1,4 @@
-use Rattle.pool_relation.proofs.Quiet.{no_transition}
+use Rattle.pool_relation.proofs.UnreadyHasNoStep.{no_transition}
 use Rattle.pool_relation.proofs.theorems.not_ready_has_no_transition.Goals as goal
 
 pub returns : goal.returns

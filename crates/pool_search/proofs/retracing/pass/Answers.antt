@@ -4,7 +4,7 @@ use Rattle.pool_syntax.specs.Terms.{ProgramTree}
 use Rattle.pool_relation.specs.Configuration.{Configuration}
 use Rattle.pool_relation.specs.Transition.{run}
 use Rattle.pool_semantics.specs.PlainOf.{configuration_of, program_tree}
-use Rattle.pool_search.proofs.Settled.{run_more}
+use Rattle.pool_search.proofs.RunExtension.{run_more}
 use Rattle.pool_search.proofs.retracing.pass.Goals as goal
 
 pub returns-clause-leads : goal.returns-clause-leads

@@ -4,7 +4,7 @@ use Rattle.pool_syntax.specs.TreeOf.{program_of}
 use Rattle.search_laws.proofs.Laws.{nameless}
 use Rattle.pool_search.specs.Entries.{entries}
 use Rattle.pool_search.specs.Progress.{IsSearchedTo}
-use Rattle.pool_search.proofs.Searched.{searched_all, never_wanted}
+use Rattle.pool_search.proofs.SearchComplete.{searched_all, never_wanted}
 use Rattle.pool_search.proofs.searching.answer.Goals as goal
 
 pub returns-in-Whole : goal.returns-in-Whole

@@ -3,7 +3,7 @@ use Rattle.std.specs.Prelude.{IfSome}
 use Rattle.pool_syntax.specs.Terms.{ProgramTree}
 use Rattle.pool_relation.specs.Transition.{transition, run}
 use Rattle.pool_semantics.specs.PlainOf.{configuration_of, program_tree}
-use Rattle.pool_search.proofs.Settled.{run_more}
+use Rattle.pool_search.proofs.RunExtension.{run_more}
 use Rattle.pool_search.proofs.settling.settle_shown.Goals as goal
 
 pub loop-made-preserved : goal.loop-made-preserved

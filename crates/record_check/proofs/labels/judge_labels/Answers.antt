@@ -5,7 +5,7 @@ use Rattle.pool_syntax.specs.TreeOf.{program_of}
 use Rattle.pool_relation.specs.Transition.{start}
 use Rattle.pool_semantics.specs.PlainOf.{configuration_of, program_tree}
 use Rattle.record_check.specs.Verdicts.{StopsIn}
-use Rattle.record_check.proofs.Leading.{stops_of}
+use Rattle.record_check.proofs.RunExtension.{stops_of}
 use Rattle.record_check.proofs.labels.judge_labels.Goals as goal
 
 pub returns-in-Ok-Some : goal.returns-in-Ok-Some

@@ -1,6 +1,6 @@
 use Rattle.std.proofs.Common.{◌≡◌, drop}
 use Rattle.mesh_semantics.specs.Record.{labels}
-use Rattle.record_check.specs.Judged.{first_agent, root}
+use Rattle.record_check.specs.RecordJudgement.{first_agent, root}
 use Rattle.record_check.proofs.labels.root.Given as goal
 
 -- no line so far has a label

@@ -7,7 +7,7 @@ use Rattle.pool_relation.specs.Transition.{run}
 use Rattle.mesh_semantics.specs.Record.{labels_of}
 use Rattle.pool_semantics.specs.PlainOf.{configuration_of, program_tree}
 use Rattle.record_check.specs.Verdicts.{StopsLine}
-use Rattle.record_check.proofs.Leading.{line_more}
+use Rattle.record_check.proofs.RunExtension.{line_more}
 use Rattle.record_check.proofs.lead.follow.Goals as goal
 
 pub returns-in-Ok-Some-clause-stops : goal.returns-in-Ok-Some-clause-stops

@@ -1,4 +1,4 @@
-use Rattle.record_check.proofs.Written.{is_run, is_run_on_wires}
+use Rattle.record_check.proofs.RecordIsRun.{is_run, is_run_on_wires}
 use Rattle.record_check.proofs.theorems.a_written_record_is_a_run.Goals as goal
 
 pub returns-clause-records : goal.returns-clause-records

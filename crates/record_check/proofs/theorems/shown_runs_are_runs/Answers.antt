@@ -1,4 +1,4 @@
-use Rattle.record_check.proofs.Written.{told}
+use Rattle.record_check.proofs.RecordIsRun.{told}
 use Rattle.record_check.proofs.theorems.shown_runs_are_runs.Goals as goal
 
 pub returns : goal.returns

@@ -1,21 +1,19 @@
 -- Reading what was written gives the lines again, and they are a run.
 use Rattle.std.proofs.Common.{◌≡◌, ap, subst, ◌∙◌, List, true}
-use Rattle.run_words.specs.Table.{is_distinct}
-use Rattle.run_words.specs.Text.{Text}
+use Rattle.run_types.specs.Table.{is_distinct}
+use Rattle.text_scan.specs.Text.{Text}
 use Rattle.pool_syntax.specs.Terms.{ProgramTree}
-use Rattle.run_words.specs.declared.words.Line.{Line}
-use Rattle.record_lines.specs.SecondForm.{text2}
+use Rattle.run_types.specs.declared.types.Line.{Line}
+use Rattle.record_writer.specs.SecondForm.{text2}
 use Rattle.run_record.specs.Numbered.{lines_after}
 use Rattle.run_record.specs.Records.{record_of}
 use Rattle.run_record.specs.Readable.{IsRecord}
-use Rattle.record_laws.proofs.Names.{lines_back, record_placed}
-use Rattle.record_laws.proofs.SecondReading.{text2_read}
-use Rattle.run_words.specs.declared.verdicts.Verdict.{Verdict}
-use Rattle.run_words.specs.declared.verdicts.Verdict.TheVariants.{Yes}
-use Rattle.record_check.specs.Judged.{IsRunOf}
-use Rattle.record_check.specs.Verdicts.{Judged}
+use Rattle.run_record.proofs.Laws.{lines_back, record_placed, text2_read}
+use Rattle.run_types.specs.declared.verdicts.Verdict.{Verdict}
+use Rattle.run_types.specs.declared.verdicts.Verdict.TheVariants.{Yes}
+use Rattle.record_check.specs.RecordJudgement.{IsRunOf, Judged}
 use Rattle.record_check.proofs.OneVerdict.{only_yes}
-use Rattle.record_check.proofs.Written.{is_run, is_run_on_wires}
+use Rattle.record_check.proofs.RecordIsRun.{is_run, is_run_on_wires}
 use Rattle.record_check.proofs.theorems.what_was_written_is_judged_yes.Goals as goal
 
 read_back : (names : List Text) (ls : List Line) → is_distinct names ≡ true → IsRecord names ls → lines_after names (record_of (text2 names ls)).told ≡ ls

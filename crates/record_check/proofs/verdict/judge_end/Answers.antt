@@ -1,6 +1,6 @@
 use Rattle.std.proofs.Common.{◌∙◌, sym}
 use Rattle.pool_semantics.specs.PlainOf.{configuration_of, program_tree}
-use Rattle.record_check.proofs.Ending.{not_quiet, at_rest, still_moves}
+use Rattle.record_check.proofs.EndVerdict.{not_quiet, at_rest, still_moves}
 use Rattle.record_check.proofs.verdict.judge_end.Goals as goal
 
 pub returns-then-not-is_quiet : goal.returns-then-not-is_quiet

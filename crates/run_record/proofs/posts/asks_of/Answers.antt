@@ -1,6 +1,6 @@
 use Rattle.std.proofs.Common.{◌≡◌, suc, ◌+◌, ◌<◌, [], ◌∷◌, ◌++◌, length, drop, get_or, sym, ap, ◌∙◌, append_assoc, arith}
 use Rattle.std.proofs.Math.Seq.{drop-cons}
-use Rattle.run_words.specs.Asks.{asks_from}
+use Rattle.run_types.specs.Asks.{asks_from}
 use Rattle.run_record.proofs.posts.asks_of.Goals as goal
 
 pub loop-line-preserved : goal.loop-line-preserved

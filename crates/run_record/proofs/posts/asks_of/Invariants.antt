@@ -1,4 +1,4 @@
-use Rattle.run_record.proofs.Asking.{AreAsked}
+use Rattle.run_record.proofs.LineRequests.{AreAsked}
 use Rattle.run_record.proofs.posts.asks_of.Given as goal
 
 -- the numbers so far and those of the lines that are left are all

@@ -1,12 +1,12 @@
 use Rattle.std.proofs.Common.{◌≡◌, ◌+◌, ◌<◌, [], ◌∷◌, ◌++◌, length, sym, ap, subst, ◌∙◌, arith, append_assoc}
 use Rattle.std.specs.Prelude.{IfSome}
-use Rattle.line_reader.specs.Fields.{parts}
+use Rattle.record_parser.specs.Fields.{parts}
 use Rattle.run_record.specs.Numbered.{lines_after, names_after, numbered, with_name}
 use Rattle.run_record.specs.Records.{Rows, record_of, is_end, last_after, refused, rows}
-use Rattle.run_record.specs.RowBy.{row}
-use Rattle.run_record.proofs.Fitting.{lines_writable}
-use Rattle.line_reader.proofs.Laws.{parts_length}
-use Rattle.run_record.proofs.Rows.{behind_cut, ended_rows, front_more, last_part, names_append, rows_fault, rows_step, table_is, told_is}
+use Rattle.run_record.specs.ParsedLines.{row}
+use Rattle.run_record.proofs.ReadIsReadable.{lines_writable}
+use Rattle.record_parser.proofs.Laws.{parts_length}
+use Rattle.run_record.proofs.ParsedLines.{behind_cut, ended_rows, front_more, last_part, names_append, rows_fault, rows_step, table_is, told_is}
 use Rattle.run_record.proofs.read.read_record.Goals as goal
 use Rattle.run_record.proofs.read.read_record.Goals.{In-Err}
 

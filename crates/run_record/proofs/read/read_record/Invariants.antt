@@ -1,5 +1,5 @@
 use Rattle.std.proofs.Common.{length}
-use Rattle.run_record.proofs.Rows.{AreLeft}
+use Rattle.run_record.proofs.ParsedLines.{AreLeft}
 use Rattle.run_record.proofs.read.read_record.Given as goal
 
 -- what the lines so far and those that are left say is what all say

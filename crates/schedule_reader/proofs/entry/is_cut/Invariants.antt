@@ -1,5 +1,5 @@
 use Rattle.std.proofs.Common.{◌≡◌, drop}
-use Rattle.run_words.specs.Paths.{is_cut}
+use Rattle.run_types.specs.Paths.{is_cut}
 use Rattle.schedule_reader.proofs.entry.is_cut.Given as goal
 
 -- none of the cuts so far is the link

@@ -1,7 +1,7 @@
 use Rattle.std.proofs.Common.{refl, arith}
 use Rattle.std.specs.List.{range_with_len}
 use Rattle.schedule_reader.specs.Events.{moves_from, moves_to}
-use Rattle.run_words.proofs.Laws.{more}
+use Rattle.run_types.proofs.Laws.{more}
 use Rattle.schedule_reader.proofs.round.push_moves.Goals as goal
 
 pub loop-from-preserved : goal.loop-from-preserved

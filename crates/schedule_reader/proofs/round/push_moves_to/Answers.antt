@@ -2,7 +2,7 @@ use Rattle.std.proofs.Common.{◌≡◌, ◌+◌, ◌-◌, ◌∙◌, ap, length
 use Rattle.std.specs.List.{range_with_len}
 use Rattle.schedule_reader.specs.Entries.{has_link}
 use Rattle.schedule_reader.specs.Events.{moves_to}
-use Rattle.run_words.proofs.Laws.{more}
+use Rattle.run_types.proofs.Laws.{more}
 use Rattle.schedule_reader.proofs.Rounds.{move_of, move_step}
 use Rattle.schedule_reader.proofs.round.push_moves_to.Goals as goal
 use Rattle.schedule_reader.proofs.round.push_moves_to.Goals.{then-has_link+in_ok-push_link, else-has_link}

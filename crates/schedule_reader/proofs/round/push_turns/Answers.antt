@@ -1,7 +1,7 @@
 use Rattle.std.proofs.Common.{refl, ◌∷◌, [], arith}
-use Rattle.run_words.specs.declared.words.Event.TheVariants as V
+use Rattle.run_types.specs.declared.types.Event.TheVariants as V
 use Rattle.schedule_reader.specs.Events.{turns}
-use Rattle.run_words.proofs.Laws.{more}
+use Rattle.run_types.proofs.Laws.{more}
 use Rattle.schedule_reader.proofs.round.push_turns.Goals as goal
 
 pub loop-node-preserved : goal.loop-node-preserved

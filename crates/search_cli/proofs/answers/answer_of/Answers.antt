@@ -1,5 +1,5 @@
 use Rattle.std.proofs.Common.{◌∙◌, Ok, ap, refl}
-use Rattle.search_lines.specs.AnswerText.{fault_text}
+use Rattle.search_cli.specs.AnswerText.{fault_text}
 use Rattle.search_cli.specs.Answers as A
 use Rattle.search_cli.proofs.answers.answer_of.Goals as goal
 

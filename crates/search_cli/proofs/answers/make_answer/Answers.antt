@@ -2,11 +2,11 @@ use Rattle.std.proofs.Common.{◌≡◌, ◌∙◌, ap, Err, inl, inr, refl, sub
 use Rattle.pool_syntax.specs.Terms.{ProgramTree}
 use Rattle.pool_syntax.specs.TreeOf.{program_of}
 use Rattle.pool_syntax.specs.Typing.{faults}
-use Rattle.fault_lines.specs.declared.fault.Input.TheVariants as I
-use Rattle.fault_lines.specs.declared.fault.Stop.TheVariants as T
-use Rattle.program_input.specs.Readers as R
-use Rattle.program_input.specs.Readers.{IsTypedProgram, HasTypedFault}
-use Rattle.program_input.proofs.Laws.{judged, judges_refusal, passed_on, was_read}
+use Rattle.command_inputs.specs.declared.fault.Input.TheVariants as I
+use Rattle.command_inputs.specs.declared.fault.InputError.TheVariants as T
+use Rattle.command_inputs.specs.Readers as R
+use Rattle.command_inputs.specs.Programs.{IsTypedProgram, HasTypedFault}
+use Rattle.command_inputs.proofs.Laws.{judged, judges_refusal, passed_on, was_read}
 use Rattle.search_cli.specs.Answers.{Answers, IsAnswerOn}
 use Rattle.search_cli.proofs.answers.make_answer.Goals as goal
 

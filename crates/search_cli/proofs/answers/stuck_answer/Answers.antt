@@ -7,9 +7,9 @@ use Rattle.pool_relation.specs.Configuration.{Configuration}
 use Rattle.pool_semantics.specs.PlainOf.{configuration_of, program_tree}
 use Rattle.wait_report.specs.declared.rows.ObjectRow.{ObjectRow}
 use Rattle.wait_report.specs.Calls.{Rising, names_of}
-use Rattle.search_lines.specs.AnswerText.{stuck_text}
-use Rattle.search_lines.specs.Waiting.{waiting_rows}
-use Rattle.search_lines.proofs.Laws.{waiting_rise}
+use Rattle.search_cli.specs.AnswerText.{stuck_text}
+use Rattle.search_cli.specs.Waiting.{waiting_rows}
+use Rattle.search_cli.proofs.AscendingWaiters.{waiting_rise}
 use Rattle.search_cli.specs.Answers as A
 use Rattle.search_cli.proofs.RunLaws.{one_last}
 use Rattle.search_cli.proofs.answers.stuck_answer.Goals as goal

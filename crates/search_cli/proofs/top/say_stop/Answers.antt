@@ -1,5 +1,5 @@
 use Rattle.std.proofs.Common.{◌∙◌}
-use Rattle.search_cli.specs.Telling as R
+use Rattle.search_cli.specs.InputErrorLine as R
 use Rattle.search_cli.proofs.EndLaws.{writes_as}
 use Rattle.search_cli.proofs.top.say_stop.Goals as goal
 

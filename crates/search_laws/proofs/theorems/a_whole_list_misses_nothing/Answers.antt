@@ -1,4 +1,4 @@
-use Rattle.search_laws.proofs.Complete.{never_stuck, never_unfinished, never_faulty}
+use Rattle.search_laws.proofs.SearchCompleteness.{never_stuck, never_unfinished, never_faulty}
 use Rattle.search_laws.proofs.theorems.a_whole_list_misses_nothing.Goals as goal
 
 pub returns-clause-stuck : goal.returns-clause-stuck

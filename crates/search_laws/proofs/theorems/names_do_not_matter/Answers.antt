@@ -1,4 +1,4 @@
-use Rattle.search_laws.proofs.Complete.{step_leads, step_none}
+use Rattle.search_laws.proofs.SearchCompleteness.{step_leads, step_none}
 use Rattle.search_laws.proofs.theorems.names_do_not_matter.Goals as goal
 
 pub returns-clause-leads : goal.returns-clause-leads

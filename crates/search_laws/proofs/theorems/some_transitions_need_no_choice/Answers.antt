@@ -1,4 +1,4 @@
-use Rattle.search_laws.proofs.Settling.{never_stuck_after_settling, never_unfinished_after_settling}
+use Rattle.search_laws.proofs.ChoiceFreeRuns.{never_stuck_after_settling, never_unfinished_after_settling}
 use Rattle.search_laws.proofs.KeptOnTheWay.{never_faulty_after_settling}
 use Rattle.search_laws.proofs.theorems.some_transitions_need_no_choice.Goals as goal
 

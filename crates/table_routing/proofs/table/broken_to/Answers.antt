@@ -1,6 +1,6 @@
 use Rattle.std.proofs.Common.{sym, ◌∙◌}
 use Rattle.table_routing.specs.Tables.{size}
-use Rattle.table_routing.proofs.Searching.{broken_here, whole_here}
+use Rattle.table_routing.proofs.MissingRoute.{broken_here, whole_here}
 use Rattle.table_routing.proofs.table.broken_to.Goals as goal
 
 pub returns-then-is_broken : goal.returns-then-is_broken

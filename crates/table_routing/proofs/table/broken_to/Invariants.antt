@@ -1,6 +1,6 @@
 use Rattle.std.proofs.Common.{◌≡◌, ◌-◌}
 use Rattle.std.specs.List.{range_with_len}
-use Rattle.run_words.specs.Routes.{broken_to}
+use Rattle.run_types.specs.Routes.{broken_to}
 use Rattle.table_routing.specs.Tables.{size}
 use Rattle.table_routing.proofs.table.broken_to.Given as goal
 

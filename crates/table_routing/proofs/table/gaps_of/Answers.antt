@@ -1,6 +1,6 @@
 use Rattle.std.proofs.Common.{◌+◌, ◌/◌, ◌%◌, ◌∙◌, List, ap, sym, subst}
-use Rattle.run_words.specs.declared.words.LinkId.{LinkId}
-use Rattle.run_words.specs.Paths.{is_cut}
+use Rattle.run_types.specs.declared.types.LinkId.{LinkId}
+use Rattle.run_types.specs.Paths.{is_cut}
 use Rattle.table_routing.specs.Tables.{AreGaps, size}
 use Rattle.table_routing.proofs.Places.{gap_more}
 use Rattle.table_routing.proofs.table.gaps_of.Goals as goal

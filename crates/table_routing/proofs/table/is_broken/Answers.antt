@@ -1,9 +1,9 @@
 use Rattle.std.proofs.Common.{◌≡◌, ◌<◌, ◌+◌, ◌-◌, ◌*◌, true, false, sym, ap, subst, ◌∙◌, get_or, arith}
-use Rattle.run_words.specs.Paths.{is_cut, next}
-use Rattle.run_words.proofs.Laws.{follow}
+use Rattle.run_types.specs.Paths.{is_cut, next}
+use Rattle.run_types.proofs.Laws.{follow}
 use Rattle.table_routing.specs.Tables.{size}
 use Rattle.table_routing.proofs.Places.{below, gap_at, next_at}
-use Rattle.table_routing.proofs.Following.{at_cut, at_end, at_goal, at_link, next_inside, told}
+use Rattle.table_routing.proofs.PathWalk.{at_cut, at_end, at_goal, at_link, next_inside, told}
 use Rattle.table_routing.proofs.table.is_broken.Goals as goal
 
 pub returns-then-at-to : goal.returns-then-at-to

@@ -1,5 +1,5 @@
 use Rattle.std.proofs.Common.{◌≡◌, ◌<◌, ◌-◌}
-use Rattle.run_words.proofs.Laws.{follow}
+use Rattle.run_types.proofs.Laws.{follow}
 use Rattle.table_routing.specs.Tables.{size}
 use Rattle.table_routing.proofs.table.is_broken.Given as goal
 

@@ -1,5 +1,5 @@
 use Rattle.std.proofs.Common.{◌≡◌, drop}
-use Rattle.run_words.specs.Paths.{is_cut}
+use Rattle.run_types.specs.Paths.{is_cut}
 use Rattle.table_routing.proofs.table.is_cut.Given as goal
 
 -- none of the cuts so far is the link

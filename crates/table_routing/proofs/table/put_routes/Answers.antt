@@ -1,7 +1,7 @@
 use Rattle.std.proofs.Common.{◌≡◌, ◌-◌, ◌<◌, List, suc, length, sym, subst, arith}
-use Rattle.run_words.specs.declared.words.Route.{Route}
-use Rattle.run_words.specs.Routes.{AreRoutes}
-use Rattle.table_routing.proofs.Routing.{inside, put_at}
+use Rattle.run_types.specs.declared.types.Route.{Route}
+use Rattle.run_types.specs.RoutedPlacements.{AreRoutes}
+use Rattle.table_routing.proofs.RouteInsertion.{inside, put_at}
 use Rattle.table_routing.proofs.table.put_routes.Goals as goal
 
 abbrev blank : Route

@@ -1,5 +1,5 @@
 use Rattle.std.proofs.Common.{◌+◌, ◌/◌, ◌%◌, ◌∙◌, [], ap, sym, subst}
-use Rattle.run_words.specs.Paths.{toward}
+use Rattle.run_types.specs.Paths.{toward}
 use Rattle.table_routing.specs.Tables.{AreNexts, size, with_routes}
 use Rattle.table_routing.proofs.Places.{one_more}
 use Rattle.table_routing.proofs.table.ways_of.Goals as goal

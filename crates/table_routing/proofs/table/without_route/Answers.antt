@@ -1,7 +1,7 @@
 use Rattle.std.proofs.Common.{sym, ◌∙◌}
 use Rattle.std.specs.List.{range_with_len}
 use Rattle.table_routing.specs.Tables.{size}
-use Rattle.table_routing.proofs.Searching.{found_here, none_here}
+use Rattle.table_routing.proofs.MissingRoute.{found_here, none_here}
 use Rattle.table_routing.proofs.table.without_route.Goals as goal
 
 pub returns-in-Some : goal.returns-in-Some

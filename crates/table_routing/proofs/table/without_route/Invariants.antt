@@ -1,6 +1,6 @@
 use Rattle.std.proofs.Common.{◌≡◌, ◌-◌}
 use Rattle.std.specs.List.{range_with_len}
-use Rattle.run_words.specs.Routes.{broken_from, without_route}
+use Rattle.run_types.specs.Routes.{broken_from, without_route}
 use Rattle.table_routing.specs.Tables.{size}
 use Rattle.table_routing.proofs.table.without_route.Given as goal
 

@@ -1,5 +1,6 @@
 use Rattle.std.proofs.Common.{◌≡◌, drop}
-use Rattle.wait_report.specs.Cycles.{least_from, least_left}
+use Rattle.wait_report.specs.Cycles.{least_from}
+use Rattle.wait_report.proofs.LeastLeft.{least_left}
 use Rattle.wait_report.proofs.cycles.least_from.Given as goal
 
 abbrev pub invariant-loop-place : goal.invariant-loop-place

@@ -1,10 +1,10 @@
 use Rattle.std.proofs.Common.{rules, ◌≡◌, ◌≢◌, ◌<◌, ◌+◌, ◌-◌, ap, arith, sym, ◌∙◌, suc, [], ◌∷◌, ◌++◌, length, get_or, Some, None}
 use Rattle.std.proofs.lemmas.List.{append_assoc}
-use Rattle.run_words.specs.Text.{Text}
-use Rattle.run_words.proofs.Laws.{same_some}
-use Rattle.record_lines.specs.RecordText.{led, object_text}
+use Rattle.text_scan.specs.Text.{Text}
+use Rattle.run_types.proofs.Laws.{same_some}
+use Rattle.record_writer.specs.RecordText.{led, object_text}
 use Rattle.wait_report.specs.Cycles.{jump}
-use Rattle.wait_report.proofs.Told.{told_on, told_last, told_none, told_less, no_steps, in_turn, taken_back, on_ok}
+use Rattle.wait_report.proofs.CycleText.{told_on, told_last, told_none, told_less, no_steps, in_turn, taken_back, on_ok}
 use Rattle.wait_report.proofs.cycles.put_cycle.Goals as goal
 use Rattle.wait_report.proofs.cycles.put_cycle.Goals.{else-loop-step-test, then-loop-step-test+in_ok-push_object+in_default-2, then-loop-step-test+in_ok-push_object+in_default}
 

@@ -1,8 +1,8 @@
 use Rattle.std.proofs.Common.{◌≡◌, ◌<◌, ◌++◌, ◌-◌, length}
-use Rattle.run_words.specs.Text.{Text}
+use Rattle.text_scan.specs.Text.{Text}
 use Rattle.mesh_semantics.specs.Standing.{chase}
 use Rattle.wait_report.specs.Cycles.{jump, cycle_at}
-use Rattle.wait_report.proofs.Told.{ended}
+use Rattle.wait_report.proofs.CycleText.{ended}
 use Rattle.wait_report.proofs.cycles.put_cycle.Given as goal
 
 abbrev pub invariant-loop-step : goal.invariant-loop-step

@@ -1,7 +1,7 @@
 use Rattle.std.proofs.Common.{rules, ◌≡◌, arith, sym, refl, subst, get_or, set, Some, None, true, false}
 use Rattle.wait_report.specs.Cycles.{jump, least_from, IsMarked}
 use Rattle.wait_report.proofs.Chains.{in_chain}
-use Rattle.wait_report.proofs.Marks.{Walking, goes_on, ends, comes_back, mark}
+use Rattle.wait_report.proofs.WalkMarks.{Walking, goes_on, ends, comes_back, mark}
 use Rattle.wait_report.proofs.cycles.walk.Goals as goal
 use Rattle.wait_report.proofs.cycles.walk.Goals.{in-Some-least_from, in_default}
 

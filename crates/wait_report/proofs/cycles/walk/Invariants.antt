@@ -1,5 +1,5 @@
 use Rattle.std.proofs.Common.{◌≡◌, not, count_by}
-use Rattle.wait_report.proofs.Marks.{Walking}
+use Rattle.wait_report.proofs.WalkMarks.{Walking}
 use Rattle.wait_report.proofs.cycles.walk.Given as goal
 
 abbrev pub invariant-loop-seen : goal.invariant-loop-seen

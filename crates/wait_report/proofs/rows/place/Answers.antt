@@ -1,7 +1,7 @@
 use Rattle.std.proofs.Common.{◌≡◌, ◌≢◌, ◌⊎◌, inl, inr, ◌<◌, ◌≤◌, arith, sym, refl, subst, ℕ, List, length, get_or, Bool, true, false, nat_lt}
 use Rattle.std.proofs.lemmas.List.Sorted.{searched}
 use Rattle.std.specs.Prelude.{MatchResult}
-use Rattle.run_words.proofs.Laws.{decide}
+use Rattle.run_types.proofs.Laws.{decide}
 use Rattle.wait_report.specs.Calls.{Rising}
 use Rattle.wait_report.proofs.rows.place.Goals as goal
 

@@ -1,12 +1,12 @@
 use Rattle.std.proofs.Common.{rules, ◌≡◌, ◌<◌, ◌+◌, ap, arith, sym, ◌∙◌, subst, ℕ, List, ◌++◌, length, get_or, drop, false}
 use Rattle.std.proofs.lemmas.List.{append_assoc}
 use Rattle.mesh_semantics.specs.Standing.{chase}
-use Rattle.run_words.specs.declared.words.Standing.TheVariants.{Ready}
+use Rattle.run_types.specs.declared.types.Standing.TheVariants.{Ready}
 use Rattle.wait_report.specs.declared.rows.ObjectRow.{ObjectRow}
 use Rattle.wait_report.specs.Calls.{names_of, AreNext, Rising}
 use Rattle.wait_report.specs.Cycles.{jump, cycle_at}
 use Rattle.wait_report.specs.Report.{cycles_text}
-use Rattle.wait_report.proofs.Named.{told_from, told_step, unmarked}
+use Rattle.wait_report.proofs.CyclesByName.{told_from, told_step, unmarked}
 use Rattle.wait_report.proofs.writing.put_cycles.Goals as goal
 use Rattle.wait_report.proofs.writing.put_cycles.Goals.{then-starts-at+in_ok-put_cycle, else-starts-at}
 

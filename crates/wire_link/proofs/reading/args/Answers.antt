@@ -1,7 +1,7 @@
 use Rattle.std.proofs.Common.{◌≡◌, suc, ◌+◌, ◌-◌, List, [], ◌∷◌, length, sym, ap, ◌∙◌, arith, length-append}
-use Rattle.run_words.specs.declared.words.Value.{Value}
+use Rattle.run_types.specs.declared.types.Value.{Value}
 use Rattle.wire_link.specs.Bytes.{read_values}
-use Rattle.wire_link.proofs.Joining.{in_front, value_more}
+use Rattle.wire_link.proofs.ByteConcatenation.{in_front, value_more}
 use Rattle.wire_link.proofs.reading.args.Goals as goal
 
 pub loop-preserved : goal.loop-preserved

@@ -1,6 +1,6 @@
 use Rattle.std.proofs.Common.{◌≡◌, ◌-◌, length}
 use Rattle.wire_link.specs.Bytes.{read_values}
-use Rattle.wire_link.proofs.Joining.{in_front}
+use Rattle.wire_link.proofs.ByteConcatenation.{in_front}
 use Rattle.wire_link.proofs.reading.args.Given as goal
 
 -- the values so far and those that are read of what is left are all

@@ -1,7 +1,7 @@
 use Rattle.std.proofs.Common.{ap, sym}
 use Rattle.mesh_semantics.specs.Act.{first_of}
 use Rattle.wire_link.specs.Wires.{frames_in}
-use Rattle.wire_link.proofs.Fronts.{data_first, none_front}
+use Rattle.wire_link.proofs.FirstFrame.{data_first, none_front}
 use Rattle.wire_link.proofs.sides.first_data.Goals as goal
 
 pub returns-in-None : goal.returns-in-None

@@ -1,5 +1,5 @@
 use Rattle.std.proofs.Common.{arith}
-use Rattle.wire_link.proofs.SidesKept.{ack_put, ack_full, acks_length}
+use Rattle.wire_link.proofs.SideAppend.{ack_put, ack_full, acks_length}
 use Rattle.wire_link.proofs.sides.put_ack.Goals as goal
 
 pub returns-then-is_full-clause-acks : goal.returns-then-is_full-clause-acks

@@ -1,5 +1,5 @@
 use Rattle.std.proofs.Common.{arith}
-use Rattle.wire_link.proofs.SidesKept.{data_put, data_full, frames_length}
+use Rattle.wire_link.proofs.SideAppend.{data_put, data_full, frames_length}
 use Rattle.wire_link.proofs.sides.put_data.Goals as goal
 
 pub returns-then-is_full-clause-frames : goal.returns-then-is_full-clause-frames

@@ -1,6 +1,6 @@
 use Rattle.std.proofs.Common.{refl, ap}
 use Rattle.wire_link.specs.Wires.{acks_in}
-use Rattle.wire_link.proofs.Fronts.{ack_taken, none_front}
+use Rattle.wire_link.proofs.FirstFrame.{ack_taken, none_front}
 use Rattle.wire_link.proofs.sides.take_ack.Goals as goal
 
 pub returns-in-None : goal.returns-in-None

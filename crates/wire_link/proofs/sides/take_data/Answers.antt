@@ -1,6 +1,6 @@
 use Rattle.std.proofs.Common.{refl, ap}
 use Rattle.wire_link.specs.Wires.{frames_in}
-use Rattle.wire_link.proofs.Fronts.{data_taken, none_front}
+use Rattle.wire_link.proofs.FirstFrame.{data_taken, none_front}
 use Rattle.wire_link.proofs.sides.take_data.Goals as goal
 
 pub returns-in-None : goal.returns-in-None

@@ -2,7 +2,7 @@ use Rattle.std.proofs.Common.{◌≡◌, sym, subst, Some}
 use Rattle.mesh_semantics.specs.Wire.{hear, send, take}
 use Rattle.mesh_semantics.specs.KeptWire.{Carries, Follows, whole}
 use Rattle.mesh_semantics.proofs.Laws.{take_carries, hear_carries, send_carries}
-use Rattle.wire_link.proofs.Carried.{lost, doubled, delayed}
+use Rattle.wire_link.proofs.CarriedPackets.{lost, doubled, delayed}
 use Rattle.wire_link.proofs.theorems.each_call_carries_what_was_carried.Goals as goal
 
 pub returns-clause-arrive : goal.returns-clause-arrive

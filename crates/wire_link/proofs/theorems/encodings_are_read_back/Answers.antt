@@ -1,5 +1,5 @@
-use Rattle.wire_link.proofs.ReadWritten.{frame_read}
-use Rattle.wire_link.proofs.WrittenRead.{frame_written}
+use Rattle.wire_link.proofs.WriteThenRead.{frame_read}
+use Rattle.wire_link.proofs.ReadThenWrite.{frame_written}
 use Rattle.wire_link.proofs.theorems.encodings_are_read_back.Goals as goal
 
 pub returns-clause-read : goal.returns-clause-read

@@ -1,6 +1,6 @@
 use Rattle.std.proofs.Common.{◌≡◌, ◌+◌, ◌*◌, ◌≤◌, ◌++◌, length, drop}
 use Rattle.std.specs.Prelude.{take}
-use Rattle.run_words.specs.Tables.{Each}
+use Rattle.run_types.specs.Tables.{Each}
 use Rattle.wire_link.specs.Bytes.{ValueFits, values_bytes}
 use Rattle.wire_link.proofs.writing.put_args.Given as goal
 

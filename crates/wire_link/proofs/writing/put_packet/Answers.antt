@@ -1,6 +1,6 @@
 use Rattle.std.proofs.Common.{[], ◌∷◌, ◌++◌, ap, sym, ◌∙◌}
 use Rattle.wire_link.specs.Bytes.{args_bytes, number_bytes, packet_bytes}
-use Rattle.wire_link.proofs.Joining.{behind}
+use Rattle.wire_link.proofs.ByteConcatenation.{behind}
 use Rattle.wire_link.proofs.writing.put_packet.Goals as goal
 
 pub returns-in-Create-clause-items : goal.returns-in-Create-clause-items

@@ -2,7 +2,7 @@ use Rattle.std.proofs.Common.{suc, ◌<◌, [], length, get_or, add-one, arith}
 use Rattle.std.specs.Fn.{FnReturnsAt}
 use Rattle.cell_pool.specs.Pools.{lists_of}
 use Rattle.std.proofs.lemmas.Fn.{says_at}
-use Rattle.cell_pool.proofs.Firsts.{one_more}
+use Rattle.cell_pool.proofs.LinearScan.{one_more}
 use Rattle.cell_pool.proofs.Moves.{queue_at, list_length, at_first, at_cell, at_next, at_value}
 use Rattle.cell_pool.proofs.parts.Parts.position.Goals as goal
 

@@ -11,7 +11,7 @@ use denote.Struct.Lending.{of_Lends}
 use Rattle.std.specs.contracts.marker.PhantomData as mark
 use Rattle.cell_pool.specs.contracts.region.Region as r
 use Rattle.cell_pool.proofs.region.Region.TheLaw.Statement.{statement}
-use Rattle.cell_pool.proofs.Sharing.{region_lends_laws, Lends-region}
+use Rattle.cell_pool.proofs.SharedRegion.{region_lends_laws, Lends-region}
 
 pub shares : (R : RattleType) (L : Laws R) → statement R L
 shares R L =

@@ -1,5 +1,5 @@
 -- `get_mut` lends the value of one cell, and the region follows it. Assumes `Logic`.
-use Rattle.cell_pool.proofs.Steps.{◌≡◌, ℕ, ◌+◌, ◌*◌, ◌<◌, ◌^◌, List, [], ◌∷◌, length, refl, ap, MutBor, proved, Option, Some, None, get_or, slice_set, type_size, Ura, full_share, ent, sep, never, id⊢, Fml, ftrue, fsep, flft, fact, Args, a_type, named, inst_fn, Val, vptr, vstruct, vcons, vnil, ptr_val, Logic, sem, tables, ‵, raw, ◌⊛◌, some, later, at_ret, ◌$◌, ◌∵◌, !, qed, by, done, move, drop, use1, use2, split, join, group, pick, await, fsplit, fsplit3, fjoin3, feq_l, flt_l, rewrite, suffices, whole, sub, enter, of_opd, addr, stop, fld, hop, from, first, blocks, exec, returns, alloc_all, pass_all, free_all, look_at, look_in_at, get, sets, sets_last, env, no, RattleType, param, layouts, param_laws, Ptr, block_ptr, in_a_block, MutRef, mut_vals, mut_Tells, cell_at, mem, plain, opens, nothing, heard, Stays, says, stay_dropped, walk_of, ends_at, Goes-dropped, Goes-spent_ref, after, ◌⊑◌, keep, take_at, give_at, fat, frame, SProp, split3, layout}
+use Rattle.cell_pool.proofs.RegionWalks.{◌≡◌, ℕ, ◌+◌, ◌*◌, ◌<◌, ◌^◌, List, [], ◌∷◌, length, refl, ap, MutBor, proved, Option, Some, None, get_or, slice_set, type_size, Ura, full_share, ent, sep, never, id⊢, Fml, ftrue, fsep, flft, fact, Args, a_type, named, inst_fn, Val, vptr, vstruct, vcons, vnil, ptr_val, Logic, sem, tables, ‵, raw, ◌⊛◌, some, later, at_ret, ◌$◌, ◌∵◌, !, qed, by, done, move, drop, use1, use2, split, join, group, pick, await, fsplit, fsplit3, fjoin3, feq_l, flt_l, rewrite, suffices, whole, sub, enter, of_opd, addr, stop, fld, hop, from, first, blocks, exec, returns, alloc_all, pass_all, free_all, look_at, look_in_at, get, sets, sets_last, env, no, RattleType, param, layouts, param_laws, Ptr, block_ptr, in_a_block, MutRef, mut_vals, mut_Tells, cell_at, mem, plain, opens, nothing, heard, Stays, says, stay_dropped, walk_of, ends_at, Goes-dropped, Goes-spent_ref, after, ◌⊑◌, keep, take_at, give_at, fat, frame, SProp, split3, layout}
 use base.Fml.{GName}
 use denote.Follow.{follows, Part, lends_Part}
 use Rattle.cell_pool.specs.Slots.{IsCell, index_of}

@@ -1,5 +1,5 @@
 -- `place` counts a number of cells from the first on. Assumes `Logic`.
-use Rattle.cell_pool.proofs.Steps.{◌≡◌, ◌+◌, ◌*◌, ◌<◌, ◌^◌, [], ◌∷◌, length, refl, ap, sym, ◌∙◌, arith, proved, type_size, never, id⊢, ftrue, flft, fact, Args, a_type, named, w64, inst_fn, Val, vptr, vint, vstruct, vcons, vnil, ptr_val, WpFn, tables, ‵, raw, ◌⊛◌, at_ret, prop, ◌$◌, ◌∵◌, !, qed, done, move, drop, split, join, fsplit, feq_l, flt_l, regoal, suffices, whole, sub, agg, enter, of_opd, bin, size_lit, and_then, no_more, stop, fld, first, blocks, exec, returns, alloc_all, pass_all, free_all, look_at, get, get_in, sets, sets_last, env, usize, RefOf, yes, no, RattleType, param, layouts, param_laws, Ptr, block_ptr, block_of, count_of, in_a_block, ShrRef, shr_vals, shr_Tells, plain, unhide, nothing, heard, pure_i, uint_vals, uint_Tells, Stays, says, stay_dropped, walk_of, ends_at, Goes-dropped, after, ◌⊑◌}
+use Rattle.cell_pool.proofs.RegionWalks.{◌≡◌, ◌+◌, ◌*◌, ◌<◌, ◌^◌, [], ◌∷◌, length, refl, ap, sym, ◌∙◌, arith, proved, type_size, never, id⊢, ftrue, flft, fact, Args, a_type, named, w64, inst_fn, Val, vptr, vint, vstruct, vcons, vnil, ptr_val, WpFn, tables, ‵, raw, ◌⊛◌, at_ret, prop, ◌$◌, ◌∵◌, !, qed, done, move, drop, split, join, fsplit, feq_l, flt_l, regoal, suffices, whole, sub, agg, enter, of_opd, bin, size_lit, and_then, no_more, stop, fld, first, blocks, exec, returns, alloc_all, pass_all, free_all, look_at, get, get_in, sets, sets_last, env, usize, RefOf, yes, no, RattleType, param, layouts, param_laws, Ptr, block_ptr, block_of, count_of, in_a_block, ShrRef, shr_vals, shr_Tells, plain, unhide, nothing, heard, pure_i, uint_vals, uint_Tells, Stays, says, stay_dropped, walk_of, ends_at, Goes-dropped, after, ◌⊑◌}
 use Rattle.std.proofs.ptr.Rows.{times_below, one_below}
 use Rattle.cell_pool.specs.Slots.{place_at}
 use Rattle.cell_pool.specs.Ownership.{region_lends}

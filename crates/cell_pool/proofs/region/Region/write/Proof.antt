@@ -1,5 +1,5 @@
 -- `write` fills the room of one cell, whatever it holds. Assumes `Logic`.
-use Rattle.cell_pool.proofs.Steps.{◌≡◌, ◌+◌, ◌*◌, ◌<◌, ◌^◌, List, [], ◌∷◌, length, refl, ap, sym, subst, proved_at, Some, get_or, slice_set, None, ent, never, id⊢, ftrue, flft, fact, Args, a_type, named, inst_fn, Val, vunit, vstruct, vcons, vnil, ptr_val, WpFn, tables, ‵, raw, ◌⊛◌, at_ret, ◌$◌, ◌∵◌, !, qed, done, move, keep, drop, use1, use2, split, join, group, fsplit, fsplit3, fjoin, feq_i, feq_l, flt_l, rewrite, suffices, frame, whole, sub, enter, of_opd, unit_lit, init, assigns_last, stop, fld, hop, from, first, blocks, exec, returns, alloc_all, pass_all, free_all, look_at, look_in_at, get, sets, take_at, give_at, env, no, RattleType, param, layout, layouts, param_laws, Ptr, in_a_block, MutRef, mut_vals, mut_Tells, fat, full_share, froom, plain, opens, closes, nothing, heard, Stays, says, stay_dropped, stay_ref, walk_of, ends_at, Goes-dropped, Goes-ref, after, ◌⊑◌}
+use Rattle.cell_pool.proofs.RegionWalks.{◌≡◌, ◌+◌, ◌*◌, ◌<◌, ◌^◌, List, [], ◌∷◌, length, refl, ap, sym, subst, proved_at, Some, get_or, slice_set, None, ent, never, id⊢, ftrue, flft, fact, Args, a_type, named, inst_fn, Val, vunit, vstruct, vcons, vnil, ptr_val, WpFn, tables, ‵, raw, ◌⊛◌, at_ret, ◌$◌, ◌∵◌, !, qed, done, move, keep, drop, use1, use2, split, join, group, fsplit, fsplit3, fjoin, feq_i, feq_l, flt_l, rewrite, suffices, frame, whole, sub, enter, of_opd, unit_lit, init, assigns_last, stop, fld, hop, from, first, blocks, exec, returns, alloc_all, pass_all, free_all, look_at, look_in_at, get, sets, take_at, give_at, env, no, RattleType, param, layout, layouts, param_laws, Ptr, in_a_block, MutRef, mut_vals, mut_Tells, fat, full_share, froom, plain, opens, closes, nothing, heard, Stays, says, stay_dropped, stay_ref, walk_of, ends_at, Goes-dropped, Goes-ref, after, ◌⊑◌}
 use Rattle.std.proofs.mem.Param.{one}
 use borrow.Table.OneValue.{part_in}
 use lib.ListN.{length-set}

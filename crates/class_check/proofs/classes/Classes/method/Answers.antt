@@ -2,7 +2,7 @@ use Rattle.std.proofs.Common.{sym, ap, ◌∙◌}
 use Rattle.pool_syntax.specs.Classes.{named_method}
 use Rattle.pool_syntax.specs.Typing.{methods_of_class}
 use Rattle.class_check.proofs.IndexLaws.{found_within}
-use Rattle.class_check.proofs.Looked.{class_of_at, class_of_nowhere}
+use Rattle.class_check.proofs.NameLookup.{class_of_at, class_of_nowhere}
 use Rattle.class_check.proofs.classes.Classes.method.Goals as goal
 
 pub method_at-requires : goal.method_at-requires

@@ -5,7 +5,7 @@ use Rattle.pool_syntax.specs.declared.tree.ClassDecl.{ClassDecl}
 use Rattle.pool_syntax.specs.Classes.{named_method}
 use Rattle.pool_syntax.specs.TreeOf.{class_tree, method_tree}
 use Rattle.pool_syntax.specs.Typing.{methods_of_class}
-use Rattle.class_check.proofs.Looked.{named_method_found}
+use Rattle.class_check.proofs.NameLookup.{named_method_found}
 use Rattle.class_check.proofs.classes.Classes.method_at.Goals as goal
 
 pub returns : goal.returns

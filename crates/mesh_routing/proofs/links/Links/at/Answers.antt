@@ -1,9 +1,9 @@
 use Rattle.std.proofs.Common.{◌≡◌, ◌<◌, ◌*◌, ap, arith, sym, ◌∙◌, subst, Some, None, slice_get}
 use Rattle.std.proofs.lemmas.Option.{slice_get_past}
-use Rattle.run_words.specs.Tables.{pair_cmp, list_at}
+use Rattle.run_types.specs.Tables.{pair_cmp, list_at}
 use Rattle.cell_pool.specs.Lists.{list_of}
 use Rattle.mesh_routing.specs.Links.{LinksOf}
-use Rattle.mesh_routing.proofs.Routed.{there_read}
+use Rattle.mesh_routing.proofs.LinkCalls.{there_read}
 use Rattle.mesh_routing.proofs.links.Links.at.Goals as goal
 
 pub returns-then-len-place : goal.returns-then-len-place

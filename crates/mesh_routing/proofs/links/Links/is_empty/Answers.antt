@@ -1,7 +1,7 @@
 use Rattle.std.proofs.Common.{◌<◌, ◌*◌, ap, arith, sym, refl, ◌∙◌, subst}
 use Rattle.cell_pool.specs.Lists.{Pool, lengths}
 use Rattle.mesh_routing.specs.Links.{LinksOf}
-use Rattle.mesh_routing.proofs.Routed.{is_node, has_cells, some_leave, none_leave}
+use Rattle.mesh_routing.proofs.LinkCalls.{is_node, has_cells, some_leave, none_leave}
 use Rattle.mesh_routing.proofs.links.Links.is_empty.Goals as goal
 
 pub returns-then-free-self : goal.returns-then-free-self

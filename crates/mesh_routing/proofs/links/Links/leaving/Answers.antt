@@ -1,7 +1,7 @@
 use Rattle.std.proofs.Common.{◌≡◌, ◌<◌, ◌-◌, ◌*◌, sym, subst}
-use Rattle.run_words.specs.Tables.{leaving}
+use Rattle.run_types.specs.LinkTables.{leaving}
 use Rattle.mesh_routing.specs.Links.{LinksOf}
-use Rattle.mesh_routing.proofs.Routed.{free_there}
+use Rattle.mesh_routing.proofs.LinkCalls.{free_there}
 use Rattle.mesh_routing.proofs.links.Links.leaving.Goals as goal
 
 pub returns-clause-count : goal.returns-clause-count

@@ -1,8 +1,9 @@
 use Rattle.std.proofs.Common.{◌≡◌, ◌<◌, ◌*◌, rules, ap, arith, sym, ◌∙◌, subst, length}
-use Rattle.run_words.specs.Tables.{pair_cmp, list_at, leaving}
+use Rattle.run_types.specs.Tables.{pair_cmp, list_at}
+use Rattle.run_types.specs.LinkTables.{leaving}
 use Rattle.mesh_routing.specs.Links.{LinksOf}
 use Rattle.mesh_routing.specs.Nodes.{view_of}
-use Rattle.mesh_routing.proofs.Routed.{one_there, there_read}
+use Rattle.mesh_routing.proofs.LinkCalls.{one_there, there_read}
 use Rattle.mesh_routing.proofs.links.Links.length.Goals as goal
 
 pub returns : goal.returns

@@ -1,5 +1,5 @@
 use Rattle.std.proofs.Common.{◌≡◌, ◌*◌, arith, ◌∙◌}
-use Rattle.mesh_routing.proofs.Routed.{starts_empty}
+use Rattle.mesh_routing.proofs.LinkCalls.{starts_empty}
 use Rattle.mesh_routing.proofs.links.Links.make.Goals as goal
 
 pub returns : goal.returns

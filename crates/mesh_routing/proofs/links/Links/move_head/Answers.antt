@@ -1,9 +1,9 @@
 use Rattle.std.proofs.Common.{◌≡◌, ◌<◌, ◌*◌, ap, sym, ◌∙◌, subst, set, drop, slice_get}
-use Rattle.run_words.specs.Tables.{pair_cmp, list_at, put_list}
+use Rattle.run_types.specs.Tables.{pair_cmp, list_at, put_list}
 use Rattle.cell_pool.specs.Lists.{list_of, with_list}
 use Rattle.mesh_routing.specs.Links.{LinksOf, with_links}
 use Rattle.mesh_routing.specs.Nodes.{node_of, view_of}
-use Rattle.mesh_routing.proofs.Routed.{is_node, there_read, moved, moved_kept}
+use Rattle.mesh_routing.proofs.LinkCalls.{is_node, there_read, moved, moved_kept}
 use Rattle.mesh_routing.proofs.links.Links.move_head.Goals as goal
 
 pub invariant_of-self : goal.invariant_of-self

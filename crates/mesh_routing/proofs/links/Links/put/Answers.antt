@@ -1,9 +1,10 @@
 use Rattle.std.proofs.Common.{◌≡◌, ◌<◌, ◌≤◌, ◌*◌, sym, subst, [], ◌∷◌, ◌++◌, set, OnOk, IfErr, IsErr}
-use Rattle.run_words.specs.Tables.{leaving, pair_cmp, push_list}
+use Rattle.run_types.specs.Tables.{pair_cmp}
+use Rattle.run_types.specs.LinkTables.{leaving, push_list}
 use Rattle.cell_pool.specs.Lists.{list_of, with_list}
 use Rattle.mesh_routing.specs.Links.{LinksOf, with_links}
 use Rattle.mesh_routing.specs.Nodes.{view_of}
-use Rattle.mesh_routing.proofs.Routed.{is_node, full_there, within_there, put_kept, put_ok, put_err}
+use Rattle.mesh_routing.proofs.LinkCalls.{is_node, full_there, within_there, put_kept, put_ok, put_err}
 use Rattle.mesh_routing.proofs.links.Links.put.Goals as goal
 
 pub invariant_of-self : goal.invariant_of-self

@@ -1,6 +1,6 @@
 use Rattle.std.proofs.Common.{rules, ◌≡◌, ◌+◌, ◌-◌}
-use Rattle.run_words.specs.Paths.{toward}
-use Rattle.mesh_routing.proofs.Steps.{stepped}
+use Rattle.run_types.specs.Paths.{toward}
+use Rattle.mesh_routing.proofs.NeighbourSteps.{stepped}
 use Rattle.mesh_routing.proofs.mesh.Mesh.next.Goals as goal
 
 pub returns-then-at-to-2-clause-link : goal.returns-then-at-to-2-clause-link

@@ -1,6 +1,6 @@
 use Rattle.std.proofs.Common.{◌≡◌, inl, inr, ◌<◌, ◌+◌, ◌-◌, ◌*◌, ◌%◌, ap, arith, sym, refl, ◌∙◌, subst, ℕ, [], Some, Bool, true, false, nat_le, nat_lt, slice_get}
 use Rattle.mesh_routing.specs.Ways.{led, ends, one_if}
-use Rattle.mesh_routing.proofs.Steps.{onward}
+use Rattle.mesh_routing.proofs.NeighbourSteps.{onward}
 use Rattle.mesh_routing.proofs.mesh.Mesh.way.Goals as goal
 use Rattle.mesh_routing.proofs.mesh.Mesh.way.Goals.{else-to-from-2-via-then-to-from-2+else-from-self, else-to-from-2-via-else-to-from-2}
 use mir.Val.{bool_byte}

@@ -1,6 +1,6 @@
 use Rattle.std.proofs.Common.{sym, ap}
-use Rattle.run_words.specs.declared.frames.Frame.{Frame}
-use Rattle.node_heap.proofs.Insides.{in_queues, top_is}
+use Rattle.run_types.specs.declared.frames.Frame.{Frame}
+use Rattle.node_heap.proofs.HeapAbstraction.{in_queues, top_is}
 use Rattle.node_heap.proofs.heap.Heap.at.Goals as goal
 
 pub get-requires : goal.get-requires

@@ -1,7 +1,7 @@
 use Rattle.std.proofs.Common.{sym, ap, ◌∙◌, arith}
-use Rattle.run_words.specs.declared.frames.CodeObject.{CodeObject}
+use Rattle.run_types.specs.declared.frames.CodeObject.{CodeObject}
 use Rattle.node_heap.specs.declared.cells.Slot.{Slot}
-use Rattle.node_heap.proofs.Insides.{in_slots, object_at_is}
+use Rattle.node_heap.proofs.HeapAbstraction.{in_slots, object_at_is}
 use Rattle.node_heap.proofs.heap.Heap.class_of.Goals as goal
 
 pub index-requires : goal.index-requires

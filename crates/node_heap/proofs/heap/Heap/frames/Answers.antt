@@ -1,5 +1,5 @@
 use Rattle.std.proofs.Common.{arith}
-use Rattle.node_heap.proofs.Insides.{used}
+use Rattle.node_heap.proofs.HeapAbstraction.{used}
 use Rattle.node_heap.proofs.heap.Heap.frames.Goals as goal
 
 pub returns-clause-count : goal.returns-clause-count

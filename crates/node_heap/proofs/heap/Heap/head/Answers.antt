@@ -1,6 +1,6 @@
 use Rattle.std.proofs.Common.{sym, ap, ◌∙◌}
 use Rattle.node_heap.specs.Heaps.{head_by}
-use Rattle.node_heap.proofs.Insides.{in_queues, top_is}
+use Rattle.node_heap.proofs.HeapAbstraction.{in_queues, top_is}
 use Rattle.node_heap.proofs.heap.Heap.head.Goals as goal
 
 pub get-requires : goal.get-requires

@@ -1,8 +1,8 @@
 use Rattle.std.proofs.Common.{sym, ap, ◌∙◌, ◌≡◌, length, arith}
-use Rattle.run_words.specs.declared.frames.Frame.{Frame}
-use Rattle.run_words.specs.Operands.{nth}
+use Rattle.run_types.specs.declared.frames.Frame.{Frame}
+use Rattle.run_types.specs.Operands.{nth}
 use Rattle.node_heap.specs.Heaps.{top_at}
-use Rattle.node_heap.proofs.Insides.{in_queues, top_is}
+use Rattle.node_heap.proofs.HeapAbstraction.{in_queues, top_is}
 use Rattle.node_heap.proofs.heap.Heap.load_temp.Goals as goal
 
 pub get-requires : goal.get-requires

@@ -1,5 +1,5 @@
 use Rattle.std.proofs.Common.{◌∙◌, arith}
-use Rattle.node_heap.proofs.Insides.{in_values, var_is}
+use Rattle.node_heap.proofs.HeapAbstraction.{in_values, var_is}
 use Rattle.node_heap.proofs.heap.Heap.load_var.Goals as goal
 
 pub index-requires : goal.index-requires

@@ -1,6 +1,6 @@
 use Rattle.std.proofs.Common.{ap, ◌≡◌, arith}
 use Rattle.node_heap.specs.Heaps.{HeapOf}
-use Rattle.node_heap.proofs.Insides.{count, few_objects}
+use Rattle.node_heap.proofs.HeapAbstraction.{count, few_objects}
 use Rattle.node_heap.proofs.heap.Heap.objects.Goals as goal
 
 pub overflow_cast-result : goal.overflow_cast-result

@@ -1,5 +1,5 @@
 use Rattle.std.proofs.Common.{sym, ◌≡◌, ◌<◌, ◌≢◌, refl, ◌∙◌, length, arith}
-use Rattle.node_heap.proofs.Insides.{count, few_objects, full, none_free, more_kept, more_put, most_objects_are}
+use Rattle.node_heap.proofs.HeapAbstraction.{count, few_objects, full, none_free, more_kept, more_put, most_objects_are}
 use Rattle.node_heap.proofs.heap.Heap.place.Goals as goal
 
 pub returns-then-slot-self-clause-objects : goal.returns-then-slot-self-clause-objects

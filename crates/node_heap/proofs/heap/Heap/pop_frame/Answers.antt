@@ -1,4 +1,4 @@
-use Rattle.node_heap.proofs.Insides.{in_queues, popped_kept, popped_put}
+use Rattle.node_heap.proofs.HeapAbstraction.{in_queues, popped_kept, popped_put}
 use Rattle.node_heap.proofs.heap.Heap.pop_frame.Goals as goal
 
 pub discard_front-requires : goal.discard_front-requires

@@ -1,9 +1,9 @@
 use Rattle.std.proofs.Common.{sym, ap, ◌∙◌, ◌≡◌, suc, length, arith}
-use Rattle.run_words.specs.declared.frames.Frame.{Frame}
-use Rattle.run_words.specs.Operands.{top, below}
+use Rattle.run_types.specs.declared.frames.Frame.{Frame}
+use Rattle.run_types.specs.Operands.{top, below}
 use Rattle.node_heap.specs.Heaps.{top_at}
 use Rattle.node_heap.specs.Layout.{frame_of}
-use Rattle.node_heap.proofs.Insides.{in_queues, top_is, top_put, top_kept}
+use Rattle.node_heap.proofs.HeapAbstraction.{in_queues, top_is, top_put, top_kept}
 use Rattle.node_heap.proofs.heap.Heap.pop_next.Goals as goal
 
 pub get_mut-frame-requires : goal.get_mut-frame-requires

@@ -2,7 +2,7 @@ use Rattle.std.proofs.Common.{sym, subst}
 use Rattle.cell_pool.specs.Lists.{Pool}
 use Rattle.node_heap.specs.declared.cells.FrameCell.{FrameCell}
 use Rattle.node_heap.specs.Parts.{IsHeap}
-use Rattle.node_heap.proofs.Insides.{in_queues, full, none_free, pushed_kept, pushed_put}
+use Rattle.node_heap.proofs.HeapAbstraction.{in_queues, full, none_free, pushed_kept, pushed_put}
 use Rattle.node_heap.proofs.heap.Heap.push_frame.Goals as goal
 use Rattle.node_heap.proofs.heap.Heap.push_frame.Goals.{then-begin_frame, else-begin_frame}
 

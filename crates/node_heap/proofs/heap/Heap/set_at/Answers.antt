@@ -1,6 +1,6 @@
 use Rattle.std.proofs.Common.{refl}
-use Rattle.run_words.specs.declared.frames.Frame.{Frame}
-use Rattle.node_heap.proofs.Insides.{in_queues, top_put, top_kept}
+use Rattle.run_types.specs.declared.frames.Frame.{Frame}
+use Rattle.node_heap.proofs.HeapAbstraction.{in_queues, top_put, top_kept}
 use Rattle.node_heap.proofs.heap.Heap.set_at.Goals as goal
 
 pub get_mut-frame-requires : goal.get_mut-frame-requires

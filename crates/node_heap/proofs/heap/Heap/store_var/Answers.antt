@@ -1,5 +1,5 @@
 use Rattle.std.proofs.Common.{arith}
-use Rattle.node_heap.proofs.Insides.{in_values, var_put, var_kept}
+use Rattle.node_heap.proofs.HeapAbstraction.{in_values, var_put, var_kept}
 use Rattle.node_heap.proofs.heap.Heap.store_var.Goals as goal
 
 pub index_mut-requires : goal.index_mut-requires

@@ -1,5 +1,5 @@
 use Rattle.std.proofs.Common.{sym, ◌∙◌, ap, ◌≡◌, length, arith}
-use Rattle.run_words.specs.Operands.{dropped}
+use Rattle.run_types.specs.Operands.{dropped}
 use Rattle.node_heap.proofs.Stacks.{dropped-stack, length-stack}
 use Rattle.node_heap.proofs.operands.Operands.discard.Goals as goal
 

@@ -1,5 +1,5 @@
 use Rattle.std.proofs.Common.{sym, ◌∙◌, ap, ◌≡◌, ◌≤◌, length, arith}
-use Rattle.run_words.specs.Operands.{nth}
+use Rattle.run_types.specs.Operands.{nth}
 use Rattle.node_heap.proofs.Stacks.{from_top, length-stack}
 use Rattle.node_heap.proofs.operands.Operands.get.Goals as goal
 

@@ -1,5 +1,5 @@
 use Rattle.std.proofs.Common.{sym, ◌∙◌, ap, ◌≡◌, ◌≤◌, length, arith}
-use Rattle.run_words.specs.Operands.{top, below}
+use Rattle.run_types.specs.Operands.{top, below}
 use Rattle.node_heap.proofs.Stacks.{popped, last, length-stack}
 use Rattle.node_heap.proofs.operands.Operands.pop.Goals as goal
 

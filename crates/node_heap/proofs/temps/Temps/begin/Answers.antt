@@ -1,7 +1,7 @@
 use Rattle.std.proofs.Common.{refl, sym, ◌∙◌, ap, ◌≡◌, ◌+◌, suc, take, set, arith, length-set}
-use Rattle.run_words.specs.declared.words.Value.TheVariants.{Nil}
+use Rattle.run_types.specs.declared.types.Value.TheVariants.{Nil}
 use Rattle.node_heap.specs.Heaps.{nils}
-use Rattle.node_heap.proofs.Padding.{nils_on}
+use Rattle.node_heap.proofs.ArrayPrefix.{nils_on}
 use Rattle.node_heap.proofs.temps.Temps.begin.Goals as goal
 
 pub loop-place-init : goal.loop-place-init

@@ -1,5 +1,5 @@
 use Rattle.std.proofs.Common.{sym, ◌∙◌, ap, length}
-use Rattle.node_heap.proofs.Padding.{length-first}
+use Rattle.node_heap.proofs.ArrayPrefix.{length-first}
 use Rattle.node_heap.proofs.temps.Temps.len.Goals as goal
 
 pub returns : goal.returns

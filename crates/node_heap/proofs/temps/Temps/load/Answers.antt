@@ -1,6 +1,6 @@
 use Rattle.std.proofs.Common.{sym, ◌∙◌, ap, ◌≡◌, ◌≤◌, length, arith}
-use Rattle.run_words.specs.Operands.{nth}
-use Rattle.node_heap.proofs.Padding.{loaded, length-first}
+use Rattle.run_types.specs.Operands.{nth}
+use Rattle.node_heap.proofs.ArrayPrefix.{loaded, length-first}
 use Rattle.node_heap.proofs.temps.Temps.load.Goals as goal
 
 pub returns : goal.returns

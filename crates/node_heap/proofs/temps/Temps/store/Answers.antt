@@ -1,6 +1,6 @@
 use Rattle.std.proofs.Common.{sym, ◌∙◌, ap, ◌≡◌, length, set, arith, length-set}
 use Rattle.std.proofs.Math.Seq.{take-set-lt}
-use Rattle.node_heap.proofs.Padding.{length-first}
+use Rattle.node_heap.proofs.ArrayPrefix.{length-first}
 use Rattle.node_heap.proofs.temps.Temps.store.Goals as goal
 
 pub invariant_of-self : goal.invariant_of-self

@@ -2,7 +2,7 @@ use Rattle.std.proofs.Common.{◌≡◌, sym, ap, subst, ◌∙◌, ◌∷◌, [
 use Rattle.code_semantics.specs.declared.unit.Instr.TheVariants as I
 use Rattle.object_code.specs.FileBytes.{alternative_bytes, instr_bytes, list_bytes, name_bytes}
 use Rattle.code_semantics.specs.Shaped.{AlternativeIsShort, InstrIsShort, IsListOf, IsShortList}
-use Rattle.object_code.proofs.Writing.{each_any, meant, same}
+use Rattle.object_code.proofs.SequentialWrites.{each_any, meant, same}
 use Rattle.object_code.proofs.file_writer.InstrItem.put_item.Goals as goal
 
 pub returns-in-PushInt : goal.returns-in-PushInt

@@ -1,6 +1,6 @@
 use Rattle.std.proofs.Common.{sym, ap}
 use Rattle.object_code.specs.FileBytes.{kind_bytes}
-use Rattle.object_code.proofs.Writing.{same}
+use Rattle.object_code.proofs.SequentialWrites.{same}
 use Rattle.object_code.proofs.file_writer.KindItem.put_item.Goals as goal
 
 pub returns-in-Int : goal.returns-in-Int

@@ -2,14 +2,14 @@ use Rattle.std.proofs.Common.{sym, ◌≡◌, List, ap, subst, ◌∙◌}
 use Rattle.std.specs.Option.{option_map}
 use Rattle.mesh_semantics.specs.Config.{Config}
 use Rattle.mesh_semantics.specs.Delay.{Delay}
-use Rattle.coded_objects.specs.Coded.{Placed}
+use Rattle.mesh_of_code.specs.Coded.{Placed}
 use Rattle.node_semantics.specs.StandsFor.{slot_at}
-use Rattle.node_parts.specs.NodeOf.{NodeOf}
+use Rattle.node_state.specs.NodeOf.{NodeOf}
 use Rattle.pool_machine.specs.MachineOf.{MachineOf}
-use Rattle.pool_machine.specs.Told.{slot_class}
+use Rattle.pool_machine.specs.ObjectReport.{slot_class}
 use Rattle.pool_machine.specs.OnWires.{wires_in}
-use Rattle.pool_machine.specs.Answers.{Stands, class_at}
-use Rattle.pool_machine.proofs.ToldOfObjects.{class_told, state_of}
+use Rattle.pool_machine.specs.Answers.{MachineRepresents, class_at}
+use Rattle.pool_machine.proofs.ReportedStandings.{class_told, state_of}
 use Rattle.pool_machine.specs.Parts.{AreOfUnit, machine_from}
 use Rattle.pool_machine.proofs.ChangedNodes.{are_of_unit}
 use Rattle.pool_machine.proofs.machine.Machine.class_of.Goals as goal
@@ -21,6 +21,6 @@ class_in-requires c =
 
 pub returns : goal.returns
 returns c =
-    subst (λ (v : MachineOf). (e : Config Placed) (d : Delay) → Stands v e d → option_map (λ k. k.0) c.class_in.result ≡ class_at v.unit e c.args.name) c.self.view_is
+    subst (λ (v : MachineOf). (e : Config Placed) (d : Delay) → MachineRepresents v e d → option_map (λ k. k.0) c.class_in.result ≡ class_at v.unit e c.args.name) c.self.view_is
     (λ e d s. c.class_in.ensures ∙ ap (λ (ns : List NodeOf). slot_class c.self.inside.unit.now (slot_at (machine_from ns c.self.inside.links.links) c.args.name)) c.as_slice.ensures.value
     ∙ class_told c.self.inside.unit.now c.self.inside.placement.now c.self.inside.nodes.items c.self.inside.links c.self.invariant.kept.parts e d s.sound (state_of c.self.inside.unit.now c.self.inside.placement.now c.self.inside.nodes.items c.self.inside.links.links (wires_in c.self.inside.wires) e d s.stands) c.args.name)

@@ -1,13 +1,13 @@
 use Rattle.std.proofs.Common.{◌≡◌, ◌<◌, List, [], refl, sym, ap, ap₂, ◌*◌, subst, ◌∙◌, length, set, arith}
-use Rattle.run_words.specs.declared.words.Place.{Place}
+use Rattle.run_types.specs.declared.types.Place.{Place}
 use Rattle.mesh_semantics.specs.Record.{last_place, root_node}
 use Rattle.node_semantics.specs.Node.{NodeState}
 use Rattle.node_semantics.specs.Machine.{is_machine_quiet}
-use Rattle.coded_objects.specs.Coded.{Placed, coded}
-use Rattle.coded_objects.proofs.Laws.{code_fits, code_start_sound}
+use Rattle.mesh_of_code.specs.Coded.{Placed, coded}
+use Rattle.mesh_of_code.proofs.Laws.{code_fits, code_start_sound}
 use Rattle.rendezvous_protocol.specs.declared.packet.Packet.{Packet}
 use Rattle.mesh_routing.specs.Links.{LinksOf}
-use Rattle.node_parts.specs.NodeOf.{NodeOf}
+use Rattle.node_state.specs.NodeOf.{NodeOf}
 use Rattle.pool_machine.specs.Parts.{AreOfUnit}
 use Rattle.pool_machine.proofs.ChangedNodes.{are_of_unit, element}
 use Rattle.pool_machine.specs.OnWires.{machine_on, wires_in}

@@ -1,7 +1,7 @@
 use Rattle.std.proofs.Common.{sym, ap, ◌∙◌}
-use Rattle.coded_objects.specs.Coded.{Placed}
+use Rattle.mesh_of_code.specs.Coded.{Placed}
 use Rattle.node_semantics.specs.Node.{Slot}
-use Rattle.pool_node.proofs.Telling.{slot_below, the_slot}
+use Rattle.pool_node.proofs.NodeReport.{slot_below, the_slot}
 use Rattle.pool_node.proofs.node.Node.class_of.Goals as goal
 
 pub class_of-requires : goal.class_of-requires

@@ -1,5 +1,5 @@
 use Rattle.std.proofs.Common.{◌∙◌}
-use Rattle.pool_node.proofs.Telling.{ready_is}
+use Rattle.pool_node.proofs.NodeReport.{ready_is}
 use Rattle.pool_node.proofs.node.Node.is_ready.Goals as goal
 
 pub returns : goal.returns

@@ -1,12 +1,12 @@
 use Rattle.std.proofs.Common.{ℕ, ◌≤◌, arith, ◌∙◌, ap, refl, sym, subst, List, [], None, replicate, length}
-use Rattle.coded_objects.specs.Coded.{coded}
+use Rattle.mesh_of_code.specs.Coded.{coded}
 use Rattle.node_semantics.specs.Machine.{empty_node}
 use Rattle.code_semantics.specs.declared.unit.ClassCode.{ClassCode}
-use Rattle.pool_node.proofs.Fresh.{fresh_view, fresh_whole}
-use Rattle.pool_node.proofs.Telling.{most_small}
+use Rattle.pool_node.proofs.NewNode.{fresh_view, fresh_whole}
+use Rattle.pool_node.proofs.NodeReport.{most_small}
 use Rattle.pool_node.proofs.node.Node.make.Goals as goal
 use Rattle.node_heap.specs.Heaps.{HeapOf}
-use Rattle.node_parts.specs.declared.parts.Parts.{Parts}
+use Rattle.node_state.specs.declared.state.NodeParts.{NodeParts}
 
 pub make-requires-clause-vars : goal.make-requires-clause-vars
 make-requires-clause-vars c =
@@ -16,7 +16,7 @@ make-requires-clause-vars c =
 pub returns-clause-empty : goal.returns-clause-empty
 returns-clause-empty c =
     let made = c.in_ok-filled-3.ensures ∙ ap (λ (ks : List ClassCode). replicate (length ks) 0) c.items.ensures in
-    let p : Parts = record {
+    let p : NodeParts = record {
       id = c.args.id;
       cells = c.args.placement.now.cells;
       heap = c.in_ok-make.field-0;

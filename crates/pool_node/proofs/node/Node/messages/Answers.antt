@@ -1,5 +1,5 @@
 use Rattle.std.proofs.Common.{◌∙◌}
-use Rattle.pool_node.proofs.Telling.{messages_are}
+use Rattle.pool_node.proofs.NodeReport.{messages_are}
 use Rattle.pool_node.proofs.node.Node.messages.Goals as goal
 
 pub returns-clause-count : goal.returns-clause-count

@@ -1,5 +1,5 @@
 use Rattle.std.proofs.Common.{◌∙◌}
-use Rattle.pool_node.proofs.Telling.{objects_are}
+use Rattle.pool_node.proofs.NodeReport.{objects_are}
 use Rattle.pool_node.proofs.node.Node.objects.Goals as goal
 
 pub returns-clause-count : goal.returns-clause-count

@@ -1,9 +1,9 @@
 use Rattle.std.proofs.Common.{ℕ, sym, ap, ap₂, ◌∙◌}
-use Rattle.coded_objects.specs.Coded.{Placed, coded}
+use Rattle.mesh_of_code.specs.Coded.{Placed, coded}
 use Rattle.node_semantics.specs.Node.{Slot, name_at}
 use Rattle.node_semantics.specs.Standings.{slot_standing}
-use Rattle.node_parts.specs.NodeOf.{NodeOf}
-use Rattle.pool_node.proofs.Telling.{slot_below, the_slot}
+use Rattle.node_state.specs.NodeOf.{NodeOf}
+use Rattle.pool_node.proofs.NodeReport.{slot_below, the_slot}
 use Rattle.pool_node.proofs.node.Node.standing.Goals as goal
 
 pub standing_of-requires-clause-slot : goal.standing_of-requires-clause-slot

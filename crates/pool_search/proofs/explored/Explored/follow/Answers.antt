@@ -3,7 +3,7 @@ use Rattle.std.specs.Prelude.{IfSome}
 use Rattle.pool_semantics.specs.PlainOf.{configuration_of}
 use Rattle.pool_search.specs.Entries.{entries}
 use Rattle.pool_search.specs.Progress.{Entries}
-use Rattle.pool_search.proofs.Looked.{entry_grown}
+use Rattle.pool_search.proofs.EntryExpansion.{entry_grown}
 use Rattle.pool_search.proofs.explored.Explored.follow.Goals as goal
 
 pub returns-clause-again : goal.returns-clause-again

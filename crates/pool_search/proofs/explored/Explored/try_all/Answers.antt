@@ -6,8 +6,8 @@ use Rattle.pool_semantics.specs.PlainOf.{configuration_of}
 use Rattle.search_laws.specs.Labels.{AllLeadInto}
 use Rattle.pool_search.specs.Entries.{entries, searched}
 use Rattle.pool_search.specs.Progress.{HasTried}
-use Rattle.pool_search.proofs.Growing.{and_then}
-use Rattle.pool_search.proofs.Looked.{one_more_tried}
+use Rattle.pool_search.proofs.ListGrowth.{and_then}
+use Rattle.pool_search.proofs.EntryExpansion.{one_more_tried}
 use Rattle.pool_search.proofs.explored.Explored.try_all.Goals as goal
 
 pub loop-place-preserved : goal.loop-place-preserved

@@ -2,8 +2,8 @@ use Rattle.std.proofs.Common.{◌≡◌, subst, Some, slice_get}
 use Rattle.pool_syntax.specs.Terms.{ProgramTree}
 use Rattle.pool_semantics.specs.PlainOf.{configuration_of}
 use Rattle.pool_search.specs.Entries.{entries, searched}
-use Rattle.pool_search.specs.Sought.{IsUnwanted}
-use Rattle.pool_search.proofs.Looked.{entry_is, has_searched}
+use Rattle.pool_search.specs.SearchTargets.{IsUnwanted}
+use Rattle.pool_search.proofs.EntryExpansion.{entry_is, has_searched}
 use Rattle.pool_search.proofs.explored.Explored.visit.Goals as goal
 
 pub returns-then-branch-clause-done : goal.returns-then-branch-clause-done

@@ -6,9 +6,9 @@ use Rattle.std.specs.FinMap.{put}
 use Rattle.pool_syntax.specs.TreeOf.{class_tree, program_of}
 use Rattle.pool_relation.specs.Configuration.{Configuration}
 use Rattle.pool_relation.specs.Transition.{new_object}
-use Rattle.plain_object.specs.Things.{things}
+use Rattle.stepper_objects.specs.ObjectStates.{things}
 use Rattle.pool_semantics.specs.Mails.{posts}
-use Rattle.class_check.proofs.Grammatical.{grammatical_written, has_a_class}
+use Rattle.class_check.proofs.Laws.{grammatical_written, has_a_class}
 use Rattle.pool_semantics.proofs.RootClass.{none_last, started}
 use Rattle.pool_semantics.proofs.TypedFacts.{start_is_sound}
 use Rattle.pool_semantics.proofs.plain.Plain.make.Goals as goal

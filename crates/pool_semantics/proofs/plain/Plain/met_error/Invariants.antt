@@ -1,7 +1,7 @@
 use Rattle.std.proofs.Common.{None}
 use Rattle.std.specs.Ordering.{nat_cmp}
 use Rattle.pool_semantics.specs.Plains.{configuration}
-use Rattle.pool_semantics.proofs.InCalls.{FailedBy}
+use Rattle.pool_semantics.proofs.WaitingObjects.{FailedBy}
 use Rattle.pool_semantics.proofs.Least.{Searched}
 use Rattle.pool_semantics.proofs.plain.Plain.met_error.Given as goal
 

@@ -1,8 +1,9 @@
 use Rattle.std.proofs.Common.{subst, sym}
 use Rattle.pool_syntax.specs.TreeOf.{program_of}
-use Rattle.pool_semantics.specs.Moving.{Moves, IsLeast}
+use Rattle.pool_semantics.specs.Moving.{IsLeast}
+use Rattle.pool_semantics.proofs.MovingObjects.{Moves}
 use Rattle.pool_semantics.specs.Plains.{configuration}
-use Rattle.pool_semantics.proofs.Searching.{can_move, none_below, none_moves, least_of_all}
+use Rattle.pool_semantics.proofs.MoverSearch.{can_move, none_below, none_moves, least_of_all}
 use Rattle.pool_semantics.proofs.SoundSteps.{sound_now}
 use Rattle.pool_semantics.proofs.plain.Plain.moving.Goals as goal
 

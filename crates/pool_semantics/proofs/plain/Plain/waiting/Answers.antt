@@ -1,11 +1,11 @@
 use Rattle.std.proofs.Common.{◌≡◌, ◌∙◌, ℕ, Option, Some, None, ap, sym, subst}
 use Rattle.pool_syntax.specs.TreeOf.{program_of}
 use Rattle.pool_relation.specs.Action.{action}
-use Rattle.term_stack.specs.Arguments.{now_args, now_names, now_choices}
-use Rattle.plain_object.specs.Things.{thing_object}
+use Rattle.stepper_terms.specs.Arguments.{now_args, now_names, now_choices}
+use Rattle.stepper_objects.specs.ObjectStates.{thing_object}
 use Rattle.pool_semantics.specs.Plains.{configuration}
-use Rattle.pool_semantics.specs.Trying.{call_of, called}
-use Rattle.pool_semantics.proofs.InCalls.{LeastWaits, none_waits, one_waits, least_waits, waits_calls, same_call}
+use Rattle.pool_semantics.specs.SearchQueries.{call_of, called}
+use Rattle.pool_semantics.proofs.WaitingObjects.{LeastWaits, none_waits, one_waits, least_waits, waits_calls, same_call}
 use Rattle.pool_semantics.proofs.Labels.{running_doing}
 use Rattle.pool_semantics.proofs.plain.Plain.waiting.Goals as goal
 

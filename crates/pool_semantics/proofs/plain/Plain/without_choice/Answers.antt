@@ -6,9 +6,9 @@ use Rattle.std.specs.Map.Iter.{deref_pair}
 use Rattle.std.specs.BTreeMap.{is_at}
 use Rattle.std.proofs.lemmas.Map.Iter.{rest_more, rest_all}
 use Rattle.pool_syntax.specs.TreeOf.{program_of}
-use Rattle.plain_object.specs.declared.thing.Thing.{Thing}
+use Rattle.stepper_objects.specs.declared.object_state.ObjectState.{ObjectState}
 use Rattle.pool_semantics.specs.Plains.{configuration}
-use Rattle.pool_semantics.proofs.Free.{GoesFree, free_is_there, found_free, found_possible, not_free, none_free}
+use Rattle.pool_semantics.proofs.ChoiceFreeSteps.{GoesFree, free_is_there, found_free, found_possible, not_free, none_free}
 use Rattle.pool_semantics.proofs.Least.{Searched, begun, one_less, ended}
 use Rattle.pool_semantics.proofs.SoundSteps.{sound_now}
 use Rattle.pool_semantics.proofs.plain.Plain.without_choice.Goals as goal
@@ -43,11 +43,11 @@ loop-object-preserved c =
     let s = c.args.self.now.state in
     let p = program_of s.program.now in
     let l = c.loop-object in
-    let e : ℕ × Thing = (c.in-Some.object.now, c.in-Some._thing.now) in
+    let e : ℕ × ObjectState = (c.in-Some.object.now, c.in-Some._thing.now) in
     let more : l.object-iterator ≡ e ∷ c.next.new.self = rest_more deref_pair l.object-iterator c.next.new.self c.next.result (c.in-Some.object, c.in-Some._thing) c.in-Some.is c.next.ensures.steps in
     one_less nat_cmp (GoesFree p (configuration s)) None None e c.next.new.self (λ k h. nat_cmp-IsAntisymmetric k c.in-Some.object.now h)
     (not_free p (configuration s) c.in-Some.object.now c.free_at-label.result c.free_at-label.ensures (sym c.is_some.ensures ∙ c.if-is_some.false))
-    (subst (λ (es : List (ℕ × Thing)). Searched nat_cmp (GoesFree p (configuration s)) None es) more l.invariant)
+    (subst (λ (es : List (ℕ × ObjectState)). Searched nat_cmp (GoesFree p (configuration s)) None es) more l.invariant)
 
 pub returns-clause-none : goal.returns-clause-none
 returns-clause-none c =

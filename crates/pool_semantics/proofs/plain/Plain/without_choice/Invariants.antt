@@ -3,7 +3,7 @@ use Rattle.std.specs.Ordering.{nat_cmp}
 use Rattle.pool_syntax.specs.TreeOf.{program_of}
 use Rattle.pool_semantics.specs.Plains.{configuration}
 use Rattle.pool_semantics.proofs.Least.{Searched}
-use Rattle.pool_semantics.proofs.Free.{GoesFree}
+use Rattle.pool_semantics.proofs.ChoiceFreeSteps.{GoesFree}
 use Rattle.pool_semantics.proofs.plain.Plain.without_choice.Given as goal
 
 abbrev pub invariant-loop-object : goal.invariant-loop-object

@@ -1,9 +1,9 @@
 use Rattle.std.proofs.Common.{◌≡◌, ◌≤◌, ◌∙◌, ◌+◌, ◌<◌, ◌++◌, [], ◌∷◌, ap, sym, subst, ℕ, suc, length, drop, append-nil, rules, arith}
-use Rattle.run_words.specs.declared.words.Label.TheVariants as L
-use Rattle.term_stack.specs.Arguments.{now_choices}
-use Rattle.term_stack.specs.Reduced.{choices}
+use Rattle.run_types.specs.declared.types.Label.TheVariants as L
+use Rattle.stepper_terms.specs.Arguments.{now_choices}
+use Rattle.stepper_terms.specs.Reduced.{choices}
 use Rattle.search_laws.specs.Labels.{picks}
-use Rattle.pool_semantics.proofs.Listing.{grown, one_pick, no_picks, length_choices}
+use Rattle.pool_semantics.proofs.LabelLists.{grown, one_pick, no_picks, length_choices}
 use Rattle.pool_semantics.proofs.plain.labels.push_picks.Goals as goal
 
 pub overflow_add-alt : goal.overflow_add-alt

@@ -1,5 +1,5 @@
 use Rattle.std.proofs.Common.{◌≡◌, ◌≤◌, ◌-◌, ◌++◌, suc, length, drop}
-use Rattle.term_stack.specs.Reduced.{choices}
+use Rattle.stepper_terms.specs.Reduced.{choices}
 use Rattle.search_laws.specs.Labels.{picks}
 use Rattle.pool_semantics.proofs.plain.labels.push_picks.Given as goal
 

@@ -1,8 +1,8 @@
 use Rattle.std.proofs.Common.{◌≡◌, ◌<◌, ◌∙◌, ℕ, ap, subst, sym, length, is_some, Bool, true, arith}
-use Rattle.term_stack.specs.Arguments.{now_names, now_choices}
-use Rattle.plain_object.specs.Offers.{offer_act}
+use Rattle.stepper_terms.specs.Arguments.{now_names, now_choices}
+use Rattle.stepper_objects.specs.Offers.{offer_act}
 use Rattle.pool_semantics.specs.declared.plain.mail.Mail.{Mail}
-use Rattle.pool_semantics.proofs.Mailing.{any_here, any_none, offered_some}
+use Rattle.pool_semantics.proofs.EarliestMessage.{any_here, any_none, offered_some}
 use Rattle.pool_semantics.proofs.plain.mail.any_offered.Goals as goal
 
 pub returns-then-is_some : goal.returns-then-is_some

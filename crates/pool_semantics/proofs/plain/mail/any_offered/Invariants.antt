@@ -1,7 +1,7 @@
 use Rattle.std.proofs.Common.{◌-◌, length, is_some}
-use Rattle.term_stack.specs.Arguments.{now_names, now_choices}
-use Rattle.plain_object.specs.Offers.{offer_act}
-use Rattle.pool_semantics.proofs.Mailing.{NoneSo}
+use Rattle.stepper_terms.specs.Arguments.{now_names, now_choices}
+use Rattle.stepper_objects.specs.Offers.{offer_act}
+use Rattle.pool_semantics.proofs.EarliestMessage.{NoneSo}
 use Rattle.pool_semantics.proofs.plain.mail.any_offered.Given as goal
 
 abbrev pub invariant-loop-at : goal.invariant-loop-at

@@ -1,5 +1,5 @@
 use Rattle.std.proofs.Common.{◌-◌, length}
-use Rattle.pool_semantics.proofs.Mailing.{NoneBefore}
+use Rattle.pool_semantics.proofs.EarliestMessage.{NoneBefore}
 use Rattle.pool_semantics.proofs.plain.mail.first_named.Given as goal
 
 abbrev pub invariant-loop-at : goal.invariant-loop-at

@@ -3,9 +3,9 @@ use Rattle.std.proofs.lemmas.Grind.{common_steps}
 use Rattle.std.specs.Option.{option_copied_mut}
 use Rattle.std.specs.Map.{lookup}
 use Rattle.std.specs.BTreeMap.{is_at, insert_entry}
-use Rattle.run_words.specs.Tables.{Pair, pair_cmp}
+use Rattle.run_types.specs.Tables.{Pair, pair_cmp}
 use Rattle.pool_semantics.specs.Mails.{posts}
-use Rattle.pool_semantics.proofs.Queued.{posted_last, posted_first}
+use Rattle.pool_semantics.proofs.MessageQueues.{posted_last, posted_first}
 use Rattle.pool_semantics.proofs.plain.mail.post.Goals as goal
 
 pub returns-in_ok-push_back-in-Some : goal.returns-in_ok-push_back-in-Some

@@ -2,9 +2,9 @@ use Rattle.std.proofs.Common.{◌≡◌, ◌∙◌, ap, sym, Some}
 use Rattle.std.specs.Option.{option_copied_mut}
 use Rattle.std.specs.Map.{lookup, remove_entry}
 use Rattle.std.specs.BTreeMap.{is_at}
-use Rattle.run_words.specs.Tables.{Pair, pair_cmp}
+use Rattle.run_types.specs.Tables.{Pair, pair_cmp}
 use Rattle.pool_semantics.specs.Mails.{posts}
-use Rattle.pool_semantics.proofs.Queued.{unposted_some, unposted_none}
+use Rattle.pool_semantics.proofs.MessageQueues.{unposted_some, unposted_none}
 use Rattle.pool_semantics.proofs.plain.mail.unpost.Goals as goal
 
 pub returns-then-not-drop_at : goal.returns-then-not-drop_at

@@ -5,8 +5,8 @@ use Rattle.std.specs.BTreeMap.{insert_entry}
 use Rattle.std.specs.BTreeMap.Entry.{entry_value, map_with_value}
 use Rattle.pool_syntax.specs.TreeOf.{class_tree}
 use Rattle.pool_relation.specs.Transition.{new_object}
-use Rattle.plain_object.specs.Things.{thing_object}
-use Rattle.pool_semantics.proofs.Adding.{things_added}
+use Rattle.stepper_objects.specs.ObjectStates.{thing_object}
+use Rattle.pool_semantics.proofs.AddedObject.{things_added}
 use Rattle.pool_semantics.proofs.plain.objects.add.Goals as goal
 
 made_by : {X : Type 0} (o : Option X) (P : X → Type 0) (x : X) → UnwrapsOrElse o P x → o ≡ None → P x

@@ -1,5 +1,5 @@
 use Rattle.std.proofs.Common.{◌≡◌, ◌+◌, ◌≤◌, ◌++◌, length}
-use Rattle.term_stack.specs.Reduced.{values}
+use Rattle.stepper_terms.specs.Reduced.{values}
 use Rattle.pool_semantics.proofs.plain.redex.few.Given as goal
 
 abbrev pub invariant-loop-first : goal.invariant-loop-first

@@ -1,5 +1,5 @@
 use Rattle.std.proofs.Common.{◌≡◌, length}
-use Rattle.run_words.specs.Same.{are_same}
+use Rattle.run_types.specs.Same.{are_same}
 use Rattle.pool_semantics.proofs.plain.steps.same_values.Given as goal
 
 abbrev pub invariant-loop-value : goal.invariant-loop-value

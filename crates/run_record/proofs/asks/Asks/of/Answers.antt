@@ -1,6 +1,6 @@
 use Rattle.std.proofs.Common.{◌≡◌, ◌∷◌, sym, subst}
-use Rattle.run_words.specs.declared.words.Line.{Line}
-use Rattle.run_words.specs.Asks.{request_number_of}
+use Rattle.run_types.specs.declared.types.Line.{Line}
+use Rattle.run_types.specs.Asks.{request_number_of}
 use Rattle.run_record.specs.Table.{HasLast}
 use Rattle.run_record.proofs.asks.Asks.of.Goals as goal
 

@@ -1,6 +1,6 @@
 use Rattle.std.proofs.Common.{ap, length, arith}
 use Rattle.schedule_reader.specs.Schedules.{Plan}
-use Rattle.schedule_reader.proofs.Stretching.{ends_length}
+use Rattle.schedule_reader.proofs.EventRuns.{ends_length}
 use Rattle.schedule_reader.proofs.schedule.Schedule.event.Goals as goal
 
 pub event_at-requires-clause-within : goal.event_at-requires-clause-within

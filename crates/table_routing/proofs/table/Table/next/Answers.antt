@@ -1,7 +1,7 @@
 use Rattle.std.proofs.Common.{◌≡◌, ◌<◌, ◌+◌, ◌*◌, sym, subst}
-use Rattle.run_words.specs.declared.words.Placement.{Placement}
-use Rattle.run_words.specs.Paths.{IsLink, next}
-use Rattle.run_words.proofs.Laws.{routed_ways}
+use Rattle.run_types.specs.declared.types.Placement.{Placement}
+use Rattle.run_types.specs.Paths.{IsLink, next}
+use Rattle.run_types.proofs.Laws.{routed_ways}
 use Rattle.table_routing.specs.Tables.{size}
 use Rattle.table_routing.proofs.Places.{entry, place_there}
 use Rattle.table_routing.proofs.table.Table.next.Goals as goal

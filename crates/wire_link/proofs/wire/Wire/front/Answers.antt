@@ -6,7 +6,7 @@ use Rattle.wire_link.specs.declared.frame.Frame.TheVariants as F
 use Rattle.wire_link.specs.declared.wire.Side.TheVariants as D
 use Rattle.wire_link.specs.Bytes.{encoding}
 use Rattle.wire_link.specs.Wires.{acks_in, frames_in}
-use Rattle.wire_link.proofs.Fronts.{ack_front, ack_read, data_front, data_read, none_front, seen}
+use Rattle.wire_link.proofs.FirstFrame.{ack_front, ack_read, data_front, data_read, none_front, seen}
 use Rattle.wire_link.proofs.wire.Wire.front.Goals as goal
 
 pub returns-in-None-clause-bytes : goal.returns-in-None-clause-bytes

@@ -1,6 +1,6 @@
 use Rattle.std.specs.Prelude.{drop}
-use Rattle.run_words.specs.declared.words.What.TheVariants as W
-use Rattle.run_words.specs.declared.words.WireAct.TheVariants as A
+use Rattle.run_types.specs.declared.types.What.TheVariants as W
+use Rattle.run_types.specs.declared.types.WireAct.TheVariants as A
 use Rattle.wire_link.proofs.WiresMemory.{happened, late_frames, late_acks}
 use Rattle.wire_link.proofs.wire.Wire.late.Goals as goal
 

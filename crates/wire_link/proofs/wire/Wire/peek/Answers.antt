@@ -2,7 +2,7 @@ use Rattle.std.proofs.Common.{◌∙◌, ap, sym}
 use Rattle.mesh_semantics.specs.Wire.{coming_in}
 use Rattle.mesh_semantics.specs.KeptWire.{kept_coming}
 use Rattle.wire_link.specs.Wires.{arrived_of, frames_in}
-use Rattle.wire_link.proofs.Fronts.{data_comes, none_front}
+use Rattle.wire_link.proofs.FirstFrame.{data_comes, none_front}
 use Rattle.wire_link.proofs.wire.Wire.peek.Goals as goal
 
 pub returns-in-None : goal.returns-in-None

@@ -1,6 +1,6 @@
 use Rattle.std.proofs.Common.{◌≡◌, ◌+◌, ◌-◌, sym, ap, subst, ◌∙◌, Some, None}
 use Rattle.std.specs.Prelude.{slice_get}
-use Rattle.run_words.specs.declared.words.What.TheVariants as W
+use Rattle.run_types.specs.declared.types.What.TheVariants as W
 use Rattle.mesh_semantics.specs.KeptWire.{KeptWire, kept_send}
 use Rattle.rendezvous_protocol.specs.declared.packet.Packet.{Packet}
 use Rattle.wire_link.specs.Wires.{IsWanted, told_of}

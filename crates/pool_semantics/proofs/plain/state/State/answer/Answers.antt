@@ -4,15 +4,15 @@ use Rattle.std.specs.FinMap.{put}
 use Rattle.pool_syntax.specs.TreeOf.{program_of, method_tree, statements_of}
 use Rattle.pool_relation.specs.Action.{method_of}
 use Rattle.pool_relation.specs.Transition as X
-use Rattle.run_words.specs.Same.{are_same}
+use Rattle.run_types.specs.Same.{are_same}
 use Rattle.pool_relation.specs.Transition.{has_message}
 use Rattle.pool_relation.specs.Configuration.{messages_of}
-use Rattle.term_stack.specs.Arguments.{now_args, now_names, now_choices}
-use Rattle.plain_object.specs.Things.{thing_object}
-use Rattle.plain_object.specs.Looked.{method_seen}
-use Rattle.plain_object.specs.Offers.{offered, offer_act}
+use Rattle.stepper_terms.specs.Arguments.{now_args, now_names, now_choices}
+use Rattle.stepper_objects.specs.ObjectStates.{thing_object}
+use Rattle.stepper_objects.specs.ClassesAndMethods.{method_seen}
+use Rattle.stepper_objects.specs.Offers.{offered, offer_act}
 use Rattle.pool_semantics.specs.Plains.{configuration}
-use Rattle.plain_object.specs.Acts.{calls_act}
+use Rattle.stepper_objects.specs.Acts.{calls_act}
 use Rattle.pool_semantics.proofs.Labels.{answer_refused, answer_without, answer_made, answer_by_two, answered_none, answered_barred, answered_unknown, answered_some}
 use Rattle.pool_semantics.proofs.plain.state.State.answer.Goals as goal
 

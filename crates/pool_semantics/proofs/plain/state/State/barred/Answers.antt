@@ -2,10 +2,10 @@ use Rattle.std.proofs.Common.{◌≡◌, ◌∙◌, ap, sym, map, Some, None}
 use Rattle.std.specs.Option.{option_copied}
 use Rattle.std.specs.Map.{lookup}
 use Rattle.std.specs.BTreeMap.{is_at}
-use Rattle.run_words.specs.Tables.{Pair, pair_cmp}
+use Rattle.run_types.specs.Tables.{Pair, pair_cmp}
 use Rattle.pool_semantics.specs.Mails.{message_of}
 use Rattle.pool_relation.specs.Transition.{has_message}
-use Rattle.pool_semantics.proofs.Posting.{list_found, list_missing}
+use Rattle.pool_semantics.proofs.PairMessages.{list_found, list_missing}
 use Rattle.pool_semantics.proofs.plain.state.State.barred.Goals as goal
 
 pub returns-in-None : goal.returns-in-None

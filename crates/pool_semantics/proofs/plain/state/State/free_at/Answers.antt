@@ -1,12 +1,12 @@
 use Rattle.std.proofs.Common.{◌≡◌, ◌∙◌, ap, sym, refl, is_some, true}
 use Rattle.pool_syntax.specs.TreeOf.{program_of}
 use Rattle.pool_relation.proofs.Laws.{running_is}
-use Rattle.term_stack.specs.Arguments.{now_args, now_names, now_choices}
-use Rattle.plain_object.specs.Acts.{acted}
-use Rattle.plain_object.specs.Things.{thing_object}
+use Rattle.stepper_terms.specs.Arguments.{now_args, now_names, now_choices}
+use Rattle.stepper_objects.specs.Acts.{acted}
+use Rattle.stepper_objects.specs.ObjectStates.{thing_object}
 use Rattle.pool_semantics.specs.Plains.{configuration}
 use Rattle.pool_semantics.specs.Shown.{shown}
-use Rattle.pool_semantics.specs.Trying.{free_label, free_at}
+use Rattle.pool_semantics.specs.SearchQueries.{free_label, free_at}
 use Rattle.pool_semantics.proofs.AlwaysShown.{can_be_shown}
 use Rattle.pool_semantics.proofs.Labels.{running_doing}
 use Rattle.pool_semantics.proofs.plain.state.State.free_at.Goals as goal

@@ -3,13 +3,13 @@ use Rattle.std.specs.Map.{lookup}
 use Rattle.std.specs.Map.Iter.{deref_pair}
 use Rattle.std.specs.BTreeMap.{is_at}
 use Rattle.std.proofs.lemmas.Map.Iter.{rest_more, rest_all, btree_map_turn}
-use Rattle.run_words.specs.Tables.{Pair, pair_cmp}
+use Rattle.run_types.specs.Tables.{Pair, pair_cmp}
 use Rattle.pool_syntax.specs.TreeOf.{program_of}
 use Rattle.pool_semantics.specs.Mails.{queued}
 use Rattle.pool_semantics.specs.Plains.{configuration}
 use Rattle.pool_semantics.proofs.Least.{Searched, begun, one_less, ended, same_kind}
-use Rattle.pool_semantics.proofs.Posting.{pair_is, pair_total}
-use Rattle.pool_semantics.proofs.Searching.{TakesOf, pair_there, its_messages, of_pair, from_pair, to_pair}
+use Rattle.pool_semantics.proofs.PairMessages.{pair_is, pair_total}
+use Rattle.pool_semantics.proofs.MoverSearch.{TakesOf, pair_there, its_messages, of_pair, from_pair, to_pair}
 use Rattle.pool_semantics.proofs.plain.state.State.least_by_messages.Goals as goal
 
 pub loop-pair-init : goal.loop-pair-init

@@ -1,8 +1,8 @@
-use Rattle.run_words.specs.Tables.{pair_cmp}
+use Rattle.run_types.specs.Tables.{pair_cmp}
 use Rattle.pool_syntax.specs.TreeOf.{program_of}
 use Rattle.pool_semantics.specs.Plains.{configuration}
 use Rattle.pool_semantics.proofs.Least.{Searched}
-use Rattle.pool_semantics.proofs.Searching.{TakesOf}
+use Rattle.pool_semantics.proofs.MoverSearch.{TakesOf}
 use Rattle.pool_semantics.proofs.plain.state.State.least_by_messages.Given as goal
 
 abbrev pub invariant-loop-pair : goal.invariant-loop-pair

@@ -6,11 +6,11 @@ use Rattle.std.specs.Map.Iter.{deref_pair}
 use Rattle.std.specs.BTreeMap.{is_at}
 use Rattle.std.proofs.lemmas.Map.Iter.{rest_more, rest_all}
 use Rattle.pool_syntax.specs.TreeOf.{program_of}
-use Rattle.plain_object.specs.declared.thing.Thing.{Thing}
+use Rattle.stepper_objects.specs.declared.object_state.ObjectState.{ObjectState}
 use Rattle.pool_semantics.specs.Plains.{configuration}
 use Rattle.pool_semantics.proofs.Least.{Searched, begun, one_less, ended}
-use Rattle.pool_semantics.specs.Trying.{WaitsFrom}
-use Rattle.pool_semantics.proofs.InCalls.{waits_there}
+use Rattle.pool_semantics.specs.SearchQueries.{WaitsFrom}
+use Rattle.pool_semantics.proofs.WaitingObjects.{waits_there}
 use Rattle.pool_semantics.proofs.plain.state.State.least_waiting.Goals as goal
 
 pub loop-object-init : goal.loop-object-init
@@ -26,7 +26,7 @@ loop-object-preserved c =
     let s = c.args.self.now in
     let p = program_of s.program.now in
     let l = c.loop-object in
-    let e : ℕ × Thing = (c.in-Some.object.now, c.in-Some._thing.now) in
+    let e : ℕ × ObjectState = (c.in-Some.object.now, c.in-Some._thing.now) in
     let more : l.object-iterator ≡ e ∷ c.next.new.self = rest_more deref_pair l.object-iterator c.next.new.self c.next.result (c.in-Some.object, c.in-Some._thing) c.in-Some.is c.next.ensures.steps in
     subst (λ r. Searched nat_cmp (WaitsFrom p (configuration s) c.args.from) r c.next.new.self) (sym c.lesser-least.ensures)
     (one_less nat_cmp (WaitsFrom p (configuration s) c.args.from) l.least c.waits_from.result e c.next.new.self (λ k h. nat_cmp-IsAntisymmetric k c.in-Some.object.now h) c.waits_from.ensures

@@ -1,7 +1,7 @@
 use Rattle.std.specs.Ordering.{nat_cmp}
 use Rattle.pool_syntax.specs.TreeOf.{program_of}
 use Rattle.pool_semantics.specs.Plains.{configuration}
-use Rattle.pool_semantics.specs.Trying.{WaitsFrom}
+use Rattle.pool_semantics.specs.SearchQueries.{WaitsFrom}
 use Rattle.pool_semantics.proofs.Least.{Searched}
 use Rattle.pool_semantics.proofs.plain.state.State.least_waiting.Given as goal
 

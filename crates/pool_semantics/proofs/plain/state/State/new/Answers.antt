@@ -3,11 +3,11 @@ use Rattle.pool_syntax.specs.TreeOf.{program_of, class_tree}
 use Rattle.std.specs.Ordering.{nat_cmp}
 use Rattle.std.specs.BTreeMap.{get}
 use Rattle.std.specs.FinMap.{put}
-use Rattle.plain_object.specs.Looked.{class_seen}
+use Rattle.stepper_objects.specs.ClassesAndMethods.{class_seen}
 use Rattle.pool_syntax.specs.Classes.{class_of}
 use Rattle.pool_relation.specs.Transition.{new_object}
 use Rattle.pool_semantics.specs.Plains.{configuration}
-use Rattle.pool_semantics.proofs.Adding.{apart_from, none_there}
+use Rattle.pool_semantics.proofs.AddedObject.{apart_from, none_there}
 use Rattle.pool_semantics.proofs.Labels.{new_made, new_other, new_used, new_refused}
 use Rattle.pool_semantics.proofs.plain.state.State.new.Goals as goal
 

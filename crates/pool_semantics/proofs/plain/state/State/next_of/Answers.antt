@@ -3,8 +3,8 @@ use Rattle.std.proofs.lemmas.Grind.{common_steps}
 use Rattle.std.specs.Ordering.{nat_cmp}
 use Rattle.std.specs.BTreeMap.{get}
 use Rattle.std.specs.Option.{option_map}
-use Rattle.plain_object.specs.Things.{thing_object}
-use Rattle.pool_semantics.proofs.Stored.{things_lookup}
+use Rattle.stepper_objects.specs.ObjectStates.{thing_object}
+use Rattle.pool_semantics.proofs.MapAbstraction.{things_lookup}
 use Rattle.pool_semantics.proofs.plain.state.State.next_of.Goals as goal
 
 pub returns-in-None-clause-none : goal.returns-in-None-clause-none

@@ -1,6 +1,6 @@
 use Rattle.std.proofs.Common.{◌∙◌, ap, refl, sym, Some}
 use Rattle.pool_syntax.specs.TreeOf.{program_of, statements_of}
-use Rattle.plain_object.specs.Offers.{work_seen}
+use Rattle.stepper_objects.specs.Offers.{work_seen}
 use Rattle.pool_semantics.specs.Plains.{configuration}
 use Rattle.pool_semantics.proofs.Labels.{pick_made, pick_other, pick_refused}
 use Rattle.pool_semantics.proofs.plain.state.State.pick.Goals as goal

@@ -1,11 +1,11 @@
 use Rattle.std.proofs.Common.{◌≡◌, ◌∙◌, ◌++◌, ap, sym, subst, is_some, OnOk, true}
 use Rattle.pool_syntax.specs.TreeOf.{program_of}
-use Rattle.run_words.proofs.Laws.{same_some}
+use Rattle.run_types.proofs.Laws.{same_some}
 use Rattle.pool_relation.specs.Action.{Action, action}
 use Rattle.search_laws.specs.Labels.{own_labels}
-use Rattle.term_stack.specs.Arguments.{now_args, now_names, now_choices}
-use Rattle.plain_object.specs.Acts.{acted}
-use Rattle.plain_object.specs.Things.{thing_object}
+use Rattle.stepper_terms.specs.Arguments.{now_args, now_names, now_choices}
+use Rattle.stepper_objects.specs.Acts.{acted}
+use Rattle.stepper_objects.specs.ObjectStates.{thing_object}
 use Rattle.pool_semantics.specs.Plains.{configuration}
 use Rattle.pool_semantics.specs.Shown.{shown}
 use Rattle.pool_semantics.proofs.Alternatives.{few_alternatives}

@@ -2,12 +2,12 @@ use Rattle.std.proofs.Common.{◌≡◌, ◌∙◌, ap, ap₂, refl, sym, is_som
 use Rattle.std.specs.Ordering.{nat_cmp}
 use Rattle.std.specs.BTreeMap.{get}
 use Rattle.pool_syntax.specs.TreeOf.{program_of}
-use Rattle.run_words.specs.Tables.{Pair, pair_cmp, list_at}
-use Rattle.run_words.specs.Same.{are_same}
-use Rattle.term_stack.specs.Arguments.{now_args}
+use Rattle.run_types.specs.Tables.{Pair, pair_cmp, list_at}
+use Rattle.run_types.specs.Same.{are_same}
+use Rattle.stepper_terms.specs.Arguments.{now_args}
 use Rattle.pool_semantics.specs.Plains.{configuration}
-use Rattle.plain_object.specs.Acts.{posts_act}
-use Rattle.pool_semantics.proofs.Posting.{put_last}
+use Rattle.stepper_objects.specs.Acts.{posts_act}
+use Rattle.pool_semantics.proofs.PairMessages.{put_last}
 use Rattle.pool_semantics.proofs.Labels.{send_refused, send_nowhere, send_made}
 use Rattle.pool_semantics.proofs.plain.state.State.send.Goals as goal
 

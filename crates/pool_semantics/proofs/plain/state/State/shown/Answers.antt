@@ -1,6 +1,6 @@
 use Rattle.std.proofs.Common.{◌∙◌, sym}
 use Rattle.pool_syntax.specs.TreeOf.{program_of}
-use Rattle.plain_object.specs.Things.{thing_object}
+use Rattle.stepper_objects.specs.ObjectStates.{thing_object}
 use Rattle.pool_semantics.specs.Plains.{configuration}
 use Rattle.pool_semantics.proofs.Labels.{shown_doing, shown_missing, shown_faulted}
 use Rattle.pool_semantics.proofs.plain.state.State.shown.Goals as goal

@@ -1,10 +1,10 @@
 use Rattle.std.proofs.Common.{◌∙◌, ap, sym}
 use Rattle.pool_syntax.specs.TreeOf.{program_of}
 use Rattle.search_laws.specs.Search.{is_left_over}
-use Rattle.term_stack.specs.Arguments.{now_args, now_names, now_choices}
-use Rattle.plain_object.specs.Things.{thing_object}
+use Rattle.stepper_terms.specs.Arguments.{now_args, now_names, now_choices}
+use Rattle.stepper_objects.specs.ObjectStates.{thing_object}
 use Rattle.pool_semantics.specs.Plains.{configuration}
-use Rattle.pool_semantics.proofs.InCalls.{stays, goes, goes_away}
+use Rattle.pool_semantics.proofs.WaitingObjects.{stays, goes, goes_away}
 use Rattle.pool_semantics.proofs.Labels.{running_doing}
 use Rattle.pool_semantics.proofs.plain.state.State.stays_at.Goals as goal
 

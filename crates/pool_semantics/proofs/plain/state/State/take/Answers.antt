@@ -3,19 +3,19 @@ use Rattle.std.specs.Option.{option_copied}
 use Rattle.std.specs.List.{remove}
 use Rattle.pool_syntax.specs.TreeOf.{program_of, method_tree, statements_of}
 use Rattle.pool_relation.specs.Action.{method_of}
-use Rattle.run_words.specs.Tables.{Pair, pair_cmp, put_list}
+use Rattle.run_types.specs.Tables.{Pair, pair_cmp, put_list}
 use Rattle.pool_relation.specs.Transition as X
-use Rattle.run_words.specs.Same.{are_same}
+use Rattle.run_types.specs.Same.{are_same}
 use Rattle.pool_relation.specs.Transition.{first_message, without_first}
-use Rattle.run_words.specs.Message.{Message}
+use Rattle.run_types.specs.Message.{Message}
 use Rattle.pool_relation.specs.Configuration.{messages_of}
-use Rattle.term_stack.specs.Arguments.{now_names, now_choices}
-use Rattle.plain_object.specs.Things.{thing_object}
-use Rattle.plain_object.specs.Looked.{method_seen}
+use Rattle.stepper_terms.specs.Arguments.{now_names, now_choices}
+use Rattle.stepper_objects.specs.ObjectStates.{thing_object}
+use Rattle.stepper_objects.specs.ClassesAndMethods.{method_seen}
 use Rattle.pool_semantics.specs.Mails.{queued, message_of}
-use Rattle.plain_object.specs.Offers.{offered, offer_act}
+use Rattle.stepper_objects.specs.Offers.{offered, offer_act}
 use Rattle.pool_semantics.specs.Plains.{configuration}
-use Rattle.pool_semantics.proofs.Posting.{list_found, list_missing}
+use Rattle.pool_semantics.proofs.PairMessages.{list_found, list_missing}
 use Rattle.pool_semantics.proofs.Labels.{take_is, taken_none, taken_no_first, taken_other, taken_unknown, taken_some}
 use Rattle.pool_semantics.proofs.plain.state.State.take.Goals as goal
 

@@ -1,12 +1,12 @@
 use Rattle.std.proofs.Common.{◌≡◌, ◌∙◌, ap, sym, subst, is_some}
 use Rattle.pool_syntax.specs.TreeOf.{program_of}
 use Rattle.pool_relation.specs.Action.{action}
-use Rattle.term_stack.specs.Arguments.{now_args, now_names, now_choices}
-use Rattle.plain_object.specs.Things.{thing_object}
-use Rattle.pool_semantics.specs.Moving.{Tells}
+use Rattle.stepper_terms.specs.Arguments.{now_args, now_names, now_choices}
+use Rattle.stepper_objects.specs.ObjectStates.{thing_object}
+use Rattle.pool_semantics.specs.Moving.{IsTheOne}
 use Rattle.pool_semantics.specs.Plains.{configuration}
-use Rattle.pool_semantics.specs.Trying.{call_of, WaitsFrom}
-use Rattle.pool_semantics.proofs.InCalls.{called_some, waits_below, waits_nobody, waits_told}
+use Rattle.pool_semantics.specs.SearchQueries.{call_of, WaitsFrom}
+use Rattle.pool_semantics.proofs.WaitingObjects.{called_some, waits_below, waits_nobody, waits_told}
 use Rattle.pool_semantics.proofs.Labels.{running_doing}
 use Rattle.pool_semantics.proofs.plain.state.State.waits_from.Goals as goal
 
@@ -29,5 +29,5 @@ returns-in-Some c =
     let d = c.in-Some.ensures.some in
     let told : is_some (call_of (action p o (thing_object t))) ≡ c.is_some.result =
     ap (λ a. is_some (call_of a)) d.gives ∙ sym (ap is_some (c.call_of.ensures (thing_object t) (now_args t.work.next) (now_names t.work.next) (now_choices t.work.next))) ∙ called_some c.call_of.result ∙ sym c.is_some.ensures in
-    subst (λ r. Tells (WaitsFrom p (configuration s) c.args.from o) r) (sym c.then_some.ensures)
+    subst (λ r. IsTheOne (WaitsFrom p (configuration s) c.args.from o) r) (sym c.then_some.ensures)
     (waits_told p (configuration s) c.args.from o (thing_object t) (running_doing p s.objects (configuration s).messages o t c.in-Some.act d) c.if-object-from.false c.is_some.result told)

@@ -1,10 +1,10 @@
 use Rattle.std.proofs.Common.{◌∙◌, ap, sym, not}
 use Rattle.pool_syntax.specs.TreeOf.{program_of, statements_of}
-use Rattle.plain_object.specs.Offers.{offered}
-use Rattle.plain_object.specs.Things.{thing_object}
+use Rattle.stepper_objects.specs.Offers.{offered}
+use Rattle.stepper_objects.specs.ObjectStates.{thing_object}
 use Rattle.pool_semantics.specs.Plains.{configuration}
 use Rattle.pool_semantics.proofs.Labels.{running_doing}
-use Rattle.pool_semantics.proofs.Searching.{answers_without, answers_with, offers_acted}
+use Rattle.pool_semantics.proofs.MoverSearch.{answers_without, answers_with, offers_acted}
 use Rattle.pool_semantics.proofs.plain.state.State.would_answer.Goals as goal
 
 pub returns-in_default-offer_to : goal.returns-in_default-offer_to

@@ -1,0 +1,43 @@
+-- What a record may show that a search looks for.
+use Rattle.std.specs.Prelude.{◌≡◌, ℕ, List, [], ◌∷◌, ◌++◌, Some, IsTrue, true}
+use Rattle.pool_syntax.specs.Terms.{ProgramTree}
+use Rattle.pool_syntax.specs.Typing.{faults}
+use Rattle.run_types.specs.declared.types.Error.{Error}
+use Rattle.run_types.specs.declared.types.Label.{Label}
+use Rattle.run_types.specs.declared.types.Label.TheVariants as L
+use Rattle.run_types.specs.declared.types.Placement.{Placement}
+use Rattle.pool_relation.specs.Action.{Object}
+use Rattle.pool_relation.specs.Configuration.{Configuration}
+use Rattle.pool_relation.specs.Transition.{start}
+use Rattle.pool_syntax.specs.Written.{is_written}
+use Rattle.mesh_semantics.specs.FitFor.{FitFor}
+use Rattle.mesh_semantics.specs.Record.{Record, labels, root_name, ends_quiet}
+use Rattle.mesh_of_terms.specs.Terms.{terms, plain}
+use Rattle.search_laws.specs.Search.{WaitsAt, HasLeftOver}
+
+-- a program without faults on a placement that fits it, with its start there
+pub record IsPlaced (p : ProgramTree) (l : Placement) : Type 0 where
+  pub faultless : faults p ≡ []
+  pub written : IsTrue (is_written p)
+  pub fits : FitFor (terms p) l
+  pub first : Configuration
+  pub starts : start p (root_name l) ≡ Some first
+
+-- the record ends quiet, and an object that has met no error is in a call, or is to make one
+pub record EndsInACall (p : ProgramTree) (r : Record Object) : Type 0 where
+  pub quiet : ends_quiet r.lines ≡ true
+  pub name : ℕ
+  pub waits : WaitsAt p (plain r.last) name
+
+-- the record ends quiet, and something is left over: such an object, one that stands at `answer` or `select`, or a message that nobody took
+pub record EndsUnfinished (p : ProgramTree) (r : Record Object) : Type 0 where
+  pub quiet : ends_quiet r.lines ≡ true
+  pub left : HasLeftOver p (plain r.last)
+
+-- a line of the record shows that an object meets a language error
+pub record ShowsAnError (r : Record Object) : Type 0 where
+  pub front : List Label
+  pub rest : List Label
+  pub name : ℕ
+  pub error : Error
+  pub shown : front ++ L.Fault name error ∷ rest ≡ labels r.lines

@@ -1,7 +1,0 @@
-use Rattle.std.proofs.Common.{◌∙◌}
-use Rattle.code_verdict.specs.Verdict.{is_halt}
-use Rattle.code_judge.proofs.Words.{last_is}
-use Rattle.code_judge.proofs.existing.ends_in_halt.Goals as goal
-
-pub returns-in-Some : goal.returns-in-Some
-returns-in-Some c = c.is_halt.ensures ∙ last_is is_halt c.args.code.now c.in-Some.instr.now c.in-Some.ensures.value

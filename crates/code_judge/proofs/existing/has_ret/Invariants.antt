@@ -1,8 +1,0 @@
-use Rattle.std.proofs.Common.{◌≡◌, drop}
-use Rattle.std.specs.List.{list_any}
-use Rattle.code_verdict.specs.Verdict.{is_ret}
-use Rattle.code_judge.proofs.existing.has_ret.Given as goal
-
--- none so far is one
-abbrev pub invariant-loop-instr : goal.invariant-loop-instr
-invariant-loop-instr l = list_any is_ret (drop l.instr-index l.code) ≡ list_any is_ret l.code

@@ -1,5 +1,0 @@
-use Rattle.code_laws.proofs.Records.{code_simulates}
-use Rattle.code_laws.proofs.beside_terms.code_does_what_terms_do.Goals as goal
-
-pub returns : goal.returns
-returns c = λ p u checked unit. code_simulates p u checked unit

@@ -1,8 +1,0 @@
-use Rattle.code_laws.proofs.Loads.{grammatical_loads, grammatical_loads_on_wires}
-use Rattle.code_laws.proofs.of_files.files_run_as_their_programs.Goals as goal
-
-pub returns-clause-records : goal.returns-clause-records
-returns-clause-records c = λ names p l q es m none suits. grammatical_loads names p l q es m none suits
-
-pub returns-clause-on_wires : goal.returns-clause-on_wires
-returns-clause-on_wires c = λ names p l q es m none suits. grammatical_loads_on_wires names p l q es m none suits

@@ -1,3 +1,0 @@
-pub mod SilentLaws
-pub mod Stepping
-pub mod Turns

@@ -1,9 +1,0 @@
-use Rattle.std.proofs.Common.{◌≡◌, map, drop}
-use Rattle.std.specs.Prelude.{max}
-use Rattle.code_verdict.specs.Verdict.{most}
-use Rattle.code_verdict.specs.Stands.{stack_at}
-use Rattle.code_reach.proofs.spread.Spread.most.Given as goal
-
--- the most of what was seen and of what is left
-abbrev pub invariant-loop-stack : goal.invariant-loop-stack
-invariant-loop-stack l = max l.most (most (map (stack_at l.self.stacks) (drop l.stack-index l.self.table.items))) ≡ most (map (stack_at l.self.stacks) l.self.table.items)

@@ -1,5 +1,0 @@
-pub mod Effects
-pub mod Indexed
-pub mod Scopes
-pub mod Silent
-pub mod Spreads

@@ -1,0 +1,12 @@
+pub mod TextNumbers
+pub mod ReachedStacks
+pub mod CodeTestSound
+pub mod WholeVerdict
+pub mod FirstFaults
+pub mod FirstCodes
+pub mod UniqueFault
+pub mod Propositions
+pub mod Cells
+pub mod Tops
+pub mod StackPops
+pub mod Laws

@@ -1,7 +1,0 @@
-use Rattle.std.proofs.Common.{◌≡◌, ◌-◌, slice_get}
-use Rattle.code_verdict.specs.Stands.{stack_of}
-use Rattle.code_verdict.proofs.cell.Stacks.sort_below.Given as goal
-
--- the operand is so many less below the last of what is left
-abbrev pub invariant-loop : goal.invariant-loop
-invariant-loop l = slice_get (stack_of l.self l.rest) (l.count - l.counter) ≡ slice_get (stack_of l.self l.stack) l.count

@@ -1,6 +1,0 @@
-pub mod Sorts
-pub mod Verified
-pub mod Verdict
-pub mod Faults
-pub mod Chained
-pub mod Stands

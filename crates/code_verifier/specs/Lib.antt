@@ -1,0 +1,6 @@
+pub mod VerdictAnswer
+pub mod Effects
+pub mod Indexed
+pub mod Scopes
+pub mod Silent
+pub mod Spreads

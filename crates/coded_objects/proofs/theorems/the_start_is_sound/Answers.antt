@@ -1,5 +1,0 @@
-use Rattle.coded_objects.proofs.Begins.{code_start_sound}
-use Rattle.coded_objects.proofs.theorems.the_start_is_sound.Goals as goal
-
-pub returns : goal.returns
-returns c = λ u l d proper fit e. code_start_sound u proper l fit d e

@@ -1,4 +1,0 @@
-//! Code as a language of objects.
-#![tactic(auto)]
-
-pub mod theorems;

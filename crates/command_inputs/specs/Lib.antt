@@ -1,0 +1,4 @@
+pub mod FaultText
+pub mod Programs
+pub mod Inputs
+pub mod Readers

@@ -1,0 +1,86 @@
+//! Reads an input, once and whole; and a program, which is judged.
+ghost use Rattle.pool_outside.specs.Reading.{reading};
+ghost use Rattle.std.specs.Prelude.{◌≡◌, ◌<◌, ◌+◌, ◌-◌, ◌^◌, ◌≤◌, IsTrue};
+ghost use Rattle.command_inputs.specs.Inputs.{limit_of, most_bytes, one_read};
+ghost use Rattle.command_inputs.specs.Programs.{IsFaultOfText, HasTypedFault, IsTypedProgram};
+ghost use Rattle.command_inputs.specs.Readers.{HasNoFault, IsAnyProgram, IsAnyText, IsProgramOf, IsTypedProgramOf, Reads};
+
+use crate::fault::{Fault, Input, InputError};
+use crate::program::{Parsed, judge_classes, read_program};
+use pool_outside::{Files, ReadFault, read_whole};
+use std::alloc::Global;
+
+/// The most bytes of an input.
+fn limit_of(input: Input) -> usize
+    ensures { result ≡ limit_of input }
+{
+    match input {
+        Input::Program | Input::Placement | Input::Schedule => 1048576,
+        Input::Record => 67108864,
+        Input::Unit => 16777216,
+    }
+}
+
+/// Reads an input whole.
+pub fn read_input<F: Files>(
+    alloc: Global,
+    files: &mut F,
+    input: Input,
+    name: &str,
+) -> Result<Vec<u8>, InputError>
+    requires allowed { IsTrue (F.may files.old (F.opens files.old) name.now) }
+    requires countable { F.opens files.old < 2 ^ 64 - 1 }
+    ensures reads { Reads (reading F.told F.opens F.given F.live F.faults files.old files.new) input name.now IsAnyText HasNoFault (λ s text. text.items ≡ s) result }
+    ensures opened_once { F.opens files.new ≡ F.opens files.old + 1 }
+    ensures unread_within { F.given files.new ≤ limit_of input + one_read }
+    ensures same_texts { F.told files.new ≡ F.told files.old }
+    ensures same_leave { F.may files.new ≡ F.may files.old }
+{
+    match read_whole(alloc, files, name, limit_of(input)) {
+        Ok(text) => Ok(text),
+        Err(ReadFault::Failed) => Err(InputError::Unread { input }),
+        Err(ReadFault::TooLong) => Err(InputError::Refused {
+            input,
+            fault: Fault::TooLong,
+        }),
+        Err(ReadFault::Memory) => Err(InputError::Memory),
+    }
+}
+
+/// Reads a program.
+pub fn read_parsed<F: Files>(alloc: Global, files: &mut F, name: &str) -> Result<Parsed, InputError>
+    requires allowed { IsTrue (F.may files.old (F.opens files.old) name.now) }
+    requires countable { F.opens files.old < 2 ^ 64 - 1 }
+    ensures reads { Reads (reading F.told F.opens F.given F.live F.faults files.old files.new) Input.Program name.now IsAnyProgram IsFaultOfText IsProgramOf result }
+    ensures opened_once { F.opens files.new ≡ F.opens files.old + 1 }
+    ensures unread_within { F.given files.new ≤ most_bytes + one_read }
+    ensures same_texts { F.told files.new ≡ F.told files.old }
+    ensures same_leave { F.may files.new ≡ F.may files.old }
+{
+    let text = match read_input(alloc, files, Input::Program, name) {
+        Ok(text) => text,
+        Err(stop) => return Err(stop),
+    };
+    read_program(alloc, &text)
+}
+
+/// Reads a program whose classes have no fault.
+pub fn read_typed<F: Files>(alloc: Global, files: &mut F, name: &str) -> Result<Parsed, InputError>
+    requires allowed { IsTrue (F.may files.old (F.opens files.old) name.now) }
+    requires countable { F.opens files.old < 2 ^ 64 - 1 }
+    ensures reads { Reads (reading F.told F.opens F.given F.live F.faults files.old files.new) Input.Program name.now IsTypedProgram HasTypedFault IsTypedProgramOf result }
+    ensures opened_once { F.opens files.new ≡ F.opens files.old + 1 }
+    ensures unread_within { F.given files.new ≤ most_bytes + one_read }
+    ensures same_texts { F.told files.new ≡ F.told files.old }
+    ensures same_leave { F.may files.new ≡ F.may files.old }
+{
+    let parsed = match read_parsed(alloc, files, name) {
+        Ok(parsed) => parsed,
+        Err(stop) => return Err(stop),
+    };
+    match judge_classes(alloc, &parsed) {
+        Ok(_) => {}
+        Err(stop) => return Err(stop),
+    }
+    Ok(parsed)
+}

@@ -1,0 +1,14 @@
+//! Reads an input once and whole, judges a program, and gives the line that reports a fault of an input.
+//!
+//! Does not know: what a command makes of its inputs, and sinks.
+#![tactic(auto)]
+
+mod fault;
+mod inputs;
+mod program;
+
+pub use fault::{
+    Fault, Input, InputError, UnitFault, line_of_refusal, line_of_unread, push_count, push_place,
+};
+pub use inputs::{read_input, read_parsed, read_typed};
+pub use program::{Parsed, judge_classes, read_program};

@@ -1,2 +1,0 @@
-pub mod PlainWords
-pub mod WordLaws

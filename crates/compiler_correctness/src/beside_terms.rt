@@ -1,0 +1,84 @@
+//! Laws of code on placed machines: each is the contract of a function that does nothing.
+ghost use Rattle.std.specs.Prelude.{◌≡◌, ℕ, List, [], Some};
+ghost use Rattle.pool_syntax.specs.Terms.{ProgramTree};
+ghost use Rattle.text_scan.specs.Text.{Text};
+ghost use Rattle.pool_syntax.specs.Typing.{faults};
+ghost use Rattle.pool_grammar.specs.Programs.{IsParsed};
+ghost use Rattle.run_types.specs.declared.types.Event.{Event};
+ghost use Rattle.run_types.specs.declared.types.Label.{Label};
+ghost use Rattle.run_types.specs.declared.types.Placement.{Placement};
+ghost use Rattle.pool_relation.specs.Action.{Object};
+ghost use Rattle.pool_relation.specs.Configuration.{Configuration};
+ghost use Rattle.pool_relation.specs.Transition as X;
+ghost use Rattle.pool_relation.specs.Transition.{run};
+ghost use Rattle.code_semantics.specs.declared.unit.Unit.{Unit as Code};
+ghost use Rattle.code_semantics.specs.Proper.{IsProper};
+ghost use Rattle.code_semantics.specs.Suits.{Suits};
+ghost use Rattle.pool_compile.specs.Code.{code};
+ghost use Rattle.mesh_semantics.specs.Act.{act, is_quiet};
+ghost use Rattle.mesh_semantics.specs.Config.{Config, object_of};
+ghost use Rattle.mesh_semantics.specs.Delay.{Delay};
+ghost use Rattle.mesh_semantics.specs.FitFor.{FitFor};
+ghost use Rattle.mesh_semantics.specs.Record.{root_name, start};
+ghost use Rattle.mesh_semantics.specs.RecordOf.{record_of, record_on_wires};
+ghost use Rattle.mesh_semantics.specs.Simulates.{Both, Simulates, Related, SameAct, SameRecord};
+ghost use Rattle.mesh_semantics.specs.Cycles.{cycles};
+ghost use Rattle.mesh_of_terms.specs.Terms.{terms, plain};
+ghost use Rattle.mesh_of_terms.specs.RunOf.{TypedTerms};
+ghost use Rattle.mesh_of_code.specs.Coded.{Placed, coded};
+ghost use Rattle.compiler_correctness.specs.CheckedProgram.{IsCheckedProgram};
+ghost use Rattle.compiler_correctness.specs.HasCode.{HasCode};
+ghost use Rattle.compiler_correctness.specs.Matches.{Matches};
+ghost use Rattle.compiler_correctness.specs.StandsAlike.{StandsAlike};
+
+/// A program that was parsed, and has no class faults, is one of which the laws below speak.
+pub fn parsed_programs_are_checked()
+    ensures { (s : Text) (names : List Text) (p : ProgramTree) → IsParsed s names p → faults p ≡ [] → IsCheckedProgram p }
+{}
+
+/// A placement that suits the code of a program fits the program.
+pub fn what_suits_the_code_fits_the_program()
+    ensures { (p : ProgramTree) (u : Code) (l : Placement) → u.classes ≡ code p → Suits l u → FitFor (terms p) l }
+{}
+
+/// Whatever an object of a program does, its code does.
+pub fn code_does_what_terms_do()
+    ensures { (p : ProgramTree) (u : Code) → IsCheckedProgram p → u.classes ≡ code p → Simulates (terms p) (coded u) (TypedTerms p) (Matches p u) }
+{}
+
+/// Code starts where its program starts.
+pub fn code_starts_as_terms()
+    ensures { (p : ProgramTree) (u : Code) (l : Placement) (c : Config Object) → IsCheckedProgram p → u.classes ≡ code p → start (terms p) l ≡ Some c
+        → (e : Config Placed) × (start (coded u) l ≡ Some e) × Related (Matches p u) c e }
+{}
+
+/// Over any schedule, with or without wires, the record of code has the lines of its program's record and the same delay at the end, and their last configurations correspond.
+pub fn records_of_code_are_those_of_terms()
+    ensures on_wires { (p : ProgramTree) (u : Code) (l : Placement) (q : ℕ) (es : List Event) → IsCheckedProgram p → u.classes ≡ code p → FitFor (terms p) l
+        → SameRecord (Matches p u) (record_on_wires (terms p) l q es) (record_on_wires (coded u) l q es) }
+    ensures records { (p : ProgramTree) (u : Code) (l : Placement) (q : ℕ) (es : List Event) → IsCheckedProgram p → u.classes ≡ code p → FitFor (terms p) l
+        → SameRecord (Matches p u) (record_of (terms p) l q es) (record_of (coded u) l q es) }
+{}
+
+/// In corresponding configurations the same objects are there, each with the same class and the same standing, and the cycles of calls are the same.
+pub fn code_stands_as_terms()
+    ensures objects { (p : ProgramTree) (u : Code) (c : Config Object) (e : Config Placed) (d : Delay) (o : ℕ) → IsCheckedProgram p → u.classes ≡ code p
+        → Related (Matches p u) c e → Both (StandsAlike p u d o) (object_of c o) (object_of e o) }
+    ensures cycles { (p : ProgramTree) (u : Code) (c : Config Object) (e : Config Placed) (d : Delay) → IsCheckedProgram p → u.classes ≡ code p
+        → Related (Matches p u) c e → cycles (terms p) c d ≡ cycles (coded u) e d }
+{}
+
+/// In corresponding configurations of which the first is typed, each event has the same line or the same limit, and what is after it corresponds; and both are quiet or neither.
+pub fn events_of_code_are_those_of_terms()
+    ensures acts { (p : ProgramTree) (u : Code) (l : Placement) (q : ℕ) (c : Config Object) (e : Config Placed) (d : Delay) (ev : Event) → IsCheckedProgram p → u.classes ≡ code p
+        → TypedTerms p c → Related (Matches p u) c e → SameAct (Matches p u) (act (terms p) l q c d ev) (act (coded u) l q e d ev) }
+    ensures quiet { (p : ProgramTree) (u : Code) (c : Config Object) (e : Config Placed) (d : Delay) → IsCheckedProgram p → u.classes ≡ code p
+        → Related (Matches p u) c e → is_quiet (terms p) c d ≡ is_quiet (coded u) e d }
+{}
+
+/// Beside each configuration that a run of a program reaches stands its code: a configuration that corresponds to it and is of the unit, and that is sound with each delay with
+/// which it is. So the events of code, and of a machine that stands for code, are those of each sound configuration that a run reaches.
+pub fn what_a_run_reaches_has_code()
+    ensures { (p : ProgramTree) (u : Code) (l : Placement) (first : Configuration) (labs : List Label) (c : Config Object) → IsCheckedProgram p → u.classes ≡ code p → IsProper u
+        → X.start p (root_name l) ≡ Some first → run p first labs ≡ Some (plain c) → HasCode p u l c }
+{}

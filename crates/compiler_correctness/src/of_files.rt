@@ -1,0 +1,82 @@
+//! Laws of verified object code files: each is the contract of a function that does nothing.
+ghost use Rattle.std.specs.Prelude.{◌≡◌, ℕ, List, [], Some, true};
+ghost use Rattle.pool_grammar.specs.Grammatical.{IsGrammatical};
+ghost use Rattle.pool_syntax.specs.Spelled.{is_spelled};
+ghost use Rattle.run_types.specs.Table.{is_distinct};
+ghost use Rattle.pool_syntax.specs.Terms.{ProgramTree};
+ghost use Rattle.text_scan.specs.Text.{Text};
+ghost use Rattle.pool_syntax.specs.Typing.{faults};
+ghost use Rattle.run_types.specs.declared.types.Event.{Event};
+ghost use Rattle.run_types.specs.declared.types.Placement.{Placement};
+ghost use Rattle.run_types.specs.Asks.{EachAnswersPost};
+ghost use Rattle.mesh_semantics.specs.Config.{Config, object_of};
+ghost use Rattle.mesh_semantics.specs.FitFor.{FitFor};
+ghost use Rattle.mesh_semantics.specs.Lawful.{Lawful};
+ghost use Rattle.mesh_semantics.specs.Record.{start};
+ghost use Rattle.mesh_semantics.specs.RecordOf.{record_of, record_on_wires};
+ghost use Rattle.code_semantics.specs.declared.file.UnitFile.{UnitFile};
+ghost use Rattle.object_code.specs.Decode.{Says, decode};
+ghost use Rattle.object_code.specs.FileBytes.{file_bytes};
+ghost use Rattle.code_semantics.specs.Proper.{IsProper};
+ghost use Rattle.code_semantics.specs.Shaped.{IsShaped, IsWritable};
+ghost use Rattle.code_semantics.specs.Suits.{Suits};
+ghost use Rattle.pool_compile.specs.Code.{code};
+ghost use Rattle.pool_compile.specs.Small.{AreShort};
+ghost use Rattle.mesh_of_terms.specs.Terms.{terms};
+ghost use Rattle.mesh_of_code.specs.Coded.{Placed, coded};
+ghost use Rattle.compiler_correctness.specs.CodeRun.{IsCodeRun};
+ghost use Rattle.compiler_correctness.specs.DeclaredKinds.{file_of};
+ghost use Rattle.compiler_correctness.specs.TypedCode.{IsTypedCode, GoesWrong};
+ghost use Rattle.code_typing.specs.Verdict.{Good, verdict};
+ghost use Rattle.code_typing.specs.Verified.{IsVerified};
+
+/// The unit of a verified file is proper.
+pub fn verified_units_are_proper()
+    ensures { (f : UnitFile) → IsShaped f → IsVerified f → IsProper f.unit }
+{}
+
+/// Code of a verified file is a lawful language, where what is kept of a configuration is that it is typed: each transition keeps that.
+pub fn verified_code_is_lawful()
+    ensures { (f : UnitFile) → IsShaped f → IsVerified f → Lawful (coded f.unit) (IsTypedCode f) }
+{}
+
+/// In a typed configuration of code of a verified file no object goes wrong.
+pub fn no_object_of_code_goes_wrong()
+    ensures { (f : UnitFile) (c : Config Placed) (o : ℕ) (x : Placed) → IsShaped f → IsVerified f → IsTypedCode f c → object_of c o ≡ Some x → ¬ (GoesWrong f c o x) }
+{}
+
+/// The record of code of a verified file is a run of the relation over its objects, with typed configurations all the way, in which no object goes wrong; and where it ends quiet
+/// no transition is possible.
+pub fn records_of_verified_code_are_runs()
+    ensures records { (f : UnitFile) (l : Placement) (q : ℕ) (es : List Event) → IsShaped f → IsVerified f → FitFor (coded f.unit) l
+        → (c : Config Placed) × (start (coded f.unit) l ≡ Some c) × IsCodeRun f l c (record_of (coded f.unit) l q es) }
+    ensures on_wires { (f : UnitFile) (l : Placement) (q : ℕ) (es : List Event) → IsShaped f → IsVerified f → FitFor (coded f.unit) l
+        → (c : Config Placed) × (start (coded f.unit) l ≡ Some c) × IsCodeRun f l c (record_on_wires (coded f.unit) l q es) }
+{}
+
+/// Each line of the record of code of a verified file that answers a request has the number of a line above 0, which posts this request: of the same object, for the class or
+/// the call that the line names.
+pub fn each_line_answers_its_post()
+    ensures answers { (f : UnitFile) (l : Placement) (q : ℕ) (es : List Event) → IsShaped f → IsVerified f → FitFor (coded f.unit) l → EachAnswersPost (record_of (coded f.unit) l q es).lines }
+    ensures on_wires { (f : UnitFile) (l : Placement) (q : ℕ) (es : List Event) → IsShaped f → IsVerified f → FitFor (coded f.unit) l → EachAnswersPost (record_on_wires (coded f.unit) l q es).lines }
+{}
+
+/// The file of a program of the grammar without class faults is shaped and verified, so the verdict on it is good.
+pub fn files_of_programs_are_verified()
+    ensures shaped { (names : List Text) (p : ProgramTree) → IsShaped (file_of names p) }
+    ensures verified { (names : List Text) (p : ProgramTree) → ∥ IsGrammatical p ∥₁ → faults p ≡ [] → is_spelled names p ≡ true → AreShort (code p) → IsVerified (file_of names p) }
+    ensures good { (names : List Text) (p : ProgramTree) → ∥ IsGrammatical p ∥₁ → faults p ≡ [] → is_spelled names p ≡ true → AreShort (code p) → verdict (file_of names p) ≡ Good }
+{}
+
+/// The bytes of a file whose names are distinct say that file.
+pub fn files_are_read_back()
+    ensures { (f : UnitFile) → IsWritable f → is_distinct f.unit.names ≡ true → decode (file_bytes f) ≡ Says f }
+{}
+
+/// The record of the file of a program of the grammar has the lines of the program's record.
+pub fn files_run_as_their_programs()
+    ensures records { (names : List Text) (p : ProgramTree) (l : Placement) (q : ℕ) (es : List Event) → ∥ IsGrammatical p ∥₁ → faults p ≡ []
+        → Suits l (file_of names p).unit → (record_of (terms p) l q es).lines ≡ (record_of (coded (file_of names p).unit) l q es).lines }
+    ensures on_wires { (names : List Text) (p : ProgramTree) (l : Placement) (q : ℕ) (es : List Event) → ∥ IsGrammatical p ∥₁ → faults p ≡ []
+        → Suits l (file_of names p).unit → (record_on_wires (terms p) l q es).lines ≡ (record_on_wires (coded (file_of names p).unit) l q es).lines }
+{}

@@ -1,8 +1,0 @@
-use Rattle.definition_laws.proofs.ContextAssignment.{reads_temp, reads_variable}
-use Rattle.definition_laws.proofs.contexts.a_name_is_read_where_an_assignment_sets_it.Goals as goal
-
-pub returns-clause-temp : goal.returns-clause-temp
-returns-clause-temp c = reads_temp
-
-pub returns-clause-variable : goal.returns-clause-variable
-returns-clause-variable c = reads_variable

@@ -1,8 +1,0 @@
-use Rattle.definition_laws.proofs.ContextFilled.{expression_replaced, statement_replaced}
-use Rattle.definition_laws.proofs.contexts.another_part_stands_in_the_same_context.Goals as goal
-
-pub returns-clause-expression : goal.returns-clause-expression
-returns-clause-expression c = expression_replaced
-
-pub returns-clause-statement : goal.returns-clause-statement
-returns-clause-statement c = statement_replaced

@@ -1,5 +1,0 @@
-use Rattle.definition_laws.proofs.Quiet.{ends_there}
-use Rattle.definition_laws.proofs.records.a_record_by_cases.Goals as goal
-
-pub returns-clause-quiet : goal.returns-clause-quiet
-returns-clause-quiet s c = λ g l q done e d es h. ends_there g l q done e d es h

@@ -1,5 +1,0 @@
-use Rattle.definition_laws.proofs.Fronts.{run_is}
-use Rattle.definition_laws.proofs.ways.each_run_is_a_right_way.Goals as goal
-
-pub returns : goal.returns
-returns c = λ p d z ls none written t h. run_is p none written ls d z t h

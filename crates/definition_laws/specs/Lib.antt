@@ -1,5 +1,0 @@
-pub mod Contexts
-pub mod GoingOn
-pub mod RightWay
-pub mod Forward
-pub mod Judgement

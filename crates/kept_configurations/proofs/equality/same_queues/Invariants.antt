@@ -1,6 +1,0 @@
-use Rattle.std.proofs.Common.{◌≡◌, map, take}
-use Rattle.kept_configurations.specs.Numbers.{queue_messages}
-use Rattle.kept_configurations.proofs.equality.same_queues.Given as goal
-
-abbrev pub invariant-loop-i : goal.invariant-loop-i
-invariant-loop-i l = map queue_messages (take l.i l.left) ≡ map queue_messages (take l.i l.right)

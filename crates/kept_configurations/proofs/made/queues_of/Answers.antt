@@ -1,7 +1,0 @@
-use Rattle.run_words.specs.Tables.{pair_cmp}
-use Rattle.pool_semantics.specs.Mails.{queued}
-use Rattle.kept_configurations.proofs.Sorted.{in_order}
-use Rattle.kept_configurations.proofs.made.queues_of.Goals as goal
-
-pub returns-clause-sorted : goal.returns-clause-sorted
-returns-clause-sorted c = in_order pair_cmp queued c.args.messages.now.entries c.iter-pair-items.ensures.ordered

@@ -1,6 +1,0 @@
-pub mod Fields
-pub mod Lines
-pub mod Parted
-pub mod Shown
-pub mod ShownBy
-pub mod ToldBy

@@ -1,7 +1,0 @@
--- What the reader of a line keeps of what the line shows.
-use Rattle.std.specs.Prelude.{option_map}
-use Rattle.line_reader.specs.declared.shown.Read.{Read}
-use Rattle.line_reader.specs.Shown.{Shown}
-
-abbrev pub shown : Read → Shown
-shown r = record { what = r.what; text = option_map (λ t. t.now) r.text }

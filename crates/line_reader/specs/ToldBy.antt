@@ -1,7 +1,0 @@
--- What the reader of a line keeps of it.
-use Rattle.std.specs.Prelude.{option_map}
-use Rattle.line_reader.specs.declared.line.ReadLine.{ReadLine}
-use Rattle.line_reader.specs.Lines.{Told}
-
-abbrev pub told : ReadLine → Told
-told r = record { line = r.line; text = option_map (λ t. t.now) r.text }

@@ -1,0 +1,4 @@
+pub mod Coded
+pub mod CodeInvariant
+pub mod Known
+pub mod MadeValues

@@ -1,0 +1,8 @@
+-- A placement that fits a program is one on whose paths the proofs stand.
+use Rattle.run_types.specs.declared.types.Placement.{Placement}
+use Rattle.mesh_semantics.specs.Language.{Language}
+use Rattle.mesh_semantics.proofs.Fit.{Fit}
+use Rattle.mesh_semantics.specs.FitFor.{FitFor}
+
+pub fit_of : {S : Type 0} (g : Language S) (l : Placement) → FitFor g l → Fit l
+fit_of g l f = record { ways = f.ways; objects = f.objects.1; nodes = f.nodes; places = f.places }

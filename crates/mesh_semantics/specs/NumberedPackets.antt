@@ -1,0 +1,8 @@
+-- Packets with the numbers of their requests.
+use Rattle.std.specs.Prelude.{ℕ, Option}
+use Rattle.mesh_semantics.specs.Delay.{Packet}
+
+-- a packet with the number of the request that it belongs to; an asynchronous message belongs to none
+pub record NumberedPacket : Type 0 where
+  pub number : Option ℕ
+  pub packet : Packet

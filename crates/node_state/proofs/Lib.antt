@@ -1,0 +1,11 @@
+pub mod AllParts
+pub mod FirstAlternative
+pub mod ObjectOffers
+pub mod Slots
+pub mod SlotUpdate
+pub mod ServedNumbers
+pub mod SmallChanges
+pub mod AddedObject
+pub mod Laws
+pub mod FirstSetBit
+pub mod BitWords

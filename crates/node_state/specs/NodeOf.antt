@@ -1,0 +1,29 @@
+-- What a contract sees of a node.
+use Rattle.std.specs.Prelude.{ℕ, Bool, List, refl}
+use Rattle.std.specs.Coded.{Coded, code_by, coded×, coded_bool, coded_list, coded_ℕ}
+use Rattle.run_types.specs.declared.types.Value.{Value}
+use Rattle.run_types.specs.declared.types.Error.{Error}
+use Rattle.run_types.specs.declared.frames.CodeObject.{CodeObject}
+use Rattle.mesh_of_code.specs.Coded.{Placed}
+use Rattle.node_semantics.specs.Node.{NodeState}
+use Rattle.node_state.specs.Codes.{state_code}
+
+pub record NodeOf : Type 0 where
+  -- the number of the node
+  pub id : ℕ
+  -- the most objects, frames and cells of the node, and the most variables of one object
+  pub most_objects : ℕ
+  pub most_frames : ℕ
+  pub most_cells : ℕ
+  pub most_vars : ℕ
+  -- its objects, messages, request numbers, last slot and counts
+  pub state : NodeState Placed
+  -- for each object whether it can step
+  pub ready : List Bool
+
+abbrev pub node_code : Coded CodeObject → Coded Error → Coded Value → Coded NodeOf
+node_code x e v =
+    code_by (ℕ × (ℕ × (ℕ × (ℕ × (ℕ × (NodeState Placed × List Bool))))))
+    (coded× coded_ℕ (coded× coded_ℕ (coded× coded_ℕ (coded× coded_ℕ (coded× coded_ℕ (coded× (state_code x e v) (coded_list coded_bool)))))))
+    (λ n. (n.id, (n.most_objects, (n.most_frames, (n.most_cells, (n.most_vars, (n.state, n.ready)))))))
+    (λ t. record { id = t.0; most_objects = t.1.0; most_frames = t.1.1.0; most_cells = t.1.1.1.0; most_vars = t.1.1.1.1.0; state = t.1.1.1.1.1.0; ready = t.1.1.1.1.1.1 }) (λ _. refl)

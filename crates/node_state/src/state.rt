@@ -1,0 +1,87 @@
+//! The parts of a node, and the bits that say which objects can step.
+ghost use Rattle.std.specs.Prelude.{◌≡◌, ◌<◌, length};
+ghost use Rattle.code_semantics.specs.Proper.{IsProper};
+ghost use Rattle.code_semantics.specs.StepInstructions.{FitsUnit, IsAtStep};
+ghost use Rattle.code_semantics.specs.Kinds.{code_kind};
+ghost use Rattle.mesh_semantics.specs.Act.{can_step};
+ghost use Rattle.node_semantics.specs.Node.{arrivals, can_go};
+ghost use Rattle.mesh_of_code.specs.Coded.{coded, kind_of};
+ghost use Rattle.mailbox.specs.Mail.{box_of};
+ghost use Rattle.node_heap.specs.Heaps.{object_at};
+ghost use Rattle.node_state.specs.Views.{arrivals_of, refreshed, slot_at};
+
+use crate::ReadySet;
+use crate::choice::first_possible;
+use code_semantics::Unit;
+use mailbox::Mailbox;
+use node_heap::Heap;
+use object_interp::can_step_alone;
+use rendezvous_protocol::Outstanding;
+use run_types::{Error, List};
+
+/// What a node has. For each slot there is the error that its object has met, the node to which its last request for a
+/// new object went, and whether it can step; for each class the number of objects that were made of it.
+#[derive(Drop)]
+pub struct NodeParts {
+    pub id: u32,
+    pub cells: u32,
+    pub heap: Heap,
+    pub mailbox: Mailbox,
+    pub outstanding: Outstanding,
+    pub faults: List<Option<Error>>,
+    pub goals: List<u32>,
+    pub ready: ReadySet,
+    pub last: Option<u32>,
+    pub made: List<u32>,
+}
+
+/// Whether the object of a slot can make a step with the messages that are there.
+fn can_step_now(unit: &Unit, parts: &NodeParts, slot: u32) -> bool
+    requires proper { IsProper unit.now }
+    requires slot { slot < length parts.now.heap.objects }
+    requires boxes { slot < length parts.now.mailbox.boxes }
+    requires fits { FitsUnit unit.now (object_at parts.now.heap slot) }
+    requires rests { IsAtStep unit.now (object_at parts.now.heap slot) }
+    ensures { result ≡ can_step (arrivals (arrivals_of (box_of parts.now.mailbox slot))) (kind_of (code_kind unit.now (object_at parts.now.heap slot))) }
+{
+    if can_step_alone(unit, &parts.heap, slot) {
+        return true;
+    }
+    first_possible(unit, &parts.heap, &parts.mailbox, slot).is_some()
+}
+
+/// Whether the object of a slot can go: no request of it is out, it has met no error, and it can make a step.
+fn can_go_now(unit: &Unit, parts: &NodeParts, slot: u32) -> bool
+    requires proper { IsProper unit.now }
+    requires slot { slot < length parts.now.heap.objects }
+    requires boxes { slot < length parts.now.mailbox.boxes }
+    requires requests { slot < length parts.now.outstanding }
+    requires faults { slot < length parts.now.faults }
+    requires fits { FitsUnit unit.now (object_at parts.now.heap slot) }
+    requires rests { IsAtStep unit.now (object_at parts.now.heap slot) }
+    ensures { result ≡ can_go (coded unit.now) parts.now.id (slot, slot_at parts.now slot) }
+{
+    if parts.outstanding.number_of(slot).is_some() {
+        return false;
+    }
+    if parts.faults.items()[slot as usize].is_some() {
+        return false;
+    }
+    can_step_now(unit, parts, slot)
+}
+
+/// Sets the bit of a slot.
+pub fn refresh(unit: &Unit, parts: &mut NodeParts, slot: u32)
+    requires proper { IsProper unit.now }
+    requires slot { slot < length parts.old.heap.objects }
+    requires boxes { slot < length parts.old.mailbox.boxes }
+    requires requests { slot < length parts.old.outstanding }
+    requires faults { slot < length parts.old.faults }
+    requires bits { slot < length parts.old.ready }
+    requires fits { FitsUnit unit.now (object_at parts.old.heap slot) }
+    requires rests { IsAtStep unit.now (object_at parts.old.heap slot) }
+    ensures { parts.new ≡ refreshed unit.now parts.old slot }
+{
+    let bit = can_go_now(unit, parts, slot);
+    parts.ready.set(slot, bit);
+}

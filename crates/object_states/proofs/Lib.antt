@@ -1,4 +1,0 @@
-pub mod Folds
-mod Itself
-mod Pairs
-pub mod Pushed

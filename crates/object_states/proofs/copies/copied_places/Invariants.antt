@@ -1,7 +1,0 @@
-use Rattle.std.proofs.Common.{◌++◌, drop}
-use Rattle.object_states.specs.Alike.{AlikePlaces}
-use Rattle.object_states.proofs.copies.copied_places.Given as goal
-
--- what was copied, with what is left
-abbrev pub invariant-loop-place : goal.invariant-loop-place
-invariant-loop-place l = AlikePlaces (l.copied.items ++ drop l.place-index l.places) l.places

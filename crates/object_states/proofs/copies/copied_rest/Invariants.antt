@@ -1,7 +1,0 @@
-use Rattle.std.proofs.Common.{◌≡◌, ◌++◌, drop}
-use Rattle.term_stack.specs.Parts.{left}
-use Rattle.object_states.proofs.copies.copied_rest.Given as goal
-
--- what was copied, with what is left
-abbrev pub invariant-loop-part : goal.invariant-loop-part
-invariant-loop-part l = left (l.copied.items ++ drop l.part-index l.rest) ≡ left l.rest

@@ -1,9 +1,0 @@
--- What a table of object states stands for.
-use Rattle.std.specs.Prelude.{List, map}
-use Rattle.pool_relation.specs.Action.{Object}
-use Rattle.plain_object.specs.Things.{thing_object}
-use Rattle.object_states.specs.declared.table.StateTable.{StateTable}
-
--- the objects, by their numbers
-abbrev pub states : StateTable → List Object
-states t = map thing_object t.things.items

@@ -1,2 +1,0 @@
-//! What a call did with the files and the sinks that it was given, for contracts. There is no code.
-#![tactic(auto)]

@@ -1,5 +1,0 @@
-use Rattle.placed_terms.proofs.Starting.{event_keeps}
-use Rattle.placed_terms.proofs.theorems.each_event_keeps_sound.Goals as goal
-
-pub returns : goal.returns
-returns c = λ p l q k d e none written fit s. event_keeps p none written l fit q k d e s

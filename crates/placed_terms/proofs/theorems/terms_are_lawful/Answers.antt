@@ -1,5 +1,0 @@
-use Rattle.placed_terms.proofs.LawfulTerms.{lawful}
-use Rattle.placed_terms.proofs.theorems.terms_are_lawful.Goals as goal
-
-pub returns : goal.returns
-returns c = λ p none written. lawful p none written

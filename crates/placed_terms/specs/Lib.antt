@@ -1,4 +1,0 @@
-pub mod Terms
-pub mod TypedTerms
-pub mod LineOf
-pub mod RunOf

@@ -1,8 +1,0 @@
-use Rattle.std.proofs.Common.{◌≡◌, drop}
-use Rattle.std.specs.List.{list_any}
-use Rattle.pool_relation.specs.Ready.{is_open_plain}
-use Rattle.term_stack.specs.Reduced.{choices}
-use Rattle.plain_object.proofs.offers.any_open_plain.Given as goal
-
-abbrev pub invariant-loop-guarded : goal.invariant-loop-guarded
-invariant-loop-guarded l = list_any is_open_plain (choices (drop l.guarded-index l.guards)) ≡ list_any is_open_plain (choices l.guards)

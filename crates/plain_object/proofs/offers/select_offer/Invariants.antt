@@ -1,7 +1,0 @@
-use Rattle.std.proofs.Common.{◌≡◌, drop}
-use Rattle.pool_relation.specs.Transition.{select_offer}
-use Rattle.term_stack.specs.Reduced.{choices}
-use Rattle.plain_object.proofs.offers.select_offer.Given as goal
-
-abbrev pub invariant-loop-guarded : goal.invariant-loop-guarded
-invariant-loop-guarded l = select_offer (choices (drop l.guarded-index l.guards)) l.method ≡ select_offer (choices l.guards) l.method

@@ -1,4 +1,0 @@
-pub mod Looked
-pub mod Acts
-pub mod Things
-pub mod Offers

@@ -1,0 +1,57 @@
+//! Laws of the top call's definitions: each is the contract of a function that does nothing.
+ghost use Rattle.std.specs.Prelude.{◌≡◌, true, length, [], ◌∷◌, codes, List as ListOf};
+ghost use Rattle.pool_syntax.specs.declared.token.Token.{Token as OneToken};
+ghost use Rattle.pool_grammar.specs.Programs.{IsParsed, IsShallowBelow};
+ghost use Rattle.pool_grammar.specs.Grammatical.{IsGrammatical};
+ghost use Rattle.pool_syntax.specs.Spelled.{is_spelled};
+ghost use Rattle.pool_syntax.specs.Terms.{ProgramTree};
+ghost use Rattle.text_scan.specs.Text.{Text};
+ghost use Rattle.pool_syntax.specs.Tokens.{toks};
+ghost use Rattle.command_line.specs.declared.command.Ask.TheVariants.{File as FileAsked};
+ghost use Rattle.command_line.specs.declared.command.Show.TheVariants.{Record as RecordShown};
+ghost use Rattle.command_inputs.specs.declared.fault.Input.TheVariants.{Placement as PlacementRead, Record as RecordRead, Schedule as ScheduleRead, Unit as UnitRead};
+ghost use Rattle.run_loop.specs.declared.status.Status.{Status as AnyStatus};
+ghost use Rattle.run_loop.specs.declared.status.Status.TheVariants.{Done};
+ghost use Rattle.pool_driver.specs.Inputs.{IsAccepted};
+ghost use Rattle.pool_driver.specs.Outputs.{IsLoadOf, IsRunOf, IsTextFor, IsVerdictOn};
+ghost use Rattle.pool_printer.specs.Canonical.{canonical};
+ghost use Rattle.pool_printer.specs.SameProgram.{IsSameProgram};
+
+use pool_parser::laws::a_text_has_one_program;
+use record_check::theorems::{a_run_is_judged_yes, shown_runs_are_runs};
+
+/// A canonical text in which no token stands deeper than 200 is read as a program that is the same but for positions and numbering.
+pub fn canonical_text_is_read_back()
+    ensures { (names : ListOf Text) (p : ProgramTree) → is_spelled names p ≡ true → IsGrammatical p
+        → (other : ListOf Text) × (ts : ListOf OneToken) × (q : ProgramTree) × IsSameProgram names p other ts q
+        × (IsShallowBelow (toks ts) (length (toks ts)) → IsParsed (canonical names p) other q) }
+{}
+
+/// The bytes that `build` writes of a program are accepted by `load`, with the placements and schedules that `record` accepts of the program and no others; and what `load` writes
+/// then, with its status, is what `record` writes of the program, whether links are wires or not.
+pub fn what_is_built_is_loaded_as_recorded()
+    ensures accepted { (source bytes : Text) → IsTextFor FileAsked source bytes → IsAccepted [] UnitRead bytes }
+    ensures placements { (source bytes place : Text) → IsTextFor FileAsked source bytes
+        → (IsAccepted (source ∷ []) PlacementRead place → IsAccepted (bytes ∷ []) PlacementRead place)
+        × (IsAccepted (bytes ∷ []) PlacementRead place → IsAccepted (source ∷ []) PlacementRead place) }
+    ensures schedules { (source bytes place plan : Text) → IsTextFor FileAsked source bytes
+        → (IsAccepted (source ∷ place ∷ []) ScheduleRead plan → IsAccepted (bytes ∷ place ∷ []) ScheduleRead plan)
+        × (IsAccepted (bytes ∷ place ∷ []) ScheduleRead plan → IsAccepted (source ∷ place ∷ []) ScheduleRead plan) }
+    ensures loaded { (source bytes place plan text : Text) (status : AnyStatus) → IsTextFor FileAsked source bytes → IsRunOf RecordShown source place plan text status
+        → IsLoadOf bytes place plan text status }
+    ensures recorded { (source bytes place plan text : Text) (status : AnyStatus) → IsTextFor FileAsked source bytes → IsLoadOf bytes place plan text status
+        → IsRunOf RecordShown source place plan text status }
+{
+    a_text_has_one_program();
+}
+
+/// What `record` writes of a program is accepted as a record by `check` with the same program, and is answered with yes and status 0 alone.
+pub fn what_is_recorded_is_judged_yes()
+    ensures accepted { (source place plan text : Text) (status : AnyStatus) → IsRunOf RecordShown source place plan text status → IsAccepted (source ∷ []) RecordRead text }
+    ensures yes { (source place plan text line : Text) (status end : AnyStatus) → IsRunOf RecordShown source place plan text status → IsVerdictOn source text line end
+        → (line ≡ codes "yes\n") × (end ≡ Done) }
+{
+    a_text_has_one_program();
+    shown_runs_are_runs();
+    a_run_is_judged_yes();
+}

@@ -1,0 +1,7 @@
+-- The parts of rules that are one token.
+use Rattle.pool_grammar.specs.Rules.{Part, phrase}
+
+-- a part that is one token
+abbrev pub IsTerminal : Part → Type 0
+IsTerminal (phrase p) = ⊥
+IsTerminal _ = Unit {0}

@@ -1,0 +1,151 @@
+use Rattle.std.proofs.Common.{◌≡◌, ◌+◌, ◌<◌, ◌≤◌, List, Option, refl, sym, ap, ap₂, subst, ◌∙◌, arith}
+use Rattle.mesh_semantics.specs.Config.{Config}
+use Rattle.mesh_semantics.specs.Delay.{Delay}
+use Rattle.mesh_semantics.specs.Act.{act}
+use Rattle.mesh_of_code.specs.Coded.{Placed, coded}
+use Rattle.node_semantics.specs.Machine.{is_machine_quiet}
+use Rattle.rendezvous_protocol.specs.declared.packet.Packet.{Packet}
+use Rattle.mesh_routing.specs.Links.{LinksOf}
+use Rattle.node_state.specs.NodeOf.{NodeOf}
+use Rattle.pool_machine.specs.MachineOf.{LinkWires, MachineOf}
+use Rattle.std.specs.Vec.{with_items}
+use Rattle.std.proofs.lemmas.List.{with_items_is}
+use Rattle.pool_machine.specs.Parts.{AreOfUnit, EachCount}
+use Rattle.pool_machine.specs.OnWires.{WiredMachineInvariant, EachEntered, EventMakes, machine_on, wires_in}
+use Rattle.pool_machine.specs.MachineInvariant.{machine_view}
+use Rattle.pool_machine.specs.Answers.{IsOfMesh, IsOutcome, MachineRepresents}
+use Rattle.pool_machine.specs.DidOf as D
+use Rattle.pool_machine.specs.AnswerOf as O
+use Rattle.run_types.specs.declared.types.Line.TheVariants as R
+use Rattle.pool_machine.proofs.ChangedNodes.{are_of_unit, counts_below}
+use Rattle.pool_machine.proofs.EnteredPackets.{entered_below}
+use Rattle.pool_machine.proofs.EventsOfMachines.{entered_line, full_outcome, kept_full, kept_line, line_outcome, same_links, same_nodes, same_wires}
+use Rattle.pool_machine.proofs.QuietMachines.{same_quiet}
+use Rattle.pool_machine.proofs.machine.Machine.event_into.Goals as goal
+
+pub step-did-requires-clause-countable : goal.step-did-requires-clause-countable
+step-did-requires-clause-countable c =
+    let done : c.self.inside.done < 4294967295 = subst (λ (v : MachineOf). v.done < 4294967295) (sym c.self.view_is) c.requires.few in
+    counts_below c.self.inside.done 4294967295 c.as_mut_slice.result.now done (subst (EachCount (λ k. k ≤ c.self.inside.done)) (sym c.as_mut_slice.ensures.value) c.self.invariant.counts)
+
+pub step-did-requires-clause-few : goal.step-did-requires-clause-few
+step-did-requires-clause-few c =
+    let done : c.self.inside.done < 4294967295 = subst (λ (v : MachineOf). v.done < 4294967295) (sym c.self.view_is) c.requires.few in
+    entered_below c.self.inside.done 4294967295 (wires_in c.self.inside.wires) c.self.inside.links.links done c.self.invariant.entered
+
+pub quiet_after-self-inside-requires-clause-units : goal.quiet_after-self-inside-requires-clause-units
+quiet_after-self-inside-requires-clause-units c =
+    let back : (with_items c.self.inside.nodes c.step-did.new.nodes).items ≡ c.step-did.new.nodes =
+    with_items_is c.self.inside.nodes c.step-did.new.nodes (c.in-Line.ensures.parts.count ∙ sym c.self.invariant.kept.parts.count ∙ sym c.self.inside.nodes.ok.0) in
+    subst (AreOfUnit c.self.inside.unit.now) (sym (c.as_slice.ensures.value ∙ back))
+    (are_of_unit c.self.inside.unit.now c.self.inside.placement.now c.step-did.new.nodes c.step-did.new.links c.in-Line.ensures.parts)
+
+pub invariant_of-self : goal.invariant_of-self
+invariant_of-self c =
+    let u = c.self.inside.unit.now in
+    let l = c.self.inside.placement.now in
+    let nodes = c.self.inside.nodes.items in
+    let ws = wires_in c.self.inside.wires in
+    let ws' = wires_in c.step-did.new.wires in
+    let inside : IsOfMesh l c.args.event = subst (λ (v : MachineOf). IsOfMesh v.placement c.args.event) (sym c.self.view_is) c.requires.mesh in
+    let acted = subst (λ (ns : List NodeOf). EventMakes u l c.args.quantum c.args.event (D.Full c.in-Full.kind c.in-Full.node) ns c.self.inside.links ws c.step-did.new.nodes c.step-did.new.links ws') c.as_mut_slice.ensures.value c.in-Full.ensures.act in
+    let back : (with_items c.self.inside.nodes c.step-did.new.nodes).items ≡ c.step-did.new.nodes =
+    with_items_is c.self.inside.nodes c.step-did.new.nodes (c.in-Full.ensures.parts.count ∙ sym c.self.invariant.kept.parts.count ∙ sym c.self.inside.nodes.ok.0) in
+    let same = same_nodes u l nodes c.self.inside.links ws c.self.invariant.kept c.args.quantum c.args.event inside c.step-did.new.nodes c.step-did.new.links ws' c.in-Full.kind c.in-Full.node acted in
+    let links = same_links u l nodes c.self.inside.links ws c.self.invariant.kept c.args.quantum c.args.event inside c.step-did.new.nodes c.step-did.new.links ws' c.in-Full.kind c.in-Full.node acted in
+    let wires = same_wires u l nodes c.self.inside.links ws c.self.invariant.kept c.args.quantum c.args.event inside c.step-did.new.nodes c.step-did.new.links ws' c.in-Full.kind c.in-Full.node acted in
+    record {
+      mesh = c.self.invariant.mesh;
+      table = c.self.invariant.table;
+      kept = subst (λ (ns : List NodeOf). WiredMachineInvariant u l ns c.step-did.new.links ws') (sym back)
+          (kept_full u l nodes c.self.inside.links ws c.self.invariant.kept c.args.quantum c.args.event inside c.step-did.new.nodes c.step-did.new.links ws' c.in-Full.kind c.in-Full.node acted);
+      quiet = c.self.invariant.quiet
+          ∙ ap (λ (ns : List NodeOf). is_machine_quiet (coded u) (machine_on ns c.self.inside.links.links ws)) (sym (back ∙ same))
+          ∙ ap₂ (λ (z : LinksOf Packet) (w : Option LinkWires). is_machine_quiet (coded u) (machine_on (with_items c.self.inside.nodes c.step-did.new.nodes).items z.links w)) (sym links) (sym wires);
+      counts = subst (EachCount (λ k. k ≤ c.self.inside.done)) (sym (back ∙ same)) c.self.invariant.counts;
+      entered = subst (λ z. EachEntered (λ k. k ≤ c.self.inside.done) z c.step-did.new.links.links) (sym wires)
+          (subst (λ z. EachEntered (λ k. k ≤ c.self.inside.done) ws z.links) (sym links) c.self.invariant.entered);
+      moves = c.self.invariant.moves;
+      transitions = c.self.invariant.transitions;
+    }
+
+pub invariant_of-self-in-Line : goal.invariant_of-self-in-Line
+invariant_of-self-in-Line c =
+    let u = c.self.inside.unit.now in
+    let l = c.self.inside.placement.now in
+    let nodes = c.self.inside.nodes.items in
+    let ws = wires_in c.self.inside.wires in
+    let ws' = wires_in c.step-did.new.wires in
+    let inside : IsOfMesh l c.args.event = subst (λ (v : MachineOf). IsOfMesh v.placement c.args.event) (sym c.self.view_is) c.requires.mesh in
+    let acted = subst (λ (ns : List NodeOf). EventMakes u l c.args.quantum c.args.event (D.Line c.step-did.new.room.what) ns c.self.inside.links ws c.step-did.new.nodes c.step-did.new.links ws') c.as_mut_slice.ensures.value c.in-Line.ensures.act in
+    let back : (with_items c.self.inside.nodes c.step-did.new.nodes).items ≡ c.step-did.new.nodes =
+    with_items_is c.self.inside.nodes c.step-did.new.nodes (c.in-Line.ensures.parts.count ∙ sym c.self.invariant.kept.parts.count ∙ sym c.self.inside.nodes.ok.0) in
+    let moves = c.self.invariant.moves in
+    let one = c.moved_by.ensures.one in
+    let transitions = c.self.invariant.transitions in
+    let few = c.shown_by.ensures.few in
+    record {
+      mesh = c.self.invariant.mesh;
+      table = c.self.invariant.table;
+      kept = subst (λ (ns : List NodeOf). WiredMachineInvariant u l ns c.step-did.new.links ws') (sym back)
+          (kept_line u l nodes c.self.inside.links ws c.self.invariant.kept c.args.quantum c.args.event inside c.step-did.new.nodes c.step-did.new.links ws' c.in-Line.ensures.parts c.in-Line.ensures.there c.step-did.new.room.what acted);
+      quiet = c.quiet_after-self-inside.ensures
+          (λ none idle. c.self.invariant.quiet
+          ∙ same_quiet u l nodes c.self.inside.links ws c.self.invariant.kept c.args.quantum c.args.event inside c.step-did.new.nodes c.step-did.new.links ws' c.in-Line.ensures.parts c.in-Line.ensures.lossy none c.step-did.new.room.what acted idle
+          ∙ ap (λ (ns : List NodeOf). is_machine_quiet (coded u) (machine_on ns c.step-did.new.links.links ws')) (sym (c.as_slice.ensures.value ∙ back)))
+          ∙ ap (λ (ns : List NodeOf). is_machine_quiet (coded u) (machine_on ns c.step-did.new.links.links ws')) c.as_slice.ensures.value;
+      counts = subst (EachCount (λ k. k ≤ c.self.inside.done + 1)) (sym back) (c.in-Line.ensures.counts c.self.inside.done (subst (EachCount (λ k. k ≤ c.self.inside.done)) (sym c.as_mut_slice.ensures.value) c.self.invariant.counts));
+      entered = entered_line u l nodes c.self.inside.links ws c.self.invariant.kept c.args.quantum c.args.event inside c.step-did.new.nodes c.step-did.new.links ws' c.in-Line.ensures.lossy c.step-did.new.room.what acted c.self.inside.done c.self.invariant.entered;
+      moves = omega (arith, moves, one);
+      transitions = omega (arith, transitions, few);
+    }
+
+pub returns-in-Full : goal.returns-in-Full
+returns-in-Full c =
+    let u = c.self.inside.unit.now in
+    let l = c.self.inside.placement.now in
+    let ws = wires_in c.self.inside.wires in
+    let ws' = wires_in c.step-did.new.wires in
+    let inside : IsOfMesh l c.args.event = subst (λ (v : MachineOf). IsOfMesh v.placement c.args.event) (sym c.self.view_is) c.requires.mesh in
+    let acted = subst (λ (ns : List NodeOf). EventMakes u l c.args.quantum c.args.event (D.Full c.in-Full.kind c.in-Full.node) ns c.self.inside.links ws c.step-did.new.nodes c.step-did.new.links ws') c.as_mut_slice.ensures.value c.in-Full.ensures.act in
+    let back : (with_items c.self.inside.nodes c.step-did.new.nodes).items ≡ c.step-did.new.nodes =
+    with_items_is c.self.inside.nodes c.step-did.new.nodes (c.in-Full.ensures.parts.count ∙ sym c.self.invariant.kept.parts.count ∙ sym c.self.inside.nodes.ok.0) in
+    subst (λ (v : MachineOf). (e : Config Placed) (d : Delay) → MachineRepresents v e d → IsOutcome c.args.event v (O.Full c.in-Full.kind c.in-Full.node)
+    (record (machine_view c.self.inside) { nodes = (with_items c.self.inside.nodes c.step-did.new.nodes).items; links = c.step-did.new.links.links; wires = ws' }) (act (coded v.unit) v.placement c.args.quantum e d c.args.event)) c.self.view_is
+    (subst (λ (ns : List NodeOf). (e : Config Placed) (d : Delay) → MachineRepresents (machine_view c.self.inside) e d → IsOutcome c.args.event (machine_view c.self.inside) (O.Full c.in-Full.kind c.in-Full.node)
+    (record (machine_view c.self.inside) { nodes = ns; links = c.step-did.new.links.links; wires = ws' }) (act (coded u) l c.args.quantum e d c.args.event)) (sym back)
+    (full_outcome (machine_view c.self.inside) c.self.inside.links refl c.self.invariant.kept.parts c.args.quantum c.args.event inside c.step-did.new.nodes c.step-did.new.links ws' c.in-Full.kind c.in-Full.node acted))
+
+pub returns-in-Line : goal.returns-in-Line
+returns-in-Line c =
+    let u = c.self.inside.unit.now in
+    let l = c.self.inside.placement.now in
+    let ws = wires_in c.self.inside.wires in
+    let ws' = wires_in c.step-did.new.wires in
+    let inside : IsOfMesh l c.args.event = subst (λ (v : MachineOf). IsOfMesh v.placement c.args.event) (sym c.self.view_is) c.requires.mesh in
+    let acted = subst (λ (ns : List NodeOf). EventMakes u l c.args.quantum c.args.event (D.Line c.step-did.new.room.what) ns c.self.inside.links ws c.step-did.new.nodes c.step-did.new.links ws') c.as_mut_slice.ensures.value c.in-Line.ensures.act in
+    let back : (with_items c.self.inside.nodes c.step-did.new.nodes).items ≡ c.step-did.new.nodes =
+    with_items_is c.self.inside.nodes c.step-did.new.nodes (c.in-Line.ensures.parts.count ∙ sym c.self.invariant.kept.parts.count ∙ sym c.self.inside.nodes.ok.0) in
+    subst (λ (v : MachineOf). (e : Config Placed) (d : Delay) → MachineRepresents v e d → IsOutcome c.args.event v (O.Line (R.Event (c.self.inside.done + 1) c.args.event c.step-did.new.room.what))
+    (record (machine_view c.self.inside) {
+      nodes = (with_items c.self.inside.nodes c.step-did.new.nodes).items;
+      links = c.step-did.new.links.links;
+      wires = ws';
+      done = c.self.inside.done + 1;
+      moves = c.self.inside.moves + c.moved_by.result;
+      transitions = c.self.inside.transitions + c.shown_by.result;
+    })
+    (act (coded v.unit) v.placement c.args.quantum e d c.args.event)) c.self.view_is
+    (subst (λ (ns : List NodeOf). (e : Config Placed) (d : Delay) → MachineRepresents (machine_view c.self.inside) e d → IsOutcome c.args.event (machine_view c.self.inside) (O.Line (R.Event (c.self.inside.done + 1) c.args.event c.step-did.new.room.what))
+    (record (machine_view c.self.inside) {
+      nodes = ns;
+      links = c.step-did.new.links.links;
+      wires = ws';
+      done = c.self.inside.done + 1;
+      moves = c.self.inside.moves + c.moved_by.result;
+      transitions = c.self.inside.transitions + c.shown_by.result;
+    })
+    (act (coded u) l c.args.quantum e d c.args.event)) (sym back)
+    (line_outcome (machine_view c.self.inside) c.self.inside.links refl c.self.invariant.kept.parts c.args.quantum c.args.event inside c.step-did.new.nodes c.step-did.new.links ws' c.step-did.new.room.what acted c.in-Line.ensures.lossy
+    (c.self.inside.moves + c.moved_by.result) (c.self.inside.transitions + c.shown_by.result)
+    (ap (λ n. c.self.inside.moves + n) c.moved_by.ensures.count) (ap (λ n. c.self.inside.transitions + n) c.shown_by.ensures.count)))

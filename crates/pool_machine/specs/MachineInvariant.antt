@@ -1,0 +1,46 @@
+-- What holds of the fields of a machine, and what a contract sees of them.
+use Rattle.std.specs.Prelude.{ℕ, ◌≡◌, ◌≤◌, ◌*◌, List, Some, length, slice_get}
+use Rattle.run_types.specs.declared.types.Placement.{Placement}
+use Rattle.code_semantics.specs.declared.unit.Unit.{Unit as Code}
+use Rattle.mesh_of_code.specs.Coded.{coded}
+use Rattle.node_semantics.specs.Machine.{empty_node, is_machine_quiet}
+use Rattle.node_state.specs.NodeOf.{NodeOf}
+use Rattle.pool_machine.specs.MachineOf.{MachineOf}
+use Rattle.pool_machine.specs.Parts.{EachCount, IsMeshOf, IsNodeOf}
+use Rattle.pool_machine.specs.OnWires.{WiredMachineInvariant, EachEntered, machine_on, wires_in}
+use Rattle.pool_machine.specs.declared.machine.Machine.TheInside.{Inside}
+
+-- a node without objects
+pub record IsEmptyNode (u : Code) (l : Placement) (i : ℕ) (n : NodeOf) : Type 0 where
+  pub node : IsNodeOf u l i n
+  pub state : n.state ≡ empty_node (coded u)
+
+-- so many nodes without objects, numbered from 0
+pub record AreEmpty (u : Code) (l : Placement) (size : ℕ) (nodes : List NodeOf) : Type 0 where
+  pub count : length nodes ≡ size
+  pub each : (i : ℕ) (n : NodeOf) → slice_get nodes i ≡ Some n → IsEmptyNode u l i n
+
+abbrev pub machine_view : Inside → MachineOf
+machine_view m = record {
+  unit = m.unit.now;
+  placement = m.placement.now;
+  nodes = m.nodes.items;
+  links = m.links.links;
+  wires = wires_in m.wires;
+  done = m.done;
+  moves = m.moves;
+  transitions = m.transitions;
+}
+
+pub record MachineInvariant (m : Inside) : Type 0 where
+  pub mesh : IsMeshOf m.placement.now m.mesh
+  pub table : m.table ≡ m.placement.now
+  pub kept : WiredMachineInvariant m.unit.now m.placement.now m.nodes.items m.links (wires_in m.wires)
+  pub quiet : m.quiet ≡ is_machine_quiet (coded m.unit.now) (machine_on m.nodes.items m.links.links (wires_in m.wires))
+  -- no node has made more objects than there were events
+  pub counts : EachCount (λ k. k ≤ m.done) m.nodes.items
+  -- and no wire more packets
+  pub entered : EachEntered (λ k. k ≤ m.done) (wires_in m.wires) m.links.links
+  pub moves : m.moves ≤ m.done
+  -- an event makes fewer than 2 ^ 32 transitions
+  pub transitions : m.transitions ≤ m.done * 4294967295

@@ -1,0 +1,14 @@
+-- When the answer of a search holds.
+use Rattle.std.specs.Prelude.{◌≤◌}
+use Rattle.pool_syntax.specs.Terms.{ProgramTree}
+use Rattle.pool_search.specs.declared.queries.Query.{Query}
+use Rattle.pool_search.specs.declared.queries.SearchResult.{SearchResult}
+use Rattle.pool_search.specs.declared.queries.SearchResult.TheVariants as F
+use Rattle.pool_search.specs.SearchTargets.{IsWantedStuck, IsWantedFault, LeadsTo, IsFinite}
+
+-- the answer holds: its run leads to what is asked for, or no run does; where the search is over nothing is claimed of runs
+abbrev pub IsAnswer : ProgramTree → Query → SearchResult → Type 0
+IsAnswer p q (F.Stuck ls) = LeadsTo p ls.items (IsWantedStuck p q)
+IsAnswer p q (F.Fault ls) = LeadsTo p ls.items (IsWantedFault q)
+IsAnswer p q (F.Finite k) = IsFinite p q k
+IsAnswer p q (F.Over k) = k ≤ q.most

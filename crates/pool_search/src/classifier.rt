@@ -1,0 +1,63 @@
+//! Whether a configuration is what is asked for.
+ghost use Rattle.std.specs.Prelude.{◌≡◌, false, true};
+ghost use Rattle.pool_semantics.specs.PlainOf.{configuration_of, program_tree, is_spent};
+ghost use Rattle.pool_search.specs.SearchTargets.{CountsAsStuck, IsWantedStuck, IsWantedFault, IsUnwanted};
+ghost use Rattle.search_laws.specs.Search.{IsFaulty};
+
+use crate::queries::{Query, Target};
+use pool_semantics::Plain;
+
+/// What a configuration is.
+#[derive(Clone, Copy)]
+pub enum Classification {
+    Stuck,
+    Fault,
+    Neither,
+}
+
+/// Whether it counts as stuck.
+fn is_stuck(plain: &Plain<'_>, all: bool) -> bool
+    requires { is_spent plain.now ≡ false }
+    ensures yes { result ≡ true → CountsAsStuck all (program_tree plain.now) (configuration_of plain.now) }
+    ensures no { result ≡ false → ¬ (CountsAsStuck all (program_tree plain.now) (configuration_of plain.now)) }
+{
+    if plain.moving().is_some() {
+        return false;
+    }
+    if all {
+        return plain.left_over();
+    }
+    plain.waiting(0).is_some()
+}
+
+/// Whether an object met an error.
+fn is_faulty(plain: &Plain<'_>) -> bool
+    ensures yes { result ≡ true → IsFaulty (configuration_of plain.now) }
+    ensures no { result ≡ false → ¬ (IsFaulty (configuration_of plain.now)) }
+{
+    plain.met_error().is_some()
+}
+
+/// What of what is asked for the configuration is.
+pub fn judge(plain: &Plain<'_>, question: &Query) -> Classification
+    requires { is_spent plain.now ≡ false }
+    ensures stuck { result ≡ Classification.Stuck → IsWantedStuck (program_tree plain.now) question.now (configuration_of plain.now) }
+    ensures fault { result ≡ Classification.Fault → IsWantedFault question.now (configuration_of plain.now) }
+    ensures neither { result ≡ Classification.Neither → IsUnwanted (program_tree plain.now) question.now (configuration_of plain.now) }
+{
+    let stuck = match question.wanted {
+        Target::Stuck | Target::Both => is_stuck(plain, question.all),
+        Target::Fault => false,
+    };
+    if stuck {
+        return Classification::Stuck;
+    }
+    let fault = match question.wanted {
+        Target::Fault | Target::Both => is_faulty(plain),
+        Target::Stuck => false,
+    };
+    if fault {
+        return Classification::Fault;
+    }
+    Classification::Neither
+}

@@ -1,0 +1,72 @@
+//! Numbers for a configuration.
+ghost use Rattle.std.specs.Prelude.{◌≡◌, ◌-◌, ◌^◌, ◌<◌, ◌≤◌, Ok, None, IfOk, IfSome, IsTrue, length, map, take};
+ghost use Rattle.std.specs.List.{All};
+ghost use Rattle.std.specs.Ordering.{nat_cmp};
+ghost use Rattle.std.specs.FinMap.Entries.{is_sorted};
+ghost use Rattle.run_types.specs.Tables.{pair_cmp};
+ghost use Rattle.stepper_objects.specs.ObjectStates.{things};
+ghost use Rattle.pool_semantics.specs.Mails.{posts};
+ghost use Rattle.search_states.specs.States.{states};
+ghost use Rattle.pool_search.specs.Numbers.{AreNamedFrom, objects_from, queue_messages};
+
+use crate::numbered::Queue;
+use pool_semantics::Mail;
+use search_states::StateTable;
+use std::alloc::{AllocError, Global};
+use std::collections::{BTreeMap, VecDeque};
+use stepper_objects::object_state::ObjectState;
+
+/// The numbers of these objects' states; None where the table is full, or the names are not 0, 1, 2, ..
+pub fn numbers_of<'a>(
+    alloc: Global,
+    table: &mut StateTable<'a>,
+    objects: &BTreeMap<u32, ObjectState<'a>>,
+) -> Result<Option<Vec<u32>>, AllocError>
+    ensures grows { take (length (states table.old)) (states table.new) ≡ states table.old }
+    ensures within { IfOk result (λ o. IfSome o (λ v. All (λ n. n < length (states table.new)) v.items)) }
+    ensures objects { IfOk result (λ o. IfSome o (λ v. objects_from 0 (states table.new) v.items ≡ things objects.now.entries)) }
+    ensures sorted { IfOk result (λ o. IsTrue (is_sorted nat_cmp (things objects.now.entries))) }
+    ensures full { result ≡ Ok None → AreNamedFrom 0 (things objects.now.entries) → 2 ^ 32 - 1 ≤ length (states table.new) }
+{
+    let mut numbers = Vec::with_capacity(alloc, objects.len())?;
+    for (name, thing) in objects.iter() {
+        if *name as usize != numbers.len() {
+            return Ok(None);
+        }
+        match table.number_of(thing)? {
+            Some(number) => numbers.push(number)?,
+            None => return Ok(None),
+        }
+    }
+    Ok(Some(numbers))
+}
+
+fn mails_of(alloc: Global, queue: &VecDeque<Mail>) -> Result<Vec<Mail>, AllocError>
+    ensures { IfOk result (λ v. v.items ≡ queue.now.items) }
+{
+    let (front, back) = queue.as_slices();
+    let mut mails = Vec::with_capacity(alloc, queue.len())?;
+    mails.extend_from_slice(front)?;
+    mails.extend_from_slice(back)?;
+    Ok(mails)
+}
+
+/// The queues of these messages.
+pub fn queues_of(
+    alloc: Global,
+    messages: &BTreeMap<(u32, u32), VecDeque<Mail>>,
+) -> Result<Vec<Queue>, AllocError>
+    ensures queues { IfOk result (λ qs. map queue_messages qs.items ≡ posts messages.now.entries) }
+    ensures sorted { IfOk result (λ qs. IsTrue (is_sorted pair_cmp (posts messages.now.entries))) }
+{
+    let mut queues = Vec::with_capacity(alloc, messages.len())?;
+    for (pair, queue) in messages.iter() {
+        let mails = mails_of(alloc, queue)?;
+        queues.push(Queue {
+            sender: pair.0,
+            receiver: pair.1,
+            mails,
+        })?;
+    }
+    Ok(queues)
+}

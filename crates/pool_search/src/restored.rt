@@ -1,0 +1,64 @@
+//! A configuration from its numbers.
+ghost use Rattle.std.specs.Prelude.{◌≡◌, ◌<◌, IfOk, IsTrue, length, map};
+ghost use Rattle.std.specs.List.{All};
+ghost use Rattle.std.specs.FinMap.Entries.{is_sorted};
+ghost use Rattle.run_types.specs.Tables.{pair_cmp};
+ghost use Rattle.stepper_objects.specs.ObjectStates.{things};
+ghost use Rattle.pool_semantics.specs.Mails.{posts};
+ghost use Rattle.search_states.specs.States.{states};
+ghost use Rattle.pool_search.specs.Numbers.{objects_from, queue_messages};
+
+use crate::numbered::Queue;
+use pool_semantics::Mail;
+use search_states::{StateTable, copy};
+use std::alloc::{AllocError, Global};
+use std::collections::{BTreeMap, VecDeque};
+use stepper_objects::object_state::ObjectState;
+
+/// The objects of these numbers, under the names 0, 1, 2, ..
+pub fn objects_at<'a>(
+    alloc: Global,
+    table: &StateTable<'a>,
+    numbers: &[u32],
+) -> Result<BTreeMap<u32, ObjectState<'a>>, AllocError>
+    requires { All (λ n. n < length (states table.now)) numbers.now }
+    ensures { IfOk result (λ m. things m.entries ≡ objects_from 0 (states table.now) numbers.now) }
+{
+    let mut objects = BTreeMap::new(alloc);
+    for (i, number) in numbers.iter().enumerate() {
+        let Some(thing) = table.get(*number) else {
+            unreachable!();
+        };
+        let Ok(name) = u32::try_from(i) else {
+            return Err(AllocError);
+        };
+        objects.insert(name, copy(alloc, thing)?)?;
+    }
+    Ok(objects)
+}
+
+fn queue_at(alloc: Global, mails: &[Mail]) -> Result<VecDeque<Mail>, AllocError>
+    ensures { IfOk result (λ q. q.items ≡ mails.now) }
+{
+    let mut queue = VecDeque::new(alloc);
+    for mail in mails {
+        queue.push_back(*mail)?;
+    }
+    Ok(queue)
+}
+
+/// The messages of these queues.
+pub fn messages_at(
+    alloc: Global,
+    queues: &[Queue],
+) -> Result<BTreeMap<(u32, u32), VecDeque<Mail>>, AllocError>
+    requires { IsTrue (is_sorted pair_cmp (map queue_messages queues.now)) }
+    ensures { IfOk result (λ m. posts m.entries ≡ map queue_messages queues.now) }
+{
+    let mut messages = BTreeMap::new(alloc);
+    for queue in queues {
+        let mails = queue_at(alloc, queue.mails.as_slice())?;
+        messages.insert((queue.sender, queue.receiver), mails)?;
+    }
+    Ok(messages)
+}

@@ -1,0 +1,171 @@
+//! The list of configurations, each once.
+ghost use Rattle.std.specs.Prelude.{◌≡◌};
+ghost use Rattle.std.specs.List.{All};
+ghost use Rattle.pool_syntax.specs.TreeOf.{program_of};
+ghost use Rattle.search_states.specs.States.{states};
+ghost use Rattle.pool_search.specs.Numbers.{EntryInvariant};
+
+use crate::equality::{mark, same_numbered};
+use crate::made::{numbers_of, queues_of};
+use crate::numbered::Numbered;
+use crate::restored::{messages_at, objects_at};
+use pool_semantics::{Plain, State};
+use pool_syntax::Program;
+use search_states::StateTable;
+use std::alloc::{AllocError, Global};
+use std::collections::{BTreeMap, HashMap};
+use stepper_objects::object_state::ObjectState;
+
+/// The number of a configuration that was seen before, or was added.
+#[derive(Clone, Copy)]
+pub enum Entry {
+    Seen(u32),
+    Added(u32),
+}
+
+/// Configurations of one program, each with its next name. `latest` has the last one of each mark.
+#[derive(Drop)]
+pub struct VisitedSet<'a> {
+    alloc: Global,
+    program: &'a Program,
+    table: StateTable<'a>,
+    entries: Vec<Numbered>,
+    latest: HashMap<u64, u32>,
+    ghost kept: { All (EntryInvariant (program_of program.now) (states table)) entries.items },
+}
+
+impl<'a> VisitedSet<'a> {
+    ghost use Rattle.std.specs.Prelude.{◌<◌, ◌++◌, [], ◌∷◌, ℕ, Ok, None, Some, IfOk, IfSome, OnOk, OnErr, IsTrue, length, slice_get, false};
+    ghost use Rattle.std.specs.Ordering.{nat_cmp};
+    ghost use Rattle.std.specs.FinMap.Entries.{is_sorted};
+    ghost use Rattle.stepper_objects.specs.ObjectStates.{things};
+    ghost use Rattle.pool_semantics.specs.PlainOf.{configuration_of, program_tree, is_spent};
+    ghost use Rattle.search_laws.specs.Search.{IsInOrder};
+    ghost use Rattle.pool_search.specs.Numbers.{AreNamedFrom, numbered, objects_from};
+    ghost use Rattle.pool_search.specs.VisitedConfigurations.{IsFull, kept_list, kept_program};
+
+    /// No configuration, of the program of this one.
+    pub fn make(alloc: Global, plain: &Plain<'a>) -> Result<VisitedSet<'a>, AllocError>
+        ensures list { IfOk result (λ k. kept_list k ≡ []) }
+        ensures program { IfOk result (λ k. kept_program k ≡ program_tree plain.now) }
+    {
+        Ok(VisitedSet {
+            alloc,
+            program: plain.state().program,
+            table: StateTable::make(alloc),
+            entries: Vec::new(alloc),
+            latest: HashMap::new(alloc),
+        })
+    }
+
+    /// The number of configurations.
+    pub fn len(&self) -> usize
+        ensures { result ≡ length (kept_list self.now) }
+    {
+        self.entries.len()
+    }
+
+    /// The next name of the configuration at this place.
+    pub fn next_name(&self, at: usize) -> u32
+        requires { at < length (kept_list self.now) }
+        ensures { IfSome (slice_get (kept_list self.now) at) (λ e. result ≡ e.0) }
+    {
+        self.entries[at].next
+    }
+
+    /// The configuration at this place.
+    pub fn configuration(&self, at: usize) -> Result<Plain<'a>, AllocError>
+        requires { at < length (kept_list self.now) }
+        ensures configuration { IfOk result (λ s. IfSome (slice_get (kept_list self.now) at) (λ e. configuration_of s ≡ e.1)) }
+        ensures program { IfOk result (λ s. program_tree s ≡ kept_program self.now) }
+        ensures fresh { IfOk result (λ s. is_spent s ≡ false) }
+    {
+        let entry = &self.entries[at];
+        let objects = objects_at(self.alloc, &self.table, entry.objects.as_slice())?;
+        let messages = messages_at(self.alloc, entry.queues.as_slice())?;
+        Ok(Plain::of(State {
+            alloc: self.alloc,
+            program: self.program,
+            objects,
+            messages,
+        }))
+    }
+
+    /// The place of a configuration with its numbers, if it is the last one of its mark.
+    fn seen(&self, mark: u64, found: &Numbered) -> Option<u32>
+        ensures { IfSome result (λ i. slice_get (kept_list self.now) i ≡ Some (found.now.next, numbered (states self.now.table) found.now)) }
+    {
+        let at = *self.latest.get(&mark)?;
+        let entry = self.entries.as_slice().get(at as usize)?;
+        if same_numbered(entry, found) {
+            Some(at)
+        } else {
+            None
+        }
+    }
+
+    /// Adds a configuration, and gives its place; None where the list has 2^32 of them.
+    fn add(&mut self, mark: u64, found: Numbered) -> Result<Option<u32>, AllocError>
+        requires { EntryInvariant (program_of self.old.program.now) (states self.old.table) found }
+        ensures added { IfOk result (λ o. IfSome o (λ i. (kept_list self.new ≡ kept_list self.old ++ (found.next, numbered (states self.old.table) found) ∷ []) × (i ≡ length (kept_list self.old)))) }
+        ensures none { result ≡ Ok None → kept_list self.new ≡ kept_list self.old }
+        ensures full { result ≡ Ok None → IsFull self.new }
+        ensures error { OnErr result (kept_list self.new ≡ kept_list self.old) }
+        ensures program { self.new.program ≡ self.old.program }
+    {
+        let Ok(at) = u32::try_from(self.entries.len()) else {
+            return Ok(None);
+        };
+        self.latest.insert(mark, at)?;
+        self.entries.push(found)?;
+        Ok(Some(at))
+    }
+
+    /// The numbers of these objects, whose states the table has from now on.
+    fn numbers(
+        &mut self,
+        objects: &BTreeMap<u32, ObjectState<'a>>,
+    ) -> Result<Option<Vec<u32>>, AllocError>
+        ensures list { kept_list self.new ≡ kept_list self.old }
+        ensures program { self.new.program ≡ self.old.program }
+        ensures within { IfOk result (λ o. IfSome o (λ v. All (λ n. n < length (states self.new.table)) v.items)) }
+        ensures objects { IfOk result (λ o. IfSome o (λ v. objects_from 0 (states self.new.table) v.items ≡ things objects.now.entries)) }
+        ensures sorted { IfOk result (λ o. IsTrue (is_sorted nat_cmp (things objects.now.entries))) }
+        ensures full { result ≡ Ok None → AreNamedFrom 0 (things objects.now.entries) → IsFull self.new }
+    {
+        numbers_of(self.alloc, &mut self.table, objects)
+    }
+
+    /// Looks for a configuration, and adds it where it is not there. None where the list or the table of object states is full, or the names of the objects
+    /// are not 0, 1, 2, ..
+    pub fn keep(&mut self, plain: &Plain<'a>, next: u32) -> Result<Option<Entry>, AllocError>
+        requires fresh { is_spent plain.now ≡ false }
+        requires program { program_tree plain.now ≡ kept_program self.old }
+        ensures seen { (i : ℕ) → result ≡ Ok (Some (Entry.Seen i)) → (kept_list self.new ≡ kept_list self.old) × (slice_get (kept_list self.old) i ≡ Some (next, configuration_of plain.now)) }
+        ensures added { (i : ℕ) → result ≡ Ok (Some (Entry.Added i)) → (kept_list self.new ≡ kept_list self.old ++ (next, configuration_of plain.now) ∷ []) × (i ≡ length (kept_list self.old)) }
+        ensures none { result ≡ Ok None → kept_list self.new ≡ kept_list self.old }
+        ensures full { result ≡ Ok None → AreNamedFrom 0 (configuration_of plain.now).objects → IsFull self.new }
+        ensures error { OnErr result (kept_list self.new ≡ kept_list self.old) }
+        ensures program { kept_program self.new ≡ kept_program self.old }
+        ensures in_order { OnOk result (IsInOrder (configuration_of plain.now)) }
+    {
+        let state = plain.state();
+        let queues = queues_of(self.alloc, &state.messages)?;
+        let Some(objects) = self.numbers(&state.objects)? else {
+            return Ok(None);
+        };
+        let found = Numbered {
+            next,
+            objects,
+            queues,
+        };
+        let mark = mark(&found);
+        match self.seen(mark, &found) {
+            Some(at) => Ok(Some(Entry::Seen(at))),
+            None => match self.add(mark, found)? {
+                Some(at) => Ok(Some(Entry::Added(at))),
+                None => Ok(None),
+            },
+        }
+    }
+}

@@ -1,0 +1,43 @@
+-- Lists of labels that grow, part by part.
+use Rattle.std.proofs.Common.{◌≡◌, refl, ap, ◌∙◌, ℕ, zero, suc, ◌<◌, List, [], ◌∷◌, ◌++◌, length, map, drop, slice_index_or, Some, None, append_assoc, arith}
+use Rattle.run_types.specs.declared.types.Label.{Label}
+use Rattle.run_types.specs.declared.types.Label.TheVariants as L
+use Rattle.run_types.specs.declared.types.NameId.{NameId}
+use Rattle.run_types.specs.declared.types.Value.{Value}
+use Rattle.pool_syntax.specs.declared.tree.Named.{Named}
+use Rattle.run_types.specs.Tables.{Pair}
+use Rattle.pool_relation.specs.Reducible.{Choice}
+use Rattle.pool_relation.specs.Action as A
+use Rattle.pool_relation.specs.Action.{Object, Action}
+use Rattle.search_laws.specs.Labels.{own_labels, picks, takes}
+use Rattle.stepper_objects.specs.declared.act.Act.{Act}
+use Rattle.stepper_objects.specs.declared.act.Act.TheVariants as C
+use Rattle.stepper_objects.specs.Acts.{acted}
+use Rattle.stepper_terms.specs.declared.contexts.Guarded.{Guarded}
+use Rattle.stepper_terms.specs.Reduced.{choices}
+use Rattle.pool_semantics.specs.declared.plain.mail.Mail.{Mail}
+use Rattle.pool_semantics.specs.Mails.{message_of}
+use Rattle.pool_semantics.specs.SearchQueries.{free_label}
+
+-- one part more is there
+pub grown : {X : Type 0} (old new part rest all : List X) → new ≡ old ++ part → old ++ (part ++ rest) ≡ all → new ++ rest ≡ all
+grown old new part rest all e h = rw e (append_assoc old part rest ∙ h)
+
+pub length_choices : (gs : List Guarded) → length (choices gs) ≡ length gs
+length_choices [] = refl
+length_choices (g ∷ gs) = ap suc (length_choices gs)
+
+pub one_pick : (o k i : ℕ) (cs : List Choice) → i < length cs → picks o k (drop i cs) ≡ L.Pick o k ∷ picks o (suc k) (drop (suc i) cs)
+one_pick o k i [] h = absurd (omega (arith, h))
+one_pick o k zero (c ∷ cs) h = refl
+one_pick o k (suc i) (c ∷ cs) h = one_pick o k i cs (omega (arith, h))
+
+-- the message is taken
+abbrev pub take_of : Pair → Mail → Label
+take_of k m = L.Take k.1 k.0 m.method m.args
+
+pub no_picks : (o k i : ℕ) (cs : List Choice) → length cs ≡ i → picks o k (drop i cs) ≡ []
+no_picks o k zero [] h = refl
+no_picks o k (suc i) [] h = refl
+no_picks o k zero (c ∷ cs) h = absurd (omega (arith, h))
+no_picks o k (suc i) (c ∷ cs) h = no_picks o k i cs (omega (arith, h))

@@ -1,2 +1,0 @@
--- The lemmas that crates above may cite.
-pub use Rattle.program_input.proofs.ReadLaws.{stops_as, was_read, passed_on, judged, judges_refusal, fits_is, judge_passed, program_judged, since}

@@ -1,3 +1,0 @@
-pub mod RecordText
-pub mod Writable
-pub mod SecondForm

@@ -1,0 +1,60 @@
+//! The parts of a text between bytes of one kind.
+ghost use Rattle.std.specs.Prelude.{◌≡◌, ◌<◌, length, IfSome};
+ghost use Rattle.record_parser.specs.Fields.{fields, parts};
+ghost use Rattle.record_parser.specs.TextParts.{AreFields, IsCut};
+
+/// The first part of a text, and what is left behind the separator, if there is one.
+#[derive(Clone, Copy)]
+pub struct Front<'a> {
+    pub first: &'a [u8],
+    pub rest: Option<&'a [u8]>,
+}
+
+/// Cuts a text at its first separator.
+pub fn cut(separator: u8, text: &[u8]) -> Front<'_>
+    ensures parts { IsCut separator (parts separator text.now) result }
+    ensures shorter { IfSome result.rest (λ t. length t.now < length text.now) }
+{
+    let mut at = 0;
+    while at < text.len() && text[at] != separator {
+        at += 1;
+    }
+    if at == text.len() {
+        return Front {
+            first: text,
+            rest: None,
+        };
+    }
+    Front {
+        first: &text[0..at],
+        rest: Some(&text[at + 1..text.len()]),
+    }
+}
+
+/// The words of a text; of more than three the text of those behind the third.
+#[derive(Clone, Copy)]
+pub enum Few<'a> {
+    One(&'a [u8]),
+    Two(&'a [u8], &'a [u8]),
+    Three(&'a [u8], &'a [u8], &'a [u8]),
+    More(&'a [u8], &'a [u8], &'a [u8], &'a [u8]),
+}
+
+/// The words of a text, with one space between them.
+pub fn few_fields(text: &[u8]) -> Few<'_>
+    ensures { AreFields (fields text.now) result }
+{
+    let one = cut(b' ', text);
+    let Some(behind_one) = one.rest else {
+        return Few::One(one.first);
+    };
+    let two = cut(b' ', behind_one);
+    let Some(behind_two) = two.rest else {
+        return Few::Two(one.first, two.first);
+    };
+    let three = cut(b' ', behind_two);
+    match three.rest {
+        None => Few::Three(one.first, two.first, three.first),
+        Some(rest) => Few::More(one.first, two.first, three.first, rest),
+    }
+}

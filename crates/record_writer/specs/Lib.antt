@@ -1,0 +1,4 @@
+pub mod RecordText
+pub mod PlainTexts
+pub mod Writable
+pub mod SecondForm

@@ -1,0 +1,16 @@
+-- The text of an item without the quotes of a string, and of the lines of a record one after another.
+use Rattle.std.specs.Prelude.{List, [], ◌∷◌, ◌++◌}
+use Rattle.text_scan.specs.Text.{Text}
+use Rattle.run_types.specs.declared.types.Item.{Item}
+use Rattle.run_types.specs.declared.types.Item.TheVariants as I
+use Rattle.run_types.specs.declared.types.Line.{Line}
+use Rattle.record_writer.specs.RecordText.{text_at, value_text, line_text}
+
+-- what is written without the quotes of a string
+abbrev pub bare_text : List Text → Item → Text
+bare_text names (I.Value v) = value_text v
+bare_text names (I.Text id) = text_at names id
+
+abbrev pub record_text : List Text → List Line → Text
+record_text names [] = []
+record_text names (l ∷ ls) = line_text names l ++ record_text names ls

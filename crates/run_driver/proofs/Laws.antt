@@ -1,3 +1,0 @@
--- The lemmas that crates above may cite.
-pub use Rattle.run_driver.proofs.DriveLaws.{Follows, front_of_both, front_of_first, then, wrote_both}
-pub use Rattle.run_driver.proofs.PlanLaws.{plan_is_on}

@@ -1,9 +1,0 @@
-pub mod RowLaws
-pub mod WhyLaws
-pub mod KnownRows
-pub mod CycleLaws
-pub mod AskerLaws
-pub mod PlanLaws
-pub mod DriveLaws
-pub mod RanLaws
-pub mod Laws

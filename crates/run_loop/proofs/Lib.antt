@@ -1,0 +1,10 @@
+pub mod RunUnderWay
+pub mod RowLaws
+pub mod WhyLaws
+pub mod KnownRows
+pub mod CycleLaws
+pub mod AskerLaws
+pub mod PlanLaws
+pub mod DriveLaws
+pub mod FinishedRuns
+pub mod Laws

@@ -1,0 +1,10 @@
+use Rattle.std.proofs.Common.{◌≡◌, ◌*◌}
+use Rattle.mesh_semantics.specs.Config.{Config}
+use Rattle.mesh_semantics.specs.Delay.{Delay}
+use Rattle.mesh_of_code.specs.Coded.{Placed}
+use Rattle.pool_machine.specs.Answers.{MachineRepresents}
+use Rattle.run_loop.specs.ReportRows.{rows_below}
+use Rattle.run_loop.proofs.why.rows_in.Given as goal
+
+abbrev pub invariant-loop-node : goal.invariant-loop-node
+invariant-loop-node l = (c : Config Placed) (d : Delay) → MachineRepresents l.machine c d → l.rows ≡ rows_below l.machine.unit c d (l.node * 65536)

@@ -1,0 +1,15 @@
+//! Runs a loaded program, and writes its record, output, report or counts to a sink.
+//!
+//! Does not know: files, and how inputs are read.
+#![tactic(auto)]
+
+mod drive;
+mod loaded;
+mod run;
+mod status;
+pub mod theorems;
+mod why;
+
+pub use loaded::Loaded;
+pub use run::{write_ring, write_run, write_why};
+pub use status::Status;

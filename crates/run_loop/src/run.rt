@@ -1,0 +1,130 @@
+//! Makes a run of what was loaded, and writes what is asked of it.
+ghost use Rattle.std.specs.Prelude.{◌≡◌, ◌++◌, IfOk};
+ghost use Rattle.run_loop.specs.FinishedRun.{HasDriven};
+ghost use Rattle.run_loop.specs.RunOutput.{IsLoaded, shown_record};
+ghost use Rattle.run_loop.specs.Loading.{lines_of, run_text};
+ghost use Rattle.run_loop.specs.Shown.{counts_text, end_text, ended, ring_text, status_of};
+ghost use Rattle.run_loop.specs.Writing.{Delivers, writing};
+
+use crate::drive::{RunEnd, drive, finish, make_table};
+use crate::loaded::Loaded;
+use crate::status::Status;
+use crate::why::write_report;
+use command_inputs::{push_count, push_place};
+use command_line::Show;
+use pool_machine::{Machine, OpenFault};
+use pool_outside::{Sink, WriteFault, write_all_of};
+use run_types::{Line, Names};
+use std::alloc::{AllocError, Global};
+
+/// A machine after its run, and how the run has ended.
+#[derive(Drop)]
+pub struct FinishedRun<'a> {
+    pub machine: Machine<'a>,
+    pub last: RunEnd,
+}
+
+/// Makes the machine and the table of a run, and then the run; all its memory is taken before the first byte is written. `Err` is the status of a call that ends here:
+/// `Memory`, with nothing written, or `WriteFault`.
+fn run_loaded<'a, K: Sink>(
+    alloc: Global,
+    out: &mut K,
+    show: Show,
+    loaded: &'a Loaded,
+) -> Result<FinishedRun<'a>, Status>
+    requires { IsLoaded loaded.now.unit loaded.now.placement loaded.now.schedule }
+    ensures { HasDriven show loaded.now (writing K.written K.faults out.old out.new) result }
+{
+    let mut asks = match make_table(alloc, loaded) {
+        Ok(asks) => asks,
+        Err(AllocError) => return Err(Status::Memory),
+    };
+    let lossy = loaded.schedule.lossy();
+    match Machine::make(alloc, &loaded.unit, &loaded.placement, lossy) {
+        Ok(mut machine) => match drive(
+            &mut machine,
+            &mut asks,
+            &loaded.unit.names,
+            &loaded.schedule,
+            show,
+            out,
+        ) {
+            Ok(last) => Ok(FinishedRun { machine, last }),
+            Err(WriteFault) => Err(Status::WriteFault),
+        },
+        Err(OpenFault::Memory) => Err(Status::Memory),
+    }
+}
+
+/// Makes a run and writes it; all its memory is taken before the first byte is written.
+pub fn write_run<K: Sink>(alloc: Global, out: &mut K, show: Show, loaded: &Loaded) -> Status
+    requires { IsLoaded loaded.now.unit loaded.now.placement loaded.now.schedule }
+    ensures { Delivers (writing K.written K.faults out.old out.new) (shown_record show loaded.now.unit.names (lines_of loaded.now)) (status_of (lines_of loaded.now)) result }
+{
+    match run_loaded(alloc, out, show, loaded) {
+        Ok(ran) => finish(show, ran.last, &loaded.unit.names, out),
+        Err(status) => status,
+    }
+}
+
+/// Makes a run, and writes where its objects stand at its end; all memory is taken before the first byte is written.
+pub fn write_why<K: Sink>(alloc: Global, out: &mut K, loaded: &Loaded) -> Status
+    requires { IsLoaded loaded.now.unit loaded.now.placement loaded.now.schedule }
+    ensures { Delivers (writing K.written K.faults out.old out.new) (run_text Show.Report loaded.now) (status_of (lines_of loaded.now)) result }
+{
+    match run_loaded(alloc, out, Show::Report, loaded) {
+        Ok(ran) => write_report(
+            alloc,
+            &ran.machine,
+            &loaded.placement,
+            &loaded.unit.names,
+            ran.last,
+            out,
+        ),
+        Err(status) => status,
+    }
+}
+
+/// The lines of the counts of a run.
+fn counts_of(alloc: Global, machine: &Machine<'_>) -> Result<Vec<u8>, AllocError>
+    ensures { IfOk result (λ t. t.items ≡ counts_text machine.now.done machine.now.transitions machine.now.moves) }
+{
+    let mut text = Vec::new(alloc);
+    push_place(&mut text, b"events ", machine.done())?;
+    push_count(&mut text, b"\ntransitions ", machine.transitions())?;
+    push_count(&mut text, b"\nmoves ", machine.moves())?;
+    text.extend_from_slice(b"\n")?;
+    Ok(text)
+}
+
+/// Writes the counts of a run that has ended, and the end line.
+fn write_counts<K: Sink>(
+    alloc: Global,
+    machine: &Machine<'_>,
+    names: &Names,
+    last: RunEnd,
+    out: &mut K,
+) -> Status
+    ensures { Delivers (writing K.written K.faults out.old out.new)
+        (counts_text machine.now.done machine.now.transitions machine.now.moves ++ end_text names.now (Line.End last.end)) (ended last.faulted last.end) result }
+{
+    let counts = match counts_of(alloc, machine) {
+        Ok(counts) => counts,
+        Err(AllocError) => return Status::Memory,
+    };
+    match write_all_of(out, &counts) {
+        Ok(()) => finish(Show::Report, last, names, out),
+        Err(WriteFault) => Status::WriteFault,
+    }
+}
+
+/// Makes a run, and writes its counts and its end line; all memory is taken before the first byte is written.
+pub fn write_ring<K: Sink>(alloc: Global, out: &mut K, loaded: &Loaded) -> Status
+    requires { IsLoaded loaded.now.unit loaded.now.placement loaded.now.schedule }
+    ensures { Delivers (writing K.written K.faults out.old out.new) (ring_text loaded.now.unit.names (lines_of loaded.now)) (status_of (lines_of loaded.now)) result }
+{
+    match run_loaded(alloc, out, Show::Report, loaded) {
+        Ok(ran) => write_counts(alloc, &ran.machine, &loaded.unit.names, ran.last, out),
+        Err(status) => status,
+    }
+}

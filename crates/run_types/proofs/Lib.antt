@@ -1,0 +1,14 @@
+pub mod FirstUnusedPlace
+pub mod Texts
+pub mod Tests
+pub mod Chains
+pub mod Maps
+pub mod Meshes
+pub mod Neighbours
+pub mod RoutedPaths
+pub mod BrokenPaths
+pub mod LinkMaps
+pub mod Pigeonhole
+pub mod EachLaws
+pub mod Ranges
+pub mod Laws

@@ -1,0 +1,19 @@
+-- What the code's answers of operators stand for.
+use Rattle.std.specs.Prelude.{Bool, true, false}
+use Rattle.run_types.specs.declared.types.Op.{Op}
+use Rattle.run_types.specs.declared.types.Op.TheVariants as O
+use Rattle.run_types.specs.declared.operators.Answer.{Answer}
+use Rattle.run_types.specs.declared.operators.Answer.TheVariants as A
+use Rattle.run_types.specs.Values.{Outcome, Gives, Fails, WrongSort}
+
+-- the answer of an operator
+abbrev pub outcome_of : Answer → Outcome
+outcome_of (A.Gives v) = Gives v
+outcome_of (A.Fails e) = Fails e
+outcome_of A.WrongSort = WrongSort
+
+-- whether it is `and` or `or`
+abbrev pub is_logical : Op → Bool
+is_logical O.And = true
+is_logical O.Or = true
+is_logical _ = false

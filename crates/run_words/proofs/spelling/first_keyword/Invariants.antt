@@ -1,8 +1,0 @@
-use Rattle.std.proofs.Common.{◌≡◌, map, drop}
-use Rattle.run_words.specs.Keywords.{keyword_text}
-use Rattle.run_words.specs.Text.{lookup}
-use Rattle.run_words.proofs.spelling.first_keyword.Given as goal
-
--- the keywords passed so far have another text
-abbrev pub invariant-loop-keyword : goal.invariant-loop-keyword
-invariant-loop-keyword l = lookup (map (λ k. (keyword_text k, k)) (drop l.keyword-index l.keywords)) l.word ≡ lookup (map (λ k. (keyword_text k, k)) l.keywords) l.word

@@ -1,8 +1,0 @@
--- Eight places, the unused ones nil.
-use Rattle.std.specs.Prelude.{List, length, ◌++◌, ◌-◌, replicate}
-use Rattle.run_words.specs.declared.words.Value.{Value}
-use Rattle.run_words.specs.declared.words.Value.TheVariants.{Nil}
-
--- a list of arguments in the eight places
-abbrev pub filled : List Value → List Value
-filled d = d ++ replicate (8 - length d) Nil

@@ -1,5 +1,0 @@
-use Rattle.schedule_reader.proofs.Stretching.{length_events}
-use Rattle.schedule_reader.proofs.counted.events_are_counted.Goals as goal
-
-pub returns : goal.returns
-returns c w h cuts lossy es = length_events w h cuts lossy es

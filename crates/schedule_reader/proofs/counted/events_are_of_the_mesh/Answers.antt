@@ -1,5 +1,0 @@
-use Rattle.schedule_reader.proofs.Planned.{plan_is_for}
-use Rattle.schedule_reader.proofs.counted.events_are_of_the_mesh.Goals as goal
-
-pub returns : goal.returns
-returns c l s plan h = plan_is_for l s plan h

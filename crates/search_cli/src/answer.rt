@@ -1,0 +1,84 @@
+//! What a search answers, as text.
+ghost use Rattle.std.specs.Prelude.{◌≡◌, ◌++◌, IfOk, OnOk};
+ghost use Rattle.search_cli.specs.AnswerText.{end_line, fault_text, finite_text, over_text, stuck_text, waits_line, waits_text};
+ghost use Rattle.wait_report.specs.Calls.{names_of, Rising};
+
+use crate::steps::{other_than_local, push_steps};
+use record_writer::{push_count, push_word};
+use run_types::{Label, Names};
+use std::alloc::{AllocError, Global};
+use wait_report::{ObjectRow, put_each_cycle, put_row};
+
+/// Puts the line of an object that waits.
+fn push_waits(text: &mut Vec<u8>, names: &Names, row: &ObjectRow) -> Result<(), AllocError>
+    ensures { OnOk result (text.new.items ≡ text.old.items ++ waits_line names.now row.now) }
+{
+    text.extend_from_slice(b"waits ")?;
+    put_row(text, names, row)
+}
+
+/// Puts the lines of the objects that wait.
+fn push_waiting(text: &mut Vec<u8>, names: &Names, rows: &[ObjectRow]) -> Result<(), AllocError>
+    ensures { OnOk result (text.new.items ≡ text.old.items ++ waits_text names.now rows.now) }
+{
+    for row in rows {
+        push_waits(text, names, row)?;
+    }
+    Ok(())
+}
+
+/// Puts the line that tells how a search ends.
+fn push_end(text: &mut Vec<u8>, word: &[u8], count: usize) -> Result<(), AllocError>
+    ensures { OnOk result (text.new.items ≡ text.old.items ++ end_line word.now count) }
+{
+    text.extend_from_slice(b"end")?;
+    push_word(text, word)?;
+    push_count(text, count)?;
+    text.extend_from_slice(b"\n")
+}
+
+/// The text of a run that gets stuck, with the objects that wait there.
+pub fn stuck_text(
+    alloc: Global,
+    names: &Names,
+    labels: &[Label],
+    rows: &[ObjectRow],
+) -> Result<Vec<u8>, AllocError>
+    requires { Rising (names_of rows.now) }
+    ensures { IfOk result (λ text. text.items ≡ stuck_text names.now labels.now rows.now) }
+{
+    let mut text = Vec::new(alloc);
+    push_steps(&mut text, names, labels)?;
+    push_waiting(&mut text, names, rows)?;
+    put_each_cycle(alloc, &mut text, rows)?;
+    push_end(&mut text, b"stuck", other_than_local(labels))?;
+    Ok(text)
+}
+
+/// The text of a run that meets a language error.
+pub fn fault_text(alloc: Global, names: &Names, labels: &[Label]) -> Result<Vec<u8>, AllocError>
+    ensures { IfOk result (λ text. text.items ≡ fault_text names.now labels.now) }
+{
+    let mut text = Vec::new(alloc);
+    push_steps(&mut text, names, labels)?;
+    push_end(&mut text, b"fault", other_than_local(labels))?;
+    Ok(text)
+}
+
+/// The text where no run gets stuck or meets an error, after so many configurations.
+pub fn finite_text(alloc: Global, kept: usize) -> Result<Vec<u8>, AllocError>
+    ensures { IfOk result (λ text. text.items ≡ finite_text kept) }
+{
+    let mut text = Vec::new(alloc);
+    push_end(&mut text, b"finite", kept)?;
+    Ok(text)
+}
+
+/// The text where so many configurations were looked at, and there may be more.
+pub fn over_text(alloc: Global, kept: usize) -> Result<Vec<u8>, AllocError>
+    ensures { IfOk result (λ text. text.items ≡ over_text kept) }
+{
+    let mut text = Vec::new(alloc);
+    push_end(&mut text, b"over", kept)?;
+    Ok(text)
+}

@@ -1,3 +1,0 @@
-pub mod StepLaws
-pub mod Rising
-pub mod Laws

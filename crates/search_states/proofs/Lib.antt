@@ -1,0 +1,5 @@
+pub mod Folds
+mod ReflexiveEquality
+mod PairwiseLists
+pub mod LastState
+mod SameTreeLists

@@ -1,0 +1,22 @@
+//! States of objects for a search: copies, equality, hashes, and a table that stores each state once.
+//!
+//! Does not know: configurations.
+#![tactic(auto)]
+
+mod calls;
+mod contexts;
+mod copies;
+mod expressions;
+mod hashes;
+mod names;
+mod statements;
+mod states;
+mod table;
+
+pub use copies::copy;
+pub use expressions::{same_expression, same_expressions, same_operator};
+pub use hashes::state_hash;
+pub use names::{same_answer, same_named, same_names};
+pub use statements::{same_alternatives, same_statements};
+pub use states::same;
+pub use table::StateTable;

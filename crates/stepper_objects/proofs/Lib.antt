@@ -1,0 +1,2 @@
+pub mod EndActions
+pub mod SelectAlternatives

@@ -1,0 +1,4 @@
+pub mod ClassesAndMethods
+pub mod Acts
+pub mod ObjectStates
+pub mod Offers

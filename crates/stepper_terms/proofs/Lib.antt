@@ -1,0 +1,10 @@
+pub mod ContentRedexes
+pub mod ContextPlug
+pub mod Layers
+pub mod Weights
+pub mod TreeLists
+pub mod Lengths
+pub mod NextAction
+pub mod ContinuationChanges
+pub mod NextFocus
+pub mod Laws

@@ -1,9 +1,0 @@
-use Rattle.std.proofs.Common.{arith}
-use Rattle.term_stack.proofs.Plugged.{operands_more, guarded_more}
-use Rattle.term_stack.proofs.enter.arrive.Goals as goal
-
-pub returns-in-Argument : goal.returns-in-Argument
-returns-in-Argument c = grind (arith, operands_more)
-
-pub returns-in-Guard : goal.returns-in-Guard
-returns-in-Guard c = grind (arith, guarded_more)

@@ -1,0 +1,3 @@
+pub mod MachineAfterEvent
+pub mod ScheduleEvents
+pub mod WantedNumbers

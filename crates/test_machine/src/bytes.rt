@@ -1,0 +1,70 @@
+//! The bytes of frames, worked out by hand: a byte for the side, the number, a byte for the kind of packet, and its fields.
+use crate::steps::{Step, answer};
+use rendezvous_protocol::Packet;
+use run_types::{Args, NameId, Value};
+use std::test::Fail;
+use wire_link::{Frame, Side, Wire, decode, encode};
+
+/// A call of `m` with one value of each kind.
+fn call() -> Packet {
+    let mut args = Args::make();
+    args.add(Value::Int(-2));
+    args.add(Value::Bool(true));
+    args.add(Value::Ref(258));
+    args.add(Value::Nil);
+    Packet::Request {
+        number: 1,
+        from: 0,
+        to: 65536,
+        method: NameId(3),
+        args,
+    }
+}
+
+/// Whether the bytes are of the frame, and are read as one that has these bytes.
+fn has_bytes(frame: &Frame, wanted: &[u8]) -> bool {
+    let bytes = encode(frame);
+    let Some(read) = decode(&bytes) else {
+        return false;
+    };
+    (bytes.as_slice() == wanted) & (encode(&read).as_slice() == wanted)
+}
+
+/// The bytes of the first frame of a side, which are none where there is no frame.
+fn front(wire: &Wire, side: Side) -> &[u8] {
+    match wire.front(side) {
+        Some(bytes) => bytes.as_slice(),
+        None => &[],
+    }
+}
+
+fn begins_with(wire: &Wire, data: &[u8], ack: &[u8]) -> bool {
+    (front(wire, Side::Data) == data) & (front(wire, Side::Ack) == ack)
+}
+
+#[test]
+fn frames_have_the_bytes_that_were_worked_out(rt: HostRuntime) -> Result<(), Fail> {
+    let number = 7;
+    let packet = call();
+    let request: &[u8] = &[
+        1, 0, 0, 0, 7, 3, 0, 0, 0, 1, 0, 0, 0, 0, 0, 1, 0, 0, 0, 0, 0, 3, 4, 1, 255, 255, 255, 255,
+        255, 255, 255, 254, 2, 1, 3, 0, 0, 1, 2, 4,
+    ];
+    let data = has_bytes(&Frame::Data { number, packet }, request);
+    let ack = has_bytes(&Frame::Ack { number: 16909060 }, &[2, 1, 2, 3, 4]);
+    assert!(rt; data & ack);
+    Ok(())
+}
+
+#[test]
+fn the_first_frame_of_a_side_is_at_hand(rt: HostRuntime) -> Result<(), Fail> {
+    let mut wire = Wire::make();
+    let empty = begins_with(&wire, &[], &[]);
+    answer(&mut wire, 1, Step::Send);
+    let created: &[u8] = &[1, 0, 0, 0, 0, 2, 0, 0, 0, 5, 0, 1, 0, 0, 0, 0, 0, 70];
+    let sent = begins_with(&wire, created, &[]);
+    wire.arrive();
+    let arrived = begins_with(&wire, &[], &[2, 0, 0, 0, 1]);
+    assert!(rt; empty & sent & arrived);
+    Ok(())
+}

@@ -1,0 +1,30 @@
+//! Tests of the machine's crates: a whole run, routing tables, pools of cells, mailboxes, one wire, and the bytes of
+//! frames.
+//!
+//! Expected answers come from handwritten rows, or from plain lists in long drawn series.
+#![tactic(auto)]
+
+#[cfg(test)]
+mod bytes;
+#[cfg(test)]
+mod calls;
+#[cfg(test)]
+mod drawn;
+#[cfg(test)]
+mod mailboxes;
+#[cfg(test)]
+mod plain;
+#[cfg(test)]
+mod pools;
+#[cfg(test)]
+mod run;
+#[cfg(test)]
+mod series;
+#[cfg(test)]
+mod steps;
+#[cfg(test)]
+mod tables;
+#[cfg(test)]
+mod worked;
+#[cfg(test)]
+mod writable;

@@ -1,0 +1,89 @@
+//! Answers of the search on drawn programs.
+use crate::drawn::program;
+use crate::plain::{made, search_plainly};
+use class_check::Checked;
+use command_inputs::{judge_classes, read_program};
+use pool_search::{Query, SearchResult, Target, search};
+use std::alloc::{AllocError, Global};
+use std::test::Fail;
+
+/// What a search finds: whether there is a run, which the stepper makes label by label. None where it is over, or where the run is none.
+fn found(
+    alloc: Global,
+    program: &Checked<'_>,
+    wanted: Target,
+    all: bool,
+) -> Result<Option<bool>, AllocError> {
+    let question = Query {
+        wanted,
+        all,
+        most: 100_000,
+    };
+    match search(alloc, program, &question)? {
+        SearchResult::Stuck(labels) | SearchResult::Fault(labels) => {
+            Ok(made(alloc, program, &labels)?.map(|_plain| true))
+        }
+        SearchResult::Finite(_) => Ok(Some(false)),
+        SearchResult::Over(_) => Ok(None),
+    }
+}
+
+/// Whether both searches of the program say the same.
+fn agrees(alloc: Global, program: &Checked<'_>) -> Result<bool, AllocError> {
+    let Some(met) = search_plainly(alloc, program, 100_000)? else {
+        return Ok(false);
+    };
+    Ok(
+        found(alloc, program, Target::Stuck, false)? == Some(met.stuck)
+            && found(alloc, program, Target::Stuck, true)? == Some(met.unfinished)
+            && found(alloc, program, Target::Fault, false)? == Some(met.faulty)
+            && found(alloc, program, Target::Both, false)? == Some(met.stuck || met.faulty),
+    )
+}
+
+/// Whether the program of this number is one, and both searches of it say the same.
+fn holds(alloc: Global, draw: u64) -> Result<bool, AllocError> {
+    let text = program(alloc, draw)?;
+    if text.len() > 1_048_576 {
+        return Ok(false);
+    }
+    let Ok(parsed) = read_program(alloc, text.as_bytes()) else {
+        return Ok(false);
+    };
+    let Ok(checked) = judge_classes(alloc, &parsed) else {
+        return Ok(false);
+    };
+    agrees(alloc, &checked)
+}
+
+#[test]
+fn the_first_five_hundred_agree(rt: HostRuntime) -> Result<(), Fail> {
+    for draw in 0..500_u64 {
+        assert!(rt; holds(rt.alloc(), draw)?, "{draw}");
+    }
+    Ok(())
+}
+
+#[test]
+fn the_second_five_hundred_agree(rt: HostRuntime) -> Result<(), Fail> {
+    for draw in 500..1000_u64 {
+        assert!(rt; holds(rt.alloc(), draw)?, "{draw}");
+    }
+    Ok(())
+}
+
+#[test]
+fn the_third_five_hundred_agree(rt: HostRuntime) -> Result<(), Fail> {
+    for draw in 1000..1500_u64 {
+        assert!(rt; holds(rt.alloc(), draw)?, "{draw}");
+    }
+    Ok(())
+}
+
+#[test]
+fn the_last_five_hundred_agree(rt: HostRuntime) -> Result<(), Fail> {
+    for draw in 1500..2000_u64 {
+        assert!(rt; holds(rt.alloc(), draw)?, "{draw}");
+    }
+    Ok(())
+}

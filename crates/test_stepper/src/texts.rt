@@ -1,0 +1,24 @@
+//! Records as they are read, and verdicts as they are written.
+use record_check::verdict_line;
+use run_record::read_record;
+use run_types::{Line, List, Names, Verdict};
+use std::alloc::Global;
+
+/// The lines of a record; None where it is none.
+pub fn lines_of(alloc: Global, record: &str, names: &mut Names) -> Option<List<Line>> {
+    if record.len() > 10000 || names.count() > 1000 {
+        return None;
+    }
+    read_record(alloc, record.as_bytes(), names).ok()
+}
+
+/// Whether the line of the verdict has this text, from this place on.
+pub fn is_told(alloc: Global, names: &Names, verdict: &Verdict, from: usize, text: &str) -> bool {
+    let Ok(line) = verdict_line(alloc, verdict, names) else {
+        return false;
+    };
+    match line.as_slice().trim_ascii_end().get(from..) {
+        Some(told) => told == text.as_bytes(),
+        None => false,
+    }
+}

@@ -1,6 +1,0 @@
-pub mod SpelledFiles
-pub mod ReadableFiles
-pub mod WritableFiles
-pub mod NoProgram
-pub mod Faults
-pub mod Laws
