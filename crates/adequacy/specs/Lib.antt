@@ -1,3 +1,4 @@
+-- Internal: what it does not.
 pub mod Contexts
 pub mod TurnSteps
 pub mod RightWay

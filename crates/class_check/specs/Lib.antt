@@ -1,6 +1,8 @@
+-- Believed: what a top call's contract reaches.
 pub mod Least
-pub mod NotedFaults
 pub mod PairOf
+-- Internal: what it does not.
+pub mod NotedFaults
 pub mod Index
 pub mod CheckerScopes
 pub mod Before

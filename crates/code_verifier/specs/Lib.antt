@@ -1,3 +1,4 @@
+-- Internal: what it does not.
 pub mod VerdictAnswer
 pub mod Effects
 pub mod Indexed

@@ -1,3 +1,5 @@
-pub mod CommandLine
+-- Believed: what a top call's contract reaches.
 pub mod Commands
+-- Internal: what it does not.
+pub mod CommandLine
 pub mod Requests

@@ -1,3 +1,4 @@
+-- Internal: what it does not.
 pub mod Ways
 pub mod Links
 pub mod Nodes

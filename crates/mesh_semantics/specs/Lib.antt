@@ -1,21 +1,23 @@
+-- Believed: what a top call's contract reaches.
 pub mod Kind
 pub mod Language
 pub mod Config
 pub mod Moves
-pub mod Traffic
 pub mod Wire
-pub mod Happenings
-pub mod KeptWire
 pub mod Delay
-pub mod NumberedPackets
 pub mod Act
 pub mod Record
-pub mod RecordOf
 pub mod Standing
-pub mod Cycles
 pub mod Sound
-pub mod FitFor
 pub mod Wired
+-- Internal: what it does not.
+pub mod Traffic
+pub mod Happenings
+pub mod KeptWire
+pub mod NumberedPackets
+pub mod RecordOf
+pub mod Cycles
+pub mod FitFor
 pub mod EventSoundness
 pub mod Lawful
 pub mod Waits

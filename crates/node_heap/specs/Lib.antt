@@ -1,3 +1,4 @@
+-- Internal: what it does not.
 pub mod Heaps
 pub mod Layout
 pub mod Parts

@@ -1,3 +1,4 @@
+-- Internal: what it does not.
 pub mod Codes
 pub mod NodeOf
 pub mod OfUnit

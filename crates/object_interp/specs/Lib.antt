@@ -1,3 +1,4 @@
+-- Internal: what it does not.
 pub mod Bursts
 pub mod Choices
 pub mod Moves

@@ -1,4 +1,6 @@
+-- Believed: what a top call's contract reaches.
 pub mod Code
+-- Internal: what it does not.
 pub mod Jumps
 pub mod Numberings
 pub mod Small

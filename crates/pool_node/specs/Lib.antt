@@ -1,3 +1,4 @@
+-- Internal: what it does not.
 pub mod ActOf
 pub mod Acts
 pub mod NodeSteps

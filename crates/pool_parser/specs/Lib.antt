@@ -1,3 +1,4 @@
+-- Internal: what it does not.
 pub mod Groups
 pub mod Literals
 pub mod Reads

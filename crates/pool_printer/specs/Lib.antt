@@ -1,6 +1,8 @@
-pub mod Renumbered
+-- Believed: what a top call's contract reaches.
 pub mod Spelling
 pub mod Canonical
+-- Internal: what it does not.
+pub mod Renumbered
 pub mod Known
 pub mod SinkState
 pub mod Parts

@@ -1,6 +1,8 @@
+-- Believed: what a top call's contract reaches.
+pub mod Shown
+-- Internal: what it does not.
 pub mod Mails
 pub mod Plains
-pub mod Shown
 pub mod Sound
 pub mod PlainOf
 pub mod Moving

@@ -1,4 +1,6 @@
+-- Believed: what a top call's contract reaches.
 pub mod RecordJudgement
+pub mod VerdictText
+-- Internal: what it does not.
 pub mod Leads
 pub mod Verdicts
-pub mod VerdictText

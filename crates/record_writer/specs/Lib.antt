@@ -1,4 +1,6 @@
+-- Believed: what a top call's contract reaches.
 pub mod RecordText
+pub mod SecondForm
+-- Internal: what it does not.
 pub mod PlainTexts
 pub mod Writable
-pub mod SecondForm

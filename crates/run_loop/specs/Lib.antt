@@ -1,7 +1,9 @@
-pub mod Statuses
-pub mod Writing
+-- Believed: what a top call's contract reaches.
 pub mod Shown
 pub mod Reports
+-- Internal: what it does not.
+pub mod Statuses
+pub mod Writing
 pub mod ReportRows
 pub mod RunOutput
 pub mod Loading

@@ -1,8 +1,10 @@
-pub mod Converted
+-- Believed: what a top call's contract reaches.
 pub mod Numbered
-pub mod ReaderFacts
 pub mod Readable
 pub mod Records
+-- Internal: what it does not.
+pub mod Converted
+pub mod ReaderFacts
 pub mod ParsedLines
 pub mod Steps
 pub mod Posts

@@ -1,10 +1,12 @@
+-- Believed: what a top call's contract reaches.
 pub mod Words
-pub mod AskedSearch
 pub mod Answers
-pub mod Statuses
 pub mod Ends
-pub mod InputErrorLine
 pub mod Steps
-pub mod LeadingSteps
 pub mod Waiting
 pub mod AnswerText
+-- Internal: what it does not.
+pub mod AskedSearch
+pub mod Statuses
+pub mod InputErrorLine
+pub mod LeadingSteps

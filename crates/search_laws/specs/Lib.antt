@@ -1,4 +1,6 @@
-pub mod Renamed
+-- Believed: what a top call's contract reaches.
 pub mod Search
+-- Internal: what it does not.
+pub mod Renamed
 pub mod ClosedLists
 pub mod Labels

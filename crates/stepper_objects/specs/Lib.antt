@@ -1,3 +1,4 @@
+-- Internal: what it does not.
 pub mod ClassesAndMethods
 pub mod Acts
 pub mod ObjectStates

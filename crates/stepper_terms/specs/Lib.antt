@@ -1,3 +1,4 @@
+-- Internal: what it does not.
 pub mod Weights
 pub mod Parts
 pub mod Reduced

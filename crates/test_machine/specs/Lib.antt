@@ -1,1 +1,2 @@
+-- Internal: what it does not.
 pub mod RunningMachine

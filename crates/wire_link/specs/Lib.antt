@@ -1,3 +1,4 @@
+-- Internal: what it does not.
 pub mod Bytes
 pub mod Rings
 pub mod Wires
