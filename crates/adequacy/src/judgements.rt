@@ -13,7 +13,7 @@ ghost use Rattle.command_inputs.specs.Programs.{HasTypedFault, IsTypedProgram};
 ghost use Rattle.command_inputs.specs.declared.program.Parsed.{Parsed};
 ghost use Rattle.adequacy.specs.Judgement.{IsJudged, Judgement, AnswerOf};
 
-use pool_parser::laws::{a_text_has_one_program, front_begins};
+use pool_parser::theorems::{a_text_has_one_program, front_begins};
 
 /// A text that is not accepted as a program has at most one fault, and one that is accepted has none.
 pub fn a_text_has_one_fault()

@@ -17,7 +17,7 @@ ghost use Rattle.pool_driver.specs.Outputs.{IsLoadOf, IsRunOf, IsTextFor, IsVerd
 ghost use Rattle.pool_printer.specs.Canonical.{canonical};
 ghost use Rattle.pool_printer.specs.SameProgram.{IsSameProgram};
 
-use pool_parser::laws::a_text_has_one_program;
+use pool_parser::theorems::a_text_has_one_program;
 use record_check::theorems::{a_run_is_judged_yes, shown_runs_are_runs};
 
 /// A canonical text in which no token stands deeper than 200 is read as a program that is the same but for positions and numbering.

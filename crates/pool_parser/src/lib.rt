@@ -6,13 +6,13 @@
 mod declarations;
 mod expressions;
 mod fault;
-pub mod laws;
 mod naming;
 mod nesting;
 mod parser;
 mod source;
 mod statements;
 mod steps;
+pub mod theorems;
 
 pub use fault::SyntaxFault;
 pub use parser::parse;

@@ -5,9 +5,9 @@
 
 mod declarations;
 mod expressions;
-pub mod laws;
 mod program;
 mod statements;
+pub mod theorems;
 mod token_writer;
 
 pub use program::print;

@@ -5,7 +5,7 @@ use Rattle.pool_syntax.specs.Tokens.{toks}
 use Rattle.pool_grammar.specs.Programs.{HasProgram}
 use Rattle.pool_lexer.proofs.Laws.{same_tokens}
 use Rattle.pool_parser.proofs.Unambiguity as unique
-use Rattle.pool_parser.proofs.laws.a_text_has_one_program.Goals as goal
+use Rattle.pool_parser.proofs.theorems.a_text_has_one_program.Goals as goal
 
 by : (ts us : List Token) (p q : ProgramTree) → ts ≡ us → HasProgram (toks ts) p → HasProgram (toks us) q → p ≡ q
 by ts us p q e h k = unique.one_program (toks ts) p q h.0 (subst (λ x. HasProgram (toks x) q) (sym e) k).0

@@ -1,5 +1,5 @@
 use Rattle.pool_parser.proofs.RuleComposition.{begun_of}
-use Rattle.pool_parser.proofs.laws.derived_begins.Goals as goal
+use Rattle.pool_parser.proofs.theorems.derived_begins.Goals as goal
 
 pub returns : goal.returns
 returns c = λ ts p i j x d. begun_of d

@@ -1,5 +1,5 @@
 use Rattle.pool_parser.proofs.Unambiguity as unique
-use Rattle.pool_parser.proofs.laws.one_program.Goals as goal
+use Rattle.pool_parser.proofs.theorems.one_program.Goals as goal
 
 pub returns : goal.returns
 returns c = λ ts p q d e. unique.one_program ts p q d e

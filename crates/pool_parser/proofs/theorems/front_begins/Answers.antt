@@ -1,5 +1,5 @@
 use Rattle.pool_parser.proofs.RuleComposition.{shorter}
-use Rattle.pool_parser.proofs.laws.front_begins.Goals as goal
+use Rattle.pool_parser.proofs.theorems.front_begins.Goals as goal
 
 pub returns : goal.returns
 returns c = λ ts p i j k b l m. shorter k b l m
