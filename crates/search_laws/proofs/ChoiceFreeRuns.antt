@@ -17,7 +17,7 @@ use Rattle.search_laws.specs.Search.{IsReached, IsStuck, IsUnfinished, IsIn, aft
 use Rattle.search_laws.specs.Renamed.{IsNameless}
 use Rattle.search_laws.proofs.PutsCommute.{sorted_put, sorted_messages}
 use Rattle.search_laws.proofs.ReducedSearch.{Settled, Goes}
-use Rattle.search_laws.proofs.SettledSearch.{SettlesAlone, IsClosedAfter, never_stuck_after, never_unfinished_after}
+use Rattle.search_laws.proofs.SettledSearch.{SettlesAlone, IsClosedOnceSettled, never_stuck_after, never_unfinished_after}
 
 -- each label keeps both maps in order
 data Sorts : Option Configuration → Type 0 where
@@ -68,7 +68,7 @@ pub start_sorted : (p : ProgramTree) (c : Configuration) → start p 0 ≡ Some 
 start_sorted p c e = let all : Sorts (Some c) = subst Sorts e (each (last_class p) _ (λ k. SortsAll (refl, refl))) in elim all [ SortsAll h ↦ h ]
 
 -- a whole list in the terms of that search
-whole_after : (p : ProgramTree) (es : List (ℕ × Configuration)) → IsClosedAfterSettling p es → IsClosedAfter p es
+whole_after : (p : ProgramTree) (es : List (ℕ × Configuration)) → IsClosedAfterSettling p es → IsClosedOnceSettled p es
 whole_after p es whole =
     record {
       begins = λ c i. let b = whole.begins c i in (b.0, settles p c b.0 (start_sorted p c i) b.1, b.2);

@@ -18,12 +18,12 @@ abbrev pub SettlesAlone : ProgramTree → Configuration → Configuration → Ty
 SettlesAlone p = Settles p (Alone p) (same_label p) (alone_makes_none p) (commutes p)
 
 -- all that a search has to see that follows such transitions
-pub record IsClosedAfter (p : ProgramTree) (es : List (ℕ × Configuration)) : Type 0 where
+pub record IsClosedOnceSettled (p : ProgramTree) (es : List (ℕ × Configuration)) : Type 0 where
   pub begins : (c : Configuration) → start p 0 ≡ Some c → (f : Configuration) × SettlesAlone p c f × IsIn 1 f es
   pub closed : IsClosedAfter p (Alone p) (same_label p) (alone_makes_none p) (commutes p) es
 
 -- a reached configuration without transition is, under other names, in the list
-pub ends_are_seen : (p : ProgramTree) (es : List (ℕ × Configuration)) → IsNameless p → IsClosedAfter p es → (d : Configuration) → IsReached p d
+pub ends_are_seen : (p : ProgramTree) (es : List (ℕ × Configuration)) → IsNameless p → IsClosedOnceSettled p es → (d : Configuration) → IsReached p d
     → ((g : Renaming) (x : Configuration) → IsRenamed g.to d x → IsAtEnd p x)
     → (g : Renaming) × (x : Configuration) × (m : ℕ) × IsRenamed g.to d x × IsIn m x es
 ends_are_seen p es less whole d reached ended = by (last_class p) refl reached.starts
@@ -60,13 +60,13 @@ ends_are_seen p es less whole d reached ended = by (last_class p) refl reached.s
         go k i (ap (λ c. run p c reached.labels) is ∙ reached.leads)
 
 -- where no configuration of the list is stuck, or unfinished, no run whatever leads to such a one
-pub never_stuck_after : (p : ProgramTree) (es : List (ℕ × Configuration)) → IsNameless p → IsClosedAfter p es → ((n : ℕ) (c : Configuration) → IsIn n c es → ¬ (IsStuck p c))
+pub never_stuck_after : (p : ProgramTree) (es : List (ℕ × Configuration)) → IsNameless p → IsClosedOnceSettled p es → ((n : ℕ) (c : Configuration) → IsIn n c es → ¬ (IsStuck p c))
     → (d : Configuration) → IsReached p d → ¬ (IsStuck p d)
 never_stuck_after p es less whole none d reached stuck =
     let s = ends_are_seen p es less whole d reached (λ g x named. (stuck_kept g p d x less named stuck).at_end) in
     none s.2 s.1 s.4 (stuck_kept s.0 p d s.1 less s.3 stuck)
 
-pub never_unfinished_after : (p : ProgramTree) (es : List (ℕ × Configuration)) → IsNameless p → IsClosedAfter p es → ((n : ℕ) (c : Configuration) → IsIn n c es → ¬ (IsUnfinished p c))
+pub never_unfinished_after : (p : ProgramTree) (es : List (ℕ × Configuration)) → IsNameless p → IsClosedOnceSettled p es → ((n : ℕ) (c : Configuration) → IsIn n c es → ¬ (IsUnfinished p c))
     → (d : Configuration) → IsReached p d → ¬ (IsUnfinished p d)
 never_unfinished_after p es less whole none d reached unfinished =
     let s = ends_are_seen p es less whole d reached (λ g x named. (unfinished_kept g p d x less named unfinished).at_end) in

@@ -5,8 +5,8 @@ use Rattle.run_types.specs.declared.types.What.TheVariants as W
 use Rattle.pool_node.proofs.ReturnStep.{return_here, return_away, return_full}
 use Rattle.pool_node.proofs.acts.return_turn.Goals as goal
 
-pub returns-then-caller-parts : goal.returns-then-caller-parts
-returns-then-caller-parts c = λ q.
+pub returns-then-node_of-parts : goal.returns-then-node_of-parts
+returns-then-node_of-parts c = λ q.
     return_here c.args.unit.now c.args.placement.now c.args.leaving c.args.parts.now c.requires.set c.args.slot c.requires.slot c.args.caller c.args.number c.args.value c.requires.kind q c.return_in.new.parts c.settle_if_out.new.parts c.step-room.result (omega arith) c.return_in.ensures c.settle_if_out.ensures
     (c.step-room.ensures ∙ ap (λ o. W.Step (L.Return o c.args.caller c.args.value) 1) c.name_of-receiver.ensures)
 
