@@ -81,7 +81,6 @@ pub fn count_lines(bytes: &[u8]) -> u32
     count
 }
 
-/// The words of a line, where they are at most four.
 /// The words of a line that has at most four, or `Many`.
 #[derive(Clone, Copy)]
 pub enum UpToFour<'a> {
@@ -93,7 +92,6 @@ pub enum UpToFour<'a> {
     Many,
 }
 
-/// The words of a line, where they are at most four.
 /// Reports the words of a line, if it has at most four.
 pub fn split_up_to_four(line: &[u8]) -> UpToFour<'_>
     ensures { AreWords (words line.now) result }
