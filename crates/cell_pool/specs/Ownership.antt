@@ -36,12 +36,12 @@ module _ (R : RattleType) where
   abbrev pub sized : ℕ → ℕ → Fml
   sized s n = fsep (feq ℕ s (type_size R)) (flt (n * s) (2 ^ 63))
 
-  -- what the owner of a region has, whose cells of s bytes begin at the pointer and hold cs
+  -- the assertion of a region's owner: its cells of s bytes begin at the pointer and hold cs
   abbrev pub region_owns : ℕ → Ptr → List (Option R.Denot) → Fml
   region_owns s (block_ptr b o) cs = fsep (sized s (length cs)) (cells_own b o cs)
   region_owns s null_ptr cs = ffalse
 
-  -- what a `&` to the region lends
+  -- the assertion of a `&` to the region
   abbrev pub region_lends : ℕ → Ptr → List (Option R.Denot) → Lft → Fml
   region_lends s (block_ptr b o) cs = beside (said (sized s (length cs))) (cells_lend b o cs)
   region_lends s null_ptr cs = said ffalse
