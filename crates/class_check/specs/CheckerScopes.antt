@@ -1,5 +1,5 @@
--- The sorts and scopes of `Typing` that those of the checker represent, and the faults of an expression by its sort
--- and token.
+-- The sorts and scopes of `Typing` that the checker's sorts and scopes represent, and the faults of an expression by
+-- its sort and token.
 use Rattle.std.specs.Prelude.{ℕ, ◌++◌, map, List, Option, Some, None, false, is_some, not, if◌then◌else◌, option_map}
 use Rattle.std.specs.Borrow.{Bor}
 use Rattle.std.specs.Option.{option_copied}

@@ -43,7 +43,7 @@ impl<'a, T: HasName> Index<'a, T> {
     ghost use Rattle.std.specs.Option.{option_copied};
     ghost use Rattle.class_check.specs.Index.{place_of};
 
-    /// The place of the first item of this name.
+    /// Reports the place of the first item with this name, if there is one.
     pub fn place(&self, name: NameId) -> Option<usize>
         ensures { result ≡ place_of T.name self.now.list.now name.0 }
     {
