@@ -20,8 +20,8 @@ abbrev pub Once : List ℕ → Type 0
 Once [] = Unit {0}
 Once (x ∷ xs) = (In x xs → ⊥) × Once xs
 
--- each path between nodes of the mesh ends at its goal and visits no node twice, and each step is over a link that is
--- not cut
+-- each path between nodes of the mesh ends at its goal and visits no node twice; each of its steps is over a link
+-- that is not cut
 pub record Ways (l : Placement) : Type 0 where
   pub leads : (a b : ℕ) → a < l.width * l.height → b < l.width * l.height → Leads (next l) b a (path l a b)
   pub once : (a b : ℕ) → a < l.width * l.height → b < l.width * l.height → Once (a ∷ ends_of (path l a b))
