@@ -5,8 +5,7 @@ use Rattle.std.specs.Prelude.{◌≡◌, ℕ, ◌-◌, ◌^◌, ◌<◌, ◌≤�
 abbrev pub Rose : ℕ → ℕ → Type 0
 Rose old new = (old < new) ⊎ (2 ^ 64 - 1 ≤ new)
 
--- the sink has the bytes from the start, followed by a prefix of the text that is not all of it, if the bytes are
--- known
+-- if its bytes are known, the sink has those from the start, followed by a prefix of the text that is not all of it
 abbrev pub IsProperFront : Option (List ℕ) → List ℕ → Option (List ℕ) → Type 0
 IsProperFront (Some start) text written = (n : ℕ) × (n < length text) × (written ≡ Some (start ++ take n text))
 IsProperFront None text written = written ≡ None
