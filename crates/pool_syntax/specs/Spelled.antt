@@ -112,8 +112,8 @@ are_spelled_methods names (m ∷ ms) =
     && are_spelled_statements names m.body && is_spelled_expression names m.value && are_spelled_statements names m.post
     && are_spelled_methods names ms
 
--- whether a program can be written: each name is a name in the table, each string is one in the table, and each
--- integer is from 0 and below 2 ^ 63
+-- whether a program can be written: each name and each string is one in the table, and each integer is from 0 and
+-- below 2 ^ 63
 abbrev pub is_spelled : List Text → ProgramTree → Bool
 is_spelled names [] = true
 is_spelled names (k ∷ ks) =
