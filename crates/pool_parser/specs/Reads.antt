@@ -102,8 +102,8 @@ abbrev pub edge : {A : Type 0} → Outcome A → ℕ
 edge (read x next) = next
 edge (refused at) = at
 
--- o is a correct answer for the rule from the token i on: a tree that was read is derived, a derived tree that no
--- token continues is read, and the tokens up to the edge begin the rule, but not those up to one more
+-- o is a correct answer for the rule from the token i on: a tree that was read is derived; a derived tree that no
+-- token continues is read; the tokens up to the edge begin the rule, but not those up to one more
 pub record Reads (ts : List Tok) (p : Phrase) (r : Rule (Tree p)) (i : ℕ) (o : Outcome (Tree p)) : Type 0 where
   pub sound : (x : Tree p) (j : ℕ) → o ≡ read x j → Derives ts p r i j x
   pub only : (x : Tree p) (j : ℕ) → Derives ts p r i j x → Stops ts p j → o ≡ read x j
