@@ -17,8 +17,8 @@ pub record State : Type 0 where
 abbrev pub state : Progress → Option Text → ℕ → State
 state p w n = record { last = p.last; failed = p.failed; written = w; faults = n }
 
--- from a to b the text was written whole, or a proper prefix of it up to a failed write, or nothing since a write had
--- failed before
+-- from a to b one of three things happened: the text was written whole; a proper prefix of it was written up to a
+-- failed write; or nothing was written, since a write had failed before
 pub data Puts (text : Text) (a b : State) : Type 0 where
   whole : (a.failed ≡ false) → (b.failed ≡ false) → (b.written ≡ option_map (λ w. w ++ text) a.written) → (b.faults ≡ a.faults) → Puts text a b
   cut : (a.failed ≡ false) → (b.failed ≡ true) → IsProperFront a.written text b.written → (a.faults ≤ b.faults) → Rose a.faults b.faults → Puts text a b
