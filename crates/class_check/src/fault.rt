@@ -41,8 +41,8 @@ pub enum ClassFault {
     /// A name in an answer list is no method of the class, or is already in the list.
     #[error("AnswerName at token {token}")]
     AnswerName { token: u32 },
-    /// A limit is exceeded: the 257th class, the 65th variable or method of a class, the 9th parameter, the 33rd
-    /// parameter or local of a method, or an expression that begins with 64 or more operands held.
+    /// A limit is exceeded: the 257th class; the 65th variable or method of a class; the 9th parameter, or the 33rd
+    /// parameter or local of a method; an expression that begins with 64 or more operands held.
     #[error("Limit at token {token}")]
     Limit { token: u32 },
     /// Out of memory, which is no fault of the program.
