@@ -1,4 +1,5 @@
--- The allocator at `allocate` and `deallocate`: the block's type and size, and the row of cells as room. Assumes `Logic`.
+-- The calls of the allocator in `allocate` and `deallocate`: the block's type and size, and its cells as free room.
+-- Assumes `Logic`.
 use Rattle.cell_pool.proofs.RegionWalks.{◌≡◌, ℕ, ◌+◌, ◌*◌, ◌<◌, ◌^◌, List, [], ◌∷◌, length, refl, sym, ap, ◌∙◌, arith, Option, None, type_size, Ura, ent, sem, Logic, Args, Ty, a_type, Val, vstruct, vcons, vnil, ‵, ◌⊛◌, ◌$◌, ◌∵◌, !, qed, by, done, move, keep, use1, split, fsplit, fjoin, feq_i, frame, nothing, RattleType, param, layout, froom, ⋆}
 use Prim.Native.Nat.{zero, suc}
 use native.Mathlib.Nat.{zero-mul, suc-mul}

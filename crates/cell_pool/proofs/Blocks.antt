@@ -1,4 +1,4 @@
--- One cell of a block is taken out of the row of cells, put back, or seen. Assumes `Logic`.
+-- One cell of a block is split off from the adjacent cells, put back, or borrowed. Assumes `Logic`.
 use Rattle.cell_pool.proofs.RegionWalks.{◌≡◌, ℕ, ◌+◌, ◌*◌, ◌<◌, ◌^◌, List, [], ◌∷◌, length, refl, sym, ap, ◌∙◌, subst, arith, Option, Some, None, get_or, slice_set, type_size, Ura, ent, sep, Lft, Fml, ftrue, fsep, Val, vstruct, vcons, vnil, Logic, sem, ‵, ◌⊛◌, ◌$◌, ◌∵◌, !, qed, by, done, move, drop, use1, use2, split, fsplit, fjoin, rewrite, RattleType, param, layout, Ptr, block_ptr, null_ptr, block_of, count_of, ptr_val, full_share, cell_at, part_at, mem, feq_i, flt_i, some, pick, fat, froom}
 use native.Mathlib.Nat.{zero-mul, suc-mul}
 use lib.Dec.{T, lit<}

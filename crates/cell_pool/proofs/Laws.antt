@@ -1,4 +1,4 @@
--- What other crates may cite: a first place by a test that a function describes.
+-- The lemmas that other crates cite: a first index by a test that a function describes.
 use Rattle.std.proofs.Common.{◌≡◌, ℕ, ◌<◌, Bool, true, false, not, cond, List, [], ◌∷◌, length, get_or, position, nat_lt, Option, Some, None, refl, sym, ap, ◌∙◌, arith, lt-ltb, le-ltb, Bor}
 use Rattle.std.specs.List.{position_or_len}
 use Rattle.std.proofs.lemmas.List.Sums.{prefix_len_is}

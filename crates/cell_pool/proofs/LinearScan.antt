@@ -1,4 +1,4 @@
--- A test goes along a list, item by item.
+-- The scan of a list by a test, item by item.
 use Rattle.std.proofs.Common.{◌≡◌, ℕ, ◌+◌, Bool, false, List, slice_get, Some, unwrap_or, sym, ap, subst, ◌∙◌, ◌⊎◌, inl, inr, arith}
 use Rattle.std.proofs.lemmas.Bool.{cases_eq}
 use Rattle.cell_pool.specs.Lists.{AreFalse}

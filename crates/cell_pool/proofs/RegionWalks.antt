@@ -1,4 +1,4 @@
--- The words and steps that the walks of region.rt share.
+-- The abbreviations and steps that the proofs of region.rt share.
 pub use Rattle.std.proofs.Common.{◌≡◌, ℕ, ◌+◌, ◌*◌, ◌/◌, ◌-◌, ◌<◌, ◌^◌, List, [], ◌∷◌, ◌++◌, length, refl, sym, ap, ◌∙◌, subst, arith, MutBor}
 pub use Rattle.std.proofs.raw_atomic.Walks.{proved, proved_at}
 pub use Rattle.std.specs.Prelude.{Option, Some, None, get_or, slice_set}

@@ -1,4 +1,5 @@
--- A `&` to a region is made of a `&` to each value in it, and what it holds can be copied and shortened. Assumes `Logic`.
+-- A `&` to a region consists of a `&` to each value in it, and its assertion can be copied and shortened. Assumes
+-- `Logic`.
 use Prim.Native.Nat.{ℕ, ◌+◌}
 use Rattle.std.specs.Prelude.{List, [], ◌∷◌, length, Option, Some, None}
 use Rattle.std.specs.Mem.{type_size}

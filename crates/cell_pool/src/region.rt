@@ -1,4 +1,4 @@
-//! One block of cells. Each cell is empty or holds a value, and only the functions here touch a pointer.
+//! One block of cells, each of which is empty or holds a value. Only the functions of this file use raw pointers.
 ghost use Rattle.std.specs.Prelude.{◌≡◌, ℕ, ◌<◌, List, Option, Some, None, length, get_or, replicate, slice_set, IfOk, ⊤};
 ghost use Rattle.std.specs.Borrow.{sem};
 ghost use Rattle.std.specs.Mem.{type_size};
@@ -12,7 +12,7 @@ use std::alloc::{AllocError, Allocator};
 use std::marker::{Model, PhantomData};
 use std::mem::{align_of, size_of};
 
-/// Where a cell lies. It owns nothing, and any number of copies may name one cell.
+/// The place of a cell. It owns nothing, and any number of copies may refer to one cell.
 pub struct Place<T> {
     pub(crate) ptr: *mut T,
 }
@@ -29,8 +29,8 @@ impl<T> Clone for Place<T> {
 
 impl<T> Copy for Place<T> {}
 
-/// The owner of the cells. It takes no space. `grid` is the bytes of a cell and where the first one lies,
-/// `slots` what each cell holds.
+/// The owner of the cells. It takes no space. `grid` has the size of a cell in bytes and the place of the first cell.
+/// `slots` has the value of each cell, if there is one.
 pub struct Region<T> {
     mark: PhantomData<*const T>,
     ghost grid: { ℕ × Ptr },
@@ -43,7 +43,7 @@ impl<T> Model for Region<T> {
     ghost also_shares = { λ r _ κ. region_lends T.row r.grid.0 r.grid.1 r.slots κ };
 }
 
-/// The right to give the block of `len` cells at `at` back to `alloc`. It takes no space.
+/// The right to return the block of `len` cells at `at` to `alloc`. It takes no space.
 pub struct Deed<T, A: Allocator> {
     mark: PhantomData<*const (T, A)>,
     ghost at: { Ptr },
@@ -57,7 +57,7 @@ impl<T, A: Allocator> Model for Deed<T, A> {
     ghost also_shares = { λ _ _ _. ftrue };
 }
 
-/// Takes a block of `len` empty cells.
+/// Allocates a block of `len` empty cells.
 pub(crate) fn allocate<T, A: Allocator>(
     alloc: &A,
     len: usize,
@@ -78,7 +78,7 @@ pub(crate) fn allocate<T, A: Allocator>(
     }
 }
 
-/// Gives the block back, and forgets what its cells hold.
+/// Frees the block. The values in its cells are not dropped.
 pub(crate) fn deallocate<T, A: Allocator>(
     alloc: &A,
     base: Place<T>,
@@ -98,7 +98,7 @@ pub(crate) fn deallocate<T, A: Allocator>(
 impl<T> Region<T> {
     ghost use Rattle.cell_pool.specs.RegionLends.{lends_slot};
 
-    /// Where the cell with the number `index` lies, counted from `base`.
+    /// Reports the place of the cell with the number `index`, counted from `base`.
     pub(crate) fn place(&self, base: Place<T>, index: usize) -> Place<T>
         requires { (base.ptr ≡ self.now.grid.1) × (index < length self.now.slots) }
         ensures { result.ptr ≡ place_at self.now.grid index }
@@ -108,7 +108,7 @@ impl<T> Region<T> {
         }
     }
 
-    /// Writes over whatever the cell holds, which is forgotten and not dropped.
+    /// Writes the item to the cell. An earlier value is not dropped.
     pub(crate) fn write(&mut self, place: Place<T>, item: T)
         requires { IsPlace self.old.grid (length self.old.slots) place.ptr }
         ensures { (self.new.grid ≡ self.old.grid) × (self.new.slots ≡ slice_set self.old.slots (index_of self.old.grid place.ptr) (Some item)) }
@@ -116,7 +116,7 @@ impl<T> Region<T> {
         unsafe { place.ptr.write(item) }
     }
 
-    /// The value in the cell.
+    /// Lends the value in the cell.
     pub(crate) fn get(&self, place: Place<T>) -> &T
         requires { IsCell self.now.grid self.now.slots place.ptr }
         ensures { get_or self.now.slots (index_of self.now.grid place.ptr) None ≡ Some result.now }
@@ -124,7 +124,7 @@ impl<T> Region<T> {
         unsafe { &*place.ptr }
     }
 
-    /// The value in the cell, to write to.
+    /// Lends the value in the cell for writing.
     pub(crate) fn get_mut(&mut self, place: Place<T>) -> &mut T
         requires { IsCell self.old.grid self.old.slots place.ptr }
         ensures* writes_back { sem 𝓛 (lends_slot T.row self.entry place.ptr result) }

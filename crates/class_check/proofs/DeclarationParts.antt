@@ -1,4 +1,4 @@
--- The faults of declarations are those of their parts, one after another.
+-- The faults of declarations are the faults of their parts, one after another.
 use Rattle.std.proofs.Common.{◌≡◌, refl, sym, ap, ◌∙◌, ℕ, zero, suc, ◌+◌, ◌-◌, ◌<◌, ◌≤◌, ◌++◌, ◌||◌, ◌==◌, Bool, List, [], ◌∷◌, length, take, drop, get_or, slice_get, map, Option, Some, None, arith}
 use Rattle.std.specs.List.{list_any}
 use Rattle.std.proofs.lemmas.List.{at_drop_more, length-take-le}

@@ -1,4 +1,4 @@
--- The faults of an expression are those of its parts, one after another.
+-- The faults of an expression are the faults of its parts, one after another.
 use Rattle.std.proofs.Common.{◌≡◌, refl, sym, ℕ, ◌+◌, min, List, length, Option, arith}
 use Rattle.run_types.specs.declared.types.Op.{Op}
 use Rattle.run_types.specs.declared.types.Op.TheVariants as O

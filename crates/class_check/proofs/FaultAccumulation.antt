@@ -1,4 +1,4 @@
--- Faults that are noted one list after another.
+-- Lists of faults that are noted one after another.
 use Rattle.std.proofs.Common.{◌≡◌, refl, sym, ap, ◌∙◌, List, [], ◌∷◌, ◌++◌, Option, Some}
 use Rattle.pool_syntax.specs.Typing.{FaultAt}
 use Rattle.class_check.specs.declared.fault.ClassFault.{ClassFault}

@@ -1,4 +1,4 @@
--- A program of the grammar is written, and has a class.
+-- A program of the grammar is a written program, and has at least one class.
 use Rattle.std.proofs.Common.{◌≡◌, ◌≢◌, refl, IsTrue, ℕ, List, [], ◌∷◌, ◌++◌, Some, false, ◌&&◌, arith}
 use Rattle.pool_syntax.specs.declared.token.Tok.{Tok}
 use Rattle.run_types.specs.declared.types.Op.{Op}

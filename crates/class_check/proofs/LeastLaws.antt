@@ -1,4 +1,4 @@
--- What is noted at the end is the least of all faults.
+-- The fault that is kept at the end is the least of all faults.
 use Rattle.std.proofs.Common.{◌≡◌, refl, sym, subst, zero, suc, ◌⊎◌, inl, inr, ⊎_elim, Bool, true, false, List, [], ◌∷◌, Some, None, Contains, if◌then◌else◌, arith}
 use Rattle.std.proofs.lemmas.Bool.Decides.{nat_tests}
 use Rattle.pool_syntax.specs.Typing.{FaultAt}

@@ -1,4 +1,4 @@
--- The look-ups of the definitions are searches for the first entry of a name.
+-- The look-ups of the definitions find the first entry with a name.
 use Rattle.std.proofs.Common.{◌≡◌, refl, sym, ap, ◌∙◌, ℕ, ◌==◌, slice_get, List, [], ◌∷◌, ◌++◌, map, find, option_map, Some, None, arith}
 use Rattle.pool_syntax.specs.declared.tree.ClassDecl.{ClassDecl}
 use Rattle.pool_syntax.specs.declared.tree.Method.{Method}

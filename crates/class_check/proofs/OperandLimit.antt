@@ -1,4 +1,4 @@
--- Of the operands held only whether they are 64 or more counts.
+-- Counts of operands held from 64 on all give the same faults.
 use Rattle.std.proofs.Common.{◌≡◌, refl, ℕ, ◌+◌, min, List, [], ◌∷◌, arith, nat_le}
 use Rattle.std.proofs.lemmas.Bool.Decides.{nat_tests}
 use Rattle.pool_syntax.specs.declared.tree.Var.{Var}

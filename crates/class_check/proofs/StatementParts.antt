@@ -1,4 +1,4 @@
--- The faults of statements are those of their parts, one after another.
+-- The faults of statements are the faults of their parts, one after another.
 use Rattle.std.proofs.Common.{◌≡◌, sym, ap, ◌∙◌, ℕ, ◌+◌, ◌<◌, ◌++◌, ◌||◌, ◌==◌, not, is_some, min, Bool, List, [], ◌∷◌, length, take, drop, get_or, Option, arith}
 use Rattle.std.specs.List.{list_any}
 use Rattle.std.proofs.lemmas.List.{at_drop_more}

@@ -1,4 +1,5 @@
--- What the checker's sorts and scopes stand for, and the faults of what stands at a place by its sort and token.
+-- The sorts and scopes of `Typing` that the checker's sorts and scopes represent, and the faults of an expression by
+-- its sort and token.
 use Rattle.std.specs.Prelude.{ℕ, ◌++◌, map, List, Option, Some, None, false, is_some, not, if◌then◌else◌, option_map}
 use Rattle.std.specs.Borrow.{Bor}
 use Rattle.std.specs.Option.{option_copied}
@@ -19,6 +20,7 @@ use Rattle.class_check.specs.declared.scope.Scope.{Scope}
 use Rattle.class_check.specs.declared.declarations.Owner.{Owner}
 use Rattle.class_check.specs.declared.declarations.Owner.TheVariants as W
 
+-- the sort that a sort of the checker represents
 abbrev pub sort_tree : Sort → TSorts.Sort
 sort_tree S.Int = TSorts.IntSort
 sort_tree S.Bool = TSorts.BoolSort
@@ -31,6 +33,7 @@ sort_tree S.Broken = TSorts.BrokenSort
 abbrev pub method_of : Option (Bor Method) → Option MethodTree
 method_of m = option_map method_tree (option_copied m)
 
+-- the scope that a scope of the checker represents
 abbrev pub scope_of : Scope → T.Scope
 scope_of s = record {
   program = map class_tree s.classes.now.list.now;
@@ -42,14 +45,16 @@ scope_of s = record {
   held = if s.in_post then 1 else 0;
 }
 
--- the sort of a name of this kind, if it is declared
+-- the sort of a name with this declared type; broken if it is not declared
 abbrev pub declared_sort : T.Scope → Option Kind → TSorts.Sort
 declared_sort g None = TSorts.BrokenSort
 declared_sort g (Some k) = T.kind_sort g.program k
 
+-- the sort of a `new` of this class
 abbrev pub creation_sort : T.Scope → ℕ → TSorts.Sort
 creation_sort g c = if is_some (class_of g.program c) then TSorts.ClassSort c else TSorts.BrokenSort
 
+-- the faults of a `new` of this class
 abbrev pub creation_faults : T.Scope → ℕ → ℕ → List T.FaultAt
 creation_faults g c at = T.fault_if (not (is_some (class_of g.program c))) at N.unknown_class
 
@@ -59,12 +64,12 @@ operands_faults O.Same s at t to = T.no_result_faults s at ++ (T.no_result_fault
 operands_faults O.Differs s at t to = T.no_result_faults s at ++ (T.no_result_faults t to ++ T.fault_if (not (T.is_comparable (T.counted s) (T.counted t))) to N.type_differs)
 operands_faults op s at t to = T.misfit s (TSorts.operand_sort op) at ++ T.misfit t (TSorts.operand_sort op) to
 
--- the faults of an argument of this sort at the parameter of its number, if there is one
+-- the faults of an argument of this sort against its parameter, if there is one
 abbrev pub argument_faults : ProgramTree → Option Var → TSorts.Sort → ℕ → List T.FaultAt
 argument_faults p None s at = T.no_result_faults s at
 argument_faults p (Some v) s at = T.misfit s (T.kind_sort p v.kind) at
 
--- the number of the fault of a name that stands twice
+-- the number of the fault of a name that is declared twice
 abbrev pub twice_number : Owner → ℕ
 twice_number W.Class = N.variable_twice
 twice_number W.Method = N.local_twice

@@ -1,10 +1,10 @@
--- The token and the number of a class fault.
+-- The token and the number of a class fault of the checker.
 use Rattle.pool_syntax.specs.FaultNumbers as N
 use Rattle.pool_syntax.specs.Typing.{FaultAt}
 use Rattle.class_check.specs.declared.fault.ClassFault.{ClassFault}
 use Rattle.class_check.specs.declared.fault.ClassFault.TheVariants as F
 
--- want of memory is no fault of the program, and has the number behind theirs, 13
+-- the token and the number; out of memory is no fault of the program, and has the number after theirs, 13
 abbrev pub pair_of : ClassFault → FaultAt
 pair_of (F.ClassTwice t) = (t, N.class_twice)
 pair_of (F.UnknownClass t) = (t, N.unknown_class)

@@ -1,4 +1,4 @@
-//! The classes of a program, and the methods of each, by their names.
+//! The look-up of classes and their methods by name.
 ghost use Rattle.std.specs.Prelude.{◌≡◌, length, IfOk};
 ghost use Rattle.class_check.specs.Index.{IsIndex, AreIndexes};
 
@@ -8,7 +8,7 @@ use run_types::NameId;
 use std::alloc::{AllocError, Global};
 use std::collections::HashMap;
 
-/// The classes of a program, where each class and each method of one is found by its name.
+/// The classes of a program, with an index of the classes and an index of the methods of each.
 #[derive(Clone, Copy)]
 pub struct Classes<'a> {
     pub list: &'a [ClassDecl],
@@ -19,7 +19,7 @@ pub struct Classes<'a> {
     pub ghost all_indexed: { AreIndexes methods.now list.now },
 }
 
-/// The first place of each name of a method, for each class.
+/// Reports for each class a map from the name of a method to the index of the first method with this name.
 pub fn method_places(
     alloc: Global,
     classes: &[ClassDecl],
@@ -43,7 +43,7 @@ impl<'a> Classes<'a> {
     ghost use Rattle.pool_syntax.specs.Typing.{methods_of, methods_of_class};
     ghost use Rattle.class_check.specs.CheckerScopes.{method_of};
 
-    /// The index of the classes.
+    /// Reports the index of the classes.
     pub fn index(&self) -> Index<'a, ClassDecl>
         ensures { result.list.now ≡ self.now.list.now }
     {
@@ -53,7 +53,7 @@ impl<'a> Classes<'a> {
         }
     }
 
-    /// The first class of this name.
+    /// Reports the first class with this name, if there is one.
     #[tactic(auto, using(crate::proofs::NameLookup::class_of_found))]
     pub fn named(&self, name: NameId) -> Option<&'a ClassDecl>
         ensures { option_map class_tree (option_copied result) ≡ class_of (map class_tree self.now.list.now) name.0 }
@@ -61,7 +61,7 @@ impl<'a> Classes<'a> {
         self.index().first(name)
     }
 
-    /// The first method of this name in the class at the place.
+    /// Reports the first method with this name in the class with the index `place`, if there is one.
     fn method_at(&self, place: usize, name: NameId) -> Option<&'a Method>
         requires { place < length self.now.list.now }
         ensures { method_of result ≡ named_method (methods_of_class (option_map class_tree (slice_get self.now.list.now place))) name.0 }
@@ -73,7 +73,7 @@ impl<'a> Classes<'a> {
         methods.first(name)
     }
 
-    /// The first method of this name in the first class of this name.
+    /// Reports the first method with this name in the first class with the name `class`, if there is one.
     pub fn method(&self, class: NameId, name: NameId) -> Option<&'a Method>
         ensures { method_of result ≡ named_method (methods_of (map class_tree self.now.list.now) class.0) name.0 }
     {

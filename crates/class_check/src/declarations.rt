@@ -1,4 +1,4 @@
-//! The faults of classes, methods and variables.
+//! The check of classes, methods and variables.
 ghost use Rattle.std.specs.Prelude.{◌≡◌, ◌==◌, ◌++◌, ◌||◌, [], map, length, take, Some, OnOk};
 ghost use Rattle.std.specs.List.{list_any};
 ghost use Rattle.pool_syntax.specs.FaultNumbers.{class_twice, limit, local_twice, method_twice, variable_twice};
@@ -22,22 +22,22 @@ use pool_syntax::{ClassDecl, Method, Stmt, Var};
 use run_types::{Kind, NameId};
 use std::alloc::{AllocError, Global};
 
-/// The most classes of a program.
+/// The largest number of classes of a program.
 const MOST_CLASSES: usize = 256;
 
-/// The most methods of a class.
+/// The largest number of methods of a class.
 const MOST_METHODS: usize = 64;
 
-/// The most variables of a class.
+/// The largest number of variables of a class.
 const MOST_VARIABLES: usize = 64;
 
-/// The most parameters of a method.
+/// The largest number of parameters of a method.
 const MOST_PARAMS: usize = 8;
 
-/// The most parameters and locals of a method together.
+/// The largest number of parameters and locals of a method together.
 const MOST_LOCALS: usize = 32;
 
-/// Where variables are declared.
+/// The declaration that variables belong to: a class or a method.
 #[derive(Clone, Copy)]
 pub enum Owner {
     Class,
@@ -63,14 +63,14 @@ fn note_kind(classes: &Classes, kind: Kind, token: u32, first: &mut Option<Class
     }
 }
 
-/// Whether the name is among the variables before, or those in front of the place.
+/// Reports whether a variable in `before`, or one in `vars` before the index `place`, has this name.
 fn is_twice(before: &Index<Var>, vars: &Index<Var>, place: usize, name: NameId) -> bool
     ensures { result ≡ (list_any (λ v. v.name.0 == name.0) before.now.list.now || list_any (λ v. v.name.0 == name.0) (take place vars.now.list.now)) }
 {
     before.is_before(before.list.len(), name) || vars.is_before(place, name)
 }
 
-/// Notes a variable whose name stands twice, and a kind whose class does not exist.
+/// Notes a variable whose name is already used, and a declared type whose class does not exist.
 #[tactic(auto, using(crate::proofs::FaultAccumulation::noted_append))]
 fn variable(
     classes: &Classes,
@@ -87,7 +87,7 @@ fn variable(
     note_kind(classes, var.kind, var.kind_pos, first);
 }
 
-/// Notes the faults of variables behind others.
+/// Notes the faults of variables that follow those in `before`.
 fn variables(
     classes: &Classes,
     owner: Owner,
@@ -104,7 +104,7 @@ fn variables(
 }
 
 #[tactic(auto, using(crate::proofs::DeclarationParts::too_many_there, crate::proofs::DeclarationParts::too_many_none))]
-/// Notes the variable behind so many, if there is one.
+/// Notes the first variable after the allowed number, if there is one.
 fn note_too_many(most: usize, vars: &[Var], first: &mut Option<ClassFault>)
     ensures { Notes first.old first.new (too_many most vars.now) }
 {
@@ -114,7 +114,7 @@ fn note_too_many(most: usize, vars: &[Var], first: &mut Option<ClassFault>)
 }
 
 #[tactic(auto, using(crate::proofs::DeclarationParts::too_many_first, crate::proofs::DeclarationParts::too_many_second))]
-/// Notes the parameter or local behind so many of them, if there is one.
+/// Notes the first parameter or local after the allowed number of both, if there is one.
 fn note_too_many_locals(most: usize, params: &[Var], locals: &[Var], first: &mut Option<ClassFault>)
     ensures { Notes first.old first.new (too_many most (params.now ++ locals.now)) }
 {
@@ -239,7 +239,7 @@ fn method(
     inside(alloc, outer.params, &scope, method, first)
 }
 
-/// Notes the faults of a method behind so many others, which may have its name.
+/// Notes the faults of a method that follows others, which may have its name.
 #[tactic(auto, using(crate::proofs::FaultAccumulation::noted_append))]
 fn next_method(
     alloc: Global,
@@ -316,7 +316,7 @@ fn class(
     Ok(())
 }
 
-/// Notes the faults of a class behind so many others, which may have its name.
+/// Notes the faults of a class that follows others, which may have its name.
 #[tactic(auto, using(crate::proofs::FaultAccumulation::noted_append))]
 fn next_class(
     alloc: Global,
@@ -356,7 +356,7 @@ fn each_class(
     Ok(())
 }
 
-/// Notes the faults of a program's classes.
+/// Notes the faults of the classes of a program. The error is out of memory.
 pub fn classes(
     alloc: Global,
     list: &[ClassDecl],

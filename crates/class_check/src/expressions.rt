@@ -1,4 +1,4 @@
-//! The faults and the sorts of expressions.
+//! The check of expressions, and their sorts.
 ghost use Rattle.std.specs.Prelude.{◌≡◌, ◌≤◌, ◌+◌, ◌++◌, map, min, slice_get};
 ghost use Rattle.pool_syntax.specs.FaultNumbers.{unknown_variable};
 ghost use Rattle.pool_syntax.specs.Limits.{most_operands};
@@ -15,7 +15,7 @@ use crate::sort::{Placed, Sort, kind_sort, note_misfit, note_no_result, op_sort,
 use pool_syntax::{Expr, Method, Named, Var};
 use run_types::{NameId, Op};
 
-/// The token of an expression.
+/// Reports the token of an expression.
 fn position(expr: &Expr) -> u32
     ensures { result ≡ position (expression_of expr.now) }
 {
@@ -33,10 +33,10 @@ fn position(expr: &Expr) -> u32
     }
 }
 
-/// Before an expression fewer operands than these may be held.
+/// An expression must begin with fewer operands held than this.
 const MOST_OPERANDS: u8 = 64;
 
-/// One more operand held; 64 stands for all counts from 64.
+/// Adds one operand held. The count stops at 64, which represents every count from 64 on.
 pub fn one_more(held: u8) -> u8
     requires { held ≤ most_operands }
     ensures { result ≡ min (held + 1) most_operands }
@@ -52,7 +52,7 @@ fn note_limit(held: u8, token: u32, first: &mut Option<ClassFault>)
     }
 }
 
-/// The sort of a name.
+/// Reports the sort of a name.
 fn name_sort(scope: &Scope, name: NameId) -> Sort
     ensures { sort_tree result ≡ name_sort (scope_of scope.now) name.0 }
 {
@@ -62,7 +62,7 @@ fn name_sort(scope: &Scope, name: NameId) -> Sort
     }
 }
 
-/// The sort of a name at the token, which is noted where it is not declared.
+/// Reports the sort of a name, and notes its token if the name is not declared.
 pub fn note_name(scope: &Scope, name: NameId, token: u32, first: &mut Option<ClassFault>) -> Sort
     ensures sort { sort_tree result ≡ name_sort (scope_of scope.now) name.0 }
     ensures first { Notes first.old first.new (fault_if (is_broken_name (scope_of scope.now) name.0) token unknown_variable) }
@@ -76,7 +76,7 @@ pub fn note_name(scope: &Scope, name: NameId, token: u32, first: &mut Option<Cla
     }
 }
 
-/// The sort of a `new` at the token, which is noted where the class does not exist.
+/// Reports the sort of a `new`, and notes its token if the class does not exist.
 fn note_creation(scope: &Scope, class: NameId, token: u32, first: &mut Option<ClassFault>) -> Sort
     ensures sort { sort_tree result ≡ creation_sort (scope_of scope.now) class.0 }
     ensures first { Notes first.old first.new (creation_faults (scope_of scope.now) class.0 token) }
@@ -90,7 +90,7 @@ fn note_creation(scope: &Scope, class: NameId, token: u32, first: &mut Option<Cl
     }
 }
 
-/// Notes what is wrong with the operands of an operator.
+/// Notes the faults of the operands of an operator.
 fn note_operands(op: Op, left: Placed, right: Placed, first: &mut Option<ClassFault>)
     ensures { Notes first.old first.new (operands_faults op (sort_tree left.sort) left.token (sort_tree right.sort) right.token) }
 {
@@ -109,7 +109,7 @@ fn note_operands(op: Op, left: Placed, right: Placed, first: &mut Option<ClassFa
     }
 }
 
-/// Notes a call of a method that is not there, or has another number of parameters.
+/// Notes a call of a method that does not exist, or that has another number of parameters.
 fn note_call(callee: Option<&Method>, token: u32, count: usize, first: &mut Option<ClassFault>)
     ensures { Notes first.old first.new (method_faults (method_of callee.entry) count token) }
 {
@@ -123,7 +123,7 @@ fn note_call(callee: Option<&Method>, token: u32, count: usize, first: &mut Opti
     }
 }
 
-/// The sort of a method's result.
+/// Reports the sort of a call of this method.
 fn method_sort(classes: &Classes, method: Option<&Method>) -> Sort
     ensures { sort_tree result ≡ method_sort (map class_tree classes.now.list.now) (method_of method.entry) }
 {
@@ -136,7 +136,7 @@ fn method_sort(classes: &Classes, method: Option<&Method>) -> Sort
     }
 }
 
-/// The parameters of a method; none where it is not there.
+/// Reports the parameters of a method, or none if it does not exist.
 pub fn params_of<'a>(method: Option<&'a Method>) -> &'a [Var]
     ensures { result.now ≡ params_of (method_of method.entry) }
 {
@@ -146,7 +146,7 @@ pub fn params_of<'a>(method: Option<&'a Method>) -> &'a [Var]
     }
 }
 
-/// The method of a send to a destination of this sort.
+/// Reports the method of a send to a destination of this sort, if there is one.
 fn sent_method<'a>(scope: &Scope<'a>, to: Sort, name: NameId) -> Option<&'a Method>
     ensures method { method_of result ≡ sent_method (scope_of scope.now) (sort_tree to) name.0 }
     ensures sort { send_sort (map class_tree scope.now.classes.now.list.now) (sort_tree to) name.0 ≡ method_sort (map class_tree scope.now.classes.now.list.now) (method_of result) }
@@ -157,7 +157,7 @@ fn sent_method<'a>(scope: &Scope<'a>, to: Sort, name: NameId) -> Option<&'a Meth
     }
 }
 
-/// The method of a send. Notes what is wrong with the destination, and with the method at its name.
+/// Reports the method of a send, if there is one. Notes the faults of the destination, and of the method at its name.
 pub fn note_destination<'a>(
     scope: &Scope<'a>,
     to: Placed,
@@ -180,14 +180,14 @@ pub fn note_destination<'a>(
     callee
 }
 
-/// The variable at the place, if there is one.
+/// Reports the variable at the index, if there is one.
 pub fn variable_at(vars: &[Var], place: usize) -> Option<Var>
     ensures { result ≡ slice_get vars.now place }
 {
     vars.get(place).copied()
 }
 
-/// Notes an argument that does not fit its parameter, if there is one.
+/// Notes an argument that does not fit its parameter, or that has no value.
 fn note_argument(
     classes: &Classes,
     parameter: Option<Var>,
@@ -202,7 +202,7 @@ fn note_argument(
     }
 }
 
-/// The sort of an expression. Notes its faults, but for what its own place needs.
+/// Reports the sort of an expression. Notes its faults, without those against what its place requires.
 #[cycle(expressions)]
 fn expression(scope: &Scope, held: u8, expr: &Expr, first: &mut Option<ClassFault>) -> Sort
     requires { held ≤ most_operands }
@@ -255,7 +255,8 @@ fn expression(scope: &Scope, held: u8, expr: &Expr, first: &mut Option<ClassFaul
     }
 }
 
-/// The sort and the token of an expression before which so many operands are held, where 64 stands for all counts from 64. Notes its faults, but for what its own place needs.
+/// Reports the sort and the token of an expression that begins with `held` operands held, where 64 represents every
+/// count from 64 on. Notes its faults, without those against what its place requires.
 #[cycle(expressions)]
 pub fn placed(scope: &Scope, held: u8, expr: &Expr, first: &mut Option<ClassFault>) -> Placed
     requires { held ≤ most_operands }
@@ -269,7 +270,7 @@ pub fn placed(scope: &Scope, held: u8, expr: &Expr, first: &mut Option<ClassFaul
     }
 }
 
-/// The sort of a call with these arguments. Notes their faults.
+/// Reports the sort of a call with these arguments. Notes their faults.
 #[cycle(expressions)]
 fn called(
     scope: &Scope,
@@ -286,7 +287,7 @@ fn called(
     method_sort(scope.classes, callee)
 }
 
-/// Notes the faults of arguments before which so many operands are held.
+/// Notes the faults of arguments, of which the first begins with `held` operands held.
 #[cycle(expressions)]
 pub fn arguments(
     scope: &Scope,

@@ -1,50 +1,51 @@
-//! The class faults, and the first of those that were met.
+//! The class faults, and the least of those that were noted.
 ghost use Rattle.std.specs.Prelude.{◌≡◌, [], ◌∷◌};
 ghost use Rattle.class_check.specs.NotedFaults.{is_below, Notes};
 ghost use Rattle.class_check.specs.PairOf.{pair_of};
 
 use thiserror::Error;
 
-/// The class fault of least token, and of least number there. `token` is the number of the token where it stands.
+/// A class fault, with the number of its token, counted from 0.
 #[derive(Clone, Copy, Debug, PartialEq, Eq, Error)]
 pub enum ClassFault {
-    /// A class whose name an earlier class has.
+    /// An earlier class has the name of this class.
     #[error("ClassTwice at token {token}")]
     ClassTwice { token: u32 },
-    /// A kind or a `new` whose class does not exist.
+    /// The class of a declared type or of a `new` does not exist.
     #[error("UnknownClass at token {token}")]
     UnknownClass { token: u32 },
-    /// A variable whose name an earlier variable of the class has.
+    /// An earlier variable of the class has the name of this variable.
     #[error("VariableTwice at token {token}")]
     VariableTwice { token: u32 },
-    /// A method whose name an earlier method of the class has.
+    /// An earlier method of the class has the name of this method.
     #[error("MethodTwice at token {token}")]
     MethodTwice { token: u32 },
-    /// A parameter or local whose name an earlier one of the method has.
+    /// An earlier parameter or local of the method has the name of this one.
     #[error("LocalTwice at token {token}")]
     LocalTwice { token: u32 },
-    /// A name that is neither a parameter or local of the method nor a variable of the class.
+    /// The name is no parameter or local of the method, and no variable of the class.
     #[error("UnknownVariable at token {token}")]
     UnknownVariable { token: u32 },
-    /// A call or send whose method the class does not have.
+    /// The class does not have the method of the call or send.
     #[error("UnknownMethod at token {token}")]
     UnknownMethod { token: u32 },
-    /// A call or send with another number of arguments than parameters.
+    /// The number of arguments of a call or send is not the number of parameters.
     #[error("ArgumentCount at token {token}")]
     ArgumentCount { token: u32 },
-    /// An expression whose sort does not fit what its place needs.
+    /// The sort of an expression does not fit its place.
     #[error("TypeDiffers at token {token}")]
     TypeDiffers { token: u32 },
-    /// A call or send of a method without result where a value is needed.
+    /// A call or send of a method without a result is used where a value is required.
     #[error("NoResult at token {token}")]
     NoResult { token: u32 },
-    /// A name in an answer list that is no method of the class, or stands earlier in the list.
+    /// A name in an answer list is no method of the class, or is already in the list.
     #[error("AnswerName at token {token}")]
     AnswerName { token: u32 },
-    /// The 257th class; the 65th variable or method of a class; the 9th parameter; the 33rd parameter or local of a method; an expression that begins with 64 or more operands held.
+    /// A limit is exceeded: the 257th class; the 65th variable or method of a class; the 9th parameter, or the 33rd
+    /// parameter or local of a method; an expression that begins with 64 or more operands held.
     #[error("Limit at token {token}")]
     Limit { token: u32 },
-    /// Want of memory. No fault of the program.
+    /// Out of memory, which is no fault of the program.
     #[error("Memory")]
     Memory,
 }
@@ -98,7 +99,7 @@ impl ClassFault {
     }
 }
 
-/// Notes a fault: the first stays where it is not below.
+/// Notes a fault. `first` becomes this fault if it is none or a greater one.
 pub fn note(first: &mut Option<ClassFault>, fault: ClassFault)
     ensures { Notes first.old first.new (pair_of fault ∷ []) }
 {

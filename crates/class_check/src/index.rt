@@ -1,4 +1,4 @@
-//! The first place of each name in a list.
+//! An index from names to items of a list.
 ghost use Rattle.std.specs.Prelude.{◌≡◌, ℕ, nat_eq, IfOk, OnOk};
 ghost use Rattle.std.specs.HashMap.{get};
 ghost use Rattle.class_check.specs.Index.{IsIndex, place_with};
@@ -8,7 +8,7 @@ use run_types::NameId;
 use std::alloc::{AllocError, Global};
 use std::collections::HashMap;
 
-/// A list whose items are found by their names.
+/// A list with an index from each name to the first item that has it.
 #[derive(Drop)]
 pub struct Index<'a, T: HasName> {
     pub list: &'a [T],
@@ -16,7 +16,7 @@ pub struct Index<'a, T: HasName> {
     pub ghost indexed: { IsIndex T.name places.now list.now },
 }
 
-/// Adds the place to a name that has none yet.
+/// Enters the place of a name that has none yet.
 fn add(places: &mut HashMap<u32, usize>, name: NameId, place: usize) -> Result<(), AllocError>
     ensures { OnOk result ((n : ℕ) → get nat_eq places.new n ≡ place_with (get nat_eq places.old n) name.0 place n) }
 {
@@ -26,7 +26,7 @@ fn add(places: &mut HashMap<u32, usize>, name: NameId, place: usize) -> Result<(
     Ok(())
 }
 
-/// The first place of each name.
+/// Reports a map from each name to the place of the first item that has it. The error is out of memory.
 pub fn places_of<T: HasName>(alloc: Global, list: &[T]) -> Result<HashMap<u32, usize>, AllocError>
     ensures { IfOk result (λ places. IsIndex T.name places list.now) }
 {
@@ -43,14 +43,14 @@ impl<'a, T: HasName> Index<'a, T> {
     ghost use Rattle.std.specs.Option.{option_copied};
     ghost use Rattle.class_check.specs.Index.{place_of};
 
-    /// The place of the first item of this name.
+    /// Reports the place of the first item with this name, if there is one.
     pub fn place(&self, name: NameId) -> Option<usize>
         ensures { result ≡ place_of T.name self.now.list.now name.0 }
     {
         self.places.get(&name.0).copied()
     }
 
-    /// The first item of this name.
+    /// Reports the first item with this name, if there is one.
     pub fn first(&self, name: NameId) -> Option<&'a T>
         ensures { option_copied result ≡ find (λ x. T.name x == name.0) self.now.list.now }
     {
@@ -60,7 +60,7 @@ impl<'a, T: HasName> Index<'a, T> {
         }
     }
 
-    /// Whether an item before the place has this name.
+    /// Reports whether an item before the place has this name.
     pub fn is_before(&self, place: usize, name: NameId) -> bool
         ensures { result ≡ list_any (λ x. T.name x == name.0) (take place self.now.list.now) }
     {

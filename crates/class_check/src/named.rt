@@ -1,10 +1,10 @@
-//! What is declared or listed by a name.
+//! Items that have a name.
 ghost use Rattle.std.specs.Prelude.{◌≡◌, ℕ};
 
 use pool_syntax::{ClassDecl, Method, Named, Var};
 use run_types::NameId;
 
-/// What has a name.
+/// An item that has a name.
 pub trait HasName {
     ghost name: { Self → ℕ };
 

@@ -1,4 +1,4 @@
-//! The check of a program.
+//! The class checker of a program.
 ghost use Rattle.std.specs.Prelude.{◌≡◌, ◌≢◌, [], true, IfOk, IsOk, IsErr};
 ghost use Rattle.pool_syntax.specs.TreeOf.{program_of};
 ghost use Rattle.pool_syntax.specs.Typing.{faults};
@@ -14,7 +14,7 @@ use pool_syntax::Program;
 use run_types::Names;
 use std::alloc::Global;
 
-/// A program without class faults, and the table of its names.
+/// A program without class faults, and the table of its names and strings.
 #[derive(Clone, Copy)]
 pub struct Checked<'a> {
     pub program: &'a Program,
@@ -24,7 +24,8 @@ pub struct Checked<'a> {
     pub ghost spelled: { is_spelled names.now (program_of program.now) ≡ true },
 }
 
-/// The program without class faults; else its fault of least token, and of least number there. `Memory` comes where memory is wanting.
+/// Reports the program as `Checked` if it has no class faults. Otherwise it reports the fault at the least token, and
+/// of the least number there. `Memory` comes only if memory runs out.
 pub fn check<'a>(
     alloc: Global,
     program: &'a Program,

@@ -1,4 +1,4 @@
-//! The sorts of expressions, and what places need.
+//! The sorts of expressions, and the sorts that places require.
 ghost use Rattle.std.specs.Prelude.{◌≡◌, ◌||◌, not, map};
 ghost use Rattle.pool_syntax.specs.Terms.{ClassTree};
 ghost use Rattle.pool_syntax.specs.TreeOf.{class_tree};
@@ -18,9 +18,9 @@ pub enum Sort {
     Bool,
     Class(NameId),
     Nil,
-    /// Of a call without result.
+    /// The sort of a call of a method without a result.
     NoResult,
-    /// Of a part that already has a fault.
+    /// The sort of an expression in which a fault was already found.
     Broken,
 }
 
@@ -34,7 +34,7 @@ impl Sort {
         }
     }
 
-    /// Whether two sorts can be compared.
+    /// Reports whether two sorts can be compared.
     pub fn is_comparable(self, other: Sort) -> bool
         ensures { result ≡ is_comparable (counted (sort_tree self)) (counted (sort_tree other)) }
     {
@@ -54,7 +54,7 @@ impl Sort {
     }
 }
 
-/// The sort of a kind.
+/// Reports the sort of a declared type, which is broken if its class does not exist.
 pub fn kind_sort(classes: &Classes, kind: Kind) -> Sort
     ensures { sort_tree result ≡ kind_sort (map class_tree classes.now.list.now) kind }
 {
@@ -68,7 +68,7 @@ pub fn kind_sort(classes: &Classes, kind: Kind) -> Sort
     }
 }
 
-/// The sort of an operator's value.
+/// Reports the sort of an operator's value.
 pub fn op_sort(op: Op) -> Sort
     ensures { sort_tree result ≡ op_sort op }
 {
@@ -79,7 +79,7 @@ pub fn op_sort(op: Op) -> Sort
     }
 }
 
-/// The sort that an operator's operands need, but for `==` and `!=`.
+/// Reports the sort that an operator's operands require, except for `==` and `!=`.
 pub fn operand_sort(op: Op) -> Sort
     ensures { sort_tree result ≡ operand_sort op }
 {
@@ -90,14 +90,14 @@ pub fn operand_sort(op: Op) -> Sort
     }
 }
 
-/// An expression's sort, and its token.
+/// The sort of an expression, and its token.
 #[derive(Clone, Copy)]
 pub struct Placed {
     pub sort: Sort,
     pub token: u32,
 }
 
-/// Notes an expression of no sort.
+/// Notes an expression without a result where a value is required.
 pub fn note_no_result(at: Placed, first: &mut Option<ClassFault>)
     ensures { Notes first.old first.new (no_result_faults (sort_tree at.sort) at.token) }
 {
@@ -106,7 +106,7 @@ pub fn note_no_result(at: Placed, first: &mut Option<ClassFault>)
     }
 }
 
-/// Notes an expression whose place needs another sort.
+/// Notes an expression whose place requires another sort.
 pub fn note_misfit(at: Placed, need: Sort, first: &mut Option<ClassFault>)
     ensures { Notes first.old first.new (misfit (sort_tree at.sort) (sort_tree need) at.token) }
 {

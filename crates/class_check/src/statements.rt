@@ -1,4 +1,4 @@
-//! The faults of statements.
+//! The check of statements.
 ghost use Rattle.std.specs.Prelude.{◌≡◌, ◌≤◌, ◌++◌, ◌||◌, [], not, is_some, OnOk};
 ghost use Rattle.pool_syntax.specs.FaultNumbers.{answer_name as answer_name_number};
 ghost use Rattle.pool_syntax.specs.TreeOf.{alternatives_of, expression_of, statement_of, statements_of};
@@ -16,7 +16,7 @@ use pool_syntax::{Alt, Expr, Named, Stmt};
 use run_types::List;
 use std::alloc::{AllocError, Global};
 
-/// Notes a name of an answer list that is no method of the own class, or stands there again.
+/// Notes a name of an answer list that is no method of the own class, or that is already in the list.
 fn answer_name(scope: &Scope, again: bool, named: Named, first: &mut Option<ClassFault>)
     ensures { Notes first.old first.new (fault_if (not (is_some (own_method (scope_of scope.now) named.name.0)) || again) named.pos answer_name_number) }
 {
@@ -67,7 +67,7 @@ fn answer(
 }
 
 #[tactic(auto, using(crate::proofs::FaultAccumulation::noted_append))]
-/// Notes the faults of a condition before which so many operands are held.
+/// Notes the faults of a condition that begins with `held` operands held.
 fn condition(scope: &Scope, held: u8, expr: &Expr, first: &mut Option<ClassFault>)
     requires { held ≤ 64 }
     ensures { Notes first.old first.new (expression_faults (scope_of scope.now) held (expression_of expr.now) ++ needs (scope_of scope.now) BoolSort (expression_of expr.now)) }

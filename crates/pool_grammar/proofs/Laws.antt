@@ -1,2 +1,2 @@
--- What other crates cite.
+-- The definition that the proofs of other crates share.
 pub use Rattle.pool_grammar.proofs.Terminals.{IsTerminal}

@@ -1,4 +1,4 @@
--- The parts of rules that are one token.
+-- The parts of rules that are a single token.
 use Rattle.pool_grammar.specs.Rules.{Part, phrase}
 
 -- a part that is one token

@@ -1,5 +1,6 @@
--- The grammar: above each rule its text, with square brackets for "at most once" and braces for "any number of times".
--- A part in braces is a phrase `more_..` of its own, which is given what stands before it. Each alternative stands in parentheses.
+-- The context-free grammar of the language, in EBNF and as rules that give a syntax tree. Above each rule is its EBNF
+-- text: square brackets mean at most once, and braces any number of times. A part in braces is a phrase `more_..` of
+-- its own. Its argument is the tree of the part before it. Each alternative is in parentheses.
 use Rattle.std.specs.Prelude.{ℕ, List, [], ◌∷◌, ◌++◌, map, true, false, Option, Some, None}
 use Rattle.pool_syntax.specs.declared.token.Tok.{Tok}
 use Rattle.pool_syntax.specs.declared.token.Tok.TheVariants.{Word, Sign}
@@ -21,8 +22,7 @@ use Rattle.pool_grammar.specs.Rules.{Group, disjunction, conjunction, addition, 
 use Rattle.pool_grammar.specs.Rules.{names, more_names, more_methods, method, post, params, more_params, param, more_locals, stmts, more_stmts, stmt, invoke, alt, more_alts, list, expression}
 use Rattle.pool_grammar.specs.Rules.{more_operands, more_sends, args, more_args, OneAlternative, Tree, Part, word, sign, name, integer, string, end, operator, phrase, Rule, tree, ◌*>=◌, ◌*>◌, ◌or◌}
 
--- one more at the end
-
+-- the list with one more item at its end; the same for the next two
 abbrev pub arg_last : Expressions → Expression → Expressions
 arg_last NoArgs e = Arg e NoArgs
 arg_last (Arg x xs) e = Arg x (arg_last xs e)
@@ -35,11 +35,11 @@ abbrev pub alt_last : Alternatives → OneAlternative → Alternatives
 alt_last NoAlts a = Alt a.0 a.1 a.2 NoAlts
 alt_last (Alt g ns ss xs) a = Alt g ns ss (alt_last xs a)
 
--- one variable for each name, each with the kind and the kind's position
+-- a variable for each name, with the declared type and the position of the type
 abbrev pub variables : List Named → Kind × ℕ → List variable.Var
 variables ns k = map (λ n. record { name = n.name; kind = k.0; pos = n.pos; kind_pos = k.1 }) ns
 
--- the operators of a level
+-- the operator of a level that a token is, if it is one
 abbrev pub operator_of : Level → Tok → Option Op
 operator_of (group disjunction) (Word Or) = Some op.Or
 operator_of (group conjunction) (Word And) = Some op.And
@@ -58,7 +58,7 @@ operator_of factor (Word Not) = Some op.Not
 operator_of factor (Sign Minus) = Some op.Neg
 operator_of _ _ = None
 
--- the level of the operands
+-- the level of the operands of a group
 abbrev pub operand : Group → Level
 operand disjunction = group conjunction
 operand conjunction = comparison

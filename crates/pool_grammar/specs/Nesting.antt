@@ -1,19 +1,19 @@
--- How deep a token stands. One looks back from the token.
+-- The nesting depth of a token in a program, computed from the tokens before it.
 use Rattle.std.specs.Prelude.{◌≡◌, ℕ, zero, suc, ◌+◌, ◌<◌, ◌≤◌, Bool, true, false, List, [], ◌∷◌, reverse, take}
 use Rattle.pool_syntax.specs.declared.token.Tok.{Tok}
 use Rattle.pool_syntax.specs.declared.token.Tok.TheVariants.{Word, Sign, End}
 use Rattle.text_scan.specs.declared.keywords.Keyword.TheVariants as word
 use Rattle.pool_syntax.specs.declared.token.Sign.TheVariants as sign
 
--- what a token is to the nesting
+-- the role of a token in the nesting
 pub data Role : Type 0 where
   -- a bracket that counts until it is closed
   opening : Role
-  -- closed by an `end` as `select` is, and not counted
+  -- an opening that `end` closes and that is not counted
   beginning : Role
   closing : Role
   operating : Role
-  -- between expressions and in none
+  -- between expressions, and in none of them
   parting : Role
   plain : Role
 
@@ -63,8 +63,9 @@ role (Sign sign.Comma) = parting
 role End = parting
 role _ = plain
 
--- Of the tokens before a place, the nearest first: the brackets that are open there, and the operators whose expression is not over there.
--- `held` says that nothing between the two parts them; `closed` is the number of brackets that close between and whose opening is still to come.
+-- the number of brackets that are open at a place, and of operators whose expression has not ended there; the list
+-- has the tokens before the place, with the nearest first. `held` says that no token since then has ended the
+-- expression. `closed` is the number of brackets that were closed since then and whose opening is still to be found.
 abbrev pub open_before : (held : Bool) (closed : ℕ) → List Tok → ℕ
 open_before held closed [] = 0
 open_before held zero (t ∷ ts) = elim (role t) [
@@ -82,7 +83,8 @@ open_before held (suc closed) (t ∷ ts) = elim (role t) [
   | _ ↦ open_before held (suc closed) ts
 ]
 
--- The last token of a list with the tokens before it, the nearest first. A bracket and an operator count at themselves; a bracket counts at the token that closes it too.
+-- the depth of the first token of this list, in which the tokens before it follow, with the nearest first; a bracket
+-- and an operator count at themselves, and a bracket counts also at the token that closes it
 abbrev pub depth : List Tok → ℕ
 depth [] = 0
 depth (t ∷ before) = elim (role t) [
@@ -92,10 +94,10 @@ depth (t ∷ before) = elim (role t) [
   | _ ↦ open_before false 0 before
 ]
 
--- the nesting of token number i
+-- the nesting depth of the token with the number i
 abbrev pub nesting : List Tok → ℕ → ℕ
 nesting ts i = depth (reverse (take (i + 1) ts))
 
--- Token number i is the first that stands too deep.
+-- the token with the number i is the first one whose depth exceeds 200
 abbrev pub IsFirstTooDeep : List Tok → ℕ → Type 0
 IsFirstTooDeep ts i = (nesting ts i ≡ 201) × ((k : ℕ) → k < i → nesting ts k ≤ 200)

@@ -1,4 +1,4 @@
--- The phrases of the grammar, and the form of a rule.
+-- The phrases of the grammar, the trees that they give, and the form of a rule.
 use Rattle.std.specs.Prelude.{ℕ, ℤ, List, Option}
 use Rattle.run_types.specs.declared.types.NameId.{NameId}
 use Rattle.run_types.specs.declared.types.Op.{Op}
@@ -9,7 +9,7 @@ use Rattle.pool_syntax.specs.declared.tree.Named.{Named}
 use Rattle.pool_syntax.specs.declared.tree.Var.{Var}
 use Rattle.pool_syntax.specs.Terms.{Expression, Expressions, Statement, Statements, Alternatives, MethodTree, ClassTree}
 
--- the levels of operators whose repetition groups to the left
+-- the levels of left-associative operators
 pub data Group : Type 0 where
   disjunction : Group
   conjunction : Group
@@ -24,7 +24,7 @@ pub data Level : Type 0 where
   postfix : Level
   primary : Level
 
--- The phrases. A repeated part is a phrase of its own, with what was read before it as argument.
+-- the phrases; a repeated part is a phrase of its own, with the tree of the part before it as argument
 pub data Phrase : Type 0 where
   program : Phrase
   more_classes : List ClassTree → Phrase
@@ -53,11 +53,11 @@ pub data Phrase : Type 0 where
   args : Phrase
   more_args : Expressions → Phrase
 
--- an alternative that stands alone: its guard, its answer list and its statements
+-- one alternative of a select: its guard, its answer list and its statements
 abbrev pub OneAlternative : Type 0
 OneAlternative = Expression × Option (List Named) × Statements
 
--- what a phrase's tree is
+-- the type of the tree of a phrase
 abbrev pub Tree : Phrase → Type 0
 Tree program = List ClassTree
 Tree (more_classes before) = List ClassTree
@@ -97,7 +97,8 @@ pub data Part : Type 0 where
   operator : Level → Part
   phrase : Phrase → Part
 
--- what a part gives to the tree; a token gives its number, its position
+-- the type of the semantic value of a part, from which the tree is made; the value of a token has its number, which
+-- is its position
 abbrev pub SemanticValue : Part → Type 0
 SemanticValue (word k) = ℕ
 SemanticValue (sign s) = ℕ
@@ -108,7 +109,7 @@ SemanticValue end = ℕ
 SemanticValue (operator level) = Op × ℕ
 SemanticValue (phrase p) = Tree p
 
--- the right side of a rule: it ends with its tree, goes on with a part, or is one of two
+-- the right side of a rule: it ends with its tree, continues after a part, or is one of two
 pub data Rule (A : Type 0) : Type 0 where
   tree : A → Rule A
   then : (part : Part) → (SemanticValue part → Rule A) → Rule A
@@ -116,13 +117,14 @@ pub data Rule (A : Type 0) : Type 0 where
 
 infixr 10 ◌*>=◌ ◌*>◌
 infixr 5 ◌or◌
--- a part, and the rest of the rule with what the part gives
+-- a part, followed by the rest of the rule, which gets the semantic value of the part
 abbrev pub ◌*>=◌ : {A : Type 0} (part : Part) → (SemanticValue part → Rule A) → Rule A
 part *>= rest = then part rest
 
--- a part whose place the tree does not keep
+-- a part whose semantic value the tree does not need
 abbrev pub ◌*>◌ : {A : Type 0} (part : Part) → Rule A → Rule A
 part *> rest = then part (λ x. rest)
 
+-- one of two right sides
 abbrev pub ◌or◌ : {A : Type 0} → Rule A → Rule A → Rule A
 r or s = either r s

@@ -1,4 +1,4 @@
--- What the first byte of a text tells of the pieces at its front.
+-- The first byte of a text restricts the pieces at its front.
 use Rattle.std.proofs.Common.{◌≡◌, ◌≢◌, ℕ, Bool, true, false, ◌&&◌, ◌||◌, nat_eq, List, [], ◌∷◌, Some, None, ◌∙◌, refl, arith}
 use Rattle.std.proofs.lemmas.Bool.{and_left, and_from, ne_eqb}
 use Rattle.std.proofs.lemmas.Bool.Decides.{nat_tests}

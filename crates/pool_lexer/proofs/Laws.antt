@@ -1,4 +1,5 @@
--- Lemmas that other crates may cite: which piece is the longest at a place, what a piece keeps, and the table of texts behind pieces.
+-- The lemmas that other crates cite: the longest piece at a place, the text that a piece adds, and the table after
+-- pieces.
 pub use Rattle.pool_lexer.proofs.FirstByte.{white_run, word_run, integer_run}
 pub use Rattle.pool_lexer.proofs.TableGrowth.{cases_Option, kept_there, texts_after-cons}
 pub use Rattle.pool_lexer.proofs.Longest.{longest_run, longest_string}

@@ -1,4 +1,4 @@
--- One piece of a text is read.
+-- The step that reads one piece of a text.
 use Rattle.std.proofs.Common.{◌≡◌, ℕ, suc, ◌-◌, ◌<◌, take, drop, slice_range, Option, ◌++◌, List, sym, ap, ◌∙◌, arith}
 use Rattle.text_scan.specs.Text.{Text}
 use Rattle.pool_syntax.specs.Tokens.{longest, piece_fault, fault_of}

@@ -1,4 +1,4 @@
--- What the rest of a text gives, the whole gives.
+-- From the pieces and the fault of the rest of a text to those of the whole text.
 use Rattle.std.proofs.Common.{◌≡◌, ◌≢◌, ℕ, ◌+◌, ◌≤◌, List, [], ◌∷◌, ◌++◌, length, take, drop, Option, Some, ◌⊎◌, inl, inr, refl, sym, ap, subst, ◌∙◌, arith}
 use Rattle.std.proofs.lemmas.List.{drop-drop, drop_all, length-drop, length-take-le, append_assoc}
 use Rattle.text_scan.specs.Text.{Text}

@@ -1,4 +1,4 @@
--- The tokens of a text are those of a spelled program, over the text's table.
+-- The names, strings and integers of the tokens of a text can be written, over the table of the text.
 use Rattle.std.proofs.Common.{◌≡◌, ℕ, zero, suc, ◌+◌, ◌-◌, ◌≤◌, true, false, List, [], ◌∷◌, length, take, drop, slice_get, Some, None, nat_le, pos, inl, inr, refl, sym, ap, subst, ◌∙◌, is_some, arith}
 use Rattle.std.proofs.lemmas.Bool.{cases_Bool}
 use Rattle.std.proofs.lemmas.Bool.Decides.{nat_tests}

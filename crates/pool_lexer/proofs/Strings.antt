@@ -1,4 +1,4 @@
--- Where the inside of a string is closed.
+-- The end of the inside of a string.
 use Rattle.std.proofs.Common.{◌≡◌, ℕ, zero, suc, ◌<◌, ◌≤◌, false, nat_eq, [], ◌∷◌, length, take, get_or, refl, arith}
 use Rattle.std.specs.List.{prefix_len}
 use Rattle.std.proofs.lemmas.Bool.Decides.{nat_tests}

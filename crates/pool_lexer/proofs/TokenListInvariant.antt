@@ -1,4 +1,4 @@
--- What a reader of a text's tokens can rest on.
+-- Lemmas on the guarantees of a list of tokens for its reader.
 use Rattle.std.proofs.Common.{◌≡◌, ◌≢◌, ℕ, zero, suc, ◌+◌, ◌≤◌, List, [], ◌∷◌, length, slice_get, All, Some, inl, inr, sym, ap, subst, arith}
 use Rattle.text_scan.specs.Text.{Text}
 use Rattle.pool_syntax.specs.Tokens.{HasTokens, texts_after, token_of, tokens_from, toks}

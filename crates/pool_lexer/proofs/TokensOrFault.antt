@@ -1,4 +1,4 @@
--- A text has one list of tokens or one first fault, and not both.
+-- A text has either one list of tokens or one first fault.
 use Rattle.std.proofs.Common.{◌≡◌, ◌≢◌, ℕ, ◌+◌, ◌≤◌, Bool, true, false, nat_le, List, [], ◌∷◌, length, take, drop, Option, Some, None, inl, inr, refl, sym, ap, subst, ◌∙◌, arith}
 use Rattle.std.proofs.lemmas.Bool.{cases_Bool}
 use Rattle.text_scan.specs.Text.{Text, is_word, is_integer, value_of_digits}

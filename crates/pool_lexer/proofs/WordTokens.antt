@@ -1,4 +1,4 @@
--- Which token a word is, and what it keeps.
+-- The token of a word, and the text that it adds to the table.
 use Rattle.std.proofs.Common.{◌≡◌, ℕ, ◌≤◌, true, false, length, List, Some, None, is_some, nat_le, ap, ◌∙◌}
 use Rattle.std.proofs.lemmas.Bool.{le-leb}
 use Rattle.run_types.specs.Table.{with_text, name_of}

@@ -1,13 +1,13 @@
--- What a list of tokens is for its reader: it ends in End, and its numbers are places of the table.
+-- The guarantees of a list of tokens for its reader: it ends in `End`, and its numbers are indexes of the table.
 use Rattle.std.specs.Prelude.{◌≡◌, ℕ, ◌+◌, ◌<◌, ◌↔◌, List, length, slice_get, Some}
 use Rattle.pool_syntax.specs.declared.token.Tok.{Tok}
 use Rattle.pool_syntax.specs.declared.token.Tok.TheVariants as tok
 
--- There is a last token, and a token is End exactly where it is the last.
+-- there is a last token, and a token is `End` if and only if it is the last
 abbrev pub EndsInEnd : List Tok → Type 0
 EndsInEnd ts = (0 < length ts) × ((i : ℕ) (t : Tok) → slice_get ts i ≡ Some t → (t ≡ tok.End) ↔ (i + 1 ≡ length ts))
 
--- The number of a name or a string is a place of a table with so many texts.
+-- the number of a name or a string is an index of a table with this number of texts
 abbrev pub IsPlaced : ℕ → Tok → Type 0
 IsPlaced count (tok.Name id) = id.0 < count
 IsPlaced count (tok.Str id) = id.0 < count

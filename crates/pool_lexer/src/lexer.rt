@@ -1,4 +1,4 @@
-//! The tokens of a whole text, or its first fault.
+//! The lexer: the tokens of a whole text, or its first fault.
 ghost use Rattle.std.specs.Prelude.{◌≡◌, ◌≢◌, ℕ, ◌+◌, ◌^◌, ◌<◌, ◌≤◌, ◌⊎◌, List as ItemList, [], ◌∷◌, ◌++◌, Err, IfOk, IfErr, OnOk, MatchResult, All, length};
 ghost use Rattle.pool_syntax.specs.Tokens.{toks, HasTokens, IsFirstFault};
 ghost use Rattle.pool_syntax.specs.Spelled.{AreSpelled};
@@ -12,25 +12,25 @@ use pool_syntax::{LexFault, Tok, Token};
 use run_types::{List, Names};
 use std::alloc::Global;
 
-/// The tokens of a text of at most 64 MiB, or its first fault. The texts of names and strings are
-/// numbered in the order in which they are first seen.
+/// Reports the tokens of a text of at most 67,108,864 bytes, or its first lexical fault. The texts of names and
+/// strings are numbered in the order in which they first occur. `Memory` comes only if memory runs out.
 pub fn tokens(alloc: Global, bytes: &[u8]) -> Result<Tokens, LexFault>
     requires { length bytes.now ≤ 67108864 }
     ensures ok { IfOk result (λ t. HasTokens bytes.now t.names t.list) }
     ensures fault { (f : LexFault) → result ≡ Err f → f ≢ LexFault.Memory → IsFirstFault bytes.now f }
 
-    // A text with tokens is refused for want of memory alone.
+    // A text that has tokens is rejected only if memory runs out.
     ensures only { (names : ItemList (ItemList ℕ)) (ts : ItemList Token) → HasTokens bytes.now names ts
         → MatchResult result (λ t. (t.names ≡ names) × (t.list ≡ ts)) (λ f. f ≡ LexFault.Memory) }
 
-    // A text with a first fault is never accepted, and no other fault is told.
+    // A text that has a first fault is rejected with this fault, unless memory runs out.
     ensures first { (f : LexFault) → IsFirstFault bytes.now f → (result ≡ Err f) ⊎ (result ≡ Err LexFault.Memory) }
 
-    // The last token is End and no other is, and each number of a name or string is a place of the table.
+    // The last token is `End` and no other one is. Each number of a name or string is an index of the table.
     ensures ended { IfOk result (λ t. EndsInEnd (toks t.list)) }
     ensures placed { IfOk result (λ t. All (IsPlaced (length t.names)) (toks t.list)) }
 
-    // Each name, string and integer is one of a spelled program.
+    // Each name, string and integer can be written in a program.
     ensures spelled { IfOk result (λ t. AreSpelled t.names (toks t.list)) }
     ensures count { IfOk result (λ t. length t.list ≤ length bytes.now + 1) }
 {
@@ -46,7 +46,7 @@ pub fn tokens(alloc: Global, bytes: &[u8]) -> Result<Tokens, LexFault>
     Ok(tokens)
 }
 
-/// Reads the piece that begins at a place, and gives where it ends.
+/// Reads the piece that begins at the byte `at`, and reports where it ends.
 fn read_piece(tokens: &mut Tokens, bytes: &[u8], at: usize) -> Result<usize, LexFault>
     requires within { at < length bytes.now }
     requires small { length bytes.now < 2 ^ 32 }
@@ -61,7 +61,7 @@ fn read_piece(tokens: &mut Tokens, bytes: &[u8], at: usize) -> Result<usize, Lex
     Ok(piece.end)
 }
 
-/// Adds a token at a place.
+/// Appends a token with its position.
 fn push(tokens: &mut Tokens, tok: Tok, at: usize) -> Result<(), LexFault>
     requires { at < 2 ^ 32 }
     ensures names { tokens.new.names ≡ tokens.old.names }

@@ -1,4 +1,4 @@
-//! The piece that begins at a place of a text.
+//! The piece that begins at a byte of a text.
 ghost use Rattle.std.specs.Prelude.{◌≡◌, ◌≢◌, ◌^◌, ◌<◌, length, slice_index};
 ghost use Rattle.pool_lexer.specs.Pieces.{IsNoRun, RunOf, TellsPiece};
 
@@ -6,7 +6,7 @@ use crate::spelling::sign;
 use pool_syntax::{LexFault, Sign};
 use text_scan::{ByteSet, run_end};
 
-/// Which token a piece is; white space and comments are skipped.
+/// The kind of a piece. White space and comments are `Skipped`.
 #[derive(Clone, Copy)]
 pub enum Kind {
     Skipped,
@@ -16,14 +16,14 @@ pub enum Kind {
     Sign(Sign),
 }
 
-/// A piece: its kind, and where it ends.
+/// A piece: its kind, and the byte at which it ends.
 #[derive(Clone, Copy)]
 pub struct Piece {
     pub kind: Kind,
     pub end: usize,
 }
 
-/// The longest piece that begins at a place, or the fault that none does.
+/// Reports the longest piece that begins at the byte `at`, or the fault if no piece begins there.
 pub fn piece_at(bytes: &[u8], at: usize) -> Result<Piece, LexFault>
     requires within { at < length bytes.now }
     requires small { length bytes.now < 2 ^ 32 }
@@ -43,7 +43,8 @@ pub fn piece_at(bytes: &[u8], at: usize) -> Result<Piece, LexFault>
     }
 }
 
-/// The bytes that a piece which begins with this byte goes on with, where it is a run, and its kind.
+/// Reports the set of the further bytes of a piece that begins with this byte, and its kind. Reports `None` if such a
+/// piece is not a run of bytes.
 fn run_of(first: u8) -> Option<(ByteSet, Kind)>
     ensures { RunOf first result }
 {
@@ -60,7 +61,7 @@ fn run_of(first: u8) -> Option<(ByteSet, Kind)>
     }
 }
 
-/// The string that begins at a quote.
+/// Reports the string that begins at the quote `at`, or `OpenString`.
 fn string_at(bytes: &[u8], at: usize) -> Result<Piece, LexFault>
     requires within { at < length bytes.now }
     requires quote { slice_index bytes.now at ≡ 34 }
@@ -77,7 +78,7 @@ fn string_at(bytes: &[u8], at: usize) -> Result<Piece, LexFault>
     Err(LexFault::OpenString { at: at as u32 })
 }
 
-/// The longest sign that begins at a byte with which nothing else begins.
+/// Reports the longest sign that begins at the byte `at`, or `BadByte`. Requires that no other piece begins there.
 fn sign_at(bytes: &[u8], at: usize) -> Result<Piece, LexFault>
     requires within { at < length bytes.now }
     requires small { length bytes.now < 2 ^ 32 }

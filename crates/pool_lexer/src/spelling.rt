@@ -1,4 +1,4 @@
-//! Which keyword or sign a text is.
+//! The look-up of a sign by its text.
 ghost use Rattle.std.specs.Prelude.{◌≡◌, map};
 ghost use Rattle.pool_syntax.specs.Spelling.{sign_text};
 ghost use Rattle.text_scan.specs.Text.{lookup};
@@ -28,7 +28,7 @@ const SIGNS: [Sign; 19] = [
     Sign::Percent,
 ];
 
-/// The first of the signs that has this text.
+/// Reports the first of the signs that has this text.
 fn first_sign(signs: &[Sign], text: &[u8]) -> Option<Sign>
     ensures { result ≡ lookup (map (λ s. (sign_text s, s)) signs.now) text.now }
 {
@@ -40,7 +40,7 @@ fn first_sign(signs: &[Sign], text: &[u8]) -> Option<Sign>
     None
 }
 
-/// The sign that a text is.
+/// Reports the sign with this text, or `None` if there is none.
 pub fn sign(text: &[u8]) -> Option<Sign>
     ensures { result ≡ lookup signs text.now }
 {

@@ -1,4 +1,4 @@
-//! Which token a piece of a text is.
+//! The token of a piece of a text.
 ghost use Rattle.std.specs.Prelude.{ℕ, ◌^◌, ◌<◌, List, Some, length};
 ghost use Rattle.pool_lexer.specs.Pieces.{IsKind};
 ghost use Rattle.pool_lexer.specs.Reading.{TellsToken};
@@ -9,13 +9,14 @@ use pool_syntax::{LexFault, Tok};
 use run_types::Names;
 use text_scan::{Decimal, decimal, keyword};
 
-/// The most bytes of a name.
+/// The largest number of bytes of a name.
 const NAME_LIMIT: usize = 64;
 
-/// The most bytes of a string, between its quotes.
+/// The largest number of bytes of a string, without its quotes.
 const STRING_LIMIT: usize = 256;
 
-/// The token of a piece, and the table with the text that it keeps.
+/// Reports the token of a piece that begins at the byte `at`, and adds the text of a name or a string to the table. A
+/// skipped piece has no token. Errors: `TooLong`, `IntegerTooLarge`, and `Memory` if memory runs out.
 pub fn token(names: &mut Names, text: &[u8], kind: Kind, at: u32) -> Result<Option<Tok>, LexFault>
     requires kind { IsKind kind text.now }
     requires room { length names.old < 2 ^ 32 }
@@ -30,7 +31,7 @@ pub fn token(names: &mut Names, text: &[u8], kind: Kind, at: u32) -> Result<Opti
     }
 }
 
-/// A keyword or a name, which has at most 64 bytes.
+/// Reports the keyword or the name. A name of more than 64 bytes is `TooLong`.
 fn word(names: &mut Names, text: &[u8], at: u32) -> Result<Tok, LexFault>
     requires kind { IsKind Word text.now }
     requires room { length names.old < 2 ^ 32 }
@@ -48,7 +49,7 @@ fn word(names: &mut Names, text: &[u8], at: u32) -> Result<Tok, LexFault>
     }
 }
 
-/// An integer, which is below 2^63.
+/// Reports the integer. From 2^63 on it is `IntegerTooLarge`.
 fn integer(text: &[u8], at: u32) -> Result<Tok, LexFault>
     requires { IsKind Integer text.now }
     ensures { (names : List (List ℕ)) → TellsToken (λ t. Some t) at text.now names names result }
@@ -60,7 +61,7 @@ fn integer(text: &[u8], at: u32) -> Result<Tok, LexFault>
     }
 }
 
-/// A string, which has at most 256 bytes between its quotes.
+/// Reports the string. With more than 256 bytes between its quotes it is `TooLong`.
 fn string(names: &mut Names, text: &[u8], at: u32) -> Result<Tok, LexFault>
     requires kind { IsKind Quoted text.now }
     requires room { length names.old < 2 ^ 32 }

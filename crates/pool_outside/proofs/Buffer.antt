@@ -1,4 +1,4 @@
--- Bytes that are gathered in front of a sink.
+-- Lemmas on the bytes of a buffer and of the sink after it.
 use Rattle.pool_outside.specs.Outside.{IsProperFront}
 use Rattle.pool_outside.specs.Gathered.{gathered, HasGrown}
 use Rattle.std.proofs.Common.{◌≡◌, ℕ, ◌+◌, ◌-◌, ◌≤◌, List, ◌++◌, length, take, drop, Option, None, Some, option_map, ap, sym, ◌∙◌, append_assoc, arith, zero-add, length-drop, length-take, length-append, refl, rules}

@@ -1,4 +1,4 @@
--- Texts by their names.
+-- Lemmas on the look-up of a text by its name.
 use Rattle.std.proofs.Common.{◌≡◌, ℕ, ◌<◌, List, [], ◌∷◌, length, drop, get_or, Some, true, refl, suc, zero, arith}
 use Rattle.std.specs.Str.{bytes_eq}
 use Rattle.pool_outside.specs.Memory.{text_under, text_at}

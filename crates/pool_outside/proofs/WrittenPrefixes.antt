@@ -1,4 +1,4 @@
--- Texts that are written one after another, and the fronts that a failed write leaves.
+-- Texts that are written one after another, and the prefixes that a failed write leaves.
 use Rattle.std.proofs.Common.{◌≡◌, ℕ, suc, ◌+◌, ◌<◌, List, [], ◌∷◌, ◌++◌, length, take, Option, None, Some, option_map, refl, ap, ◌∙◌, append_assoc, length-append, subst, arith, ◌≤◌, inl, inr}
 use Rattle.std.proofs.lemmas.Grind.{common_steps}
 use Rattle.pool_outside.specs.Outside.{IsProperFront, Rose}

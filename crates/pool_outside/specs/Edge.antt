@@ -1,7 +1,7 @@
--- The files of the system, as contracts see them.
+-- Files and sinks of the system, as contracts see them: counts of calls, and the bytes that are left or held.
 use Rattle.std.specs.Prelude.{ℕ, Bool, List, Option}
 
--- what is counted of the calls, whether a file is being read, and the bytes that it has left, where they are known
+-- the counts of calls, whether a file is open, and the bytes that it has left, if they are known
 pub record Counts : Type 0 where
   pub opens : ℕ
   pub given : ℕ
@@ -9,7 +9,7 @@ pub record Counts : Type 0 where
   pub live : Bool
   pub left : Option (List ℕ)
 
--- the bytes that a sink's writer holds, where they are known, and how often a write has failed
+-- the bytes that the writer of a sink holds, if they are known, and the number of writes that have failed
 pub record Passed : Type 0 where
   pub held : Option (List ℕ)
   pub faults : ℕ

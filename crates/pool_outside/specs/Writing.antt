@@ -1,16 +1,18 @@
--- What was written on a sink in a call, and whether a write failed.
+-- The effect of a call on a sink: the bytes written and the faults.
 use Rattle.std.specs.Prelude.{◌≡◌, ℕ, ◌++◌, Option, option_map}
 use Rattle.pool_outside.specs.Outside.{Rose, IsProperFront}
 use Rattle.text_scan.specs.Text.{Text}
 
--- what a call did with a sink: the bytes that it holds before and after, where they are known, and the number of faults before and after
+-- the effect of a call on a sink: its bytes before and after, if they are known, and the number of faults before and
+-- after
 pub record Writing : Type 0 where
   pub before : Option Text
   pub after : Option Text
   pub faults : ℕ
   pub failed : ℕ
 
--- what a call did, by what tells the bytes and counts the faults, and the sink before and after it
+-- the effect of a call, from the functions that give the bytes and the faults of a sink, and the sink before and
+-- after it
 abbrev pub writing : {S : Type 0} → (S → Option Text) → (S → ℕ) → S → S → Writing
 writing bytes count old new = record { before = bytes old; after = bytes new; faults = count old; failed = count new }
 
@@ -22,11 +24,11 @@ AllWrote k = k.failed ≡ k.faults
 abbrev pub IsIdle : Writing → Type 0
 IsIdle k = (k.after ≡ k.before) × AllWrote k
 
--- the text was written whole behind what was there, and no write failed
+-- the whole text was written after what was there, and no write failed
 abbrev pub Wrote : Writing → Text → Type 0
 Wrote k s = (k.after ≡ option_map (λ w. w ++ s) k.before) × AllWrote k
 
--- a front of the text was written, not the whole of it, and then a write failed
+-- a prefix of the text was written, not all of it, and then a write failed
 pub record WroteFront (k : Writing) (s : Text) : Type 0 where
   pub front : IsProperFront k.before s k.after
   pub rose : Rose k.faults k.failed

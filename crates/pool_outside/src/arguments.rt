@@ -1,4 +1,4 @@
-//! The words behind a program's name.
+//! The arguments after a program's name.
 ghost use Rattle.std.specs.Prelude.{◌≡◌, ◌≢◌, [], drop, IfOk, IfErr, IsErr, IsOkAnd};
 ghost use Rattle.std.specs.IoError.{error_kind};
 ghost use Rattle.std.specs.Vec.Iter.{into_iter_items};
@@ -7,7 +7,8 @@ use std::alloc::{AllocError, Global};
 use std::io::ErrorKind;
 use std::{env, io};
 
-/// The words behind the program's name. Arguments that are not text are no command's, and give none.
+/// Reports the program's arguments after its name. If an argument is not text, it reports none, since no command has
+/// such an argument. The error is out of memory.
 pub fn args_after_program_name(
     alloc: Global,
     args: io::Result<env::Args>,

@@ -1,4 +1,4 @@
-// A sink that gathers pieces in front of another one.
+// A buffer in front of a sink.
 ghost use Rattle.std.specs.Prelude.{◌≡◌, List, ℕ, ◌+◌, ◌-◌, ◌<◌, ◌≤◌, ◌++◌, [], Option, None, length, take, drop, option_map, OnOk, OnErr};
 ghost use Rattle.std.specs.Borrow.{GName};
 ghost use Rattle.pool_outside.specs.Outside.{Rose, IsProperFront};
@@ -8,10 +8,10 @@ use crate::calls::{WriteFault, write_all_of};
 use crate::outside::{Failed, Sink};
 use std::marker::{Brand, Model, PhantomData};
 
-/// How many bytes are gathered before they are handed on.
+/// The size of the buffer in bytes.
 const ROOM: usize = 4096;
 
-/// The bytes that are gathered.
+/// The buffered bytes, at most `ROOM`.
 #[derive(Drop)]
 struct Gathered {
     bytes: [u8; ROOM],
@@ -72,13 +72,13 @@ impl Gathered {
     }
 }
 
-/// Tells, for proofs alone, to which sink a gathering one hands its bytes on: a generic function that is given the gathering
-/// one does not say that it still leads to the same sink. A caller picks it at a call with `Brand`.
+/// Identifies, for proofs alone, the sink of a buffer. A generic function over the buffer does not promise that the
+/// buffer still refers to the same sink; this name does. A caller chooses it at a call with `Brand`.
 pub trait Behind {
-    /// The name of the reference to it.
+    /// The name of the reference to the sink.
     ghost name: { GName };
 
-    /// What it had before anything was gathered.
+    /// The bytes that the sink had before the first one was buffered, if they are known.
     ghost start: { Option (List ℕ) };
 }
 
@@ -88,8 +88,8 @@ impl Behind for Brand {
     ghost start = { None };
 }
 
-/// Gathers pieces in a buffer of 4096 bytes, and hands them on to the sink when it is full and at the end. It is not dropped:
-/// `finish` hands on what is left, and `abandon` leaves it.
+/// A sink that collects pieces in a buffer of 4,096 bytes. It passes them to the inner sink if the buffer is full and
+/// at the end. It is not dropped: `finish` writes the rest, and `abandon` discards it.
 pub struct Buffered<'a, K: Sink, B: Behind> {
     sink: &'a mut K,
     bytes: Gathered,
@@ -99,7 +99,7 @@ pub struct Buffered<'a, K: Sink, B: Behind> {
 }
 
 impl<'a, K: Sink, B: Behind> Buffered<'a, K, B> {
-    /// Nothing is gathered yet.
+    /// Reports an empty buffer in front of the sink.
     pub fn make(sink: &'a mut K) -> Buffered<'a, K, B>
         requires name { sink.ghost_name ≡ B.name }
         requires start { K.written sink.old ≡ B.start }
@@ -113,7 +113,7 @@ impl<'a, K: Sink, B: Behind> Buffered<'a, K, B> {
         }
     }
 
-    /// Hands on what is left, and gives the sink back. It then has all, and on a fault a proper front of it.
+    /// Writes the rest and returns the inner sink. If a write fails, the inner sink has a proper prefix of the bytes.
     pub fn finish(self) -> (&'a mut K, Result<(), WriteFault>)
         ensures same_reference { result.0.ghost_name ≡ B.name }
         ensures whole { OnOk result.1 (K.written result.0.now ≡ gathered (K.written self.entry.sink.now) self.entry.bytes) }
@@ -128,7 +128,7 @@ impl<'a, K: Sink, B: Behind> Buffered<'a, K, B> {
         (sink, outcome)
     }
 
-    /// Gives the sink back without what is still gathered, as after a failed write.
+    /// Returns the inner sink and discards the buffered bytes, as after a failed write.
     pub fn abandon(self) -> &'a mut K
         ensures same_reference { result.ghost_name ≡ B.name }
         ensures same { result.now ≡ self.entry.sink.now }
@@ -142,7 +142,7 @@ impl<'a, K: Sink, B: Behind> Buffered<'a, K, B> {
         sink
     }
 
-    /// Hands a front of what is gathered on, by one write. On a failed one nothing is lost.
+    /// Passes a prefix of the buffered bytes to the inner sink, by one write. A failed write loses nothing.
     fn hand_on(&mut self) -> Result<(), Failed>
         requires { 0 < length self.old.bytes }
         ensures same { gathered (K.written self.new.sink.now) self.new.bytes ≡ gathered (K.written self.old.sink.now) self.old.bytes }
@@ -162,7 +162,8 @@ impl<'a, K: Sink, B: Behind> Sink for Buffered<'a, K, B> {
 
     ghost faults = { λ b. K.faults b.sink.now };
 
-    /// Takes as much of the piece as there is room for. Where there is none, it first hands on by one write.
+    /// Takes as many bytes of the piece as there is room for. If the buffer is full, it first passes bytes on by one
+    /// write.
     fn write(&mut self, piece: &[u8]) -> Result<usize, Failed> {
         if self.bytes.room() == 0 {
             self.hand_on()?;
@@ -171,15 +172,15 @@ impl<'a, K: Sink, B: Behind> Sink for Buffered<'a, K, B> {
     }
 }
 
-/// A text that a function writes to any sink.
+/// A text that can be written to any sink.
 pub trait Text {
-    /// The text's bytes.
+    /// The bytes of the text.
     ghost bytes: { Self → List ℕ };
 
-    /// What the function asks of its arguments.
+    /// What `write_to` requires.
     ghost writable: { Self → Type 0 } = { λ _. Unit {0} };
 
-    /// Writes the text to the sink.
+    /// Writes the whole text to the sink. If a write fails, the sink has a proper prefix of the text.
     fn write_to<S: Sink>(&self, sink: &mut S) -> Result<(), WriteFault>
         requires { writable self.now }
         ensures whole { OnOk result (S.written sink.new ≡ option_map (λ w. w ++ bytes self.now) (S.written sink.old)) }
@@ -189,7 +190,7 @@ pub trait Text {
         ensures faults_stay_or_rise { S.faults sink.old ≤ S.faults sink.new };
 }
 
-// The sink is given back, so that it keeps the name under which it came.
+// It returns the sink, so that the reference keeps its name.
 fn gather<'a, T: Text, K: Sink, B: Behind>(
     text: &T,
     out: &'a mut K,
@@ -211,7 +212,8 @@ fn gather<'a, T: Text, K: Sink, B: Behind>(
     }
 }
 
-/// Writes the text to the sink through a buffer of 4096 bytes. After a failed write, which leaves a proper front of the text, what is still gathered is dropped.
+/// Writes the whole text to the sink through a buffer of 4,096 bytes. If a write fails, the sink has a proper prefix
+/// of the text, and the buffered bytes are discarded.
 pub fn write_gathered<T: Text, K: Sink>(text: &T, out: &mut K) -> Result<(), WriteFault>
     requires { T.writable text.now }
     ensures whole { OnOk result (K.written out.new ≡ option_map (λ w. w ++ T.bytes text.now) (K.written out.old)) }

@@ -1,4 +1,4 @@
-// Reading a text whole, and writing a piece whole.
+// Reading a whole text, and writing a whole piece.
 ghost use Rattle.std.specs.Prelude.{◌≡◌, ℕ, ◌+◌, ◌-◌, ◌^◌, ◌<◌, ◌≤◌, ◌++◌, ◌↔◌, true, false, length, take, option_map, IsTrue, IfOk, OnOk, OnErr, IfSome, IsErrOf};
 ghost use Rattle.pool_outside.specs.Outside.{Rose, IsProperFront};
 ghost use Rattle.pool_outside.specs.declared.calls.ReadFault.TheVariants.{Failed as ReadFailed, Memory};
@@ -7,13 +7,13 @@ use crate::outside::{Failed, Files, Sink};
 use std::alloc::{AllocError, Global};
 use thiserror::Error;
 
-/// Why a text was not read whole.
+/// The reason why a text was not read whole.
 #[derive(Clone, Copy, Debug, Error)]
 pub enum ReadFault {
-    /// The open or a read failed, and the count of faults rose or stands at its last value.
+    /// The open or a read failed. The count of faults rose, or is at its last value.
     #[error("a read failed")]
     Failed,
-    /// More bytes were given than the limit.
+    /// More bytes than the limit were read.
     #[error("the text is too long")]
     TooLong,
     /// Out of memory.
@@ -37,11 +37,11 @@ impl From<AllocError> for ReadFault {
     }
 }
 
-/// A write failed before the piece was written whole.
+/// A write failed before the piece was whole in the sink.
 #[derive(Clone, Copy)]
 pub struct WriteFault;
 
-/// The most bytes that are asked for in one read.
+/// The largest number of bytes that one read asks for.
 const PIECE: usize = 65536;
 
 fn zeros(alloc: Global, count: usize) -> Result<Vec<u8>, AllocError>
@@ -50,9 +50,9 @@ fn zeros(alloc: Global, count: usize) -> Result<Vec<u8>, AllocError>
     vec![in alloc; 0u8; count]
 }
 
-/// Opens the name once, and reads its text to the end, in pieces of at most 64 KiB. Once more than `limit` bytes
-/// were given it reads no further, and answers `TooLong`. `Failed` comes where the open or a read failed, and no
-/// call is made after it.
+/// Opens the file once and reports its whole text. It reads pieces of at most 65,536 bytes. After more than `limit`
+/// bytes it stops and reports `TooLong`. `Failed` comes if the open or a read fails, and no call follows. `Memory`
+/// comes if memory runs out.
 pub fn read_whole<F: Files>(
     alloc: Global,
     files: &mut F,
@@ -95,7 +95,8 @@ pub fn read_whole<F: Files>(
     }
 }
 
-/// Writes the piece whole, in as many writes as the sink needs. An empty piece needs none.
+/// Writes the whole piece, by as many writes as the sink needs. An empty piece needs none. The error comes if a write
+/// fails, and the sink then has a proper prefix of the piece.
 pub fn write_all_of<K: Sink>(sink: &mut K, piece: &[u8]) -> Result<(), WriteFault>
     ensures whole { OnOk result (K.written sink.new ≡ option_map (λ w. w ++ piece.now) (K.written sink.old)) }
     ensures front { OnErr result (IsProperFront (K.written sink.old) piece.now (K.written sink.new)) }

@@ -1,5 +1,5 @@
-// Files and sinks of the system, over std. No contract tells what they hold; the bytes that std gives and takes are passed on
-// as they are.
+// Files and sinks of the system, over std. No contract says what they contain. The bytes that std gives and takes are
+// passed on unchanged.
 ghost use Rattle.std.specs.Prelude.{◌≡◌, ℕ, ◌+◌, ◌-◌, ◌^◌, ◌<◌, ◌≤◌, None, true, false, length, take, is_some, option_map, unwrap_or, IfOk, OnOk, OnErr};
 ghost use Rattle.std.specs.Io.KnownBytes.{Appends, Consumes, IsAtEnd, Keeps};
 ghost use Rattle.pool_outside.specs.Outside.{Rose};
@@ -11,8 +11,8 @@ use std::io::{Read, Write};
 use std::marker::Model;
 use std::{fs, rt};
 
-/// The files of the system, through the runtime. A path that cannot be opened for reading fails at
-/// `open_file`, and a folder there or at its first read.
+/// The files of the system, through the runtime. A path that cannot be opened for reading fails at `open_file`, and a
+/// folder there or at its first read.
 #[derive(Drop)]
 pub struct StdFiles<R: rt::Files + Drop> {
     rt: R,
@@ -29,7 +29,7 @@ impl<R: rt::Files + Drop> Model for StdFiles<R> {
 }
 
 impl<R: rt::Files + Drop> StdFiles<R> {
-    /// The files that this runtime reaches.
+    /// Reports the files that this runtime reaches, with no call counted and no file open.
     pub fn make(rt: R) -> StdFiles<R>
         ensures { result ≡ record { opens = 0; given = 0; faults = 0; live = false; left = None } }
     {
@@ -82,7 +82,7 @@ impl<R: rt::Files + Drop> Files for StdFiles<R> {
         }
     }
 
-    /// Gives the file's next bytes, and 0 at its end alone.
+    /// Reads the next bytes of the file into `into`, and reports their number, which is 0 only at its end.
     fn read(&mut self, into: &mut [u8]) -> Result<usize, Failed>
         requires live { self.old.live ≡ true }
         requires room { 0 < length into.old }
@@ -117,8 +117,8 @@ impl<R: rt::Files + Drop> Files for StdFiles<R> {
     }
 }
 
-/// A writer of the system, as standard output or standard error. It has no buffer. A write that takes no byte is a
-/// failure.
+/// A writer of the system, such as standard output or standard error. It has no buffer. A write that takes no byte
+/// counts as failed.
 #[derive(Drop)]
 pub struct StdSink<W: Write + Drop> {
     writer: W,
@@ -132,7 +132,7 @@ impl<W: Write + Drop> Model for StdSink<W> {
 }
 
 impl<W: Write + Drop> StdSink<W> {
-    /// A sink that hands its bytes to the writer.
+    /// Reports a sink over the writer.
     pub fn make(writer: W) -> StdSink<W>
         ensures { result ≡ record { held = W.contents writer; faults = 0 } }
     {
@@ -145,7 +145,7 @@ impl<W: Write + Drop> Sink for StdSink<W> {
 
     ghost faults = { λ s. s.faults };
 
-    /// The writer takes the same bytes: a front of the piece, or none where the write failed.
+    /// Passes the piece to the writer, which takes a prefix of it, or nothing if the write fails.
     fn write(&mut self, piece: &[u8]) -> Result<usize, Failed>
         requires some { 0 < length piece.now }
         ensures passed { IfOk result (λ n. Appends self.old.held self.new.held (take n piece.now)) }

@@ -10,7 +10,7 @@ use crate::outside::{Failed, Files, Sink};
 use std::alloc::{AllocError, Global};
 use std::marker::Model;
 
-/// A text and its name.
+/// A text under a name.
 #[derive(Drop)]
 pub struct NamedText {
     pub name: String,
@@ -25,13 +25,14 @@ impl Model for NamedText {
     ghost view = { λ t. (string_bytes t.name, t.text.items) };
 }
 
-/// A place in a text, by the text's index.
+/// A position in a text, which is given by its index.
 #[derive(Clone, Copy)]
 struct Place {
     text: usize,
     at: usize,
 }
 
+/// Texts, of which one may be open.
 #[derive(Drop)]
 struct Shelf {
     texts: Vec<NamedText>,
@@ -147,7 +148,7 @@ impl Shelf {
     }
 }
 
-/// Texts in memory, for tests. Calls of both kinds are numbered together from 0.
+/// Texts in memory as files, for tests. Opens and reads are numbered together, from 0.
 #[derive(Drop)]
 pub struct MemFiles {
     shelf: Shelf,
@@ -172,7 +173,8 @@ impl Model for MemFiles {
 }
 
 impl MemFiles {
-    /// The texts, of which the first of a name counts, and the numbers of the calls that fail.
+    /// Reports files with these texts, of which the first of a name counts. `failing` has the numbers of the calls
+    /// that fail.
     pub fn make(texts: Vec<NamedText>, failing: Vec<u64>) -> MemFiles
         ensures { result ≡ record { texts = texts.items; rest = None; live = false; given = 0; opens = 0; failing = failing.items; calls = 0; faults = 0 } }
     {
@@ -217,7 +219,7 @@ impl Files for MemFiles {
 
     ghost live = { λ f. f.live };
 
-    /// Fails exactly where the call's number is one of those that fail, or no text has the name.
+    /// Fails exactly if the number of the call is in `failing`, or no text has the name.
     fn open_file(&mut self, name: &str) -> Result<(), Failed>
         requires countable { self.old.opens < 2 ^ 64 - 1 }
         ensures fails { is_err result ≡ (is_failing self.old.failing self.old.calls || is_none (text_under self.old.texts name.now)) }
@@ -237,7 +239,8 @@ impl Files for MemFiles {
         Err(Failed)
     }
 
-    /// Fails exactly where the call's number is one of those that fail, and else gives as much as there is room for.
+    /// Fails exactly if the number of the call is in `failing`. Otherwise it gives as many bytes as `into` has room
+    /// for.
     fn read(&mut self, into: &mut [u8]) -> Result<usize, Failed>
         requires room { 0 < length into.old }
         ensures fails { is_err result ≡ is_failing self.old.failing self.old.calls }
@@ -258,7 +261,7 @@ impl Files for MemFiles {
     }
 }
 
-/// Texts in memory whose calls never fail. An unknown name has the empty text.
+/// Texts in memory as files whose calls never fail. A name without a text has the empty text.
 #[derive(Drop)]
 pub struct CalmFiles {
     shelf: Shelf,
@@ -271,7 +274,7 @@ impl Model for CalmFiles {
 }
 
 impl CalmFiles {
-    /// The texts, of which the first of a name counts.
+    /// Reports files with these texts, of which the first of a name counts.
     pub fn make(texts: Vec<NamedText>) -> CalmFiles
         ensures { result ≡ record { texts = texts.items; rest = None; live = false; given = 0; opens = 0 } }
     {
@@ -308,7 +311,7 @@ impl Files for CalmFiles {
         Ok(())
     }
 
-    /// Never fails, and gives as much as there is room for.
+    /// Never fails, and gives as many bytes as `into` has room for.
     fn read(&mut self, into: &mut [u8]) -> Result<usize, Failed>
         requires room { 0 < length into.old }
         ensures ok { IsOk result }
@@ -320,7 +323,8 @@ impl Files for CalmFiles {
     }
 }
 
-/// Texts in memory whose calls never fail, and of which each read gives a few bytes at most. An unknown name has the empty text.
+/// Texts in memory as files whose calls never fail, and whose reads give at most `gives` bytes each. A name without a
+/// text has the empty text.
 #[derive(Drop)]
 pub struct PieceFiles {
     shelf: Shelf,
@@ -336,7 +340,7 @@ impl Model for PieceFiles {
 }
 
 impl PieceFiles {
-    /// The texts, of which the first of a name counts, and the most bytes that one read gives.
+    /// Reports files with these texts, of which the first of a name counts. One read gives at most `gives` bytes.
     pub fn make(texts: Vec<NamedText>, gives: usize) -> PieceFiles
         requires { 1 ≤ gives }
         ensures { result ≡ record { shelf = record { texts = texts.items; rest = None; live = false; given = 0; opens = 0 }; gives = gives } }
@@ -376,7 +380,7 @@ impl Files for PieceFiles {
         Ok(())
     }
 
-    /// Never fails, and gives as much as there is room for, but at most its piece.
+    /// Never fails, and gives as many bytes as `into` has room for, but at most `gives`.
     fn read(&mut self, into: &mut [u8]) -> Result<usize, Failed>
         requires room { 0 < length into.old }
         ensures ok { IsOk result }
@@ -391,7 +395,7 @@ impl Files for PieceFiles {
     }
 }
 
-/// A sink in memory, for tests. Its memory is taken when it is made.
+/// A sink in memory, for tests. It allocates only when it is made.
 #[derive(Drop)]
 pub struct MemSink {
     bytes: Vec<u8>,
@@ -411,8 +415,8 @@ impl Model for MemSink {
 }
 
 impl MemSink {
-    /// Room for so many bytes in all, the most that one write takes, and the numbers of the writes that fail,
-    /// counted from 0.
+    /// Reports an empty sink with room for `room` bytes. One write takes at most `takes` bytes. `failing` has the
+    /// numbers of the writes that fail, counted from 0. The error is out of memory.
     pub fn make(
         alloc: Global,
         room: usize,
@@ -433,7 +437,7 @@ impl MemSink {
         })
     }
 
-    /// The bytes so far.
+    /// Lends the bytes that were written.
     pub fn written(&self) -> &[u8]
         ensures { result.now ≡ self.now.bytes }
     {
@@ -446,7 +450,7 @@ impl Sink for MemSink {
 
     ghost faults = { λ s. s.faults };
 
-    /// Fails exactly where the write's number is one of those that fail, or no room is left.
+    /// Fails exactly if the number of the write is in `failing`, or no room is left.
     fn write(&mut self, piece: &[u8]) -> Result<usize, Failed>
         requires some { 0 < length piece.now }
         ensures fails { is_err result ≡ (is_failing self.old.failing self.old.calls || nat_eq self.old.room 0) }
@@ -470,12 +474,12 @@ impl Sink for MemSink {
     }
 }
 
-/// A sink that takes every piece whole and keeps none.
+/// A sink that takes every piece whole and keeps nothing.
 #[derive(Drop)]
 pub struct CalmSink;
 
 impl CalmSink {
-    /// A sink that keeps nothing.
+    /// Reports a sink that keeps nothing.
     pub fn make() -> CalmSink
         ensures { result ≡ record {} }
     {

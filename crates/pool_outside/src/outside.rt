@@ -1,35 +1,35 @@
-// The two traits of the outside.
+// The two traits of the outside: files and sinks.
 ghost use Rattle.std.specs.Prelude.{◌≡◌, ℕ, ◌+◌, ◌-◌, ◌^◌, ◌<◌, ◌≤◌, ◌++◌, ◌↔◌, List, [], Option, None, Bool, true, false, length, take, drop, min, option_map, IsTrue, IfOk, OnOk, OnErr, IfSome};
 ghost use Rattle.pool_outside.specs.Outside.{Rose};
 
-/// A call of the outside failed. The count of faults then rose, or stands at its last value.
+/// A call of the outside failed. The count of faults rose, or is at its last value, 2^64-1.
 #[derive(Clone, Copy)]
 pub struct Failed;
 
-/// Files by their names, one of them entered at a time.
+/// Files by their names, of which one may be open at a time.
 pub trait Files {
-    /// The text under a name, by the name's bytes, where it is known.
+    /// The text under a name, given by its bytes, if it is known.
     ghost told: { Self → List ℕ → Option (List ℕ) };
 
-    /// What is left of the entered text, where it is known.
+    /// The unread rest of the open text, if it is known.
     ghost rest: { Self → Option (List ℕ) };
 
-    /// The number of bytes read since the last `open_file`. It stands still at 2^64-1.
+    /// The number of bytes read since the last `open_file`. It stops at 2^64-1.
     ghost given: { Self → ℕ };
 
-    /// How often a call has failed. It never falls, and stands still at 2^64-1.
+    /// The number of calls that have failed. It never falls, and stops at 2^64-1.
     ghost faults: { Self → ℕ };
 
     /// The number of calls of `open_file`.
     ghost opens: { Self → ℕ };
 
-    /// Whether open number n, counted from 0, may be of that name.
+    /// Whether the open with the number n, counted from 0, may be of this name.
     ghost may: { Self → ℕ → List ℕ → Bool };
 
-    /// Whether a text is entered and has not ended.
+    /// Whether a text is open and has not ended.
     ghost live: { Self → Bool };
 
-    /// Enters the text under a name, at its beginning.
+    /// Opens the text under a name, at its beginning. Requires that `may` allows the name.
     fn open_file(&mut self, name: &str) -> Result<(), Failed>
         requires allowed { IsTrue (may self.old (opens self.old) name.now) }
         requires countable { opens self.old < 2 ^ 64 - 1 }
@@ -42,8 +42,7 @@ pub trait Files {
         ensures same_texts { told self.new ≡ told self.old }
         ensures same_leave { may self.new ≡ may self.old };
 
-    /// Puts the next bytes of the entered text at the front of `into`, and says how many they are. 0 is the
-    /// text's end.
+    /// Reads the next bytes of the open text into `into`, and reports their number. 0 is the end of the text.
     fn read(&mut self, into: &mut [u8]) -> Result<usize, Failed>
         requires live { live self.old ≡ true }
         requires room { 0 < length into.old }
@@ -61,15 +60,15 @@ pub trait Files {
         ensures same_leave { may self.new ≡ may self.old };
 }
 
-/// Takes bytes in pieces.
+/// A receiver of bytes, in pieces.
 pub trait Sink {
-    /// The bytes so far, where they are known.
+    /// The bytes that were written, if they are known.
     ghost written: { Self → Option (List ℕ) };
 
-    /// How often a write has failed. It never falls, and stands still at 2^64-1.
+    /// The number of writes that have failed. It never falls, and stops at 2^64-1.
     ghost faults: { Self → ℕ };
 
-    /// Takes a front of the piece, and says how many bytes it is. A failed write takes nothing.
+    /// Takes a prefix of the piece, and reports its length in bytes. A failed write takes nothing.
     fn write(&mut self, piece: &[u8]) -> Result<usize, Failed>
         requires some { 0 < length piece.now }
         ensures takes { IfOk result (λ n. (1 ≤ n) × (n ≤ length piece.now)) }

@@ -1,4 +1,4 @@
--- How lists of arguments are read.
+-- The parsing of lists of arguments.
 use Rattle.std.proofs.Common.{◌≡◌, ◌≢◌, ℕ, ◌+◌, inl, inr, ⊎_elim, List, Some, slice_get, refl, subst, arith}
 use Rattle.pool_syntax.specs.declared.token.Tok.{Tok}
 use Rattle.pool_syntax.specs.declared.token.Tok.TheVariants as tok

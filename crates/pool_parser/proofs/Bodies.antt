@@ -1,4 +1,4 @@
--- How statements with lists in them, alternatives and lists of statements are read.
+-- The parsing of statements with lists, of alternatives, and of lists of statements.
 use Rattle.std.proofs.Common.{◌≡◌, ◌≢◌, ℕ, ◌+◌, inl, inr, ⊎_elim, false, IsTrue, List, Option, Some, None, slice_get, refl, arith}
 use Rattle.pool_syntax.specs.declared.tree.Named.{Named}
 use Rattle.text_scan.specs.declared.keywords.Keyword.{Keyword}

@@ -1,4 +1,4 @@
--- Where a rule cannot go on with a token.
+-- Rules that a token cannot continue.
 use Rattle.std.specs.Prelude.{ℕ, ◌+◌, List}
 use Rattle.pool_syntax.specs.declared.token.Tok.{Tok}
 use Rattle.pool_grammar.specs.Rules as r

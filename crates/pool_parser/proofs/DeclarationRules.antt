@@ -1,4 +1,4 @@
--- How variables, parameters, methods, classes and programs are read.
+-- The parsing of variables, parameters, methods, classes and programs.
 use Rattle.std.proofs.Common.{◌≡◌, ◌≢◌, ℕ, ◌+◌, ⊎_elim, inl, inr, List, [], ◌∷◌, ◌++◌, Some, slice_get, refl, subst, arith}
 use Rattle.run_types.specs.declared.types.NameId.{NameId}
 use Rattle.run_types.specs.declared.types.Kind.{Kind}

@@ -1,4 +1,4 @@
--- The nestings of the tokens of a list, from the first to the last.
+-- The depths of the tokens of a list, from the first to the last.
 use Rattle.std.proofs.Common.{◌≡◌, ℕ, zero, suc, ◌+◌, ◌≤◌, Bool, true, false, List, [], ◌∷◌, ◌++◌, Some, length, take, reverse, slice_get, refl, ap, ◌∙◌, ⊎_elim, add-one, arith, eq-or-lt_of_le}
 use Rattle.std.proofs.lemmas.List.{reverse-append}
 use Rattle.std.proofs.lemmas.Option.{slice_get-get_or}

@@ -1,4 +1,4 @@
--- The exits by which a fault is handed on.
+-- The returns of a fault from the functions of the parser.
 use Rattle.std.proofs.Common.{◌≡◌, ℕ, List, Result, Ok, Err}
 use Rattle.pool_syntax.specs.declared.token.Token.{Token}
 use Rattle.pool_syntax.specs.declared.token.Tok.{Tok}

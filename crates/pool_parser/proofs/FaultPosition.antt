@@ -1,4 +1,4 @@
--- The first fault of tokens is told where it stands.
+-- The parser reports the first fault at its token.
 use Rattle.std.proofs.Common.{◌≡◌, ℕ, ◌+◌, ◌<◌, ◌≤◌, ◌⊎◌, inl, inr, ⊎_elim, List, Result, Ok, Err, IfOk, length, refl, ap, arith}
 use Rattle.std.proofs.lemmas.Bool.{cases_lt}
 use Rattle.pool_syntax.specs.declared.token.Tok.{Tok}

@@ -1,4 +1,4 @@
--- An invocation is a postfix, and begins as one does.
+-- An invocation is a postfix expression, and begins as one does.
 use Rattle.std.proofs.Common.{◌≡◌, ℕ, zero, suc, ◌+◌, ◌≤◌, ⊎_elim, List, arith, subst, subst₂}
 use Rattle.pool_syntax.specs.declared.token.Tok.{Tok}
 use Rattle.pool_syntax.specs.declared.token.Sign.TheVariants as sg

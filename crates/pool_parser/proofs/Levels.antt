@@ -1,4 +1,4 @@
--- How the levels of expressions are read.
+-- The parsing of the levels of expressions.
 use Rattle.std.proofs.Common.{◌≡◌, ℕ, ◌+◌, ◌<◌, List, Some, None, slice_get, refl, arith}
 use Rattle.pool_syntax.specs.declared.token.Tok.{Tok}
 use Rattle.pool_syntax.specs.declared.token.Tok.TheVariants as tok

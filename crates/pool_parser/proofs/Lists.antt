@@ -1,4 +1,4 @@
--- Lists of the code and lists of trees.
+-- Lists of the code and the lists of trees that they represent.
 use Rattle.std.proofs.Common.{◌≡◌, List, [], ◌∷◌, ◌++◌, map, refl, ap, ap₂, ℕ}
 use Rattle.run_types.specs.declared.types.NameId.{NameId}
 use Rattle.pool_syntax.specs.declared.tree.Expr.{Expr}

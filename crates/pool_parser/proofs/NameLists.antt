@@ -1,4 +1,4 @@
--- How names, answer lists and kinds are read.
+-- The parsing of names, answer lists and declared types.
 use Rattle.std.proofs.Common.{◌≡◌, ◌≢◌, ℕ, ◌+◌, List, [], ◌∷◌, ◌++◌, Some, None, slice_get, refl, subst, arith}
 use Rattle.run_types.specs.declared.types.NameId.{NameId}
 use Rattle.pool_syntax.specs.declared.tree.Named.{Named}

@@ -1,4 +1,4 @@
--- How primaries, sends to them, factors and comparisons are read.
+-- The parsing of primaries, sends to them, factors and comparisons.
 use Rattle.std.proofs.Common.{◌≡◌, ◌≢◌, ℕ, ℤ, ◌+◌, ◌≤◌, ⊎_elim, Bool, true, false, List, Some, None, slice_get, refl, subst, arith, eq-or-lt_of_le}
 use Rattle.run_types.specs.declared.types.NameId.{NameId}
 use Rattle.pool_syntax.specs.declared.tree.Named.{Named}

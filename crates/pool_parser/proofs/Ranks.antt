@@ -1,4 +1,4 @@
--- Which function of a cycle calls which at the same token.
+-- The order of the functions of a cycle that call each other at the same token.
 use Rattle.std.proofs.Common.{ℕ, ◌+◌, ◌-◌, ◌*◌, List, length}
 use Rattle.pool_syntax.specs.declared.token.Token.{Token}
 use Rattle.pool_parser.specs.declared.expressions.Grouping.{Grouping}

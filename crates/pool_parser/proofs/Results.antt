@@ -1,4 +1,4 @@
--- What an answer on the whole list, or on its front, says of the program.
+-- The answer on the whole list, or on a prefix of it, determines the program or the fault.
 use Rattle.std.proofs.Common.{◌≡◌, ℕ, ◌+◌, ◌-◌, ◌<◌, ◌≤◌, List, Result, Ok, Err, IfOk, MatchResult, length, take, min, refl, sym, subst₂, arith}
 use Rattle.pool_lexer.specs.TokenLists.{EndsInEnd}
 use Rattle.pool_syntax.specs.Tokens.{toks}

@@ -1,4 +1,4 @@
--- How what is read of the parts of a rule makes what is read of the rule.
+-- The answers for the parts of a rule compose to the answer for the rule.
 use Rattle.std.proofs.Common.{◌≡◌, ℕ, ℤ, ◌+◌, ◌<◌, ◌≤◌, ◌⊎◌, inl, inr, ⊎_elim, List, Some, length, slice_get, refl, sym, ap, ap₂, subst, subst₂, ◌∙◌, arith, le_refl, eq-or-lt_of_le}
 use native.Mathlib.Decide.{dec_le}
 use Rattle.std.proofs.lemmas.Option.{slice_get_within}

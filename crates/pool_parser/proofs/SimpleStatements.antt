@@ -1,4 +1,4 @@
--- How statements are told apart, and those without lists are read.
+-- The first tokens distinguish the statements, and the parsing of those without lists.
 use Rattle.std.proofs.Common.{◌≡◌, ◌≢◌, ℕ, ◌+◌, ◌≤◌, inl, inr, ⊎_elim, Bool, true, false, IsTrue, List, Some, slice_get, refl, subst, subst₂, arith}
 use Rattle.run_types.specs.declared.types.NameId.{NameId}
 use Rattle.pool_syntax.specs.declared.tree.Named.{Named}

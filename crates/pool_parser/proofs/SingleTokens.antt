@@ -1,4 +1,4 @@
--- Single tokens in rules.
+-- The parsing of single tokens in rules.
 use Rattle.std.proofs.Common.{◌≡◌, ◌≢◌, ℕ, ◌+◌, Bool, true, false, List, Option, Some, None, slice_get, refl}
 use Rattle.text_scan.specs.declared.keywords.Keyword.{Keyword}
 use Rattle.pool_syntax.specs.declared.token.Sign.{Sign}

@@ -1,4 +1,4 @@
--- The trees of spelled tokens are spelled.
+-- If the names, strings and integers of tokens can be written, so can those of their trees.
 use Rattle.std.proofs.Common.{◌≡◌, ℕ, IsTrue, Bool, true, false, ◌&&◌, List, [], ◌∷◌, ◌++◌, Some, Result, Ok, Err, IfOk, slice_get, refl, subst}
 use Rattle.std.proofs.lemmas.Option.{get_or_from_slice_get, slice_get_within}
 use Rattle.run_types.specs.declared.types.Kind.{Kind}

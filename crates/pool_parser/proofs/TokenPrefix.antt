@@ -1,4 +1,4 @@
--- The first tokens of a list, with End behind them, against the whole list.
+-- The first tokens of a list, followed by `End`, in comparison with the whole list.
 use Rattle.std.proofs.Common.{◌≡◌, ◌≢◌, ℕ, zero, suc, ◌+◌, ◌-◌, ◌<◌, ◌≤◌, List, [], ◌∷◌, Some, length, take, min, slice_get, refl, ap, arith}
 use native.Mathlib.Decide.{dec_le}
 use Rattle.std.proofs.lemmas.Option.{slice_get-get_or}

@@ -1,4 +1,5 @@
--- A phrase derives at most one tree that ends where nothing goes on with it, so tokens have at most one program.
+-- A phrase derives at most one tree that ends where no token continues it, so a list of tokens is at most one
+-- program.
 use Rattle.std.proofs.Common.{◌≡◌, ℕ, ◌+◌, ◌≤◌, ◌⊎◌, inl, inr, ⊎_elim, List, Some, slice_get, refl, sym, subst, subst₂, arith, eq-or-lt_of_le}
 use Rattle.text_scan.specs.declared.keywords.Keyword.{Keyword}
 use Rattle.pool_syntax.specs.declared.token.Sign.{Sign}

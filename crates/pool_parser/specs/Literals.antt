@@ -1,4 +1,4 @@
--- The expressions and kinds of one token.
+-- The expressions and declared types that consist of one token.
 use Rattle.std.specs.Prelude.{ℕ, Option, Some, None, true, false}
 use Rattle.pool_syntax.specs.declared.token.Tok.{Tok}
 use Rattle.pool_syntax.specs.declared.token.Tok.TheVariants as tok
@@ -8,7 +8,7 @@ use Rattle.run_types.specs.declared.types.Kind.{Kind}
 use Rattle.run_types.specs.declared.types.Kind.TheVariants as kind
 use Rattle.pool_syntax.specs.Terms.{Expression, Literal, Me}
 
--- the literal or `self` that the token is, at its place
+-- the literal or `self` that the token is, with its position
 abbrev pub literal_of : Tok → ℕ → Option Expression
 literal_of (tok.Int z) p = Some (Literal (value.Int z) p)
 literal_of (tok.Word kw.True) p = Some (Literal (value.Bool true) p)
@@ -17,7 +17,7 @@ literal_of (tok.Word kw.Nil) p = Some (Literal value.Nil p)
 literal_of (tok.Word kw.SelfWord) p = Some (Me p)
 literal_of _ p = None
 
--- the kind that the token is
+-- the declared type that the token is
 abbrev pub kind_of : Tok → Option Kind
 kind_of (tok.Word kw.Int) = Some kind.Int
 kind_of (tok.Word kw.Bool) = Some kind.Bool

@@ -1,4 +1,4 @@
--- What a parser owes.
+-- The specification of a parser of phrases: a tree with its end, or the first unexpected token.
 use Rattle.std.specs.Prelude.{◌≡◌, ℕ, ◌+◌, ◌≤◌, ◌⊎◌, IsTrue, Bool, true, false, List, Some, slice_get}
 use Rattle.pool_syntax.specs.declared.token.Tok.{Tok}
 use Rattle.pool_syntax.specs.declared.token.Tok.TheVariants.{Word, Sign, Name, Int}
@@ -11,7 +11,7 @@ use Rattle.pool_grammar.specs.Rules.{more_operands, more_sends, args, more_args,
 use Rattle.pool_grammar.specs.Grammar.{rule}
 use Rattle.pool_grammar.specs.Derives.{Derives, Begins}
 
--- the tokens that begin a statement
+-- whether a statement can begin with the token
 abbrev pub begins_statement : Tok → Bool
 begins_statement (Name n) = true
 begins_statement (Int z) = true
@@ -28,7 +28,8 @@ begins_statement (Word kw.True) = true
 begins_statement (Word kw.False) = true
 begins_statement _ = false
 
--- how a token binds an expression before it: the level of the operator, and 8 for the parenthesis behind a method's name
+-- the precedence by which a token continues the expression before it: the level of the operator, and 8 for the
+-- parenthesis after a method's name
 abbrev pub strength : Tok → ℕ
 strength (Word kw.Or) = 1
 strength (Word kw.And) = 2
@@ -47,6 +48,7 @@ strength (Sign sg.Bang) = 7
 strength (Sign sg.LeftParen) = 8
 strength _ = 0
 
+-- the precedence of a level
 abbrev pub level_number : Level → ℕ
 level_number (group disjunction) = 1
 level_number (group conjunction) = 2
@@ -57,7 +59,7 @@ level_number factor = 6
 level_number postfix = 7
 level_number primary = 8
 
--- The token may go on with the phrase where it could end.
+-- the token may continue the phrase where it could end
 abbrev pub GoesOn : Phrase → Tok → Type 0
 GoesOn program t = ⊥
 GoesOn (more_classes before) t = t ≡ Word kw.Class
@@ -86,27 +88,28 @@ GoesOn (more_sends to) t = 7 ≤ strength t
 GoesOn args t = ⊥
 GoesOn (more_args before) t = (t ≡ Sign sg.Comma) ⊎ (1 ≤ strength t)
 
--- token number i does not go on with the phrase
+-- the token with the number i does not continue the phrase
 abbrev pub Stops : List Tok → Phrase → ℕ → Type 0
 Stops ts p i = (t : Tok) → slice_get ts i ≡ Some t → GoesOn p t → ⊥
 
--- what a parser answers: a tree and the number of the token behind it, or the number of the first unexpected token
+-- the answer of a parser: a tree and the number of the token after it, or the number of the first unexpected token
 pub data Outcome (A : Type 0) : Type 0 where
   read : (x : A) (next : ℕ) → Outcome A
   refused : (at : ℕ) → Outcome A
 
--- the tokens before this number begin the phrase, those up to it do not
+-- the tokens before this number begin the phrase, and those up to it do not
 abbrev pub edge : {A : Type 0} → Outcome A → ℕ
 edge (read x next) = next
 edge (refused at) = at
 
--- from token number i on
+-- o is a correct answer for the rule from the token i on: a tree that was read is derived; a derived tree that no
+-- token continues is read; the tokens up to the edge begin the rule, but not those up to one more
 pub record Reads (ts : List Tok) (p : Phrase) (r : Rule (Tree p)) (i : ℕ) (o : Outcome (Tree p)) : Type 0 where
   pub sound : (x : Tree p) (j : ℕ) → o ≡ read x j → Derives ts p r i j x
   pub only : (x : Tree p) (j : ℕ) → Derives ts p r i j x → Stops ts p j → o ≡ read x j
   pub begun : Begins ts p r i (edge o)
   pub ends : Begins ts p r i (edge o + 1) → ⊥
 
--- the phrase from token number i on
+-- the same for a phrase
 abbrev pub ReadsPhrase : List Tok → (p : Phrase) → ℕ → Outcome (Tree p) → Type 0
 ReadsPhrase ts p i o = Reads ts p (rule p) i o

@@ -1,4 +1,4 @@
--- Ends of rules that are read by a function of their own.
+-- The ends of rules that the parser reads by functions of their own.
 use Rattle.std.specs.Prelude.{List, [], ◌++◌, Option, None, Some}
 use Rattle.text_scan.specs.declared.keywords.Keyword.TheVariants.{Begin, Result, End, Body, Then, Else, Fi}
 use Rattle.pool_syntax.specs.declared.token.Sign.TheVariants.{Colon, BangBang}
@@ -11,25 +11,25 @@ use Rattle.pool_grammar.specs.Rules as r
 use Rattle.pool_grammar.specs.Rules.{postfix, expression, invoke, args, stmts, names, more_locals, post, Phrase, Tree, OneAlternative, Rule, word, sign, name, phrase, tree, ◌*>=◌, ◌*>◌, ◌or◌}
 use Rattle.pool_grammar.specs.Grammar.{expr, variables}
 
--- of stmt: a statement that begins with a postfix
+-- the end of `stmt` that begins with a postfix expression
 abbrev pub sending : Rule Statement
 sending = (phrase (expression postfix) *>= λ to. sign BangBang *> name *>= λ n. phrase args *>= λ es. tree (t.Async to n.name.0 n.pos es))
     or (phrase invoke *>= λ e. tree (t.Do e))
 
--- of stmt: behind the first list of an `if`
+-- the end of `stmt` after the first list of an `if`
 abbrev pub else_part : Expression → Statements → Rule Statement
 else_part e these = (word Else *> phrase stmts *>= λ those. word Fi *> tree (t.If e these those))
     or (word Fi *> tree (t.If e these Done))
 
--- of alt: behind its guard and answer list
+-- the end of `alt` after its guard and answer list
 abbrev pub then_part : Expression → Option (List Named) → Rule OneAlternative
 then_part g ns = word Then *> phrase stmts *>= λ ss. tree (g, ns, ss)
 
--- of class: behind its variables and methods
+-- the end of `class` after its variables and methods
 abbrev pub body_part : Named → List Var → List MethodTree → Rule ClassTree
 body_part n vs ms = word Body *> phrase stmts *>= λ ss. word End *> tree (record { name = n; vars = vs; methods = ms; body = ss })
 
--- of method: behind its parameters, without and with a result
+-- the end of `method` after its parameters, without a result and with one
 abbrev pub proper_part : Named → List Var → Rule MethodTree
 proper_part n ps = phrase (more_locals []) *>= λ ls. word Begin *> phrase stmts *>= λ ss. phrase post *>= λ qs. word End *>
     tree (record { name = n; params = ps; locals = ls; outcome = None; outcome_pos = 0; body = ss; value = t.Literal value.Nil 0; post = qs })
@@ -39,6 +39,6 @@ result_part n ps = sign Colon *> phrase r.kind *>= λ k. phrase (more_locals [])
     word Result *> phrase expr *>= λ e. phrase post *>= λ qs. word End *>
     tree (record { name = n; params = ps; locals = ls; outcome = Some k.0; outcome_pos = k.1; body = ss; value = e; post = qs })
 
--- names, a colon and a kind, which are variables behind those before them, and the rest of a rule
+-- names, a colon and a type, which declare variables that follow those before, and the rest of a rule
 abbrev pub declared_part : (p : Phrase) → List Var → (List Var → Rule (Tree p)) → Rule (Tree p)
 declared_part p vs rest = phrase names *>= λ ns. sign Colon *> phrase r.kind *>= λ k. rest (vs ++ variables ns k)

@@ -1,4 +1,4 @@
-//! Variables, methods, classes and the program.
+//! Parsing of variables, methods, classes and the program.
 ghost use Rattle.std.specs.Prelude.{◌≡◌, ◌+◌, ◌<◌, ◌≤◌, [], ◌++◌, length, map, ℕ, Some, IfOk, IfErr, slice_get, List as ListOf};
 ghost use Rattle.pool_syntax.specs.declared.tree.Var.{Var as OneVariable};
 ghost use Rattle.pool_grammar.specs.Rules.{more_vars, more_locals, params as params_phrase, more_params, param as param_phrase, method as method_phrase, more_methods, post as post_phrase};
@@ -21,7 +21,7 @@ use run_types::{Kind, List};
 use std::alloc::Global;
 use text_scan::Keyword;
 
-/// One variable of this kind for each name, behind those that are there.
+/// Appends a variable of this type for each name.
 fn declare(
     mut vars: List<Var>,
     names: &[Named],
@@ -43,7 +43,7 @@ fn declare(
     Ok(vars)
 }
 
-/// Names, a colon and a kind, as variables behind those that are there.
+/// Parses names, a colon and a type, and appends their variables.
 fn declared(
     alloc: Global,
     source: Source,
@@ -60,7 +60,7 @@ fn declared(
     Ok((read!(declare(vars, names.items(), kind, kind_pos)), after))
 }
 
-/// The variables of a class.
+/// Parses the variables of a class.
 fn fields(alloc: Global, source: Source, at: usize) -> Result<(List<Var>, usize), SyntaxFault>
     requires within { at ≤ length source.tokens.now }
     ensures parses { Parses source.entry.tokens.now (more_vars []) at (λ vs. vs) result }
@@ -76,7 +76,7 @@ fn fields(alloc: Global, source: Source, at: usize) -> Result<(List<Var>, usize)
     Ok((vars, next))
 }
 
-/// The locals of a method.
+/// Parses the locals of a method.
 fn locals(alloc: Global, source: Source, at: usize) -> Result<(List<Var>, usize), SyntaxFault>
     requires within { at ≤ length source.tokens.now }
     ensures parses { Parses source.entry.tokens.now (more_locals []) at (λ vs. vs) result }
@@ -92,7 +92,7 @@ fn locals(alloc: Global, source: Source, at: usize) -> Result<(List<Var>, usize)
     Ok((vars, next))
 }
 
-/// A name, a colon and a kind.
+/// Parses a parameter: a name, a colon and a type.
 fn param(source: Source, at: usize) -> Result<(Var, usize), SyntaxFault>
     requires within { at ≤ length source.tokens.now }
     ensures parses { Parses source.entry.tokens.now param_phrase at (λ v. v) result }
@@ -110,7 +110,7 @@ fn param(source: Source, at: usize) -> Result<(Var, usize), SyntaxFault>
     Ok((var, next))
 }
 
-/// Parameters in parentheses.
+/// Parses parameters in parentheses.
 fn params(alloc: Global, source: Source, at: usize) -> Result<(List<Var>, usize), SyntaxFault>
     requires within { at ≤ length source.tokens.now }
     ensures parses { Parses source.entry.tokens.now params_phrase at (λ vs. vs) result }
@@ -146,7 +146,7 @@ fn further_params(
     Ok((params, next))
 }
 
-/// A method, with or without a result.
+/// Parses a method, with or without a result.
 fn method(alloc: Global, source: Source, at: usize) -> Result<(Method, usize), SyntaxFault>
     requires within { at ≤ length source.tokens.now }
     ensures parses { Parses source.entry.tokens.now method_phrase at method_tree result }
@@ -162,7 +162,7 @@ fn method(alloc: Global, source: Source, at: usize) -> Result<(Method, usize), S
     }
 }
 
-/// The post statements of a method, if it has any.
+/// Parses the post statements of a method, if it has any.
 fn post(alloc: Global, source: Source, at: usize) -> Result<(List<Stmt>, usize), SyntaxFault>
     requires within { at ≤ length source.tokens.now }
     ensures parses { Parses source.entry.tokens.now post_phrase at statements_of result }
@@ -174,7 +174,7 @@ fn post(alloc: Global, source: Source, at: usize) -> Result<(List<Stmt>, usize),
     statements(alloc, source, at + 1)
 }
 
-/// The rest of a method without a result.
+/// Parses the rest of a method without a result.
 fn without_result(
     alloc: Global,
     source: Source,
@@ -204,7 +204,7 @@ fn without_result(
     Ok((method, end + 1))
 }
 
-/// The rest of a method with a result.
+/// Parses the rest of a method with a result.
 fn with_result(
     alloc: Global,
     source: Source,
@@ -238,7 +238,7 @@ fn with_result(
     Ok((method, end + 1))
 }
 
-/// The methods of a class.
+/// Parses the methods of a class.
 fn methods(alloc: Global, source: Source, at: usize) -> Result<(List<Method>, usize), SyntaxFault>
     requires within { at ≤ length source.tokens.now }
     ensures parses { Parses source.entry.tokens.now (more_methods []) at (λ ms. map method_tree ms) result }
@@ -266,7 +266,7 @@ fn class(alloc: Global, source: Source, at: usize) -> Result<(ClassDecl, usize),
     class_body(alloc, source, body, name, vars, methods)
 }
 
-/// The rest of a class, behind its variables and methods.
+/// Parses the rest of a class, after its variables and methods.
 fn class_body(
     alloc: Global,
     source: Source,
@@ -310,7 +310,7 @@ fn further_classes(
     Ok((classes, next))
 }
 
-/// The program of the tokens, with End behind them.
+/// Parses the program that all tokens form, followed by `End`.
 pub fn program(alloc: Global, source: Source) -> Result<Program, SyntaxFault>
     requires once { (i : ℕ) → slice_get (seen source.tokens.now) i ≡ Some Tok.End → i ≡ length source.tokens.now }
     ensures { ParsesProgram source.entry.tokens.now result }

@@ -1,4 +1,4 @@
-//! Expressions: one function for each form of phrase.
+//! Parsing of expressions, with one function for each form of phrase.
 ghost use Rattle.std.specs.Prelude.{◌≡◌, ◌≢◌, ◌+◌, ◌<◌, ◌≤◌, length, Some, None, IfOk, IfErr, IfSome, option_map, slice_get};
 ghost use Rattle.pool_grammar.specs.Rules.{group, comparison as comparison_level, factor as factor_level, postfix as postfix_level, primary as primary_level, args as args_phrase, more_args};
 ghost use Rattle.pool_grammar.specs.Rules.{expression as expression_phrase};
@@ -21,7 +21,7 @@ use run_types::{List, NameId, Op};
 use std::alloc::Global;
 use text_scan::Keyword;
 
-/// The levels of operators whose repetition groups to the left.
+/// The levels of left-associative operators.
 #[derive(Clone, Copy)]
 pub enum Grouping {
     Or,
@@ -30,14 +30,14 @@ pub enum Grouping {
     Product,
 }
 
-/// A postfix expression, and whether it is an invocation: a call, a `new` or a send, with no parentheses around it.
+/// A postfix expression, and whether it is an invocation: a call, a `new` or a send, without parentheses around it.
 #[derive(Drop)]
 pub struct PostfixTree {
     pub tree: Expr,
     pub invokes: bool,
 }
 
-/// The tree in a box. Where memory runs out, both the tree and the value behind it are dropped.
+/// The tree in a box. If memory runs out, the tree and the values named after it are dropped.
 macro_rules! boxed {
     ($alloc:expr, $tree:ident $(, $owned:ident)?) => {
         match Box::new($alloc, $tree) {
@@ -51,7 +51,7 @@ macro_rules! boxed {
     };
 }
 
-/// The operator of this level that the token is.
+/// Reports the operator of this level that the token is.
 fn operator(grouping: Grouping, token: Tok) -> Option<Op>
     ensures table { result ≡ operator_of (group (group_of grouping)) token }
     ensures inside { IfSome result (λ _. token ≢ Tok.End) }
@@ -68,7 +68,7 @@ fn operator(grouping: Grouping, token: Tok) -> Option<Op>
     }
 }
 
-/// The comparison that the token is.
+/// Reports the comparison operator that the token is.
 fn comparison_operator(token: Tok) -> Option<Op>
     ensures { result ≡ operator_of comparison_level token }
 {
@@ -83,7 +83,7 @@ fn comparison_operator(token: Tok) -> Option<Op>
     }
 }
 
-/// The prefix that the token is.
+/// Reports the prefix operator that the token is.
 fn prefix_operator(token: Tok) -> Option<Op>
     ensures { result ≡ operator_of factor_level token }
 {
@@ -94,7 +94,7 @@ fn prefix_operator(token: Tok) -> Option<Op>
     }
 }
 
-/// The literal or `self` that the token is.
+/// Reports the literal or `self` that the token is.
 fn literal(token: Tok, pos: u32) -> Option<Expr>
     ensures { option_map expression_of result ≡ literal_of token pos }
 {
@@ -143,7 +143,7 @@ fn send(alloc: Global, to: Expr, method: Named, args: List<Expr>) -> Result<Expr
     })
 }
 
-/// An operand of the operators of this level.
+/// Parses an operand of the operators of this level.
 #[cycle(expressions)]
 fn operand(
     alloc: Global,
@@ -163,7 +163,7 @@ fn operand(
     }
 }
 
-/// Operands with the operators of this level between them.
+/// Parses operands with the operators of this level between them. They group to the left.
 #[cycle(expressions)]
 pub fn grouped(
     alloc: Global,
@@ -184,7 +184,7 @@ pub fn grouped(
     Ok((left, next))
 }
 
-/// A sum, or two with a comparison between them.
+/// Parses a sum, or two with a comparison between them.
 #[cycle(expressions)]
 fn comparison(alloc: Global, source: Source, at: usize) -> Result<(Expr, usize), SyntaxFault>
     requires within { at ≤ length source.tokens.now }
@@ -219,7 +219,7 @@ fn factor(alloc: Global, source: Source, at: usize) -> Result<(Expr, usize), Syn
     }
 }
 
-/// A primary, and sends to it.
+/// Parses a primary, and sends to it.
 #[cycle(expressions)]
 pub fn postfix(
     alloc: Global,
@@ -268,7 +268,7 @@ fn primary(alloc: Global, source: Source, at: usize) -> Result<(PostfixTree, usi
     }
 }
 
-/// An expression in parentheses.
+/// Parses an expression in parentheses.
 #[cycle(expressions)]
 fn parenthesized(
     alloc: Global,
@@ -295,7 +295,7 @@ fn parenthesized(
     ))
 }
 
-/// A variable, or a call.
+/// Parses a variable or a call.
 #[cycle(expressions)]
 fn named(
     alloc: Global,
@@ -338,7 +338,7 @@ fn named(
     }
 }
 
-/// A new object of a class, where the word is `new`.
+/// Parses a `new` expression, if the keyword is `new`.
 fn created(source: Source, at: usize, word: Keyword) -> Result<(PostfixTree, usize), SyntaxFault>
     requires word { slice_get (seen source.tokens.now) at ≡ Some (Tok.Word word) }
     requires no_literal { literal_of (Tok.Word word) at ≡ None }
@@ -362,6 +362,7 @@ fn created(source: Source, at: usize, word: Keyword) -> Result<(PostfixTree, usi
     ))
 }
 
+/// Parses arguments in parentheses.
 #[cycle(expressions)]
 pub fn arguments(
     alloc: Global,

@@ -1,19 +1,20 @@
-//! Why a list of tokens has no program.
+//! The syntax errors of a list of tokens.
 ghost use Rattle.std.specs.Prelude.{◌≡◌};
 ghost use Rattle.pool_parser.specs.declared.fault.SyntaxFault.TheVariants.{Memory};
 
 use std::alloc::{AllocError, AllocFailed};
 use thiserror::Error;
 
-/// The first fault of a list of tokens, with the token's number, from 0.
+/// The first syntax error of a list of tokens, with the number of its token, counted from 0.
 #[derive(Clone, Copy, Debug, PartialEq, Eq, Error)]
 pub enum SyntaxFault {
     /// The tokens up to this one begin no program, and those before it do.
     #[error("token {token} is not expected")]
     Unexpected { token: u32 },
-    /// The nesting of this token is the first to pass 200, and no token up to it is unexpected.
+    /// The depth of this token is the first to exceed 200, and no token up to it is unexpected.
     #[error("token {token} stands too deep")]
     TooDeep { token: u32 },
+    /// Memory ran out.
     #[error("out of memory")]
     Memory,
 }

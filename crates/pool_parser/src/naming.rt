@@ -1,4 +1,4 @@
-//! Lists of names, and kinds.
+//! Parsing of lists of names and of declared types.
 ghost use Rattle.std.specs.Prelude.{◌≡◌, ◌+◌, ◌<◌, ◌≤◌, length, List as ListOf};
 ghost use Rattle.pool_syntax.specs.declared.tree.Named.{Named as OneName};
 ghost use Rattle.pool_grammar.specs.Rules.{names as names_phrase, list as list_phrase, kind as kind_phrase};
@@ -13,7 +13,7 @@ use run_types::{Kind, List};
 use std::alloc::Global;
 use text_scan::Keyword;
 
-/// The kind that the token is.
+/// Reports the declared type that the token is.
 fn token_kind(token: Tok) -> Option<Kind>
     ensures { result ≡ kind_of token }
 {
@@ -25,7 +25,7 @@ fn token_kind(token: Tok) -> Option<Kind>
     }
 }
 
-/// A kind, with its token's number.
+/// Parses a declared type, and reports it with the number of its token.
 pub fn kind(source: Source, at: usize) -> Result<((Kind, u32), usize), SyntaxFault>
     requires within { at ≤ length source.tokens.now }
     ensures parses { Parses source.entry.tokens.now kind_phrase at (λ k. k) result }
@@ -37,7 +37,7 @@ pub fn kind(source: Source, at: usize) -> Result<((Kind, u32), usize), SyntaxFau
     }
 }
 
-/// One or more names, with commas between them.
+/// Parses one or more names, with commas between them.
 pub fn names(alloc: Global, source: Source, at: usize) -> Result<(List<Named>, usize), SyntaxFault>
     requires within { at ≤ length source.tokens.now }
     ensures parses { Parses source.entry.tokens.now names_phrase at (λ ns. ns) result }
@@ -55,7 +55,7 @@ pub fn names(alloc: Global, source: Source, at: usize) -> Result<(List<Named>, u
     Ok((list, next))
 }
 
-/// Names in parentheses.
+/// Parses an answer list: names in parentheses.
 pub fn answer_list(
     alloc: Global,
     source: Source,

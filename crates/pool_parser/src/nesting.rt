@@ -1,4 +1,4 @@
-//! The first token that stands too deep, by one pass over the tokens.
+//! The first token whose depth exceeds the limit, found by one pass over the tokens.
 ghost use Rattle.std.specs.Prelude.{◌≡◌, ◌^◌, ◌<◌, ◌≤◌, ◌∷◌, length, reverse, slice_get, Ok, Some, None, IfOk, IfErr, IfSome, List as ListOf};
 ghost use Rattle.pool_syntax.specs.declared.token.Tok.{Tok as OneToken};
 ghost use Rattle.pool_syntax.specs.Tokens.{toks};
@@ -12,23 +12,24 @@ use pool_syntax::{Sign, Tok, Token};
 use std::alloc::Global;
 use text_scan::Keyword;
 
-/// The deepest that a token may stand.
+/// The largest depth that a token may have.
 const DEEPEST: u32 = 200;
 
-/// What a token is to the nesting.
+/// The role of a token in the nesting.
 #[derive(Clone, Copy)]
 enum TokenRole {
     Opening,
-    /// Closed by `end`, and not counted.
+    /// An opening that `end` closes and that is not counted.
     Beginning,
     Closing,
     Operating,
-    /// Between expressions and in none.
+    /// Between expressions, and in none of them.
     Parting,
     Plain,
 }
 
-/// How many open brackets and operators hold the next token, if it goes on with the expression, and if it does not.
+/// The number of open brackets and operators that hold the next token: `held` if it continues the expression, and
+/// `parted` if it does not.
 #[derive(Clone, Copy)]
 struct Level {
     held: u32,
@@ -81,7 +82,7 @@ fn token_role(token: Tok) -> TokenRole
     }
 }
 
-/// The token with this number.
+/// Reports the token with this number.
 fn token_at(tokens: &[Token], at: usize) -> Tok
     requires { at < length tokens.now }
     ensures { slice_get (toks tokens.now) at ≡ Some result }
@@ -89,7 +90,7 @@ fn token_at(tokens: &[Token], at: usize) -> Tok
     tokens[at].tok
 }
 
-/// The nesting of a token of this role.
+/// Reports the depth of a token of this role.
 fn depth(role: TokenRole, level: Level) -> u32
     requires { level.held ≤ 200 }
     ensures { result ≡ depth_at role level }
@@ -101,7 +102,7 @@ fn depth(role: TokenRole, level: Level) -> u32
     }
 }
 
-/// The level behind a token of this role. The levels of the brackets that are open around it go into `outer`.
+/// Reports the level after a token of this role. `outer` is the stack of the levels of the open brackets around it.
 fn level_after(outer: &mut Vec<Level>, role: TokenRole, level: Level) -> Result<Level, SyntaxFault>
     requires { level.held ≤ 200 }
     ensures ok { IfOk result
@@ -137,7 +138,8 @@ fn level_after(outer: &mut Vec<Level>, role: TokenRole, level: Level) -> Result<
     }
 }
 
-/// The number of the first token whose nesting is 201. Linear in the tokens.
+/// Reports the number of the first token with the depth 201, or `None` if no token has it. It takes time linear in
+/// the tokens. The only error is out of memory.
 pub fn first_too_deep(alloc: Global, tokens: &[Token]) -> Result<Option<usize>, SyntaxFault>
     requires { length tokens.now < 2 ^ 32 }
     ensures deep { IfOk result (λ o. IfSome o (λ d. (d < length tokens.now) × IsFirstTooDeep (toks tokens.now) d)) }

@@ -1,4 +1,4 @@
-//! The program of a list of tokens.
+//! The parser of a list of tokens.
 ghost use Rattle.std.specs.Prelude.{◌≡◌, ℕ, ◌+◌, ◌^◌, ◌<◌, ◌≤◌, ◌⊎◌, length, take, Ok, Err, IfOk, IsTrue, MatchResult};
 ghost use Rattle.pool_lexer.specs.TokenLists.{EndsInEnd};
 ghost use Rattle.pool_syntax.specs.Terms.{ProgramTree};
@@ -22,7 +22,7 @@ use pool_lexer::Tokens;
 use pool_syntax::{Program, Token};
 use std::alloc::Global;
 
-/// The program of the first tokens, with End behind them.
+/// Parses the program that the first `end` tokens form, followed by `End`.
 fn program_of_front(alloc: Global, tokens: &[Token], end: usize) -> Result<Program, SyntaxFault>
     requires within { end + 1 ≤ length tokens.now }
     requires small { length tokens.now < 2 ^ 32 }
@@ -38,7 +38,7 @@ fn program_of_front(alloc: Global, tokens: &[Token], end: usize) -> Result<Progr
     )
 }
 
-/// The fault, or that this token stands too deep where the fault is behind it.
+/// Reports the fault, or that the token `deep` is too deep if the fault comes after it.
 fn unless_behind(fault: SyntaxFault, deep: usize) -> SyntaxFault
     requires { deep < 2 ^ 32 }
     ensures unexpected { (t : ℕ) → result ≡ SyntaxFault.Unexpected t → (fault ≡ SyntaxFault.Unexpected t) × (t ≤ deep) }
@@ -56,8 +56,8 @@ fn unless_behind(fault: SyntaxFault, deep: usize) -> SyntaxFault
     }
 }
 
-/// The fault of tokens of which this one is the first that stands too deep. The tokens behind it are not looked at, so no
-/// call nests deeper than the tokens may.
+/// Reports the fault of tokens of which `deep` is the first too deep one. It does not look at the tokens after that
+/// one, so the depth of calls is bounded by the depth of tokens.
 fn fault_up_to(alloc: Global, tokens: &[Token], deep: usize) -> SyntaxFault
     requires within { deep < length tokens.now }
     requires first { IsFirstTooDeep (toks tokens.now) deep }
@@ -73,7 +73,7 @@ fn fault_up_to(alloc: Global, tokens: &[Token], deep: usize) -> SyntaxFault
     }
 }
 
-/// The program of the tokens.
+/// Parses the program that the tokens form.
 fn parse_tokens(alloc: Global, tokens: &[Token]) -> Result<Program, SyntaxFault>
     requires small { length tokens.now < 2 ^ 32 }
     requires ended { EndsInEnd (toks tokens.now) }
@@ -88,32 +88,33 @@ fn parse_tokens(alloc: Global, tokens: &[Token]) -> Result<Program, SyntaxFault>
     }
 }
 
-/// The program of a text's tokens. Takes time linear in the tokens. The nesting is judged before anything is parsed, so the calls
-/// nest no deeper than the tokens may, 200 deep.
+/// Parses the program that a text's tokens form. Reports the first unexpected token, or the first token whose depth
+/// exceeds 200. `Memory` comes only if memory runs out. It takes time linear in the tokens. The depths are checked
+/// first, so calls nest no deeper than the tokens.
 pub fn parse(alloc: Global, tokens: &Tokens) -> Result<Program, SyntaxFault>
     requires ended { EndsInEnd (toks tokens.now.list) }
     requires size { length tokens.now.list ≤ 67108865 }
 
-    // What is read is the program of the tokens, and no token stands too deep.
+    // The result is the program of the tokens, and no token is too deep.
     ensures ok { IfOk result (λ p. HasProgram (toks tokens.now.list) (program_of p)) }
 
-    // The tokens before an unexpected one begin a program, those up to it do not, and none before it stands too deep.
+    // The tokens before an unexpected one begin a program, those up to it do not, and none before it is too deep.
     ensures unexpected { (t : ℕ) → result ≡ Err (SyntaxFault.Unexpected t) → IsFirstUnexpected (toks tokens.now.list) t × IsShallowBelow (toks tokens.now.list) t }
 
-    // A token that stands too deep is the first one, and the tokens up to it begin a program.
+    // A token that is too deep is the first such token, and the tokens up to it begin a program.
     ensures too_deep { (t : ℕ) → result ≡ Err (SyntaxFault.TooDeep t) → IsFirstTooDeep (toks tokens.now.list) t × Begins (toks tokens.now.list) program_phrase (rule program_phrase) 0 (t + 1) }
 
-    // Where memory is not wanting, each of the two is told where it stands: of the tokens the first unexpected one, before which none stands too deep, and the first
-    // that stands too deep, up to which the tokens begin a program.
+    // Unless memory runs out, each of the two faults is reported at its token. The first: a token is unexpected, and
+    // none before it is too deep. The second: a token is too deep, and the tokens up to it begin a program.
     ensures unexpected_there { (t : ℕ) → t < length (toks tokens.now.list) → IsFirstUnexpected (toks tokens.now.list) t → IsShallowBelow (toks tokens.now.list) t
         → (result ≡ Err (SyntaxFault.Unexpected t)) ⊎ (result ≡ Err Memory) }
     ensures too_deep_there { (t : ℕ) → IsFirstTooDeep (toks tokens.now.list) t → Begins (toks tokens.now.list) program_phrase (rule program_phrase) 0 (t + 1)
         → (result ≡ Err (SyntaxFault.TooDeep t)) ⊎ (result ≡ Err Memory) }
 
-    // Tokens with a program are refused for want of memory alone, and have no other.
+    // Tokens that are a program are rejected only if memory runs out, and they are no other program.
     ensures only { (p : ProgramTree) → HasProgram (toks tokens.now.list) p → MatchResult result (λ q. program_of q ≡ p) (λ f. f ≡ Memory) }
 
-    // Where the tokens are spelled by the table, the program is: each of its names and strings is a place of the table.
+    // If the names, strings and integers of the tokens can be written, those of the program can be written.
     ensures spelled { AreSpelled tokens.now.names (toks tokens.now.list) → IfOk result (λ p. IsTrue (is_spelled tokens.now.names (program_of p))) }
 {
     parse_tokens(alloc, tokens.list.items())

@@ -1,4 +1,4 @@
-//! One token at a time: those of a slice, and End behind them.
+//! Access to the tokens one at a time: those of a slice, followed by `End`.
 ghost use Rattle.pool_syntax.specs.Tokens.{toks};
 ghost use Rattle.std.specs.Prelude.{◌≡◌, ◌≢◌, ◌^◌, ◌<◌, ◌≤◌, length, Some, IfOk, IfErr, OnOk, slice_get, IsTrue, IsFalse};
 ghost use Rattle.run_types.specs.declared.types.NameId.{NameId as AnyName};
@@ -8,8 +8,8 @@ ghost use Rattle.pool_parser.specs.Parses.{RunsToEnd, seen};
 use crate::fault::SyntaxFault;
 use pool_syntax::{Named, Tok, Token};
 
-/// The tokens that the parser looks at, with End behind them: fewer than 2^32, none of which stands deeper than the first that stands
-/// too deep. So no call nests deeper than the tokens may.
+/// The tokens that the parser looks at, followed by `End`: fewer than 2^32, none of them deeper than 201. So calls
+/// nest no deeper than that.
 #[derive(Clone, Copy)]
 pub struct Source<'a> {
     pub tokens: &'a [Token],
@@ -18,7 +18,7 @@ pub struct Source<'a> {
     ghost nested: { IsNestedBelow (toks tokens.now) (length tokens.now) },
 }
 
-/// The token at this place.
+/// Reports the token with the number `at`, which is `End` after the last one.
 pub fn peek(source: Source, at: usize) -> Tok
     requires { at ≤ length source.tokens.now }
     ensures { slice_get (seen source.entry.tokens.now) at ≡ Some result }
@@ -29,7 +29,7 @@ pub fn peek(source: Source, at: usize) -> Tok
     }
 }
 
-/// Whether this token stands at this place.
+/// Reports whether the token with the number `at` is this one.
 pub fn is_at(source: Source, at: usize, token: Tok) -> bool
     requires { at ≤ length source.tokens.now }
     ensures yes { IsTrue result → slice_get (seen source.entry.tokens.now) at ≡ Some token }
@@ -38,7 +38,7 @@ pub fn is_at(source: Source, at: usize, token: Tok) -> bool
     peek(source, at) == token
 }
 
-/// Passes over this token, or says that another one stands there.
+/// Accepts this token, or reports `Unexpected` if another token is there.
 pub fn expect(source: Source, at: usize, token: Tok) -> Result<(), SyntaxFault>
     requires within { at ≤ length source.tokens.now }
     ensures ok { OnOk result (slice_get (seen source.entry.tokens.now) at ≡ Some token) }
@@ -51,7 +51,7 @@ pub fn expect(source: Source, at: usize, token: Tok) -> Result<(), SyntaxFault>
     }
 }
 
-/// The name at this place, or that another token stands there.
+/// Reports the name at this token, or `Unexpected` if another token is there.
 pub fn expect_name(source: Source, at: usize) -> Result<Named, SyntaxFault>
     requires within { at ≤ length source.tokens.now }
     ensures ok { IfOk result (λ n. (slice_get (seen source.entry.tokens.now) at ≡ Some (Tok.Name n.name)) × (n.pos ≡ at)) }

@@ -1,4 +1,4 @@
-//! Statements: one function for each form of phrase.
+//! Parsing of statements, with one function for each form of phrase.
 ghost use Rattle.std.specs.Prelude.{◌≡◌, ◌≢◌, ◌+◌, ◌<◌, ◌≤◌, length, Some, slice_get, List as ListOf, Option as OptionOf};
 ghost use Rattle.pool_syntax.specs.declared.tree.Named.{Named as OneName};
 ghost use Rattle.pool_grammar.specs.Rules.{stmts as stmts_phrase, more_stmts, stmt as stmt_phrase, alt as alt_phrase, more_alts};
@@ -18,7 +18,7 @@ use run_types::List;
 use std::alloc::Global;
 use text_scan::Keyword;
 
-/// Whether a statement begins with the token.
+/// Reports whether a statement can begin with the token.
 fn begins_statement(token: Tok) -> bool
     ensures { result ≡ token_begins_statement token }
 {
@@ -38,7 +38,7 @@ fn begins_statement(token: Tok) -> bool
     }
 }
 
-/// An invocation, or a send that waits for no result.
+/// Parses an invocation, or an asynchronous send.
 fn sending(alloc: Global, source: Source, at: usize) -> Result<(Stmt, usize), SyntaxFault>
     requires within { at ≤ length source.tokens.now }
     ensures parses { ParsesRule source.entry.tokens.now stmt_phrase sending_rule at statement_of result }
@@ -64,7 +64,7 @@ fn sending(alloc: Global, source: Source, at: usize) -> Result<(Stmt, usize), Sy
     }
 }
 
-/// A statement that begins with a name: an assignment, or a send or call.
+/// Parses a statement that begins with a name: an assignment, a send or a call.
 fn named_statement(
     alloc: Global,
     source: Source,
@@ -85,7 +85,7 @@ fn named_statement(
     }
 }
 
-/// A string or an expression to be written.
+/// Parses the string or the expression after `write`.
 fn writing(alloc: Global, source: Source, at: usize) -> Result<(Stmt, usize), SyntaxFault>
     requires word { slice_get (seen source.tokens.now) at ≡ Some (Tok.Word Keyword.Write) }
     requires within { at + 1 ≤ length source.tokens.now }
@@ -101,7 +101,7 @@ fn writing(alloc: Global, source: Source, at: usize) -> Result<(Stmt, usize), Sy
     }
 }
 
-/// The names that may be answered.
+/// Parses the answer list after `answer`.
 fn answering(alloc: Global, source: Source, at: usize) -> Result<(Stmt, usize), SyntaxFault>
     requires word { slice_get (seen source.tokens.now) at ≡ Some (Tok.Word Keyword.Answer) }
     requires within { at + 1 ≤ length source.tokens.now }
@@ -131,7 +131,7 @@ fn statement(alloc: Global, source: Source, at: usize) -> Result<(Stmt, usize), 
     }
 }
 
-/// A statement that begins with a keyword.
+/// Parses a statement that begins with a keyword.
 #[cycle(statements)]
 fn worded_statement(
     alloc: Global,
@@ -167,7 +167,7 @@ fn conditional(alloc: Global, source: Source, at: usize) -> Result<(Stmt, usize)
     else_part(alloc, source, after, cond, yes)
 }
 
-/// The other list of a conditional, if there is one, and its end.
+/// Parses the `else` part of a conditional, if there is one, and its end.
 #[cycle(statements)]
 fn else_part(
     alloc: Global,
@@ -256,7 +256,7 @@ fn alternative(alloc: Global, source: Source, at: usize) -> Result<(Alt, usize),
     }
 }
 
-/// The statements of an alternative, behind its guard and answer list.
+/// Parses the statements of an alternative, after its guard and answer list.
 #[cycle(statements)]
 fn work(
     alloc: Global,
@@ -281,7 +281,7 @@ fn work(
     ))
 }
 
-/// No statement, or statements with semicolons between them.
+/// Parses any number of statements, with semicolons between them.
 #[cycle(statements)]
 pub fn statements(
     alloc: Global,

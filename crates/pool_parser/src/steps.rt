@@ -1,11 +1,12 @@
-//! What the functions of the parser do at each step: hand a fault on, and put one more item behind a list.
+//! Steps that the functions of the parser share: they return a fault and append an item to a list.
 ghost use Rattle.std.specs.Prelude.{◌≡◌, ◌++◌, ◌∷◌, [], IfOk, IfErr};
 ghost use Rattle.pool_parser.specs.declared.fault.SyntaxFault.TheVariants.{Memory};
 
 use crate::fault::SyntaxFault;
 use run_types::List;
 
-/// What a call has read. Where it has read nothing, its fault is handed on as it is, once the values behind the call are dropped.
+/// The result of a call of the parser. If it is a fault, the values named after the call are dropped and the fault is
+/// returned.
 macro_rules! read {
     ($call:expr) => {
         match $call {
@@ -26,7 +27,7 @@ macro_rules! read {
 
 pub(crate) use read;
 
-/// The list with one more item behind its last, or that memory ran out.
+/// Appends the item to the list, or reports that memory ran out.
 pub fn pushed<T: Drop>(mut list: List<T>, item: T) -> Result<List<T>, SyntaxFault>
     ensures ok { IfOk result (λ all. all ≡ list ++ item ∷ []) }
     ensures err { IfErr result (λ e. e ≡ Memory) }

@@ -1,4 +1,5 @@
--- What is known of declarations is known of their parts, and lists of declarations one after another.
+-- If the texts of declarations are in the table, so are those of their parts. And lists of declarations one after
+-- another.
 use Rattle.std.proofs.Common.{◌≡◌, refl, ℕ, ◌+◌, ◌<◌, true, map, List, [], ◌∷◌, ◌++◌, length, drop, get_or, false, nat_eq}
 use Rattle.text_scan.specs.Text.{Text}
 use Rattle.pool_syntax.specs.declared.token.Tok.TheVariants.{Word, Sign, Name}

@@ -1,4 +1,4 @@
--- The tokens of a declaration derive it but for positions and numbering.
+-- The grammar derives a declaration from its tokens, up to positions and numbering.
 use Rattle.std.proofs.Common.{◌≡◌, refl, sym, ℕ, ◌+◌, List, [], ◌∷◌, ◌++◌, map, slice_get, Option, Some, None, append_assoc, append-nil, subst}
 use Rattle.pool_syntax.specs.declared.token.Tok.{Tok}
 use Rattle.pool_syntax.specs.declared.token.Tok.TheVariants as tok

@@ -1,4 +1,4 @@
--- The tokens of an expression derive it but for positions and numbering.
+-- The grammar derives an expression from its tokens, up to positions and numbering.
 use Rattle.std.proofs.Common.{◌≡◌, refl, sym, ap, ℕ, zero, suc, ◌+◌, ◌-◌, ◌≤◌, List, [], ◌∷◌, ◌++◌, slice_get, Bool, true, false, Some, if◌then◌else◌, nat_le, subst, arith}
 use Rattle.std.proofs.lemmas.Bool.{leb-true}
 use Rattle.pool_syntax.specs.declared.token.Tok.{Tok}

@@ -1,4 +1,4 @@
--- Tokens that stand in a list, and what a phrase derives of them.
+-- Tokens in a part of a list, and the trees that a phrase derives from them.
 use Rattle.std.proofs.Common.{◌≡◌, refl, ℕ, ◌+◌, List, [], ◌∷◌, ◌++◌, slice_get, Some, subst}
 use Rattle.pool_syntax.specs.declared.token.Tok.{Tok}
 use Rattle.pool_syntax.specs.declared.tree.Named.{Named}

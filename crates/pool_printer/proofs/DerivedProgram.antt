@@ -1,4 +1,4 @@
--- The tokens of the canonical text of a program derive it but for positions and numbering.
+-- The grammar derives the program from the tokens of its canonical text, up to positions and numbering.
 use Rattle.std.proofs.Common.{◌≡◌, refl, ap, ℕ, suc, ◌+◌, List, [], ◌∷◌, ◌++◌, length, map, slice_get, Some, subst, arith}
 use Rattle.pool_syntax.specs.declared.token.Tok.{Tok}
 use Rattle.pool_syntax.specs.declared.token.Tok.TheVariants.{End}

@@ -1,4 +1,4 @@
--- A worked row of a program but for its positions.
+-- A worked example of a program without its positions.
 use Rattle.std.proofs.Common.{◌≡◌, refl, ◌+◌, [], ◌∷◌, Some, None, true, pos}
 use Rattle.run_types.specs.declared.types.Value.TheVariants as value
 use Rattle.run_types.specs.declared.types.Op.TheVariants as op

@@ -1,4 +1,4 @@
--- The tokens of a statement derive it but for positions and numbering.
+-- The grammar derives a statement from its tokens, up to positions and numbering.
 use Rattle.std.proofs.Common.{◌≡◌, refl, sym, ap, ℕ, ◌+◌, List, [], ◌∷◌, ◌++◌, map, Option, Some, None, append_assoc, append-nil}
 use Rattle.pool_syntax.specs.declared.token.Tok.{Tok}
 use Rattle.pool_syntax.specs.declared.token.Tok.TheVariants as tok

@@ -1,4 +1,4 @@
--- The tokens of parts from a place on.
+-- The tokens of the parts from an index on.
 use Rattle.std.specs.Prelude.{ℕ, zero, suc, List}
 use Rattle.pool_syntax.specs.declared.token.Tok.{Tok}
 use Rattle.pool_printer.specs.Canonical.{separated_by, led_by}

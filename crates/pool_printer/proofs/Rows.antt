@@ -1,4 +1,4 @@
--- Worked rows of the canonical text.
+-- Worked examples of the canonical text.
 use Rattle.std.proofs.Common.{◌≡◌, refl, ℕ, true, false, List, [], ◌∷◌, ◌++◌, Some, None, codes, pos}
 use Rattle.std.specs.Fmt.{digits}
 use Rattle.text_scan.specs.Text.{Text, lookup}

@@ -1,4 +1,4 @@
--- The canonical text has the program.
+-- The canonical text of a program parses to the same program.
 use Rattle.std.proofs.Common.{◌≡◌, sym, subst, true, List}
 use Rattle.pool_grammar.specs.Derives.{IsProgram}
 use Rattle.pool_grammar.specs.Grammatical.{IsGrammatical}

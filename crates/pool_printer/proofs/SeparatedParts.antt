@@ -1,4 +1,4 @@
--- Parts that are printed one after another, with a separator between two of them, and what is known of them.
+-- Parts that are printed one after another, with a separator between each two.
 use Rattle.std.proofs.Common.{◌≡◌, refl, sym, ap, ◌∙◌, ℕ, zero, suc, ◌+◌, ◌<◌, ◌≤◌, true, false, ◌&&◌, List, [], ◌∷◌, ◌++◌, length, drop, get_or, Some, is_some, slice_get, inl, inr, arith}
 use Rattle.std.proofs.lemmas.List.{at_drop_more, at_drop_all}
 use Rattle.std.proofs.lemmas.Option.{slice_get_cases}

@@ -1,4 +1,4 @@
--- What is put one text after another.
+-- Texts that are written one after another.
 use Rattle.std.proofs.Common.{◌≡◌, refl, sym, ap, ◌∙◌, ◌≤◌, List, [], ◌∷◌, ◌++◌, Bool, true, false, Option, Some, option_map, append_assoc, subst, arith}
 use Rattle.pool_outside.specs.Outside.{Rose, IsProperFront}
 use Rattle.pool_outside.proofs.Laws.{cut_first, cut_second, joined, rose_later, rose_before, append_nothing}

@@ -1,4 +1,4 @@
--- The texts of keywords and signs are pieces before a space or a line feed, and are these keywords and signs again.
+-- The texts of keywords and signs are pieces before a space or a line feed, and give these keywords and signs again.
 use Rattle.std.proofs.Common.{◌≡◌, ◌≢◌, refl, ℕ, ◌≤◌, Bool, true, false, nat_eq, List, [], ◌∷◌, ◌++◌, length, Some, None, arith}
 use Rattle.std.specs.List.{prefix_len}
 use Rattle.std.proofs.lemmas.Bool.Decides.{nat_tests}

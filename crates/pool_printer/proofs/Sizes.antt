@@ -1,4 +1,4 @@
--- How much of a tree is left to print.
+-- The size of the rest of a tree that is still to be printed.
 use Rattle.std.proofs.Common.{◌≡◌, ap, ℕ, zero, suc, ◌+◌, ◌<◌, ◌≤◌, List, [], ◌∷◌, length, get_or, arith}
 use Rattle.pool_syntax.specs.declared.tree.Expr.{Expr}
 use Rattle.pool_syntax.specs.declared.tree.Stmt.{Stmt}

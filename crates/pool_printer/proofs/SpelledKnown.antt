@@ -1,4 +1,4 @@
--- The names and strings of a spelled program are in the table.
+-- The names and strings of a writable program are in the table.
 use Rattle.std.proofs.Common.{◌≡◌, refl, Bool, true, List, [], ◌∷◌, Option, Some, None, slice_get, is_some}
 use Rattle.std.proofs.lemmas.Bool.{and_from}
 use Rattle.text_scan.specs.Text.{Text}

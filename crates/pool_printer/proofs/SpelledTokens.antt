@@ -1,4 +1,4 @@
--- The tokens of a spelled program are spelled over the table.
+-- The names, strings and integers of the tokens of a writable program can be written over the table.
 use Rattle.std.proofs.Common.{◌≡◌, refl, ◌∙◌, ℕ, Bool, true, false, ◌&&◌, map, List, [], ◌∷◌, ◌++◌, Option, Some, None, nat_le, if◌then◌else◌, arith}
 use Rattle.std.proofs.lemmas.Bool.{and_from}
 use Rattle.text_scan.specs.Text.{Text}

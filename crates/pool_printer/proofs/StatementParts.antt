@@ -1,4 +1,5 @@
--- What is known of statements is known of their parts, and lists of statements one after another.
+-- If the texts of statements are in the table, so are those of their parts. And lists of statements one after
+-- another.
 use Rattle.std.proofs.Common.{◌≡◌, refl, sym, ap, ◌∙◌, ℕ, ◌+◌, ◌<◌, true, List, [], ◌∷◌, ◌++◌, length, drop, get_or, append_assoc, arith}
 use Rattle.text_scan.specs.Text.{Text}
 use Rattle.pool_syntax.specs.declared.token.Tok.{Tok}

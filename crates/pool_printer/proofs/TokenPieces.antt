@@ -1,4 +1,4 @@
--- The text of each token of a spelled program is a piece, and is the token again.
+-- The text of each token of a writable program is a piece, and the token of this piece is the token again.
 use Rattle.std.proofs.Common.{◌≡◌, refl, ap, ◌∙◌, ℕ, ◌-◌, ◌≤◌, Bool, true, false, ◌&&◌, nat_le, pos, negsuc, List, [], ◌∷◌, length, take, drop, slice_get, Option, Some, None, is_some, not, decimal, inl, inr, arith}
 use Rattle.std.specs.List.{AllByRecursion}
 use Rattle.std.proofs.lemmas.Bool.{and_parts, leb-true}

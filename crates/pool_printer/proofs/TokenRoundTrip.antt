@@ -1,4 +1,4 @@
--- The canonical text is read back as the program's tokens.
+-- The lexer reads the canonical text back as the tokens of the program.
 use Rattle.std.proofs.Common.{◌≡◌, refl, sym, ap, subst, ◌∙◌, ℕ, ◌+◌, Bool, true, false, ◌||◌, map, List, [], ◌∷◌, ◌++◌, length, Some, None, append_assoc, if◌then◌else◌, codes, arith}
 use Rattle.std.specs.List.{AllByRecursion, prefix_len}
 use Rattle.std.proofs.lemmas.List.{take_at, drop_at}

@@ -1,4 +1,4 @@
--- The canonical text of a program: its tokens, with one space or line feed between two of them.
+-- The canonical text of a program: its tokens, with one space or line feed between each two.
 use Rattle.std.specs.Prelude.{ℕ, ◌+◌, List, [], ◌∷◌, ◌++◌, map, Bool, true, false, ◌||◌, Option, Some, None, if◌then◌else◌, nat_le, nat_eq, codes}
 use Rattle.text_scan.specs.Text.{Text}
 use Rattle.run_types.specs.declared.types.Value.{Value}
@@ -19,14 +19,15 @@ use Rattle.pool_syntax.specs.Terms.{While, Answer, Select, Serve, Statements, Do
 use Rattle.pool_printer.specs.Spelling.{spelling}
 
 infixr 5 ◌then◌
--- tokens, and then more
+-- tokens, followed by more
 abbrev pub ◌then◌ : List Tok → List Tok → List Tok
 xs then ys = xs ++ ys
 
+-- the token of a name
 abbrev pub name_token : ℕ → Tok
 name_token n = Name (record { 0 = n })
 
--- what stands behind the separator, again and again
+-- the parts, each after the separator
 abbrev pub led_by : Tok → List (List Tok) → List Tok
 led_by separator [] = []
 led_by separator (x ∷ xs) = separator ∷ x then led_by separator xs
@@ -38,6 +39,7 @@ separated_by separator (x ∷ xs) = x then led_by separator xs
 
 -- operators and levels
 
+-- the token of an operator
 abbrev pub operator_token : Op → Tok
 operator_token op.Add = Sign sign.Plus
 operator_token op.Sub = Sign sign.Minus
@@ -55,6 +57,7 @@ operator_token op.And = Word word.And
 operator_token op.Or = Word word.Or
 operator_token op.Not = Word word.Not
 
+-- the level of an operator
 abbrev pub operator_level : Op → ℕ
 operator_level op.Or = 1
 operator_level op.And = 2
@@ -72,21 +75,23 @@ operator_level op.Rem = 5
 operator_level op.Neg = 6
 operator_level op.Not = 6
 
+-- the level of an expression
 abbrev pub level : Expression → ℕ
 level (Infix o l r p) = operator_level o
 level (Prefix o e p) = 6
 level (Send e m es p) = 7
 level _ = 8
 
--- A left operand needs its operator's level, but an operand of a comparison one more.
+-- the level that a left operand requires: that of its operator, and one more in a comparison
 abbrev pub left_need : Op → ℕ
 left_need o = if nat_eq (operator_level o) 3 then 4 else operator_level o
 
--- A right operand needs one level more than its operator's.
+-- the level that a right operand requires: one more than that of its operator
 abbrev pub right_need : Op → ℕ
 right_need o = operator_level o + 1
 
--- the tokens of an expression of this level in a place that needs a level: in parentheses where it is lower
+-- the tokens of an expression of this level in a place that requires the level `need`: in parentheses if its own is
+-- lower
 abbrev pub in_place : ℕ → ℕ → List Tok → List Tok
 in_place need level ts = if nat_le need level then ts else Sign sign.LeftParen ∷ ts then Sign sign.RightParen ∷ []
 
@@ -102,7 +107,8 @@ value_tokens (value.Bool b) = truth_token b ∷ []
 value_tokens (value.Ref n) = []
 value_tokens value.Nil = Word word.Nil ∷ []
 
--- the tokens of an expression without parentheses around it; a method under way and a name of an object have none
+-- the tokens of an expression without parentheses around it; a method that is being executed and a name of an object
+-- have none
 abbrev mutual
   pub bare_tokens : Expression → List Tok
   bare_tokens (Literal v p) = value_tokens v
@@ -124,10 +130,11 @@ abbrev mutual
   argument_tokens NoArgs = []
   argument_tokens (Arg e es) = in_place 1 (level e) (bare_tokens e) ∷ argument_tokens es
 
--- the tokens of an expression in a place that needs a level
+-- the tokens of an expression in a place that requires this level
 abbrev pub expression_tokens : ℕ → Expression → List Tok
 expression_tokens need e = in_place need (level e) (bare_tokens e)
 
+-- the tokens of a call: the name of its method and the arguments in parentheses
 abbrev pub call_tokens : ℕ → Expressions → List Tok
 call_tokens m es = name_token m ∷ Sign sign.LeftParen ∷ separated_by (Sign sign.Comma) (argument_tokens es) then Sign sign.RightParen ∷ []
 
@@ -141,7 +148,7 @@ abbrev pub answer_tokens : Option (List Named) → List Tok
 answer_tokens None = []
 answer_tokens (Some ns) = Word word.Answer ∷ names_tokens ns
 
--- `else`, exactly where its list is not empty
+-- `else` and its list, if the list is not empty
 abbrev pub else_tokens : Statements → List Tok → List Tok
 else_tokens Done ts = []
 else_tokens (Then s ss) ts = Word word.Else ∷ ts
@@ -201,7 +208,7 @@ abbrev pub outcome_tokens : Option Kind → List Tok
 outcome_tokens None = []
 outcome_tokens (Some k) = Sign sign.Colon ∷ kind_token k ∷ []
 
--- the value, where the method has a result
+-- the value, if the method has a result
 abbrev pub result_tokens : Option Kind → Expression → List Tok
 result_tokens None e = []
 result_tokens (Some k) e = Word word.Result ∷ expression_tokens 1 e
@@ -238,6 +245,7 @@ program_tokens (c ∷ cs) = class_tokens c then program_tokens cs
 
 -- the text
 
+-- whether a line feed goes before the token
 abbrev pub breaks_before : Tok → Bool
 breaks_before (Word word.Class) = true
 breaks_before (Word word.Var) = true
@@ -245,19 +253,21 @@ breaks_before (Word word.Method) = true
 breaks_before (Word word.Body) = true
 breaks_before _ = false
 
+-- whether a line feed goes after the token
 abbrev pub breaks_after : Tok → Bool
 breaks_after (Sign sign.Semicolon) = true
 breaks_after _ = false
 
--- what stands before a token: nothing before the first, else one space or one line feed
+-- the separator before a token: nothing before the first token, otherwise one space or one line feed
 abbrev pub gap : Option Tok → Tok → Text
 gap None t = []
 gap (Some before) t = if breaks_after before || breaks_before t then codes "\n" else codes " "
 
--- the text of tokens behind a token, if there is one
+-- the text of tokens that follow the token `before`, if there is one
 abbrev pub text_behind : List Text → Option Tok → List Tok → Text
 text_behind names before [] = []
 text_behind names before (t ∷ ts) = gap before t ++ (spelling names t ++ text_behind names (Some t) ts)
 
+-- the canonical text of a program, over the table of its names and strings
 abbrev pub canonical : List Text → ProgramTree → Text
 canonical names p = text_behind names None (program_tokens p) ++ codes "\n"

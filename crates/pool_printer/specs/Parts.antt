@@ -1,4 +1,4 @@
--- The tokens of one of the code's alternatives.
+-- The tokens of an alternative of a select, for the syntax tree of the code.
 use Rattle.std.specs.Prelude.{List, ◌∷◌}
 use Rattle.text_scan.specs.declared.keywords.Keyword.TheVariants as word
 use Rattle.pool_syntax.specs.declared.token.Tok.{Tok}
@@ -7,6 +7,7 @@ use Rattle.pool_syntax.specs.declared.tree.Alt.{Alt, out-Alt}
 use Rattle.pool_syntax.specs.TreeOf.{expression_of, statements_of}
 use Rattle.pool_printer.specs.Canonical.{expression_tokens, answer_tokens, statements_tokens, ◌then◌}
 
+-- the tokens of an alternative
 abbrev pub alternative_tokens : Alt → List Tok
 alternative_tokens a =
     Word word.When ∷ expression_tokens 1 (expression_of (out-Alt a).guard)

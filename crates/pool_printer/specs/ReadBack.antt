@@ -1,4 +1,4 @@
--- What the canonical text of a program is read back as: the program's tokens, with the same texts.
+-- The tokens of the canonical text of a program: those of the program, over a table of their own with the same texts.
 use Rattle.std.specs.Prelude.{◌≡◌, ℕ, List, [], ◌∷◌, ◌++◌, map}
 use Rattle.std.specs.List.{AllByRecursion}
 use Rattle.run_types.specs.Table.{name_of, text_at}
@@ -11,11 +11,12 @@ use Rattle.pool_printer.specs.Canonical.{canonical, program_tokens}
 use Rattle.pool_printer.specs.Renumbered.{token_by}
 use Rattle.pool_printer.specs.Spelling.{spelling}
 
--- the number in another table of the text that has this number in the first
+-- the number that the text with the number n has in another table
 abbrev pub number_in : List Text → List Text → ℕ → ℕ
 number_in other names n = name_of other (text_at names n)
 
--- The canonical text has this table and these tokens: those of the program, each number replaced by that of the same text in this table.
+-- the canonical text has this table and these tokens: those of the program, with each number replaced by that of the
+-- same text in this table
 pub record IsReadBack (names : List Text) (p : ProgramTree) (other : List Text) (ts : List Token) : Type 0 where
   pub tokens : HasTokens (canonical names p) other ts
   pub same : map (λ t. t.tok) ts ≡ map (token_by (number_in other names)) (program_tokens p) ++ End ∷ []

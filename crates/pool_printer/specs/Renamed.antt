@@ -1,4 +1,4 @@
--- A program but for its positions, with other numbers for names and strings.
+-- A program without its positions, and with other numbers for its names and strings.
 use Rattle.std.specs.Prelude.{ℕ, List, [], ◌∷◌, map, Option, Some, None}
 use Rattle.run_types.specs.declared.types.Kind.{Kind}
 use Rattle.run_types.specs.declared.types.Kind.TheVariants as kind
@@ -8,17 +8,17 @@ use Rattle.pool_syntax.specs.Terms.{Store, Expression, Literal, Me, Variable, Cr
 use Rattle.pool_syntax.specs.Terms.{If, While, Answer, Select, Serve, Statements, Done, Then, Alternatives, NoAlts, Alt, MethodTree, ClassTree, ProgramTree}
 use Rattle.pool_printer.specs.Renumbered.{number_by}
 
--- a name at its place
+-- a name without its position
 abbrev pub renamed_name : (ℕ → ℕ) → Named → Named
 renamed_name f n = record { name = number_by f n.name; pos = 0 }
 
--- the kind of a variable or a result
+-- the type of a variable or a result
 abbrev pub renamed_kind : (ℕ → ℕ) → Kind → Kind
 renamed_kind f kind.Int = kind.Int
 renamed_kind f kind.Bool = kind.Bool
 renamed_kind f (kind.Class c) = kind.Class (number_by f c)
 
--- a variable with its kind
+-- a variable with its type
 abbrev pub renamed_variable : (ℕ → ℕ) → Var → Var
 renamed_variable f v = record { name = number_by f v.name; kind = renamed_kind f v.kind; pos = 0; kind_pos = 0 }
 
@@ -27,7 +27,7 @@ abbrev pub renamed_answer : (ℕ → ℕ) → Option (List Named) → Option (Li
 renamed_answer f None = None
 renamed_answer f (Some ns) = Some (map (renamed_name f) ns)
 
--- variables with their values, which no text has
+-- variables with their values, which a program text does not have
 abbrev pub renamed_store : (ℕ → ℕ) → Store → Store
 renamed_store f [] = []
 renamed_store f (v ∷ vs) = (f v.0, v.1) ∷ renamed_store f vs
@@ -77,7 +77,7 @@ abbrev mutual
   renamed_alternatives f (Alt e ns ss alts) =
       Alt (renamed_expression f e) (renamed_answer f ns) (renamed_statements f ss) (renamed_alternatives f alts)
 
--- the kind of a method's result, if it has one
+-- the type of a method's result, if it has one
 abbrev pub renamed_outcome : (ℕ → ℕ) → Option Kind → Option Kind
 renamed_outcome f None = None
 renamed_outcome f (Some k) = Some (renamed_kind f k)
@@ -104,7 +104,7 @@ renamed_class f c = record {
   body = renamed_statements f c.body;
 }
 
--- The program with every position 0 and f n in the place of every number n of a name or a string:
--- p is q but for positions and numbering, by f, where renamed f p ≡ renamed (λ n. n) q.
+-- the program with every position 0, and with f n instead of every number n of a name or a string; p and q are equal
+-- up to positions and the numbering f, if renamed f p ≡ renamed (λ n. n) q
 abbrev pub renamed : (ℕ → ℕ) → ProgramTree → ProgramTree
 renamed f p = map (renamed_class f) p

@@ -1,9 +1,10 @@
--- Other numbers for names and strings.
+-- Tokens and names with other numbers for their texts.
 use Rattle.std.specs.Prelude.{ℕ}
 use Rattle.run_types.specs.declared.types.NameId.{NameId}
 use Rattle.pool_syntax.specs.declared.token.Tok.{Tok}
 use Rattle.pool_syntax.specs.declared.token.Tok.TheVariants.{Word, Name, Int, Str, Sign, End}
 
+-- the name with another number
 abbrev pub number_by : (ℕ → ℕ) → NameId → NameId
 number_by f n = record { 0 = f n.0 }
 

@@ -1,4 +1,4 @@
--- The text of a token.
+-- The text of a token, over the table of the texts of names and strings.
 use Rattle.std.specs.Prelude.{List, [], ◌∷◌, ◌++◌}
 use Rattle.std.specs.Fmt.{signed_decimal}
 use Rattle.run_types.specs.Table.{text_at}
@@ -8,10 +8,11 @@ use Rattle.text_scan.specs.Text.{Text}
 use Rattle.pool_syntax.specs.declared.token.Tok.{Tok}
 use Rattle.pool_syntax.specs.declared.token.Tok.TheVariants as tok
 
+-- the quote of a string
 abbrev pub quote : Text
 quote = 34 ∷ []
 
--- an integer without leading zeros, and a string in its quotes; the end of a text has no text
+-- the text of a token: an integer has no leading zeros, a string has its quotes, and the end of a text is empty
 abbrev pub spelling : List Text → Tok → Text
 spelling names (tok.Word k) = keyword_text k
 spelling names (tok.Name n) = text_at names n.0

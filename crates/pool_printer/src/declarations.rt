@@ -1,4 +1,4 @@
-//! The tokens of declarations.
+//! Output of declarations.
 ghost use Rattle.std.specs.Prelude.{◌≡◌, map, true};
 ghost use Rattle.pool_syntax.specs.TreeOf.{class_tree, expression_of, method_tree, statements_of};
 ghost use Rattle.pool_syntax.specs.declared.token.Tok.TheVariants.{Sign as SignToken};
@@ -25,7 +25,7 @@ fn kind_token(kind: Kind) -> Tok
     }
 }
 
-/// Writes a variable's name and kind.
+/// Writes a variable's name and declared type.
 fn variable<K: Sink>(names: &Names, sink: &mut K, progress: &mut Progress, var: Var)
     requires { are_known names.now (variable_tokens var) ≡ true }
     ensures { Prints names.now (variable_tokens var) (state progress.old (K.written sink.old) (K.faults sink.old)) (state progress.new (K.written sink.new) (K.faults sink.new)) }
@@ -71,7 +71,7 @@ fn variables<K: Sink>(
     }
 }
 
-/// Writes the kind of a method's result, if it has one.
+/// Writes the type of a method's result, if it has one.
 fn outcome<K: Sink>(names: &Names, sink: &mut K, progress: &mut Progress, kind: Option<Kind>)
     requires { are_known names.now (outcome_tokens kind) ≡ true }
     ensures { Prints names.now (outcome_tokens kind) (state progress.old (K.written sink.old) (K.faults sink.old)) (state progress.new (K.written sink.new) (K.faults sink.new)) }

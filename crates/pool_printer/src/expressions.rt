@@ -1,4 +1,4 @@
-//! The tokens of expressions.
+//! Output of expressions.
 ghost use Rattle.std.specs.Prelude.{◌≡◌, true};
 ghost use Rattle.pool_syntax.specs.TreeOf.{expression_of, expressions_of};
 ghost use Rattle.pool_printer.specs.Canonical.{argument_tokens, bare_tokens, call_tokens, expression_tokens, left_need, level, operator_level, operator_token, right_need, separated_by, truth_token};
@@ -12,12 +12,12 @@ use pool_syntax::{Expr, Sign, Tok};
 use run_types::{NameId, Names, Op};
 use text_scan::Keyword;
 
-/// The need of a place that takes every expression.
+/// The level that a place requires if every expression may be there without parentheses.
 pub const ANY: u8 = 1;
 
 const PREFIX: u8 = 6;
 
-/// The level of a send, and the need of its destination.
+/// The level of a send, and the level that its destination requires.
 pub const SEND: u8 = 7;
 
 fn truth_token(value: bool) -> Tok
@@ -65,7 +65,7 @@ fn operator_level(op: Op) -> u8
     }
 }
 
-/// What a left operand needs: repeated operators group to the left, but comparisons do not.
+/// Reports the level that a left operand requires. Repeated operators group to the left, but comparisons do not.
 fn left_need(op: Op) -> u8
     ensures { result ≡ left_need op }
 {
@@ -95,7 +95,8 @@ fn level(expr: &Expr) -> u8
     }
 }
 
-/// Writes an expression in a place that needs a level: in parentheses where its own is lower.
+/// Writes an expression in a place that requires a level. It writes parentheses if the level of the expression is
+/// lower.
 #[cycle(expressions)]
 pub fn expression<K: Sink>(
     names: &Names,
@@ -161,7 +162,7 @@ fn bare<K: Sink>(names: &Names, sink: &mut K, progress: &mut Progress, expr: &Ex
     }
 }
 
-/// Writes a method's name and the arguments.
+/// Writes the name of a method and its arguments in parentheses.
 #[cycle(expressions)]
 pub fn call<K: Sink>(
     names: &Names,

@@ -1,4 +1,4 @@
-//! The text of a program.
+//! The printer of a program.
 ghost use Rattle.std.specs.Prelude.{◌≡◌, ◌≤◌, ◌++◌, ℕ, length, take, option_map, true, OnOk, OnErr};
 ghost use Rattle.pool_outside.specs.Outside.{Rose, IsProperFront};
 ghost use Rattle.pool_syntax.specs.Spelled.{is_spelled};
@@ -11,7 +11,8 @@ use pool_outside::{Sink, WriteFault};
 use pool_syntax::Program;
 use run_types::Names;
 
-/// Writes the canonical text of the program. After a failed write nothing more is written. Takes no memory.
+/// Writes the canonical text of the program to the sink. It allocates nothing. The error comes if a write fails; the
+/// sink then has a proper prefix of the text, and nothing more is written.
 pub fn print<K: Sink>(program: &Program, names: &Names, sink: &mut K) -> Result<(), WriteFault>
     requires spelled { is_spelled names.now (program_of program.now) ≡ true }
     ensures whole { OnOk result (K.written sink.new ≡ option_map (λ w. w ++ canonical names.now (program_of program.now)) (K.written sink.old)) }

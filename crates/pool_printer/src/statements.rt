@@ -1,4 +1,4 @@
-//! The tokens of statements.
+//! Output of statements.
 ghost use Rattle.std.specs.Prelude.{◌≡◌, ◌∷◌, true};
 ghost use Rattle.text_scan.specs.declared.keywords.Keyword.TheVariants.{Answer};
 ghost use Rattle.pool_syntax.specs.declared.token.Tok.TheVariants.{Word};
@@ -102,7 +102,7 @@ fn statement<K: Sink>(names: &Names, sink: &mut K, progress: &mut Progress, stmt
     }
 }
 
-/// Writes `else` and its statements, where there are any.
+/// Writes `else` and its statements, if there are any.
 #[cycle(statements)]
 fn otherwise<K: Sink>(names: &Names, sink: &mut K, progress: &mut Progress, stmts: &[Stmt])
     requires { are_known names.now (else_tokens (statements_of stmts.now) (statements_tokens (statements_of stmts.now))) ≡ true }

@@ -1,4 +1,4 @@
-//! Tokens, each written behind what separates it from the token before.
+//! Output of tokens, each after the separator from the token before it.
 ghost use Rattle.std.specs.Prelude.{◌≡◌, ◌∷◌, [], true};
 ghost use Rattle.pool_syntax.specs.declared.token.Tok.TheVariants.{Sign as SignToken};
 ghost use Rattle.pool_printer.specs.Canonical.{gap};
@@ -12,7 +12,7 @@ use pool_syntax::{Sign, Tok};
 use run_types::Names;
 use text_scan::Keyword;
 
-/// How far the text has come: its last token, and whether a write has failed. From then on nothing is written.
+/// The state of the output: its last token, and whether a write has failed. After a failed write nothing is written.
 #[derive(Clone, Copy)]
 pub struct Progress {
     pub last: Option<Tok>,
@@ -32,7 +32,7 @@ pub fn put<K: Sink>(sink: &mut K, progress: &mut Progress, piece: &[u8])
     }
 }
 
-/// What stands before a token.
+/// Reports the separator before a token.
 fn gap(before: Option<Tok>, token: Tok) -> &'static [u8]
     ensures { result.now ≡ gap before token }
 {
@@ -67,7 +67,7 @@ fn spell<K: Sink>(names: &Names, sink: &mut K, progress: &mut Progress, token: T
     }
 }
 
-/// Writes a token behind what separates it from the last one.
+/// Writes a token after the separator from the last one.
 pub fn say<K: Sink>(names: &Names, sink: &mut K, progress: &mut Progress, token: Tok)
     requires { is_known names.now token ≡ true }
     ensures { Prints names.now (token ∷ []) (state progress.old (K.written sink.old) (K.faults sink.old)) (state progress.new (K.written sink.new) (K.faults sink.new)) }
@@ -88,7 +88,7 @@ pub fn say_all<K: Sink>(names: &Names, sink: &mut K, progress: &mut Progress, to
 }
 
 #[tactic(auto, using(crate::proofs::SequentialOutput::prints_nothing))]
-/// Writes the separator of the part at a place: none before the first part.
+/// Writes the separator before the part with the index `place`. The first part has none.
 pub fn separate<K: Sink>(
     names: &Names,
     sink: &mut K,

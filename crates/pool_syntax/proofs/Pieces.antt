@@ -1,4 +1,4 @@
--- The pieces of a text: how many there are, and how long one may be.
+-- Bounds on the pieces of a text: their number, and the length of each.
 use Rattle.std.proofs.Common.{◌≤◌, List, [], ◌∷◌, length, drop, arith, ◌≡◌, ℕ, Bool, true, false, Option, Some, None, nat_le, refl}
 use Rattle.std.proofs.lemmas.List.{length-drop}
 use Rattle.text_scan.specs.Text.{Text}

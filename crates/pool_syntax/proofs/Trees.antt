@@ -1,4 +1,4 @@
--- The lists inside the code's trees are lists of the definitions' trees.
+-- The lists inside the trees of the code represent the lists inside the trees of `Terms`.
 use Rattle.std.proofs.Common.{◌≡◌, List, refl, sym, ap, ap₂, ◌∙◌, ℕ}
 use Rattle.run_types.specs.declared.types.NameId.{NameId}
 use Rattle.pool_syntax.specs.declared.tree.Expr.{Expr, Row_of-Expr, end_of-Expr, more_of-Expr, items-the_row-Expr, items_hidden-the_row-Expr-0}

@@ -1,4 +1,4 @@
--- The class or the method of a name: the first declaration counts.
+-- The look-up of a class or a method by its name, in which the first declaration counts.
 use Rattle.std.specs.Prelude.{ℕ, ◌==◌, List, [], ◌∷◌, Option, Some, None, if◌then◌else◌}
 use Rattle.pool_syntax.specs.Terms.{MethodTree, ClassTree, ProgramTree}
 

@@ -1,4 +1,4 @@
--- The numbers of the class faults, from 1: of two faults at one token that of the least number is told.
+-- The numbers of the class faults, from 1: of two faults at one token, the one with the smaller number is reported.
 use Rattle.std.specs.Prelude.{ℕ}
 
 abbrev pub class_twice : ℕ

@@ -1,11 +1,11 @@
--- Parts of a program as they are written: nothing is under way in them, and each operator has its number of operands.
+-- Parts of a program as written: no method is being executed in them, and each operator has its number of operands.
 use Rattle.std.specs.Prelude.{Option, Some, None, Bool, true, false, not, ◌&&◌}
 use Rattle.run_types.specs.declared.types.Value.TheVariants as V
 use Rattle.run_types.specs.declared.types.Kind.{Kind}
 use Rattle.pool_syntax.specs.Terms.{Expression, Literal, Me, Variable, Create, Prefix, Infix, Call, Send, Frame, Wait, Expressions, NoArgs, Arg, Statement, Assign, Write, WriteText, Do, Async, If, While, Answer, Select, Serve, Statements, Done, Then, Alternatives, NoAlts, Alt}
 pub use Rattle.run_types.specs.Values.{is_prefix}
 
--- a part of a text: nothing is under way in it, and each operator has its number of operands
+-- whether a part of a term may be part of a program text
 abbrev mutual
   pub is_source : Expression → Bool
   is_source (Literal v p) = true
@@ -48,7 +48,7 @@ abbrev pub is_nil_value : Expression → Bool
 is_nil_value (Literal V.Nil p) = true
 is_nil_value _ = false
 
--- whether a method with this result can have this value; one without result has nil
+-- whether a method with this result can have this value; a method without a result has nil
 abbrev pub is_value_for : Option Kind → Expression → Bool
 is_value_for None e = is_nil_value e
 is_value_for (Some k) e = true

@@ -1,4 +1,5 @@
--- Programs whose names, strings and integers can be written as tokens: what the tokens of a text always give.
+-- Programs whose names, strings and integers can be written as tokens. The tokens of a text have only such names,
+-- strings and integers.
 use Rattle.std.specs.Prelude.{pos, negsuc, List, [], ◌∷◌, Option, Some, None, Bool, true, false, ◌&&◌, nat_le, All, IsTrue}
 use Rattle.pool_syntax.specs.declared.token.Tok.{Tok}
 use Rattle.pool_syntax.specs.declared.token.Tok.TheVariants as tok
@@ -13,7 +14,8 @@ use Rattle.pool_syntax.specs.Terms.{While, Answer, Select, Serve, Statements, Do
 use Rattle.text_scan.specs.Text.{Text}
 use Rattle.text_scan.specs.Keywords.{is_name, is_string_number}
 
--- a value that a literal can have: no integer below 0 or from 2 ^ 63 on, and no object's name
+-- whether a literal can have this value: an integer from 0 and below 2 ^ 63, a truth value or nil, but no object's
+-- name
 abbrev pub is_literal : Value → Bool
 is_literal (value.Int (pos z)) = nat_le z 9223372036854775807
 is_literal (value.Int (negsuc z)) = false
@@ -21,7 +23,7 @@ is_literal (value.Bool b) = true
 is_literal (value.Ref n) = false
 is_literal value.Nil = true
 
--- a token whose name, string or integer is that of a spelled program
+-- the name, string or integer of the token can be written
 abbrev pub IsSpelledToken : List Text → Tok → Type 0
 IsSpelledToken names (tok.Name n) = IsTrue (is_name names n.0)
 IsSpelledToken names (tok.Str n) = IsTrue (is_string_number names n.0)
@@ -30,22 +32,27 @@ IsSpelledToken names (tok.Word k) = Unit {0}
 IsSpelledToken names (tok.Sign s) = Unit {0}
 IsSpelledToken names tok.End = Unit {0}
 
+-- the same for each of these tokens
 abbrev pub AreSpelled : List Text → List Tok → Type 0
 AreSpelled names ts = All (IsSpelledToken names) ts
 
+-- whether the declared type can be written
 abbrev pub is_kind : List Text → Kind → Bool
 is_kind names kind.Int = true
 is_kind names kind.Bool = true
 is_kind names (kind.Class c) = is_name names c.0
 
+-- whether the names can be written
 abbrev pub are_names : List Text → List Named → Bool
 are_names names [] = true
 are_names names (n ∷ ns) = is_name names n.name.0 && are_names names ns
 
+-- whether the names of an answer list can be written, if there is one
 abbrev pub are_answer_names : List Text → Option (List Named) → Bool
 are_answer_names names None = true
 are_answer_names names (Some ns) = are_names names ns
 
+-- whether the variables can be written
 abbrev pub are_variables : List Text → List Var → Bool
 are_variables names [] = true
 are_variables names (v ∷ vs) = is_name names v.name.0 && is_kind names v.kind && are_variables names vs
@@ -92,10 +99,12 @@ abbrev mutual
       is_spelled_expression names e && are_answer_names names ns && are_spelled_statements names ss
       && are_spelled_alternatives names alts
 
+-- whether the result of a method can be written
 abbrev pub is_outcome : List Text → Option Kind → Bool
 is_outcome names None = true
 is_outcome names (Some k) = is_kind names k
 
+-- whether the methods can be written
 abbrev pub are_spelled_methods : List Text → List MethodTree → Bool
 are_spelled_methods names [] = true
 are_spelled_methods names (m ∷ ms) =
@@ -103,7 +112,8 @@ are_spelled_methods names (m ∷ ms) =
     && are_spelled_statements names m.body && is_spelled_expression names m.value && are_spelled_statements names m.post
     && are_spelled_methods names ms
 
--- each name is a name, each string the inside of a string, and each integer from 0 and below 2 ^ 63; every number is a place of the table
+-- whether a program can be written: each name and each string is one in the table, and each integer is from 0 and
+-- below 2 ^ 63
 abbrev pub is_spelled : List Text → ProgramTree → Bool
 is_spelled names [] = true
 is_spelled names (k ∷ ks) =

@@ -1,4 +1,4 @@
--- The texts of keywords and signs.
+-- The text of each sign of the language.
 use Rattle.std.specs.Prelude.{ℕ, List, codes}
 use Rattle.pool_syntax.specs.declared.token.Sign.{Sign}
 use Rattle.pool_syntax.specs.declared.token.Sign.TheVariants as sign

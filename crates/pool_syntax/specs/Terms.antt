@@ -1,4 +1,5 @@
--- Programs and terms as trees without addresses. A term is what an object has still to do.
+-- The syntax trees of programs, and of the terms that objects execute. A term is what remains of a body, with the
+-- methods that are being executed in it.
 use Rattle.std.specs.Prelude.{ℕ, List, Option}
 use Rattle.run_types.specs.declared.types.Value.{Value}
 use Rattle.run_types.specs.declared.types.Op.{Op}
@@ -10,10 +11,10 @@ use Rattle.pool_syntax.specs.declared.tree.Var.{Var}
 abbrev pub Store : Type 0
 Store = List (ℕ × Value)
 
--- expressions, statements and alternatives, with lists of their own
+-- expressions, statements and alternatives, and lists of them
 mutual
   pub data Expression : Type 0 where
-    -- a literal of the text, or at the position 0 what an expression was evaluated to
+    -- a literal of the text, or, at the position 0, the value of an expression that was evaluated
     Literal : (value : Value) (pos : ℕ) → Expression
     Me : (pos : ℕ) → Expression
     Variable : (name pos : ℕ) → Expression
@@ -22,9 +23,10 @@ mutual
     Infix : (op : Op) (left right : Expression) (pos : ℕ) → Expression
     Call : (method : ℕ) (args : Expressions) (pos : ℕ) → Expression
     Send : (to : Expression) (method : ℕ) (args : Expressions) (pos : ℕ) → Expression
-    -- an own method under way, with its parameters and locals, what it has still to do, its value, and its post statements
+    -- a method that the object called itself: its parameters and locals, its remaining statements, its value and its
+    -- post statements
     Frame : (method : ℕ) (temps : Store) (rest : Statements) (value : Expression) (post : Statements) → Expression
-    -- the call of the method is being served by the receiver
+    -- a call of this method, which the receiver is executing
     Wait : (receiver method : ℕ) → Expression
 
   pub data Expressions : Type 0 where
@@ -41,7 +43,7 @@ mutual
     While : (cond : Expression) (body : Statements) → Statement
     Answer : (names : List Named) → Statement
     Select : (alts : Alternatives) → Statement
-    -- a method under way for the caller, or for no one
+    -- a method that the object executes for a caller, or for a message without caller
     Serve : (method : ℕ) (caller : Option ℕ) (temps : Store) (rest : Statements) (value : Expression) (post : Statements) → Statement
 
   pub data Statements : Type 0 where
@@ -61,7 +63,7 @@ pub record MethodTree : Type 0 where
   pub outcome_pos : ℕ
   pub body : Statements
   pub value : Expression
-  -- executed after the value was given to a caller
+  -- the statements that are executed after the value was given to the caller
   pub post : Statements
 
 -- a class
@@ -71,11 +73,11 @@ pub record ClassTree : Type 0 where
   pub methods : List MethodTree
   pub body : Statements
 
--- the classes in the order of the text
+-- a program: its classes in the order of the text
 abbrev pub ProgramTree : Type 0
 ProgramTree = List ClassTree
 
--- one list of statements, then another
+-- one list of statements, followed by another
 abbrev pub append : Statements → Statements → Statements
 append Done rest = rest
 append (Then s ss) rest = Then s (append ss rest)

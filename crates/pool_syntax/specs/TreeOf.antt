@@ -1,4 +1,4 @@
--- What the code's trees stand for.
+-- The trees of `Terms` that the syntax trees of the code represent.
 use Rattle.std.specs.Prelude.{List, [], ◌∷◌, map}
 use Rattle.run_types.specs.declared.types.Value.TheVariants as V
 use Rattle.pool_syntax.specs.declared.tree.Expr.{Expr, Int, Bool, Nil, Me, Var, New, Unary', Binary', Call', Send', Row_of-Expr, end_of-Expr, more_of-Expr}

@@ -1,4 +1,5 @@
--- A path is broken exactly where following it finds that, link by link, over at most as many links as there are nodes.
+-- A path is broken exactly if a walk along it takes a cut link or does not reach its goal. The walk has at most as
+-- many links as there are nodes.
 use Rattle.std.proofs.Common.{◌≡◌, ◌⊎◌, inl, inr, refl, sym, ap, subst, ◌∙◌, ℕ, zero, suc, ◌*◌, ◌<◌, ◌==◌, List, [], ◌∷◌, length, Bool, true, false, ◌||◌, if◌then◌else◌, arith}
 use Rattle.std.specs.List.{list_any}
 use Rattle.run_types.specs.declared.types.Placement.{Placement}

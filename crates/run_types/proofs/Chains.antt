@@ -1,4 +1,4 @@
--- What a chain of steps that gives a value passed through, and what the tests of equality say.
+-- Laws of chains of optional steps: a chain that gives a value passed each step. And laws of the tests of equality.
 use Rattle.std.proofs.Common.{◌≡◌, refl, sym, ap, IsTrue, ℤ, pos, negsuc, List, [], ◌∷◌, Option, Some, None, is_some, Bool, true, false, ◌==◌, arith}
 use Rattle.run_types.specs.declared.types.Error.{Error}
 use Rattle.run_types.specs.declared.types.Error.TheVariants as E

@@ -1,4 +1,4 @@
--- Lists of which each element has a property, and what stands at a place of a list.
+-- Lists whose elements all have a property, and the element at an index of a list.
 use Rattle.std.proofs.Common.{List, [], ◌∷◌, ◌++◌, ◌≡◌, refl, ℕ, zero, suc, ◌<◌, length, slice_get, Some, arith}
 use Rattle.run_types.specs.Tables.{Each}
 

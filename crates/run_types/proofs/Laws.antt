@@ -1,4 +1,5 @@
--- The lemmas that other crates cite: on tests and chains of steps, tables, texts and names, the paths of a mesh, and lists that are made a number at a time.
+-- The lemmas that other crates cite: on tests and optional steps, tables, texts and names, the paths of a mesh, and
+-- ranges of numbers.
 pub use Rattle.run_types.proofs.Texts.{is_among-last, text_at_place, name_of-missing}
 pub use Rattle.run_types.proofs.Tests.{first, second, both, equal, equals, not_true, true_not, decide, differ, T_true, true_T, neither}
 pub use Rattle.run_types.proofs.Chains.{same_some, there_is, given_by, required, same_value, same_values, same_error, value_itself, values_itself, item_itself, error_itself}

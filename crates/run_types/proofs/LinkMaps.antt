@@ -1,4 +1,4 @@
--- Maps to lists, after a value was put last in one or a list was put.
+-- Maps to lists after a value was appended to one list, or after a list was put under a key.
 use Rattle.std.proofs.Common.{◌≡◌, ◌≢◌, refl, sym, ap, ◌∙◌, IsTrue, List, [], ◌∷◌, ◌++◌, Some, None, true, false, not, cond}
 use Rattle.std.specs.Option.{unwrap_or}
 use Rattle.std.specs.Ordering.{nat_cmp, eq_by_cmp, is_eq, ordering_then}

@@ -1,4 +1,4 @@
--- Maps after one entry was put or taken out.
+-- Maps after one entry was put or removed.
 use Rattle.std.proofs.Common.{◌≡◌, ◌≢◌, refl, sym, ap, subst, ◌∙◌, IsTrue, ℕ, ◌+◌, List, [], ◌∷◌, ◌++◌, Some, None, Bool, true, false, not, ◌&&◌, cond, arith, ◌<◌, ◌==◌, nat_lt, ltb-true}
 use Rattle.run_types.specs.Paths.{total}
 use Rattle.std.specs.List.{list_all}

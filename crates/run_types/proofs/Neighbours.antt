@@ -1,4 +1,4 @@
--- What the test of neighbours says.
+-- The test `are_neighbours` implies the proposition `AreNeighbours`.
 use Rattle.std.proofs.Common.{◌≡◌, ◌⊎◌, inl, inr, refl, ℕ, ◌+◌, ◌/◌, ◌%◌, Bool, true, false, ◌&&◌, ◌||◌, nat_eq, arith}
 use Rattle.run_types.specs.Paths.{Adjacent, AreNeighbours, are_adjacent, are_neighbours}
 use Rattle.run_types.proofs.Tests.{first, second}

@@ -1,4 +1,4 @@
--- Of more numbers than there are places two are the same.
+-- The pigeonhole principle: among more numbers than there are places, two are equal.
 use Rattle.std.proofs.Common.{◌≡◌, ◌≢◌, ◌⊎◌, inl, inr, refl, sym, ap, ◌∙◌, ℕ, zero, suc, ◌+◌, ◌<◌, ◌==◌, Bool, true, false, arith}
 use Rattle.std.specs.Prelude.{if◌then◌else◌}
 use Rattle.run_types.proofs.Tests.{decide}

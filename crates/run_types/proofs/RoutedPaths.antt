@@ -1,4 +1,4 @@
--- Where no pair of nodes is without route, each path ends at its goal and has no node twice; and only there.
+-- If and only if no pair of nodes is without a path, each path ends at its goal and visits no node twice.
 use Rattle.std.proofs.Common.{◌≡◌, ◌≢◌, ◌⊎◌, inl, inr, refl, sym, ap, subst, ℕ, zero, suc, ◌+◌, ◌*◌, ◌<◌, ◌≤◌, ◌==◌, List, [], ◌∷◌, length, Option, Some, None, Bool, true, false, ◌&&◌, ◌||◌, nat_eq, arith}
 use Rattle.std.specs.Option.{unwrap_or}
 use Rattle.std.specs.List.{list_any, range_with_len, IsDistinct, AllByRecursion}

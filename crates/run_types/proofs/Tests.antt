@@ -1,4 +1,4 @@
--- The parts of tests that are joined, and what tests on numbers tell.
+-- Laws of tests: the parts of a conjunction, and the equality of numbers.
 use Rattle.std.proofs.Common.{T, sym, subst, ℕ, ◌==◌, ◌≢◌, ◌⊎◌, inl, inr, IsTrue, Bool, true, false, not, ◌≡◌, refl, ◌&&◌, arith, ◌||◌}
 
 pub first : (a b : Bool) → IsTrue (a && b) → IsTrue a

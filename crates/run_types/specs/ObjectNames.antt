@@ -1,4 +1,4 @@
--- Names of objects: the node of a name is the name div 65536, its slot the name mod 65536.
+-- The parts of an object's name: its node is the name div 65536, and its slot is the name mod 65536.
 use Rattle.std.specs.Prelude.{ℕ, ◌/◌, ◌%◌}
 
 -- the node of a name

@@ -1,4 +1,4 @@
--- Tests of equality for what the words of a run are made of.
+-- Tests of equality for lists of values and for written items, and the number of each run-time error.
 use Rattle.std.specs.Prelude.{ℕ, ◌==◌, List, [], ◌∷◌, Bool, true, false, ◌&&◌}
 use Rattle.run_types.specs.declared.types.Value.{Value}
 use Rattle.run_types.specs.declared.types.Item.{Item}
@@ -19,7 +19,7 @@ is_same_item (I.Value v) (I.Value w) = is_same v w
 is_same_item (I.Text s) (I.Text t) = s.0 == t.0
 is_same_item _ _ = false
 
--- errors in their order
+-- the index of a run-time error in the order of their declaration
 abbrev pub error_number : Error → ℕ
 error_number E.NilDestination = 0
 error_number E.NilOperand = 1

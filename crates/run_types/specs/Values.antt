@@ -1,4 +1,4 @@
--- Values, and what operators make of them.
+-- The result of each operator on values of the language: a value, a run-time error, or a wrong sort.
 use Rattle.std.specs.Prelude.{zero, suc, ◌-◌, ◌^◌, ◌==◌, ℤ, pos, negsuc, ◌+ℤ◌, ◌-ℤ◌, ◌*ℤ◌, neg_ℤ, int_lt, int_le, int_div, int_rem, Bool, true, false, not, ◌&&◌, ◌||◌, if◌then◌else◌}
 use Rattle.run_types.specs.declared.types.Value.{Value}
 use Rattle.run_types.specs.declared.types.Value.TheVariants as V
@@ -7,7 +7,7 @@ use Rattle.run_types.specs.declared.types.Op.TheVariants.{Add, Sub, Mul, Div, Re
 use Rattle.run_types.specs.declared.types.Error.{Error}
 use Rattle.run_types.specs.declared.types.Error.TheVariants.{NilOperand, Overflow, ZeroDivisor}
 
--- what an operator makes of its operands: a value, a language error, or nothing where their sorts are wrong
+-- the result of an operator: a value, a run-time error, or `WrongSort` if the operands are not of its sorts
 pub data Outcome : Type 0 where
   Gives : (value : Value) → Outcome
   Fails : (error : Error) → Outcome
@@ -17,11 +17,11 @@ pub data Outcome : Type 0 where
 abbrev pub is_in_range : ℤ → Bool
 is_in_range z = int_le (negsuc (2 ^ 63 - 1)) z && int_lt z (pos (2 ^ 63))
 
--- an integer, or an overflow
+-- the integer if it has 64 bits, and an overflow otherwise
 abbrev pub number : ℤ → Outcome
 number z = if is_in_range z then Gives (V.Int z) else Fails Overflow
 
--- a truth value
+-- a truth value as an outcome
 abbrev pub truth : Bool → Outcome
 truth b = Gives (V.Bool b)
 
@@ -31,7 +31,7 @@ quotient x (pos zero) = Fails ZeroDivisor
 quotient x (pos (suc n)) = number (int_div x (pos (suc n)))
 quotient x (negsuc n) = number (int_div x (negsuc n))
 
--- the quotient is taken without bound, so a remainder is always in range
+-- the remainder of the quotient without bound, so that it is always in range
 abbrev pub remainder : ℤ → ℤ → Outcome
 remainder x (pos zero) = Fails ZeroDivisor
 remainder x (pos (suc n)) = number (int_rem x (pos (suc n)))
@@ -56,21 +56,21 @@ is_same (V.Ref m) (V.Ref n) = m == n
 is_same V.Nil V.Nil = true
 is_same _ _ = false
 
--- an operator on two integers
+-- an operator on two integers; a nil operand is an error
 abbrev pub on_ints : (ℤ → ℤ → Outcome) → Value → Value → Outcome
 on_ints f V.Nil b = Fails NilOperand
 on_ints f a V.Nil = Fails NilOperand
 on_ints f (V.Int x) (V.Int y) = f x y
 on_ints f a b = WrongSort
 
--- an operator on two truth values
+-- an operator on two truth values; a nil operand is an error
 abbrev pub on_bools : (Bool → Bool → Bool) → Value → Value → Outcome
 on_bools f V.Nil b = Fails NilOperand
 on_bools f a V.Nil = Fails NilOperand
 on_bools f (V.Bool x) (V.Bool y) = truth (f x y)
 on_bools f a b = WrongSort
 
--- what an infix operator makes of two values
+-- the result of an infix operator on two values
 abbrev pub infix_value : Op → Value → Value → Outcome
 infix_value Add = on_ints (λ x y. number (x +ℤ y))
 infix_value Sub = on_ints (λ x y. number (x -ℤ y))
@@ -100,13 +100,13 @@ denied (V.Bool b) = truth (not b)
 denied V.Nil = Fails NilOperand
 denied _ = WrongSort
 
--- what a prefix operator makes of a value
+-- the result of a prefix operator on a value
 abbrev pub prefix_value : Op → Value → Outcome
 prefix_value Neg = negated
 prefix_value Not = denied
 prefix_value _ = λ v. WrongSort
 
--- whether an operator stands before its one operand, and not between two
+-- whether an operator is a prefix operator
 abbrev pub is_prefix : Op → Bool
 is_prefix Neg = true
 is_prefix Not = true

@@ -3,7 +3,7 @@ ghost use Rattle.std.specs.Prelude.{◌≡◌, [], ◌∷◌, ◌++◌, ◌<◌,
 use crate::types::Value;
 use std::marker::Model;
 
-/// At most 8 values, which contracts see as a list.
+/// An argument list of at most 8 values. Contracts see it as a list.
 #[derive(Clone, Copy, Debug, PartialEq, Eq)]
 pub struct Args {
     values: [Value; 8],
@@ -27,6 +27,7 @@ impl Model for Args {
 }
 
 impl Args {
+    /// Reports the empty argument list.
     pub fn make() -> Args
         ensures { result ≡ [] }
     {
@@ -36,6 +37,7 @@ impl Args {
         }
     }
 
+    /// Appends a value. Requires that fewer than 8 values are there.
     pub fn add(&mut self, value: Value)
         requires { length self.old < 8 }
         ensures { self.new ≡ self.old ++ value ∷ [] }
@@ -44,13 +46,14 @@ impl Args {
         self.count += 1;
     }
 
+    /// Lends the values in order.
     pub fn values(&self) -> &[Value]
         ensures { result.now ≡ self.now }
     {
         &self.values[..self.count]
     }
 
-    /// The number of values.
+    /// Reports the number of values.
     pub fn len(&self) -> usize
         ensures count { result ≡ length self.now }
         ensures few { result ≤ 8 }

@@ -1,10 +1,12 @@
-//! What an object of code is, as contracts see it.
+//! Objects of compiled code, as contracts see them.
 
 use crate::list::List;
 use crate::types::{Serves, Value};
 
-/// A body or a method under way, as contracts see it: the method's place in its class (a body has none), the place of
-/// the instruction at hand, the values of parameters and locals, the operands with the last one first, and whom it serves.
+/// An activation record, as contracts see it: a body or a method that is being executed.
+/// `method` is the index of the method in its class, and `None` for a body. `at` is the index of the current
+/// instruction. `temps` are the values of parameters and locals. `operands` is the operand stack, with its top first.
+/// `serves` says for whom the method runs.
 #[derive(Drop)]
 pub struct Frame {
     pub method: Option<u32>,
@@ -14,8 +16,8 @@ pub struct Frame {
     pub serves: Serves,
 }
 
-/// An object of code, as contracts see it: the place of its class in the unit, its variables, and its frames with the
-/// inner first.
+/// An object of compiled code, as contracts see it. `class` is the index of its class in the unit. `vars` are the
+/// values of its variables. `frames` are its activation records, with the innermost first.
 #[derive(Drop)]
 pub struct CodeObject {
     pub class: u32,

@@ -7,7 +7,7 @@ use indexmap::IndexSet;
 use std::alloc::{AllocError, Global};
 use std::marker::Model;
 
-/// A table of distinct texts, which contracts see as their list; a text's number is its place.
+/// A table of at most 2^32 distinct texts. Contracts see it as their list, and the number of a text is its index.
 #[derive(Drop)]
 pub struct Names {
     texts: IndexSet<Vec<u8>>,
@@ -29,7 +29,7 @@ impl Model for Names {
 }
 
 impl Names {
-    /// A table without texts. Takes no memory.
+    /// Reports a table without texts. It takes no memory.
     pub fn make(alloc: Global) -> Names
         ensures { result ≡ [] }
     {
@@ -39,7 +39,8 @@ impl Names {
         }
     }
 
-    /// The place of the text, which goes last where it is new.
+    /// Reports the number of the text, and appends the text if it is new. It copies the text only then.
+    /// Requires fewer than 2^32 texts. If it runs out of memory, the table stays as it was.
     pub fn add(&mut self, text: &[u8]) -> Result<NameId, AllocError>
         requires { length self.old < 2 ^ 32 }
         ensures names { OnOk result (self.new ≡ with_text self.old text.now) }
@@ -52,7 +53,7 @@ impl Names {
         }
     }
 
-    // The place of a text that is new, which goes last.
+    // Appends a text that is new, and reports its number.
     fn put(&mut self, text: Vec<u8>) -> Result<NameId, AllocError>
         requires room { length self.old < 2 ^ 32 }
         requires new { is_among self.old text.items ≡ false }
@@ -66,7 +67,7 @@ impl Names {
         }
     }
 
-    /// The place of the text; `None` exactly where it is not there.
+    /// Reports the number of the text, or `None` if the table does not have it.
     pub fn find(&self, text: &[u8]) -> Option<NameId>
         ensures found { IfSome result (λ id. id.0 ≡ name_of self.now text.now) }
         ensures none { (result ≡ None) ↔ (is_among self.now text.now ≡ false) }
@@ -77,14 +78,14 @@ impl Names {
         Some(NameId(place as u32))
     }
 
-    /// How many texts there are.
+    /// Reports the number of texts.
     pub fn count(&self) -> usize
         ensures { result ≡ length self.now }
     {
         self.texts.as_slice().len()
     }
 
-    /// The text of a number.
+    /// Lends the text with the number `id`, which must be below the number of texts.
     pub fn text(&self, id: NameId) -> &[u8]
         requires { id.0 < length self.now }
         ensures { slice_get self.now id.0 ≡ Some result.now }
@@ -92,7 +93,7 @@ impl Names {
         self.texts.as_slice()[id.0 as usize].as_slice()
     }
 
-    /// The same table.
+    /// Copies the table with its texts. The error is out of memory.
     pub fn copy(&self) -> Result<Names, AllocError>
         ensures { IfOk result (λ names. names ≡ self.now) }
     {

@@ -1,11 +1,11 @@
-//! Operators on values, and equality.
+//! The operators of the language on values, and equality.
 ghost use Rattle.std.specs.Prelude.{◌≡◌, IsTrue, IfSome, IfNone};
 ghost use Rattle.run_types.specs.Values.{infix_value, prefix_value, is_same, Gives, Fails};
 ghost use Rattle.run_types.specs.Operated.{is_logical, outcome_of};
 
 use crate::{Error, Op, Value};
 
-/// What an operator makes of its operands.
+/// The result of an operator: a value, a run-time error, or an operand of the wrong sort.
 #[derive(Clone, Copy)]
 pub enum Answer {
     Gives(Value),
@@ -23,7 +23,7 @@ fn number(checked: Option<i64>) -> Answer
     }
 }
 
-/// What an infix operator makes of two integers. It is inlined, so that the answer need not stand in memory.
+/// Applies an infix operator to two integers. It is inlined, so that the answer does not pass through memory.
 #[inline(always)]
 pub fn on_ints(op: Op, x: i64, y: i64) -> Answer
     ensures { outcome_of result ≡ infix_value op (Value.Int x) (Value.Int y) }
@@ -58,7 +58,7 @@ pub fn on_ints(op: Op, x: i64, y: i64) -> Answer
     }
 }
 
-/// Whether two values are the same.
+/// Reports whether two values are equal. Values of two sorts are not equal.
 pub fn same(left: Value, right: Value) -> bool
     ensures { result ≡ is_same left right }
 {
@@ -82,7 +82,7 @@ fn on_bools(op: Op, a: bool, b: bool) -> Answer
     }
 }
 
-/// What an infix operator makes of two values.
+/// Applies an infix operator to two values. A prefix operator is answered with `WrongSort`.
 pub fn operate(op: Op, left: Value, right: Value) -> Answer
     ensures { outcome_of result ≡ infix_value op left right }
 {
@@ -103,7 +103,7 @@ pub fn operate(op: Op, left: Value, right: Value) -> Answer
     }
 }
 
-/// What a prefix operator makes of a value.
+/// Applies a prefix operator to a value. An infix operator is answered with `WrongSort`.
 pub fn operate_one(op: Op, arg: Value) -> Answer
     ensures { outcome_of result ≡ prefix_value op arg }
 {

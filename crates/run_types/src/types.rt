@@ -1,11 +1,13 @@
-//! The plain words of a run.
+//! The plain data types of a run.
 
 use crate::args::Args;
 use crate::list::List;
 
+/// The number of a text in the table of a program's names and strings: its index there.
 #[derive(Clone, Copy, Debug, PartialEq, Eq)]
 pub struct NameId(pub u32);
 
+/// An operator of the language. `Neg` and `Not` are prefix operators, all others are infix.
 #[derive(Clone, Copy)]
 pub enum Op {
     Add,
@@ -25,6 +27,7 @@ pub enum Op {
     Not,
 }
 
+/// A value of the language: a 64-bit integer, a truth value, the name of an object, or `nil`.
 #[derive(Clone, Copy, Debug, PartialEq, Eq)]
 pub enum Value {
     Int(i64),
@@ -33,8 +36,8 @@ pub enum Value {
     Nil,
 }
 
-/// Whom a method that is under way serves: nobody, since the object called it itself; the caller of this name, whose request has this number; or the sender of an
-/// asynchronous message, who waits for nothing.
+/// For whom a method runs. `Own`: the object called itself. `Caller`: the object of this name called it, and the
+/// request has this number. `Sender`: an asynchronous message, whose sender does not wait.
 #[derive(Clone, Copy)]
 pub enum Serves {
     Own,
@@ -42,6 +45,7 @@ pub enum Serves {
     Sender,
 }
 
+/// A run-time error of the language.
 #[derive(Clone, Copy, Debug, PartialEq, Eq)]
 pub enum Error {
     NilDestination,
@@ -51,12 +55,14 @@ pub enum Error {
     NoOpenGuard,
 }
 
+/// An item that `write` puts out: a value, or a string of the program.
 #[derive(Clone, Copy, Debug, PartialEq, Eq)]
 pub enum Item {
     Value(Value),
     Text(NameId),
 }
 
+/// The label of a transition. Objects are given by their names, classes and methods by the numbers of their texts.
 #[derive(Clone, Copy)]
 pub enum Label {
     Local {
@@ -104,6 +110,8 @@ pub enum Label {
     },
 }
 
+/// The effect of an event, as its line of the record shows it. `Step` shows transitions, and `times` says how many.
+/// `Idle` says that the event could do nothing. Every other effect is a delay, which shows no transition.
 #[derive(Clone, Copy)]
 pub enum What {
     Step {
@@ -136,26 +144,30 @@ pub enum What {
     },
     Pass,
     Idle,
-    /// A frame of this number was put on a wire, was lost, came when another was wanted, was acknowledged, or was held back.
+    /// A frame with this number was put on a wire, by a send or as a duplicate.
     Frame {
         number: u32,
     },
+    /// A frame or an acknowledgement with this number was lost.
     Lost {
         number: u32,
     },
+    /// A data frame with this number arrived and was dropped, since another number was due.
     Stale {
         number: u32,
     },
+    /// An acknowledgement with this number arrived.
     Acked {
         number: u32,
     },
+    /// A frame or an acknowledgement with this number became the last on its wire.
     Late {
         number: u32,
     },
 }
 
-/// What happens on a wire, beside that its first frame comes to its end: a frame is sent, the first acknowledgement comes back, or the first frame of either side
-/// is lost, comes twice, or falls behind.
+/// An event on a wire other than the arrival of its first data frame. `Send` puts a data frame on the wire, and `Ack`
+/// receives the first acknowledgement. The others lose, duplicate or delay the first data frame or acknowledgement.
 #[derive(Clone, Copy)]
 pub enum WireAct {
     Send,
@@ -168,6 +180,7 @@ pub enum WireAct {
     LateAck,
 }
 
+/// An event of a schedule: a turn of a node, a move on a link, or another event on a wire.
 #[derive(Clone, Copy)]
 pub enum Event {
     Turn { node: u32 },
@@ -175,6 +188,7 @@ pub enum Event {
     Wire { act: WireAct, from: u32, to: u32 },
 }
 
+/// The limit of a node that an event would exceed: objects, frames or cells.
 #[derive(Clone, Copy)]
 pub enum FullKind {
     Heap,
@@ -182,7 +196,7 @@ pub enum FullKind {
     Cells,
 }
 
-/// How a run ends, with the number of its events.
+/// How a run ends, after `done` events: quiet, at the end of the schedule, or at a limit of a node.
 #[derive(Clone, Copy)]
 pub enum End {
     Quiet {
@@ -198,7 +212,7 @@ pub enum End {
     },
 }
 
-/// A line of a record: an event with its number, from 1, or the end.
+/// A line of a record: an event with its number, counted from 1, or the end of the run.
 #[derive(Clone, Copy)]
 pub enum Line {
     Event {
@@ -209,8 +223,10 @@ pub enum Line {
     End(End),
 }
 
-/// Where an object stands: it can step; its body is done; it met a language error; its call is posted or served; its request for a new object, which goes to the node,
-/// is posted; its value is on a link; or it is at an answer or a select and nothing can be taken.
+/// The status of an object. `Ready`: it can make a step. `Finished`: its body is done. `Faulted`: it met a run-time
+/// error. `Calls`: it waits for its call of this method at `to`. `Creates`: it waits for its new object on this node.
+/// `Due`: its value or the name of its new object is on a link. `Awaits`: it is at an answer or select that can
+/// accept nothing.
 #[derive(Clone, Copy)]
 pub enum Standing {
     Ready,
@@ -222,6 +238,7 @@ pub enum Standing {
     Awaits,
 }
 
+/// Where objects of a class are created: on one node, on the creator's node, or on the nodes in turn.
 #[derive(Clone, Copy)]
 pub enum Place {
     At(u32),
@@ -229,14 +246,14 @@ pub enum Place {
     Spread,
 }
 
-/// The link from a node to a neighbour.
+/// A link, from a node to a neighbour.
 #[derive(Clone, Copy, Debug, PartialEq, Eq)]
 pub struct LinkId {
     pub from: u32,
     pub to: u32,
 }
 
-/// At a node, a packet for the goal goes next to this neighbour.
+/// A line of a routing table: at the node `at`, a packet for the node `goal` goes to the neighbour `next`.
 #[derive(Clone, Copy, Debug, PartialEq, Eq)]
 pub struct Route {
     pub at: u32,
@@ -244,7 +261,9 @@ pub struct Route {
     pub next: u32,
 }
 
-/// `cuts` are the links of the mesh that are missing; where no route stands, packets go first along the row, then along the column.
+/// The placement of a program on a mesh of `width` times `height` nodes. `objects`, `frames` and `cells` are the
+/// limits of each node. `places` has an item for each class. `cuts` are the links of the mesh that are missing. A
+/// packet without a route goes first along the row, then along the column.
 #[derive(Drop)]
 pub struct Placement {
     pub width: u32,
@@ -257,6 +276,7 @@ pub struct Placement {
     pub routes: List<Route>,
 }
 
+/// A declared type: of a variable, a parameter or a result.
 #[derive(Clone, Copy)]
 pub enum Kind {
     Int,

@@ -1,9 +1,9 @@
-//! What is said of a record that is judged.
+//! The verdict of the checker on a record.
 
 use crate::args::Args;
 use crate::types::{Error, Item, NameId, Value};
 
-/// What an object does next.
+/// The next action of an object.
 #[derive(Clone, Copy, Debug, PartialEq, Eq)]
 pub enum Redex {
     NoObject,
@@ -21,13 +21,13 @@ pub enum Redex {
     Fault { error: Error },
 }
 
-/// What a record is.
+/// The verdict on a record.
 #[derive(Clone, Copy, Debug, PartialEq, Eq)]
 pub enum Verdict {
-    /// A run of the program.
+    /// The record is a run of the program.
     Yes,
-    /// The line of this number shows a transition that is not possible, and its object is at this.
+    /// The line of this number shows a transition that is not possible. The next action of its object is `redex`.
     No { number: u32, redex: Redex },
-    /// The end is quiet, and this is the least object that can make a transition.
+    /// The record ends quiet, but an object can make a transition. This is the least such object.
     Moving { object: u32 },
 }

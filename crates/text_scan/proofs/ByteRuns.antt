@@ -1,4 +1,4 @@
--- Which fronts of a text are runs of bytes that pass a test.
+-- A prefix of a text consists of bytes that pass a test exactly if it is no longer than the first run of such bytes.
 use Rattle.std.proofs.Common.{◌≡◌, ℕ, zero, suc, ◌<◌, ◌≤◌, Bool, true, false, [], ◌∷◌, length, take, refl, arith}
 use Rattle.std.specs.List.{prefix_len}
 use Rattle.text_scan.specs.Text.{Text, every}

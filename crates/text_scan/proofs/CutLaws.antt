@@ -1,4 +1,4 @@
--- A cut of the rest of a text, at places of the whole text.
+-- A slice of the rest of a text is a slice of the whole text.
 use Rattle.std.proofs.Common.{◌≡◌, ℕ, ◌+◌, ◌-◌, List, ◌∷◌, take, drop, slice_range, ◌∙◌, ap, sym, arith}
 use Rattle.std.proofs.lemmas.List.{drop-drop}
 use Rattle.text_scan.specs.Text.{Text}

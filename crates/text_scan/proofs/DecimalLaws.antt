@@ -1,4 +1,4 @@
--- What number a word spells.
+-- Laws of the numbers that words of digits spell.
 use Rattle.std.proofs.Common.{◌≡◌, ℕ, ◌+◌, ◌-◌, ◌*◌, ◌<◌, ◌≤◌, true, false, [], ◌∷◌, length, get_or, ◌⊎◌, inl, inr, nat_le, refl, arith}
 use Rattle.std.specs.List.{prefix_len}
 use Rattle.std.proofs.lemmas.Bool.Decides.{nat_tests}

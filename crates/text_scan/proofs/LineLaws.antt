@@ -1,4 +1,4 @@
--- Where the first line of a text ends.
+-- Laws of the end of the first line of a text.
 use Rattle.std.proofs.Common.{◌≡◌, ◌≢◌, ℕ, zero, suc, ◌+◌, ◌<◌, [], ◌∷◌, length, take, drop, get_or, arith, slice_range, ◌-◌}
 use Rattle.std.specs.List.{prefix_len}
 use Rattle.std.proofs.lemmas.Bool.Decides.{nat_tests}

@@ -1,4 +1,4 @@
--- The texts of a table.
+-- A table lists a text exactly if the look-up finds it.
 use Rattle.std.proofs.Common.{◌≡◌, true, false, ◌||◌, List, [], ◌∷◌, Some, is_some, bytes_eq, refl}
 use Rattle.text_scan.specs.Text.{Text, is_listed, lookup}
 

@@ -1,4 +1,4 @@
--- Where the first word of a line begins and ends.
+-- Laws of the position of the first word of a line.
 use Rattle.std.proofs.Common.{◌≡◌, ℕ, zero, suc, ◌≤◌, ◌+◌, ◌-◌, ◌<◌, [], ◌∷◌, length, take, drop, slice_range, ◌∙◌, ap, refl, arith}
 use Rattle.std.specs.List.{prefix_len}
 use Rattle.std.proofs.lemmas.List.{drop-drop, drop_all, length-drop}

@@ -1,25 +1,26 @@
--- The lines of a placement or a schedule that are not passed over, with their numbers from 1, and the numbers that words spell.
+-- The content lines of a placement or a schedule, with their numbers from 1, and the numbers that words spell.
 use Rattle.std.specs.Prelude.{ℕ, ◌+◌, List, [], ◌∷◌, Option, Some, None, Bool, true, false, not, nat_eq}
 use Rattle.text_scan.specs.Text.{Text}
 use Rattle.text_scan.specs.Lines.{lines, words, decimal_of}
 use Rattle.text_scan.specs.declared.spans.Decimal.{Decimal}
 use Rattle.text_scan.specs.declared.spans.Decimal.TheVariants.{NotDigits, TooLarge, Value}
 
+-- whether the word begins with `#`
 abbrev pub begins_with_hash : Text → Bool
 begins_with_hash [] = false
 begins_with_hash (b ∷ bs) = nat_eq b 35
 
--- blank lines, and lines whose first word begins with `#`, are passed over
+-- whether a line with these words has content: it is not blank, and its first word does not begin with `#`
 abbrev pub is_kept : List Text → Bool
 is_kept [] = false
 is_kept (w ∷ ws) = not (begins_with_hash w)
 
--- a line's number and its words
+-- a content line: its number in the text and its words
 pub record Kept : Type 0 where
   pub line : ℕ
   pub words : List Text
 
--- the lines that are kept, the first line having this number; the lines that are passed over are counted
+-- the content lines of these lines, of which the first has the number n; all lines are counted
 abbrev pub kept_from : ℕ → List Text → List Kept
 kept_from n [] = []
 kept_from n (l ∷ ls) = elim (is_kept (words l)) [
@@ -27,10 +28,11 @@ kept_from n (l ∷ ls) = elim (is_kept (words l)) [
   | false ↦ kept_from (n + 1) ls
 ]
 
+-- the content lines of a text
 abbrev pub kept : Text → List Kept
 kept s = kept_from 1 (lines s)
 
--- a number of 2 ^ 63 or more counts as 2 ^ 63, which is in no range
+-- the value of a decimal; 2 ^ 63 for each number of 2 ^ 63 or more, which is outside every range
 abbrev pub counted : Decimal → Option ℕ
 counted NotDigits = None
 counted TooLarge = Some 9223372036854775808

@@ -1,9 +1,10 @@
--- The keywords with their texts; the names of the language, which are words and no keywords; and what may stand in a string.
+-- The keywords of the language with their texts, the names, which are the other words, and the strings.
 use Rattle.std.specs.Prelude.{ℕ, List, codes, [], ◌∷◌, map, length, slice_get, Option, Some, None, Bool, false, not, ◌&&◌, nat_le}
 use Rattle.text_scan.specs.declared.keywords.Keyword.{Keyword}
 use Rattle.text_scan.specs.declared.keywords.Keyword.TheVariants as word
 use Rattle.text_scan.specs.Text.{Text, is_listed, is_word, every, is_inner}
 
+-- the text of a keyword
 abbrev pub keyword_text : Keyword → List ℕ
 keyword_text word.Class = codes "class"
 keyword_text word.Var = codes "var"
@@ -36,6 +37,7 @@ keyword_text word.Or = codes "or"
 keyword_text word.Int = codes "Int"
 keyword_text word.Bool = codes "Bool"
 
+-- the keywords, each under its text
 abbrev pub keywords : List (Text × Keyword)
 keywords = map (λ k. (keyword_text k, k)) (
     word.Class ∷ word.Var ∷ word.Method ∷ word.Local ∷ word.Begin ∷ word.Result ∷ word.Post ∷ word.End ∷ word.Body ∷ word.If ∷ word.Then ∷
@@ -43,21 +45,23 @@ keywords = map (λ k. (keyword_text k, k)) (
     word.Nil ∷ word.True ∷ word.False ∷ word.Not ∷ word.And ∷ word.Or ∷ word.Int ∷ word.Bool ∷ []
     )
 
--- a name of the language: a word of at most 64 bytes that is no keyword
+-- whether a text is a name of the language: a word of at most 64 bytes that is no keyword
 abbrev pub is_name_text : Text → Bool
 is_name_text w = is_word w && not (is_listed keywords w) && nat_le (length w) 64
 
--- the inside of a string of at most 256 bytes
+-- whether a text may be the inside of a string: at most 256 printable bytes without a quote
 abbrev pub is_string_text : Text → Bool
 is_string_text w = every is_inner w && nat_le (length w) 256
 
--- the test holds of the text of this number, which is there
+-- the test on a text, which fails if there is none
 abbrev pub text_passes : (Text → Bool) → Option Text → Bool
 text_passes test None = false
 text_passes test (Some w) = test w
 
+-- whether the text with this number in the table is a name
 abbrev pub is_name : List Text → ℕ → Bool
 is_name names n = text_passes is_name_text (slice_get names n)
 
+-- whether the text with this number in the table may be a string
 abbrev pub is_string_number : List Text → ℕ → Bool
 is_string_number names n = text_passes is_string_text (slice_get names n)

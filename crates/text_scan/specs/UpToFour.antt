@@ -1,4 +1,4 @@
--- The words of a line that has one to four.
+-- How the type `UpToFour` represents the words of a line: one by one up to four, or as more than four.
 use Rattle.std.specs.Prelude.{◌≡◌, ◌<◌, List, [], ◌∷◌, length}
 use Rattle.text_scan.specs.Text.{Text}
 use Rattle.text_scan.specs.declared.content_lines.UpToFour.{UpToFour}

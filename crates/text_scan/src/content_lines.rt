@@ -1,4 +1,4 @@
-//! The lines that are not passed over, and their words.
+//! Content lines of an input and their words. Blank lines and comment lines are skipped but counted.
 ghost use Rattle.std.specs.Prelude.{◌≡◌, ◌+◌, ◌<◌, ◌≤◌, ◌∷◌, [], length, drop, slice_range, IfSome, IfNone};
 ghost use Rattle.text_scan.specs.Lines.{lines, words};
 ghost use Rattle.text_scan.specs.UpToFour.{AreWords};
@@ -6,7 +6,8 @@ ghost use Rattle.text_scan.specs.ContentLines.{begins_with_hash, is_kept, kept_f
 
 use crate::{Decimal, decimal, next_line, next_word};
 
-/// A line that is not passed over: its bytes are those from `start` to `end`, the next line begins at `next`, and its number, from 1, is `line`.
+/// A content line: its bytes are those from `start` to `end`, and the next line begins at `next`. `line` is its
+/// number in the text, counted from 1.
 #[derive(Clone, Copy)]
 pub struct ContentLine {
     pub start: usize,
@@ -24,7 +25,7 @@ fn is_comment_word(word: &[u8]) -> bool
     }
 }
 
-/// Whether the line is kept: it is not blank, and its first word does not begin with `#`.
+/// Reports whether the line has content: it is not blank, and its first word does not begin with `#`.
 fn is_kept(line: &[u8]) -> bool
     ensures { result ≡ is_kept (words line.now) }
 {
@@ -34,7 +35,8 @@ fn is_kept(line: &[u8]) -> bool
     }
 }
 
-/// The next line that is not passed over, where the line that begins at `from` has the number `line`. `None` exactly where there is none.
+/// Reports the next content line at or after `from`, or `None` if there is none. The line that begins at `from` has
+/// the number `line`. Requires a text of at most 67,108,864 bytes.
 pub fn next_content_line(bytes: &[u8], from: usize, line: u32) -> Option<ContentLine>
     requires within { from ≤ length bytes.now }
     requires small { length bytes.now ≤ 67108864 }
@@ -64,7 +66,7 @@ pub fn next_content_line(bytes: &[u8], from: usize, line: u32) -> Option<Content
     None
 }
 
-/// The number of lines of a text.
+/// Reports the number of lines of a text, which has at most 67,108,864 bytes.
 pub fn count_lines(bytes: &[u8]) -> u32
     requires { length bytes.now ≤ 67108864 }
     ensures count { result ≡ length (lines bytes.now) }
@@ -79,7 +81,7 @@ pub fn count_lines(bytes: &[u8]) -> u32
     count
 }
 
-/// The words of a line, where they are at most four.
+/// The words of a line that has at most four, or `Many`.
 #[derive(Clone, Copy)]
 pub enum UpToFour<'a> {
     Zero,
@@ -90,7 +92,7 @@ pub enum UpToFour<'a> {
     Many,
 }
 
-/// The words of a line, where they are at most four.
+/// Reports the words of a line, if it has at most four.
 pub fn split_up_to_four(line: &[u8]) -> UpToFour<'_>
     ensures { AreWords (words line.now) result }
 {
@@ -115,7 +117,8 @@ pub fn split_up_to_four(line: &[u8]) -> UpToFour<'_>
     }
 }
 
-/// The number that a word of digits spells; 2^63 for every number of 2^63 or more. `None` exactly where a byte is no digit.
+/// Reports the number that a word of digits spells, or 2^63 for every number of 2^63 or more. Reports `None` if the
+/// word is empty or a byte is no digit.
 pub fn number(word: &[u8]) -> Option<u64>
     ensures { result ≡ number_of word.now }
 {

@@ -1,7 +1,8 @@
-//! The keywords, and their texts.
+//! The keywords of the language and their texts.
 ghost use Rattle.std.specs.Prelude.{◌≡◌};
 ghost use Rattle.text_scan.specs.Keywords.{keyword_text};
 
+/// A keyword of the language.
 #[derive(Clone, Copy, PartialEq, Eq)]
 pub enum Keyword {
     Class,
@@ -37,7 +38,7 @@ pub enum Keyword {
 }
 
 impl Keyword {
-    /// The bytes that the keyword is written with.
+    /// Reports the text of the keyword.
     pub fn text(self) -> &'static [u8]
         ensures { result.now ≡ keyword_text self }
     {

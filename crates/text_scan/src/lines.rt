@@ -1,4 +1,4 @@
-//! Lines of a text, words of a line, and numbers.
+//! Lines of a text, words of a line, and decimal numbers.
 ghost use Rattle.std.specs.Prelude.{◌≡◌, ◌+◌, ◌<◌, ◌≤◌, ◌↔◌, [], ◌∷◌, None, IfSome, length, drop, min, slice_range};
 ghost use Rattle.std.specs.List.{prefix_len};
 ghost use Rattle.text_scan.specs.ByteSets.{is_in};
@@ -10,7 +10,8 @@ use crate::spans::{Decimal, LineAt, WordAt};
 
 const GREATEST: u64 = 9223372036854775807;
 
-/// The line that begins at `from`, without its line feed and a carriage return before it.
+/// Reports the line that begins at `from`, without its line feed and without a carriage return directly before that.
+/// Reports `None` at the end of the text.
 pub fn next_line(bytes: &[u8], from: usize) -> Option<LineAt>
     requires { from ≤ length bytes.now }
     ensures start { IfSome result (λ at. at.start ≡ from) }
@@ -18,7 +19,7 @@ pub fn next_line(bytes: &[u8], from: usize) -> Option<LineAt>
     ensures forward { IfSome result (λ at. from < at.next) }
     ensures line { IfSome result
         (λ at. lines (drop from bytes.now) ≡ slice_range bytes.now at.start at.end ∷ lines (drop at.next bytes.now)) }
-    // It goes up to its line feed, or to the text's end.
+    // The next line begins after the line feed, or at the end of the text.
     ensures next { IfSome result (λ at. at.next ≡ min (length bytes.now) (from + prefix_len (is_in NotLineFeed) (drop from bytes.now) + 1)) }
     ensures none { (result ≡ None) ↔ (from ≡ length bytes.now) }
 {
@@ -40,7 +41,7 @@ pub fn next_line(bytes: &[u8], from: usize) -> Option<LineAt>
     })
 }
 
-/// Where the line that begins at `from` ends, whose line feed stands at `feed`.
+/// Reports where the line that begins at `from` ends. Its line feed is at `feed`.
 fn line_end(bytes: &[u8], from: usize, feed: usize) -> usize
     requires fed { feed < length bytes.now }
     requires first { feed ≡ from + prefix_len (is_in NotLineFeed) (drop from bytes.now) }
@@ -53,7 +54,8 @@ fn line_end(bytes: &[u8], from: usize, feed: usize) -> usize
     feed
 }
 
-/// The first run of bytes other than space and tab at or after `from`.
+/// Reports the first word at or after `from`: a run of bytes other than space and tab. Reports `None` if only blanks
+/// are left.
 pub fn next_word(line: &[u8], from: usize) -> Option<WordAt>
     requires { from ≤ length line.now }
     ensures ordered { IfSome result (λ at. (from ≤ at.start) × (at.start < at.end) × (at.end ≤ length line.now)) }
@@ -71,7 +73,7 @@ pub fn next_word(line: &[u8], from: usize) -> Option<WordAt>
     })
 }
 
-/// The number that the digits of a word spell.
+/// Reports the number that the digits of a word spell, if it is below 2^63.
 pub fn decimal(word: &[u8]) -> Decimal
     ensures { result ≡ decimal_of word.now }
 {

@@ -1,9 +1,10 @@
-//! Runs of bytes of one kind.
+//! Sets of bytes, and runs of bytes of one set.
 ghost use Rattle.std.specs.Prelude.{◌≡◌, ◌+◌, ◌≤◌, length, drop};
 ghost use Rattle.std.specs.List.{prefix_len};
 ghost use Rattle.text_scan.specs.ByteSets.{is_in};
 ghost use Rattle.text_scan.specs.Text.{every, is_word};
 
+/// A set of bytes.
 #[derive(Clone, Copy)]
 pub enum ByteSet {
     Space,
@@ -17,6 +18,7 @@ pub enum ByteSet {
 }
 
 impl ByteSet {
+    /// Reports whether the byte is in the set.
     pub fn has(self, byte: u8) -> bool
         ensures { result ≡ is_in self byte }
     {
@@ -33,7 +35,7 @@ impl ByteSet {
     }
 }
 
-/// Where the run of bytes of a set that begins at `from` ends.
+/// Reports where the run of bytes of a set that begins at `from` ends. An empty run ends at `from`.
 pub fn run_end(bytes: &[u8], from: usize, set: ByteSet) -> usize
     requires { from ≤ length bytes.now }
     ensures run { result ≡ from + prefix_len (is_in set) (drop from bytes.now) }
@@ -46,7 +48,7 @@ pub fn run_end(bytes: &[u8], from: usize, set: ByteSet) -> usize
     at
 }
 
-/// Whether each byte of a text is in a set.
+/// Reports whether each byte of a text is in the set.
 pub fn all_in(bytes: &[u8], set: ByteSet) -> bool
     ensures { result ≡ every (is_in set) bytes.now }
 {
@@ -58,7 +60,7 @@ pub fn all_in(bytes: &[u8], set: ByteSet) -> bool
     true
 }
 
-/// Whether a text is a name or a keyword, of whatever length.
+/// Reports whether a text is a word: a name or a keyword, of any length.
 pub fn is_word(text: &[u8]) -> bool
     ensures { result ≡ is_word text.now }
 {

@@ -1,6 +1,6 @@
-//! Where a line or a word stands, and what number a word is.
+//! Positions of lines and words in a text, and the value of a decimal word.
 
-/// A line: its bytes, and where the next begins.
+/// The position of a line: its bytes are those from `start` to `end`, and the next line begins at `next`.
 #[derive(Clone, Copy)]
 pub struct LineAt {
     pub start: usize,
@@ -8,14 +8,14 @@ pub struct LineAt {
     pub next: usize,
 }
 
-/// Where a word begins and ends.
+/// The position of a word: its bytes are those from `start` to `end`.
 #[derive(Clone, Copy)]
 pub struct WordAt {
     pub start: usize,
     pub end: usize,
 }
 
-/// The number that a word spells, where it is below 2^63.
+/// The value of a word of digits: `Value` below 2^63, else `TooLarge`. `NotDigits` is any other word.
 #[derive(Clone, Copy)]
 pub enum Decimal {
     NotDigits,

@@ -1,4 +1,4 @@
-//! Which keyword a word is.
+//! The look-up of a keyword by its text.
 ghost use Rattle.std.specs.Prelude.{◌≡◌, map};
 ghost use Rattle.text_scan.specs.Keywords.{keyword_text, keywords};
 ghost use Rattle.text_scan.specs.Text.{lookup};
@@ -38,7 +38,7 @@ const KEYWORDS: [Keyword; 30] = [
     Keyword::Bool,
 ];
 
-/// The first of the keywords that has this text.
+/// Reports the first of the keywords that has this text.
 fn first_keyword(keywords: &[Keyword], word: &[u8]) -> Option<Keyword>
     ensures { result ≡ lookup (map (λ k. (keyword_text k, k)) keywords.now) word.now }
 {
@@ -50,7 +50,7 @@ fn first_keyword(keywords: &[Keyword], word: &[u8]) -> Option<Keyword>
     None
 }
 
-/// The keyword that a word is.
+/// Reports the keyword with this text, or `None` if there is none.
 pub fn keyword(word: &[u8]) -> Option<Keyword>
     ensures { result ≡ lookup keywords word.now }
 {

@@ -1,4 +1,4 @@
--- `allocate` makes the new block a row of empty cells, and keeps the right to give it back. Assumes `Logic`.
+-- `allocate` turns the new block into empty cells and keeps the right to free it. Assumes `Logic`.
 use Rattle.cell_pool.proofs.RegionWalks.{◌≡◌, ℕ, ◌*◌, ◌<◌, ◌^◌, [], ◌∷◌, length, refl, ap, sym, subst, arith, proved, None, type_size, ftrue, flft, fact, named, w64, inst_fn, Val, vptr, vstruct, vcons, vnil, tables, ‵, raw, ◌⊛◌, later, at_ret, ◌$◌, ◌∵◌, !, qed, done, move, keep, drop, use1, use2, use3, split, join, await, fjoin, feq_i, flt_i, suffices, frame, whole, agg, enter, of_opd, lit, bin, and_then, no_more, stop, fld, first, exec, returns, alloc_all, pass_all, free_all, look_at, get, get_in, sets, sets_last, lands_as, env, usize, RefOf, yes, RattleType, param, layout, Ptr, block_ptr, ShrRef, shr_vals, shr_Tells, plain, nothing, heard, owned, pure_i, uint_vals, uint_Tells, Stays, says, stay_dropped, walk_of, ends_at, Goes-dropped, after, head, arm_body, ◌⊑◌, Post, any_q, size_word, align_word, switches_on, get_tag, is, live, vrt, in_variant, calls_at, framed, replicate, length-replicate, split3, fsplit, vint, Sq, prop}
 use mathlib.Core.Bool.{true, false}
 use lib.Dec.{lit<}

@@ -1,4 +1,4 @@
--- `deallocate` makes the block of its cells, whatever they hold, and hands it back with the allocator's right. Assumes `Logic`.
+-- `deallocate` turns the cells, whatever they hold, into free room and returns the block. Assumes `Logic`.
 use Rattle.cell_pool.proofs.RegionWalks.{◌≡◌, ℕ, ◌*◌, ◌<◌, ◌^◌, List, [], ◌∷◌, length, refl, ap, sym, ◌∙◌, subst, arith, proved, type_size, never, id⊢, ftrue, flft, froom, fact, named, w64, inst_fn, Val, vptr, vint, vunit, vstruct, vcons, vnil, WpFn, tables, ‵, raw, ◌⊛◌, later, given, learn, at_ret, prop, ◌$◌, ◌∵◌, !, qed, done, move, keep, drop, use1, split, split3, join, group, await, fsplit, feq_i, feq_l, flt_l, rewrite, regoal, suffices, whole, sub, enter, of_opd, unit_lit, bin, and_then, no_more, stop, fld, first, blocks, exec, returns, alloc_all, pass_all, free_all, look_at, get, get_in, sets, lands_last, env, usize, RefOf, yes, no, param, param_laws, layout, Ptr, block_ptr, ptr_val, in_a_block, ShrRef, shr_vals, shr_Tells, plain, nothing, heard, uint_vals, uint_Tells, Stays, stay_dropped, walk_of, ends_at, Goes-dropped, after, ◌⊑◌, size_word, align_word, is, calls_at_last, framed}
 use lib.Dec.{T}
 use mir.Syntax.{ty_array, ty_unit}

@@ -1,4 +1,4 @@
--- The told text is what was read so far and what is left.
+-- The text is the part that was read, followed by the rest.
 use Rattle.std.proofs.Common.{◌≡◌, ◌+◌, ◌-◌, ◌≤◌, ◌++◌, true, length, option_map}
 use Rattle.pool_outside.proofs.calls.read_whole.Given as goal
 

@@ -1,4 +1,4 @@
--- What is written so far is the front of the piece up to `at`.
+-- The bytes written so far are the prefix of the piece up to `at`.
 use Rattle.std.proofs.Common.{length, ◌-◌, ◌≡◌, ◌≤◌, ◌++◌, take, option_map}
 use Rattle.pool_outside.proofs.calls.write_all_of.Given as goal
 

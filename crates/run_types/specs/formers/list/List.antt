@@ -1,4 +1,5 @@
--- `Items` as a type that may hold the type that holds it.
+-- The type `List` of `src/list.rt` as a former, so that the items of a list may be of a type that contains such
+-- lists.
 use mathlib.Core.Path.{◌≡◌, refl, sym}
 use mathlib.Core.List.{List, []}
 use mathlib.Core.Former.{Former, this, list, via, children}

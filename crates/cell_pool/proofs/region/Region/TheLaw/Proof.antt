@@ -1,4 +1,4 @@
--- A `&` to a region reaches each value in it. Assumes `Logic`.
+-- A `&` to a region gives access to each value in it. Assumes `Logic`.
 use mathlib.Core.List.{[], ◌++◌}
 use base.Fml.{Incl-trans}
 use contract.BorrowLft.{meet_⊑_left}

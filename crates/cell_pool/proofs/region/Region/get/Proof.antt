@@ -1,4 +1,4 @@
--- `get` shows the value of one cell that the region lends. Assumes `Logic`.
+-- `get` lends the value of one cell of a region that is lent. Assumes `Logic`.
 use Rattle.cell_pool.proofs.RegionWalks.{◌+◌, ◌*◌, [], ◌∷◌, refl, ap, proved, None, get_or, never, id⊢, ftrue, flft, fact, Args, a_type, named, inst_fn, vptr, Val, WpFn, tables, ‵, raw, ◌⊛◌, at_ret, prop, ◌$◌, ◌∵◌, !, qed, done, move, drop, use1, split, join, fsplit, fjoin, feq_i, feq_l, rewrite, regoal, suffices, whole, sub, enter, of_opd, addr, stop, fld, hop, from, first, blocks, exec, returns, alloc_all, pass_all, free_all, look_at, look_in_at, get, sets, sets_last, RefOf, yes, no, RattleType, param, layouts, param_laws, Ptr, in_a_block, Bor, ShrRef, shr_vals, shr_Tells, plain, hide, unhide, nothing, heard, Stays, says, stay_dropped, walk_of, ends_at, Goes-dropped, env, ◌⊑◌, after, Option, List, vstruct, vcons, vnil, ptr_val}
 use Rattle.cell_pool.specs.Slots.{IsCell, index_of}
 use Rattle.cell_pool.specs.Ownership.{cell_lends, region_lends}

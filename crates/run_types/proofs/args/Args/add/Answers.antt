@@ -2,7 +2,7 @@ use Rattle.std.proofs.Common.{◌≡◌, sym, ap, ◌∙◌, length}
 use Rattle.run_types.proofs.FirstUnusedPlace.{goes_in}
 use Rattle.run_types.proofs.args.Args.add.Goals as goal
 
--- src/args.rt:39:5
+-- src/args.rt:41:5
 pub invariant_of-self : goal.invariant_of-self
 invariant_of-self c =
     let a = c.self.inside in

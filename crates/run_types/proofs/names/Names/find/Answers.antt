@@ -8,7 +8,7 @@ returns-in_err-place-clause-none c =
     let f = e ∙ ap is_some c.in_err-place.was in
     (λ h. f, λ h. c.from_residual.ensures)
 
--- src/names.rt:60:5
+-- src/names.rt:61:5
 pub returns-clause-found : goal.returns-clause-found
 returns-clause-found c = found_at c.self.inside.texts.keys c.args.self.now c.args.text.now c.in_ok-place.place c.self.view_is c.in_ok-place.ensures.index
 

@@ -3,7 +3,7 @@ use Rattle.run_types.proofs.Texts.{IsSound, texts_of, texts_of-put, place-put, s
 use Rattle.run_types.proofs.names.Names.put.Goals as goal
 use Rattle.run_types.proofs.names.Names.put.Goals.{in-Ok, in-Err}
 
--- src/names.rt:56:5
+-- src/names.rt:57:5
 pub invariant_of-self : goal.invariant_of-self
 invariant_of-self c = elim c.match-insert_full.branch [
   | in-Ok w ↦
