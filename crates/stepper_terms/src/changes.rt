@@ -227,7 +227,7 @@ impl<'a> Continuation<'a> {
     }
 
     /// Passes an evaluated value to this method. If a caller waits for it, the focus is the value. Otherwise the post
-    /// statements begin, or drop the value if they are under way.
+    /// statements begin. If they are under way already, the value is dropped.
     #[tactic(auto, using(crate::proofs::NextFocus::value_for_caller, crate::proofs::NextFocus::value_for_no_one, crate::proofs::NextFocus::value_in_post))]
     fn pass_in(
         &mut self,
