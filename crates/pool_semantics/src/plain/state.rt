@@ -112,9 +112,9 @@ impl<'a> State<'a> {
         }
     }
 
+    /// Makes the transition in which the object writes this item. Reports whether it is possible, or `AllocError` if
+    /// memory runs out.
     pub fn write(&mut self, object: u32, item: Item) -> Result<bool, AllocError>
-        /// Makes the transition in which the object writes this item. Reports whether it is possible, or `AllocError`
-        /// if memory runs out.
         ensures program { self.new.program ≡ self.old.program }
         ensures step { IfOk result (λ b. Stepped b (transition (program_of self.old.program.now) (configuration self.old) (Label.Write object item)) self.old self.new) }
     {
