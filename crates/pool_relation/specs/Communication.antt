@@ -1,4 +1,4 @@
--- Communications: the actions that need another object or a message.
+-- Communications: a call, a wait, an answer and a select, which need another object or a message.
 use Rattle.pool_relation.specs.Action as A
 use Rattle.pool_relation.specs.Action.{Action}
 

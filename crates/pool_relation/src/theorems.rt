@@ -20,8 +20,8 @@ pub fn label_determines_its_transition()
     ensures { (p : ProgramTree) (c d e : Configuration) (l : Label) → transition p c l ≡ Some d → transition p c l ≡ Some e → d ≡ e }
 {}
 
-/// Runs join: if the labels ls lead from c to d, then ls followed by ms lead from c where ms lead from d. If ls is no
-/// run, then ls followed by ms is no run.
+/// Runs join: if the labels ls lead from c to d, then ls and after them ms lead from c to the end of ms from d. If the
+/// labels ls are no run, the joined labels are no run.
 pub fn runs_join()
     ensures joined { (p : ProgramTree) (c d : Configuration) (ls ms : List Label) → run p c ls ≡ Some d → run p c (ls ++ ms) ≡ run p d ms }
     ensures none { (p : ProgramTree) (c : Configuration) (ls ms : List Label) → run p c ls ≡ None → run p c (ls ++ ms) ≡ None }
