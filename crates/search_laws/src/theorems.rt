@@ -11,7 +11,7 @@ ghost use Rattle.search_laws.specs.Labels.{IsAmong, labels_to_try, IsTried};
 ghost use Rattle.search_laws.specs.Search.{IsReached, IsAtEnd, IsStuck, IsUnfinished, IsFaulty, IsIn, IsClosedAfterSettling, names_next};
 ghost use Rattle.search_laws.specs.ClosedLists.{IsClosedSearch};
 
-/// A one-to-one renaming of objects keeps transitions: the renamed label is possible in the renamed configuration
+/// A one-to-one renaming of objects keeps transitions. The renamed label is possible in the renamed configuration
 /// exactly if the label is possible, and then leads to the renamed configuration after it.
 pub fn names_do_not_matter()
     ensures leads { (f : Renaming) (p : ProgramTree) (c d e : Configuration) (l : Label) → IsRenamed f.to c d → transition p c l ≡ Some e
@@ -43,9 +43,9 @@ pub fn a_whole_list_misses_nothing()
         → ((n : ℕ) (c : Configuration) → IsIn n c es → ¬ (IsFaulty c)) → IsReached p d → ¬ (IsFaulty d) }
 {}
 
-/// The same holds of a search that follows transitions without choice and keeps only the configurations after them.
-/// These transitions are local ones, writes, asynchronous sends, returns and errors. The search need not follow them
-/// in any other order.
+/// A search may follow transitions without choice in one order and keep only the configurations after them. If none of
+/// those is stuck, unfinished or faulty, no run leads to such a configuration. The transitions without choice are
+/// local ones, writes, asynchronous sends, returns and errors.
 pub fn some_transitions_need_no_choice()
     ensures stuck { (p : ProgramTree) (es : List (ℕ × Configuration)) (d : Configuration) → IsNameless p → IsClosedAfterSettling p es
         → ((n : ℕ) (c : Configuration) → IsIn n c es → ¬ (IsStuck p c)) → IsReached p d → ¬ (IsStuck p d) }
