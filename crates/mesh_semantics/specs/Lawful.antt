@@ -36,8 +36,8 @@ pub record Lawful {S : Type 0} (g : Language S) (W : Config S → Type 0) : Type
   -- the object to which a value is returned waits for it
   pub has_wait : (c : Config S) (b : ℕ) (y : S) (k : ℕ) (v : Value) → W c → object_of c b ≡ Some y → g.kind b y ≡ K.Return k v
       → (x : S) × (m : ℕ) × (object_of c k ≡ Some x) × (g.kind k x ≡ K.Waits b m)
-  -- an object that gets the name of its new object, or the value of its call, is then at no wait, and keeps its frames
-  -- and its fault
+  -- an object that gets the name of its new object, or the value of its call, is then at no wait; its frames and its
+  -- fault stay
   pub given_name : (c : Config S) (o : ℕ) (x : S) (k n : ℕ) → W c → object_of c o ≡ Some x → g.kind o x ≡ K.New k → object_of c n ≡ None
       → (g.frames (g.given x (V.Ref n)) ≡ g.frames x) × (g.fault (g.given x (V.Ref n)) ≡ g.fault x) × (is_wait (g.kind o (g.given x (V.Ref n))) ≡ false)
   pub given_back : (c : Config S) (b o m : ℕ) (y x : S) (v : Value) → W c → object_of c b ≡ Some y → g.kind b y ≡ K.Return o v → object_of c o ≡ Some x → g.kind o x ≡ K.Waits b m

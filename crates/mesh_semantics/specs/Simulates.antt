@@ -34,7 +34,8 @@ pub record Simulates {S T : Type 0} (g : Language S) (h : Language T) (W : Confi
   pub class : (o : ℕ) (x : S) (y : T) → R o x y → g.class x ≡ h.class y
   -- new objects correspond
   pub root : (o : ℕ) → Both (R o) g.root h.root
-  -- objects that correspond have the same next action and the same fault, and as many methods under way
+  -- objects that correspond have the same next action and the same fault, and as many methods under way; new objects
+  -- of a class correspond
   pub kinds : (o : ℕ) (x : S) (y : T) → R o x y → g.kind o x ≡ h.kind o y
   pub faults : (o : ℕ) (x : S) (y : T) → R o x y → g.fault x ≡ h.fault y
   pub frames : (o : ℕ) (x : S) (y : T) → R o x y → g.frames x ≡ h.frames y

@@ -91,7 +91,7 @@ pub fn each_event_keeps_sound<S, K>()
         → IsSound g (IsGiven kept) l c d → After g (IsGiven kept) l c (act g l q c d e) }
 {}
 
-/// Each event of a sound configuration answers a line or a limit.
+/// Each event of a sound configuration answers with a line or a limit.
 pub fn each_event_answers<S, K>()
     ensures { (g : Language S) (kept : K → Config S) (l : Placement) (q : ℕ) (c : Config S) (d : Delay) (e : Event) → Lawful g (IsGiven kept) → FitFor g l
         → IsSound g (IsGiven kept) l c d → act g l q c d e ≢ Nothing }
