@@ -42,8 +42,8 @@ pub fn a_machine_starts_as_what_it_stands_for<S, K>()
 {}
 
 /// A machine answers an event as the sound configuration that it represents does: with the same line or the same
-/// limit. After a line it represents the configuration after the event. The event's node or link is of the mesh, and
-/// the number for a request is not in use at that node.
+/// limit. After a line it represents the configuration after the event. The event is one of the mesh, and the number
+/// for a request is not in use at the node of a turn.
 pub fn a_machine_does_what_it_stands_for<S, K>()
     ensures { (g : Language S) (kept : K → Config S) (l : Placement) (q fresh : ℕ) (m : Machine S) (c : Config S) (d : Delay) (e : Event)
         → Lawful g (IsGiven kept) → Requests g (IsGiven kept) → FitFor g l → IsSound g (IsGiven kept) l c d → StandsFor g l m c d
@@ -73,8 +73,8 @@ pub fn there_are_fresh_numbers<S>()
     ensures numbers { (g : Language S) (l : Placement) (q : ℕ) (es : List Event) → (numbers : List ℕ) × FreshAlong g l q es numbers }
 {}
 
-/// Let each object for which another waits serve that one. Then the numbers in use at a node belong to exactly the
-/// objects of the node that are posted, at a wait or due, each to one of them.
+/// The request numbers in use at a node belong to exactly its objects that are posted, at a wait or due, and each
+/// number to one of them. The language meets `AreServed`: an object for which another waits serves that one.
 pub fn numbers_that_are_out_name_waiting_objects<S, K>()
     ensures { (g : Language S) (kept : K → Config S) (l : Placement) (m : Machine S) (c : Config S) (d : Delay) (n : ℕ)
         → Requests g (IsGiven kept) → AreServed g (IsGiven kept) → IsGiven kept c → MachineStandsFor g l m c d → Outstanding g m c d n }
@@ -94,8 +94,8 @@ pub fn a_node_answers_a_receivable_packet<S>()
         → IsReceivable g n x e.number e.packet → IsStep (receipt_act g l n leaving e x) }
 {}
 
-/// A turn of a node is idle if none of its objects is ready. Otherwise it answers with a line or a limit, if its
-/// objects can do their next actions (`CanTurn`).
+/// A turn of a node is idle if none of its objects is ready, and otherwise answers with a line or a limit. For the
+/// answer its objects can do their next actions (`CanTurn`).
 pub fn a_node_answers_its_turn<S>()
     ensures idle { (g : Language S) (l : Placement) (q leaving n fresh : ℕ) (x : NodeState S) → ready_slots g n x ≡ [] → turn_act g l q n leaving fresh x ≡ N.Idle }
     ensures step { (g : Language S) (l : Placement) (q leaving n fresh : ℕ) (x : NodeState S) → CanTurn g n x → ready_slots g n x ≢ [] → IsStep (turn_act g l q n leaving fresh x) }
