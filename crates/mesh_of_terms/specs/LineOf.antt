@@ -38,9 +38,9 @@ ActsLead p l q c d (R.Event number event what ∷ lines) e f =
     (next : Config Object) × (later : Delay) × (act (terms p) l q c d event ≡ Acts what next later) × ActsLead p l q next later lines e f
 ActsLead p l q c d (R.End end ∷ lines) e f = ⊥
 
--- In a run from c with its delay d, the line after the lines before is that of the act of its event at a sound
--- configuration with its delay. The acts and the labels of the lines before lead to that configuration. If the line is
--- idle, nothing is to be done there.
+-- How a line after the lines before was made, in a run from c with its delay d. The acts and the labels of the lines
+-- before lead to a sound configuration with its delay. The line is that of the act of its event there. If it is idle,
+-- nothing is to be done there.
 pub record IsMadeAt (p : ProgramTree) (l : Placement) (q : ℕ) (c : Configuration) (d : Delay) (before : List Line) (e : Event) (what : What) : Type 0 where
   pub config : Config Object
   pub delay : Delay

@@ -54,7 +54,7 @@ pub fn each_event_keeps_sound()
         → IsSound (terms p) (TypedTerms p) l c d → AfterEvent p l c (act (terms p) l q c d e) }
 {}
 
-/// Each event of a sound configuration answers a line or a limit.
+/// Each event of a sound configuration answers with a line or a limit.
 pub fn each_event_answers()
     ensures { (p : ProgramTree) (l : Placement) (q : ℕ) (c : Config Object) (d : Delay) (e : Event) → faults p ≡ [] → IsTrue (is_written p) → FitFor (terms p) l
         → IsSound (terms p) (TypedTerms p) l c d → act (terms p) l q c d e ≢ Nothing }
@@ -118,9 +118,9 @@ pub fn root_is_placed_by_its_class()
         → last_place l.places ≡ slice_get l.places (class_place (class_names p) k.name.name.0) }
 {}
 
-/// Each line of a record is that of the act of its event at a sound configuration, to which the acts and the labels of
-/// the lines before it lead. So if a line is idle, no object of its node was ready, nothing came off its link, or
-/// nothing was to be done on its wire.
+/// Each line of a record is that of the act of its event at a sound configuration. The acts and the labels of the
+/// lines before it lead to that configuration. If the line is idle, no object of its node was ready there, nothing
+/// came off its link, or nothing was to be done on its wire.
 pub fn each_line_is_made_where_the_lines_before_lead()
     ensures line { (p : ProgramTree) (l : Placement) (q : ℕ) (es : List Event) (c : Configuration) (before behind : List Line) (n : ℕ) (e : Event) (what : What)
         → faults p ≡ [] → IsTrue (is_written p) → FitFor (terms p) l → X.start p (root_name l) ≡ Some c
