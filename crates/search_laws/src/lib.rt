@@ -1,4 +1,4 @@
-//! Reductions of a search over all runs: names of objects, and orders of transitions that need no choice.
+//! What a search over all runs may leave out: names of objects, and orders of transitions that need no choice.
 //!
 //! Definitions and laws only.
 //!
