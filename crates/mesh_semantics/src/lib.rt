@@ -1,4 +1,4 @@
-//! The placed machine over any language of objects: configurations with delay, events, records, soundness and wires.
+//! The placed machine, over any language of objects: configurations with delay, events, records, soundness, and wires.
 //!
 //! Definitions and laws only.
 //!
