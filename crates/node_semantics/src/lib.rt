@@ -1,4 +1,4 @@
-//! Nodes and the machine of nodes over any language of objects, and the configuration that a machine represents.
+//! Nodes and the machine of nodes, over any language of objects, and the configuration that such a machine represents.
 //!
 //! Definitions and laws only.
 //!
