@@ -1,4 +1,4 @@
--- Ready actions: whether a lone object, without messages, has a transition.
+-- Ready actions: those for which an object need not wait for a message or a return.
 use Rattle.std.specs.Prelude.{Bool, true, false, ◌&&◌, is_none}
 use Rattle.std.specs.List.{list_any}
 use Rattle.pool_relation.specs.Reducible.{Choice}

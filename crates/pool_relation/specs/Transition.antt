@@ -1,6 +1,6 @@
 -- The transition relation of POOL: a label that is possible in a configuration determines the configuration after it.
--- Its source is the operational semantics of America, de Bakker, Kok and Rutten, "Operational semantics of a parallel
--- object-oriented language" (POPL 1986).
+-- Its source is America, de Bakker, Kok and Rutten, "Operational semantics of a parallel object-oriented language"
+-- (POPL 1986); the asynchronous sends are those of America's POOL2.
 use Rattle.std.specs.Prelude.{ℕ, zero, suc, ◌==◌, List, [], ◌∷◌, ◌++◌, length, Option, Some, None, is_some, is_none, Bool, false, not, ◌&&◌, ◌||◌, if◌then◌else◌, slice_get}
 use Rattle.std.specs.List.{list_any}
 use Rattle.run_types.specs.declared.types.Value.{Value}
