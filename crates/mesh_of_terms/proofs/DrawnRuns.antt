@@ -1,5 +1,6 @@
--- Five programs drawn at random, with drawn placements and schedules, and the lines of their runs. The lines were made by another program, which was written
--- from the rules in words and shares nothing with the definitions; here they are what the definitions compute. Names are numbers, as they were drawn.
+-- Five programs drawn at random, with drawn placements and schedules, and the lines of their runs. Another program,
+-- written from the rules in words, made the lines; it shares nothing with the definitions. The definitions compute the
+-- same lines. Names are numbers, as they were drawn.
 use Rattle.std.proofs.Common.{◌≡◌, refl, negsuc, List, [], ◌∷◌, ◌++◌, Some, None, true, false}
 use Rattle.run_types.specs.declared.types.Op.TheVariants.{Add, And, Differs, Div, Less, LessEq, More, MoreEq, Mul, Neg, Not, Or, Same, Sub}
 use Rattle.run_types.specs.declared.types.Value.TheVariants as V

@@ -1,4 +1,5 @@
--- Two producers and two consumers over a buffer on four nodes: the whole run to its quiet end, computed, and what the laws say of it.
+-- Two producers and two consumers over a buffer on four nodes: the whole run to its quiet end, computed, and the
+-- conclusions of the theorems.
 --
 -- class Buffer var first, second, count : Int
 --     method put(n : Int) begin if count == 0 then first := n else second := n fi; count := count + 1 end

@@ -1,4 +1,4 @@
--- A heap that is full when a packet comes: the packet stays where it is, computed.
+-- A heap that is full when a packet arrives: the packet stays on its link, computed.
 --
 -- class C body end
 -- class Main var a : C body a := new C; a := new C; a := new C end

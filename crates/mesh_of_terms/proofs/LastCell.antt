@@ -1,4 +1,4 @@
--- A message to oneself takes the last free cell of a node, and one cell more is enough, computed.
+-- A message of an object to itself takes the last free cell of a node, and one more cell is enough, computed.
 --
 -- class S method note() begin end method f() : Int begin self !! note() result 5 end body answer(f) end
 -- class Main var s : S body s := new S; write s ! f() end

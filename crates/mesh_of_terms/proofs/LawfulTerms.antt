@@ -1,4 +1,5 @@
--- Terms of a program without faults are a lawful language, where well-typed configurations are kept.
+-- The terms of a program without class faults are a lawful language; the kept property is that configurations are
+-- typed.
 use Rattle.std.proofs.Common.{◌≡◌, ◌≢◌, ◌⊎◌, inl, inr, refl, sym, ap, subst, ◌∙◌, IsTrue, ℕ, ◌==◌, List, [], ◌∷◌, ◌++◌, length, Option, Some, None, is_some, All, Bool, true, false, if◌then◌else◌}
 use Rattle.std.proofs.lemmas.List.Elements.{All-head, All-tail}
 use Rattle.std.specs.List.{list_any}

@@ -1,5 +1,5 @@
--- Machines of nodes over terms, computed: the lines that a machine writes are those of the record; and of the call between two nodes where the number of each request is,
--- and what the machine says of the caller, after each event.
+-- Machines of nodes over terms, computed: the lines that a machine writes are those of the record. For the call
+-- between two nodes, the place of its request number and the status of the caller are computed after each event.
 use Rattle.std.proofs.Common.{◌≡◌, refl, ℕ, zero, suc, ◌+◌, List, [], ◌∷◌, ◌++◌, Option, Some, None, true}
 use Rattle.std.specs.Prelude.{flat_map, slice_get, nat_lt, length, if◌then◌else◌}
 use Rattle.std.specs.List.{list_all}

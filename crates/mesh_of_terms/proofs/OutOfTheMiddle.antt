@@ -1,4 +1,4 @@
--- A message taken out of the middle of what has arrived, computed.
+-- A message that is taken from the middle of the arrived messages, computed.
 --
 -- class Box method a(n : Int) begin write n end method b(n : Int) begin write n end body answer(b) end
 -- class Main var x : Box body x := new Box; x !! a(1); x !! b(2); x !! a(3); x !! b(4) end

@@ -1,5 +1,5 @@
--- Runs over wires that lose, repeat and reorder. The lines of the drawn ones were made by another program, which was written from the rules in words and shares nothing
--- with the definitions; here they are what the definitions compute.
+-- Runs over wires that lose, repeat and reorder frames. Another program, written from the rules in words, made the
+-- lines of the drawn runs; it shares nothing with the definitions. The definitions compute the same lines.
 use Rattle.std.proofs.Common.{◌≡◌, refl, None, ℕ, zero, suc, pos, List, [], ◌∷◌, ◌++◌}
 use Rattle.run_types.specs.declared.types.Value.TheVariants as V
 use Rattle.run_types.specs.declared.types.Item.TheVariants as I

@@ -1,5 +1,6 @@
--- Programs with post statements: the worked one, and three drawn at random with drawn placements and schedules. The lines of their runs were made by another program, which
--- was written from the rules in words and shares nothing with the definitions; here they are what the definitions compute.
+-- Programs with post statements: the worked one, and three drawn at random with drawn placements and schedules.
+-- Another program, written from the rules in words, made the lines; it shares nothing with the definitions. The
+-- definitions compute the same lines.
 use Rattle.std.proofs.Common.{◌≡◌, refl, ℕ, pos, negsuc, List, [], ◌∷◌, Option, Some, None}
 use Rattle.run_types.specs.declared.types.Op.TheVariants.{Add, Less, LessEq, Neg, Not, Same, Sub}
 use Rattle.run_types.specs.declared.types.Value.TheVariants as V

@@ -1,4 +1,4 @@
--- The record of a program is a run of the relation from its start, all right on the way.
+-- The record of a program is a run of the transition relation from the start, and no object goes wrong in it.
 use Rattle.std.proofs.Common.{◌≡◌, refl, sym, ap, subst, ◌∙◌, IsTrue, ℕ, List, [], ◌∷◌, ◌++◌, Option, Some, None}
 use Rattle.run_types.specs.declared.types.Event.{Event}
 use Rattle.run_types.specs.declared.types.Label.{Label}

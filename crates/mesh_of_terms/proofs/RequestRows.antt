@@ -1,4 +1,5 @@
--- What request numbers ask of a language, tested for terms at each object of each configuration of a whole run over four nodes.
+-- The conditions for request numbers, tested for terms at each object of each configuration of a whole run over four
+-- nodes.
 use Rattle.std.proofs.Common.{◌≡◌, refl, ℕ, ◌+◌, ◌==◌, List, [], ◌∷◌, Option, Some, None, Bool, true, false, ◌&&◌, if◌then◌else◌}
 use Rattle.std.specs.List.{list_all}
 use Rattle.run_types.specs.declared.types.Value.TheVariants as V

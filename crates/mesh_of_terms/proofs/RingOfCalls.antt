@@ -1,4 +1,5 @@
--- A ring of calls: three objects that each call the next, with where each stands at the end and the cycle, computed.
+-- A ring of calls: three objects of which each calls the next, with the status of each at the end and the cycle,
+-- computed.
 --
 -- class Peer var next : Peer method set(p : Peer) begin next := p end method hit() begin end body answer(set); next ! hit() end
 -- class Main var a, b, c : Peer body a := new Peer; b := new Peer; c := new Peer; a !! set(b); b !! set(c); c !! set(a) end

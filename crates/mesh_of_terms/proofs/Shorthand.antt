@@ -1,4 +1,5 @@
--- Short words for the programs, placements, schedules and lines of worked runs. Positions, which no run reads, are 0.
+-- Short names for the programs, placements, schedules and lines of worked runs. Positions are 0, since no run reads
+-- them.
 use Rattle.std.proofs.Common.{ℕ, zero, suc, pos, List, [], ◌∷◌, ◌+◌, ◌*◌, Option, true, false}
 use Rattle.run_types.specs.declared.types.Op.{Op}
 use Rattle.run_types.specs.declared.types.Value.{Value}

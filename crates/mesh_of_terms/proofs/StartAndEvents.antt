@@ -1,4 +1,4 @@
--- The start of a program, and what each event of it keeps, in the relation's own words.
+-- The start of a program, and the invariant that each event keeps, in terms of the transition relation.
 use Rattle.std.proofs.Common.{◌≡◌, refl, sym, ap, ◌∙◌, IsTrue, List, [], ◌∷◌, ℕ, length, Option, Some, None}
 use Rattle.run_types.specs.declared.types.Event.{Event}
 use Rattle.run_types.specs.declared.types.Label.{Label}

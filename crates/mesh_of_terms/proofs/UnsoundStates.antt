@@ -1,4 +1,4 @@
--- Delays with which the start of a program is not sound: the definition refuses each of them.
+-- Delays with which the start of a program is not sound; the definition rejects each of them.
 use Rattle.std.proofs.Common.{◌≡◌, ◌⊎◌, inl, inr, refl, ℕ, List, [], ◌∷◌, Option, Some, None, true, false, arith}
 use Rattle.run_types.specs.declared.types.Value.TheVariants as V
 use Rattle.pool_relation.specs.Action.{Object}

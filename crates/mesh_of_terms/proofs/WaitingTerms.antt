@@ -1,4 +1,4 @@
--- A term waits only where its call was answered.
+-- A term begins to wait only if its call is answered.
 use Rattle.std.proofs.Common.{◌≡◌, ◌≢◌, ◌⊎◌, inl, inr, refl, sym, ap, subst, ◌∙◌, IsTrue, ℕ, zero, suc, ◌==◌, List, [], ◌∷◌, length, Option, Some, None, is_none, is_some, true, false, not, ◌&&◌, slice_get}
 use Rattle.run_types.specs.declared.types.Value.{Value}
 use Rattle.run_types.specs.declared.types.Value.TheVariants as V

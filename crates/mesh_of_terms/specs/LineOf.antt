@@ -1,4 +1,5 @@
--- What stands behind a line of a record: where it was made.
+-- How a line of a record was made: by the act of its event, at a sound configuration to which the lines before it
+-- lead.
 use Rattle.std.specs.Prelude.{◌≡◌, ℕ, List, [], ◌∷◌, ◌++◌, Some}
 use Rattle.pool_syntax.specs.Terms.{ProgramTree}
 use Rattle.run_types.specs.declared.types.Event.{Event}
@@ -30,15 +31,16 @@ FindsNothing p c d (Ev.Wire w a b) = NothingDone d.wires w (a, b)
 abbrev pub placed : Configuration → Config Object
 placed c = record { objects = c.objects; messages = c.messages }
 
--- the acts of the events of these lines, one after the other, lead from c with its delay d to e with its delay f
+-- the acts of the events of these lines, one after another, lead from c with its delay d to e with its delay f
 abbrev pub ActsLead : ProgramTree → Placement → ℕ → Config Object → Delay → List Line → Config Object → Delay → Type 0
 ActsLead p l q c d [] e f = (c ≡ e) × (d ≡ f)
 ActsLead p l q c d (R.Event number event what ∷ lines) e f =
     (next : Config Object) × (later : Delay) × (act (terms p) l q c d event ≡ Acts what next later) × ActsLead p l q next later lines e f
 ActsLead p l q c d (R.End end ∷ lines) e f = ⊥
 
--- In a run from c with its delay d: at a sound configuration with its delay, to which the acts of the events of the lines before it lead, and their labels too, it is the line of
--- the act of its event; and where it is idle, nothing was ready.
+-- How a line after the lines before was made, in a run from c with its delay d. The acts and the labels of the lines
+-- before lead to a sound configuration with its delay. The line is that of the act of its event there. If it is idle,
+-- nothing is to be done there.
 pub record IsMadeAt (p : ProgramTree) (l : Placement) (q : ℕ) (c : Configuration) (d : Delay) (before : List Line) (e : Event) (what : What) : Type 0 where
   pub config : Config Object
   pub delay : Delay
@@ -51,7 +53,7 @@ pub record IsMadeAt (p : ProgramTree) (l : Placement) (q : ℕ) (c : Configurati
   pub acts : act (terms p) l q config delay e ≡ Acts what next later
   pub idle : what ≡ W.Idle → FindsNothing p config delay e
 
--- each event line of these was made where the lines before it lead from c with its delay d
+-- each event line of these was made so, where the lines before it lead
 abbrev pub AreMade : ProgramTree → Placement → ℕ → Configuration → Delay → List Line → Type 0
 AreMade p l q c d lines =
     (before behind : List Line) (number : ℕ) (e : Event) (what : What) → before ++ (R.Event number e what ∷ behind) ≡ lines → IsMadeAt p l q c d before e what

@@ -1,4 +1,4 @@
--- What the laws of placed terms say of one event, and of an idle line.
+-- The conclusions about one event and about an idle line, for terms.
 use Rattle.std.specs.Prelude.{Option, Some, None, ◌≡◌, List}
 use Rattle.pool_relation.specs.Action.{Object}
 use Rattle.pool_relation.specs.Configuration.{Configuration}
@@ -16,12 +16,12 @@ use Rattle.mesh_of_terms.specs.TypedTerms.{TypedTerms}
 use Rattle.mesh_of_terms.specs.LineOf.{FindsNothing}
 use Rattle.mesh_semantics.specs.Act.{Acted, Acts, Full, Nothing}
 
--- one of terms, if there is one
+-- the configuration of the relation, if there is one
 abbrev pub as_plain : Option (Config Object) → Option Configuration
 as_plain None = None
 as_plain (Some c) = Some (plain c)
 
--- an idle line was made where nothing was ready
+-- an idle line was made at a sound configuration with nothing to do for its event
 pub record IsIdleAt (p : ProgramTree) (l : Placement) (c : Configuration) (before : List Line) (e : Event) : Type 0 where
   pub config : Config Object
   pub delay : Delay
@@ -29,7 +29,8 @@ pub record IsIdleAt (p : ProgramTree) (l : Placement) (c : Configuration) (befor
   pub sound : IsSound (terms p) (TypedTerms p) l config delay
   pub nothing : FindsNothing p config delay e
 
--- what is after an event of a sound configuration: the labels of its line are a run to it, and it is sound; and there is a line, or a limit
+-- the act of an event of a sound configuration has a line or a limit; the labels of the line are a run to the
+-- configuration after it, which is sound
 abbrev pub AfterEvent : ProgramTree → Placement → Config Object → Acted Object → Type 0
 AfterEvent p l c (Acts what e f) = (run p (plain c) (shown what) ≡ Some (plain e)) × IsSound (terms p) (TypedTerms p) l e f
 AfterEvent p l c (Full kind node) = Unit {0}

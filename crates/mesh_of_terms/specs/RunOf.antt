@@ -1,4 +1,4 @@
--- What an event and a record say in the relation's own words.
+-- Records that are runs of the transition relation, with all facts that the theorem about records gives.
 use Rattle.std.specs.Prelude.{◌≡◌, ℕ, List, ◌++◌, Some, None, true}
 use Rattle.pool_syntax.specs.Terms.{ProgramTree}
 use Rattle.run_types.specs.declared.types.Label.{Label}
@@ -19,16 +19,17 @@ pub record IsRight (p : ProgramTree) (c : Configuration) : Type 0 where
   pub typed : Typed p c
   pub nobody : (o : ℕ) (x : Object) → object_of c o ≡ Some x → ¬ (GoesWrong p c o (action p o x))
 
--- the labels lead from c to z by way of a right configuration, to which the front leads
+-- the labels lead from c to z through a typed configuration in which no object goes wrong, to which front leads
 pub record GoesBy (p : ProgramTree) (c z : Configuration) (front rest : List Label) : Type 0 where
   pub between : Configuration
   pub to : run p c front ≡ Some between
   pub from : run p between rest ≡ Some z
   pub right : IsRight p between
 
--- a record of a run from c with its delay d and turns of at most q transitions: event lines and then one end line; its labels are a run of the relation to its last configuration,
--- which is sound with its delay; after each front of the labels stands a right configuration; each event line is that of the act of its event at a sound configuration with its
--- delay, to which the lines before it lead, so that a line is idle only where nothing is ready; and where the record ends quiet no label is possible
+-- A record of a run from c with its delay d, with turns of at most q local transitions. It has event lines and then
+-- one end line. Its labels are a run of the relation to its last configuration, which is sound with its delay. After
+-- each prefix of the labels the configuration is typed and no object goes wrong. Each event line was made where the
+-- lines before it lead. If the record ends quiet, no label is possible there.
 pub record IsRunFrom (p : ProgramTree) (l : Placement) (q : ℕ) (c : Configuration) (d : Delay) (r : Record Object) : Type 0 where
   pub lines : EndsOnce r.lines
   pub leads : run p c (labels r.lines) ≡ Some (plain r.last)

@@ -1,4 +1,4 @@
--- Terms as a language of objects.
+-- Terms as a language of objects: their actions are those of the transition relation.
 use Rattle.std.specs.Prelude.{ℕ, suc, true, List, [], ◌∷◌, ◌++◌, length, Option, Some, None, slice_get}
 use Rattle.pool_syntax.specs.declared.tree.Named.{Named}
 use Rattle.pool_syntax.specs.Terms as T
@@ -53,7 +53,7 @@ abbrev pub work_at : Option Choice → Statements
 work_at None = T.Done
 work_at (Some c) = c.work
 
--- what follows the alternative of this number, from 1
+-- the work of the alternative with this number, from 1
 abbrev pub work_of : Action → ℕ → Statements
 work_of (A.Select cs) (suc i) = work_at (slice_get cs i)
 work_of _ i = T.Done
@@ -62,7 +62,7 @@ abbrev pub class_names : ProgramTree → List ℕ
 class_names [] = []
 class_names (k ∷ ks) = k.name.name.0 ∷ class_names ks
 
--- the callers of the methods under way, after those of the methods within
+-- the callers that these methods under way serve, the innermost first
 abbrev pub callers_in : List Activity → List ℕ
 callers_in [] = []
 callers_in (Own m ∷ rest) = callers_in rest
@@ -89,6 +89,6 @@ terms p = record {
   faulted = λ x e. record x { fault = Some e };
 }
 
--- a configuration of terms
+-- a configuration of terms as one of the relation
 abbrev pub plain : Config Object → Configuration
 plain c = record { objects = c.objects; messages = c.messages }

@@ -1,4 +1,6 @@
-//! Laws of terms on placed machines, in the words of the relation: each is the contract of a function that does nothing.
+//! The theorems about terms on placed machines, in terms of the transition relation. Each is the contract of a
+//! function with an empty body. A program is checked if it has no class faults and its trees are those of a text
+//! (`is_written`).
 ghost use Rattle.std.specs.Prelude.{◌≡◌, ◌≢◌, ◌++◌, ℕ, List, [], ◌∷◌, Some, None, true, IsTrue, slice_get};
 ghost use Rattle.pool_syntax.specs.Terms.{ClassTree, ProgramTree};
 ghost use Rattle.pool_syntax.specs.Typing.{faults};
@@ -33,26 +35,26 @@ ghost use Rattle.mesh_of_terms.specs.OneEvent.{as_plain, IsIdleAt, AfterEvent};
 ghost use Rattle.mesh_of_terms.specs.LineOf.{IsMadeAt};
 ghost use Rattle.mesh_of_terms.specs.RunOf.{TypedTerms, IsRunFrom};
 
-/// The relation is the transition relation of the language of terms: the same transitions, runs and start.
+/// The language of terms has the transitions, the runs and the start of the transition relation.
 pub fn terms_move_by_the_relation()
     ensures transition { (p : ProgramTree) (c : Config Object) (lab : Label) → as_plain (move (terms p) c lab) ≡ transition p (plain c) lab }
     ensures run { (p : ProgramTree) (c : Config Object) (labs : List Label) → as_plain (moves (terms p) c labs) ≡ run p (plain c) labs }
     ensures start { (p : ProgramTree) (l : Placement) → as_plain (start (terms p) l) ≡ X.start p (root_name l) }
 {}
 
-/// Terms of a program without faults are a lawful language, where what is kept of a configuration is that it is typed.
+/// The terms of a checked program are a lawful language; the kept property is that a configuration is typed.
 pub fn terms_are_lawful()
     ensures { (p : ProgramTree) → faults p ≡ [] → IsTrue (is_written p) → Lawful (terms p) (TypedTerms p) }
 {}
 
-/// From a sound configuration the labels of an event's line are a run to the configuration after it, which is sound with its delay. A line without labels leaves the
-/// configuration as it is.
+/// From a sound configuration the labels of an event's line are a run to the configuration after the event, which is
+/// sound with its delay. A line without labels leaves the configuration unchanged.
 pub fn each_event_keeps_sound()
     ensures { (p : ProgramTree) (l : Placement) (q : ℕ) (c : Config Object) (d : Delay) (e : Event) → faults p ≡ [] → IsTrue (is_written p) → FitFor (terms p) l
         → IsSound (terms p) (TypedTerms p) l c d → AfterEvent p l c (act (terms p) l q c d e) }
 {}
 
-/// Each event of a sound configuration answers a line or a limit.
+/// Each event of a sound configuration answers with a line or a limit.
 pub fn each_event_answers()
     ensures { (p : ProgramTree) (l : Placement) (q : ℕ) (c : Config Object) (d : Delay) (e : Event) → faults p ≡ [] → IsTrue (is_written p) → FitFor (terms p) l
         → IsSound (terms p) (TypedTerms p) l c d → act (terms p) l q c d e ≢ Nothing }
@@ -64,10 +66,12 @@ pub fn quiet_has_no_transition()
         → is_quiet (terms p) c d ≡ true → transition p (plain c) lab ≡ None }
 {}
 
-/// A record of a program without faults has event lines and then one end line. Its labels are a run from the start to its last configuration, which is sound with its
-/// delay. After each front of the labels the configuration is typed and no object goes wrong. Each event line is that of the act of its event at a sound configuration with its
-/// delay to which the acts of the events before it lead, so that a line is idle only where no object of the node is ready, nothing comes off the link, or nothing is to be done on the wire. Where the
-/// record ends quiet no label is possible. So it is over wires, where at the end each wire has handed out a front of what entered it, in order.
+/// The record of a checked program shows a run of the transition relation from the start: its labels lead to its last
+/// configuration, which is sound with its delay. It has event lines and then one end line. After each prefix of the
+/// labels the configuration is typed and no object goes wrong. Each event line is that of the act of its event at a
+/// sound configuration. The acts of the lines before it lead to that configuration. If the line is idle, nothing was
+/// ready there. If the record ends quiet, no label is possible. All of this holds over wires too; at the end each wire
+/// has handed out a prefix of the packets that entered.
 pub fn records_are_runs()
     ensures records { (p : ProgramTree) (l : Placement) (q : ℕ) (es : List Event) (c : Configuration) → faults p ≡ [] → IsTrue (is_written p) → FitFor (terms p) l
         → X.start p (root_name l) ≡ Some c → IsRunFrom p l q c no_delay (record_of (terms p) l q es) }
@@ -76,8 +80,8 @@ pub fn records_are_runs()
     ensures wires { (p : ProgramTree) (l : Placement) (q : ℕ) (es : List Event) → KeepsWires (record_on_wires (terms p) l q es).delay }
 {}
 
-/// Each line of the record of a program without faults that answers a request has the number of a line above 0, which posts this request: of the same object, for the
-/// class or the call that the line names.
+/// Each line of the record of a checked program that answers a request has the number of the line that posted this
+/// request. That number is above 0, and that line names the same object and the same class or call.
 pub fn each_line_answers_its_post()
     ensures answers { (p : ProgramTree) (l : Placement) (q : ℕ) (es : List Event) → faults p ≡ [] → IsTrue (is_written p) → FitFor (terms p) l
         → EachAnswersPost (record_of (terms p) l q es).lines }
@@ -85,8 +89,8 @@ pub fn each_line_answers_its_post()
         → EachAnswersPost (record_on_wires (terms p) l q es).lines }
 {}
 
-/// An idle line changes nothing: no object of a node is ready at its idle turn, nothing comes off a link at its idle move, and nothing is to be done at an idle event of a
-/// wire. Where that is so, the line is idle.
+/// An event has an idle line exactly if it has nothing to do, and then it changes nothing. At a turn no object of the
+/// node is ready. At a move nothing comes off the link. At an event of a wire nothing is to be done.
 pub fn idle_is_nothing()
     ensures turn { (p : ProgramTree) (l : Placement) (q : ℕ) (c e : Config Object) (d f : Delay) (n : ℕ) → act (terms p) l q c d (Ev.Turn n) ≡ Acts W.Idle e f
         → (ready_at (terms p) c d n ≡ []) × (e ≡ c) × (f ≡ d) }
@@ -102,21 +106,21 @@ pub fn idle_is_nothing()
         → act (terms p) l q c d (Ev.Wire w a b) ≡ Acts W.Idle c d }
 {}
 
-/// The listed cycles are the cycles of calls: each is listed, and no other.
+/// `cycles` lists every cycle of calls, and nothing else.
 pub fn cycles_are_all_and_no_other()
     ensures all { (p : ProgramTree) (c : Config Object) (d : Delay) (ns : List ℕ) → IsCycle (called_by (terms p) c d) ns → Contained ns (cycles (terms p) c d) }
     ensures no_other { (p : ProgramTree) (c : Config Object) (d : Delay) (ns : List ℕ) → Contained ns (cycles (terms p) c d) → IsCycle (called_by (terms p) c d) ns }
 {}
 
-/// The last place of a fitting placement, by which the root's node goes, is that of the root's class.
+/// In a placement that fits, the last place, which gives the root its node, is the place of the root's class.
 pub fn root_is_placed_by_its_class()
     ensures { (p : ProgramTree) (l : Placement) (k : ClassTree) → faults p ≡ [] → FitFor (terms p) l → last_class p ≡ Some k
         → last_place l.places ≡ slice_get l.places (class_place (class_names p) k.name.name.0) }
 {}
 
-/// Each line of a record is that of the act of its event at a sound configuration with its delay, to which the acts of the events of the lines before it lead,
-/// and their labels. So an idle line was made
-/// where no object of the node was ready, nothing came off the link, or nothing was to be done on the wire.
+/// Each line of a record is that of the act of its event at a sound configuration. The acts and the labels of the
+/// lines before it lead to that configuration. If the line is idle, no object of its node was ready there, nothing
+/// came off its link, or nothing was to be done on its wire.
 pub fn each_line_is_made_where_the_lines_before_lead()
     ensures line { (p : ProgramTree) (l : Placement) (q : ℕ) (es : List Event) (c : Configuration) (before behind : List Line) (n : ℕ) (e : Event) (what : What)
         → faults p ≡ [] → IsTrue (is_written p) → FitFor (terms p) l → X.start p (root_name l) ≡ Some c

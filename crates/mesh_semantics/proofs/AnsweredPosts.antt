@@ -1,5 +1,5 @@
--- The request number of each line of a record is that of the post that it answers: for each object that has something on its way, waits or is due a value, the latest post
--- of it in the record so far is that of its request.
+-- The request number of each line of a record is that of the post that it answers. For each object that has a packet
+-- on its way, waits or is due a value, its latest post in the record so far is the post of its request.
 use Rattle.std.proofs.Common.{◌≡◌, ◌≢◌, ◌⊎◌, inl, inr, refl, sym, ap, subst, ◌∙◌, ℕ, zero, suc, ◌+◌, ◌-◌, ◌==◌, List, [], ◌∷◌, ◌++◌, length, replicate, Option, Some, None, Bool, true, false, if◌then◌else◌, slice_get, nat_lt, arith}
 use Rattle.std.specs.Ordering.{nat_cmp}
 use Rattle.std.specs.declared.cmp.Ordering.{Ordering}

@@ -1,4 +1,4 @@
--- A select takes its first possible alternative, and a turn of local transitions makes one after the other.
+-- A select takes its first possible alternative, and a turn makes its local transitions one after another.
 use Rattle.std.proofs.Common.{◌≡◌, ◌≢◌, refl, sym, ap, subst, ◌∙◌, ℕ, zero, suc, ◌+◌, List, [], ◌∷◌, replicate, Option, Some, None, is_some, Bool, true, false, ◌&&◌, slice_get, nat_le, arith}
 use Rattle.std.specs.List.{list_any}
 use Rattle.run_types.specs.declared.types.Label.{Label}

@@ -1,4 +1,5 @@
--- The listed cycles are the cycles: a chase gives one, and finds each that is not too long; and none is longer than there are objects.
+-- The listed cycles are the cycles of calls. A chase gives a cycle, and finds each cycle that is not too long. No
+-- cycle is longer than the number of objects.
 use Rattle.std.proofs.Common.{◌≡◌, ◌≢◌, ◌⊎◌, inl, inr, refl, sym, ap, subst, ◌∙◌, ℕ, zero, suc, ◌<◌, ◌≤◌, ◌==◌, List, [], ◌∷◌, length, Option, Some, None, Bool, true, false, if◌then◌else◌, nat_lt, arith, map}
 use Rattle.std.specs.Prelude.{filter_map}
 use Rattle.std.specs.Ordering.{nat_cmp}

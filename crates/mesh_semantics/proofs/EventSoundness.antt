@@ -1,4 +1,4 @@
--- Each event keeps a sound configuration so, its labels lead to what is after it, and so does a whole record.
+-- Each event and each record keeps a configuration sound, and its labels lead to the configuration after it.
 use Rattle.std.proofs.Common.{◌≡◌, ◌≢◌, ◌⊎◌, inl, inr, refl, ap, subst, ◌∙◌, IsTrue, ℕ, ◌+◌, ◌==◌, List, [], ◌∷◌, ◌++◌, Option, Some, None, Bool, true, false, ◌&&◌}
 use Rattle.std.specs.Prelude.{filter, length, drop}
 use Rattle.std.specs.Ordering.{nat_cmp, eq_by_cmp, is_lt}

@@ -1,4 +1,4 @@
--- Each event keeps what holds of wires, and what becomes of each wire is what may happen on a wire.
+-- Each event keeps the invariant of wires, and each wire after it is reached by events of a wire.
 use Rattle.std.proofs.Common.{◌≡◌, ◌≢◌, refl, sym, ap, subst, ◌∙◌, ℕ, ◌+◌, ◌==◌, List, [], ◌∷◌, ◌++◌, append_assoc, length, Option, Some, None, Bool, true, false, not, ◌&&◌, if◌then◌else◌}
 use Rattle.std.specs.Prelude.{drop, slice_get}
 use Rattle.std.specs.Option.{unwrap_or}

@@ -1,4 +1,4 @@
--- Of each pair of nodes what has left the links is a prefix of what entered.
+-- For each pair of nodes, the values that have left the links are a prefix of those that entered.
 use Rattle.std.proofs.Common.{◌≡◌, ◌≢◌, inl, refl, sym, ap, ap₂, subst, ◌∙◌, ℕ, ◌*◌, ◌<◌, ◌==◌, List, [], ◌∷◌, ◌++◌, append_assoc, append-nil, Option, Some, None, Bool, true, false, ◌&&◌, arith}
 use Rattle.std.proofs.lemmas.Grind.{flat_map-append}
 use Rattle.run_types.specs.declared.types.Placement.{Placement}

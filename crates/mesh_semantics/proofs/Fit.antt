@@ -1,4 +1,4 @@
--- What the proofs use of a placement; one that fits a program has it.
+-- The facts about a placement that the proofs use; a placement that fits a program has them.
 use Rattle.std.specs.Prelude.{◌≡◌, ℕ, ◌*◌, ◌<◌, Some, slice_get}
 use Rattle.run_types.specs.declared.types.Place.TheVariants as Pl
 use Rattle.run_types.specs.declared.types.Placement.{Placement}

@@ -1,4 +1,4 @@
--- Traffic over a mesh with one list of all links, as a delay has it, and that it is the traffic with a list for each link.
+-- Traffic with one list of all links, as in a delay, is the traffic with a list for each link.
 use Rattle.std.proofs.Common.{◌≡◌, refl, sym, ap, subst, ◌∙◌, ℕ, ◌==◌, List, [], ◌∷◌, ◌++◌, Option, Some, None, Bool, true, false, if◌then◌else◌}
 use Rattle.run_types.specs.declared.types.Placement.{Placement}
 use Rattle.run_types.specs.Tables.{Pair, pair_cmp, list_at, put_list}

@@ -1,4 +1,4 @@
--- What is kept of a wire does what the wire does, and tells the same.
+-- The stored part of a wire does what the wire does, with the same lines.
 use Rattle.std.proofs.Common.{◌≡◌, refl, sym, ap, ap₂, subst, ◌∙◌, ℕ, zero, suc, ◌+◌, ◌-◌, ◌<◌, ◌≤◌, ◌==◌, List, [], ◌∷◌, ◌++◌, append-nil, append_assoc, length, Option, Some, None, Bool, true, false, if◌then◌else◌, arith}
 use Rattle.std.specs.Prelude.{slice_get, take as first_of_list, drop}
 use Rattle.std.proofs.lemmas.List.{drop-take, length-append, length-take-le, take-append-drop}

@@ -1,4 +1,5 @@
--- A language that does what a lawful one does is lawful, where what is kept is that it corresponds to a configuration of the first.
+-- A language that does what a lawful one does is lawful. The kept property is to correspond to a configuration of the
+-- lawful language.
 use Rattle.std.proofs.Common.{◌≡◌, ◌≢◌, inl, inr, refl, sym, ap, subst, ◌∙◌, IsTrue, ℕ, List, [], ◌∷◌, Option, Some, None, Bool, true, false}
 use Rattle.std.specs.Prelude.{◌&&◌, ◌||◌}
 use Rattle.std.specs.Ordering.{nat_cmp, is_lt}

@@ -1,5 +1,5 @@
--- The lemmas that other crates cite: on lists and links after a change, on what an object owns, and the laws of placed machines over any
--- language of objects and any property that is kept.
+-- The lemmas that other crates cite: on lists and links after a change, on the entries of an object, and on placed
+-- machines over any language of objects and any kept property.
 pub use Rattle.mesh_semantics.proofs.ObjectChange.{runs, each_without, each_head, running_gives, there_put}
 pub use Rattle.mesh_semantics.proofs.OwnedTraffic.{no_part, one_part, is_call_of, moved_own, moved_some, taken_own, taken_some, moved}
 pub use Rattle.mesh_semantics.proofs.LinksAndArrivals.{under-append, on_put_same, on_put_other, on_moved_same, on_moved_other, Same, Is, Not, same}

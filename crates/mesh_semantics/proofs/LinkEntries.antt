@@ -1,4 +1,5 @@
--- What an event puts on links stands behind what was there, where each link hands out its own head; and wires stay as they are.
+-- If each link hands out its own head, an event puts packets after those that were on the links, and leaves wires
+-- unchanged.
 use Rattle.std.proofs.Common.{◌≡◌, refl, sym, ℕ, zero, suc, ◌+◌, ◌==◌, List, [], ◌∷◌, ◌++◌, append-nil, Option, Some, None, Bool, true, false, nat_lt, if◌then◌else◌}
 use Rattle.run_types.specs.declared.types.Value.{Value}
 use Rattle.run_types.specs.declared.types.Value.TheVariants as V

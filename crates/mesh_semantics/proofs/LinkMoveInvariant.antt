@@ -1,4 +1,4 @@
--- The moves of links keep a consistent state so.
+-- The moves of links keep a state consistent.
 use Rattle.std.proofs.Common.{◌≡◌, ◌≢◌, inl, inr, refl, sym, ap, subst, ◌∙◌, ℕ, ◌*◌, ◌<◌, ◌≤◌, ◌==◌, List, [], ◌∷◌, Option, Some, None, Bool, true, false, if◌then◌else◌, arith}
 use Rattle.run_types.specs.declared.types.Value.{Value}
 use Rattle.run_types.specs.declared.types.Value.TheVariants as V

@@ -1,4 +1,4 @@
--- What is on links, and what has arrived, after one was put or taken.
+-- The packets on links and the arrived messages, after one was put or taken.
 use Rattle.std.proofs.Common.{◌≡◌, ◌≢◌, refl, sym, ap, subst, ◌∙◌, ◌==◌, List, [], ◌∷◌, ◌++◌, append-nil, Some, Bool, true, false, ◌&&◌, arith}
 use Rattle.run_types.specs.Tables.{Pair, Each}
 use Rattle.run_types.proofs.Laws.{first, second, both, equal, equals, same_some}

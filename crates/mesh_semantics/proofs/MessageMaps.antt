@@ -1,4 +1,4 @@
--- The messages of a configuration after those of one pair were put.
+-- The messages of a configuration after an update of those of one pair.
 use Rattle.std.proofs.Common.{◌≡◌, ap, ℕ, List}
 use Rattle.run_types.specs.Tables.{Pair}
 use Rattle.run_types.specs.Message.{Message}

@@ -1,4 +1,4 @@
--- The first arrived message on some methods is taken: what that is for the list of its pair.
+-- The list of a pair after the first arrived message for some methods is taken.
 use Rattle.std.proofs.Common.{◌≡◌, ◌≢◌, refl, sym, ap, subst, ◌∙◌, ℕ, ◌==◌, List, [], ◌∷◌, ◌++◌, Some, Bool, true, false, ◌||◌, if◌then◌else◌}
 use Rattle.run_types.proofs.Laws.{equal, equals, differ, same_some}
 use Rattle.mesh_semantics.specs.Kind.{has_name}

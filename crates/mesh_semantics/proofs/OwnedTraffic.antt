@@ -1,4 +1,4 @@
--- What an object owns, after a packet was posted or left its link, or a message arrived or was taken.
+-- The entries of an object after a packet was posted or left its link, or a message arrived or was taken.
 use Rattle.std.proofs.Common.{◌≡◌, ◌≢◌, refl, sym, ap, ap₂, ◌∙◌, ℕ, ◌==◌, List, [], ◌∷◌, ◌++◌, append_assoc, append-nil, Some, Bool, true, false, ◌&&◌}
 use Rattle.run_types.specs.declared.types.Placement.{Placement}
 use Rattle.run_types.specs.Tables.{Pair}

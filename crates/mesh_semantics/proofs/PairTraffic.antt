@@ -1,4 +1,4 @@
--- What a pair has on the way, after a packet was posted, went on or left its link, or a message arrived or was taken.
+-- The letters of a pair after a packet was posted, moved or left its link, or a message arrived or was taken.
 use Rattle.std.proofs.Common.{◌≡◌, ◌≢◌, refl, sym, ap, ap₂, subst, ◌∙◌, ℕ, ◌*◌, ◌<◌, ◌==◌, List, [], ◌∷◌, ◌++◌, append_assoc, append-nil, Some, Bool, true, false, ◌&&◌}
 use Rattle.run_types.specs.declared.types.Placement.{Placement}
 use Rattle.run_types.specs.Tables.{Pair}

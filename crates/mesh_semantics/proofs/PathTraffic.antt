@@ -1,4 +1,4 @@
--- What is along a path, after a packet entered, went on, or left.
+-- The values along a path after a packet entered, moved or left.
 use Rattle.std.proofs.Common.{◌≡◌, ◌≢◌, ◌⊎◌, inl, inr, refl, sym, ap, ap₂, subst, ◌∙◌, ℕ, ◌*◌, ◌<◌, List, [], ◌∷◌, ◌++◌, append_assoc, append-nil, Some, flat_map}
 use Rattle.std.proofs.lemmas.Grind.{flat_map-append}
 use Rattle.run_types.specs.declared.types.Placement.{Placement}

@@ -1,4 +1,4 @@
--- A placement that fits a program is one on whose paths the proofs stand.
+-- A placement that fits a program has the paths that the proofs use.
 use Rattle.run_types.specs.declared.types.Placement.{Placement}
 use Rattle.mesh_semantics.specs.Language.{Language}
 use Rattle.mesh_semantics.proofs.Fit.{Fit}

@@ -1,4 +1,4 @@
--- Turns in which an object is made, or two objects meet, or a message is sent.
+-- Turns that make an object, let two objects meet, or send a message.
 use Rattle.std.proofs.Common.{◌≡◌, ◌≢◌, refl, sym, ap, subst, ◌∙◌, IsTrue, ℕ, ◌+◌, ◌*◌, ◌%◌, ◌<◌, ◌≤◌, ◌==◌, Option, Some, None, Bool, true, false, slice_get, arith}
 use Rattle.std.specs.Ordering.{nat_cmp}
 use Rattle.std.specs.FinMap.{is_sorted}

@@ -1,4 +1,4 @@
--- Where objects correspond, every event gives the same line or the same limit, and what is after it corresponds.
+-- If objects correspond, every event has the same line or the same limit, and the configurations after it correspond.
 use Rattle.std.proofs.Common.{◌≡◌, refl, sym, ap, ap₂, subst, ◌∙◌, ℕ, zero, suc, ◌+◌, ◌*◌, ◌==◌, List, [], ◌∷◌, Option, Some, None, is_some, is_none, Bool, true, false, not, ◌&&◌, ◌||◌, if◌then◌else◌, nat_lt, nat_le, slice_get}
 use Rattle.std.specs.Prelude.{filter, length, drop}
 use Rattle.std.specs.List.{list_any}

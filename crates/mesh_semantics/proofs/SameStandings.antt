@@ -1,4 +1,4 @@
--- Where objects correspond, they stand alike, and the cycles are the same.
+-- If objects correspond, they have the same status, and the cycles are the same.
 use Rattle.std.proofs.Common.{◌≡◌, refl, ap, ap₂, ◌∙◌, ℕ, suc, List, [], ◌∷◌, length, Option, Some, None}
 use Rattle.std.specs.Prelude.{filter_map}
 use Rattle.mesh_semantics.specs.Language.{Language}

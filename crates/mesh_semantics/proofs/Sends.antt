@@ -1,4 +1,4 @@
--- Turns that send a message, return a value, or take what has arrived.
+-- Turns that send a message, return a value, or take an arrived message.
 use Rattle.std.proofs.Common.{◌≡◌, ◌≢◌, ◌⊎◌, inl, inr, refl, sym, ap, subst, ◌∙◌, IsTrue, ℕ, ◌*◌, ◌<◌, ◌≤◌, ◌==◌, List, [], ◌∷◌, ◌++◌, append-nil, Option, Some, None, Bool, true, false, ◌&&◌, arith}
 use Rattle.std.specs.Ordering.{nat_cmp}
 use Rattle.std.specs.FinMap.{find, is_sorted}

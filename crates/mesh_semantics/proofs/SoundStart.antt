@@ -1,4 +1,4 @@
--- One object on a node of the mesh, and nothing on the way: a sound start.
+-- The start is sound: one object on a node of the mesh, and nothing on the way.
 use Rattle.std.proofs.Common.{◌≡◌, ◌≢◌, ◌⊎◌, inl, inr, refl, sym, ap, subst, ◌∙◌, ℕ, suc, ◌+◌, ◌*◌, ◌<◌, ◌≤◌, ◌==◌, List, [], ◌∷◌, slice_get, Option, Some, None, Bool, true, false, arith}
 use Rattle.run_types.specs.declared.types.Place.{Place}
 use Rattle.run_types.specs.declared.types.Place.TheVariants as Pl

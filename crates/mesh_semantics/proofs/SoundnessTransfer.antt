@@ -1,4 +1,4 @@
--- Where objects correspond, a sound state of one machine is one of the other.
+-- If objects correspond, a sound state of one machine is a sound state of the other.
 use Rattle.std.proofs.Common.{◌≡◌, refl, sym, subst, ◌∙◌, ℕ, ◌<◌, ◌≤◌, List, Option, Some, None}
 use Rattle.run_types.specs.declared.types.Label.{Label}
 use Rattle.run_types.specs.declared.types.Placement.{Placement}

@@ -1,4 +1,5 @@
--- Whatever happens on a wire keeps its facts: what was handed out is a front of what entered, each frame carries what has its number, and the numbers are in their bounds.
+-- Each event of a wire keeps its invariant: the packets handed out are a prefix of those that entered, each frame
+-- carries the packet of its number, and the numbers are within the window.
 use Rattle.std.proofs.Common.{◌≡◌, refl, sym, ap, subst, ◌∙◌, ℕ, zero, suc, ◌+◌, ◌<◌, ◌≤◌, ◌==◌, List, [], ◌∷◌, ◌++◌, append-nil, append_assoc, length, Option, Some, None, Bool, true, false, if◌then◌else◌, nat_lt, arith, ltb-true}
 use Rattle.std.specs.Prelude.{slice_get}
 use Rattle.std.proofs.lemmas.List.{length-append}

@@ -1,5 +1,6 @@
--- The delay: what a machine of nodes adds to a configuration. It has the packets on links, the arrived messages, and what each object waits for,
--- where links are wires the frames on them, and no request numbers. The node of a name is the name div 65536, its slot the name mod 65536.
+-- The delay, which a machine of nodes adds to a configuration: packets on links, arrived messages, what each object
+-- waits for, and wires. It has no request numbers. The node of a name is the name div 65,536, and its slot is the name
+-- mod 65,536.
 use Rattle.std.specs.Prelude.{ℕ, ◌+◌, ◌==◌, List, [], ◌∷◌, ◌++◌, Option, Some, None, Bool, ◌&&◌, if◌then◌else◌}
 use Rattle.std.specs.Option.{unwrap_or}
 use Rattle.std.specs.Ordering.{nat_cmp}
@@ -12,7 +13,7 @@ use Rattle.mesh_semantics.specs.Wire.{Wire, empty_wire, enter}
 use Rattle.run_types.specs.Paths.{next, total, under, without_first, put_last}
 use Rattle.run_types.specs.ObjectNames.{node_of, slot_of}
 
--- what travels on links
+-- a packet on a link: the request for a new object and its name, a call and its value, and an asynchronous message
 pub data Packet : Type 0 where
   Create : (creator goal class : ℕ) → Packet
   Created : (creator name : ℕ) → Packet
@@ -20,57 +21,57 @@ pub data Packet : Type 0 where
   Result : (caller : ℕ) (value : Value) → Packet
   Async : (sender receiver method : ℕ) (args : List Value) → Packet
 
--- a message that has reached its receiver's node
+-- a message or call that has arrived at its receiver and is not yet taken
 pub record Arrival : Type 0 where
   pub sender : ℕ
   pub is_call : Bool
   pub method : ℕ
   pub args : List Value
 
--- what an object that is not free waits for
+-- the state of an object that is not free
 pub data Holding : Type 0 where
-  -- its Create or its call is on the way, or its call has arrived
+  -- its request for a new object or its call is on the way, or its call has arrived
   Posted : Holding
-  -- its value is on the way
+  -- the packet with its value is on the way
   Due : (value : Value) → Holding
 
--- by the ends of a link, its wire; one that was never used has no entry
+-- the wire of each link, by the ends of the link; a wire that was never used has no entry
 abbrev pub Wires : Type 0
 Wires = List (Pair × Wire Packet)
 
--- what the machine adds to a configuration
+-- the part of a machine's state that is no configuration
 pub record Delay : Type 0 where
-  -- each packet with its link; of those on one link the head is the first
+  -- each packet with its link; the first packet of a link is its head
   pub links : List (Pair × Packet)
   -- each arrived message with its receiver, in the order of arrival
   pub arrived : List (ℕ × Arrival)
-  -- of the objects that are not free
+  -- the state of each object that is not free
   pub holding : List (ℕ × Holding)
-  -- by the node, the slot that stepped last
+  -- for each node, the slot that stepped last
   pub last : List (ℕ × ℕ)
-  -- by the node and the class, how many objects the node's own have made
+  -- for each node and class, how many objects of the class the node's objects have made
   pub made : List (Pair × ℕ)
-  -- of the links, where they are wires that may lose, repeat and reorder; else each link hands out its own head
+  -- the wires, if links may lose, repeat and reorder frames; otherwise each link hands out its own head
   pub wires : Option Wires
 
 -- the delay at the start
 abbrev pub no_delay : Delay
 no_delay = record { links = []; arrived = []; holding = []; last = []; made = []; wires = None }
 
--- the same with a wire on each link
+-- the delay at the start, with a wire on each link
 abbrev pub no_delay_on_wires : Delay
 no_delay_on_wires = record no_delay { wires = Some [] }
 
--- the wire of a link
+-- the wire of a link; it is empty if the link was never used
 abbrev pub wire_at : Wires → Pair → Wire Packet
 wire_at ws k = unwrap_or (find pair_cmp k ws) empty_wire
 
--- what each link gets enters its wire
+-- the wires, after each of these packets has entered the wire of its link
 abbrev pub enter_all : List (Pair × Packet) → Wires → Wires
 enter_all [] ws = ws
 enter_all (e ∷ es) ws = enter_all es (put pair_cmp e.0 (enter e.1 (wire_at ws e.0)) ws)
 
--- puts a packet last on the first link to its goal
+-- the packet goes last on the first link of its path from this node
 abbrev pub post : Placement → ℕ → ℕ → Packet → Delay → Delay
 post l from goal x d = record d { links = put_last (from, next l from goal) x d.links }
 
@@ -78,39 +79,39 @@ post l from goal x d = record d { links = put_last (from, next l from goal) x d.
 abbrev pub arrived_at : Delay → ℕ → List Arrival
 arrived_at d o = under (λ r. r == o) d.arrived
 
--- puts a message last at its receiver
+-- the message goes last among those that have arrived at o
 abbrev pub arrive : ℕ → Arrival → Delay → Delay
 arrive o x d = record d { arrived = d.arrived ++ (o, x) ∷ [] }
 
--- an arrived message of this object, on one of these methods
+-- the message has arrived at o and is for one of these methods
 abbrev pub is_for : ℕ → List ℕ → ℕ × Arrival → Bool
 is_for o names e = e.0 == o && has_name names e.1.method
 
--- takes the first arrived message on these methods
+-- the first arrived message of o for one of these methods is gone
 abbrev pub take_arrival : ℕ → List ℕ → Delay → Delay
 take_arrival o names d = record d { arrived = without_first (is_for o names) d.arrived }
 
--- what an object waits for, if it is not free
+-- the state of an object, if it is not free
 abbrev pub held : Delay → ℕ → Option Holding
 held d o = find nat_cmp o d.holding
 
--- gives an object this state
+-- the object has this state
 abbrev pub hold : ℕ → Holding → Delay → Delay
 hold o s d = record d { holding = put nat_cmp o s d.holding }
 
--- makes an object free
+-- the object is free
 abbrev pub free : ℕ → Delay → Delay
 free o d = record d { holding = without nat_cmp o d.holding }
 
--- how many objects of the class the node's objects have made
+-- how many objects of class c the objects of node n have made
 abbrev pub made_by : Delay → ℕ → ℕ → ℕ
 made_by d n c = unwrap_or (find pair_cmp (n, c) d.made) 0
 
--- counts one more
+-- one more object of the class is counted
 abbrev pub count_made : ℕ → ℕ → Delay → Delay
 count_made n c d = record d { made = put pair_cmp (n, c) (made_by d n c + 1) d.made }
 
--- the object has stepped last at its node
+-- the object is the one that stepped last at its node
 abbrev pub stepped_last : ℕ → ℕ → Delay → Delay
 stepped_last n o d = record d { last = put nat_cmp n (slot_of o) d.last }
 

@@ -1,4 +1,4 @@
--- What an object does next, in whatever language it is written.
+-- The kind of an object's next action, in any language of objects.
 use Rattle.std.specs.Prelude.{ℕ, ◌==◌, List, [], Option, Some, None, is_none, Bool, true, false, ◌&&◌}
 use Rattle.std.specs.List.{list_any}
 use Rattle.run_types.specs.declared.types.Value.{Value}
@@ -7,7 +7,7 @@ use Rattle.run_types.specs.declared.types.Error.{Error}
 use Rattle.run_types.specs.Values.{is_same}
 use Rattle.run_types.specs.Same.{are_same, is_same_item, error_number}
 
--- an alternative of a select whose guards are evaluated: the methods that it answers, or none where it is plain
+-- an alternative of a select whose guards are evaluated; names are the methods that it answers, or None if it is plain
 pub record Alternative : Type 0 where
   pub is_open : Bool
   pub names : Option (List ℕ)
@@ -21,54 +21,54 @@ pub data Kind : Type 0 where
   Send : (receiver method : ℕ) (args : List Value) → Kind
   Async : (receiver method : ℕ) (args : List Value) → Kind
   Write : (item : Item) → Kind
-  -- an answer is a select of one open alternative
+  -- an answer is a select with one open alternative
   Select : (alternatives : List Alternative) → Kind
   Return : (caller : ℕ) (value : Value) → Kind
   Waits : (receiver method : ℕ) → Kind
   -- a value of a wrong sort, or a name that is not declared
   Stuck : Kind
 
--- it makes a local transition
+-- the action is local
 abbrev pub is_local : Kind → Bool
 is_local Local = true
 is_local _ = false
 
--- it makes an object of this class
+-- the action makes an object of this class
 abbrev pub makes : Kind → ℕ → Bool
 makes (New c) k = c == k
 makes _ k = false
 
--- it calls this method of r with these values
+-- the action calls this method of r with these arguments
 abbrev pub calls : Kind → ℕ → ℕ → List Value → Bool
 calls (Send b m args) r n values = b == r && m == n && are_same args values
 calls _ r n values = false
 
--- it sends r this message
+-- the action sends this message to r
 abbrev pub posts : Kind → ℕ → ℕ → List Value → Bool
 posts (Async b m args) r n values = b == r && m == n && are_same args values
 posts _ r n values = false
 
--- it returns this value to o
+-- the action returns this value to o
 abbrev pub returns : Kind → ℕ → Value → Bool
 returns (Return k v) o w = k == o && is_same v w
 returns _ o w = false
 
--- it waits for r
+-- the action waits for r
 abbrev pub waits_on : Kind → ℕ → Bool
 waits_on (Waits b m) r = b == r
 waits_on _ r = false
 
--- it writes this item
+-- the action writes this item
 abbrev pub writes : Kind → Item → Bool
 writes (Write i) j = is_same_item i j
 writes _ j = false
 
--- it meets this error
+-- the action is this error
 abbrev pub fails : Kind → Error → Bool
 fails (Fault e) f = error_number e == error_number f
 fails _ f = false
 
--- whether a list has the method
+-- whether the list has the method
 abbrev pub has_name : List ℕ → ℕ → Bool
 has_name names m = list_any (λ n. n == m) names
 
@@ -77,15 +77,15 @@ abbrev pub answered : Option (List ℕ) → List ℕ
 answered None = []
 answered (Some names) = names
 
--- an open alternative that answers the method
+-- the alternative is open and answers the method
 abbrev pub answers : Alternative → ℕ → Bool
 answers a m = a.is_open && has_name (answered a.names) m
 
--- an open alternative that is plain
+-- the alternative is open and plain
 abbrev pub is_plain : Alternative → Bool
 is_plain a = a.is_open && is_none a.names
 
--- the alternatives of a select
+-- the alternatives of a select; another action has none
 abbrev pub alternatives : Kind → List Alternative
 alternatives (Select alts) = alts
 alternatives _ = []

@@ -1,4 +1,4 @@
--- A language of objects: what a state of an object does next, and what it becomes.
+-- A language of objects: for each state of an object its next action, and the state after each step.
 use Rattle.std.specs.Prelude.{ℕ, List, Option}
 use Rattle.run_types.specs.declared.types.Value.{Value}
 use Rattle.run_types.specs.declared.types.Error.{Error}
@@ -9,31 +9,32 @@ pub record Language (S : Type 0) : Type 0 where
   pub classes : List ℕ
   -- a new object of the last class, if there is a class
   pub root : Option S
-  -- a new object of a class, if the class is there
+  -- a new object of this class, if the class exists
   pub made : ℕ → Option S
   -- the class of an object
   pub class : S → ℕ
-  -- the language error that it has met, if it has met one
+  -- the run-time error that the object has met, if any
   pub fault : S → Option Error
-  -- the number of methods under way in it
+  -- the number of methods under way in the object
   pub frames : S → ℕ
-  -- the callers that it serves, the innermost first
+  -- the callers that the object serves, the innermost first
   pub callers : S → List ℕ
-  -- what the object of this name does next
+  -- the next action of the object with this name
   pub kind : ℕ → S → Kind
-  -- the object of this name after a local transition
+  -- the object with this name after a local transition
   pub stepped : ℕ → S → S
-  -- after a value took the place of what it made or waited for
+  -- the object after it got the name of its new object, or the value of its call
   pub given : S → Value → S
-  -- at a wait: its call of the method is served by the receiver
+  -- the object while the receiver serves its call of the method
   pub waiting : S → (receiver method : ℕ) → S
-  -- after a statement that is done: a send, or a write
+  -- the object after a send or a write
   pub done : S → S
-  -- after the value of a served method was given back
+  -- the object after it returned the value of a served method
   pub returned : S → S
-  -- as the alternative of this number, from 1, is chosen
+  -- the object after it has chosen the alternative with this number, from 1
   pub picked : ℕ → S → (alternative : ℕ) → S
-  -- as it begins to serve the method for the caller, or for no one, if its class has the method
+  -- the object when it begins to serve the method for the caller, or for no one; None if its class does not have the
+  -- method
   pub serving : ℕ → S → (alternative method : ℕ) → (caller : Option ℕ) → List Value → Option S
-  -- after it met an error
+  -- the object after it met the error
   pub faulted : S → Error → S

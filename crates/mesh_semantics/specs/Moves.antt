@@ -1,5 +1,5 @@
--- The transition relation over objects of any language, and its runs. It knows no node, packet or delay. A label, where it is possible, determines
--- the configuration after it.
+-- The transition relation over objects of any language, and its runs: a label that is possible determines the
+-- configuration after it. It knows no node, packet or delay.
 use Rattle.std.specs.Prelude.{ℕ, zero, suc, ◌+◌, ◌==◌, List, [], ◌∷◌, ◌++◌, Option, Some, None, is_some, is_none, Bool, false, not, ◌&&◌, ◌||◌, if◌then◌else◌, slice_get}
 use Rattle.run_types.specs.declared.types.Value.TheVariants as V
 use Rattle.run_types.specs.declared.types.Error.{Error}
@@ -12,46 +12,47 @@ use Rattle.mesh_semantics.specs.Kind.{Alternative, is_local, makes, calls, posts
 use Rattle.mesh_semantics.specs.Language.{Language}
 use Rattle.mesh_semantics.specs.Config.{Config, object_of, put_object, messages_of, put_messages}
 
--- an object that is there and has no fault
+-- the object, if this error is None
 abbrev pub without_fault : {S : Type 0} → S → Option Error → Option S
 without_fault x None = Some x
 without_fault x (Some e) = None
 
--- the object of a name, if it is there and has no fault
+-- the object of this name, if it exists and has met no error
 abbrev pub running : {S : Type 0} → Language S → Config S → ℕ → Option S
 running g c o = object_of c o >>= (λ x. without_fault x (g.fault x))
 
--- the first open alternative that answers the method, with its number, where the first of the list has the number i
+-- the first open alternative that answers the method, by its number and methods, if the first of the list has the
+-- number i
 abbrev pub offered : ℕ → List Alternative → ℕ → Option (ℕ × List ℕ)
 offered i [] m = None
 offered i (a ∷ alts) m = if answers a m then Some (i, answered a.names) else offered (i + 1) alts m
 
--- the alternative of this number, from 1
+-- the alternative with this number, from 1
 abbrev pub numbered : List Alternative → ℕ → Option Alternative
 numbered alts zero = None
 numbered alts (suc i) = slice_get alts i
 
--- whether it is there, open and plain
+-- whether the alternative exists and is open and plain
 abbrev pub can_pick : Option Alternative → Bool
 can_pick None = false
 can_pick (Some a) = is_plain a
 
--- whether one of the messages is on these methods
+-- whether one of the messages is for one of these methods
 abbrev pub has_message : List ℕ → List Message → Bool
 has_message names [] = false
 has_message names (m ∷ ms) = has_name names m.method || has_message names ms
 
--- the earliest message that these methods take
+-- the earliest message for one of these methods
 abbrev pub first_message : List ℕ → List Message → Option Message
 first_message names [] = None
 first_message names (m ∷ ms) = if has_name names m.method then Some m else first_message names ms
 
--- the messages without the earliest that these methods take
+-- the messages without the earliest one for these methods
 abbrev pub without_message : List ℕ → List Message → List Message
 without_message names [] = []
 without_message names (m ∷ ms) = if has_name names m.method then ms else m ∷ without_message names ms
 
--- the configuration after the label, where it is possible
+-- the configuration after the label, or None if the label is not possible
 abbrev pub move : {S : Type 0} → Language S → Config S → Label → Option (Config S)
 move g c (L.Local o) = do
   x ← running g c o
@@ -99,7 +100,7 @@ move g c (L.Fault o e) = do
   require (fails (g.kind o x) e)
   Some (put_object c o (g.faulted x e))
 
--- the configuration after these labels, where each is possible in its turn
+-- the configuration after these labels, or None if one of them is not possible where it is due
 abbrev pub moves : {S : Type 0} → Language S → Config S → List Label → Option (Config S)
 moves g c [] = Some c
 moves g c (l ∷ ls) = move g c l >>= λ d. moves g d ls

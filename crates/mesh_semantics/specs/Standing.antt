@@ -1,4 +1,4 @@
--- Where each object stands, and the names on a cycle of calls.
+-- The status of each object, and chains of calls that close to a cycle.
 use Rattle.std.specs.Prelude.{ℕ, zero, suc, ◌==◌, List, [], ◌∷◌, Option, Some, None, if◌then◌else◌, nat_lt}
 use Rattle.run_types.specs.declared.types.Error.{Error}
 use Rattle.run_types.specs.Tables.{Pair}
@@ -19,7 +19,7 @@ pub data Standing : Type 0 where
   Due : Standing
   Awaits : Standing
 
--- the goal of an object's Create
+-- the goal of the packet, if it is the request of o for a new object
 abbrev pub goal_in : ℕ → Packet → Option ℕ
 goal_in o (D.Create c goal class) = if c == o then Some goal else None
 goal_in o _ = None
@@ -41,11 +41,12 @@ abbrev pub standing_of : Delay → ℕ → Option Error → Option Holding → K
 standing_of d o (Some e) t k = Faulted e
 standing_of d o None t k = standing_by d o t k
 
--- the first that applies: faulted, due, calls, creates, finished, ready, awaits
+-- the status is the first that applies: faulted, due, calls, creates, finished, ready, awaits
 abbrev pub standing : {S : Type 0} → Language S → Delay → ℕ → S → Standing
 standing g d o x = standing_of d o (g.fault x) (held d o) (g.kind o x)
 
--- such names that close, at most so many of them, if there are
+-- the names from o on, of which each calls the next, up to one that calls first; they are above first and at most n;
+-- otherwise None
 abbrev pub chase : (ℕ → Option ℕ) → ℕ → ℕ → ℕ → Option (List ℕ)
 chase calls zero first o = None
 chase calls (suc n) first o = calls o >>= λ b. if b == first then Some (o ∷ []) else (if nat_lt first b then (chase calls n first b >>= λ ns. Some (o ∷ ns)) else None)

@@ -1,4 +1,5 @@
--- What goes over the links of a mesh, whatever it is: values enter at the first link of a path and move along it, each link a queue.
+-- Traffic over the links of a mesh, for values of any type: a value enters at the first link of its path and moves
+-- along the path, and each link is a queue.
 use Rattle.std.specs.Prelude.{ℕ, ◌*◌, ◌<◌, ◌==◌, List, [], ◌∷◌, ◌++◌, ◌&&◌, if◌then◌else◌, flat_map}
 use Rattle.run_types.specs.declared.types.Placement.{Placement}
 use Rattle.run_types.specs.Tables.{Pair, pair_cmp, list_at, put_list}
@@ -11,7 +12,8 @@ pub record Load (X : Type 0) : Type 0 where
   pub to : ℕ
   pub value : X
 
--- one list for each link, the head first; an empty one has no entry; the loads that entered, and those that left at their goals
+-- the values on each link, the head first, where a link without values has no entry; and the values that entered, and
+-- those that left at their goals
 pub record Traffic (X : Type 0) : Type 0 where
   pub links : List (Pair × List (Load X))
   pub entered : List (Load X)
@@ -22,14 +24,14 @@ pub data Change (X : Type 0) : Type 0 where
   Enter : (from to : ℕ) (value : X) → Change X
   Move : (link : Pair) → Change X
 
--- the head of a link leaves at its goal, and else goes last on its next link
+-- the head of a link leaves at its goal, and otherwise goes last on its next link
 abbrev pub moved_on : {X : Type 0} → Placement → Traffic X → Pair → List (Load X) → Traffic X
 moved_on l t k [] = t
 moved_on l t k (x ∷ rest) =
     if x.to == k.1 then record t { links = put_list pair_cmp k rest t.links; left = t.left ++ x ∷ [] }
     else record t { links = push_list pair_cmp (k.1, next l k.1 x.to) x (put_list pair_cmp k rest t.links) }
 
--- what is for the node where it enters is on no link
+-- the traffic after the change; a value whose goal is the node where it enters is on no link
 abbrev pub happens : {X : Type 0} → Placement → Traffic X → Change X → Traffic X
 happens l t (Enter a b v) =
     if a == b then t
@@ -43,15 +45,15 @@ traffic l t (e ∷ es) = traffic l (happens l t e) es
 abbrev pub no_traffic : {X : Type 0} → Traffic X
 no_traffic = record { links = []; entered = []; left = [] }
 
--- a load of this pair of nodes
+-- the load, if it goes from a to b
 abbrev pub of_pair : {X : Type 0} → ℕ → ℕ → Load X → List (Load X)
 of_pair a b x = if x.from == a && x.to == b then x ∷ [] else []
 
--- the loads of one pair of nodes
+-- the loads from a to b
 abbrev pub between : {X : Type 0} → ℕ → ℕ → List (Load X) → List (Load X)
 between a b xs = flat_map (of_pair a b) xs
 
--- what is entered is between nodes of the mesh
+-- the values that enter go between nodes of the mesh
 abbrev pub Inside : {X : Type 0} → Placement → List (Change X) → Type 0
 Inside l [] = Unit {0}
 Inside l (Enter a b v ∷ es) = (a < l.width * l.height) × (b < l.width * l.height) × Inside l es

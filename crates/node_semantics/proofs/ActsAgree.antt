@@ -1,4 +1,4 @@
--- An event of a machine that agrees with the act of the event.
+-- An event of a machine whose act agrees with the act of the configuration.
 use Rattle.std.specs.Prelude.{◌≡◌}
 use Rattle.run_types.specs.declared.types.Placement.{Placement}
 use Rattle.mesh_semantics.specs.Language.{Language}

@@ -1,4 +1,4 @@
--- An object is added to its node; the slot that stepped last is kept; objects that were made are counted.
+-- A node after an object is added, after the last slot is set, and after a made object is counted.
 use Rattle.std.proofs.Common.{◌≡◌, ◌≢◌, ◌⊎◌, inl, inr, refl, sym, ap, ap₂, subst, ◌∙◌, ℕ, ◌+◌, ◌<◌, ◌≤◌, [], ◌∷◌, length, length-append, Option, Some, None, cond, arith}
 use Rattle.std.specs.Prelude.{slice_get}
 use Rattle.std.specs.Option.{unwrap_or}

@@ -1,4 +1,4 @@
--- The messages in mailboxes and the packets on links, counted by slots and links and by what the delay has.
+-- The messages in mailboxes and the packets on links, counted by slots and links and by the delay.
 use Rattle.std.proofs.Common.{◌≡◌, ◌≢◌, ◌⊎◌, inl, inr, refl, sym, ap, ap₂, subst, ◌∙◌, IsTrue, ℕ, zero, suc, ◌+◌, ◌<◌, ◌≤◌, ◌==◌, List, [], ◌∷◌, length, Some, None, Bool, true, false, cond, if◌then◌else◌, arith}
 use Rattle.std.specs.Prelude.{slice_get}
 use Rattle.std.specs.Option.{unwrap_or}

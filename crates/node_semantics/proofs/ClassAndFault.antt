@@ -1,4 +1,5 @@
--- An object's slot has its class and its fault; and a machine has an object with a fault where what it stands for has one.
+-- The slot of an object has its class and its fault. A machine has an object with a fault exactly if its configuration
+-- has one.
 use Rattle.std.proofs.Common.{◌≡◌, refl, sym, ap, subst, ◌∙◌, IsTrue, ℕ, zero, suc, ◌<◌, List, [], ◌∷◌, Option, Some, None, is_some, true, arith}
 use Rattle.std.specs.Prelude.{slice_get}
 use Rattle.std.specs.List.{list_any}

@@ -1,4 +1,4 @@
--- The places of classes.
+-- The positions of classes in their list.
 use Rattle.std.proofs.Common.{◌≡◌, ◌⊎◌, inl, inr, refl, sym, ap, ◌∙◌, ℕ, zero, suc, List, [], ◌∷◌, length, replicate, Some, Bool, true, false}
 use Rattle.std.specs.Prelude.{slice_get, ◌==◌}
 use Rattle.std.specs.Option.{unwrap_or}

@@ -1,4 +1,4 @@
--- The turn that makes an object: on the own node, or by a packet.
+-- The turn that makes an object, on its own node or by a packet.
 use Rattle.std.proofs.Common.{◌≡◌, ◌≢◌, ◌⊎◌, inl, inr, refl, sym, ap, subst, ◌∙◌, ℕ, ◌+◌, ◌*◌, ◌%◌, ◌<◌, ◌==◌, [], length, Option, Some, None, Bool, true, false, arith}
 use Rattle.std.specs.Prelude.{slice_get}
 use Rattle.run_types.specs.declared.types.Value.TheVariants as V

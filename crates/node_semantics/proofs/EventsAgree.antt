@@ -1,4 +1,5 @@
--- A machine answers each event as what it stands for does, and stands for what is after it. At the start it stands for the start.
+-- A machine answers each event as the configuration that it represents does, and then represents the configuration
+-- after it. Its start represents the start.
 use Rattle.std.proofs.Common.{◌≡◌, ◌≢◌, refl, sym, subst, ℕ, ◌*◌, ◌<◌, Option, Some, None, is_none, true, false, ◌&&◌}
 use Rattle.std.specs.Prelude.{slice_get}
 use Rattle.std.specs.List.{list_any}

@@ -1,4 +1,4 @@
--- There are numbers for the events of each schedule; and a test of numbers along a run.
+-- Fresh request numbers exist for each schedule; and a test of numbers along a run.
 use Rattle.std.proofs.Common.{◌≡◌, ◌≢◌, ap, subst, ◌∙◌, ℕ, zero, suc, ◌+◌, ◌<◌, List, [], ◌∷◌, Option, Some, None, Bool, true, false, not, ◌&&◌, ◌||◌, arith}
 use Rattle.std.specs.Prelude.{slice_get}
 use Rattle.run_types.specs.declared.types.Event.{Event}

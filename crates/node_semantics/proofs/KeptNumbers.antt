@@ -1,4 +1,4 @@
--- Numbers that stand for a request: what a change leaves of them.
+-- Request numbers that belong to a request, after a change of the machine.
 use Rattle.std.proofs.Common.{◌≡◌, ◌≢◌, inl, inr, refl, sym, ap, ◌∙◌, ℕ, ◌==◌, List, [], ◌∷◌, Option, Some, None, Bool, true, false}
 use Rattle.run_types.specs.Tables.{Pair, Each}
 use Rattle.run_types.proofs.Laws.{equals, same_some}

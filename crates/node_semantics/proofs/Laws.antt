@@ -1,4 +1,5 @@
--- The lemmas that other crates cite: on names and slots, and the laws of machines of nodes over any language of objects and any property that is kept.
+-- The lemmas that other crates cite: on names and slots, and on machines of nodes over any language of objects and any
+-- kept property.
 pub use Rattle.node_semantics.proofs.NamesAndSlots.{whole_name, name_node, name_slot, slot_below, set_same, set_other, set_length, set_set, at_node, last_there, front_there}
 pub use Rattle.node_semantics.proofs.NodeCounts.{objects_count, frames_count, cells_count}
 pub use Rattle.node_semantics.proofs.StartsAgree.{start_agrees, start_agrees_on_wires}

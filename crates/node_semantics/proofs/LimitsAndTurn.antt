@@ -1,4 +1,4 @@
--- A step within the limits of its node; and the object whose turn it is.
+-- A step within the limits of its node, and the object whose turn it is.
 use Rattle.std.proofs.Common.{◌≡◌, refl, sym, ap, ap₂, subst, ◌∙◌, ℕ, ◌+◌, ◌<◌, ◌≤◌, ◌==◌, List, [], ◌∷◌, ◌++◌, length, Option, Some, None, is_none, Bool, true, false, ◌&&◌, if◌then◌else◌, nat_lt, arith}
 use Rattle.std.specs.Prelude.{slice_get, filter}
 use Rattle.std.specs.Ordering.{nat_cmp}

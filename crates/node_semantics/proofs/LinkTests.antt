@@ -1,4 +1,4 @@
--- A test of what is on some link of a machine is the test of what is on the way in the delay.
+-- A test of the packets on links of a machine is the test of the packets on links of the delay.
 use Rattle.std.proofs.Common.{◌≡◌, ◌≢◌, ◌⊎◌, inl, inr, refl, sym, ap, ap₂, ◌∙◌, IsTrue, List, [], ◌∷◌, Bool, true, false, ◌||◌, cond}
 use Rattle.std.specs.List.{list_any}
 use Rattle.std.specs.Option.{unwrap_or}

@@ -1,4 +1,4 @@
--- What a machine says of a name is where the object of that name stands.
+-- The status that a machine reports of a name is that of its object.
 use Rattle.std.proofs.Common.{◌≡◌, ◌≢◌, ◌⊎◌, inl, inr, refl, sym, ap, ap₂, subst, ◌∙◌, ℕ, List, [], ◌∷◌, ◌++◌, Option, Some, None, Bool, true, false, ◌==◌, ◌&&◌, ◌||◌, if◌then◌else◌}
 use Rattle.std.specs.List.{list_any}
 use Rattle.run_types.specs.declared.types.Value.TheVariants as V

@@ -1,4 +1,4 @@
--- The small changes by name: a request goes out, a message comes or is taken, a number is settled, an object is added.
+-- Small changes by name: a request is posted, a message arrives or is taken, a number is settled, an object is added.
 use Rattle.std.proofs.Common.{◌≡◌, ◌≢◌, ◌⊎◌, inl, inr, refl, sym, ap, subst, ◌∙◌, ℕ, ◌==◌, List, [], ◌∷◌, ◌++◌, append-nil, Option, Some, None, Bool, true, false}
 use Rattle.std.specs.Prelude.{slice_get}
 use Rattle.std.specs.Ordering.{nat_cmp}

@@ -1,4 +1,4 @@
--- What stands at each name after a change.
+-- The slot and the object of each name after a change.
 use Rattle.std.proofs.Common.{◌≡◌, ◌≢◌, refl, sym, subst, ℕ, List, [], ◌∷◌, Option, Some, None}
 use Rattle.run_types.specs.Tables.{Pair, Each}
 use Rattle.mesh_semantics.specs.Language.{Language}

@@ -1,4 +1,4 @@
--- Names and slots: what a change of one slot leaves.
+-- Names and slots after a change of one slot.
 use Rattle.std.proofs.Common.{◌≡◌, ◌≢◌, ◌⊎◌, inl, inr, refl, sym, ap, ap₂, ◌∙◌, ℕ, zero, suc, ◌<◌, List, [], ◌∷◌, ◌++◌, length, Some, arith}
 use Rattle.std.specs.Prelude.{slice_get}
 use Rattle.run_types.proofs.Laws.{decide}

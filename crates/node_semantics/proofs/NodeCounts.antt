@@ -1,4 +1,4 @@
--- The counts of a node are those of what it stands for, and so are its limits.
+-- The counts of a node are those of the configuration that its machine represents, and so are its limits.
 use Rattle.std.proofs.Common.{◌≡◌, refl, sym, ap, ap₂, subst, ◌∙◌, ℕ, ◌+◌, ◌-◌, ◌<◌, ◌≤◌, ◌==◌, List, [], ◌∷◌, length, Option, Some, None, arith}
 use Rattle.std.specs.Prelude.{slice_get, sum_by, filter}
 use Rattle.std.specs.Ordering.{nat_cmp}

@@ -1,4 +1,4 @@
--- What a node says of an object is where it stands.
+-- The status that a node reports of a slot is that of its object.
 use Rattle.std.proofs.Common.{◌≡◌, ◌≢◌, refl, sym, ap, ap₂, subst, ◌∙◌, ℕ, List, [], ◌∷◌, ◌++◌, Option, Some, None, Bool, true, false}
 use Rattle.std.specs.Prelude.{if◌then◌else◌, ◌==◌, ◌&&◌}
 use Rattle.run_types.specs.declared.types.Error.{Error}

@@ -1,4 +1,5 @@
--- A turn of one object, before the limits of its node are asked: what it has to show, and the turns that change this object alone.
+-- A turn of one object, before the limits of its node are tested: its obligations, and the turns that change this
+-- object alone.
 use Rattle.std.proofs.Common.{◌≡◌, ◌≢◌, ◌⊎◌, inl, inr, refl, sym, ap, subst, ◌∙◌, ℕ, ◌<◌, ◌≤◌, List, length, Some, None, true}
 use Rattle.std.specs.Prelude.{slice_get}
 use Rattle.std.specs.Ordering.{nat_cmp}

@@ -1,4 +1,4 @@
--- The request numbers that are out are those of the objects that are posted, at a wait, or due.
+-- The request numbers in use belong to the objects that are posted, at a wait, or due.
 use Rattle.std.proofs.Common.{◌≡◌, ◌≢◌, inl, inr, refl, sym, ap, subst, ◌∙◌, ℕ, List, [], ◌∷◌, Option, Some, None, true}
 use Rattle.run_types.specs.declared.types.Placement.{Placement}
 use Rattle.mesh_semantics.specs.Kind as K

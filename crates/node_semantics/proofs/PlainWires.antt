@@ -1,4 +1,4 @@
--- What happens on a wire does not look at the numbers of requests: without them the same happens.
+-- The events of a wire do not depend on request numbers: without them the same happens.
 use Rattle.std.proofs.Common.{◌≡◌, refl, sym, ap, ap₂, ◌∙◌, ℕ, zero, suc, ◌+◌, ◌==◌, List, [], ◌∷◌, ◌++◌, length, Option, Some, None, Bool, true, false, if◌then◌else◌, nat_lt}
 use Rattle.std.specs.Prelude.{slice_get}
 use Rattle.run_types.specs.declared.types.What.{What}

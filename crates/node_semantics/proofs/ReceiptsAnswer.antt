@@ -1,4 +1,4 @@
--- A node that is given a packet that it may be given always answers.
+-- A node answers each packet that it can receive.
 use Rattle.std.proofs.Common.{◌≢◌, refl, ℕ, Option, Some, None, Bool, true, false}
 use Rattle.std.specs.Prelude.{nat_lt, length, ◌+◌, if◌then◌else◌}
 use Rattle.run_types.specs.declared.types.Placement.{Placement}

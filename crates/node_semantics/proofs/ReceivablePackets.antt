@@ -1,4 +1,4 @@
--- What a packet meets that a node is given, with the names in it.
+-- A packet that comes off a link at its goal, and the names in it, meet the conditions of its node.
 use Rattle.std.proofs.Common.{◌≡◌, ◌≢◌, ◌⊎◌, inl, inr, refl, sym, subst, ◌∙◌, ℕ, ◌<◌, List, [], ◌∷◌, ◌++◌, Option, Some, None, Bool, true, false}
 use Rattle.std.specs.Prelude.{slice_get, flat_map}
 use Rattle.run_types.specs.declared.types.Value.{Value}

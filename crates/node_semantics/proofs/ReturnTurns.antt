@@ -1,4 +1,5 @@
--- The turn that gives a value back: the caller's number is settled on the same node, and goes with a packet to another one.
+-- The turn that returns a value: the caller's number is settled on the same node, and goes with a packet to another
+-- one.
 use Rattle.std.proofs.Common.{◌≡◌, ◌≢◌, ◌⊎◌, inl, inr, refl, sym, ap, ap₂, subst, ◌∙◌, ℕ, ◌<◌, ◌≤◌, ◌==◌, List, [], ◌∷◌, length, Option, Some, None, Bool, true, false, if◌then◌else◌, arith}
 use Rattle.std.specs.Prelude.{slice_get}
 use Rattle.std.specs.Ordering.{nat_cmp}

@@ -1,4 +1,4 @@
--- A number that is settled: whose slot it changes.
+-- The slot that changes when a number is settled.
 use Rattle.std.proofs.Common.{◌≡◌, refl, ap, ℕ, zero, suc, List, [], ◌∷◌, Option, Some, None, Bool, true, false, arith}
 use Rattle.std.specs.Prelude.{slice_get}
 use Rattle.run_types.specs.declared.types.Value.{Value}

@@ -1,4 +1,4 @@
--- The objects of a node, by rising names, are those in its slots: so its counts agree, and the objects that can step.
+-- The objects of a node, by rising names, are those in its slots. So the counts agree, and the ready objects.
 use Rattle.std.proofs.Common.{◌≡◌, ◌≢◌, ◌⊎◌, inl, inr, refl, sym, ap, ap₂, subst, ◌∙◌, IsTrue, ℕ, suc, ◌+◌, ◌-◌, ◌<◌, ◌≤◌, ◌==◌, List, [], ◌∷◌, length, Option, Some, None, Bool, true, false, ◌&&◌, if◌then◌else◌, arith}
 use Rattle.std.specs.Prelude.{slice_get, sum_by, filter}
 use Rattle.std.specs.Ordering.{nat_cmp, is_lt}

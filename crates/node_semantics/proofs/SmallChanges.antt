@@ -1,4 +1,4 @@
--- Small changes of a machine and of what it stands for, of which the events are made.
+-- Small changes of a machine and of the configuration that it represents, from which the events are built.
 use Rattle.std.proofs.Common.{◌≡◌, ◌≢◌, ◌⊎◌, inl, inr, refl, sym, ap, subst, ◌∙◌, ℕ, ◌≤◌, ◌==◌, List, ◌∷◌, length, Some}
 use Rattle.std.specs.Prelude.{slice_get}
 use Rattle.std.specs.Ordering.{nat_cmp}

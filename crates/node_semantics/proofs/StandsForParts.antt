@@ -1,4 +1,4 @@
--- How what a machine stands for after a change is put together.
+-- The abstraction relation after a change, from its parts.
 use Rattle.std.proofs.Common.{◌≡◌, ◌≢◌, ◌⊎◌, inl, inr, sym, subst, ◌∙◌, IsTrue, ℕ, ◌≤◌, List, length, Some}
 use Rattle.std.specs.Prelude.{slice_get}
 use Rattle.std.specs.Ordering.{nat_cmp}

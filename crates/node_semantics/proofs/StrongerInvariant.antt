@@ -1,4 +1,4 @@
--- What is asked of a language where a property is kept holds also where a property is kept that says more.
+-- The conditions on a language hold for a stronger kept property if they hold for a weaker one.
 use Rattle.mesh_semantics.specs.Language.{Language}
 use Rattle.mesh_semantics.specs.Config.{Config}
 use Rattle.mesh_semantics.specs.Requests.{Requests, AreServed, KnownNames}

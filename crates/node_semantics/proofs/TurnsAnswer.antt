@@ -1,4 +1,5 @@
--- A turn of a node by itself is idle where none of its objects can step, and else a line or a limit, where its objects can do what they are at.
+-- A turn of a node is idle if none of its objects is ready. Otherwise it answers with a line or a limit, if its
+-- objects can do their next actions.
 use Rattle.std.proofs.Common.{◌≡◌, ◌≢◌, refl, ap, sym, subst, ◌∙◌, ℕ, zero, suc, ◌+◌, List, [], ◌∷◌, Option, Some, None, is_none, is_some, Bool, true, false, ◌&&◌, ◌||◌, ◌==◌, arith}
 use Rattle.std.specs.Prelude.{slice_get, filter}
 use Rattle.std.specs.List.{list_any}

@@ -1,4 +1,4 @@
--- Over wires too a machine does what it stands for: what it keeps of each wire does what the wire does.
+-- Over wires, too, a machine does what its configuration does: the stored part of each wire does what the wire does.
 use Rattle.std.proofs.Common.{◌≡◌, ◌≢◌, ◌⊎◌, inl, inr, refl, sym, ap, subst, ◌∙◌, ℕ, ◌+◌, ◌<◌, ◌==◌, List, [], ◌∷◌, ◌++◌, append-nil, append_assoc, length, Option, Some, None, Bool, true, false, ◌||◌, if◌then◌else◌, nat_lt}
 use Rattle.std.specs.Prelude.{slice_get, drop}
 use Rattle.std.specs.List.{list_any}

@@ -1,12 +1,13 @@
--- What a node is asked so that each of its turns answers: who makes an object makes one of a class that is there, who can take a message can serve it, and who returns
--- a value has the number of a caller.
+-- The condition on a node under which each of its turns answers with a line or a limit: its objects can do their next
+-- actions.
 use Rattle.std.specs.Prelude.{◌≡◌, ◌≢◌, ℕ, ◌+◌, [], Option, Some, None, true, slice_get}
 use Rattle.mesh_semantics.specs.Kind as K
 use Rattle.mesh_semantics.specs.Kind.{Kind, Alternative, answered}
 use Rattle.mesh_semantics.specs.Language.{Language}
 use Rattle.node_semantics.specs.Node.{NumberedArrival, Slot, NodeState, name_at, first_on}
 
--- the object o of a slot, by what it does next
+-- The object o of a slot can do this action. A class to be made exists. A message that an open alternative takes can
+-- be served. A return has the number of a caller.
 abbrev pub CanAct : {S : Type 0} → Language S → ℕ → Slot S → Kind → Type 0
 CanAct g o s (K.New class) = g.made class ≢ None
 CanAct g o s (K.Select alts) = (i : ℕ) (a : Alternative) (e : NumberedArrival) (caller : Option ℕ) → slice_get alts i ≡ Some a → a.is_open ≡ true

@@ -1,4 +1,5 @@
--- The lines that a machine writes over a schedule, where the requests of its events have the numbers of a list; and that these numbers are fresh along its run.
+-- The lines that a machine writes over a schedule, with a request number for each event from a list; and lists whose
+-- numbers are fresh along the run.
 use Rattle.std.specs.Prelude.{ℕ, ◌+◌, List, [], ◌∷◌, Option, Some, None, Bool, true, false}
 use Rattle.run_types.specs.declared.types.Event.{Event}
 use Rattle.run_types.specs.declared.types.End.TheVariants as E
@@ -15,7 +16,8 @@ goes_on e done rest (M.Acts what m) = R.Event (done + 1) e what ∷ rest m
 goes_on e done rest (M.Full kind node) = R.End (E.Full kind node done) ∷ []
 goes_on e done rest M.Nothing = []
 
--- a request that is posted in an event has the event's number of the list; without one for each event nothing is written further
+-- Each event takes the next number of the list, for a request that it posts. The lines end if the list has no number
+-- left.
 abbrev pub lines_from : {S : Type 0} → Language S → Placement → ℕ → Machine S → ℕ → List Event → List ℕ → List Line
 lines_from g l q m done [] numbers = elim (is_machine_quiet g m) as (λ b. List Line) [ true ↦ R.End (E.Quiet done) ∷ [] | false ↦ R.End (E.Schedule done) ∷ [] ]
 lines_from g l q m done (e ∷ es) [] = []
@@ -31,11 +33,11 @@ lines_at g l q (Some m) es numbers = lines_from g l q m 0 es numbers
 abbrev pub machine_lines : {S : Type 0} → Language S → Placement → ℕ → List Event → List ℕ → List Line
 machine_lines g l q es numbers = lines_at g l q (machine_start g l) es numbers
 
--- the same where links are wires
+-- the lines over wires
 abbrev pub machine_lines_on_wires : {S : Type 0} → Language S → Placement → ℕ → List Event → List ℕ → List Line
 machine_lines_on_wires g l q es numbers = lines_at g l q (machine_start_on_wires g l) es numbers
 
--- what holds after the event, if there is an after
+-- P holds of the machine after a line; nothing is required after a limit
 abbrev pub Then : {S : Type 0} → (Machine S → Type 0) → MachineActed S → Type 0
 Then P (M.Acts what m) = P m
 Then P (M.Full kind node) = Unit {0}
@@ -45,7 +47,7 @@ abbrev pub UnlessQuiet : Bool → Type 0 → Type 0
 UnlessQuiet true P = Unit {0}
 UnlessQuiet false P = P
 
--- each event of the run has a number, which at that moment is not out at the node of the event
+-- each event of the run has a number, which is not in use at the node of the event at that moment
 abbrev pub AreFresh : {S : Type 0} → Language S → Placement → ℕ → Machine S → List Event → List ℕ → Type 0
 AreFresh g l q m [] numbers = Unit {0}
 AreFresh g l q m (e ∷ es) [] = ⊥
@@ -60,6 +62,6 @@ AreFreshAt g l q (Some m) es numbers = AreFresh g l q m es numbers
 abbrev pub FreshAlong : {S : Type 0} → Language S → Placement → ℕ → List Event → List ℕ → Type 0
 FreshAlong g l q es numbers = AreFreshAt g l q (machine_start g l) es numbers
 
--- the same where links are wires
+-- the same over wires
 abbrev pub FreshAlongWires : {S : Type 0} → Language S → Placement → ℕ → List Event → List ℕ → Type 0
 FreshAlongWires g l q es numbers = AreFreshAt g l q (machine_start_on_wires g l) es numbers

@@ -1,4 +1,5 @@
--- The request numbers that are out at a node: each is the number of one object, and these objects are exactly those of the node that are posted, at a wait, or due.
+-- The request numbers in use at a node: each belongs to one object, and these objects are exactly those of the node
+-- that are posted, at a wait, or due.
 use Rattle.std.specs.Prelude.{◌≡◌, ◌≢◌, ◌⊎◌, ℕ, Some, None, true}
 use Rattle.mesh_semantics.specs.Language.{Language}
 use Rattle.mesh_semantics.specs.Config.{Config, object_of}
@@ -8,7 +9,7 @@ use Rattle.mesh_semantics.specs.Sound.{is_wait}
 use Rattle.node_semantics.specs.Machine.{Machine}
 use Rattle.node_semantics.specs.StandsFor.{IsOut, request_of}
 
--- the object of this name in the state x is posted or due, or at a wait
+-- the object o in the state x is posted, due, or at a wait
 abbrev pub IsWaiting : {S : Type 0} → Language S → Delay → ℕ → S → Type 0
 IsWaiting g d o x = (held d o ≢ None) ⊎ (is_wait (g.kind o x) ≡ true)
 

@@ -1,4 +1,4 @@
--- Where an object stands: as the node of its slot knows it, and as the machine knows it, which sees the links too.
+-- The status of an object as its node reports it, and as the machine reports it, which sees the links too.
 use Rattle.std.specs.Prelude.{◌≡◌, ℕ, ◌==◌, List, Option, Some, None, Bool, false, if◌then◌else◌}
 use Rattle.std.specs.List.{list_any}
 use Rattle.run_types.specs.declared.types.Error.{Error}
@@ -16,7 +16,7 @@ use Rattle.node_semantics.specs.Node.{Slot, arrivals}
 use Rattle.node_semantics.specs.Machine.{Machine}
 use Rattle.node_semantics.specs.StandsFor.{slot_at}
 
--- while its request is out it calls or creates, at the node that is kept
+-- while its request is pending, the object calls, or creates at the stored goal
 abbrev pub slot_standing_by : Option ℕ → Option Error → List Arrival → ℕ → Kind → Standing
 slot_standing_by (Some number) f box goal (K.Send b m args) = T.Calls b m
 slot_standing_by (Some number) f box goal (K.New class) = T.Creates class goal
@@ -34,18 +34,18 @@ IsRequest (T.Calls b m) = Unit {0}
 IsRequest (T.Creates class node) = Unit {0}
 IsRequest _ = ⊥
 
--- what a node says of an object is where it stands, with a call or a create in place of due
+-- the first status is the second; if the second is due, the first is a call or a request for a new object
 abbrev pub SaysOf : Standing → Standing → Type 0
 SaysOf s T.Due = IsRequest s
 SaysOf s t = s ≡ t
 
--- whether the packet brings the object its value
+-- whether the packet has the value for the object
 abbrev pub brings : ℕ → Packet → Bool
 brings o (D.Created k name) = k == o
 brings o (D.Result k v) = k == o
 brings o _ = false
 
--- whether its value is on a link
+-- whether the object's value is on a link
 abbrev pub is_on_way : ℕ → List (Pair × List NumberedPacket) → Bool
 is_on_way o links = list_any (λ e. list_any (λ p. brings o p.packet) e.1) links
 
@@ -53,6 +53,6 @@ abbrev pub standing_in : {S : Type 0} → Language S → Machine S → ℕ → O
 standing_in g m o None = None
 standing_in g m o (Some s) = Some (if is_on_way o m.links then T.Due else slot_standing g o s)
 
--- due while the value is on a link, and else what its node says; nothing of a name without object
+-- due while the value is on a link, and otherwise the status that the node reports; none for a name without object
 abbrev pub machine_standing : {S : Type 0} → Language S → Machine S → ℕ → Option Standing
 machine_standing g m o = standing_in g m o (slot_at m o)

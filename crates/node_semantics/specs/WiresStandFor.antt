@@ -1,4 +1,5 @@
--- What the kept wires of a machine stand for: those of the delay. What is kept of a wire is kept of one whose packets have their numbers, and which is the delay's without them.
+-- The abstraction relation for machines with or without wires: the stored part of each wire is that of a wire with
+-- numbered packets, which without the numbers is the wire of the delay.
 use Rattle.std.specs.Prelude.{◌≡◌, List, [], ◌∷◌, ◌++◌, Option, Some, None}
 use Rattle.run_types.specs.declared.types.Placement.{Placement}
 use Rattle.run_types.specs.Tables.{Pair, pair_cmp, list_at}
@@ -14,7 +15,7 @@ use Rattle.node_semantics.specs.Machine as M
 use Rattle.node_semantics.specs.Machine.{KeptWires, Machine, MachineActed, kept_at}
 use Rattle.node_semantics.specs.StandsFor.{MachineStandsFor, packets}
 
--- frames without the numbers of their packets' requests
+-- the frames without the request numbers of their packets
 abbrev pub plain_frames : List (Frame NumberedPacket) → List (Frame Packet)
 plain_frames [] = []
 plain_frames (f ∷ fs) = (f.0, f.1.packet) ∷ plain_frames fs
@@ -22,7 +23,7 @@ plain_frames (f ∷ fs) = (f.0, f.1.packet) ∷ plain_frames fs
 abbrev pub plain_wire : Wire NumberedPacket → Wire Packet
 plain_wire w = record { put = packets w.put; handed = packets w.handed; acked = w.acked; next = w.next; sent = w.sent; frames = plain_frames w.frames; acks = w.acks }
 
--- v is what is kept of the wire w, on whose link these packets are
+-- v is the stored part of the wire w, whose link has these packets
 pub record WireStandsFor (v : KeptWire NumberedPacket) (w : Wire Packet) (link : List NumberedPacket) : Type 0 where
   pub wire : Wire NumberedPacket
   pub facts : WireFacts wire
@@ -36,12 +37,12 @@ WiresStandFor (Some vs) (Some ws) links = (k : Pair) → WireStandsFor (kept_at 
 WiresStandFor None (Some ws) links = ⊥
 WiresStandFor (Some vs) None links = ⊥
 
--- a machine with or without wires stands for the configuration and the delay
+-- the machine, with or without wires, represents the configuration and the delay
 pub record StandsFor {S : Type 0} (g : Language S) (l : Placement) (m : Machine S) (c : Config S) (d : Delay) : Type 0 where
   pub state : MachineStandsFor g l m c d
   pub wires : WiresStandFor m.wires d.wires m.links
 
--- the same line, and the machine then stands for what is after it; or the same limit
+-- both have the same line, and then the machine represents the configuration after it; or both have the same limit
 abbrev pub AgreesOn : {S : Type 0} → Language S → Placement → MachineActed S → Acted S → Type 0
 AgreesOn g l (M.Acts w m) (A.Acts v c d) = (w ≡ v) × StandsFor g l m c d
 AgreesOn g l (M.Acts w m) (A.Full k n) = ⊥
@@ -51,7 +52,7 @@ AgreesOn g l (M.Full j b) (A.Full k n) = (j ≡ k) × (b ≡ n)
 AgreesOn g l (M.Full j b) A.Nothing = ⊥
 AgreesOn g l M.Nothing a = ⊥
 
--- the machine stands for the start with this delay, or there is neither
+-- the machine represents the start with this delay, or there is neither
 abbrev pub StartAgrees : {S : Type 0} → Language S → Placement → Delay → Option (Machine S) → Option (Config S) → Type 0
 StartAgrees g l d (Some m) (Some c) = StandsFor g l m c d
 StartAgrees g l d None None = Unit {0}

@@ -1,5 +1,6 @@
-//! Laws of machines of nodes, over the definitions alone: each is the contract of a function that does nothing. They hold of any language of objects whose states are
-//! the type parameter `S`. What is kept of a configuration is a property: a contract ranges over it as over what a function gives, from the type parameter `K`.
+//! The theorems about machines of nodes, over the definitions alone. Each is the contract of a function with an empty
+//! body. They hold of every language of objects; the type parameter `S` is its states. A property of configurations is
+//! given by a function from the type parameter `K`, and holds of the values of that function (`IsGiven`).
 ghost use Rattle.std.specs.Prelude.{◌≡◌, ◌≢◌, ◌+◌, ℕ, List, [], ◌∷◌, None, Some, is_some, length, slice_get};
 ghost use Rattle.std.specs.List.{list_any};
 ghost use Rattle.run_types.specs.declared.types.Event.{Event};
@@ -32,28 +33,31 @@ ghost use Rattle.node_semantics.specs.Receives.{IsReceivable};
 ghost use Rattle.node_semantics.specs.CanTurn.{CanTurn};
 ghost use Rattle.node_semantics.specs.Standings.{SaysOf, machine_standing, slot_standing};
 
-/// At its start a machine stands for the start, with nothing on the way and with or without wires; there is a start for both or for neither.
+/// The start of a machine represents the start of the configuration, with or without wires. Both have a start, or
+/// neither has.
 pub fn a_machine_starts_as_what_it_stands_for<S, K>()
     ensures start { (g : Language S) (kept : K → Config S) (l : Placement) → FitFor g l → Requests g (IsGiven kept) → StartAgrees g l no_delay (machine_start g l) (start g l) }
     ensures on_wires { (g : Language S) (kept : K → Config S) (l : Placement) → FitFor g l → Requests g (IsGiven kept)
         → StartAgrees g l no_delay_on_wires (machine_start_on_wires g l) (start g l) }
 {}
 
-/// A machine answers an event as the sound configuration does that it stands for, with the same line or the same limit, and after a line it stands for what is after it.
+/// A machine answers an event as the sound configuration that it represents does: with the same line or the same
+/// limit. After a line it represents the configuration after the event. The event is one of the mesh, and the number
+/// for a request is not in use at the node of a turn.
 pub fn a_machine_does_what_it_stands_for<S, K>()
     ensures { (g : Language S) (kept : K → Config S) (l : Placement) (q fresh : ℕ) (m : Machine S) (c : Config S) (d : Delay) (e : Event)
         → Lawful g (IsGiven kept) → Requests g (IsGiven kept) → FitFor g l → IsSound g (IsGiven kept) l c d → StandsFor g l m c d
         → IsOfMesh l e → IsFresh m fresh e → AgreesOn g l (machine_act g l q fresh m e) (act g l q c d e) }
 {}
 
-/// A machine is quiet exactly where what it stands for is.
+/// A machine is quiet exactly if the configuration that it represents is quiet.
 pub fn a_machine_is_quiet_as_what_it_stands_for<S, K>()
     ensures { (g : Language S) (kept : K → Config S) (l : Placement) (m : Machine S) (c : Config S) (d : Delay)
         → Lawful g (IsGiven kept) → Requests g (IsGiven kept) → IsSound g (IsGiven kept) l c d → StandsFor g l m c d → is_machine_quiet g m ≡ is_quiet g c d }
 {}
 
-/// Over a schedule a machine writes the lines of the record, whatever numbers its requests have, if the number of each event is not out at the node of the event at
-/// that moment; and so over wires.
+/// Over a schedule a machine writes the lines of the record, for any request numbers that are fresh along its run. The
+/// same holds over wires.
 pub fn a_machine_writes_the_record<S, K>()
     ensures lines { (g : Language S) (kept : K → Config S) (l : Placement) (q : ℕ) (es : List Event) (numbers : List ℕ)
         → Lawful g (IsGiven kept) → Requests g (IsGiven kept) → FitFor g l → ((c : Config S) → start g l ≡ Some c → IsSound g (IsGiven kept) l c no_delay)
@@ -63,19 +67,20 @@ pub fn a_machine_writes_the_record<S, K>()
         → Each (IsOfMesh l) es → FreshAlongWires g l q es numbers → machine_lines_on_wires g l q es numbers ≡ (record_on_wires g l q es).lines }
 {}
 
-/// For each schedule there are such numbers.
+/// For each schedule there are request numbers that are fresh along the run, with and without wires.
 pub fn there_are_fresh_numbers<S>()
     ensures on_wires { (g : Language S) (l : Placement) (q : ℕ) (es : List Event) → (numbers : List ℕ) × FreshAlongWires g l q es numbers }
     ensures numbers { (g : Language S) (l : Placement) (q : ℕ) (es : List Event) → (numbers : List ℕ) × FreshAlong g l q es numbers }
 {}
 
-/// A number that is out at a node is that of one object, and these objects are exactly those that are posted, at a wait, or due, if whom an object waits for serves it.
+/// The request numbers in use at a node belong to exactly its objects that are posted, at a wait or due, and each
+/// number to one of them. The language meets `AreServed`: an object for which another waits serves that one.
 pub fn numbers_that_are_out_name_waiting_objects<S, K>()
     ensures { (g : Language S) (kept : K → Config S) (l : Placement) (m : Machine S) (c : Config S) (d : Delay) (n : ℕ)
         → Requests g (IsGiven kept) → AreServed g (IsGiven kept) → IsGiven kept c → MachineStandsFor g l m c d → Outstanding g m c d n }
 {}
 
-/// A packet that comes off a link at its goal is one that its node may be given.
+/// A packet that comes off a link at its goal meets the conditions under which its node can receive it.
 pub fn a_packet_off_a_link_is_receivable<S, K>()
     ensures { (g : Language S) (kept : K → Config S) (l : Placement) (m : Machine S) (c : Config S) (d : Delay) (a b : ℕ) (e : NumberedPacket) (rest : List NumberedPacket)
         (x : NodeState S) → Lawful g (IsGiven kept) → Requests g (IsGiven kept) → KnownNames g (IsGiven kept) → FitFor g l → IsSound g (IsGiven kept) l c d
@@ -83,19 +88,20 @@ pub fn a_packet_off_a_link_is_receivable<S, K>()
         → IsReceivable g b x e.number e.packet }
 {}
 
-/// Any node that is given a packet that it may be given answers a line or a limit, if an object can be made of each class.
+/// A node answers a packet that it can receive with a line or a limit, if an object of each class can be made.
 pub fn a_node_answers_a_receivable_packet<S>()
     ensures { (g : Language S) (l : Placement) (leaving n : ℕ) (x : NodeState S) (e : NumberedPacket) → ((k : ℕ) → In k g.classes → g.made k ≢ None)
         → IsReceivable g n x e.number e.packet → IsStep (receipt_act g l n leaving e x) }
 {}
 
-/// A turn of any node is idle where none of its objects can step, and else it answers a line or a limit, if its objects can do what they are at.
+/// A turn of a node is idle if none of its objects is ready, and otherwise answers with a line or a limit. For the
+/// answer its objects can do their next actions (`CanTurn`).
 pub fn a_node_answers_its_turn<S>()
     ensures idle { (g : Language S) (l : Placement) (q leaving n fresh : ℕ) (x : NodeState S) → ready_slots g n x ≡ [] → turn_act g l q n leaving fresh x ≡ N.Idle }
     ensures step { (g : Language S) (l : Placement) (q leaving n fresh : ℕ) (x : NodeState S) → CanTurn g n x → ready_slots g n x ≢ [] → IsStep (turn_act g l q n leaving fresh x) }
 {}
 
-/// The objects, frames and cells of a node are counted as those of what its machine stands for.
+/// The objects, frames and cells of a node are counted as those of the configuration that its machine represents.
 pub fn a_node_counts_what_it_stands_for<S, K>()
     ensures objects { (g : Language S) (kept : K → Config S) (l : Placement) (m : Machine S) (c : Config S) (d : Delay) (n : ℕ) (x : NodeState S)
         → Lawful g (IsGiven kept) → Requests g (IsGiven kept) → IsGiven kept c → MachineStandsFor g l m c d → slice_get m.nodes n ≡ Some x → length x.slots ≡ object_count c n }
@@ -106,14 +112,16 @@ pub fn a_node_counts_what_it_stands_for<S, K>()
         → message_count x.slots + leaving m.links n ≡ cell_count d n }
 {}
 
-/// What a node says of a slot is where the object of that name stands, with a call or a create in place of due.
+/// The status that a node reports of a slot is that of its object. If the object is due a value, the node reports its
+/// call or its request for a new object.
 pub fn a_node_says_where_an_object_stands<S, K>()
     ensures { (g : Language S) (kept : K → Config S) (l : Placement) (m : Machine S) (c : Config S) (d : Delay) (o : ℕ) (x : S) (s : Slot S)
         → Lawful g (IsGiven kept) → Requests g (IsGiven kept) → IsSound g (IsGiven kept) l c d → MachineStandsFor g l m c d
         → object_of c o ≡ Some x → slot_at m o ≡ Some s → SaysOf (slot_standing g o s) (standing g d o x) }
 {}
 
-/// What a machine says of a name is where the object of that name stands, and it says nothing exactly of the other names.
+/// The status that a machine reports of a name is that of its object. It reports none exactly if the name has no
+/// object.
 pub fn a_machine_says_where_an_object_stands<S, K>()
     ensures there { (g : Language S) (kept : K → Config S) (l : Placement) (m : Machine S) (c : Config S) (d : Delay) (o : ℕ) (x : S)
         → Lawful g (IsGiven kept) → Requests g (IsGiven kept) → IsSound g (IsGiven kept) l c d → MachineStandsFor g l m c d
@@ -122,7 +130,8 @@ pub fn a_machine_says_where_an_object_stands<S, K>()
         → object_of c o ≡ None → machine_standing g m o ≡ None }
 {}
 
-/// An object's slot has its class and its fault; and an object of the machine has a fault exactly where one of what it stands for has.
+/// The slot of an object has the class and the fault of the object. So an object of the machine has a fault exactly if
+/// one of the configuration has.
 pub fn a_machine_keeps_class_and_fault<S, K>()
     ensures class { (g : Language S) (l : Placement) (m : Machine S) (c : Config S) (d : Delay) (o : ℕ) (x : S) (s : Slot S) → KeepsClassAndFault g → MachineStandsFor g l m c d
         → object_of c o ≡ Some x → slot_at m o ≡ Some s → g.class s.state ≡ g.class x }

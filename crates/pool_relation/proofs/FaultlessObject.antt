@@ -1,4 +1,4 @@
--- An object that is there and has no fault.
+-- An object that exists and has met no error.
 use Rattle.std.proofs.Common.{◌≡◌, refl, sym, ap, ◌∙◌, ℕ, Option, Some, None, arith}
 use Rattle.run_types.specs.declared.types.Error.{Error}
 use Rattle.run_types.proofs.Laws.{given_by}

@@ -1,4 +1,4 @@
--- A method of a program without faults has at most 8 parameters.
+-- A method of a program without class faults has at most 8 parameters.
 use Rattle.std.proofs.Common.{◌≡◌, refl, subst, ◌≤◌, ℕ, zero, suc, ◌==◌, List, [], ◌∷◌, ◌++◌, length, Option, Some, None, Bool, true, false, arith}
 use Rattle.pool_syntax.specs.declared.tree.Var.{Var}
 use Rattle.pool_syntax.specs.Terms.{ProgramTree, ClassTree, MethodTree}

@@ -1,4 +1,4 @@
--- A typed configuration by the one test of typed terms.
+-- A typed configuration, stated by the single test of typed terms.
 use Rattle.std.proofs.Common.{◌≡◌, refl, IsTrue, ℕ, List, [], ◌∷◌, Option, Some, is_some, All}
 use Rattle.std.specs.Ordering.{nat_cmp}
 use Rattle.std.specs.FinMap.{is_sorted}

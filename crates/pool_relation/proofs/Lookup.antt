@@ -1,4 +1,4 @@
--- Objects and messages of a configuration after one was put.
+-- Objects and messages of a configuration after an update of one entry.
 use Rattle.std.proofs.Common.{◌≡◌, refl, sym, ap, ◌∙◌, subst, IsTrue, ℕ, List, [], ◌∷◌, Some, None, Bool, true, false, not, ◌≢◌, cond, arith}
 use Rattle.std.specs.Option.{unwrap_or}
 use Rattle.std.specs.Ordering.{nat_cmp, eq_by_cmp, is_eq, ordering_then}

@@ -1,4 +1,4 @@
--- No object goes wrong, and each can go on or is where it meets another.
+-- No object goes wrong, and each has a transition, is finished, or is at a communication.
 use Rattle.std.proofs.Common.{◌≡◌, refl, sym, ap, ◌∙◌, subst, IsTrue, ℕ, suc, ◌+◌, ◌≤◌, ℤ, pos, negsuc, List, [], ◌∷◌, ◌++◌, length, Option, Some, None, true, false, ◌≢◌, ◌⊎◌, inl, inr, cond, arith}
 use Rattle.std.specs.Ordering.{nat_cmp, is_eq}
 use Rattle.std.specs.declared.cmp.Ordering.{Ordering}

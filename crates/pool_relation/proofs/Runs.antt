@@ -1,4 +1,4 @@
--- Runs of labels that are joined.
+-- Runs that are joined.
 use Rattle.std.proofs.Common.{◌≡◌, refl, sym, ◌∙◌, List, [], ◌∷◌, ◌++◌, Option, Some, None}
 use Rattle.run_types.specs.declared.types.Label.{Label}
 use Rattle.pool_syntax.specs.Terms.{ProgramTree}

@@ -1,4 +1,4 @@
--- The configuration that a program starts in.
+-- The start of a program.
 use Rattle.std.proofs.Common.{◌≡◌, refl, sym, ap, ◌∙◌, subst, IsTrue, ℕ, List, [], ◌∷◌, length, Some, None, is_some, false, ◌==◌, ◌≢◌, cond, arith}
 use Rattle.std.proofs.lemmas.List.Elements.{All-nil}
 use Rattle.std.specs.Ordering.{nat_cmp, is_eq}

@@ -1,4 +1,4 @@
--- A typed configuration from the mere fact that it is one: each object, method and test in it is found again.
+-- The parts of a typed configuration, recovered from the truncated statement that it is typed.
 use Rattle.std.proofs.Common.{◌≡◌, refl, sym, ap, ap₂, subst, IsTrue, ℕ, ◌==◌, List, [], ◌∷◌, length, Option, Some, None, Bool, true, false, ◌&&◌, arith}
 use Rattle.std.proofs.Math.Logic.{∥∥₁_elim, ∥∥₁_map}
 use denote.Struct.Props.{props}

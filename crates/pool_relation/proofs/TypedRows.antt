@@ -1,4 +1,4 @@
--- What a typed term may be and what not, on worked terms.
+-- Worked terms that are typed, and worked terms that are not.
 use Rattle.std.proofs.Common.{◌≡◌, refl, ℕ, zero, suc, pos, [], ◌∷◌, None, Some, true, false}
 use Rattle.run_types.specs.declared.types.Value.TheVariants as V
 use Rattle.run_types.specs.declared.types.Op.TheVariants as O

@@ -1,4 +1,4 @@
--- What the laws ask of a program holds of a worked one.
+-- A worked program meets the conditions of the theorems.
 use Rattle.std.proofs.Common.{◌≡◌, refl, Some, IsTrue}
 use Rattle.pool_relation.specs.Configuration.{Configuration}
 use Rattle.pool_relation.specs.Transition.{start}

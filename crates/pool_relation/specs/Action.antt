@@ -1,4 +1,4 @@
--- What an object does next.
+-- The next action of an object, computed from the redex of its term.
 use Rattle.std.specs.Prelude.{ℕ, ◌==◌, List, [], ◌∷◌, ◌++◌, length, Option, Some, None, is_some, true, false, if◌then◌else◌}
 use Rattle.std.specs.List.{list_any}
 use Rattle.run_types.specs.declared.types.Value.{Value}
@@ -15,18 +15,18 @@ use Rattle.run_types.specs.Values.{Outcome, Gives, Fails, WrongSort, prefix_valu
 use Rattle.pool_relation.specs.Reducible as R
 use Rattle.pool_relation.specs.Reducible.{Choice, Reducible, Found, Evaluated, At, Contractum, AsExpression, AsStatements, set_value, fill_statements, statements_redex}
 
--- an object: its class, its variables, what it has still to do
+-- an object: its class, its variables, and its term, which is the work that is left
 pub record Object : Type 0 where
   pub class : ℕ
   pub vars : Store
   pub term : Statements
-  -- the language error that was met, if one was
+  -- the run-time error that the object has met, if any
   pub fault : Option Error
 
--- what an object does next
+-- the next action of an object
 pub data Action : Type 0 where
   Finished : Action
-  -- a transition of this object alone, with its term and variables afterwards
+  -- a transition of this object alone, with its term and variables after it
   Local : (term : Statements) (vars : Store) → Action
   Fault : (error : Error) → Action
   New : (class : ℕ) → Action
@@ -40,7 +40,7 @@ pub data Action : Type 0 where
   -- a value of a wrong sort, or a name that is not declared
   Stuck : Action
 
--- the value of a variable
+-- the value of the first variable of this name
 abbrev pub value_of : Store → ℕ → Option Value
 value_of [] x = None
 value_of (b ∷ bs) x = if b.0 == x then Some b.1 else value_of bs x
@@ -50,91 +50,91 @@ abbrev pub with_count : ℕ → Option MethodTree → Option MethodTree
 with_count n None = None
 with_count n (Some m) = if length m.params == n then Some m else None
 
--- the method of this name and number of parameters in a class
+-- the method of the class with this name, if it has n parameters
 abbrev pub method_in : Option ClassTree → ℕ → ℕ → Option MethodTree
 method_in None m n = None
 method_in (Some k) m n = with_count n (named_method k.methods m)
 
--- the method of this name in the class, where it has n parameters
+-- the same, for the class of this name in the program
 abbrev pub method_of : ProgramTree → ℕ → ℕ → ℕ → Option MethodTree
 method_of p c m n = method_in (class_of p c) m n
 
--- variables that are all nil
+-- these variables, each with the value nil
 abbrev pub nil_store : List Var → Store
 nil_store [] = []
 nil_store (v ∷ vs) = (v.name.0, V.Nil) ∷ nil_store vs
 
--- parameters with their values
+-- the parameters with their values; a parameter without a value is nil
 abbrev pub bind : List Var → List Value → Store
 bind [] values = []
 bind (v ∷ vs) [] = nil_store (v ∷ vs)
 bind (v ∷ vs) (x ∷ xs) = (v.name.0, x) ∷ bind vs xs
 
--- the parameters of a method with their values, and its locals
+-- the temps of a method that begins: its parameters with their values, and its locals as nil
 abbrev pub temps_of : MethodTree → List Value → Store
 temps_of m args = bind m.params args ++ nil_store m.locals
 
--- a value as an expression
+-- a value as an expression, at position 0
 abbrev pub literal : Value → Expression
 literal v = T.Literal v 0
 
--- a local transition in which this part takes the place of the redex
+-- a local transition that replaces the redex with this part
 abbrev pub becomes : Object → Contractum → Action
 becomes x part = Local (fill_statements x.term part) x.vars
 
--- a local transition in which a value takes the place of the redex
+-- a local transition that replaces the redex with a value
 abbrev pub becomes_value : Object → Value → Action
 becomes_value x v = becomes x (AsExpression (literal v))
 
--- an operator's outcome
+-- the action for the outcome of an operator
 abbrev pub on_outcome : Object → Outcome → Action
 on_outcome x (Gives v) = becomes_value x v
 on_outcome x (Fails e) = Fault e
 on_outcome x WrongSort = Stuck
 
--- a variable's value: that of the temp, else that of the object's variable
+-- the read of a name: the value of the temp if there is one, otherwise that of the object's variable
 abbrev pub read : Object → Option Value → Option Value → Action
 read x (Some v) own = becomes_value x v
 read x None (Some v) = becomes_value x v
 read x None None = Stuck
 
--- an own call: the method under way takes the place of the redex
+-- an own call: the method under way replaces the redex
 abbrev pub on_call : Object → List Value → Option MethodTree → Action
 on_call x args None = Stuck
 on_call x args (Some m) = becomes x (AsExpression (T.Frame m.name.name.0 (temps_of m args) m.body m.value m.post))
 
--- a send to the object of this value
+-- a send to the object that this value names
 abbrev pub on_object : Value → (ℕ → Action) → Action
 on_object (V.Ref b) go = go b
 on_object V.Nil go = Fault NilDestination
 on_object _ go = Stuck
 
--- a temp of the nearest method hides a variable of the object
+-- an assignment: to the temp if the nearest method has one of this name, otherwise to the object's variable
 abbrev pub on_assignment : Object → Store → ℕ → Value → Action
 on_assignment x t n v =
     if is_some (value_of t n) then becomes x (AsStatements T.Done)
     else (if is_some (value_of x.vars n) then Local (fill_statements x.term (AsStatements T.Done)) (set_value x.vars n v) else Stuck)
 
--- a choice by a condition
+-- the branch that the condition selects
 abbrev pub on_branch : Object → Value → Statements → Statements → Action
 on_branch x (V.Bool true) these those = becomes x (AsStatements these)
 on_branch x (V.Bool false) these those = becomes x (AsStatements those)
 on_branch x V.Nil these those = Fault NilOperand
 on_branch x _ these those = Stuck
 
--- a select by the values of its guards
+-- a select, by the values of its guards
 abbrev pub on_select : List Choice → Action
 on_select cs =
     if list_any (λ c. is_nil c.guard) cs then Fault NilOperand
     else (if list_any (λ c. not_bool c.guard) cs then Stuck
     else (if list_any (λ c. is_true c.guard) cs then Select cs else Fault NoOpenGuard))
 
--- the end of a served method, of which this work is left
+-- the end of a served method: a return of the value if there is a caller, otherwise the work that is left
 abbrev pub on_finish : Object → Option ℕ → Value → Statements → Action
 on_finish x None v work = becomes x (AsStatements work)
 on_finish x (Some k) v work = Return k v
 
--- what the object of the name o does at a redex whose nearest method has the temps t
+-- the action of the object o at a redex, if the nearest method has the temps t
 abbrev pub redex_action : ProgramTree → ℕ → Object → Store → Reducible → Action
 redex_action p o x t R.OwnName = becomes_value x (V.Ref o)
 redex_action p o x t (R.Read n) = read x (value_of t n) (value_of x.vars n)
@@ -156,11 +156,11 @@ redex_action p o x t (R.Accept names) = Answer names
 redex_action p o x t (R.Choose choices) = on_select choices
 redex_action p o x t (R.Finish caller v work) = on_finish x caller v work
 
--- what the object does at what was found
+-- the action of the object o, from the result of the search for its redex
 abbrev pub found_action : ProgramTree → ℕ → Object → Found (Unit {0}) → Action
 found_action p o x (Evaluated done) = Finished
 found_action p o x (At r t) = redex_action p o x t r
 
--- what the object of the name o does next
+-- the next action of the object o
 abbrev pub action : ProgramTree → ℕ → Object → Action
 action p o x = found_action p o x (statements_redex [] x.term)

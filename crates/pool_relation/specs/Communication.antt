@@ -1,8 +1,8 @@
--- The actions for which another object or a message is needed.
+-- Communications: a call, a wait, an answer and a select, which need another object or a message.
 use Rattle.pool_relation.specs.Action as A
 use Rattle.pool_relation.specs.Action.{Action}
 
--- an action for which another object or a message is needed
+-- the action is a call, a wait, an answer or a select
 abbrev pub IsCommunication : Action → Type 0
 IsCommunication (A.Send b m args) = Unit {0}
 IsCommunication (A.Waits b m) = Unit {0}

@@ -1,4 +1,4 @@
--- What it is for an object to be able to go on by itself.
+-- The agent of a label, and objects that have a transition of their own.
 use Rattle.std.specs.Prelude.{◌≡◌, ℕ, Some}
 use Rattle.run_types.specs.declared.types.Label.{Label}
 use Rattle.run_types.specs.declared.types.Label.TheVariants as L
@@ -6,7 +6,7 @@ use Rattle.pool_syntax.specs.Terms.{ProgramTree}
 use Rattle.pool_relation.specs.Configuration.{Configuration}
 use Rattle.pool_relation.specs.Transition.{transition}
 
--- the object that makes the transition
+-- the object that makes the transition; for an answer, a return or a take it is the object that accepts or returns
 abbrev pub agent : Label → ℕ
 agent (L.Local o) = o
 agent (L.New o n k) = o
@@ -18,6 +18,6 @@ agent (L.Write o item) = o
 agent (L.Pick o i) = o
 agent (L.Fault o e) = o
 
--- the object can make a transition
+-- some label with this agent is possible
 abbrev pub HasOwnTransition : ProgramTree → Configuration → ℕ → Type 0
 HasOwnTransition p c o = (l : Label) × (agent l ≡ o) × (d : Configuration) × (transition p c l ≡ Some d)

@@ -1,4 +1,4 @@
--- Whether a lone object, with no message on its way, has a step of its own.
+-- Ready actions: those for which an object need not wait for a message or a return.
 use Rattle.std.specs.Prelude.{Bool, true, false, ◌&&◌, is_none}
 use Rattle.std.specs.List.{list_any}
 use Rattle.pool_relation.specs.Reducible.{Choice}
@@ -6,11 +6,11 @@ use Rattle.pool_relation.specs.Action as A
 use Rattle.pool_relation.specs.Action.{Action}
 use Rattle.run_types.specs.Values.{is_true}
 
--- an alternative that is open and plain
+-- the alternative is open and plain
 abbrev pub is_open_plain : Choice → Bool
 is_open_plain c = is_true c.guard && is_none c.answer
 
--- an answer, and a select without an open plain alternative, wait for a message; a wait waits for a return
+-- An answer waits for a message, and so does a select without an open plain alternative. A wait waits for a return.
 abbrev pub is_ready : Action → Bool
 is_ready A.Finished = false
 is_ready (A.Local term vars) = true

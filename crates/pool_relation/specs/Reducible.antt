@@ -1,4 +1,6 @@
--- The redex of a term: the first part, from left to right, that is no value and has only values inside.
+-- The redex of a term, and the term after another part has replaced its redex. The redex is the first part, from left
+-- to right, that is no value and has only values inside. It is the redex of an evaluation context in the sense of
+-- Felleisen and Hieb.
 use Rattle.std.specs.Prelude.{ℕ, List, [], ◌∷◌, ◌==◌, ◌&&◌, Option, Some, None, Bool, true, false, if◌then◌else◌}
 use Rattle.run_types.specs.declared.types.Value.{Value}
 use Rattle.run_types.specs.declared.types.Op.{Op}
@@ -8,13 +10,13 @@ use Rattle.pool_syntax.specs.declared.tree.Named.{Named}
 use Rattle.pool_syntax.specs.Terms.{Store, Expression, Literal, Me, Variable, Create, Prefix, Infix, Call, Send, Frame, Wait, Expressions, NoArgs, Arg, Statement, Assign, Write, WriteText, Do, Async}
 use Rattle.pool_syntax.specs.Terms.{If, While, Answer, Select, Serve, Statements, Done, Then, Alternatives, NoAlts, Alt, append}
 
--- an alternative whose guard was evaluated, with the names that it answers, if it does
+-- an alternative with the value of its guard; answer is the list of names, or None if the alternative is plain
 pub record Choice : Type 0 where
   pub guard : Value
   pub answer : Option (List Named)
   pub work : Statements
 
--- a part that has only values inside
+-- a redex: a part that is no value and has only values inside
 pub data Reducible : Type 0 where
   OwnName : Reducible
   Read : (name : ℕ) → Reducible
@@ -23,7 +25,7 @@ pub data Reducible : Type 0 where
   Binary : (op : Op) (left right : Value) → Reducible
   Invoke : (method : ℕ) (args : List Value) → Reducible
   SynchronousSend : (to : Value) (method : ℕ) (args : List Value) → Reducible
-  -- an own method that is done, with its value
+  -- an own method that has ended, with its value
   Leave : (value : Value) → Reducible
   Waiting : (receiver method : ℕ) → Reducible
   Set : (target : ℕ) (value : Value) → Reducible
@@ -34,7 +36,7 @@ pub data Reducible : Type 0 where
   Loop : (cond : Expression) (body : Statements) → Reducible
   Accept : (names : List Named) → Reducible
   Choose : (choices : List Choice) → Reducible
-  -- a served method that is done, with its value, and what is left of it once that is given to a caller
+  -- a served method that has ended, with its value, and the work that is left of it after the value is returned
   Finish : (caller : Option ℕ) (value : Value) (work : Statements) → Reducible
 
 -- the value of a part without redex, or the redex with the temps of the nearest method under way
@@ -42,22 +44,22 @@ pub data Found (A : Type 0) : Type 0 where
   Evaluated : (value : A) → Found A
   At : (redex : Reducible) (temps : Store) → Found A
 
--- goes on with the value, or stops at the redex
+-- continues with the value, or stops at the redex
 abbrev pub and_then : {A B : Type 0} → Found A → (A → Found B) → Found B
 and_then (Evaluated a) next = next a
 and_then (At r t) next = At r t
 
--- post statements come next where the method is for no one
+-- the search of the post statements; they come next only if the method serves no caller
 abbrev pub in_post : Option ℕ → Found (Unit {0}) → Found (Unit {0})
 in_post None found = found
 in_post (Some k) found = Evaluated tt
 
--- what is left of a served method whose value was given to the caller: its post statements, for no one
+-- the rest of a served method after its value is returned: its post statements, served for no one
 abbrev pub left_served : Option ℕ → ℕ → Store → Statements → Expression → Statements → Statements
 left_served (Some k) m t ss e (Then s qs) = Then (Serve m None t ss e (Then s qs)) Done
 left_served _ m t ss e qs = Done
 
--- the redex, sought from left to right
+-- the redex of each kind of part, sought from left to right under the temps t
 abbrev mutual
   pub expression_redex : Store → Expression → Found Value
   expression_redex t (Literal v p) = Evaluated v
@@ -96,7 +98,7 @@ abbrev mutual
       (λ done. and_then (expression_redex u e)
       (λ v. and_then (in_post k (statements_redex u qs)) (λ over. At (Finish k v (left_served k m u ss e qs)) u)))
 
-  -- of a list the first statement alone
+  -- only the first statement of a list can have a redex
   pub statements_redex : Store → Statements → Found (Unit {0})
   statements_redex t Done = Evaluated tt
   statements_redex t (Then s ss) = statement_redex t s
@@ -132,32 +134,32 @@ abbrev pub is_over : Option ℕ → Statements → Bool
 is_over None qs = is_done qs
 is_over (Some k) qs = true
 
--- what takes the place of a redex
+-- the part that replaces a redex
 pub data Contractum : Type 0 where
   AsExpression : (e : Expression) → Contractum
   AsStatements : (ss : Statements) → Contractum
 
--- the part as an expression, or the old one
+-- the part as an expression; otherwise the old expression
 abbrev pub as_expression : Contractum → Expression → Expression
 as_expression (AsExpression e) old = e
 as_expression (AsStatements ss) old = old
 
--- the part as statements, or the old one alone
+-- the part as statements; otherwise the old statement alone
 abbrev pub as_statements : Contractum → Statement → Statements
 as_statements (AsExpression e) old = Then old Done
 as_statements (AsStatements ss) old = ss
 
--- the variables with a new value for one that is there
+-- the variables, in which the first of this name has the new value; without that name they are unchanged
 abbrev pub set_value : Store → ℕ → Value → Store
 set_value [] x v = []
 set_value (b ∷ bs) x v = if b.0 == x then (x, v) ∷ bs else b ∷ set_value bs x v
 
--- the temps of a method under way, after an assignment if that comes next
+-- the temps of a method under way, set if the next statement is an assignment of a value
 abbrev pub assigned : Statements → Store → Store
 assigned (Then (Assign x p (Literal v q)) ss) t = set_value t x v
 assigned _ t = t
 
--- the term with another part in the place of its redex
+-- each kind of part, in which x replaces the redex
 abbrev mutual
   pub fill_expression : Expression → Contractum → Expression
   fill_expression (Literal v p) x = Literal v p

@@ -1,4 +1,6 @@
--- The transition relation: a label, where it is possible, determines the configuration after it.
+-- The transition relation of POOL: a label that is possible in a configuration determines the configuration after it.
+-- Its source is America, de Bakker, Kok and Rutten, "Operational semantics of a parallel object-oriented language"
+-- (POPL 1986); the asynchronous sends are those of America's POOL2.
 use Rattle.std.specs.Prelude.{ℕ, zero, suc, ◌==◌, List, [], ◌∷◌, ◌++◌, length, Option, Some, None, is_some, is_none, Bool, false, not, ◌&&◌, ◌||◌, if◌then◌else◌, slice_get}
 use Rattle.std.specs.List.{list_any}
 use Rattle.run_types.specs.declared.types.Value.{Value}
@@ -20,20 +22,20 @@ use Rattle.run_types.specs.Partial.{◌>>=◌, ◌>>◌, require}
 use Rattle.run_types.specs.Same.{are_same, is_same_item, error_number}
 use Rattle.pool_relation.specs.Configuration.{Configuration, object_of, put_object, messages_of, put_messages}
 
--- an object that is there and has no fault
+-- the object, if this error is None
 abbrev pub without_fault : Object → Option Error → Option Object
 without_fault x None = Some x
 without_fault x (Some e) = None
 
--- the object of a name, if it is there and has no fault
+-- the object of this name, if it exists and has met no error
 abbrev pub running : Configuration → ℕ → Option Object
 running c o = object_of c o >>= (λ x. without_fault x x.fault)
 
--- whether a list names the method
+-- whether the list names the method
 abbrev pub names_method : List Named → ℕ → Bool
 names_method names m = list_any (λ n. n.name.0 == m) names
 
--- the methods that an object may serve next, and what it does after one of them
+-- the methods that an object may serve next, and its work after one of them
 pub record Offer : Type 0 where
   pub names : List Named
   pub work : Statements
@@ -43,7 +45,7 @@ abbrev pub answered : Option (List Named) → List Named
 answered None = []
 answered (Some names) = names
 
--- the first open alternative whose list names the method
+-- the first open alternative that names the method
 abbrev pub select_offer : List Choice → ℕ → Option Offer
 select_offer [] m = None
 select_offer (c ∷ cs) m =
@@ -51,111 +53,111 @@ select_offer (c ∷ cs) m =
     then Some (record { names = answered c.answer; work = c.work })
     else select_offer cs m
 
--- what an object offers to a call of the method
+-- the offer of an object for the method: its answer that names it, or the first such alternative of its select
 abbrev pub offer : Action → ℕ → Option Offer
 offer (A.Answer names) m = require (names_method names m) >> Some (record { names = names; work = T.Done })
 offer (A.Select choices) m = select_offer choices m
 offer _ m = None
 
--- the work of the alternative of this number, from 1, if it is open and plain
+-- the work of the alternative if it is open and plain
 abbrev pub plain_choice : Option Choice → Option Statements
 plain_choice None = None
 plain_choice (Some c) = require (is_true c.guard && is_none c.answer) >> Some c.work
 
--- the work of this alternative of a select
+-- the work of alternative i of a select, counted from 1, if it is open and plain
 abbrev pub picked : Action → ℕ → Option Statements
 picked (A.Select choices) zero = None
 picked (A.Select choices) (suc i) = plain_choice (slice_get choices i)
 picked _ i = None
 
--- whether one of the messages is on these methods
+-- whether one of the messages is for one of these methods
 abbrev pub has_message : List Named → List Message → Bool
 has_message names [] = false
 has_message names (m ∷ ms) = names_method names m.method || has_message names ms
 
--- the earliest message that these methods take
+-- the earliest message for one of these methods
 abbrev pub first_message : List Named → List Message → Option Message
 first_message names [] = None
 first_message names (m ∷ ms) = if names_method names m.method then Some m else first_message names ms
 
--- the messages without the earliest that these methods take
+-- the messages without the earliest one for these methods
 abbrev pub without_first : List Named → List Message → List Message
 without_first names [] = []
 without_first names (m ∷ ms) = if names_method names m.method then ms else m ∷ without_first names ms
 
--- the object with another part in the place of its redex
+-- the object after this part has replaced its redex
 abbrev pub refilled : Object → Contractum → Object
 refilled x part = record x { term = fill_statements x.term part }
 
--- the object after a statement that is done
+-- the object after a statement that ends at once
 abbrev pub done : Object → Object
 done x = refilled x (AsStatements T.Done)
 
--- the object after its redex became a value
+-- the object after this value has replaced its redex
 abbrev pub given : Object → Value → Object
 given x v = refilled x (AsExpression (literal v))
 
--- what is left of the served method that gives its value back
+-- the work that is left of the served method that returns its value
 abbrev pub work_left : Found (Unit {0}) → Statements
 work_left (At (Finish k v work) t) = work
 work_left _ = T.Done
 
--- the object after it gave a value back: its post statements are still to be executed
+-- the object after it has returned a value: its post statements are left
 abbrev pub returned : Object → Object
 returned x = refilled x (AsStatements (work_left (statements_redex [] x.term)))
 
--- the object as it begins to serve the method for the caller, or for no one
+-- the object when it begins to serve the method for the caller, or for no one
 abbrev pub serving : Object → MethodTree → Option ℕ → List Value → Statements → Object
 serving x m caller args work =
     refilled x (AsStatements (T.Then (T.Serve m.name.name.0 caller (temps_of m args) m.body m.value m.post) work))
 
--- an object as it is made
+-- a new object of the class: its variables are nil
 abbrev pub new_object : ClassTree → Object
 new_object k = record { class = k.name.name.0; vars = nil_store k.vars; term = k.body; fault = None }
 
--- each function below tests what an object does next, and gives what the label needs of it
+-- Each function below tests the next action of an object, or takes from it the parts that the label needs.
 
 -- the object after its local transition
 abbrev pub local_step : Object → Action → Option Object
 local_step x (A.Local term vars) = Some (record x { term = term; vars = vars })
 local_step x _ = None
 
--- it makes an object of this class
+-- the action makes an object of this class
 abbrev pub makes : Action → ℕ → Bool
 makes (A.New c) d = c == d
 makes _ d = false
 
--- it calls the method of r with these arguments
+-- the action calls this method of r with these arguments
 abbrev pub calls : Action → ℕ → ℕ → List Value → Bool
 calls (A.Send b m args) r n values = b == r && m == n && are_same args values
 calls _ r n values = false
 
--- it sends r this message
+-- the action sends this message to r
 abbrev pub posts : Action → ℕ → ℕ → List Value → Bool
 posts (A.Async b m args) r n values = b == r && m == n && are_same args values
 posts _ r n values = false
 
--- it returns this value to o
+-- the action returns this value to o
 abbrev pub returns : Action → ℕ → Value → Bool
 returns (A.Return k v) o w = k == o && is_same v w
 returns _ o w = false
 
--- it waits for r
+-- the action waits for r
 abbrev pub waits_on : Action → ℕ → Bool
 waits_on (A.Waits b m) r = b == r
 waits_on _ r = false
 
--- it writes this item
+-- the action writes this item
 abbrev pub writes : Action → Item → Bool
 writes (A.Write i) j = is_same_item i j
 writes _ j = false
 
--- it meets this error
+-- the action is this error
 abbrev pub fails : Action → Error → Bool
 fails (A.Fault e) f = error_number e == error_number f
 fails _ f = false
 
--- the configuration after the label, where it is possible
+-- the configuration after the label, or None if the label is not possible
 abbrev pub transition : ProgramTree → Configuration → Label → Option Configuration
 transition p c (L.Local o) = do
   x ← running c o
@@ -203,17 +205,17 @@ transition p c (L.Fault o e) = do
   require (fails (action p o x) e)
   Some (put_object c o (record x { fault = Some e }))
 
--- the configuration after these labels, where each is possible in its turn
+-- the configuration after these labels, or None if one of them is not possible where it is due
 abbrev pub run : ProgramTree → Configuration → List Label → Option Configuration
 run p c [] = Some c
 run p c (l ∷ ls) = transition p c l >>= λ d. run p d ls
 
--- the last class of the text
+-- the last class of the program
 abbrev pub last_class : ProgramTree → Option ClassTree
 last_class [] = None
 last_class (k ∷ []) = Some k
 last_class (k ∷ l ∷ ls) = last_class (l ∷ ls)
 
--- one object of the last class, under the name n
+-- the start of a program: one object of the last class, under the name n
 abbrev pub start : ProgramTree → ℕ → Option Configuration
 start p n = last_class p >>= λ k. Some (record { objects = (n, new_object k) ∷ []; messages = [] })

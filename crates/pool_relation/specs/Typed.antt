@@ -1,4 +1,4 @@
--- Typed configurations, and what it is for an object to go wrong.
+-- Typed configurations, which every run of a program without class faults keeps, and the actions that go wrong.
 use Rattle.std.specs.Prelude.{◌≡◌, ℕ, ◌+◌, ◌==◌, List, [], ◌∷◌, length, Option, Some, None, is_some, is_none, nat_le, Bool, true, false, not, ◌&&◌, ◌||◌, if◌then◌else◌, All, IsTrue}
 use Rattle.std.specs.FinMap.{is_sorted}
 use Rattle.std.specs.Ordering.{nat_cmp}
@@ -24,32 +24,33 @@ abbrev pub class_at : Option Object → Option ℕ
 class_at None = None
 class_at (Some x) = Some x.class
 
--- where the term of an object of this class stands
+-- the scope of the term of an object of class k: no temps, and the objects of c
 abbrev pub scope : ProgramTree → Configuration → ℕ → Scope
 scope p c k = record { program = p; class = k; own = class_of p k; temps = []; object_class = λ n. class_at (object_of c n); under_way = true; held = 0 }
 
--- nil fits every kind, and the name of an object its class
+-- the value fits the variable: it has the variable's kind, or is nil; the name of no object fits nothing
 abbrev pub fits : Scope → Value → Var → Bool
 fits g v var =
     not (is_dangling g v) && (is_open (value_sort g v) || is_same_sort (value_sort g v) (kind_sort g.program var.kind))
 
--- these variables, in their order, with values that fit
+-- the store has these variables, in their order, with values that fit
 abbrev pub is_store_of : Scope → List Var → Store → Bool
 is_store_of g [] [] = true
 is_store_of g (v ∷ vs) (b ∷ bs) = v.name.0 == b.0 && fits g b.1 v && is_store_of g vs bs
 is_store_of g _ _ = false
 
--- whether an expression can begin where so many operands are held
+-- whether an expression can begin after this many held operands: they are fewer than 64
 abbrev pub has_room : ℕ → Bool
 has_room held = not (nat_le 64 held)
 
--- whether this can be the value of the method; one without result has nil
+-- whether the method can have this value; a method without result has nil
 abbrev pub is_value_of : Option MethodTree → Expression → Bool
 is_value_of None e = false
 is_value_of (Some m) e = is_value_for m.outcome e
 
--- a part before which so many operands are held, in which each method under way and each wait is the redex or holds it and stands
--- where an expression can begin, a method under way has fitting temps and a value for it, and each operator has its number of operands
+-- Whether a part is sound, with h operands held before it. Each method under way and each wait is the redex or
+-- contains it, and is at a place where an expression can begin. A method under way has temps that fit and a value that
+-- it can have. Each operator has its number of operands.
 abbrev mutual
   pub is_sound : Scope → ℕ → Expression → Bool
   is_sound g h (Literal v p) = true
@@ -96,19 +97,20 @@ abbrev mutual
   are_sound_alternatives g i (Alt e names ss alts) =
       are_source_statements ss && (if is_value e then are_sound_alternatives g (i + 1) alts else is_sound g i e && are_source_alternatives alts)
 
--- whether values fit the parameters, one by one
+-- whether the values fit the parameters, one by one
 abbrev pub all_fit : Scope → List Value → List Var → Bool
 all_fit g [] [] = true
 all_fit g (v ∷ vs) (x ∷ xs) = fits g v x && all_fit g vs xs
 all_fit g _ _ = false
 
--- the object has a method of its own for the message, and the arguments fit
+-- the object has the method of the message, and the arguments fit its parameters
 abbrev pub IsMessageFor : ProgramTree → Configuration → Object → Message → Type 0
 IsMessageFor p c y m =
     (method : MethodTree) × (method_of p y.class m.method (length m.args) ≡ Some method) × IsTrue (all_fit (scope p c y.class) m.args method.params)
 
--- a typed configuration: its maps are in order; each object has the variables of its class, with fitting values, and a term that has no
--- faults and is sound; an object with a fault is at it; each message fits a method of its receiver; each wait is served exactly once
+-- A typed configuration. The keys of its maps rise. Each object has the variables of its class, with values that fit.
+-- Its term has no class faults and is sound. If an object has met an error, its next action is that error. Each
+-- message fits a method of its receiver.
 pub record Typed (p : ProgramTree) (c : Configuration) : Type 0 where
   pub in_order : IsTrue (is_sorted nat_cmp c.objects) × IsTrue (is_sorted pair_cmp c.messages)
   pub no_empty : IsTrue (no_entry_empty c.messages)
@@ -118,15 +120,16 @@ pub record Typed (p : ProgramTree) (c : Configuration) : Type 0 where
   pub sound : (o : ℕ) (x : Object) → object_of c o ≡ Some x → IsTrue (are_sound_statements (scope p c x.class) x.term)
   pub fault : (o : ℕ) (x : Object) (e : Error) → object_of c o ≡ Some x → x.fault ≡ Some e → action p o x ≡ A.Fault e
   pub messages : (s r : ℕ) → All (λ m. (y : Object) × (object_of c r ≡ Some y) × IsMessageFor p c y m) (messages_of c s r)
-  -- a wait is served exactly once, and a method under way for a caller has its wait
+  -- each wait is served exactly once, and each method that serves a caller has the wait of that caller
   pub waits : (o b m : ℕ) (x : Object) → object_of c o ≡ Some x → action p o x ≡ A.Waits b m → (y : Object) × (object_of c b ≡ Some y) × (serves o y.term ≡ m ∷ [])
   pub served : (o b m : ℕ) (ms : List ℕ) (y : Object) → object_of c b ≡ Some y → serves o y.term ≡ m ∷ ms → (x : Object) × (object_of c o ≡ Some x) × (action p o x ≡ A.Waits b m)
 
--- the object b has the method with n parameters
+-- the object b exists and has the method m with n parameters
 abbrev pub CanTake : ProgramTree → Configuration → ℕ → ℕ → ℕ → Type 0
 CanTake p c b m n = (y : Object) × (k : MethodTree) × (object_of c b ≡ Some y) × (method_of p y.class m n ≡ Some k)
 
--- what an object does that goes wrong
+-- the action goes wrong: it is stuck, it calls or sends to an object without the method, or it returns to an object
+-- that does not wait for it
 abbrev pub GoesWrong : ProgramTree → Configuration → ℕ → Action → Type 0
 GoesWrong p c o A.Stuck = Unit {0}
 GoesWrong p c o (A.Send b m args) = ¬ (CanTake p c b m (length args))

@@ -1,4 +1,4 @@
--- The methods under way in a term.
+-- The methods under way in a term, in the order in which the search for the redex meets them.
 use Rattle.std.specs.Prelude.{ℕ, List, [], ◌∷◌, ◌++◌, length, Option, Some, None, ◌==◌, if◌then◌else◌}
 use Rattle.pool_syntax.specs.Terms.{Expression, Literal, Me, Variable, Create, Prefix, Infix, Call, Send, Frame, Wait, Expressions, NoArgs, Arg, Statement, Assign, Write, WriteText, Do, Async, If}
 use Rattle.pool_syntax.specs.Terms.{While, Answer, Select, Serve, Statements, Done, Then, Alternatives, NoAlts, Alt}
@@ -6,10 +6,10 @@ use Rattle.pool_syntax.specs.Terms.{While, Answer, Select, Serve, Statements, Do
 -- a method under way
 pub data Activity : Type 0 where
   Own : (method : ℕ) → Activity
-  -- for a caller, or for no one
+  -- a method served for a caller, or for no one
   Serving : (method : ℕ) (caller : Option ℕ) → Activity
 
--- the list looks where the redex is looked for
+-- the methods under way in each kind of part; only parts in which the redex is sought are listed
 abbrev mutual
   pub in_expression : Expression → List Activity
   in_expression (Literal v p) = []
@@ -47,7 +47,7 @@ abbrev mutual
   in_guards NoAlts = []
   in_guards (Alt e names ss alts) = in_expression e ++ in_guards alts
 
--- the methods served for o
+-- the methods among these that serve the caller o
 abbrev pub served_for : ℕ → List Activity → List ℕ
 served_for o [] = []
 served_for o (Own m ∷ rest) = served_for o rest

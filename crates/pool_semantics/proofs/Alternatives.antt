@@ -1,4 +1,4 @@
--- A typed select has at most 64 alternatives: the guards that are evaluated are held as operands.
+-- A typed select has at most 64 alternatives, since its evaluated guards are held as operands.
 use Rattle.std.proofs.Common.{◌≡◌, refl, sym, ap, ◌∙◌, subst, ℕ, ◌+◌, ◌-◌, ◌≤◌, ◌<◌, List, [], ◌∷◌, length, Option, Some, None, false, arith}
 use Rattle.std.specs.Prelude.{nat_le}
 use Rattle.std.proofs.lemmas.Bool.{leb-false}

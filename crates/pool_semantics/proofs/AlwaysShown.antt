@@ -1,4 +1,4 @@
--- In a typed configuration each object shows something.
+-- In a typed configuration each object shows a redex.
 use Rattle.std.proofs.Common.{◌≡◌, refl, ◌≤◌, ◌-◌, ℕ, List, length, Option, Some, None, is_some, true, false, arith, eq-eqb}
 use Rattle.run_types.specs.declared.types.Value.{Value}
 use Rattle.run_types.specs.declared.types.Error.{Error}

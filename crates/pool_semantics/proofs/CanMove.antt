@@ -1,4 +1,4 @@
--- An object moves exactly where it goes on alone, answers a caller, or takes a message.
+-- An object can make a transition exactly if it can alone, by the answer of a call, or by the take of a message.
 use Rattle.std.proofs.Common.{◌≡◌, ◌≢◌, ◌⊎◌, inl, inr, refl, sym, ap, subst, ◌∙◌, ℕ, zero, suc, ◌==◌, List, [], ◌∷◌, length, Option, Some, None, is_some, is_none, Bool, true, false, not}
 use Rattle.std.specs.Prelude.{◌&&◌, slice_get}
 use Rattle.std.specs.List.{list_any}

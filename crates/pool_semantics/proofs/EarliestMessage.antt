@@ -1,4 +1,4 @@
--- The earliest message on one of some methods.
+-- The earliest message for one of some methods.
 use Rattle.std.proofs.Common.{◌≡◌, refl, ap, ℕ, zero, suc, ◌<◌, List, [], ◌∷◌, length, map, slice_index_or, Option, Some, None, is_some, Bool, true, false, arith}
 use Rattle.std.specs.List.{list_any, remove}
 use Rattle.pool_syntax.specs.declared.tree.Named.{Named}

@@ -1,4 +1,4 @@
--- Lists of labels that grow, part by part.
+-- Lists of labels that are built part by part.
 use Rattle.std.proofs.Common.{◌≡◌, refl, ap, ◌∙◌, ℕ, zero, suc, ◌<◌, List, [], ◌∷◌, ◌++◌, length, map, drop, slice_index_or, Some, None, append_assoc, arith}
 use Rattle.run_types.specs.declared.types.Label.{Label}
 use Rattle.run_types.specs.declared.types.Label.TheVariants as L

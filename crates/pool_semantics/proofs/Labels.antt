@@ -1,4 +1,4 @@
--- The transitions, from what objects do next.
+-- The transitions of each label, from the next actions of objects.
 use Rattle.std.proofs.Common.{◌≡◌, refl, ap, ap₂, sym, ◌∙◌, ℕ, List, [], ◌∷◌, ◌++◌, Option, Some, None, is_none, is_some, not, length, Bool, true, false, ◌==◌, ◌&&◌, arith}
 use Rattle.std.specs.Ordering.{nat_cmp}
 use Rattle.std.specs.FinMap.{find}

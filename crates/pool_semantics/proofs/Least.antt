@@ -1,4 +1,4 @@
--- The least number that the entries of a map give, each by its key.
+-- The least number among those that the entries of a map give, one for each key.
 use Rattle.std.proofs.Common.{◌≡◌, ◌⊎◌, inl, inr, refl, sym, subst, ℕ, zero, suc, ◌≤◌, List, [], ◌∷◌, Option, Some, None, is_some, true, false, arith}
 use Rattle.std.specs.Prelude.{IfSome, IsSomeAnd, min}
 use Rattle.std.specs.declared.cmp.Ordering.{Ordering}

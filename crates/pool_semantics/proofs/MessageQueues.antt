@@ -1,4 +1,4 @@
--- Messages that come and go.
+-- Queues of messages after one is added or removed.
 use Rattle.std.proofs.Common.{◌≡◌, refl, ap, sym, ◌∙◌, ℕ, List, [], ◌∷◌, ◌++◌, map, Some, None}
 use Rattle.std.specs.Map.{lookup, set_value, remove_entry, keys_of}
 use Rattle.std.specs.BTreeMap.{is_at, insert_entry}

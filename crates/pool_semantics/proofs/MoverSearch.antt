@@ -1,4 +1,4 @@
--- Which objects move by what objects do next and by messages, from the stepper's maps.
+-- The objects that can make a transition by next actions and by messages, from the stepper's maps.
 use Rattle.std.proofs.Common.{◌≡◌, ◌⊎◌, inl, inr, refl, sym, ap, ap₂, subst, ◌∙◌, ℕ, List, [], ◌∷◌, Option, Some, None, is_some, not, ◌||◌, Bool, true, false, arith}
 use Rattle.std.specs.Prelude.{◌≤◌, ◌<◌, IfSome, IfNone}
 use Rattle.std.specs.Bool.{then_some}

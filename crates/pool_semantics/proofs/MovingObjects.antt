@@ -1,4 +1,4 @@
--- That an object moves.
+-- Objects that can make a transition.
 use Rattle.std.specs.Prelude.{ℕ}
 use Rattle.pool_syntax.specs.Terms.{ProgramTree}
 use Rattle.pool_relation.specs.Configuration.{Configuration, messages_of}

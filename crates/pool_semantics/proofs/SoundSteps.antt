@@ -1,4 +1,4 @@
--- A step keeps what a Plain keeps of its configuration.
+-- A step keeps the invariant of a `Plain`.
 use Rattle.std.proofs.Common.{◌≡◌, refl, ap, ℕ, List, [], ◌∷◌, Some, Bool, true, false, arith}
 use Rattle.std.proofs.Math.Logic.{∥∥₁_elim, ∥∥₁_map}
 use denote.Struct.Props.{props}

@@ -1,4 +1,4 @@
--- What the stepper needs of typed configurations, from the laws of the relation on typing.
+-- The facts about typed configurations that the stepper needs, from the theorems about typing.
 use Rattle.std.proofs.Common.{◌≡◌, ℕ, [], Some, IsTrue}
 use Rattle.run_types.specs.declared.types.Label.{Label}
 use Rattle.pool_syntax.specs.Terms.{ProgramTree}

@@ -1,4 +1,4 @@
--- Objects that wait in calls, that met an error, or that are left over, from the stepper's maps.
+-- Objects that are in a call, that have met an error, or that are left over, from the stepper's maps.
 use Rattle.std.proofs.Common.{◌≡◌, ◌≢◌, refl, sym, ap, ◌∙◌, subst, ℕ, ◌≤◌, ◌<◌, List, [], ◌∷◌, Option, Some, None, is_some, Bool, true, false, IsTrue, not, ◌↔◌, length, cond, arith}
 use Rattle.std.specs.Bool.{then_some}
 use Rattle.std.specs.Ordering.{nat_cmp, is_eq}

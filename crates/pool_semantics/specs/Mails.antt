@@ -1,4 +1,4 @@
--- What the code's messages stand for.
+-- The messages of the transition relation that those of the stepper represent.
 use Rattle.std.specs.Prelude.{List, map}
 use Rattle.std.specs.declared.collections.VecDeque.{VecDeque}
 use Rattle.std.specs.Global.{Global}
@@ -6,7 +6,7 @@ use Rattle.run_types.specs.Tables.{Pair}
 use Rattle.pool_semantics.specs.declared.plain.mail.Mail.{Mail}
 use Rattle.run_types.specs.Message.{Message}
 
--- a message
+-- the message that m represents
 abbrev pub message_of : Mail → Message
 message_of m = record { method = m.method.0; args = m.args }
 

@@ -1,4 +1,4 @@
--- What a search over all runs asks of a configuration: the transitions that need no choice, and the calls that objects are in.
+-- Questions of a search about a configuration: its transitions that need no choice, and the calls of its objects.
 use Rattle.std.specs.Prelude.{◌≡◌, ◌≤◌, ℕ, Option, Some, None}
 use Rattle.run_types.specs.declared.types.Label.{Label}
 use Rattle.run_types.specs.declared.types.Label.TheVariants as L
@@ -11,7 +11,7 @@ use Rattle.pool_relation.specs.Configuration.{Configuration}
 use Rattle.pool_relation.specs.Transition.{running}
 use Rattle.search_laws.specs.Search.{WaitsAt}
 
--- the label of what the object o does next, where that needs no choice
+-- the label of this action of the object o, if it needs no choice
 abbrev pub free_label : ℕ → Action → Option Label
 free_label o (A.Local term vars) = Some (L.Local o)
 free_label o (A.Fault e) = Some (L.Fault o e)
@@ -20,21 +20,21 @@ free_label o (A.Write item) = Some (L.Write o item)
 free_label o (A.Return k v) = Some (L.Return o k v)
 free_label o _ = None
 
--- the same of the object of a name, if it is there and has no fault
+-- the label of the next action of the object o, if it exists, has met no error and the action needs no choice
 abbrev pub free_at : ProgramTree → Configuration → ℕ → Option Label
 free_at p c o = running c o >>= λ x. free_label o (action p o x)
 
--- the receiver and the method of the call that an object is in, or is to make
+-- the receiver and the method, if the action is a call or the wait of one
 abbrev pub call_of : Action → Option (ℕ × ℕ)
 call_of (A.Send b m args) = Some (b, m)
 call_of (A.Waits b m) = Some (b, m)
 call_of _ = None
 
--- the same of the code's pair
+-- the same, for the pair that the code gives
 abbrev pub called : Option (ℕ × NameId) → Option (ℕ × ℕ)
 called None = None
 called (Some r) = Some (r.0, r.1.0)
 
--- the object o has the number b, which is not below `from`, and is in a call or is to make one
+-- b is the name o and at least from, and its object has met no error and is at a call or in one
 abbrev pub WaitsFrom : ProgramTree → Configuration → ℕ → ℕ → ℕ → Type 0
 WaitsFrom p c from o b = (b ≡ o) × (from ≤ b) × WaitsAt p c b

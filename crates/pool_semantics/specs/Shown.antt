@@ -1,4 +1,4 @@
--- What a configuration shows of an object.
+-- The redex that is shown of an object: its next action in the form that callers of the stepper get.
 use Rattle.std.specs.Prelude.{◌≡◌, ℕ, ◌-◌, ◌==◌, List, length, Option, Some, None, Bool, if◌then◌else◌}
 use Rattle.run_types.specs.declared.types.Value.{Value}
 use Rattle.run_types.specs.declared.types.Error.{Error}
@@ -9,11 +9,11 @@ use Rattle.pool_relation.specs.Configuration.{Configuration, object_of}
 use Rattle.run_types.specs.declared.verdicts.Redex.{Redex}
 use Rattle.run_types.specs.declared.verdicts.Redex.TheVariants as R
 
--- whether these are at most 8
+-- whether there are at most 8 values
 abbrev pub are_few : List Value → Bool
 are_few vs = length vs - 8 == 0
 
--- what is shown of an action; nothing where the object is stuck, or has more than 8 arguments for another
+-- the form of an action; None if the object is stuck, or if it has more than 8 arguments for another object
 abbrev pub shown : Action → Option Redex
 shown A.Finished = Some R.Finished
 shown (A.Local term vars) = Some R.Local
@@ -28,7 +28,7 @@ shown (A.Return k v) = Some (R.Return v)
 shown (A.Waits b m) = Some (R.Waits b)
 shown A.Stuck = None
 
--- what is shown of an object that is there
+-- the form of the next action of an object, or that it has met an error
 abbrev pub shown_of : ProgramTree → ℕ → Object → Option Error → Option Redex
 shown_of p o x (Some e) = Some R.Faulted
 shown_of p o x None = shown (action p o x)
@@ -37,10 +37,10 @@ abbrev pub shown_if : ProgramTree → ℕ → Option Object → Option Redex
 shown_if p o None = Some R.NoObject
 shown_if p o (Some x) = shown_of p o x x.fault
 
--- what is shown of the object of a name
+-- the redex that is shown of the name o
 abbrev pub shown_at : ProgramTree → Configuration → ℕ → Option Redex
 shown_at p c o = shown_if p o (object_of c o)
 
--- this is what the configuration shows of the object of a name
+-- r is the redex that is shown of the name o
 abbrev pub Shows : ProgramTree → Configuration → ℕ → Redex → Type 0
 Shows p c o r = shown_at p c o ≡ Some r

@@ -1,4 +1,4 @@
--- What a Plain keeps of its configuration.
+-- The invariant of a `Plain`: its program is checked, and its configuration is typed.
 use Rattle.std.specs.Prelude.{◌≡◌, [], IsTrue}
 use Rattle.pool_syntax.specs.Terms.{ProgramTree}
 use Rattle.pool_syntax.specs.Typing.{faults}
@@ -6,7 +6,7 @@ use Rattle.pool_relation.specs.Configuration.{Configuration}
 use Rattle.pool_syntax.specs.Written.{is_written}
 use Rattle.pool_relation.specs.Typed.{Typed}
 
--- a typed configuration of a program without faults
+-- the program has no class faults and is that of a text, and the configuration is typed
 pub record Sound (p : ProgramTree) (c : Configuration) : Type 0 where
   pub faultless : faults p ≡ []
   pub written : IsTrue (is_written p)

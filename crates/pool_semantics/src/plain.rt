@@ -1,4 +1,4 @@
-//! The plain stepper: it makes the transitions of the relation, one label at a time.
+//! The plain stepper, which makes transitions of the relation, one label at a time.
 mod items;
 mod labels;
 mod mail;
@@ -26,17 +26,17 @@ pub use run_types::Redex;
 use std::alloc::{AllocError, Global};
 use std::collections::BTreeMap;
 
-/// Why a label was not applied.
+/// The reason why a label was not applied.
 #[derive(Clone, Copy, Debug, PartialEq, Eq)]
 pub enum Refuse {
-    /// The label is no transition of the configuration. The redex is that of the receiver for Answer, Return and Take,
-    /// and of the label's object for every other label.
+    /// The label is not possible. The redex is that of the receiver for Answer, Return and Take, and that of the
+    /// label's object for every other label.
     NotPossible { redex: Redex },
-    /// There was not enough memory. The Plain is spent.
+    /// Memory ran out, now or before. The `Plain` is spent.
     Memory,
 }
 
-/// A typed configuration of a checked program, until it is spent.
+/// A typed configuration of a checked program. It is spent after it has run out of memory.
 #[derive(Drop)]
 pub struct Plain<'a> {
     state: State<'a>,
@@ -44,7 +44,8 @@ pub struct Plain<'a> {
     ghost typed: { ∥ (spent ≡ false → Sound (program_of state.program.now) (configuration state)) ∥₁ },
 }
 
-/// The object that makes the transition: the receiver for Answer, Return and Take, and the label's object for every other label.
+/// The object that makes the transition. It is the receiver for Answer, Return and Take, and the label's object for
+/// every other label.
 pub fn agent(label: &Label) -> u32
     ensures { result ≡ agent label.now }
 {
@@ -72,7 +73,8 @@ impl<'a> Plain<'a> {
     ghost use Rattle.pool_relation.specs.Transition.{transition, start};
     ghost use Rattle.pool_semantics.specs.Shown.{Shows};
 
-    /// One object of the last class of the text, under this name.
+    /// The start of the program: one object of its last class, under this name. Reports `AllocError` if memory runs
+    /// out.
     pub fn make(alloc: Global, program: &Checked<'a>, root: u32) -> Result<Plain<'a>, AllocError>
         ensures start { IfOk result (λ s. start (program_of program.now.program.now) root ≡ Some (configuration_of s)) }
         ensures program { IfOk result (λ s. program_tree s ≡ program_of program.now.program.now) }
@@ -99,7 +101,7 @@ impl<'a> Plain<'a> {
         }
     }
 
-    /// A typed configuration that was kept.
+    /// The `Plain` with this state. The program has no class faults, and the configuration is typed.
     pub fn of(state: State<'a>) -> Plain<'a>
         requires { ∥ Sound (program_of state.program.now) (configuration state) ∥₁ }
         ensures state { state_of result ≡ state.entry }
@@ -111,7 +113,7 @@ impl<'a> Plain<'a> {
         }
     }
 
-    /// Its program, objects and messages.
+    /// The program, the objects and the messages.
     pub fn state(&self) -> &State<'a>
         ensures state { result.now ≡ state_of self.now }
         ensures sound { is_spent self.now ≡ false → ∥ Sound (program_tree self.now) (configuration_of self.now) ∥₁ }
@@ -119,7 +121,8 @@ impl<'a> Plain<'a> {
         &self.state
     }
 
-    /// What the object of this name does next.
+    /// The next action of the object of this name. It is `Faulted` if the object has met an error, and `NoObject` if
+    /// no object has the name.
     pub fn redex(&self, object: u32) -> Redex
         ensures told { (r : Redex) → Shows (program_tree self.now) (configuration_of self.now) object r → result ≡ r }
         ensures shown { is_spent self.now ≡ false → Shows (program_tree self.now) (configuration_of self.now) object result }
@@ -134,7 +137,7 @@ impl<'a> Plain<'a> {
         }
     }
 
-    /// The least object that makes a transition that is possible; None exactly where none is. Takes no memory.
+    /// The least object that can make a transition. None exactly if no label is possible. Uses no memory.
     pub fn moving(&self) -> Option<u32>
         requires { is_spent self.now ≡ false }
         ensures some { IfSome result (λ o. HasOwnTransition (program_tree self.now) (configuration_of self.now) o) }
@@ -147,7 +150,9 @@ impl<'a> Plain<'a> {
         )
     }
 
-    /// Makes the label's transition.
+    /// Makes the transition of the label. Reports `NotPossible` exactly if the label is not possible; the
+    /// configuration is then unchanged. Reports `Memory` if memory runs out or ran out before; the `Plain` is then
+    /// spent.
     pub fn apply(&mut self, label: &Label) -> Result<(), Refuse>
         ensures made { OnOk result (transition (program_tree self.old) (configuration_of self.old) label.now ≡ Some (configuration_of self.new)) }
         ensures refused { (r : Redex) → result ≡ Err (Refuse.NotPossible r)

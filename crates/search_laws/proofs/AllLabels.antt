@@ -1,4 +1,4 @@
--- Each label that is possible, and names a new object in order, is one of those to try.
+-- Each possible label that names a new object in order is one of the labels to try.
 use Rattle.std.proofs.Common.{◌≡◌, inl, inr, refl, sym, ap, ◌∙◌, subst, IsTrue, ℕ, zero, suc, ◌+◌, List, [], ◌∷◌, ◌++◌, Option, Some, None, is_some, is_none, Bool, true, false, ◌&&◌, ◌==◌, cond, slice_get, arith}
 use Rattle.std.specs.Option.{unwrap_or}
 use Rattle.std.specs.Ordering.{nat_cmp, is_eq}

@@ -1,4 +1,4 @@
--- A list of which all labels were tried is whole.
+-- A list of which all labels were tried is closed.
 use Rattle.std.proofs.Common.{◌≡◌, ◌⊎◌, inl, inr, refl, sym, ap, ◌∙◌, subst, ℕ, List, [], ◌∷◌, Some, None, Bool, true, false, ◌&&◌, cond}
 use Rattle.std.specs.Ordering.{nat_cmp, is_eq}
 use Rattle.std.specs.declared.cmp.Ordering.{Ordering}

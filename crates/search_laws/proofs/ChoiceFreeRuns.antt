@@ -1,4 +1,4 @@
--- Transitions that need no choice, one after another; and each label keeps the maps in order.
+-- Sequences of transitions that need no choice; and each label keeps the maps in order.
 use Rattle.std.proofs.Common.{◌≡◌, refl, subst, ℕ, List, [], ◌∷◌, ◌++◌, length, Option, Some, None, is_some, is_none, Bool, true, false, not, ◌&&◌, ◌==◌}
 use Rattle.run_types.specs.declared.types.Value.TheVariants as V
 use Rattle.run_types.specs.declared.types.Label.{Label}

@@ -1,4 +1,5 @@
--- Local transitions, writes, asynchronous sends, errors and returns stay possible whatever other labels come first, and the order does not matter.
+-- Local transitions, writes, asynchronous sends, errors and returns stay possible after any other label, and the two
+-- commute.
 use Rattle.std.proofs.Common.{◌≡◌, ◌≢◌, ◌⊎◌, inl, inr, refl, sym, ap, ◌∙◌, subst, ℕ, List, [], ◌∷◌, ◌++◌, Option, Some, None, is_some, Bool, true, false, ◌&&◌, ◌||◌, ◌==◌}
 use Rattle.run_types.specs.declared.types.Value.{Value}
 use Rattle.pool_syntax.specs.declared.tree.Named.{Named}

@@ -1,4 +1,4 @@
--- An error that an object has met stays through each transition that needs no choice.
+-- An error that an object has met stays after each transition that needs no choice.
 use Rattle.std.proofs.Common.{◌≡◌, ◌≢◌, sym, ap, ◌∙◌, ℕ, Some, None, is_some, true, ◌&&◌}
 use Rattle.run_types.specs.declared.types.Label.{Label}
 use Rattle.run_types.specs.declared.types.Label.TheVariants as L

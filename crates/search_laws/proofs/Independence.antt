@@ -1,4 +1,5 @@
--- A step beside which every other label stays as it is: what it asks of a configuration, and that a label possible before it is possible after it, in either order.
+-- A step that is independent of every other label: its conditions, and that the step and a label lead to the same
+-- configuration in either order.
 use Rattle.std.proofs.Common.{◌≡◌, ◌≢◌, refl, sym, ap, ◌∙◌, subst, ℕ, List, [], ◌∷◌, ◌++◌, length, Option, Some, None, is_some, is_none, Bool, true, false, not, ◌&&◌, ◌==◌}
 use Rattle.pool_syntax.specs.declared.tree.Named.{Named}
 use Rattle.run_types.specs.declared.types.Value.TheVariants as V

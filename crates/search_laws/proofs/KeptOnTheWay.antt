@@ -1,4 +1,5 @@
--- What steps that need no choice keep is found by a search that follows them to their ends, where a run leads to it.
+-- Let a property be kept by each step that needs no choice, and let a run lead to it. Then a search that follows such
+-- steps to their ends finds the property.
 use Rattle.std.proofs.Common.{◌≡◌, ◌≢◌, ◌≤◌, ◌⊎◌, inl, inr, refl, sym, ap, ◌∙◌, subst, ℕ, zero, suc, List, [], ◌∷◌, length, map, Option, Some, None, true, arith}
 use Rattle.run_types.specs.declared.types.Label.{Label}
 use Rattle.pool_syntax.specs.Terms.{ProgramTree, ClassTree}

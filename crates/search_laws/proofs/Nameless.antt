@@ -1,4 +1,4 @@
--- No text names an object.
+-- No program text names an object.
 use Rattle.std.proofs.Common.{◌≡◌, refl, ap, ◌∙◌, ℕ, List, [], ◌∷◌, map}
 use Rattle.pool_syntax.specs.declared.tree.Expr.{Expr, Int, Bool, Nil, Me, Var, New, Unary', Binary', Call', Send', Row_of-Expr, end_of-Expr, more_of-Expr}
 use Rattle.pool_syntax.specs.declared.tree.Stmt as S

@@ -1,4 +1,5 @@
--- Each run is, under other names, one that names new objects in order; so a list that no step leaves has, under other names, all that is reached.
+-- Each run is a renaming of a run that names new objects in order. So a closed list has each reached configuration, up
+-- to a renaming.
 use Rattle.std.proofs.Common.{◌≡◌, ◌≢◌, ◌≤◌, ◌<◌, refl, sym, ap, ◌∙◌, subst, ℕ, suc, List, [], ◌∷◌, map, Option, Some, None, is_some, Bool, true, false, ◌&&◌, ◌||◌, ◌==◌, if◌then◌else◌, arith}
 use Rattle.run_types.specs.declared.types.NameId.{NameId}
 use Rattle.run_types.specs.declared.types.Label.{Label}

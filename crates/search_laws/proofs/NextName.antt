@@ -1,4 +1,4 @@
--- Where no label is possible that names a new object with one unused name, none is possible.
+-- If no label is possible that gives a new object one unused name, no label is possible.
 use Rattle.std.proofs.Common.{◌≡◌, refl, sym, ap, ◌∙◌, ℕ, Option, Some, None, is_none, Bool, true, false, ◌&&◌}
 use Rattle.run_types.specs.declared.types.NameId.{NameId}
 use Rattle.run_types.specs.declared.types.Value.TheVariants as V

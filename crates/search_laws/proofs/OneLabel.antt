@@ -1,4 +1,5 @@
--- An object that is to make a local transition, to write, to post, to meet an error, to return, or that waits, takes part in one label only.
+-- An object takes part in one label only, if it is to make a local transition, write, send asynchronously, meet an
+-- error or return, or if it waits.
 use Rattle.std.proofs.Common.{◌≡◌, refl, sym, ap, ◌∙◌, subst, IsTrue, ℕ, List, Some, is_some, is_none, true, ◌&&◌, ◌==◌}
 use Rattle.run_types.specs.declared.types.Value.{Value}
 use Rattle.run_types.specs.declared.types.Item.{Item}

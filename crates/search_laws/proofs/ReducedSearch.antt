@@ -1,4 +1,5 @@
--- A search that follows steps which need no choice to their ends sees every stuck configuration, and a faulty one where there is one.
+-- A search that follows steps without choice to their ends finds every stuck configuration, and a faulty one if there
+-- is one.
 use Rattle.std.proofs.Common.{◌≡◌, ◌≢◌, ◌≤◌, ◌⊎◌, inl, inr, refl, sym, ap, ◌∙◌, subst, ℕ, zero, suc, List, [], ◌∷◌, length, Option, Some, None, Bool, true, false, ◌&&◌, arith}
 use Rattle.run_types.proofs.Laws.{first, second}
 use Rattle.run_types.specs.declared.types.Label.{Label}

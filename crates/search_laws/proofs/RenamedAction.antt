@@ -1,4 +1,4 @@
--- What a renamed object does next is the renamed action.
+-- The next action of a renamed object is the renamed action.
 use Rattle.std.proofs.Common.{◌≡◌, refl, ap, ◌∙◌, ℕ, ℤ, pos, negsuc, zero, suc, List, [], ◌∷◌, ◌++◌, length, map, option_map, Option, Some, None, is_some, Bool, true, false, not, ◌==◌}
 use Rattle.std.specs.Prelude.{int_div, int_rem, neg_ℤ, ◌+ℤ◌, ◌-ℤ◌, ◌*ℤ◌}
 use Rattle.std.specs.List.{list_any}

@@ -1,4 +1,4 @@
--- The redex of a renamed term is the renamed redex, and a renamed part takes its place.
+-- The redex of a renamed term is the renamed redex, and a renamed part replaces it.
 use Rattle.std.proofs.Common.{◌≡◌, refl, ap, ◌∙◌, ℕ, ◌∷◌, map, Option, Some, None}
 use Rattle.run_types.specs.declared.types.Item.TheVariants as I
 use Rattle.pool_syntax.specs.Terms.{Store, Expression, Literal, Me, Variable, Create, Prefix, Infix, Call, Send, Frame, Wait, Expressions, NoArgs, Arg, Statement, Assign, Write, WriteText, Do, Async, If, While, Answer, Select, Serve, Statements, Done, Then, Alternatives, NoAlts, Alt}

@@ -1,4 +1,4 @@
--- Runs under other names: each run is, under other names, one that names new objects in order.
+-- Each run is a renaming of a run that names new objects in order.
 use Rattle.std.proofs.Common.{◌≡◌, refl, sym, ap, ◌∙◌, ℕ, List, [], ◌∷◌, length, map, Option, Some, None, is_some, is_none, Bool, true, false, not, ◌&&◌, ◌||◌, ◌==◌}
 use Rattle.run_types.specs.declared.types.Value.TheVariants as V
 use Rattle.run_types.specs.declared.types.NameId.{NameId}

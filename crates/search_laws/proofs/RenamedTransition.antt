@@ -1,4 +1,5 @@
--- A renamed label leads from a renamed configuration to a renamed one, and exactly where the label does.
+-- A renamed label leads from a renamed configuration to a renamed one, exactly if the label leads from the
+-- configuration to that one.
 use Rattle.std.proofs.Common.{◌≡◌, ◌≢◌, refl, sym, ap, ◌∙◌, subst, ℕ, zero, suc, List, [], ◌∷◌, ◌++◌, length, map, option_map, Option, Some, None, is_some, is_none, Bool, true, false, not, ◌&&◌, ◌||◌, ◌==◌, slice_get}
 use Rattle.std.proofs.lemmas.List.{map-append, length-map}
 use Rattle.run_types.specs.declared.types.Value.{Value}

@@ -1,4 +1,5 @@
--- Worked rows, computed: a program that is stuck, and one that has three configurations to keep and is never stuck or faulty.
+-- Worked programs, which compute: one that is stuck, and one with three configurations to keep that is never stuck or
+-- faulty.
 use Rattle.std.proofs.Common.{◌≡◌, inl, inr, refl, sym, ap, ◌∙◌, subst, ℕ, pos, List, [], ◌∷◌, ◌++◌, Option, Some, None}
 use Rattle.run_types.specs.declared.types.Value.{Value}
 use Rattle.run_types.specs.declared.types.Value.TheVariants as V

@@ -1,4 +1,5 @@
--- A list of configurations that no step leaves has, under other names, every configuration that is reached; so what none of them is, no run leads to.
+-- A closed list has every reached configuration, up to a renaming. So if none of its configurations is stuck,
+-- unfinished or faulty, no run leads to such a configuration.
 use Rattle.std.proofs.Common.{◌≡◌, ◌≢◌, ◌≤◌, ◌<◌, refl, sym, ap, ◌∙◌, subst, ℕ, List, [], ◌∷◌, map, option_map, Option, Some, None, is_some, Bool, true, false, ◌&&◌, ◌==◌, cond, arith}
 use Rattle.std.specs.Ordering.{nat_cmp, is_eq}
 use Rattle.std.specs.declared.cmp.Ordering.{Ordering}

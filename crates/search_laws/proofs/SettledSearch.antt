@@ -1,4 +1,5 @@
--- A search that follows transitions which need no choice, and keeps only what stands after them, sees every stuck configuration, and every unfinished one.
+-- A search that follows transitions without choice, and keeps only the configurations after them, finds every stuck
+-- and every unfinished configuration.
 use Rattle.std.proofs.Common.{◌≡◌, refl, sym, ap, ◌∙◌, subst, ℕ, List, length, map, Option, Some, None, arith}
 use Rattle.pool_syntax.specs.Terms.{ProgramTree, ClassTree}
 use Rattle.run_types.specs.Partial.{◌>>=◌}

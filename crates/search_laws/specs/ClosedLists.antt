@@ -1,4 +1,4 @@
--- Lists of configurations that no step leaves.
+-- Closed lists of configurations: no label leaves them that names new objects in order.
 use Rattle.std.specs.Prelude.{◌≡◌, ℕ, List, Some, true}
 use Rattle.run_types.specs.declared.types.Label.{Label}
 use Rattle.pool_syntax.specs.Terms.{ProgramTree}
@@ -6,11 +6,11 @@ use Rattle.pool_relation.specs.Configuration.{Configuration}
 use Rattle.pool_relation.specs.Transition.{transition, start}
 use Rattle.search_laws.specs.Search.{after, names_next, IsIn}
 
--- no step that names new objects in order leaves the list
+-- no label that names new objects in order leads out of the list
 abbrev pub IsClosed : ProgramTree → List (ℕ × Configuration) → Type 0
 IsClosed p es = (n : ℕ) (c d : Configuration) (l : Label) → IsIn n c es → names_next n l ≡ true → transition p c l ≡ Some d → IsIn (after n l) d es
 
--- all that a search has to see: the start is in the list, and no step leaves it
+-- a closed list that has the start
 pub record IsClosedSearch (p : ProgramTree) (es : List (ℕ × Configuration)) : Type 0 where
   pub begins : (c : Configuration) → start p 0 ≡ Some c → IsIn 1 c es
   pub closed : IsClosed p es

@@ -1,4 +1,4 @@
--- The labels that a search has to try.
+-- The labels that a search tries in a configuration, and lists of which all labels were tried.
 use Rattle.std.specs.Prelude.{◌≡◌, ◌⊎◌, ℕ, suc, List, [], ◌∷◌, ◌++◌, Some, None}
 use Rattle.run_types.specs.declared.types.Label.{Label}
 use Rattle.run_types.specs.declared.types.Label.TheVariants as L
@@ -12,17 +12,17 @@ use Rattle.pool_relation.specs.Configuration.{Configuration}
 use Rattle.pool_relation.specs.Transition.{transition, start}
 use Rattle.search_laws.specs.Search.{after, IsIn, IsInOrder, Settles}
 
--- a label is in a list
+-- the label is in the list
 abbrev pub IsAmong : Label → List Label → Type 0
 IsAmong l [] = ⊥
 IsAmong l (k ∷ ks) = (k ≡ l) ⊎ IsAmong l ks
 
--- the alternatives from this number on
+-- a pick of each of these alternatives, of which the first has the number i
 abbrev pub picks : ℕ → ℕ → List Choice → List Label
 picks o i [] = []
 picks o i (c ∷ cs) = L.Pick o i ∷ picks o (suc i) cs
 
--- what the object o can do at this action, and the call that it makes, where n is the next name
+-- the labels that begin with this action of the object o, if n is the next name
 abbrev pub own_labels : ℕ → ℕ → Action → List Label
 own_labels n o (A.Local term vars) = L.Local o ∷ []
 own_labels n o (A.Fault e) = L.Fault o e ∷ []
@@ -34,24 +34,26 @@ own_labels n o (A.Select choices) = picks o 1 choices
 own_labels n o (A.Return k v) = L.Return o k v ∷ []
 own_labels n o _ = []
 
+-- the same of each of these objects
 abbrev pub object_labels : ProgramTree → ℕ → List (ℕ × Object) → List Label
 object_labels p n [] = []
 object_labels p n (e ∷ es) = own_labels n e.0 (action p e.0 e.1) ++ object_labels p n es
 
--- the messages of a pair, taken
+-- a take of each of these messages of a pair
 abbrev pub takes : Pair → List Message → List Label
 takes k [] = []
 takes k (m ∷ ms) = L.Take k.1 k.0 (record { 0 = m.method }) m.args ∷ takes k ms
 
+-- a take of each of these messages
 abbrev pub message_labels : List (Pair × List Message) → List Label
 message_labels [] = []
 message_labels (e ∷ es) = takes e.0 e.1 ++ message_labels es
 
--- of each object the labels of its action, and each message taken
+-- the labels of each object's next action, and a take of each message
 abbrev pub labels_to_try : ProgramTree → ℕ → Configuration → List Label
 labels_to_try p n c = object_labels p n c.objects ++ message_labels c.messages
 
--- where one of those leads: into the list, after some transitions that need no choice
+-- the label is possible and leads into the list, after some transitions that need no choice
 pub record LeadsInto (p : ProgramTree) (es : List (ℕ × Configuration)) (n : ℕ) (c : Configuration) (l : Label) : Type 0 where
   pub next : Configuration
   pub step : transition p c l ≡ Some next
@@ -59,17 +61,19 @@ pub record LeadsInto (p : ProgramTree) (es : List (ℕ × Configuration)) (n : �
   pub settles : Settles p next to
   pub is_in : IsIn (after n l) to es
 
--- each of these is not possible, or leads into the list
+-- each of these labels is not possible, or leads into the list
 abbrev pub AllLeadInto : ProgramTree → List (ℕ × Configuration) → ℕ → Configuration → List Label → Type 0
 AllLeadInto p es n c [] = Unit {0}
 AllLeadInto p es n c (l ∷ ls) = ((transition p c l ≡ None) ⊎ LeadsInto p es n c l) × AllLeadInto p es n c ls
 
--- each label to try of each of these leads into the list
+-- each configuration of the second list is in order, and each of its labels to try leads into the first list or is not
+-- possible
 abbrev pub AreTried : ProgramTree → List (ℕ × Configuration) → List (ℕ × Configuration) → Type 0
 AreTried p es [] = Unit {0}
 AreTried p es (e ∷ rest) = IsInOrder e.1 × AllLeadInto p es e.0 e.1 (labels_to_try p e.0 e.1) × AreTried p es rest
 
--- what a search has done when it ends: from the start it came into the list, and of each of the list it tried all labels
+-- the facts that a search has established at its end: the start leads into the list, and all labels of each
+-- configuration were tried
 pub record IsTried (p : ProgramTree) (es : List (ℕ × Configuration)) : Type 0 where
   pub begins : (c : Configuration) → start p 0 ≡ Some c → (e : Configuration) × Settles p c e × IsIn 1 e es
   pub tried : AreTried p es es

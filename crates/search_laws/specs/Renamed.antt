@@ -1,4 +1,4 @@
--- Values, terms, objects, messages and labels with other names of objects.
+-- Renamings: the same values, terms, objects, messages, labels and configurations with other names of objects.
 use Rattle.std.specs.Prelude.{◌≡◌, ℕ, [], ◌∷◌, Option, Some, None, option_map, map}
 use Rattle.run_types.specs.declared.types.Value.{Value}
 use Rattle.run_types.specs.declared.types.Value.TheVariants as V
@@ -12,14 +12,14 @@ use Rattle.run_types.specs.Message.{Message}
 use Rattle.pool_relation.specs.Action.{Object}
 use Rattle.pool_relation.specs.Configuration.{Configuration, object_of, messages_of}
 
--- other names, one to one onto all names
+-- a one-to-one map of all names onto all names, with its inverse
 pub record Renaming : Type 0 where
   pub to : ℕ → ℕ
   pub from : ℕ → ℕ
   pub from_to : (n : ℕ) → from (to n) ≡ n
   pub to_from : (n : ℕ) → to (from n) ≡ n
 
--- a value, where each name became another
+-- the value, with each name mapped
 abbrev pub renamed_value : (ℕ → ℕ) → Value → Value
 renamed_value f (V.Ref n) = V.Ref (f n)
 renamed_value f v = v
@@ -32,7 +32,7 @@ abbrev pub renamed_name : (ℕ → ℕ) → Option ℕ → Option ℕ
 renamed_name f None = None
 renamed_name f (Some k) = Some (f k)
 
--- a term, where each name became another
+-- each kind of term, with each name mapped
 abbrev mutual
   pub renamed_expression : (ℕ → ℕ) → Expression → Expression
   renamed_expression f (Literal v p) = Literal (renamed_value f v) p
@@ -70,7 +70,7 @@ abbrev mutual
   renamed_alternatives f NoAlts = NoAlts
   renamed_alternatives f (Alt e names ss alts) = Alt (renamed_expression f e) names (renamed_statements f ss) (renamed_alternatives f alts)
 
--- a program with other names of objects; a text names none, so it is the program itself
+-- A program with each name mapped. A text names no object, so that it is then the program itself.
 abbrev pub renamed_method : (ℕ → ℕ) → MethodTree → MethodTree
 renamed_method f m = record m { body = renamed_statements f m.body; value = renamed_expression f m.value; post = renamed_statements f m.post }
 
@@ -101,11 +101,11 @@ renamed_label f (L.Write o item) = L.Write (f o) (renamed_item f item)
 renamed_label f (L.Pick o i) = L.Pick (f o) i
 renamed_label f (L.Fault o e) = L.Fault (f o) e
 
--- d is c, where each name became another
+-- d is c with each name mapped
 pub record IsRenamed (f : ℕ → ℕ) (c d : Configuration) : Type 0 where
   pub objects : (o : ℕ) → object_of d (f o) ≡ option_map (renamed_object f) (object_of c o)
   pub messages : (s r : ℕ) → messages_of d (f s) (f r) ≡ map (renamed_message f) (messages_of c s r)
 
--- no text names an object
+-- the program names no object
 abbrev pub IsNameless : ProgramTree → Type 0
 IsNameless p = (f : ℕ → ℕ) → renamed_program f p ≡ p

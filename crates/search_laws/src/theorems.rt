@@ -1,4 +1,4 @@
-//! The laws: each is the contract of a function that does nothing.
+//! The theorems about searches. Each is the contract of a function with an empty body.
 ghost use Rattle.std.specs.Prelude.{◌≡◌, ℕ, List, None, Some, true};
 ghost use Rattle.pool_syntax.specs.declared.tree.Program.{Program};
 ghost use Rattle.run_types.specs.declared.types.Label.{Label};
@@ -11,7 +11,8 @@ ghost use Rattle.search_laws.specs.Labels.{IsAmong, labels_to_try, IsTried};
 ghost use Rattle.search_laws.specs.Search.{IsReached, IsAtEnd, IsStuck, IsUnfinished, IsFaulty, IsIn, IsClosedAfterSettling, names_next};
 ghost use Rattle.search_laws.specs.ClosedLists.{IsClosedSearch};
 
-/// Under other names, one to one, the same labels are possible and lead to the same configurations.
+/// A one-to-one renaming of objects keeps transitions. The renamed label is possible in the renamed configuration
+/// exactly if the label is possible, and then leads to the renamed configuration after it.
 pub fn names_do_not_matter()
     ensures leads { (f : Renaming) (p : ProgramTree) (c d e : Configuration) (l : Label) → IsRenamed f.to c d → transition p c l ≡ Some e
         → (g : Configuration) × (transition (renamed_program f.to p) d (renamed_label f.to l) ≡ Some g) × IsRenamed f.to e g }
@@ -19,18 +20,20 @@ pub fn names_do_not_matter()
         → transition (renamed_program f.to p) d (renamed_label f.to l) ≡ None }
 {}
 
-/// No program that was read names an object.
+/// No program that was read from a text names an object.
 pub fn no_text_names_an_object()
     ensures { (p : Program) → IsNameless (program_of p) }
 {}
 
-/// Where no label is possible that would give a new object one name that none has, no label is possible: a search that tries one name sees the end.
+/// If one unused name is tried for a new object and no label is possible, then no label is possible with any other
+/// name.
 pub fn one_name_shows_the_end()
     ensures { (p : ProgramTree) (c : Configuration) (n : ℕ) → object_of c n ≡ None
         → ((l : Label) → names_next n l ≡ true → transition p c l ≡ None) → IsAtEnd p c }
 {}
 
-/// A list that has the start, and that no step leaves which names new objects in order, misses nothing: where none of it is stuck, unfinished or faulty, no run leads to what is.
+/// A closed list misses nothing: if none of its configurations is stuck, unfinished or faulty, no run leads to such a
+/// configuration. A list is closed if it has the start and no label leaves it that names new objects in order.
 pub fn a_whole_list_misses_nothing()
     ensures stuck { (p : ProgramTree) (es : List (ℕ × Configuration)) (d : Configuration) → IsNameless p → IsClosedSearch p es
         → ((n : ℕ) (c : Configuration) → IsIn n c es → ¬ (IsStuck p c)) → IsReached p d → ¬ (IsStuck p d) }
@@ -40,8 +43,9 @@ pub fn a_whole_list_misses_nothing()
         → ((n : ℕ) (c : Configuration) → IsIn n c es → ¬ (IsFaulty c)) → IsReached p d → ¬ (IsFaulty d) }
 {}
 
-/// The same of a search that follows transitions which need no choice - local ones, writes, asynchronous sends, returns and errors - and keeps only what is after them:
-/// no other order has to be looked at.
+/// A search may follow transitions without choice in one order and keep only the configurations after them. If none of
+/// those is stuck, unfinished or faulty, no run leads to such a configuration. The transitions without choice are
+/// local ones, writes, asynchronous sends, returns and errors.
 pub fn some_transitions_need_no_choice()
     ensures stuck { (p : ProgramTree) (es : List (ℕ × Configuration)) (d : Configuration) → IsNameless p → IsClosedAfterSettling p es
         → ((n : ℕ) (c : Configuration) → IsIn n c es → ¬ (IsStuck p c)) → IsReached p d → ¬ (IsStuck p d) }
@@ -51,12 +55,12 @@ pub fn some_transitions_need_no_choice()
         → ((n : ℕ) (c : Configuration) → IsIn n c es → ¬ (IsFaulty c)) → IsReached p d → ¬ (IsFaulty d) }
 {}
 
-/// The labels to try are enough: each label that is possible, and gives a new object the next name, is one of them.
+/// `labels_to_try` is complete: it contains each possible label that gives a new object the next name.
 pub fn no_other_label_is_possible()
     ensures { (p : ProgramTree) (c d : Configuration) (n : ℕ) (l : Label) → names_next n l ≡ true → transition p c l ≡ Some d → IsAmong l (labels_to_try p n c) }
 {}
 
-/// A list into which the start leads, and each label to try of each of its configurations, is whole.
+/// A list of which all labels were tried is closed.
 pub fn a_tried_list_is_whole()
     ensures { (p : ProgramTree) (es : List (ℕ × Configuration)) → IsTried p es → IsClosedAfterSettling p es }
 {}

@@ -1,4 +1,4 @@
--- What an object does at the end of a method or of its body.
+-- The action of an object at the end of a method or of its body.
 use Rattle.std.proofs.Common.{◌≡◌, ap, ◌∙◌, ℕ, ◌-◌, [], length, slice_get, Some, None, true}
 use Rattle.pool_syntax.specs.Terms.{ProgramTree}
 use Rattle.pool_relation.specs.Reducible.{statements_redex}

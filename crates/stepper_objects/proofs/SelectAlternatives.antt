@@ -1,4 +1,4 @@
--- Alternatives by their numbers, and the first that takes a call.
+-- Alternatives by their numbers, and the first one that accepts a call.
 use Rattle.std.proofs.Common.{◌≡◌, refl, ℕ, zero, suc, ◌-◌, ◌<◌, ◌≤◌, List, [], ◌∷◌, length, slice_get, slice_index_or, Some, None, arith}
 use Rattle.pool_relation.specs.Action as A
 use Rattle.pool_relation.specs.Transition.{picked, plain_choice}

@@ -1,4 +1,4 @@
--- What the code's account of an object's next act stands for.
+-- The actions and changes of the transition relation that the stepper's acts and changes represent.
 use Rattle.std.specs.Prelude.{◌≡◌, ℕ, List, Option, Some, Bool, true, false, ◌==◌, ◌&&◌, IsTrue}
 use Rattle.run_types.specs.declared.types.Value.{Value}
 use Rattle.run_types.specs.declared.types.Error.{Error}
@@ -20,11 +20,11 @@ use Rattle.stepper_terms.specs.Changes.{is_expression, is_statement, is_call, is
 use Rattle.stepper_terms.specs.declared.contexts.Focus.{Focus}
 use Rattle.stepper_terms.specs.Parts.{loop_of}
 
--- an object
+-- an object with these parts
 abbrev pub object_with : ℕ → Store → Statements → Option Error → Object
 object_with k vars term fault = record { class = k; vars = vars; term = term; fault = fault }
 
--- the object after a change; the arguments are those of the redex
+-- the object after a change; vs are the arguments of the redex
 abbrev pub changed : Object → List Value → Change → Object
 changed x vs (H.Becomes v) = given x v
 changed x vs H.Done = refilled x (AsStatements T.Done)
@@ -58,7 +58,7 @@ acted x vs ns cs (C.Return k v) = A.Return k v
 acted x vs ns cs (C.Waits b m) = A.Waits b m.0
 acted x vs ns cs C.Stuck = A.Stuck
 
--- whether a change is one of what comes next
+-- the change fits this focus and these methods under way
 abbrev pub Fits : List Activation → Focus → Change → Type 0
 Fits xs n (H.Becomes v) = IsTrue (is_expression n)
 Fits xs n H.Done = IsTrue (is_statement n) × IsTrue (keeps_temps n)
@@ -75,7 +75,7 @@ Fits xs n (H.Wait b m) = IsTrue (is_expression n)
 Fits xs n (H.Serve m k args after) = IsTrue (is_statement n) × IsTrue (keeps_temps n)
 Fits xs n (H.Fault e) = Unit {0}
 
--- whether an object makes the change by itself
+-- whether the change is that of a local transition
 abbrev pub is_local : Change → Bool
 is_local H.Returned = false
 is_local (H.Wait b m) = false
@@ -83,7 +83,7 @@ is_local (H.Serve m k args after) = false
 is_local (H.Fault e) = false
 is_local _ = true
 
--- whether it is what comes next
+-- the act fits this focus and these methods under way
 abbrev pub Suits : List Activation → Focus → Act → Type 0
 Suits xs n C.Finished = Unit {0}
 Suits xs n (C.Local h) = Fits xs n h × IsTrue (is_local h)
@@ -98,22 +98,22 @@ Suits xs n (C.Return k v) = IsTrue (is_end n) × IsTrue (is_awaited xs)
 Suits xs n (C.Waits b m) = IsTrue (is_expression n)
 Suits xs n C.Stuck = Unit {0}
 
--- it returns this value to o
+-- the act returns this value to o
 abbrev pub returns_act : Act → ℕ → Value → Bool
 returns_act (C.Return k v) o w = k == o && is_same v w
 returns_act _ o w = false
 
--- it waits for r
+-- the act waits for r
 abbrev pub waits_act : Act → ℕ → Bool
 waits_act (C.Waits b k) r = b == r
 waits_act _ r = false
 
--- it calls this method of r, where the arguments are the same
+-- the act calls this method of r, if k says that the arguments are the same
 abbrev pub calls_act : Act → ℕ → ℕ → Bool → Bool
 calls_act (C.Send b m) r n k = b == r && m.0 == n && k
 calls_act _ r n k = false
 
--- it sends r a message on this method, where the arguments are the same
+-- the act sends r a message for this method, if k says that the arguments are the same
 abbrev pub posts_act : Act → ℕ → ℕ → Bool → Bool
 posts_act (C.Async b m) r n k = b == r && m.0 == n && k
 posts_act _ r n k = false

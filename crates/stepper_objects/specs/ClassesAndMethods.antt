@@ -1,4 +1,4 @@
--- What the code's classes and methods stand for.
+-- The trees of the classes and methods that a lookup of the stepper finds.
 use Rattle.std.specs.Prelude.{List, map, Option, Some, None}
 use Rattle.pool_syntax.specs.declared.tree.Method.{Method}
 use Rattle.pool_syntax.specs.declared.tree.ClassDecl.{ClassDecl}

@@ -1,4 +1,4 @@
--- What an answer or a select offers, in the code's parts.
+-- The offers and alternatives of the transition relation that those of the stepper represent.
 use Rattle.std.specs.Prelude.{ℕ, List, Option, Some, None}
 use denote.Bor.{Bor}
 use Rattle.pool_syntax.specs.declared.tree.Stmt.{Stmt}
@@ -22,7 +22,7 @@ abbrev pub work_seen : Option (Bor (List Stmt)) → Option Statements
 work_seen None = None
 work_seen (Some ss) = Some (statements_of ss.now)
 
--- what an object that does this next offers to a call of the method
+-- the offer of an object with this next action for the method
 abbrev pub offer_act : Act → List Named → List Choice → ℕ → Option X.Offer
 offer_act C.Answer ns cs m = X.offer (A.Answer ns) m
 offer_act C.Select ns cs m = X.offer (A.Select cs) m

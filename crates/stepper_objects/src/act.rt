@@ -1,4 +1,4 @@
-//! What an object does next.
+//! The next action of an object.
 ghost use Rattle.std.specs.Prelude.{◌≡◌, [], ◌∷◌, Option, Some, None, IsTrue, ℕ, ◌-◌, List, length, slice_get, true, not};
 ghost use Rattle.std.specs.List.{list_any};
 ghost use Rattle.pool_syntax.specs.TreeOf.{program_of};
@@ -26,7 +26,7 @@ use stepper_terms::contexts::{
     Activation, Binding, Continuation, Focus, Guarded, Operand, Ready, SuspendedCall, Task,
 };
 
-/// What an object does next. The arguments, names and guards are those of the redex.
+/// The next action of an object. Its arguments, names and guards are those of the redex, and are not stored here.
 #[derive(Clone, Copy)]
 pub enum Act<'a> {
     Finished,
@@ -54,7 +54,7 @@ fn on_answer<'a>(answer: Answer) -> Act<'a>
     }
 }
 
-/// What an object does at an expression.
+/// The action at an expression that is the redex.
 #[tactic(auto, using(stepper_terms::proofs::Laws::length_values))]
 fn act_ready<'a>(
     program: &'a Program,
@@ -112,7 +112,7 @@ fn act_ready<'a>(
     }
 }
 
-/// The first error or the lack of an open guard, as the guards say.
+/// The action at a select with these guards: the first error that applies, or the select.
 #[tactic(auto, using(stepper_terms::proofs::Laws::nil_guard, stepper_terms::proofs::Laws::other_guard, stepper_terms::proofs::Laws::true_guard))]
 fn act_select<'a>(guards: &[Guarded<'_>]) -> Act<'a>
     ensures gives { (x : Object) → on_select (choices guards.now) ≡ acted x [] [] (choices guards.now) result }
@@ -151,7 +151,7 @@ fn any_true(guards: &[Guarded<'_>]) -> bool
         .any(|g| matches!(g.guard.value, Value::Bool(true)))
 }
 
-/// What an object does at an assignment.
+/// The action at an assignment.
 fn act_assign<'a>(temps: &[Binding], vars: &[Binding], name: u32, value: Value) -> Act<'a>
     ensures gives { (class : ℕ) (tm : Statements) (f : Option Error) → on_assignment (object_with class vars.now tm f) temps.now name value ≡ acted (object_with class vars.now tm f) [] [] [] result }
     ensures suits { (xs : List Activation) (n : Focus) → is_statement n ≡ true → next_assigns n ≡ Some (name, value) → Suits xs n result }
@@ -165,7 +165,7 @@ fn act_assign<'a>(temps: &[Binding], vars: &[Binding], name: u32, value: Value) 
     }
 }
 
-/// What an object does at a statement.
+/// The action at a statement that is the redex.
 fn act_task<'a>(class: u32, temps: &[Binding], vars: &[Binding], task: &Task<'a>) -> Act<'a>
     ensures gives { (p : ProgramTree) (o : ℕ) (tm : Statements) (f : Option Error)
         → redex_action p o (object_with class vars.now tm f) temps.now (task_redex task.now)
@@ -203,7 +203,7 @@ fn act_task<'a>(class: u32, temps: &[Binding], vars: &[Binding], task: &Task<'a>
     }
 }
 
-/// What an object does at the end of a method with this value.
+/// The action at the end of this method, if it has this value.
 fn act_end<'a>(call: &Activation<'_>, value: Operand) -> Act<'a>
     ensures gives { (p : ProgramTree) (o : ℕ) (x : Object) (t : Store) (vs : List Value) (ns : List Named) (cs : List Choice)
         → redex_action p o x t (last_redex call.now value) ≡ acted x vs ns cs result }
@@ -221,7 +221,7 @@ fn act_end<'a>(call: &Activation<'_>, value: Operand) -> Act<'a>
     }
 }
 
-/// What an object does at the end of a method or of its body.
+/// The action at the end of a method or of a body.
 #[tactic(auto, using(crate::proofs::EndActions::last_acts, crate::proofs::EndActions::body_acts))]
 fn act_last<'a>(work: &Continuation<'_>) -> Act<'a>
     requires { IsTrue (is_end work.now.next) }
@@ -234,7 +234,7 @@ fn act_last<'a>(work: &Continuation<'_>) -> Act<'a>
     }
 }
 
-/// The temps of the innermost method under way.
+/// The temps of the innermost method under way; empty in a body.
 #[tactic(auto, using(stepper_terms::proofs::Laws::temps_last, stepper_terms::proofs::Laws::none_last))]
 pub fn temps<'s>(calls: &'s [Activation<'_>]) -> &'s [Binding]
     ensures { result.now ≡ temps_at [] calls.now }
@@ -245,7 +245,7 @@ pub fn temps<'s>(calls: &'s [Activation<'_>]) -> &'s [Binding]
     }
 }
 
-/// What the object of this name and class, with these variables, does next.
+/// The next action of an object with this work, name, class and variables.
 #[tactic(auto, using(stepper_terms::proofs::Laws::expression_next, stepper_terms::proofs::Laws::statement_next, stepper_terms::proofs::Laws::action_at))]
 pub fn next_act<'a>(
     work: &Continuation<'a>,
@@ -276,7 +276,7 @@ pub fn next_act<'a>(
 }
 
 impl<'a> Act<'a> {
-    /// Whether it returns this value to the caller.
+    /// Whether the action returns this value to the caller.
     pub fn returns(&self, caller: u32, value: Value) -> bool
         ensures { result ≡ returns_act self.now caller value }
     {
@@ -289,7 +289,7 @@ impl<'a> Act<'a> {
         }
     }
 
-    /// Whether it waits for the receiver.
+    /// Whether the action waits for the receiver.
     pub fn waits_for(&self, receiver: u32) -> bool
         ensures { result ≡ waits_act self.now receiver }
     {
@@ -299,7 +299,8 @@ impl<'a> Act<'a> {
         }
     }
 
-    /// Whether it calls this method of the receiver, where its arguments are the same.
+    /// Whether the action calls this method of the receiver. `same_args` says whether the arguments are the same; if
+    /// it is false, so is the answer.
     pub fn calls(&self, receiver: u32, method: NameId, same_args: bool) -> bool
         ensures { result ≡ calls_act self.now receiver method.0 same_args }
     {
@@ -309,7 +310,8 @@ impl<'a> Act<'a> {
         }
     }
 
-    /// Whether it sends the receiver a message on this method, where its arguments are the same.
+    /// Whether the action sends the receiver a message for this method. `same_args` says whether the arguments are the
+    /// same; if it is false, so is the answer.
     pub fn posts(&self, receiver: u32, method: NameId, same_args: bool) -> bool
         ensures { result ≡ posts_act self.now receiver method.0 same_args }
     {

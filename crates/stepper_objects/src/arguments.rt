@@ -29,7 +29,7 @@ fn same_operands(operands: &[Operand], args: &[Value]) -> bool
     args.is_empty()
 }
 
-/// Whether the arguments of the redex are these.
+/// Whether the redex has exactly these arguments. A redex without arguments has the empty list.
 pub fn has_args(work: &Continuation<'_>, args: &[Value]) -> bool
     ensures { result ≡ are_same (now_args work.now.next) args.now }
 {

@@ -1,13 +1,13 @@
-//! The changes that a transition makes to one object.
+//! Changes that a transition makes to one object.
 use pool_syntax::{Expr, Method, Stmt};
 use run_types::{Args, Error, NameId, Value};
 
-/// What takes the place of an object's redex.
+/// A change of one object: the part that replaces its redex, or the error that it meets.
 #[derive(Clone, Copy)]
 pub enum Change<'a> {
-    /// The expression becomes a value.
+    /// The redex, an expression, becomes this value.
     Becomes(Value),
-    /// The statement is done.
+    /// The redex, a statement, ends.
     Done,
     SetTemp {
         name: u32,
@@ -18,7 +18,7 @@ pub enum Change<'a> {
         value: Value,
     },
     Branch(&'a [Stmt]),
-    /// The body of a loop, and the loop again.
+    /// The body of a loop follows, and then the loop.
     Repeat {
         cond: &'a Expr,
         body: &'a [Stmt],
@@ -27,13 +27,13 @@ pub enum Change<'a> {
         cond: &'a Expr,
         body: &'a [Stmt],
     },
-    /// An own method begins, with the arguments of the call.
+    /// An own method begins, with the arguments of the redex.
     Call(&'a Method),
-    /// The end of an own method.
+    /// An own method ends with this value.
     Leave(Value),
-    /// The end of a served method.
+    /// A method ends that was served for no caller.
     End,
-    /// The value of a served method was given to its caller: its post statements come next.
+    /// The value of a served method was returned to its caller. Its post statements come next.
     Returned,
     Wait {
         receiver: u32,

@@ -1,4 +1,4 @@
-//! Variables, classes and methods by their names.
+//! Lookup of variables, classes and methods by name.
 ghost use Rattle.std.specs.Prelude.{◌≡◌, length, is_some, if◌then◌else◌};
 ghost use Rattle.pool_syntax.specs.TreeOf.{program_of, class_tree, method_tree};
 ghost use Rattle.pool_syntax.specs.Classes.{class_of, named_method};
@@ -10,7 +10,7 @@ use pool_syntax::{ClassDecl, Method, Program};
 use run_types::Value;
 use stepper_terms::contexts::Binding;
 
-/// The value of a variable.
+/// The value of the first variable of this name.
 pub fn value_of(bindings: &[Binding], name: u32) -> Option<Value>
     ensures { result ≡ value_of bindings.now name }
 {

@@ -1,4 +1,4 @@
-//! One object: its class, its variables, what it has still to do, and its fault.
+//! One object: its class, its variables, its work and the error that it has met.
 ghost use Rattle.std.specs.Prelude.{◌≡◌, OnOk, IfOk};
 ghost use Rattle.pool_syntax.specs.TreeOf.{program_of, class_tree};
 ghost use Rattle.pool_relation.specs.Action.{action};
@@ -15,7 +15,7 @@ use std::alloc::{AllocError, Global};
 use stepper_terms::changes::{nil_store, set};
 use stepper_terms::contexts::{Binding, Continuation};
 
-/// One object.
+/// One object. `work` represents its term, and `fault` is the run-time error that it has met.
 #[derive(Drop)]
 pub struct ObjectState<'a> {
     pub class: u32,
@@ -25,7 +25,7 @@ pub struct ObjectState<'a> {
 }
 
 impl<'a> ObjectState<'a> {
-    /// A new object of this class.
+    /// A new object of this class. Reports `AllocError` if memory runs out.
     pub fn make(alloc: Global, class: &'a ClassDecl) -> Result<ObjectState<'a>, AllocError>
         ensures { IfOk result (λ t. thing_object t ≡ new_object (class_tree class.now)) }
     {
@@ -39,7 +39,7 @@ impl<'a> ObjectState<'a> {
         })
     }
 
-    /// What the object of this name does next, if it has no fault.
+    /// The next action of this object under the name `name`, whether or not it has met an error.
     pub fn act(&self, program: &'a Program, name: u32) -> Act<'a>
         ensures gives { action (program_of program.now) name (thing_object self.now)
             ≡ acted (thing_object self.now) (now_args self.now.work.next) (now_names self.now.work.next) (now_choices self.now.work.next) result }
@@ -48,7 +48,7 @@ impl<'a> ObjectState<'a> {
         next_act(&self.work, program, name, self.class, self.vars.as_slice())
     }
 
-    /// Makes a change that is one of what comes next.
+    /// Makes a change that fits the redex. Reports `AllocError` if memory runs out; the object is then unspecified.
     pub fn change(&mut self, alloc: Global, change: &Change<'a>) -> Result<(), AllocError>
         requires { Fits self.old.work.calls.items self.old.work.next change.now }
         ensures { OnOk result (thing_object self.new ≡ changed (thing_object self.old) (now_args self.old.work.next) change.now) }

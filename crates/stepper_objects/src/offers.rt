@@ -1,4 +1,4 @@
-//! What an answer or a select offers.
+//! Offers of an object at an answer or a select.
 ghost use Rattle.std.specs.Prelude.{◌≡◌, [], ◌∷◌, Option, Some, None};
 ghost use Rattle.std.specs.List.{list_any};
 ghost use Rattle.run_types.specs.Values.{is_true};
@@ -14,7 +14,7 @@ use pool_syntax::{Named, Stmt};
 use run_types::Value;
 use stepper_terms::contexts::{Continuation, Focus, Guarded, Task};
 
-/// The methods that an object may serve next, and what it does after one of them.
+/// The methods that an object may serve next, and its statements after one of them.
 #[derive(Clone, Copy)]
 pub struct Offer<'a> {
     pub names: &'a [Named],
@@ -34,7 +34,7 @@ fn is_open(guarded: &Guarded<'_>) -> bool
     matches!(guarded.guard.value, Value::Bool(true))
 }
 
-/// What an alternative with an evaluated guard offers to a call of the method.
+/// The offer of an alternative with an evaluated guard, if it is open and names the method.
 fn offer_of<'a>(guarded: &Guarded<'a>, method: u32) -> Option<Offer<'a>>
     ensures { offered result ≡ select_offer (choice guarded.now ∷ []) method }
 {
@@ -54,7 +54,7 @@ fn offer_of<'a>(guarded: &Guarded<'a>, method: u32) -> Option<Offer<'a>>
     }
 }
 
-/// The first open alternative whose list names the method.
+/// The offer of the first open alternative that names the method.
 fn select_offer<'a>(guards: &[Guarded<'a>], method: u32) -> Option<Offer<'a>>
     ensures { offered result ≡ select_offer (choices guards.now) method }
 {
@@ -84,7 +84,7 @@ fn plain_work<'a>(guarded: &Guarded<'a>) -> Option<&'a [Stmt]>
     }
 }
 
-/// The work of the alternative of this number, from 1, if it is open and plain.
+/// The work of alternative `number`, counted from 1, if it is open and plain.
 #[tactic(auto, using(crate::proofs::SelectAlternatives::picked_past, crate::proofs::SelectAlternatives::picked_at))]
 fn numbered<'a>(guards: &[Guarded<'a>], number: u32) -> Option<&'a [Stmt]>
     ensures { work_seen result ≡ picked (A.Select (choices guards.now)) number }
@@ -99,7 +99,8 @@ fn numbered<'a>(guards: &[Guarded<'a>], number: u32) -> Option<&'a [Stmt]>
     plain_work(&guards[at])
 }
 
-/// The work of the alternative of this number, from 1, if it is open and plain.
+/// The work of alternative `alt` of the select that is the redex, counted from 1. None if it is not open and plain, or
+/// if the redex is no select.
 pub fn plain_alt<'a>(work: &Continuation<'a>, alt: u32) -> Option<&'a [Stmt]>
     ensures { work_seen result ≡ picked (A.Select (now_choices work.now.next)) alt }
 {
@@ -113,7 +114,7 @@ pub fn plain_alt<'a>(work: &Continuation<'a>, alt: u32) -> Option<&'a [Stmt]>
     numbered(guards.as_slice(), alt)
 }
 
-/// Whether an alternative with an evaluated guard is open and plain.
+/// Whether one of these alternatives is open and plain.
 fn any_open_plain(guards: &[Guarded<'_>]) -> bool
     ensures { result ≡ list_any is_open_plain (choices guards.now) }
 {
@@ -125,7 +126,7 @@ fn any_open_plain(guards: &[Guarded<'_>]) -> bool
     false
 }
 
-/// Whether an alternative of what comes next is open and plain.
+/// Whether the redex is a select with an open and plain alternative.
 pub fn has_open_plain(work: &Continuation<'_>) -> bool
     ensures { result ≡ list_any is_open_plain (now_choices work.now.next) }
 {
@@ -139,7 +140,7 @@ pub fn has_open_plain(work: &Continuation<'_>) -> bool
     any_open_plain(guards.as_slice())
 }
 
-/// What an object that does this next offers to a call of the method.
+/// The offer of an object with this next action for the method. None if it does not offer the method.
 pub fn offer_to<'a>(work: &Continuation<'a>, act: &Act<'_>, method: u32) -> Option<Offer<'a>>
     ensures { offered result ≡ offer_act act.now (now_names work.now.next) (now_choices work.now.next) method }
 {

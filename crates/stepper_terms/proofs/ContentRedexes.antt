@@ -1,4 +1,4 @@
--- The redex of a content, and the content with another part in its place.
+-- The redex of a content, and the content after another part has replaced it.
 use Rattle.std.specs.Prelude.{◌≡◌, Bool, false, not}
 use Rattle.pool_syntax.specs.Terms as T
 use Rattle.pool_syntax.specs.Terms.{Store}

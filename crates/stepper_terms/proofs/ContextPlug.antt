@@ -1,4 +1,4 @@
--- Contexts, the redex inside them, and another part in its place.
+-- Contexts, the redex inside them, and another part that replaces it.
 use Rattle.std.proofs.Common.{◌≡◌, refl, ap, sym, ◌∙◌, List, [], ◌∷◌, ◌++◌, length, arith}
 use Rattle.pool_syntax.specs.declared.tree.Stmt.{Stmt}
 use Rattle.pool_syntax.specs.Terms as T

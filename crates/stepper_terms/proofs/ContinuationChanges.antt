@@ -1,4 +1,4 @@
--- Changes of the work.
+-- Changes of an object's work.
 use Rattle.std.proofs.Common.{◌≡◌, refl, ap, ap₂, sym, ◌∙◌, ℕ, zero, suc, ◌-◌, ◌<◌, List, [], ◌∷◌, ◌++◌, length, take, drop, slice_get, slice_set, slice_index_or, Option, Some, None, is_some, true, false, arith}
 use Rattle.run_types.specs.declared.types.Value.{Value}
 use Rattle.pool_syntax.specs.TreeOf.{expression_of, statements_of}

@@ -1,4 +1,4 @@
--- The redex of a term in the stepper's form, and the term with another part in its place.
+-- The redex of a term in the stepper's form, and the term after another part has replaced it.
 use Rattle.std.proofs.Common.{◌≡◌, refl, ap, ◌∙◌, ℕ, List, [], ◌∷◌, ◌++◌, Option, true, false, arith}
 use Rattle.pool_syntax.specs.TreeOf.{expressions_of, statements_of}
 use Rattle.pool_syntax.specs.Terms as T

@@ -1,4 +1,4 @@
--- The action of an object, from what comes next in its work.
+-- The next action of an object, from the focus of its work.
 use Rattle.std.proofs.Common.{◌≡◌, refl, ap, ℕ, suc, ◌-◌, List, [], ◌∷◌, ◌++◌, length, slice_get, Option, Some, None, true, arith}
 use Rattle.pool_syntax.specs.Terms as T
 use Rattle.pool_syntax.specs.Terms.{Store, Statements, ProgramTree}

@@ -1,4 +1,4 @@
--- What comes next after statements, and behind a value.
+-- The focus after statements and after a value.
 use Rattle.std.proofs.Common.{◌≡◌, refl, ap, ◌∙◌, ℕ, ◌-◌, List, [], ◌∷◌, ◌++◌, length, slice_get, Option, Some, None, arith}
 use Rattle.pool_syntax.specs.TreeOf.{statements_of}
 use Rattle.pool_syntax.specs.Terms as T

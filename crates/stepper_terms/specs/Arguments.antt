@@ -1,4 +1,4 @@
--- The arguments, the names and the guards of what comes next.
+-- The arguments, the names and the guards of the redex in the focus of the stepper.
 use Rattle.std.specs.Prelude.{List, []}
 use Rattle.run_types.specs.declared.types.Value.{Value}
 use Rattle.pool_syntax.specs.declared.tree.Named.{Named}
@@ -11,13 +11,13 @@ use Rattle.stepper_terms.specs.declared.contexts.Focus.{Focus}
 use Rattle.stepper_terms.specs.declared.contexts.Focus.TheVariants as N
 use Rattle.stepper_terms.specs.Reduced.{values, choices}
 
--- the arguments of an expression
+-- the arguments of an expression that is the redex
 abbrev pub ready_args : Ready → List Value
 ready_args (Y.Call m vs p) = values vs.items
 ready_args (Y.Send to m vs p) = values vs.items
 ready_args _ = []
 
--- the arguments, the names and the guards of a statement
+-- the arguments, the names and the guards of a statement that is the redex
 abbrev pub task_args : Task → List Value
 task_args (K.Async to m vs) = values vs.items
 task_args _ = []

@@ -1,4 +1,4 @@
--- What the plain stepper's contexts stand for.
+-- The terms that the stepper's contexts and continuations represent.
 use Rattle.std.specs.Prelude.{◌≡◌, ℕ, ◌-◌, ◌<◌, List, [], ◌∷◌, length, slice_get, Option, Some, None, false}
 use denote.Bor.{Bor}
 use Rattle.run_types.specs.declared.types.Value.TheVariants as V
@@ -32,16 +32,16 @@ use Rattle.stepper_terms.specs.declared.seek.Step.TheVariants as S
 use Rattle.pool_relation.specs.Reducible.{is_value}
 use Rattle.stepper_terms.specs.Weights.{weight}
 
--- an evaluated value
+-- the value as an expression
 abbrev pub operand : Operand → Expression
 operand v = T.Literal v.value v.pos
 
--- evaluated arguments, and then these
+-- the evaluated arguments, and then these expressions
 abbrev pub operands : List Operand → Expressions → Expressions
 operands [] es = es
 operands (v ∷ vs) es = T.Arg (operand v) (operands vs es)
 
--- an expression with this one in its place
+-- the expression e in the hole of a context
 abbrev pub placed : ExpressionContext → Expression → Expression
 placed (P.Prefix op p) e = T.Prefix op e p
 placed (P.Left op r p) e = T.Infix op e (expression_of r.now) p
@@ -50,12 +50,12 @@ placed (P.CallArgument m vs es p) e = T.Call m.0 (operands vs.items (T.Arg e (ex
 placed (P.Destination m es p) e = T.Send e m.0 (expressions_of es.now) p
 placed (P.SendArgument to m vs es p) e = T.Send (operand to) m.0 (operands vs.items (T.Arg e (expressions_of es.now))) p
 
--- an expression in these places, the innermost last
+-- the expression e in these contexts, the innermost last
 abbrev pub nested : List ExpressionContext → Expression → Expression
 nested [] e = e
 nested (k ∷ ks) e = placed k (nested ks e)
 
--- the redex
+-- the redex, as an expression
 abbrev pub ready : Ready → Expression
 ready (R.Me p) = T.Me p
 ready (R.Variable x p) = T.Variable x.0 p
@@ -66,42 +66,43 @@ ready (R.Call m vs p) = T.Call m.0 (operands vs.items T.NoArgs) p
 ready (R.Send to m vs p) = T.Send (operand to) m.0 (operands vs.items T.NoArgs) p
 ready (R.Wait b m) = T.Wait b m.0
 
--- a list of alternatives
+-- the alternatives
 abbrev pub alternatives : List Alt → Alternatives
 alternatives [] = T.NoAlts
 alternatives (a ∷ more) = T.Alt (expression_of a.guard) a.answer (statements_of a.work) (alternatives more)
 
--- the redex, or the part in which it is
+-- the redex, or the part in which to search
 abbrev pub stepped : Step → Expression
 stepped (S.Found r) = ready r
 stepped (S.Into e) = expression_of e.now
 
--- a part in which the redex is has one, and weighs less than this
+-- a part in which to search is no value, and weighs less than n
 abbrev pub IsBelow : ℕ → Step → Type 0
 IsBelow n (S.Found r) = Unit {0}
 IsBelow n (S.Into e) = (is_value (expression_of e.now) ≡ false) × (weight (expression_of e.now) < n)
 
--- whether the part in which the redex is has one
+-- a part in which to search is no value
 abbrev pub IsOpen : Step → Type 0
 IsOpen (S.Found r) = Unit {0}
 IsOpen (S.Into e) = is_value (expression_of e.now) ≡ false
 
--- alternatives with evaluated guards, and then these
+-- the alternatives with evaluated guards, and then these
 abbrev pub guarded : List Guarded → Alternatives → Alternatives
 guarded [] alts = alts
 guarded (g ∷ gs) alts = T.Alt (operand g.guard) g.alt.now.answer (statements_of g.alt.now.work) (guarded gs alts)
 
--- a loop
+-- a loop as statements
 abbrev pub loop_of : Expression → Statements → Statements
 loop_of e body = T.Then (T.While e body) T.Done
 
--- what is left in the body of an object or in a method under way: statements, or else the value alone, or nothing; the value is then evaluated
+-- The rest of a body or of a method under way: statements; the value alone, if no statement is left; or nothing, if
+-- the value is evaluated.
 pub data Content : Type 0 where
   Running : (ss : Statements) → Content
   Valued : (e : Expression) → Content
   Over : (v : Operand) → Content
 
--- a statement with this expression in its slot, and the statements after it
+-- the statement with the expression e in its hole, and the statements after it
 abbrev pub slotted : StatementContext → Statements → Expression → Content
 slotted (L.Assign n) ss e = Running (T.Then (T.Assign n.name.0 n.pos e) ss)
 slotted L.Write ss e = Running (T.Then (T.Write e) ss)
@@ -116,7 +117,7 @@ slotted (L.Guard done at more) ss e =
     Running (T.Then (T.Select (guarded done.items (T.Alt e at.now.answer (statements_of at.now.work) (alternatives more.now)))) ss)
 slotted L.Value ss e = Valued e
 
--- the statement that is the redex
+-- the redex, as a statement
 abbrev pub task : Task → Statement
 task (K.Assign n v) = T.Assign n.name.0 n.pos (operand v)
 task (K.Write v) = T.Write (operand v)
@@ -129,67 +130,68 @@ task (K.While k body) = T.While (expression_of k.now) (statements_of body.now)
 task (K.Answer names) = T.Answer names.now
 task (K.Select gs) = T.Select (guarded gs.items T.NoAlts)
 
--- statements that follow
+-- the statements of a segment
 abbrev pub segment : Segment → Statements
 segment (G.Rest ss) = statements_of ss.now
 segment (G.Again k body) = loop_of (expression_of k.now) (statements_of body.now)
 
--- all statements that follow, the last segment first
+-- all statements that follow; the last segment comes first
 abbrev pub left : List Segment → Statements
 left [] = T.Done
 left (g ∷ gs) = append (left gs) (segment g)
 
--- the value of a method that evaluated none
+-- the value of a method that has evaluated none
 abbrev pub nothing : Operand
 nothing = record { value = V.Nil; pos = 0 }
 
--- what comes next and after it
+-- the redex with its surroundings, and the statements after it
 abbrev pub content : Focus → Content
 content (N.Expression r ks s gs) = slotted s (left gs.items) (nested ks.items (ready r))
 content (N.Statement t gs) = Running (T.Then (task t) (left gs.items))
 content (N.Value v) = Valued (operand v)
 content N.Over = Over nothing
 
--- the same where the object stands: an evaluated value is the end
+-- the same, if an evaluated value is the end
 abbrev pub stopped : Focus → Content
 stopped (N.Value v) = Over v
 stopped n = content n
 
--- the statements, and where none is left the value, if one is wanted
+-- the statements; if none is left, the value if there is one
 abbrev pub ahead : Option Expression → Statements → Content
 ahead e (T.Then s ss) = Running (T.Then s ss)
 ahead (Some e) T.Done = Valued e
 ahead None T.Done = Over nothing
 
--- as the body of an object, or as post statements; a value that is evaluated there would be dropped
+-- the content as the body of an object, or as post statements, which drop an evaluated value
 abbrev pub bottom : Content → Statements
 bottom (Running ss) = ss
 bottom (Valued e) = T.Then (T.Do e) T.Done
 bottom (Over v) = T.Done
 
--- for whom a method was begun; an own one is for no caller
+-- the caller for whom a method began; an own method has none
 abbrev pub caller_at : SuspendedCall → Option ℕ
 caller_at (O.Expression ks s gs) = None
 caller_at (O.Statement k gs) = k
 
--- whom it serves: while its post statements are under way no one
+-- the caller that a method serves; it serves no one while its post statements are under way
 abbrev pub caller_of : Stage → SuspendedCall → Option ℕ
 caller_of (A.Body e qs) o = caller_at o
 caller_of (A.Post v) o = None
 
--- the post statements behind an evaluated value; only one that a caller waits for has any, since elsewhere they are begun at once
+-- the post statements after an evaluated value; only a method for a caller has them, because without a caller they
+-- begin at once
 abbrev pub behind : Option ℕ → Statements → Statements
 behind (Some k) qs = qs
 behind None qs = T.Done
 
--- the statements, the value and the post statements that are left in a method under way
+-- the statements, the value and the post statements that are left of a method under way
 abbrev pub inside : SuspendedCall → Stage → Content → Statements × Expression × Statements
 inside o (A.Body e qs) (Running ss) = (ss, expression_of e.now, statements_of qs.now)
 inside o (A.Body e qs) (Valued x) = (T.Done, x, statements_of qs.now)
 inside o (A.Body e qs) (Over v) = (T.Done, operand v, behind (caller_at o) (statements_of qs.now))
 inside o (A.Post v) c = (T.Done, operand v, bottom c)
 
--- a method under way for this caller, where it stands
+-- a method under way for this caller, in its outer context
 abbrev pub around : SuspendedCall → Option ℕ → ℕ → Store → Statements × Expression × Statements → Content
 around (O.Expression ks s gs) k m t b = slotted s (left gs.items) (nested ks.items (T.Frame m t b.0 b.1 b.2))
 around (O.Statement j gs) k m t b = Running (T.Then (T.Serve m k t b.0 b.1 b.2) (left gs.items))
@@ -197,12 +199,12 @@ around (O.Statement j gs) k m t b = Running (T.Then (T.Serve m k t b.0 b.1 b.2) 
 abbrev pub wrapped : Activation → Content → Content
 wrapped a c = around a.outer (caller_of a.stage a.outer) a.method.0 a.temps.items (inside a.outer a.stage c)
 
--- in all methods under way, the innermost last
+-- the content in all these methods under way, the innermost last
 abbrev pub layers : List Activation → Content → Content
 layers [] c = c
 layers (a ∷ more) c = wrapped a (layers more c)
 
--- the value that is wanted where the statements are done: that of the innermost method, unless it has it
+-- the value to evaluate after the last statement: that of the innermost method, unless it is evaluated already
 abbrev pub value_of_stage : Stage → Option Expression
 value_of_stage (A.Body e qs) = Some (expression_of e.now)
 value_of_stage (A.Post v) = None
@@ -214,11 +216,11 @@ value_of_last (Some a) = value_of_stage a.stage
 abbrev pub wanted : List Activation → Option Expression
 wanted calls = value_of_last (slice_get calls (length calls - 1))
 
--- an expression of the program, if there is one
+-- the expression of the program, if there is one
 abbrev pub expression_seen : Option (Bor Expr) → Option Expression
 expression_seen None = None
 expression_seen (Some e) = Some (expression_of e.now)
 
--- the term
+-- the term that a continuation represents
 abbrev pub term_of : Continuation → Statements
 term_of w = bottom (layers w.calls.items (stopped w.next))

@@ -1,4 +1,4 @@
--- The redex that the stepper's parts stand for, and the content with another part in its place.
+-- The redex that a focus of the stepper represents, in terms of the transition relation.
 use Rattle.std.specs.Prelude.{ℕ, List, [], ◌∷◌, Option, Bool, true, false}
 use Rattle.run_types.specs.declared.types.Value.{Value}
 use Rattle.run_types.specs.declared.types.Item.TheVariants as I
@@ -25,16 +25,16 @@ abbrev pub values : List Operand → List Value
 values [] = []
 values (v ∷ vs) = v.value ∷ values vs
 
--- an alternative with its evaluated guard
+-- an alternative with the value of its guard
 abbrev pub choice : Guarded → Choice
 choice g = record { guard = g.guard.value; answer = g.alt.now.answer; work = statements_of g.alt.now.work }
 
--- the evaluated guards of alternatives
+-- the alternatives with the values of their guards
 abbrev pub choices : List Guarded → List Choice
 choices [] = []
 choices (g ∷ gs) = choice g ∷ choices gs
 
--- the redex that an expression is
+-- the redex of an expression
 abbrev pub reduced : Ready → Reducible
 reduced (Y.Me p) = R.OwnName
 reduced (Y.Variable x p) = R.Read x.0
@@ -45,7 +45,7 @@ reduced (Y.Call m vs p) = R.Invoke m.0 (values vs.items)
 reduced (Y.Send to m vs p) = R.SynchronousSend to.value m.0 (values vs.items)
 reduced (Y.Wait b m) = R.Waiting b m.0
 
--- the redex that a statement is
+-- the redex of a statement
 abbrev pub task_redex : Task → Reducible
 task_redex (K.Assign n v) = R.Set n.name.0 v.value
 task_redex (K.Write v) = R.Print (I.Value v.value)
@@ -58,22 +58,22 @@ task_redex (K.While k body) = R.Loop (expression_of k.now) (statements_of body.n
 task_redex (K.Answer names) = R.Accept names.now
 task_redex (K.Select gs) = R.Choose (choices gs.items)
 
--- the temps at hand inside these methods under way
+-- the temps of the innermost of these methods under way, or t if there is none
 abbrev pub temps_at : Store → List Activation → Store
 temps_at t [] = t
 temps_at t (a ∷ more) = temps_at a.temps.items more
 
--- whether an assignment of a value comes next
+-- whether the statement assigns an evaluated value
 abbrev pub assigns : Statement → Bool
 assigns (T.Assign x p (T.Literal v q)) = true
 assigns _ = false
 
--- the redex at the end of a method with these temps and this value, behind which these post statements come
+-- the redex at the end of a method with these temps, this value and these post statements
 abbrev pub end_redex : SuspendedCall → Option ℕ → ℕ → Store → Operand → Statements → Reducible
 end_redex (O.Expression ks s gs) k m t v qs = R.Leave v.value
 end_redex (O.Statement j gs) k m t v qs = R.Finish k v.value (left_served k m t T.Done (operand v) qs)
 
--- the post statements that are not begun
+-- the post statements, if they have not begun
 abbrev pub post_of : Stage → Statements
 post_of (A.Body e qs) = statements_of qs.now
 post_of (A.Post v) = T.Done

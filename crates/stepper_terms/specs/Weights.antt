@@ -1,4 +1,4 @@
--- The number of parts of an expression.
+-- The weight of an expression, which is the number of its parts; a method under way counts as one part.
 use Rattle.std.specs.Prelude.{ℕ, suc, ◌+◌}
 use Rattle.pool_syntax.specs.Terms as T
 use Rattle.pool_syntax.specs.Terms.{Expression, Expressions}

@@ -1,4 +1,5 @@
-//! The changes of an object's work: another part takes the place of the redex.
+//! Changes of an object's work: another part replaces the redex. A change that runs out of memory reports
+//! `AllocError`, and the work is then unspecified.
 ghost use Rattle.std.specs.Prelude.{◌≡◌, [], ◌∷◌, ◌++◌, Some, Ok, OnOk, IfOk, IsOkAnd, IsTrue, length};
 ghost use Rattle.pool_syntax.specs.TreeOf.{expression_of, statements_of, method_tree};
 ghost use Rattle.pool_syntax.specs.Terms as T;
@@ -21,7 +22,7 @@ use run_types::{NameId, Value};
 use std::alloc::{AllocError, Global};
 use std::mem;
 
-/// Gives the first variable of this name a value, if there is one.
+/// Sets the first variable of this name to the value. If there is none, nothing changes.
 pub fn set(bindings: &mut Vec<Binding>, name: u32, value: Value)
     ensures { bindings.new.items ≡ set_value bindings.old.items name value }
 {
@@ -35,7 +36,7 @@ pub fn set(bindings: &mut Vec<Binding>, name: u32, value: Value)
     }
 }
 
-/// The values of operands.
+/// The values of these operands. Reports `AllocError` if memory runs out.
 #[tactic(auto, using(crate::proofs::Lengths::values_more))]
 fn values(alloc: Global, operands: &[Operand]) -> Result<Vec<Value>, AllocError>
     ensures { IfOk result (λ v. v.items ≡ values operands.now) }
@@ -49,7 +50,7 @@ fn values(alloc: Global, operands: &[Operand]) -> Result<Vec<Value>, AllocError>
     Ok(found)
 }
 
-/// Adds parameters with their values; those without one are nil.
+/// Adds the parameters with their arguments. A parameter without argument is nil.
 #[tactic(auto, using(crate::proofs::Lengths::bind_nothing, std::proofs::lemmas::List::append_assoc))]
 fn add_params(temps: &mut Vec<Binding>, params: &[Var], args: &[Value]) -> Result<(), AllocError>
     ensures { OnOk result (temps.new.items ≡ temps.old.items ++ bind params.now args.now) }
@@ -69,7 +70,7 @@ fn add_params(temps: &mut Vec<Binding>, params: &[Var], args: &[Value]) -> Resul
     Ok(())
 }
 
-/// Adds variables that are nil.
+/// Adds these variables with the value nil.
 fn add_locals(temps: &mut Vec<Binding>, locals: &[Var]) -> Result<(), AllocError>
     ensures { OnOk result (temps.new.items ≡ temps.old.items ++ nil_store locals.now) }
 {
@@ -81,7 +82,7 @@ fn add_locals(temps: &mut Vec<Binding>, locals: &[Var]) -> Result<(), AllocError
     Ok(())
 }
 
-/// Variables that are all nil.
+/// These variables with the value nil. Reports `AllocError` if memory runs out.
 pub fn nil_store(alloc: Global, vars: &[Var]) -> Result<Vec<Binding>, AllocError>
     ensures { IfOk result (λ t. t.items ≡ nil_store vars.now) }
 {
@@ -90,7 +91,7 @@ pub fn nil_store(alloc: Global, vars: &[Var]) -> Result<Vec<Binding>, AllocError
     Ok(store)
 }
 
-/// The parameters of a method with their values, and its locals.
+/// The parameters of a method with their arguments, and its locals as nil.
 fn temps_for(alloc: Global, method: &Method, args: &[Value]) -> Result<Vec<Binding>, AllocError>
     ensures { IfOk result (λ t. t.items ≡ temps_of (method_tree method.now) args.now) }
 {
@@ -100,7 +101,7 @@ fn temps_for(alloc: Global, method: &Method, args: &[Value]) -> Result<Vec<Bindi
     Ok(temps)
 }
 
-/// A value that no method wants: it would be dropped.
+/// The focus at a statement that drops the value.
 fn dropped<'a>(alloc: Global, value: Operand) -> Focus<'a>
     ensures { stopped result ≡ Running (T.Then (T.Do (operand value)) T.Done) }
 {
@@ -110,7 +111,8 @@ fn dropped<'a>(alloc: Global, value: Operand) -> Focus<'a>
     }
 }
 
-/// The value that is wanted where the statements are done: that of the innermost method, unless it has it.
+/// The value to evaluate after the last statement: that of the innermost method. None if it is evaluated already, or
+/// in a body.
 fn wanted<'a>(calls: &[Activation<'a>]) -> Option<&'a Expr>
     ensures { expression_seen result ≡ wanted calls.now }
 {
@@ -124,7 +126,8 @@ fn wanted<'a>(calls: &[Activation<'a>]) -> Option<&'a Expr>
 }
 
 impl<'a> Activation<'a> {
-    /// Whom the method serves; while its post statements are under way no one.
+    /// The caller that the method serves. None for an own method, for a method that serves no one, and while post
+    /// statements are under way.
     pub fn caller(&self) -> Option<u32>
         ensures { result ≡ caller_of self.now.stage self.now.outer }
     {
@@ -137,7 +140,7 @@ impl<'a> Activation<'a> {
         }
     }
 
-    /// The value of the method at its end, where this comes next.
+    /// The value of the method at its end, if `next` is the focus there. It is nil if no value was evaluated.
     pub fn end_value(&self, next: &Focus<'_>) -> Operand
         ensures { result ≡ end_value self.now.stage next.now }
     {
@@ -155,7 +158,7 @@ impl<'a> Activation<'a> {
 }
 
 impl<'a> Continuation<'a> {
-    /// The body of a new object.
+    /// The work of a new object with this body. Reports `AllocError` if memory runs out.
     #[tactic(auto, using(crate::proofs::ContextPlug::append_nothing, crate::proofs::NextFocus::body_ahead))]
     pub fn make(alloc: Global, body: &'a [Stmt]) -> Result<Continuation<'a>, AllocError>
         ensures { IfOk result (λ w. term_of w ≡ statements_of body.now) }
@@ -168,7 +171,7 @@ impl<'a> Continuation<'a> {
         })
     }
 
-    /// Lets this come next.
+    /// Sets the focus.
     #[inline(always)]
     fn put(&mut self, next: Focus<'a>)
         ensures next { self.new.next ≡ next.entry }
@@ -177,7 +180,7 @@ impl<'a> Continuation<'a> {
         self.next = next;
     }
 
-    /// Lets this come next, where memory sufficed to make it.
+    /// Sets the focus, if there was memory to make it.
     #[inline(always)]
     fn put_made(&mut self, next: Result<Focus<'a>, AllocError>) -> Result<(), AllocError>
         ensures { OnOk result ((next.entry ≡ Ok self.new.next) × (self.new.calls ≡ self.old.calls)) }
@@ -186,7 +189,7 @@ impl<'a> Continuation<'a> {
         Ok(())
     }
 
-    /// This method is the innermost from now on.
+    /// Makes this method the innermost one.
     #[inline(always)]
     fn stack(&mut self, call: Activation<'a>) -> Result<(), AllocError>
         ensures { OnOk result ((self.new.calls.items ≡ self.old.calls.items ++ call.entry ∷ []) × (self.new.next ≡ self.old.next)) }
@@ -195,7 +198,7 @@ impl<'a> Continuation<'a> {
         Ok(())
     }
 
-    /// The post statements of the method begin; its value is held.
+    /// Begins the post statements of the method, which holds its value.
     #[tactic(auto, using(crate::proofs::NextFocus::post_ahead, crate::proofs::ContextPlug::append_nothing))]
     fn begin_post(
         &mut self,
@@ -215,7 +218,7 @@ impl<'a> Continuation<'a> {
         self.put_made(next)
     }
 
-    /// Stands in this method.
+    /// Makes this method the innermost one, with this focus.
     fn stand(&mut self, call: Activation<'a>, next: Focus<'a>) -> Result<(), AllocError>
         ensures { OnOk result ((self.new.calls.items ≡ self.old.calls.items ++ call.entry ∷ []) × (self.new.next ≡ next.entry)) }
     {
@@ -223,7 +226,8 @@ impl<'a> Continuation<'a> {
         self.stack(call)
     }
 
-    /// Comes to an evaluated value in this method. Where a caller waits for it, the object stands there; else the post statements begin.
+    /// Passes an evaluated value to this method. If a caller waits for it, the focus is the value. Otherwise the post
+    /// statements begin. If they are under way already, the value is dropped.
     #[tactic(auto, using(crate::proofs::NextFocus::value_for_caller, crate::proofs::NextFocus::value_for_no_one, crate::proofs::NextFocus::value_in_post))]
     fn pass_in(
         &mut self,
@@ -242,7 +246,7 @@ impl<'a> Continuation<'a> {
         }
     }
 
-    /// An evaluated value is passed where no caller waits for it.
+    /// Passes an evaluated value to the innermost method. In a body the value is dropped.
     fn pass(&mut self, alloc: Global, value: Operand) -> Result<(), AllocError>
         ensures { OnOk result (term_of self.new ≡ bottom (layers self.old.calls.items (Valued (operand value)))) }
     {
@@ -255,7 +259,7 @@ impl<'a> Continuation<'a> {
         }
     }
 
-    /// Comes to what is next, where memory sufficed to make it. An evaluated value is passed where no caller waits for it.
+    /// Sets the focus, if there was memory to make it. An evaluated value is passed on, unless a caller waits for it.
     fn come_to(
         &mut self,
         alloc: Global,
@@ -270,7 +274,7 @@ impl<'a> Continuation<'a> {
         }
     }
 
-    /// Goes on with these statements, after the redex.
+    /// Continues with these statements, after the redex.
     #[tactic(auto, using(crate::proofs::NextFocus::all_ahead))]
     fn go_on(&mut self, alloc: Global, rest: Vec<Segment<'a>>) -> Result<(), AllocError>
         ensures { OnOk result (term_of self.new ≡ bottom (layers self.old.calls.items (Running (left rest.entry.items)))) }
@@ -280,7 +284,7 @@ impl<'a> Continuation<'a> {
         self.come_to(alloc, next)
     }
 
-    /// The expression that is the redex becomes this value.
+    /// Replaces the redex, which is an expression, by this value.
     #[tactic(auto, using(crate::proofs::ContinuationChanges::expression_filled))]
     pub fn give(&mut self, alloc: Global, value: Value) -> Result<(), AllocError>
         requires { IsTrue (is_expression self.old.next) }
@@ -302,7 +306,7 @@ impl<'a> Continuation<'a> {
         }
     }
 
-    /// Takes the statement that is the redex off: what follows it.
+    /// Removes the statement that is the redex, and reports the statements after it.
     fn take(&mut self) -> Vec<Segment<'a>>
         requires { IsTrue (is_statement self.old.next) }
         ensures rest { left result.items ≡ rest_of self.old.next }
@@ -314,7 +318,7 @@ impl<'a> Continuation<'a> {
         }
     }
 
-    /// The statement that is the redex is done.
+    /// Ends the statement that is the redex. It is no assignment.
     #[tactic(auto, using(crate::proofs::ContinuationChanges::next_filled))]
     pub fn finish(&mut self, alloc: Global) -> Result<(), AllocError>
         requires statement { IsTrue (is_statement self.old.next) }
@@ -325,7 +329,7 @@ impl<'a> Continuation<'a> {
         self.go_on(alloc, rest)
     }
 
-    /// These statements take the place of the redex.
+    /// Replaces the redex by these statements. The redex is a statement other than an assignment.
     #[tactic(auto, using(crate::proofs::ContinuationChanges::next_filled))]
     pub fn branch(&mut self, alloc: Global, statements: &'a [Stmt]) -> Result<(), AllocError>
         requires statement { IsTrue (is_statement self.old.next) }
@@ -336,7 +340,7 @@ impl<'a> Continuation<'a> {
         self.go_on(alloc, rest)
     }
 
-    /// The body of a loop, and then the loop again, take the place of the redex.
+    /// Replaces the redex by the body of a loop and then the loop. The redex is a statement other than an assignment.
     #[tactic(auto, using(crate::proofs::ContinuationChanges::next_filled, crate::proofs::ContextPlug::left_more, crate::proofs::ContextPlug::append_append))]
     pub fn repeat(
         &mut self,
@@ -354,7 +358,8 @@ impl<'a> Continuation<'a> {
         self.go_on(alloc, rest)
     }
 
-    /// An `if` of a loop, with the loop again after its body, takes the place of the redex.
+    /// Replaces the redex by an `if` of the condition: the body and then the loop, or nothing. The redex is a
+    /// statement other than an assignment.
     #[tactic(auto, using(crate::proofs::ContinuationChanges::next_filled))]
     pub fn unfold(
         &mut self,
@@ -374,7 +379,7 @@ impl<'a> Continuation<'a> {
         self.come_to(alloc, next)
     }
 
-    /// The assignment that is the redex is done; the variable gets the value where it is one of the innermost method.
+    /// Ends the assignment that is the redex. If the variable is one of the innermost method, it gets the value.
     #[tactic(auto, using(crate::proofs::ContinuationChanges::assigned_bottom))]
     pub fn assign(&mut self, alloc: Global, name: u32, value: Value) -> Result<(), AllocError>
         requires statement { IsTrue (is_statement self.old.next) }
@@ -393,7 +398,7 @@ impl<'a> Continuation<'a> {
         }
     }
 
-    /// A method begins where the outer context says.
+    /// Begins the method in this outer context, with these variables.
     #[tactic(auto, using(crate::proofs::Layers::layers_more, crate::proofs::ContextPlug::append_nothing))]
     fn begin(
         &mut self,
@@ -438,7 +443,7 @@ impl<'a> Continuation<'a> {
         }
     }
 
-    /// The own call that is the redex begins.
+    /// Begins this method in the own call that is the redex.
     #[tactic(auto, using(crate::proofs::ContinuationChanges::expression_filled))]
     pub fn call(&mut self, alloc: Global, method: &'a Method) -> Result<(), AllocError>
         requires { IsTrue (is_call self.old.next) }
@@ -465,7 +470,7 @@ impl<'a> Continuation<'a> {
         }
     }
 
-    /// The method that is at its end is left.
+    /// Leaves the innermost method at its end. In a body nothing is left to do.
     #[tactic(auto, using(crate::proofs::ContinuationChanges::left_bottom, crate::proofs::ContinuationChanges::left_call))]
     pub fn leave(&mut self, alloc: Global) -> Result<(), AllocError>
         requires { IsTrue (is_end self.old.next) }
@@ -483,7 +488,8 @@ impl<'a> Continuation<'a> {
         }
     }
 
-    /// The value of the method that is at its end was given to its caller: its post statements come next, or it is left where it has none.
+    /// Continues after the value of the innermost method was returned to its caller: with its post statements, or
+    /// after the method if it has none.
     #[tactic(auto, using(crate::proofs::ContinuationChanges::returned_left, crate::proofs::ContinuationChanges::returned_post))]
     pub fn hand_over(&mut self, alloc: Global) -> Result<(), AllocError>
         requires end { IsTrue (is_end self.old.next) }
@@ -508,7 +514,7 @@ impl<'a> Continuation<'a> {
         }
     }
 
-    /// Goes on where the method was called, with its value.
+    /// Continues where the method was called, with its value.
     fn leave_to(
         &mut self,
         alloc: Global,
@@ -527,7 +533,8 @@ impl<'a> Continuation<'a> {
         }
     }
 
-    /// The answer or select that is the redex begins to serve the method, for the caller or for no one, with this work after it.
+    /// Begins to serve the method at the answer or select that is the redex. It is for the caller or for no one, and
+    /// the statements `after` follow it.
     #[tactic(auto, using(crate::proofs::ContinuationChanges::next_filled))]
     pub fn serve(
         &mut self,
@@ -556,7 +563,7 @@ impl<'a> Continuation<'a> {
         )
     }
 
-    /// The send that is the redex is being served.
+    /// Replaces the redex, which is an expression, by the wait for this call.
     #[tactic(auto, using(crate::proofs::ContinuationChanges::expression_filled))]
     pub fn wait(&mut self, receiver: u32, method: NameId)
         requires { IsTrue (is_expression self.old.next) }

@@ -1,11 +1,12 @@
-//! What an object has still to do, as a stack of contexts round its redex. All program text is shared with the program.
+//! The work of an object, as a stack of evaluation contexts around its redex. Program text is borrowed from the
+//! program.
 use pool_syntax::{Alt, Expr, Named, Stmt};
 use run_types::{NameId, Op, Value};
 
 /// A variable with its value.
 pub type Binding = (u32, Value);
 
-/// An evaluated value, with the position of the literal that it was, or 0.
+/// A value, with the position of its literal in the text; the position is 0 for an evaluated value.
 #[derive(Clone, Copy)]
 pub struct Operand {
     pub value: Value,
@@ -19,7 +20,7 @@ pub struct Guarded<'a> {
     pub alt: &'a Alt,
 }
 
-/// An expression with one part under evaluation; the parts before it are evaluated.
+/// An expression with a hole, where one part is under evaluation. The parts before the hole are evaluated.
 #[derive(Drop)]
 pub enum ExpressionContext<'a> {
     Prefix {
@@ -56,7 +57,7 @@ pub enum ExpressionContext<'a> {
     },
 }
 
-/// A statement with one part under evaluation, or the value of a method.
+/// A statement with a hole, where one expression is under evaluation; or the value of a method.
 #[derive(Drop)]
 pub enum StatementContext<'a> {
     Assign {
@@ -158,7 +159,7 @@ pub enum Task<'a> {
         yes: &'a [Stmt],
         no: &'a [Stmt],
     },
-    /// An unfolded loop whose condition is evaluated.
+    /// The `if` of an unfolded loop, whose condition is evaluated.
     Loop {
         value: Operand,
         cond: &'a Expr,
@@ -176,15 +177,15 @@ pub enum Task<'a> {
     },
 }
 
-/// Statements that follow.
+/// A part of the statements that follow.
 #[derive(Drop)]
 pub enum Segment<'a> {
     Rest(&'a [Stmt]),
-    /// A loop, which comes again after its body.
+    /// A loop that follows its body.
     Again { cond: &'a Expr, body: &'a [Stmt] },
 }
 
-/// What comes next in the body or in the innermost method under way.
+/// The redex of the body or of the innermost method under way, with its surroundings and the statements after it.
 #[derive(Drop)]
 pub enum Focus<'a> {
     Expression {
@@ -197,14 +198,14 @@ pub enum Focus<'a> {
         task: Task<'a>,
         rest: Vec<Segment<'a>>,
     },
-    /// The statements are done, and the value is evaluated; a caller waits for it.
+    /// No statement is left, and the value is evaluated. A caller waits for it.
     Value {
         value: Operand,
     },
     Over,
 }
 
-/// Where a method under way stands.
+/// The place from which a method under way was called.
 #[derive(Drop)]
 pub enum SuspendedCall<'a> {
     /// In an expression, as an own call.
@@ -220,12 +221,12 @@ pub enum SuspendedCall<'a> {
     },
 }
 
-/// How far a method under way is.
+/// The progress of a method under way.
 #[derive(Clone, Copy)]
 pub enum Stage<'a> {
-    /// Its statements are under way, or its value. The post statements come behind it.
+    /// The statements or the value are under way. The post statements come after the value.
     Body { value: &'a Expr, post: &'a [Stmt] },
-    /// Its post statements are under way, for no caller. Its value is held.
+    /// The post statements are under way, for no caller. The method holds its value.
     Post { value: Operand },
 }
 
@@ -238,7 +239,7 @@ pub struct Activation<'a> {
     pub stage: Stage<'a>,
 }
 
-/// All that an object has still to do: the methods under way, the innermost last, and what comes next.
+/// All work of an object: the methods under way, the innermost last, and the focus.
 #[derive(Drop)]
 pub struct Continuation<'a> {
     pub calls: Vec<Activation<'a>>,

@@ -1,4 +1,5 @@
-//! What comes next: the way from a statement, or from a value in its place, to the next redex.
+//! The search for the next redex, from a statement or from a value that has replaced a redex. Each function reports
+//! `AllocError` if memory runs out.
 ghost use Rattle.std.specs.Prelude.{◌≡◌, [], ◌∷◌, ◌++◌, IfOk, IfSome, IfNone, false};
 ghost use Rattle.pool_syntax.specs.TreeOf.{expression_of, expressions_of, statement_of, statements_of};
 ghost use Rattle.pool_syntax.specs.Terms as T;
@@ -13,7 +14,8 @@ use crate::seek::{Step, evaluate, into_call, into_right, into_send, literal, see
 use pool_syntax::{Alt, Expr, Named, Stmt};
 use std::alloc::{AllocError, Global};
 
-/// Goes on from a value in this place.
+/// Fills this place with the value: reports the redex of the filled expression, or the part in which to search. The
+/// contexts of that part are added to `places`.
 fn resume<'a>(
     alloc: Global,
     value: Operand,
@@ -68,7 +70,7 @@ fn resume<'a>(
     }
 }
 
-/// The redex, from a value in this place on.
+/// The redex of the expression in which the value fills this place. Its contexts are added to `places`.
 fn find<'a>(
     alloc: Global,
     value: Operand,
@@ -83,7 +85,7 @@ fn find<'a>(
     }
 }
 
-/// Goes on in an expression that is no literal.
+/// The focus at the redex of an expression in this slot. The expression is no literal.
 fn begin<'a>(
     alloc: Global,
     expr: &'a Expr,
@@ -103,7 +105,8 @@ fn begin<'a>(
     })
 }
 
-/// Goes on in the arguments of an asynchronous send.
+/// The focus in an asynchronous send: at the redex of its next argument, or at the send if all arguments are
+/// evaluated.
 fn into_async<'a>(
     alloc: Global,
     to: Operand,
@@ -136,7 +139,8 @@ fn into_async<'a>(
     }
 }
 
-/// Evaluates the guards at the front that are literals: the first alternative whose guard is none, and those after it.
+/// Evaluates the guards at the front that are literals, and adds them to `done`. Reports the first alternative whose
+/// guard is no literal, with those after it.
 #[tactic(auto, using(crate::proofs::ContextPlug::guarded_more))]
 fn guards<'a>(
     alts: &'a [Alt],
@@ -159,7 +163,7 @@ fn guards<'a>(
     Ok(None)
 }
 
-/// Goes on in the guards of a select.
+/// The focus in a select: at the redex of its next guard, or at the select if all guards are evaluated.
 fn into_select<'a>(
     alloc: Global,
     done: Vec<Guarded<'a>>,
@@ -185,7 +189,7 @@ fn into_select<'a>(
     }
 }
 
-/// Goes on from a value in this slot.
+/// The focus after this slot has got its value.
 fn arrive<'a>(
     alloc: Global,
     value: Operand,
@@ -239,7 +243,7 @@ fn arrive<'a>(
     Ok(Focus::Statement { task, rest })
 }
 
-/// Goes on from a value in the innermost of these places.
+/// The focus after the innermost of these places has got its value.
 #[tactic(auto, using(crate::proofs::ContextPlug::nested_more))]
 pub fn settle<'a>(
     alloc: Global,
@@ -265,7 +269,7 @@ pub fn settle<'a>(
     }
 }
 
-/// Goes on in an expression in this slot.
+/// The focus at the redex of an expression in this slot.
 pub fn enter<'a>(
     alloc: Global,
     expr: &'a Expr,
@@ -280,7 +284,7 @@ pub fn enter<'a>(
     }
 }
 
-/// Goes on in a statement.
+/// The focus at the redex of a statement.
 fn enter_statement<'a>(
     alloc: Global,
     stmt: &'a Stmt,
@@ -332,7 +336,7 @@ fn enter_statement<'a>(
     }
 }
 
-/// What follows, with these statements before it.
+/// These statements, and then those that follow already.
 #[tactic(auto, using(crate::proofs::ContextPlug::left_more, crate::proofs::ContextPlug::nothing_left))]
 pub fn before<'a>(
     statements: &'a [Stmt],
@@ -348,7 +352,8 @@ pub fn before<'a>(
     Ok(rest)
 }
 
-/// Goes on with what follows: the statements of the last segment, and at the end this value, if one is wanted.
+/// The focus at the first statement that follows. If none is left, it is at the redex of this value, or `Over` without
+/// a value.
 #[tactic(auto, using(crate::proofs::ContextPlug::left_more, crate::proofs::ContextPlug::nothing_left))]
 pub fn advance<'a>(
     alloc: Global,

@@ -1,4 +1,4 @@
-//! The way to the redex of an expression.
+//! The search for the redex of an expression. A function that can run out of memory reports `AllocError`.
 ghost use Rattle.std.specs.Prelude.{◌≡◌, [], ◌∷◌, ◌++◌, ◌+◌, IfOk, IfSome, IfNone, false};
 ghost use Rattle.pool_syntax.specs.TreeOf.{expression_of, expressions_of};
 ghost use Rattle.pool_syntax.specs.Terms.{Arg, NoArgs, Prefix, Infix, Call, Send};
@@ -12,7 +12,7 @@ use pool_syntax::Expr;
 use run_types::{NameId, Op, Value};
 use std::alloc::{AllocError, Global};
 
-/// The value of an expression that is a literal.
+/// The value of an expression that is a literal, with its position.
 pub fn literal(expr: &Expr) -> Option<Operand>
     ensures some { IfSome result (λ v. expression_of expr.now ≡ operand v) }
     ensures none { IfNone result (is_value (expression_of expr.now) ≡ false) }
@@ -34,7 +34,8 @@ pub fn literal(expr: &Expr) -> Option<Operand>
     }
 }
 
-/// Evaluates the literals at the front of these arguments: the first that is none, and those after it.
+/// Evaluates the arguments at the front that are literals, and adds them to `done`. Reports the first that is no
+/// literal, with those after it.
 #[tactic(auto, using(crate::proofs::ContextPlug::operands_more))]
 pub fn evaluate<'a>(
     args: &'a [Expr],
@@ -55,14 +56,14 @@ pub fn evaluate<'a>(
     Ok(None)
 }
 
-/// The redex, or the part in which it is.
+/// A step of the search: the redex, or the part in which to search.
 #[derive(Drop)]
 pub enum Step<'a> {
     Found(Ready),
     Into(&'a Expr),
 }
 
-/// Goes on in a part that is no literal, in this place.
+/// A search in this part, which is no literal. Its context is added to `places`.
 #[tactic(auto, using(crate::proofs::ContextPlug::nested_more))]
 #[inline(always)]
 fn go_into<'a>(
@@ -76,7 +77,7 @@ fn go_into<'a>(
     Ok(Step::Into(part))
 }
 
-/// Goes on in the arguments of an own call.
+/// A step into the arguments of an own call.
 #[tactic(auto, using(crate::proofs::Weights::weight_in))]
 pub fn into_call<'a>(
     method: NameId,
@@ -108,7 +109,7 @@ pub fn into_call<'a>(
     }
 }
 
-/// Goes on in the arguments of a send.
+/// A step into the arguments of a send.
 #[tactic(auto, using(crate::proofs::Weights::weight_in))]
 pub fn into_send<'a>(
     to: Operand,
@@ -143,7 +144,7 @@ pub fn into_send<'a>(
     }
 }
 
-/// Goes on in the right operand.
+/// A step into the right operand.
 pub fn into_right<'a>(
     op: Op,
     left: Operand,
@@ -166,7 +167,7 @@ pub fn into_right<'a>(
     go_into(ExpressionContext::Right { op, left, pos }, right, places)
 }
 
-/// Goes on in the operand of a prefix operator.
+/// A step into the operand of a prefix operator.
 fn into_operand<'a>(
     op: Op,
     arg: &'a Expr,
@@ -187,7 +188,7 @@ fn into_operand<'a>(
     go_into(ExpressionContext::Prefix { op, pos }, arg, places)
 }
 
-/// Goes on in the operands of an infix operator.
+/// A step into the operands of an infix operator.
 fn into_left<'a>(
     op: Op,
     left: &'a Expr,
@@ -205,7 +206,7 @@ fn into_left<'a>(
     go_into(ExpressionContext::Left { op, right, pos }, left, places)
 }
 
-/// Goes on in the destination of a send, and then in its arguments.
+/// A step into the destination of a send, and then into its arguments.
 fn into_destination<'a>(
     alloc: Global,
     to: &'a Expr,
@@ -228,7 +229,7 @@ fn into_destination<'a>(
     )
 }
 
-/// One step on the way to the redex of an expression that is no literal.
+/// One step of the search in an expression that is no literal.
 #[tactic(auto, using(crate::proofs::ContextPlug::nested_more, crate::proofs::TreeLists::call_is, crate::proofs::TreeLists::send_is))]
 fn into<'a>(
     alloc: Global,
@@ -274,7 +275,7 @@ fn into<'a>(
     }
 }
 
-/// The redex of an expression that is no literal. What stands round it goes last of the places.
+/// The redex of an expression that is no literal. Its contexts are added to `places`, the innermost last.
 pub fn seek<'a>(
     alloc: Global,
     expr: &'a Expr,

@@ -1,4 +1,4 @@
--- What is known at the redex of an object, and what is kept where a part takes its place.
+-- Facts at the redex of a typed object, and the parts of typing that a replacement of the redex keeps.
 use Rattle.std.proofs.Common.{◌≡◌, refl, sym, ap, ◌∙◌, IsTrue, ℕ, List, [], ◌∷◌, ◌++◌, Option, Some, None, Bool, true, false, ◌==◌, if◌then◌else◌}
 use Rattle.run_types.specs.declared.types.Value.{Value}
 use Rattle.pool_syntax.specs.Terms.{Store, Expression, Statements, ProgramTree}

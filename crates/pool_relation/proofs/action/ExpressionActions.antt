@@ -1,4 +1,4 @@
--- What a typed object does next where its redex is an expression.
+-- The next action of a typed object whose redex is an expression.
 use Rattle.std.proofs.Common.{◌≡◌, refl, ap, IsTrue, ℕ, List, [], ◌∷◌, ◌++◌, length, Option, Some, None, is_some, true, false, ◌||◌, arith}
 use Rattle.run_types.specs.declared.types.Value.{Value}
 use Rattle.run_types.specs.declared.types.Value.TheVariants as V

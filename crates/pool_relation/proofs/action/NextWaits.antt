@@ -1,4 +1,4 @@
--- An object waits next only where its redex is a wait.
+-- An object waits next only if its redex is a wait.
 use Rattle.std.proofs.Common.{◌≡◌, refl, ap, ◌∙◌, ℕ, List, [], length, Option, Some, None, is_some, Bool, true, false, if◌then◌else◌, arith}
 use Rattle.std.specs.List.{list_any}
 use Rattle.run_types.specs.declared.types.Error.TheVariants.{NoOpenGuard, NilOperand}

@@ -1,4 +1,4 @@
--- What a typed object does next where its redex is a statement, or a message that it sends.
+-- The next action of a typed object whose redex is a statement or a send.
 use Rattle.std.proofs.Common.{◌≡◌, refl, sym, ap, ◌∙◌, subst, IsTrue, ℕ, List, [], ◌∷◌, ◌++◌, append-nil, Option, Some, None, Bool, true, false, if◌then◌else◌, arith}
 use Rattle.std.specs.List.{list_any}
 use Rattle.run_types.specs.declared.types.Error.TheVariants.{NoOpenGuard}

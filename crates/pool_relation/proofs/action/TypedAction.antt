@@ -1,4 +1,5 @@
--- What an object's next action needs and leaves, where its variables and its term are typed.
+-- Typed actions: the requirements of a next action and the term after it, for an object whose variables and term are
+-- typed.
 use Rattle.std.proofs.Common.{◌≡◌, IsTrue, ℕ, List, [], ◌∷◌, ◌++◌, length, Option, Some, is_some, false}
 use Rattle.run_types.specs.declared.types.Value.{Value}
 use Rattle.run_types.specs.declared.types.Value.TheVariants as V

@@ -1,4 +1,4 @@
--- A call returns: a typed configuration stays so.
+-- The return of a call keeps a configuration typed.
 use Rattle.std.proofs.Common.{◌≡◌, refl, sym, ap, ◌∙◌, subst, IsTrue, ℕ, List, [], ◌∷◌, ◌++◌, Option, Some, None, false, ◌&&◌, ◌==◌, ◌⊎◌, inl, inr, ◌≢◌, append-nil, arith}
 use Rattle.run_types.specs.declared.types.Value.{Value}
 use Rattle.run_types.specs.declared.types.Label.TheVariants as L

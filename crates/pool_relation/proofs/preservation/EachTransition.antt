@@ -1,4 +1,4 @@
--- Each transition keeps a typed configuration so.
+-- Each transition keeps a configuration typed.
 use Rattle.std.proofs.Common.{◌≡◌, subst, Some, List, [], ◌∷◌, IsTrue}
 use Rattle.run_types.specs.declared.types.Label.{Label}
 use Rattle.run_types.specs.declared.types.Label.TheVariants as L

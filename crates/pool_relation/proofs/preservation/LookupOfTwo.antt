@@ -1,4 +1,4 @@
--- Two objects are put.
+-- Objects of a configuration after an update of two entries.
 use Rattle.std.proofs.Common.{◌≡◌, refl, sym, ap, ◌∙◌, subst, IsTrue, ℕ, Some, is_some, ◌⊎◌, inl, inr, ◌≢◌}
 use Rattle.run_types.specs.declared.types.Error.{Error}
 use Rattle.pool_syntax.specs.Terms.{ProgramTree}

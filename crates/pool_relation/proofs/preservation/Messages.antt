@@ -1,4 +1,4 @@
--- An asynchronous message is sent, or taken: a typed configuration stays so.
+-- A send or a take of an asynchronous message keeps a configuration typed.
 use Rattle.std.proofs.Common.{◌≡◌, refl, sym, ap, ◌∙◌, subst, IsTrue, ℕ, List, [], ◌∷◌, ◌++◌, length, Option, Some, None, is_some, All, Bool, true, false, ◌&&◌, ◌||◌, ◌==◌, append-nil, if◌then◌else◌, arith}
 use Rattle.std.proofs.lemmas.List.Elements.{All-cons, All-nil, All-append, All-head, All-tail}
 use Rattle.run_types.specs.declared.types.Value.{Value}

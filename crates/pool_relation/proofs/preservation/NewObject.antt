@@ -1,4 +1,4 @@
--- An object is made: a typed configuration stays so.
+-- A new object keeps a configuration typed.
 use Rattle.std.proofs.Common.{◌≡◌, refl, sym, ap, ◌∙◌, subst, IsTrue, ℕ, [], Option, Some, None, is_some, is_none, ◌&&◌, ◌⊎◌, inl, inr, arith}
 use Rattle.run_types.specs.declared.types.Value.TheVariants as V
 use Rattle.run_types.specs.declared.types.NameId.{NameId}

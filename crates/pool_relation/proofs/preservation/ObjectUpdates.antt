@@ -1,4 +1,4 @@
--- What of a typed configuration stays where objects are replaced and added.
+-- The parts of a typed configuration that stay if objects are replaced and added.
 use Rattle.std.proofs.Common.{◌≡◌, refl, sym, ap, ◌∙◌, subst, IsTrue, ℕ, List, [], ◌∷◌, Option, Some, None, is_some, length, ◌⊎◌, inl, inr, arith}
 use Rattle.run_types.specs.declared.types.Error.{Error}
 use Rattle.run_types.specs.declared.types.Value.{Value}

@@ -1,4 +1,4 @@
--- Transitions of one object alone keep a typed configuration so.
+-- A transition of one object alone keeps a configuration typed.
 use Rattle.std.proofs.Common.{◌≡◌, refl, sym, ap, ◌∙◌, subst, IsTrue, ℕ, suc, zero, List, [], ◌∷◌, Option, Some, None, is_none, false, ◌&&◌, slice_get, append-nil, arith}
 use Rattle.run_types.specs.declared.types.Error.{Error}
 use Rattle.run_types.specs.declared.types.Item.{Item}

@@ -1,4 +1,4 @@
--- What is under way before the redex of a term, and in it.
+-- Methods under way before the redex of a term and in the redex.
 use Rattle.std.proofs.Common.{◌≡◌, refl, sym, ap, ◌∙◌, subst, IsTrue, ℕ, List, [], ◌∷◌, ◌++◌, append_assoc, Bool, true, false, arith}
 use Rattle.pool_syntax.specs.Terms.{Store, Expression, Expressions, Statement, Statements, Done, Then, Alternatives, append}
 use Rattle.pool_syntax.specs.Typing.{Scope, value_sort, own_method}

@@ -1,4 +1,4 @@
--- Parts in which nothing is under way: those that are typed so, and those without a redex.
+-- Parts in which nothing is under way: parts that are typed so, and parts without a redex.
 use Rattle.std.proofs.Common.{◌≡◌, refl, ap, ℕ, ◌+◌, List, [], ◌∷◌, arith}
 use Rattle.run_types.specs.declared.types.Value.{Value}
 use Rattle.pool_syntax.specs.declared.tree.Var.{Var}

@@ -1,4 +1,4 @@
--- A part in which no wait stands does not wait next.
+-- A part that contains no wait does not wait next.
 use Rattle.std.proofs.Common.{◌≡◌, refl, sym, ℕ, ◌+◌, List, [], ◌∷◌, Option, Some, None, is_none, Bool, true, false, arith}
 use Rattle.run_types.specs.declared.types.Item.TheVariants as I
 use Rattle.pool_syntax.specs.declared.tree.Var.{Var}

@@ -1,4 +1,4 @@
--- What is under way in a part, by what is under way in the parts inside.
+-- Methods under way in a part, from those of the parts inside it.
 use Rattle.std.proofs.Common.{◌≡◌, refl, ap, ◌∙◌, ℕ, ◌+◌, List, [], ◌∷◌, ◌++◌, append-nil, Option, Some, None, is_none, true, false, ◌⊎◌, inl, inr, arith}
 use Rattle.run_types.specs.declared.types.Value.{Value}
 use Rattle.run_types.specs.declared.types.Op.{Op}

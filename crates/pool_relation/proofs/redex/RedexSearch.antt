@@ -1,4 +1,4 @@
--- The search for the redex: where it ends, and what has none.
+-- The search for the redex: its results, and parts without a redex.
 use Rattle.std.proofs.Common.{◌≡◌, refl, sym, ap, ◌∙◌, ℕ, List, [], ◌∷◌, Option, Some, None, Bool, true, false, ◌⊎◌, inl, inr, arith}
 use Rattle.run_types.specs.declared.types.Value.{Value}
 use Rattle.run_types.specs.declared.types.Item.TheVariants as I

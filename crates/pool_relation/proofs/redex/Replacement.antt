@@ -1,4 +1,4 @@
--- A typed term with a redex: what is known there, and that the term stays typed where a suitable part takes its place.
+-- A typed term with a redex: facts at the redex, and typing of the term after a suitable part has replaced it.
 use Rattle.std.proofs.Common.{◌≡◌, sym, IsTrue, ℕ, ◌+◌, List, [], ◌∷◌, is_none}
 use Rattle.run_types.specs.declared.types.Item.TheVariants as I
 use Rattle.pool_syntax.specs.declared.tree.Var.{Var}

@@ -1,4 +1,4 @@
--- A term in which a wait took the place of a send waits next.
+-- A term in which a wait has replaced a send waits next.
 use Rattle.std.proofs.Common.{◌≡◌, refl, sym, ap, ℕ, List, [], ◌∷◌, Option, None, Bool, true, false, ◌⊎◌, inl, inr, arith}
 use Rattle.run_types.specs.declared.types.Value.{Value}
 use Rattle.run_types.specs.declared.types.Op.{Op}

@@ -1,4 +1,4 @@
--- The methods under way in a term end with what its redex ends.
+-- The list of methods under way in a term ends with the method that its redex ends.
 use Rattle.std.proofs.Common.{◌≡◌, refl, sym, ◌∙◌, ℕ, ◌+◌, List, [], ◌∷◌, is_none, append-nil}
 use Rattle.run_types.specs.declared.types.Item.TheVariants as I
 use Rattle.pool_syntax.specs.declared.tree.Var.{Var}

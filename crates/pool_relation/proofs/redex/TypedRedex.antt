@@ -1,4 +1,4 @@
--- What is known of a redex in a typed term, and what may take its place.
+-- Facts about a redex in a typed term, and the parts that may replace it.
 use Rattle.std.proofs.Common.{◌≡◌, IsTrue, ℕ, List, [], ◌∷◌, length, is_some, false}
 use Rattle.run_types.specs.declared.types.Value.{Value}
 use Rattle.pool_syntax.specs.declared.tree.Var.{Var}

@@ -1,4 +1,4 @@
--- A typed part stays typed where objects are added.
+-- A typed part stays typed if objects are added.
 use Rattle.std.proofs.Common.{◌≡◌, refl, sym, ap, ◌∙◌, ℕ, ◌+◌, List, [], ◌∷◌, Option, Some, None, is_some, is_none, true, false, arith}
 use Rattle.run_types.specs.declared.types.Value.{Value}
 use Rattle.run_types.specs.declared.types.Value.TheVariants as V

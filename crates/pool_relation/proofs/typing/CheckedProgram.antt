@@ -1,4 +1,4 @@
--- What a program without faults has: known kinds, and typed bodies and methods.
+-- A program without class faults has known kinds, and typed bodies and methods.
 use Rattle.std.proofs.Common.{◌≡◌, refl, sym, ap, ◌∙◌, subst, IsTrue, ℕ, List, [], ◌∷◌, ◌++◌, Option, Some, None, Bool, true, false, ◌==◌, ◌&&◌, arith}
 use Rattle.run_types.specs.declared.types.Kind.{Kind}
 use Rattle.run_types.specs.declared.types.Kind.TheVariants as K

@@ -1,4 +1,4 @@
--- The terms of a typed configuration, by the one test of typed parts.
+-- The terms of a typed configuration pass the single test of typed parts.
 use Rattle.std.proofs.Common.{◌≡◌, refl, IsTrue, ℕ, ◌+◌, List, [], ◌∷◌, Option, Some, None, is_some, is_none, Bool, true, false, not, ◌&&◌, if◌then◌else◌, arith}
 use Rattle.run_types.specs.declared.types.Value.{Value}
 use Rattle.pool_syntax.specs.declared.tree.Var.{Var}

@@ -1,4 +1,4 @@
--- Bodies and methods as they begin in an object.
+-- Typing of bodies and methods when they begin in an object.
 use Rattle.std.proofs.Common.{◌≡◌, refl, sym, ap, subst, IsTrue, ℕ, List, [], ◌∷◌, ◌++◌, length, Option, Some, None, is_none, Bool, true, false, ◌==◌, arith}
 use Rattle.run_types.specs.declared.types.Value.{Value}
 use Rattle.pool_syntax.specs.declared.tree.Var.{Var}

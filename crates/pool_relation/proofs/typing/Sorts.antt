@@ -1,4 +1,4 @@
--- Which sort an expression may come to have: its own, one that fits every kind, or any where it had none.
+-- The sorts that an expression can come to have: its own, an open one, or any if it had none.
 use Rattle.std.proofs.Common.{◌≡◌, refl, ap, IsTrue, ℕ, ◌+◌, List, [], ◌∷◌, Option, Some, None, Bool, true, false, not, ◌&&◌, arith, eqb→eq}
 use Rattle.run_types.specs.declared.types.Op.{Op}
 use Rattle.run_types.specs.declared.types.Op.TheVariants as O

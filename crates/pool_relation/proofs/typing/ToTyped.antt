@@ -1,4 +1,4 @@
--- What the one test of typed parts says: no faults, and soundness.
+-- The single test of typed parts implies the absence of class faults, and soundness.
 use Rattle.std.proofs.Common.{◌≡◌, refl, IsTrue, ℕ, ◌+◌, List, [], ◌∷◌, Option, Some, None, is_none, Bool, true, false, ◌&&◌, if◌then◌else◌}
 use Rattle.pool_syntax.specs.declared.tree.Var.{Var}
 use Rattle.pool_syntax.specs.Terms.{Expression, Literal, Me, Variable, Create, Prefix, Infix, Call, Send, Frame, Wait, Expressions, NoArgs, Arg, Statement, Assign, Write, WriteText, Do, Async, If, While, Answer, Select, Serve, Statements, Done, Then, Alternatives, NoAlts, Alt}

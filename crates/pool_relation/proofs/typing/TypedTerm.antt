@@ -1,4 +1,4 @@
--- One test for a typed part of a term: its faults, its form, and what may be under way in it.
+-- A single test of typed parts of a term: class faults, form, and the methods and waits that may be under way.
 use Rattle.std.proofs.Common.{◌≡◌, IsTrue, ℕ, ◌+◌, List, [], ◌∷◌, length, Option, Some, None, is_some, is_none, Bool, true, false, not, ◌&&◌, ◌||◌, ◌==◌, if◌then◌else◌}
 use Rattle.run_types.specs.declared.types.Op.{Op}
 use Rattle.run_types.specs.declared.types.Op.TheVariants as O

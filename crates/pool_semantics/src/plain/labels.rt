@@ -1,4 +1,4 @@
-//! The labels that a search tries.
+//! The labels that a search tries, and transitions that need no choice.
 ghost use Rattle.std.specs.Prelude.{◌≡◌, ◌≤◌, ℕ, ◌++◌, Some, None, length, is_some, IfSome, IfNone, OnOk, true, false};
 ghost use Rattle.pool_syntax.specs.TreeOf.{program_of};
 ghost use Rattle.run_types.specs.declared.types.Label.{Label};
@@ -26,7 +26,7 @@ use std::collections::VecDeque;
 use stepper_objects::act::Act;
 use stepper_terms::contexts::{Continuation, Focus, Task};
 
-/// The label of an act that needs no choice.
+/// The label of this action, if it needs no choice.
 fn free_label(object: u32, work: &Continuation<'_>, act: &Act<'_>) -> Option<Label>
     ensures { (x : Object) → is_some (shown (acted x (now_args work.now.next) (now_names work.now.next) (now_choices work.now.next) act.now)) ≡ true
         → result ≡ free_label object (acted x (now_args work.now.next) (now_names work.now.next) (now_choices work.now.next) act.now) }
@@ -53,7 +53,8 @@ fn free_label(object: u32, work: &Continuation<'_>, act: &Act<'_>) -> Option<Lab
     }
 }
 
-/// Each alternative of what comes next, by its number.
+/// Adds a pick of each alternative of the select that is the redex, at most 64. Reports `AllocError` if memory runs
+/// out.
 fn push_picks(into: &mut Vec<Label>, object: u32, work: &Continuation<'_>) -> Result<(), AllocError>
     requires { length (now_choices work.now.next) ≤ 64 }
     ensures { OnOk result (into.new.items ≡ into.old.items ++ picks object 1 (now_choices work.now.next)) }
@@ -73,7 +74,8 @@ fn push_picks(into: &mut Vec<Label>, object: u32, work: &Continuation<'_>) -> Re
     Ok(())
 }
 
-/// What an object can do at this act, and the call that it makes; a new object gets this name.
+/// Adds the labels that begin with this action of the object. A new object gets the name `name`. Reports `AllocError`
+/// if memory runs out.
 fn push_own(
     into: &mut Vec<Label>,
     name: u32,
@@ -115,7 +117,7 @@ fn push_own(
     }
 }
 
-/// Each message of a pair, taken.
+/// Adds a take of each message of this pair. Reports `AllocError` if memory runs out.
 fn push_takes(
     into: &mut Vec<Label>,
     sender: u32,
@@ -138,7 +140,8 @@ fn push_takes(
 }
 
 impl<'a> State<'a> {
-    /// The labels of one object.
+    /// Adds the labels of this object's next action. A new object gets the name `name`. Reports `AllocError` if memory
+    /// runs out.
     fn push_object(&self, object: u32, name: u32, into: &mut Vec<Label>) -> Result<(), AllocError>
         requires { Sound (program_of self.now.program.now) (configuration self.now) }
         ensures { (x : Object) → object_of (configuration self.now) object ≡ Some x
@@ -150,7 +153,7 @@ impl<'a> State<'a> {
         }
     }
 
-    /// The labels of all objects.
+    /// The same for all objects.
     fn push_objects(&self, name: u32, into: &mut Vec<Label>) -> Result<(), AllocError>
         requires { Sound (program_of self.now.program.now) (configuration self.now) }
         ensures { OnOk result (into.new.items ≡ into.old.items ++ object_labels (program_of self.now.program.now) name (configuration self.now).objects) }
@@ -161,7 +164,8 @@ impl<'a> State<'a> {
         Ok(())
     }
 
-    /// The label of what this object does next, where that needs no choice.
+    /// The label of this object's next action, if it needs no choice. None if the object does not exist or has met an
+    /// error.
     fn free_at(&self, object: u32) -> Option<Label>
         requires { Sound (program_of self.now.program.now) (configuration self.now) }
         ensures { result ≡ free_at (program_of self.now.program.now) (configuration self.now) object }
@@ -174,7 +178,8 @@ impl<'a> State<'a> {
 }
 
 impl<'a> Plain<'a> {
-    /// The labels that a search tries: what each object can do, and the messages that each can take. A new object gets this name.
+    /// Adds the labels that a search tries: those of each object's next action, and a take of each message. A new
+    /// object gets the name `next`. Reports `AllocError` if memory runs out.
     pub fn labels(&self, next: u32, into: &mut Vec<Label>) -> Result<(), AllocError>
         requires { is_spent self.now ≡ false }
         ensures { OnOk result (into.new.items ≡ into.old.items ++ labels_to_try (program_tree self.now) next (configuration_of self.now)) }
@@ -186,7 +191,8 @@ impl<'a> Plain<'a> {
         Ok(())
     }
 
-    /// A transition that is possible and needs no choice: its place in a run does not matter.
+    /// A possible transition that needs no choice, so that its order in a run does not matter. None exactly if there
+    /// is none.
     pub fn without_choice(&self) -> Option<Label>
         requires { is_spent self.now ≡ false }
         ensures free { IfSome result (λ l. needs_no_choice l ≡ true) }

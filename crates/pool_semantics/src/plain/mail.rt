@@ -1,4 +1,4 @@
-//! Asynchronous messages.
+//! Asynchronous messages, in a queue for each sender and receiver.
 ghost use Rattle.std.specs.Prelude.{◌≡◌, ◌<◌, [], ◌∷◌, ◌++◌, OnOk, Some, None, IfSome, IfNone, length, map, slice_index_or, is_some, true, false};
 ghost use Rattle.std.specs.List.{list_any, remove};
 ghost use Rattle.std.specs.FinMap.{put};
@@ -20,14 +20,14 @@ use stepper_objects::act::Act;
 use stepper_objects::offers::{names_method, offer_to};
 use stepper_terms::contexts::Continuation;
 
-/// An asynchronous message that was not yet taken.
+/// An asynchronous message that was not taken.
 #[derive(Clone, Copy)]
 pub struct Mail {
     pub method: NameId,
     pub args: Args,
 }
 
-/// The place of the earliest message on one of these methods.
+/// The position of the earliest message for one of these methods. None if there is none.
 #[tactic(auto, using(crate::proofs::EarliestMessage::named_first, crate::proofs::EarliestMessage::named_rest, crate::proofs::EarliestMessage::named_at, crate::proofs::EarliestMessage::named_none, crate::proofs::EarliestMessage::none_in))]
 pub fn first_named(queue: &VecDeque<Mail>, names: &[Named]) -> Option<usize>
     ensures range { IfSome result (λ i. i < length queue.now.items) }
@@ -47,7 +47,7 @@ pub fn first_named(queue: &VecDeque<Mail>, names: &[Named]) -> Option<usize>
     None
 }
 
-/// Whether an object that does this next offers the method of a message.
+/// Whether an object with this next action offers the method of one of these messages.
 pub fn any_offered(queue: &VecDeque<Mail>, work: &Continuation<'_>, act: &Act<'_>) -> bool
     ensures { result ≡ list_any (λ m. is_some (offer_act act.now (now_names work.now.next) (now_choices work.now.next) m.method)) (queued queue.now) }
 {
@@ -61,7 +61,8 @@ pub fn any_offered(queue: &VecDeque<Mail>, work: &Continuation<'_>, act: &Act<'_
     false
 }
 
-/// Puts a message last in the queue of its pair.
+/// Puts a message last in the queue of its pair. Reports `AllocError` if memory runs out; the messages are then
+/// unspecified.
 pub fn post(
     alloc: Global,
     messages: &mut BTreeMap<(u32, u32), VecDeque<Mail>>,
@@ -86,7 +87,7 @@ pub fn post(
     }
 }
 
-/// Takes the message at this place out; whether none is left.
+/// Removes the message at this position. Reports whether the queue is then empty.
 fn drop_at(queue: &mut VecDeque<Mail>, at: usize) -> bool
     requires { at < length queue.old.items }
     ensures items { queue.new.items ≡ remove queue.old.items at }
@@ -99,7 +100,7 @@ fn drop_at(queue: &mut VecDeque<Mail>, at: usize) -> bool
     }
 }
 
-/// Takes the message at this place out of the queue of its pair. An empty queue goes.
+/// Removes the message at this position from the queue of its pair. A queue that becomes empty is removed.
 pub fn unpost(
     messages: &mut BTreeMap<(u32, u32), VecDeque<Mail>>,
     sender: u32,

@@ -17,7 +17,7 @@ use stepper_objects::act::Act;
 use stepper_objects::offers::{has_open_plain, offer_to};
 use stepper_terms::contexts::Continuation;
 
-/// The lesser of two names, or the one that is there.
+/// The lesser of two names, or the only one.
 pub fn lesser(left: Option<u32>, right: Option<u32>) -> Option<u32>
     ensures { result ≡ lesser left right }
 {
@@ -30,7 +30,7 @@ pub fn lesser(left: Option<u32>, right: Option<u32>) -> Option<u32>
     }
 }
 
-/// Whether an object that does this next needs neither a message nor a caller.
+/// Whether an object with this next action can make a transition without a message and without a caller.
 fn goes_alone(work: &Continuation<'_>, act: &Act<'_>) -> bool
     ensures { (x : Object) → result ≡ goes_alone (acted x (now_args work.now.next) (now_names work.now.next) (now_choices work.now.next) act.now) }
 {
@@ -47,7 +47,7 @@ fn goes_alone(work: &Continuation<'_>, act: &Act<'_>) -> bool
 }
 
 impl<'a> State<'a> {
-    /// Whether the receiver answers the caller, which calls this method of it.
+    /// Whether the receiver answers a call of this method by the caller.
     fn would_answer(&self, caller: u32, receiver: u32, method: NameId) -> bool
         ensures { result ≡ would_answer (program_of self.now.program.now) (configuration self.now) caller receiver method.0 }
     {
@@ -60,7 +60,8 @@ impl<'a> State<'a> {
         !self.barred(caller, receiver, offer.names)
     }
 
-    /// The object that moves by what this one does next: itself, or the one that answers its call.
+    /// The object that can make a transition by this object's next action: itself, or the object that answers its
+    /// call.
     fn moved_by(&self, object: u32) -> Option<u32>
         ensures { IsTheOne (MovesBy (program_of self.now.program.now) (configuration self.now) object) result }
     {
@@ -73,7 +74,7 @@ impl<'a> State<'a> {
         }
     }
 
-    /// The receiver, where it takes a message of the queue.
+    /// The receiver, if it can take a message of the queue.
     fn taker(&self, receiver: u32, queue: &VecDeque<Mail>) -> Option<u32>
         ensures { IsTheOne (λ b. (b ≡ receiver) × Takes (program_of self.now.program.now) (configuration self.now) b (queued queue.now)) result }
     {
@@ -83,7 +84,7 @@ impl<'a> State<'a> {
         }
     }
 
-    /// The least object that moves by what an object does next.
+    /// The least object that can make a transition by some object's next action.
     pub fn least_by_objects(&self) -> Option<u32>
         ensures { IsLeast (λ b. (o : ℕ) × MovesBy (program_of self.now.program.now) (configuration self.now) o b) result }
     {
@@ -94,7 +95,7 @@ impl<'a> State<'a> {
         least
     }
 
-    /// The least object that takes a message.
+    /// The least object that can take a message.
     pub fn least_by_messages(&self) -> Option<u32>
         ensures { IsLeast (λ b. (s : ℕ) × Takes (program_of self.now.program.now) (configuration self.now) b (messages_of (configuration self.now) s b)) result }
     {

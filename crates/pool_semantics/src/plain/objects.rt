@@ -1,4 +1,4 @@
-//! The objects by their names.
+//! Changes of the objects by their names.
 ghost use Rattle.std.specs.Prelude.{◌≡◌, ℕ, Some, None, OnOk, OnErr};
 ghost use Rattle.std.specs.Ordering.{nat_cmp};
 ghost use Rattle.std.specs.FinMap.{put};
@@ -16,7 +16,8 @@ use std::collections::BTreeMap;
 use stepper_objects::change::Change;
 use stepper_objects::object_state::ObjectState;
 
-/// Changes the object of this name, if it is there.
+/// Changes the object of this name, if it exists. Reports `AllocError` if memory runs out; other objects are
+/// unchanged.
 #[tactic(auto, using(crate::proofs::MapAbstraction::things_set, crate::proofs::MapAbstraction::others_set))]
 pub fn update<'a>(
     alloc: Global,
@@ -35,7 +36,8 @@ pub fn update<'a>(
     }
 }
 
-/// Adds a new object of this class, under a name that no object has; the objects stay as they are where memory runs out.
+/// Adds a new object of this class, under a name that no object has. Reports `AllocError` if memory runs out; the
+/// objects are then unchanged.
 pub fn add<'a>(
     alloc: Global,
     objects: &mut BTreeMap<u32, ObjectState<'a>>,

@@ -1,4 +1,4 @@
-//! What an object does next, as callers see it.
+//! The next action of an object, in the form that callers of the stepper get.
 ghost use Rattle.std.specs.Prelude.{◌≡◌, IfSome, IfNone, true, false};
 ghost use Rattle.stepper_terms.specs.Reduced.{values};
 ghost use Rattle.stepper_terms.specs.Arguments.{now_args, now_names, now_choices};
@@ -10,7 +10,7 @@ use run_types::{Args, Redex};
 use stepper_objects::act::Act;
 use stepper_terms::contexts::{Continuation, Focus, Operand, Ready, Task};
 
-/// The values of at most 8 operands.
+/// The values of these operands. None if they are more than 8.
 #[tactic(auto, using(stepper_terms::proofs::Laws::length_values))]
 fn few(operands: &[Operand]) -> Option<Args>
     ensures some { IfSome result (λ a. a ≡ values operands.now) }
@@ -29,7 +29,7 @@ fn few(operands: &[Operand]) -> Option<Args>
     Some(args)
 }
 
-/// The arguments of the redex, if they are at most 8.
+/// The arguments of the redex. None if they are more than 8.
 pub fn few_args(work: &Continuation<'_>) -> Option<Args>
     ensures some { IfSome result (λ a. a ≡ now_args work.now.next) }
     ensures few { IfSome result (λ _. are_few (now_args work.now.next) ≡ true) }
@@ -49,7 +49,8 @@ pub fn few_args(work: &Continuation<'_>) -> Option<Args>
     }
 }
 
-/// What is shown of this act.
+/// The form of this action for callers. None if the object is stuck, or if it has more than 8 arguments for another
+/// object.
 pub fn show(work: &Continuation<'_>, act: &Act<'_>) -> Option<Redex>
     ensures { (x : Object) → result ≡ shown (acted x (now_args work.now.next) (now_names work.now.next) (now_choices work.now.next) act.now) }
 {

@@ -1,4 +1,4 @@
-//! Objects and messages, and the transitions by their labels.
+//! The objects and messages of a configuration, and transitions of one object by their labels.
 ghost use Rattle.std.specs.Prelude.{◌≡◌, Some, None, IfOk, IfSome, IfNone, true, false};
 ghost use Rattle.pool_syntax.specs.TreeOf.{program_of};
 ghost use Rattle.stepper_objects.specs.declared.object_state.ObjectState.{ObjectState};
@@ -26,7 +26,7 @@ use stepper_objects::lookup::find_class;
 use stepper_objects::object_state::ObjectState;
 use stepper_objects::offers::plain_alt;
 
-/// A configuration.
+/// A configuration of this program. `messages` is by sender and receiver, and a pair without messages has no entry.
 #[derive(Drop)]
 pub struct State<'a> {
     pub alloc: Global,
@@ -36,7 +36,7 @@ pub struct State<'a> {
 }
 
 impl<'a> State<'a> {
-    /// What an object does next, if it is there and has no fault.
+    /// The object of this name with its next action. None if it does not exist or has met an error.
     pub fn acting(&self, object: u32) -> Option<(&ObjectState<'a>, Act<'a>)>
         ensures some { IfSome result (λ r. Doing (program_of self.now.program.now) self.now.objects object r.0.now r.1) }
         ensures none { IfNone result (running (configuration self.now) object ≡ None) }
@@ -50,7 +50,7 @@ impl<'a> State<'a> {
         }
     }
 
-    /// What an object does next, or would do if it had no fault, if it is there.
+    /// The object of this name with its next action, even if it has met an error. None if it does not exist.
     pub fn next_of(&self, object: u32) -> Option<(&ObjectState<'a>, Act<'a>)>
         ensures some { IfSome result
             (λ r. (object_of (configuration self.now) object ≡ Some (thing_object r.0.now))
@@ -64,7 +64,7 @@ impl<'a> State<'a> {
         }
     }
 
-    /// Makes the local transition of an object; whether it has one.
+    /// Makes the local transition of the object. Reports whether it is possible, or `AllocError` if memory runs out.
     pub fn local(&mut self, object: u32) -> Result<bool, AllocError>
         ensures program { self.new.program ≡ self.old.program }
         ensures step { IfOk result (λ b. Stepped b (transition (program_of self.old.program.now) (configuration self.old) (Label.Local object)) self.old self.new) }
@@ -81,7 +81,8 @@ impl<'a> State<'a> {
         }
     }
 
-    /// Makes a new object under this name; whether that is what the object does next.
+    /// Makes the transition in which the object makes a new one of the class, under this name. Reports whether it is
+    /// possible, or `AllocError` if memory runs out.
     pub fn new(&mut self, object: u32, name: u32, class: NameId) -> Result<bool, AllocError>
         ensures program { self.new.program ≡ self.old.program }
         ensures step { IfOk result (λ b. Stepped b (transition (program_of self.old.program.now) (configuration self.old) (Label.New object name class)) self.old self.new) }
@@ -111,6 +112,8 @@ impl<'a> State<'a> {
         }
     }
 
+    /// Makes the transition in which the object writes this item. Reports whether it is possible, or `AllocError` if
+    /// memory runs out.
     pub fn write(&mut self, object: u32, item: Item) -> Result<bool, AllocError>
         ensures program { self.new.program ≡ self.old.program }
         ensures step { IfOk result (λ b. Stepped b (transition (program_of self.old.program.now) (configuration self.old) (Label.Write object item)) self.old self.new) }
@@ -130,6 +133,8 @@ impl<'a> State<'a> {
         }
     }
 
+    /// Makes the transition in which the object meets this error. Reports whether it is possible, or `AllocError` if
+    /// memory runs out.
     pub fn fault(&mut self, object: u32, error: Error) -> Result<bool, AllocError>
         ensures program { self.new.program ≡ self.old.program }
         ensures step { IfOk result (λ b. Stepped b (transition (program_of self.old.program.now) (configuration self.old) (Label.Fault object error)) self.old self.new) }
@@ -149,6 +154,8 @@ impl<'a> State<'a> {
         }
     }
 
+    /// Makes the transition in which the object picks this alternative, counted from 1. Reports whether it is
+    /// possible, or `AllocError` if memory runs out.
     pub fn pick(&mut self, object: u32, alt: u32) -> Result<bool, AllocError>
         ensures program { self.new.program ≡ self.old.program }
         ensures step { IfOk result (λ b. Stepped b (transition (program_of self.old.program.now) (configuration self.old) (Label.Pick object alt)) self.old self.new) }
@@ -168,6 +175,8 @@ impl<'a> State<'a> {
         }
     }
 
+    /// Makes the transition in which the receiver returns the value to the caller. Reports whether it is possible, or
+    /// `AllocError` if memory runs out.
     pub fn give_back(
         &mut self,
         receiver: u32,
@@ -199,7 +208,8 @@ impl<'a> State<'a> {
         Ok(true)
     }
 
-    /// What an object shows; nothing where it is stuck, or has more than 8 arguments for another object.
+    /// The next action of the object in the form for callers. None if it is stuck, or if it has more than 8 arguments
+    /// for another object.
     pub fn shown(&self, object: u32) -> Option<Redex>
         ensures { result ≡ shown_at (program_of self.now.program.now) (configuration self.now) object }
     {

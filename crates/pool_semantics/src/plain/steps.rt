@@ -1,4 +1,4 @@
-//! The transitions of two objects, and of messages.
+//! Transitions of two objects, transitions of messages, and the transition of any label.
 ghost use Rattle.std.specs.Prelude.{◌≡◌, Some, None, ◌==◌, ◌&&◌, IfOk};
 ghost use Rattle.pool_syntax.specs.TreeOf.{program_of};
 ghost use Rattle.pool_relation.specs.Transition.{transition, has_message};
@@ -39,7 +39,7 @@ fn same_values(values: &[Value], args: &[Value]) -> bool
     args.is_empty()
 }
 
-/// Whether it is the message on this method with these arguments.
+/// Whether the message is for this method and has these arguments.
 fn is_mail(mail: &Mail, method: NameId, args: &[Value]) -> bool
     ensures { result ≡ (mail.now.method.0 == method.0 && are_same mail.now.args args.now) }
 {
@@ -47,7 +47,7 @@ fn is_mail(mail: &Mail, method: NameId, args: &[Value]) -> bool
 }
 
 impl<'a> State<'a> {
-    /// Whether a message from the sender to the receiver is on one of these methods.
+    /// Whether a message from the sender to the receiver is for one of these methods.
     pub fn barred(&self, sender: u32, receiver: u32, names: &[Named]) -> bool
         ensures { result ≡ has_message names.now (messages_of (configuration self.now) sender receiver) }
     {
@@ -60,6 +60,8 @@ impl<'a> State<'a> {
         }
     }
 
+    /// Makes the transition in which the receiver answers this call of the caller. Reports whether it is possible, or
+    /// `AllocError` if memory runs out.
     pub fn answer(
         &mut self,
         receiver: u32,
@@ -105,6 +107,8 @@ impl<'a> State<'a> {
         Ok(true)
     }
 
+    /// Makes the transition in which the object sends this message to the receiver. Reports whether it is possible, or
+    /// `AllocError` if memory runs out.
     pub fn send(
         &mut self,
         object: u32,
@@ -130,6 +134,8 @@ impl<'a> State<'a> {
         Ok(true)
     }
 
+    /// Makes the transition in which the receiver takes this message of the sender. Reports whether it is possible, or
+    /// `AllocError` if memory runs out.
     pub fn take(
         &mut self,
         receiver: u32,
@@ -170,7 +176,8 @@ impl<'a> State<'a> {
         Ok(true)
     }
 
-    /// Makes the label's transition; whether it is possible.
+    /// Makes the transition of the label. Reports whether it is possible, or `AllocError` if memory runs out; the
+    /// state is then unspecified.
     pub fn step(&mut self, label: &Label) -> Result<bool, AllocError>
         ensures program { self.new.program ≡ self.old.program }
         ensures step { IfOk result (λ b. Stepped b (transition (program_of self.old.program.now) (configuration self.old) label.now) self.old self.new) }

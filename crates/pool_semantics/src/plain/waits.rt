@@ -1,4 +1,4 @@
-//! Objects that wait in calls, that met an error, or that are left over.
+//! Objects that are at a call or in one, that have met an error, or that are left over.
 ghost use Rattle.std.specs.Prelude.{◌≡◌, ◌≢◌, ◌≤◌, ℕ, List, Some, None, IfSome, IfNone, true, false};
 ghost use Rattle.pool_syntax.specs.TreeOf.{program_of};
 ghost use Rattle.run_types.specs.declared.types.Value.{Value};
@@ -19,7 +19,7 @@ use crate::plain::state::State;
 use run_types::NameId;
 use stepper_objects::act::Act;
 
-/// An object that is in a call, or is to make one, with the receiver and the method of the call.
+/// An object that is at a call or in one, with the receiver and the method of the call.
 #[derive(Clone, Copy)]
 pub struct Waiting {
     pub object: u32,
@@ -27,7 +27,7 @@ pub struct Waiting {
     pub method: NameId,
 }
 
-/// The receiver and the method of the call that an act is in, or is to make.
+/// The receiver and the method of the call, if the action is a call or the wait of one.
 fn call_of(act: &Act<'_>) -> Option<(u32, NameId)>
     ensures { (x : Object) (vs : List Value) (ns : List Named) (cs : List Choice) → called result ≡ call_of (acted x vs ns cs act.now) }
 {
@@ -38,7 +38,7 @@ fn call_of(act: &Act<'_>) -> Option<(u32, NameId)>
     }
 }
 
-/// Whether an object that is at this act at the end is left over.
+/// Whether an object with this next action is left over at an end.
 fn stays(act: &Act<'_>) -> bool
     ensures { (x : Object) (vs : List Value) (ns : List Named) (cs : List Choice) → result ≡ is_left_over (acted x vs ns cs act.now) }
 {
@@ -49,7 +49,7 @@ fn stays(act: &Act<'_>) -> bool
 }
 
 impl<'a> State<'a> {
-    /// The object, where its name is this one or a greater, and it waits.
+    /// The object, if its name is at least `from` and it is at a call or in one.
     fn waits_from(&self, object: u32, from: u32) -> Option<u32>
         ensures { IsTheOne (WaitsFrom (program_of self.now.program.now) (configuration self.now) from object) result }
     {
@@ -62,7 +62,7 @@ impl<'a> State<'a> {
         }
     }
 
-    /// The least object from this name on that waits.
+    /// The least object with a name of at least `from` that is at a call or in one.
     fn least_waiting(&self, from: u32) -> Option<u32>
         ensures { IsLeast (λ b. (o : ℕ) × WaitsFrom (program_of self.now.program.now) (configuration self.now) from o b) result }
     {
@@ -99,7 +99,7 @@ impl<'a> State<'a> {
 }
 
 impl<'a> Plain<'a> {
-    /// The least object from this name on that met no error and is in a call, or is to make one.
+    /// The least object with a name of at least `from` that has met no error and is at a call or in one.
     pub fn waiting(&self, from: u32) -> Option<Waiting>
         ensures waits { IfSome result (λ w. WaitsAt (program_tree self.now) (configuration_of self.now) w.object) }
         ensures call { IfSome result
@@ -123,7 +123,7 @@ impl<'a> Plain<'a> {
         })
     }
 
-    /// The least object that met a language error.
+    /// The least object that has met a run-time error. None exactly if no object has.
     pub fn met_error(&self) -> Option<u32>
         ensures some { IfSome result (λ o. (x : Object) × (object_of (configuration_of self.now) o ≡ Some x) × (x.fault ≢ None)) }
         ensures none { IfNone result (¬ (IsFaulty (configuration_of self.now))) }
@@ -136,7 +136,7 @@ impl<'a> Plain<'a> {
         None
     }
 
-    /// Whether an object that met no error is in a call, is to make one, or stands at `answer` or `select`, or a message was not taken.
+    /// Whether an object without an error is at a call, a wait, an `answer` or a `select`, or a message was not taken.
     pub fn left_over(&self) -> bool
         requires { is_spent self.now ≡ false }
         ensures some { result ≡ true → HasLeftOver (program_tree self.now) (configuration_of self.now) }
