@@ -1,4 +1,4 @@
--- What looking back from a token counts is what is open behind the tokens before it.
+-- Looking back from a token counts the open parts after the tokens before it.
 use Rattle.std.proofs.Common.{◌≡◌, refl, sym, ap, ◌∙◌, ℕ, zero, suc, ◌+◌, List, [], ◌∷◌, ◌++◌, reverse, take, slice_get, Some, Bool, true, false, arith}
 use Rattle.std.proofs.lemmas.List.{reverse-append, reverse-reverse}
 use Rattle.pool_syntax.specs.declared.token.Tok.{Tok}

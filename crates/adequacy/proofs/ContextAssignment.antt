@@ -1,4 +1,4 @@
--- What an assignment and a name do in their context.
+-- The effect of an assignment, and the value of a name, in their context.
 use Rattle.std.proofs.Common.{◌≡◌, refl, ap, ◌∙◌, ℕ, [], Some, None, is_some, true, false}
 use Rattle.run_types.specs.declared.types.Value.{Value}
 use Rattle.pool_syntax.specs.Terms.{Literal, Variable, Assign, Done, Then, ProgramTree}

@@ -1,4 +1,4 @@
--- A term is done, or a context around a redex.
+-- A term is done, or it is a context around a redex.
 use Rattle.std.proofs.Common.{◌≡◌, refl, sym, ap, ◌∙◌, subst, ℕ, List, [], ◌∷◌, Option, Some, None, option_map}
 use Rattle.run_types.specs.declared.types.Value.{Value}
 use Rattle.run_types.specs.declared.types.Op.{Op}

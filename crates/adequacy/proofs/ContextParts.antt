@@ -1,4 +1,4 @@
--- What is a redex by itself: it is found at once, and another part takes its place.
+-- An expression or a statement that is a redex by itself is found at once, and another part replaces it.
 use Rattle.std.proofs.Common.{◌≡◌, refl, ap, List, ◌∷◌, Option, Some, None, option_map, true, false, arith}
 use Rattle.run_types.specs.declared.types.Value.{Value}
 use Rattle.run_types.proofs.Laws.{same_some}

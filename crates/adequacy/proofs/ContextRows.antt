@@ -1,4 +1,4 @@
--- Worked rows, computed: the own method 1 with the temp 2 is under way with `x := 2 + 3`, in the value that another method, served for the object 7, is to send.
+-- Worked examples, computed: the own method 1 with the temp 2 is under way with `x := 2 + 3`, in the value that another method, served for the object 7, will return.
 use Rattle.std.proofs.Common.{◌≡◌, refl, ℕ, pos, [], ◌∷◌, Some, None}
 use Rattle.run_types.specs.declared.types.Value.{Value}
 use Rattle.run_types.specs.declared.types.Value.TheVariants as V

@@ -1,4 +1,4 @@
--- A local transition puts a part of the redex's kind in its place.
+-- A local transition replaces the redex by a part of the same form, an expression or statements.
 use Rattle.std.proofs.Common.{◌≡◌, ◌≢◌, refl, sym, ap, ◌∙◌, ℕ, List, [], length, Option, Some, None, is_some, Bool, true, false, if◌then◌else◌, arith}
 use Rattle.std.specs.List.{list_any}
 use Rattle.run_types.specs.declared.types.Value.{Value}

@@ -1,4 +1,4 @@
--- Objects that count down, one local transition a number, and have one frame more after each: what their turns and records are, computed.
+-- Objects that count down by one with each local transition and have one more frame after each: their turns and records, computed.
 use Rattle.std.proofs.Common.{◌≡◌, refl, ℕ, zero, suc, ◌-◌, List, [], ◌∷◌, Some, None}
 use Rattle.run_types.specs.declared.types.Event.{Event}
 use Rattle.run_types.specs.declared.types.Event.TheVariants as Ev

@@ -1,4 +1,4 @@
--- What stands open behind tokens, computed: signs and words stand for their roles.
+-- The open parts after tokens, computed; signs and words represent the roles of tokens.
 use Rattle.std.proofs.Common.{◌≡◌, refl, ℕ, suc, List, [], ◌∷◌, take}
 use Rattle.text_scan.specs.declared.keywords.Keyword.TheVariants as word
 use Rattle.pool_syntax.specs.declared.token.Tok.{Tok}

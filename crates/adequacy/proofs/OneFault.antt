@@ -1,4 +1,4 @@
--- A text that is no program has one fault: of its tokens, its grammar or its classes.
+-- A text that is no program has one fault: in its tokens, in its grammar, or a class fault.
 use Rattle.std.proofs.Common.{◌≡◌, refl, sym, ap, subst, ◌∙◌, ℕ, suc, ◌+◌, ◌<◌, ◌≤◌, inl, inr, List, [], ◌∷◌, length, reverse, Some, Contains, slice_get, arith}
 use native.Mathlib.Decide.{dec_le}
 use Rattle.std.proofs.lemmas.List.{take_all}

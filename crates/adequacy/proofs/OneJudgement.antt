@@ -1,4 +1,4 @@
--- What was read of a told text is that text, and at most one judgement holds of it.
+-- An input whose text is known is read as that text, and at most one judgement holds of it.
 use Rattle.std.proofs.Common.{◌≡◌, ◌≢◌, refl, sym, ap, subst, ◌∙◌, ℕ, ◌-◌, ◌^◌, ◌<◌, inl, inr, Option, Some, IfSome, Result, Err, true, false, arith}
 use Rattle.pool_outside.specs.Outside.{Rose}
 use Rattle.text_scan.specs.Text.{Text}

@@ -1,4 +1,4 @@
--- Where all is quiet a record ends, whatever events are left.
+-- If all is quiet, a record ends, whatever events are left.
 use Rattle.std.proofs.Common.{◌≡◌, refl, ℕ, List, [], ◌∷◌, true}
 use Rattle.run_types.specs.declared.types.Event.{Event}
 use Rattle.run_types.specs.declared.types.End.TheVariants as E

@@ -1,4 +1,4 @@
--- What a record shows, a run leads to.
+-- A run leads to each configuration that a record shows.
 use Rattle.std.proofs.Common.{◌≡◌, refl, sym, ap, ◌∙◌, ℕ, List, [], ◌∷◌, ◌++◌, Some}
 use Rattle.run_types.specs.declared.types.Error.{Error}
 use Rattle.run_types.specs.declared.types.Event.{Event}

@@ -1,4 +1,4 @@
--- The redex in the hole of a context is the one that is found.
+-- The redex in the hole of a context is the redex that is found.
 use Rattle.std.proofs.Common.{◌≡◌, refl, sym, ℕ, List, [], ◌∷◌, Option, Some, None}
 use Rattle.pool_syntax.specs.Terms.{Store, Expression, Expressions, Arg, Statement, Statements, Done, Then, Alternatives, Alt, Frame, Serve, append}
 use Rattle.pool_syntax.specs.declared.tree.Named.{Named}

@@ -1,4 +1,4 @@
--- The configurations after each front of labels, and one after the other.
+-- The configurations after each prefix of labels, and one after the other.
 use Rattle.std.proofs.Common.{◌≡◌, refl, sym, ap, subst, ◌∙◌, List, [], ◌∷◌, ◌++◌, Option, Some, IsTrue}
 use Rattle.run_types.specs.declared.types.Label.{Label}
 use Rattle.run_types.specs.Partial.{◌>>=◌}

@@ -1,4 +1,4 @@
--- An event whose line shows no transition leaves the configuration as it is.
+-- An event whose line shows no transition does not change the configuration.
 use Rattle.std.proofs.Common.{◌≡◌, refl, subst, ℕ, zero, suc, ◌+◌, ◌==◌, List, [], ◌∷◌, Option, Some, None, Bool, true, false, nat_lt, if◌then◌else◌, replicate}
 use Rattle.std.specs.FinMap.{put}
 use Rattle.run_types.specs.declared.types.Value.TheVariants as V

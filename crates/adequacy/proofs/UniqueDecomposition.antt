@@ -1,4 +1,4 @@
--- A term has one split: whatever two contexts are around a redex in it, these are the same redex, and the same with any part in the hole.
+-- A term has at most one split: two contexts around a redex in it have the same redex, and give the same term around any part.
 use Rattle.std.proofs.Common.{◌≡◌, refl, sym, ap, ◌∙◌, ℕ, List, [], ◌∷◌, Option, Some, None, is_some, true, false, arith}
 use Rattle.run_types.specs.declared.types.Value.{Value}
 use Rattle.pool_syntax.specs.declared.tree.Named.{Named}

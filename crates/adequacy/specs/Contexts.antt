@@ -1,4 +1,4 @@
--- Evaluation contexts, in the sense of Felleisen and Hieb: terms with a hole where evaluation goes on, told from the hole outwards; and what is a redex by itself.
+-- Evaluation contexts in the sense of Felleisen and Hieb: terms with a hole where evaluation continues, given from the hole outwards; and the redexes.
 use Rattle.std.specs.Prelude.{◌≡◌, ℕ, List, [], ◌∷◌, Option, Some, None, option_map}
 use Rattle.run_types.specs.declared.types.Value.{Value}
 use Rattle.run_types.specs.declared.types.Op.{Op}
@@ -63,22 +63,22 @@ slotted (InIf these those) e = If e these those
 slotted (InSelect cs names ss alts) e = Select (guards cs (Alt e names ss alts))
 
 mutual
-  -- what is around an expression, up to the whole term
+  -- the context of an expression, up to the whole term
   pub data ExpressionContext : Type 0 where
     InExpression : (place : Place) (outer : ExpressionContext) → ExpressionContext
     InStatement : (slot : Slot) (outer : StatementsContext) → ExpressionContext
-    -- it is the value of a method under way, an own one or a served one
+    -- the expression is the value of a method under way, an own one or a served one
     OwnValue : (method : ℕ) (temps : Store) (post : Statements) (outer : ExpressionContext) → ExpressionContext
     ServedValue : (method : ℕ) (caller : Option ℕ) (temps : Store) (post : Statements) (outer : StatementsContext) → ExpressionContext
 
-  -- what is around statements, up to the whole term
+  -- the context of statements, up to the whole term
   pub data StatementsContext : Type 0 where
     Whole : StatementsContext
     Before : (rest : Statements) (outer : StatementsContext) → StatementsContext
-    -- they are what a method under way has still to do
+    -- they are the statements that a method under way has left
     OwnBody : (method : ℕ) (temps : Store) (value : Expression) (post : Statements) (outer : ExpressionContext) → StatementsContext
     ServedBody : (method : ℕ) (caller : Option ℕ) (temps : Store) (value : Expression) (post : Statements) (outer : StatementsContext) → StatementsContext
-    -- they are its post statements, and it has its value and is for no caller
+    -- they are the post statements of a method under way that has its value and serves no caller
     OwnPost : (method : ℕ) (temps : Store) (value : Operand) (outer : ExpressionContext) → StatementsContext
     ServedPost : (method : ℕ) (temps : Store) (value : Operand) (outer : StatementsContext) → StatementsContext
 
@@ -98,7 +98,7 @@ abbrev mutual
   around_statements (OwnPost m t v k) qs = around_expression k (Frame m t Done (operand v) qs)
   around_statements (ServedPost m t v k) qs = around_statements k (Then (Serve m None t Done (operand v) qs) Done)
 
--- the temps of the nearest method under way around the hole; none where there is no method
+-- the temps of the nearest method under way around the hole; empty if there is no method
 abbrev mutual
   pub temps_at_expression : ExpressionContext → Store
   temps_at_expression (InExpression place k) = temps_at_expression k
@@ -114,7 +114,7 @@ abbrev mutual
   temps_at_statements (OwnPost m t v k) = t
   temps_at_statements (ServedPost m t v k) = t
 
--- temps after a statement that was this redex: an assignment sets the one of its name, if it is there
+-- the temps after the redex r: an assignment sets the temp of its name, if there is one
 abbrev pub temps_after : Reducible → Store → Store
 temps_after (Set x v) t = set_value t x v
 temps_after _ t = t
@@ -128,7 +128,7 @@ after r (ServedBody m c t e qs k) = ServedBody m c (temps_after r t) e qs k
 after r (OwnPost m t v k) = OwnPost m (temps_after r t) v k
 after r (ServedPost m t v k) = ServedPost m (temps_after r t) v k
 
--- the values that these are, if all of them are values
+-- the values of these arguments, if all of them are values
 abbrev pub values_of : Expressions → Option (List Value)
 values_of NoArgs = Some []
 values_of (Arg (Literal v p) es) = option_map (λ vs. v ∷ vs) (values_of es)
@@ -169,7 +169,7 @@ statement_as_redex (Serve m (Some c) t Done (Literal v p) (Then s qs)) =
     Some (Finish (Some c) v (Then (Serve m None t Done (Literal v p) (Then s qs)) Done))
 statement_as_redex _ = None
 
--- the temps that are told with an expression, or a statement, that is a redex, by those at hand: at the end of a method they are its own
+-- the temps that belong to a redex, if those around it are t: at the end of a method they are the method's own
 abbrev pub own_temps : Store → Expression → Store
 own_temps t (Frame m u ss e qs) = u
 own_temps t _ = t
@@ -178,7 +178,7 @@ abbrev pub own_temps_of : Store → Statement → Store
 own_temps_of t (Serve m c u ss e qs) = u
 own_temps_of t _ = t
 
--- a term that is a context around a part which is this redex, with these temps
+-- the term is a context around a part that is the redex r, with the temps t
 pub data Split (term : Statements) (r : Reducible) (t : Store) : Type 0 where
   AtExpression : (k : ExpressionContext) (e : Expression) → term ≡ around_expression k e → expression_as_redex e ≡ Some r
       → t ≡ own_temps (temps_at_expression k) e → Split term r t

@@ -1,4 +1,4 @@
--- What a record may show that a search looks for.
+-- Records that show what a search looks for: a quiet end in a call, a quiet end with something left over, or a run-time error.
 use Rattle.std.specs.Prelude.{◌≡◌, ℕ, List, [], ◌∷◌, ◌++◌, Some, IsTrue, true}
 use Rattle.pool_syntax.specs.Terms.{ProgramTree}
 use Rattle.pool_syntax.specs.Typing.{faults}
@@ -23,18 +23,18 @@ pub record IsPlaced (p : ProgramTree) (l : Placement) : Type 0 where
   pub first : Configuration
   pub starts : start p (root_name l) ≡ Some first
 
--- the record ends quiet, and an object that has met no error is in a call, or is to make one
+-- the record ends quiet, and an object that has met no error is in a call, or is about to make one
 pub record EndsInACall (p : ProgramTree) (r : Record Object) : Type 0 where
   pub quiet : ends_quiet r.lines ≡ true
   pub name : ℕ
   pub waits : WaitsAt p (plain r.last) name
 
--- the record ends quiet, and something is left over: such an object, one that stands at `answer` or `select`, or a message that nobody took
+-- the record ends quiet, and something is left over: such an object, an object at `answer` or `select`, or a message that was not taken
 pub record EndsUnfinished (p : ProgramTree) (r : Record Object) : Type 0 where
   pub quiet : ends_quiet r.lines ≡ true
   pub left : HasLeftOver p (plain r.last)
 
--- a line of the record shows that an object meets a language error
+-- a line of the record shows that an object meets a run-time error
 pub record ShowsAnError (r : Record Object) : Type 0 where
   pub front : List Label
   pub rest : List Label

@@ -1,14 +1,14 @@
--- How deep a token stands, told from the first token on. What is open at a place are brackets, and operators whose expression is not over.
+-- The nesting depth of a token as a fold from the first token. It counts open brackets, and operators whose expression is not complete.
 use Rattle.std.specs.Prelude.{ℕ, suc, ◌+◌, List, [], ◌∷◌}
 use Rattle.pool_syntax.specs.declared.token.Tok.{Tok}
 use Rattle.pool_grammar.specs.Nesting.{Role, opening, beginning, closing, operating, parting, plain, role}
 
--- A bracket that is open, with the number of operators that were under way around it when it was opened. It counts, with these operators; or it hides them, and does not count.
+-- An open bracket, with the number of operators that were under way around it when it was opened. It counts together with them, or it hides them and does not count.
 pub data Bracket : Type 0 where
   counts : (around : ℕ) → Bracket
   hides : (around : ℕ) → Bracket
 
--- What is open at a place: the number of operators that are under way in the innermost bracket, and the brackets, the innermost first.
+-- The open parts at a place: the number of operators under way in the innermost bracket, and the brackets, the innermost first.
 pub record OpenParts : Type 0 where
   pub operators : ℕ
   pub brackets : List Bracket
@@ -16,13 +16,13 @@ pub record OpenParts : Type 0 where
 abbrev pub nothing_open : OpenParts
 nothing_open = record { operators = 0; brackets = [] }
 
--- the innermost bracket is closed, and what was under way around it goes on; where none is open, all before is forgotten
+-- the innermost bracket is closed, and the operators around it are under way again; if no bracket is open, nothing is open
 abbrev pub without_innermost : List Bracket → OpenParts
 without_innermost [] = nothing_open
 without_innermost (counts n ∷ bs) = record { operators = n; brackets = bs }
 without_innermost (hides n ∷ bs) = record { operators = n; brackets = bs }
 
--- what is open behind a token of this role
+-- the open parts after a token of this role
 abbrev pub step : OpenParts → Role → OpenParts
 step s opening = record { operators = 0; brackets = counts s.operators ∷ s.brackets }
 step s beginning = record { operators = 0; brackets = hides s.operators ∷ s.brackets }
@@ -31,7 +31,7 @@ step s operating = record s { operators = suc s.operators }
 step s parting = record s { operators = 0 }
 step s plain = s
 
--- what is open behind these tokens
+-- the open parts after these tokens
 abbrev pub behind : OpenParts → List Tok → OpenParts
 behind s [] = s
 behind s (t ∷ ts) = behind (step s (role t)) ts
@@ -42,7 +42,7 @@ outside [] = 0
 outside (counts n ∷ bs) = 1 + (n + outside bs)
 outside (hides n ∷ bs) = outside bs
 
--- How deep a token of this role stands where this is open. A bracket counts at itself and at what closes it, without the operators inside; an operator counts at itself.
+-- The depth of a token of this role at a place with these open parts. A bracket counts at its own token and at the one that closes it, without the operators inside; an operator counts at its own token.
 abbrev pub depth_at : OpenParts → Role → ℕ
 depth_at s opening = 1 + (s.operators + outside s.brackets)
 depth_at s operating = 1 + (s.operators + outside s.brackets)

@@ -1,4 +1,4 @@
--- What comes of reading a program, by its name.
+-- The judgement on a program that was read under a name: accepted, rejected for a fault, or not read.
 use Rattle.std.specs.Prelude.{◌≡◌, ◌≤◌, Result, Ok, Err}
 use Rattle.pool_outside.specs.Outside.{Rose}
 use Rattle.text_scan.specs.Text.{Text}
@@ -13,9 +13,9 @@ use Rattle.command_inputs.specs.Programs.{HasTypedFault, IsTypedProgram}
 use Rattle.command_inputs.specs.declared.program.Parsed.{Parsed}
 
 pub data Judgement : Type 0 where
-  -- read whole as this text, and accepted
+  -- read completely as this text, and accepted
   Accepted : (s : Text) → Judgement
-  -- refused for this fault: it is too long, or was read whole and has the fault
+  -- rejected for this fault: it is too long, or it was read completely and has the fault
   Refused : (fault : Fault) → Judgement
   -- a read failed
   Unread : Judgement
@@ -26,7 +26,7 @@ IsJudged k name (Accepted s) = WasRead k I.Program name s × IsTypedProgram s ×
 IsJudged k name (Refused f) = Stops k I.Program name IsTypedProgram HasTypedFault f × AllRead k
 IsJudged k name Unread = Rose k.faults k.failed × (k.given ≤ limit_of I.Program)
 
--- what is answered where this is the judgement
+-- the answer that corresponds to the judgement
 abbrev pub AnswerOf : Judgement → Result Parsed InputError → Type 0
 AnswerOf (Accepted s) answer = (parsed : Parsed) × (answer ≡ Ok parsed) × IsTypedProgramOf s parsed
 AnswerOf (Refused f) answer = answer ≡ Err (T.Refused I.Program f)

@@ -1,5 +1,8 @@
-//! The redex of a term and filling (`Reducible.antt` of `pool_relation`) are one split of a term into an evaluation context and the part in its hole: each law is the
-//! contract of a function that does nothing.
+//! Theorems about evaluation contexts: finding and replacing a
+//! redex agrees with splitting a term into a context and its hole.
+//!
+//! Finding and replacing are defined in `Reducible.antt` of `pool_relation`.
+//! Each theorem is the contract of a function with an empty body.
 ghost use Rattle.std.specs.Prelude.{◌≡◌, ◌≢◌, ℕ, [], Some, None, is_some, true, false};
 ghost use Rattle.run_types.specs.declared.types.Value.{Value};
 ghost use Rattle.pool_syntax.specs.Terms.{Store, Expression, Literal, Variable, Statement, Assign, Statements, Done, Then, ProgramTree};
@@ -9,13 +12,14 @@ ghost use Rattle.pool_relation.specs.Action.{Object, action, literal, value_of};
 ghost use Rattle.adequacy.specs.Contexts.{ExpressionContext, StatementsContext, around_expression, around_statements, temps_at_expression, temps_at_statements, after};
 ghost use Rattle.adequacy.specs.Contexts.{expression_as_redex, statement_as_redex, own_temps, own_temps_of, Split};
 
-/// A term is done where it has no redex, and else a context around its redex.
+/// A term is done if it has no redex; otherwise it is an evaluation context around its redex.
 pub fn a_term_is_done_or_a_context_around_its_redex()
     ensures done { (ss : Statements) → statements_redex [] ss ≡ Evaluated tt → ss ≡ Done }
     ensures split { (ss : Statements) (r : Reducible) (t : Store) → statements_redex [] ss ≡ At r t → Split ss r t }
 {}
 
-/// Whatever context is around a redex, that redex is the one that is found, with the temps of the nearest method under way; at the end of a method they are its own.
+/// If a term is a context around a redex, then that redex is found, with the temps of the nearest method under way.
+/// At the end of a method these are the method's own temps.
 pub fn the_redex_in_the_hole_is_found()
     ensures expression { (k : ExpressionContext) (e : Expression) (r : Reducible) → expression_as_redex e ≡ Some r
         → statements_redex [] (around_expression k e) ≡ At r (own_temps (temps_at_expression k) e) }
@@ -23,7 +27,8 @@ pub fn the_redex_in_the_hole_is_found()
         → statements_redex [] (around_statements k (Then s Done)) ≡ At r (own_temps_of (temps_at_statements k) s) }
 {}
 
-/// Another part in the redex's place stands in the same context, but that an assignment has changed a temp of the nearest method.
+/// Replacing the redex puts another part into the same context.
+/// An assignment has also changed a temp of the nearest method.
 pub fn another_part_stands_in_the_same_context()
     ensures expression { (k : ExpressionContext) (e d : Expression) (r : Reducible) → expression_as_redex e ≡ Some r
         → fill_statements (around_expression k e) (AsExpression d) ≡ around_expression k d }
@@ -31,7 +36,8 @@ pub fn another_part_stands_in_the_same_context()
         → fill_statements (around_statements k (Then s Done)) (AsStatements ss) ≡ around_statements (after r k) ss }
 {}
 
-/// A term has one split: two contexts around a redex in one term have the same part in the hole, and are the same term around any part.
+/// A term has at most one split: two contexts around a redex in one term have the same part in the hole,
+/// and give the same term around any part.
 pub fn a_term_has_one_split()
     ensures expression { (k l : ExpressionContext) (d e : Expression) (q r : Reducible) → expression_as_redex d ≡ Some q → expression_as_redex e ≡ Some r
         → around_expression k d ≡ around_expression l e → (d ≡ e) × ((x : Expression) → around_expression k x ≡ around_expression l x) }
@@ -41,7 +47,8 @@ pub fn a_term_has_one_split()
         → statement_as_redex s ≡ Some r → ¬ (around_expression k e ≡ around_statements l (Then s Done)) }
 {}
 
-/// A local transition changes what is in the hole and nothing around it, but that an assignment sets a variable; it puts an expression where one was, and statements where one was.
+/// A local transition changes only the part in the hole, except that an assignment also sets a variable.
+/// It replaces an expression by an expression, and a statement by statements.
 pub fn a_local_transition_changes_what_is_in_the_hole()
     ensures expression { (p : ProgramTree) (o : ℕ) (x : Object) (r : Reducible) (term : Statements) (vars : Store) (k : ExpressionContext) (e : Expression)
         → x.term ≡ around_expression k e → expression_as_redex e ≡ Some r → action p o x ≡ A.Local term vars
@@ -51,8 +58,8 @@ pub fn a_local_transition_changes_what_is_in_the_hole()
         → (ss : Statements) × (term ≡ around_statements (after r k) ss) × (((n : ℕ) (v : Value) → r ≢ Set n v) → vars ≡ x.vars) }
 {}
 
-/// An assignment of a value sets the temp of this name in the nearest method under way around it, and where that has none, the variable of the object; nothing else changes, and the
-/// statement is gone. Where neither is there, the object is stuck.
+/// An assignment of a value sets the temp of its name in the nearest method under way, or else the object's variable.
+/// The statement is removed, and nothing else changes. If there is neither a temp nor a variable, the object is stuck.
 pub fn an_assignment_sets_the_nearest_variable()
     ensures temp { (p : ProgramTree) (o : ℕ) (x : Object) (k : StatementsContext) (n at place : ℕ) (v : Value)
         → x.term ≡ around_statements k (Then (Assign n at (Literal v place)) Done) → is_some (value_of (temps_at_statements k) n) ≡ true
@@ -65,7 +72,7 @@ pub fn an_assignment_sets_the_nearest_variable()
         → is_some (value_of x.vars n) ≡ false → action p o x ≡ A.Stuck }
 {}
 
-/// A name is read where an assignment sets it: its value is that of the temp in the nearest method under way around it, and where that has none, of the object's variable.
+/// A name has the value of the temp in the nearest method under way, or else the value of the object's variable.
 pub fn a_name_is_read_where_an_assignment_sets_it()
     ensures temp { (p : ProgramTree) (o : ℕ) (x : Object) (k : ExpressionContext) (n at : ℕ) (v : Value) → x.term ≡ around_expression k (Variable n at)
         → value_of (temps_at_expression k) n ≡ Some v → action p o x ≡ A.Local (around_expression k (literal v)) x.vars }

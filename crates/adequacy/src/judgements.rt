@@ -1,4 +1,4 @@
-//! When a program is accepted, refused, or not read.
+//! Theorems about reading a program: it is accepted, rejected, or not read, and only one of these holds.
 ghost use Rattle.std.specs.Prelude.{◌≡◌, ◌≢◌, ◌-◌, ◌^◌, ◌<◌, Some, Result, Err};
 ghost use Rattle.text_scan.specs.Text.{Text};
 ghost use Rattle.command_inputs.specs.declared.fault.Fault.{Fault};
@@ -15,7 +15,7 @@ ghost use Rattle.adequacy.specs.Judgement.{IsJudged, Judgement, AnswerOf};
 
 use pool_parser::theorems::{a_text_has_one_program, front_begins};
 
-/// A text that is not accepted as a program has at most one fault, and one that is accepted has none.
+/// A text has at most one fault as a program, and an accepted text has none.
 pub fn a_text_has_one_fault()
     ensures one { (s : Text) (f g : Fault) → HasTypedFault s f → HasTypedFault s g → f ≡ g }
     ensures none { (s : Text) (f : Fault) → IsTypedProgram s → ¬ (HasTypedFault s f) }
@@ -24,8 +24,10 @@ pub fn a_text_has_one_fault()
     a_text_has_one_program();
 }
 
-/// Where the text of an input is told, the input is read as this one and no other. Of the judgements on a program whose text is told at most one holds: that it was read as
-/// a text and accepted, that it is refused for a fault, or that a read failed. The count of failed reads must have room, since it stays at its last value.
+/// At most one judgement holds of a program whose text is known,
+/// and an input with a known text is read as that text only.
+/// The judgements: the text was read and accepted, the text was rejected for a fault, or a read failed.
+/// The count of failed reads must be below 2^64 - 1, because it stays at that value.
 pub fn an_input_has_one_judgement()
     ensures text { (told : Told) (input : Input) (name t r s : Text) → told name ≡ Some t → IsReadAs told input name r → IsReadAs told input name s → r ≡ s }
     ensures judgement { (k : Reading) (name t : Text) (i j : Judgement) → k.told name ≡ Some t → k.faults < 2 ^ 64 - 1 → IsJudged k name i → IsJudged k name j → i ≡ j }
@@ -33,7 +35,8 @@ pub fn an_input_has_one_judgement()
     a_text_has_one_fault();
 }
 
-/// What is answered when a program was read and judged, unless memory ran out, tells a judgement that holds: so it is the one.
+/// The answer after reading a program, unless it is out of memory, corresponds to a judgement that holds.
+/// By `an_input_has_one_judgement` it is the only one.
 pub fn an_answer_tells_the_judgement()
     ensures { (k : Reading) (name : Text) (answer : Result Parsed InputError) → Reads k I.Program name IsTypedProgram HasTypedFault IsTypedProgramOf answer → answer ≢ Err T.Memory
         → (j : Judgement) × IsJudged k name j × AnswerOf j answer }

@@ -1,4 +1,5 @@
-//! What a record is, by cases: of what is there before the first event, and of what the event does.
+//! Theorems that give the record of a run by cases: of the configuration
+//! before the first event, and of the effect of the event.
 ghost use Rattle.std.specs.Prelude.{◌≡◌, ℕ, ◌+◌, List, [], ◌∷◌, ◌++◌, replicate, Some, None, true, false};
 ghost use Rattle.run_types.specs.declared.types.Label.{Label};
 ghost use Rattle.run_types.specs.declared.types.What.{What};
@@ -15,9 +16,11 @@ ghost use Rattle.mesh_semantics.specs.Act.{Acts, Full, Nothing, act, is_quiet};
 ghost use Rattle.mesh_semantics.specs.Record.{Record, labels, record_from, shown, start};
 ghost use Rattle.mesh_semantics.specs.RecordOf.{record_of, record_on_wires};
 
-/// A record goes on from a configuration with its delay, when so many events are done. Where all is quiet it ends so, whatever events are left. Else it ends with the
-/// schedule where no event is left; has one more line, numbered from 1, where the first event does something, and behind it what the record is from what stands then; or
-/// ends full where that event would pass a limit. At its end it keeps what stood there. An event that answers nothing ends it without an end line; no event of a sound configuration does.
+/// The record from a configuration is given by cases: all is quiet, no event is left, or the effect of the first event.
+/// If all is quiet, it ends `Quiet`, whatever events are left. Otherwise it ends `Schedule` if no event is left.
+/// If the first event does something, its line has the number `done + 1`, and the record after that event follows.
+/// If the event would exceed a limit, the record ends `Full`. An ended record keeps its last configuration and delay.
+/// An event that answers nothing ends the record without an end line. No event of a sound configuration does so.
 pub fn a_record_by_cases<S>()
     ensures quiet { (g : Language S) (l : Placement) (q done : ℕ) (c : Config S) (d : Delay) (es : List Event) → (all_is_quiet : is_quiet g c d ≡ true)
         → record_from g l q c d done es ≡ record { lines = R.End (E.Quiet done) ∷ []; last = c; delay = d } }
@@ -34,8 +37,9 @@ pub fn a_record_by_cases<S>()
         → record_from g l q c d done (e ∷ es) ≡ record { lines = []; last = c; delay = d } }
 {}
 
-/// The labels of a record are those of its transitions: an event that is one, or several local ones of an object, puts its label so often before those of the rest; an event that is a delay,
-/// or does nothing, puts none.
+/// The labels of a record are those of its transitions, in order.
+/// An event with one transition, or with several local transitions of an object, adds its label once for each.
+/// A delay or an idle event adds none.
 pub fn labels_are_those_of_transitions<S>()
     ensures transition { (g : Language S) (l : Placement) (q done times : ℕ) (c f : Config S) (d k : Delay) (e : Event) (es : List Event) (label : Label)
         → (something_can_go_on : is_quiet g c d ≡ false) → (a_transition : act g l q c d e ≡ Acts (W.Step label times) f k)
@@ -47,13 +51,14 @@ pub fn labels_are_those_of_transitions<S>()
         → labels (record_from g l q c d done es).lines ≡ [] }
 {}
 
-/// An event whose line shows no transition leaves the configuration as it is: what changes is the delay.
+/// An event whose line shows no transition does not change the configuration, only the delay.
 pub fn a_delay_leaves_the_configuration<S>()
     ensures { (g : Language S) (l : Placement) (q : ℕ) (c f : Config S) (d k : Delay) (e : Event) (what : What)
         → (a_delay : act g l q c d e ≡ Acts what f k) → (no_transition : shown what ≡ []) → f ≡ c }
 {}
 
-/// The record of a language over a schedule goes on from its start, where nothing is on its way and no event is done.
+/// The record of a language over a schedule is the record from its start, with nothing under way and no event done.
+/// If there is no start, the record has no lines.
 pub fn a_record_begins_at_the_start<S>()
     ensures links { (g : Language S) (l : Placement) (q : ℕ) (c : Config S) (es : List Event) → start g l ≡ Some c
         → record_of g l q es ≡ record_from g l q c no_delay 0 es }

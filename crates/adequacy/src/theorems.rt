@@ -1,4 +1,5 @@
-//! The laws: each is the contract of a function that does nothing.
+//! Theorems that carry the results of a search over to all records.
+//! Each is the contract of a function with an empty body.
 ghost use Rattle.std.specs.Prelude.{ℕ, List};
 ghost use Rattle.pool_syntax.specs.Terms.{ProgramTree};
 ghost use Rattle.run_types.specs.declared.types.Event.{Event};
@@ -10,8 +11,11 @@ ghost use Rattle.search_laws.specs.Search.{IsReached, IsStuck, IsUnfinished, IsF
 ghost use Rattle.search_laws.specs.Renamed.{IsNameless};
 ghost use Rattle.adequacy.specs.Ends.{IsPlaced, EndsInACall, EndsUnfinished, ShowsAnError};
 
-/// Where no run leads to a stuck configuration, no record, on whatever placement and schedule, ends quiet with an object in a call; where none leads to an unfinished one, no record ends quiet
-/// with an object in a call or at `answer` or `select`, or a message that was not taken; and where none leads to a faulty one, no record shows a language error.
+/// If no run leads to a stuck configuration, no record ends quiet with an object in a call.
+/// If no run leads to an unfinished one, no quiet record leaves an
+/// object in a call, at `answer` or `select`, or an untaken message.
+/// If no run leads to a faulty one, no record shows a run-time error.
+/// This holds for each schedule, and each placement that fits the program.
 pub fn what_no_run_leads_to_no_record_shows()
     ensures stuck { (p : ProgramTree) (l : Placement) (q : ℕ) (es : List Event) → IsPlaced p l → ((d : Configuration) → IsReached p d → ¬ (IsStuck p d))
         → ¬ (EndsInACall p (record_of (terms p) l q es)) }
@@ -27,7 +31,8 @@ pub fn what_no_run_leads_to_no_record_shows()
         → ¬ (ShowsAnError (record_on_wires (terms p) l q es)) }
 {}
 
-/// The same in the words of a search: where a list is whole and none of it is stuck, unfinished or faulty.
+/// If the list of a complete search has no stuck configuration, no record ends quiet with an object in a call.
+/// The same holds for unfinished and faulty configurations, as in `what_no_run_leads_to_no_record_shows`.
 pub fn a_whole_list_speaks_of_every_record()
     ensures stuck { (p : ProgramTree) (list : List (ℕ × Configuration)) (l : Placement) (q : ℕ) (es : List Event) → IsPlaced p l → IsNameless p → IsClosedAfterSettling p list
         → ((n : ℕ) (d : Configuration) → IsIn n d list → ¬ (IsStuck p d)) → ¬ (EndsInACall p (record_of (terms p) l q es)) }

@@ -1,4 +1,4 @@
--- Frames of a proper unit: what is at hand, and where an instruction leads.
+-- Frames of a proper unit: the current instruction, and the places to which it leads.
 use Rattle.std.proofs.Common.{◌≡◌, inl, inr, refl, sym, ap, ◌∙◌, subst, IsTrue, ℕ, zero, suc, ◌+◌, ℤ, List, [], ◌∷◌, length, Option, Some, None, is_some, arith, true, false}
 use Rattle.std.specs.Prelude.{slice_get}
 use Rattle.run_types.specs.declared.types.Value.{Value}

@@ -1,4 +1,4 @@
--- What stands at hand in a frame of a proper unit, and how a frame is brought to a step instruction.
+-- The current instruction of a frame of a proper unit, and how silent instructions bring a frame to a step instruction.
 use Rattle.std.proofs.Common.{◌≡◌, ◌≢◌, refl, sym, ap, ◌∙◌, subst, ℕ, zero, suc, ◌+◌, ◌<◌, ◌≤◌, ◌^◌, List, [], ◌∷◌, length, Option, Some, None, arith}
 use Rattle.std.specs.Prelude.{slice_get}
 use Rattle.std.proofs.lemmas.Option.{slice_get_within}

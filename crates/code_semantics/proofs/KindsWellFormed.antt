@@ -1,4 +1,4 @@
--- What an object of a proper unit asks for: the values that it names have the property, and what it makes or serves is there.
+-- The next action of an object of a proper unit: its values have the property, and the classes and methods that it names exist.
 use Rattle.std.proofs.Common.{◌≡◌, inl, inr, refl, sym, ap, ◌∙◌, subst, IsTrue, ℕ, zero, suc, ◌+◌, ◌≤◌, ◌==◌, List, [], ◌∷◌, length, Option, Some, None, is_some, Bool, true, false, arith}
 use Rattle.std.specs.Prelude.{slice_get, if◌then◌else◌}
 use Rattle.std.specs.List.{list_any}

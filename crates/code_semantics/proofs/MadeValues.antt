@@ -1,4 +1,4 @@
--- The numbers that code of a class makes, and a property of what is written.
+-- The integers that the code of a class can make, and a property of the items that are written.
 use Rattle.std.specs.Prelude.{ℤ, ◌⊎◌}
 use Rattle.run_types.specs.declared.types.Value.{Value}
 use Rattle.run_types.specs.declared.types.Item.{Item}

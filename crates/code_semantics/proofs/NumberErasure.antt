@@ -1,4 +1,4 @@
--- Whoever forgets the numbers of requests sees the same steps.
+-- Erasing the numbers of requests commutes with each step.
 use Rattle.std.proofs.Common.{◌≡◌, refl, sym, ap, ◌∙◌, subst, ℕ, zero, suc, List, [], ◌∷◌, length, Option, Some, None, Bool, true, false, arith}
 use Rattle.std.specs.Prelude.{slice_get, slice_set, map, option_map, if◌then◌else◌, IsTrue, ◌↔◌}
 use Rattle.std.specs.List.{list_any}

@@ -1,4 +1,4 @@
--- Where no chain of silent instructions comes back to its first place, every frame comes to a step instruction.
+-- If no chain of silent instructions returns to its first place, every frame reaches a step instruction.
 use Rattle.std.proofs.Common.{◌≡◌, ◌⊎◌, inl, inr, refl, sym, ap, ◌∙◌, subst, ℕ, zero, suc, ◌+◌, ◌<◌, List, length, Option, Some, None, arith}
 use Rattle.std.specs.Prelude.{slice_get}
 use Rattle.std.proofs.lemmas.Option.{slice_get_within}

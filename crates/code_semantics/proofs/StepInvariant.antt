@@ -1,4 +1,4 @@
--- What each step of an object of a proper unit keeps: it is of the unit, and stands at a step instruction.
+-- The invariant that each step of an object of a proper unit keeps: it is of the unit, and at a step instruction.
 use Rattle.std.proofs.Common.{◌≡◌, refl, sym, subst, ℕ, ◌+◌, List, [], ◌∷◌, Option, Some, None, false, arith}
 use Rattle.std.specs.Prelude.{slice_get}
 use Rattle.run_types.specs.declared.types.NameId.{NameId}

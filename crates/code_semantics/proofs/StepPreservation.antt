@@ -1,4 +1,4 @@
--- Each step of an object of a proper unit keeps it one, and brings it to a step instruction.
+-- Each step of an object of a proper unit gives an object of the unit that is at a step instruction.
 use Rattle.std.proofs.Common.{◌≡◌, inl, inr, refl, sym, ap, ◌∙◌, subst, ℕ, zero, suc, ◌+◌, ◌-◌, ◌≤◌, ◌==◌, List, [], ◌∷◌, length, Option, Some, None, Bool, true, false, arith}
 use Rattle.std.specs.Prelude.{slice_get, slice_set, map, take, if◌then◌else◌}
 use Rattle.std.specs.List.{list_any}

@@ -1,4 +1,4 @@
--- What an object of code is, and how it is brought to a step instruction.
+-- Objects of code as stacks of frames, and the silent instructions that a frame executes before it is at a step instruction.
 use Rattle.std.specs.Prelude.{ℕ, zero, suc, List, [], ◌∷◌, length, Option, Some, None, slice_get}
 use Rattle.run_types.specs.declared.types.Value.{Value}
 use Rattle.run_types.specs.declared.types.Value.TheVariants as V
@@ -26,12 +26,12 @@ code_of (Some k) (Some m) = method_code (slice_get k.methods m)
 abbrev pub next : Frame → List Value → Frame
 next f vs = record f { at = suc f.at; operands = vs }
 
--- the end of a method's value is silent in a frame that serves no caller
+-- `Post` is silent in a frame that serves no caller
 abbrev pub post_passed : Frame → Serves → Option Frame
 post_passed f (S.Caller k n) = None
 post_passed f _ = Some (next f f.operands)
 
--- a silent instruction; a step instruction has none
+-- the frame after a silent instruction; none for a step instruction
 abbrev pub silent : Frame → Option Instr → Option Frame
 silent f (Some (I.PushInt z)) = Some (next f (V.Int z ∷ f.operands))
 silent f (Some (I.PushBool b)) = Some (next f (V.Bool b ∷ f.operands))
@@ -40,16 +40,16 @@ silent f (Some (I.Jump a)) = Some (record f { at = a })
 silent f (Some I.Post) = post_passed f f.serves
 silent f _ = None
 
--- goes on with a frame, where there is one
+-- continues with the frame that is given, if any
 abbrev pub go_on_with : Frame → (Frame → Frame) → Option Frame → Frame
 go_on_with f go None = f
 go_on_with f go (Some g) = go g
 
--- at most n silent instructions
+-- the frame after at most n silent instructions
 abbrev pub settled_within : List Instr → ℕ → Frame → Frame
 settled_within code zero f = f
 settled_within code (suc n) f = go_on_with f (settled_within code n) (silent f (slice_get code f.at))
 
--- the frame after the silent instructions at hand; code has no more of them in a chain than it has instructions
+-- the frame after all silent instructions from its place on; in a proper unit a chain of them is never longer than the code
 abbrev pub settled : List Instr → Frame → Frame
 settled code f = settled_within code (length code) f

@@ -1,4 +1,4 @@
--- What an object of code does next.
+-- The next action of an object of code, read from the instruction at its place and its operands.
 use Rattle.std.specs.Prelude.{ℕ, List, [], ◌∷◌, length, Option, Some, None, Bool, if◌then◌else◌, slice_get}
 use Rattle.std.specs.List.{list_any}
 use Rattle.run_types.specs.declared.types.NameId.{NameId}
@@ -38,14 +38,15 @@ pub data Kind : Type 0 where
   -- to the caller, whose request has this number
   Return : (caller number : ℕ) (value : Value) → Kind
 
--- an operator on the last operands; one of a wrong sort counts as nil
+-- the outcome of an operator on the last operands
 abbrev pub operated : Op → List Value → Outcome
 operated op vs = if is_prefix op then prefix_value op (top vs) else infix_value op (top (below vs)) (top vs)
 
--- how many operands an operator takes
+-- the number of operands that an operator takes
 abbrev pub arity : Op → ℕ
 arity op = if is_prefix op then 1 else 2
 
+-- an operand of a wrong sort is the error of an operand that is nil
 abbrev pub outcome_kind : Outcome → Kind
 outcome_kind (Gives v) = Local
 outcome_kind (Fails e) = Fault e
@@ -70,7 +71,7 @@ select_kind alts guards =
     if list_any not_bool guards then Fault NilOperand
     else (if list_any is_true guards then Select (offers alts guards) else Fault NoOpenGuard)
 
--- what is done at an instruction of a frame
+-- the action at an instruction of a frame
 abbrev pub instr_kind : Frame → Option Instr → Kind
 instr_kind f (Some (I.Oper op)) = outcome_kind (operated op f.operands)
 instr_kind f (Some (I.Branch a)) = if is_bool (top f.operands) then Local else Fault NilOperand
@@ -91,6 +92,6 @@ abbrev pub frames_kind : Option ClassCode → List Frame → Kind
 frames_kind k [] = Finished
 frames_kind k (f ∷ fs) = instr_kind f (slice_get (code_of k f.method) f.at)
 
--- what the object does next
+-- the next action of the object
 abbrev pub code_kind : Code → CodeObject → Kind
 code_kind u x = frames_kind (slice_get u.classes x.class) x.frames

@@ -1,4 +1,4 @@
--- The numbers that code of a unit makes, and properties of values that name no object.
+-- The integers that the code of a unit can make, and properties that hold of the values that name no object.
 use Rattle.std.specs.Prelude.{◌≡◌, ℕ, ℤ, Option, Some, Bool, true, slice_get, ◌⊎◌}
 use Rattle.run_types.specs.declared.types.Value.{Value}
 use Rattle.run_types.specs.declared.types.Value.TheVariants as V
@@ -8,18 +8,18 @@ use Rattle.code_semantics.specs.declared.unit.ClassCode.{ClassCode}
 use Rattle.code_semantics.specs.declared.unit.Unit.{Unit as Code}
 use Rattle.code_semantics.specs.Frames.{code_of}
 
--- a property of all values that name nothing and have a number of these
+-- the property P holds of nil, of truth values, and of the integers with the property N
 abbrev pub HoldsOfPlain : (ℤ → Type 0) → (Value → Type 0) → Type 0
 HoldsOfPlain N P = ((z : ℤ) → N z → P (V.Int z)) × ((b : Bool) → P (V.Bool b)) × P V.Nil
 
--- a number of 64 bits: what operators make
+-- an integer of 64 bits; operators give only these
 abbrev pub IsInRange : ℤ → Type 0
 IsInRange z = is_in_range z ≡ true
 
--- a number that an instruction of the class pushes
+-- an integer that an instruction of the class pushes
 abbrev pub IsPushed : ClassCode → ℤ → Type 0
 IsPushed k z = (m : Option ℕ) × (at : ℕ) × (slice_get (code_of (Some k) m) at ≡ Some (I.PushInt z))
 
--- a number that code of the unit makes
+-- an integer that the code of the unit can make
 abbrev pub IsMadeIn : Code → ℤ → Type 0
 IsMadeIn u z = IsInRange z ⊎ ((j : ℕ) × (k : ClassCode) × (slice_get u.classes j ≡ Some k) × IsPushed k z)

@@ -1,9 +1,9 @@
--- How many words the nodes of a placement take.
+-- The number of memory words that the nodes of a placement take.
 use Rattle.std.specs.Prelude.{ℕ, ◌+◌, ◌*◌, List, [], ◌∷◌, if◌then◌else◌, nat_le}
 use Rattle.run_types.specs.declared.types.Placement.{Placement}
 use Rattle.code_semantics.specs.declared.unit.ClassCode.{ClassCode}
 
--- the nodes of the mesh
+-- the number of nodes of the mesh
 abbrev pub nodes : Placement → ℕ
 nodes l = l.width * l.height
 

@@ -1,5 +1,5 @@
--- Objects of code that are of a unit: their frames are of the unit's code, each at a place that its code reaches with as many operands as the frame has. What is said of
--- each value in them is a property P, so that the same is said of objects whatever they name, and of objects that name only what is there.
+-- Objects of a unit: each frame is at a place that its code reaches with the frame's number of operands, and each value has a property P.
+-- P is a parameter: so the definition serves objects with any references, and objects that name only existing objects.
 use Rattle.std.specs.Prelude.{◌≡◌, ℕ, ◌+◌, suc, List, [], ◌∷◌, length, Option, Some, None, is_some, IsTrue, slice_get}
 use Rattle.run_types.specs.Tables.{Each}
 use Rattle.run_types.specs.declared.types.NameId.{NameId}
@@ -21,14 +21,14 @@ abbrev pub HasTemps : ClassCode → Option ℕ → List Value → Type 0
 HasTemps k None temps = length temps ≡ 0
 HasTemps k (Some m) temps = (method : MethodCode) × (slice_get k.methods m ≡ Some method) × (length temps ≡ method.temps)
 
--- a frame of a class, to which so many operands are still to come
+-- a frame of a class that still waits for `missing` operands
 pub record IsFrameOf (k : ClassCode) (P : Value → Type 0) (missing : ℕ) (f : Frame) : Type 0 where
   pub reached : Reached (Some k) (code_of (Some k) f.method) f.at (missing + length f.operands)
   pub has_temps : HasTemps k f.method f.temps
   pub temps : Each P f.temps
   pub operands : Each P f.operands
 
--- the frame f stands right after the call of the method of the frame above it
+-- the place of the frame f is right after the call of the method of the frame above it
 pub record StandsAfterCall (k : ClassCode) (above f : Frame) : Type 0 where
   pub at : ℕ
   pub is_next : f.at ≡ suc at
@@ -38,7 +38,7 @@ pub record StandsAfterCall (k : ClassCode) (above f : Frame) : Type 0 where
   pub named : method_named (Some k) name ≡ Some method
   pub is_method : above.method ≡ Some method.place
 
--- what the frame above asks of the one under it: the value of an own call is still to come, and it stands after the call
+-- the number of operands that a frame waits for: under an own call one, which is the call's value
 abbrev pub missing_under : Option Serves → ℕ
 missing_under (Some S.Own) = 1
 missing_under _ = 0
@@ -47,11 +47,12 @@ abbrev pub serves_of : Option Frame → Option Serves
 serves_of None = None
 serves_of (Some f) = Some f.serves
 
+-- under an own call, a frame is right after that call
 abbrev pub StandsUnder : ClassCode → Option Frame → Frame → Type 0
 StandsUnder k None f = Unit {0}
 StandsUnder k (Some above) f = IsTrue (is_own above.serves) → StandsAfterCall k above f
 
--- frames, the innermost first, under the one above: the last is the body's, which serves nobody, and each other is of a method
+-- frames, the innermost first, under the frame `above`; the last is the body's and serves no one; each other is of a method
 abbrev pub AreFramesOf : ClassCode → (Value → Type 0) → Option Frame → List Frame → Type 0
 AreFramesOf k P above [] = ⊥
 AreFramesOf k P above (f ∷ []) =

@@ -1,4 +1,4 @@
--- Proper units.
+-- Proper units: every name and place exists, each reached place has one sufficient number of operands, and no silent instructions form a cycle.
 use Rattle.std.specs.Prelude.{◌≡◌, ◌≢◌, ℕ, suc, ◌≤◌, ◌<◌, ◌^◌, List, length, Option, Some, slice_get}
 use Rattle.code_semantics.specs.declared.unit.Instr.{Instr}
 use Rattle.code_semantics.specs.declared.unit.Instr.TheVariants as I
@@ -7,7 +7,7 @@ use Rattle.code_semantics.specs.declared.unit.ClassCode.{ClassCode}
 use Rattle.code_semantics.specs.declared.unit.Unit.{Unit as Code}
 use Rattle.code_semantics.specs.ReachedPlaces.{takes, Reached, Chain, Exists}
 
--- a code of a class with so many temps
+-- the code of a method or body with this number of temps
 pub record IsProperCode (u : Code) (k : Option ClassCode) (temps : ℕ) (c : List Instr) : Type 0 where
   pub exists : (at : ℕ) (i : Instr) → slice_get c at ≡ Some i → Exists u k temps c i
   pub one_count : (at m n : ℕ) → Reached k c at m → Reached k c at n → m ≡ n

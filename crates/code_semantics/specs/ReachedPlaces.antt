@@ -1,4 +1,4 @@
--- What an instruction takes, leaves and names, and which places of a code are reached with how many operands.
+-- The operands that an instruction takes and leaves, the names that it requires, and the places that a code reaches with a number of operands.
 use Rattle.std.specs.Prelude.{◌≡◌, ℕ, zero, suc, ◌+◌, ◌≤◌, ◌<◌, List, [], ◌∷◌, length, map, Option, Some, None, is_some, IsTrue, slice_get, ◌⊎◌}
 use Rattle.run_types.specs.declared.types.NameId.{NameId}
 use Rattle.code_semantics.specs.declared.unit.Instr.{Instr}
@@ -13,7 +13,7 @@ abbrev pub params_of : Option Numbered → ℕ
 params_of None = 0
 params_of (Some m) = m.code.params
 
--- how many operands an instruction takes; an own call as many as the method has parameters
+-- the number of operands that an instruction takes; an own call takes one for each parameter of its method
 abbrev pub takes : Option ClassCode → Instr → ℕ
 takes k (I.StoreI n) = 1
 takes k (I.StoreT n) = 1
@@ -29,7 +29,7 @@ takes k I.Write = 1
 takes k (I.Select alts) = length alts
 takes k _ = 0
 
--- how many it leaves
+-- the number of operands that it leaves
 abbrev pub leaves : Instr → ℕ
 leaves (I.PushInt z) = 1
 leaves (I.PushBool b) = 1
@@ -57,7 +57,7 @@ abbrev pub IsAmong : ℕ → List ℕ → Type 0
 IsAmong n [] = ⊥
 IsAmong n (m ∷ ms) = (m ≡ n) ⊎ IsAmong n ms
 
--- n instructions lead from the front to a place with so many operands
+-- n instructions lead from place 0 to the place `at`, with `held` operands
 abbrev pub ReachedBy : Option ClassCode → List Instr → ℕ → ℕ → ℕ → Type 0
 ReachedBy k c zero at held = (at ≡ 0) × (held ≡ 0)
 ReachedBy k c (suc n) at held =
@@ -80,7 +80,7 @@ abbrev pub Chain : List Instr → ℕ → ℕ → ℕ → Type 0
 Chain c zero a b = a ≡ b
 Chain c (suc n) a b = (m : ℕ) × (silent_to a (slice_get c a) ≡ Some m) × Chain c n m b
 
--- the methods are the class's own
+-- the class has a method of each name
 abbrev pub AreOwn : Option ClassCode → List NameId → Type 0
 AreOwn k [] = Unit {0}
 AreOwn k (m ∷ ms) = IsTrue (is_some (method_named k m)) × AreOwn k ms
@@ -93,7 +93,7 @@ abbrev pub AltsExist : Option ClassCode → List Instr → List AltCode → Type
 AltsExist k c [] = Unit {0}
 AltsExist k c (a ∷ alts) = AnswerOwn k a.answer × (a.at < length c) × AltsExist k c alts
 
--- what an instruction names exists
+-- each name and place of an instruction exists
 abbrev pub Exists : Code → Option ClassCode → ℕ → List Instr → Instr → Type 0
 Exists u k temps c (I.Jump a) = a < length c
 Exists u k temps c (I.Branch a) = a < length c

@@ -1,4 +1,4 @@
--- Files whose kinds are those of their unit, and whose lists are short enough for their bytes.
+-- Files that can be encoded as bytes: their kinds fit their unit, their lists are short, and their numbers fit their types.
 use Rattle.std.specs.Prelude.{◌≡◌, ℕ, ◌<◌, ◌^◌, List, [], ◌∷◌, length, Option, Some, None, FitsSigned}
 use Rattle.std.specs.Int.{w64}
 use Rattle.std.specs.List.{AllByRecursion as Each}
@@ -16,13 +16,13 @@ use Rattle.code_semantics.specs.declared.file.ClassKinds.{ClassKinds}
 use Rattle.code_semantics.specs.declared.file.MethodKinds.{MethodKinds}
 use Rattle.code_semantics.specs.Pairs.{pairs}
 
--- kinds for each method, as many as it has temps
+-- kinds for each method, one for each of its temps
 abbrev pub AreShapedMethods : List MethodCode → List MethodKinds → Type 0
 AreShapedMethods [] [] = Unit {0}
 AreShapedMethods (m ∷ ms) (s ∷ ss) = (m.temps ≡ length s.temps) × AreShapedMethods ms ss
 AreShapedMethods _ _ = ⊥
 
--- kinds for each class, as many as it has variables
+-- kinds for each class, one for each of its variables
 abbrev pub AreShapedClasses : List ClassCode → List ClassKinds → Type 0
 AreShapedClasses [] [] = Unit {0}
 AreShapedClasses (k ∷ ks) (q ∷ qs) = (k.vars ≡ length q.vars) × AreShapedMethods k.methods q.methods × AreShapedClasses ks qs
@@ -35,11 +35,11 @@ IsShaped f = AreShapedClasses f.unit.classes f.kinds.classes
 abbrev pub IsNumber : ℕ → Type 0
 IsNumber n = n < 2 ^ 32
 
--- a list whose length has four bytes, and each item has the property
+-- a list of fewer than 2^32 items, each with the property
 abbrev pub IsListOf : {X : Type 0} → (X → Type 0) → List X → Type 0
 IsListOf P xs = IsNumber (length xs) × Each P xs
 
--- a text whose length has four bytes, of bytes
+-- a text of fewer than 2^32 bytes
 abbrev pub IsShortText : Text → Type 0
 IsShortText t = IsNumber (length t) × Each (λ b. b < 256) t
 
@@ -78,25 +78,25 @@ InstrIsNumbered _ = Unit {0}
 abbrev pub CodeIsNumbered : ℕ → List Instr → Type 0
 CodeIsNumbered words c = IsNumber words × IsListOf InstrIsNumbered c
 
--- a method and its kinds, which are as many as its temps
+-- a method with its kinds, one for each of its temps
 abbrev pub MethodIsWritable : MethodCode × MethodKinds → Type 0
 MethodIsWritable m =
     NameIsNumbered m.0.name × IsNumber m.0.params × (m.0.temps ≡ length m.1.temps) × IsListOf KindIsNumbered m.1.temps × IsOptionOf KindIsNumbered m.1.result
     × CodeIsNumbered m.0.frame_words m.0.code
 
--- a class and its kinds, which are as many as its variables, and for each method some
+-- a class with its kinds: one for each variable, and those of each method
 abbrev pub ClassIsWritable : ClassCode × ClassKinds → Type 0
 ClassIsWritable k =
     NameIsNumbered k.0.name × (k.0.vars ≡ length k.1.vars) × IsListOf KindIsNumbered k.1.vars × (length k.0.methods ≡ length k.1.methods)
     × IsListOf MethodIsWritable (pairs k.0.methods k.1.methods) × CodeIsNumbered k.0.body.frame_words k.0.body.code
 
--- A file that has bytes: it is shaped and short, and its numbers and integers are those of their types.
+-- A file that can be encoded: it is shaped and short, and its numbers and integers fit their types.
 pub record IsWritable (f : UnitFile) : Type 0 where
   pub names : IsListOf IsShortText f.unit.names
   pub count : length f.unit.classes ≡ length f.kinds.classes
   pub classes : IsListOf ClassIsWritable (pairs f.unit.classes f.kinds.classes)
 
--- A file is short where each of its lists has fewer than 2^32 items; the bytes of a name count as a list.
+-- A file is short if each of its lists has fewer than 2^32 items; the bytes of a name count as a list.
 abbrev pub IsShortList : {X : Type 0} → List X → Type 0
 IsShortList xs = IsNumber (length xs)
 
@@ -125,7 +125,7 @@ pub record IsShort (f : UnitFile) : Type 0 where
   pub classes : IsListOf ClassIsShort f.unit.classes
   pub kinds : IsListOf ClassKindsAreShort f.kinds.classes
 
--- A file has the numbers of its types where each number has four bytes, each integer eight, and each byte of a name one.
+-- A file has the numbers of its types if each number fits four bytes, each integer eight, and each byte of a name one.
 abbrev pub AlternativeHasNumbers : AltCode → Type 0
 AlternativeHasNumbers a = IsOptionOf (Each NameIsNumbered) a.answer × IsNumber a.at
 

@@ -1,4 +1,4 @@
--- What an object of code becomes.
+-- The object of code after each kind of step: a local step, a reply, a send or a return, a choice, and the start of a method or of an object.
 use Rattle.std.specs.Prelude.{ℕ, suc, ◌-◌, ◌==◌, List, [], ◌∷◌, length, Option, Some, None, Bool, true, false, if◌then◌else◌, slice_get, slice_set, take}
 use Rattle.run_types.specs.declared.types.NameId.{NameId}
 use Rattle.run_types.specs.declared.types.Value.{Value}
@@ -16,7 +16,7 @@ use Rattle.code_semantics.specs.Frames.{Frame, CodeObject, code_of, next, settle
 use Rattle.run_types.specs.Operands.{top, below, taken, dropped, nth, padded}
 use Rattle.code_semantics.specs.Kinds.{operated, arity}
 
--- the object with this innermost frame, brought to a step instruction, over these
+-- the object with the frames `f` and `fs`, after the silent instructions of `f`, which is the innermost
 abbrev pub at_rest : Option ClassCode → CodeObject → Frame → List Frame → CodeObject
 at_rest k x f fs = record x { frames = settled (code_of k f.method) f ∷ fs }
 
@@ -29,7 +29,7 @@ pub record Numbered : Type 0 where
   pub place : ℕ
   pub code : MethodCode
 
--- the first method of this name, where the first of these has the place n
+-- the first method of this name; the first of the list has the place n
 abbrev pub method_from : ℕ → List MethodCode → NameId → Option Numbered
 method_from n [] m = None
 method_from n (k ∷ ks) m = if k.name.0 == m.0 then Some (record { place = n; code = k }) else method_from (suc n) ks m
@@ -39,7 +39,7 @@ abbrev pub method_named : Option ClassCode → NameId → Option Numbered
 method_named None m = None
 method_named (Some k) m = method_from 0 k.methods m
 
--- a method as it begins: a missing argument is nil, and a further one is dropped
+-- the first frame of a method: a missing argument is nil, and a surplus one is dropped
 abbrev pub begun : Numbered → List Value → Serves → Frame
 begun m args serves = record {
   method = Some m.place;
@@ -55,12 +55,12 @@ called k x f fs None = x
 called k x f fs (Some m) =
     at_rest k x (begun m (taken m.code.params f.operands []) S.Own) (next f (dropped m.code.params f.operands) ∷ fs)
 
--- a value for the frame under a method that is done
+-- a method has ended: its value is pushed in the frame under it
 abbrev pub handed : Option ClassCode → CodeObject → Value → List Frame → CodeObject
 handed k x v [] = x
 handed k x v (f ∷ fs) = at_rest k x (record f { operands = v ∷ f.operands }) fs
 
--- the frames without the innermost
+-- the object without its innermost frame
 abbrev pub left : Option ClassCode → CodeObject → List Frame → CodeObject
 left k x [] = x
 left k x (f ∷ fs) = at_rest k x f fs
@@ -96,7 +96,7 @@ frames_stepped k o x (f ∷ fs) = instr_stepped k o x f fs (slice_get (code_of k
 abbrev pub code_stepped : Code → ℕ → CodeObject → CodeObject
 code_stepped u o x = frames_stepped (slice_get u.classes x.class) o x x.frames
 
--- how many operands a New or a Send takes
+-- the number of operands that a New or a Send takes
 abbrev pub asked : Option Instr → ℕ
 asked (Some (I.Send m n)) = suc n
 asked _ = 0
@@ -106,7 +106,7 @@ frames_given k x v [] = x
 frames_given k x v (f ∷ fs) =
     at_rest k x (next f (v ∷ dropped (asked (slice_get (code_of k f.method) f.at)) f.operands)) fs
 
--- after a New or a Send: the operands go and the value stands
+-- after a New or a Send: its operands are popped and the value is pushed
 abbrev pub code_given : Code → CodeObject → Value → CodeObject
 code_given u x v = frames_given (slice_get u.classes x.class) x v x.frames
 
@@ -140,7 +140,7 @@ abbrev pub frames_picked : Option ClassCode → CodeObject → ℕ → List Fram
 frames_picked k x i [] = x
 frames_picked k x i (f ∷ fs) = at_rest k x (after_choice f i (slice_get (code_of k f.method) f.at)) fs
 
--- in plain alternative i
+-- the object in plain alternative i
 abbrev pub code_picked : Code → CodeObject → ℕ → CodeObject
 code_picked u x i = frames_picked (slice_get u.classes x.class) x i x.frames
 
@@ -153,7 +153,7 @@ abbrev pub method_serving : Option ClassCode → CodeObject → ℕ → Option N
 method_serving k x i None args serves = None
 method_serving k x i (Some m) args serves = Some (frames_serving k x i m args serves x.frames)
 
--- begins to serve the method by alternative i, where the class has it
+-- the object that begins to serve the method, chosen by alternative i; none if the class has no such method
 abbrev pub code_serving : Code → CodeObject → ℕ → NameId → List Value → Serves → Option CodeObject
 code_serving u x i m args serves =
     let k = slice_get u.classes x.class in method_serving k x i (method_named k m) args serves
@@ -168,7 +168,7 @@ placed_of c (Some k) =
 abbrev pub code_placed : Code → ℕ → Option CodeObject
 code_placed u c = placed_of c (slice_get u.classes c)
 
--- the place of the first class of this name, where the first of these has the place n
+-- the place of the first class of this name; the first of the list has the place n
 abbrev pub class_from : ℕ → List ClassCode → NameId → Option ℕ
 class_from n [] c = None
 class_from n (k ∷ ks) c = if k.name.0 == c.0 then Some n else class_from (suc n) ks c

@@ -1,4 +1,4 @@
--- Objects of a unit that stand at a step instruction, and what kind of step it is.
+-- Objects of a unit that are at a step instruction, and groups of next actions.
 use Rattle.std.specs.Prelude.{◌≡◌, List, [], ◌∷◌, Option, None, slice_get, ◌⊎◌}
 use Rattle.run_types.specs.declared.types.NameId.{NameId}
 use Rattle.run_types.specs.declared.types.Value.{Value}
@@ -11,23 +11,23 @@ use Rattle.code_semantics.specs.Kinds as K
 use Rattle.code_semantics.specs.Kinds.{Kind}
 use Rattle.code_semantics.specs.OfUnit.{IsObjectOf}
 
--- whatever its values are
+-- the property of every value
 abbrev pub AnyValue : Value → Type 0
 AnyValue v = Unit {0}
 
 abbrev pub FitsUnit : Code → CodeObject → Type 0
 FitsUnit u x = IsObjectOf u AnyValue x
 
--- the first frame stands at a step instruction
+-- the first frame is at a step instruction
 abbrev pub IsAtStepOf : Option ClassCode → List Frame → Type 0
 IsAtStepOf k [] = ⊥
 IsAtStepOf k (f ∷ fs) = silent f (slice_get (code_of k f.method) f.at) ≡ None
 
--- the object stands at a step instruction
+-- the object is at a step instruction
 abbrev pub IsAtStep : Code → CodeObject → Type 0
 IsAtStep u x = IsAtStepOf (slice_get u.classes x.class) x.frames
 
--- a new object, or an answered message, is asked for
+-- the object is to be given a value: the name of a new object, or the value of a call
 abbrev pub IsAsking : Kind → Type 0
 IsAsking (K.New c) = Unit {0}
 IsAsking (K.Send b m args) = Unit {0}

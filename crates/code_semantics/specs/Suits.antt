@@ -1,4 +1,4 @@
--- Placements that suit a unit.
+-- Placements that suit a unit: numbers in their ranges, a place for each class, a limited memory, and a path between each two nodes.
 use Rattle.std.specs.Prelude.{◌≡◌, ℕ, ◌≤◌, ◌<◌, length}
 use Rattle.std.specs.List.{All}
 use Rattle.run_types.specs.declared.types.Place.{Place}
@@ -12,12 +12,12 @@ use Rattle.code_semantics.specs.NodeWords.{nodes, most_vars, words}
 abbrev pub IsFromTo : ℕ → ℕ → ℕ → Type 0
 IsFromTo low high n = (low ≤ n) × (n ≤ high)
 
--- a place that names a node names one of the mesh
+-- if a place names a node, the mesh has that node
 abbrev pub IsOfMesh : ℕ → Place → Type 0
 IsOfMesh nodes (P.At n) = n < nodes
 IsOfMesh nodes _ = Unit {0}
 
--- numbers within their ranges, a place for each class, no more than 16,777,216 words, cuts and routes of the mesh, and a path between each two nodes
+-- numbers within their ranges, a place for each class, at most 16,777,216 words, cuts and routes of the mesh, and a path between each two nodes
 pub record Suits (l : Placement) (u : Code) : Type 0 where
   pub width : IsFromTo 1 8 l.width
   pub height : IsFromTo 1 8 l.height

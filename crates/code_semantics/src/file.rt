@@ -2,7 +2,7 @@
 use crate::unit::Unit;
 use run_types::{Kind, List};
 
-/// What an object code file holds: a unit, and the declared kinds of its variables, parameters, locals and results.
+/// The content of an object code file: a unit, and the declared kinds of its variables, parameters, locals and results.
 #[derive(Drop)]
 pub struct UnitFile {
     pub unit: Unit,
@@ -15,7 +15,7 @@ pub struct Kinds {
     pub classes: List<ClassKinds>,
 }
 
-/// The kinds of a class's variables, in the order of their numbers, and of its methods, in their order.
+/// The kinds of a class's variables, in the order of their numbers, and of its methods, in the order of the unit.
 #[derive(Drop)]
 pub struct ClassKinds {
     pub vars: List<Kind>,

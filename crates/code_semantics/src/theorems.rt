@@ -1,5 +1,9 @@
-//! Laws of objects of a proper unit: each is the contract of a function that does nothing. What is said of each value is a property: a contract ranges over it as over
-//! what a function `all` gives, from the type parameter `K`.
+//! Theorems about the objects of a proper unit. Each is the contract of a function with an empty body.
+//!
+//! The theorems speak about a property of values.
+//! It is given by an arbitrary function `all` from the type parameter
+//! `K`: a value has the property if `all` returns it for some argument. Each property can be given so.
+//! The property must hold of nil, of truth values, and of each integer that the code of the unit can make.
 ghost use Rattle.std.specs.Prelude.{◌≡◌, ◌≤◌, ◌↔◌, ℕ, List, length, Option, Some, false, option_map, slice_get};
 ghost use Rattle.run_types.specs.declared.types.NameId.{NameId};
 ghost use Rattle.run_types.specs.declared.types.Value.{Value};
@@ -18,7 +22,8 @@ ghost use Rattle.code_semantics.specs.Forget.{forget_serves, forget, forget_kind
 ghost use Rattle.code_semantics.specs.MadeNumbers.{HoldsOfPlain, IsMadeIn};
 ghost use Rattle.code_semantics.specs.StepInstructions.{IsAtStep, IsAsking, IsChoosing, IsGoingOn, IsNamed};
 
-/// Each step keeps an object of a proper unit one, whose values have the property if those do that come to it.
+/// A step of an object of a proper unit gives an object of that unit.
+/// All its values have the property if the values that it receives have the property.
 pub fn steps_keep_objects_of_the_unit<K>()
     ensures stepped { (u : Code) (all : K → Value) (x : CodeObject) (o : ℕ) → IsProper u → HoldsOfPlain (IsMadeIn u) (IsGiven all) → IsObjectOf u (IsGiven all) x
         → IsGiven all (V.Ref o) → IsObjectOf u (IsGiven all) (code_stepped u o x) }
@@ -33,7 +38,7 @@ pub fn steps_keep_objects_of_the_unit<K>()
         → code_serving u x i m args s ≡ Some y → IsObjectOf u (IsGiven all) y }
 {}
 
-/// A new object is of the unit, and stands at a step instruction.
+/// A new object of a proper unit is an object of that unit, and it is at a step instruction.
 pub fn new_objects_are_of_the_unit<K>()
     ensures placed { (u : Code) (all : K → Value) (c : ℕ) (y : CodeObject) → IsProper u → HoldsOfPlain (IsMadeIn u) (IsGiven all) → code_placed u c ≡ Some y
         → IsObjectOf u (IsGiven all) y × IsAtStep u y }
@@ -41,7 +46,7 @@ pub fn new_objects_are_of_the_unit<K>()
         → IsObjectOf u (IsGiven all) y × IsAtStep u y }
 {}
 
-/// Each step brings an object of a proper unit to a step instruction.
+/// After each step, an object of a proper unit is again at a step instruction.
 pub fn steps_come_to_rest<K>()
     ensures stepped { (u : Code) (all : K → Value) (x : CodeObject) (o : ℕ) → IsProper u → HoldsOfPlain (IsMadeIn u) (IsGiven all) → IsObjectOf u (IsGiven all) x
         → IsGiven all (V.Ref o) → IsAtStep u x → IsAtStep u (code_stepped u o x) }
@@ -56,7 +61,8 @@ pub fn steps_come_to_rest<K>()
         → code_serving u x i m args s ≡ Some y → IsAtStep u x → IsAtStep u y }
 {}
 
-/// What an object of a proper unit sends or returns has the property, and a message has at most 8 arguments.
+/// Each value that an object of a proper unit sends or returns has the property, and so has the receiver.
+/// A message has at most 8 arguments.
 pub fn values_that_leave_have_the_property<K>()
     ensures called { (u : Code) (all : K → Value) (x : CodeObject) (b : ℕ) (m : NameId) (args : List Value) → IsProper u → HoldsOfPlain (IsMadeIn u) (IsGiven all)
         → IsObjectOf u (IsGiven all) x → code_kind u x ≡ C.Send b m args → IsGiven all (V.Ref b) × Each (IsGiven all) args × (length args ≤ 8) }
@@ -66,7 +72,8 @@ pub fn values_that_leave_have_the_property<K>()
         → IsObjectOf u (IsGiven all) x → code_kind u x ≡ C.Return k n v → IsGiven all v }
 {}
 
-/// A class of which an object of a proper unit makes an object is there, and so is a method that it answers, alone or in an alternative.
+/// The unit has each class that one of its objects instantiates, and
+/// each method that the object answers, alone or in an alternative.
 pub fn what_is_named_is_there<K>()
     ensures made { (u : Code) (all : K → Value) (x : CodeObject) (k : NameId) → IsProper u → HoldsOfPlain (IsMadeIn u) (IsGiven all) → IsObjectOf u (IsGiven all) x
         → code_kind u x ≡ C.New k → (y : CodeObject) × (code_made u k ≡ Some y) }
@@ -78,7 +85,8 @@ pub fn what_is_named_is_there<K>()
         → slice_get alts j ≡ Some a → a.answer ≡ Some names → IsNamed m names → (y : CodeObject) × (code_serving u x i m args s ≡ Some y) }
 {}
 
-/// The numbers of requests change nothing: whoever forgets them sees the same steps, and the same is done but for the number of a value's request.
+/// The numbers of requests do not influence an object: erasing them commutes with each step.
+/// The next action is the same, except for the number in a return.
 pub fn numbers_of_requests_change_nothing<K>()
     ensures stepped { (u : Code) (o : ℕ) (x : CodeObject) → forget (code_stepped u o x) ≡ code_stepped u o (forget x) }
     ensures given { (u : Code) (x : CodeObject) (v : Value) → forget (code_given u x v) ≡ code_given u (forget x) v }

@@ -10,7 +10,7 @@ pub struct Unit {
     pub classes: List<ClassCode>,
 }
 
-/// A class: its name, how many variables its objects have, its methods in the order of the text, and its body.
+/// A class: its name, the number of variables of its objects, its methods in the order of the text, and its body.
 #[derive(Drop)]
 pub struct ClassCode {
     pub name: NameId,
@@ -19,8 +19,8 @@ pub struct ClassCode {
     pub body: BodyCode,
 }
 
-/// A method: `params` counts its parameters, `temps` its parameters and locals, and `frame_words` these and the
-/// greatest number of operands that stand at once.
+/// A method. `params` is the number of its parameters, and `temps` is the number of its parameters and locals.
+/// `frame_words` is `temps` plus the greatest depth of its operand stack.
 #[derive(Drop)]
 pub struct MethodCode {
     pub name: NameId,
@@ -30,15 +30,15 @@ pub struct MethodCode {
     pub code: List<Instr>,
 }
 
-/// A body: `frame_words` is the greatest number of operands that stand at once.
+/// A body. `frame_words` is the greatest depth of its operand stack.
 #[derive(Drop)]
 pub struct BodyCode {
     pub frame_words: u32,
     pub code: List<Instr>,
 }
 
-/// An instruction. A `u32` of a jump, a branch or an alternative is a place in the same code, from 0; that of a load
-/// or a store is the number of a variable (`I`) or of a parameter or local (`T`), from 0.
+/// An instruction. The `u32` of a jump or a branch is a place in the same code, from 0.
+/// The `u32` of a load or a store is the number of a variable (`I`) or of a parameter or local (`T`), from 0.
 #[derive(Drop)]
 pub enum Instr {
     /// Pushes the literal.
@@ -47,7 +47,7 @@ pub enum Instr {
     PushBool(bool),
     /// Pushes nil.
     PushNil,
-    /// Goes to the place.
+    /// Continues at the place.
     Jump(u32),
     /// Pushes a variable.
     LoadI(u32),
@@ -59,39 +59,40 @@ pub enum Instr {
     StoreI(u32),
     /// Pops a value into a parameter or local.
     StoreT(u32),
-    /// Pops the operator's operands, and pushes what it makes of them.
+    /// Pops the operator's operands, and pushes its value.
     Oper(Op),
     /// Pops a value.
     Pop,
-    /// Pops a condition: goes on where it is true, and to the place where it is false.
+    /// Pops a condition. Continues at the next instruction if it is true, and at the place if it is false.
     Branch(u32),
-    /// The front of a loop: one step, which changes nothing.
+    /// The start of a loop: one step, which only moves to the next instruction.
     Loop,
-    /// Pops as many arguments as the own method has parameters, and calls it; its value is pushed.
+    /// Calls the own method: pops one argument for each of its parameters. Its value is pushed.
     Call(NameId),
-    /// Ends a method, whose value is the last operand.
+    /// Ends a method. Its value is the last operand.
     Ret,
     /// Makes an object of the class, and pushes its name.
     New(NameId),
-    /// Pops `count` arguments and a destination, and calls its method; the value is pushed.
+    /// Pops `count` arguments and a destination, and calls the destination's method. The value is pushed.
     Send { method: NameId, count: u32 },
-    /// Pops `count` arguments and a destination, and sends it the message.
+    /// Pops `count` arguments and a destination, and sends the message to the destination.
     Async { method: NameId, count: u32 },
     /// Pops a value, and writes it.
     Write,
     /// Writes a string.
     WriteText(NameId),
-    /// Serves a message whose method is one of these.
+    /// Waits for a message with one of these methods, and serves it.
     Answer { names: List<NameId> },
-    /// Pops a guard for each alternative, and goes to the list of an open one.
+    /// Pops a guard for each alternative, and continues at the list of an open one.
     Select { alts: List<AltCode> },
     /// Ends a body.
     Halt,
-    /// Gives the last operand to the caller, where the frame serves one; it then serves no one. The operand stays.
+    /// Returns the last operand to the caller, if the frame serves one.
+    /// The operand stays, and the frame then serves no one.
     Post,
 }
 
-/// An alternative of a select: the methods that it answers, none where it is plain, and the place of its list.
+/// An alternative of a select: the methods that it answers (`None` if it is plain), and the place of its list.
 #[derive(Drop)]
 pub struct AltCode {
     pub answer: Option<List<NameId>>,

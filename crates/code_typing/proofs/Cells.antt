@@ -1,4 +1,4 @@
--- Cells and the stacks that they stand for.
+-- Cells and the stacks that they represent.
 use Rattle.std.proofs.Common.{◌≡◌, refl, sym, ap, subst, ◌∙◌, ℕ, zero, suc, ◌<◌, ◌≤◌, ◌⊎◌, inl, inr, List, [], ◌∷◌, ◌++◌, length, Option, Some, None, Result, Ok, Err, arith}
 use Rattle.std.specs.Prelude.{slice_get, OnOk, OnErr}
 use Rattle.std.specs.declared.alloc.AllocError.{AllocError}

@@ -1,4 +1,4 @@
--- The computed test of a code says that it is well sorted.
+-- If the computed test of a code succeeds, the code is well sorted.
 use Rattle.std.proofs.Common.{◌≡◌, ◌≢◌, ◌⊎◌, inl, inr, refl, sym, ap, subst, ◌∙◌, ℕ, zero, suc, ◌+◌, ◌==◌, ◌<◌, ◌≤◌, List, [], ◌∷◌, length, Option, Some, None, Bool, true, false, not, ◌&&◌, ◌||◌, arith, ltb-true, leb-true}
 use Rattle.std.specs.Prelude.{slice_get, nat_le, nat_lt, max, drop, is_none, ◌^◌}
 use Rattle.std.specs.List.{list_all, list_any}

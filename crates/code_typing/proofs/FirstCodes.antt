@@ -1,4 +1,4 @@
--- The code of the verdict is the first that is not well sorted.
+-- The code that the verdict reports is the first that is not well sorted.
 use Rattle.std.proofs.Common.{◌≡◌, ◌⊎◌, inl, inr, refl, sym, ap, subst, ◌∙◌, ℕ, zero, suc, ◌+◌, ◌==◌, ◌<◌, List, [], ◌∷◌, length, Option, Some, None, Bool, true, false, not, arith}
 use Rattle.std.specs.Prelude.{slice_get}
 use Rattle.run_types.proofs.Laws.{same_some}

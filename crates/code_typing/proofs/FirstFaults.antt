@@ -1,4 +1,4 @@
--- The place of the verdict is the first that is at fault.
+-- The place that the verdict reports is the first with a fault.
 use Rattle.std.proofs.Common.{◌≡◌, ◌⊎◌, inl, inr, refl, sym, ap, subst, ◌∙◌, ℕ, zero, suc, ◌+◌, ◌==◌, ◌<◌, List, [], ◌∷◌, length, Option, Some, None, Bool, true, false, not, arith}
 use Rattle.run_types.proofs.Laws.{equal, same_some}
 use Rattle.code_semantics.specs.declared.unit.MethodCode.{MethodCode}

@@ -1,4 +1,4 @@
--- The table that is spread over code: it holds exactly the stacks with which places are reached, and there is one where code has one stack at each place, which its instruction can take.
+-- The table of a code has exactly the stacks with which places are reached. It exists if each place has one stack, which its instruction can take.
 use Rattle.std.proofs.Common.{◌≡◌, ◌≢◌, ◌⊎◌, inl, inr, refl, sym, ap, subst, ◌∙◌, IsTrue, ℕ, zero, suc, ◌+◌, ◌<◌, ◌≤◌, List, [], ◌∷◌, ◌++◌, length, map, Option, Some, None, is_some, Bool, true, false, ◌&&◌, arith, length-append}
 use Rattle.std.specs.Prelude.{slice_get, slice_set, nat_le, replicate}
 use Rattle.std.proofs.lemmas.List.{length-map}

@@ -1,4 +1,4 @@
--- What is popped off stacks one by one.
+-- Operands that are popped one by one.
 use Rattle.std.proofs.Common.{◌≡◌, refl, sym, ap, ◌∙◌, ℕ, zero, suc, ◌+◌, ◌-◌, ◌<◌, ◌≤◌, ◌⊎◌, inl, inr, List, [], ◌∷◌, drop, Option, Some, None, arith}
 use Rattle.std.specs.Prelude.{option_map, replicate, slice_get}
 use Rattle.run_types.specs.Partial.{◌>>=◌}

@@ -1,4 +1,4 @@
--- What passes a test of the text of its number is the number of a text.
+-- A number is the number of a text if that text passes a test.
 use Rattle.std.proofs.Common.{◌≡◌, refl, subst, IsTrue, ℕ, ◌<◌, List, length, Option, Some, None, Bool, true, false}
 use Rattle.std.specs.Prelude.{slice_get}
 use Rattle.std.proofs.lemmas.Option.{slice_get_within}

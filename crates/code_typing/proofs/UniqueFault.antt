@@ -1,4 +1,4 @@
--- A file has at most one fault of a kind, so a first fault of it is the one that the verdict tells.
+-- A file has at most one first fault of each kind, so the verdict reports that one.
 use Rattle.std.proofs.Common.{◌≡◌, ◌⊎◌, inl, inr, refl, sym, ap, subst, ◌∙◌, ℕ, zero, suc, ◌<◌, length, Some, None, arith}
 use Rattle.std.specs.Prelude.{◌==◌}
 use Rattle.std.proofs.lemmas.Option.{slice_get_within}

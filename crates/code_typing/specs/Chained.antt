@@ -1,4 +1,4 @@
--- Cells that stand for stacks of sorts: each has its last operand and the number of the stack below it, which is less.
+-- Cells that represent stacks of sorts: each has the sort of its last operand, and the smaller number of the stack below it.
 use Rattle.std.specs.Prelude.{◌≡◌, ℕ, zero, suc, ◌≤◌, List, [], ◌∷◌, Option, Some, None, slice_get}
 use Rattle.run_types.specs.Sorts as T
 use Rattle.code_typing.specs.Sorts.{Stack}
@@ -6,7 +6,7 @@ use Rattle.code_typing.specs.declared.sort.Sort.{Sort}
 use Rattle.code_typing.specs.declared.sort.Sort.TheVariants as S
 use Rattle.code_typing.specs.declared.cell.Cell.{Cell}
 
--- the sort of the definitions
+-- the sort in the definitions
 abbrev pub sort_tree : Sort → T.Sort
 sort_tree S.Int = T.IntSort
 sort_tree S.Bool = T.BoolSort
@@ -24,12 +24,12 @@ abbrev pub depth_of : List Cell → ℕ → ℕ
 depth_of cells zero = 0
 depth_of cells (suc n) = cell_depth (slice_get cells n)
 
--- with the cell's operand on the stack below it
+-- the cell's operand on the stack below it
 abbrev pub on_cell : Option Cell → (ℕ → Stack) → Stack
 on_cell None below = []
 on_cell (Some c) below = sort_tree c.sort ∷ below c.below
 
--- so many operands of the stack of this number
+-- the last d operands of the stack n
 abbrev pub unwound : ℕ → List Cell → ℕ → Stack
 unwound zero cells n = []
 unwound (suc d) cells zero = []
@@ -39,6 +39,6 @@ unwound (suc d) cells (suc n) = on_cell (slice_get cells n) (λ m. unwound d cel
 abbrev pub stack_by : List Cell → ℕ → Stack
 stack_by cells n = unwound (depth_of cells n) cells n
 
--- each cell is on a stack with a smaller number, and knows how deep it is
+-- each cell is on a stack with a smaller number, and has the depth of its own stack
 abbrev pub IsChained : List Cell → Type 0
 IsChained cells = (i : ℕ) (c : Cell) → slice_get cells i ≡ Some c → (c.below ≤ i) × (c.depth ≡ suc (depth_of cells c.below))

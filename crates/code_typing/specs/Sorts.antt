@@ -1,4 +1,4 @@
--- The sorts of operands: what an instruction of a unit with its declared kinds can take, and what it leaves. A stack of sorts has the last operand first.
+-- The sorts of operands, and the effect of each instruction on a stack of sorts, under the declared kinds of a unit. A stack has the last operand first.
 use Rattle.std.specs.Prelude.{ℕ, ◌==◌, List, [], ◌∷◌, length, replicate, take, Option, Some, None, is_some, Bool, true, false, ◌&&◌, ◌||◌, if◌then◌else◌, slice_get}
 use Rattle.run_types.specs.declared.types.NameId.{NameId}
 use Rattle.run_types.specs.declared.types.Op.{Op}
@@ -31,7 +31,7 @@ abbrev pub result_sort : Option Kind → Sort
 result_sort None = NoSort
 result_sort (Some k) = kind_sort k
 
--- the sort that a method's own value needs; without result it is nil
+-- the sort that the value at the end of a method must fit; without result it is nil
 abbrev pub value_sort : Option Kind → Sort
 value_sort None = NilSort
 value_sort (Some k) = kind_sort k
@@ -41,7 +41,7 @@ pub record Declared : Type 0 where
   pub code : ClassCode
   pub kinds : ClassKinds
 
--- what a caller must know of a method
+-- a method for its callers: the kinds of its parameters and of its result
 pub record Signature : Type 0 where
   pub params : List Kind
   pub outcome : Option Kind
@@ -61,14 +61,14 @@ signature_of m s = record { params = take m.params s.temps; outcome = s.result }
 abbrev pub signature_named : Declared → NameId → Option Signature
 signature_named k m = method_named (Some k.code) m >>= λ r. slice_get k.kinds.methods r.place >>= λ s. Some (signature_of r.code s)
 
--- where code stands: its file, its class, the kinds of its temps, and the sort that its value needs; a body has no value
+-- the scope of a code: its file, its class, the kinds of its temps, and the sort that its value must fit; a body has no value
 pub record CodeScope : Type 0 where
   pub file : UnitFile
   pub class : Declared
   pub temps : List Kind
   pub value : Option Sort
 
--- a method's kinds of temps, and the sort that its value needs; a body has none
+-- the kinds of a method's temps, and the sort that its value must fit; a body has none
 abbrev pub temps_by : Option MethodKinds → List Kind
 temps_by None = []
 temps_by (Some s) = s.temps
@@ -77,7 +77,7 @@ abbrev pub value_by : Option MethodKinds → Option Sort
 value_by None = None
 value_by (Some s) = Some (value_sort s.result)
 
--- the code of a body, or of the method with these kinds
+-- the scope of a body, or of the method with these kinds
 abbrev pub scope_by : UnitFile → Declared → Option MethodKinds → CodeScope
 scope_by f k q = record { file = f; class = k; temps = temps_by q; value = value_by q }
 
@@ -85,12 +85,12 @@ abbrev pub is_nil_sort : Sort → Bool
 is_nil_sort NilSort = true
 is_nil_sort _ = false
 
--- the sort of an expression that has a value
+-- whether an operand of this sort has a value
 abbrev pub has_value : Sort → Bool
 has_value NoSort = false
 has_value _ = true
 
--- whether an operand of this sort can stand where that one is needed: nil can stand everywhere
+-- whether an operand of this sort is allowed where the sort `need` is required; nil is always allowed
 abbrev pub fits_sort : Sort → Sort → Bool
 fits_sort s need = is_nil_sort s || is_same_sort s need
 
@@ -98,32 +98,32 @@ fits_sort s need = is_nil_sort s || is_same_sort s need
 abbrev pub is_alike : Sort → Sort → Bool
 is_alike s t = has_value s && has_value t && (fits_sort s t || fits_sort t s)
 
--- the stack without its last operand, which is of the sort that is needed
+-- the stack without its last operand, which must fit the sort
 abbrev pub pop_fitting : Sort → Stack → Option Stack
 pop_fitting need [] = None
 pop_fitting need (s ∷ ss) = if fits_sort s need then Some ss else None
 
--- without an operand that has a value
+-- without its last operand, which must have a value
 abbrev pub pop_value : Stack → Option Stack
 pop_value [] = None
 pop_value (s ∷ ss) = if has_value s then Some ss else None
 
--- without its last operand, whatever it is
+-- without its last operand, of any sort
 abbrev pub pop_any : Stack → Option Stack
 pop_any [] = None
 pop_any (s ∷ ss) = Some ss
 
--- without two operands that can be compared
+-- without its last two operands, which must be comparable
 abbrev pub pop_alike : Stack → Option Stack
 pop_alike (t ∷ s ∷ ss) = if is_alike s t then Some ss else None
 pop_alike _ = None
 
--- without the arguments for these parameters, of which the last is the last operand
+-- without the arguments for these parameters; the last argument is the last operand
 abbrev pub pop_arguments : List Kind → Stack → Option Stack
 pop_arguments [] ss = Some ss
 pop_arguments (k ∷ ks) ss = pop_arguments ks ss >>= λ rest. pop_fitting (kind_sort k) rest
 
--- with an operand of this sort
+-- with one more operand, of this sort
 abbrev pub push_sort : Sort → Option Stack → Option Stack
 push_sort s None = None
 push_sort s (Some ss) = Some (s ∷ ss)
@@ -139,22 +139,22 @@ operated_sorts op ss =
     else (if is_comparison op then push_sort BoolSort (pop_alike ss)
     else push_sort (op_sort op) (pop_fitting (operand_sort op) ss >>= λ rest. pop_fitting (operand_sort op) rest))
 
--- the method that is asked of a destination of this sort with so many arguments
+-- the method m with n parameters, if a destination of this sort has it
 abbrev pub asked_of : UnitFile → Option Sort → NameId → ℕ → Option Signature
 asked_of f (Some (ClassSort c)) m n =
     declared_named f (record { 0 = c }) >>= λ k. signature_named k m >>= λ s. require (length s.params == n) >> Some s
 asked_of f _ m n = None
 
--- the stack without arguments and destination
+-- the stack without the arguments and the destination
 abbrev pub pop_sent : Stack → Signature → Option Stack
 pop_sent ss s = pop_arguments s.params ss >>= λ rest. pop_any rest
 
--- a method's value stands alone at its end, and where it is given back before post statements
+-- a method's value is the only operand at its end, and at the return before post statements
 abbrev pub pop_returned : Option Sort → Stack → Option Stack
 pop_returned (Some need) (s ∷ []) = if fits_sort s need then Some [] else None
 pop_returned _ _ = None
 
--- the stack that an instruction leaves of this one, if it can take it
+-- the stack after an instruction, if the instruction can take this stack
 abbrev pub left_by : CodeScope → Instr → Stack → Option Stack
 left_by g (I.PushInt z) ss = Some (IntSort ∷ ss)
 left_by g (I.PushBool b) ss = Some (BoolSort ∷ ss)

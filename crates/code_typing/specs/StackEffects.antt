@@ -1,4 +1,4 @@
--- What the stacks of the verifier stand for, and the effect of an instruction on one.
+-- The stacks of sorts that the verifier's numbered cells represent, and their change by a push or a pop.
 use Rattle.std.specs.Prelude.{◌≡◌, ℕ, ◌≤◌, [], ◌∷◌, length, Option, Some, None}
 use Rattle.code_typing.specs.Sorts.{Stack}
 use Rattle.code_typing.specs.declared.sort.Sort.{Sort}
@@ -10,11 +10,11 @@ use Rattle.code_typing.specs.Chained.{sort_tree, stack_by}
 abbrev pub stack_of : Stacks → ℕ → Stack
 stack_of s n = stack_by s.cells.items n
 
--- this is the number of a stack
+-- n is the number of a stack
 abbrev pub Holds : Stacks → ℕ → Type 0
 Holds s n = n ≤ length s.cells.items
 
--- the stacks of the first are those of the second
+-- each stack of the first is the stack with the same number of the second
 abbrev pub Keeps : Stacks → Stacks → Type 0
 Keeps s t = (n : ℕ) → Holds s n → Holds t n × (stack_of t n ≡ stack_of s n)
 
@@ -28,7 +28,7 @@ abbrev pub stack_at : Stacks → Option ℕ → Option Stack
 stack_at s None = None
 stack_at s (Some n) = Some (stack_of s n)
 
--- with a sort pushed, if there is one
+-- the stack with the sort pushed, if there is one
 abbrev pub with_sort : Option Sort → Stack → Stack
 with_sort None ss = ss
 with_sort (Some s) ss = sort_tree s ∷ ss

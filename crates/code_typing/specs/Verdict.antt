@@ -34,7 +34,7 @@ stacks_equal [] [] = true
 stacks_equal (s ∷ ss) (t ∷ ts) = sorts_equal s t && stacks_equal ss ts
 stacks_equal _ _ = false
 
--- for each place the stack with which it was reached, or none
+-- for each place, the stack with which it was reached, if it was reached
 abbrev pub Table : Type 0
 Table = List (Option Stack)
 
@@ -42,28 +42,28 @@ Table = List (Option Stack)
 abbrev pub Visit : Type 0
 Visit = ℕ × Stack
 
--- what the instruction leaves of a stack of at most 64 sorts, with its places
+-- the places after an instruction, each with the stack after it, if it can take this stack of at most 64 sorts
 abbrev pub followed : CodeScope → ℕ → Stack → Option Instr → Option (List Visit)
 followed g at s None = None
 followed g at s (Some i) = require (nat_le (length s) 64) >> left_by g i s >>= λ r. Some (map (λ b. (b, r)) (nexts at i))
 
--- goes on where the two stacks are equal
+-- continues if the two stacks are equal
 abbrev pub if_equal : Bool → (Unit {0} → Option Table) → Option Table
 if_equal true next = next tt
 if_equal false next = None
 
--- goes on with the visits that follow, if the instruction can take the stack
+-- continues with the visits that follow, if the instruction can take the stack
 abbrev pub if_taken : Option (List Visit) → (List Visit → Option Table) → Option Table
 if_taken None next = None
 if_taken (Some ws) next = next ws
 
--- by what stands in the table at the place: no place, a stack, or nothing yet
+-- by the entry of the table at the place: no such place, a stack, or no stack yet
 abbrev pub visited : Option (Option Stack) → Stack → (Unit {0} → Option Table) → Option (List Visit) → (List Visit → Option Table) → Option Table
 visited None s known ws new = None
 visited (Some (Some r)) s known ws new = if_equal (stacks_equal r s) known
 visited (Some None) s known ws new = if_taken ws new
 
--- the table after these visits and all that follow from them, where no place is met with two stacks, and each instruction can take its own; at most so many visits
+-- the table after these visits and all that follow from them, at most n in all; none if a place gets two stacks, or an instruction cannot take its stack
 abbrev pub spread : ℕ → CodeScope → List Instr → Table → List Visit → Option Table
 spread zero g c t [] = Some t
 spread zero g c t (v ∷ vs) = None
@@ -79,7 +79,7 @@ visits (i ∷ c) = length (nexts 0 i) + visits c
 abbrev pub table_of : CodeScope → List Instr → Option Table
 table_of g c = spread (visits c) g c (replicate (length c) None) ((0, []) ∷ [])
 
--- the most operands of a table
+-- the greatest depth of the stacks of a table
 abbrev pub most : Table → ℕ
 most [] = 0
 most (None ∷ t) = most t
@@ -95,7 +95,7 @@ answers_exist g (Some ms) = list_all (is_own g) ms
 abbrev pub alternative_exists : CodeScope → List Instr → AltCode → Bool
 alternative_exists g c a = nat_lt a.at (length c) && answers_exist g a.answer
 
--- what an instruction names is there
+-- each name and place of an instruction exists
 abbrev pub does_exist : CodeScope → List Instr → Instr → Bool
 does_exist g c (I.Jump a) = nat_lt a (length c)
 does_exist g c (I.Branch a) = nat_lt a (length c)
@@ -134,7 +134,7 @@ abbrev pub ends_right : Option Sort → List Instr → Bool
 ends_right None c = is_last is_halt c && (not (list_any is_ret c) && not (list_any is_post c))
 ends_right (Some s) c = is_last is_ret c && not (list_any is_halt c)
 
--- whether n silent instructions from here end
+-- whether the chain of silent instructions from this place has fewer than n instructions
 abbrev pub silence_ends : ℕ → List Instr → Option ℕ → Bool
 silence_ends n c None = true
 silence_ends zero c (Some at) = false
@@ -145,7 +145,7 @@ abbrev pub has_no_circle : List Instr → List Instr → ℕ → Bool
 has_no_circle c [] at = true
 has_no_circle c (i ∷ rest) at = silence_ends (suc (length c)) c (Some at) && has_no_circle c rest (suc at)
 
--- the words of a frame are those of the temps and of the most operands, and no place from 2 ^ 32 on is reached
+-- the words of a frame are the number of temps plus the greatest depth of the operand stack, and no place from 2^32 on is reached
 abbrev pub has_table : CodeScope → ℕ → Option Table → Bool
 has_table g words None = false
 has_table g words (Some t) = words == length g.temps + most t && list_all is_none (drop (2 ^ 32) t)
@@ -163,7 +163,7 @@ abbrev pub result_exists : UnitFile → Option Kind → Bool
 result_exists f None = true
 result_exists f (Some k) = kind_exists f k
 
--- the place is that of the first method of the name
+-- the first method of the name has the place i
 abbrev pub is_first : ℕ → Option Numbered → Bool
 is_first i None = false
 is_first i (Some r) = r.place == i
@@ -189,7 +189,7 @@ pub data Verdict : Type 0 where
   Header : (class : ℕ) → Verdict
   Code : (class method : ℕ) → Verdict
 
--- goes on where it is good so far
+-- continues if no fault was found so far
 abbrev pub or_else : Option Verdict → (Unit {0} → Option Verdict) → Option Verdict
 or_else None next = next tt
 or_else (Some v) next = Some v
@@ -224,7 +224,7 @@ abbrev pub good_unless : Option Verdict → Verdict
 good_unless None = Good
 good_unless (Some v) = v
 
--- no class is a bad heading, of class 0
+-- the verdict on a file; a file without classes has a bad heading, of class 0
 abbrev pub verdict : UnitFile → Verdict
 verdict f =
     let n = length f.unit.classes in

@@ -1,4 +1,4 @@
--- Verified files: their headings, and code in which each place is reached with one stack of sorts, which its instruction can take.
+-- Verified files: their headings meet the rules, and each place that a code reaches has one stack of sorts, which its instruction can take.
 use Rattle.std.specs.Prelude.{◌≡◌, ◌≢◌, ℕ, zero, suc, ◌+◌, ◌≤◌, ◌<◌, ◌^◌, List, [], ◌∷◌, length, Option, Some, None, is_some, IsTrue, slice_get}
 use Rattle.run_types.specs.declared.types.Kind.{Kind}
 use Rattle.run_types.specs.declared.types.Kind.TheVariants as K
@@ -16,7 +16,7 @@ use Rattle.code_semantics.specs.ReachedPlaces.{Exists, IsAmong, Chain, nexts}
 use Rattle.code_semantics.specs.Step.{method_named, class_from}
 use Rattle.code_typing.specs.Sorts.{CodeScope, Declared, Stack, declared_at, scope_by, left_by}
 
--- n instructions lead from the front to a place with this stack; none goes on from more than 64 operands
+-- n instructions lead from place 0 to the place `at` with this stack; none of them takes a stack of more than 64 operands
 abbrev pub ReachedBy : CodeScope → List Instr → ℕ → ℕ → Stack → Type 0
 ReachedBy g c zero at s = (at ≡ 0) × (s ≡ [])
 ReachedBy g c (suc n) at s =
@@ -25,7 +25,7 @@ ReachedBy g c (suc n) at s =
 abbrev pub Reached : CodeScope → List Instr → ℕ → Stack → Type 0
 Reached g c at s = (n : ℕ) × ReachedBy g c n at s
 
--- a string that is written is one of a text
+-- a string that is written has the form of a string in a program text
 abbrev pub IsText : UnitFile → Instr → Type 0
 IsText f (I.WriteText s) = IsTrue (is_string_number f.unit.names s.0)
 IsText f _ = Unit {0}
@@ -40,12 +40,12 @@ abbrev pub EndsRight : Option Sort → List Instr → Type 0
 EndsRight None c = (last_instr c ≡ Some I.Halt) × ((at : ℕ) → slice_get c at ≢ Some I.Ret) × ((at : ℕ) → slice_get c at ≢ Some I.Post)
 EndsRight (Some s) c = (last_instr c ≡ Some I.Ret) × ((at : ℕ) → slice_get c at ≢ Some I.Halt)
 
--- the most operands that stand at a place
+-- n is the greatest depth of the stacks with which places are reached
 pub record IsLongest (g : CodeScope) (c : List Instr) (n : ℕ) : Type 0 where
   pub bound : (at : ℕ) (s : Stack) → Reached g c at s → length s ≤ n
   pub met : (at : ℕ) × (s : Stack) × Reached g c at s × (length s ≡ n)
 
--- code whose frames have so many words
+-- well-sorted code, whose frames have this number of words
 pub record IsWellSorted (g : CodeScope) (words : ℕ) (c : List Instr) : Type 0 where
   pub exists : (at : ℕ) (i : Instr) → slice_get c at ≡ Some i → Exists g.file.unit (Some g.class.code) (length g.temps) c i × IsText g.file i
   pub ends : EndsRight g.value c
@@ -55,7 +55,7 @@ pub record IsWellSorted (g : CodeScope) (words : ℕ) (c : List Instr) : Type 0 
   pub longest : (n : ℕ) × IsLongest g c n × (words ≡ length g.temps + n)
   pub no_circle : (at n : ℕ) → ¬ (Chain c (suc n) at at)
 
--- the class of a kind is there
+-- the class of a kind exists
 abbrev pub KindExists : UnitFile → Kind → Type 0
 KindExists f K.Int = Unit {0}
 KindExists f K.Bool = Unit {0}
@@ -82,7 +82,7 @@ pub record IsHeading (f : UnitFile) (j : ℕ) (k : ClassCode) (q : ClassKinds) :
   pub kinds : Each (KindExists f) q.vars
   pub methods : (i : ℕ) (m : MethodCode) (s : MethodKinds) → slice_get k.methods i ≡ Some m → slice_get q.methods i ≡ Some s → IsMethodHeading f k i m s
 
--- the codes of a class
+-- the codes of a class are well sorted
 pub record HasWellSorted (f : UnitFile) (k : Declared) : Type 0 where
   pub methods : (i : ℕ) (m : MethodCode) (s : MethodKinds) → slice_get k.code.methods i ≡ Some m → slice_get k.kinds.methods i ≡ Some s
       → IsWellSorted (scope_by f k (Some s)) m.frame_words m.code

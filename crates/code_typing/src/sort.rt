@@ -8,7 +8,7 @@ ghost use Rattle.code_typing.specs.Chained.{sort_tree};
 
 use run_types::{Kind, NameId, Op};
 
-/// The sort of an operand: that of its kind, of nil, or of a call without result.
+/// The sort of an operand: of a declared kind, of nil, or of a call without result.
 #[derive(Clone, Copy)]
 pub enum Sort {
     Int,
@@ -19,7 +19,7 @@ pub enum Sort {
 }
 
 impl Sort {
-    /// Whether the sorts are equal, and have values.
+    /// Whether the sorts are equal and have values.
     fn is_same(self, other: Sort) -> bool
         ensures { result ≡ is_same_sort (sort_tree self) (sort_tree other) }
     {
@@ -52,7 +52,7 @@ impl Sort {
         }
     }
 
-    /// Whether an operand of this sort can stand where the other is needed: nil can stand everywhere.
+    /// Whether an operand of this sort is allowed where the sort `need` is required. Nil is always allowed.
     pub fn fits(self, need: Sort) -> bool
         ensures { result ≡ fits_sort (sort_tree self) (sort_tree need) }
     {
@@ -81,7 +81,7 @@ pub fn kind_sort(kind: Kind) -> Sort
     }
 }
 
-/// The sort of a call's value.
+/// The sort of a call's value; `NoResult` if the method has no result.
 pub fn result_sort(kind: Option<Kind>) -> Sort
     ensures { sort_tree result ≡ result_sort kind }
 {
@@ -91,7 +91,7 @@ pub fn result_sort(kind: Option<Kind>) -> Sort
     }
 }
 
-/// The sort that a method's own value needs; without result it is nil.
+/// The sort that the value at the end of a method must fit; `Nil` if the method has no result.
 pub fn value_sort(kind: Option<Kind>) -> Sort
     ensures { sort_tree result ≡ value_sort kind }
 {
@@ -112,7 +112,8 @@ pub fn op_sort(op: Op) -> Sort
     }
 }
 
-/// The sort that an operator's operands need, but for the two that compare any.
+/// The sort that the operands of an operator must fit.
+/// `Same` and `Differs` do not use it: they compare any two operands.
 pub fn operand_sort(op: Op) -> Sort
     ensures { sort_tree result ≡ operand_sort op }
 {
@@ -123,7 +124,7 @@ pub fn operand_sort(op: Op) -> Sort
     }
 }
 
-/// Whether an operator stands before its one operand.
+/// Whether an operator is a prefix operator, with one operand.
 pub fn is_prefix(op: Op) -> bool
     ensures { result ≡ is_prefix op }
 {

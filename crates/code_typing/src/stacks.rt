@@ -1,4 +1,4 @@
-//! Stacks of sorts. Stacks share what is below: each is a cell with its last operand, on another stack.
+//! Stacks of sorts. Stacks share their lower parts: each is a cell with its last operand, on another stack.
 ghost use Rattle.std.specs.Prelude.{◌≡◌, ◌<◌, ◌∷◌, ◌++◌, [], suc, length, replicate, slice_get, option_map, IfOk, IfSome, OnOk, OnErr};
 ghost use Rattle.run_types.specs.declared.types.Kind.TheVariants as K;
 ghost use Rattle.code_typing.specs.Sorts.{pop_alike, pop_any, pop_arguments, pop_fitting, pop_value};
@@ -26,7 +26,7 @@ fn push_cell(cells: &mut Vec<Cell>, cell: Cell) -> Result<(), AllocError>
 }
 
 impl Stacks {
-    /// The empty stack alone. Takes no memory.
+    /// Makes the empty stack only. Allocates no memory.
     pub fn make(alloc: Global) -> Stacks
         ensures { stack_of result 0 ≡ [] }
     {
@@ -35,7 +35,7 @@ impl Stacks {
         }
     }
 
-    /// The last operand of a stack, and the stack below it.
+    /// The cell of a stack; none if the stack is empty.
     fn top(&self, stack: usize) -> Option<Cell>
         ensures stack { stack_of self.now stack ≡ topped self.now result }
         ensures below { IfSome result (λ c. c.below < stack) }
@@ -48,7 +48,7 @@ impl Stacks {
         cell_at(&self.cells, stack - 1)
     }
 
-    /// How many operands a stack has.
+    /// The number of operands of a stack.
     pub fn depth(&self, stack: usize) -> usize
         ensures { result ≡ length (stack_of self.now stack) }
     {
@@ -58,7 +58,7 @@ impl Stacks {
         }
     }
 
-    /// One more operand on a stack.
+    /// Pushes an operand on a stack. Returns the number of the new stack, and reports an error if out of memory.
     pub fn push(&mut self, sort: Sort, below: usize) -> Result<usize, AllocError>
         requires { Holds self.old below }
         ensures stack { IfOk result (λ n. stack_of self.new n ≡ sort_tree sort ∷ stack_of self.old below) }
@@ -71,7 +71,7 @@ impl Stacks {
         Ok(self.cells.len())
     }
 
-    /// Without the last operand.
+    /// Pops the last operand. Returns none if the stack is empty.
     pub fn pop_any(&self, stack: usize) -> Option<usize>
         ensures stack { stack_at self.now result ≡ pop_any (stack_of self.now stack) }
         ensures there { IfSome result (λ n. Holds self.now n) }
@@ -80,7 +80,7 @@ impl Stacks {
         Some(cell.below)
     }
 
-    /// Without the last operand, which fits the sort.
+    /// Pops the last operand. Returns none if the stack is empty, or if the operand does not fit the sort.
     pub fn pop_fitting(&self, need: Sort, stack: usize) -> Option<usize>
         ensures stack { stack_at self.now result ≡ pop_fitting (sort_tree need) (stack_of self.now stack) }
         ensures there { IfSome result (λ n. Holds self.now n) }
@@ -93,7 +93,7 @@ impl Stacks {
         }
     }
 
-    /// Without the last operand, which has a value.
+    /// Pops the last operand. Returns none if the stack is empty, or if the operand has no value.
     pub fn pop_value(&self, stack: usize) -> Option<usize>
         ensures stack { stack_at self.now result ≡ pop_value (stack_of self.now stack) }
         ensures there { IfSome result (λ n. Holds self.now n) }
@@ -106,7 +106,7 @@ impl Stacks {
         }
     }
 
-    /// Without the last two operands, which can be compared.
+    /// Pops the last two operands. Returns none if there are fewer, or if they cannot be compared.
     pub fn pop_alike(&self, stack: usize) -> Option<usize>
         ensures stack { stack_at self.now result ≡ pop_alike (stack_of self.now stack) }
         ensures there { IfSome result (λ n. Holds self.now n) }
@@ -120,7 +120,8 @@ impl Stacks {
         }
     }
 
-    /// Without the arguments for these parameters, of which the last is the last operand.
+    /// Pops the arguments for these parameters; the last argument is the last operand.
+    /// Returns none if one is missing or does not fit.
     pub fn pop_arguments(&self, params: &[Kind], stack: usize) -> Option<usize>
         requires { Holds self.now stack }
         ensures stack { stack_at self.now result ≡ pop_arguments params.now (stack_of self.now stack) }
@@ -133,7 +134,7 @@ impl Stacks {
         Some(rest)
     }
 
-    /// Without so many truth values.
+    /// Pops `count` operands that fit `Bool`. Returns none if one is missing or does not fit.
     pub fn pop_guards(&self, count: usize, stack: usize) -> Option<usize>
         requires { Holds self.now stack }
         ensures stack { stack_at self.now result ≡ pop_arguments (replicate count K.Bool) (stack_of self.now stack) }
@@ -146,7 +147,7 @@ impl Stacks {
         Some(rest)
     }
 
-    /// The sort that stands so many operands below the last one.
+    /// The sort of the operand that is `count` places below the last one; none if the stack is too short.
     pub fn sort_below(&self, count: u32, stack: usize) -> Option<Sort>
         ensures { option_map sort_tree result ≡ slice_get (stack_of self.now stack) count }
     {

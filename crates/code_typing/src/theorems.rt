@@ -1,12 +1,13 @@
-//! Laws of the verdict on object code files: each is the contract of a function that does nothing.
+//! Theorems about the verdict on object code files. Each is the contract of a function with an empty body.
 ghost use Rattle.std.specs.Prelude.{◌≡◌, ◌⊎◌, ℕ, length};
 ghost use Rattle.code_semantics.specs.declared.file.UnitFile.{UnitFile};
 ghost use Rattle.code_typing.specs.Faults.{IsBadHeading, IsBadCode};
 ghost use Rattle.code_typing.specs.Verdict.{Good, Header, Code, verdict};
 ghost use Rattle.code_typing.specs.Verified.{IsVerified};
 
-/// The computed verdict on a file is good exactly where it is verified. It is a heading exactly where this is the first that breaks a rule, or where there is no class, with 0; and a
-/// code exactly where no heading breaks a rule and this is the first code that is not well sorted.
+/// The computed verdict on a file is `Good` if and only if the file is verified.
+/// It is `Header j` if and only if class j has the first heading that breaks a rule, or j is 0 and there is no class.
+/// It is `Code j i` if and only if no heading breaks a rule, and code i of class j is the first not well sorted.
 pub fn the_verdict_is_exact()
     ensures verified { (f : UnitFile) → verdict f ≡ Good → IsVerified f }
     ensures good { (f : UnitFile) → IsVerified f → verdict f ≡ Good }

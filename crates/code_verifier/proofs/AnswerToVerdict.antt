@@ -1,4 +1,4 @@
--- What the answer on a file tells of its verdict.
+-- The verdict on a file, from the verifier's answer.
 use Rattle.std.proofs.Common.{◌≡◌, ◌⊎◌, inl, inr, refl, ap, ℕ, Result, Ok, Err, None}
 use Rattle.code_semantics.specs.declared.file.UnitFile.{UnitFile}
 use Rattle.code_typing.specs.Verdict.{Verdict, Good, Header, Code, verdict}

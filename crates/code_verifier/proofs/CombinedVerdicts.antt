@@ -1,4 +1,4 @@
--- What an answer tells of a verdict that is made of two.
+-- The answer that agrees with a verdict made of two.
 use Rattle.std.proofs.Common.{◌≡◌, refl, sym, ap, ◌∙◌, ℕ, Option, Some, None, Bool, true, false, not, length, Result, Ok, Err}
 use Rattle.run_types.proofs.Laws.{same_some}
 use Rattle.code_semantics.specs.declared.file.UnitFile.{UnitFile}

@@ -1,4 +1,4 @@
--- The steps of spreading, over what the verifier keeps.
+-- The steps of the data-flow analysis, over the state of the verifier.
 use Rattle.std.proofs.Common.{◌≡◌, refl, sym, ap, subst, ◌∙◌, ℕ, zero, suc, ◌+◌, ◌<◌, ◌≤◌, List, [], ◌∷◌, ◌++◌, length, map, drop, Option, Some, None, Bool, true, false, arith}
 use Rattle.std.specs.Prelude.{is_none, nat_le, reverse, slice_get, slice_set, replicate, option_map, if◌then◌else◌}
 use Rattle.std.specs.List.{list_all}

@@ -1,4 +1,4 @@
--- The turns of spreading.
+-- The iterations of the data-flow analysis.
 use Rattle.std.proofs.Common.{◌≡◌, ◌≢◌, refl, sym, ap, subst, ◌∙◌, ℕ, ◌+◌, ◌-◌, ◌^◌, ◌==◌, ◌&&◌, ◌<◌, ◌≤◌, List, [], ◌∷◌, ◌++◌, length, drop, map, Option, Some, None, Bool, true, false, arith}
 use Rattle.std.specs.Prelude.{is_none, nat_le, reverse, slice_get, slice_set}
 use Rattle.std.specs.List.{list_all}

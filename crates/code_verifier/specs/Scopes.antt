@@ -1,4 +1,4 @@
--- What the verifier's classes and scopes stand for.
+-- The classes, signatures and scopes of the definitions that those of the verifier represent.
 use Rattle.std.specs.Prelude.{ℕ, option_map}
 use Rattle.code_semantics.specs.Step.{Numbered}
 use Rattle.code_typing.specs.Sorts.{CodeScope, Declared, Signature}

@@ -1,4 +1,4 @@
--- What the verifier's table and visits stand for, and one step of spreading.
+-- The table and the visits that the verifier's state represents, and one step of its data-flow analysis.
 use Rattle.std.specs.Prelude.{◌≡◌, ℕ, ◌+◌, ◌^◌, ◌==◌, ◌≤◌, ◌&&◌, List, [], ◌∷◌, ◌++◌, length, drop, map, reverse, Option, Some, None, is_none, Bool, true, false, if◌then◌else◌, slice_get, slice_set}
 use Rattle.std.specs.List.{list_all}
 use Rattle.run_types.specs.Partial.{◌>>=◌}
@@ -20,7 +20,7 @@ to_place stack at = record { place = at; stack = stack }
 abbrev pub visit_of : Stacks → AVisit → Visit
 visit_of s v = (v.place, stack_of s v.stack)
 
--- for each place the stack with which it was reached, or none
+-- for each place, the stack with which it was reached, if it was reached
 abbrev pub table_by : Spread → Table
 table_by x = map (stack_at x.stacks) x.table.items
 
@@ -32,7 +32,7 @@ abbrev pub IsSeen : Stacks → Option ℕ → Type 0
 IsSeen s None = Unit {0}
 IsSeen s (Some n) = Holds s n
 
--- each number is that of a stack
+-- each number is the number of a stack
 abbrev pub SpreadInvariant : Spread → Type 0
 SpreadInvariant x = Each (IsSeen x.stacks) x.table.items × Each (λ v. Holds x.stacks v.stack) (reverse x.visits.items)
 
@@ -45,28 +45,28 @@ stepped_by g c t v vs None = None
 stepped_by g c t v vs (Some (Some r)) = if stacks_equal r v.1 then Some (t, vs) else None
 stepped_by g c t v vs (Some None) = followed g v.0 v.1 (slice_get c v.0) >>= λ ws. Some (slice_set t v.0 (Some v.1), ws ++ vs)
 
--- a visit of a place: known with this stack already, or new, with the visits that follow from it
+-- a visit of a place: the place has this stack already, or it is new, and the visits that follow are added
 abbrev pub stepped : CodeScope → List Instr → Table → Visit → List Visit → Outcome
 stepped g c t v vs = stepped_by g c t v vs (slice_get t v.0)
 
--- where a visit has led
+-- the outcome of a visit
 abbrev pub gone : Bool → Spread → Outcome
 gone false x = None
 gone true x = Some (table_by x, visits_by x)
 
--- what is left when this visit is taken
+-- y is x without the visit v, which is the next of x
 pub record Takes (x : Spread) (v : AVisit) (y : Spread) : Type 0 where
   pub kept : SpreadInvariant y
   pub there : Holds y.stacks v.stack
   pub table : table_by y ≡ table_by x
   pub visits : visits_by x ≡ visit_of y.stacks v ∷ visits_by y
 
--- the visit that is next, or that none is left
+-- the next visit is taken, or none is left
 abbrev pub IsNext : Spread → Option AVisit → Spread → Type 0
 IsNext x None y = (visits_by x ≡ []) × (table_by y ≡ table_by x)
 IsNext x (Some v) y = Takes x v y
 
--- an instruction that can take the stack, with what it leaves
+-- an instruction that can take the stack, with its effect
 pub record HasEffect (g : CodeScope) (c : List Instr) (s : Stacks) (v : AVisit) (e : Effect) : Type 0 where
   pub at : slice_get c v.place ≡ Some e.instr.now
   pub few : length (stack_of s v.stack) ≤ 64
@@ -77,7 +77,7 @@ abbrev pub IsEffect : CodeScope → List Instr → Stacks → AVisit → Option 
 IsEffect g c s v None = followed g v.place (stack_of s v.stack) (slice_get c v.place) ≡ None
 IsEffect g c s v (Some e) = HasEffect g c s v e
 
--- the stack of a place is noted, with the visits that follow
+-- the stack of a place is recorded, and the visits that follow are added
 pub record IsNoted (x : Spread) (v : AVisit) (i : Instr) (l : Left) (y : Spread) : Type 0 where
   pub stack : ℕ
   pub keeps : Keeps x.stacks y.stacks
@@ -86,6 +86,6 @@ pub record IsNoted (x : Spread) (v : AVisit) (i : Instr) (l : Left) (y : Spread)
   pub table : y.table.items ≡ slice_set x.table.items v.place (Some v.stack)
   pub visits : reverse y.visits.items ≡ map (to_place stack) (nexts v.place i) ++ reverse x.visits.items
 
--- the words of a frame are those of so many temps and of the most operands, and no place from 2 ^ 32 on is reached
+-- the words of a frame are the number of temps plus the greatest depth of a stack, and no place from 2^32 on is reached
 abbrev pub fits_by : ℕ → ℕ → Table → Bool
 fits_by words temps t = words == temps + most t && list_all is_none (drop (2 ^ 32) t)

@@ -1,4 +1,4 @@
-//! Chains of silent instructions.
+//! Finds cycles of silent instructions.
 ghost use Rattle.std.specs.Prelude.{◌≡◌, ◌+◌, ◌<◌, ◌^◌, List, length, slice_get, Some, IfOk};
 ghost use Rattle.code_semantics.specs.ReachedPlaces.{silent_to};
 ghost use Rattle.code_semantics.specs.declared.unit.Instr.{Instr as AnInstr};
@@ -8,14 +8,14 @@ ghost use Rattle.code_verifier.specs.Silent.{IsMarked, IsWalked, first_mark};
 use code_semantics::Instr;
 use std::alloc::{AllocError, Global};
 
-/// What is known of a place.
+/// The state of a place in the search for a cycle.
 #[derive(Clone, Copy)]
 pub enum Mark {
     /// Its instruction is not silent.
     Ends,
-    /// Its silent instruction leads to this place, and no walk has come by.
+    /// Its silent instruction leads to this place, and no walk has visited it.
     Next(u32),
-    /// The walk from this start was the first to come by.
+    /// The walk from this start was the first to visit it.
     Walked(u32),
 }
 
@@ -33,7 +33,7 @@ fn first_mark(place: u32, instr: &Instr) -> Mark
     }
 }
 
-/// The marks of a code of so many places before all walks.
+/// The marks of a code with `count` places before all walks. Reports an error if out of memory.
 fn first_marks(alloc: Global, code: &[Instr], count: u32) -> Result<Vec<Mark>, AllocError>
     requires { count ≡ length code.now }
     ensures { IfOk result (λ marks. IsMarked code.now 0 marks.items) }
@@ -51,7 +51,8 @@ fn mark_at(marks: &[Mark], place: u32) -> Option<Mark>
     marks.get(place as usize).copied()
 }
 
-/// Follows the chain from a start, up to its end or to a place that a walk has come by; whether this was an earlier walk.
+/// Follows the chain from `start` to its end, or to a place that a walk has visited.
+/// Returns false if this walk itself has visited that place: the chain is a cycle.
 fn walk(marks: &mut [Mark], start: u32) -> bool
     ensures { (c : List AnInstr) → IsMarked c start marks.old → IsWalked c start result marks.new }
 {
@@ -68,8 +69,10 @@ fn walk(marks: &mut [Mark], start: u32) -> bool
     }
 }
 
-/// Whether no chain of silent instructions comes back to itself. Each place is marked by the first walk that comes by, and no
-/// walk goes on from there again, so time is in proportion to the code. A code of 2^32 places or more is told as want of memory.
+/// Whether no chain of silent instructions is a cycle.
+/// Reports an error if out of memory, or if the code has 2^32 places or more.
+/// The first walk that visits a place marks it, and no other walk continues from there.
+/// So time is proportional to the code.
 pub fn has_no_circle(alloc: Global, code: &[Instr]) -> Result<bool, AllocError>
     ensures { IfOk result (λ b. b ≡ has_no_circle code.now code.now 0) }
 {

@@ -1,4 +1,4 @@
-//! The classes of a file with their kinds, found by their names.
+//! Looks up the classes and the methods of a file by their names.
 ghost use Rattle.std.specs.Prelude.{◌≡◌, option_map, is_some, slice_get, take, IfOk};
 ghost use Rattle.code_semantics.specs.Step.{class_from, method_from};
 ghost use Rattle.code_typing.specs.Sorts.{declared_at, declared_named, signature_named};
@@ -11,7 +11,7 @@ use run_types::{Kind, NameId};
 use std::alloc::{AllocError, Global};
 use std::collections::BTreeMap;
 
-/// The place of the first class of each name.
+/// A map from each class name to the place of the first class of that name. Reports an error if out of memory.
 pub fn places_of(alloc: Global, classes: &[ClassCode]) -> Result<BTreeMap<u32, usize>, AllocError>
     ensures { IfOk result (λ places. IsIndexFrom 0 places classes.now) }
 {
@@ -22,7 +22,7 @@ pub fn places_of(alloc: Global, classes: &[ClassCode]) -> Result<BTreeMap<u32, u
     Ok(places)
 }
 
-/// The place of the first method of this name.
+/// The place, from 0, of the first method of this name; none if there is no such method.
 pub fn method_place(methods: &[MethodCode], name: NameId) -> Option<usize>
     ensures { result ≡ option_map place_of (method_from 0 methods.now name) }
 {
@@ -53,21 +53,21 @@ fn find_method<'a>(methods: &'a [MethodCode], name: NameId) -> Option<Found<'a>>
     None
 }
 
-/// The kinds of the method at a place.
+/// The kinds of the method at a place, if there is one.
 pub fn kinds_at(kinds: &[MethodKinds], place: usize) -> Option<&MethodKinds>
     ensures { option_map (λ k. k.now) result ≡ slice_get kinds.now place }
 {
     kinds.get(place)
 }
 
-/// The first of these kinds, at most so many.
+/// The first `count` of these kinds, or all if there are fewer.
 fn front(kinds: &[Kind], count: u32) -> &[Kind]
     ensures { result.now ≡ take count kinds.now }
 {
     &kinds[..kinds.len().min(count as usize)]
 }
 
-/// What a caller must know of a method.
+/// The kinds of a method's parameters, and the kind of its result, if it has one.
 #[derive(Clone, Copy)]
 pub struct Signature<'a> {
     pub params: &'a [Kind],
@@ -89,7 +89,7 @@ impl<'a> Class<'a> {
         method_place(self.code.methods.items(), name).is_some()
     }
 
-    /// The first method of this name.
+    /// The signature of the first method of this name, if there is one.
     pub fn signature(&self, name: NameId) -> Option<Signature<'a>>
         ensures { option_map signature_of result ≡ signature_named (declared_of self.now) name }
     {
@@ -103,14 +103,14 @@ impl<'a> Class<'a> {
 }
 
 impl<'a> Classes<'a> {
-    /// The place of the first class of this name.
+    /// The place of the first class of this name, if there is one.
     pub fn place(&self, name: NameId) -> Option<usize>
         ensures { result ≡ class_from 0 self.now.file.now.unit.classes name }
     {
         self.places.get(&name.0).copied()
     }
 
-    /// The class at a place.
+    /// The class at a place, if there is one.
     pub fn class(&self, place: usize) -> Option<Class<'a>>
         ensures { option_map declared_of result ≡ declared_at self.now.file.now place }
     {
@@ -119,7 +119,7 @@ impl<'a> Classes<'a> {
         Some(Class { code, kinds })
     }
 
-    /// The first class of this name.
+    /// The first class of this name, if there is one.
     pub fn named(&self, name: NameId) -> Option<Class<'a>>
         ensures { option_map declared_of result ≡ declared_named self.now.file.now name }
     {

@@ -1,4 +1,4 @@
-//! The codes of methods and bodies.
+//! Checks the codes of methods and bodies.
 ghost use Rattle.std.specs.Prelude.{◌≡◌, not, ◌<◌, ◌≤◌, ◌^◌, length, Some, None, IfOk};
 ghost use Rattle.code_semantics.specs.Shaped.{IsShaped};
 ghost use Rattle.code_typing.specs.Verdict.{Code, bad_code, bad_codes, bad_heading, bad_method, fault_if, is_well_sorted};
@@ -17,7 +17,7 @@ use code_semantics::{Instr, MethodCode, MethodKinds};
 use code_typing::value_sort;
 use std::alloc::{AllocError, Global};
 
-/// Whether a code is well sorted, and its frames have so many words.
+/// Whether a code is well sorted, and `words` is the number of words of its frames. Reports an error if out of memory.
 fn is_well_sorted(
     alloc: Global,
     scope: &Scope<'_>,
@@ -72,7 +72,7 @@ fn is_body_sorted(
     is_well_sorted(alloc, &scope, body.frame_words, body.code.items())
 }
 
-/// The methods of a class in their order.
+/// Checks the methods of a class in order. Reports the first that is not well sorted.
 fn check_methods(
     alloc: Global,
     classes: &Classes<'_>,
@@ -98,7 +98,7 @@ fn check_methods(
     Ok(())
 }
 
-/// The body of a class, whose number is that of its methods.
+/// Checks the body of a class. Its number is the number of methods of the class.
 #[tactic(auto, using(crate::proofs::CombinedVerdicts::wrong_told, crate::proofs::CombinedVerdicts::right_told))]
 fn check_body(
     alloc: Global,
@@ -120,7 +120,7 @@ fn check_body(
     Ok(())
 }
 
-/// The methods of a class, and then its body.
+/// Checks the methods of a class, and then its body.
 fn check_class(
     alloc: Global,
     classes: &Classes<'_>,
@@ -136,7 +136,7 @@ fn check_class(
     }
 }
 
-/// The codes of the class at a place.
+/// Checks the codes of the class at a place.
 fn check_class_at(alloc: Global, classes: &Classes<'_>, place: usize) -> Result<(), VerifyFault>
     requires shaped { IsShaped classes.now.file.now }
     requires headings { bad_heading classes.now.file.now (length classes.now.file.now.unit.classes) 0 ≡ None }
@@ -149,7 +149,8 @@ fn check_class_at(alloc: Global, classes: &Classes<'_>, place: usize) -> Result<
     }
 }
 
-/// The codes of each class in their order.
+/// Checks the codes of all classes in order.
+/// Reports the first code that is not well sorted, or `Memory` if out of memory.
 pub fn check_codes(alloc: Global, classes: &Classes<'_>) -> Result<(), VerifyFault>
     requires shaped { IsShaped classes.now.file.now }
     requires headings { bad_heading classes.now.file.now (length classes.now.file.now.unit.classes) 0 ≡ None }

@@ -15,7 +15,8 @@ use code_typing::{
 };
 use run_types::{Kind, NameId, Op};
 
-/// What an instruction leaves: a stack without the operands that it takes, and the sort that it pushes on that, if it pushes one.
+/// The effect of an instruction: the stack without the operands
+/// that it takes, and the sort that it then pushes, if any.
 #[derive(Clone, Copy)]
 pub struct Left {
     pub below: usize,
@@ -42,7 +43,7 @@ fn pushed(sort: Sort, below: Option<usize>) -> Option<Left>
     })
 }
 
-/// With the value of a variable of these kinds pushed.
+/// Pushes the value of a variable of these kinds. Returns none if there is no such variable.
 fn loaded(kinds: &[Kind], number: u32, stack: usize) -> Option<Left>
     ensures left { (stacks : AStacks) → left_stack stacks result ≡ loaded_by kinds.now number (stack_of stacks stack) }
     ensures there { (stacks : AStacks) → Holds stacks stack → IfSome result (λ l. Holds stacks l.below) }
@@ -51,7 +52,8 @@ fn loaded(kinds: &[Kind], number: u32, stack: usize) -> Option<Left>
     pushed(kind_sort(*kind), Some(stack))
 }
 
-/// Without the value of a variable of these kinds.
+/// Pops the value for a variable of these kinds.
+/// Returns none if there is no such variable, or if the value does not fit.
 fn stored(stacks: &Stacks, kinds: &[Kind], number: u32, stack: usize) -> Option<Left>
     ensures left { left_stack stacks.now result ≡ stored_by kinds.now number (stack_of stacks.now stack) }
     ensures there { IfSome result (λ l. Holds stacks.now l.below) }
@@ -60,7 +62,7 @@ fn stored(stacks: &Stacks, kinds: &[Kind], number: u32, stack: usize) -> Option<
     kept(stacks.pop_fitting(kind_sort(*kind), stack))
 }
 
-/// With the value of an operator in place of its operands.
+/// Pops the operands of an operator, and pushes its value. Returns none if they do not fit.
 fn operated(stacks: &Stacks, op: Op, stack: usize) -> Option<Left>
     ensures left { left_stack stacks.now result ≡ operated_sorts op (stack_of stacks.now stack) }
     ensures there { IfSome result (λ l. Holds stacks.now l.below) }
@@ -75,7 +77,8 @@ fn operated(stacks: &Stacks, op: Op, stack: usize) -> Option<Left>
     pushed(op_sort(op), stacks.pop_fitting(operand_sort(op), below?))
 }
 
-/// With the value of an own call in place of its arguments.
+/// Pops the arguments of an own call, and pushes its value.
+/// Returns none if they do not fit, or if the method does not exist.
 fn called(scope: &Scope<'_>, stacks: &Stacks, method: NameId, stack: usize) -> Option<Left>
     requires { Holds stacks.now stack }
     ensures left { left_stack stacks.now result ≡ called_by (declared_of scope.now.class.now) method (stack_of stacks.now stack) }
@@ -88,7 +91,7 @@ fn called(scope: &Scope<'_>, stacks: &Stacks, method: NameId, stack: usize) -> O
     )
 }
 
-/// The method that is asked of a destination of this sort with so many arguments.
+/// The method of this name with `count` parameters, if the class of a destination of this sort has it.
 fn asked<'a>(
     scope: &Scope<'a>,
     to: Option<Sort>,
@@ -108,7 +111,7 @@ fn asked<'a>(
     }
 }
 
-/// The stack without arguments and destination.
+/// Pops the arguments and the destination. Returns none if they do not fit.
 fn pop_sent(stacks: &Stacks, callee: &Signature<'_>, stack: usize) -> Option<usize>
     requires { Holds stacks.now stack }
     ensures stack { stack_at stacks.now result ≡ pop_sent (stack_of stacks.now stack) (signature_of callee.now) }
@@ -117,7 +120,7 @@ fn pop_sent(stacks: &Stacks, callee: &Signature<'_>, stack: usize) -> Option<usi
     stacks.pop_any(stacks.pop_arguments(callee.params, stack)?)
 }
 
-/// With the value of a call in place of its arguments and destination.
+/// Pops the arguments and the destination of a call, and pushes its value. Returns none if they do not fit.
 fn sent(
     scope: &Scope<'_>,
     stacks: &Stacks,
@@ -133,7 +136,7 @@ fn sent(
     pushed(result_sort(callee.result), pop_sent(stacks, &callee, stack))
 }
 
-/// Without the arguments and the destination of a message.
+/// Pops the arguments and the destination of a message. Returns none if they do not fit.
 fn sent_off(
     scope: &Scope<'_>,
     stacks: &Stacks,
@@ -149,7 +152,7 @@ fn sent_off(
     kept(pop_sent(stacks, &callee, stack))
 }
 
-/// Without a method's value, which stands alone.
+/// Pops a method's value. Returns none if it does not fit, or if it is not the only operand.
 fn returned(stacks: &Stacks, value: Option<Sort>, stack: usize) -> Option<Left>
     ensures left { left_stack stacks.now result ≡ pop_returned (option_map sort_tree value) (stack_of stacks.now stack) }
     ensures there { IfSome result (λ l. Holds stacks.now l.below) }
@@ -162,7 +165,7 @@ fn returned(stacks: &Stacks, value: Option<Sort>, stack: usize) -> Option<Left>
     }
 }
 
-/// With a method's value, which stands alone, given back and left.
+/// Keeps a method's value on the stack. Returns none if it does not fit, or if it is not the only operand.
 fn given_back(stacks: &Stacks, value: Option<Sort>, stack: usize) -> Option<Left>
     requires { Holds stacks.now stack }
     ensures left { left_stack stacks.now result ≡ given_back_by (option_map sort_tree value) (stack_of stacks.now stack) }
@@ -172,7 +175,7 @@ fn given_back(stacks: &Stacks, value: Option<Sort>, stack: usize) -> Option<Left
     kept(Some(stack))
 }
 
-/// With the name of a new object of the class pushed.
+/// Pushes the name of a new object of the class. Returns none if the class does not exist.
 fn created(scope: &Scope<'_>, class: NameId, stack: usize) -> Option<Left>
     ensures left { (stacks : AStacks) → left_stack stacks result ≡ created_by scope.now.classes.now.file.now class (stack_of stacks stack) }
     ensures there { (stacks : AStacks) → Holds stacks stack → IfSome result (λ l. Holds stacks l.below) }
@@ -181,7 +184,7 @@ fn created(scope: &Scope<'_>, class: NameId, stack: usize) -> Option<Left>
     pushed(Sort::Class(class), Some(stack))
 }
 
-/// What an instruction leaves of a stack; `None` where it cannot take the stack.
+/// The effect of an instruction on a stack; none if the instruction cannot take the stack.
 pub fn left_by(scope: &Scope<'_>, stacks: &Stacks, instr: &Instr, stack: usize) -> Option<Left>
     requires { Holds stacks.now stack }
     ensures left { left_stack stacks.now result ≡ left_by (scope_of scope.now) instr.now (stack_of stacks.now stack) }

@@ -1,4 +1,4 @@
-//! What instructions name, and how codes end.
+//! Checks that the names and places of instructions exist, and that codes end right.
 ghost use Rattle.std.specs.Prelude.{◌≡◌, length, nat_lt, nat_le, ◌&&◌};
 ghost use Rattle.std.specs.List.{list_all, list_any};
 ghost use Rattle.code_typing.specs.Verdict.{alternative_exists, answers_exist, does_exist, ends_right, is_halt, is_last, is_own, is_post, is_ret};
@@ -45,14 +45,14 @@ fn alternatives_exist(scope: &Scope<'_>, code: &[Instr], alternatives: &[AltCode
     true
 }
 
-/// Whether a method's name is in the table, and so many arguments can be sent.
+/// Whether a method's name is in the table, and `count` is at most 8.
 fn can_be_sent(scope: &Scope<'_>, method: NameId, count: u32) -> bool
     ensures { result ≡ (nat_lt method.0 (length (scope_of scope.now).file.unit.names) && nat_le count 8) }
 {
     text_at(&scope.classes.file.unit.names, method).is_some() && count <= MOST_ARGUMENTS
 }
 
-/// Whether what an instruction names is there.
+/// Whether each name and place of an instruction exists.
 fn does_exist(scope: &Scope<'_>, code: &[Instr], instr: &Instr) -> bool
     ensures { result ≡ does_exist (scope_of scope.now) code.now instr.now }
 {
@@ -82,7 +82,7 @@ fn does_exist(scope: &Scope<'_>, code: &[Instr], instr: &Instr) -> bool
     }
 }
 
-/// Whether what the instructions of a code name is there.
+/// Whether each name and place of the instructions of a code exists.
 pub fn do_exist(scope: &Scope<'_>, code: &[Instr]) -> bool
     ensures { result ≡ list_all (does_exist (scope_of scope.now) code.now) code.now }
 {
@@ -163,7 +163,8 @@ fn ends_in_halt(code: &[Instr]) -> bool
     }
 }
 
-/// Whether a body ends in Halt and has no Ret and no Post, and a method ends in Ret and has no Halt.
+/// Whether a code ends right. A body ends in `Halt`, and has no `Ret` and no `Post`.
+/// A method ends in `Ret`, and has no `Halt`.
 pub fn ends_right(scope: &Scope<'_>, code: &[Instr]) -> bool
     ensures { result ≡ ends_right (scope_of scope.now).value code.now }
 {

@@ -1,4 +1,4 @@
-//! The headings of classes and methods.
+//! Checks the headings of classes and methods.
 ghost use Rattle.std.specs.Prelude.{◌≡◌, ◌<◌, ◌≤◌, ◌&&◌, nat_le, length, Some, None, option_map, IfSome};
 ghost use Rattle.std.specs.List.{list_all};
 ghost use Rattle.text_scan.specs.Keywords.{is_name};
@@ -57,7 +57,7 @@ fn outcome_exists(classes: &Classes<'_>, outcome: Option<Kind>) -> bool
     }
 }
 
-/// Whether the first method of this name stands at the place.
+/// Whether the first method of this name is at the place.
 fn is_first_method(class: &ClassCode, place: usize, name: NameId) -> bool
     ensures { result ≡ is_first place (method_named (Some class.now) name) }
 {
@@ -104,7 +104,7 @@ fn methods_right(classes: &Classes<'_>, class: &Class<'_>) -> bool
     true
 }
 
-/// Whether the first class of this name stands at the place.
+/// Whether the first class of this name is at the place.
 fn is_first_class(classes: &Classes<'_>, place: usize, name: NameId) -> bool
     ensures { result ≡ is_place place (class_from 0 classes.now.file.now.unit.classes name) }
 {
@@ -130,7 +130,7 @@ fn heading_right(classes: &Classes<'_>, place: usize) -> bool
         && methods_right(classes, &class)
 }
 
-/// The first class whose heading breaks a rule.
+/// The number, from 0, of the first class whose heading breaks a rule; none if no heading does.
 pub fn bad_heading(classes: &Classes<'_>) -> Option<u32>
     requires { IsShaped classes.now.file.now }
     ensures { option_map Header result ≡ bad_heading classes.now.file.now (length classes.now.file.now.unit.classes) 0 }

@@ -4,7 +4,7 @@ ghost use Rattle.code_verifier.specs.Indexed.{IsIndexFrom};
 use code_semantics::UnitFile;
 use std::collections::BTreeMap;
 
-/// The classes of a file, and the first place of each of their names.
+/// The classes of a file, with a map from each class name to the place of the first class of that name.
 #[derive(Clone, Copy)]
 pub struct Classes<'a> {
     pub file: &'a UnitFile,

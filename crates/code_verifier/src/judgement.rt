@@ -1,4 +1,4 @@
-//! The judgement on a file.
+//! The verdict on a file.
 ghost use Rattle.code_semantics.specs.Shaped.{IsShaped};
 ghost use Rattle.code_typing.specs.Verdict.{verdict};
 ghost use Rattle.code_verifier.specs.VerdictAnswer.{IsAnswer};
@@ -11,7 +11,8 @@ use crate::index::Classes;
 use code_semantics::UnitFile;
 use std::alloc::Global;
 
-/// The headings in order, and then the codes; the first fault is told. Time is in proportion to the file and its logarithm.
+/// Checks the headings in order, and then the codes. Reports the first fault, or `Memory` if out of memory.
+/// Time is at most proportional to n log n for a file of size n.
 #[tactic(auto, using(crate::proofs::AnswerLaws::empty_told, crate::proofs::AnswerLaws::memory_told, crate::proofs::AnswerLaws::codes_told))]
 pub fn judge(alloc: Global, file: &UnitFile) -> Result<(), VerifyFault>
     requires { IsShaped file.now }

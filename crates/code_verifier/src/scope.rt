@@ -1,11 +1,11 @@
-//! Where code stands.
+//! The scope of a code.
 use crate::classes::Class;
 use crate::index::Classes;
 use code_typing::Sort;
 use run_types::Kind;
 
-/// Where code stands: its file, its class, the kinds of its parameters and locals, and the sort that its value needs. A body
-/// has no value.
+/// The scope of a code: its file, its class, the kinds of its
+/// parameters and locals, and the sort that its value must fit. A body has no value.
 #[derive(Clone, Copy)]
 pub struct Scope<'a> {
     pub classes: &'a Classes<'a>,

@@ -1,4 +1,4 @@
-//! The spreading of stacks over the places of a code.
+//! The data-flow analysis of a code: it spreads stacks of sorts over the places of the code.
 ghost use Rattle.std.specs.Prelude.{◌≡◌, slice_get, ◌<◌, ◌≤◌, ◌^◌, ◌∷◌, ◌++◌, [], length, drop, map, reverse, replicate, is_none, option_map, Some, None, IfOk, IfSome, OnOk};
 ghost use Rattle.std.specs.List.{list_all};
 ghost use Rattle.code_semantics.specs.ReachedPlaces.{nexts};
@@ -13,10 +13,10 @@ use code_semantics::{AltCode, Instr};
 use code_typing::Stacks;
 use std::alloc::{AllocError, Global};
 
-/// No instruction goes on from more operands than these.
+/// The greatest depth of a stack that an instruction may take.
 const MOST_OPERANDS: usize = 64;
 
-/// No place from this one on is reached.
+/// The first place that may not be reached.
 const MOST_PLACES: usize = 1 << 32;
 
 /// A place, and the number of the stack with which it is reached.
@@ -26,8 +26,8 @@ pub struct Visit {
     pub stack: usize,
 }
 
-/// How far stacks are spread over a code: the stacks that were met, for each place the one with which it was reached, and the
-/// visits that are left, of which the last is the next.
+/// The state of the analysis: the stacks that were met, for each place the stack with which it was reached (if it was),
+/// and the visits that are left. The last visit is the next.
 #[derive(Drop)]
 pub struct Spread {
     pub stacks: Stacks,
@@ -35,7 +35,7 @@ pub struct Spread {
     pub visits: Vec<Visit>,
 }
 
-/// An instruction, and what it leaves of a stack.
+/// An instruction, and its effect on a stack.
 #[derive(Clone, Copy)]
 pub struct Effect<'a> {
     pub instr: &'a Instr,
@@ -48,7 +48,7 @@ fn instr_at(code: &[Instr], place: usize) -> Option<&Instr>
     code.get(place)
 }
 
-/// Adds a visit of each alternative, the first of them last.
+/// Adds a visit of each alternative, so that the first alternative is visited next. Reports an error if out of memory.
 fn push_alternatives(
     visits: &mut Vec<Visit>,
     alternatives: &[AltCode],
@@ -63,7 +63,8 @@ fn push_alternatives(
     Ok(())
 }
 
-/// Adds a visit of each place after an instruction, the first of them last.
+/// Adds a visit of each place after an instruction, so that the first place is visited next.
+/// Reports an error if out of memory.
 fn push_nexts(
     visits: &mut Vec<Visit>,
     place: usize,
@@ -98,7 +99,7 @@ fn push_nexts(
     Ok(())
 }
 
-/// The stack that an instruction leaves.
+/// The number of the stack after an instruction. Reports an error if out of memory.
 fn put(stacks: &mut Stacks, left: Left) -> Result<usize, AllocError>
     requires { Holds stacks.old left.below }
     ensures stack { IfOk result (λ n. stack_of stacks.new n ≡ with_sort left.pushed (stack_of stacks.old left.below)) }
@@ -111,7 +112,7 @@ fn put(stacks: &mut Stacks, left: Left) -> Result<usize, AllocError>
     }
 }
 
-/// A table in which no place is reached.
+/// A table of `size` places, none of them reached. Reports an error if out of memory.
 fn unreached(alloc: Global, size: usize) -> Result<Vec<Option<usize>>, AllocError>
     ensures { IfOk result (λ table. table.items ≡ replicate size None) }
 {
@@ -136,7 +137,7 @@ fn is_within(table: &[Option<usize>]) -> bool
 }
 
 impl Spread {
-    /// Nothing is reached; the front is to be visited with the empty stack.
+    /// The first state: no place is reached, and place 0 is to be visited with the empty stack.
     fn start(alloc: Global, size: usize) -> Result<Spread, AllocError>
         ensures table { IfOk result (λ x. table_by x ≡ replicate size None) }
         ensures visits { IfOk result (λ x. visits_by x ≡ (0, []) ∷ []) }
@@ -149,7 +150,7 @@ impl Spread {
         })
     }
 
-    /// Takes the visit that is next.
+    /// Takes the next visit; none if no visit is left.
     fn take_next(&mut self) -> Option<Visit>
         requires kept { SpreadInvariant self.old }
         ensures { IsNext self.old result self.new }
@@ -157,7 +158,8 @@ impl Spread {
         self.visits.pop()
     }
 
-    /// The instruction of a place, and what it leaves of the stack; `None` where there is none, or it cannot take the stack.
+    /// The instruction at a place, and its effect on the stack; none
+    /// if there is no instruction, or if it cannot take the stack.
     #[tactic(auto, using(crate::proofs::SpreadTurns::followed_none, crate::proofs::SpreadTurns::followed_deep, crate::proofs::SpreadTurns::followed_left))]
     fn effect<'a>(&self, scope: &Scope<'_>, code: &'a [Instr], visit: Visit) -> Option<Effect<'a>>
         requires { Holds self.now.stacks visit.stack }
@@ -171,7 +173,7 @@ impl Spread {
         Some(Effect { instr, left })
     }
 
-    /// Notes the stack of a place, and adds the visits that follow.
+    /// Records the stack of a place, and adds the visits that follow. Reports an error if out of memory.
     fn note(&mut self, visit: Visit, instr: &Instr, left: Left) -> Result<(), AllocError>
         requires below { Holds self.old.stacks left.below }
         requires new { slice_get (table_by self.old) visit.place ≡ Some None }
@@ -183,7 +185,8 @@ impl Spread {
         Ok(())
     }
 
-    /// Visits a place that is reached for the first time; whether its instruction can take the stack.
+    /// Visits a place that is reached for the first time. Returns false if its instruction cannot take the stack.
+    /// Reports an error if out of memory.
     #[tactic(auto, using(crate::proofs::SpreadTurns::no_effect, crate::proofs::SpreadTurns::has_effect, crate::proofs::SpreadTurns::effect_kept))]
     fn go_on(&mut self, scope: &Scope<'_>, code: &[Instr], visit: Visit) -> Result<bool, AllocError>
         requires kept { SpreadInvariant self.old }
@@ -199,7 +202,8 @@ impl Spread {
         Ok(true)
     }
 
-    /// Visits a place; whether its instruction can take the stack, and it was not reached with another.
+    /// Visits a place. Returns false if the place does not exist, if its instruction cannot take the stack,
+    /// or if the place was reached with another stack. Reports an error if out of memory.
     fn step(&mut self, scope: &Scope<'_>, code: &[Instr], visit: Visit) -> Result<bool, AllocError>
         requires kept { SpreadInvariant self.old }
         requires there { Holds self.old.stacks visit.stack }
@@ -213,7 +217,7 @@ impl Spread {
         }
     }
 
-    /// The most operands of a place.
+    /// The greatest depth of a stack with which a place was reached.
     fn most(&self) -> usize
         ensures { result ≡ most (table_by self.now) }
     {
@@ -226,7 +230,7 @@ impl Spread {
         most
     }
 
-    /// Whether the words of a frame are those of so many temps and of the most operands, and no place from 2^32 on is reached.
+    /// Whether `words` is `temps` plus the greatest depth of a stack, and no place from 2^32 on is reached.
     #[tactic(auto, using(crate::proofs::SpreadTurns::split_up_to_four, crate::proofs::SpreadTurns::other_words, crate::proofs::SpreadTurns::same_words))]
     fn fits(&self, words: u32, temps: usize) -> bool
         ensures { result ≡ fits_by words temps (table_by self.now) }
@@ -243,7 +247,8 @@ impl Spread {
     }
 }
 
-/// Spreads stacks over a code from its front; `None` where a place is reached with two, or with one that its instruction cannot take.
+/// Spreads stacks over a code from place 0. Returns none if a place is reached with two stacks,
+/// or with a stack that its instruction cannot take. Reports an error if out of memory.
 #[tactic(auto, using(crate::proofs::SpreadTurns::turned_all))]
 fn spread_over(
     alloc: Global,
@@ -261,9 +266,10 @@ fn spread_over(
     Ok(Some(spread))
 }
 
-/// Whether each place is reached with one stack of at most 64 sorts, which its instruction can take, and the words of a frame are
-/// those of the temps and of the most operands. Each instruction is taken once, and each of its next places is visited once, so
-/// time and memory are in proportion to the code, with at most 64 operands looked at in a visit.
+/// Whether each reached place is below 2^32 and has one stack of at most 64 sorts, which its instruction can take.
+/// Also, `words` must be the number of temps plus the greatest depth of a stack. Reports an error if out of memory.
+/// Each instruction is applied once, and each place after it is visited once. A visit compares at most 64 operands.
+/// So time and memory are proportional to the code.
 pub fn has_table(
     alloc: Global,
     scope: &Scope<'_>,

@@ -1,4 +1,4 @@
-//! Names and strings.
+//! Checks of names and strings.
 ghost use Rattle.std.specs.Prelude.{◌≡◌, option_map, slice_get};
 ghost use Rattle.text_scan.specs.Keywords.{is_name, is_name_text, is_string_number, is_string_text};
 
@@ -24,7 +24,7 @@ fn is_string_text(text: &[u8]) -> bool
     text.len() <= 256 && all_in(text, ByteSet::Inner)
 }
 
-/// The text of a number, if there is one.
+/// The text with this number, if the table has it.
 pub fn text_at(names: &Names, id: NameId) -> Option<&[u8]>
     ensures { option_map (λ t. t.now) result ≡ slice_get names.now id.0 }
 {
@@ -35,7 +35,7 @@ pub fn text_at(names: &Names, id: NameId) -> Option<&[u8]>
     }
 }
 
-/// Whether the number is that of a name of the language.
+/// Whether the table has a text with this number that can be a name: a word of at most 64 bytes that is no keyword.
 pub fn is_name(names: &Names, id: NameId) -> bool
     ensures { result ≡ is_name names.now id.0 }
 {
@@ -45,7 +45,7 @@ pub fn is_name(names: &Names, id: NameId) -> bool
     }
 }
 
-/// Whether the number is that of a text that can stand in a string.
+/// Whether the table has a text with this number that can be a string: at most 256 bytes, each allowed in a string.
 pub fn is_string_number(names: &Names, id: NameId) -> bool
     ensures { result ≡ is_string_number names.now id.0 }
 {

@@ -1,4 +1,4 @@
-//! Files that are verified.
+//! Verified files.
 ghost use Rattle.std.specs.Prelude.{◌≡◌};
 ghost use Rattle.code_semantics.specs.Shaped.{IsShaped};
 ghost use Rattle.code_typing.specs.Verdict.{Good, verdict};
@@ -6,7 +6,7 @@ ghost use Rattle.code_typing.proofs.Laws.{shaped_is_fact};
 
 use code_semantics::UnitFile;
 
-/// A file that is verified: in its code every operand is of a sort that its instruction allows.
+/// A verified file. In its code each operand is of a sort that its instruction allows.
 #[derive(Clone, Copy)]
 pub struct Verified<'a> {
     pub file: &'a UnitFile,

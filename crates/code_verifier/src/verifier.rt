@@ -1,4 +1,4 @@
-//! The verifier of a file.
+//! The verifier of object code files.
 ghost use Rattle.std.specs.Prelude.{◌≡◌, ◌⊎◌, ℕ, length, IfOk, IsOk, IsErr, Err};
 ghost use Rattle.code_semantics.specs.Shaped.{IsShaped};
 ghost use Rattle.code_typing.specs.Verified.{IsVerified};
@@ -11,9 +11,12 @@ use crate::verified::Verified;
 use code_semantics::UnitFile;
 use std::alloc::Global;
 
-/// The file, where it is verified; else its first heading that breaks a rule, or else its first code that is not well
-/// sorted. `Memory` comes where memory is wanting, and nothing is said of the file then. Time is in proportion to the file and
-/// the logarithm of its longest code; memory to the number of its classes and to its longest code.
+/// Verifies a file: returns it as verified, or reports its first fault.
+/// `Header` reports the first heading that breaks a rule, or that there is no class.
+/// `Code` reports the first code that is not well sorted, if no heading breaks a rule.
+/// `Memory` reports out of memory, and says nothing about the file.
+/// Time is at most proportional to n log n for a file of size n.
+/// Memory is proportional to the number of classes and the longest code.
 pub fn verify(alloc: Global, file: &UnitFile) -> Result<Verified<'_>, VerifyFault>
     requires { IsShaped file.now }
     ensures same { IfOk result (λ v. v.file.now ≡ file.now) }

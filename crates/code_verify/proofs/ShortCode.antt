@@ -1,5 +1,6 @@
--- The file of a program without class faults is short where its table of names is: an answer list has no more names than its class has methods, a choice no more alternatives
--- than operands may stand, and all other lists are within the limits of the language.
+-- The file of a program without class faults is short if its table of names is short.
+-- An answer has at most as many names as its class has methods, and a select at most as many alternatives as the operand stack may have operands.
+-- All other lists are within the limits of the language.
 use Rattle.std.proofs.Common.{◌≡◌, refl, sym, ◌∙◌, subst, ℕ, suc, ◌+◌, ◌≤◌, ◌==◌, List, [], ◌∷◌, ◌++◌, length, map, Option, Some, None, is_some, Bool, true, false, not, ◌||◌, arith}
 use Rattle.std.specs.Prelude.{if◌then◌else◌, nat_eq, slice_get}
 use Rattle.std.specs.List.{AllByRecursion as Each, IsDistinct, list_any}

@@ -12,7 +12,7 @@ use pool_syntax::{ClassDecl, Method, Var};
 use run_types::{Kind, List};
 use std::alloc::{AllocError, Global};
 
-/// Adds the kinds of variables.
+/// Appends the kinds of variables. Reports an error if out of memory.
 fn push_kinds(kinds: &mut List<Kind>, vars: &[Var]) -> Result<(), AllocError>
     ensures { OnOk result (kinds.new ≡ kinds.old ++ kinds_of vars.now) }
 {
@@ -67,12 +67,14 @@ fn kinds_of(alloc: Global, classes: &[ClassDecl]) -> Result<List<ClassKinds>, Al
     Ok(list)
 }
 
-/// The code of a program, with a copy of its names and the kinds that it declares. The verdict on it is good, so its verifier
-/// refuses it for memory alone. Time and memory are in proportion to the program.
+/// The object code file of a program: its code, a copy of its names, and the kinds that it declares.
+/// Reports an error if out of memory, or if a body or a method has 2^32 instructions or more.
+/// The verdict on the file is `Good`, so `verify` accepts it unless it is out of memory.
+/// Time and memory are proportional to the program.
 pub fn file_of(alloc: Global, program: &Checked<'_>) -> Result<UnitFile, AllocError>
     ensures file { IfOk result (λ f. f ≡ file_of program.now.names.now (program_of program.now.program.now)) }
     ensures shaped { IfOk result (λ f. IsShaped f) }
-    // It can be written where its table of names and each name of it have fewer than 2^32 items.
+    // The file can be encoded if the table has fewer than 2^32 names, and each name has fewer than 2^32 bytes.
     ensures short { IsListOf IsShortList program.now.names.now → IfOk result (λ f. IsShort f) }
     ensures good { IfOk result (λ f. verdict f ≡ Good) }
 {

@@ -1,4 +1,4 @@
--- The arguments of what is called fit the method.
+-- The arguments of a call fit the method.
 use Rattle.std.proofs.Common.{◌≡◌, inl, inr, refl, sym, ap, subst, ◌∙◌, IsTrue, ℕ, ◌==◌, List, [], ◌∷◌, length, Some, All, Bool, true, false}
 use Rattle.std.proofs.lemmas.List.Elements.{All-head, All-tail}
 use Rattle.run_types.specs.declared.types.Value.{Value}

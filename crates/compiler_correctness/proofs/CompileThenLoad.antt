@@ -1,4 +1,4 @@
--- The file of a program is read back from its bytes, is verified, and has the program's records.
+-- The file of a program is decoded from its encoding, is verified, and has the program's records.
 use Rattle.std.proofs.Common.{◌≡◌, ◌≢◌, refl, sym, ap, ◌∙◌, ℕ, suc, List, [], ◌∷◌, Some, None, Bool, true, false, not, ◌||◌}
 use Rattle.std.proofs.Math.Logic.{∥∥₁_elim}
 use denote.Struct.Props.{props}

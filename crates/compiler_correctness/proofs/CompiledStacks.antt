@@ -1,4 +1,5 @@
--- The code of an expression without class faults leaves one operand more, of its sort; that of statements leaves the operands that stand below them, at most one; and how many stand at once.
+-- The code of an expression without class faults leaves one more operand, of its sort; the code of statements leaves the operands below it, at most one.
+-- Also the greatest depth of their operand stack.
 use Rattle.std.proofs.Common.{◌≡◌, ◌⊎◌, inl, inr, refl, sym, ap, subst, ◌∙◌, IsTrue, ℕ, zero, suc, ◌+◌, ◌==◌, ◌<◌, ◌≤◌, List, [], ◌∷◌, ◌++◌, length, Option, Some, None, is_some, Bool, true, false, not, ◌&&◌, ◌||◌, arith, length-append}
 use Rattle.std.specs.Prelude.{slice_get, map, replicate, nat_le, if◌then◌else◌}
 use Rattle.pool_compile.proofs.Laws.{op_whole, Has, front, back, works_length, count}

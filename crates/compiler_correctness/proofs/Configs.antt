@@ -1,4 +1,4 @@
--- Configurations whose values fit, where objects and messages change.
+-- Configurations whose values fit, after objects and messages change.
 use Rattle.std.proofs.Common.{◌≡◌, ◌≢◌, ◌⊎◌, inl, inr, refl, sym, ap, subst, ◌∙◌, ℕ, List, Some}
 use Rattle.std.specs.Prelude.{slice_get}
 use Rattle.run_types.specs.declared.frames.CodeObject.{CodeObject}

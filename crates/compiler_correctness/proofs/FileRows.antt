@@ -1,4 +1,4 @@
--- Worked files, computed: their bytes, what bytes say, the verdict on a file, and a record from bytes alone.
+-- Worked examples of files, computed: their encoding, the decoding of bytes, the verdict on a file, and a record from bytes alone.
 use Rattle.std.proofs.Common.{◌≡◌, refl, pos, List, [], ◌∷◌}
 use Rattle.std.specs.Prelude.{codes, take}
 use Rattle.text_scan.specs.Text.{Text}

@@ -1,4 +1,4 @@
--- Code that sends to names alone: its configurations show names, so its records are readable.
+-- Code in which the method of each send is a name: its configurations show names, so its records are readable.
 use Rattle.std.proofs.Common.{◌≡◌, inl, inr, ℕ, ◌≤◌, List, [], ◌∷◌, length, Some}
 use Rattle.run_types.specs.declared.types.Event.{Event}
 use Rattle.run_types.specs.declared.types.Label.TheVariants as L

@@ -1,4 +1,4 @@
--- The most operands that stand at once in a piece of code, and places that are reached.
+-- The greatest depth of the operand stack in a piece of code, and the places that are reached.
 use Rattle.std.proofs.Common.{◌≡◌, ◌⊎◌, inl, inr, refl, sym, ap, subst, ◌∙◌, ℕ, zero, suc, ◌+◌, ◌<◌, ◌≤◌, List, [], ◌∷◌, ◌++◌, length, Some, Bool, true, false, arith, length-append}
 use Rattle.std.specs.Prelude.{slice_get, nat_le, if◌then◌else◌}
 use Rattle.run_types.proofs.Laws.{same_some}

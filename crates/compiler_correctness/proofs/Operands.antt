@@ -1,4 +1,4 @@
--- Operands of the sorts of a stack, and what is left of both.
+-- Operands of the sorts of a stack, and both without the operands that an instruction takes.
 use Rattle.std.proofs.Common.{◌≡◌, ◌⊎◌, inl, inr, refl, sym, ap, subst, ℕ, zero, suc, List, [], ◌∷◌, length, Option, Some, None, Bool, true, false}
 use Rattle.std.specs.Prelude.{slice_get, slice_set, take, if◌then◌else◌}
 use Rattle.run_types.specs.declared.types.Value.{Value}

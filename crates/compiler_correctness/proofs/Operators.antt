@@ -1,4 +1,4 @@
--- What operators make of operands, and what they leave of their sorts.
+-- The value of an operator on operands, and its effect on their sorts.
 use Rattle.run_types.proofs.Laws.{given_by}
 use Rattle.std.proofs.Common.{◌≡◌, refl, ap, ◌∙◌, zero, suc, ℤ, pos, negsuc, List, ◌∷◌, Some, Bool, true, false}
 use Rattle.std.specs.Prelude.{◌+ℤ◌, ◌-ℤ◌, ◌*ℤ◌, neg_ℤ, int_div, int_rem, ◌&&◌, ◌||◌, if◌then◌else◌}

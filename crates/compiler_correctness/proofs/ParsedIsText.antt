@@ -1,4 +1,4 @@
--- A program that was parsed, and has no class faults, is as a text gives it.
+-- A parsed program without class faults is as the parser gives it: nothing in it is under way.
 use Rattle.std.proofs.Common.{◌≡◌, List, []}
 use Rattle.pool_syntax.specs.Terms.{ProgramTree}
 use Rattle.text_scan.specs.Text.{Text}

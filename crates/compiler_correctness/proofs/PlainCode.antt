@@ -1,4 +1,4 @@
--- The code of statements writes strings of the table, and has no end of a method or a body.
+-- The code of statements writes strings of the table, and does not end a method or a body.
 use Rattle.std.proofs.Common.{◌≡◌, subst, IsTrue, ℕ, zero, suc, ◌+◌, List, [], ◌∷◌, ◌++◌, length, Some, None, Bool, true, false}
 use Rattle.std.specs.Prelude.{slice_get, if◌then◌else◌}
 use Rattle.text_scan.specs.Text.{Text}

@@ -1,4 +1,4 @@
--- Beside each configuration that a run of a program reaches stands its code, which is of the unit.
+-- Each configuration that a run of a program reaches has a corresponding configuration of the code, which is of the unit.
 use Rattle.std.proofs.Common.{◌≡◌, refl, sym, ap, subst, ◌∙◌, List, [], ◌∷◌, Option, Some, None}
 use Rattle.run_types.specs.declared.types.Label.{Label}
 use Rattle.run_types.specs.declared.types.Placement.{Placement}

@@ -1,4 +1,4 @@
--- The record of a parsed program without class faults is readable: it is that of its code, and its code is spelled.
+-- The record of a parsed program without class faults is readable: it has the lines of its code's record, and its code is spelled.
 use Rattle.std.proofs.Common.{◌≡◌, refl, sym, subst, ℕ, ◌≤◌, List, [], length, true}
 use Rattle.run_types.specs.declared.types.Event.{Event}
 use Rattle.run_types.specs.declared.types.Line.{Line}

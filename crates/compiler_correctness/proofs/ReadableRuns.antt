@@ -1,4 +1,4 @@
--- Each line of a record of spelled code is readable, and the lines stand in the order of a record, where all that configurations show has names.
+-- Each line of a record of spelled code is readable, and the lines have the order of a record, if everything that configurations show has a name.
 use Rattle.std.proofs.Common.{◌≡◌, inl, inr, refl, sym, ap, subst, ◌∙◌, ℕ, ◌+◌, ◌*◌, ◌/◌, ◌<◌, ◌≤◌, ◌==◌, List, [], ◌∷◌, length, Option, Some, None, Bool, true, false, arith}
 use Rattle.std.specs.Prelude.{◌&&◌, is_none, slice_get}
 use Rattle.run_types.specs.declared.types.NameId.{NameId}

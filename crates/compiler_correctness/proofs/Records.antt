@@ -1,4 +1,4 @@
--- Over code of a program the placed machine starts, goes on and stands as it does over its terms.
+-- The placed machine over the code of a program starts and continues as over its terms, and its objects have the same status.
 use Rattle.std.proofs.Common.{◌≡◌, refl, subst, ℕ, List, [], Option, Some, None}
 use Rattle.run_types.specs.declared.types.Event.{Event}
 use Rattle.run_types.specs.declared.types.Placement.{Placement}

@@ -1,4 +1,4 @@
--- What a send asks of its destination.
+-- The method and the arguments that a send requires of its destination.
 use Rattle.std.proofs.Common.{◌≡◌, refl, sym, ap, subst, ◌∙◌, ℕ, zero, suc, ◌==◌, List, [], ◌∷◌, length, Option, Some, None}
 use Rattle.std.specs.Prelude.{slice_get}
 use Rattle.run_types.specs.declared.types.NameId.{NameId}

@@ -1,4 +1,4 @@
--- Code of a program does what its terms do, as languages of the placed machine.
+-- The code of a program simulates its terms, as languages of the placed machine.
 use Rattle.std.proofs.Common.{◌≡◌, refl, sym, ap, subst, ◌∙◌, IsTrue, ℕ, suc, ◌==◌, List, [], ◌∷◌, length, Option, Some, None, Bool, true, false, arith}
 use Rattle.std.specs.Prelude.{slice_get}
 use Rattle.run_types.specs.declared.types.Value.{Value}

@@ -1,4 +1,4 @@
--- In a typed configuration of code nobody goes wrong; the start is typed; and a record of a verified file is a run of the relation over its objects.
+-- In a typed configuration of code no object goes wrong. The start is typed, and a record of a verified file is a run of the relation over its objects.
 use Rattle.std.proofs.Common.{◌≡◌, ◌≢◌, ◌⊎◌, inl, inr, refl, sym, ap, subst, ◌∙◌, IsTrue, ℕ, suc, List, [], ◌∷◌, ◌++◌, length, Option, Some, None, is_some}
 use Rattle.std.specs.Prelude.{slice_get}
 use Rattle.run_types.specs.declared.types.NameId.{NameId}

@@ -1,4 +1,4 @@
--- Typed objects in which no wait stands are neither stuck nor at a wait.
+-- Typed objects whose term has no wait are neither stuck nor waiting.
 use Rattle.std.proofs.Common.{◌≡◌, ◌≢◌, ◌⊎◌, inl, inr, refl, sym, ap, subst, ◌∙◌, IsTrue, ℕ, zero, suc, ◌==◌, List, [], ◌∷◌, length, Option, Some, None, is_none, Bool, true, false, if◌then◌else◌}
 use Rattle.std.specs.Prelude.{slice_get, ◌&&◌}
 use Rattle.run_types.specs.declared.types.Value.{Value}

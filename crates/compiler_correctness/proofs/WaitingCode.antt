@@ -1,4 +1,4 @@
--- Code waits only where its call was answered. So each line of a record of code has the number of the post that it answers.
+-- Code waits only after its call was answered, so each line of a record of code has the number of the post that it answers.
 use Rattle.std.proofs.Common.{◌≡◌, ◌≢◌, ◌⊎◌, inl, inr, refl, sym, ap, ◌∙◌, ℕ, ◌==◌, List, Option, Some, None, is_none, is_some, not}
 use Rattle.std.specs.Prelude.{◌&&◌}
 use Rattle.run_types.specs.declared.types.Value.TheVariants as V

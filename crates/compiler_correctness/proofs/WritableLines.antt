@@ -1,4 +1,4 @@
--- The lines of a record that is read back can be written: what they name is a name, of at most 64 bytes, or a string of at most 256.
+-- The lines of a record that is read back can be written: each name in them is a name of at most 64 bytes, or a string of at most 256.
 use Rattle.std.proofs.Common.{◌≡◌, ◌≤◌, ℕ, List, [], ◌∷◌, length, arith, ◌&&◌, true}
 use Rattle.std.specs.Prelude.{is_none, nat_le}
 use Rattle.std.specs.List.{AllByRecursion}

@@ -1,4 +1,4 @@
--- What a record of code of a verified file shows: one run of the relation over its objects, in which no object goes wrong.
+-- The record of a verified file as one run of the transition relation over its objects, in which no object goes wrong.
 use Rattle.std.specs.Prelude.{◌≡◌, ℕ, List, ◌++◌, Some, None, true}
 use Rattle.run_types.specs.declared.types.Label.{Label}
 use Rattle.run_types.specs.declared.types.Placement.{Placement}
@@ -15,7 +15,7 @@ pub record IsRightCode (f : UnitFile) (c : Config Placed) : Type 0 where
   pub typed : IsTypedCode f c
   pub nobody : (o : ℕ) (x : Placed) → object_of c o ≡ Some x → ¬ (GoesWrong f c o x)
 
--- the labels lead from c to z by way of a right configuration, to which the front leads
+-- the labels of `front` lead from c to a right configuration, and those of `rest` lead from there to z
 pub record GoesBy (f : UnitFile) (c z : Config Placed) (front rest : List Label) : Type 0 where
   pub between : Config Placed
   pub to : moves (coded f.unit) c front ≡ Some between
@@ -23,7 +23,7 @@ pub record GoesBy (f : UnitFile) (c z : Config Placed) (front rest : List Label)
   pub right : IsRightCode f between
 
 -- a record of a run from c: event lines and then one end line; its labels are a run of the relation over code to its last configuration, which is
--- sound with its delay; after each front of the labels stands a right configuration; and where the record ends quiet no label is possible
+-- sound with its delay; the configuration after each prefix of the labels is right; and if the record ends quiet, no label is possible
 pub record IsCodeRun (f : UnitFile) (l : Placement) (c : Config Placed) (r : Record Placed) : Type 0 where
   pub lines : EndsOnce r.lines
   pub leads : moves (coded f.unit) c (labels r.lines) ≡ Some r.last

@@ -12,13 +12,13 @@ use Rattle.pool_compile.specs.Code.{code}
 abbrev pub kinds_of : List Var → List Kind
 kinds_of vs = map (λ v. v.kind) vs
 
--- of the parameters and then the locals, and of the result
+-- the kinds of the parameters and then the locals, and of the result
 abbrev pub method_kinds : MethodTree → MethodKinds
 method_kinds m = record { temps = kinds_of (m.params ++ m.locals); result = m.outcome }
 
 abbrev pub class_kinds : ClassTree → ClassKinds
 class_kinds k = record { vars = kinds_of k.vars; methods = map method_kinds k.methods }
 
--- with the table of its names
+-- the file of a program with the table of its names
 abbrev pub file_of : List Text → ProgramTree → UnitFile
 file_of names p = record { unit = record { names = names; classes = code p }; kinds = record { classes = map class_kinds p } }

@@ -1,4 +1,4 @@
--- Code beside a configuration of terms.
+-- The configuration of code that corresponds to a configuration of terms.
 use Rattle.pool_syntax.specs.Terms.{ProgramTree}
 use Rattle.run_types.specs.declared.types.Placement.{Placement}
 use Rattle.pool_relation.specs.Action.{Object}
@@ -13,7 +13,7 @@ use Rattle.mesh_of_code.specs.Coded.{Placed, coded}
 use Rattle.mesh_of_code.specs.CodeInvariant.{IsOfCode}
 use Rattle.compiler_correctness.specs.Matches.{Matches}
 
--- a configuration of code that is of the unit and corresponds to it, and that is sound with each delay with which it is
+-- a configuration of code that is of the unit and corresponds to c, and that is sound with each delay with which c is sound
 pub record HasCode (p : ProgramTree) (u : Code) (l : Placement) (c : Config Object) : Type 0 where
   pub config : Config Placed
   pub of_code : IsOfCode u config

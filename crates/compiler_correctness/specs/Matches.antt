@@ -1,4 +1,4 @@
--- What an object of code in a configuration has to do with the object that it stands for.
+-- The correspondence between an object of a program and an object of code that represents it.
 use Rattle.std.specs.Prelude.{◌≡◌, ℕ}
 use Rattle.pool_syntax.specs.Terms.{ProgramTree}
 use Rattle.pool_relation.specs.Action.{Object, action}
@@ -8,7 +8,7 @@ use Rattle.pool_compile.specs.Follows.{Represents}
 use Rattle.mesh_of_terms.specs.Terms as T
 use Rattle.mesh_of_code.specs.Coded.{Placed, kind_of, unless_served}
 
--- It stands for the object, has met the same error, and does the same next: so its call is served exactly where the object is at a wait.
+-- The code represents the object, has met the same error, and has the same next action. So its call is being served if and only if the object waits.
 pub record Matches (p : ProgramTree) (u : Code) (o : ℕ) (x : Object) (y : Placed) : Type 0 where
   pub stands : Represents p u x y.object
   pub fault : x.fault ≡ y.fault

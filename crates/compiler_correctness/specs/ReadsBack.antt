@@ -1,4 +1,4 @@
--- Lines of which both texts are read back: without fault, and, with the table of names with which they were written, as these lines.
+-- Lines that are read back from both forms of their text: without a fault, and as the same lines with the table of names that wrote them.
 use Rattle.std.specs.Prelude.{◌≡◌, List, None}
 use Rattle.run_types.specs.declared.types.Line.{Line}
 use Rattle.text_scan.specs.Text.{Text}

@@ -1,4 +1,4 @@
--- Units whose code makes objects of classes with names of the format, writes strings of it, and pushes integers of 64 bits; and units that send to names of the format alone.
+-- Units whose class names, strings and integers the record format allows, and units in which the method of each send is such a name.
 use Rattle.std.specs.Prelude.{◌≡◌, ◌⊎◌, ℕ, ℤ, true}
 use Rattle.run_types.specs.Values.{is_in_range}
 use Rattle.code_semantics.specs.declared.unit.Instr.TheVariants as I
@@ -12,6 +12,6 @@ pub record IsSpelledUnit (u : Code) : Type 0 where
   pub strings : (n : ℕ) → IsTextIn u n → IsString u.names (id n)
   pub numbers : (z : ℤ) → HasInstr u (I.PushInt z) → is_in_range z ≡ true
 
--- the method of each send is a name, also of one that no run reaches
+-- the method of each send is a name, also if no run reaches the send
 abbrev pub SendsNames : Code → Type 0
 SendsNames u = (n a : ℕ) → HasInstr u (I.Send (id n) a) ⊎ HasInstr u (I.Async (id n) a) → IsNamed u.names (id n)

@@ -1,4 +1,4 @@
--- Typed configurations of code of a verified file, and what it is for an object to go wrong.
+-- Typed configurations of the code of a verified file, and objects that go wrong: by an operand, a send or a return that does not fit.
 use Rattle.std.specs.Prelude.{◌≡◌, ◌⊎◌, is_some, ℕ, List, [], ◌∷◌, ◌++◌, length, map, Option, Some, None, IsTrue, if◌then◌else◌, slice_get}
 use Rattle.run_types.specs.declared.types.Value.{Value}
 use Rattle.run_types.specs.declared.types.Value.TheVariants as V
@@ -28,7 +28,7 @@ use Rattle.code_typing.specs.Verified.{Reached}
 abbrev pub Classes : Type 0
 Classes = ℕ → Option ℕ
 
--- nil is of every sort, and the name of an object of its class
+-- nil is of every sort; the name of an object is of the sort of its class
 abbrev pub IsOfSort : Classes → Value → Sort → Type 0
 IsOfSort at V.Nil s = Unit {0}
 IsOfSort at (V.Int z) s = s ≡ IntSort
@@ -49,21 +49,21 @@ abbrev pub kinds_of_frame : Declared → Option ℕ → Option MethodKinds
 kinds_of_frame k None = None
 kinds_of_frame k (Some j) = slice_get k.kinds.methods j
 
--- where the code of a frame stands
+-- the scope of the code of a frame
 abbrev pub frame_scope : UnitFile → Declared → Option ℕ → CodeScope
 frame_scope f k m = scope_by f k (kinds_of_frame k m)
 
--- the sort of the value that a frame leaves
+-- the sort of the value that a frame returns
 abbrev pub left_sort : Option MethodKinds → Sort
 left_sort None = NoSort
 left_sort (Some s) = result_sort s.result
 
--- what the frame above is still to leave: the value of an own call
+-- the sort that a frame still waits for: the value of the own call above it
 abbrev pub missing_sorts : Declared → Option Frame → Stack
 missing_sorts k None = []
 missing_sorts k (Some above) = if is_own above.serves then left_sort (kinds_of_frame k above.method) ∷ [] else []
 
--- the operands fit a stack with which the frame's place is reached once those come that are missing, and the temps fit their kinds
+-- together with the missing sorts, the operands fit a stack with which the frame's place is reached; the temps fit their kinds
 pub record IsSortedFrame (f : UnitFile) (at : Classes) (k : Declared) (missing : Stack) (x : Frame) : Type 0 where
   pub stack : Stack
   pub reached : Reached (frame_scope f k x.method) (code_of (Some k.code) x.method) x.at (missing ++ stack)
@@ -71,7 +71,7 @@ pub record IsSortedFrame (f : UnitFile) (at : Classes) (k : Declared) (missing :
   pub has_temps : HasTemps k.code x.method x.temps
   pub temps : AreOfKinds at x.temps (frame_scope f k x.method).temps
 
--- frames under the one above
+-- frames under the frame `above`
 abbrev pub AreSortedFrames : UnitFile → Classes → Declared → Option Frame → List Frame → Type 0
 AreSortedFrames f at k above [] = Unit {0}
 AreSortedFrames f at k above (x ∷ xs) = IsSortedFrame f at k (missing_sorts k above) x × AreSortedFrames f at k (Some x) xs
@@ -93,7 +93,7 @@ IsMessageFor f c r m =
     (y : Placed) × (k : Declared) × (s : Signature) × (object_of c r ≡ Some y) × (declared_at f y.object.class ≡ Some k)
     × (signature_named k (id m.method) ≡ Some s) × AreOfKinds (class_in f c) m.args s.params
 
--- a typed configuration of code: what is kept for any proper unit, and all values fit
+-- a typed configuration of code: it meets the invariant of any proper unit, and all its values fit
 pub record IsTypedCode (f : UnitFile) (c : Config Placed) : Type 0 where
   pub of_code : IsOfCode f.unit c
   pub objects : (o : ℕ) (x : Placed) → object_of c o ≡ Some x → IsSortedObject f (class_in f c) x.object
@@ -109,7 +109,7 @@ FitFrames f at None xs = ⊥
 FitFrames f at (Some k) [] = ⊥
 FitFrames f at (Some k) (x ∷ xs) = FitInstr (frame_scope f k x.method) at (slice_get (code_of (Some k.code) x.method) x.at) x.operands
 
--- each operand is of a sort that the instruction at hand allows
+-- each operand is of a sort that the current instruction allows
 abbrev pub TakesOperands : UnitFile → Classes → CodeObject → Type 0
 TakesOperands f at x = FitFrames f at (declared_at f x.class) x.frames
 
@@ -119,13 +119,13 @@ HasMethod f c b m n =
     (y : Placed) × (k : Declared) × (s : Signature) × (object_of c b ≡ Some y) × (declared_at f y.object.class ≡ Some k)
     × (signature_named k (id m) ≡ Some s) × (length s.params ≡ n)
 
--- what an object does that goes wrong: a send to one that lacks the method, or a return to one that does not wait for it
+-- an action that goes wrong: a send to an object that lacks the method, or a return to an object that does not wait for it
 abbrev pub DoesWrong : UnitFile → Config Placed → ℕ → Kind → Type 0
 DoesWrong f c o (K.Send b m args) = ¬ (HasMethod f c b m (length args))
 DoesWrong f c o (K.Async b m args) = ¬ (HasMethod f c b m (length args))
 DoesWrong f c o (K.Return k v) = ¬ ((x : Placed) × (m : ℕ) × (object_of c k ≡ Some x) × ((coded f.unit).kind k x ≡ K.Waits o m))
 DoesWrong f c o _ = ⊥
 
--- an object without an error goes wrong: its instruction meets an operand of a sort that it does not allow, or what it does goes wrong
+-- an object without an error goes wrong: its instruction has an operand of a sort that it does not allow, or its action goes wrong
 abbrev pub GoesWrong : UnitFile → Config Placed → ℕ → Placed → Type 0
 GoesWrong f c o x = (x.fault ≡ None) × (¬ (TakesOperands f (class_in f c) x.object) ⊎ DoesWrong f c o ((coded f.unit).kind o x))

@@ -1,4 +1,5 @@
-//! Laws of code on placed machines: each is the contract of a function that does nothing.
+//! Theorems that compare the code of a program with its terms, on placed machines.
+//! Each is the contract of a function with an empty body.
 ghost use Rattle.std.specs.Prelude.{◌≡◌, ℕ, List, [], Some};
 ghost use Rattle.pool_syntax.specs.Terms.{ProgramTree};
 ghost use Rattle.text_scan.specs.Text.{Text};
@@ -31,7 +32,7 @@ ghost use Rattle.compiler_correctness.specs.HasCode.{HasCode};
 ghost use Rattle.compiler_correctness.specs.Matches.{Matches};
 ghost use Rattle.compiler_correctness.specs.StandsAlike.{StandsAlike};
 
-/// A program that was parsed, and has no class faults, is one of which the laws below speak.
+/// A parsed program without class faults satisfies `IsCheckedProgram`, the premise of the theorems about its code.
 pub fn parsed_programs_are_checked()
     ensures { (s : Text) (names : List Text) (p : ProgramTree) → IsParsed s names p → faults p ≡ [] → IsCheckedProgram p }
 {}
@@ -41,18 +42,21 @@ pub fn what_suits_the_code_fits_the_program()
     ensures { (p : ProgramTree) (u : Code) (l : Placement) → u.classes ≡ code p → Suits l u → FitFor (terms p) l }
 {}
 
-/// Whatever an object of a program does, its code does.
+/// The code of a program simulates its objects: an object and its code have the same next action,
+/// and correspond again after each step.
 pub fn code_does_what_terms_do()
     ensures { (p : ProgramTree) (u : Code) → IsCheckedProgram p → u.classes ≡ code p → Simulates (terms p) (coded u) (TypedTerms p) (Matches p u) }
 {}
 
-/// Code starts where its program starts.
+/// The code has a start if the program has one, and the two starts correspond.
 pub fn code_starts_as_terms()
     ensures { (p : ProgramTree) (u : Code) (l : Placement) (c : Config Object) → IsCheckedProgram p → u.classes ≡ code p → start (terms p) l ≡ Some c
         → (e : Config Placed) × (start (coded u) l ≡ Some e) × Related (Matches p u) c e }
 {}
 
-/// Over any schedule, with or without wires, the record of code has the lines of its program's record and the same delay at the end, and their last configurations correspond.
+/// Over any schedule, with or without wires, the record of the code
+/// has the lines of the program's record, and the same last delay. The last configurations correspond.
+/// The placement must fit the program.
 pub fn records_of_code_are_those_of_terms()
     ensures on_wires { (p : ProgramTree) (u : Code) (l : Placement) (q : ℕ) (es : List Event) → IsCheckedProgram p → u.classes ≡ code p → FitFor (terms p) l
         → SameRecord (Matches p u) (record_on_wires (terms p) l q es) (record_on_wires (coded u) l q es) }
@@ -60,7 +64,8 @@ pub fn records_of_code_are_those_of_terms()
         → SameRecord (Matches p u) (record_of (terms p) l q es) (record_of (coded u) l q es) }
 {}
 
-/// In corresponding configurations the same objects are there, each with the same class and the same standing, and the cycles of calls are the same.
+/// Corresponding configurations have the same objects, each with the
+/// same class and the same status, and the same cycles of calls.
 pub fn code_stands_as_terms()
     ensures objects { (p : ProgramTree) (u : Code) (c : Config Object) (e : Config Placed) (d : Delay) (o : ℕ) → IsCheckedProgram p → u.classes ≡ code p
         → Related (Matches p u) c e → Both (StandsAlike p u d o) (object_of c o) (object_of e o) }
@@ -68,7 +73,9 @@ pub fn code_stands_as_terms()
         → Related (Matches p u) c e → cycles (terms p) c d ≡ cycles (coded u) e d }
 {}
 
-/// In corresponding configurations of which the first is typed, each event has the same line or the same limit, and what is after it corresponds; and both are quiet or neither.
+/// In corresponding configurations, each event has the same line or
+/// reaches the same limit, and the configurations after it correspond. The configuration of terms must be typed.
+/// Corresponding configurations are both quiet, or neither is.
 pub fn events_of_code_are_those_of_terms()
     ensures acts { (p : ProgramTree) (u : Code) (l : Placement) (q : ℕ) (c : Config Object) (e : Config Placed) (d : Delay) (ev : Event) → IsCheckedProgram p → u.classes ≡ code p
         → TypedTerms p c → Related (Matches p u) c e → SameAct (Matches p u) (act (terms p) l q c d ev) (act (coded u) l q e d ev) }
@@ -76,8 +83,10 @@ pub fn events_of_code_are_those_of_terms()
         → Related (Matches p u) c e → is_quiet (terms p) c d ≡ is_quiet (coded u) e d }
 {}
 
-/// Beside each configuration that a run of a program reaches stands its code: a configuration that corresponds to it and is of the unit, and that is sound with each delay with
-/// which it is. So the events of code, and of a machine that stands for code, are those of each sound configuration that a run reaches.
+/// Each configuration that a run of a program reaches has a
+/// corresponding configuration of the code, which is of the unit.
+/// The latter is sound with each delay with which the former is sound.
+/// So the theorems about events of the code apply to each sound configuration that a run reaches.
 pub fn what_a_run_reaches_has_code()
     ensures { (p : ProgramTree) (u : Code) (l : Placement) (first : Configuration) (labs : List Label) (c : Config Object) → IsCheckedProgram p → u.classes ≡ code p → IsProper u
         → X.start p (root_name l) ≡ Some first → run p first labs ≡ Some (plain c) → HasCode p u l c }

@@ -1,4 +1,4 @@
-//! Laws of verified object code files: each is the contract of a function that does nothing.
+//! Theorems about verified object code files. Each is the contract of a function with an empty body.
 ghost use Rattle.std.specs.Prelude.{◌≡◌, ℕ, List, [], Some, true};
 ghost use Rattle.pool_grammar.specs.Grammatical.{IsGrammatical};
 ghost use Rattle.pool_syntax.specs.Spelled.{is_spelled};
@@ -35,18 +35,20 @@ pub fn verified_units_are_proper()
     ensures { (f : UnitFile) → IsShaped f → IsVerified f → IsProper f.unit }
 {}
 
-/// Code of a verified file is a lawful language, where what is kept of a configuration is that it is typed: each transition keeps that.
+/// The code of a verified file is a lawful language of objects.
+/// Its invariant is `IsTypedCode`, that a configuration is typed: each transition keeps it.
 pub fn verified_code_is_lawful()
     ensures { (f : UnitFile) → IsShaped f → IsVerified f → Lawful (coded f.unit) (IsTypedCode f) }
 {}
 
-/// In a typed configuration of code of a verified file no object goes wrong.
+/// In a typed configuration of the code of a verified file, no object goes wrong.
 pub fn no_object_of_code_goes_wrong()
     ensures { (f : UnitFile) (c : Config Placed) (o : ℕ) (x : Placed) → IsShaped f → IsVerified f → IsTypedCode f c → object_of c o ≡ Some x → ¬ (GoesWrong f c o x) }
 {}
 
-/// The record of code of a verified file is a run of the relation over its objects, with typed configurations all the way, in which no object goes wrong; and where it ends quiet
-/// no transition is possible.
+/// The record of a verified file is a run of the transition relation over its objects.
+/// Each configuration of the run is typed, and no object goes wrong.
+/// If the record ends quiet, no transition is possible.
 pub fn records_of_verified_code_are_runs()
     ensures records { (f : UnitFile) (l : Placement) (q : ℕ) (es : List Event) → IsShaped f → IsVerified f → FitFor (coded f.unit) l
         → (c : Config Placed) × (start (coded f.unit) l ≡ Some c) × IsCodeRun f l c (record_of (coded f.unit) l q es) }
@@ -54,26 +56,29 @@ pub fn records_of_verified_code_are_runs()
         → (c : Config Placed) × (start (coded f.unit) l ≡ Some c) × IsCodeRun f l c (record_on_wires (coded f.unit) l q es) }
 {}
 
-/// Each line of the record of code of a verified file that answers a request has the number of a line above 0, which posts this request: of the same object, for the class or
-/// the call that the line names.
+/// Each line of the record of a verified file that answers a request
+/// has the number, from 1, of the line that posts this request.
+/// That line is of the same object, for the class or the call that the answering line names.
 pub fn each_line_answers_its_post()
     ensures answers { (f : UnitFile) (l : Placement) (q : ℕ) (es : List Event) → IsShaped f → IsVerified f → FitFor (coded f.unit) l → EachAnswersPost (record_of (coded f.unit) l q es).lines }
     ensures on_wires { (f : UnitFile) (l : Placement) (q : ℕ) (es : List Event) → IsShaped f → IsVerified f → FitFor (coded f.unit) l → EachAnswersPost (record_on_wires (coded f.unit) l q es).lines }
 {}
 
-/// The file of a program of the grammar without class faults is shaped and verified, so the verdict on it is good.
+/// The file of a program of the grammar without class faults is verified, so the verdict on it is `Good`.
+/// The names, strings and integers of the program must be spelled
+/// right, and each code must have fewer than 2^32 instructions. The file of each program is shaped.
 pub fn files_of_programs_are_verified()
     ensures shaped { (names : List Text) (p : ProgramTree) → IsShaped (file_of names p) }
     ensures verified { (names : List Text) (p : ProgramTree) → ∥ IsGrammatical p ∥₁ → faults p ≡ [] → is_spelled names p ≡ true → AreShort (code p) → IsVerified (file_of names p) }
     ensures good { (names : List Text) (p : ProgramTree) → ∥ IsGrammatical p ∥₁ → faults p ≡ [] → is_spelled names p ≡ true → AreShort (code p) → verdict (file_of names p) ≡ Good }
 {}
 
-/// The bytes of a file whose names are distinct say that file.
+/// If the names of a file are distinct, its encoding decodes to that file.
 pub fn files_are_read_back()
     ensures { (f : UnitFile) → IsWritable f → is_distinct f.unit.names ≡ true → decode (file_bytes f) ≡ Says f }
 {}
 
-/// The record of the file of a program of the grammar has the lines of the program's record.
+/// The record of the file of a program of the grammar without class faults has the lines of the program's record.
 pub fn files_run_as_their_programs()
     ensures records { (names : List Text) (p : ProgramTree) (l : Placement) (q : ℕ) (es : List Event) → ∥ IsGrammatical p ∥₁ → faults p ≡ []
         → Suits l (file_of names p).unit → (record_of (terms p) l q es).lines ≡ (record_of (coded (file_of names p).unit) l q es).lines }

@@ -1,4 +1,4 @@
--- The line of each event tells what it should of the configuration before it, and what an object is due then was due before, is returned by the line, or names an object.
+-- The line of each event is true of the configuration before it. A value that is due after it was due before, is returned by it, or names an object.
 use Rattle.std.proofs.Common.{◌≡◌, ◌≢◌, ◌⊎◌, inl, inr, refl, sym, ap, subst, ◌∙◌, ℕ, zero, suc, ◌+◌, ◌*◌, ◌%◌, ◌<◌, ◌≤◌, ◌==◌, List, [], ◌∷◌, ◌++◌, length, Option, Some, None, is_some, Bool, true, false, if◌then◌else◌, slice_get, arith}
 use Rattle.std.specs.Prelude.{◌&&◌, nat_lt, flat_map}
 use Rattle.std.specs.FinMap.{put}

@@ -1,4 +1,4 @@
--- What code is at, from the tests of transitions.
+-- The next action of code, from the tests of transitions.
 use Rattle.std.proofs.Common.{◌≡◌, refl, sym, ap, ◌∙◌, ℕ, zero, suc, ◌==◌, List, [], Option, Some, None, true, false}
 use Rattle.std.specs.Prelude.{◌&&◌}
 use Rattle.run_types.specs.declared.types.Value.{Value}

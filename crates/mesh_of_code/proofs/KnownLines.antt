@@ -1,4 +1,4 @@
--- Each line of a run of code names a place of the unit's table of names, if it names anything.
+-- Each name in a line of a run of code is in the unit's table of names.
 use Rattle.std.proofs.Common.{◌≡◌, ◌≢◌, inl, inr, refl, ap, subst, ℕ, zero, suc, ◌+◌, ◌<◌, ◌==◌, List, [], ◌∷◌, ◌++◌, length, Option, Some, None, is_some, is_none, Bool, true, false, if◌then◌else◌}
 use Rattle.std.specs.Prelude.{◌&&◌, nat_lt, flat_map}
 use Rattle.run_types.specs.declared.types.Value.{Value}

@@ -1,4 +1,4 @@
--- What a label of code names: objects that are there, in its values too, and an alternative of at most 64.
+-- The objects in a label of code exist, also those in its values, and the number of a picked alternative is at most 64.
 use Rattle.std.specs.Prelude.{◌<◌, ◌≤◌}
 use Rattle.run_types.specs.declared.types.Label.{Label}
 use Rattle.run_types.specs.declared.types.Label.TheVariants as L

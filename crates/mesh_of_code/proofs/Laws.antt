@@ -1,4 +1,4 @@
--- The lemmas that other crates cite: the laws of code of a proper unit as a language of objects, of its start, and of what its lines name.
+-- The lemmas that other crates cite: the laws of code of a proper unit as a language of objects, of its start, and of the names in its lines.
 pub use Rattle.mesh_of_code.proofs.TransitionInvariant.{code_lawful, each_left}
 pub use Rattle.mesh_of_code.proofs.Callers.{code_requests, code_keeps, code_serves}
 pub use Rattle.mesh_of_code.proofs.ValueNamesExist.{code_names}

@@ -1,4 +1,4 @@
--- What the line of an event tells of the configuration before it, over any language of objects.
+-- The facts that the line of an event gives about the configuration before it, over any language of objects.
 use Rattle.std.specs.Prelude.{◌≡◌, ◌⊎◌, ℕ, ◌+◌, ◌*◌, ◌<◌, ◌≤◌, List, [], ◌∷◌, length, Option, Some, None}
 use Rattle.run_types.specs.declared.types.Value.{Value}
 use Rattle.run_types.specs.declared.types.Value.TheVariants as V

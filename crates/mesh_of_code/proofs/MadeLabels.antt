@@ -1,4 +1,4 @@
--- Configurations and labels whose values code of the unit makes, and that name what an instruction names, with at most 8 arguments.
+-- Configurations and labels whose values the unit's code can make, whose names are those of its instructions, and that have at most 8 arguments.
 use Rattle.std.specs.Prelude.{◌≡◌, ◌⊎◌, ℕ, ◌≤◌, List, length, Some}
 use Rattle.run_types.specs.declared.types.Value.{Value}
 use Rattle.run_types.specs.declared.types.Value.TheVariants as V

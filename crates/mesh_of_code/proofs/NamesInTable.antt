@@ -1,4 +1,4 @@
--- What an object of a proper unit names, as a class, a method or a string, is a place of the unit's table of names.
+-- Each class, method or string that an object of a proper unit names is in the unit's table of names.
 use Rattle.std.proofs.Common.{◌≡◌, refl, sym, subst, ◌∙◌, IsTrue, ℕ, suc, ◌<◌, ◌==◌, List, [], ◌∷◌, length, Option, Some, None, is_some, Bool, true, false}
 use Rattle.std.specs.Prelude.{slice_get, if◌then◌else◌}
 use Rattle.std.specs.List.{list_any}

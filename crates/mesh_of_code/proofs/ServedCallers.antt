@@ -1,4 +1,4 @@
--- Whom frames serve, through the steps of an object, told in any way that tells nothing of the object itself and of who only sent.
+-- The callers that frames serve, through the steps of an object, by any function of callers that ignores own calls and senders.
 use Rattle.std.proofs.Common.{◌≡◌, refl, ℕ, zero, suc, List, ◌∷◌, length, Option, Some, None, true, sym, ap, ◌∙◌, [], if◌then◌else◌}
 use Rattle.std.specs.Prelude.{slice_get, slice_set}
 use Rattle.run_types.specs.declared.types.Value.{Value}

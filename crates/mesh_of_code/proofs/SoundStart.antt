@@ -1,4 +1,4 @@
--- The start of code is sound, and has made values alone.
+-- The start of code is sound, and has only values that the unit's code can make.
 use Rattle.std.proofs.Common.{◌≡◌, refl, sym, ap, subst, ◌∙◌, ℕ, [], ◌∷◌, Some, None}
 use Rattle.std.specs.Ordering.{nat_cmp}
 use Rattle.std.specs.FinMap.{find}

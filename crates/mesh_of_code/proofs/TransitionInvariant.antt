@@ -1,4 +1,4 @@
--- Each transition of code keeps what is kept of a configuration.
+-- Each transition of code keeps the invariant of a configuration.
 use Rattle.std.proofs.Common.{◌≡◌, ◌≢◌, ◌⊎◌, inl, inr, refl, sym, ap, subst, ◌∙◌, ℕ, ◌==◌, ◌≤◌, List, [], ◌∷◌, ◌++◌, length, Option, Some, None, is_some, is_none, Bool, true, false, not, if◌then◌else◌}
 use Rattle.std.specs.Prelude.{◌&&◌}
 use Rattle.run_types.specs.declared.types.NameId.{NameId}

@@ -1,4 +1,4 @@
--- Each name in a value of code is an object's.
+-- Each name in a value of code is the name of an object that exists.
 use Rattle.std.proofs.Common.{◌≡◌, refl, sym, ap, subst, ℕ, zero, suc, List, [], ◌∷◌, length, Option, Some, None, true, false}
 use Rattle.std.specs.Prelude.{slice_get}
 use Rattle.run_types.specs.declared.types.Value.{Value}

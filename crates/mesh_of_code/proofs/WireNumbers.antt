@@ -1,4 +1,4 @@
--- The numbers that are told of a wire are below the number of packets that it has handed out, and a window more; and an event hands out at most one packet of each wire.
+-- The numbers in lines of a wire are less than the number of delivered packets plus a window. An event delivers at most one packet on each wire.
 use Rattle.std.proofs.Common.{◌≡◌, refl, sym, ap, subst, ◌∙◌, ℕ, ◌+◌, ◌<◌, ◌≤◌, ◌==◌, List, [], ◌∷◌, ◌++◌, length, Option, Some, None, Bool, true, false, if◌then◌else◌, nat_lt, arith}
 use Rattle.std.specs.Prelude.{drop, slice_get}
 use Rattle.std.specs.FinMap.{put}

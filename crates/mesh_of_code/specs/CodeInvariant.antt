@@ -1,6 +1,6 @@
--- What is kept of a configuration of objects of code, for any proper unit: their frames are of the unit, each value and each message names objects that are
--- there, the method of each message is a place of the unit's names, who has met
--- an error is still at it, and who waits for a call is served by exactly the object that it waits for.
+-- The invariant of a configuration of objects of code: each object is of the unit, and each value and each message names objects that exist.
+-- The method of each message is in the unit's table of names, and an object that has met an error is still at that error.
+-- An object waits for a call if and only if the receiver has exactly that call under way for it.
 use Rattle.std.specs.Prelude.{◌≡◌, ℕ, ◌<◌, ◌==◌, List, [], ◌∷◌, length, Option, Some, None, Bool, false, if◌then◌else◌, IsTrue, slice_get}
 use Rattle.std.specs.Ordering.{nat_cmp}
 use Rattle.std.specs.FinMap.{is_sorted}
@@ -48,7 +48,7 @@ methods_for k o (f ∷ fs) = if is_for o f.serves then number_in k f.method ∷ 
 abbrev pub serving_for : Code → ℕ → Placed → List ℕ
 serving_for u o y = methods_for (slice_get u.classes y.object.class) o y.object.frames
 
--- a value names an object that is there, if it names anything
+-- if the value names an object, that object exists
 abbrev pub Names : Config Placed → Value → Type 0
 Names c v = (b : ℕ) → v ≡ V.Ref b → IsThere c b
 
@@ -57,9 +57,9 @@ pub record IsOfCode (u : Code) (c : Config Placed) : Type 0 where
   pub of_unit : (o : ℕ) (x : Placed) → object_of c o ≡ Some x → IsObjectOf u (Names c) x.object
   pub messages : (s r : ℕ) → Each (λ (m : Message). IsThere c r × (m.method < length u.names) × Each (Names c) m.args) (messages_of c s r)
   pub fault : (o : ℕ) (x : Placed) (e : Error) → object_of c o ≡ Some x → x.fault ≡ Some e → (coded u).kind o x ≡ K.Fault e
-  -- who waits for b to do m is at its call, and b has that call under way for it, and no other
+  -- an object that waits for b to serve m is at its call, and b has that call under way for it, and no other
   pub waits : (o b m : ℕ) (x : Placed) → object_of c o ≡ Some x → x.served ≡ Some (b, m)
       → (y : Placed) × (args : List Value) × (object_of c b ≡ Some y) × (serving_for u o y ≡ m ∷ []) × (code_kind u x.object ≡ C.Send b (id m) args)
-  -- for whom b has a method under way waits for it
+  -- an object for which b has a method under way waits for it
   pub served : (o b m : ℕ) (ms : List ℕ) (y : Placed) → object_of c b ≡ Some y → serving_for u o y ≡ m ∷ ms
       → (x : Placed) × (object_of c o ≡ Some x) × (x.served ≡ Some (b, m))

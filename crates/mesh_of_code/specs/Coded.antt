@@ -1,4 +1,4 @@
--- Code as a language of objects.
+-- The object code of a unit as a language of objects: the next action of an object, and its state after each step.
 use Rattle.std.specs.Prelude.{ℕ, List, [], ◌∷◌, length, Option, Some, None, true, slice_get}
 use Rattle.run_types.specs.declared.types.NameId.{NameId}
 use Rattle.run_types.specs.declared.types.Error.{Error}
@@ -17,7 +17,7 @@ use Rattle.mesh_semantics.specs.Kind as K
 use Rattle.mesh_semantics.specs.Kind.{Kind, Alternative}
 use Rattle.mesh_semantics.specs.Language.{Language}
 
--- an object of code in a configuration: the error that it has met, and its call that is served, with the receiver and the method
+-- an object of code in a configuration, with the error that it has met, and the receiver and the method of its call that is being served
 pub record Placed : Type 0 where
   pub object : CodeObject
   pub fault : Option Error
@@ -35,7 +35,7 @@ abbrev pub alternatives_of : List Offered → List Alternative
 alternatives_of [] = []
 alternatives_of (a ∷ alts) = record { is_open = a.is_open; names = answered a.answer } ∷ alternatives_of alts
 
--- what code does next as the machine sees it
+-- the next action of code as an action of the machine
 abbrev pub kind_of : C.Kind → Kind
 kind_of C.Finished = K.Finished
 kind_of C.Local = K.Local
@@ -48,17 +48,17 @@ kind_of (C.Answer names) = K.Select (record { is_open = true; names = Some (numb
 kind_of (C.Select alts) = K.Select (alternatives_of alts)
 kind_of (C.Return k number v) = K.Return k v
 
--- one whose call is served waits
+-- an object whose call is being served waits
 abbrev pub unless_served : Option (ℕ × ℕ) → Kind → Kind
 unless_served None k = k
 unless_served (Some w) k = K.Waits w.0 w.1
 
--- the frames but the body's
+-- the number of frames without the body's
 abbrev pub under_way : List Frame → ℕ
 under_way [] = 0
 under_way (f ∷ fs) = length fs
 
--- the callers with the one that a frame serves in front
+-- the caller that a frame serves, if any, in front of the callers
 abbrev pub served_by : Serves → List ℕ → List ℕ
 served_by (S.Caller k n) ks = k ∷ ks
 served_by _ ks = ks
@@ -85,7 +85,7 @@ abbrev pub serves_for : Option ℕ → Serves
 serves_for None = S.Sender
 serves_for (Some k) = S.Caller k 0
 
--- an object without a fault, at no wait
+-- an object that has met no error and waits for no call
 abbrev pub placed : CodeObject → Placed
 placed y = record { object = y; fault = None; served = None }
 

@@ -1,4 +1,4 @@
--- Lines whose name, if they have one, is a place of a table of so many names: a class, a method or a string. No line has two.
+-- Lines of a record whose class, method or string, if they name one, is in a table with `count` names. No line names two.
 use Rattle.std.specs.Prelude.{◌≡◌, ◌⊎◌, ℕ, ◌<◌, List, [], ◌∷◌}
 use Rattle.run_types.specs.declared.types.Item.{Item}
 use Rattle.run_types.specs.declared.types.Item.TheVariants as I
@@ -23,7 +23,7 @@ IsKnownLabel count (L.Write o item) = IsKnownItem count item
 IsKnownLabel count (L.Pick o i) = Unit {0}
 IsKnownLabel count (L.Fault o e) = Unit {0}
 
--- what happened names a place of the table, if it names anything
+-- the class, method or string that the line names, if any, is in the table
 abbrev pub IsKnownIn : ℕ → What → Type 0
 IsKnownIn count (W.Step label times) = IsKnownLabel count label
 IsKnownIn count (W.PostCreate o c goal) = c.0 < count

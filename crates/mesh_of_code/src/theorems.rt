@@ -1,4 +1,4 @@
-//! Laws of code as a language of objects: each is the contract of a function that does nothing.
+//! Theorems about object code as a language of objects. Each is the contract of a function with an empty body.
 ghost use Rattle.std.specs.Prelude.{◌≡◌, ◌≢◌, ℕ, List, length, Some, None};
 ghost use Rattle.run_types.specs.declared.types.Event.{Event};
 ghost use Rattle.run_types.specs.declared.types.Line.TheVariants as R;
@@ -21,12 +21,15 @@ ghost use Rattle.mesh_of_code.specs.Coded.{Placed, coded};
 ghost use Rattle.mesh_of_code.specs.Known.{HasLine, IsKnownIn};
 ghost use Rattle.mesh_of_code.specs.CodeInvariant.{IsOfCode};
 
-/// Code of a proper unit is a lawful language, where what is kept of a configuration is that it is of the unit: each transition keeps that.
+/// The code of a proper unit is a lawful language of objects.
+/// Its invariant is `IsOfCode`, that a configuration is of the unit: each transition keeps it.
 pub fn code_is_lawful()
     ensures { (u : Code) → IsProper u → Lawful (coded u) (IsOfCode u) }
 {}
 
-/// Code has what nodes ask of a language, to keep the numbers of requests beside their objects and to know each name that comes off a link.
+/// The code of a unit meets the requirements of a node on its language of objects.
+/// So a node can keep the numbers of requests apart from its
+/// objects, and it knows each name in a packet that it receives.
 pub fn code_answers_requests()
     ensures requests { (u : Code) → Requests (coded u) (IsOfCode u) }
     ensures class_and_fault { (u : Code) → KeepsClassAndFault (coded u) }
@@ -41,23 +44,23 @@ pub fn code_starts()
     ensures root { (u : Code) (x : Placed) → (coded u).root ≡ Some x → (coded u).frames x ≡ 0 }
 {}
 
-/// An object of each class can be made.
+/// The code can make an object of each class of the unit.
 pub fn each_class_is_made()
     ensures { (u : Code) (k : ℕ) → In k (coded u).classes → (coded u).made k ≢ None }
 {}
 
-/// A placement that suits a unit is fit for its code.
+/// A placement that suits a unit fits its code.
 pub fn suiting_placements_fit()
     ensures { (u : Code) (l : Placement) → Suits l u → FitFor (coded u) l }
 {}
 
-/// The start on a fitting placement is sound, with nothing on the way.
+/// The start of a proper unit on a fitting placement is sound, with nothing under way.
 pub fn the_start_is_sound()
     ensures { (u : Code) (l : Placement) (c : Config Placed) → IsProper u → FitFor (coded u) l → start (coded u) l ≡ Some c → IsSound (coded u) (IsOfCode u) l c no_delay }
 {}
 
-/// What a line of a run of code names, a class, a method or a string, is a place of the unit's table of names: so of each event from a sound configuration, and of each
-/// event line of the record of a run from the start, with or without wires.
+/// Each class, method or string that a line of a run names is in the unit's table of names.
+/// This holds for each event from a sound configuration, and for each event line of a record, with or without wires.
 pub fn each_line_is_known()
     ensures event { (u : Code) (l : Placement) (q : ℕ) (c : Config Placed) (d : Delay) (e : Event) (what : What) (c' : Config Placed) (d' : Delay) → IsProper u
         → FitFor (coded u) l → IsSound (coded u) (IsOfCode u) l c d → act (coded u) l q c d e ≡ Acts what c' d' → IsKnownIn (length u.names) what }

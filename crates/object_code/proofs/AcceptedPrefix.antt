@@ -1,4 +1,4 @@
--- Where a reader stops, what it has read so far can be gone on with: so the bytes before the first byte that is not allowed begin a file.
+-- If a reader stops, the bytes that it has read can be completed, so the bytes before the first bad byte begin a file.
 use Rattle.std.proofs.Common.{◌≡◌, ◌⊎◌, inl, inr, refl, sym, ap, subst, ◌∙◌, ℕ, zero, suc, ◌+◌, ◌-◌, ◌==◌, ◌≤◌, List, [], ◌∷◌, ◌++◌, length, Some, None, Bool, true, false, arith, length-append, length-take-le}
 use Rattle.std.specs.Prelude.{take, drop, nat_le, slice_get, if◌then◌else◌}
 use Rattle.std.proofs.lemmas.List.{append_assoc, append-nil, take-append-drop}

@@ -1,4 +1,4 @@
--- The bytes of a file are read back, and the bytes of a file that was read are its own.
+-- The parts of a file: decoding inverts encoding, and encoding inverts decoding.
 use Rattle.std.proofs.Common.{◌≡◌, refl, sym, ap, subst, ◌∙◌, ℕ, zero, suc, ◌<◌, ℤ, [], ◌∷◌, ◌++◌, Option, Some, None, Bool, true, false, arith}
 use Rattle.std.specs.Prelude.{◌^◌, get_or, FitsSigned}
 use Rattle.std.specs.Int.{w64, to_be_bytes, from_be_bytes, cast_signed, cast_unsigned}

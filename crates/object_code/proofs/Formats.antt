@@ -1,4 +1,4 @@
--- Readers and writers of one format: what was written is read, and what was read is what was written.
+-- A reader and a writer of one format invert each other.
 use Rattle.std.proofs.Common.{◌≡◌, refl, sym, ap, subst, ◌∙◌, ℕ, zero, suc, ◌+◌, ◌<◌, List, [], ◌∷◌, ◌++◌, length, Option, Some, None, Bool, true, false, arith, length-append, length-take-le}
 use Rattle.std.specs.Prelude.{take, drop, nat_le, slice_get, ◌^◌, get_or, if◌then◌else◌}
 use Rattle.std.specs.Int.{w32, from_be_bytes}

@@ -1,4 +1,4 @@
--- What a reader says of a front of bytes: if the front is not too short, bytes behind it change nothing. So behind the first byte that is not allowed it does not matter what stands.
+-- A reader's answer to a long enough prefix does not depend on the bytes after it, so the bytes after the first bad byte do not matter.
 use Rattle.std.proofs.Common.{◌≡◌, ◌⊎◌, inl, inr, refl, sym, ap, subst, ◌∙◌, ℕ, zero, suc, ◌+◌, ◌-◌, ◌==◌, ◌<◌, ◌≤◌, List, [], ◌∷◌, ◌++◌, length, Option, Some, None, Bool, true, false, arith, length-append, length-take-le}
 use Rattle.std.specs.Prelude.{take, drop, nat_le, slice_get, if◌then◌else◌}
 use Rattle.std.proofs.lemmas.List.{take-append-drop}

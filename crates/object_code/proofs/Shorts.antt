@@ -1,4 +1,4 @@
--- A file that has bytes is short, and a file that is shaped, short and of numbers of its types has bytes.
+-- A file that can be encoded is short, and a file that is shaped, short and has the numbers of its types can be encoded.
 use Rattle.std.proofs.Common.{◌≡◌, sym, subst, ◌∙◌, ℕ, suc, ◌<◌, List, [], ◌∷◌, length, get_or, Option, Some, None, arith}
 use Rattle.std.specs.List.{AllByRecursion as Each}
 use Rattle.text_scan.specs.Text.{Text}

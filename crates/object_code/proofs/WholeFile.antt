@@ -1,4 +1,4 @@
--- A file is read back from its bytes, and bytes that say a file are its own.
+-- Decoding inverts encoding for whole files, and encoding inverts decoding.
 use Rattle.std.proofs.Common.{◌≡◌, refl, sym, ap, subst, ◌∙◌, ℕ, suc, ◌==◌, List, [], ◌∷◌, ◌++◌, length, Option, Some, None, Bool, true, false, arith}
 use Rattle.std.specs.Prelude.{if◌then◌else◌}
 use Rattle.std.specs.List.{AllByRecursion as Each}

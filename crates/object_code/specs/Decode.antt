@@ -1,4 +1,4 @@
--- What the bytes of an object code file say, or the first byte that its format does not allow at its place.
+-- Decodes the bytes of an object code file: gives the file, the first byte that the format does not allow at its place, or the first duplicate name.
 use Rattle.std.specs.Prelude.{ℕ, suc, ◌-◌, ◌==◌, List, [], ◌∷◌, length, map, Option, Some, None, Bool, true, false, if◌then◌else◌}
 use Rattle.std.specs.Int.{w64, from_be_bytes, cast_signed}
 use Rattle.text_scan.specs.Text.{Text}
@@ -30,14 +30,14 @@ abbrev pub read_integer : Reader Instr
 read_integer (a ∷ b ∷ c ∷ d ∷ e ∷ f ∷ g ∷ h ∷ rest) = Got (I.PushInt (cast_signed w64 (from_be_bytes w64 (a ∷ b ∷ c ∷ d ∷ e ∷ f ∷ g ∷ h ∷ [])))) rest
 read_integer _ = Stop 0
 
--- by the byte in front, from 0
+-- the readers of kinds by the first byte, from 0
 abbrev pub kind_readers : List (Reader Kind)
 kind_readers = not_allowed ∷ read_nothing K.Int ∷ read_nothing K.Bool ∷ read_as K.Class read_name ∷ []
 
 abbrev pub read_kind : Reader Kind
 read_kind bs = read_by kind_readers bs
 
--- nothing, or something
+-- an optional part: none after a byte 0, and the part after a byte 1
 abbrev pub read_option : {A : Type 0} → Reader A → Reader (Option A)
 read_option r bs = read_by (read_nothing None ∷ read_as Some r ∷ []) bs
 
@@ -56,7 +56,7 @@ operator_readers = not_allowed ∷ map (λ op. read_nothing op) (
 abbrev pub read_operator : Reader Op
 read_operator bs = read_by operator_readers bs
 
--- a name and a number, as a send has them
+-- a method's name and a number of arguments
 abbrev pub read_sent : (NameId → ℕ → Instr) → Reader Instr
 read_sent make bs = then_read (read_name bs) (λ m rest. read_as (make m) read_number rest)
 
@@ -75,7 +75,7 @@ instr_readers =
 abbrev pub read_instr : Reader Instr
 read_instr bs = read_by instr_readers bs
 
--- the words of frames, and the code
+-- the number of words of a frame, and the code
 abbrev pub read_code : Reader (ℕ × List Instr)
 read_code bs = then_read (read_number bs) (λ words rest. read_as (λ c. (words, c)) (read_list read_instr) rest)
 
@@ -85,7 +85,7 @@ method_of name params temps outcome code = (
   record { temps = temps; result = outcome },
 )
 
--- the rest of a method behind its result, its temps, its number of parameters, its name
+-- the rest of a method after its result, its temps, its number of parameters, and its name
 abbrev pub behind_outcome : NameId → ℕ → List Kind → Option Kind → Reader (MethodCode × MethodKinds)
 behind_outcome name params temps outcome bs = read_as (method_of name params temps outcome) read_code bs
 
@@ -113,7 +113,7 @@ class_of name vars methods code = (
   record { vars = vars; methods = seconds methods },
 )
 
--- the rest of a class behind its methods, its variables, its name
+-- the rest of a class after its methods, its variables, and its name
 abbrev pub behind_methods : NameId → List Kind → List (MethodCode × MethodKinds) → Reader (ClassCode × ClassKinds)
 behind_methods name vars methods bs = read_as (class_of name vars methods) read_code bs
 
@@ -126,7 +126,7 @@ behind_class_name name bs = then_read (read_list read_kind bs) (behind_vars name
 abbrev pub read_class : Reader (ClassCode × ClassKinds)
 read_class bs = then_read (read_name bs) behind_class_name
 
--- these bytes, and no other
+-- exactly these bytes
 abbrev pub read_exactly : Text → Reader (Unit {0})
 read_exactly [] bs = Got tt bs
 read_exactly (h ∷ hs) [] = Stop 0
@@ -135,18 +135,18 @@ read_exactly (h ∷ hs) (b ∷ bs) = if h == b then read_exactly hs bs else Stop
 abbrev pub file_of : List Text → List (ClassCode × ClassKinds) → UnitFile
 file_of names classes = record { unit = record { names = names; classes = firsts classes }; kinds = record { classes = seconds classes } }
 
--- the rest of a file behind its names, its front
+-- the rest of a file after its names, and after its first bytes
 abbrev pub behind_names : List Text → Reader UnitFile
 behind_names names bs = read_as (file_of names) (read_list read_class) bs
 
 abbrev pub behind_front : Unit {0} → Reader UnitFile
 behind_front u bs = then_read (read_list read_text bs) behind_names
 
--- a file, behind which other bytes may stand
+-- a file; other bytes may follow it
 abbrev pub read_file : Reader UnitFile
 read_file bs = then_read (read_exactly head_bytes bs) behind_front
 
--- the place of the first text that stands before it, where the first of these has the place n
+-- the place of the first text that equals an earlier one; the earlier ones are also those in `before`, and the first of the list has the place n
 abbrev pub first_twice : ℕ → List Text → List Text → Option ℕ
 first_twice n before [] = None
 first_twice n before (x ∷ xs) = if is_among before x then Some n else first_twice (suc n) (x ∷ before) xs
@@ -160,7 +160,7 @@ abbrev pub unless_twice : UnitFile → Option ℕ → Decoded
 unless_twice f None = Says f
 unless_twice f (Some n) = NameTwice n
 
--- a byte behind the file is not allowed either
+-- a byte after the file is not allowed either
 abbrev pub decoded : ℕ → Read UnitFile → Decoded
 decoded size (Got f []) = unless_twice f (first_twice 0 [] f.unit.names)
 decoded size (Got f (b ∷ bs)) = BadBytes (size - suc (length bs))

@@ -1,4 +1,4 @@
--- The bytes of an object code file.
+-- The encoding of an object code file as bytes.
 use Rattle.std.specs.Prelude.{ℕ, ℤ, List, [], ◌∷◌, ◌++◌, length, codes, Option, Some, None, Bool, true, false}
 use Rattle.std.specs.Int.{w32, w64, to_be_bytes, cast_unsigned}
 use Rattle.text_scan.specs.Text.{Text}
@@ -45,7 +45,7 @@ kind_bytes K.Int = 1 ∷ []
 kind_bytes K.Bool = 2 ∷ []
 kind_bytes (K.Class c) = 3 ∷ name_bytes c
 
--- nothing is a byte 0, and something a byte 1 in front of it
+-- an optional part is a byte 0, or a byte 1 and the part
 abbrev pub option_bytes : {X : Type 0} → (X → Text) → Option X → Text
 option_bytes bytes None = 0 ∷ []
 option_bytes bytes (Some x) = 1 ∷ bytes x
@@ -101,7 +101,7 @@ instr_bytes (I.Select alts) = 22 ∷ list_bytes alternative_bytes alts
 instr_bytes I.Halt = 23 ∷ []
 instr_bytes I.Post = 24 ∷ []
 
--- the words of its frames, and its instructions
+-- the number of words of a frame, and the instructions
 abbrev pub code_bytes : ℕ → List Instr → Text
 code_bytes words c = number_bytes words ++ list_bytes instr_bytes c
 

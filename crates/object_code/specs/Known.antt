@@ -22,7 +22,7 @@ module _ (names : List Text) where
   abbrev pub AlternativeIsKnown : AltCode → Type 0
   AlternativeIsKnown a = AnswerIsKnown a.answer
 
-  -- what an instruction names
+  -- the names and strings of an instruction are in the table
   abbrev pub InstrIsKnown : Instr → Type 0
   InstrIsKnown (I.Call m) = IsKnown m
   InstrIsKnown (I.New c) = IsKnown c

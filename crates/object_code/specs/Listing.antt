@@ -14,7 +14,7 @@ use Rattle.code_semantics.specs.declared.unit.MethodCode.{MethodCode}
 use Rattle.code_semantics.specs.declared.unit.ClassCode.{ClassCode}
 use Rattle.code_semantics.specs.declared.unit.Unit.{Unit as Code}
 
--- a word behind the first of its line
+-- a word after a space
 abbrev pub word_text : Text → Text
 word_text t = codes " " ++ t
 
@@ -82,7 +82,7 @@ module _ (names : List Text) where
   led_by_commas [] = []
   led_by_commas (n ∷ ns) = (codes "," ++ text_at names n.0) ++ led_by_commas ns
 
-  -- names with a comma between two of them
+  -- names, separated by commas
   abbrev pub joined_text : List NameId → Text
   joined_text [] = []
   joined_text (n ∷ ns) = text_at names n.0 ++ led_by_commas ns

@@ -1,17 +1,17 @@
--- Reading bytes from the front: what was read and what is left of the bytes, or how many bytes are left from the first that is not allowed on.
+-- Readers of bytes from the front: each gives a value and the bytes that are left, or the number of bytes from the first bad byte to the end.
 use Rattle.std.specs.Prelude.{ℕ, zero, suc, List, [], ◌∷◌, length, take, drop, Some, None, nat_le, slice_get, if◌then◌else◌}
 use Rattle.std.specs.Int.{w32, from_be_bytes}
 use Rattle.text_scan.specs.Text.{Text}
 
 pub data Read (A : Type 0) : Type 0 where
   Got : (value : A) (rest : Text) → Read A
-  -- none is left where the bytes end too early
+  -- 0 if the bytes end too early
   Stop : (left : ℕ) → Read A
 
 abbrev pub Reader : Type 0 → Type 0
 Reader A = Text → Read A
 
--- goes on with the value
+-- continues with the value and the bytes that are left
 abbrev pub then_read : {A B : Type 0} → Read A → (A → Reader B) → Read B
 then_read (Got x rest) next = next x rest
 then_read (Stop left) next = Stop left
@@ -20,11 +20,11 @@ then_read (Stop left) next = Stop left
 abbrev pub read_nothing : {A : Type 0} → A → Reader A
 read_nothing x bs = Got x bs
 
--- something made of what is read
+-- a function of the value that is read
 abbrev pub read_as : {A B : Type 0} → (A → B) → Reader A → Reader B
 read_as make r bs = then_read (r bs) (λ x rest. Got (make x) rest)
 
--- reads by the byte in front, where it is the number of one of these, the first of which has the number 0
+-- the first byte is the number, from 0, of the reader of the rest; a byte without a reader is not allowed
 abbrev pub read_by : {A : Type 0} → List (Reader A) → Reader A
 read_by {A} readers [] = Stop 0
 read_by {A} readers (b ∷ bs) = elim (slice_get readers b) as (λ r. Read A) [ None ↦ Stop (suc (length bs)) | Some r ↦ r bs ]
@@ -38,11 +38,11 @@ abbrev pub read_number : Reader ℕ
 read_number (a ∷ b ∷ c ∷ d ∷ rest) = Got (from_be_bytes w32 (a ∷ b ∷ c ∷ d ∷ [])) rest
 read_number _ = Stop 0
 
--- so many bytes, whatever they are
+-- n bytes of any value
 abbrev pub read_bytes : ℕ → Reader Text
 read_bytes n bs = if nat_le n (length bs) then Got (take n bs) (drop n bs) else Stop 0
 
--- so many items
+-- n items
 abbrev pub read_items : {A : Type 0} → Reader A → ℕ → Reader (List A)
 read_items r zero bs = Got [] bs
 read_items r (suc n) bs = then_read (r bs) (λ x rest. read_as (λ xs. x ∷ xs) (read_items r n) rest)

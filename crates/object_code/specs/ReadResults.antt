@@ -1,4 +1,4 @@
--- What a call that reads gives is what the definition reads, unless memory ran out.
+-- The result of a reading function agrees with the reader that defines the format, unless it is out of memory.
 use Rattle.std.specs.Prelude.{◌≡◌, ℕ, List, [], Result, Ok, Err, Option, None}
 use Rattle.text_scan.specs.Text.{Text}
 use Rattle.object_code.specs.declared.code_fault.Unread.{Unread}
@@ -17,7 +17,7 @@ abbrev pub Gives : {X A : Type 0} → (X → Read A) → Result X Unread → Rea
 Gives view (Ok x) r = r ≡ view x
 Gives view (Err e) r = Stops e r
 
--- The table has these texts, unless one of them stands twice; the place of the first that does is kept.
+-- The table has these texts, unless one equals an earlier one; `again` is the place of the first that does.
 pub record IsTable (texts names : List Text) (again : Option ℕ) : Type 0 where
   pub first : again ≡ first_twice 0 [] texts
   pub whole : again ≡ None → names ≡ texts

@@ -1,4 +1,4 @@
-//! The object code file that bytes say.
+//! Reads the bytes of an object code file.
 ghost use Rattle.std.specs.Prelude.{◌≡◌, ◌+◌, ◌-◌, ◌<◌, ◌≤◌, ◌^◌, ℕ, List as texts_list, [], ◌∷◌, ◌++◌, length, IfOk, IfErr};
 ghost use Rattle.text_scan.specs.Text.{Text};
 ghost use Rattle.run_types.specs.declared.types.NameId.{NameId as Name};
@@ -19,7 +19,7 @@ use code_semantics::{
 use run_types::{Kind, List, NameId, Names, Op};
 use std::alloc::{AllocError, Global};
 
-/// Something made of a part that is taken off the front, with what is left.
+/// Maps a part that was taken off the front, and keeps the bytes that are left.
 macro_rules! made {
     ($part:pat = $taken:expr => $made:expr) => {
         match $taken {
@@ -96,7 +96,7 @@ fn take_operator(bytes: &[u8]) -> Result<(Op, &[u8]), Unread>
     }
 }
 
-/// What stands in a list of a file.
+/// An item of a list in a file.
 trait Listed: Drop {
     ghost reader: { Reader Self };
 
@@ -104,7 +104,8 @@ trait Listed: Drop {
         ensures { Gives (λ r. Got r.0 r.1.now) result (reader bytes.now) };
 }
 
-/// Takes the number of items and the items. No memory is taken ahead by that number: each item takes a byte at least.
+/// Takes the number of items, and then the items. It allocates nothing in advance by that number:
+/// memory grows with the items that were read, and each of them has at least one byte.
 fn take_list<T: Listed>(alloc: Global, bytes: &[u8]) -> Result<(List<T>, &[u8]), Unread>
     ensures given { Gives (λ r. Got r.0 r.1.now) result (read_list T.reader bytes.now) }
     ensures short { IfOk result (λ r. length r.0 < 2 ^ 32) }
@@ -147,7 +148,7 @@ impl Listed for Kind {
     }
 }
 
-/// Takes nothing, or something, by the byte in front.
+/// Takes an optional kind: none after a byte 0, and a kind after a byte 1.
 fn take_result(alloc: Global, bytes: &[u8]) -> Result<(Option<Kind>, &[u8]), Unread>
     ensures { Gives (λ r. Got r.0 r.1.now) result (read_option read_kind bytes.now) }
 {
@@ -187,7 +188,7 @@ fn take_sent(bytes: &[u8]) -> Result<((NameId, u32), &[u8]), Unread>
     made!(count = take_number(rest) => (method, count))
 }
 
-/// Takes what stands behind the byte of an instruction, where the byte is at most that of a branch.
+/// Takes the rest of an instruction after its first byte, which is at most the byte of `Branch`.
 fn take_up_to_branch(byte: u8, rest: &[u8]) -> Result<(Instr, &[u8]), Unread>
     requires { byte ≤ 12 }
     ensures { Gives (λ r. Got r.0 r.1.now) result (read_instr (byte ∷ rest.now)) }
@@ -211,7 +212,7 @@ fn take_up_to_branch(byte: u8, rest: &[u8]) -> Result<(Instr, &[u8]), Unread>
     }
 }
 
-/// Takes what stands behind the byte of an instruction, where the byte is at least that of a loop.
+/// Takes the rest of an instruction after its first byte, which is at least the byte of `Loop`.
 fn take_from_loop(alloc: Global, byte: u8, rest: &[u8]) -> Result<(Instr, &[u8]), Unread>
     requires { 12 < byte }
     ensures { Gives (λ r. Got r.0 r.1.now) result (read_instr (byte ∷ rest.now)) }
@@ -248,7 +249,7 @@ impl Listed for Instr {
     }
 }
 
-/// Takes the words of frames, and the code.
+/// Takes the number of words of a frame, and the code.
 fn take_code(alloc: Global, bytes: &[u8]) -> Result<(BodyCode, &[u8]), Unread>
     ensures { Gives (λ r. Got (r.0.frame_words, r.0.code) r.1.now) result (read_code bytes.now) }
 {
@@ -344,7 +345,8 @@ fn take_text(bytes: &[u8]) -> Result<(&[u8], &[u8]), Unread>
     Ok(rest.split_at(count))
 }
 
-/// Adds a text to the table, unless one stood twice before, and tells its place where it stands there.
+/// Adds a text to the table, unless a duplicate was found before.
+/// `twice` is the place of the first duplicate, if any; so is the value that is returned.
 fn add_name(names: &mut Names, twice: Option<u32>, text: &[u8]) -> Result<Option<u32>, AllocError>
     requires room { length names.old < 2 ^ 32 }
     ensures size { length names.new ≤ length names.old + 1 }
@@ -362,7 +364,8 @@ fn add_name(names: &mut Names, twice: Option<u32>, text: &[u8]) -> Result<Option
     }
 }
 
-/// Takes the table of names. Where a text stands twice it tells the place of the first that does; the table then has the texts before it.
+/// Takes the table of names. It also returns the place of the first text that equals an earlier one, if any.
+/// The table then has only the texts before that one.
 fn take_names(alloc: Global, bytes: &[u8]) -> Result<(Names, Option<u32>, &[u8]), Unread>
     ensures given { IfOk result (λ r. (texts : texts_list Text) × (read_list read_text bytes.now ≡ Got texts r.2.now) × IsTable texts r.0 r.1) }
     ensures stops { IfErr result (λ e. Stops e (read_list read_text bytes.now)) }
@@ -378,7 +381,7 @@ fn take_names(alloc: Global, bytes: &[u8]) -> Result<(Names, Option<u32>, &[u8])
     Ok((names, twice, rest))
 }
 
-/// Takes these bytes, and no others.
+/// Takes the expected bytes, and stops at the first other byte.
 fn take_exactly<'a>(expected: &[u8], bytes: &'a [u8]) -> Result<&'a [u8], Unread>
     ensures { Gives (λ r. Got tt r.now) result (read_exactly expected.now bytes.now) }
 {
@@ -393,7 +396,7 @@ fn take_exactly<'a>(expected: &[u8], bytes: &'a [u8]) -> Result<&'a [u8], Unread
     Ok(rest)
 }
 
-/// Takes a file, but for the names that stand twice.
+/// Takes a file. It does not reject duplicate names: it returns the place of the first one, if any.
 fn take_file(alloc: Global, bytes: &[u8]) -> Result<(UnitFile, Option<u32>, &[u8]), Unread>
     ensures given { IfOk result (λ r. (texts : texts_list Text) × (read_file bytes.now ≡ Got (with_names texts r.0) r.2.now) × IsTable texts r.0.unit.names r.1) }
     ensures stops { IfErr result (λ e. Stops e (read_file bytes.now)) }
@@ -415,7 +418,8 @@ fn bad_bytes(bytes: &[u8], left: usize) -> CodeFault
     }
 }
 
-/// The file that was taken off the front of these bytes: refused where something is left behind it, or a name of its table stands twice.
+/// Returns the file that was taken off the front of these bytes.
+/// Reports `BadBytes` if bytes are left after the file, and `NameTwice` if its table has a duplicate name.
 fn whole_file(
     bytes: &[u8],
     file: UnitFile,
@@ -438,8 +442,11 @@ fn whole_file(
     }
 }
 
-/// The object code file that bytes say, at most 64 MiB of them. Its kinds are those of its unit, and each of its lists has fewer than 2^32 items. Memory grows with
-/// the bytes that are read, by no number that they tell.
+/// Reads an object code file from at most 64 MiB (67,108,864 bytes).
+/// Its kinds fit its unit, and each of its lists has fewer than 2^32 items.
+/// Reports `BadBytes` if the bytes do not have the format, and `NameTwice` if a name is a duplicate.
+/// Reports `Memory` if out of memory. The memory in use grows with the number of bytes that are read,
+/// not with the counts in them.
 pub fn decode(alloc: Global, bytes: &[u8]) -> Result<UnitFile, CodeFault>
     requires { length bytes.now ≤ 67108864 }
     ensures says { IfOk result (λ f. decoded_bytes bytes.now ≡ Says f) }

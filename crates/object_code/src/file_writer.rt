@@ -1,4 +1,4 @@
-//! The bytes of an object code file.
+//! Writes the bytes of an object code file.
 ghost use Rattle.std.specs.Prelude.{◌≡◌, ◌≤◌, ◌<◌, ◌^◌, ℕ, [], ◌∷◌, ◌++◌, length, take, option_map, OnOk, OnErr};
 ghost use Rattle.pool_outside.specs.Outside.{Rose, IsProperFront};
 ghost use Rattle.text_scan.specs.Text.{Text};
@@ -50,7 +50,7 @@ fn put_long<K: Sink>(sink: &mut K, failed: &mut bool, byte: u8, integer: i64)
     put(sink, failed, &integer.cast_unsigned().to_be_bytes());
 }
 
-/// What stands in a list of a file.
+/// An item of a list in a file.
 trait Item {
     ghost bytes: { Self → Text };
 
@@ -185,7 +185,7 @@ impl Item for Instr {
     }
 }
 
-/// Writes the words of frames, and the code.
+/// Writes the number of words of a frame, and the code.
 fn put_code<K: Sink>(sink: &mut K, failed: &mut bool, frame_words: u32, code: &[Instr])
     requires { IsListOf InstrIsShort code.now }
     ensures { Writes (code_bytes frame_words code.now) (state failed.old (K.written sink.old) (K.faults sink.old)) (state failed.new (K.written sink.new) (K.faults sink.new)) }
@@ -304,7 +304,8 @@ fn put_file<K: Sink>(sink: &mut K, failed: &mut bool, file: &UnitFile)
     );
 }
 
-/// Writes the bytes of an object code file. After a failed write nothing more is written. Takes no memory.
+/// Writes the bytes of an object code file into the sink.
+/// After a failed write it writes nothing more, and reports the error. Allocates no memory.
 pub fn encode<K: Sink>(file: &UnitFile, sink: &mut K) -> Result<(), WriteFault>
     requires shaped { IsShaped file.now }
     requires short { IsShort file.now }

@@ -1,4 +1,4 @@
-//! The listing of a unit.
+//! Writes the listing of a unit.
 ghost use Rattle.std.specs.Prelude.{◌≡◌, ◌≤◌, ◌++◌, ℕ, length, take, option_map, OnOk, OnErr, codes, decimal};
 ghost use Rattle.std.specs.Fmt.{signed_decimal};
 ghost use Rattle.std.specs.List.{All};
@@ -101,7 +101,7 @@ fn put_led_by_commas<K: Sink>(names: &Names, sink: &mut K, failed: &mut bool, id
     }
 }
 
-/// Writes names with a comma between two of them.
+/// Writes names, separated by commas.
 fn put_joined<K: Sink>(names: &Names, sink: &mut K, failed: &mut bool, ids: &[NameId])
     requires { All (IsKnown names.now) ids.now }
     ensures { Writes (joined_text names.now ids.now) (state failed.old (K.written sink.old) (K.faults sink.old)) (state failed.new (K.written sink.new) (K.faults sink.new)) }
@@ -320,7 +320,8 @@ fn put_classes<K: Sink>(names: &Names, sink: &mut K, failed: &mut bool, classes:
     }
 }
 
-/// Writes the listing of the unit. After a failed write nothing more is written. Takes no memory.
+/// Writes the listing of the unit into the sink. After a failed write it writes nothing more, and reports the error.
+/// Allocates no memory.
 pub fn list_code<K: Sink>(unit: &Unit, sink: &mut K) -> Result<(), WriteFault>
     requires known { IsKnownUnit unit.now }
     ensures whole { OnOk result (K.written sink.new ≡ option_map (λ w. w ++ listing unit.now) (K.written sink.old)) }

@@ -1,4 +1,4 @@
--- The code of a part stands for it, at its first place and with nothing of it done.
+-- The code of a part represents it, at its first place and with nothing of it done.
 use Rattle.std.proofs.Common.{◌≡◌, refl, sym, ap, ◌∙◌, subst, ℕ, zero, suc, ◌+◌, List, [], ◌∷◌, ◌++◌, length, Option, Some, true, inl, arith, append_assoc, length-append}
 use Rattle.std.specs.Prelude.{slice_get}
 use Rattle.run_types.specs.declared.types.Value.{Value}

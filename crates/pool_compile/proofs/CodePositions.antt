@@ -1,4 +1,4 @@
--- Frames that stand for a part stand at its redex, or at a silent instruction, or at its end.
+-- Frames that represent a part are at its redex, at a silent instruction, or at its end.
 use Rattle.std.proofs.Common.{◌≡◌, ap, subst, ℕ, List, [], ◌∷◌, Option, None}
 use Rattle.run_types.specs.declared.types.Value.{Value}
 use Rattle.pool_syntax.specs.Terms as T

@@ -1,4 +1,4 @@
--- What is seen of each form of expression, from what is seen of its parts.
+-- The position in each form of expression, from the positions in its parts.
 use Rattle.run_types.specs.declared.frames.Frame.{Frame}
 use Rattle.std.proofs.Common.{◌≡◌, refl, sym, ap, ◌∙◌, subst, ℕ, suc, List, [], ◌∷◌, ◌++◌, length, Option, Some, Bool, true, false, ◌⊎◌, inl, inr, arith}
 use Rattle.std.specs.Prelude.{if◌then◌else◌}

@@ -1,4 +1,4 @@
--- What frames that stand for a term say of its redex, and how another part takes the redex's place in both.
+-- The redex of a term that frames represent, and the replacement of that redex by another part in the term and in the frames.
 use Rattle.run_types.specs.declared.frames.Frame.{Frame}
 use Rattle.std.proofs.Common.{◌≡◌, ap, ◌∙◌, subst, ℕ, suc, List, [], ◌∷◌, ◌++◌, length, Option, Some, is_some, IsTrue, Bool, true, false, ◌⊎◌, append_assoc}
 use Rattle.std.specs.Prelude.{slice_get, map}

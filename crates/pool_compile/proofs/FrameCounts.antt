@@ -1,4 +1,4 @@
--- As many frames stand above a place as methods are under way in the part that it stands for.
+-- The number of frames above a place is the number of methods under way in the part that the place represents.
 use Rattle.run_types.specs.declared.frames.CodeObject.{CodeObject}
 use Rattle.std.proofs.Common.{◌≡◌, refl, sym, ap, ◌∙◌, ℕ, suc, ◌+◌, List, [], ◌∷◌, length, Option, Some, IsTrue, inl, inr, arith, length-append, None, ◌++◌}
 use Rattle.run_types.specs.declared.types.Value.{Value}

@@ -1,4 +1,4 @@
--- Jumps are written once the code that they pass is there.
+-- Forward jumps are patched after the code that they skip is emitted.
 use Rattle.std.proofs.Common.{◌≡◌, refl, sym, ap, ◌∙◌, subst, ℕ, suc, ◌+◌, ◌<◌, ◌≤◌, List, [], ◌∷◌, ◌++◌, length, drop, get_or, append_assoc, length-append, arith}
 use Rattle.std.specs.Prelude.{slice_set, Option}
 use Rattle.std.specs.List.{All}

@@ -1,4 +1,4 @@
--- The code's kind is the term's.
+-- The next action of the code is that of the term.
 use Rattle.run_types.specs.declared.frames.Frame.{Frame}
 use Rattle.std.proofs.Common.{◌≡◌, refl, sym, ap, ◌∙◌, subst, ℕ, suc, ◌+◌, List, [], ◌∷◌, ◌++◌, length, Option, Some, None, is_some, Bool, true, false, arith, inl, inr, append-nil}
 use Rattle.std.specs.Prelude.{map, if◌then◌else◌, ◌||◌}

@@ -1,4 +1,4 @@
--- A local step of the term is the code's.
+-- A local step of the term is a local step of the code.
 use Rattle.run_types.specs.declared.frames.CodeObject.{CodeObject}
 use Rattle.std.proofs.Common.{◌≡◌, refl, sym, ap, ◌∙◌, subst, ℕ, ◌==◌, List, [], length, Option, Some, None, is_some, Bool, true, false, arith}
 use Rattle.std.specs.Prelude.{slice_get, if◌then◌else◌}

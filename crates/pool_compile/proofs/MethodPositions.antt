@@ -1,4 +1,4 @@
--- What is seen of a method under way, from what is seen of its statements and its value.
+-- The position in a method under way, from the positions in its statements and its value.
 use Rattle.run_types.specs.declared.frames.Frame.{Frame}
 use Rattle.std.proofs.Common.{◌≡◌, refl, sym, ap, ◌∙◌, subst, ℕ, ◌==◌, List, [], ◌∷◌, ◌++◌, Option, Some, None, is_some, suc, Bool, true, false, IsTrue, ◌⊎◌, inl, inr, arith}
 use Rattle.std.specs.Prelude.{slice_get, if◌then◌else◌}

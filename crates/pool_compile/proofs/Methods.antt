@@ -1,4 +1,4 @@
--- The methods of a class in its code, and a method as it begins.
+-- The methods of a class in its code, and the first frame of a method.
 use Rattle.std.proofs.Common.{◌≡◌, refl, sym, ap, ◌∙◌, subst, ℕ, suc, ◌+◌, ◌==◌, List, [], ◌∷◌, ◌++◌, length, Option, Some, Bool, true, false, inl, arith, inr}
 use Rattle.std.specs.Prelude.{slice_get, map, if◌then◌else◌}
 use Rattle.run_types.specs.declared.types.Value.{Value}

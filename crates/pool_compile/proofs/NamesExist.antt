@@ -1,4 +1,4 @@
--- What the code of a program without class faults names is there.
+-- Each name in the code of a program without class faults exists.
 use Rattle.std.proofs.Common.{◌≡◌, refl, sym, ap, ◌∙◌, subst, IsTrue, ℕ, zero, suc, ◌+◌, ◌==◌, ◌<◌, ◌≤◌, List, [], ◌∷◌, ◌++◌, length, Option, Some, None, is_some, Bool, true, false, ◌&&◌, ◌||◌, inl, inr, arith}
 use Rattle.std.specs.Prelude.{slice_get, map, not, if◌then◌else◌}
 use Rattle.std.specs.List.{list_any}

@@ -1,4 +1,4 @@
--- A new object's code stands for it.
+-- The code of a new object represents it.
 use Rattle.run_types.specs.declared.frames.CodeObject.{CodeObject}
 use Rattle.run_types.specs.declared.frames.Frame.{Frame}
 use Rattle.std.proofs.Common.{◌≡◌, refl, sym, ap, ◌∙◌, subst, ℕ, suc, ◌+◌, ◌==◌, [], ◌∷◌, length, Some, None, Bool, true, false, arith}

@@ -1,4 +1,4 @@
--- What is seen of expressions.
+-- Positions in expressions.
 use Rattle.run_types.specs.declared.frames.Frame.{Frame}
 use Rattle.std.proofs.Common.{◌≡◌, refl, sym, ap, subst, ℕ, List, [], ◌∷◌, Option, Some, true, inl, inr, arith}
 use Rattle.run_types.specs.declared.types.Value.{Value}

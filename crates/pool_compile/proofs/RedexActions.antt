@@ -1,4 +1,4 @@
--- What can be done at each redex, but for a fault or what is stuck.
+-- The next action at each redex, except a fault or a stuck one.
 use Rattle.std.proofs.Common.{◌≡◌, refl, subst, ℕ, ◌==◌, List, length, Option, Some, None, is_some, Bool, true, false, arith}
 use Rattle.std.specs.Prelude.{if◌then◌else◌, ◌||◌}
 use Rattle.std.specs.List.{list_any}

@@ -1,4 +1,4 @@
--- Worked rows, computed: the code of programs, and what it does.
+-- Worked examples, computed: the code of programs, and its steps.
 use Rattle.std.proofs.Common.{◌≡◌, refl, ℕ, zero, suc, pos, List, [], ◌∷◌, Option, Some, None, true, false}
 use Rattle.std.specs.Prelude.{codes}
 use Rattle.run_types.specs.declared.types.Value.TheVariants as V

@@ -1,4 +1,4 @@
--- Silent instructions change nothing of what frames stand for.
+-- Silent instructions do not change the term that frames represent.
 use Rattle.run_types.specs.declared.frames.Frame.{Frame}
 use Rattle.std.proofs.Common.{◌≡◌, refl, sym, ap, ◌∙◌, subst, ℕ, zero, suc, List, [], ◌∷◌, ◌++◌, length, Option, Some, None, is_some, IsTrue, Bool, true, false, inl, inr, arith}
 use Rattle.std.specs.Prelude.{slice_get, if◌then◌else◌}

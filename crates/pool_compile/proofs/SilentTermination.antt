@@ -1,4 +1,4 @@
--- In compiled code each chain of silent instructions ends, within as many as the code has instructions.
+-- In compiled code each chain of silent instructions ends, and it is no longer than the code.
 use Rattle.run_types.specs.declared.frames.Frame.{Frame}
 use Rattle.std.proofs.Common.{◌≡◌, refl, sym, ap, ◌∙◌, subst, ℕ, zero, suc, ◌+◌, ◌<◌, ◌≤◌, List, [], ◌∷◌, ◌++◌, length, Option, Some, None, Bool, true, false, ◌⊎◌, inl, inr, ⊎_elim, arith, length-append}
 use Rattle.std.proofs.lemmas.Option.{slice_get_past}

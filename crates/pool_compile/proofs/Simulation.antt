@@ -1,4 +1,4 @@
--- Code that stands for an object follows it.
+-- Code that represents an object follows it.
 use Rattle.run_types.specs.declared.frames.CodeObject.{CodeObject}
 use Rattle.run_types.specs.declared.frames.Frame.{Frame}
 use Rattle.std.proofs.Common.{◌≡◌, refl, sym, ap, ◌∙◌, subst, ℕ, zero, suc, ◌==◌, List, [], ◌∷◌, ◌++◌, length, Option, Some, None, is_none, Bool, true, false, arith}

@@ -1,4 +1,4 @@
--- What is seen of each form of statement, from what is seen of its parts.
+-- The position in each form of statement, from the positions in its parts.
 use Rattle.run_types.specs.declared.frames.Frame.{Frame}
 use Rattle.run_types.specs.declared.types.Serves.TheVariants as S
 use Rattle.std.proofs.Common.{◌≡◌, refl, sym, ap, ◌∙◌, subst, ℕ, zero, suc, ◌+◌, List, [], ◌∷◌, ◌++◌, length, Option, Some, Bool, true, false, inl, inr, arith, None, is_some, IsTrue}

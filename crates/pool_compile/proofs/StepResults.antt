@@ -1,4 +1,4 @@
--- What a local step of the code makes stands for what the term becomes.
+-- The object of code after a local step represents the term after that step.
 use Rattle.run_types.specs.declared.frames.CodeObject.{CodeObject}
 use Rattle.run_types.specs.declared.frames.Frame.{Frame}
 use Rattle.std.proofs.Common.{◌≡◌, refl, sym, ap, ◌∙◌, subst, ℕ, suc, List, [], ◌∷◌, ◌++◌, Option, Some, None, Bool, true, false, inl, inr, arith}

@@ -1,4 +1,4 @@
--- What the code makes of a value, of a step that another object has a part in, and of a call.
+-- The steps of the code that take a value, that another object takes part in, and that call an own method.
 use Rattle.run_types.specs.declared.frames.CodeObject.{CodeObject}
 use Rattle.run_types.specs.declared.frames.Frame.{Frame}
 use Rattle.std.proofs.Common.{◌≡◌, refl, sym, ap, ◌∙◌, subst, ℕ, zero, suc, ◌+◌, ◌-◌, List, [], ◌∷◌, ◌++◌, length, Option, Some, false, inl, arith, None, inr}

@@ -1,4 +1,4 @@
--- Code does what its program does.
+-- Simulation: the code of an object has the same next action as the object, and represents it again after each step.
 use Rattle.run_types.specs.declared.frames.CodeObject.{CodeObject}
 use Rattle.run_types.specs.declared.frames.Frame.{Frame}
 use Rattle.std.specs.Prelude.{◌≡◌, ℕ, zero, suc, List, [], ◌∷◌, length, map, Option, Some, None, slice_get}
@@ -25,7 +25,7 @@ use Rattle.pool_compile.specs.StandsFor.{IsServing, StandsFor}
 abbrev pub offered : Choice → Offered
 offered c = record { is_open = is_true c.guard; answer = answer_names c.answer }
 
--- the same kind; a wait is a send whose frames are held
+-- the code has the same next action; while a call is served, its code is still at the `Send`
 abbrev pub SameKind : Action → Kind → Type 0
 SameKind A.Finished k = k ≡ K.Finished
 SameKind (A.Local term vars) k = k ≡ K.Local
@@ -49,23 +49,23 @@ abbrev pub choice_work : Option Choice → Option Statements
 choice_work None = None
 choice_work (Some c) = Some c.work
 
--- what is left to do after alternative i, from 1, of an answer or a select
+-- the statements that are left after alternative i, from 1, of an answer or a select
 abbrev pub work_at : Action → ℕ → Option Statements
 work_at (A.Answer names) i = Some T.Done
 work_at (A.Select choices) zero = None
 work_at (A.Select choices) (suc j) = choice_work (slice_get choices j)
 work_at _ i = None
 
--- code at a step instruction that stands for the object
+-- the code represents the object, and is at a step instruction
 abbrev pub Represents : ProgramTree → Code → Object → CodeObject → Type 0
 Represents p u x y = StandsFor p x y × AtRest (slice_get u.classes y.class) y.frames
 
--- such code does what the object does, and stands for what it becomes
+-- the code has the next action of the object, and after each step it represents the object after that step
 pub record Follows (p : ProgramTree) (u : Code) (o : ℕ) (x : Object) (y : CodeObject) : Type 0 where
   pub kind : SameKind (action p o x) (code_kind u y)
   pub local : (term : Statements) (vars : Store) → action p o x ≡ A.Local term vars → Represents p u (record x { term = term; vars = vars }) (code_stepped u o y)
   pub made : (c : ℕ) (v : Value) → action p o x ≡ A.New c → Represents p u (given x v) (code_given u y v)
-  -- while the call is served the frames stay, and so they do while its result is on the way
+  -- the frames do not change while the call is served, nor while its result is under way
   pub held : (b m : ℕ) (args : List Value) → action p o x ≡ A.Send b m args → Represents p u (refilled x (AsExpression (T.Wait b m))) y
   pub resumed : (b m : ℕ) (v : Value) → action p o x ≡ A.Waits b m → Represents p u (given x v) (code_given u y v)
   pub wrote : (item : Item) → action p o x ≡ A.Write item → Represents p u (done x) (code_gone_on u y)

@@ -1,4 +1,4 @@
--- The numbering that two lists of names stand for.
+-- The numbering that the compiler's two lists of names represent.
 use Rattle.pool_compile.specs.declared.scope.Numbers.{Numbers}
 use Rattle.pool_compile.specs.Code.{Numbering}
 

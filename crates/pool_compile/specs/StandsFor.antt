@@ -1,4 +1,4 @@
--- What the frames of an object of code stand for.
+-- The representation relation: the frames of an object of code represent the term of an object of the program.
 use Rattle.run_types.specs.declared.frames.CodeObject.{CodeObject}
 use Rattle.std.specs.Prelude.{◌≡◌, ℕ, zero, suc, List, [], ◌∷◌, ◌++◌, length, map, Option, Some, None, Bool, false, IsTrue, slice_get, ◌⊎◌}
 use Rattle.run_types.specs.declared.types.Value.{Value}
@@ -26,7 +26,7 @@ pub record Point : Type 0 where
   pub operands : List Value
   pub above : List CodeFrame
 
--- a frame's method, and whom it serves
+-- a frame's method, and the caller that it serves
 pub record Head : Type 0 where
   pub method : Option ℕ
   pub serves : Serves
@@ -64,7 +64,7 @@ Leads c a b = (n : ℕ) × Jumps c n a b
 abbrev pub Ends : List Instr → ℕ → Instr → ℕ → Type 0
 Ends c a i b = (slice_get c a ≡ Some i) × (b ≡ suc a)
 
--- what an instruction puts on the operands without a step
+-- the value that an instruction pushes without a step
 abbrev pub pushed : Instr → Option Value
 pushed (I.PushInt z) = Some (V.Int z)
 pushed (I.PushBool b) = Some (V.Bool b)
@@ -79,7 +79,7 @@ abbrev pub as_value : Expression → Option Value
 as_value (Literal v p) = Some v
 as_value _ = None
 
--- what stands for a part, given the operands before it and the place after it
+-- the points that represent a part, given the operands before it and the place after it
 abbrev pub PointsOf : Type 1
 PointsOf = List Value → Point → ℕ → Type 0
 
@@ -102,19 +102,19 @@ Before c i part base s end = (m : ℕ) × part base s m × Ends c m i end
 abbrev pub IsOf : Option ClassCode → Head → ℕ → Type 0
 IsOf k h m = (i : Numbered) × (method_named k (name m) ≡ Some i) × (h.method ≡ Some i.place)
 
--- behind the value of a method: `Ret`, or `Post` and the post statements, which end at `Ret`
+-- after the value of a method: `Ret`, or `Post` and the post statements, which end at `Ret`
 abbrev pub Behind : List Instr → Bool → PointsOf → ℕ → Type 0
 Behind c over post q =
     (IsTrue over × (slice_get c q ≡ Some I.Ret))
     ⊎ ((over ≡ false) × (slice_get c q ≡ Some I.Post) × ((p : ℕ) × (slice_get c p ≡ Some I.Ret) × ((b : List Value) → post b (fresh (suc q) b) p)))
 
--- a method under way, for the caller, or for no one: its statements, its value, or its post statements over the value, which for a caller wait for the return
+-- a method under way, for the caller or for no one: in its statements, in its value, or in its post statements; these begin only after the return to a caller
 abbrev pub InMethod : List Instr → Option ℕ → (Point → ℕ → Type 0) → Bool → (Point → ℕ → Type 0) → Option Value → PointsOf → Bool → Point → Type 0
 InMethod c caller statements done value known post over s =
     ((q : ℕ) × Behind c over post q × (((r : ℕ) × statements s r × value (fresh r []) q) ⊎ (IsTrue done × value s q)))
     ⊎ ((v : Value) × IsTrue done × (known ≡ Some v) × (caller ≡ None) × ((p : ℕ) × (slice_get c p ≡ Some I.Ret) × post (v ∷ []) s p))
 
--- whom a frame serves
+-- the frame serves this caller, or no one
 abbrev pub IsServing : Option ℕ → Serves → Type 0
 IsServing None w = w ≡ S.Sender
 IsServing (Some k) w = (n : ℕ) × (w ≡ S.Caller k n)
@@ -128,8 +128,8 @@ abbrev pub push_all : List Value → List Value → List Value
 push_all [] base = base
 push_all (v ∷ vs) base = push_all vs (v ∷ base)
 
--- in the class k, in the code c, the operands and frames at a place stand for a part,
--- before which the operands are `base`, and after which the place is `end` and an expression's value is on the operands
+-- in the class k and the code c, the point s represents a part; before the part the operands are `base`,
+-- and after it the place is `end` and the value of an expression is on the operands
 abbrev mutual
   pub Under : Option ClassCode → List Instr → Numbering → Expression → PointsOf
   Under k c g (Literal v p) base s end =
@@ -179,7 +179,7 @@ abbrev mutual
       (Under k (code_of k h.method) (record g { temps = names }) e []) (as_value e)
       (UnderStatements k (code_of k h.method) (record g { temps = names }) qs) (is_done qs) a)
 
-  -- jumps may stand before each statement, and at the end
+  -- jumps may come before each statement, and at the end
   pub UnderStatements : Option ClassCode → List Instr → Numbering → Statements → PointsOf
   UnderStatements k c g Done base s end = Fresh base s × Leads c s.at end
   UnderStatements k c g (Then st ss) base s end =
@@ -197,7 +197,7 @@ abbrev mutual
   Works k c g (Alt e names ss alts) base (a ∷ targets) end =
       (a.answer ≡ answer_names names) × UnderStatements k c g ss base (fresh a.at base) end × Works k c g alts base targets end
 
--- an object of code stands for an object with a term
+-- the object of code y represents the object x, which has a term
 pub record StandsFor (p : ProgramTree) (x : Object) (y : CodeObject) : Type 0 where
   pub tree : ClassTree
   pub is_class : class_of p x.class ≡ Some tree

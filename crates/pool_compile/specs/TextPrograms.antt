@@ -1,11 +1,11 @@
--- Programs as a text gives them: nothing of them is under way.
+-- Programs as the parser gives them: nothing in them is under way, and no literal names an object.
 use Rattle.std.proofs.Common.{Bool, true, false, List, [], ◌∷◌}
 use Rattle.std.specs.Prelude.{◌&&◌}
 use Rattle.run_types.specs.declared.types.Value.TheVariants as V
 use Rattle.pool_syntax.specs.Terms as T
 use Rattle.pool_syntax.specs.Terms.{Expression, Expressions, Statement, Statements, Alternatives, MethodTree, ProgramTree}
 
--- a part of a text: no method is under way in it, no call is served, and no literal is the name of an object
+-- a part of a program text: no method is under way in it, no call is served, and no literal is the name of an object
 abbrev mutual
   pub is_text : Expression → Bool
   is_text (T.Literal (V.Ref n) p) = false
@@ -52,7 +52,7 @@ abbrev pub are_text_methods : List MethodTree → Bool
 are_text_methods [] = true
 are_text_methods (m ∷ ms) = is_text_method m && are_text_methods ms
 
--- a program as a text gives it
+-- a program as the parser gives it
 abbrev pub is_text_program : ProgramTree → Bool
 is_text_program [] = true
 is_text_program (k ∷ ks) = are_text_statements k.body && are_text_methods k.methods && is_text_program ks

@@ -1,11 +1,11 @@
-//! Code that is being made.
+//! A list of instructions under construction.
 ghost use Rattle.std.specs.Prelude.{◌≡◌, ◌<◌, ◌^◌, [], ◌∷◌, ◌++◌, length, slice_set, OnOk};
 
 use code_semantics::Instr;
 use run_types::List;
 use std::alloc::{AllocError, Global};
 
-/// The instructions so far: fewer than 2^32, so that each place, and the one after the last, is a `u32`.
+/// The instructions so far. They are fewer than 2^32, so each place, and the one after the last, fits a `u32`.
 #[derive(Drop)]
 pub struct Builder {
     pub code: List<Instr>,
@@ -28,7 +28,7 @@ impl Builder {
         self.code.items().len() as u32
     }
 
-    /// Puts an instruction last. Where 2^32 - 1 are there already, memory is wanting.
+    /// Appends an instruction. Reports an error if out of memory, or if there are 2^32 - 1 instructions already.
     pub fn put(&mut self, instr: Instr) -> Result<(), AllocError>
         ensures { OnOk result (self.new.code ≡ self.old.code ++ instr ∷ []) }
     {
@@ -41,7 +41,7 @@ impl Builder {
         }
     }
 
-    /// Puts an instruction at a place, instead of the one that is there.
+    /// Replaces the instruction at a place.
     pub fn set(&mut self, place: u32, instr: Instr)
         requires { place < length self.old.code }
         ensures { self.new.code ≡ slice_set self.old.code place instr }

@@ -1,11 +1,11 @@
-//! Why there is no code.
+//! The errors of the compiler.
 ghost use Rattle.std.specs.Prelude.{◌≡◌};
 ghost use Rattle.pool_compile.specs.declared.fault.CompileFault.TheVariants.{Memory};
 
 use std::alloc::AllocError;
 use thiserror::Error;
 
-/// Why a program was not compiled.
+/// The reason why `compile` returns no unit.
 #[derive(Clone, Copy, Debug, PartialEq, Eq, Error)]
 pub enum CompileFault {
     /// Out of memory: a list could not grow, or a body or a method has 2^32 instructions or more.

@@ -10,7 +10,7 @@ use pool_syntax::Var;
 use run_types::NameId;
 use std::alloc::AllocError;
 
-/// The place of the first of the names that is this one; their number where none is.
+/// The place of the first name that equals `name`, from 0. If none does, it is the number of names.
 fn number(names: &[u32], name: NameId) -> u32
     requires { length names.now < 2 ^ 32 }
     ensures place { result ≡ number_of names.now name.0 }
@@ -42,7 +42,7 @@ fn is_among(names: &[u32], name: NameId) -> bool
 }
 
 impl Numbers<'_> {
-    /// The load of a name: a parameter or local hides a variable.
+    /// The instruction that loads a name. A parameter or local hides a variable.
     pub fn load(&self, name: NameId) -> Instr
         ensures { result ≡ load (numbering self.now) name.0 }
     {
@@ -53,7 +53,7 @@ impl Numbers<'_> {
         }
     }
 
-    /// The store of a name.
+    /// The instruction that stores into a name. A parameter or local hides a variable.
     pub fn store(&self, name: NameId) -> Instr
         ensures { result ≡ store (numbering self.now) name.0 }
     {
@@ -65,7 +65,7 @@ impl Numbers<'_> {
     }
 }
 
-/// Adds the names of variables.
+/// Appends the names of variables. Reports an error if out of memory.
 pub fn push_names(names: &mut Vec<u32>, vars: &[Var]) -> Result<(), AllocError>
     ensures { OnOk result (names.new.items ≡ names.old.items ++ names_of vars.now) }
 {

@@ -1,4 +1,5 @@
-//! How many operands stand at once: right where these are no more than 64.
+//! The operand depth of expressions and statements: the greatest depth of the operand stack while they run.
+//! A result is exact if the depth is at most 64.
 ghost use Rattle.std.specs.Prelude.{◌≡◌, ◌≤◌};
 ghost use Rattle.pool_syntax.specs.TreeOf.{expression_of, expressions_of, statement_of, statements_of, alternatives_of};
 ghost use Rattle.pool_compile.specs.Code.{expression_words, expressions_words, guards_words, more, statement_words, statements_words, works_words};
@@ -12,7 +13,7 @@ pub fn more(first: u32, second: u32) -> u32
     if first <= second { second } else { first }
 }
 
-/// The words of an expression.
+/// The operand depth of an expression, if it is at most 64.
 #[cycle(words)]
 pub fn expression_words(expr: &Expr) -> u32
     ensures { expression_words (expression_of expr.now) ≤ 64 → result ≡ expression_words (expression_of expr.now) }
@@ -34,7 +35,7 @@ pub fn expression_words(expr: &Expr) -> u32
     }
 }
 
-/// The words of expressions, each with the values of those before it.
+/// The operand depth of expressions, if it is at most 64. Each is evaluated on top of the values of those before it.
 #[cycle(words)]
 fn expressions_words(exprs: &[Expr]) -> u32
     ensures { expressions_words (expressions_of exprs.now) ≤ 64 → result ≡ expressions_words (expressions_of exprs.now) }
@@ -46,7 +47,8 @@ fn expressions_words(exprs: &[Expr]) -> u32
     most
 }
 
-/// The words of the guards of a select, each with the values of those before it.
+/// The operand depth of the guards of a select, if it is at most 64.
+/// Each is evaluated on top of the values of those before it.
 fn guards_words(alts: &[Alt]) -> u32
     ensures { guards_words (alternatives_of alts.now) ≤ 64 → result ≡ guards_words (alternatives_of alts.now) }
 {
@@ -57,7 +59,7 @@ fn guards_words(alts: &[Alt]) -> u32
     most
 }
 
-/// The words of a statement.
+/// The operand depth of a statement, if it is at most 64.
 #[cycle(statements)]
 fn statement_words(stmt: &Stmt) -> u32
     ensures { statement_words (statement_of stmt.now) ≤ 64 → result ≡ statement_words (statement_of stmt.now) }
@@ -84,7 +86,7 @@ fn statement_words(stmt: &Stmt) -> u32
     }
 }
 
-/// The words of statements.
+/// The operand depth of statements, if it is at most 64.
 #[cycle(statements)]
 pub fn statements_words(stmts: &[Stmt]) -> u32
     ensures { statements_words (statements_of stmts.now) ≤ 64 → result ≡ statements_words (statements_of stmts.now) }
@@ -96,7 +98,7 @@ pub fn statements_words(stmts: &[Stmt]) -> u32
     most
 }
 
-/// The words of the lists of a select.
+/// The operand depth of the lists of a select, if it is at most 64.
 #[cycle(statements)]
 fn works_words(alts: &[Alt]) -> u32
     ensures { works_words (alternatives_of alts.now) ≤ 64 → result ≡ works_words (alternatives_of alts.now) }

@@ -38,7 +38,7 @@ fn vars_of(alloc: Global, vars: &[Var]) -> Result<Vec<u32>, AllocError>
     Ok(names)
 }
 
-/// Adds what stands behind the value of a method.
+/// Appends the code after the value of a method: `Ret`, or `Post`, the post statements and `Ret`.
 fn emit_end(
     alloc: Global,
     code: &mut Builder,
@@ -55,7 +55,7 @@ fn emit_end(
     code.put(Instr::Ret)
 }
 
-/// The instructions of a method: its statements, its value, its end.
+/// The instructions of a method: its statements, its value, and its end.
 fn method_code(
     alloc: Global,
     numbers: &Numbers<'_>,
@@ -71,7 +71,7 @@ fn method_code(
     Ok(code.done())
 }
 
-/// The instructions of a body: its statements, its end.
+/// The instructions of a body: its statements, and `Halt`.
 fn body_code(alloc: Global, numbers: &Numbers<'_>, body: &[Stmt]) -> Result<List<Instr>, AllocError>
     ensures code { IfOk result (λ code. code ≡ body_instrs (numbering numbers.now) (statements_of body.now)) }
     ensures short { IfOk result (λ code. length code < 2 ^ 32) }
@@ -167,8 +167,10 @@ fn compile_classes(alloc: Global, classes: &[ClassDecl]) -> Result<List<ClassCod
     Ok(list)
 }
 
-/// The code of a program, with a copy of its names. Each list is made once, and a jump that passes code is written in its
-/// place once that code is there, so time and memory are in proportion to the program.
+/// Compiles a checked program to a unit, with a copy of its names.
+/// Reports an error if out of memory, or if a body or a method has 2^32 instructions or more.
+/// A forward jump is patched after the code that it skips is emitted.
+/// So time and memory are proportional to the program.
 pub fn compile(alloc: Global, program: &Checked<'_>) -> Result<Unit, CompileFault>
     ensures names { IfOk result (λ unit. unit.names ≡ program.now.names.now) }
     ensures code { IfOk result (λ unit. unit.classes ≡ code (program_of program.now.program.now)) }

@@ -1,7 +1,8 @@
-//! The names that have numbers.
+//! The numbering of names.
 ghost use Rattle.std.specs.Prelude.{◌<◌, ◌^◌, length};
 
-/// The names of a method's parameters and locals, and of the variables of the class, each in the order of the numbers.
+/// The names of a method's parameters and locals, and of the variables of its class.
+/// A name's place is its number, from 0.
 #[derive(Clone, Copy)]
 pub struct Numbers<'a> {
     pub temps: &'a [u32],

@@ -15,7 +15,7 @@ use pool_syntax::{Alt, Named, Stmt};
 use run_types::{List, NameId};
 use std::alloc::{AllocError, Global};
 
-/// The names of a list.
+/// The names of a list. Reports an error if out of memory.
 fn names_of(alloc: Global, listed: &[Named]) -> Result<List<NameId>, AllocError>
     ensures { IfOk result (λ names. names ≡ map (λ n. n.name) listed.now) }
 {
@@ -28,7 +28,7 @@ fn names_of(alloc: Global, listed: &[Named]) -> Result<List<NameId>, AllocError>
     Ok(names)
 }
 
-/// The names of an alternative that answers.
+/// The method names of an alternative; `None` if it is plain. Reports an error if out of memory.
 fn answer_of(
     alloc: Global,
     answer: &Option<List<Named>>,
@@ -41,7 +41,7 @@ fn answer_of(
     }
 }
 
-/// Adds an alternative.
+/// Appends an alternative. Reports an error if out of memory.
 fn add(targets: &mut List<AltCode>, target: AltCode) -> Result<(), AllocError>
     ensures { OnOk result (targets.new ≡ targets.old ++ target ∷ []) }
 {
@@ -51,7 +51,7 @@ fn add(targets: &mut List<AltCode>, target: AltCode) -> Result<(), AllocError>
     }
 }
 
-/// Adds the code of the guards.
+/// Appends the code of the guards. Reports an error if out of memory.
 fn emit_guards(code: &mut Builder, numbers: &Numbers<'_>, alts: &[Alt]) -> Result<(), AllocError>
     ensures { OnOk result (code.new.code ≡ code.old.code ++ guards_code (numbering numbers.now) (alternatives_of alts.now)) }
 {
@@ -61,7 +61,7 @@ fn emit_guards(code: &mut Builder, numbers: &Numbers<'_>, alts: &[Alt]) -> Resul
     Ok(())
 }
 
-/// Makes the instructions at these places jumps to one place.
+/// Replaces the instruction at each of these places by a jump to the place `end`.
 fn fill(code: &mut Builder, places: &[u32], end: u32)
     requires { All (λ p. p < length code.old.code) places.now }
     ensures { code.new.code ≡ filled code.old.code places.now end }
@@ -71,7 +71,7 @@ fn fill(code: &mut Builder, places: &[u32], end: u32)
     }
 }
 
-/// Adds the code of a statement. A jump that passes code is written once that code is there.
+/// Appends the code of a statement. A forward jump is patched after the code that it skips is emitted.
 #[cycle(statements)]
 fn emit_statement(
     alloc: Global,
@@ -134,7 +134,7 @@ fn emit_statement(
     }
 }
 
-/// Adds the code of statements.
+/// Appends the code of statements. Reports an error if out of memory, or if there are 2^32 instructions.
 #[cycle(statements)]
 pub fn emit_statements(
     alloc: Global,
@@ -150,7 +150,8 @@ pub fn emit_statements(
     Ok(())
 }
 
-/// Adds the code of a select: the guards, the choice, and the list of each alternative with a jump behind the last.
+/// Appends the code of a select: the guards, the choice, and the
+/// list of each alternative with a jump to the end of the select.
 #[cycle(statements)]
 fn emit_select(
     alloc: Global,
@@ -171,7 +172,8 @@ fn emit_select(
     Ok(())
 }
 
-/// Adds the lists of the alternatives, each with a jump that is still to be filled, and notes where each begins and ends.
+/// Appends the list of each alternative, followed by a jump that `fill` patches later.
+/// Adds the place of each list to `targets`, and the place of each jump to `jumps`.
 #[cycle(statements)]
 fn emit_works(
     alloc: Global,

@@ -1,4 +1,4 @@
-//! What the code of a program does, as laws over its definitions.
+//! Theorems about the compiled code of a program: it simulates the program's objects.
 ghost use Rattle.std.specs.Prelude.{◌≡◌, ℕ, Some};
 ghost use Rattle.pool_syntax.specs.Terms.{ClassTree};
 ghost use Rattle.pool_syntax.specs.TreeOf.{program_of};
@@ -13,13 +13,14 @@ ghost use Rattle.pool_compile.specs.Follows.{Represents, Follows};
 use code_semantics::Unit;
 use pool_syntax::Program;
 
-/// Code that stands for an object does what the object does, and then stands for what it becomes.
+/// Code that represents an object has the same next action, and
+/// after each step it represents the object after that step.
 pub fn code_follows(program: &Program, unit: &Unit)
     requires { unit.now.classes ≡ code (program_of program.now) }
     ensures { (o : ℕ) (x : Object) (y : ObjectOfCode) → Represents (program_of program.now) unit.now x y → Follows (program_of program.now) unit.now o x y }
 {}
 
-/// The code of a new object stands for it.
+/// The unit has code for a new object of each class of the program, and this code represents it.
 pub fn new_code_stands(program: &Program, unit: &Unit)
     requires { unit.now.classes ≡ code (program_of program.now) }
     ensures { (c : ℕ) (k : ClassTree) → class_of (program_of program.now) c ≡ Some k → (y : ObjectOfCode) × (code_made unit.now (name c) ≡ Some y)
