@@ -2,9 +2,9 @@
 use run_types::{Args, Error, Item, NameId, Value};
 
 /// The request of an object whose current instruction makes no local transition. It requests a new object of the class
-/// with this index in the unit, a call, an asynchronous message, or a write. Or it waits for a message at an answer or
-/// a select, returns a value to its caller, whose request has this number, or meets a run-time error. `Halted`: its
-/// body is over.
+/// with this index in the unit, a call, an asynchronous message, or a write. `Answer` and `Select` wait for a message
+/// or a choice. `Return` gives a value to the caller whose request has this number. `Fault` is a run-time error.
+/// `Halted`: the body is over.
 #[derive(Clone, Copy)]
 pub enum Need {
     New {
