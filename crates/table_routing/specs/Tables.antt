@@ -15,7 +15,8 @@ size l = l.width * l.height
 abbrev pub with_routes : Placement → List Route → Placement
 with_routes l rs = record { width = l.width; height = l.height; objects = l.objects; frames = l.frames; cells = l.cells; places = l.places; cuts = l.cuts; routes = rs }
 
--- the first n next nodes of a placement: the next node from `at` to another node `goal` has the index `at * size + goal`
+-- the first n next nodes of a placement: the next node from `at` to another node `goal` has the index `at * size +
+-- goal`
 pub record AreNexts (l : Placement) (n : ℕ) (ns : List ℕ) : Type 0 where
   pub count : length ns ≡ n
   pub each : (i : ℕ) → i < n → i / size l ≢ i % size l → get_or ns i 0 ≡ next l (i / size l) (i % size l)
