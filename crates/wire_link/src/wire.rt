@@ -37,14 +37,15 @@ pub enum Arrived {
     Next { packet: Packet },
 }
 
-/// A link as a wire: counters, copies of the packets that were sent and not acknowledged, and the frames in transit.
-/// There are at most 8 copies, and at most 16 frames on each side, stored as bytes. No call allocates.
+/// A link as a wire with the go-back-N protocol: counters, copies of the packets that were sent and not acknowledged,
+/// and the frames in transit. There are at most 8 copies, and at most 16 frames on each side, stored as bytes. No call
+/// allocates.
 ///
 /// A wire stores no list of the packets that entered it; it *carries* lists (`Carries` of `mesh_semantics`). The
 /// contracts speak of the stored state, and hold for every carried list. For the calls that change the wire,
-/// `theorems::each_call_carries_what_was_carried` has a clause each: the list is still carried, and report and change
-/// are those of the definition. For the other calls, `a_kept_wire_does_what_its_wire_does` of `mesh_semantics` says so.
-/// There, a wire that carries a list also carries every longer list that begins with it.
+/// `theorems::each_call_carries_what_was_carried` says so, with a clause each. The list is still carried, and the
+/// report and the change are those of the definition. For the other calls, `a_kept_wire_does_what_its_wire_does` of
+/// `mesh_semantics` says so. There, a wire that carries a list also carries every longer list that begins with it.
 #[derive(Drop)]
 pub struct Wire {
     handed: u32,
