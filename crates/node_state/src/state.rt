@@ -19,9 +19,9 @@ use object_interp::can_step_alone;
 use rendezvous_protocol::Outstanding;
 use run_types::{Error, List};
 
-/// The state of a node. For each slot, `faults` has the run-time error of its object, `goals` the node to which its
-/// last request for a new object went, and `ready` whether it can step. For each class of the unit, `made` counts the
-/// objects that the node's objects have made. `last` is the slot that stepped last.
+/// The state of a node. For each slot, `faults` has the run-time error of its object, and `ready` says whether it can
+/// step. `goals` has the node to which the last request of the slot for a new object went. For each class of the unit,
+/// `made` counts the objects that the node's objects have made. `last` is the slot that stepped last.
 #[derive(Drop)]
 pub struct NodeParts {
     pub id: u32,
