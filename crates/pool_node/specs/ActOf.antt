@@ -1,4 +1,4 @@
--- The outcome of a node, as one value, of a call's answer and its output buffer.
+-- The outcome of a node as one value, made from a call's answer and its output buffer.
 use Rattle.std.specs.Prelude.{Option, Some, None}
 use Rattle.run_types.specs.declared.types.What.{What}
 use Rattle.run_types.specs.declared.types.FullKind.{FullKind}
