@@ -1,5 +1,5 @@
--- The events of a machine whose links are wires. A turn does what it does without them, the head of a link moves with
--- the next packet, and any other event is of one wire.
+-- The events of a machine whose links are wires. A turn does what it does without them. The head of a link moves with
+-- the next packet. Any other event is of one wire.
 use Rattle.std.proofs.Common.{◌≡◌, ◌≢◌, ◌⊎◌, inl, inr, refl, sym, ap, ap₂, subst, ◌∙◌, ℕ, ◌+◌, ◌==◌, List, [], ◌∷◌, map, Option, Some, None, is_some, Bool, true, false, if◌then◌else◌, nat_lt}
 use Rattle.std.specs.Prelude.{slice_get}
 use Rattle.std.specs.FinMap.{put}

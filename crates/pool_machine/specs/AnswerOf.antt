@@ -1,4 +1,4 @@
--- The outcome of an event, as one value, of a call's answer and its output buffer.
+-- The outcome of an event as one value, made from a call's answer and its output buffer.
 use Rattle.std.specs.Prelude.{ℕ}
 use Rattle.run_types.specs.declared.types.Event.{Event}
 use Rattle.run_types.specs.declared.types.What.{What}

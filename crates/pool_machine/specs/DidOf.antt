@@ -1,4 +1,4 @@
--- The outcome of a step of a machine, as one value, of a call's answer and its output buffer.
+-- The outcome of a step of a machine as one value, made from a call's answer and its output buffer.
 use Rattle.std.specs.Prelude.{ℕ}
 use Rattle.run_types.specs.declared.types.What.{What}
 use Rattle.run_types.specs.declared.types.FullKind.{FullKind}

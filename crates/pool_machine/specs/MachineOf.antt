@@ -1,5 +1,4 @@
--- The machine as contracts see it: its unit and placement, its nodes, the packets on its links, the stored state of its
--- wires, and its counters.
+-- The machine as contracts see it: unit and placement, nodes, packets on links, stored states of wires, and counters.
 use Rattle.std.specs.Prelude.{ℕ, List, Option, map, refl}
 use Rattle.std.specs.Option.{option_map}
 use Rattle.std.specs.Coded.{Coded, code_by, coded×, coded_list, coded_option, coded_ℕ}

@@ -1,5 +1,5 @@
--- The invariant of the nodes and links of a machine between events, and the effect of a turn and of a move of a link's
--- head, without the wires.
+-- The invariant of the nodes and links of a machine between events, and the effect of an event on them, without the
+-- wires.
 use Rattle.std.specs.Prelude.{◌≡◌, ℕ, ◌*◌, List, Some, None, true, length, map, slice_get}
 use Rattle.run_types.specs.declared.types.Placement.{Placement}
 use Rattle.code_semantics.specs.declared.unit.Unit.{Unit as Code}

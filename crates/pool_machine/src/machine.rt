@@ -175,10 +175,10 @@ impl<'a> Machine<'a> {
         })
     }
 
-    /// Makes an event: a turn of a node with up to `quantum` local transitions, a move of the head of a link, or
-    /// another event on a wire. Requires a node or a link of the placement, and a lossy machine for the last kind.
-    /// Requires a quantum of 1 to 10000, and fewer than 2^32 - 1 events so far. Returns `Full` exactly if the step
-    /// would exceed a limit of a node. The machine is then unchanged.
+    /// Makes an event: a turn of a node, a move of the head of a link, or another event on a wire. A turn makes up to
+    /// `quantum` local transitions. Requires a node or a link of the placement, and a lossy machine for an event on a
+    /// wire. Requires a quantum of 1 to 10000, and fewer than 2^32 - 1 events so far. Returns `Full` exactly if the
+    /// step would exceed a limit of a node. The machine is then unchanged.
     pub fn event(&mut self, event: Event, quantum: u32) -> Outcome
         requires mesh { IsOfMesh self.old.placement event }
         requires served { IsServed (is_some self.old.wires) event }
