@@ -28,8 +28,8 @@ limit_of I.Unit = most_of_unit
 abbrev pub one_read : ℕ
 one_read = 65536
 
--- the text was read under the name of this input: it is the known text of the name, if one is known, and it is within
--- the limit
+-- The text was read under the name of this input. It is the known text of the name, if one is known, and it is within
+-- the limit.
 abbrev pub IsReadAs : Told → Input → Text → Text → Type 0
 IsReadAs told input name s = IfSome (told name) (λ t. s ≡ t) × (length s ≤ limit_of input)
 
