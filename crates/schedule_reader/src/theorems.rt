@@ -13,8 +13,8 @@ pub fn events_are_counted()
     ensures { (w h : ℕ) (cuts : List LinkId) (lossy : Bool) (es : List Entry) → length (events_of w h cuts lossy es) ≡ total w h cuts lossy es }
 {}
 
-/// Each schedule that a text represents fits the placement: its quantum is from 1 to 10,000, and each of its events is
-/// on a node of the mesh or on a link that is not cut. An event on a wire occurs only in a lossy schedule.
+/// The schedule that a text represents fits the placement. Its quantum is from 1 to 10,000. Each event is on a node of
+/// the mesh or on a link that is not cut. Only a lossy schedule has events on wires.
 pub fn events_are_of_the_mesh()
     ensures { (l : Placement) (s : Text) (plan : Plan) → schedule_of l.width l.height l.cuts s ≡ Ok plan → IsPlanFor l plan }
 {}
