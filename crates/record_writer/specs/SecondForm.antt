@@ -1,5 +1,5 @@
--- The text of a record in the second form: a first line that names the form, and ` by` with the request's number after
--- each line that answers a request.
+-- The text of a record in the second form, in which a line that answers a request ends in ` by` and the request's
+-- number. The first line names the form.
 use Rattle.std.specs.Prelude.{ℕ, List, [], ◌∷◌, ◌++◌, Bool, true, false, codes, decimal}
 use Rattle.text_scan.specs.Text.{Text}
 use Rattle.run_types.specs.declared.types.Line.{Line}
