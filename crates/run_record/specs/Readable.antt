@@ -1,5 +1,5 @@
--- The lines of a record: their numbers, names, strings and values are within the ranges of the format, and they are in
--- the order of a record.
+-- The lines that are a record: their numbers, names, strings and values are in the ranges of the format, and they are
+-- in order.
 use Rattle.std.specs.Prelude.{◌≡◌, ℕ, ◌+◌, ◌<◌, ◌≤◌, List, [], ◌∷◌, length, true}
 use Rattle.text_scan.specs.Text.{Text, every, is_inner}
 use Rattle.run_types.specs.Values.{is_in_range}
@@ -91,8 +91,8 @@ IsReadableEnd (F.Quiet done) = Unit {0}
 IsReadableEnd (F.Schedule done) = Unit {0}
 IsReadableEnd (F.Full kind node done) = IsCount node
 
--- The lines after an event with this number: events with the next numbers, at most 2,000,000, and then one end line
--- with the number of events.
+-- The lines after an event with this number: events with the next numbers, at most 2,000,000, and one end line with the
+-- number of events.
 abbrev pub IsRecordFrom : List Text → ℕ → List Line → Type 0
 IsRecordFrom names last [] = ⊥
 IsRecordFrom names last (R.Event n e what ∷ ls) = (n ≡ last + 1) × (n ≤ 2000000) × IsReadableEvent e × IsReadableWhat names what × IsRecordFrom names n ls

@@ -1,5 +1,4 @@
--- The lines that the text of a record represents in either form, each with the text of its name, and the first fault of
--- the text.
+-- The lines of the text of a record in either form, each with the text of its name, and the first fault of the text.
 use Rattle.std.specs.Prelude.{ℕ, ◌+◌, List, [], ◌∷◌, Option, Some, None, Bool, true, false, ◌&&◌, not, nat_eq, nat_le, bytes_eq, codes}
 use Rattle.text_scan.specs.Text.{Text}
 use Rattle.run_types.specs.declared.types.End.{End}
@@ -40,8 +39,7 @@ unasked t = only_if (not (is_asked t.line)) (unnumbered t)
 abbrev pub asked_for : ℕ → Told → Option Row
 asked_for n t = only_if (is_asked t.line) (Some (record { told = t; ask = Some n }))
 
--- a line of the second form: a line of the first form that answers no request, or one that does, with ` by` and a
--- number after it
+-- a line of the second form; if it answers a request, ` by` and a number follow the line of the first form
 abbrev pub second_of : List Text → Option Row
 second_of ws = option_or (line_of ws >>= unasked) (asked_by ws >>= λ r. line_of r.0 >>= asked_for r.1)
 
@@ -107,8 +105,8 @@ abbrev pub row_then : Option Row → (Row → Rows) → Rows
 row_then None next = record { told = []; fault = None }
 row_then (Some r) next = with_told r.told (next r)
 
--- the lines after the lines `earlier`, the latest of which is the first: `seen` lines of the text were read, `last` is
--- the number of the last event, and `ended` says whether the end has come
+-- The lines after the lines `earlier`, the latest of which is the first. `seen` lines of the text were read, `last` is
+-- the number of the last event, and `ended` says whether the end has come.
 abbrev pub rows : RecordVersion → List Line → ℕ → ℕ → Bool → List Text → Rows
 rows f earlier seen last ended [] = refused (fault.BadLine (seen + 1))
 rows f earlier seen last ended (p ∷ []) = tail_row seen ended p

@@ -10,16 +10,16 @@ ghost use Rattle.run_record.specs.Records.{record_of};
 ghost use Rattle.run_record.specs.Readable.{IsRecord};
 ghost use Rattle.run_record.specs.Converted.{converted};
 
-/// The text of a record, read with the table of names with which it was written, has no fault and gives the lines of
-/// the record. The table stays the same.
+/// Reading the text of a record with the writer's table of names gives the lines of the record, without a fault. The
+/// table stays the same.
 pub fn the_text_of_a_record_is_read_as_its_lines()
     ensures faultless { (names : List Text) (ls : List Line) → is_distinct names ≡ true → IsRecord names ls → (record_of (record_text names ls)).fault ≡ None }
     ensures lines { (names : List Text) (ls : List Line) → is_distinct names ≡ true → IsRecord names ls → lines_after names (record_of (record_text names ls)).told ≡ ls }
     ensures names { (names : List Text) (ls : List Line) → is_distinct names ≡ true → IsRecord names ls → names_after names (record_of (record_text names ls)).told ≡ names }
 {}
 
-/// The text of a record in the second form, read with the table of names with which it was written, has no fault and
-/// gives the lines of the record. The table stays the same.
+/// Reading the second form of a record with the writer's table of names gives the lines of the record, without a fault.
+/// The table stays the same.
 pub fn the_second_text_of_a_record_is_read_as_its_lines()
     ensures faultless { (names : List Text) (ls : List Line) → is_distinct names ≡ true → IsRecord names ls → (record_of (text2 names ls)).fault ≡ None }
     ensures lines { (names : List Text) (ls : List Line) → is_distinct names ≡ true → IsRecord names ls → lines_after names (record_of (text2 names ls)).told ≡ ls }
