@@ -10,8 +10,8 @@ use rand_pcg::Lcg64Xsh32;
 use run_types::List;
 use std::alloc::AllocError;
 
-/// The line for a random word: a turn of one of four nodes, or a move on one of the eight links of a mesh of two rows
-/// and two columns.
+/// The line for a random word. It is a turn of one of four nodes, or a move on one of the eight links of a mesh of 2 by
+/// 2 nodes.
 fn drawn_line(word: u32) -> &'static [u8]
     ensures { result.now ≡ drawn_line word }
 {
