@@ -26,8 +26,8 @@ pub fn the_second_text_of_a_record_is_read_as_its_lines()
     ensures names { (names : List Text) (ls : List Line) → is_distinct names ≡ true → IsRecord names ls → names_after names (record_of (text2 names ls)).told ≡ names }
 {}
 
-/// The lines that were read of the text of a record, written in the second form, are the second text of the record.
-/// Both texts give the same lines.
+/// Reading the text of a record and writing its lines in the second form gives the second form of the record. Both
+/// texts give the same lines.
 pub fn a_record_is_carried_over()
     ensures text { (names : List Text) (ls : List Line) → is_distinct names ≡ true → IsRecord names ls
         → text2 (names_after names (record_of (record_text names ls)).told) (lines_after names (record_of (record_text names ls)).told) ≡ text2 names ls }
