@@ -8,7 +8,7 @@ ghost use Rattle.schedule_reader.specs.Plans.{IsPlanFor};
 ghost use Rattle.schedule_reader.specs.Schedules.{Plan, schedule_of};
 ghost use Rattle.schedule_reader.specs.declared.entry.Entry.{Entry};
 
-/// The number of events of any entries equals the sum of the counts, which is computed without the list of events.
+/// `total` is the number of events of any entries, computed without the list of events.
 pub fn events_are_counted()
     ensures { (w h : ℕ) (cuts : List LinkId) (lossy : Bool) (es : List Entry) → length (events_of w h cuts lossy es) ≡ total w h cuts lossy es }
 {}
