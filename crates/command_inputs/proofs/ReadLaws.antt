@@ -1,4 +1,4 @@
--- What comes of reading inputs: an error is passed on, and a text that was read is judged.
+-- The outcomes of reading inputs: an error is passed on, and a text that was read is checked.
 use Rattle.std.proofs.Common.{◌≡◌, ℕ, List, IfOk, MatchResult, Result, Ok, Err, true, ◌≢◌, refl, ap, subst}
 use Rattle.text_scan.specs.Text.{Text}
 use Rattle.pool_grammar.specs.Grammatical.{IsGrammatical}

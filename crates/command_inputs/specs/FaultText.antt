@@ -1,4 +1,4 @@
--- The lines on the error sink.
+-- The lines on the error sink that report the faults of inputs, and the usage line.
 use Rattle.std.specs.Prelude.{[], ◌++◌, codes, decimal}
 use Rattle.text_scan.specs.Text.{Text}
 use Rattle.pool_syntax.specs.declared.token.LexFault.{LexFault}
@@ -20,8 +20,9 @@ use Rattle.command_inputs.specs.declared.fault.Input.TheVariants as I
 use Rattle.command_inputs.specs.declared.fault.Fault.{Fault}
 use Rattle.command_inputs.specs.declared.fault.Fault.TheVariants as F
 
--- A fault of the lexer stands at a byte, those of the parser and the checker at a token, and those of a placement, a schedule and a record at a line, or they tell a number
--- that is too large; of an object code file the faults tell a byte, or the places of a name, a class and a method; want of memory is no fault of an input.
+-- The text of a fault. A fault of the lexer has a byte, and faults of the parser and the class checker have a token. A
+-- fault of a placement, a schedule or a record has a line, or a number that is too large. A fault of an object code
+-- file has a byte, or the indices of a name, a class and a method. Out of memory is no fault of an input.
 
 abbrev pub lex_fault_text : LexFault → Text
 lex_fault_text (Lex.BadByte at) = codes "BadByte at byte " ++ decimal at

@@ -1,4 +1,4 @@
--- An input: the most bytes that it may have, the text that was read under its name, and when it stops the call.
+-- The size limits of inputs, the text that was read of an input, and the faults for which an input stops a command.
 use Rattle.std.specs.Prelude.{◌≡◌, ℕ, ◌≤◌, length, IfSome, ◌<◌, true, false}
 use Rattle.text_scan.specs.Text.{Text}
 use Rattle.command_inputs.specs.declared.fault.Input.{Input}
@@ -7,7 +7,7 @@ use Rattle.pool_outside.specs.Reading.{Told, Reading}
 use Rattle.command_inputs.specs.declared.fault.Fault.{Fault}
 use Rattle.command_inputs.specs.declared.fault.Fault.TheVariants as F
 
--- the most bytes of an input: of a record, of an object code file, and of another
+-- the largest numbers of bytes: of most inputs, of a record, and of an object code file
 abbrev pub most_bytes : ℕ
 most_bytes = 1048576
 
@@ -24,20 +24,21 @@ limit_of I.Schedule = most_bytes
 limit_of I.Record = most_of_record
 limit_of I.Unit = most_of_unit
 
--- the most bytes of one read
+-- the largest number of bytes of one read
 abbrev pub one_read : ℕ
 one_read = 65536
 
--- the text was read under the name of this input: it is the one that is told, where one is told, and it is within the limit
+-- The text was read under the name of this input. It is the known text of the name, if one is known, and it is within
+-- the limit.
 abbrev pub IsReadAs : Told → Input → Text → Text → Type 0
 IsReadAs told input name s = IfSome (told name) (λ t. s ≡ t) × (length s ≤ limit_of input)
 
--- what was read last was read to its end, and is this text
+-- this text was the last one that was read, up to its end
 abbrev pub WasRead : Reading → Input → Text → Text → Type 0
 WasRead k input name s = IsReadAs k.told input name s × (length s ≡ k.given) × (k.live ≡ false)
 
--- The input stops the call for this fault: more bytes than its limit were given, and its text goes on; or it was read whole, and its text has the fault
--- and is not accepted.
+-- The input stops the command for this fault. Either more bytes than its limit were read, and the text continues. Or it
+-- was read whole, and its text has the fault and is not accepted.
 pub data Stops (k : Reading) (input : Input) (name : Text) (Accepted : Text → Type 0) (Faulty : Text → Fault → Type 0) (fault : Fault) : Type 0 where
   too_long : fault ≡ F.TooLong → limit_of input < k.given → k.live ≡ true → IfSome (k.told name) (λ s. k.given ≤ length s) → Stops k input name Accepted Faulty fault
   faulty : (s : Text) → WasRead k input name s → Faulty s fault → (Accepted s → ⊥) → Stops k input name Accepted Faulty fault

@@ -1,4 +1,5 @@
--- Which texts are programs without class faults, and the fault of each other text. The judges come in order: tokens, grammar, classes.
+-- The texts that are programs without class faults, and the fault of every other text. The checks come in this order:
+-- tokens, grammar, classes.
 use Rattle.std.specs.Prelude.{◌+◌, List, ◌⊎◌}
 use Rattle.pool_syntax.specs.declared.token.Tok.{Tok}
 use Rattle.pool_syntax.specs.declared.token.Token.{Token}
@@ -25,7 +26,7 @@ IsSyntaxFault ts (Syntax.Unexpected t) = IsFirstUnexpected ts t × IsShallowBelo
 IsSyntaxFault ts (Syntax.TooDeep t) = IsFirstTooDeep ts t × Begins ts program (rule program) 0 (t + 1)
 IsSyntaxFault ts Syntax.Memory = ⊥
 
--- the text has no program, for this fault
+-- the fault of a text that has no program
 abbrev pub IsFaultOfText : Text → Fault → Type 0
 IsFaultOfText s (F.Lex f) = IsFirstFault s f
 IsFaultOfText s (F.Syntax f) = (names : List Text) × (ts : List Token) × HasTokens s names ts × IsSyntaxFault (toks ts) f

@@ -1,4 +1,4 @@
-//! Why an input was refused, and the line that says so.
+//! The faults of inputs, and the lines that report them.
 ghost use Rattle.std.specs.Prelude.{◌≡◌, ◌++◌, OnOk, IfOk, decimal};
 ghost use Rattle.command_inputs.specs.FaultText.{class_fault_text, fault_text, input_text, lex_fault_text, placement_fault_text, record_fault_text, refusal_line, schedule_fault_text, syntax_fault_text};
 ghost use Rattle.command_inputs.specs.FaultText.{unit_fault_text, unread_line};
@@ -23,25 +23,28 @@ pub enum Input {
     Unit,
 }
 
-/// Why an object code file is refused.
+/// The fault of an object code file.
 #[derive(Clone, Copy)]
 pub enum UnitFault {
-    /// Its bytes do not have the form, and this is the place of the first that is not allowed, or their number where they end too early.
+    /// Its bytes do not have the form. `at` is the offset of the first byte that is not allowed, or the length of a
+    /// file that ends too early.
     BadBytes { at: u32 },
-    /// The place, from 0, of the first name that equals an earlier one.
+    /// The index, from 0, of the first name that equals an earlier one.
     NameTwice { place: u32 },
-    /// The place, from 0, of the first class whose heading breaks a rule; 0 where there is no class.
+    /// The index, from 0, of the first class whose heading breaks a rule, or 0 if there is no class.
     Header { class: u32 },
-    /// The first code that is not well sorted: the place of its class, and of its method there; that of a body is the number of methods.
+    /// The first code that the verifier rejects: the index of its class, and of its method in the class. A body has the
+    /// number of methods as its index.
     Code { class: u32, method: u32 },
     /// Out of memory.
     Memory,
 }
 
-/// Why an input was refused.
+/// The fault of an input that was refused.
 #[derive(Clone, Copy)]
 pub enum Fault {
-    /// It has more bytes than its limit: 1,048,576, of a record 67,108,864, and of an object code file 16,777,216.
+    /// It has more bytes than its limit: 67,108,864 for a record, 16,777,216 for an object code file, and 1,048,576 for
+    /// any other input.
     TooLong,
     /// The first fault of a program's tokens.
     Lex(LexFault),
@@ -59,7 +62,7 @@ pub enum Fault {
     Unit(UnitFault),
 }
 
-/// Why nothing is made of the inputs.
+/// The reason that a command does nothing with its inputs.
 #[derive(Clone, Copy)]
 pub enum InputError {
     /// The input was refused.
@@ -70,7 +73,7 @@ pub enum InputError {
     Memory,
 }
 
-/// Puts words and a number behind the text.
+/// Appends `words` and the decimal number `place`. Returns `Err` if memory runs out.
 pub fn push_place(text: &mut Vec<u8>, words: &[u8], place: u32) -> Result<(), AllocError>
     ensures { OnOk result (text.new.items ≡ text.old.items ++ (words.now ++ decimal place)) }
 {
@@ -80,7 +83,7 @@ pub fn push_place(text: &mut Vec<u8>, words: &[u8], place: u32) -> Result<(), Al
     Ok(())
 }
 
-/// Puts words and a number behind the text.
+/// Appends `words` and the decimal number `count`. Returns `Err` if memory runs out.
 pub fn push_count(text: &mut Vec<u8>, words: &[u8], count: u64) -> Result<(), AllocError>
     ensures { OnOk result (text.new.items ≡ text.old.items ++ (words.now ++ decimal count)) }
 {
@@ -209,7 +212,7 @@ fn push_fault(text: &mut Vec<u8>, fault: Fault) -> Result<(), AllocError>
     }
 }
 
-/// `pool: ` and the input's name, with what stands before the fault.
+/// The start of a line about an input: `pool: `, the input's name, and `: `.
 fn line_about(alloc: Global, input: Input) -> Result<Vec<u8>, AllocError>
     ensures { IfOk result (λ line. line.items ≡ input_text input) }
 {
@@ -222,7 +225,7 @@ fn line_about(alloc: Global, input: Input) -> Result<Vec<u8>, AllocError>
     }
 }
 
-/// The line of a refused input.
+/// The line that reports the fault of an input. Returns `Err` if memory runs out.
 pub fn line_of_refusal(alloc: Global, input: Input, fault: Fault) -> Result<Vec<u8>, AllocError>
     ensures { IfOk result (λ line. line.items ≡ refusal_line input fault) }
 {
@@ -232,7 +235,7 @@ pub fn line_of_refusal(alloc: Global, input: Input, fault: Fault) -> Result<Vec<
     Ok(line)
 }
 
-/// The line of an input that could not be read.
+/// The line that reports that a read of an input failed. Returns `Err` if memory runs out.
 pub fn line_of_unread(alloc: Global, input: Input) -> Result<Vec<u8>, AllocError>
     ensures { IfOk result (λ line. line.items ≡ unread_line input) }
 {

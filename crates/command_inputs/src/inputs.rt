@@ -1,4 +1,4 @@
-//! Reads an input, once and whole; and a program, which is judged.
+//! Reads an input once and whole, and checks a program.
 ghost use Rattle.pool_outside.specs.Reading.{reading};
 ghost use Rattle.std.specs.Prelude.{◌≡◌, ◌<◌, ◌+◌, ◌-◌, ◌^◌, ◌≤◌, IsTrue};
 ghost use Rattle.command_inputs.specs.Inputs.{limit_of, most_bytes, one_read};
@@ -10,7 +10,7 @@ use crate::program::{Parsed, judge_classes, read_program};
 use pool_outside::{Files, ReadFault, read_whole};
 use std::alloc::Global;
 
-/// The most bytes of an input.
+/// The largest number of bytes of an input.
 fn limit_of(input: Input) -> usize
     ensures { result ≡ limit_of input }
 {
@@ -21,7 +21,8 @@ fn limit_of(input: Input) -> usize
     }
 }
 
-/// Reads an input whole.
+/// Reads an input whole, and opens its file once. Requires that the open is allowed. Returns `Refused` with `TooLong`
+/// if the input has more bytes than its limit, `Unread` if a read failed, and `Memory` if memory runs out.
 pub fn read_input<F: Files>(
     alloc: Global,
     files: &mut F,
@@ -47,7 +48,8 @@ pub fn read_input<F: Files>(
     }
 }
 
-/// Reads a program.
+/// Reads and parses a program. Returns the errors of `read_input`, and `Refused` with the first fault of its tokens or
+/// its grammar.
 pub fn read_parsed<F: Files>(alloc: Global, files: &mut F, name: &str) -> Result<Parsed, InputError>
     requires allowed { IsTrue (F.may files.old (F.opens files.old) name.now) }
     requires countable { F.opens files.old < 2 ^ 64 - 1 }
@@ -57,6 +59,7 @@ pub fn read_parsed<F: Files>(alloc: Global, files: &mut F, name: &str) -> Result
     ensures same_texts { F.told files.new ≡ F.told files.old }
     ensures same_leave { F.may files.new ≡ F.may files.old }
 {
+    // A `match` instead of `?` keeps the clause of the error.
     let text = match read_input(alloc, files, Input::Program, name) {
         Ok(text) => text,
         Err(stop) => return Err(stop),
@@ -64,7 +67,7 @@ pub fn read_parsed<F: Files>(alloc: Global, files: &mut F, name: &str) -> Result
     read_program(alloc, &text)
 }
 
-/// Reads a program whose classes have no fault.
+/// Reads, parses and checks a program. Returns the errors of `read_parsed`, and `Refused` with the least class fault.
 pub fn read_typed<F: Files>(alloc: Global, files: &mut F, name: &str) -> Result<Parsed, InputError>
     requires allowed { IsTrue (F.may files.old (F.opens files.old) name.now) }
     requires countable { F.opens files.old < 2 ^ 64 - 1 }
@@ -74,6 +77,7 @@ pub fn read_typed<F: Files>(alloc: Global, files: &mut F, name: &str) -> Result<
     ensures same_texts { F.told files.new ≡ F.told files.old }
     ensures same_leave { F.may files.new ≡ F.may files.old }
 {
+    // A `match` instead of `?` keeps the clause of the error.
     let parsed = match read_parsed(alloc, files, name) {
         Ok(parsed) => parsed,
         Err(stop) => return Err(stop),

@@ -1,4 +1,4 @@
-//! Reads a program and judges it: its tokens, its grammar, its classes.
+//! Parses and checks a program: its tokens, its grammar, its classes.
 ghost use Rattle.std.specs.Prelude.{◌≡◌, ◌≢◌, ◌≤◌, List, length, true, [], IfOk, MatchResult, IsOk, IsErr, Err};
 ghost use Rattle.pool_syntax.specs.Terms.{ProgramTree};
 ghost use Rattle.text_scan.specs.Text.{Text};
@@ -19,14 +19,14 @@ use pool_syntax::{LexFault, Program};
 use run_types::Names;
 use std::alloc::Global;
 
-/// A program, and the texts of its names and strings.
+/// A parsed program, and the texts of its names and strings.
 #[derive(Drop)]
 pub struct Parsed {
     pub program: Program,
     pub names: Names,
 }
 
-/// A program that is refused.
+/// The error of a refused program.
 fn refuse(fault: Fault) -> InputError
     ensures { result ≡ InputError.Refused Input.Program fault }
 {
@@ -36,7 +36,7 @@ fn refuse(fault: Fault) -> InputError
     }
 }
 
-/// Why a text has no tokens.
+/// The error of a text without tokens.
 fn lex_stop(fault: LexFault) -> InputError
     ensures { result ≡ stop_of_tokens fault }
 {
@@ -46,7 +46,7 @@ fn lex_stop(fault: LexFault) -> InputError
     }
 }
 
-/// Why a text has no program.
+/// The error of a text without a program.
 fn syntax_stop(fault: SyntaxFault) -> InputError
     ensures { result ≡ stop_of_grammar fault }
 {
@@ -56,7 +56,8 @@ fn syntax_stop(fault: SyntaxFault) -> InputError
     }
 }
 
-/// The program that the text has.
+/// Parses the text of a program, which has at most 1,048,576 bytes. Returns `Refused` with the first fault of its
+/// tokens or its grammar, or `Memory` if memory runs out.
 pub fn read_program(alloc: Global, bytes: &[u8]) -> Result<Parsed, InputError>
     requires { length bytes.now ≤ 1048576 }
     ensures ok { IfOk result (λ p. IsParsed bytes.now p.names (program_of p.program)) }
@@ -80,7 +81,8 @@ pub fn read_program(alloc: Global, bytes: &[u8]) -> Result<Parsed, InputError>
     }
 }
 
-/// Judges the classes of a program that was read.
+/// Checks the classes of a parsed program. Returns `Refused` with the least class fault, or `Memory` if memory runs
+/// out.
 pub fn judge_classes<'a>(alloc: Global, parsed: &'a Parsed) -> Result<Checked<'a>, InputError>
     requires grammatical { IsGrammatical (program_of parsed.now.program) }
     requires spelled { is_spelled parsed.now.names (program_of parsed.now.program) ≡ true }

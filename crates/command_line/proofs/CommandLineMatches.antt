@@ -1,4 +1,4 @@
--- What `clap` makes of the words of the command line.
+-- The matches that `clap` makes of the arguments of the command line.
 use Rattle.std.proofs.Common.{◌≡◌, Bool, true, false, List, [], ◌∷◌, Some, None, refl, sym, ap, ap₂, ◌∙◌, is_some, option_map, codes, bytes_eq, ◌||◌, subst, true≢false, ◌⊎◌, inl, inr}
 use Rattle.std.proofs.lemmas.Slice.Eq.{bytes_eq-Decides}
 use Rattle.std.specs.List.{list_any}

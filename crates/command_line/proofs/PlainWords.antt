@@ -1,4 +1,4 @@
--- What `clap` makes of words of which none begins with `-`.
+-- The matches that `clap` makes of arguments of which none begins with `-`.
 use Rattle.std.proofs.Common.{◌≡◌, ℕ, false, List, [], ◌∷◌, ◌++◌, Some, None, refl, sym, ap, ap₂, ◌∙◌, ◌==◌, append_assoc, append-nil}
 use Rattle.std.specs.Prelude.{fold}
 use Rattle.clap.specs.Walk.{Held, Names, Rule, Step, Text, Walk, after_step, arg_by_index, idle, subcommand_met, to_positional, value, walked, word_met}

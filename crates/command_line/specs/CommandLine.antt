@@ -1,4 +1,4 @@
--- The command line as `clap` has it, and what its matches ask for.
+-- The parser of the command line in terms of `clap`, and the command of its matches.
 use Rattle.std.specs.Prelude.{List, [], ◌∷◌, Option, Some, None, option_map, option_and_then, true, codes, fold, bytes_eq, if◌then◌else◌}
 use Rattle.text_scan.specs.Text.{Text}
 use Rattle.text_scan.specs.Lines.{decimal_of}
@@ -12,23 +12,23 @@ use Rattle.command_line.specs.declared.command.Show.{Show}
 abbrev pub positional : Text → Rule
 positional id = record (new_rule id) { required = true }
 
--- a command of the required words of these names
+-- a command with a required argument for each of these names
 abbrev pub words_app : Text → List Text → App
 words_app name ids = fold (λ a id. with_rule a (positional id)) (new_app name) ids
 
--- a command with a subcommand for each row, of its name and the names of its words
+-- a command with a subcommand for each row of its name and the names of its arguments
 abbrev pub with_each : App → List (Text × List Text) → App
 with_each app rows = fold (λ a row. with_subcommand a (words_app row.0 row.1).top) app rows
 
--- no program's name stands before the words, nothing asks for help, and there must be a subcommand
+-- the program's name is no argument, there is no help, and a subcommand is required
 abbrev pub settings : Shape → Shape
 settings s = record s { no_binary_name = true; disable_help_flag = true; disable_help_subcommand = true; subcommand_required = true }
 
--- the names of the words of a command that runs a program, or a unit file, which stands first
+-- the names of the arguments of a command that runs a program or a unit file, which comes first
 abbrev pub three_inputs : List Text
 three_inputs = codes "program" ∷ codes "placement" ∷ codes "schedule" ∷ []
 
--- the subcommands, each with the names of its words
+-- the subcommands, each with the names of its arguments
 abbrev pub subcommands : List (Text × List Text)
 subcommands =
     (codes "record", three_inputs) ∷ (codes "run", three_inputs) ∷ (codes "why", three_inputs)
@@ -38,7 +38,7 @@ subcommands =
 abbrev pub pool_app : App
 pool_app = with_each (on_top settings (new_app (codes "pool"))) subcommands
 
--- what the matches of a subcommand ask for
+-- the commands of the matches of a subcommand
 
 abbrev pub with_names : Show → Option Text → Option Text → Option Text → Option Request
 with_names show (Some p) (Some l) (Some s) = Some (of_run show (record { program = p; placement = l; schedule = s }))
@@ -80,7 +80,7 @@ abbrev pub named_request : Option Show → Text → List Row → Option Request
 named_request (Some show) name rows = run_request show rows
 named_request None name rows = other_request (ask_of name) name rows
 
--- what a subcommand with these matches asks for
+-- the command of a subcommand with these matches
 abbrev pub matched_request : Option (Text × List Row) → Option Request
 matched_request None = None
 matched_request (Some p) = named_request (show_of p.0) p.0 p.1

@@ -1,4 +1,4 @@
--- The words of a command.
+-- The commands, and the arguments of the command line that are each of them.
 use Rattle.std.specs.Prelude.{ℕ, List, [], ◌∷◌, ◌&&◌, nat_le, Option, Some, None, option_map, Bool, false, not, if◌then◌else◌, bytes_eq, codes, nat_eq, map, string_bytes, String}
 use Rattle.text_scan.specs.Text.{Text}
 use Rattle.text_scan.specs.Lines.{decimal_of}
@@ -15,8 +15,9 @@ pub record FileNames : Type 0 where
   pub placement : Text
   pub schedule : Text
 
--- what the words ask for: a run of three inputs, and what of it is shown; something of a program of this name; the ring of so many cells; a record of this name in the
--- second form; whether a record of this name is a run of a program of this name; or the record of a unit file, a placement and a schedule of these names
+-- A command: a run of three inputs with an output; an output of the program of this name; the ring of k cells; the
+-- record of this name in the second form; the check of a record against a program; or the run of a unit file, a
+-- placement and a schedule.
 pub data Request : Type 0 where
   of_run : (show : Show) (names : FileNames) → Request
   of_program : (ask : Ask) (name : Text) → Request
@@ -25,19 +26,19 @@ pub data Request : Type 0 where
   of_check : (name record_name : Text) → Request
   of_load : (unit_name placement_name schedule_name : Text) → Request
 
--- a word that begins with `-`
+-- whether an argument begins with `-`
 abbrev pub is_option : Text → Bool
 is_option [] = false
 is_option (b ∷ bs) = nat_eq b 45
 
--- what a command of three inputs shows
+-- the output of a command with three inputs
 abbrev pub show_of : Text → Option Show
 show_of w =
     if bytes_eq w (codes "record") then Some Sh.Record
     else (if bytes_eq w (codes "run") then Some Sh.Writes
     else (if bytes_eq w (codes "why") then Some Sh.Report else None))
 
--- what a command asks of a program
+-- the output that a command makes of a program
 abbrev pub ask_of : Text → Option Ask
 ask_of w =
     if bytes_eq w (codes "print") then Some As.Canonical
@@ -69,7 +70,8 @@ abbrev pub run_or_load : Option Show → Text → Text → Text → Text → Opt
 run_or_load (Some show) c p l s = Some (of_run show (record { program = p; placement = l; schedule = s }))
 run_or_load None c u l s = load_of c u l s
 
--- a command of three inputs, one of a program, `ring` and a number, `convert` and a record, or `check`, a program and a record; no word begins with `-`
+-- The command of the arguments. It has three inputs, or one program, or is `ring` with a number, `convert` with a
+-- record, or `check` with a program and a record. No argument begins with `-`.
 abbrev pub request_of : List Text → Option Request
 request_of (c ∷ p ∷ l ∷ s ∷ []) =
     if not (is_option p) && (not (is_option l) && not (is_option s))
@@ -79,6 +81,6 @@ request_of (c ∷ p ∷ r ∷ []) = if not (is_option p) && not (is_option r) th
 request_of (c ∷ p ∷ []) = if not (is_option p) then program_or_other (ask_of c) c p else None
 request_of _ = None
 
--- the words as texts
+-- the arguments as texts
 abbrev pub texts_of : {A : Type 0} → List (String A) → List Text
 texts_of words = map string_bytes words

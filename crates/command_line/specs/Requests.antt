@@ -1,4 +1,4 @@
--- What a command of the code asks for.
+-- The command of the definition that a command of the code represents.
 use Rattle.std.specs.Prelude.{◌≤◌}
 use Rattle.command_line.specs.declared.command.Files.{Files}
 use Rattle.command_line.specs.declared.command.Command.{Command}

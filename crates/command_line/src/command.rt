@@ -1,17 +1,17 @@
-//! The command that the words ask for.
+//! The commands of the command line.
 
-/// What is shown of a run.
+/// The output of a run.
 #[derive(Clone, Copy)]
 pub enum Show {
     /// Each line of its record.
     Record,
-    /// What its objects write, and the end line.
+    /// The items that its objects write, and the end line.
     Writes,
-    /// Where its objects stand at its end, and the end line.
+    /// The status of its objects at its end, and the end line.
     Report,
 }
 
-/// What is asked of a program.
+/// The output that a command makes of a program.
 #[derive(Clone, Copy)]
 pub enum Ask {
     /// Its canonical text.
@@ -22,7 +22,7 @@ pub enum Ask {
     File,
 }
 
-/// The names of the three inputs of a run.
+/// The names of the three input files of a run.
 #[derive(Clone, Copy)]
 pub struct Files<'a> {
     pub program: &'a str,
@@ -30,32 +30,32 @@ pub struct Files<'a> {
     pub schedule: &'a str,
 }
 
-/// A command.
+/// A command and its arguments.
 #[derive(Clone, Copy)]
 pub enum Command<'a> {
     Run {
         show: Show,
         files: Files<'a>,
     },
-    /// With the name of a program.
+    /// Makes an output of the program of this name.
     Program {
         ask: Ask,
         name: &'a str,
     },
-    /// With the number of cells.
+    /// Writes the program of a ring with this number of cells.
     Ring {
         cells: u32,
     },
-    /// With the name of a record.
+    /// Converts the record of this name to the second form.
     Convert {
         name: &'a str,
     },
-    /// With the names of a program and of a record that is judged by it.
+    /// Checks whether the record is a run of the program.
     Check {
         program: &'a str,
         record: &'a str,
     },
-    /// With the names of a unit file, a placement and a schedule.
+    /// Runs the unit file with the placement and the schedule.
     Load {
         unit: &'a str,
         placement: &'a str,

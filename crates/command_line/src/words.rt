@@ -1,4 +1,4 @@
-//! The words of the command line, read by `clap`.
+//! Parses the arguments of the command line with `clap`.
 ghost use Rattle.std.specs.Prelude.{◌≡◌, IfOk, IfSome, List, codes, map, option_map, false};
 ghost use Rattle.std.specs.List.{list_any};
 ghost use Rattle.clap.specs.Words.{app_of, first_of, found_of, new_app, rows_of, rule_of, subcommand_rows_of};
@@ -16,12 +16,12 @@ use clap::{Arg, ArgMatches};
 use std::alloc::{AllocError, Global};
 use text_scan::{Decimal, decimal};
 
-/// The numbers of cells of a ring.
+/// The smallest and the largest number of cells of a ring.
 const FEWEST: u64 = 2;
 
 const MOST: u64 = 1000;
 
-/// Whether a word begins with `-`.
+/// Reports whether an argument begins with `-`.
 fn is_dashed(word: &str) -> bool
     ensures { result ≡ is_option word.now }
 {
@@ -50,7 +50,7 @@ fn positional<'a>(alloc: Global, id: &'a str) -> Arg<'a>
     Arg::new(alloc, id).required(true)
 }
 
-/// A command of the words of these names.
+/// A command with a required argument for each of these names.
 fn of_words<'a>(
     alloc: Global,
     name: &'a str,
@@ -61,6 +61,7 @@ fn of_words<'a>(
 {
     let mut command = clap::Command::new(alloc, name);
     for id in ids {
+        // `let .. else` instead of `?`: an early exit over a large owned type is then checked faster.
         let Ok(longer) = command.arg(positional(alloc, id)) else {
             return Err(AllocError);
         };
@@ -69,7 +70,7 @@ fn of_words<'a>(
     Ok(command)
 }
 
-/// The command with a subcommand for each row, of its name and the names of its words.
+/// The command with a subcommand for each row of its name and the names of its arguments.
 fn with_rows<'a>(
     alloc: Global,
     command: clap::Command<'a>,
@@ -79,6 +80,7 @@ fn with_rows<'a>(
 {
     let mut line = command;
     for row in rows {
+        // `let .. else` instead of `?`: an early exit over a large owned type is then checked faster.
         let Ok(subcommand) = of_words(alloc, row.0, row.1) else {
             return Err(AllocError);
         };
@@ -90,7 +92,7 @@ fn with_rows<'a>(
     Ok(line)
 }
 
-/// The command line with no subcommand yet.
+/// The parser of the command line, still without subcommands.
 fn bare_line<'a>(alloc: Global) -> clap::Command<'a>
     ensures { app_of result ≡ on_top settings (new_app (codes "pool")) }
 {
@@ -101,7 +103,7 @@ fn bare_line<'a>(alloc: Global) -> clap::Command<'a>
         .subcommand_required(true)
 }
 
-/// The command line.
+/// The parser of the command line.
 fn command_line<'a>(alloc: Global) -> Result<clap::Command<'a>, AllocError>
     ensures { IfOk result (λ c. app_of c ≡ pool_app) }
 {
@@ -130,7 +132,7 @@ fn value<'a>(matches: &ArgMatches<'a>, id: &str) -> Option<&'a str>
     matches.get_str(id)
 }
 
-/// The run of the three names.
+/// The command that runs three inputs.
 fn run<'a>(show: Show, matches: &ArgMatches<'a>) -> Option<Command<'a>>
     ensures request { option_map request result ≡ run_request show (rows_of (found_of matches.now)) }
     ensures sized { IfSome result IsSized }
@@ -178,7 +180,7 @@ fn ring_size(word: &str) -> Option<u32>
     }
 }
 
-/// The ring of so many cells, where their number is one of a ring's.
+/// The command that writes a ring. None if the number of cells is not from 2 to 1000.
 fn ring<'a>(matches: &ArgMatches<'a>) -> Option<Command<'a>>
     ensures request { option_map request result ≡ ring_request (rows_of (found_of matches.now)) }
     ensures sized { IfSome result IsSized }
@@ -192,7 +194,7 @@ fn ring<'a>(matches: &ArgMatches<'a>) -> Option<Command<'a>>
     }
 }
 
-/// The record of this name in the second form.
+/// The command that converts a record.
 fn convert<'a>(matches: &ArgMatches<'a>) -> Option<Command<'a>>
     ensures request { option_map request result ≡ convert_request (rows_of (found_of matches.now)) }
     ensures sized { IfSome result IsSized }
@@ -203,7 +205,7 @@ fn convert<'a>(matches: &ArgMatches<'a>) -> Option<Command<'a>>
     }
 }
 
-/// The record of this name, judged by the program of this name.
+/// The command that checks a record against a program.
 fn check<'a>(matches: &ArgMatches<'a>) -> Option<Command<'a>>
     ensures request { option_map request result ≡ check_request (rows_of (found_of matches.now)) }
     ensures sized { IfSome result IsSized }
@@ -216,7 +218,7 @@ fn check<'a>(matches: &ArgMatches<'a>) -> Option<Command<'a>>
     }
 }
 
-/// The run of the unit file of the first of three names.
+/// The command that runs a unit file, a placement and a schedule.
 fn load<'a>(matches: &ArgMatches<'a>) -> Option<Command<'a>>
     ensures request { option_map request result ≡ load_request (rows_of (found_of matches.now)) }
     ensures sized { IfSome result IsSized }
@@ -234,7 +236,7 @@ fn load<'a>(matches: &ArgMatches<'a>) -> Option<Command<'a>>
     }
 }
 
-/// The command of the matches.
+/// The command of the subcommand that was matched.
 fn command<'a>(matches: &ArgMatches<'a>) -> Option<Command<'a>>
     ensures request { option_map request result ≡ matched_request (subcommand_rows_of matches.now) }
     ensures sized { IfSome result IsSized }
@@ -255,7 +257,8 @@ fn command<'a>(matches: &ArgMatches<'a>) -> Option<Command<'a>>
     }
 }
 
-/// The command of the words, where they are of one. `AllocError`: out of memory.
+/// Parses the arguments of the program, without the program's own name. None exactly if they are no command. Returns
+/// `Err` if memory runs out.
 pub fn read_words<'a>(alloc: Global, words: &'a [String]) -> Result<Option<Command<'a>>, AllocError>
     ensures request { IfOk result (λ c. option_map request c ≡ request_of (texts_of words.now)) }
     ensures sized { IfOk result (λ c. IfSome c IsSized) }

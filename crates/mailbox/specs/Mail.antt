@@ -1,10 +1,10 @@
--- What a contract sees of a mailbox: the messages of each slot, and how many there may be.
+-- The mailbox of a node as contracts see it: the messages of each slot, and the number of cells.
 use Rattle.std.specs.Prelude.{ℕ, ◌+◌, ◌==◌, Bool, List, [], ◌∷◌, length, get_or, set, refl}
 use Rattle.std.specs.Coded.{Coded, code_by, coded×, coded_list, coded_ℕ}
 use Rattle.std.specs.List.{list_any}
 use Rattle.run_types.specs.declared.types.NameId.{NameId}
 
--- one list for each slot, in order of arrival, and the greatest number of messages of all slots together
+-- a list for each slot, in order of arrival, and the largest number of messages of all slots together
 pub record Mail (X : Type 0) : Type 0 where
   pub boxes : List (List X)
   pub cells : ℕ
@@ -13,7 +13,7 @@ module _ {X : Type 0} where
   abbrev pub mail : List (List X) → ℕ → Mail X
   mail boxes cells = record { boxes = boxes; cells = cells }
 
-  -- how the logic stores it
+  -- how the logic encodes it
   abbrev pub mail_code : Coded X → Coded (Mail X)
   mail_code c = code_by (List (List X) × ℕ) (coded× (coded_list (coded_list c)) coded_ℕ) (λ m. (m.boxes, m.cells)) (λ p. mail p.0 p.1) (λ _. refl)
 
@@ -30,6 +30,6 @@ module _ {X : Type 0} where
   lengths [] = 0
   lengths (xs ∷ xss) = length xs + lengths xss
 
--- the name is one of the names
+-- whether the name is one of the names
 abbrev pub is_named : List NameId → NameId → Bool
 is_named names name = list_any (λ (n : NameId). n.0 == name.0) names

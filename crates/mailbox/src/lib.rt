@@ -11,8 +11,8 @@ use run_types::{Args, List, NameId};
 use std::alloc::{AllocError, Global};
 use std::marker::Model;
 
-/// A request for a method. `from` is the sender's name, `call` the request number of a synchronous call,
-/// and None for an asynchronous message.
+/// A message to an object. `from` is the sender's name. `call` is the request number of a synchronous call, and None
+/// for an asynchronous message.
 #[derive(Clone, Copy)]
 pub struct Message {
     pub from: u32,
@@ -21,7 +21,7 @@ pub struct Message {
     pub call: Option<u32>,
 }
 
-/// The messages of a node's objects, in a fixed number of cells. Slots are numbered from 0.
+/// The messages of all objects of a node, in a fixed number of cells. Slots are numbered from 0. Only `make` allocates.
 pub struct Mailbox {
     pool: CellPool<Message>,
     cells: u32,
@@ -40,8 +40,8 @@ impl Model for Mailbox {
 }
 
 impl Mailbox {
-    /// Takes the memory of `cells` messages, for slots below `objects`. No message is there yet.
-    /// Err where the memory is not had.
+    /// Makes an empty mailbox with cells for `cells` messages, for slots below `objects`. Returns `Err` if memory runs
+    /// out.
     pub fn make(alloc: Global, objects: u32, cells: u32) -> Result<Mailbox, AllocError>
         ensures { IfOk result (λ m. m ≡ mail (replicate objects []) cells) }
     {
@@ -49,7 +49,8 @@ impl Mailbox {
         Ok(Mailbox { pool, cells })
     }
 
-    /// Puts the message behind those of its slot. It comes back exactly where as many messages are there as cells.
+    /// Appends a message to those of a slot. Returns the message as the error, and changes nothing, if every cell is in
+    /// use.
     pub fn post(&mut self, to: u32, message: Message) -> Result<(), Message>
         requires { to < length self.old.boxes }
         ensures full { IsErr result ↔ (lengths self.old.boxes ≡ self.old.cells) }
@@ -59,8 +60,8 @@ impl Mailbox {
         self.pool.push_back(to as usize, message)
     }
 
-    /// The least place of a slot whose message's method is one of the names, counted from 0. None where there is none.
-    /// It goes along the slot's messages once.
+    /// The index of the first message of a slot whose method is one of `names`, counted from 0. None if there is none.
+    /// It passes over the slot's messages once.
     pub fn first(&self, to: u32, names: &List<NameId>) -> Option<usize>
         requires { to < length self.now.boxes }
         ensures { result ≡ position (λ m. is_named names.now m.method) (box_of self.now to) }
@@ -70,7 +71,7 @@ impl Mailbox {
             .position(to as usize, |message| is_one_of(names, message.method))
     }
 
-    /// Takes the message at a place of a slot out of it. The others keep their order.
+    /// Removes the message at index `place` from a slot. The others keep their order.
     pub fn take(&mut self, to: u32, place: usize) -> Message
         requires { (to < length self.old.boxes) × (place < length (box_of self.old to)) }
         ensures message { slice_get (box_of self.old to) place ≡ Some result }
@@ -79,7 +80,7 @@ impl Mailbox {
         self.pool.remove(to as usize, place)
     }
 
-    /// The number of messages at all slots together.
+    /// The number of messages of all slots together, at most the cells.
     pub fn count(&self) -> u32
         ensures count { result ≡ lengths self.now.boxes }
         ensures within { lengths self.now.boxes ≤ self.now.cells }
@@ -94,6 +95,7 @@ impl Drop for Mailbox {
     }
 }
 
+/// Reports whether the method is one of the names.
 fn is_one_of(names: &[NameId], method: NameId) -> bool
     ensures { result ≡ is_named names.now method }
 {

@@ -1,4 +1,4 @@
--- What is found under the ends of a link.
+-- The packets found by the ends of a link.
 use Rattle.std.proofs.Common.{◌≡◌, ◌≢◌, refl, sym, ap, subst, ◌∙◌, ℕ, zero, suc, ◌+◌, ◌<◌, ◌==◌, List, [], ◌∷◌, ◌++◌, set, get_or, Option, Some, None, Bool, true, false, cond, slice_get, arith}
 use Rattle.std.specs.Option.{unwrap_or}
 use Rattle.std.specs.Ordering.{eq_by_cmp}

@@ -1,4 +1,4 @@
--- How many packets leave a node, and that there are none where each list is empty.
+-- The number of packets on the links that leave a node, which is 0 if each queue is empty.
 use Rattle.std.proofs.Common.{◌≡◌, ◌≢◌, refl, ap, subst, ◌∙◌, ℕ, zero, suc, ◌+◌, ◌<◌, ◌==◌, List, [], ◌∷◌, ◌++◌, length, cond, arith}
 use Rattle.std.proofs.lemmas.List.Sums.{sum_by-append, sum_by-cons}
 use Rattle.cell_pool.specs.Lists.{Pool, lengths}

@@ -1,10 +1,11 @@
--- What a contract sees of the packets on the links of a mesh.
+-- The packets on the links of a mesh as contracts see them: a map by the two ends of a link.
 use Rattle.std.specs.Prelude.{◌<◌, ℕ, ◌*◌, List, refl}
 use Rattle.std.specs.Coded.{Coded, code_by, coded×, coded_list, coded_ℕ}
 use Rattle.run_types.specs.Tables.{Pair}
 use Rattle.run_types.specs.Paths.{AreNeighbours}
 
--- the width and height of the mesh, the cells of each node, and the packets by the ends of their link, the head first; a link without packets has no entry
+-- the width and height of the mesh, the cells of each node, and the packets by the ends of their link, the head first;
+-- an empty link has no entry
 pub record LinksOf (X : Type 0) : Type 0 where
   pub width : ℕ
   pub height : ℕ
@@ -15,11 +16,11 @@ module _ {X : Type 0} where
   abbrev pub links_of : ℕ → ℕ → ℕ → List (Pair × List X) → LinksOf X
   links_of w h c ls = record { width = w; height = h; cells = c; links = ls }
 
-  -- with other packets on the links
+  -- the links with other packets
   abbrev pub with_links : LinksOf X → List (Pair × List X) → LinksOf X
   with_links k ls = record { width = k.width; height = k.height; cells = k.cells; links = ls }
 
-  -- a link of the mesh goes from the one node to the other
+  -- a link of the mesh leads from the one node to the other
   abbrev pub IsLinkOf : LinksOf X → ℕ → ℕ → Type 0
   IsLinkOf k from to = (from < k.width * k.height) × (to < k.width * k.height) × AreNeighbours k.width from to
 

@@ -1,8 +1,8 @@
-//! Nodes beside each other.
+//! Neighbours in a mesh.
 ghost use Rattle.std.specs.Prelude.{◌≡◌, ◌<◌, ◌≤◌};
 ghost use Rattle.run_types.specs.Paths.{are_adjacent, are_neighbours};
 
-/// Whether one of the two numbers follows the other.
+/// Reports whether the two numbers differ by 1.
 fn are_adjacent(one: u64, other: u64) -> bool
     requires one { one < 64 }
     requires other { other < 64 }
@@ -11,7 +11,8 @@ fn are_adjacent(one: u64, other: u64) -> bool
     one + 1 == other || other + 1 == one
 }
 
-/// Whether two nodes are beside each other in a mesh of this many columns: in one row and adjacent columns, or in one column and adjacent rows.
+/// Reports whether two nodes are neighbours in a mesh of `width` columns: in one row and adjacent columns, or in one
+/// column and adjacent rows. Requires a positive width, and nodes below 64.
 pub fn are_neighbours(width: u64, one: u64, other: u64) -> bool
     requires width { 1 ≤ width }
     requires one { one < 64 }

@@ -10,13 +10,13 @@ use cell_pool::CellPool;
 use std::alloc::{AllocError, Global};
 use std::marker::Model;
 
-/// The packets on the links of a mesh, each link's in order. Each node has the same number of cells for the packets on
-/// the links that leave it. Contracts see a map by the ends of a link, in which a link without packets has no entry.
-/// Only `make` takes memory, and it is given back when the links are dropped.
+/// A queue of packets for each link of a mesh. Each node has the same number of cells, for the packets on the links
+/// that leave it. Contracts see a map by the two ends of a link, without entries for empty links. Only `make`
+/// allocates.
 pub struct Links<T: Copy> {
     mesh: Mesh,
     cells: u32,
-    // For each node its cells, with a queue for each link that leaves it, by rising numbers of the nodes at their ends.
+    // The cells of each node, with a queue for each link that leaves it, in ascending order of the links' ends.
     nodes: Vec<CellPool<T>>,
 }
 
@@ -35,8 +35,8 @@ impl<T: Copy> Model for Links<T> {
 }
 
 impl<T: Copy> Links<T> {
-    /// Takes the memory for `cells` packets at each node. No packet is on a link. Err where the memory is not had, or
-    /// where the cells of a node would take 2^63 bytes or more: a cell takes the bytes of a packet and two pointers.
+    /// Makes empty links, with `cells` cells at each node. Returns `Err` if memory runs out, or if the cells of a node
+    /// would take 2^63 bytes or more. A cell takes the bytes of a packet and of two pointers.
     pub fn make(alloc: Global, mesh: &Mesh, cells: u32) -> Result<Links<T>, AllocError>
         ensures { IfOk result (λ k. k ≡ links_of mesh.now.width mesh.now.height cells []) }
     {
@@ -55,8 +55,8 @@ impl<T: Copy> Links<T> {
         })
     }
 
-    /// Puts a packet last on a link, in constant time. It comes back exactly where as many packets are on the links
-    /// that leave the link's first node as that node has cells.
+    /// Appends a packet to a link, in constant time. Requires a link of the mesh. Returns the packet as the error, and
+    /// changes nothing, if all cells of the link's first node are in use.
     pub fn put(&mut self, from: u32, to: u32, packet: T) -> Result<(), T>
         requires link { IsLinkOf self.old from to }
         ensures full { IsErr result ↔ (leaving self.old.links from ≡ self.old.cells) }
@@ -69,7 +69,7 @@ impl<T: Copy> Links<T> {
         pool.push_back(way, packet)
     }
 
-    /// The first packet of a link, in constant time. None where there is none.
+    /// The first packet of a link, in constant time. None if the link is empty. Requires a link of the mesh.
     pub fn head(&self, from: u32, to: u32) -> Option<&T>
         requires link { IsLinkOf self.now from to }
         ensures { option_copied result ≡ slice_get (list_at pair_cmp (from, to) self.now.links) 0 }
@@ -77,8 +77,8 @@ impl<T: Copy> Links<T> {
         self.at(from, to, 0)
     }
 
-    /// The packet at `place` of a link, counted from 0 at its head, and None past its end. It goes along as many
-    /// packets as the place tells.
+    /// The packet at index `place` of a link, counted from 0 at its head. None past its end. Requires a link of the
+    /// mesh. The time is linear in the index.
     pub fn at(&self, from: u32, to: u32, place: u32) -> Option<&T>
         requires link { IsLinkOf self.now from to }
         ensures { option_copied result ≡ slice_get (list_at pair_cmp (from, to) self.now.links) place }
@@ -91,18 +91,19 @@ impl<T: Copy> Links<T> {
         Some(pool.get(way, place as usize))
     }
 
-    /// The number of packets on a link, in constant time.
+    /// The number of packets on a link, in constant time. Requires a link of the mesh.
     pub fn length(&self, from: u32, to: u32) -> u32
         requires link { IsLinkOf self.now from to }
         ensures { result ≡ length (list_at pair_cmp (from, to) self.now.links) }
     {
+        // Called for its contract: a node has at most `cells` packets, so the length fits 32 bits.
         let _most = self.leaving(from);
         let way = self.mesh.way(from, to);
         let pool = &self.nodes[from as usize];
         pool.len(way) as u32
     }
 
-    /// Takes the first packet of a link off it, in constant time. None where there is none.
+    /// Removes the first packet of a link, in constant time. None if the link is empty. Requires a link of the mesh.
     pub fn move_head(&mut self, from: u32, to: u32) -> Option<T>
         requires link { IsLinkOf self.old from to }
         ensures value { result ≡ slice_get (list_at pair_cmp (from, to) self.old.links) 0 }
@@ -113,7 +114,7 @@ impl<T: Copy> Links<T> {
         pool.pop_front(way)
     }
 
-    /// The number of packets on the links that leave a node, in constant time.
+    /// The number of packets on the links that leave a node, in constant time. Requires a node of the mesh.
     pub fn leaving(&self, from: u32) -> u32
         requires { from < self.now.width * self.now.height }
         ensures count { result ≡ leaving self.now.links from }
@@ -123,7 +124,7 @@ impl<T: Copy> Links<T> {
         self.cells - pool.free() as u32
     }
 
-    /// Whether no packet is on a link, in time linear in the nodes.
+    /// Reports whether all links are empty, in time linear in the number of nodes.
     pub fn is_empty(&self) -> bool
         ensures { IsTrue result ↔ (self.now.links ≡ []) }
     {

@@ -5,8 +5,8 @@ ghost use Rattle.mesh_routing.specs.Ways.{back, ends};
 
 use crate::beside::are_neighbours;
 
-/// A mesh of 1 to 8 columns and 1 to 8 rows. Node k stands in column k mod `width` and row k div `width`. A link goes
-/// from each node to each that stands beside it in its row or its column.
+/// A mesh of 1 to 8 columns and 1 to 8 rows. Node k is in column k mod `width` and row k div `width`. A link leads from
+/// each node to each neighbour in its row or its column.
 #[derive(Clone, Copy)]
 pub struct Mesh {
     pub width: u32,
@@ -16,7 +16,7 @@ pub struct Mesh {
 }
 
 impl Mesh {
-    /// A mesh of this many columns and rows, 1 to 8 of each.
+    /// Makes a mesh of 1 to 8 columns and 1 to 8 rows.
     pub fn make(width: u32, height: u32) -> Mesh
         requires wide { (1 ≤ width) × (width ≤ 8) }
         requires high { (1 ≤ height) × (height ≤ 8) }
@@ -26,7 +26,8 @@ impl Mesh {
         Mesh { width, height }
     }
 
-    /// The next node on the way to another one: first along the row, then along the column. None at the goal.
+    /// The next node on the path from `at` to `to`: first along the row, then along the column. This is dimension-order
+    /// routing. None exactly if both are equal. Requires nodes of the mesh.
     pub fn next(&self, at: u32, to: u32) -> Option<u32>
         requires at { at < self.now.width * self.now.height }
         requires to { to < self.now.width * self.now.height }
@@ -53,7 +54,7 @@ impl Mesh {
         Some(next)
     }
 
-    /// Whether a link goes from the one node to the other.
+    /// Reports whether a link leads from the one node to the other. Requires nodes of the mesh.
     pub fn is_link(&self, from: u32, to: u32) -> bool
         requires from { from < self.now.width * self.now.height }
         requires to { to < self.now.width * self.now.height }
@@ -62,7 +63,7 @@ impl Mesh {
         are_neighbours(u64::from(self.width), u64::from(from), u64::from(to))
     }
 
-    // How many links leave the node.
+    // The number of links that leave the node.
     pub(crate) fn ways(&self, from: u32) -> usize
         requires { from < self.now.width * self.now.height }
         ensures { result ≡ length (ends self.now.width self.now.height from) }
@@ -72,7 +73,7 @@ impl Mesh {
             + (from + self.width < self.width * self.height) as usize
     }
 
-    // How many of them lead to nodes with less numbers.
+    // The number of links that lead from the node to nodes with smaller numbers.
     fn ways_back(&self, from: u32) -> usize
         requires { from < self.now.width * self.now.height }
         ensures { result ≡ back self.now.width from }
@@ -80,7 +81,7 @@ impl Mesh {
         (self.width <= from) as usize + (0 < from % self.width) as usize
     }
 
-    // The place of a link among those that leave its first node, by rising numbers of the nodes at their ends.
+    // The index of a link among those that leave its first node, in ascending order of their ends.
     pub(crate) fn way(&self, from: u32, to: u32) -> usize
         requires from { from < self.now.width * self.now.height }
         requires to { to < self.now.width * self.now.height }

@@ -1,4 +1,4 @@
--- What the parts of a heap say of the heap that contracts see.
+-- Operations on the fields of a heap are the operations on the heap that contracts see.
 use Rattle.std.proofs.Common.{◌≡◌, refl, sym, ◌∙◌, ap, subst, ℕ, ◌+◌, ◌-◌, ◌*◌, ◌<◌, ◌≤◌, List, [], ◌∷◌, ◌++◌, length, map, get_or, set, take, drop, slice_get, Some, arith, length-set}
 use Rattle.std.specs.Vec.{vec_capacity, with_item}
 use Rattle.std.proofs.lemmas.List.{length-take, length-map, get_or-set_same, set-set}

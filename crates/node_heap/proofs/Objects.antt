@@ -1,4 +1,5 @@
--- The objects of slots: what a write to one slot's frames or variables makes of them, and a further slot.
+-- A write to the frames or variables of one slot changes the object of that slot only, and a further slot adds its
+-- object.
 use Rattle.std.proofs.Common.{◌≡◌, refl, sym, ◌∙◌, ap, ℕ, zero, suc, ◌+◌, ◌-◌, ◌*◌, ◌<◌, ◌≤◌, List, [], ◌∷◌, ◌++◌, length, map, get_or, set, take, drop, replicate, arith, length-set, length-drop}
 use Rattle.std.proofs.Math.Seq.{take-set-lt}
 use Rattle.std.proofs.lemmas.List.{length-replicate, length-map, take-set-le, drop-drop, drop-set-lt, drop-set-add, drop-replicate}

@@ -1,4 +1,4 @@
--- Values that are pushed on an array of 64 places and taken from it.
+-- Pushing onto and popping from a stack in an array of 64 values.
 use Rattle.std.proofs.Common.{◌≡◌, ◌≢◌, refl, sym, ◌∙◌, ap, ℕ, zero, suc, ◌+◌, ◌-◌, ◌<◌, ◌≤◌, List, ◌∷◌, length, get_or, set, arith, add-one, get_or-set_other, get_or-set_same}
 use Rattle.std.proofs.lemmas.List.{get_or_default}
 use Rattle.run_types.specs.declared.types.Value.{Value}

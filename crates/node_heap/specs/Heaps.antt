@@ -1,4 +1,4 @@
--- What a contract sees of a heap: for each slot its object of code, and the limits.
+-- The heap of a node as contracts see it: its limits, and an object of code for each slot.
 use Rattle.std.specs.Prelude.{ℕ, ◌+◌, List, [], ◌∷◌, length, get_or, slice_set, None, refl}
 use Rattle.std.specs.Coded.{Coded, code_by, coded×, coded_list, coded_ℕ}
 use Rattle.run_types.specs.declared.types.Value.{Value}
@@ -11,20 +11,20 @@ use Rattle.node_heap.specs.declared.types.FrameHead.{FrameHead}
 pub record HeapOf : Type 0 where
   -- the number of the node
   pub node : ℕ
-  -- the most objects, the most frames of all objects together, and the most variables of an object
+  -- the largest numbers of objects, of frames of all objects together, and of variables of an object
   pub most_objects : ℕ
   pub most_frames : ℕ
   pub most_vars : ℕ
   pub objects : List CodeObject
 
--- how the logic stores it
+-- how the logic encodes it
 abbrev pub heap_code : Coded CodeObject → Coded HeapOf
 heap_code c =
     code_by (ℕ × (ℕ × (ℕ × (ℕ × List CodeObject)))) (coded× coded_ℕ (coded× coded_ℕ (coded× coded_ℕ (coded× coded_ℕ (coded_list c)))))
     (λ h. (h.node, (h.most_objects, (h.most_frames, (h.most_vars, h.objects)))))
     (λ t. record { node = t.0; most_objects = t.1.0; most_frames = t.1.1.0; most_vars = t.1.1.1.0; objects = t.1.1.1.1 }) (λ _. refl)
 
--- an object without class, variables and frames, for a slot that is not there
+-- an object without class, variables and frames, the default for a missing slot
 abbrev pub no_object : CodeObject
 no_object = record { class = 0; vars = []; frames = [] }
 
@@ -32,11 +32,11 @@ no_object = record { class = 0; vars = []; frames = [] }
 abbrev pub object_at : HeapOf → ℕ → CodeObject
 object_at h slot = get_or h.objects slot no_object
 
--- gives a slot this object
+-- the heap with this object in a slot
 abbrev pub put_object : HeapOf → ℕ → CodeObject → HeapOf
 put_object h slot x = record h { objects = slice_set h.objects slot x }
 
--- the frames of all objects together
+-- the number of frames of all objects together
 abbrev pub frames_of : List CodeObject → ℕ
 frames_of [] = 0
 frames_of (x ∷ xs) = length x.frames + frames_of xs
@@ -48,15 +48,15 @@ frames_used h = frames_of h.objects
 abbrev pub nils : ℕ → List Value
 nils n = padded n []
 
--- a frame of a body that begins
+-- the frame of a body at its start
 abbrev pub body_frame : Frame
 body_frame = record { method = None; at = 0; temps = []; operands = []; serves = S.Sender }
 
--- a new object: its variables are nil, and its body begins
+-- a new object: its variables are nil, and its body is at its start
 abbrev pub unbegun : ℕ → ℕ → CodeObject
 unbegun class vars = record { class = class; vars = nils vars; frames = body_frame ∷ [] }
 
--- a frame that begins with nil temps
+-- the frame at its start that has this head, with nil temps
 abbrev pub frame_by : FrameHead → Frame
 frame_by h = record { method = h.method; at = 0; temps = nils h.temps; operands = []; serves = h.serves }
 
@@ -76,6 +76,6 @@ under_top (f ∷ fs) = fs
 abbrev pub top_at : HeapOf → ℕ → Frame
 top_at h slot = top_in (object_at h slot).frames
 
--- gives a slot this innermost frame
+-- the heap with this innermost frame in a slot
 abbrev pub put_top : HeapOf → ℕ → Frame → HeapOf
 put_top h slot f = put_object h slot (record (object_at h slot) { frames = f ∷ under_top (object_at h slot).frames })

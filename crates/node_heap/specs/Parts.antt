@@ -1,4 +1,4 @@
--- What holds of the parts of a heap, and what a contract sees of them.
+-- The invariant of the fields of a heap, and the heap that contracts see of them.
 use Rattle.std.specs.Prelude.{◌≡◌, ◌<◌, ◌≤◌, length}
 use Rattle.std.specs.Vec.{vec_capacity}
 use Rattle.node_heap.specs.declared.heap.Heap.TheInside.{Inside}
@@ -19,7 +19,7 @@ pub record IsHeap (h : Inside) : Type 0 where
   pub objects : h.limits.objects ≤ 4096
   pub frames : h.limits.frames ≤ 16384
   pub vars : h.limits.vars ≤ 64
-  -- the memory
+  -- the allocated room
   pub slots : h.limits.objects ≤ vec_capacity h.slots
   pub queues : length h.frames.lists ≡ h.limits.objects
   pub cells : h.frames.cells ≡ h.limits.frames

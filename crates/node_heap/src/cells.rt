@@ -1,4 +1,4 @@
-//! What stands in the cells of a heap.
+//! The contents of a heap's cells: slots and frames.
 ghost use Rattle.std.specs.Prelude.{◌≡◌, ◌<◌, ◌≤◌, ◌+◌, ◌^◌, suc, ◌∷◌, length};
 ghost use Rattle.run_types.specs.Operands.{top, below, dropped};
 ghost use Rattle.node_heap.specs.Heaps.{frame_by, head_by};
@@ -9,15 +9,15 @@ use crate::temps::Temps;
 use crate::types::FrameHead;
 use run_types::{Serves, Value};
 
-/// A slot's class, by its place in the unit, and its number of variables.
+/// The class of a slot's object, as its index in the unit, and its number of variables.
 #[derive(Clone, Copy)]
 pub struct Slot {
     pub class: u32,
     pub vars: u32,
 }
 
-/// A frame, as a cell holds it: its method's place in the class (a body has none), the place of the instruction at
-/// hand, its temps, its operands, and whom it serves.
+/// A frame, as a cell holds it. `method` is the index of the method in its class, or None for a body. `at` is the place
+/// of the current instruction. `serves` says who receives the value.
 #[derive(Drop)]
 pub struct FrameCell {
     pub method: Option<u32>,
@@ -40,7 +40,8 @@ impl Default for FrameCell {
 }
 
 impl FrameCell {
-    /// Makes it a frame that begins, with nil temps, of which there are at most 32. Nothing else is written.
+    /// Starts a new frame in this cell: at place 0, with nil temps and no operands. Requires at most 32 temps. It
+    /// writes nothing else.
     pub fn begin(&mut self, head: FrameHead)
         requires { head.temps ≤ 32 }
         ensures { frame_of self.new ≡ frame_by head }
@@ -81,7 +82,8 @@ impl FrameCell {
         self.operands.pop()
     }
 
-    /// Puts a value in place of the last `count` operands, and goes to the next place.
+    /// Replaces the last `count` operands by a value, and goes to the next place. Requires that at most 64 operands
+    /// result.
     pub fn replace(&mut self, count: u32, value: Value)
         requires place { suc self.old.at < 2 ^ 32 }
         requires enough { count ≤ length self.old.operands }
@@ -92,7 +94,7 @@ impl FrameCell {
         self.at += 1;
     }
 
-    /// The frame's method, its number of temps, and whom it serves.
+    /// The head of the frame: its method, its number of temps, and who receives its value.
     pub fn head(&self) -> FrameHead
         ensures { result ≡ head_by (frame_of self.now) }
     {

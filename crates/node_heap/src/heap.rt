@@ -13,8 +13,8 @@ use run_types::{Serves, Value};
 use std::alloc::{AllocError, Global};
 use std::marker::Model;
 
-/// Object slots, variables and frames of one node. Slots are numbered from 0 in the order of `place` and are never
-/// given back. Contracts see for each slot an object of code.
+/// The object slots, variables and frames of one node. Slots are numbered from 0 in the order of `place`, and are never
+/// freed. Contracts see an object of code for each slot.
 #[derive(Drop)]
 pub struct Heap {
     limits: HeapLimits,
@@ -38,7 +38,7 @@ impl Model for Heap {
     ghost invariant = { IsHeap };
 }
 
-/// Begins a frame at the front of a queue, in its cell, and tells whether a cell was free.
+/// Starts a frame at the front of a queue, and reports whether a cell was free.
 fn begin_frame(frames: &mut CellPool<FrameCell>, queue: usize, head: FrameHead) -> bool
     requires queue { queue < length frames.old.lists }
     requires temps { head.temps ≤ 32 }
@@ -56,9 +56,8 @@ fn begin_frame(frames: &mut CellPool<FrameCell>, queue: usize, head: FrameHead) 
 }
 
 impl Heap {
-    /// Takes the memory of all slots, variables and frames. No object is placed yet. The objects are at most 4096, the
-    /// frames at most 16384, the variables of an object at most 64, and the node is below 64. Err where the memory is
-    /// not had.
+    /// Makes a heap without objects, and allocates all its slots, variables and frames. Requires at most 4096 objects,
+    /// 16384 frames and 64 variables for each object, and a node below 64. Returns `Err` if memory runs out.
     pub fn make(alloc: Global, limits: HeapLimits) -> Result<Heap, AllocError>
         requires node { limits.node < 64 }
         requires objects { limits.objects ≤ 4096 }
@@ -80,9 +79,9 @@ impl Heap {
         })
     }
 
-    /// Makes a slot: an object of the class of this place, with so many variables, all nil, and the frame of its body.
-    /// The answer is its number. `Objects` comes exactly where as many objects are placed as the limit, and `Frames`
-    /// exactly where that is not so and as many frames are in use as the limit; nothing is then changed.
+    /// Makes an object in a new slot, and returns the number of the slot. `class` is the index of its class in the
+    /// unit. It has `vars` variables, all nil, and the frame of its body. Returns `Objects` if the heap has its limit
+    /// of objects. Otherwise returns `Frames` if its limit of frames is in use. An error changes nothing.
     pub fn place(&mut self, class: u32, vars: u32) -> Result<u32, HeapFull>
         requires { vars ≤ self.old.most_vars }
         ensures ok { IfOk result (λ slot. (slot ≡ length self.old.objects) × (self.new ≡ record self.old { objects = self.old.objects ++ unbegun class vars ∷ [] })) }
@@ -106,8 +105,8 @@ impl Heap {
         Ok(slot as u32)
     }
 
-    /// Puts a frame on top of a slot's, at place 0, with nil temps and no operands. `Frames`, and nothing else, comes
-    /// exactly where as many frames are in use as the limit; nothing is then changed.
+    /// Pushes a frame onto those of a slot: at place 0, with nil temps and no operands. Requires at most 32 temps.
+    /// Returns `Frames`, and changes nothing, if the limit of frames is in use. No other error occurs.
     pub fn push_frame(&mut self, slot: u32, frame: FrameHead) -> Result<(), HeapFull>
         requires slot { slot < length self.old.objects }
         requires temps { frame.temps ≤ 32 }
@@ -122,7 +121,7 @@ impl Heap {
         }
     }
 
-    /// Takes the top frame of a slot, which is not its body's.
+    /// Removes the top frame of a slot, and returns its head. Requires a frame below it.
     pub fn pop_frame(&mut self, slot: u32) -> FrameHead
         requires slot { slot < length self.old.objects }
         requires frames { 1 < length (object_at self.old slot).frames }
@@ -142,7 +141,7 @@ impl Heap {
         self.frames.get(slot as usize, 0).head()
     }
 
-    /// The place in its code at which a slot's top frame stands.
+    /// The place of the current instruction of a slot's top frame.
     pub fn at(&self, slot: u32) -> u32
         requires { slot < length self.now.objects }
         ensures { result ≡ (top_at self.now slot).at }
@@ -169,7 +168,7 @@ impl Heap {
         frame.advance();
     }
 
-    /// Changes whom a slot's top frame serves.
+    /// Sets who receives the value of a slot's top frame.
     pub fn set_serves(&mut self, slot: u32, serves: Serves)
         requires { slot < length self.old.objects }
         ensures { self.new ≡ put_top self.old slot (record (top_at self.old slot) { serves = serves }) }
@@ -178,7 +177,7 @@ impl Heap {
         frame.serves = serves;
     }
 
-    /// Variable `k` of a slot, from 0.
+    /// Variable `k` of a slot, counted from 0.
     pub fn load_var(&self, slot: u32, k: u32) -> Value
         requires slot { slot < length self.now.objects }
         requires place { k < length (object_at self.now slot).vars }
@@ -187,7 +186,7 @@ impl Heap {
         self.values[slot as usize * self.limits.vars as usize + k as usize]
     }
 
-    /// Gives variable `k` of a slot this value.
+    /// Sets variable `k` of a slot, counted from 0.
     pub fn store_var(&mut self, slot: u32, k: u32, value: Value)
         requires slot { slot < length self.old.objects }
         requires place { k < length (object_at self.old slot).vars }
@@ -197,7 +196,7 @@ impl Heap {
         self.values[place] = value;
     }
 
-    /// Parameter or local `k` of a slot's top frame, from 0.
+    /// Parameter or local `k` of a slot's top frame, counted from 0.
     pub fn load_temp(&self, slot: u32, k: u32) -> Value
         requires slot { slot < length self.now.objects }
         requires place { k < length (top_at self.now slot).temps }
@@ -206,7 +205,7 @@ impl Heap {
         self.frames.get(slot as usize, 0).temps.load(k)
     }
 
-    /// Gives parameter or local `k` of a slot's top frame this value.
+    /// Sets parameter or local `k` of a slot's top frame, counted from 0.
     pub fn store_temp(&mut self, slot: u32, k: u32, value: Value)
         requires slot { slot < length self.old.objects }
         requires place { k < length (top_at self.old slot).temps }
@@ -216,7 +215,7 @@ impl Heap {
         frame.temps.store(k, value);
     }
 
-    /// Puts a value on the operands of a slot's top frame, which are fewer than 64.
+    /// Pushes a value onto the operands of a slot's top frame. Requires fewer than 64 operands.
     pub fn push(&mut self, slot: u32, value: Value)
         requires slot { slot < length self.old.objects }
         requires room { length (top_at self.old slot).operands < 64 }
@@ -226,7 +225,7 @@ impl Heap {
         frame.operands.push(value);
     }
 
-    /// Takes the last operand of a slot's top frame.
+    /// Pops an operand of a slot's top frame. Requires one.
     pub fn pop(&mut self, slot: u32) -> Value
         requires slot { slot < length self.old.objects }
         requires one { 0 < length (top_at self.old slot).operands }
@@ -237,7 +236,8 @@ impl Heap {
         frame.operands.pop()
     }
 
-    /// Puts a value on the operands of a slot's top frame, which are fewer than 64, and moves it to the next place.
+    /// Pushes a value onto the operands of a slot's top frame, and moves the frame to the next place. Requires fewer
+    /// than 64 operands.
     pub fn push_next(&mut self, slot: u32, value: Value)
         requires slot { slot < length self.old.objects }
         requires place { suc (top_at self.old slot).at < 2 ^ 32 }
@@ -248,7 +248,7 @@ impl Heap {
         frame.push_next(value);
     }
 
-    /// Takes the last operand of a slot's top frame, and moves it to the next place.
+    /// Pops an operand of a slot's top frame, and moves the frame to the next place. Requires one operand.
     pub fn pop_next(&mut self, slot: u32) -> Value
         requires slot { slot < length self.old.objects }
         requires place { suc (top_at self.old slot).at < 2 ^ 32 }
@@ -260,7 +260,7 @@ impl Heap {
         frame.pop_next()
     }
 
-    /// Takes the last `count` operands of a slot's top frame.
+    /// Drops the last `count` operands of a slot's top frame. Requires as many.
     pub fn drop_operands(&mut self, slot: u32, count: u32)
         requires slot { slot < length self.old.objects }
         requires enough { count ≤ length (top_at self.old slot).operands }
@@ -270,7 +270,8 @@ impl Heap {
         frame.operands.discard(count);
     }
 
-    /// Puts a value in place of the last `count` operands of a slot's top frame, and moves it to the next place.
+    /// Replaces the last `count` operands of a slot's top frame by a value, and moves the frame to the next place.
+    /// Requires `count` operands, and that at most 64 result.
     pub fn replace(&mut self, slot: u32, count: u32, value: Value)
         requires slot { slot < length self.old.objects }
         requires place { suc (top_at self.old slot).at < 2 ^ 32 }
@@ -282,7 +283,7 @@ impl Heap {
         frame.replace(count, value);
     }
 
-    /// The operand of a slot's top frame that has so many others above it.
+    /// The operand of a slot's top frame that has `from_top` others above it. Requires that it exists.
     pub fn operand(&self, slot: u32, from_top: u32) -> Value
         requires slot { slot < length self.now.objects }
         requires place { from_top < length (top_at self.now slot).operands }
@@ -291,7 +292,7 @@ impl Heap {
         self.frames.get(slot as usize, 0).operands.get(from_top)
     }
 
-    /// The place of the class of a slot's object in the unit.
+    /// The class of a slot's object, as its index in the unit.
     pub fn class_of(&self, slot: u32) -> u32
         requires { slot < length self.now.objects }
         ensures { result ≡ (object_at self.now slot).class }
@@ -307,7 +308,7 @@ impl Heap {
         self.limits.node
     }
 
-    /// The number of objects placed, which is at most the limit.
+    /// The number of objects, at most the limit.
     pub fn objects(&self) -> u32
         ensures count { result ≡ length self.now.objects }
         ensures within { (result ≤ self.now.most_objects) × (self.now.most_objects ≤ 4096) }
@@ -315,7 +316,7 @@ impl Heap {
         self.slots.len() as u32
     }
 
-    /// The number of frames in use, which is at most the limit.
+    /// The number of frames in use, at most the limit.
     pub fn frames(&self) -> u32
         ensures count { result ≡ frames_used self.now }
         ensures within { (result ≤ self.now.most_frames) × (self.now.most_frames ≤ 16384) }
@@ -323,7 +324,7 @@ impl Heap {
         self.limits.frames - self.frames.free() as u32
     }
 
-    /// The most frames of all objects together.
+    /// The limit of frames, of all objects together.
     pub fn frame_limit(&self) -> u32
         ensures { result ≡ self.now.most_frames }
     {

@@ -5,8 +5,8 @@ ghost use Rattle.run_types.specs.Operands.{top, below, dropped, nth};
 use run_types::Value;
 use std::marker::Model;
 
-/// At most 64 values, which contracts see as a list with the last one first. What stands behind them in the array is
-/// whatever was there.
+/// A stack of at most 64 values. Contracts see a list whose first item was pushed last. The array may hold any values
+/// after the stack.
 #[derive(Drop)]
 pub struct Operands {
     values: [Value; 64],
@@ -26,7 +26,7 @@ impl Model for Operands {
 }
 
 impl Operands {
-    /// No operand.
+    /// Returns no operands.
     pub fn make() -> Operands
         ensures { result ≡ [] }
     {
@@ -36,14 +36,14 @@ impl Operands {
         }
     }
 
-    /// Takes all operands.
+    /// Drops all operands.
     pub fn clear(&mut self)
         ensures { self.new ≡ [] }
     {
         self.count = 0;
     }
 
-    /// Puts a value on the operands, which are fewer than 64.
+    /// Pushes a value. Requires fewer than 64 operands.
     pub fn push(&mut self, value: Value)
         requires { length self.old < 64 }
         ensures { self.new ≡ value ∷ self.old }
@@ -52,7 +52,7 @@ impl Operands {
         self.count += 1;
     }
 
-    /// Takes the last operand.
+    /// Pops a value. Requires one operand.
     pub fn pop(&mut self) -> Value
         requires { 0 < length self.old }
         ensures value { result ≡ top self.old }
@@ -62,7 +62,7 @@ impl Operands {
         self.values[self.count as usize]
     }
 
-    /// Takes the last `count` operands.
+    /// Drops the last `count` operands. Requires as many.
     pub fn discard(&mut self, count: u32)
         requires { count ≤ length self.old }
         ensures { self.new ≡ dropped count self.old }
@@ -70,7 +70,7 @@ impl Operands {
         self.count -= count;
     }
 
-    /// Puts a value in place of the last `count` operands.
+    /// Replaces the last `count` operands by a value. Requires `count` operands, and that at most 64 result.
     pub fn replace(&mut self, count: u32, value: Value)
         requires enough { count ≤ length self.old }
         requires room { length self.old < 64 + count }
@@ -81,7 +81,7 @@ impl Operands {
         self.count = place + 1;
     }
 
-    /// The operand that has so many others above it.
+    /// The operand that has `from_top` others above it. Requires that it exists.
     pub fn get(&self, from_top: u32) -> Value
         requires { from_top < length self.now }
         ensures { result ≡ nth self.now from_top }

@@ -6,7 +6,7 @@ ghost use Rattle.node_heap.specs.Heaps.{nils};
 use run_types::Value;
 use std::marker::Model;
 
-/// At most 32 values, which contracts see as a list. What stands behind them in the array is whatever was there.
+/// At most 32 values, seen by contracts as a list. The array may hold any values after them.
 #[derive(Drop)]
 pub struct Temps {
     values: [Value; 32],
@@ -25,7 +25,7 @@ impl Model for Temps {
 }
 
 impl Temps {
-    /// No temp.
+    /// Returns no temps.
     pub fn make() -> Temps
         ensures { result ≡ [] }
     {
@@ -35,7 +35,7 @@ impl Temps {
         }
     }
 
-    /// Makes them so many temps, all nil.
+    /// Sets the temps to `count` nils. Requires at most 32.
     pub fn begin(&mut self, count: u32)
         requires { count ≤ 32 }
         ensures { self.new ≡ nils count }
@@ -53,7 +53,7 @@ impl Temps {
         self.count
     }
 
-    /// Temp `k`, from 0.
+    /// Temp `k`, counted from 0.
     pub fn load(&self, k: u32) -> Value
         requires { k < length self.now }
         ensures { result ≡ nth self.now k }
@@ -61,7 +61,7 @@ impl Temps {
         self.values[k as usize]
     }
 
-    /// Gives temp `k` this value.
+    /// Sets temp `k`, counted from 0.
     pub fn store(&mut self, k: u32, value: Value)
         requires { k < length self.old }
         ensures { self.new ≡ slice_set self.old k value }

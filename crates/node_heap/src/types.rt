@@ -1,8 +1,8 @@
-//! The words of a heap.
+//! The limits, frame heads and errors of a heap.
 use run_types::Serves;
 
-/// The limits of a heap: `node` is the number of its node, `objects` and `frames` the most objects and frames that it
-/// holds, and `vars` the greatest number of variables of one object.
+/// The limits of a heap. `node` is the number of its node. `objects` and `frames` are the largest numbers of objects
+/// and of frames of all objects. `vars` is the largest number of variables of an object.
 #[derive(Clone, Copy)]
 pub struct HeapLimits {
     pub node: u32,
@@ -11,8 +11,8 @@ pub struct HeapLimits {
     pub vars: u32,
 }
 
-/// A frame of a method under way, by the method's place in its class, or of a body (None): its number of temps, which
-/// are parameters and locals, and whom it serves.
+/// The head of an active frame. `method` is the index of the method in its class, or None for a body. `temps` counts
+/// its parameters and locals. `serves` says who receives its value.
 #[derive(Clone, Copy)]
 pub struct FrameHead {
     pub method: Option<u32>,
@@ -20,7 +20,7 @@ pub struct FrameHead {
     pub serves: Serves,
 }
 
-/// The limit that would be passed.
+/// The limit that an operation would exceed.
 #[derive(Clone, Copy, Debug, PartialEq, Eq)]
 pub enum HeapFull {
     Objects,

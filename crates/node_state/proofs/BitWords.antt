@@ -1,4 +1,4 @@
--- Words of 64 bits: what becomes of them where a bit changes, and the least that is set.
+-- Words of 64 bits after a bit was changed, and the least set bit.
 use Rattle.std.proofs.Common.{◌≡◌, ◌≢◌, sym, ap, ◌∙◌, ℕ, ◌+◌, ◌-◌, ◌*◌, ◌/◌, ◌%◌, ◌^◌, min, replicate, ◌<◌, ◌≤◌, ◌⊎◌, inl, inr, List, length, take, set, get_or, cond, eqb, Bool, true, false, Some, None, bit_and, w64, arith}
 use Rattle.std.specs.Int.{bit_at, trailing_zeros}
 use Rattle.std.proofs.lemmas.Bool.{cases_eq, cases_lt, eq-eqb}

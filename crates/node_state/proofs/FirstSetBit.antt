@@ -1,4 +1,4 @@
--- Where a row of bits is clear, the first that is set is looked for behind it.
+-- If a range of bits is clear, the first set bit is after the range.
 use Rattle.std.proofs.Common.{◌≡◌, refl, sym, ap, subst, ◌∙◌, ℕ, zero, suc, ◌+◌, ◌-◌, ◌<◌, ◌≤◌, List, [], ◌∷◌, length, drop, take, get_or, Some, None, Bool, true, false, if◌then◌else◌, arith}
 use Rattle.std.proofs.lemmas.List.{get_or-drop, get_or_past, length-take}
 use Rattle.node_state.specs.Bits.{first_bit, first_bit_from}

@@ -1,4 +1,4 @@
--- Lemmas that other crates may cite: what a change of one slot makes of a node, and what an object that chooses may do.
+-- The lemmas that other crates may cite: a node after a change of one slot, and the choices of an object.
 pub use Rattle.node_state.proofs.ObjectOffers.{can_choose, choosing_kind, hand_answer, hand_new, hand_select, no_async, no_branch, no_outcome, no_return, no_send, possible_is, same_names, selecting_chooses}
 pub use Rattle.node_state.proofs.Slots.{slots_length}
 pub use Rattle.node_state.proofs.SlotUpdate.{below_length, got, kind_seen, slot_real, slot_view}

@@ -1,4 +1,4 @@
--- What an object of code offers, as the machine sees it.
+-- The alternatives of an object of code, as the definition of nodes sees them.
 use Rattle.std.proofs.Common.{◌≡◌, refl, sym, ap, subst, ◌∙◌, ℕ, ◌+◌, ◌==◌, List, [], ◌∷◌, length, Option, Some, None, is_some, Bool, true, false, ◌||◌, if◌then◌else◌}
 use Rattle.std.specs.Prelude.{slice_get, position}
 use Rattle.std.specs.Option.{unwrap_or}

@@ -1,4 +1,4 @@
--- The slots that are seen of the parts of a node.
+-- The slots that contracts see of the parts of a node.
 use Rattle.std.proofs.Common.{◌≡◌, refl, ap, ◌∙◌, ℕ, zero, suc, ◌+◌, ◌<◌, List, [], ◌∷◌, ◌++◌, length, take, get_or, map, Option, Some, None, arith}
 use Rattle.std.specs.Prelude.{slice_get, slice_set}
 use Rattle.run_types.specs.declared.types.Error.{Error}

@@ -1,4 +1,4 @@
--- What each small change of the parts of a node is for the slot.
+-- The change of a slot that each small change of the parts of a node makes.
 use Rattle.std.proofs.Common.{◌≡◌, ◌≢◌, inl, inr, refl, sym, ap, ap₂, subst, ◌∙◌, ℕ, ◌<◌, ◌≤◌, List, [], ◌∷◌, ◌++◌, length, get_or, Option, Some, None, Bool, true, false, arith}
 use Rattle.std.specs.Prelude.{slice_get, slice_set, OnOk, is_ok, nat_le}
 use Rattle.std.specs.declared.result.Result.{Result}

@@ -1,4 +1,4 @@
--- What a step of a node changes: one slot, or a slot more.
+-- The changes that a step makes to a node: another content of one slot, or one slot more.
 use Rattle.std.specs.Prelude.{◌≡◌, ℕ, List, [], ◌∷◌, ◌++◌, length, Option, Some, None, slice_set}
 use Rattle.run_types.specs.declared.types.Serves.{Serves}
 use Rattle.run_types.specs.declared.types.Serves.TheVariants as S
@@ -14,7 +14,7 @@ use Rattle.node_state.specs.Views.{NodeInvariant, node_of}
 abbrev pub changed : Code → NodeOf → ℕ → Slot Placed → NodeOf
 changed u n i s = record n { state = record n.state { slots = set_at n.state.slots i s }; ready = slice_set n.ready i (can_go (coded u) n.id (i, s)) }
 
--- one slot has this content, and the node is of the unit still
+-- Slot i has the content s, and the node still is of the unit.
 pub record IsChanged (u : Code) (old new : NodeParts) (i : ℕ) (s : Slot Placed) : Type 0 where
   pub whole : NodeInvariant new
   pub unit : IsOfUnit u (node_of new)
@@ -32,7 +32,7 @@ pub record IsAdded (u : Code) (old new : NodeParts) (y : Placed) : Type 0 where
   pub unit : IsOfUnit u (node_of new)
   pub is : node_of new ≡ added u (node_of old) y
 
--- whom a method that is begun for a message serves
+-- who receives the value of a method that is started for a message
 abbrev pub serves_for_call : ℕ → Option ℕ → Serves
 serves_for_call from None = S.Sender
 serves_for_call from (Some number) = S.Caller from number

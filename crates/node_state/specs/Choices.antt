@@ -1,4 +1,4 @@
--- The alternatives of an object, by the messages that are there.
+-- The alternatives that an object can choose with the messages in its mailbox.
 use Rattle.std.specs.Prelude.{ℕ, ◌+◌, List, [], ◌∷◌, Option, Some, None, is_some, Bool, false, ◌||◌, if◌then◌else◌, position}
 use Rattle.run_types.specs.declared.types.NameId.{NameId}
 use Rattle.code_semantics.specs.Kinds.{Offered}
@@ -6,12 +6,12 @@ use Rattle.object_interp.specs.Offers.{is_open_plain, open_names}
 use Rattle.mailbox.specs.declared.Message.{Message}
 use Rattle.mailbox.specs.Mail.{is_named}
 
--- whether a message is there on one of the methods
+-- whether a message calls one of the methods
 abbrev pub is_called : List Message → Option (List NameId) → Bool
 is_called box None = false
 is_called box (Some names) = is_some (position (λ (m : Message). is_named names m.method) box)
 
--- the place of the first of these messages
+-- the index of the first of these messages
 abbrev pub place_called : List Message → Option (List NameId) → Option ℕ
 place_called box None = None
 place_called box (Some names) = position (λ (m : Message). is_named names m.method) box
@@ -20,7 +20,7 @@ place_called box (Some names) = position (λ (m : Message). is_named names m.met
 abbrev pub may_go : List Message → Option Offered → Bool
 may_go box a = is_open_plain a || is_called box (open_names a)
 
--- the number of the first alternative that is possible, where the first of these has the number n
+-- the number of the first possible alternative, if the first of these has the number n
 abbrev pub first_of_these : List Message → ℕ → List Offered → Option ℕ
 first_of_these box n [] = None
 first_of_these box n (a ∷ alts) = if may_go box (Some a) then Some n else first_of_these box (n + 1) alts

@@ -1,4 +1,4 @@
--- How the logic stores the state of a node of objects of code.
+-- The encoding of a node's state in the logic, for objects of code.
 use Rattle.std.specs.Prelude.{ℕ, Bool, List, Option, refl}
 use Rattle.std.specs.Coded.{Coded, code_by, coded×, coded_bool, coded_list, coded_option, coded_ℕ}
 use Rattle.run_types.specs.declared.types.Value.{Value}

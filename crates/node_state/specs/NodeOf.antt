@@ -1,4 +1,4 @@
--- What a contract sees of a node.
+-- A node as contracts see it: its limits, its state by the definition of nodes, and its ready objects.
 use Rattle.std.specs.Prelude.{ℕ, Bool, List, refl}
 use Rattle.std.specs.Coded.{Coded, code_by, coded×, coded_bool, coded_list, coded_ℕ}
 use Rattle.run_types.specs.declared.types.Value.{Value}
@@ -11,14 +11,14 @@ use Rattle.node_state.specs.Codes.{state_code}
 pub record NodeOf : Type 0 where
   -- the number of the node
   pub id : ℕ
-  -- the most objects, frames and cells of the node, and the most variables of one object
+  -- the limits of objects, frames and cells of the node, and of variables of one object
   pub most_objects : ℕ
   pub most_frames : ℕ
   pub most_cells : ℕ
   pub most_vars : ℕ
   -- its objects, messages, request numbers, last slot and counts
   pub state : NodeState Placed
-  -- for each object whether it can step
+  -- whether each object can step
   pub ready : List Bool
 
 abbrev pub node_code : Coded CodeObject → Coded Error → Coded Value → Coded NodeOf

@@ -1,4 +1,4 @@
--- What is seen of the parts of a node: its slots, one for each object of the heap.
+-- The node that contracts see of its parts, with a slot for each object of the heap, and the invariant of the parts.
 use Rattle.std.specs.Prelude.{◌≡◌, ℕ, ◌≤◌, ◌∷◌, List, [], Option, None, is_some, length, get_or, slice_set, take}
 use Rattle.run_types.specs.declared.types.Error.{Error}
 use Rattle.run_types.specs.declared.types.Serves.{Serves}
@@ -15,7 +15,7 @@ use Rattle.node_heap.specs.Heaps.{object_at}
 use Rattle.node_state.specs.declared.state.NodeParts.{NodeParts}
 use Rattle.node_state.specs.NodeOf.{NodeOf}
 
--- a message as its receiver's node keeps it
+-- a message as the node of its receiver stores it
 abbrev pub arrival_of : Message → NumberedArrival
 arrival_of m = record { number = m.call; message = record { sender = m.from; is_call = is_some m.call; method = m.method.0; args = m.args } }
 
@@ -23,7 +23,7 @@ abbrev pub arrivals_of : List Message → List NumberedArrival
 arrivals_of [] = []
 arrivals_of (m ∷ ms) = arrival_of m ∷ arrivals_of ms
 
--- the numbers with the one of the caller that a frame serves in front
+-- the numbers, after that of the caller that a frame serves
 abbrev pub number_by : Serves → List ℕ → List ℕ
 number_by (S.Caller k n) ns = n ∷ ns
 number_by _ ns = ns
@@ -61,7 +61,7 @@ slots_by (x ∷ xs) requests faults goals boxes =
 abbrev pub slots_of : NodeParts → List (Slot Placed)
 slots_of p = slots_by p.heap.objects p.outstanding p.faults p.goals p.mailbox.boxes
 
--- what a contract sees of a node with these parts
+-- the node as contracts see it
 abbrev pub node_of : NodeParts → NodeOf
 node_of p = record {
   id = p.id;
@@ -77,11 +77,11 @@ node_of p = record {
 abbrev pub slot_at : NodeParts → ℕ → Slot Placed
 slot_at p i = slot_by (object_at p.heap i) (get_or p.outstanding i None) (get_or p.faults i None) (get_or p.goals i 0) (box_of p.mailbox i)
 
--- the bit of a slot is made what it is
+-- the parts after the ready bit of a slot was updated
 abbrev pub refreshed : Code → NodeParts → ℕ → NodeParts
 refreshed u p i = record p { ready = slice_set p.ready i (can_go (coded u) p.id (i, slot_at p i)) }
 
--- The parts fit together: there is as much of each as there may be objects, and nothing is kept for a slot that is not there.
+-- The parts agree: each has room for as many slots as the limit of objects, and has nothing for a slot without object.
 pub record NodeInvariant (p : NodeParts) : Type 0 where
   pub node : p.heap.node ≡ p.id
   pub cells : p.mailbox.cells ≡ p.cells
@@ -92,7 +92,7 @@ pub record NodeInvariant (p : NodeParts) : Type 0 where
   pub ready : length p.ready ≡ p.heap.most_objects
   pub objects : length p.heap.objects ≤ p.heap.most_objects
   pub few : p.heap.most_objects ≤ 4096
-  -- there may be an object, and a frame
+  -- the limits allow an object and a frame
   pub room : 1 ≤ p.heap.most_objects
   pub frames : 1 ≤ p.heap.most_frames
   pub no_box : (i : ℕ) → length p.heap.objects ≤ i → box_of p.mailbox i ≡ []

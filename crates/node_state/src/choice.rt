@@ -1,4 +1,4 @@
-//! The alternatives of an object that are possible.
+//! The possible alternatives of an object: those that it can choose with the messages that have arrived.
 ghost use Rattle.std.specs.Prelude.{◌≡◌, ◌<◌, length};
 ghost use Rattle.code_semantics.specs.Proper.{IsProper};
 ghost use Rattle.code_semantics.specs.StepInstructions.{FitsUnit, IsAtStep};
@@ -12,7 +12,8 @@ use mailbox::Mailbox;
 use node_heap::Heap;
 use object_interp::{alts, answer_names, plain_alt};
 
-/// Whether alternative `alt` of a slot is open, and plain or on a method of a message that is there.
+/// Reports whether alternative `alt` of a slot, counted from 1, is open, and is plain or answers a message in the
+/// mailbox.
 fn is_possible(unit: &Unit, heap: &Heap, mailbox: &Mailbox, slot: u32, alt: u32) -> bool
     requires proper { IsProper unit.now }
     requires slot { slot < length heap.now.objects }
@@ -30,7 +31,7 @@ fn is_possible(unit: &Unit, heap: &Heap, mailbox: &Mailbox, slot: u32, alt: u32)
     }
 }
 
-/// The place of the first message of a slot that alternative `alt` answers.
+/// The index of the first message of a slot that alternative `alt`, counted from 1, answers. None if there is none.
 pub fn called_place(
     unit: &Unit,
     heap: &Heap,
@@ -51,7 +52,7 @@ pub fn called_place(
     }
 }
 
-/// The number of the first alternative of a slot that is possible, from 1.
+/// The number of the first possible alternative of a slot, counted from 1. None if there is none.
 pub fn first_possible(unit: &Unit, heap: &Heap, mailbox: &Mailbox, slot: u32) -> Option<u32>
     requires proper { IsProper unit.now }
     requires slot { slot < length heap.now.objects }

@@ -1,4 +1,4 @@
-//! The small changes of a node: each changes one slot, and its bit.
+//! The small changes of a node: each changes one slot and its ready bit.
 ghost use Rattle.std.specs.Prelude.{◌≡◌, ◌↔◌, ℕ, ◌<◌, ◌++◌, ◌∷◌, [], true, None, Some, Err, IfOk, OnOk, OnErr, length, get_or, slice_get, remove};
 ghost use Rattle.std.specs.List.{list_any};
 ghost use Rattle.run_types.specs.declared.types.Value as V;
@@ -27,7 +27,7 @@ use node_heap::HeapFull;
 use object_interp::{enter, go_on, pick, resume_with, to_step};
 use run_types::{Error, Serves, Value};
 
-/// Goes on with the object of a slot after a message was sent or a value written.
+/// Continues the object of a slot after a message was sent or a value was written.
 pub fn go_on_in(unit: &Unit, parts: &mut NodeParts, slot: u32)
     requires whole { NodeInvariant parts.old }
     requires unit { IsOfUnit unit.now (node_of parts.old) }
@@ -40,8 +40,8 @@ pub fn go_on_in(unit: &Unit, parts: &mut NodeParts, slot: u32)
     refresh(unit, parts, slot);
 }
 
-/// Gives the value of the innermost method of a slot back to its caller, whose number goes: the method ends, or goes on
-/// for no one where it has statements behind its value.
+/// Returns the value of the innermost method of a slot to its caller, and drops the caller's request number. The method
+/// ends. If it has statements after its value, it continues for no caller.
 pub fn return_in(unit: &Unit, parts: &mut NodeParts, slot: u32)
     requires whole { NodeInvariant parts.old }
     requires unit { IsOfUnit unit.now (node_of parts.old) }
@@ -55,7 +55,7 @@ pub fn return_in(unit: &Unit, parts: &mut NodeParts, slot: u32)
     refresh(unit, parts, slot);
 }
 
-/// Goes into the plain alternative `alt` of a slot, from 1.
+/// Chooses the plain alternative `alt` of a slot, counted from 1. Requires that it is open.
 pub fn pick_in(unit: &Unit, parts: &mut NodeParts, slot: u32, alt: u32)
     requires whole { NodeInvariant parts.old }
     requires unit { IsOfUnit unit.now (node_of parts.old) }
@@ -69,7 +69,7 @@ pub fn pick_in(unit: &Unit, parts: &mut NodeParts, slot: u32, alt: u32)
     refresh(unit, parts, slot);
 }
 
-/// Hands the object of a slot the name of the object that it made.
+/// Gives the object of a slot the name of the object that it made.
 pub fn give_in(unit: &Unit, parts: &mut NodeParts, slot: u32, value: Value)
     requires whole { NodeInvariant parts.old }
     requires unit { IsOfUnit unit.now (node_of parts.old) }
@@ -82,7 +82,7 @@ pub fn give_in(unit: &Unit, parts: &mut NodeParts, slot: u32, value: Value)
     refresh(unit, parts, slot);
 }
 
-/// Keeps the error that the object of a slot meets.
+/// Stores the run-time error that the object of a slot meets.
 pub fn fault_in(unit: &Unit, parts: &mut NodeParts, slot: u32, error: Error)
     requires whole { NodeInvariant parts.old }
     requires unit { IsOfUnit unit.now (node_of parts.old) }
@@ -94,7 +94,7 @@ pub fn fault_in(unit: &Unit, parts: &mut NodeParts, slot: u32, error: Error)
     refresh(unit, parts, slot);
 }
 
-/// Puts a message last at a slot, for which a cell is free.
+/// Appends a message to those of a slot. Requires a free cell.
 pub fn deliver_in(unit: &Unit, parts: &mut NodeParts, slot: u32, message: Message)
     requires whole { NodeInvariant parts.old }
     requires unit { IsOfUnit unit.now (node_of parts.old) }
@@ -107,7 +107,8 @@ pub fn deliver_in(unit: &Unit, parts: &mut NodeParts, slot: u32, message: Messag
     }
 }
 
-/// Makes a number for the request of a slot, which none has had out, and keeps the node to which it goes.
+/// Issues a number for the request of a slot that has none, and stores the node to which the request goes. No other
+/// slot has the number.
 pub fn ask_in(unit: &Unit, parts: &mut NodeParts, slot: u32, goal: u32) -> u32
     requires whole { NodeInvariant parts.old }
     requires unit { IsOfUnit unit.now (node_of parts.old) }
@@ -123,6 +124,7 @@ pub fn ask_in(unit: &Unit, parts: &mut NodeParts, slot: u32, goal: u32) -> u32
     number
 }
 
+/// Who receives the value of a method that is started for this message.
 fn serves(message: &Message) -> Serves
     ensures { result ≡ serves_for_call message.now.from message.now.call }
 {
@@ -135,8 +137,8 @@ fn serves(message: &Message) -> Serves
     }
 }
 
-/// Takes the message at this place of a slot, and begins to serve it by alternative `alt`, which answers it. A frame is
-/// free for it.
+/// Removes the message at index `place` of a slot, starts its method through alternative `alt`, and returns the
+/// message. Requires that the alternative answers the message, and a free frame.
 pub fn serve_in(unit: &Unit, parts: &mut NodeParts, slot: u32, alt: u32, place: usize) -> Message
     requires whole { NodeInvariant parts.old }
     requires unit { IsOfUnit unit.now (node_of parts.old) }
@@ -174,8 +176,8 @@ pub fn serve_in(unit: &Unit, parts: &mut NodeParts, slot: u32, alt: u32, place: 
     message
 }
 
-/// Makes a slot with a new object of the class at this place, and tells its number, or the limit that is reached.
-/// Nothing is then changed.
+/// Makes an object in a new slot, and returns the number of the slot. `class` is the index of its class in the unit.
+/// Returns the limit that is reached, and changes nothing, if there is no slot or no frame for it.
 pub fn add_in(unit: &Unit, parts: &mut NodeParts, class: u32) -> Result<u32, HeapFull>
     requires whole { NodeInvariant parts.old }
     requires unit { IsOfUnit unit.now (node_of parts.old) }
@@ -198,7 +200,7 @@ pub fn add_in(unit: &Unit, parts: &mut NodeParts, class: u32) -> Result<u32, Hea
     }
 }
 
-/// Gives the object whose request has this number its value. The answer is its slot.
+/// Gives a value to the object whose outstanding request has this number, and returns its slot.
 pub fn settle_in(unit: &Unit, parts: &mut NodeParts, number: u32, value: Value) -> u32
     requires whole { NodeInvariant parts.old }
     requires unit { IsOfUnit unit.now (node_of parts.old) }

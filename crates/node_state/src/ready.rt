@@ -1,4 +1,4 @@
-//! One bit a slot, in words of 64, by which a look-up passes over slots that are not ready.
+//! A bit for each slot, in words of 64, so that a search skips slots that are not ready.
 ghost use Rattle.std.specs.Prelude.{◌≡◌, ◌≢◌, ℕ, ◌*◌, ◌+◌, ◌/◌, ◌^◌, ◌<◌, ◌≤◌, cond, false, length, take, replicate, slice_set, IfOk, MatchOption};
 ghost use Rattle.std.specs.Int.{bit_at};
 ghost use Rattle.node_state.specs.Bits.{first_bit_from};
@@ -7,10 +7,10 @@ ghost use Rattle.node_state.specs.Words.{AreClear, IsFirstSet};
 use std::alloc::{AllocError, Global};
 use std::marker::Model;
 
-/// How many slots share a word.
+/// The number of slots in a word.
 const WORD: u32 = 64;
 
-/// The slots of a node, each ready or not. Contracts see one truth value a slot, in order.
+/// The set of ready slots of a node. Contracts see a truth value for each slot, in order.
 #[derive(Drop)]
 pub struct ReadySet {
     slots: u32,
@@ -30,7 +30,7 @@ impl Model for ReadySet {
 }
 
 impl ReadySet {
-    /// So many slots, none of them ready. Err where the memory is not had.
+    /// Makes a set for `slots` slots, none of them ready. Returns `Err` if memory runs out.
     pub fn make(alloc: Global, slots: u32) -> Result<ReadySet, AllocError>
         ensures { IfOk result (λ r. r ≡ replicate slots false) }
     {
@@ -38,7 +38,7 @@ impl ReadySet {
         Ok(ReadySet { slots, words })
     }
 
-    /// Makes a slot ready, or not.
+    /// Sets whether a slot is ready.
     pub fn set(&mut self, slot: u32, ready: bool)
         requires { slot < length self.old }
         ensures { self.new ≡ slice_set self.old slot ready }
@@ -47,8 +47,8 @@ impl ReadySet {
         self.words[place] = with_bit(self.words[place], slot % WORD, ready);
     }
 
-    /// The least ready slot from `from` on, below `end`; `None` exactly where there is none. Takes no memory.
-    /// It looks at one word for each 64 slots, up to the first with a ready slot.
+    /// The least ready slot from `from` on, below `end`. None exactly if there is none. It reads one word for each 64
+    /// slots, up to the first word with a ready slot.
     pub fn first_within(&self, from: u32, end: u32) -> Option<u32>
         requires { end ≤ length self.now }
         ensures { result ≡ first_bit_from from (take end self.now) }
@@ -63,7 +63,7 @@ impl ReadySet {
     }
 }
 
-/// The word with one of its bits set, or clear.
+/// The word with this bit set or cleared.
 fn with_bit(word: u64, place: u32, ready: bool) -> u64
     requires { place < 64 }
     ensures same { bit_at result place ≡ cond ready 1 0 }
@@ -73,7 +73,7 @@ fn with_bit(word: u64, place: u32, ready: bool) -> u64
     if ready { word | bit } else { word & !bit }
 }
 
-/// The least set bit from `from` on that stands in the same word.
+/// The least set bit from `from` on in the same word.
 fn first_in_word(words: &[u64], from: u32) -> Option<u32>
     requires { from / 64 < length words.now }
     ensures { MatchOption result (AreClear words.now from (from / 64 * 64 + 64)) (λ slot. IsFirstSet words.now from slot) }

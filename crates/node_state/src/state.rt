@@ -1,4 +1,4 @@
-//! The parts of a node, and the bits that say which objects can step.
+//! The parts of a node, and the bits of its ready slots.
 ghost use Rattle.std.specs.Prelude.{◌≡◌, ◌<◌, length};
 ghost use Rattle.code_semantics.specs.Proper.{IsProper};
 ghost use Rattle.code_semantics.specs.StepInstructions.{FitsUnit, IsAtStep};
@@ -19,8 +19,9 @@ use object_interp::can_step_alone;
 use rendezvous_protocol::Outstanding;
 use run_types::{Error, List};
 
-/// What a node has. For each slot there is the error that its object has met, the node to which its last request for a
-/// new object went, and whether it can step; for each class the number of objects that were made of it.
+/// The state of a node. For each slot, `faults` has the run-time error of its object, and `ready` says whether it can
+/// step. `goals` has the node to which the last request of the slot for a new object went. For each class of the unit,
+/// `made` counts the objects that the node's objects have made. `last` is the slot that stepped last.
 #[derive(Drop)]
 pub struct NodeParts {
     pub id: u32,
@@ -35,7 +36,7 @@ pub struct NodeParts {
     pub made: List<u32>,
 }
 
-/// Whether the object of a slot can make a step with the messages that are there.
+/// Reports whether the object of a slot can make a step with the messages that have arrived.
 fn can_step_now(unit: &Unit, parts: &NodeParts, slot: u32) -> bool
     requires proper { IsProper unit.now }
     requires slot { slot < length parts.now.heap.objects }
@@ -50,7 +51,8 @@ fn can_step_now(unit: &Unit, parts: &NodeParts, slot: u32) -> bool
     first_possible(unit, &parts.heap, &parts.mailbox, slot).is_some()
 }
 
-/// Whether the object of a slot can go: no request of it is out, it has met no error, and it can make a step.
+/// Reports whether a slot is ready: it has no outstanding request, its object has met no error, and the object can make
+/// a step.
 fn can_go_now(unit: &Unit, parts: &NodeParts, slot: u32) -> bool
     requires proper { IsProper unit.now }
     requires slot { slot < length parts.now.heap.objects }
@@ -70,7 +72,7 @@ fn can_go_now(unit: &Unit, parts: &NodeParts, slot: u32) -> bool
     can_step_now(unit, parts, slot)
 }
 
-/// Sets the bit of a slot.
+/// Updates the ready bit of a slot. Every change of a slot ends with it.
 pub fn refresh(unit: &Unit, parts: &mut NodeParts, slot: u32)
     requires proper { IsProper unit.now }
     requires slot { slot < length parts.old.heap.objects }

@@ -1,4 +1,5 @@
--- What is known where an instruction is done: its operands are there, what it names is there, and the next place is one of the code.
+-- The premises of an instruction hold: its operands and the things that it names exist, and the next place is in the
+-- code.
 use Rattle.std.proofs.Common.{◌≡◌, inl, refl, sym, ap, ◌∙◌, subst, IsTrue, ℕ, zero, suc, ◌+◌, ◌-◌, ◌<◌, ◌≤◌, ◌^◌, List, [], ◌∷◌, length, Some, None, is_some, get_or, arith}
 use Rattle.std.specs.Prelude.{slice_get, slice_set}
 use Rattle.std.proofs.lemmas.Option.{get_or_from_slice_get}

@@ -1,4 +1,5 @@
--- What the local step of an instruction leaves has an innermost frame in code of its class, and brought to a step instruction it is the definition's.
+-- After a local transition the innermost frame is in code of its class, and its silent instructions lead to the object
+-- of the definition.
 use Rattle.std.proofs.Common.{◌≡◌, inl, inr, refl, sym, ap, ◌∙◌, subst, ℕ, suc, ◌+◌, List, [], ◌∷◌, length, Option, Some, None, Bool, true, false, length-set, arith}
 use Rattle.std.specs.Prelude.{slice_get, slice_set, if◌then◌else◌, take}
 use Rattle.run_types.specs.declared.types.NameId.{NameId}

@@ -1,4 +1,4 @@
--- Where an object asks for something, and what it becomes when that is done.
+-- The instructions at which an object makes a request, and the object after the request was done.
 use Rattle.std.proofs.Common.{◌≡◌, inl, inr, refl, sym, ap, ◌∙◌, subst, IsTrue, ℕ, zero, suc, ◌+◌, ◌-◌, ◌<◌, ◌≤◌, ◌^◌, List, [], ◌∷◌, length, map, Option, Some, None, is_some, Bool, true, false, not, arith}
 use Rattle.std.specs.Prelude.{slice_get, if◌then◌else◌, ◌==◌, ◌||◌, is_none}
 use Rattle.std.specs.List.{list_any}

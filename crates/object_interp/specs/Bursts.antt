@@ -1,4 +1,4 @@
--- A burst: local steps of one object, one after the other.
+-- A burst: local transitions of one object, one after the other.
 use Rattle.std.specs.Prelude.{◌≡◌, ℕ, zero, suc, ◌+◌, ◌-◌, ◌*◌, ◌<◌, length, Bool, true, false, ◌&&◌, if◌then◌else◌, nat_le}
 use Rattle.run_types.specs.declared.frames.CodeObject.{CodeObject}
 use Rattle.code_semantics.specs.declared.unit.Unit.{Unit as Code}
@@ -14,7 +14,7 @@ use Rattle.object_interp.specs.Offers.{need_of}
 abbrev pub name_in : HeapOf → ℕ → ℕ
 name_in h slot = h.node * 65536 + slot
 
--- how many frames the object of a slot may have: those that it has, and those that are free
+-- the number of frames that the object of a slot may have: its own and the free ones
 abbrev pub room_in : HeapOf → ℕ → ℕ
 room_in h slot = h.most_frames + length (object_at h slot).frames - frames_used h
 
@@ -22,19 +22,19 @@ abbrev pub is_local : Kind → Bool
 is_local C.Local = true
 is_local _ = false
 
--- whether the object of the name o makes a local step, and has then no more frames than there is room for
+-- whether the object named o makes a local transition, and has room for its frames after it
 abbrev pub can_step : Code → ℕ → ℕ → CodeObject → Bool
 can_step u o room x = is_local (code_kind u x) && nat_le (length (code_stepped u o x).frames) room
 
--- how many such steps follow one another, at most so many, and the object after them
+-- the number of such transitions in a row, at most q, and the object after them
 abbrev pub burst_from : Code → ℕ → ℕ → ℕ → CodeObject → ℕ × CodeObject
 burst_from u o room zero x = (0, x)
 burst_from u o room (suc q) x =
     let r = burst_from u o room q (code_stepped u o x) in
     if can_step u o room x then (suc r.0, r.1) else (0, x)
 
--- the answer of a burst, with the heap after it: the steps that were made; or what is at hand where that is no local step; or that the first step is a call for which there
--- is no frame
+-- The answer of a burst, with the heap after it: the number of transitions; the request of the current instruction, if
+-- that makes no local transition; or that the first transition is a call and no frame is free.
 abbrev pub IsBurst : Code → HeapOf → ℕ → ℕ → Burst → HeapOf → Type 0
 IsBurst u h slot q (B.Local n) new =
     let r = burst_from u (name_in h slot) (room_in h slot) q (object_at h slot) in

@@ -1,4 +1,4 @@
--- What an object becomes before the silent instructions after it are run.
+-- The object after an instruction, before the silent instructions after it are run.
 use Rattle.std.specs.Prelude.{◌≡◌, ℕ, suc, Bool, true, false, nat_lt, ◌<◌, ◌≤◌, ◌^◌, List, [], ◌∷◌, length, Option, Some, None, if◌then◌else◌, slice_set}
 use Rattle.run_types.specs.declared.types.Value.{Value}
 use Rattle.run_types.specs.declared.types.Value.TheVariants as V
@@ -20,26 +20,26 @@ use Rattle.object_interp.specs.Tops.{over}
 abbrev pub branched : Frame → ℕ → Frame
 branched f a = record f { at = if is_true (top f.operands) then suc f.at else a; operands = below f.operands }
 
--- a frame at the next place, with this value in place of its last n operands
+-- a frame at the next place, with this value instead of its last n operands
 abbrev pub replaced : Frame → ℕ → Value → Frame
 replaced f n v = next f (v ∷ dropped n f.operands)
 
--- an own call
+-- the object after a call of its own method
 abbrev pub entered : CodeObject → Frame → List Frame → Option Numbered → CodeObject
 entered x f fs None = x
 entered x f fs (Some m) =
     over x (begun m (taken m.code.params f.operands []) S.Own) (next f (dropped m.code.params f.operands) ∷ fs)
 
--- the frame under a method that is done
+-- the frame g below a method f that has ended
 abbrev pub handed_on : Frame → Frame → Frame
 handed_on f g = if is_own f.serves then record g { operands = top f.operands ∷ g.operands } else g
 
--- a method that is done
+-- the object after its method f has ended
 abbrev pub ended : CodeObject → Frame → List Frame → CodeObject
 ended x f [] = x
 ended x f (g ∷ gs) = over x (handed_on f g) gs
 
--- the local step of an instruction
+-- the object after the local transition of an instruction
 abbrev pub moved : Option ClassCode → ℕ → CodeObject → Frame → List Frame → Instr → CodeObject
 moved k o x f fs (I.LoadI n) = over x (next f (nth x.vars n ∷ f.operands)) fs
 moved k o x f fs (I.LoadT n) = over x (next f (nth f.temps n ∷ f.operands)) fs
@@ -54,13 +54,13 @@ moved k o x f fs (I.Call m) = entered x f fs (method_named k m)
 moved k o x f fs I.Ret = ended x f fs
 moved k o x f fs _ = x
 
--- the frame is the same after the local step, or another one with the same code
+-- the local transition stays in its frame, so the code is the same
 abbrev pub stays_in_frame : Instr → Bool
 stays_in_frame (I.Call m) = false
 stays_in_frame I.Ret = false
 stays_in_frame _ = true
 
--- what goes on after it was done
+-- the object after the request of its instruction was done
 abbrev pub gone : CodeObject → Frame → List Frame → Instr → CodeObject
 gone x f fs I.Write = over x (next f (below f.operands)) fs
 gone x f fs (I.WriteText s) = over x (next f f.operands) fs
@@ -70,7 +70,7 @@ gone x f (g ∷ gs) I.Ret = over x g gs
 gone x f fs I.Post = over x (next (record f { serves = S.Sender }) f.operands) fs
 gone x f fs _ = x
 
--- the instruction is no call, or a frame is free
+-- whether the instruction is not a call, or a frame is free
 abbrev pub call_fits : HeapOf → Instr → Bool
 call_fits h (I.Call m) = nat_lt (frames_used h) h.most_frames
 call_fits h _ = true
@@ -80,7 +80,7 @@ abbrev pub RunsTo : HeapOf → ℕ → Option Frame → Bool → HeapOf → Type
 RunsTo h slot None ran new = (ran ≡ false) × (new ≡ h)
 RunsTo h slot (Some g) ran new = (ran ≡ true) × (new ≡ put_top h slot g)
 
--- what is needed to go on: the operands, the next place, and a frame under one that is done
+-- the premises of continuing: the operands, the next place, and a frame below one that has ended
 abbrev pub Passes : CodeObject → Instr → Type 0
 Passes x I.Write = (suc (top_in x.frames).at < 2 ^ 32) × (0 < length (top_in x.frames).operands)
 Passes x (I.WriteText s) = suc (top_in x.frames).at < 2 ^ 32

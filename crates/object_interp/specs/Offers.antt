@@ -1,4 +1,4 @@
--- What an object of code offers where it answers or selects, and what it needs, as the calls of the interpreter tell it.
+-- The alternatives that an object of code offers at an answer or a select, and its request, in the interpreter's types.
 use Rattle.std.specs.Prelude.{ℕ, zero, suc, ◌==◌, List, [], ◌∷◌, length, Option, Some, None, is_none, Bool, true, false, ◌&&◌, if◌then◌else◌, slice_get}
 use Rattle.std.specs.Option.{unwrap_or}
 use Rattle.std.specs.List.{list_any}
@@ -20,7 +20,7 @@ use Rattle.object_interp.specs.declared.types.Need.TheVariants as N
 use Rattle.object_interp.specs.declared.types.Hand.{Hand}
 use Rattle.object_interp.specs.declared.types.Hand.TheVariants as H
 
--- the alternatives of the instruction at hand; an answer is one open alternative
+-- the alternatives of the current instruction; an answer is one open alternative
 abbrev pub instr_offers : Frame → Option Instr → List Offered
 instr_offers f (Some (I.Answer names)) = record { is_open = true; answer = Some names } ∷ []
 instr_offers f (Some (I.Select alts)) = offers alts (taken (length alts) f.operands [])
@@ -33,7 +33,7 @@ frames_offers k (f ∷ fs) = instr_offers f (slice_get (code_of k f.method) f.at
 abbrev pub offers_at : Code → CodeObject → List Offered
 offers_at u x = frames_offers (slice_get u.classes x.class) x.frames
 
--- the alternative of this number, from 1
+-- the alternative of this number, counted from 1
 abbrev pub offer_at : List Offered → ℕ → Option Offered
 offer_at os zero = None
 offer_at os (suc i) = slice_get os i
@@ -57,7 +57,7 @@ abbrev pub answers_to : Option (List NameId) → NameId → Bool
 answers_to None m = false
 answers_to (Some names) m = is_one_of names m
 
--- what an object of this kind needs; a class is told by its place
+-- the request of an object of this kind; a class is given by its index
 abbrev pub need_of : Code → Kind → Need
 need_of u C.Finished = N.Halted
 need_of u C.Local = N.Halted
@@ -74,14 +74,14 @@ abbrev pub hand_of : Code → Kind → Hand
 hand_of u C.Local = H.Local
 hand_of u k = H.At (need_of u k)
 
--- whether it steps whatever messages are there, with nothing to choose
+-- whether the object makes a step without a message and without a choice
 abbrev pub steps_alone : Kind → Bool
 steps_alone C.Finished = false
 steps_alone (C.Answer names) = false
 steps_alone (C.Select alts) = false
 steps_alone _ = true
 
--- it is at a select
+-- the object is at a select
 abbrev pub IsSelecting : Kind → Type 0
 IsSelecting (C.Select alts) = Unit {0}
 IsSelecting _ = ⊥

@@ -1,4 +1,4 @@
--- An object that was just placed, brought to a step instruction.
+-- A new object after its silent instructions were run, so that it is at a step instruction.
 use Rattle.std.specs.Prelude.{List, [], ◌∷◌, Option, slice_get}
 use Rattle.code_semantics.specs.declared.unit.ClassCode.{ClassCode}
 use Rattle.code_semantics.specs.declared.unit.Unit.{Unit as Code}
@@ -10,6 +10,6 @@ abbrev pub frames_settled : Option ClassCode → CodeObject → List Frame → C
 frames_settled k x [] = x
 frames_settled k x (f ∷ fs) = at_rest k x f fs
 
--- the object with the silent instructions at hand run
+-- the object after the silent instructions from its current place
 abbrev pub settled_at : Code → CodeObject → CodeObject
 settled_at u x = frames_settled (slice_get u.classes x.class) x x.frames

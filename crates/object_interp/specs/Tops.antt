@@ -1,4 +1,4 @@
--- The frame of an object that is under way, and the instruction at which it stands.
+-- The innermost frame of an object, its code, and its current instruction.
 use Rattle.std.specs.Prelude.{◌≡◌, List, ◌∷◌, Option, Some, slice_get}
 use Rattle.code_semantics.specs.declared.unit.Instr.{Instr}
 use Rattle.code_semantics.specs.declared.unit.ClassCode.{ClassCode}
@@ -18,7 +18,7 @@ class_in u x = slice_get u.classes x.class
 abbrev pub code_in : Code → CodeObject → List Instr
 code_in u x = code_of (class_in u x) (top_in x.frames).method
 
--- the instruction at hand
+-- the current instruction
 abbrev pub instr_in : Code → CodeObject → Option Instr
 instr_in u x = slice_get (code_in u x) (top_in x.frames).at
 
@@ -26,7 +26,7 @@ instr_in u x = slice_get (code_in u x) (top_in x.frames).at
 abbrev pub over : CodeObject → Frame → List Frame → CodeObject
 over x f fs = record x { frames = f ∷ fs }
 
--- it has a frame, and the innermost stands in code of its class
+-- The object has a frame, and the innermost frame is in code of its class.
 pub record HasTop (u : Code) (x : CodeObject) : Type 0 where
   pub class : ClassCode
   pub is_class : class_in u x ≡ Some class

@@ -1,4 +1,4 @@
-//! What an object offers where it answers or selects.
+//! The alternatives of an object at an answer or a select.
 ghost use Rattle.std.specs.Prelude.{◌≡◌, ◌-◌, ◌<◌, ◌≤◌, [], Some, length, slice_get, is_some, IsTrue};
 ghost use Rattle.std.specs.Option.{option_copied};
 ghost use Rattle.run_types.specs.Values.{is_true as holds};
@@ -11,7 +11,7 @@ use crate::moves::is_true;
 use code_semantics::{AltCode, Instr};
 use node_heap::Heap;
 
-/// Whether the guard of alternative `place`, from 0, of `count` is true.
+/// Reports whether the guard of alternative `place` of `count`, counted from 0, is true.
 fn is_open(heap: &Heap, slot: u32, count: u32, place: u32) -> bool
     requires slot { slot < length heap.now.objects }
     requires enough { count ≤ length (top_at heap.now slot).operands }
@@ -22,7 +22,7 @@ fn is_open(heap: &Heap, slot: u32, count: u32, place: u32) -> bool
     is_true(guard)
 }
 
-/// The alternative of this number, from 1, if it exists and is open.
+/// The alternative of this number, counted from 1, if it exists and is open.
 pub(crate) fn open_alt<'a>(
     heap: &Heap,
     slot: u32,
@@ -44,7 +44,7 @@ pub(crate) fn open_alt<'a>(
     }
 }
 
-/// Goes to the list of the alternative of this number, from 1, of a select, and else to the next place.
+/// Goes to the code of alternative `alt`, counted from 1, of a select. At any other instruction goes to the next place.
 pub(crate) fn choose(heap: &mut Heap, slot: u32, instr: &Instr, alt: u32)
     requires slot { slot < length heap.old.objects }
     requires frame { 0 < length (object_at heap.old slot).frames }

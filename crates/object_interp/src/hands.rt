@@ -1,4 +1,4 @@
-//! What an object does next.
+//! The next action of an object.
 ghost use Rattle.std.specs.Prelude.{◌≡◌, ◌<◌, ◌≤◌, List, [], Some, length, if◌then◌else◌};
 ghost use Rattle.std.specs.List.{list_any};
 ghost use Rattle.run_types.specs.Values.{is_bool, is_true as holds, not_bool};
@@ -20,14 +20,14 @@ use node_heap::Heap;
 use run_types::operators::Answer;
 use run_types::{Error, Item, Op, Serves, Value};
 
-/// A language error is met.
+/// A run-time error.
 fn fault(error: Error) -> Hand
     ensures { result ≡ Hand.At (Need.Fault error) }
 {
     Hand::At(Need::Fault { error })
 }
 
-/// At an operator: a local transition, or the error that it makes of its operands.
+/// The action at an operator: a local transition, or the run-time error that its operands cause.
 fn operator_hand(heap: &Heap, slot: u32, op: Op) -> Hand
     requires slot { slot < length heap.now.objects }
     requires enough { arity op ≤ length (top_at heap.now slot).operands }
@@ -40,7 +40,7 @@ fn operator_hand(heap: &Heap, slot: u32, op: Op) -> Hand
     }
 }
 
-/// At a branch on this condition.
+/// The action at a branch on this condition.
 fn branch_hand(condition: Value) -> Hand
     ensures { (u : Code) → result ≡ hand_of u (if is_bool condition then C.Local else C.Fault Error.NilOperand) }
 {
@@ -50,7 +50,7 @@ fn branch_hand(condition: Value) -> Hand
     }
 }
 
-/// At the end of the value of a method that serves this one.
+/// The action at the end of a method's value: a return to its caller, or a local transition.
 fn return_hand(serves: Serves, value: Value) -> Hand
     ensures { (u : Code) → result ≡ hand_of u (return_kind serves value) }
 {
@@ -64,7 +64,7 @@ fn return_hand(serves: Serves, value: Value) -> Hand
     }
 }
 
-/// Whether one of the last `count` operands is no truth value.
+/// Reports whether one of the last `count` operands is not a truth value.
 fn has_wrong_guard(heap: &Heap, slot: u32, count: u32) -> bool
     requires slot { slot < length heap.now.objects }
     requires enough { count ≤ length (top_at heap.now slot).operands }
@@ -79,7 +79,7 @@ fn has_wrong_guard(heap: &Heap, slot: u32, count: u32) -> bool
     false
 }
 
-/// Whether one of the last `count` operands is true.
+/// Reports whether one of the last `count` operands is true.
 fn has_open_guard(heap: &Heap, slot: u32, count: u32) -> bool
     requires slot { slot < length heap.now.objects }
     requires enough { count ≤ length (top_at heap.now slot).operands }
@@ -94,7 +94,7 @@ fn has_open_guard(heap: &Heap, slot: u32, count: u32) -> bool
     false
 }
 
-/// At a select of `count` alternatives.
+/// The action at a select of `count` alternatives.
 fn select_hand(heap: &Heap, slot: u32, count: u32) -> Hand
     requires slot { slot < length heap.now.objects }
     requires enough { count ≤ length (top_at heap.now slot).operands }
@@ -109,7 +109,7 @@ fn select_hand(heap: &Heap, slot: u32, count: u32) -> Hand
     }
 }
 
-/// What is done at the instruction at hand.
+/// The action at the current instruction.
 pub(crate) fn hand_at(unit: &Unit, heap: &Heap, slot: u32, instr: &Instr) -> Hand
     requires proper { IsProper unit.now }
     requires slot { slot < length heap.now.objects }
@@ -153,7 +153,8 @@ pub(crate) fn hand_at(unit: &Unit, heap: &Heap, slot: u32, instr: &Instr) -> Han
     }
 }
 
-/// Whether a select of `count` alternatives meets an error: a guard is no truth value, or none is true.
+/// Reports whether a select of `count` alternatives causes a run-time error: a guard is not a truth value, or none is
+/// true.
 fn select_fails(heap: &Heap, slot: u32, count: u32) -> bool
     requires slot { slot < length heap.now.objects }
     requires enough { count ≤ length (top_at heap.now slot).operands }
@@ -165,7 +166,7 @@ fn select_fails(heap: &Heap, slot: u32, count: u32) -> bool
     !has_open_guard(heap, slot, count)
 }
 
-/// Whether a step is made at the instruction at hand whatever messages are there, with nothing to choose.
+/// Reports whether the current instruction makes a step without a message and without a choice.
 #[inline]
 pub(crate) fn alone_at(unit: &Unit, heap: &Heap, slot: u32, instr: &Instr) -> bool
     requires proper { IsProper unit.now }

@@ -21,7 +21,7 @@ use code_semantics::{Instr, Unit};
 use node_heap::{Heap, HeapFull};
 use run_types::{Args, List, NameId, Serves, Value};
 
-/// The answer of a burst that is over after `done` steps, where a call is at hand and no frame is free.
+/// The answer of a burst that ends after `done` steps at a call for which no frame is free.
 fn stopped_full(done: u32) -> Burst
     ensures { result ≡ (if done == 0 then Burst.FramesFull else Burst.Local done) }
 {
@@ -32,7 +32,7 @@ fn stopped_full(done: u32) -> Burst
     }
 }
 
-/// The answer of a burst that is over after `done` steps, where no local transition is at hand.
+/// The answer of a burst that ends after `done` steps at an instruction that makes no local transition.
 fn stopped_at(unit: &Unit, heap: &Heap, slot: u32, instr: &Instr, done: u32) -> Burst
     requires proper { IsProper unit.now }
     requires slot { slot < length heap.now.objects }
@@ -50,9 +50,10 @@ fn stopped_at(unit: &Unit, heap: &Heap, slot: u32, instr: &Instr, done: u32) -> 
     }
 }
 
-/// Makes local transitions of the slot's object, each with the silent instructions after it, until `quantum` are made
-/// or the next one is not local or is a call for which no frame is free. No step is made, and the answer tells why,
-/// where the first is so. It is not inlined, so that its loop has the registers of the processor for itself.
+/// Makes local transitions of the slot's object, and runs the silent instructions after each. Requires a positive
+/// quantum. It stops after `quantum` transitions, at an instruction that makes none, or at a call for which no frame is
+/// free. If it makes no transition, the answer says why. It is not inlined, so that its loop has the processor's
+/// registers for itself.
 #[inline(never)]
 pub fn burst(unit: &Unit, heap: &mut Heap, slot: u32, quantum: u32) -> Burst
     requires proper { IsProper unit.now }
@@ -78,7 +79,7 @@ pub fn burst(unit: &Unit, heap: &mut Heap, slot: u32, quantum: u32) -> Burst
     Burst::Local { steps: quantum }
 }
 
-/// What the slot's object does next.
+/// The next action of the slot's object, which is at a step instruction.
 pub fn at_hand(unit: &Unit, heap: &Heap, slot: u32) -> Hand
     requires proper { IsProper unit.now }
     requires slot { slot < length heap.now.objects }
@@ -89,8 +90,8 @@ pub fn at_hand(unit: &Unit, heap: &Heap, slot: u32) -> Hand
     hand_at(unit, heap, slot, instr_at(unit, heap, slot))
 }
 
-/// Whether the slot's object makes a step whatever messages are there, with nothing to choose: it is not over, and
-/// neither answers nor selects. The instruction at hand tells it, but at a select.
+/// Reports whether the slot's object makes a step without a message and without a choice. Its body is then not over. It
+/// is at no answer, and at a select only if the guards cause an error.
 #[inline]
 pub fn can_step_alone(unit: &Unit, heap: &Heap, slot: u32) -> bool
     requires proper { IsProper unit.now }
@@ -102,7 +103,7 @@ pub fn can_step_alone(unit: &Unit, heap: &Heap, slot: u32) -> bool
     alone_at(unit, heap, slot, instr_at(unit, heap, slot))
 }
 
-/// Runs the silent instructions at hand, up to a step instruction: for a slot that was just placed.
+/// Runs the silent instructions of an object that was just placed, up to a step instruction.
 pub fn to_step(unit: &Unit, heap: &mut Heap, slot: u32)
     requires proper { IsProper unit.now }
     requires slot { slot < length heap.old.objects }
@@ -114,8 +115,8 @@ pub fn to_step(unit: &Unit, heap: &mut Heap, slot: u32)
     settle(unit, heap, slot);
 }
 
-/// The methods that alternative `alt` answers, from 1; an answer has the one alternative 1. None exactly where that
-/// alternative is plain, is not open, or does not exist.
+/// The methods that alternative `alt`, counted from 1, answers. An answer is the single alternative 1. None exactly if
+/// the alternative is plain, is not open, or does not exist.
 pub fn answer_names<'a>(
     unit: &'a Unit,
     heap: &Heap,
@@ -141,7 +142,7 @@ pub fn answer_names<'a>(
     }
 }
 
-/// Whether alternative `alt`, from 1, exists, is plain and is open.
+/// Reports whether alternative `alt`, counted from 1, exists, is plain and is open.
 pub fn plain_alt(unit: &Unit, heap: &Heap, slot: u32, alt: u32) -> bool
     requires proper { IsProper unit.now }
     requires slot { slot < length heap.now.objects }
@@ -158,7 +159,8 @@ pub fn plain_alt(unit: &Unit, heap: &Heap, slot: u32, alt: u32) -> bool
     }
 }
 
-/// The number of alternatives at hand: 1 at an answer, and 0 where the object neither answers nor selects.
+/// The number of alternatives of the current instruction, at most 64: 1 at an answer, and 0 at neither answer nor
+/// select.
 pub fn alts(unit: &Unit, heap: &Heap, slot: u32) -> u32
     requires proper { IsProper unit.now }
     requires slot { slot < length heap.now.objects }
@@ -174,7 +176,8 @@ pub fn alts(unit: &Unit, heap: &Heap, slot: u32) -> u32
     }
 }
 
-/// Hands the object the value of its request for a new object or of its call: the operands go and the value stands.
+/// Gives the object the value of its call, or the name of its new object. Requires an object at a call or at a request
+/// for a new object. The value replaces the operands of the request. Then the silent instructions are run.
 pub fn resume_with(unit: &Unit, heap: &mut Heap, slot: u32, value: Value)
     requires proper { IsProper unit.now }
     requires slot { slot < length heap.old.objects }
@@ -190,8 +193,8 @@ pub fn resume_with(unit: &Unit, heap: &mut Heap, slot: u32, value: Value)
     settle(unit, heap, slot);
 }
 
-/// Goes on after a message was sent, a value written, or a value given back. A frame that gave its value back at its
-/// last instruction is taken away; at the end of its value alone it stays, and serves no one.
+/// Continues after an asynchronous message was sent, a value was written, or a value was returned. A frame that
+/// returned its value at its last instruction is removed. A frame that returned it earlier stays, and serves no caller.
 pub fn go_on(unit: &Unit, heap: &mut Heap, slot: u32)
     requires proper { IsProper unit.now }
     requires slot { slot < length heap.old.objects }
@@ -207,7 +210,7 @@ pub fn go_on(unit: &Unit, heap: &mut Heap, slot: u32)
     settle(unit, heap, slot);
 }
 
-/// Goes into the plain alternative `alt`, from 1, which is open.
+/// Chooses the plain alternative `alt` of a select, counted from 1. Requires that it is open.
 pub fn pick(unit: &Unit, heap: &mut Heap, slot: u32, alt: u32)
     requires proper { IsProper unit.now }
     requires slot { slot < length heap.old.objects }
@@ -224,8 +227,9 @@ pub fn pick(unit: &Unit, heap: &mut Heap, slot: u32, alt: u32)
     settle(unit, heap, slot);
 }
 
-/// Begins to serve the method by alternative `alt`, from 1, which answers it. `Frames`, and nothing else, comes exactly
-/// where as many frames are in use as the limit; nothing is then changed.
+/// Starts a method through alternative `alt`, counted from 1. Requires an open alternative that answers the method.
+/// `serves` says who receives the value. Returns `Frames`, and changes nothing, exactly if the limit of frames is in
+/// use. No other error occurs.
 pub fn enter(
     unit: &Unit,
     heap: &mut Heap,

@@ -1,4 +1,4 @@
-//! One instruction, and the silent ones after it.
+//! One instruction, and the silent instructions after it.
 ghost use Rattle.std.specs.Prelude.{◌≡◌, ◌<◌, ◌≤◌, ◌+◌, ◌^◌, ◌≢◌, true, false, suc, [], ◌∷◌, IsTrue, Some, None, IfSome, IfNone, is_some, length, slice_get, take};
 ghost use Rattle.run_types.specs.Values.{is_bool, is_prefix, is_true as holds};
 ghost use Rattle.run_types.specs.Operated.{outcome_of};
@@ -23,7 +23,7 @@ use node_heap::{FrameHead, Heap, HeapFull};
 use run_types::operators::{Answer, on_ints, operate, operate_one};
 use run_types::{Args, NameId, Op, Serves, Value};
 
-/// Whether a value is true.
+/// Reports whether a value is true.
 pub(crate) fn is_true(value: Value) -> bool
     ensures { result ≡ holds value }
 {
@@ -33,7 +33,7 @@ pub(crate) fn is_true(value: Value) -> bool
     }
 }
 
-/// Pops a condition, and goes to the next place where it is true, and else to the place `to`.
+/// Pops a condition. Goes to the next place if it is true, and else to the place `to`.
 fn go(heap: &mut Heap, slot: u32, to: u32)
     requires slot { slot < length heap.old.objects }
     requires place { suc (top_at heap.old slot).at < 2 ^ 32 }
@@ -46,7 +46,7 @@ fn go(heap: &mut Heap, slot: u32, to: u32)
     }
 }
 
-/// Goes where a branch leads, if its condition is a truth value, and tells whether it is.
+/// Makes a branch if its condition is a truth value, and reports whether it is.
 fn branch(heap: &mut Heap, slot: u32, to: u32) -> bool
     requires slot { slot < length heap.old.objects }
     requires place { suc (top_at heap.old slot).at < 2 ^ 32 }
@@ -64,7 +64,7 @@ fn branch(heap: &mut Heap, slot: u32, to: u32) -> bool
     }
 }
 
-/// How many operands an operator takes.
+/// The number of operands of an operator.
 fn operands_of(op: Op) -> u32
     ensures { result ≡ arity op }
 {
@@ -74,7 +74,7 @@ fn operands_of(op: Op) -> u32
     }
 }
 
-/// What an operator makes of the last operands.
+/// The outcome of an operator for the last operands.
 pub(crate) fn outcome(heap: &Heap, slot: u32, op: Op) -> Answer
     requires slot { slot < length heap.now.objects }
     requires enough { arity op ≤ length (top_at heap.now slot).operands }
@@ -86,8 +86,8 @@ pub(crate) fn outcome(heap: &Heap, slot: u32, op: Op) -> Answer
     }
 }
 
-/// Puts what an operator makes of the last operands in their place, if it makes a value, and tells whether it does. It is
-/// not inlined: its answer stands in memory, for which each call of a function that it is inlined in would pay.
+/// Replaces the last operands by the value of an operator, and reports whether it gives one. It is not inlined: its
+/// answer is in memory, and a function that inlined it would pay for that at each call.
 #[inline(never)]
 fn apply_any(heap: &mut Heap, slot: u32, op: Op) -> bool
     requires slot { slot < length heap.old.objects }
@@ -107,7 +107,7 @@ fn apply_any(heap: &mut Heap, slot: u32, op: Op) -> bool
     }
 }
 
-/// The same of an infix operator, whose operands are integers nearly always.
+/// Does the same for an infix operator, whose operands are nearly always integers.
 fn apply_infix(heap: &mut Heap, slot: u32, op: Op) -> bool
     requires infix { is_prefix op ≡ false }
     requires slot { slot < length heap.old.objects }
@@ -130,7 +130,7 @@ fn apply_infix(heap: &mut Heap, slot: u32, op: Op) -> bool
     }
 }
 
-/// The same of any operator.
+/// Does the same for any operator.
 fn apply(heap: &mut Heap, slot: u32, op: Op) -> bool
     requires slot { slot < length heap.old.objects }
     requires place { suc (top_at heap.old slot).at < 2 ^ 32 }
@@ -146,7 +146,7 @@ fn apply(heap: &mut Heap, slot: u32, op: Op) -> bool
     }
 }
 
-/// Gives the parameters of the innermost frame, whose temps are all nil, the values in turn.
+/// Sets the parameters of the innermost frame to the arguments, in order. Requires that its temps are all nil.
 fn fill(heap: &mut Heap, slot: u32, params: u32, args: &Args)
     requires slot { slot < length heap.old.objects }
     requires frame { 0 < length (object_at heap.old slot).frames }
@@ -161,8 +161,8 @@ fn fill(heap: &mut Heap, slot: u32, params: u32, args: &Args)
     }
 }
 
-/// Puts the frame of a method, of this place in its class, on top of the slot's, with these arguments: a missing one
-/// is nil, and a further one is dropped. A frame is free.
+/// Pushes the frame of the class's method `place`, with these arguments. A missing argument is nil, and a surplus one
+/// is dropped. Requires a free frame.
 pub(crate) fn begin(
     heap: &mut Heap,
     slot: u32,
@@ -188,7 +188,7 @@ pub(crate) fn begin(
     }
 }
 
-/// Calls the own method of this name, with the last operands as its arguments.
+/// Calls the object's own method of this name, with the last operands as its arguments. Requires a free frame.
 fn call(unit: &Unit, heap: &mut Heap, slot: u32, name: NameId)
     requires proper { IsProper unit.now }
     requires slot { slot < length heap.old.objects }
@@ -208,7 +208,7 @@ fn call(unit: &Unit, heap: &mut Heap, slot: u32, name: NameId)
     begin(heap, slot, place, method, &args, Serves::Own);
 }
 
-/// Leaves a method that is done: its value is handed to the frame under it, where the object called it itself.
+/// Ends a method. If the object called it itself, its value goes to the frame below.
 pub(crate) fn end(heap: &mut Heap, slot: u32)
     requires slot { slot < length heap.old.objects }
     requires frames { 1 < length (object_at heap.old slot).frames }
@@ -224,7 +224,7 @@ pub(crate) fn end(heap: &mut Heap, slot: u32)
     }
 }
 
-/// Whether the end of a method's value in the innermost frame gives no value back to a caller.
+/// Reports whether no caller waits for the value of the innermost frame.
 fn is_unserved(heap: &Heap, slot: u32) -> bool
     requires slot { slot < length heap.now.objects }
     ensures { (value : _) → result ≡ is_local (return_kind (top_at heap.now slot).serves value) }
@@ -235,7 +235,7 @@ fn is_unserved(heap: &Heap, slot: u32) -> bool
     }
 }
 
-/// Leaves a method that is done, if it serves no caller, and tells whether it does.
+/// Ends a method if no caller waits for its value, and reports whether it did.
 fn leave(heap: &mut Heap, slot: u32) -> bool
     requires slot { slot < length heap.old.objects }
     requires frames { 1 < length (object_at heap.old slot).frames }
@@ -253,7 +253,7 @@ fn leave(heap: &mut Heap, slot: u32) -> bool
     }
 }
 
-/// Whether the instruction is no call, or a frame is free.
+/// Reports whether the instruction is not a call, or a frame is free.
 pub(crate) fn frame_is_free(heap: &Heap, instr: &Instr) -> bool
     ensures free { result ≡ call_fits heap.now instr.now }
     ensures within { frames_used heap.now ≤ heap.now.most_frames }
@@ -265,7 +265,7 @@ pub(crate) fn frame_is_free(heap: &Heap, instr: &Instr) -> bool
     }
 }
 
-/// Does the local step of the instruction at hand, if it makes one, and tells whether it does.
+/// Makes the local transition of the current instruction, if it makes one, and reports whether it does.
 fn act(unit: &Unit, heap: &mut Heap, slot: u32, instr: &Instr) -> bool
     requires proper { IsProper unit.now }
     requires slot { slot < length heap.old.objects }
@@ -317,7 +317,7 @@ fn act(unit: &Unit, heap: &mut Heap, slot: u32, instr: &Instr) -> bool
     true
 }
 
-/// Goes past the end of a method's value, and tells whether it does: where the frame serves no caller.
+/// Passes the end of a method's value if no caller waits for it, and reports whether it does.
 fn pass_value(heap: &mut Heap, slot: u32) -> bool
     requires slot { slot < length heap.old.objects }
     requires next { (g : Frame) → post_passed (top_at heap.old slot) (top_at heap.old slot).serves ≡ Some g → g.at < 2 ^ 32 }
@@ -332,7 +332,7 @@ fn pass_value(heap: &mut Heap, slot: u32) -> bool
     }
 }
 
-/// Runs the instruction if it is silent, and tells whether it is.
+/// Runs the instruction if it is silent, and reports whether it is.
 fn run_silent(heap: &mut Heap, slot: u32, instr: &Instr) -> bool
     requires slot { slot < length heap.old.objects }
     requires next { (g : Frame) → silent (top_at heap.old slot) (Some instr.now) ≡ Some g → (g.at < 2 ^ 32) × (length g.operands ≤ 64) }
@@ -349,8 +349,8 @@ fn run_silent(heap: &mut Heap, slot: u32, instr: &Instr) -> bool
     true
 }
 
-/// Runs the silent instructions at hand, in the code of the innermost frame. It is inlined, since most steps have none
-/// after them.
+/// Runs the silent instructions from the current place, in the code of the innermost frame. It is inlined, since most
+/// steps have none after them.
 #[inline(always)]
 fn settle_in(heap: &mut Heap, slot: u32, code: &[Instr])
     requires slot { slot < length heap.old.objects }
@@ -365,7 +365,7 @@ fn settle_in(heap: &mut Heap, slot: u32, code: &[Instr])
     }
 }
 
-/// Runs the silent instructions at hand.
+/// Runs the silent instructions from the current place.
 pub(crate) fn settle(unit: &Unit, heap: &mut Heap, slot: u32)
     requires proper { IsProper unit.now }
     requires slot { slot < length heap.old.objects }
@@ -376,7 +376,7 @@ pub(crate) fn settle(unit: &Unit, heap: &mut Heap, slot: u32)
     settle_in(heap, slot, code);
 }
 
-/// The code of the innermost frame after a local step, in a frame with this code before it.
+/// The code of the innermost frame after a local transition; `code` is the code of the frame before it.
 fn code_after<'a>(
     unit: &'a Unit,
     heap: &Heap,
@@ -395,8 +395,9 @@ fn code_after<'a>(
     }
 }
 
-/// Makes the local step at hand, if the instruction makes one, and runs the silent instructions after it. The answer is
-/// the code of the innermost frame then. None where the instruction makes no local step; nothing is then changed.
+/// Makes the local transition of the current instruction, if it makes one, and runs the silent instructions after it.
+/// Returns the code of the innermost frame after that. Returns None, and changes nothing, if the instruction makes no
+/// local transition.
 pub(crate) fn step<'a>(
     unit: &'a Unit,
     heap: &mut Heap,
@@ -424,7 +425,7 @@ pub(crate) fn step<'a>(
     Some(code)
 }
 
-/// How many operands a request for a new object or a call takes.
+/// The number of operands that a request for a new object or a call takes.
 pub(crate) fn operands_asked(instr: &Instr) -> u32
     requires { asked (Some instr.now) < 2 ^ 32 }
     ensures { result ≡ asked (Some instr.now) }
@@ -435,7 +436,7 @@ pub(crate) fn operands_asked(instr: &Instr) -> u32
     }
 }
 
-/// Goes on after what the instruction at hand asks for was done.
+/// Continues after the request of the current instruction was done.
 pub(crate) fn pass(heap: &mut Heap, slot: u32, instr: &Instr)
     requires slot { slot < length heap.old.objects }
     requires frame { 0 < length (object_at heap.old slot).frames }

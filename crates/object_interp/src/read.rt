@@ -1,4 +1,4 @@
-//! What stands at hand: the code of the innermost frame, and its operands.
+//! The current instruction of an object, the code of its innermost frame, and its operands.
 ghost use Rattle.std.specs.Prelude.{◌≡◌, ◌<◌, ◌≤◌, ◌+◌, ◌*◌, [], IsTrue, Some, is_some, length, slice_get};
 ghost use Rattle.std.specs.Option.{unwrap_or};
 ghost use Rattle.run_types.specs.Operands.{taken, dropped, top};
@@ -35,7 +35,7 @@ pub(crate) fn code_at<'a>(unit: &'a Unit, heap: &Heap, slot: u32) -> &'a [Instr]
     }
 }
 
-/// The instruction at hand.
+/// The current instruction.
 pub(crate) fn instr_at<'a>(unit: &'a Unit, heap: &Heap, slot: u32) -> &'a Instr
     requires proper { IsProper unit.now }
     requires slot { slot < length heap.now.objects }
@@ -45,7 +45,7 @@ pub(crate) fn instr_at<'a>(unit: &'a Unit, heap: &Heap, slot: u32) -> &'a Instr
     &code_at(unit, heap, slot)[heap.at(slot) as usize]
 }
 
-/// The operand of the innermost frame under the last `above`.
+/// The operand of the innermost frame below the last `above`.
 pub(crate) fn value_at(heap: &Heap, slot: u32, above: u32) -> Value
     requires slot { slot < length heap.now.objects }
     requires place { above < length (top_at heap.now slot).operands }
@@ -73,11 +73,12 @@ pub(crate) fn name_at(heap: &Heap, slot: u32) -> u32
     requires { slot < length heap.now.objects }
     ensures { result ≡ name_in heap.now slot }
 {
+    // The minimum is `slot`. It shows the prover that the slot is below 65536.
     let placed = heap.objects();
     object_name(heap.node(), slot.min(placed))
 }
 
-/// The place of the first class of this name, or 0 where the unit has none.
+/// The index of the first class of this name, or 0 if the unit has none.
 pub(crate) fn class_place(unit: &Unit, name: NameId) -> u32
     requires { IsProper unit.now }
     ensures { result ≡ unwrap_or (class_from 0 unit.now.classes name) 0 }
@@ -90,7 +91,7 @@ pub(crate) fn class_place(unit: &Unit, name: NameId) -> u32
     0
 }
 
-/// The place of the class's first method of this name, which it has.
+/// The index of the class's first method of this name. Requires that it exists.
 pub(crate) fn method_place(class: &ClassCode, name: NameId) -> u32
     requires few { length class.now.methods ≤ 64 }
     requires has { IsTrue (is_some (method_named (Some class.now) name)) }

@@ -1,9 +1,10 @@
-//! What the interpreter tells.
+//! The answers of the interpreter.
 use run_types::{Args, Error, Item, NameId, Value};
 
-/// What an object needs that stands at an instruction which makes no local transition: a new object of the class at
-/// this place of the unit; a call or a message; a write; a message to answer, also as an alternative of a select; to
-/// give a value back to its caller, whose request has this number; to meet an error; or nothing, since its body is over.
+/// The request of an object whose current instruction makes no local transition. It requests a new object of the class
+/// with this index in the unit, a call, an asynchronous message, or a write. `Answer` and `Select` wait for a message
+/// or a choice. `Return` gives a value to the caller whose request has this number. `Fault` is a run-time error.
+/// `Halted`: the body is over.
 #[derive(Clone, Copy)]
 pub enum Need {
     New {
@@ -35,15 +36,15 @@ pub enum Need {
     Halted,
 }
 
-/// What is at hand: a local transition, or what the object needs.
+/// The next action of an object: a local transition, or a request.
 #[derive(Clone, Copy)]
 pub enum Hand {
     Local,
     At(Need),
 }
 
-/// What a burst did: so many local transitions; none, since the instruction at hand makes none; or none, since the
-/// first one is a call and no frame is free.
+/// The outcome of a burst: `steps` local transitions; none, since the current instruction makes none; or none, since it
+/// is a call and no frame is free.
 #[derive(Clone, Copy)]
 pub enum Burst {
     Local { steps: u32 },

@@ -1,4 +1,4 @@
--- A placement that a text is for the classes of a unit suits the unit.
+-- The placement that a text represents for the classes of a unit fits the unit.
 use Rattle.std.proofs.Common.{◌≡◌, refl, subst, ℕ, ◌+◌, ◌*◌, ◌≤◌, List, [], ◌∷◌, length, Option, Some, None, Ok, Err, Result, IfSome, unwrap_or, Bool, true, false, ◌&&◌, nat_le, arith}
 use Rattle.std.proofs.lemmas.Bool.Decides.{nat_tests}
 use Rattle.text_scan.specs.Text.{Text}

@@ -1,4 +1,4 @@
--- Worked placements, computed: of a unit with the classes A and B, B having 3 variables.
+-- Examples of placements, computed for a unit with the classes A and B, of which B has 3 variables.
 use Rattle.std.proofs.Common.{◌≡◌, refl, ℕ, [], ◌∷◌}
 use Rattle.std.specs.Prelude.{Ok, Err, codes}
 use Rattle.run_types.specs.declared.types.Place.TheVariants as P

@@ -1,4 +1,4 @@
--- The forms of a placement's lines, and their faults.
+-- The forms of the lines of a placement, and the fault of a line.
 use Rattle.std.specs.Prelude.{ℕ, ◌+◌, List, [], ◌∷◌, Option, Some, None, is_some, Bool, true, false, ◌&&◌, not, nat_eq, nat_le, nat_lt, bytes_eq, codes}
 use Rattle.run_types.specs.Partial.{◌>>=◌, only_if, unless}
 use Rattle.run_types.specs.Table.{is_among, name_of}
@@ -20,12 +20,12 @@ use Rattle.placement_reader.specs.declared.form.Count.TheVariants as C
 use Rattle.placement_reader.specs.declared.form.Spot.{Spot}
 use Rattle.placement_reader.specs.declared.form.Spot.TheVariants as S
 
--- the place of the first class whose name has this number
+-- the index of the first class whose name has this number
 abbrev pub class_numbered : ℕ → ℕ → List ClassCode → Option ℕ
 class_numbered at n [] = None
 class_numbered at n (k ∷ ks) = elim (nat_eq k.name.0 n) [ true ↦ Some at | false ↦ class_numbered (at + 1) n ks ]
 
--- the place of the class of this name; the table of names has each text once
+-- the index of the class of this name; the table of names has each text once
 abbrev pub class_named : Code → Text → Option ℕ
 class_named u w = elim (is_among u.names w) [ true ↦ class_numbered 0 (name_of u.names w) u.classes | false ↦ None ]
 
@@ -65,7 +65,7 @@ form_of_four u w a b c = elim (bytes_eq w (codes "route")) [
   | false ↦ only_if (bytes_eq w (codes "place") && bytes_eq b (codes "at")) (number_of c >>= λ node. Some (form.Placed (class_named u a) (S.At node)))
 ]
 
--- the form of a line, whatever its numbers and its class
+-- the form of a line, without a check of its numbers and its class
 abbrev pub form_of : Code → List Text → Option Form
 form_of u [] = None
 form_of u (w ∷ []) = None
@@ -85,7 +85,7 @@ is_kind C.Cells C.Objects = false
 is_kind C.Cells C.Frames = false
 is_kind C.Cells C.Cells = true
 
--- the number that the first line of this kind gives
+-- the number of the first line of this kind
 abbrev pub number_in : Count → List Form → Option ℕ
 number_in k [] = None
 number_in k (form.Mesh w h ∷ fs) = number_in k fs
@@ -98,7 +98,7 @@ abbrev pub is_class : ℕ → Option ℕ → Bool
 is_class c None = false
 is_class c (Some d) = nat_eq d c
 
--- where the first line on this class puts it
+-- the place of the first line on this class
 abbrev pub spot_in : ℕ → List Form → Option Spot
 spot_in c [] = None
 spot_in c (form.Mesh w h ∷ fs) = spot_in c fs
@@ -125,7 +125,7 @@ routes_of (form.Placed c s ∷ fs) = routes_of fs
 routes_of (form.Cut a b ∷ fs) = routes_of fs
 routes_of (form.Routed a g b ∷ fs) = record { at = a; goal = g; next = b } ∷ routes_of fs
 
--- the greatest number of a kind
+-- the largest number of a kind
 abbrev pub most : Count → ℕ
 most C.Objects = 4096
 most C.Frames = 16384
@@ -139,7 +139,8 @@ is_there nodes (S.At n) = nat_lt n nodes
 is_there nodes S.Same = true
 is_there nodes S.Spread = true
 
--- the fault of least number of a form behind a mesh of this width, on this line and after these forms; the mesh itself stands before all of them
+-- the first fault of a form on this line, after a mesh line of this width and after these forms; the mesh line comes
+-- before all of them
 abbrev pub fault_of : ℕ → ℕ → ℕ → List Form → Form → Option PlacementFault
 fault_of w nodes line earlier (form.Mesh v h) = Some (F.Repeated line)
 fault_of w nodes line earlier (form.Counted k n) =
@@ -164,7 +165,7 @@ place_of (S.At n) = P.At n
 place_of S.Same = P.Same
 place_of S.Spread = P.Spread
 
--- where a class is put; where no line says it, with its creator
+-- the place of a class; if no line gives it, objects are on the node of their creator
 abbrev pub place_or_same : Option Spot → Place
 place_or_same None = P.Same
 place_or_same (Some s) = place_of s

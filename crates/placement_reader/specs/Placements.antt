@@ -1,4 +1,4 @@
--- The placement that a text is, or its first fault.
+-- The placement that a text represents, or its first fault.
 use Rattle.std.specs.Prelude.{ℕ, ◌+◌, ◌*◌, List, [], ◌∷◌, ◌++◌, length, map, Option, Some, None, unwrap_or, Result, Ok, Err, true, false, ◌&&◌, nat_le}
 use Rattle.std.specs.List.{range_with_len}
 use Rattle.std.specs.Option.{option_or}
@@ -36,7 +36,7 @@ forms_of u earlier (k ∷ ks) = forms_of u (with_form earlier (form_of u k.words
 abbrev pub places_of : ℕ → List Form → List Place
 places_of count fs = map (λ c. place_or_same (spot_in c fs)) (range_with_len 0 count)
 
--- the placement that the forms are, with what stands where there is no line
+-- the placement of the forms, with default values for missing lines
 abbrev pub value_of : Code → ℕ → ℕ → List Form → Placement
 value_of u w h fs =
     record {
@@ -50,12 +50,12 @@ value_of u w h fs =
       routes = routes_of fs;
     }
 
--- no pair of nodes without route
+-- each pair of nodes has a route
 abbrev pub connected : Option Pair → Placement → Result Placement PlacementFault
 connected None p = Ok p
 connected (Some k) p = Err (F.NoRoute k.0 k.1)
 
--- at most 16,777,216 words
+-- at most 16,777,216 words of memory
 abbrev pub fitted : ℕ → Placement → Result Placement PlacementFault
 fitted vars p = elim (nat_le (words p vars) 16777216) [ true ↦ connected (without_route p) p | false ↦ Err (F.TooLarge (words p vars)) ]
 
@@ -63,7 +63,7 @@ abbrev pub fitted_or_fault : Option PlacementFault → ℕ → Placement → Res
 fitted_or_fault None vars p = fitted vars p
 fitted_or_fault (Some f) vars p = Err f
 
--- the fault of the first line that is kept: it is a mesh, each number from 1 to 8
+-- the fault of the first content line: it is a mesh line, and each number is from 1 to 8
 abbrev pub mesh_fault : ℕ → Option Form → Option PlacementFault
 mesh_fault line None = Some (F.BadLine line)
 mesh_fault line (Some (form.Mesh w h)) = elim (is_from_one 8 w && is_from_one 8 h) [ true ↦ None | false ↦ Some (F.OutOfRange line) ]
@@ -72,7 +72,7 @@ mesh_fault line (Some (form.Placed c s)) = Some (F.BadLine line)
 mesh_fault line (Some (form.Cut a b)) = Some (F.BadLine line)
 mesh_fault line (Some (form.Routed a g b)) = Some (F.BadLine line)
 
--- the mesh line, and the lines behind it
+-- the placement of the mesh line and the lines after it
 abbrev pub with_mesh : Code → ℕ → Option Form → List Kept → Result Placement PlacementFault
 with_mesh u line None ks = Err (F.BadLine line)
 with_mesh u line (Some (form.Mesh w h)) ks =
@@ -82,7 +82,7 @@ with_mesh u line (Some (form.Placed c s)) ks = Err (F.BadLine line)
 with_mesh u line (Some (form.Cut a b)) ks = Err (F.BadLine line)
 with_mesh u line (Some (form.Routed a g b)) ks = Err (F.BadLine line)
 
--- the placement of the kept lines of a text with so many lines
+-- the placement of the content lines of a text with this number of lines
 abbrev pub placement_of_lines : Code → ℕ → List Kept → Result Placement PlacementFault
 placement_of_lines u count [] = Err (F.BadLine (count + 1))
 placement_of_lines u count (k ∷ ks) = with_mesh u k.line (form_of u k.words) ks

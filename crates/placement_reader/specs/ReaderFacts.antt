@@ -1,4 +1,4 @@
--- What the functions of the reader say: forms without fault, the mesh line, and the fault that is found.
+-- The facts of the functions of the reader: forms without fault, the mesh line, and the reported fault.
 use Rattle.std.specs.Prelude.{ℕ, ◌<◌, List, [], ◌∷◌, ◌≡◌, Option, Some, None}
 use Rattle.code_semantics.specs.Suits.{IsFromTo, IsOfMesh}
 use Rattle.placement_reader.specs.declared.form.Form.{Form}
@@ -9,7 +9,7 @@ use Rattle.placement_reader.specs.declared.fault.PlacementFault.TheVariants as F
 use Rattle.placement_reader.specs.declared.read.Mesh.{Mesh}
 use Rattle.placement_reader.specs.Placements.{mesh_fault}
 
--- a form without fault: its number is in its range, or its nodes are of the mesh
+-- the facts of a form without fault: its number is in its range, or its nodes are in the mesh
 abbrev pub IsWellFormed : ℕ → Form → Type 0
 IsWellFormed nodes (form.Mesh w h) = Unit {0}
 IsWellFormed nodes (form.Counted k n) = IsFromTo 1 (most k) n
@@ -21,14 +21,14 @@ abbrev pub AreWellFormed : ℕ → List Form → Type 0
 AreWellFormed nodes [] = Unit {0}
 AreWellFormed nodes (f ∷ fs) = IsWellFormed nodes f × AreWellFormed nodes fs
 
--- the first line is this mesh
+-- The first line is this mesh line.
 pub record IsMeshLine (line : ℕ) (f : Option Form) (m : Mesh) : Type 0 where
   pub form_is : f ≡ Some (form.Mesh m.width m.height)
   pub faultless : mesh_fault line f ≡ None
   pub width : IsFromTo 1 8 m.width
   pub height : IsFromTo 1 8 m.height
 
--- The fault is this one, unless memory ran out.
+-- The fault is the reported one; of `Memory` nothing is said.
 abbrev pub ReportsFault : PlacementFault → Option PlacementFault → Type 0
 ReportsFault (F.BadLine line) told = told ≡ Some (F.BadLine line)
 ReportsFault (F.UnknownClass line) told = told ≡ Some (F.UnknownClass line)

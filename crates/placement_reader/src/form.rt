@@ -8,7 +8,7 @@ use code_semantics::{ClassCode, Unit};
 use run_types::NameId;
 use text_scan::{UpToFour, number, split_up_to_four};
 
-/// What is counted at each node.
+/// The kind of a limit of each node.
 #[derive(Clone, Copy)]
 pub enum Count {
     Objects,
@@ -16,7 +16,7 @@ pub enum Count {
     Cells,
 }
 
-/// Where new objects of a class stand, the node's number being as written.
+/// The place of new objects of a class, with the number of the node as written.
 #[derive(Clone, Copy)]
 pub enum Spot {
     At(u64),
@@ -24,7 +24,8 @@ pub enum Spot {
     Spread,
 }
 
-/// A line of a placement, its numbers being as written. `class` is the class's place in the unit, where it is there.
+/// A line of a placement, with its numbers as written. `class` is the index of the class in the unit, if the unit has
+/// it.
 #[derive(Clone, Copy)]
 pub enum Form {
     Mesh { width: u64, height: u64 },
@@ -34,7 +35,7 @@ pub enum Form {
     Routed { at: u64, goal: u64, next: u64 },
 }
 
-/// The first class whose name has this number.
+/// The index of the first class whose name has this number.
 fn class_numbered(classes: &[ClassCode], name: NameId) -> Option<usize>
     ensures { result ≡ class_numbered 0 name.0 classes.now }
 {
@@ -46,7 +47,7 @@ fn class_numbered(classes: &[ClassCode], name: NameId) -> Option<usize>
     None
 }
 
-/// The class of this name.
+/// The index of the class of this name.
 fn class_named(unit: &Unit, word: &[u8]) -> Option<usize>
     ensures { result ≡ class_named unit.now word.now }
 {
@@ -130,7 +131,7 @@ fn form_of_four(unit: &Unit, word: &[u8], first: &[u8], second: &[u8], third: &[
     None
 }
 
-/// The form of a line, whatever its numbers and its class.
+/// The form of a line, without a check of its numbers and its class. None if it has none.
 pub fn form_in(unit: &Unit, line: &[u8]) -> Option<Form>
     ensures { result ≡ form_of unit.now (words line.now) }
 {

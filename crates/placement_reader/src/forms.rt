@@ -1,4 +1,4 @@
-//! What the lines so far say.
+//! Look-ups in the lines so far.
 ghost use Rattle.std.specs.Prelude.{◌≡◌, ◌≤◌, ◌<◌, [], ◌∷◌, length, IfOk};
 ghost use Rattle.std.specs.List.{range_with_len};
 ghost use Rattle.code_semantics.specs.Suits.{IsFromTo, IsOfMesh};
@@ -31,7 +31,7 @@ fn is_class(class: usize, named: Option<usize>) -> bool
     }
 }
 
-/// The number that a line gives this kind.
+/// The number that a line gives for this kind.
 fn number_of_line(kind: Count, form: Form) -> Option<u64>
     ensures { result ≡ number_in kind (form ∷ []) }
 {
@@ -49,7 +49,7 @@ fn number_of_line(kind: Count, form: Form) -> Option<u64>
     }
 }
 
-/// The number that the first line of this kind gives.
+/// The number of the first line of this kind. None if there is none.
 pub fn number_in(kind: Count, forms: &[Form]) -> Option<u64>
     ensures { result ≡ number_in kind forms.now }
 {
@@ -62,7 +62,7 @@ pub fn number_in(kind: Count, forms: &[Form]) -> Option<u64>
     None
 }
 
-/// Whether a line cuts this link.
+/// Reports whether the line cuts this link.
 fn is_cut_by_line(from: u64, to: u64, form: Form) -> bool
     ensures { result ≡ is_cut (cuts_of (form ∷ [])) from to }
 {
@@ -75,7 +75,7 @@ fn is_cut_by_line(from: u64, to: u64, form: Form) -> bool
     }
 }
 
-/// Whether a line cuts this link.
+/// Reports whether one of the lines cuts this link.
 pub fn is_cut(from: u64, to: u64, forms: &[Form]) -> bool
     ensures { result ≡ is_cut (cuts_of forms.now) from to }
 {
@@ -87,7 +87,7 @@ pub fn is_cut(from: u64, to: u64, forms: &[Form]) -> bool
     false
 }
 
-/// Where a line leads what is for the goal at this node.
+/// The next node that a line gives for this node and goal.
 fn route_of_line(at: u64, goal: u64, form: Form) -> Option<u64>
     ensures { result ≡ route_of (routes_of (form ∷ [])) at goal }
 {
@@ -106,7 +106,7 @@ fn route_of_line(at: u64, goal: u64, form: Form) -> Option<u64>
     }
 }
 
-/// Where the first such line leads what is for the goal at this node.
+/// The next node of the first route for this node and goal. None if there is none.
 pub fn route_in(at: u64, goal: u64, forms: &[Form]) -> Option<u64>
     ensures { result ≡ route_of (routes_of forms.now) at goal }
 {
@@ -119,7 +119,7 @@ pub fn route_in(at: u64, goal: u64, forms: &[Form]) -> Option<u64>
     None
 }
 
-/// Where a line puts this class.
+/// The place that a line gives for this class.
 fn spot_of_line(class: usize, form: Form) -> Option<Spot>
     ensures { result ≡ spot_in class (form ∷ []) }
 {
@@ -134,7 +134,7 @@ fn spot_of_line(class: usize, form: Form) -> Option<Spot>
     }
 }
 
-/// Where the first line on this class puts it.
+/// The place of the first line on this class. None if there is none.
 pub fn spot_in(class: usize, forms: &[Form]) -> Option<Spot>
     ensures { result ≡ spot_in class forms.now }
 {

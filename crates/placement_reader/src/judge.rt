@@ -1,4 +1,4 @@
-//! The fault of a line.
+//! The check of a line.
 ghost use Rattle.std.specs.Prelude.{◌≡◌, ◌≤◌, ◌<◌, ◌∷◌, IfOk, IfErr, Some, None};
 ghost use Rattle.text_scan.specs.Lines.{words};
 ghost use Rattle.placement_reader.specs.declared.form.Form.TheVariants.{Counted, Cut, Placed, Routed};
@@ -11,7 +11,7 @@ use crate::forms::{is_cut, number_in, route_in, spot_in};
 use code_semantics::Unit;
 use mesh_routing::are_neighbours;
 
-/// The greatest number of a kind, for each node.
+/// The largest number of a kind, for each node.
 pub fn most(kind: Count) -> u64
     ensures { result ≡ most kind }
 {
@@ -22,7 +22,7 @@ pub fn most(kind: Count) -> u64
     }
 }
 
-/// Whether a number is from 1 to another.
+/// Reports whether `number` is from 1 to `high`.
 pub fn is_from_one(high: u64, number: u64) -> bool
     ensures { result ≡ is_from_one high number }
 {
@@ -132,7 +132,8 @@ fn route_fault(
     None
 }
 
-/// The fault of a form behind the mesh line, after these forms, where the mesh has this width and so many nodes.
+/// The fault of a form after the mesh line and after the forms `earlier`, in a mesh of this width and this number of
+/// nodes.
 fn fault_of(
     width: u64,
     nodes: u64,
@@ -155,7 +156,7 @@ fn fault_of(
     }
 }
 
-/// The form of a line behind the mesh line, or its fault.
+/// The form of a line after the mesh line, or its fault. Requires a positive width and at most 64 nodes.
 pub fn judge(
     unit: &Unit,
     width: u64,

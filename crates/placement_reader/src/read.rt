@@ -22,7 +22,7 @@ use std::alloc::{AllocError, Global};
 use table_routing::{Table, TableFault};
 use text_scan::{count_lines, next_content_line};
 
-/// The most words that the nodes may take together.
+/// The largest number of words of memory of all nodes together.
 const MOST_WORDS: u64 = 16777216;
 
 /// The width and the height of a mesh.
@@ -32,7 +32,7 @@ struct Mesh {
     height: u32,
 }
 
-/// The mesh of the first line that is kept, or that line's fault.
+/// The mesh of the first content line, or the fault of that line.
 fn mesh_in(unit: &Unit, number: u32, line: &[u8]) -> Result<Mesh, PlacementFault>
     ensures ok { IfOk result (λ m. IsMeshLine number (form_of unit.now (line_words line.now)) m) }
     ensures err { IfErr result (λ f. mesh_fault number (form_of unit.now (line_words line.now)) ≡ Some f) }
@@ -51,7 +51,7 @@ fn mesh_in(unit: &Unit, number: u32, line: &[u8]) -> Result<Mesh, PlacementFault
     }
 }
 
-/// The forms of all lines from one on, or the fault of the first line that has one.
+/// The forms of all lines from byte `from` on, which begins line `line`, or the fault of the first line that has one.
 fn gather(
     alloc: Global,
     unit: &Unit,
@@ -93,7 +93,7 @@ fn gather(
     Ok(forms)
 }
 
-/// Where new objects of a class stand.
+/// The place of new objects of a class; `Same` if no line gives it.
 fn place_in(class: usize, nodes: u64, forms: &[Form]) -> Place
     requires small { nodes ≤ 64 }
     requires fine { AreWellFormed nodes forms.now }
@@ -108,7 +108,7 @@ fn place_in(class: usize, nodes: u64, forms: &[Form]) -> Place
     }
 }
 
-/// A place for each class.
+/// The places of all classes.
 fn places_in(
     alloc: Global,
     count: usize,
@@ -172,7 +172,7 @@ fn routes_in(alloc: Global, nodes: u64, forms: &[Form]) -> Result<List<Route>, A
     Ok(routes)
 }
 
-/// The number of a kind; `absent` where no line gives it.
+/// The number of a kind, or `absent` if no line gives it.
 fn number_or(kind: Count, forms: &[Form], absent: u32) -> u32
     requires absent { IsFromTo 1 (most kind) absent }
     requires fine { IfSome (number_in kind forms.now) (λ n. IsFromTo 1 (most kind) n) }
@@ -185,7 +185,7 @@ fn number_or(kind: Count, forms: &[Form], absent: u32) -> u32
     }
 }
 
-/// The placement that the forms of all lines are.
+/// The placement of the forms of all lines.
 fn placement_in(
     alloc: Global,
     unit: &Unit,
@@ -219,7 +219,7 @@ fn placement_in(
     })
 }
 
-/// The greatest number of variables of a class.
+/// The largest number of variables of a class.
 fn most_vars(classes: &[ClassCode]) -> u32
     ensures { result ≡ most_vars classes.now }
 {
@@ -232,7 +232,7 @@ fn most_vars(classes: &[ClassCode]) -> u32
     most
 }
 
-/// The words that the nodes take, with so many variables of an object.
+/// The words of memory that the nodes need, with `vars` variables for each object.
 fn words(placement: &Placement, vars: u32) -> u64
     requires width { IsFromTo 1 8 placement.now.width }
     requires height { IsFromTo 1 8 placement.now.height }
@@ -247,7 +247,7 @@ fn words(placement: &Placement, vars: u32) -> u64
     nodes * (objects + others)
 }
 
-/// The fault of a placement in which a pair of nodes is without route.
+/// The fault of a placement in which a pair of nodes has no route.
 fn route_fault(alloc: Global, placement: &Placement) -> Option<PlacementFault>
     requires { IsRouted placement.now }
     ensures none { IfNone result (without_route placement.now ≡ None) }
@@ -260,7 +260,8 @@ fn route_fault(alloc: Global, placement: &Placement) -> Option<PlacementFault>
     }
 }
 
-/// The placement of a text of at most 67,108,864 bytes, for the classes of a unit; or the text's first fault. It suits the unit.
+/// Parses a placement, of at most 67,108,864 bytes, for the classes of a unit. Returns the placement, which fits the
+/// unit, or the first fault of the text, or `Memory` if memory runs out.
 pub fn read_placement(alloc: Global, bytes: &[u8], unit: &Unit) -> Result<Placement, PlacementFault>
     requires { length bytes.now ≤ 67108864 }
     ensures ok { IfOk result (λ p. placement_of unit.now bytes.now ≡ Ok p) }
@@ -272,6 +273,7 @@ pub fn read_placement(alloc: Global, bytes: &[u8], unit: &Unit) -> Result<Placem
             line: count_lines(bytes) + 1,
         });
     };
+    // A `match` instead of `?` keeps the clause of the error.
     let mesh = match mesh_in(unit, first.line, &bytes[first.start..first.end]) {
         Ok(mesh) => mesh,
         Err(fault) => return Err(fault),

@@ -1,4 +1,4 @@
--- Lines of the words that a generator gives.
+-- The lines for the words of a generator.
 use Rattle.std.proofs.Common.{◌≡◌, ℕ, ◌+◌, zero, suc, ◌++◌, sym, ap, ◌∙◌, arith, append_assoc, append-nil}
 use Rattle.rand_core.specs.Steps.{first_words}
 use Rattle.rand_pcg.specs.Lcg.{Lcg}

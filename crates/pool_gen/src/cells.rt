@@ -1,4 +1,4 @@
-//! A ring of cells that pass a token on.
+//! The inputs of a ring of cells that pass a token on.
 ghost use Rattle.std.specs.Prelude.{◌≡◌, ◌≤◌, length, IfOk};
 ghost use Rattle.pool_gen.specs.Ring.{ring_placement, ring_program, ring_schedule};
 
@@ -35,7 +35,7 @@ const STREAM: u64 = 1;
 /// The number of drawn lines of a schedule.
 const DRAWN: u32 = 2000;
 
-/// The texts of three inputs.
+/// The texts of the three inputs of a run.
 #[derive(Drop)]
 pub struct Texts {
     pub program: List<u8>,
@@ -74,7 +74,8 @@ fn schedule(alloc: Global, k: u32) -> Result<List<u8>, AllocError>
     Ok(text)
 }
 
-/// The ring of `k` cells, from 2 to 1000; each text has at most 1,048,576 bytes. `AllocError`: out of memory.
+/// Makes the inputs of a ring of `k` cells, from 2 to 1000. Each text has at most 1,048,576 bytes. Returns `Err` if
+/// memory runs out.
 pub fn ring(alloc: Global, k: u32) -> Result<Texts, AllocError>
     requires { (2 ≤ k) × (k ≤ 1000) }
     ensures program { IfOk result (λ t. t.program ≡ ring_program k) }

@@ -1,4 +1,4 @@
-//! The drawn lines of a schedule.
+//! The pseudo-random lines of a schedule.
 ghost use Rattle.std.specs.Prelude.{◌≡◌, ◌<◌, ◌++◌, OnOk};
 ghost use Rattle.rand_core.specs.Steps.{first_words};
 ghost use Rattle.rand_pcg.specs.Pcg.{pcg32};
@@ -10,7 +10,8 @@ use rand_pcg::Lcg64Xsh32;
 use run_types::List;
 use std::alloc::AllocError;
 
-/// The line of a word: a turn of one of four nodes, or a link of the mesh of two rows and two columns.
+/// The line for a random word. It is a turn of one of four nodes, or a move on one of the eight links of a mesh of 2 by
+/// 2 nodes.
 fn drawn_line(word: u32) -> &'static [u8]
     ensures { result.now ≡ drawn_line word }
 {
@@ -30,7 +31,7 @@ fn drawn_line(word: u32) -> &'static [u8]
     }
 }
 
-/// Puts the lines of the generator's next `count` words behind the text.
+/// Appends the lines for the generator's next `count` words. Returns `Err` if memory runs out.
 pub fn push_drawn(
     text: &mut List<u8>,
     generator: &mut Lcg64Xsh32,

@@ -1,11 +1,11 @@
-//! Pieces of a text.
+//! Appends pieces to a text.
 ghost use Rattle.std.specs.Prelude.{◌≡◌, ◌++◌, OnOk, decimal};
 
 use itoa::Buffer;
 use run_types::List;
 use std::alloc::AllocError;
 
-/// Puts a piece behind the text.
+/// Appends a piece. Returns `Err` if memory runs out.
 pub fn push_piece(text: &mut List<u8>, piece: &[u8]) -> Result<(), AllocError>
     ensures { OnOk result (text.new ≡ text.old ++ piece.now) }
 {
@@ -15,7 +15,7 @@ pub fn push_piece(text: &mut List<u8>, piece: &[u8]) -> Result<(), AllocError>
     Ok(())
 }
 
-/// Puts the digits of a number behind the text.
+/// Appends the digits of a number. Returns `Err` if memory runs out.
 pub fn push_number(text: &mut List<u8>, number: u32) -> Result<(), AllocError>
     ensures { OnOk result (text.new ≡ text.old ++ decimal number) }
 {

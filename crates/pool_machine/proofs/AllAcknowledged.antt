@@ -1,4 +1,4 @@
--- All wires are acknowledged where each entry of their map is.
+-- All wires are acknowledged if each entry of their map is.
 use Rattle.std.proofs.Common.{◌≡◌, refl, ap, ap₂, ◌∙◌, ℕ, zero, suc, ◌==◌, [], ◌∷◌, Some, ◌&&◌}
 use Rattle.std.specs.Prelude.{slice_get}
 use Rattle.std.specs.List.{list_all}

@@ -1,4 +1,5 @@
--- How many packets entered a wire: what was handed out and what is on its link. At most one enters in an event, so there are not more than events.
+-- The packets that entered a wire are those handed out and those on its link. At most one enters in an event, so there
+-- are at most as many as events.
 use Rattle.std.proofs.Common.{◌≡◌, ◌≢◌, ◌⊎◌, inl, inr, refl, sym, ap, ap₂, subst, ◌∙◌, ℕ, ◌+◌, ◌-◌, ◌<◌, ◌≤◌, ◌==◌, List, [], ◌∷◌, length, map, Option, Some, None, is_some, Bool, true, false, if◌then◌else◌, nat_lt, arith}
 use Rattle.std.specs.Prelude.{slice_get}
 use Rattle.std.specs.FinMap.{put}

@@ -1,4 +1,4 @@
--- What an event of a machine leads to.
+-- The machine after an event.
 use Rattle.std.proofs.Common.{◌≡◌, refl, sym, ap, ap₂, subst, ◌∙◌, ℕ, ◌+◌, ◌≤◌, List, length, Option, is_some}
 use Rattle.run_types.specs.declared.types.Event.{Event}
 use Rattle.run_types.specs.declared.types.Event.TheVariants as Ev

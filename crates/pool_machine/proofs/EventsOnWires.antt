@@ -1,4 +1,5 @@
--- Where links are wires: a turn does what it does without them, a move of a link's head follows a frame with the next packet, and what else happens is told of one wire.
+-- The events of a machine whose links are wires. A turn does what it does without them. The head of a link moves with
+-- the next packet. Any other event is of one wire.
 use Rattle.std.proofs.Common.{◌≡◌, ◌≢◌, ◌⊎◌, inl, inr, refl, sym, ap, ap₂, subst, ◌∙◌, ℕ, ◌+◌, ◌==◌, List, [], ◌∷◌, map, Option, Some, None, is_some, Bool, true, false, if◌then◌else◌, nat_lt}
 use Rattle.std.specs.Prelude.{slice_get}
 use Rattle.std.specs.FinMap.{put}

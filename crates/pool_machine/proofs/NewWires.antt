@@ -1,4 +1,4 @@
--- Wires on which nothing was put: they stand for the start, and each link has one.
+-- New wires represent the start, and each link has one.
 use Rattle.std.proofs.Common.{◌≡◌, ◌≢◌, ◌⊎◌, inl, inr, refl, sym, ap, subst, ◌∙◌, ℕ, ◌+◌, ◌*◌, ◌<◌, ◌≤◌, List, [], length, map, Option, Some, None, is_some, Bool, true, false, arith}
 use Rattle.std.specs.FinMap.{put}
 use Rattle.std.specs.Option.{unwrap_or}

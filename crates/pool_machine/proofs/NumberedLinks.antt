@@ -1,4 +1,4 @@
--- Links with numbers beside their packets: what is done to the packets is done to the numbered ones; and what stays the same of the counts of a node.
+-- A change of the packets on links is the same change of the numbered packets. Some counts of a node stay the same.
 use Rattle.std.proofs.Common.{◌≡◌, ◌≢◌, refl, sym, ap, ap₂, ◌∙◌, ℕ, ◌+◌, ◌≤◌, ◌==◌, List, [], ◌∷◌, ◌++◌, length, map, Option, Some, None, Bool, true, false, not, cond, if◌then◌else◌, arith}
 use Rattle.std.specs.Option.{option_map, unwrap_or}
 use Rattle.std.specs.Ordering.{nat_cmp, eq_by_cmp, is_eq, ordering_then}

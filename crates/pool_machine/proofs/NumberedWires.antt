@@ -1,4 +1,4 @@
--- What is kept of wires with numbers beside its packets: what is done to what is kept is done to it with the numbers.
+-- A change of the stored state of wires is the same change of the state with numbered packets.
 use Rattle.std.proofs.Common.{◌≡◌, refl, sym, ap, ap₂, ◌∙◌, ℕ, zero, suc, ◌+◌, ◌-◌, ◌==◌, List, [], ◌∷◌, ◌++◌, length, map, Option, Some, None, Bool, true, false, cond, if◌then◌else◌, nat_lt}
 use Rattle.std.specs.Prelude.{slice_get, drop}
 use Rattle.std.specs.Option.{option_map, unwrap_or}

@@ -1,4 +1,4 @@
--- What an event leads to, for a machine of code: what it stands for then, and where a packet goes that was posted in it.
+-- The configuration that a machine of code represents after an event, and the link of a packet that was posted in it.
 use Rattle.std.proofs.Common.{◌≡◌, ◌≢◌, refl, sym, ap, ap₂, subst, ◌∙◌, ℕ, ◌+◌, ◌*◌, ◌<◌, ◌≤◌, ◌==◌, List, [], ◌∷◌, ◌++◌, length, Option, Some, None, Bool, true, false, if◌then◌else◌, nat_lt, arith}
 use Rattle.run_types.specs.declared.types.Event.{Event}
 use Rattle.run_types.specs.declared.types.What.{What}

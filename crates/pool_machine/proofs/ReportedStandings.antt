@@ -1,4 +1,4 @@
--- What a machine tells is so of each sound configuration that it stands for.
+-- The reports of a machine are true of each sound configuration that it represents.
 use Rattle.std.proofs.Common.{◌≡◌, ◌↔◌, refl, sym, ap, ap₂, subst, ◌∙◌, IsTrue, ℕ, zero, suc, ◌*◌, ◌<◌, ◌==◌, List, [], ◌∷◌, length, map, get_or, Option, Some, None, is_some, Bool, true, false, not, ◌&&◌, ◌||◌, cond, if◌then◌else◌, arith}
 use Rattle.std.specs.Prelude.{slice_get}
 use Rattle.std.specs.Option.{option_map, unwrap_or}

@@ -1,4 +1,4 @@
--- Searches through lists: one that has found, and one that has not.
+-- Searches through lists: one that found an item, and one that did not.
 use Rattle.std.proofs.Common.{◌≡◌, refl, sym, ap, ap₂, subst, ◌∙◌, ℕ, zero, suc, ◌+◌, ◌<◌, ◌≤◌, List, [], ◌∷◌, length, map, Option, Some, None, is_some, Bool, true, false, ◌||◌, arith, below_more}
 use Rattle.std.specs.Prelude.{slice_get}
 use Rattle.std.specs.List.{list_any}

@@ -1,4 +1,4 @@
--- The code's map of wires is the definition's: what is found, put in and changed.
+-- The map of wires in the code is the one of the definition: look-ups, insertions and changes agree.
 use Rattle.std.proofs.Common.{◌≡◌, refl, sym, ap, ◌∙◌, List, [], ◌∷◌, Option, Some, None, is_some, Bool, true, false, cond, arith}
 use Rattle.std.specs.Option.{unwrap_or}
 use Rattle.std.specs.Ordering.{eq_by_cmp}

@@ -1,4 +1,4 @@
--- Nodes and links stand for a configuration and a delay whatever their wires do: what is left out of sight here are the wires of both.
+-- Nodes and links represent a configuration and a delay whatever their wires do: the wires of both are left out.
 use Rattle.std.proofs.Common.{List, Option, None, refl}
 use Rattle.run_types.specs.declared.types.Placement.{Placement}
 use Rattle.code_semantics.specs.declared.unit.Unit.{Unit as Code}

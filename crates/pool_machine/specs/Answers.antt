@@ -1,4 +1,5 @@
--- What the calls of a machine tell, for every sound configuration of code with its delay that the machine stands for.
+-- The outcomes that a machine reports, for every sound configuration of code, with its delay, that the machine
+-- represents.
 use Rattle.std.specs.Prelude.{◌≡◌, ℕ, ◌+◌, ◌*◌, ◌<◌, length, Option, Some, Bool, true, is_some}
 use Rattle.run_types.specs.declared.types.Event.{Event}
 use Rattle.run_types.specs.declared.types.Event.TheVariants as Ev
@@ -24,24 +25,24 @@ use Rattle.pool_machine.specs.AnswerOf as O
 use Rattle.pool_machine.specs.MachineOf.{MachineOf, machine_of}
 use Rattle.pool_machine.specs.SentPackets.{moved, nothing_sent}
 
--- the node is of the mesh, or the link is
+-- the node or the link of the event is one of the mesh
 abbrev pub IsOfMesh : Placement → Event → Type 0
 IsOfMesh l (Ev.Turn n) = n < l.width * l.height
 IsOfMesh l (Ev.Link a b) = IsLink l (a, b)
 IsOfMesh l (Ev.Wire w a b) = IsLink l (a, b)
 
--- an event on a wire is asked only where links are wires
+-- an event on a wire requires that links are wires
 abbrev pub IsServed : Bool → Event → Type 0
 IsServed lossy (Ev.Turn n) = Unit {0}
 IsServed lossy (Ev.Link a b) = Unit {0}
 IsServed lossy (Ev.Wire w a b) = lossy ≡ true
 
--- the machine stands for a configuration of code with its delay, which is sound
+-- The machine represents a sound configuration of code with its delay.
 pub record MachineRepresents (m : MachineOf) (c : Config Placed) (d : Delay) : Type 0 where
   pub sound : IsSound (coded m.unit) (IsOfCode m.unit) m.placement c d
   pub stands : StandsFor (coded m.unit) m.placement (machine_of m) c d
 
--- A machine that was just made: it has done nothing, and stands for the start, with nothing on its way.
+-- A new machine: no event was made, and it represents the initial configuration, with nothing in transit.
 pub record IsStart (u : Code) (l : Placement) (wired : Bool) (m : MachineOf) : Type 0 where
   pub unit : m.unit ≡ u
   pub placement : m.placement ≡ l
@@ -51,7 +52,7 @@ pub record IsStart (u : Code) (l : Placement) (wired : Bool) (m : MachineOf) : T
   pub transitions : m.transitions ≡ 0
   pub stands : (c : Config Placed) → start (coded u) l ≡ Some c → MachineRepresents m c (nothing_sent wired)
 
--- what is the same after an event
+-- The machine after an event has the same unit, placement and kind of links, and counts the event.
 pub record IsAfter (old new : MachineOf) (e : Event) (what : What) : Type 0 where
   pub unit : new.unit ≡ old.unit
   pub placement : new.placement ≡ old.placement
@@ -60,13 +61,14 @@ pub record IsAfter (old new : MachineOf) (e : Event) (what : What) : Type 0 wher
   pub moves : new.moves ≡ old.moves + moved e what
   pub transitions : new.transitions ≡ old.transitions + length (shown what)
 
--- The event's answer is that of the configuration: its line with the next number, and the machine then stands for what is after it; or its limit, and the machine is as before.
+-- The outcome is the act of the configuration. It is the line with the next number, and the machine then represents the
+-- configuration after it. Or it is the limit, and the machine is unchanged.
 abbrev pub IsOutcome : Event → MachineOf → Answer → MachineOf → Acted Placed → Type 0
 IsOutcome e old (O.Line line) new (A.Acts w c d) = (line ≡ R.Event (old.done + 1) e w) × IsAfter old new e w × MachineRepresents new c d
 IsOutcome e old (O.Full kind node) new (A.Full k n) = (kind ≡ k) × (node ≡ n) × (new ≡ old)
 IsOutcome e old _ new _ = ⊥
 
--- where the object of this name stands, if there is one
+-- the status of the object of this name, if there is one
 abbrev pub standing_at : Code → Config Placed → Delay → ℕ → Option T.Standing
 standing_at u c d o = object_of c o >>= λ x. Some (standing (coded u) d o x)
 

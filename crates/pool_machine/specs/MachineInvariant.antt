@@ -1,4 +1,4 @@
--- What holds of the fields of a machine, and what a contract sees of them.
+-- The invariant of the fields of a machine, and the machine that contracts see of them.
 use Rattle.std.specs.Prelude.{ℕ, ◌≡◌, ◌≤◌, ◌*◌, List, Some, length, slice_get}
 use Rattle.run_types.specs.declared.types.Placement.{Placement}
 use Rattle.code_semantics.specs.declared.unit.Unit.{Unit as Code}
@@ -15,7 +15,7 @@ pub record IsEmptyNode (u : Code) (l : Placement) (i : ℕ) (n : NodeOf) : Type 
   pub node : IsNodeOf u l i n
   pub state : n.state ≡ empty_node (coded u)
 
--- so many nodes without objects, numbered from 0
+-- `size` nodes without objects, numbered from 0
 pub record AreEmpty (u : Code) (l : Placement) (size : ℕ) (nodes : List NodeOf) : Type 0 where
   pub count : length nodes ≡ size
   pub each : (i : ℕ) (n : NodeOf) → slice_get nodes i ≡ Some n → IsEmptyNode u l i n
@@ -37,9 +37,9 @@ pub record MachineInvariant (m : Inside) : Type 0 where
   pub table : m.table ≡ m.placement.now
   pub kept : WiredMachineInvariant m.unit.now m.placement.now m.nodes.items m.links (wires_in m.wires)
   pub quiet : m.quiet ≡ is_machine_quiet (coded m.unit.now) (machine_on m.nodes.items m.links.links (wires_in m.wires))
-  -- no node has made more objects than there were events
+  -- no node has made more objects of a class than there were events
   pub counts : EachCount (λ k. k ≤ m.done) m.nodes.items
-  -- and no wire more packets
+  -- no more packets have entered a wire than there were events
   pub entered : EachEntered (λ k. k ≤ m.done) (wires_in m.wires) m.links.links
   pub moves : m.moves ≤ m.done
   -- an event makes fewer than 2 ^ 32 transitions

@@ -1,4 +1,4 @@
--- What a contract sees of a machine: its unit and its placement, its nodes, the packets on its links, what it keeps of their wires, and what it has done.
+-- The machine as contracts see it: unit and placement, nodes, packets on links, stored states of wires, and counters.
 use Rattle.std.specs.Prelude.{ℕ, List, Option, map, refl}
 use Rattle.std.specs.Option.{option_map}
 use Rattle.std.specs.Coded.{Coded, code_by, coded×, coded_list, coded_option, coded_ℕ}
@@ -14,7 +14,7 @@ use Rattle.rendezvous_protocol.specs.declared.packet.Packet.{Packet}
 use Rattle.rendezvous_protocol.specs.Packets.{numbered}
 use Rattle.node_state.specs.NodeOf.{NodeOf}
 
--- what is kept of wires, by the ends of their links
+-- the stored states of wires, by the ends of their links
 abbrev pub LinkWires : Type 0
 LinkWires = List (Pair × KeptWire Packet)
 
@@ -22,11 +22,11 @@ pub record MachineOf : Type 0 where
   pub unit : Code
   pub placement : Placement
   pub nodes : List NodeOf
-  -- by the ends of a link, the head first; a link without packets has no entry
+  -- by the ends of a link, the head first; an empty link has no entry
   pub links : List (Pair × List Packet)
-  -- where links are wires
+  -- if links are wires
   pub wires : Option LinkWires
-  -- how many events were made, how many of them moved a packet off a link, and how many transitions they made
+  -- the numbers of events, of events that moved a packet off a link, and of transitions
   pub done : ℕ
   pub moves : ℕ
   pub transitions : ℕ
@@ -50,7 +50,7 @@ machine_code u l n p =
 abbrev pub numbered_link : Pair × List Packet → Pair × List NumberedPacket
 numbered_link e = (e.0, map numbered e.1)
 
--- what is kept of wires, with numbers beside the packets
+-- the stored states of wires, with numbers beside the packets
 abbrev pub numbered_frame : Frame Packet → Frame NumberedPacket
 numbered_frame f = (f.0, numbered f.1)
 
@@ -60,6 +60,6 @@ numbered_wire v = record { handed = v.handed; acked = v.acked; next = v.next; se
 abbrev pub numbered_wires : LinkWires → KeptWires
 numbered_wires ws = map (λ e. (e.0, numbered_wire e.1)) ws
 
--- the machine by the definition of nodes and links, which are wires or not
+-- the machine of the definition of nodes and links, with or without wires
 abbrev pub machine_of : MachineOf → Machine Placed
 machine_of m = record { nodes = map (λ n. n.state) m.nodes; links = map numbered_link m.links; wires = option_map numbered_wires m.wires }

@@ -1,4 +1,4 @@
--- What a machine tells of its objects.
+-- The reports of a machine on its objects: a value on its way, a class, and a run-time error.
 use Rattle.std.specs.Prelude.{ℕ, List, Option, Some, None, is_some, Bool}
 use Rattle.std.specs.List.{list_any}
 use Rattle.code_semantics.specs.declared.unit.Unit.{Unit as Code}
@@ -17,6 +17,6 @@ abbrev pub slot_class : Code → Option (Slot Placed) → Option ℕ
 slot_class u None = None
 slot_class u (Some s) = Some ((coded u).class s.state)
 
--- an object has met an error
+-- whether an object has met a run-time error
 abbrev pub has_fault : List (NodeState Placed) → Bool
 has_fault nodes = list_any (λ x. list_any (λ (s : Slot Placed). is_some s.state.fault) x.slots) nodes

@@ -1,4 +1,5 @@
--- What a machine keeps of its nodes and links from one event to the next, and what a turn and a move of a link's head do to them; its wires are left out of sight.
+-- The invariant of the nodes and links of a machine between events, and the effect of an event on them, without the
+-- wires.
 use Rattle.std.specs.Prelude.{◌≡◌, ℕ, ◌*◌, List, Some, None, true, length, map, slice_get}
 use Rattle.run_types.specs.declared.types.Placement.{Placement}
 use Rattle.code_semantics.specs.declared.unit.Unit.{Unit as Code}
@@ -22,11 +23,11 @@ use Rattle.pool_machine.specs.MachineOf.{numbered_link}
 use Rattle.pool_machine.specs.DidOf.{Did}
 use Rattle.pool_machine.specs.DidOf as D
 
--- the machine by the definition of nodes and links, whatever their wires
+-- the machine of the definition of nodes and links, without the wires
 abbrev pub machine_from : List NodeOf → List (Pair × List Packet) → Machine Placed
 machine_from nodes links = record { nodes = map (λ n. n.state) nodes; links = map numbered_link links; wires = None }
 
--- a node with this number, of the unit and the placement
+-- A node with this number is of the unit and the placement.
 pub record IsNodeOf (u : Code) (l : Placement) (i : ℕ) (n : NodeOf) : Type 0 where
   pub id : n.id ≡ i
   pub of_unit : IsOfUnit u n
@@ -36,7 +37,7 @@ pub record IsNodeOf (u : Code) (l : Placement) (i : ℕ) (n : NodeOf) : Type 0 w
 abbrev pub AreOfUnit : Code → List NodeOf → Type 0
 AreOfUnit u nodes = (i : ℕ) (n : NodeOf) → slice_get nodes i ≡ Some n → (n.id ≡ i) × IsOfUnit u n
 
--- nodes and links of the unit and the placement
+-- The nodes and links are those of the unit and the placement.
 pub record NodesAreWellFormed (u : Code) (l : Placement) (nodes : List NodeOf) (k : LinksOf Packet) : Type 0 where
   pub proper : IsProper u
   pub suits : Suits l u
@@ -47,7 +48,7 @@ pub record NodesAreWellFormed (u : Code) (l : Placement) (nodes : List NodeOf) (
   pub cells : k.cells ≡ l.cells
   pub filled : no_entry_empty k.links ≡ true
 
--- such nodes and links, with a sound configuration and its delay that they stand for where no link is a wire
+-- Such nodes and links represent a sound configuration with its delay, if no link is a wire.
 pub record NodesInvariant (u : Code) (l : Placement) (nodes : List NodeOf) (k : LinksOf Packet) : Type 0 where
   pub parts : NodesAreWellFormed u l nodes k
   pub config : Config Placed
@@ -55,16 +56,16 @@ pub record NodesInvariant (u : Code) (l : Placement) (nodes : List NodeOf) (k : 
   pub sound : IsSound (coded u) (IsOfCode u) l config delay
   pub stands : StandsFor (coded u) l (machine_from nodes k.links) config delay
 
--- the mesh of the placement
+-- The mesh is that of the placement.
 pub record IsMeshOf (l : Placement) (mesh : Mesh) : Type 0 where
   pub width : mesh.width ≡ l.width
   pub height : mesh.height ≡ l.height
 
--- each count of objects that the nodes have made has the property
+-- each count of objects that a node has made has the property
 abbrev pub EachCount : (ℕ → Type 0) → List NodeOf → Type 0
 EachCount P nodes = (i : ℕ) (n : NodeOf) → slice_get nodes i ≡ Some n → Each P n.state.made
 
--- what it tells is what the machine does by the definition, and it is then as that says
+-- the outcome is the act of the machine by the definition, and the state is the one after it
 abbrev pub IsDid : Did → List NodeOf → LinksOf Packet → List NodeOf → LinksOf Packet → MachineActed Placed → Type 0
 IsDid (D.Line what) nodes links nodes' links' (M.Acts w m) = (what ≡ w) × (machine_from nodes' links'.links ≡ m)
 IsDid (D.Full kind node) nodes links nodes' links' (M.Full k n) = (kind ≡ k) × (node ≡ n) × (nodes' ≡ nodes) × (links' ≡ links)

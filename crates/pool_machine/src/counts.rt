@@ -1,11 +1,11 @@
-//! What a machine counts of its events.
+//! The counters of a machine.
 ghost use Rattle.std.specs.Prelude.{◌≡◌, ◌<◌, ◌≤◌, ◌^◌, length};
 ghost use Rattle.mesh_semantics.specs.Record.{shown};
 ghost use Rattle.pool_machine.specs.SentPackets.{moved};
 
 use run_types::{Event, What};
 
-/// One where a packet has left a link.
+/// 1 if a packet has left a link, and else 0.
 pub(crate) fn moved_by(event: &Event, what: &What) -> u64
     ensures count { result ≡ moved event.now what.now }
     ensures one { result ≤ 1 }

@@ -31,7 +31,7 @@ use std::marker::Model;
 use table_routing::Table;
 
 /// The machine of a unit on the nodes of a placement, with the links between them. Contracts speak of every sound
-/// configuration of code with its delay that it stands for.
+/// configuration of code, with its delay, that the machine represents. Only `make` allocates.
 #[derive(Drop)]
 pub struct Machine<'a> {
     unit: &'a Unit,
@@ -41,7 +41,7 @@ pub struct Machine<'a> {
     nodes: Vec<Node>,
     links: Links<Packet>,
     wires: Option<Wires>,
-    // Whether all is quiet: so an idle event need not look at all nodes and links again.
+    // Whether the machine is quiet, so that an idle event need not search all nodes and links again.
     quiet: bool,
     done: u32,
     moves: u64,
@@ -82,7 +82,7 @@ fn all_nodes(alloc: Global, unit: &Unit, placement: &Placement) -> Result<Vec<No
     Ok(nodes)
 }
 
-/// The node of this place, or node 0 where it names none.
+/// The node of this place, or node 0 if the place has no node.
 fn node_of_place(place: &Place) -> u32
     ensures { result ≡ root_node (Some place.now) }
 {
@@ -92,7 +92,7 @@ fn node_of_place(place: &Place) -> u32
     }
 }
 
-/// The node of the root: the place of the last class, or node 0 where that names none.
+/// The node of the root object: the place of the last class, or node 0 if that has no node.
 fn root_of(places: &[Place]) -> u32
     ensures { result ≡ root_node (last_place places.now) }
 {
@@ -102,7 +102,7 @@ fn root_of(places: &[Place]) -> u32
     }
 }
 
-/// The table of a placement that has a route for each pair of nodes.
+/// The routing table of a placement in which each pair of nodes has a route.
 fn table_of<'a>(alloc: Global, placement: &'a Placement) -> Result<Table<'a>, AllocError>
     requires { IsRouted placement.now }
     ensures { IfOk result (λ t. t ≡ placement.now) }
@@ -113,7 +113,7 @@ fn table_of<'a>(alloc: Global, placement: &'a Placement) -> Result<Table<'a>, Al
     }
 }
 
-/// What is told with this in the room, as one value.
+/// The outcome of an event and its output buffer, as one value.
 fn outcome_told(told: EventOutcome, event: Event, room: &StepOutput) -> Outcome
     ensures { answer_seen result ≡ answer_of told event room.now.what }
 {
@@ -131,8 +131,9 @@ fn outcome_told(told: EventOutcome, event: Event, room: &StepOutput) -> Outcome
 }
 
 impl<'a> Machine<'a> {
-    /// Takes all memory of a run, and places the root object on its node. Where `lossy` holds each link is a wire that
-    /// may lose, repeat and reorder what goes over it. `Memory` where it is not had.
+    /// Makes a machine with its root object, and allocates all memory of a run. Requires a proper unit that fits the
+    /// placement. If `lossy` is true, each link is a wire that may lose, repeat and reorder frames. Returns `Memory` if
+    /// memory runs out.
     pub fn make(
         alloc: Global,
         unit: &'a Unit,
@@ -174,8 +175,10 @@ impl<'a> Machine<'a> {
         })
     }
 
-    /// Makes an event: a turn of a node, with up to `quantum` local transitions, a move of the head of a link, or what
-    /// else happens on a wire, which is asked only of a machine that was made lossy. `Full` comes exactly where the step would pass a limit of a node, and the machine is then as before.
+    /// Makes an event: a turn of a node, a move of the head of a link, or another event on a wire. A turn makes up to
+    /// `quantum` local transitions. Requires a node or a link of the placement, and a lossy machine for an event on a
+    /// wire. Requires a quantum of 1 to 10000, and fewer than 2^32 - 1 events so far. Returns `Full` exactly if the
+    /// step would exceed a limit of a node. The machine is then unchanged.
     pub fn event(&mut self, event: Event, quantum: u32) -> Outcome
         requires mesh { IsOfMesh self.old.placement event }
         requires served { IsServed (is_some self.old.wires) event }
@@ -189,7 +192,7 @@ impl<'a> Machine<'a> {
         outcome_told(told, event, &room)
     }
 
-    /// Makes an event as `event` does, and tells what its line shows in the room that is lent.
+    /// Makes an event as `event` does. The content of its line goes into the output buffer `room`.
     pub fn event_into(&mut self, event: Event, quantum: u32, room: &mut StepOutput) -> EventOutcome
         requires mesh { IsOfMesh self.old.placement event }
         requires served { IsServed (is_some self.old.wires) event }
@@ -228,21 +231,22 @@ impl<'a> Machine<'a> {
         }
     }
 
-    /// Whether no packet is on a link, all that wires handed out is acknowledged, and no object is ready.
+    /// Reports whether the machine is quiet: all links are empty, every packet that a wire handed out is acknowledged,
+    /// and no object is ready.
     pub fn is_quiet(&self) -> bool
         ensures { (c : Config Placed) (d : Delay) → MachineRepresents self.now c d → result ≡ is_quiet (coded self.now.unit) c d }
     {
         self.quiet
     }
 
-    /// The number of events made.
+    /// The number of events so far.
     pub fn done(&self) -> u32
         ensures { result ≡ self.now.done }
     {
         self.done
     }
 
-    /// The number of link events that moved a packet.
+    /// The number of events that moved a packet off a link.
     pub fn moves(&self) -> u64
         ensures { result ≡ self.now.moves }
     {
@@ -256,14 +260,14 @@ impl<'a> Machine<'a> {
         self.transitions
     }
 
-    /// Whether an object has met a language error.
+    /// Reports whether an object has met a run-time error.
     pub fn any_faulted(&self) -> bool
         ensures { (c : Config Placed) (d : Delay) → MachineRepresents self.now c d → result ≡ list_any (λ e. is_some e.1.fault) c.objects }
     {
         has_faulted(self.nodes.as_slice())
     }
 
-    /// The number of objects of a node.
+    /// The number of objects of a node, at most 4096. Requires a node of the mesh.
     pub fn objects_of(&self, node: u32) -> u32
         requires { node < self.now.placement.width * self.now.placement.height }
         ensures count { (c : Config Placed) (d : Delay) → MachineRepresents self.now c d → result ≡ object_count c node }
@@ -272,7 +276,7 @@ impl<'a> Machine<'a> {
         self.nodes[node as usize].objects()
     }
 
-    /// Where the object of a name stands. None exactly where no object has the name.
+    /// The status of the object of this name. None exactly if no object has the name.
     pub fn status_of(&self, name: u32) -> Option<Standing>
         ensures { (c : Config Placed) (d : Delay) → MachineRepresents self.now c d → option_map told_standing result ≡ standing_at self.now.unit c d name }
     {
@@ -286,7 +290,7 @@ impl<'a> Machine<'a> {
         )
     }
 
-    /// The class of the object of a name. None exactly where no object has the name.
+    /// The class of the object of this name. None exactly if no object has the name.
     pub fn class_of(&self, name: u32) -> Option<NameId>
         ensures { (c : Config Placed) (d : Delay) → MachineRepresents self.now c d → option_map (λ k. k.0) result ≡ class_at self.now.unit c name }
     {

@@ -18,7 +18,8 @@ use rendezvous_protocol::{Packet, goal};
 use run_types::{FullKind, Placement, What};
 use table_routing::Table;
 
-/// The head of a link at its goal: it is received, and leaves the link, unless a limit is met.
+/// Moves the head of a link to its goal: the node receives it, and it leaves the link, unless this would exceed a
+/// limit.
 fn arrive(
     unit: &Unit,
     placement: &Placement,
@@ -59,7 +60,7 @@ fn arrive(
     }
 }
 
-/// The head of a link at another node than its goal: it goes last on its next link, unless the node has no cell for it.
+/// Moves the head of a link on to the next link of its path, unless the node has no cell for it.
 fn pass(
     unit: &Unit,
     placement: &Placement,
@@ -94,7 +95,7 @@ fn pass(
     StepOutcome::Line
 }
 
-/// Makes a move of the head of a link.
+/// Moves the head of a link. The line is idle if the link is empty.
 pub(crate) fn move_link(
     unit: &Unit,
     placement: &Placement,

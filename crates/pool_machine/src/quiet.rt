@@ -1,4 +1,4 @@
-//! Whether all of a machine is quiet.
+//! The test whether a machine is quiet.
 ghost use Rattle.std.specs.Prelude.{◌≡◌, None, true};
 ghost use Rattle.run_types.specs.Tables.{no_entry_empty};
 ghost use Rattle.run_types.specs.declared.types.What.TheVariants as W;
@@ -15,7 +15,7 @@ use pool_node::Node;
 use rendezvous_protocol::Packet;
 use run_types::What;
 
-/// Whether no packet is on a link, all that wires handed out is acknowledged, and no object can step.
+/// Reports whether all links are empty, every packet that a wire handed out is acknowledged, and no object can step.
 pub(crate) fn is_quiet_now(
     unit: &Unit,
     nodes: &[Node],
@@ -29,8 +29,8 @@ pub(crate) fn is_quiet_now(
     links.is_empty() && is_acknowledged(wires) && !can_step(unit, nodes)
 }
 
-/// The same after an event with this line, where it was told before the event: an idle line changes nothing. Over wires it is
-/// looked for anew.
+/// Reports whether the machine is quiet after an event with this line. `before` is the answer before the event: without
+/// wires an idle event changes nothing. Over wires it searches again.
 pub(crate) fn quiet_after(
     unit: &Unit,
     nodes: &[Node],

@@ -1,4 +1,4 @@
-//! What a machine tells of its nodes and objects.
+//! The reports of a machine on its nodes and objects.
 ghost use Rattle.std.specs.Prelude.{◌≡◌, ◌<◌, ◌*◌, ◌↔◌, ℕ, Bool, true, false, map, is_some, slice_get, IsTrue};
 ghost use Rattle.std.specs.Option.{option_map};
 ghost use Rattle.std.specs.List.{list_any};
@@ -20,7 +20,7 @@ use pool_node::Node;
 use rendezvous_protocol::Packet;
 use run_types::{NameId, Placement, Standing, node_of, slot_of};
 
-/// Whether an object of a node can step.
+/// Reports whether an object of some node can step.
 pub(crate) fn can_step(unit: &Unit, nodes: &[Node]) -> bool
     requires { AreOfUnit unit.now nodes.now }
     ensures { result ≡ any_ready (coded unit.now) 0 (map (λ n. n.state) nodes.now) }
@@ -33,7 +33,7 @@ pub(crate) fn can_step(unit: &Unit, nodes: &[Node]) -> bool
     false
 }
 
-/// Whether an object has met a language error.
+/// Reports whether an object has met a run-time error.
 pub(crate) fn has_faulted(nodes: &[Node]) -> bool
     ensures { result ≡ has_fault (map (λ n. n.state) nodes.now) }
 {
@@ -45,7 +45,7 @@ pub(crate) fn has_faulted(nodes: &[Node]) -> bool
     false
 }
 
-/// Whether the packet brings the object its value.
+/// Reports whether the packet brings the object its value.
 fn brings_to(packet: &Packet, name: u32) -> bool
     ensures { result ≡ brings name (numbered packet.now).packet }
 {
@@ -55,7 +55,7 @@ fn brings_to(packet: &Packet, name: u32) -> bool
     }
 }
 
-/// Whether a packet on the link brings the object its value.
+/// Reports whether a packet on the link brings the object its value.
 fn link_brings(links: &Links<Packet>, from: u32, to: u32, name: u32) -> bool
     requires link { (from < links.now.width * links.now.height) × (to < links.now.width * links.now.height) × AreNeighbours links.now.width from to }
     ensures { result ≡ is_brought name (list_at pair_cmp (from, to) links.now.links) }
@@ -71,7 +71,7 @@ fn link_brings(links: &Links<Packet>, from: u32, to: u32, name: u32) -> bool
     false
 }
 
-/// Whether a packet on a link from this node brings the object its value.
+/// Reports whether a packet on a link that leaves this node brings the object its value.
 fn node_brings(mesh: &Mesh, links: &Links<Packet>, from: u32, name: u32) -> bool
     requires width { mesh.now.width ≡ links.now.width }
     requires height { mesh.now.height ≡ links.now.height }
@@ -87,7 +87,7 @@ fn node_brings(mesh: &Mesh, links: &Links<Packet>, from: u32, name: u32) -> bool
     false
 }
 
-/// Whether a packet on a link brings the object its value.
+/// Reports whether a packet on some link brings the object its value.
 fn is_on_way(mesh: &Mesh, links: &Links<Packet>, name: u32) -> bool
     requires width { mesh.now.width ≡ links.now.width }
     requires height { mesh.now.height ≡ links.now.height }
@@ -103,7 +103,7 @@ fn is_on_way(mesh: &Mesh, links: &Links<Packet>, name: u32) -> bool
     false
 }
 
-/// Whether there is an object of the name.
+/// Reports whether an object has this name.
 fn has_object(nodes: &[Node], name: u32) -> bool
     ensures { result ≡ is_some (slot_in (slice_get (map (λ n. n.state) nodes.now) (node_of name)) (slot_of name)) }
 {
@@ -111,8 +111,8 @@ fn has_object(nodes: &[Node], name: u32) -> bool
     node < nodes.len() && slot_of(name) < nodes[node].objects()
 }
 
-/// Where the object of a name stands: due while its value is on a link, and else as its node says. `placement` is there
-/// for the contract.
+/// The status of the object of this name: due while its value is on a link, and else as its node reports. `placement`
+/// is an argument for the contract only.
 pub(crate) fn standing_in(
     unit: &Unit,
     placement: &Placement,
@@ -136,7 +136,7 @@ pub(crate) fn standing_in(
     Some(nodes[node].standing(unit, slot_of(name)))
 }
 
-/// The class of the object of a name.
+/// The class of the object of this name. None if there is none.
 pub(crate) fn class_in(unit: &Unit, nodes: &[Node], name: u32) -> Option<NameId>
     requires { AreOfUnit unit.now nodes.now }
     ensures { option_map (λ k. k.0) result ≡ slot_class unit.now (slot_in (slice_get (map (λ n. n.state) nodes.now) (node_of name)) (slot_of name)) }

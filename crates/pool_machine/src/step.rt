@@ -1,4 +1,4 @@
-//! What an event does to the nodes and links.
+//! The step of an event on nodes, links and wires.
 ghost use Rattle.std.specs.Prelude.{◌≡◌, ◌<◌, ◌≤◌, ◌+◌, ◌-◌, ◌^◌, ℕ, is_some};
 ghost use Rattle.pool_machine.specs.DidOf.{did_of};
 ghost use Rattle.pool_machine.specs.Answers.{IsOfMesh, IsServed};
@@ -17,8 +17,7 @@ use rendezvous_protocol::Packet;
 use run_types::{Event, Placement};
 use table_routing::Table;
 
-/// Makes an event: what it does is what the definition of nodes, links and wires says of it, with some number for its
-/// request that is not out.
+/// Makes an event as the definition of nodes, links and wires says, for some request number that is not outstanding.
 pub(crate) fn step(
     unit: &Unit,
     placement: &Placement,

@@ -20,7 +20,7 @@ use rendezvous_protocol::{Packet, goal};
 use run_types::{Placement, What};
 use table_routing::Table;
 
-/// Puts a packet that leaves a node last on the first link to its goal.
+/// Appends a packet that leaves a node to the first link of its path.
 #[inline(never)]
 pub(crate) fn post(table: &Table<'_>, links: &mut Links<Packet>, at: u32, packet: &Packet)
     requires width { table.now.width ≡ links.old.width }
@@ -37,7 +37,7 @@ pub(crate) fn post(table: &Table<'_>, links: &mut Links<Packet>, at: u32, packet
     }
 }
 
-/// Makes a turn of a node, and puts the packet that leaves it on its link.
+/// Makes a turn of a node, and appends the packet that leaves it to its link.
 pub(crate) fn turn(
     unit: &Unit,
     placement: &Placement,

@@ -1,28 +1,28 @@
-//! What a machine tells.
+//! The outcomes and errors of a machine.
 use run_types::{FullKind, Line};
 
-/// Why a machine was not made: there was not enough memory.
+/// The reason that a machine was not made: memory ran out.
 #[derive(Clone, Copy, Debug, PartialEq, Eq)]
 pub enum OpenFault {
     Memory,
 }
 
-/// What an event did: a step, told by its line; or nothing, since it would pass this limit of a node.
+/// The outcome of an event: its line, or nothing, since the step would exceed this limit of this node.
 #[derive(Clone, Copy)]
 pub enum Outcome {
     Line(Line),
     Full { kind: FullKind, node: u32 },
 }
 
-/// The same where room was lent: a step, told by the line of this number, and what that shows is in the room; or nothing,
-/// since it would pass this limit of a node.
+/// The outcome of an event with an output buffer. `Line`: the event was made, its line has this number, and the content
+/// of the line is in the buffer. `Full`: nothing was done, since the step would exceed this limit of this node.
 #[derive(Clone, Copy)]
 pub enum EventOutcome {
     Line { number: u32 },
     Full { kind: FullKind, node: u32 },
 }
 
-/// What an event did, without its number.
+/// The outcome of an event with an output buffer, without the number of its line.
 #[derive(Clone, Copy)]
 pub(crate) enum StepOutcome {
     Line,

@@ -1,4 +1,4 @@
-//! The move of a link's head where links are wires.
+//! The move of a link's head, if links are wires.
 ghost use Rattle.std.specs.Prelude.{◌≡◌, Some, map, true};
 ghost use Rattle.run_types.specs.Paths.{IsLink};
 ghost use Rattle.run_types.specs.Tables.{Pair};
@@ -21,8 +21,8 @@ use run_types::{Placement, What};
 use table_routing::Table;
 use wire_link::Arrived;
 
-/// The first frame of a link's wire comes to the far end: with the next packet the head of the link moves, and any other
-/// frame is dropped.
+/// The first data frame of a link's wire comes to the far end. If it has the next packet, the head of the link moves.
+/// Any other frame is dropped.
 pub(crate) fn move_on_wire(
     unit: &Unit,
     placement: &Placement,

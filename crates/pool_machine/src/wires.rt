@@ -20,7 +20,7 @@ use std::alloc::{AllocError, Global};
 use std::collections::BTreeMap;
 use wire_link::{Arrived, Sent, Side, Wire};
 
-/// Wires by the ends of their links.
+/// The wires by the ends of their links.
 pub(crate) type Wires = BTreeMap<(u32, u32), Wire>;
 
 /// Adds a new wire for each link that leaves a node.
@@ -37,7 +37,7 @@ fn add_wires(wires: &mut Wires, mesh: &Mesh, from: u32) -> Result<(), AllocError
     Ok(())
 }
 
-/// A new wire for each link of a mesh.
+/// Makes a wire for each link of a mesh.
 fn all_wires(alloc: Global, mesh: &Mesh) -> Result<Wires, AllocError>
     ensures { IfOk result (λ ws. AreNew mesh.now.width (mesh.now.width * mesh.now.height) (mesh.now.width * mesh.now.height) 0 ws.entries) }
 {
@@ -48,7 +48,7 @@ fn all_wires(alloc: Global, mesh: &Mesh) -> Result<Wires, AllocError>
     Ok(wires)
 }
 
-/// A new wire for each link of a mesh where its links are wires, and else none.
+/// Makes a wire for each link of a mesh if `lossy` is true, and else none.
 pub(crate) fn make_wires(
     alloc: Global,
     mesh: &Mesh,
@@ -63,7 +63,7 @@ pub(crate) fn make_wires(
     }
 }
 
-/// Whether on each wire all that was handed out is acknowledged.
+/// Reports whether on each wire every packet that was handed out is acknowledged.
 fn all_acknowledged(wires: &Wires) -> bool
     ensures all { result ≡ list_all is_done (values wires.now) }
     ensures ordered { IsOrdered pair_cmp wires.now }
@@ -76,7 +76,7 @@ fn all_acknowledged(wires: &Wires) -> bool
     true
 }
 
-/// The same where links are wires; else nothing waits for that.
+/// Reports whether every packet that a wire handed out is acknowledged; true if links are not wires.
 pub(crate) fn is_acknowledged(wires: &Option<Wires>) -> bool
     ensures { result ≡ are_acknowledged (option_map numbered_wires (wires_in wires.now)) }
 {
@@ -86,7 +86,7 @@ pub(crate) fn is_acknowledged(wires: &Option<Wires>) -> bool
     }
 }
 
-/// What comes to the far end of a link.
+/// The next arrival at the far end of a link.
 pub(crate) fn peek_at(wires: &Wires, from: u32, to: u32) -> Arrived
     ensures { result ≡ arrived_of (kept_coming (wire_of wires.now.entries (from, to))) }
 {
@@ -96,7 +96,7 @@ pub(crate) fn peek_at(wires: &Wires, from: u32, to: u32) -> Arrived
     }
 }
 
-/// The first frame comes to the far end of a link.
+/// The first data frame comes to the far end of a link.
 pub(crate) fn arrive_at(wires: &mut Wires, from: u32, to: u32)
     requires there { has_wire wires.old.entries (from, to) ≡ true }
     ensures { wires.new.entries ≡ put pair_cmp (from, to) (kept_take (wire_of wires.old.entries (from, to))) wires.old.entries }
@@ -106,7 +106,7 @@ pub(crate) fn arrive_at(wires: &mut Wires, from: u32, to: u32)
     }
 }
 
-/// The packet with this number, where it was never sent.
+/// The packet with this number, if it was never sent.
 fn fresh_on(wire: &Wire, links: &Links<Packet>, from: u32, to: u32, number: u32) -> Option<Packet>
     requires link { IsLinkOf links.now from to }
     requires handed { wire.now.handed ≤ wire.now.sent }
@@ -121,7 +121,7 @@ fn fresh_on(wire: &Wire, links: &Links<Packet>, from: u32, to: u32, number: u32)
     }
 }
 
-/// The number that is wanted is sent, if one is.
+/// Sends the frame that the wire wants, if it wants one.
 fn send_on(wire: &mut Wire, links: &Links<Packet>, from: u32, to: u32) -> What
     requires link { IsLinkOf links.now from to }
     requires handed { wire.old.handed ≤ wire.old.sent }
@@ -160,7 +160,7 @@ fn lose_on(wire: &mut Wire, side: Side) -> What
     }
 }
 
-/// The first frame of a side comes twice, if there is one and there is room.
+/// Appends a copy of the first frame of a side, if there is one and the side has room.
 fn twice_on(wire: &mut Wire, side: Side) -> What
     ensures { WireReports wire.old (kept_act (twice_of side) [] wire.old) result wire.new }
 {
@@ -170,7 +170,7 @@ fn twice_on(wire: &mut Wire, side: Side) -> What
     }
 }
 
-/// The first frame of a side falls behind the others, if there is one.
+/// Moves the first frame of a side after the others, if there is one.
 fn late_on(wire: &mut Wire, side: Side) -> What
     ensures { WireReports wire.old (kept_act (late_of side) [] wire.old) result wire.new }
 {
@@ -180,7 +180,7 @@ fn late_on(wire: &mut Wire, side: Side) -> What
     }
 }
 
-/// What happens on a wire beside that its first frame comes to the far end.
+/// Makes an event on a wire, other than the arrival of a data frame.
 fn act_on(wire: &mut Wire, links: &Links<Packet>, act: WireAct, from: u32, to: u32) -> What
     requires link { IsLinkOf links.now from to }
     requires handed { wire.old.handed ≤ wire.old.sent }
@@ -200,7 +200,7 @@ fn act_on(wire: &mut Wire, links: &Links<Packet>, act: WireAct, from: u32, to: u
     }
 }
 
-/// The same on the wire of a link.
+/// Makes an event on the wire of a link, other than the arrival of a data frame.
 pub(crate) fn act_at(
     wires: &mut Wires,
     links: &Links<Packet>,

@@ -1,4 +1,4 @@
--- What a node tells of itself.
+-- The reports of a node on its objects.
 use Rattle.std.proofs.Common.{◌≡◌, inl, inr, ◌-◌, refl, sym, ap, ap₂, subst, ◌∙◌, ℕ, zero, suc, ◌+◌, ◌<◌, ◌≤◌, ◌||◌, List, [], ◌∷◌, length, take, drop, get_or, map, Option, Some, None, is_some, Bool, true, false, if◌then◌else◌, arith}
 use Rattle.std.specs.Prelude.{slice_get, nat_le, is_ok}
 use Rattle.std.specs.Option.{option_map}

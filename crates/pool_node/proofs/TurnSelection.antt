@@ -1,4 +1,4 @@
--- Whose turn it is, by the bits.
+-- The object whose turn it is, by the ready bits.
 use Rattle.std.proofs.Common.{◌≡◌, refl, sym, ap, ap₂, subst, ◌∙◌, ℕ, zero, suc, ◌+◌, ◌<◌, ◌&&◌, List, [], ◌∷◌, drop, map, Option, Some, None, is_none, Bool, true, false, arith}
 use Rattle.std.specs.Prelude.{slice_get, filter, nat_lt}
 use Rattle.std.specs.Option.{option_map, option_or}

@@ -1,4 +1,4 @@
-//! The steps of an object of a node.
+//! The steps of an object of a node, but for answers, selects and new objects.
 ghost use Rattle.std.specs.Prelude.{◌≡◌, ℕ, ◌+◌, ◌<◌, ◌≤◌, not, false, None, length, get_or, nat_lt, Option};
 ghost use Rattle.run_types.specs.declared.types.Placement.{Placement as OnePlacement};
 ghost use Rattle.run_types.specs.declared.types.What.TheVariants as W;
@@ -27,7 +27,7 @@ use run_types::{
     slot_of,
 };
 
-/// The name of the object of a slot, also of the next one.
+/// The name of the object of a slot, or of the next slot.
 pub(crate) fn name_of(parts: &NodeParts, slot: u32) -> u32
     requires whole { NodeInvariant parts.now }
     requires slot { slot ≤ length parts.now.heap.objects }
@@ -36,7 +36,7 @@ pub(crate) fn name_of(parts: &NodeParts, slot: u32) -> u32
     object_name(parts.heap.node(), slot)
 }
 
-/// Whether no cell is free for one message more.
+/// Reports whether no cell is free for a message.
 pub(crate) fn no_cell(placement: &Placement, parts: &NodeParts, leaving: u32) -> bool
     requires whole { NodeInvariant parts.now }
     requires cells { message_count (slots_of parts.now) + leaving ≤ placement.now.cells }
@@ -46,14 +46,14 @@ pub(crate) fn no_cell(placement: &Placement, parts: &NodeParts, leaving: u32) ->
     parts.mailbox.count() + leaving >= cells
 }
 
-/// A step with this label.
+/// The line of a step with this label.
 pub(crate) fn step(label: Label) -> What
     ensures { result ≡ W.Step label 1 }
 {
     What::Step { label, times: 1 }
 }
 
-/// Writes an item.
+/// Makes the step of a write.
 pub(crate) fn write_turn(
     unit: &Unit,
     parts: &mut NodeParts,
@@ -74,7 +74,7 @@ pub(crate) fn write_turn(
     TurnOutcome::Line
 }
 
-/// Meets an error.
+/// Makes the step of a run-time error.
 pub(crate) fn fault_turn(
     unit: &Unit,
     parts: &mut NodeParts,
@@ -95,8 +95,8 @@ pub(crate) fn fault_turn(
     TurnOutcome::Line
 }
 
-/// Whether no cell is free for a message to the object of this name, and it takes one: it stands at an object of this
-/// node, or leaves.
+/// Reports whether a message to this object lacks a cell. A message needs a cell if it goes to an existing object of
+/// this node, or leaves the node.
 fn lacks(placement: &Placement, parts: &NodeParts, to: u32, leaving: u32) -> bool
     requires whole { NodeInvariant parts.now }
     requires cells { message_count (slots_of parts.now) + leaving ≤ placement.now.cells }
@@ -108,7 +108,7 @@ fn lacks(placement: &Placement, parts: &NodeParts, to: u32, leaving: u32) -> boo
     no_cell(placement, parts, leaving)
 }
 
-/// Puts a message last at the object of this name of the node, if it is there.
+/// Appends a message to those of this object of the node, if it exists.
 pub(crate) fn deliver_to(unit: &Unit, parts: &mut NodeParts, to: u32, message: Message)
     requires whole { NodeInvariant parts.old }
     requires unit { IsOfUnit unit.now (node_of parts.old) }
@@ -121,7 +121,7 @@ pub(crate) fn deliver_to(unit: &Unit, parts: &mut NodeParts, to: u32, message: M
     }
 }
 
-/// A message, as a packet.
+/// The packet of a message.
 fn packet(to: u32, message: &Message) -> Packet
     ensures { numbered result ≡ record { number = message.now.call; packet = packet_by message.now.call message.now.from to message.now.method.0 message.now.args } }
 {
@@ -148,8 +148,8 @@ fn packet(to: u32, message: &Message) -> Packet
     }
 }
 
-/// Posts a message, for which a cell is free where it takes one. If it goes to another node, it leaves as the packet in the
-/// room.
+/// Posts a message. Requires a free cell if it needs one. A message to another node leaves as the packet in the output
+/// buffer.
 fn post(
     unit: &Unit,
     parts: &mut NodeParts,
@@ -173,7 +173,7 @@ fn post(
     }
 }
 
-/// Sends a message, unless there is no cell for it.
+/// Sends an asynchronous message, unless it lacks a cell.
 pub(crate) fn async_turn(
     unit: &Unit,
     placement: &Placement,
@@ -214,7 +214,7 @@ pub(crate) fn async_turn(
     post(unit, parts, to, message, room)
 }
 
-/// Posts a call, unless there is no cell for it.
+/// Posts a call, unless it lacks a cell.
 pub(crate) fn call_turn(
     unit: &Unit,
     placement: &Placement,
@@ -255,7 +255,7 @@ pub(crate) fn call_turn(
     post(unit, parts, to, message, room)
 }
 
-/// Gives a value back to a caller, unless there is no cell for its packet.
+/// Returns a value to a caller, unless its packet lacks a cell.
 pub(crate) fn return_turn(
     unit: &Unit,
     placement: &Placement,
@@ -300,7 +300,7 @@ pub(crate) fn return_turn(
     TurnOutcome::Leaves
 }
 
-/// Gives the object whose request has this number its value, if there is one.
+/// Gives a value to the object whose outstanding request has this number, if there is one.
 pub(crate) fn settle_if_out(unit: &Unit, parts: &mut NodeParts, number: u32, value: Value)
     requires whole { NodeInvariant parts.old }
     requires unit { IsOfUnit unit.now (node_of parts.old) }

@@ -1,4 +1,4 @@
-//! The steps of an object that makes an object.
+//! The step of an object that makes a new object.
 ghost use Rattle.std.specs.Prelude.{◌≡◌, ◌≢◌, ℕ, ◌+◌, ◌-◌, ◌*◌, ◌^◌, ◌<◌, ◌≤◌, None, Some, length, get_or, slice_get, slice_set};
 ghost use Rattle.run_types.specs.declared.types.Placement.{Placement as OnePlacement};
 ghost use Rattle.run_types.specs.declared.types.NameId.{NameId as OneName};
@@ -20,7 +20,7 @@ use node_state::{NodeParts, add_in, ask_in, give_in};
 use rendezvous_protocol::Packet;
 use run_types::{FullKind, Label, Place, Placement, Value, What};
 
-/// The node of the next object that is made of the class at this place.
+/// The node of the next new object of this class.
 fn goal_of(placement: &Placement, parts: &NodeParts, class: u32) -> u32
     requires places { class < length placement.now.places }
     requires made { class < length parts.now.made }
@@ -38,7 +38,7 @@ fn goal_of(placement: &Placement, parts: &NodeParts, class: u32) -> u32
     }
 }
 
-/// Counts one object more of the class at this place.
+/// Counts one more object of this class.
 fn count_in(parts: &mut NodeParts, class: u32)
     requires class { class < length parts.old.made }
     requires few { get_or parts.old.made class 0 < 2 ^ 32 - 1 }
@@ -48,7 +48,8 @@ fn count_in(parts: &mut NodeParts, class: u32)
     parts.made.set(class as usize, made + 1);
 }
 
-/// Makes an object on the own node, unless there is no slot or no frame for it. Its maker has its name at once.
+/// Makes an object on this node, and gives its maker the name. Reports the limit, and changes nothing, if there is no
+/// slot or no frame for it.
 fn create_here(
     unit: &Unit,
     parts: &mut NodeParts,
@@ -89,7 +90,7 @@ fn create_here(
     }
 }
 
-/// Posts a request for an object on another node, unless there is no cell for its packet.
+/// Posts a request for a new object to another node, unless its packet lacks a cell.
 fn create_there(
     unit: &Unit,
     placement: &Placement,
@@ -133,7 +134,7 @@ fn create_there(
     TurnOutcome::Leaves
 }
 
-/// Makes an object of the class at this place, or posts a request for it.
+/// Makes a new object of this class on this node, or posts a request for it to another node.
 pub(crate) fn create_turn(
     unit: &Unit,
     placement: &Placement,

@@ -1,4 +1,4 @@
-//! What a new node is made of.
+//! The parts of a new node, and its root object.
 ghost use Rattle.std.specs.Prelude.{◌≡◌, ◌<◌, ◌≤◌, [], Some, IfOk, replicate};
 ghost use Rattle.code_semantics.specs.NodeWords.{most_vars};
 ghost use Rattle.mesh_of_code.specs.Coded.{Placed, coded};
@@ -14,7 +14,7 @@ use node_state::{NodeParts, add_in};
 use run_types::List;
 use std::alloc::{AllocError, Global};
 
-/// So many times one value. Err where the memory is not had.
+/// A list of `count` copies of a value. Returns `Err` if memory runs out.
 pub(crate) fn filled<T: Copy + Drop>(
     alloc: Global,
     count: u32,
@@ -31,7 +31,7 @@ pub(crate) fn filled<T: Copy + Drop>(
     Ok(list)
 }
 
-/// The greatest number of variables of a class.
+/// The largest number of variables of a class.
 pub(crate) fn most_vars_of(unit: &Unit) -> u32
     ensures { result ≡ most_vars unit.now.classes }
 {
@@ -45,7 +45,7 @@ pub(crate) fn most_vars_of(unit: &Unit) -> u32
     most
 }
 
-/// Places the root object in slot 0, and tells its name.
+/// Makes the root object in slot 0, and returns its name.
 pub(crate) fn start_in(unit: &Unit, parts: &mut NodeParts) -> u32
     requires whole { NodeInvariant parts.old }
     requires unit { IsOfUnit unit.now (node_of parts.old) }

@@ -31,8 +31,8 @@ use run_types::{Placement, Standing};
 use std::alloc::{AllocError, Global};
 use std::marker::Model;
 
-/// One node: its objects, the messages that have arrived for them, the requests that are out, the slot that stepped
-/// last, and how many objects of each class its objects have made.
+/// One node: its objects, the messages that have arrived for them, and the outstanding requests. It also has the slot
+/// that stepped last, and for each class the number of objects that its objects have made.
 #[derive(Drop)]
 pub struct Node {
     parts: NodeParts,
@@ -56,7 +56,8 @@ impl Model for Node {
 }
 
 impl Node {
-    /// Takes the memory of a node of the placement. No object is there yet. Err where the memory is not had.
+    /// Makes a node of the placement without objects, and allocates all its memory. Returns `Err` if memory runs out.
+    /// Requires a proper unit that fits the placement, and the number of a node of its mesh.
     pub fn make(
         alloc: Global,
         unit: &Unit,
@@ -101,7 +102,8 @@ impl Node {
         Ok(Node { parts })
     }
 
-    /// Places the root object, of the last class of the unit, in slot 0, and tells its name.
+    /// Makes the root object, of the last class of the unit, in slot 0, and returns its name. Requires a node without
+    /// objects.
     pub fn start_root(&mut self, unit: &Unit) -> u32
         requires unit { IsOfUnit unit.now self.old }
         requires empty { self.old.state.slots ≡ [] }
@@ -112,10 +114,10 @@ impl Node {
         start_in(unit, &mut self.parts)
     }
 
-    /// Makes a turn: the ready object of least slot above the one that stepped last, else of least slot, makes up to
-    /// `quantum` local transitions or one other step. `leaving` is the number of packets on the links that leave the
-    /// node. `Idle` comes exactly where no object is ready, and `Full` exactly where the step would pass a limit, with
-    /// the first of heap, frames and cells; the node is then as before.
+    /// Makes a turn: one ready object makes up to `quantum` local transitions, or one other step. It is the next ready
+    /// object after the one that stepped last, in cyclic order of slots. `leaving` is the number of packets on the
+    /// links that leave the node. Returns `Idle` exactly if no object is ready. Returns `Full` exactly if the step
+    /// would exceed a limit: the first of heap, frames and cells. The node is then unchanged.
     pub fn turn_into(
         &mut self,
         unit: &Unit,
@@ -137,10 +139,7 @@ impl Node {
         turn_of(unit, placement, &mut self.parts, quantum, leaving, room)
     }
 
-    /// Makes a turn, in room of its own: the ready object of least slot above the one that stepped last, else of least
-    /// slot, makes up to `quantum` local transitions or one other step. `leaving` is the number of packets on the links
-    /// that leave the node. `Idle` comes exactly where no object is ready, and `Full` exactly where the step would pass a
-    /// limit, with the first of heap, frames and cells; the node is then as before.
+    /// Makes a turn as `turn_into` does, without an output buffer of the caller.
     pub fn turn(&mut self, unit: &Unit, placement: &Placement, quantum: u32, leaving: u32) -> Act
         requires unit { IsOfUnit unit.now self.old }
         requires placement { IsOfPlacement unit.now placement.now self.old }
@@ -157,8 +156,9 @@ impl Node {
         act_told(told, &room)
     }
 
-    /// Receives a packet at its goal. `Full` comes exactly where that would pass a limit, with the first of heap, frames
-    /// and cells; the node is then as before. `Idle` never comes.
+    /// Receives a packet at its goal. `leaving` is the number of packets on the links that leave the node. Returns
+    /// `Full` exactly if the receipt would exceed a limit: the first of heap, frames and cells. The node is then
+    /// unchanged. It never returns `Idle`.
     pub fn receive_into(
         &mut self,
         unit: &Unit,
@@ -178,8 +178,7 @@ impl Node {
         receipt_of(unit, placement, &mut self.parts, packet, leaving, room)
     }
 
-    /// Receives a packet at its goal, in room of its own. `Full` comes exactly where that would pass a limit, with the
-    /// first of heap, frames and cells; the node is then as before. `Idle` never comes.
+    /// Receives a packet as `receive_into` does, without an output buffer of the caller.
     pub fn receive(
         &mut self,
         unit: &Unit,
@@ -200,16 +199,17 @@ impl Node {
         act_told(told, &room)
     }
 
-    /// Whether an object of the node is ready.
+    /// Reports whether an object of the node is ready.
     pub fn is_ready(&self, unit: &Unit) -> bool
         requires { IsOfUnit unit.now self.now }
         ensures { result ≡ is_some (first_of (ready_slots (coded unit.now) self.now.id self.now.state)) }
     {
+        // The unit is an argument for the contract only.
         let _ = unit;
         first_ready(&self.parts, 0).is_some()
     }
 
-    /// The number of objects.
+    /// The number of objects, at most the limit.
     pub fn objects(&self) -> u32
         ensures count { result ≡ length self.now.state.slots }
         ensures within { (result ≤ self.now.most_objects) × (self.now.most_objects ≤ 4096) }
@@ -217,7 +217,7 @@ impl Node {
         self.parts.heap.objects()
     }
 
-    /// The number of messages that have arrived and were not taken.
+    /// The number of messages that have arrived and were not taken, at most the cells.
     pub fn messages(&self) -> u32
         ensures count { result ≡ message_count self.now.state.slots }
         ensures within { result ≤ self.now.most_cells }
@@ -225,7 +225,8 @@ impl Node {
         self.parts.mailbox.count()
     }
 
-    /// Where the object of a slot stands, as its node knows it: while its request is out it calls or creates.
+    /// The status of the object of a slot, as its node knows it. An object with an outstanding request calls or
+    /// creates.
     pub fn standing(&self, unit: &Unit, slot: u32) -> Standing
         requires unit { IsOfUnit unit.now self.now }
         requires slot { slot < length self.now.state.slots }
@@ -234,7 +235,7 @@ impl Node {
         standing_of(unit, &self.parts, slot)
     }
 
-    /// The place of the class of a slot's object in the unit.
+    /// The class of a slot's object, as its index in the unit.
     pub fn class_of(&self, slot: u32) -> u32
         requires { slot < length self.now.state.slots }
         ensures { (s : Slot Placed) → slice_get self.now.state.slots slot ≡ Some s → result ≡ s.state.object.class }
@@ -242,7 +243,7 @@ impl Node {
         self.parts.heap.class_of(slot)
     }
 
-    /// Whether an object of the node has met a language error.
+    /// Reports whether an object of the node has met a run-time error.
     pub fn any_faulted(&self) -> bool
         ensures { result ≡ list_any (λ (s : Slot Placed). is_some s.state.fault) self.now.state.slots }
     {
@@ -250,7 +251,7 @@ impl Node {
     }
 }
 
-/// What is told with this in the room, given whole.
+/// The act of an outcome and its output buffer, as one value.
 fn act_told(told: TurnOutcome, room: &StepOutput) -> Act
     ensures { act_seen result ≡ act_of told room.now }
 {

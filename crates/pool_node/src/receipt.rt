@@ -25,7 +25,7 @@ use node_state::{NodeParts, add_in};
 use rendezvous_protocol::Packet;
 use run_types::{FullKind, Label, NameId, Placement, Value, What};
 
-/// The place of the first class of this name.
+/// The index of the first class of this name. None if there is none.
 pub(crate) fn class_named(unit: &Unit, class: NameId) -> Option<u32>
     requires few { length unit.now.classes ≤ 256 }
     ensures { result ≡ class_from 0 unit.now.classes class }
@@ -39,7 +39,7 @@ pub(crate) fn class_named(unit: &Unit, class: NameId) -> Option<u32>
     None
 }
 
-/// Makes an object of the class at this place for an object of another node, to which its name leaves.
+/// Makes an object of this class for an object of another node. The new name leaves as a packet.
 fn receive_create(
     unit: &Unit,
     placement: &Placement,
@@ -94,7 +94,7 @@ fn receive_create(
     }
 }
 
-/// Gives an object the value that has come.
+/// Gives an object the value that arrived for it.
 fn receive_value(
     unit: &Unit,
     parts: &mut NodeParts,
@@ -113,7 +113,7 @@ fn receive_value(
     TurnOutcome::Line
 }
 
-/// Puts a message that has arrived at its receiver, unless there is no cell for it.
+/// Appends an arrived message to those of its receiver, unless it lacks a cell.
 fn receive_message(
     unit: &Unit,
     placement: &Placement,
@@ -142,7 +142,7 @@ fn receive_message(
     TurnOutcome::Line
 }
 
-/// What is done with a packet, before the limit of frames is asked.
+/// Receives a packet of any kind.
 fn received(
     unit: &Unit,
     placement: &Placement,
@@ -208,7 +208,7 @@ fn received(
     }
 }
 
-/// The receipt of a packet.
+/// Receives a packet within the limits of the node.
 pub(crate) fn receipt_of(
     unit: &Unit,
     placement: &Placement,
@@ -227,10 +227,10 @@ pub(crate) fn receipt_of(
     ensures whole { NodeInvariant parts.new }
     ensures unit { IsOfUnit unit.now (node_of parts.new) }
 {
-    // Read for what it ensures: the frames are within their limit.
+    // Called for its contract: the frames are within their limit.
     let _frames = parts.heap.frames();
     let told = received(unit, placement, parts, packet, leaving, room);
-    // Read for what it ensures: the frames are within their limit.
+    // Called for its contract: the frames are within their limit.
     let _frames = parts.heap.frames();
     told
 }

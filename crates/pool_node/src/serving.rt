@@ -1,4 +1,4 @@
-//! The steps of an object that answers or selects.
+//! The step of an object that answers or selects.
 ghost use Rattle.std.specs.Prelude.{◌≡◌, ℕ, ◌<◌, true, None, Some, is_some, length, get_or};
 ghost use Rattle.code_semantics.specs.Kinds.{code_kind};
 ghost use Rattle.node_heap.specs.Heaps.{object_at};
@@ -16,7 +16,7 @@ use node_state::{NodeParts, called_place, first_possible, pick_in, serve_in};
 use object_interp::plain_alt;
 use run_types::{FullKind, Label, Placement};
 
-/// The label of a message that is taken: an answer to its caller, or an asynchronous message.
+/// The label of an accepted message: an answer to its caller, or an asynchronous message.
 fn label_of(object: u32, message: &Message) -> Label
     ensures { result ≡ taken_label object message.now }
 {
@@ -43,7 +43,7 @@ fn label_of(object: u32, message: &Message) -> Label
     }
 }
 
-/// Takes the message at this place by alternative `alt`, unless there is no frame for its method.
+/// Accepts the message at index `place` through alternative `alt`, unless there is no frame for its method.
 fn serve_turn(
     unit: &Unit,
     placement: &Placement,
@@ -72,7 +72,7 @@ fn serve_turn(
     TurnOutcome::Line
 }
 
-/// Goes into alternative `alt`, the first that is possible.
+/// Chooses alternative `alt`, which is the first possible one.
 fn choose(
     unit: &Unit,
     placement: &Placement,
@@ -100,7 +100,7 @@ fn choose(
     }
 }
 
-/// Goes into the first alternative that is possible.
+/// Chooses the first possible alternative.
 pub(crate) fn choose_turn(
     unit: &Unit,
     placement: &Placement,

@@ -1,4 +1,4 @@
-//! Where the objects of a node stand.
+//! The status of the objects of a node.
 ghost use Rattle.std.specs.Prelude.{◌≡◌, ◌<◌, length, is_some, Option as option, true, false};
 ghost use Rattle.run_types.specs.declared.types.Error.{Error as OneError};
 ghost use Rattle.std.specs.List.{list_any};
@@ -19,7 +19,7 @@ use node_state::{NodeParts, first_possible};
 use object_interp::{Hand, Need, at_hand};
 use run_types::{Error, Standing};
 
-/// Where the object of a slot stands while its request is out.
+/// The status of an object with an outstanding request.
 fn asking(unit: &Unit, parts: &NodeParts, slot: u32) -> Standing
     requires whole { NodeInvariant parts.now }
     requires unit { IsOfUnit unit.now (node_of parts.now) }
@@ -37,7 +37,7 @@ fn asking(unit: &Unit, parts: &NodeParts, slot: u32) -> Standing
     }
 }
 
-/// Where the object of a slot stands.
+/// The status of the object of a slot.
 pub(crate) fn standing_of(unit: &Unit, parts: &NodeParts, slot: u32) -> Standing
     requires whole { NodeInvariant parts.now }
     requires unit { IsOfUnit unit.now (node_of parts.now) }
@@ -53,7 +53,7 @@ pub(crate) fn standing_of(unit: &Unit, parts: &NodeParts, slot: u32) -> Standing
     free_standing(unit, parts, slot)
 }
 
-/// Where the object of a slot stands, of which no request is out and which has met no error.
+/// The status of an object without an outstanding request and without a run-time error.
 fn free_standing(unit: &Unit, parts: &NodeParts, slot: u32) -> Standing
     requires whole { NodeInvariant parts.now }
     requires unit { IsOfUnit unit.now (node_of parts.now) }
@@ -70,7 +70,7 @@ fn free_standing(unit: &Unit, parts: &NodeParts, slot: u32) -> Standing
     }
 }
 
-/// Where an object stands that answers or selects: it is ready where an alternative is possible.
+/// The status of an object that answers or selects: ready if an alternative is possible.
 fn choosing(unit: &Unit, parts: &NodeParts, slot: u32) -> Standing
     requires whole { NodeInvariant parts.now }
     requires unit { IsOfUnit unit.now (node_of parts.now) }
@@ -85,14 +85,14 @@ fn choosing(unit: &Unit, parts: &NodeParts, slot: u32) -> Standing
     }
 }
 
-/// Whether there is an error.
+/// Reports whether the list has an error.
 fn any_some(faults: &[Option<Error>]) -> bool
     ensures { result ≡ list_any (λ (f : option OneError). is_some f) faults.now }
 {
     faults.iter().any(|fault| fault.is_some())
 }
 
-/// Whether an object of the node has met an error.
+/// Reports whether an object of the node has met a run-time error.
 pub(crate) fn any_fault(parts: &NodeParts) -> bool
     requires whole { NodeInvariant parts.now }
     ensures { result ≡ list_any (λ (s : Slot Placed). is_some s.state.fault) (slots_of parts.now) }

@@ -28,7 +28,7 @@ use node_state::{NodeParts, refresh};
 use object_interp::{Burst, Need, burst};
 use run_types::{FullKind, Label, Placement, What};
 
-/// The step of a slot that needs this.
+/// Makes the step of an object with this request.
 fn need_turn(
     unit: &Unit,
     placement: &Placement,
@@ -73,7 +73,7 @@ fn need_turn(
     }
 }
 
-/// The step of a slot whose object can go: local transitions, at most `quantum`, or else what is at hand.
+/// Makes the step of a ready object: up to `quantum` local transitions, or its request.
 fn slot_turn(
     unit: &Unit,
     placement: &Placement,
@@ -109,7 +109,7 @@ fn slot_turn(
     }
 }
 
-/// The least slot from this one on whose bit is set.
+/// The least ready slot from `from` on.
 pub(crate) fn first_ready(parts: &NodeParts, from: u32) -> Option<u32>
     requires whole { NodeInvariant parts.now }
     ensures { result ≡ first_bit_from from (take (length parts.now.heap.objects) parts.now.ready) }
@@ -117,7 +117,7 @@ pub(crate) fn first_ready(parts: &NodeParts, from: u32) -> Option<u32>
     parts.ready.first_within(from, parts.heap.objects())
 }
 
-/// The slot in turn: the one of the least number above the last whose bit is set, else the least of all.
+/// The slot whose turn it is: the least ready slot above the last, or else the least ready slot.
 fn slot_in_turn(parts: &NodeParts) -> Option<u32>
     requires whole { NodeInvariant parts.now }
     ensures { result ≡ bit_in_turn parts.now.last (take (length parts.now.heap.objects) parts.now.ready) }
@@ -133,7 +133,7 @@ fn slot_in_turn(parts: &NodeParts) -> Option<u32>
     first_ready(parts, 0)
 }
 
-/// Where a limit is told, the last slot is the one from before.
+/// Restores the last slot if the outcome is a limit.
 fn keep_last(parts: &mut NodeParts, told: TurnOutcome, before: Option<u32>)
     ensures { (room : OneRoom) → parts.new ≡ kept (act_of told room) parts.old before }
 {
@@ -145,7 +145,7 @@ fn keep_last(parts: &mut NodeParts, told: TurnOutcome, before: Option<u32>)
     }
 }
 
-/// The step of the slot in turn.
+/// Makes the step of the slot whose turn it is.
 fn step_of(
     unit: &Unit,
     placement: &Placement,
@@ -168,17 +168,17 @@ fn step_of(
     ensures unit { IsOfUnit unit.now (node_of parts.new) }
 {
     let before = parts.last;
-    // Read for what it ensures: the frames are within their limit.
+    // Called for its contract: the frames are within their limit.
     let _frames = parts.heap.frames();
     parts.last = Some(slot);
     let told = slot_turn(unit, placement, parts, slot, quantum, leaving, room);
     keep_last(parts, told, before);
-    // Read for what it ensures: the frames are within their limit.
+    // Called for its contract: the frames are within their limit.
     let _frames = parts.heap.frames();
     told
 }
 
-/// A turn of a node.
+/// Makes a turn of a node.
 pub(crate) fn turn_of(
     unit: &Unit,
     placement: &Placement,

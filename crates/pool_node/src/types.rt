@@ -1,11 +1,11 @@
-//! What a node tells.
+//! The outcomes of a node, and the output buffer of a step.
 ghost use Rattle.std.specs.Prelude.{◌≡◌};
 ghost use Rattle.run_types.specs.declared.types.What.TheVariants as W;
 
 use rendezvous_protocol::Packet;
 use run_types::{FullKind, What};
 
-/// Room for what a step tells: what its line shows, and the packet that leaves the node.
+/// The output buffer of a step: the content of its line, and the packet that leaves the node.
 #[derive(Drop)]
 pub struct StepOutput {
     pub what: What,
@@ -13,7 +13,7 @@ pub struct StepOutput {
 }
 
 impl StepOutput {
-    /// Room in which nothing is told yet.
+    /// Returns a buffer whose line is idle.
     pub fn make() -> StepOutput
         ensures { result.what ≡ W.Idle }
     {
@@ -24,9 +24,9 @@ impl StepOutput {
     }
 }
 
-/// What a node did: nothing, since no object of it is ready; a step, whose line is in the room; such a step from which the
-/// packet in the room leaves the node; or nothing, since the step would pass this limit. What else is in the room counts for
-/// nothing.
+/// The outcome of a turn or a receipt. `Idle`: no object is ready. `Line`: a step was made, and its line is in the
+/// output buffer. `Leaves`: a step was made, and the packet in the buffer leaves the node. `Full`: nothing was done,
+/// since the step would exceed this limit. Anything else in the buffer has no meaning.
 #[derive(Clone, Copy)]
 pub enum TurnOutcome {
     Idle,
@@ -35,8 +35,8 @@ pub enum TurnOutcome {
     Full { kind: FullKind },
 }
 
-/// What a node did: nothing, since no object of it is ready; a step, with its line and the packet that leaves the node, if
-/// one does; or nothing, since the step would pass this limit.
+/// The outcome of a turn or a receipt as one value: no object is ready; a step with its line, and the packet that
+/// leaves the node, if one does; or nothing, since the step would exceed this limit.
 #[derive(Clone, Copy)]
 pub enum Act {
     Idle,

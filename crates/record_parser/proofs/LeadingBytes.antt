@@ -1,4 +1,4 @@
--- Bytes before the first part of a text.
+-- The parts of a text after bytes were put before it.
 use Rattle.std.proofs.Common.{◌≡◌, refl, sym, ap, ◌∙◌, ℕ, zero, suc, ◌<◌, List, [], ◌∷◌, ◌++◌, length, Option, Some, None, Bool, true, false, nat_eq, eq-eqb, arith, append_assoc}
 use denote.Bor.{Bor}
 use Rattle.text_scan.specs.Text.{Text}

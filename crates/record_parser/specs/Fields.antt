@@ -1,4 +1,4 @@
--- The parts of a text between bytes of one kind, and the numbers, names and values that they spell.
+-- The parts of a text between separators, and the numbers, names and values that a part spells.
 use Rattle.std.specs.Prelude.{ℕ, zero, suc, ◌+◌, ◌-◌, ◌*◌, ℤ, pos, negsuc, List, [], ◌∷◌, length, Option, Some, None, Bool, true, false, ◌&&◌, ◌||◌, is_none, nat_eq, nat_le, nat_lt, bytes_eq, codes}
 use Rattle.std.specs.Prelude.{decimal, slice_index, slice_range, neg_ℤ}
 use Rattle.run_types.specs.Partial.{◌>>=◌, only_if}
@@ -12,7 +12,7 @@ use Rattle.text_scan.specs.Lines.{at_front, decimal_of}
 use Rattle.text_scan.specs.declared.spans.Decimal.{Decimal}
 use Rattle.text_scan.specs.declared.spans.Decimal.TheVariants.{NotDigits, TooLarge, Value as Spelled}
 
--- the parts before, between and after these bytes; empty parts stay
+-- the parts before, between and after the separators, including empty parts
 abbrev pub parts : ℕ → Text → List Text
 parts s [] = [] ∷ []
 parts s (b ∷ bs) = elim (nat_eq b s) [ true ↦ [] ∷ parts s bs | false ↦ at_front b (parts s bs) ]
@@ -25,7 +25,7 @@ spelled_below limit w NotDigits = None
 spelled_below limit w TooLarge = None
 spelled_below limit w (Spelled n) = only_if (nat_lt n limit && bytes_eq (decimal n) w) (Some n)
 
--- the number below a limit whose text the word is, which has no leading zero
+-- the number below a limit whose decimal text is the word, without leading zeros
 abbrev pub number_of : ℕ → Text → Option ℕ
 number_of limit w = spelled_below limit w (decimal_of w)
 
@@ -36,7 +36,7 @@ count_of w = number_of 4294967296 w
 abbrev pub positive_of : Text → Option ℕ
 positive_of w = count_of w >>= λ n. only_if (nat_lt 0 n) (Some n)
 
--- the place of the first point, the first byte having this place
+-- the index of the first point, if the first byte has the index `at`
 abbrev pub point_from : ℕ → Text → Option ℕ
 point_from at [] = None
 point_from at (b ∷ bs) = elim (nat_eq b 46) [ true ↦ Some at | false ↦ point_from (at + 1) bs ]
@@ -45,7 +45,7 @@ abbrev pub halves_of : Text → ℕ → Option ℕ
 halves_of w at =
     number_of 65536 (slice_range w 0 at) >>= λ node. number_of 65536 (slice_range w (at + 1) (length w)) >>= λ slot. Some (node * 65536 + slot)
 
--- an object's name `node.slot`, both below 65536
+-- the object with the name `node.slot`, both below 65536
 abbrev pub object_of : Text → Option ℕ
 object_of w = point_from 0 w >>= halves_of w
 
@@ -79,20 +79,20 @@ value_of w = elim (bytes_eq w (codes "true")) [
   ]
 ]
 
--- the values that at most so many words are
+-- the values of at most n words
 abbrev pub values_within : ℕ → List Text → Option (List Value)
 values_within n [] = Some []
 values_within zero (w ∷ ws) = None
 values_within (suc n) (w ∷ ws) = value_of w >>= λ v. values_within n ws >>= λ vs. Some (v ∷ vs)
 
--- a name of a class or a method: no keyword, and at most 64 bytes
+-- whether a word is a name of a class or a method: no keyword, and at most 64 bytes
 abbrev pub is_name : Text → Bool
 is_name w = (is_word w && nat_le (length w) 64) && is_none (lookup keywords w)
 
 abbrev pub name_of_word : Text → Option Text
 name_of_word w = only_if (is_name w) (Some w)
 
--- the inside of a string of at most 256 bytes between its quotes
+-- the text between the quotes of a string, of at most 256 bytes
 abbrev pub string_of : Text → Option Text
 string_of w =
     only_if

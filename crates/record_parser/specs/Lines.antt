@@ -1,4 +1,4 @@
--- What a line of a record says, with the text of its name.
+-- The line of a record that words represent, with the text of its name.
 use Rattle.std.specs.Prelude.{ℕ, List, [], ◌∷◌, Option, Some, None, true, false, bytes_eq, codes}
 use Rattle.text_scan.specs.Text.{Text}
 use Rattle.run_types.specs.declared.types.FullKind.{FullKind}
@@ -15,7 +15,7 @@ use Rattle.record_parser.specs.Fields.{count_of}
 use Rattle.run_types.specs.Partial.{only_if, ◌>>=◌}
 use Rattle.record_parser.specs.Shown.{Shown, what_of}
 
--- a line, the number 0 standing for that of its name, and the name's text, if it has one
+-- a line with 0 as the number of its name, and the text of the name, if it has one
 pub record Told : Type 0 where
   pub line : Line
   pub text : Option Text
@@ -38,7 +38,7 @@ kind_of w = elim (bytes_eq w (codes "heap")) [
 abbrev pub full_of : Text → Text → Text → Option Told
 full_of kind node k = kind_of kind >>= λ f. count_of node >>= λ n. count_of k >>= λ done. ends (F.Full f n done)
 
--- behind `end`: `quiet K`, `schedule K`, `full heap N K` and its like
+-- the words after `end`: `quiet K`, `schedule K`, `full heap N K` and the like
 abbrev pub end_of : List Text → Option Told
 end_of [] = None
 end_of (a ∷ []) = None
@@ -71,12 +71,12 @@ abbrev pub wire_of : ℕ → WireAct → List Text → Option Told
 wire_of n act [] = None
 wire_of n act (a ∷ ws) = count_of a >>= λ from. wire_from n act from ws
 
--- of one side of a wire, or of the side of the acknowledgements where the word `ack` says so
+-- a wire event on the data frames, or on the acknowledgements if the next word is `ack`
 abbrev pub side_of : ℕ → WireAct → WireAct → List Text → Option Told
 side_of n act other [] = None
 side_of n act other (w ∷ ws) = elim (bytes_eq w (codes "ack")) [ true ↦ wire_of n other ws | false ↦ wire_of n act (w ∷ ws) ]
 
--- what happens on a wire, by its first word
+-- a wire event, by its first word
 abbrev pub wire_event : ℕ → Text → List Text → Option Told
 wire_event n w ws = elim (bytes_eq w (codes "send")) [
   | true ↦ wire_of n A.Send ws
@@ -96,7 +96,7 @@ abbrev pub event_of : ℕ → List Text → Option Told
 event_of n [] = None
 event_of n (w ∷ ws) = elim (bytes_eq w (codes "turn")) [ true ↦ turn_of n ws | false ↦ elim (bytes_eq w (codes "link")) [ true ↦ link_of n ws | false ↦ wire_event n w ws ] ]
 
--- the form of a line without its line feed
+-- the line of these words, without its line feed
 abbrev pub line_of : List Text → Option Told
 line_of [] = None
 line_of (w ∷ ws) = elim (bytes_eq w (codes "end")) [ true ↦ end_of ws | false ↦ count_of w >>= λ n. event_of n ws ]

@@ -1,4 +1,4 @@
--- What the reader of a line keeps of it.
+-- The line that a parsed line of the code represents.
 use Rattle.std.specs.Prelude.{option_map}
 use Rattle.record_parser.specs.declared.line.ReadLine.{ReadLine}
 use Rattle.record_parser.specs.Lines.{Told}

@@ -1,4 +1,4 @@
--- What the reader of a line keeps of what the line shows.
+-- The content of a line that a parsed content of the code represents.
 use Rattle.std.specs.Prelude.{option_map}
 use Rattle.record_parser.specs.declared.shown.Read.{Read}
 use Rattle.record_parser.specs.Shown.{Shown}

@@ -1,4 +1,4 @@
--- What the words of a record's line say.
+-- The content of a line of a record that words represent.
 use Rattle.std.specs.Prelude.{ℕ, List, [], ◌∷◌, Option, Some, None, true, false, bytes_eq, codes}
 use Rattle.std.specs.Option.{option_or}
 use Rattle.text_scan.specs.Text.{Text}
@@ -15,12 +15,12 @@ use Rattle.record_writer.specs.RecordText.{joined}
 use Rattle.record_parser.specs.Fields.{begins_with, count_of, error_of, name_of_word, object_of, positive_of, string_of, value_of, values_within}
 use Rattle.run_types.specs.Partial.{only_if, ◌>>=◌}
 
--- what a line shows, the number 0 standing for that of its name, and the name's text, if it has one
+-- the content of a line with 0 as the number of its name, and the text of the name, if it has one
 pub record Shown : Type 0 where
   pub what : What
   pub text : Option Text
 
--- the number that stands for that of the name
+-- the number 0, used instead of the number of a name
 abbrev pub no_number : NameId
 no_number = record { 0 = 0 }
 
@@ -33,7 +33,7 @@ named what text = Some (record { what = what; text = Some text })
 abbrev pub once : Label → What
 once label = W.Step label 1
 
--- two words, three words, three and more
+-- exactly two words, exactly three words, at least three words
 abbrev pub for_two : {A : Type 0} → List Text → (Text → Text → Option A) → Option A
 for_two [] f = None
 for_two (a ∷ []) f = None
@@ -53,11 +53,11 @@ for_more (a ∷ []) f = None
 for_more (a ∷ b ∷ []) f = None
 for_more (a ∷ b ∷ c ∷ ws) f = f a b c ws
 
--- two objects, and what follows
+-- two objects, and the rest
 abbrev pub of_pair : {A : Type 0} → Text → Text → (ℕ → ℕ → Option A) → Option A
 of_pair a b f = object_of a >>= λ o. object_of b >>= λ p. f o p
 
--- what a message of this kind is, of two objects and its values
+-- the message of this kind between two objects, with its arguments
 abbrev pub making : Message → ℕ → ℕ → List Value → What
 making M.Answer p o vs = once (L.Answer p o no_number vs)
 making M.Send o p vs = once (L.Send o p no_number vs)
@@ -81,7 +81,7 @@ new_of ws = for_three ws (λ a b c. of_pair a b (λ o p. name_of_word c >>= λ t
 abbrev pub return_of : List Text → Option Shown
 return_of ws = for_three ws (λ a b c. of_pair a b (λ p o. value_of c >>= λ v. plain (once (L.Return p o v))))
 
--- a string in its quotes is all that is left
+-- a string in quotes is the whole rest; else the rest is a value
 abbrev pub item_of : ℕ → Text → Option Shown
 item_of o left = elim (begins_with 34 left) [
   | true ↦ string_of left >>= λ text. named (once (L.Write o (I.Text no_number))) text
@@ -155,7 +155,7 @@ only_count [] = None
 only_count (a ∷ []) = count_of a
 only_count (a ∷ b ∷ ws) = None
 
--- what became of a frame, by its first word
+-- the content of a line about a frame, by its first word
 abbrev pub frame_of : Text → List Text → Option Shown
 frame_of w ws = elim (bytes_eq w (codes "frame")) [
   | true ↦ only_count ws >>= λ n. plain (W.Frame n)
@@ -171,7 +171,7 @@ frame_of w ws = elim (bytes_eq w (codes "frame")) [
   ]
 ]
 
--- what shows no transition, by its first word
+-- the content of a line that shows no transition, by its first word
 abbrev pub delay_of : Text → List Text → Option Shown
 delay_of w ws = elim (bytes_eq w (codes "post")) [
   | true ↦ post_of ws

@@ -1,4 +1,4 @@
--- The parts of a text as far as they are looked at.
+-- The first parts of a text and the rest, as the reader cuts it.
 use Rattle.std.specs.Prelude.{◌≡◌, ℕ, List, [], ◌∷◌, option_map, Option, Some, None}
 use Rattle.text_scan.specs.Text.{Text}
 use Rattle.record_parser.specs.declared.fields.Front.{Front}
@@ -6,12 +6,12 @@ use Rattle.record_parser.specs.declared.fields.Few.{Few}
 use Rattle.record_parser.specs.declared.fields.Few.TheVariants as F
 use Rattle.record_parser.specs.Fields.{fields, parts}
 
--- the parts of what is left behind such a byte, if there was one
+-- the parts of the rest after a separator, if there was one
 abbrev pub parts_left : ℕ → Option Text → List Text
 parts_left s None = []
 parts_left s (Some t) = parts s t
 
--- the first part, and those of what is left
+-- the first part, and the parts of the rest
 abbrev pub IsCut : ℕ → List Text → Front → Type 0
 IsCut s ps c = ps ≡ c.first.now ∷ parts_left s (option_map (λ t. t.now) c.rest)
 

@@ -1,16 +1,16 @@
-//! The parts of a text between bytes of one kind.
+//! The parts of a text between separators.
 ghost use Rattle.std.specs.Prelude.{◌≡◌, ◌<◌, length, IfSome};
 ghost use Rattle.record_parser.specs.Fields.{fields, parts};
 ghost use Rattle.record_parser.specs.TextParts.{AreFields, IsCut};
 
-/// The first part of a text, and what is left behind the separator, if there is one.
+/// The first part of a text, and the rest after the separator. `rest` is None if there is no separator.
 #[derive(Clone, Copy)]
 pub struct Front<'a> {
     pub first: &'a [u8],
     pub rest: Option<&'a [u8]>,
 }
 
-/// Cuts a text at its first separator.
+/// Cuts a text at its first byte `separator`.
 pub fn cut(separator: u8, text: &[u8]) -> Front<'_>
     ensures parts { IsCut separator (parts separator text.now) result }
     ensures shorter { IfSome result.rest (λ t. length t.now < length text.now) }
@@ -31,7 +31,7 @@ pub fn cut(separator: u8, text: &[u8]) -> Front<'_>
     }
 }
 
-/// The words of a text; of more than three the text of those behind the third.
+/// The words of a text. If there are more than three, the last text has all words after the third.
 #[derive(Clone, Copy)]
 pub enum Few<'a> {
     One(&'a [u8]),
@@ -40,7 +40,7 @@ pub enum Few<'a> {
     More(&'a [u8], &'a [u8], &'a [u8], &'a [u8]),
 }
 
-/// The words of a text, with one space between them.
+/// Splits a text into words at each space. An empty word counts.
 pub fn few_fields(text: &[u8]) -> Few<'_>
     ensures { AreFields (fields text.now) result }
 {

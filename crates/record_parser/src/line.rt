@@ -1,4 +1,4 @@
-//! What a line of a record says.
+//! Parses a line of a record.
 ghost use Rattle.std.specs.Prelude.{◌≡◌, ◌∷◌, None, option_map};
 ghost use Rattle.record_parser.specs.Fields.{fields};
 ghost use Rattle.record_parser.specs.Lines.{end_of, end_of_two, event_of, full_of, happened, kind_of, line_of, link_from, link_of, side_of, turn_of, wire_event, wire_from, wire_of};
@@ -10,7 +10,7 @@ use crate::shown::what_in;
 use crate::spelled::count;
 use run_types::{End, Event, FullKind, Line, WireAct};
 
-/// A line, the number 0 standing for that of its name, and the name's text, if it has one.
+/// A parsed line. It has 0 as the number of its name. `text` is the text of the name, if the line has one.
 #[derive(Clone, Copy)]
 pub struct ReadLine<'a> {
     pub line: Line,
@@ -63,7 +63,7 @@ fn full_of(kind: &[u8], node: &[u8], number: &[u8]) -> Option<ReadLine<'static>>
     Some(end_line(End::Full { kind, node, done }))
 }
 
-/// The end of a full node, whose fourth word is the last.
+/// The end line of a full node, which has exactly four words after `end`.
 fn full_in(full: &[u8], kind: &[u8], node: &[u8], left: &[u8]) -> Option<ReadLine<'static>>
     ensures { option_map told result ≡ end_of (full.now ∷ kind.now ∷ node.now ∷ fields left.now) }
 {
@@ -151,7 +151,7 @@ fn wire_in(number: u32, act: WireAct, words: &[u8]) -> Option<ReadLine<'_>>
     wire_from(number, act, from, left)
 }
 
-/// Of one side of a wire, or of that of the acknowledgements where the word `ack` says so.
+/// A wire event on the data frames, or on the acknowledgements if the next word is `ack`.
 fn side_in(number: u32, act: WireAct, other: WireAct, words: &[u8]) -> Option<ReadLine<'_>>
     ensures { option_map told result ≡ side_of number act other (fields words.now) }
 {
@@ -198,7 +198,7 @@ fn event_in(number: u32, words: &[u8]) -> Option<ReadLine<'_>>
     wire_event(number, next.first, left)
 }
 
-/// What a line without its line feed says.
+/// Parses a line without its line feed. None exactly if it has no form of a record's line.
 pub fn line_in(line: &[u8]) -> Option<ReadLine<'_>>
     ensures { option_map told result ≡ line_of (fields line.now) }
 {

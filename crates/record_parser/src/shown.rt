@@ -1,4 +1,4 @@
-//! What the words of a line show.
+//! Parses the content of a line.
 ghost use Rattle.std.specs.Prelude.{◌≡◌, None, option_map};
 ghost use Rattle.record_parser.specs.Fields.{fields, values_within};
 ghost use Rattle.record_parser.specs.TextParts.{parts_left};
@@ -10,7 +10,8 @@ use crate::fields::{Few, cut, few_fields};
 use crate::spelled::{begins_with, count, error, name, object, positive, string, value};
 use run_types::{Args, Item, Label, NameId, What};
 
-/// What a line shows, the number 0 standing for that of its name, and the name's text, if it has one.
+/// The parsed content of a line. It has 0 as the number of its name. `text` is the text of the name, if the line has
+/// one.
 #[derive(Clone, Copy)]
 pub struct Read<'a> {
     pub what: What,
@@ -26,10 +27,10 @@ pub enum Message {
     PostCall,
 }
 
-/// The number that stands for that of the name.
+/// The number 0, used instead of the number of a name.
 const NO_NUMBER: NameId = NameId(0);
 
-/// At most 8 values.
+/// Parses at most 8 values, one for each word.
 fn args_in(rest: Option<&[u8]>) -> Option<Args>
     ensures { result ≡ values_within 8 (parts_left 32 (option_map (λ t. t.now) rest.entry)) }
 {
@@ -344,7 +345,7 @@ fn step_in<'a>(word: &[u8], words: &'a [u8]) -> Option<Read<'a>>
     None
 }
 
-/// The only word, which is a count.
+/// Parses a count, which must be the only word.
 fn only_count(words: &[u8]) -> Option<u32>
     ensures { result ≡ only_count (fields words.now) }
 {
@@ -356,7 +357,7 @@ fn only_count(words: &[u8]) -> Option<u32>
     }
 }
 
-/// What became of a frame.
+/// Parses the content of a line about a frame: `frame`, `lost`, `stale`, `acked` or `late`.
 fn frame_in(word: &[u8], words: &[u8]) -> Option<Read<'static>>
     ensures { option_map shown result ≡ frame_of word.now (fields words.now) }
 {
@@ -416,7 +417,7 @@ fn alone(what: What) -> Read<'static>
     Read { what, text: None }
 }
 
-/// What the words behind the event show.
+/// Parses the words after the event of a line. None exactly if they are no content of a line.
 pub fn what_in(words: &[u8]) -> Option<Read<'_>>
     ensures { option_map shown result ≡ what_of (fields words.now) }
 {

@@ -7,7 +7,7 @@ use itoa::Buffer;
 use run_types::{Error, Value, object_name};
 use text_scan::{ByteSet, Decimal, all_in, decimal, is_word, keyword};
 
-/// The number below a limit whose text the word is.
+/// The number below `limit` whose decimal text is the word. It has no leading zeros.
 fn number(limit: u64, word: &[u8]) -> Option<u64>
     ensures { result ≡ number_of limit word.now }
 {
@@ -21,7 +21,7 @@ fn number(limit: u64, word: &[u8]) -> Option<u64>
     None
 }
 
-/// The number below 2^32 whose text the word is.
+/// The number below 2^32 whose decimal text is the word. None if the word is no such text.
 pub fn count(word: &[u8]) -> Option<u32>
     ensures { result ≡ count_of word.now }
 {
@@ -29,7 +29,7 @@ pub fn count(word: &[u8]) -> Option<u32>
     Some(value as u32)
 }
 
-/// The same, where it is not 0.
+/// The number from 1 to 2^32 - 1 whose decimal text is the word. None if the word is no such text.
 pub fn positive(word: &[u8]) -> Option<u32>
     ensures { result ≡ positive_of word.now }
 {
@@ -40,7 +40,7 @@ pub fn positive(word: &[u8]) -> Option<u32>
     None
 }
 
-/// The place of the first point.
+/// The index of the first point.
 fn point(word: &[u8]) -> Option<usize>
     ensures place { result ≡ point_from 0 word.now }
     ensures within { IfSome result (λ at. at < length word.now) }
@@ -53,7 +53,7 @@ fn point(word: &[u8]) -> Option<usize>
     None
 }
 
-/// The object whose name the word is.
+/// The object with this name, `node.slot`, both below 65536. None if the word is no such name.
 pub fn object(word: &[u8]) -> Option<u32>
     ensures { result ≡ object_of word.now }
 {
@@ -63,6 +63,7 @@ pub fn object(word: &[u8]) -> Option<u32>
     Some(object_name(node as u32, slot as u32))
 }
 
+/// Reports whether the first byte of the word is `byte`.
 pub fn begins_with(byte: u8, word: &[u8]) -> bool
     ensures { result ≡ begins_with byte word.now }
 {
@@ -72,7 +73,7 @@ pub fn begins_with(byte: u8, word: &[u8]) -> bool
     }
 }
 
-/// The integer below 0 whose digits the word is.
+/// The negative integer whose digits are the word.
 fn negative(word: &[u8]) -> Option<i64>
     ensures { result ≡ negative_of word.now }
 {
@@ -86,7 +87,7 @@ fn negative(word: &[u8]) -> Option<i64>
     None
 }
 
-/// The integer whose text the word is.
+/// The integer whose text is the word.
 fn integer(word: &[u8]) -> Option<i64>
     ensures { result ≡ integer_of word.now }
 {
@@ -107,7 +108,7 @@ fn name_or_integer(word: &[u8]) -> Option<Value>
     Some(Value::Int(value))
 }
 
-/// The value whose text the word is.
+/// The value whose text is the word. None if the word is no text of a value.
 pub fn value(word: &[u8]) -> Option<Value>
     ensures { result ≡ value_of word.now }
 {
@@ -123,7 +124,7 @@ pub fn value(word: &[u8]) -> Option<Value>
     name_or_integer(word)
 }
 
-/// The word, where it is a name of at most 64 bytes and no keyword.
+/// The word, if it is a name of at most 64 bytes and no keyword.
 pub fn name(word: &[u8]) -> Option<&[u8]>
     ensures { option_map (λ w. w.now) result ≡ name_of_word word.now }
 {
@@ -133,7 +134,7 @@ pub fn name(word: &[u8]) -> Option<&[u8]>
     None
 }
 
-/// The inside of a string in its quotes, of at most 256 bytes.
+/// The text between the quotes of a string, of at most 256 bytes. None if the word is no such string.
 pub fn string(word: &[u8]) -> Option<&[u8]>
     ensures { option_map (λ w. w.now) result ≡ string_of word.now }
 {
@@ -150,7 +151,7 @@ pub fn string(word: &[u8]) -> Option<&[u8]>
     None
 }
 
-/// The language error of this name.
+/// The run-time error of this name. None if there is none.
 pub fn error(word: &[u8]) -> Option<Error>
     ensures { result ≡ error_of word.now }
 {

@@ -1,4 +1,4 @@
--- Words behind those of a line.
+-- Words appended to those of a line.
 use Rattle.std.proofs.Common.{◌≡◌, refl, sym, ap, ◌∙◌, ◌<◌, List, [], ◌∷◌, ◌++◌, length, append_assoc, arith}
 use Rattle.text_scan.specs.Text.{Text}
 use Rattle.run_types.specs.declared.types.End.TheVariants as F

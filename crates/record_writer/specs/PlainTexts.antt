@@ -1,4 +1,4 @@
--- The text of an item without the quotes of a string, and of the lines of a record one after another.
+-- The text of a written item without quotes, and the text of the lines of a record.
 use Rattle.std.specs.Prelude.{List, [], ◌∷◌, ◌++◌}
 use Rattle.text_scan.specs.Text.{Text}
 use Rattle.run_types.specs.declared.types.Item.{Item}
@@ -6,7 +6,7 @@ use Rattle.run_types.specs.declared.types.Item.TheVariants as I
 use Rattle.run_types.specs.declared.types.Line.{Line}
 use Rattle.record_writer.specs.RecordText.{text_at, value_text, line_text}
 
--- what is written without the quotes of a string
+-- the text of a written item, a string without quotes
 abbrev pub bare_text : List Text → Item → Text
 bare_text names (I.Value v) = value_text v
 bare_text names (I.Text id) = text_at names id

@@ -1,4 +1,4 @@
--- The text of a record's lines: words with one space between them, and a line feed.
+-- The text of the lines of a record: words with one space between them, and a line feed.
 use Rattle.std.specs.Prelude.{ℕ, ◌/◌, ◌%◌, List, [], ◌∷◌, ◌++◌, map, codes, decimal, slice_get}
 use Rattle.std.specs.Fmt.{signed_decimal}
 use Rattle.run_types.specs.Table.{text_or_none}
@@ -25,7 +25,7 @@ use Rattle.run_types.specs.declared.types.End.TheVariants as F
 use Rattle.run_types.specs.declared.types.Line.{Line}
 use Rattle.run_types.specs.declared.types.Line.TheVariants as R
 
--- words, a space before each
+-- words, each after a space
 abbrev pub led : List Text → Text
 led [] = []
 led (w ∷ ws) = 32 ∷ (w ++ led ws)
@@ -35,7 +35,7 @@ abbrev pub joined : List Text → Text
 joined [] = []
 joined (w ∷ ws) = w ++ led ws
 
--- the text of this number in the table; none where there is no such number
+-- the text of this number in the table, or no bytes if the table has no such number
 abbrev pub text_at : List Text → NameId → Text
 text_at names id = text_or_none (slice_get names id.0)
 
@@ -49,7 +49,7 @@ value_text (V.Bool b) = truth_text b
 value_text (V.Ref o) = object_text o
 value_text V.Nil = codes "nil"
 
--- what is written: a value, or a string in its quotes
+-- a written item: a value, or a string in quotes
 abbrev pub item_text : List Text → Item → Text
 item_text names (I.Value v) = value_text v
 item_text names (I.Text id) = 34 ∷ (text_at names id ++ 34 ∷ [])
@@ -61,7 +61,7 @@ error_text error.Overflow = codes "Overflow"
 error_text error.ZeroDivisor = codes "ZeroDivisor"
 error_text error.NoOpenGuard = codes "NoOpenGuard"
 
--- a transition; the number of transitions stands at local ones alone
+-- the words of a transition; only a local one has the number of transitions
 abbrev pub label_words : List Text → Label → ℕ → List Text
 label_words names (L.Local o) times = codes "local" ∷ object_text o ∷ decimal times ∷ []
 label_words names (L.New o p c) times = codes "new" ∷ object_text o ∷ object_text p ∷ text_at names c ∷ []
@@ -73,7 +73,7 @@ label_words names (L.Write o item) times = codes "write" ∷ object_text o ∷ i
 label_words names (L.Pick o i) times = codes "pick" ∷ object_text o ∷ decimal i ∷ []
 label_words names (L.Fault o e) times = codes "fault" ∷ object_text o ∷ error_text e ∷ []
 
--- what a line shows
+-- the words of the content of a line
 abbrev pub what_words : List Text → What → List Text
 what_words names (W.Step label times) = label_words names label times
 what_words names (W.PostCreate o c n) = codes "post" ∷ codes "create" ∷ object_text o ∷ text_at names c ∷ decimal n ∷ []
@@ -89,7 +89,7 @@ what_words names (W.Stale n) = codes "stale" ∷ decimal n ∷ []
 what_words names (W.Acked n) = codes "acked" ∷ decimal n ∷ []
 what_words names (W.Late n) = codes "late" ∷ decimal n ∷ []
 
--- what happens on a wire, as a schedule says it
+-- the words of a wire event, the same as in a schedule
 abbrev pub wire_words : WireAct → List Text
 wire_words A.Send = codes "send" ∷ []
 wire_words A.Ack = codes "ack" ∷ []
@@ -110,7 +110,7 @@ full_text full.Heap = codes "heap"
 full_text full.Frames = codes "frames"
 full_text full.Cells = codes "cells"
 
--- how a record ends, where a node is full which, and the number of its events
+-- the words of the end of a record, with the number of its events; if a node is full, also the limit and the node
 abbrev pub end_words : End → List Text
 end_words (F.Quiet done) = codes "end" ∷ codes "quiet" ∷ decimal done ∷ []
 end_words (F.Schedule done) = codes "end" ∷ codes "schedule" ∷ decimal done ∷ []

@@ -1,4 +1,4 @@
--- The lines that are written: those whose name, if they have one, is a text of the table, of at most 256 bytes.
+-- The lines that can be written: their name, if they have one, is a text of the table with at most 256 bytes.
 use Rattle.std.specs.Prelude.{◌<◌, ◌≤◌, List, length, Option, Some, None, IfSome}
 use Rattle.text_scan.specs.Text.{Text}
 use Rattle.run_types.specs.declared.types.NameId.{NameId}
@@ -47,7 +47,7 @@ abbrev pub id_of_line : Line → Option NameId
 id_of_line (R.Event number event what) = id_of_what what
 id_of_line (R.End end) = None
 
--- a place of the table, whose text has at most 256 bytes
+-- a number of the table whose text has at most 256 bytes
 abbrev pub IsShort : List Text → NameId → Type 0
 IsShort names id = (id.0 < length names) × (length (text_at names id) ≤ 256)
 

@@ -1,4 +1,4 @@
-//! What a line shows.
+//! The content of a line: the step or delay that it shows.
 ghost use Rattle.std.specs.Prelude.{◌≡◌, ◌+◌, ◌<◌, ◌≤◌, [], ◌∷◌, ◌++◌, length, decimal, map};
 ghost use Rattle.arrayvec.specs.ArrayVec.{array_vec_len};
 ghost use Rattle.record_writer.specs.RecordText.{label_words, led, object_text, text_at, value_text, what_words};
@@ -8,7 +8,7 @@ use crate::parts::{put_args, put_error, put_item, put_name, put_value};
 use crate::text::{LineText, put_number, put_object, put_word};
 use run_types::{Args, Label, NameId, Names, What};
 
-/// Puts a word and two objects' names.
+/// Appends a word and the names of two objects.
 fn put_pair(text: &mut LineText, word: &[u8], one: u32, other: u32)
     requires room { array_vec_len text.old ≤ 50 }
     requires short { length word.now ≤ 7 }
@@ -20,7 +20,7 @@ fn put_pair(text: &mut LineText, word: &[u8], one: u32, other: u32)
     put_object(text, other);
 }
 
-/// Puts a message: a word, two objects' names, a method and its arguments.
+/// Appends a message: a word, the names of two objects, a method and its arguments.
 fn put_message(
     text: &mut LineText,
     names: &Names,
@@ -41,7 +41,7 @@ fn put_message(
     put_args(text, args);
 }
 
-/// Puts a word and an object's name.
+/// Appends a word and the name of an object.
 fn put_about(text: &mut LineText, word: &[u8], object: u32)
     requires room { array_vec_len text.old ≤ 50 }
     requires short { length word.now ≤ 7 }
@@ -52,7 +52,7 @@ fn put_about(text: &mut LineText, word: &[u8], object: u32)
     put_object(text, object);
 }
 
-/// Puts a word and a frame's number.
+/// Appends a word and the number of a frame.
 fn put_numbered(text: &mut LineText, word: &[u8], number: u32)
     requires room { array_vec_len text.old ≤ 50 }
     requires short { length word.now ≤ 7 }
@@ -63,7 +63,7 @@ fn put_numbered(text: &mut LineText, word: &[u8], number: u32)
     put_number(text, number);
 }
 
-/// Puts a transition.
+/// Appends a transition.
 fn put_label(text: &mut LineText, names: &Names, label: &Label, times: u32)
     requires room { array_vec_len text.old ≤ 42 }
     requires known { AreShort names.now (id_of_label label.now) }
@@ -124,7 +124,7 @@ fn put_label(text: &mut LineText, names: &Names, label: &Label, times: u32)
     }
 }
 
-/// Puts what a line shows.
+/// Appends the content of a line, at most 459 bytes. Requires a short name, and at most 42 bytes before it.
 pub fn put_what(text: &mut LineText, names: &Names, what: &What)
     requires room { array_vec_len text.old ≤ 42 }
     requires known { AreShort names.now (id_of_what what.now) }

@@ -1,4 +1,4 @@
-//! Values, texts, errors and written items of a line.
+//! Values, names, errors and written items of a line.
 ghost use Rattle.std.specs.Prelude.{◌≡◌, ◌+◌, ◌*◌, ◌<◌, ◌≤◌, [], ◌∷◌, ◌++◌, length, map};
 ghost use Rattle.arrayvec.specs.ArrayVec.{array_vec_len};
 ghost use Rattle.record_writer.specs.RecordText.{error_text, item_text, led, text_at, value_text};
@@ -8,7 +8,7 @@ ghost use Rattle.record_writer.specs.Writable.{AreShort, IsShort, id_of_item};
 use crate::text::{LineText, put, put_integer, put_object, put_word};
 use run_types::{Args, Error, Item, NameId, Names, Value};
 
-/// Puts a space and a value.
+/// Appends a space and a value, at most 21 bytes.
 pub fn put_value(text: &mut LineText, value: Value)
     requires { array_vec_len text.old ≤ 491 }
     ensures items { text.new.items ≡ text.old.items ++ led (value_text value ∷ []) }
@@ -23,7 +23,7 @@ pub fn put_value(text: &mut LineText, value: Value)
     }
 }
 
-/// Puts each of the arguments behind a space.
+/// Appends a space and a value for each argument, at most 168 bytes.
 pub fn put_args(text: &mut LineText, args: &Args)
     requires { array_vec_len text.old ≤ 344 }
     ensures items { text.new.items ≡ text.old.items ++ led (map value_text args.now) }
@@ -35,7 +35,7 @@ pub fn put_args(text: &mut LineText, args: &Args)
     }
 }
 
-/// Puts a space and the text of a number.
+/// Appends a space and the text of a name. Requires a text of at most 256 bytes.
 pub fn put_name(text: &mut LineText, names: &Names, id: NameId)
     requires room { array_vec_len text.old ≤ 255 }
     requires short { IsShort names.now id }
@@ -45,7 +45,7 @@ pub fn put_name(text: &mut LineText, names: &Names, id: NameId)
     put_word(text, names.text(id));
 }
 
-/// Puts a space and a text in quotes.
+/// Appends a space and a text in quotes.
 fn put_string(text: &mut LineText, names: &Names, id: NameId)
     requires room { array_vec_len text.old ≤ 253 }
     requires short { IsShort names.now id }
@@ -57,7 +57,7 @@ fn put_string(text: &mut LineText, names: &Names, id: NameId)
     put(text, b"\"");
 }
 
-/// Puts a space and what is written.
+/// Appends a space and a written item, a string in quotes. Requires a text of at most 256 bytes.
 pub fn put_item(text: &mut LineText, names: &Names, item: Item)
     requires room { array_vec_len text.old ≤ 253 }
     requires short { AreShort names.now (id_of_item item) }
@@ -70,7 +70,7 @@ pub fn put_item(text: &mut LineText, names: &Names, item: Item)
     }
 }
 
-/// Puts a space and what is written, a string without quotes.
+/// Appends a space and a written item, a string without quotes. Requires a text of at most 256 bytes.
 pub fn put_bare(text: &mut LineText, names: &Names, item: Item)
     requires room { array_vec_len text.old ≤ 253 }
     requires short { AreShort names.now (id_of_item item) }
@@ -83,7 +83,7 @@ pub fn put_bare(text: &mut LineText, names: &Names, item: Item)
     }
 }
 
-/// Puts a space and a language error.
+/// Appends a space and the name of a run-time error, at most 15 bytes.
 pub fn put_error(text: &mut LineText, error: Error)
     requires { array_vec_len text.old ≤ 496 }
     ensures items { text.new.items ≡ text.old.items ++ led (error_text error ∷ []) }

@@ -1,4 +1,4 @@
-//! A line's text under way: words, each with a space before it.
+//! The buffer for the text of a line: words, each after a space.
 ghost use Rattle.std.specs.Prelude.{◌≡◌, ◌+◌, ◌<◌, ◌≤◌, [], ◌∷◌, ◌++◌, length, decimal};
 ghost use Rattle.std.specs.Fmt.{signed_decimal};
 ghost use Rattle.arrayvec.specs.ArrayVec.{array_vec_len};
@@ -8,10 +8,10 @@ use arrayvec::ArrayVec;
 use itoa::Buffer;
 use run_types::{node_of, slot_of};
 
-/// The text of a line, which has fewer than 528 bytes.
+/// The buffer for the text of a line, of 528 bytes.
 pub type LineText = ArrayVec<u8, 528>;
 
-/// Puts bytes behind the text.
+/// Appends bytes. Requires room for them.
 pub fn put(text: &mut LineText, bytes: &[u8])
     requires { array_vec_len text.old + length bytes.now ≤ 528 }
     ensures items { text.new.items ≡ text.old.items ++ bytes.now }
@@ -23,7 +23,7 @@ pub fn put(text: &mut LineText, bytes: &[u8])
     }
 }
 
-/// Puts a space and a word behind the text.
+/// Appends a space and a word. Requires room for them.
 pub fn put_word(text: &mut LineText, word: &[u8])
     requires { array_vec_len text.old + length word.now < 528 }
     ensures items { text.new.items ≡ text.old.items ++ led (word.now ∷ []) }
@@ -33,7 +33,7 @@ pub fn put_word(text: &mut LineText, word: &[u8])
     put(text, word);
 }
 
-/// Puts a number of more than one digit, of at most 10.
+/// Appends a number of 2 to 10 digits.
 #[inline(never)]
 fn put_long(text: &mut LineText, number: u32)
     requires { array_vec_len text.old ≤ 518 }
@@ -44,7 +44,7 @@ fn put_long(text: &mut LineText, number: u32)
     put(text, buffer.format(number).as_bytes());
 }
 
-/// Puts a number, of at most 10 digits.
+/// Appends a number, of at most 10 digits.
 #[tactic(auto, using(std::proofs::lemmas::Fmt::decimal_digit))]
 pub fn put_digits(text: &mut LineText, number: u32)
     requires { array_vec_len text.old ≤ 518 }
@@ -58,7 +58,7 @@ pub fn put_digits(text: &mut LineText, number: u32)
     }
 }
 
-/// Puts a space and a number.
+/// Appends a space and a number.
 pub fn put_number(text: &mut LineText, number: u32)
     requires { array_vec_len text.old ≤ 517 }
     ensures items { text.new.items ≡ text.old.items ++ led (decimal number ∷ []) }
@@ -68,7 +68,7 @@ pub fn put_number(text: &mut LineText, number: u32)
     put_digits(text, number);
 }
 
-/// Puts a space and an integer.
+/// Appends a space and an integer, at most 21 bytes.
 pub fn put_integer(text: &mut LineText, number: i64)
     requires { array_vec_len text.old ≤ 507 }
     ensures items { text.new.items ≡ text.old.items ++ led (signed_decimal number ∷ []) }
@@ -78,7 +78,7 @@ pub fn put_integer(text: &mut LineText, number: i64)
     put_word(text, buffer.format(number).as_bytes());
 }
 
-/// Puts half of an object's name, of more than one digit and at most 5.
+/// Appends the node or the slot of an object's name, of 2 to 5 digits.
 #[inline(never)]
 fn put_long_half(text: &mut LineText, half: u16)
     requires { array_vec_len text.old ≤ 507 }
@@ -89,7 +89,7 @@ fn put_long_half(text: &mut LineText, half: u16)
     put(text, buffer.format(half).as_bytes());
 }
 
-/// Puts half of an object's name, of at most 5 digits.
+/// Appends the node or the slot of an object's name, of at most 5 digits.
 #[tactic(auto, using(std::proofs::lemmas::Fmt::decimal_digit))]
 fn put_half(text: &mut LineText, half: u16)
     requires { array_vec_len text.old ≤ 507 }
@@ -103,7 +103,7 @@ fn put_half(text: &mut LineText, half: u16)
     }
 }
 
-/// Puts a space and an object's name.
+/// Appends a space and an object's name, at most 12 bytes.
 pub fn put_object(text: &mut LineText, object: u32)
     requires { array_vec_len text.old ≤ 500 }
     ensures items { text.new.items ≡ text.old.items ++ led (object_text object ∷ []) }

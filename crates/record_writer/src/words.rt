@@ -1,4 +1,4 @@
-//! The words of a line, each with a space before it.
+//! The words of a line, each after a space, in a text that may grow. Each function returns `Err` if memory runs out.
 ghost use Rattle.std.specs.Prelude.{◌≡◌, ◌<◌, [], ◌∷◌, ◌++◌, OnOk, decimal, length, map};
 ghost use Rattle.std.specs.Fmt.{signed_decimal};
 ghost use Rattle.record_writer.specs.RecordText.{error_text, item_text, led, object_text, text_at, value_text};
@@ -7,7 +7,7 @@ use itoa::Buffer;
 use run_types::{Args, Error, Item, NameId, Names, Value, node_of, slot_of};
 use std::alloc::AllocError;
 
-/// Puts a space and a word behind the text.
+/// Appends a space and a word.
 pub fn push_word(text: &mut Vec<u8>, word: &[u8]) -> Result<(), AllocError>
     ensures { OnOk result (text.new.items ≡ text.old.items ++ led (word.now ∷ [])) }
 {
@@ -16,7 +16,7 @@ pub fn push_word(text: &mut Vec<u8>, word: &[u8]) -> Result<(), AllocError>
     Ok(())
 }
 
-/// Puts a space and a number.
+/// Appends a space and a number.
 pub fn push_number(text: &mut Vec<u8>, number: u32) -> Result<(), AllocError>
     ensures { OnOk result (text.new.items ≡ text.old.items ++ led (decimal number ∷ [])) }
 {
@@ -24,7 +24,7 @@ pub fn push_number(text: &mut Vec<u8>, number: u32) -> Result<(), AllocError>
     push_word(text, buffer.format(number).as_bytes())
 }
 
-/// Puts a space and a count.
+/// Appends a space and a count.
 pub fn push_count(text: &mut Vec<u8>, count: usize) -> Result<(), AllocError>
     ensures { OnOk result (text.new.items ≡ text.old.items ++ led (decimal count ∷ [])) }
 {
@@ -32,7 +32,7 @@ pub fn push_count(text: &mut Vec<u8>, count: usize) -> Result<(), AllocError>
     push_word(text, buffer.format(count).as_bytes())
 }
 
-/// Puts a space and an integer.
+/// Appends a space and an integer.
 fn push_integer(text: &mut Vec<u8>, number: i64) -> Result<(), AllocError>
     ensures { OnOk result (text.new.items ≡ text.old.items ++ led (signed_decimal number ∷ [])) }
 {
@@ -40,7 +40,7 @@ fn push_integer(text: &mut Vec<u8>, number: i64) -> Result<(), AllocError>
     push_word(text, buffer.format(number).as_bytes())
 }
 
-/// Puts a number.
+/// Appends a number.
 fn push_digits(text: &mut Vec<u8>, number: u32) -> Result<(), AllocError>
     ensures { OnOk result (text.new.items ≡ text.old.items ++ decimal number) }
 {
@@ -49,7 +49,7 @@ fn push_digits(text: &mut Vec<u8>, number: u32) -> Result<(), AllocError>
     Ok(())
 }
 
-/// Puts an object's name.
+/// Appends an object's name.
 pub fn push_object_name(text: &mut Vec<u8>, object: u32) -> Result<(), AllocError>
     ensures { OnOk result (text.new.items ≡ text.old.items ++ object_text object) }
 {
@@ -58,7 +58,7 @@ pub fn push_object_name(text: &mut Vec<u8>, object: u32) -> Result<(), AllocErro
     push_digits(text, slot_of(object))
 }
 
-/// Puts a space and an object's name.
+/// Appends a space and an object's name.
 pub fn push_object(text: &mut Vec<u8>, object: u32) -> Result<(), AllocError>
     ensures { OnOk result (text.new.items ≡ text.old.items ++ led (object_text object ∷ [])) }
 {
@@ -66,7 +66,7 @@ pub fn push_object(text: &mut Vec<u8>, object: u32) -> Result<(), AllocError>
     push_object_name(text, object)
 }
 
-/// Puts a space and a value.
+/// Appends a space and a value.
 pub fn push_value(text: &mut Vec<u8>, value: Value) -> Result<(), AllocError>
     ensures { OnOk result (text.new.items ≡ text.old.items ++ led (value_text value ∷ [])) }
 {
@@ -79,7 +79,7 @@ pub fn push_value(text: &mut Vec<u8>, value: Value) -> Result<(), AllocError>
     }
 }
 
-/// Puts each of the arguments behind a space.
+/// Appends a space and a value for each argument.
 pub fn push_args(text: &mut Vec<u8>, args: &Args) -> Result<(), AllocError>
     ensures { OnOk result (text.new.items ≡ text.old.items ++ led (map value_text args.now)) }
 {
@@ -90,7 +90,7 @@ pub fn push_args(text: &mut Vec<u8>, args: &Args) -> Result<(), AllocError>
     Ok(())
 }
 
-/// The text of a number; none where the table has no such number.
+/// The text of a name, or no bytes if the table does not have it.
 fn text_of(names: &Names, id: NameId) -> &[u8]
     ensures { result.now ≡ text_at names.now id }
 {
@@ -101,14 +101,14 @@ fn text_of(names: &Names, id: NameId) -> &[u8]
     }
 }
 
-/// Puts a space and the text of a number.
+/// Appends a space and the text of a name.
 pub fn push_name(text: &mut Vec<u8>, names: &Names, id: NameId) -> Result<(), AllocError>
     ensures { OnOk result (text.new.items ≡ text.old.items ++ led (text_at names.now id ∷ [])) }
 {
     push_word(text, text_of(names, id))
 }
 
-/// Puts a space and what is written, a string in quotes.
+/// Appends a space and a written item, a string in quotes.
 pub fn push_item(text: &mut Vec<u8>, names: &Names, item: Item) -> Result<(), AllocError>
     ensures { OnOk result (text.new.items ≡ text.old.items ++ led (item_text names.now item ∷ [])) }
 {
@@ -123,7 +123,7 @@ pub fn push_item(text: &mut Vec<u8>, names: &Names, item: Item) -> Result<(), Al
     }
 }
 
-/// Puts a space and a language error.
+/// Appends a space and the name of a run-time error.
 pub fn push_error(text: &mut Vec<u8>, error: Error) -> Result<(), AllocError>
     ensures { OnOk result (text.new.items ≡ text.old.items ++ led (error_text error ∷ [])) }
 {

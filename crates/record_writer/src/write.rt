@@ -16,7 +16,7 @@ use crate::text::{LineText, put, put_digits, put_number, put_word};
 use pool_outside::{Sink, WriteFault, write_all_of};
 use run_types::{End, Event, FullKind, Item, Line, Names, What, WireAct};
 
-/// Puts what happens on a wire.
+/// Appends a wire event.
 fn put_wire_act(text: &mut LineText, act: WireAct)
     requires { array_vec_len text.old ≤ 10 }
     ensures items { text.new.items ≡ text.old.items ++ led (wire_words act) }
@@ -43,7 +43,7 @@ fn put_wire_act(text: &mut LineText, act: WireAct)
     }
 }
 
-/// Puts what happens on a wire, and the wire's ends.
+/// Appends a wire event and the ends of its link.
 #[tactic(auto, using(crate::proofs::AppendedWords::led_more))]
 fn put_wire(text: &mut LineText, act: WireAct, from: u32, to: u32)
     requires { array_vec_len text.old ≤ 10 }
@@ -55,7 +55,7 @@ fn put_wire(text: &mut LineText, act: WireAct, from: u32, to: u32)
     put_number(text, to);
 }
 
-/// Puts a turn of a node, a move of a link's head, or what happens on a wire.
+/// Appends an event: a turn of a node, a move of a link's head, or a wire event.
 fn put_event(text: &mut LineText, event: Event)
     requires { array_vec_len text.old ≤ 10 }
     ensures items { text.new.items ≡ text.old.items ++ led (event_words event) }
@@ -86,7 +86,7 @@ fn full_text(kind: FullKind) -> &'static [u8]
     }
 }
 
-/// Puts how a record ends.
+/// Appends the end of a record.
 fn put_end(text: &mut LineText, end: End)
     requires { text.old.items ≡ [] }
     ensures items { text.new.items ≡ joined (end_words end) }
@@ -141,8 +141,8 @@ fn put_line(text: &mut LineText, line: &Line, names: &Names)
     }
 }
 
-/// Writes the line and its line feed in one piece of fewer than 512 bytes. A fault comes only where the sink's count of faults
-/// rose, and a front of the piece was then written. Takes no memory.
+/// Writes a line and its line feed in one piece of fewer than 512 bytes, without allocating. Requires a short name.
+/// Returns an error only if the sink's count of faults rose. A proper prefix of the piece was then written.
 pub fn write_line<K: Sink>(line: &Line, names: &Names, sink: &mut K) -> Result<(), WriteFault>
     requires { IsWritable names.now line.now }
     ensures whole { OnOk result (K.written sink.new ≡ option_map (λ w. w ++ line_text names.now line.now) (K.written sink.old)) }
@@ -158,7 +158,7 @@ pub fn write_line<K: Sink>(line: &Line, names: &Names, sink: &mut K) -> Result<(
     write_all_of(sink, text.as_slice())
 }
 
-/// Puts a request's number behind a line that carries one.
+/// Appends a request number to a line that carries one.
 fn put_ask(text: &mut LineText, asked: bool, ask: u32)
     requires { array_vec_len text.old ≤ 501 }
     ensures items { text.new.items ≡ text.old.items ++ led (ask_words asked ask) }
@@ -182,8 +182,9 @@ fn put_line2(text: &mut LineText, line: &Line, ask: u32, names: &Names)
     put_ask(text, is_asked(line), ask);
 }
 
-/// Writes the line in the second form, with this number of its request if it carries one, and its line feed in one piece of fewer than 528 bytes. A fault
-/// comes only where the sink's count of faults rose, and a front of the piece was then written. Takes no memory.
+/// Writes a line in the second form and its line feed, in one piece of fewer than 528 bytes, without allocating. `ask`
+/// is the number of the request that it answers, if it answers one. Requires a short name. Returns an error only if the
+/// sink's count of faults rose. A proper prefix of the piece was then written.
 pub fn write_line2<K: Sink>(
     line: &Line,
     ask: u32,
@@ -215,7 +216,7 @@ fn put_shown2(text: &mut LineText, number: u32, event: Event, what: &What, ask: 
     put_ask(text, asker_of(event, what).is_some(), ask);
 }
 
-/// Writes the line of an event in the second form, as `write_line2` does, where no line is made of its parts.
+/// Writes the line of an event in the second form as `write_line2` does, without making a `Line` of its parts.
 pub fn write_event2<K: Sink>(
     number: u32,
     event: Event,
@@ -237,8 +238,8 @@ pub fn write_event2<K: Sink>(
     write_all_of(sink, text.as_slice())
 }
 
-/// Writes the first line of a record in the second form, and its line feed. A fault comes only where the sink's count of faults rose, and a front of the
-/// piece was then written. Takes no memory.
+/// Writes the first line of a record in the second form and its line feed, without allocating. Returns an error only if
+/// the sink's count of faults rose. A proper prefix of the piece was then written.
 pub fn write_form<K: Sink>(sink: &mut K) -> Result<(), WriteFault>
     ensures whole { OnOk result (K.written sink.new ≡ option_map (λ w. w ++ (form_text ++ 10 ∷ [])) (K.written sink.old)) }
     ensures front { OnErr result (IsProperFront (K.written sink.old) (form_text ++ 10 ∷ []) (K.written sink.new)) }
@@ -249,8 +250,9 @@ pub fn write_form<K: Sink>(sink: &mut K) -> Result<(), WriteFault>
     write_all_of(sink, b"record 2\n")
 }
 
-/// Writes what was written by an object, a string without quotes, and a line feed in one piece. A fault comes only where the
-/// sink's count of faults rose, and a front of the piece was then written. Takes no memory.
+/// Writes an item that an object wrote, a string without quotes, and a line feed, in one piece, without allocating.
+/// Requires a text of at most 256 bytes. Returns an error only if the sink's count of faults rose. A proper prefix of
+/// the piece was then written.
 pub fn write_item<K: Sink>(item: Item, names: &Names, sink: &mut K) -> Result<(), WriteFault>
     requires { AreShort names.now (id_of_item item) }
     ensures whole { OnOk result (K.written sink.new ≡ option_map (λ w. w ++ (bare_text names.now item ++ 10 ∷ [])) (K.written sink.old)) }

@@ -1,4 +1,4 @@
--- What a list has at a place after a value was put at one, and tests of numbers.
+-- Look-ups in a list after one item was set, and tests of numbers.
 use Rattle.std.proofs.Common.{◌≡◌, ◌≢◌, ◌⊎◌, inl, inr, refl, sym, ap, ℕ, zero, suc, ◌<◌, ◌==◌, ◌||◌, List, [], ◌∷◌, length, replicate, set, Option, Some, None, Bool, true, false, slice_get, arith}
 use Rattle.std.specs.List.{list_any}
 use Rattle.std.specs.Option.{unwrap_or}

@@ -1,4 +1,4 @@
--- What stays true of the numbers that are out.
+-- Issuing and settling a number keep the invariant of the outstanding numbers.
 use Rattle.std.proofs.Common.{◌≡◌, ◌≢◌, ◌⊎◌, inl, inr, refl, sym, ap, ◌∙◌, ℕ, ◌+◌, ◌^◌, ◌<◌, ◌≤◌, ◌==◌, List, [], length, set, replicate, cond, get_or, Option, Some, None, is_some, Bool, true, false, slice_get, count_by, arith}
 use Rattle.std.specs.List.{list_any}
 use Rattle.std.proofs.lemmas.Bool.Decides.{eqb_tells}

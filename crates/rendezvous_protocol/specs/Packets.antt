@@ -1,11 +1,11 @@
--- What a packet says, with the number of its request.
+-- The packet of `mesh_semantics` that a packet of the code represents, with the number of its request.
 use Rattle.std.specs.Prelude.{Some, None}
 use Rattle.mesh_semantics.specs.Delay as D
 use Rattle.mesh_semantics.specs.NumberedPackets.{NumberedPacket}
 use Rattle.rendezvous_protocol.specs.declared.packet.Packet.{Packet}
 use Rattle.rendezvous_protocol.specs.declared.packet.Packet.TheVariants as P
 
--- a packet with its number beside it
+-- a packet and its number
 abbrev pub numbered : Packet → NumberedPacket
 numbered (P.Create number o goal class) = record { number = Some number; packet = D.Create o goal class.0 }
 numbered (P.Created number o name) = record { number = Some number; packet = D.Created o name }

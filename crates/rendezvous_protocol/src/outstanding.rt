@@ -1,4 +1,4 @@
-//! The numbers of the requests that are out.
+//! The numbers of outstanding requests.
 ghost use Rattle.std.specs.Prelude.{◌≡◌, ◌≢◌, ◌<◌, ℕ, length, Some, None, true, IfOk, slice_get, slice_set, get_or, replicate};
 ghost use Rattle.std.specs.List.{list_any};
 ghost use Rattle.rendezvous_protocol.specs.Numbers.{is_number};
@@ -7,13 +7,13 @@ use slab::Slab;
 use std::alloc::{AllocError, Global};
 use std::marker::Model;
 
-/// For each slot of a node the number of its request that is out, if there is one. No number is out for two slots.
-/// Only `make` takes memory.
+/// The number of the outstanding request of each slot, if it has one. No two slots have the same number. Only `make`
+/// allocates.
 #[derive(Drop)]
 pub struct Outstanding {
-    // Under each number that is out its slot.
+    // The slot of each outstanding number.
     slots: Slab<u32>,
-    // For each slot the number that is out for it.
+    // The outstanding number of each slot.
     numbers: Vec<Option<u32>>,
 }
 
@@ -30,8 +30,8 @@ impl Model for Outstanding {
 }
 
 impl Outstanding {
-    /// Takes the memory for the numbers of slots below `objects`. No number is out. Err where the memory is not had,
-    /// or where it holds 2^32 numbers or more.
+    /// Makes a table for slots below `objects`, with no number outstanding. Returns `Err` if memory runs out, or if the
+    /// allocated room is for 2^32 numbers or more.
     pub fn make(alloc: Global, objects: u32) -> Result<Outstanding, AllocError>
         ensures { IfOk result (λ o. o ≡ replicate objects None) }
     {
@@ -43,8 +43,7 @@ impl Outstanding {
         Ok(Outstanding { slots, numbers })
     }
 
-    /// Gives out a number for a slot that has none. It is out for no other slot; a number that was settled may be given
-    /// out again.
+    /// Issues a number for a slot that has none. No other slot has that number. A settled number may be issued again.
     pub fn issue(&mut self, slot: u32) -> u32
         requires slot { slot < length self.old }
         requires none { slice_get self.old slot ≡ Some None }
@@ -56,7 +55,7 @@ impl Outstanding {
         number
     }
 
-    /// The slot that the number is out for; it is out no longer.
+    /// Settles an outstanding number, and returns the slot that had it.
     pub fn settle(&mut self, number: u32) -> u32
         requires { list_any (is_number number) self.old ≡ true }
         ensures slot { slice_get self.old result ≡ Some (Some number) }
@@ -72,14 +71,14 @@ impl Outstanding {
         }
     }
 
-    /// Whether the number is out.
+    /// Reports whether the number is outstanding.
     pub fn is_out(&self, number: u32) -> bool
         ensures { result ≡ list_any (is_number number) self.now }
     {
         self.slots.get(number as usize).is_some()
     }
 
-    /// The number that is out for a slot.
+    /// The outstanding number of a slot, if it has one.
     pub fn number_of(&self, slot: u32) -> Option<u32>
         requires { slot < length self.now }
         ensures { result ≡ get_or self.now slot None }

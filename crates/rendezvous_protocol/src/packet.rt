@@ -1,28 +1,28 @@
-//! What goes from one node to another.
+//! The packets between nodes.
 ghost use Rattle.std.specs.Prelude.{◌≡◌};
 ghost use Rattle.mesh_semantics.specs.Act.{goal_node};
 ghost use Rattle.rendezvous_protocol.specs.Packets.{numbered};
 
 use run_types::{Args, NameId, Value, node_of};
 
-/// A packet. `from` and `to` are names of objects, and `number` is that of the request that the packet belongs to,
-/// as the requester's node gave it out; an asynchronous message belongs to none.
+/// A packet from one node to another. `from` and `to` are names of objects. `number` is the number of the packet's
+/// request, as the requester's node issued it. An asynchronous message has no number.
 #[derive(Clone, Copy)]
 pub enum Packet {
-    /// Asks `node` for an object of a class.
+    /// Requests a new object of a class from `node`.
     Create {
         number: u32,
         from: u32,
         node: u32,
         class: NameId,
     },
-    /// The object that `to` asked for has this name.
+    /// Reports the name of the new object that `to` requested.
     Created {
         number: u32,
         to: u32,
         name: u32,
     },
-    /// A call.
+    /// A synchronous call.
     Request {
         number: u32,
         from: u32,
@@ -30,7 +30,7 @@ pub enum Packet {
         method: NameId,
         args: Args,
     },
-    /// The value of the call of `to`.
+    /// The value of the call that `to` made.
     Result {
         number: u32,
         to: u32,
@@ -55,7 +55,7 @@ impl Default for Packet {
     }
 }
 
-/// The node that the packet goes to.
+/// The node to which the packet goes.
 pub fn goal(packet: &Packet) -> u32
     ensures { result ≡ goal_node (numbered packet.now).packet }
 {

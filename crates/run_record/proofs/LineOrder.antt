@@ -1,4 +1,4 @@
--- The lines of a text without fault are the lines of a record: they are readable, and stand in its order.
+-- The lines of a text without fault are the lines of a record: they are readable and in the order of a record.
 use Rattle.std.proofs.Common.{◌≡◌, refl, sym, ap, subst, ◌∙◌, ℕ, ◌+◌, Bool, true, false, nat_eq, nat_le, bytes_eq, List, [], ◌∷◌, Option, Some, None}
 use Rattle.std.proofs.lemmas.Bool.{and_parts, leb-true}
 use borrow.Author.Tests.{eqb-true}

@@ -1,4 +1,4 @@
--- The names of objects are read back, and integers are none.
+-- The names of objects are read back, and the text of an integer is no such name.
 use Rattle.std.proofs.Common.{◌≡◌, refl, ap, ◌∙◌, ℕ, ◌+◌, ◌-◌, ◌*◌, ◌/◌, ◌%◌, ◌<◌, true, false, nat_eq, [], ◌∷◌, ◌++◌, length, take, length-append, slice_range, Option, Some, None, decimal, arith}
 use Rattle.std.proofs.Math.Seq.{take-append_seam, drop-append-add, take-length}
 use Rattle.std.proofs.lemmas.Bool.{and_parts}

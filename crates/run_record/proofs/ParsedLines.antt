@@ -1,4 +1,4 @@
--- The rows of a record, a line at a time.
+-- The lines of a record, parsed one at a time.
 use Rattle.std.proofs.Common.{◌≡◌, refl, sym, ap, append_assoc, append-nil, ◌∙◌, ℕ, ◌+◌, ◌<◌, ◌≤◌, List, [], ◌∷◌, ◌++◌, length, Option, Some, None, Bool, true, false, ◌&&◌, ◌==◌, bytes_eq, arith}
 use denote.Bor.{Bor}
 use Rattle.std.specs.Prelude.{option_map}

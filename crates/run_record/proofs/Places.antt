@@ -1,4 +1,4 @@
--- The places of a table's objects.
+-- The indices of the objects of a table.
 use Rattle.std.proofs.Common.{◌≡◌, refl, ap, ℕ, ◌+◌, ◌*◌, ◌/◌, ◌%◌, ◌<◌, Bool, true, false, nat_lt, arith}
 use Rattle.std.proofs.Math.Nat.{mul-le-mul_left}
 use Rattle.run_record.specs.declared.asks.Asks.{Asks}

@@ -1,4 +1,4 @@
--- What is read is readable: the lines of a text without fault, with the table after reading, are lines whose text is read back, and each is read again as it is.
+-- The lines of a text without fault, with the table after reading, are readable. Each is read again as it is.
 use Rattle.std.proofs.Common.{◌≡◌, refl, sym, ap, ap₂, subst, ◌∙◌, ℕ, zero, suc, ◌+◌, ◌-◌, ◌*◌, ◌<◌, ◌≤◌, ◌&&◌, ℤ, pos, neg_ℤ, Bool, true, false, nat_eq, nat_le, nat_lt, bytes_eq, codes, decimal, List, [], ◌∷◌, ◌++◌, map, length, take, drop, slice_get, slice_index, slice_range, Option, Some, None, is_none, option_map, arith}
 use Rattle.std.specs.Prelude.{IfSome, not}
 use Rattle.std.specs.List.{All}

@@ -1,4 +1,4 @@
--- Lines that carry a request number: what stands before their last two spaces.
+-- Lines that carry a request number: the text before their last two spaces.
 use Rattle.std.proofs.Common.{◌≡◌, refl, sym, ap, ◌∙◌, ℕ, suc, ◌-◌, ◌<◌, ◌≤◌, drop, take, get_or, List, [], ◌∷◌, ◌++◌, length, Option, Some, None, Bool, true, false, bytes_eq, codes, arith, append_assoc}
 use Rattle.std.proofs.Math.Seq.{drop-cons}
 use Rattle.std.proofs.lemmas.List.{take-append-drop, take_rest}

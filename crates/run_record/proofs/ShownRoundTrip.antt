@@ -1,4 +1,4 @@
--- What a line shows is read back, but for the number of its name, in whose place its text stands.
+-- The content of a line is read back, with the text of its name instead of the number.
 use Rattle.std.proofs.Common.{◌≡◌, refl, sym, ap, ◌∙◌, ℕ, ◌<◌, append-nil, true, false, codes, List, [], ◌∷◌, ◌++◌, map, Option, Some, None, option_map, decimal, arith}
 use Rattle.text_scan.specs.Text.{Text, every}
 use Rattle.run_types.specs.declared.types.NameId.{NameId}

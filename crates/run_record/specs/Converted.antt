@@ -1,4 +1,4 @@
--- A record that is carried over: what its text says, written in the second form.
+-- The conversion of a record: the lines of its text, written in the second form.
 use Rattle.std.specs.Prelude.{[]}
 use Rattle.text_scan.specs.Text.{Text}
 use Rattle.record_writer.specs.SecondForm.{text2}

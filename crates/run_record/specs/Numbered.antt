@@ -1,4 +1,4 @@
--- A record's lines with the numbers of their names in a table, and the table with these names.
+-- The lines of a record with the numbers of their names in a table, and the table after them.
 use Rattle.std.specs.Prelude.{List, [], ◌∷◌, Option, Some, None}
 use Rattle.run_types.specs.Table.{name_of, with_text}
 use Rattle.text_scan.specs.Text.{Text}
@@ -13,7 +13,7 @@ use Rattle.run_types.specs.declared.types.Line.{Line}
 use Rattle.run_types.specs.declared.types.Line.TheVariants as R
 use Rattle.record_parser.specs.Lines.{Told}
 
--- the same with this number of its name, if it has one
+-- the same item, label, content or line with this number of its name, if it has a name
 abbrev pub item_with : NameId → Item → Item
 item_with id (I.Value v) = I.Value v
 item_with id (I.Text t) = I.Text id
@@ -48,7 +48,7 @@ abbrev pub line_with : NameId → Line → Line
 line_with id (R.Event n e what) = R.Event n e (what_with id what)
 line_with id (R.End e) = R.End e
 
--- the table with the text of a name, which goes last where it is new
+-- the table with the text of a name, which is appended if it is new
 abbrev pub with_name : List Text → Option Text → List Text
 with_name names None = names
 with_name names (Some w) = with_text names w

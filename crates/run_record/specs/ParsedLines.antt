@@ -1,4 +1,4 @@
--- What the reader of a line keeps of it and of the request number that it carries.
+-- The line and request number that a parsed line of the code represents.
 use Rattle.std.specs.Prelude.{ℕ, List}
 use Rattle.text_scan.specs.Text.{Text}
 use Rattle.run_record.specs.declared.parsed_line.WithRequest.{WithRequest}

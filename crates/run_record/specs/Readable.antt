@@ -1,4 +1,5 @@
--- Lines whose text is read back: their numbers, names, strings and values are within the ranges of the format, and they stand in the order of a record.
+-- The lines that are a record: their numbers, names, strings and values are in the ranges of the format, and they are
+-- in order.
 use Rattle.std.specs.Prelude.{◌≡◌, ℕ, ◌+◌, ◌<◌, ◌≤◌, List, [], ◌∷◌, length, true}
 use Rattle.text_scan.specs.Text.{Text, every, is_inner}
 use Rattle.run_types.specs.Values.{is_in_range}
@@ -25,7 +26,7 @@ use Rattle.run_record.specs.Records.{done_of}
 abbrev pub IsCount : ℕ → Type 0
 IsCount n = n < 4294967296
 
--- a place of the table with the text of a name, or of a string
+-- a number of the table whose text is a name, or a string
 abbrev pub IsNamed : List Text → NameId → Type 0
 IsNamed names id = (id.0 < length names) × (is_name (text_at names id) ≡ true)
 
@@ -53,7 +54,7 @@ IsReadableItem names (I.Text id) = IsString names id
 abbrev pub IsReadableMessage : List Text → ℕ → ℕ → NameId → List Value → Type 0
 IsReadableMessage names o p m args = IsCount o × IsCount p × IsNamed names m × AreReadableArgs args
 
--- a transition made so often: once, but for local ones
+-- a transition and the number of times that it is made: 1, but for local ones
 abbrev pub IsReadableStep : List Text → Label → ℕ → Type 0
 IsReadableStep names (L.Local o) times = IsCount o × (0 < times) × IsCount times
 IsReadableStep names (L.New o p c) times = IsCount o × IsCount p × IsNamed names c × (times ≡ 1)
@@ -90,7 +91,8 @@ IsReadableEnd (F.Quiet done) = Unit {0}
 IsReadableEnd (F.Schedule done) = Unit {0}
 IsReadableEnd (F.Full kind node done) = IsCount node
 
--- The lines behind an event of this number: events with the next numbers, at most 2,000,000, and then one end line that counts them.
+-- The lines after an event with this number: events with the next numbers, at most 2,000,000, and one end line with the
+-- number of events.
 abbrev pub IsRecordFrom : List Text → ℕ → List Line → Type 0
 IsRecordFrom names last [] = ⊥
 IsRecordFrom names last (R.Event n e what ∷ ls) = (n ≡ last + 1) × (n ≤ 2000000) × IsReadableEvent e × IsReadableWhat names what × IsRecordFrom names n ls

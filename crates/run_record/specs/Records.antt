@@ -1,4 +1,4 @@
--- What a record's text says, in either form: its lines, each with the text of its name, and the first fault.
+-- The lines of the text of a record in either form, each with the text of its name, and the first fault of the text.
 use Rattle.std.specs.Prelude.{ℕ, ◌+◌, List, [], ◌∷◌, Option, Some, None, Bool, true, false, ◌&&◌, not, nat_eq, nat_le, bytes_eq, codes}
 use Rattle.text_scan.specs.Text.{Text}
 use Rattle.run_types.specs.declared.types.End.{End}
@@ -29,7 +29,7 @@ asked_by (a ∷ b ∷ []) = None
 asked_by (a ∷ b ∷ c ∷ []) = only_if (bytes_eq b (codes "by")) (count_of c >>= λ n. Some (a ∷ [], n))
 asked_by (a ∷ b ∷ c ∷ d ∷ ws) = asked_by (b ∷ c ∷ d ∷ ws) >>= λ r. Some (a ∷ r.0, r.1)
 
--- a line of any kind, without a number; one that answers no request; one that does, with its number
+-- a line of any kind, without a number; a line that answers no request; a line that does, with its number
 abbrev pub unnumbered : Told → Option Row
 unnumbered t = Some (record { told = t; ask = None })
 
@@ -39,7 +39,7 @@ unasked t = only_if (not (is_asked t.line)) (unnumbered t)
 abbrev pub asked_for : ℕ → Told → Option Row
 asked_for n t = only_if (is_asked t.line) (Some (record { told = t; ask = Some n }))
 
--- the form of a line in the second form: that of the first where the line answers no request, and else that of the first with ` by` and a number behind it
+-- a line of the second form; if it answers a request, ` by` and a number follow the line of the first form
 abbrev pub second_of : List Text → Option Row
 second_of ws = option_or (line_of ws >>= unasked) (asked_by ws >>= λ r. line_of r.0 >>= asked_for r.1)
 
@@ -52,7 +52,7 @@ done_of (F.Quiet k) = k
 done_of (F.Schedule k) = k
 done_of (F.Full kind n k) = k
 
--- an event has the next number, at most 2,000,000; the end has that of the last event
+-- whether a line has the right number: an event the next number, at most 2,000,000, and the end that of the last event
 abbrev pub follows : ℕ → Line → Bool
 follows last (R.Event n e w) = nat_eq n (last + 1) && nat_le n 2000000
 follows last (R.End e) = nat_eq (done_of e) last
@@ -80,14 +80,14 @@ abbrev pub is_empty : Text → Bool
 is_empty [] = true
 is_empty (b ∷ bs) = false
 
--- what stands behind the last line feed: nothing, in a record that has ended
+-- the text after the last line feed: it must be empty, and the record must have ended
 abbrev pub tail_row : ℕ → Bool → Text → Rows
 tail_row seen ended p = elim (ended && is_empty p) [ true ↦ record { told = []; fault = None } | false ↦ refused (fault.BadLine (seen + 1)) ]
 
 abbrev pub order_fault : ℕ → ℕ → Bool → Line → Option RecordFault
 order_fault seen last ended l = elim (not ended && follows last l) [ true ↦ None | false ↦ Some (fault.OutOfOrder (seen + 1)) ]
 
--- the request number that a line carries is that of the lines before it, of which the latest is the first
+-- the fault of a line whose request number is not the one that the lines before it give
 abbrev pub ask_fault : ℕ → ℕ → Option ℕ → Option RecordFault
 ask_fault seen ask None = None
 ask_fault seen ask (Some n) = elim (nat_eq n ask) [ true ↦ None | false ↦ Some (fault.WrongAsk (seen + 1)) ]
@@ -100,12 +100,13 @@ abbrev pub by_fault : Option RecordFault → Rows → Rows
 by_fault None r = r
 by_fault (Some f) r = refused f
 
--- a line that is there stands before what comes behind it
+-- a parsed line, if there is one, before the lines after it
 abbrev pub row_then : Option Row → (Row → Rows) → Rows
 row_then None next = record { told = []; fault = None }
 row_then (Some r) next = with_told r.told (next r)
 
--- the rest of the rows behind these lines, of which the latest is the first: after so many lines of the text, the last event's number, and whether the end has come
+-- The lines after the lines `earlier`, the latest of which is the first. `seen` lines of the text were read, `last` is
+-- the number of the last event, and `ended` says whether the end has come.
 abbrev pub rows : RecordVersion → List Line → ℕ → ℕ → Bool → List Text → Rows
 rows f earlier seen last ended [] = refused (fault.BadLine (seen + 1))
 rows f earlier seen last ended (p ∷ []) = tail_row seen ended p
@@ -113,12 +114,12 @@ rows f earlier seen last ended (p ∷ q ∷ ps) =
     by_fault (row_fault earlier seen last ended (row_of f (fields p)))
     (row_then (row_of f (fields p)) (λ r. rows f (r.told.line ∷ earlier) (seen + 1) (last_after last r.told.line) (is_end r.told.line) (q ∷ ps)))
 
--- where the first line says so, those behind it are of the second form
+-- if the first line names the second form, the lines after it are of that form
 abbrev pub rows_of : List Text → Rows
 rows_of [] = rows form.First [] 0 0 false []
 rows_of (p ∷ []) = rows form.First [] 0 0 false (p ∷ [])
 rows_of (p ∷ q ∷ ps) = elim (bytes_eq p form_text) [ true ↦ rows form.Second [] 1 0 false (q ∷ ps) | false ↦ rows form.First [] 0 0 false (p ∷ q ∷ ps) ]
 
--- what the text of a record says; only a line feed ends a line
+-- the lines and the fault of the text of a record; only a line feed ends a line
 abbrev pub record_of : Text → Rows
 record_of s = rows_of (parts 10 s)

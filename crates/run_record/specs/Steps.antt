@@ -6,7 +6,7 @@ use Rattle.run_types.specs.declared.types.Line.{Line}
 use Rattle.run_types.specs.declared.types.Line.TheVariants as R
 use Rattle.run_record.specs.declared.steps.Steps.{Steps}
 
--- None where a packet leaves, goes on or arrives, where an object hears of another or of its result, and where nothing was ready
+-- None for every delay and for an idle event
 abbrev pub steps_of_what : What → Option Steps
 steps_of_what (W.Step label times) = Some (record { label = label; times = times })
 steps_of_what (W.PostCreate o c n) = None

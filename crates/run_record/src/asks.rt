@@ -1,4 +1,4 @@
-//! The request numbers of lines as they are made.
+//! The request numbers of lines, computed as the lines are made.
 ghost use Rattle.std.specs.Prelude.{◌≡◌, ◌≤◌, ◌<◌, ◌*◌, ℕ, [], ◌∷◌, List, get_or, length, IfOk, Some, true};
 ghost use Rattle.run_types.specs.declared.types.Line.{Line};
 ghost use Rattle.run_types.specs.declared.types.Line.TheVariants as R;
@@ -9,7 +9,8 @@ use record_writer::{asker_of, poster};
 use run_types::{Event, Line, What, node_of, slot_of};
 use std::alloc::{AllocError, Global};
 
-/// For each object of some nodes, with so many objects at most a node, the number of its latest post.
+/// The number of the latest post of each object, for at most 64 nodes with at most 4096 objects each. Only `make`
+/// allocates.
 #[derive(Drop)]
 pub struct Asks {
     nodes: u32,
@@ -23,7 +24,8 @@ pub struct Asks {
 impl Asks {
     ghost use Rattle.run_record.specs.Table.{AreInTable, HasLast, InTable, place_of};
 
-    /// Nothing was posted.
+    /// Makes a table in which nothing was posted, for 1 to 64 nodes with 1 to 4096 objects each. Returns `Err` if
+    /// memory runs out.
     pub fn make(alloc: Global, nodes: u32, objects: u32) -> Result<Asks, AllocError>
         requires nodes { (1 ≤ nodes) × (nodes ≤ 64) }
         requires objects { (1 ≤ objects) × (objects ≤ 4096) }
@@ -39,7 +41,7 @@ impl Asks {
         })
     }
 
-    /// The place of an object in the table.
+    /// The index of an object in the table.
     fn place(&self, object: u32) -> usize
         requires { InTable self.now object }
         ensures place { result ≡ place_of self.now object }
@@ -48,7 +50,7 @@ impl Asks {
         node_of(object) as usize * self.objects as usize + slot_of(object) as usize
     }
 
-    /// The request number of an event's line behind those given so far.
+    /// The request number of the line of an event after the lines so far, or 0 if it answers no request.
     fn number(&self, event: Event, what: &What) -> u32
         requires { (o : ℕ) → asker_of event what.now ≡ Some o → InTable self.now o }
         ensures { (earlier : List Line) (n : ℕ) → HasLast self.now earlier → result ≡ request_number_of earlier (R.Event n event what.now) }
@@ -59,7 +61,7 @@ impl Asks {
         }
     }
 
-    /// Keeps the number of an object's post.
+    /// Stores the number of an object's post.
     fn put(&mut self, object: u32, number: u32)
         requires { InTable self.old object }
         ensures posted { get_or self.new.last.items (place_of self.new object) 0 ≡ number }
@@ -70,7 +72,7 @@ impl Asks {
         self.last[place] = number;
     }
 
-    /// Keeps an event's line.
+    /// Adds the line of an event to the lines so far.
     fn keep(&mut self, number: u32, what: &What)
         requires { (o : ℕ) → is_post_of o what.now ≡ true → InTable self.old o }
         ensures kept { (earlier : List Line) (e : OneEvent) → HasLast self.old earlier → HasLast self.new (R.Event number e what.now ∷ earlier) }
@@ -82,7 +84,8 @@ impl Asks {
         }
     }
 
-    /// The request number of an event's line behind those given so far, among which it is from now on. Takes no memory.
+    /// Returns the request number of the line of an event after the lines so far, or 0 if it answers no request. Adds
+    /// the line to them. Requires that the objects of the request are in the table.
     pub fn of_event(&mut self, number: u32, event: Event, what: &What) -> u32
         requires { AreInTable self.old (R.Event number event what.now) }
         ensures number { (earlier : List Line) → HasLast self.old earlier
@@ -94,7 +97,8 @@ impl Asks {
         ask
     }
 
-    /// The request number of a line behind those given so far, among which it is from now on. Takes no memory.
+    /// Returns the request number of a line after the lines so far, or 0 if it answers no request. Adds the line to
+    /// them. Requires that the objects of the request are in the table.
     pub fn of(&mut self, line: &Line) -> u32
         requires { AreInTable self.old line.now }
         ensures number { (earlier : List Line) → HasLast self.old earlier → (result ≡ request_number_of earlier line.now) × HasLast self.new (line.now ∷ earlier) }

@@ -1,20 +1,22 @@
-//! Why a record is refused.
+//! The faults of a record.
 ghost use Rattle.std.specs.Prelude.{◌≡◌};
 ghost use Rattle.run_record.specs.declared.fault.RecordFault.TheVariants.{Memory};
 
 use std::alloc::AllocError;
 use thiserror::Error;
 
-/// Why a record is refused. Lines are numbered from 1; the first line at fault is told.
+/// The fault of a record. Lines are numbered from 1, and the first line with a fault counts.
 #[derive(Clone, Copy, Debug, PartialEq, Eq, Error)]
 pub enum RecordFault {
-    /// The line has no form of a record's line; or there is no end line, and the number is one more than that of the last line.
+    /// The line has no form of a record's line. Or there is no end line, and `line` is the number of the last line plus
+    /// 1.
     #[error("line {line} has no form of a record")]
     BadLine { line: u32 },
-    /// The line's number is not one more than the last, or is above 2,000,000; or the end's number is not that of the events; or the end has come before.
+    /// The line is out of order. The number of an event must be the last number plus 1, and at most 2,000,000. The
+    /// number of the end must be the number of events. No line may come after the end.
     #[error("line {line} is out of order")]
     OutOfOrder { line: u32 },
-    /// The request number that the line carries is not that of the post that it answers.
+    /// The line carries another request number than that of the post that it answers.
     #[error("line {line} answers another request")]
     WrongAsk { line: u32 },
     /// Out of memory.

@@ -1,4 +1,4 @@
-//! Lines with the numbers of their names.
+//! Lines with the numbers of their names in the table.
 ghost use Rattle.std.specs.Prelude.{◌≡◌, ◌+◌, ◌<◌, ◌≤◌, ◌^◌, length, IfOk, OnErr, OnOk};
 ghost use Rattle.run_record.specs.Numbered.{item_with, label_with, line_with, numbered, what_with, with_name};
 ghost use Rattle.record_parser.specs.ReadLineView.{told};
@@ -120,7 +120,8 @@ fn line_with(id: NameId, line: &Line) -> Line
     }
 }
 
-/// The line with the number of its name, which goes last in the table where it is new.
+/// The line with the number of its name in the table. A new name is appended to the table. Returns `Err`, and leaves
+/// the table unchanged, if memory runs out.
 pub fn numbered(names: &mut Names, read: &ReadLine<'_>) -> Result<Line, AllocError>
     requires { length names.old < 2 ^ 32 }
     ensures line { IfOk result (λ l. l ≡ numbered names.old (told read.now)) }

@@ -1,4 +1,4 @@
-//! A line with the request number that it carries.
+//! Parses a line with the request number that it carries.
 ghost use Rattle.std.specs.Prelude.{◌≡◌, [], ◌∷◌, ◌++◌, option_map, IfSome, IfNone};
 ghost use Rattle.record_parser.specs.Fields.{count_of, fields, parts};
 ghost use Rattle.run_types.specs.Partial.{only_if, ◌>>=◌ as then_some};
@@ -17,28 +17,28 @@ pub enum RecordVersion {
     Second,
 }
 
-/// What a line says, and the request number that it carries, if it carries one.
+/// A parsed line, and the request number that it carries, if it carries one.
 #[derive(Clone, Copy)]
 pub struct ParsedLine<'a> {
     pub read: ReadLine<'a>,
     pub ask: Option<u32>,
 }
 
-/// What stands before the last space, and behind it.
+/// The texts before and after the last space.
 #[derive(Clone, Copy)]
 pub struct SplitAtLast<'a> {
     pub front: &'a [u8],
     pub last: &'a [u8],
 }
 
-/// What stands before ` by` and a number, and the number.
+/// The text before ` by` and a number, and the number.
 #[derive(Clone, Copy)]
 pub struct WithRequest<'a> {
     pub front: &'a [u8],
     pub ask: u32,
 }
 
-/// Cuts a text at its last space.
+/// Cuts a text at its last space. None if there is none.
 #[tactic(auto, using(crate::proofs::RequestSuffix::last_cut))]
 fn cut_last(text: &[u8]) -> Option<SplitAtLast<'_>>
     ensures some { IfSome result (λ b. fields text.now ≡ fields b.front.now ++ b.last.now ∷ []) }
@@ -57,7 +57,7 @@ fn cut_last(text: &[u8]) -> Option<SplitAtLast<'_>>
     None
 }
 
-/// What stands before ` by` and a number, and the number.
+/// Cuts off ` by` and a number at the end of a line. None if the line does not end so.
 #[tactic(auto, using(crate::proofs::RequestSuffix::asked_one, crate::proofs::RequestSuffix::asked_two, crate::proofs::RequestSuffix::carried_not, crate::proofs::RequestSuffix::carried_is))]
 fn carried_in(line: &[u8]) -> Option<WithRequest<'_>>
     ensures { option_map carried result ≡ asked_by (fields line.now) }
@@ -129,7 +129,7 @@ fn asked_in(line: &[u8]) -> Option<ParsedLine<'_>>
     }
 }
 
-/// What a line without its line feed says in the second form.
+/// Parses a line of the second form, without its line feed.
 fn second_in(line: &[u8]) -> Option<ParsedLine<'_>>
     ensures { option_map row result ≡ second_of (fields line.now) }
 {
@@ -139,7 +139,7 @@ fn second_in(line: &[u8]) -> Option<ParsedLine<'_>>
     }
 }
 
-/// What a line without its line feed says in a form.
+/// Parses a line of this form, without its line feed. None exactly if it has no form of such a line.
 pub fn row_in(form: RecordVersion, line: &[u8]) -> Option<ParsedLine<'_>>
     ensures { option_map row result ≡ row_of form (fields line.now) }
 {

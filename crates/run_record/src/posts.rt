@@ -1,4 +1,4 @@
-//! The request numbers of lines with any names.
+//! The request numbers of lines with any names of objects.
 ghost use Rattle.std.specs.Prelude.{◌≡◌, ◌≤◌, ◌+◌, ℕ, [], ◌∷◌, List, length, IfOk, OnOk};
 ghost use Rattle.run_types.specs.declared.types.Line.{Line};
 ghost use Rattle.run_types.specs.Asks.{request_number_of, asks, asks_from, asker};
@@ -9,14 +9,14 @@ use run_types::{Line, List};
 use std::alloc::{AllocError, Global};
 use std::collections::BTreeMap;
 
-/// For each object the number of its latest post.
+/// The number of the latest post of each object, for lines with any names of objects.
 #[derive(Drop)]
 pub struct Posts {
     last: BTreeMap<u32, u32>,
 }
 
 impl Posts {
-    /// Nothing was posted.
+    /// Makes a table in which nothing was posted.
     pub fn make(alloc: Global) -> Posts
         ensures { HasPosts result [] }
     {
@@ -25,7 +25,7 @@ impl Posts {
         }
     }
 
-    /// The request number of a line behind those that were added.
+    /// The request number of a line after the added lines, or 0 if it answers no request.
     pub fn ask(&self, line: &Line) -> u32
         ensures { (earlier : List Line) → HasPosts self.now earlier → result ≡ request_number_of earlier line.now }
     {
@@ -38,7 +38,7 @@ impl Posts {
         }
     }
 
-    /// Adds a line.
+    /// Adds a line. Returns `Err` if memory runs out.
     pub fn add(&mut self, line: &Line) -> Result<(), AllocError>
         ensures { (earlier : List Line) → HasPosts self.old earlier → OnOk result (HasPosts self.new (line.now ∷ earlier)) }
     {
@@ -55,7 +55,7 @@ impl Posts {
     }
 }
 
-/// The request number of each line.
+/// The request number of each line, or 0 for a line that answers no request. Returns `Err` if memory runs out.
 pub fn asks_of(alloc: Global, lines: &List<Line>) -> Result<List<u32>, AllocError>
     ensures { IfOk result (λ ns. ns ≡ asks lines.now) }
 {

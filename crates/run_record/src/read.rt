@@ -58,7 +58,7 @@ fn is_end(line: &Line) -> bool
     }
 }
 
-/// What a line says that stands behind so many others, the last event having this number; or its fault.
+/// Parses line `seen + 1` of a text, after an event with the number `last`, or returns its fault.
 fn judge<'a>(
     form: RecordVersion,
     posts: &Posts,
@@ -91,7 +91,7 @@ fn judge<'a>(
     }
 }
 
-/// The form of a record's text, the text behind the line that says so, and the number of such lines.
+/// The form of a record's text, the text after the line that names the form, and the number of such lines.
 #[derive(Clone, Copy)]
 pub struct Opening<'a> {
     pub form: RecordVersion,
@@ -99,7 +99,7 @@ pub struct Opening<'a> {
     pub seen: u32,
 }
 
-/// Tells the form by the first line.
+/// The form of a text, by its first line.
 #[tactic(auto, using(crate::proofs::ParsedLines::second_rows, crate::proofs::ParsedLines::first_rows))]
 fn form_of(bytes: &[u8]) -> Opening<'_>
     ensures rows { rows result.form [] result.seen 0 false (parts 10 result.text.now) ≡ record_of bytes.now }
@@ -129,8 +129,8 @@ fn form_of(bytes: &[u8]) -> Opening<'_>
     }
 }
 
-/// The lines of a record's text in either form, of at most 67,108,864 bytes, or its first fault. The texts of names go last into the table where they
-/// are new, and stay there after a refusal.
+/// Parses a record in either form, of at most 67,108,864 bytes. Returns its lines, or its first fault, or `Memory` if
+/// memory runs out. New names are appended to the table, and stay there after an error.
 pub fn read_record(
     alloc: Global,
     bytes: &[u8],
@@ -160,6 +160,7 @@ pub fn read_record(
             }
             return Err(RecordFault::BadLine { line: seen + 1 });
         };
+        // A `match` instead of `?` keeps the clause of the error.
         let row = match judge(start.form, &posts, seen, last, ended, next.first) {
             Ok(row) => row,
             Err(fault) => return Err(fault),

@@ -4,14 +4,14 @@ ghost use Rattle.run_record.specs.Steps.{steps_of};
 
 use run_types::{Label, Line, What};
 
-/// A transition, and how often it is made: once, but for local transitions.
+/// A transition, and the number of times that it is made: 1, but for local transitions.
 #[derive(Clone, Copy)]
 pub struct Steps {
     pub label: Label,
     pub times: u32,
 }
 
-/// What a line shows; `None` exactly where it shows no transition.
+/// The transitions that a line shows. None exactly if it shows none.
 pub fn label_of(line: &Line) -> Option<Steps>
     ensures { result ≡ steps_of line.now }
 {

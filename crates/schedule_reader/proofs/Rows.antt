@@ -1,4 +1,4 @@
--- Worked schedules, computed.
+-- Examples of schedules, computed.
 use Rattle.std.proofs.Common.{◌≡◌, refl, [], ◌∷◌}
 use Rattle.std.specs.Prelude.{Ok, Err, true, false, codes}
 use Rattle.run_types.specs.declared.types.Event.TheVariants.{Turn, Link, Wire}

@@ -1,4 +1,4 @@
--- What a text's schedule asks of a mesh: its quantum is one of a turn, and its events are of the mesh.
+-- The schedule that a text represents fits the mesh: its quantum is in its range, and its events are on the mesh.
 use Rattle.std.proofs.Common.{◌≡◌, ◌≤◌, ◌<◌, ◌+◌, ◌*◌, ℕ, zero, suc, Bool, true, false, not, ◌&&◌, nat_le, nat_lt, bytes_eq, codes, List, [], ◌∷◌, length, slice_get, Option, Some, None, Result, Ok, Err, refl, sym, subst, arith, ltb-true, leb-true}
 use Rattle.std.specs.List.{repeat, range_with_len}
 use Rattle.std.specs.Option.{option_or}

@@ -1,4 +1,4 @@
--- What a line of a schedule says, and its faults.
+-- The entries of the lines of a schedule, and the fault of a line.
 use Rattle.std.specs.Prelude.{ℕ, ◌*◌, List, [], ◌∷◌, Option, Some, None, Bool, true, false, not, ◌&&◌, if◌then◌else◌, nat_le, nat_lt, bytes_eq, codes}
 use Rattle.std.specs.Option.{option_or}
 use Rattle.run_types.specs.Partial.{◌>>=◌, only_if, unless}
@@ -32,7 +32,7 @@ abbrev pub entry_of_four : Text → Text → Text → Text → Option Entry
 entry_of_four w a b c =
     only_if (bytes_eq w (codes "link")) (number_of a >>= λ f. number_of b >>= λ t. number_of c >>= λ n. Some (E.Link f t n))
 
--- what a line says in every schedule
+-- the entry of a line in every schedule
 abbrev pub plain_entry_of : List Text → Option Entry
 plain_entry_of [] = None
 plain_entry_of (w ∷ []) = None
@@ -41,21 +41,21 @@ plain_entry_of (w ∷ a ∷ b ∷ []) = entry_of_three w a b
 plain_entry_of (w ∷ a ∷ b ∷ c ∷ []) = entry_of_four w a b c
 plain_entry_of (w ∷ a ∷ b ∷ c ∷ d ∷ more) = None
 
--- a frame is sent, or an acknowledgement comes back: a line may ask for it more than once
+-- a wire event that a line may repeat: a frame is sent, or an acknowledgement comes back
 abbrev pub counted_act : Text → Option WireAct
 counted_act w = if bytes_eq w (codes "send") then Some A.Send else (if bytes_eq w (codes "ack") then Some A.Ack else None)
 
--- what befalls the first frame with a packet
+-- an event on the first data frame
 abbrev pub frame_act : Text → Option WireAct
 frame_act w =
     if bytes_eq w (codes "lose") then Some A.Lose else (if bytes_eq w (codes "twice") then Some A.Twice else (if bytes_eq w (codes "late") then Some A.Late else None))
 
--- what befalls the first acknowledgement
+-- an event on the first acknowledgement
 abbrev pub ack_act : Text → Option WireAct
 ack_act w =
     if bytes_eq w (codes "lose") then Some A.LoseAck else (if bytes_eq w (codes "twice") then Some A.TwiceAck else (if bytes_eq w (codes "late") then Some A.LateAck else None))
 
--- so many of an act on the wire from A to B
+-- a wire event from A to B, with its count
 abbrev pub wire : Option WireAct → Text → Text → Option ℕ → Option Entry
 wire act a b count = act >>= λ w. number_of a >>= λ f. number_of b >>= λ t. count >>= λ c. Some (E.Wire w f t c)
 
@@ -67,7 +67,7 @@ wire_of_three w a b = wire (option_or (counted_act w) (frame_act w)) a b (Some 1
 abbrev pub wire_of_four : Text → Text → Text → Text → Option Entry
 wire_of_four w a b c = if bytes_eq a (codes "ack") then wire (ack_act w) b c (Some 1) else wire (counted_act w) a b (number_of c)
 
--- what a line says where links are wires, beside that
+-- the other entries of lines, if links are wires
 abbrev pub wire_entry_of : List Text → Option Entry
 wire_entry_of [] = None
 wire_entry_of (w ∷ []) = None
@@ -76,7 +76,7 @@ wire_entry_of (w ∷ a ∷ b ∷ []) = wire_of_three w a b
 wire_entry_of (w ∷ a ∷ b ∷ c ∷ []) = wire_of_four w a b c
 wire_entry_of (w ∷ a ∷ b ∷ c ∷ d ∷ more) = None
 
--- what a line says, in a schedule that is lossy or is not
+-- the entry of a line, in a schedule that is lossy or is not
 abbrev pub entry_of : Bool → List Text → Option Entry
 entry_of lossy ws = option_or (plain_entry_of ws) (only_if lossy (wire_entry_of ws))
 
@@ -94,20 +94,20 @@ is_lossy (w ∷ []) = false
 is_lossy (w ∷ a ∷ []) = bytes_eq w (codes "wires") && bytes_eq a (codes "lossy")
 is_lossy (w ∷ a ∷ b ∷ more) = false
 
--- whether a link goes from a to b in a mesh of this width that misses these links
+-- whether a link leads from a to b in a mesh of this width with these cut links
 abbrev pub has_link : ℕ → List LinkId → ℕ → ℕ → Bool
 has_link w cuts a b = are_neighbours w a b && not (is_cut cuts a b)
 
 abbrev pub is_count : ℕ → Bool
 is_count c = nat_le 1 c && nat_le c 2000000
 
--- the fault of least number of so many events on a link
+-- the first fault of c events on a link
 abbrev pub link_fault : ℕ → ℕ → List LinkId → ℕ → ℕ → ℕ → ℕ → Option ScheduleFault
 link_fault w h cuts line a b c =
     unless (nat_lt a (w * h) && nat_lt b (w * h)) (F.NoSuchNode line)
     (unless (has_link w cuts a b) (F.NoSuchLink line) (unless (is_count c) (F.OutOfRange line) None))
 
--- the fault of least number of an entry on this line, in a mesh of w times h nodes that misses these links
+-- the first fault of an entry on this line, in a mesh of w times h nodes with these cut links
 abbrev pub fault_of : ℕ → ℕ → List LinkId → ℕ → Entry → Option ScheduleFault
 fault_of w h cuts line (E.Turn k c) = unless (nat_lt k (w * h)) (F.NoSuchNode line) (unless (is_count c) (F.OutOfRange line) None)
 fault_of w h cuts line (E.Link a b c) = link_fault w h cuts line a b c

@@ -1,4 +1,4 @@
--- Events kept as stretches: a part, how often it comes, and how many events there are up to its end.
+-- Events stored as runs: an item, its count, and the number of events up to its end.
 use Rattle.std.specs.Prelude.{◌≡◌, ℕ, ◌+◌, ◌*◌, List, [], ◌∷◌, length, flat_map}
 use Rattle.std.specs.List.{repeat}
 use Rattle.run_types.specs.declared.types.Event.{Event}
@@ -17,7 +17,7 @@ stretch_events round s = repeat s.count (part_events round s.part)
 abbrev pub stretched : List Event → List EventRun → List Event
 stretched round ss = flat_map (stretch_events round) ss
 
--- the ends are the numbers of events up to them, from this number on to the last
+-- each end is the number of events up to it, counted from this number on to the last
 abbrev pub AreEnds : List Event → ℕ → List EventRun → ℕ → Type 0
 AreEnds round from [] last = from ≡ last
 AreEnds round from (s ∷ ss) last = (s.end ≡ from + s.count * length (part_events round s.part)) × AreEnds round s.end ss last

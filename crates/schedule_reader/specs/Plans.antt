@@ -1,4 +1,4 @@
--- What a schedule asks of a mesh.
+-- The schedules that fit a placement.
 use Rattle.std.specs.Prelude.{◌≡◌, ℕ, ◌*◌, ◌<◌, ◌≤◌, Some, Bool, true, slice_get}
 use Rattle.run_types.specs.declared.types.Event.{Event}
 use Rattle.run_types.specs.declared.types.Event.TheVariants as V
@@ -6,7 +6,7 @@ use Rattle.run_types.specs.declared.types.Placement.{Placement}
 use Rattle.run_types.specs.Paths.{IsLink}
 use Rattle.schedule_reader.specs.Schedules.{Plan}
 
--- an event of a node of the mesh, or of a link that is not cut; on wires only where links are wires
+-- an event on a node of the mesh, or on a link that is not cut; an event on a wire only if links are wires
 abbrev pub IsEventOn : Placement → Bool → Event → Type 0
 IsEventOn l lossy (V.Turn n) = n < l.width * l.height
 IsEventOn l lossy (V.Link a b) = IsLink l (a, b)

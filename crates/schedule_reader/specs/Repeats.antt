@@ -1,4 +1,4 @@
--- How often which part an entry asks for.
+-- The run item and the count of an entry.
 use Rattle.std.specs.Prelude.{◌≡◌, ℕ, List, Bool, Some, None}
 use Rattle.text_scan.specs.Text.{Text}
 use Rattle.run_types.specs.declared.types.LinkId.{LinkId}
@@ -20,7 +20,7 @@ part_of (E.Wire act a b c) = P.One (V.Wire act a b)
 abbrev pub counted_of : Entry → Repeat
 counted_of e = record { count = count_of e; part = part_of e }
 
--- the words are an entry without fault, and this is what it asks for
+-- The words are an entry without fault, and this is its run item with its count.
 pub record IsCountedLine (w h : ℕ) (cuts : List LinkId) (lossy : Bool) (line : ℕ) (ws : List Text) (c : Repeat) : Type 0 where
   pub entry : Entry
   pub entry_is : entry_of lossy ws ≡ Some entry

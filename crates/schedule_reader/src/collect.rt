@@ -1,4 +1,4 @@
-//! The entries of the lines behind the quantum.
+//! The entries of the lines of events.
 ghost use Rattle.std.specs.Prelude.{◌≡◌, ◌+◌, ◌*◌, ◌<◌, ◌≤◌, ◌++◌, [], ◌∷◌, length, drop, IfOk, IfErr, OnOk, None, Some};
 ghost use Rattle.std.specs.List.{repeat};
 ghost use Rattle.text_scan.specs.Lines.{lines};
@@ -16,14 +16,15 @@ use run_types::{Event, LinkId};
 use std::alloc::{AllocError, Global};
 use text_scan::next_content_line;
 
-/// The stretches so far, where they have at most 2,000,000 events, and the number of all events.
+/// The runs of events so far, and the number of their events. `stretches` is complete as long as `total` is at most
+/// 2,000,000.
 #[derive(Drop)]
 pub struct Collected {
     pub stretches: Vec<EventRun>,
     pub total: u64,
 }
 
-/// Counts what a line asks for, and keeps it where all events so far are at most 2,000,000.
+/// Counts the events of a line, and adds its run if the events so far are at most 2,000,000.
 fn add(gathered: &mut Collected, round: &[Event], line: Repeat) -> Result<(), AllocError>
     requires count { line.count ≤ 2000000 }
     requires round { length round.now ≤ 12352 }
@@ -45,7 +46,7 @@ fn add(gathered: &mut Collected, round: &[Event], line: Repeat) -> Result<(), Al
     Ok(())
 }
 
-/// All entries of the lines of events, or the fault of the first line that has one.
+/// The runs of all lines of events, or the fault of the first line that has one.
 pub fn gather(
     alloc: Global,
     bytes: &[u8],

@@ -1,4 +1,4 @@
-//! What a line of a schedule says.
+//! The entries of a schedule's lines.
 ghost use Rattle.std.specs.Prelude.{◌≡◌, ◌+◌, ◌*◌, ◌<◌, ◌≤◌, length, IfOk, IfErr, IfNone, Some, None, true, false};
 ghost use Rattle.text_scan.specs.Lines.{words};
 ghost use Rattle.run_types.specs.Paths.{is_cut};
@@ -13,10 +13,11 @@ use mesh_routing::are_neighbours;
 use run_types::{Event, LinkId, WireAct};
 use text_scan::{UpToFour, number, split_up_to_four};
 
-/// The most events of a schedule, and the greatest count of a line.
+/// The largest number of events of a schedule, and the largest count of a line.
 pub const MOST_EVENTS: u64 = 2000000;
 
-/// What a line behind the quantum says; the count is 1 where the line has none. `Wire` comes in lossy schedules alone.
+/// The entry of a line of events, with its numbers as written. The count is 1 if the line has none. Only lossy
+/// schedules have `Wire`.
 #[derive(Clone, Copy)]
 pub enum Entry {
     Turn {
@@ -102,7 +103,7 @@ fn wire_entry_in(line: &[u8]) -> Option<Entry>
     }
 }
 
-/// What a line says; the words of wires are known only in a lossy schedule.
+/// The entry of a line. Lines of wires are known only in a lossy schedule.
 fn entry_in(lossy: bool, line: &[u8]) -> Option<Entry>
     ensures { result ≡ entry_of lossy (words line.now) }
 {
@@ -112,7 +113,7 @@ fn entry_in(lossy: bool, line: &[u8]) -> Option<Entry>
     if lossy { wire_entry_in(line) } else { None }
 }
 
-/// The number of a `quantum` line, whatever its range.
+/// The number of a `quantum` line, without a check of its range. None if it is no such line.
 pub fn quantum_in(line: &[u8]) -> Option<u64>
     ensures { result ≡ quantum_of (words line.now) }
 {
@@ -122,7 +123,7 @@ pub fn quantum_in(line: &[u8]) -> Option<u64>
     }
 }
 
-/// Whether this is the line `wires lossy`.
+/// Reports whether this is the line `wires lossy`.
 pub fn is_lossy(line: &[u8]) -> bool
     ensures { result ≡ is_lossy (words line.now) }
 {
@@ -132,7 +133,7 @@ pub fn is_lossy(line: &[u8]) -> bool
     }
 }
 
-/// Whether the link is one of the missing ones.
+/// Reports whether the link is cut.
 fn is_cut(cuts: &[LinkId], from: u64, to: u64) -> bool
     ensures { result ≡ is_cut cuts.now from to }
 {
@@ -144,7 +145,8 @@ fn is_cut(cuts: &[LinkId], from: u64, to: u64) -> bool
     false
 }
 
-/// Whether a link goes from one node to the other, in a mesh of this width that misses these links.
+/// Reports whether a link leads from one node to the other, in a mesh of this width with these cut links. Requires a
+/// positive width, and nodes below 64.
 pub fn has_link(width: u64, cuts: &[LinkId], from: u64, to: u64) -> bool
     requires width { 1 ≤ width }
     requires from_small { from < 64 }
@@ -160,7 +162,7 @@ fn is_count(count: u64) -> bool
     1 <= count && count <= MOST_EVENTS
 }
 
-/// So many of a part, where the count is from 1 to 2,000,000.
+/// A run item with its count, if the count is from 1 to 2,000,000.
 fn counted(line: u32, count: u64, part: RunItem) -> Result<Repeat, ScheduleFault>
     ensures ok { IfOk result (λ c. (is_count count ≡ true) × (c ≡ record { count = count; part = part })) }
     ensures err { IfErr result (λ f. (is_count count ≡ false) × (f ≡ ScheduleFault.OutOfRange line)) }
@@ -174,7 +176,7 @@ fn counted(line: u32, count: u64, part: RunItem) -> Result<Repeat, ScheduleFault
     })
 }
 
-/// The fault of so many events on a link, in a mesh of this width and height that misses these links.
+/// The fault of `count` events on a link, in a mesh of this width and height with these cut links.
 fn link_fault(
     width: u64,
     height: u64,
@@ -202,7 +204,7 @@ fn link_fault(
     None
 }
 
-/// So many of one event. The link's ends are nodes of the mesh, and the count is in its range.
+/// One event with its count. Requires a count of at most 2,000,000.
 fn times(count: u64, event: Event) -> Repeat
     requires { count ≤ 2000000 }
     ensures { result ≡ record { count = count; part = RunItem.One event } }
@@ -213,7 +215,7 @@ fn times(count: u64, event: Event) -> Repeat
     }
 }
 
-/// The part of an entry and its count, or the entry's fault, in a mesh of this width and height.
+/// The run item of an entry and its count, or the entry's fault, in a mesh of this width and height.
 fn checked(
     width: u64,
     height: u64,
@@ -264,7 +266,7 @@ fn checked(
     }
 }
 
-/// What a line behind the quantum says, or its fault.
+/// The run item of a line of events and its count, or the fault of the line. Requires a width and a height of 1 to 8.
 pub fn judge(
     width: u64,
     height: u64,

@@ -1,4 +1,4 @@
-//! Stretches of events, and the event of a number in them.
+//! Runs of events, and the event of a number in them.
 ghost use Rattle.std.specs.Prelude.{◌≡◌, ◌+◌, ◌-◌, ◌*◌, ◌<◌, ◌≤◌, length, Some, slice_get};
 ghost use Rattle.schedule_reader.specs.EventRuns.{AreEnds, part_events, stretch_events, stretched};
 
@@ -11,14 +11,14 @@ pub enum RunItem {
     Round,
 }
 
-/// A part that comes so many times.
+/// A run item that comes `count` times.
 #[derive(Clone, Copy)]
 pub struct Repeat {
     pub count: u32,
     pub part: RunItem,
 }
 
-/// A part that comes so many times; `end` is the number of events up to its end.
+/// A run item that comes `count` times. `end` is the number of events up to its end.
 #[derive(Clone, Copy)]
 pub struct EventRun {
     pub count: u32,
@@ -26,7 +26,7 @@ pub struct EventRun {
     pub part: RunItem,
 }
 
-/// How many events a part has.
+/// The number of events of a run item.
 pub fn part_len(round: &[Event], part: RunItem) -> usize
     ensures { result ≡ length (part_events round.now part) }
 {
@@ -36,7 +36,7 @@ pub fn part_len(round: &[Event], part: RunItem) -> usize
     }
 }
 
-/// The event of a number in a stretch.
+/// The event of a number in a run.
 fn event_in(round: &[Event], stretch: EventRun, number: u32) -> Event
     requires small { stretch.count * length (part_events round.now stretch.part) ≤ stretch.end }
     requires begins { stretch.end - stretch.count * length (part_events round.now stretch.part) ≤ number }
@@ -50,7 +50,8 @@ fn event_in(round: &[Event], stretch: EventRun, number: u32) -> Event
     }
 }
 
-/// The event of a number, in time of the logarithm of the number of stretches.
+/// The event of a number, counted from 0. Requires a number below `last`, the number of all events. The time is
+/// logarithmic in the number of runs.
 pub fn event_at(round: &[Event], stretches: &[EventRun], last: u32, number: u32) -> Event
     requires ends { AreEnds round.now 0 stretches.now last }
     requires within { number < last }

@@ -1,21 +1,23 @@
-//! Why a schedule is refused.
+//! The faults of a schedule.
 ghost use Rattle.std.specs.Prelude.{◌≡◌};
 ghost use Rattle.schedule_reader.specs.declared.fault.ScheduleFault.TheVariants.{Memory};
 
 use std::alloc::AllocError;
 use thiserror::Error;
 
-/// Why a schedule is refused. Lines are numbered from 1; of several faults on the first line that has one, the first in this order is told.
+/// The fault of a schedule. Lines are numbered from 1. The first line with a fault counts, and of its faults the first
+/// in this order.
 #[derive(Clone, Copy, Debug, PartialEq, Eq, Error)]
 pub enum ScheduleFault {
-    /// The line has none of the forms of a schedule's line, or the first line that is not passed over is no `quantum` line, or a later one is; or it is `wires
-    /// lossy` and not the second such line, or has a word of wires where the schedule is not lossy.
+    /// The line has none of the forms of a schedule's line. The first content line must be a `quantum` line, and no
+    /// other may be one. Only the second content line may be `wires lossy`, and only after it may a line name an event
+    /// of wires.
     #[error("line {line} has no form of a schedule")]
     BadLine { line: u32 },
-    /// A node of the line is not one of the mesh.
+    /// A node of the line is not in the mesh.
     #[error("line {line} names a node that is not there")]
     NoSuchNode { line: u32 },
-    /// The two nodes of the line are no neighbours, or the link between them is cut.
+    /// The two nodes of the line are not neighbours, or the link between them is cut.
     #[error("line {line} names a link that is not there")]
     NoSuchLink { line: u32 },
     /// A quantum that is not from 1 to 10,000, or a count that is not from 1 to 2,000,000.

@@ -1,4 +1,4 @@
-//! Where the events of a schedule begin.
+//! The start of the lines of events.
 ghost use Rattle.std.specs.Prelude.{◌≡◌, ◌+◌, ◌≤◌, length, drop};
 ghost use Rattle.text_scan.specs.Lines.{lines};
 ghost use Rattle.text_scan.specs.ContentLines.{kept_from};
@@ -7,7 +7,7 @@ ghost use Rattle.schedule_reader.specs.Schedules.{begins_lossy, without_wires};
 use crate::entry::is_lossy;
 use text_scan::next_content_line;
 
-/// Whether a schedule is lossy, and where the lines of its events begin: at a byte, which begins the line of this number.
+/// Whether a schedule is lossy, and the start of its lines of events: the byte `at`, which begins line `line`.
 #[derive(Clone, Copy)]
 pub struct Opening {
     pub lossy: bool,
@@ -15,7 +15,7 @@ pub struct Opening {
     pub line: u32,
 }
 
-/// What stands behind the quantum, where the line that begins at `from` has the number `line`.
+/// The opening of the lines after the quantum, which begin at byte `from` with line `line`.
 pub fn behind_quantum(bytes: &[u8], from: usize, line: u32) -> Opening
     requires within { from ≤ length bytes.now }
     requires small { length bytes.now ≤ 67108864 }

@@ -15,7 +15,7 @@ use run_types::Placement;
 use std::alloc::Global;
 use text_scan::{count_lines, next_content_line};
 
-/// The quantum of the first line that is kept, or that line's fault.
+/// The quantum of the first content line, or the fault of that line.
 fn first_quantum(line: u32, bytes: &[u8]) -> Result<u32, ScheduleFault>
     ensures ok { IfOk result (λ q. (quantum_of (words bytes.now) ≡ Some q) × (1 ≤ q) × (q ≤ 10000)) }
     ensures err { IfErr result (λ f. quantum_fault line (quantum_of (words bytes.now)) ≡ Some f) }
@@ -27,7 +27,8 @@ fn first_quantum(line: u32, bytes: &[u8]) -> Result<u32, ScheduleFault>
     }
 }
 
-/// The schedule of a text of at most 67,108,864 bytes, for a mesh as the placement has it; or the text's first fault.
+/// Parses a schedule, of at most 67,108,864 bytes, for the mesh of a placement. Returns the schedule, or the first
+/// fault of the text, or `Memory` if memory runs out.
 pub fn read_schedule(
     alloc: Global,
     bytes: &[u8],

@@ -7,7 +7,7 @@ use crate::entry::has_link;
 use run_types::{Event, LinkId, WireAct};
 use std::alloc::{AllocError, Global};
 
-/// Puts a turn of each node.
+/// Appends a turn of each node.
 fn push_turns(events: &mut Vec<Event>, nodes: u32) -> Result<(), AllocError>
     ensures items { OnOk result (events.new.items ≡ events.old.items ++ turns (range_with_len 0 nodes)) }
     ensures few { OnOk result (vec_len events.new ≤ vec_len events.old + nodes) }
@@ -18,7 +18,8 @@ fn push_turns(events: &mut Vec<Event>, nodes: u32) -> Result<(), AllocError>
     Ok(())
 }
 
-/// Puts what a round asks of a link: a move, and on a wire a frame that is sent before it and an acknowledgement that comes back after it.
+/// Appends the events of a round on a link: a move. On a wire, a frame is sent before the move, and an acknowledgement
+/// comes back after it.
 fn push_link(events: &mut Vec<Event>, lossy: bool, from: u32, to: u32) -> Result<(), AllocError>
     ensures items { OnOk result (events.new.items ≡ events.old.items ++ round_on lossy from to) }
     ensures few { OnOk result (vec_len events.new ≤ vec_len events.old + 3) }
@@ -41,7 +42,7 @@ fn push_link(events: &mut Vec<Event>, lossy: bool, from: u32, to: u32) -> Result
     Ok(())
 }
 
-/// Puts what a round asks of each link that goes from a node.
+/// Appends the events of a round on each link that leaves a node.
 fn push_moves_to(
     events: &mut Vec<Event>,
     width: u32,
@@ -64,7 +65,7 @@ fn push_moves_to(
     Ok(())
 }
 
-/// Puts what a round asks of each link.
+/// Appends the events of a round on each link.
 fn push_moves(
     events: &mut Vec<Event>,
     width: u32,
@@ -83,7 +84,8 @@ fn push_moves(
     Ok(())
 }
 
-/// The events of a round: at most 64 turns, and for each of at most 224 links that are not cut a move, or on wires three events.
+/// The events of a round, in a mesh of 1 to 8 columns and rows. These are at most 64 turns, and for each of at most 224
+/// links that are not cut a move, or three events on wires. Returns `Err` if memory runs out.
 pub fn round(
     alloc: Global,
     width: u32,

@@ -5,7 +5,8 @@ use crate::event_runs::{EventRun, event_at};
 use run_types::Event;
 use std::marker::Model;
 
-/// A quantum, whether links are wires that may lose, and a list of events, which are kept as a line of the text has them: a `round` is not spelled out, nor is a count.
+/// A schedule: a quantum, whether links are lossy wires, and a list of events. The events are stored as the lines of
+/// the text have them: rounds and counts are not expanded.
 #[derive(Drop)]
 pub struct Schedule {
     pub(crate) quantum: u32,
@@ -27,14 +28,15 @@ impl Model for Schedule {
 }
 
 impl Schedule {
-    /// The most local transitions of a turn, from 1 to 10,000.
+    /// The quantum: the largest number of local transitions of a turn, from 1 to 10,000.
     pub fn quantum(&self) -> u32
         ensures { result ≡ self.now.quantum }
     {
         self.quantum
     }
 
-    /// Whether each link is a wire that may lose, repeat and reorder. Where it is not, no event is one on a wire.
+    /// Reports whether each link is a wire that may lose, repeat and reorder frames. Otherwise the schedule has no
+    /// event on a wire.
     pub fn lossy(&self) -> bool
         ensures { result ≡ self.now.lossy }
     {
@@ -48,7 +50,7 @@ impl Schedule {
         self.last
     }
 
-    /// The event of number `i`, from 0. Takes no memory, and time of the logarithm of the number of lines.
+    /// Event `i`, counted from 0. It allocates nothing, and its time is logarithmic in the number of lines.
     pub fn event(&self, i: u32) -> Event
         requires { i < length self.now.events }
         ensures { slice_get self.now.events i ≡ Some result }

@@ -8,12 +8,13 @@ ghost use Rattle.schedule_reader.specs.Plans.{IsPlanFor};
 ghost use Rattle.schedule_reader.specs.Schedules.{Plan, schedule_of};
 ghost use Rattle.schedule_reader.specs.declared.entry.Entry.{Entry};
 
-/// The number of events of any entries is the sum that is counted without their list.
+/// `total` is the number of events of any entries, computed without the list of events.
 pub fn events_are_counted()
     ensures { (w h : ℕ) (cuts : List LinkId) (lossy : Bool) (es : List Entry) → length (events_of w h cuts lossy es) ≡ total w h cuts lossy es }
 {}
 
-/// The quantum of a text's schedule is from 1 to 10,000. Each of its events is of a node of the mesh, or of a link that is not cut; it is one on a wire only where the schedule is lossy.
+/// The schedule that a text represents fits the placement. Its quantum is from 1 to 10,000. Each event is on a node of
+/// the mesh or on a link that is not cut. Only a lossy schedule has events on wires.
 pub fn events_are_of_the_mesh()
     ensures { (l : Placement) (s : Text) (plan : Plan) → schedule_of l.width l.height l.cuts s ≡ Ok plan → IsPlanFor l plan }
 {}

@@ -1,4 +1,4 @@
-//! What a line of a lossy schedule says of a wire.
+//! The lines of wires of a lossy schedule.
 ghost use Rattle.std.specs.Prelude.{◌≡◌};
 ghost use Rattle.schedule_reader.specs.Entries.{ack_act, counted_act, frame_act, wire, wire_of_four, wire_of_three};
 
@@ -6,7 +6,7 @@ use crate::entry::Entry;
 use run_types::WireAct;
 use text_scan::number;
 
-/// An act of which a line may ask for many.
+/// A wire event that a line may repeat: `send` or `ack`.
 fn counted_act(word: &[u8]) -> Option<WireAct>
     ensures { result ≡ counted_act word.now }
 {
@@ -19,7 +19,7 @@ fn counted_act(word: &[u8]) -> Option<WireAct>
     None
 }
 
-/// What befalls the first frame with a packet.
+/// An event on the first data frame.
 fn frame_act(word: &[u8]) -> Option<WireAct>
     ensures { result ≡ frame_act word.now }
 {
@@ -35,7 +35,7 @@ fn frame_act(word: &[u8]) -> Option<WireAct>
     None
 }
 
-/// What befalls the first acknowledgement.
+/// An event on the first acknowledgement.
 fn ack_act(word: &[u8]) -> Option<WireAct>
     ensures { result ≡ ack_act word.now }
 {
@@ -51,7 +51,7 @@ fn ack_act(word: &[u8]) -> Option<WireAct>
     None
 }
 
-/// So many of an act on the wire between two nodes.
+/// A wire event between two nodes, with its count.
 fn wire(act: Option<WireAct>, first: &[u8], second: &[u8], count: Option<u64>) -> Option<Entry>
     ensures { result ≡ wire act first.now second.now count }
 {
@@ -67,7 +67,7 @@ fn wire(act: Option<WireAct>, first: &[u8], second: &[u8], count: Option<u64>) -
     })
 }
 
-/// An act between two nodes, once.
+/// The entry of a line with three words: one wire event between two nodes.
 pub fn wire_of_three(word: &[u8], first: &[u8], second: &[u8]) -> Option<Entry>
     ensures { result ≡ wire_of_three word.now first.now second.now }
 {
@@ -75,7 +75,7 @@ pub fn wire_of_three(word: &[u8], first: &[u8], second: &[u8]) -> Option<Entry>
     wire(act, first, second, Some(1))
 }
 
-/// What befalls an acknowledgement, or an act so many times.
+/// The entry of a line with four words: an event on an acknowledgement, or a wire event with a count.
 pub fn wire_of_four(word: &[u8], first: &[u8], second: &[u8], third: &[u8]) -> Option<Entry>
     ensures { result ≡ wire_of_four word.now first.now second.now third.now }
 {

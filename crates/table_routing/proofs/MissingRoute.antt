@@ -1,4 +1,4 @@
--- Searching for the first pair without route.
+-- The search for the first pair of nodes that has no route.
 use Rattle.std.proofs.Common.{◌≡◌, refl, ap, ◌∙◌, ℕ, suc, ◌+◌, ◌-◌, ◌<◌, List, ◌∷◌, Some, None, true, false, arith}
 use Rattle.std.specs.List.{range_with_len}
 use Rattle.run_types.specs.declared.types.Placement.{Placement}

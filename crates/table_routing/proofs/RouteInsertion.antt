@@ -1,4 +1,4 @@
--- Routes put into the table one after the other, the last one first.
+-- Routes are set in the table one after the other, from the last to the first.
 use Rattle.std.proofs.Common.{◌≡◌, ◌≢◌, ◌⊎◌, inl, inr, refl, sym, ap, ap₂, subst, ◌∙◌, ℕ, zero, suc, ◌+◌, ◌*◌, ◌/◌, ◌%◌, ◌<◌, Bool, true, false, ◌&&◌, ◌==◌, if◌then◌else◌, Some, List, [], ◌∷◌, length, get_or, set, drop, drop-cons, length-set, get_or-set_same, get_or-set_other, arith}
 use Rattle.std.proofs.lemmas.Nat.{div-add-mod', div-mul-add, mod-mul-add}
 use Rattle.std.specs.Option.{unwrap_or}

@@ -1,4 +1,4 @@
--- What holds of the fields of a table.
+-- The invariant of the fields of a routing table.
 use Rattle.std.specs.Prelude.{◌≡◌, ◌*◌, None}
 use Rattle.run_types.specs.Routes.{without_route}
 use Rattle.run_types.specs.RoutedPlacements.{IsRouted}

@@ -1,14 +1,15 @@
-//! Why there is no table of a placement.
+//! The reasons that a placement has no routing table.
 ghost use Rattle.std.specs.Prelude.{◌≡◌};
 ghost use Rattle.table_routing.specs.declared.fault.TableFault.TheVariants.{Memory};
 
 use std::alloc::AllocError;
 use thiserror::Error;
 
-/// Why there is no table of a placement.
+/// The reason that a placement has no routing table.
 #[derive(Clone, Copy, Debug, PartialEq, Eq, Error)]
 pub enum TableFault {
-    /// The path between these nodes takes a cut link or comes to a node twice; of all such pairs this has the least first node, and then the least second one.
+    /// The path from `from` to `to` uses a cut link, or visits a node twice. It is the first such pair, ordered by
+    /// `from` and then by `to`.
     #[error("no route from {from} to {to}")]
     NoRoute { from: u32, to: u32 },
     /// Out of memory.

@@ -1,4 +1,4 @@
-//! The table of a placement.
+//! The routing table of a placement.
 ghost use Rattle.std.specs.Prelude.{◌≡◌, ◌≢◌, ◌<◌, ◌≤◌, ◌*◌, ◌+◌, ◌↔◌, [], length, get_or, set, false, None, IsNone, IsTrue, IfOk, IfErr, IfSome};
 ghost use Rattle.std.specs.List.{range_with_len};
 ghost use Rattle.run_types.specs.declared.types.Placement.{Placement};
@@ -13,12 +13,13 @@ use run_types::{LinkId, Placement, Route};
 use std::alloc::{AllocError, Global};
 use std::marker::Model;
 
-/// The next node on each path of a placement. Contracts see the placement. Only `make` takes memory.
+/// The routing table of a placement: the next node for each node and goal. Contracts see the placement. Only `make`
+/// allocates.
 #[derive(Drop)]
 pub struct Table<'a> {
     placement: &'a Placement,
     mesh: Mesh,
-    // By the number of the node at hand times the number of all nodes, and that of the goal.
+    // The next node from `at` to `to` is at index `at` times the number of nodes, plus `to`.
     nexts: Vec<u32>,
 }
 
@@ -37,7 +38,7 @@ impl<'a> Model for Table<'a> {
     ghost invariant = { IsTable };
 }
 
-/// Whether the link is one of the missing ones.
+/// Reports whether the link is cut.
 fn is_cut(cuts: &[LinkId], from: u32, to: u32) -> bool
     ensures { result ≡ is_cut cuts.now from to }
 {
@@ -49,7 +50,7 @@ fn is_cut(cuts: &[LinkId], from: u32, to: u32) -> bool
     false
 }
 
-/// The next node on the mesh's own way to another one.
+/// The next node by dimension-order routing, which ignores routes and cuts.
 fn way(mesh: &Mesh, at: u32, to: u32) -> u32
     requires at { at < mesh.now.width * mesh.now.height }
     requires to { to < mesh.now.width * mesh.now.height }
@@ -61,7 +62,7 @@ fn way(mesh: &Mesh, at: u32, to: u32) -> u32
     }
 }
 
-/// The next node for each node and goal, without the routes.
+/// The next node for each node and goal, without the placement's routes.
 fn ways_of(alloc: Global, placement: &Placement, mesh: &Mesh) -> Result<Vec<u32>, AllocError>
     requires width { mesh.now.width ≡ placement.now.width }
     requires height { mesh.now.height ≡ placement.now.height }
@@ -79,7 +80,7 @@ fn ways_of(alloc: Global, placement: &Placement, mesh: &Mesh) -> Result<Vec<u32>
     Ok(nexts)
 }
 
-/// Puts in where a route leads.
+/// Sets the next node that a route gives.
 #[tactic(auto, using(crate::proofs::Places::below))]
 fn put_route(nexts: &mut Vec<u32>, nodes: u32, route: Route)
     requires few { nodes ≤ 64 }
@@ -91,7 +92,7 @@ fn put_route(nexts: &mut Vec<u32>, nodes: u32, route: Route)
     nexts[(route.at * nodes + route.goal) as usize] = route.next;
 }
 
-/// Puts in where the routes lead; of two at one node for one goal the first counts.
+/// Sets the next nodes that the routes give. Of two routes with the same node and goal, the first counts.
 fn put_routes(nexts: &mut Vec<u32>, placement: &Placement)
     requires routed { IsRouted placement.now }
     requires nexts { AreNexts (with_routes placement.now []) (size placement.now * size placement.now) nexts.old.items }
@@ -104,7 +105,7 @@ fn put_routes(nexts: &mut Vec<u32>, placement: &Placement)
     }
 }
 
-/// For each two nodes whether the link from the one to the other is a missing one.
+/// For each two nodes, whether the link from the one to the other is cut.
 fn gaps_of(alloc: Global, placement: &Placement) -> Result<Vec<bool>, AllocError>
     requires routed { IsRouted placement.now }
     ensures { IfOk result (λ gs. AreGaps placement.now (size placement.now * size placement.now) gs.items) }
@@ -121,7 +122,7 @@ fn gaps_of(alloc: Global, placement: &Placement) -> Result<Vec<bool>, AllocError
     Ok(gaps)
 }
 
-/// Whether the link from the one node to the other is a missing one.
+/// Reports whether the link from the one node to the other is cut.
 #[tactic(auto, using(crate::proofs::Places::below))]
 fn is_gap(gaps: &[bool], nodes: u32, from: u32, to: u32) -> bool
     requires few { nodes ≤ 64 }
@@ -133,7 +134,8 @@ fn is_gap(gaps: &[bool], nodes: u32, from: u32, to: u32) -> bool
     gaps[(from * nodes + to) as usize]
 }
 
-/// Whether the path from a node to another one takes a cut link or comes to a node twice. It goes along at most as many links as there are nodes.
+/// Reports whether the path from a node to another one uses a cut link, or visits a node twice. It follows at most as
+/// many links as there are nodes.
 fn is_broken(placement: &Placement, nexts: &[u32], gaps: &[bool], from: u32, to: u32) -> bool
     requires routed { IsRouted placement.now }
     requires nexts { AreNexts placement.now (size placement.now * size placement.now) nexts.now }
@@ -157,7 +159,7 @@ fn is_broken(placement: &Placement, nexts: &[u32], gaps: &[bool], from: u32, to:
     true
 }
 
-/// The first pair from this node without route.
+/// The first pair from this node that has no route.
 fn broken_to(placement: &Placement, nexts: &[u32], gaps: &[bool], from: u32) -> Option<(u32, u32)>
     requires routed { IsRouted placement.now }
     requires nexts { AreNexts placement.now (size placement.now * size placement.now) nexts.now }
@@ -173,7 +175,7 @@ fn broken_to(placement: &Placement, nexts: &[u32], gaps: &[bool], from: u32) -> 
     None
 }
 
-/// The first pair without route.
+/// The first pair of nodes that has no route.
 fn without_route(placement: &Placement, nexts: &[u32], gaps: &[bool]) -> Option<(u32, u32)>
     requires routed { IsRouted placement.now }
     requires nexts { AreNexts placement.now (size placement.now * size placement.now) nexts.now }
@@ -190,7 +192,8 @@ fn without_route(placement: &Placement, nexts: &[u32], gaps: &[bool]) -> Option<
 }
 
 impl<'a> Table<'a> {
-    /// The table of a placement, or the least pair of nodes without route.
+    /// Makes the table of a placement whose routes and cuts are links of its mesh. Returns `NoRoute` with the first
+    /// pair of nodes that has no route, or `Memory` if memory runs out.
     pub fn make(alloc: Global, placement: &'a Placement) -> Result<Table<'a>, TableFault>
         requires routed { IsRouted placement.now }
         ensures ok { IfOk result (λ t. (t ≡ placement.now) × (without_route placement.now ≡ None)) }
@@ -210,7 +213,7 @@ impl<'a> Table<'a> {
         }
     }
 
-    /// The next node on the way to another one. None exactly at the goal.
+    /// The next node on the path from `at` to `to`. None exactly if both are equal. Requires nodes of the placement.
     pub fn next(&self, at: u32, to: u32) -> Option<u32>
         requires at { at < self.now.width * self.now.height }
         requires to { to < self.now.width * self.now.height }
@@ -225,7 +228,7 @@ impl<'a> Table<'a> {
         Some(self.nexts[(at * nodes + to) as usize])
     }
 
-    /// Whether a link goes from the one node to the other and is not cut.
+    /// Reports whether a link that is not cut leads from the one node to the other. Requires nodes of the placement.
     pub fn is_link(&self, from: u32, to: u32) -> bool
         requires from { from < self.now.width * self.now.height }
         requires to { to < self.now.width * self.now.height }

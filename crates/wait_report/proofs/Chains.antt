@@ -1,4 +1,4 @@
--- Chains of places that each come after the one before, and the cycles that they close.
+-- Chains of indices that each come after the one before, and the cycles that they close.
 use Rattle.std.proofs.Common.{◌≡◌, ◌≢◌, ◌⊎◌, inl, inr, refl, sym, ap, subst, ◌∙◌, ℕ, ◌<◌, ◌≤◌, ◌==◌, List, [], ◌∷◌, ◌++◌, Option, Some, None, Bool, true, false, nat_lt, cond, arith}
 use Rattle.run_types.specs.PathFacts.{In}
 use Rattle.mesh_semantics.specs.Cycles.{Closes}

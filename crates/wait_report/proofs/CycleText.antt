@@ -1,4 +1,4 @@
--- The text of a cycle under way.
+-- The text of a cycle as far as it was written.
 use Rattle.std.proofs.Common.{◌≡◌, ◌<◌, refl, sym, ap, ◌∙◌, ℕ, suc, ◌==◌, List, [], ◌∷◌, ◌++◌, length, map, get_or, take, Option, Some, None, true, false, nat_lt, cond, Result, Ok, Err, OnOk, arith, append-nil}
 use Rattle.std.specs.Prelude.{codes}
 use Rattle.std.proofs.lemmas.List.{append_assoc}

@@ -1,4 +1,4 @@
--- The cycles that are told are the cycles.
+-- The reported cycles are the cycles.
 use Rattle.std.proofs.Common.{◌≡◌, inl, inr, refl, sym, ap, ◌∙◌, ℕ, ◌==◌, List, [], ◌∷◌, Some, Bool, true, false, cond}
 use Rattle.mesh_semantics.proofs.Laws.{every_cycle_among, is_cycle_among}
 use Rattle.run_types.specs.PathFacts.{In}

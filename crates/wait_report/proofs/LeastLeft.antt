@@ -1,4 +1,4 @@
--- The least number so far, and those that are left.
+-- The least number so far, and the rest.
 use Rattle.std.specs.Prelude.{ℕ, List, Option, Some, None}
 use Rattle.wait_report.specs.Cycles.{least_of, least_from}
 

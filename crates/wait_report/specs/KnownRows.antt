@@ -1,11 +1,11 @@
--- Rows whose names are known.
+-- The rows of objects whose names of classes and methods are in the table.
 use Rattle.std.specs.Prelude.{◌≡◌, ℕ, ◌<◌, List, length, Some, slice_get}
 use Rattle.text_scan.specs.Text.{Text}
 use Rattle.run_types.specs.declared.types.Standing.{Standing}
 use Rattle.run_types.specs.declared.types.Standing.TheVariants as S
 use Rattle.wait_report.specs.declared.rows.ObjectRow.{ObjectRow}
 
--- the names in it are known
+-- the names of a status are in the table
 abbrev pub IsKnown : List Text → Standing → Type 0
 IsKnown names (S.Calls b m) = m.0 < length names
 IsKnown names (S.Creates c n) = c.0 < length names

@@ -1,4 +1,4 @@
--- The text of the report.
+-- The text of the report of `why`: a line for each object, and a line for each cycle of calls.
 use Rattle.std.specs.Prelude.{ℕ, ◌==◌, List, [], ◌∷◌, ◌++◌, length, map, filter_map, Option, None, if◌then◌else◌, codes, decimal, Some}
 use Rattle.text_scan.specs.Text.{Text}
 use Rattle.run_types.specs.declared.types.Standing.{Standing}
@@ -7,7 +7,7 @@ use Rattle.mesh_semantics.specs.Standing.{chase}
 use Rattle.record_writer.specs.RecordText.{error_text, joined, object_text, text_at}
 use Rattle.wait_report.specs.declared.rows.ObjectRow.{ObjectRow}
 
--- where an object stands
+-- the words of the status of an object
 abbrev pub standing_words : List Text → Standing → List Text
 standing_words names S.Ready = codes "ready" ∷ []
 standing_words names S.Finished = codes "finished" ∷ []
@@ -43,7 +43,7 @@ abbrev pub called_in : List ObjectRow → ℕ → Option ℕ
 called_in [] o = None
 called_in (r ∷ rows) o = if r.name == o then called r.standing else called_in rows o
 
--- the cycles of objects that each call the next, each from its least name on, in rising order of that name
+-- the cycles of objects in which each calls the next, each from its least name on, in ascending order of that name
 abbrev pub cycles_in : List ObjectRow → List (List ℕ)
 cycles_in rows = filter_map (λ r. chase (called_in rows) (length rows) r.name r.name) rows
 

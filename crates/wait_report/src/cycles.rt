@@ -1,4 +1,4 @@
-//! The cycles of objects that each call the next.
+//! The cycles of objects in which each calls the next.
 ghost use Rattle.std.specs.Prelude.{◌≡◌, ◌≢◌, ◌<◌, ◌++◌, ℕ, None, true, false, length, get_or, IfOk, OnOk};
 ghost use Rattle.mesh_semantics.specs.Standing.{chase};
 ghost use Rattle.wait_report.specs.Cycles.{jump, cycle_at, least_from, AreWithin, AreStarts, IsMarked};
@@ -7,7 +7,8 @@ use crate::text::put;
 use record_writer::push_object;
 use std::alloc::{AllocError, Global};
 
-/// Puts the line of the cycle that is told from this place on; nothing where none is.
+/// Appends the line of the cycle whose least index is `first`. Appends nothing if there is none. Returns `Err` if
+/// memory runs out.
 pub fn put_cycle(
     text: &mut Vec<u8>,
     numbers: &[u32],
@@ -34,7 +35,7 @@ pub fn put_cycle(
     Ok(())
 }
 
-/// The least of the places from the first `at` on. None where it is not there.
+/// The least index of the path, from the first `at` on. None if `at` is not in it.
 fn least_from(path: &[usize], at: usize) -> Option<usize>
     ensures { result ≡ least_from at path.now }
 {
@@ -49,8 +50,8 @@ fn least_from(path: &[usize], at: usize) -> Option<usize>
     least
 }
 
-/// Goes from a place that was not seen to each next one, until one was seen or none comes next, and marks the least
-/// place of the cycle that this closes, if it does.
+/// Walks from an unseen index along `next`, up to a seen index or the end. If this closes a cycle, it marks the least
+/// index of the cycle in `starts`.
 fn walk(
     alloc: Global,
     next: &[Option<usize>],
@@ -82,7 +83,7 @@ fn walk(
     Ok(())
 }
 
-/// Marks the places from which cycles are told.
+/// Marks the least index of each cycle. Returns `Err` if memory runs out.
 pub fn starts(alloc: Global, next: &[Option<usize>]) -> Result<Vec<bool>, AllocError>
     requires { AreWithin next.now }
     ensures marks { IfOk result (λ s. length s.items ≡ length next.now) }

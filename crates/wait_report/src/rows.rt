@@ -1,4 +1,4 @@
-//! Objects, and which of them call which.
+//! The objects of a report, and the calls between them.
 ghost use Rattle.std.specs.Prelude.{◌≡◌, ◌≢◌, ◌<◌, ℕ, length, get_or, map, IfOk, IfSome, IfNone};
 ghost use Rattle.wait_report.specs.Calls.{AreNext, IsNext, Rising};
 ghost use Rattle.wait_report.specs.Report.{called};
@@ -6,7 +6,7 @@ ghost use Rattle.wait_report.specs.Report.{called};
 use run_types::{NameId, Standing};
 use std::alloc::{AllocError, Global};
 
-/// An object by its name, its class, and where it stands.
+/// An object: its name, its class and its status.
 #[derive(Clone, Copy)]
 pub struct ObjectRow {
     pub name: u32,
@@ -14,7 +14,7 @@ pub struct ObjectRow {
     pub standing: Standing,
 }
 
-/// The names of the objects.
+/// The names of the objects. Returns `Err` if memory runs out.
 pub fn numbers(alloc: Global, rows: &[ObjectRow]) -> Result<Vec<u32>, AllocError>
     ensures { IfOk result (λ v. v.items ≡ map (λ r. r.name) rows.now) }
 {
@@ -25,7 +25,7 @@ pub fn numbers(alloc: Global, rows: &[ObjectRow]) -> Result<Vec<u32>, AllocError
     Ok(numbers)
 }
 
-/// The place of a name, by binary search.
+/// The index of a name, by binary search.
 fn place(numbers: &[u32], name: u32) -> Option<usize>
     requires { Rising numbers.now }
     ensures some { IfSome result (λ k. (k < length numbers.now) × (get_or numbers.now k 0 ≡ name)) }
@@ -37,7 +37,7 @@ fn place(numbers: &[u32], name: u32) -> Option<usize>
     }
 }
 
-/// The place of the object that an object calls.
+/// The index of the object that an object calls.
 fn callee(numbers: &[u32], standing: Standing) -> Option<usize>
     requires { Rising numbers.now }
     ensures { IsNext numbers.now (called standing) result }
@@ -48,7 +48,8 @@ fn callee(numbers: &[u32], standing: Standing) -> Option<usize>
     }
 }
 
-/// For each object the place of the object that it calls.
+/// The index of the object that each object calls. None for an object that calls none of the objects. Requires names in
+/// ascending order. Returns `Err` if memory runs out.
 pub fn callees(
     alloc: Global,
     rows: &[ObjectRow],

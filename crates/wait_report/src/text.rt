@@ -8,14 +8,14 @@ use record_writer::{push_error, push_name, push_number, push_object, push_object
 use run_types::{Names, Standing};
 use std::alloc::AllocError;
 
-/// Puts bytes behind the text.
+/// Appends bytes. Returns `Err` if memory runs out.
 pub fn put(text: &mut Vec<u8>, bytes: &[u8]) -> Result<(), AllocError>
     ensures { OnOk result (text.new.items ≡ text.old.items ++ bytes.now) }
 {
     text.extend_from_slice(bytes)
 }
 
-/// Puts where an object stands.
+/// Appends the status of an object.
 fn put_standing(text: &mut Vec<u8>, names: &Names, standing: Standing) -> Result<(), AllocError>
     ensures { OnOk result (text.new.items ≡ text.old.items ++ led (standing_words names.now standing)) }
 {
@@ -41,7 +41,7 @@ fn put_standing(text: &mut Vec<u8>, names: &Names, standing: Standing) -> Result
     }
 }
 
-/// Puts the line of an object.
+/// Appends the line of an object. Returns `Err` if memory runs out.
 pub fn put_row(text: &mut Vec<u8>, names: &Names, row: &ObjectRow) -> Result<(), AllocError>
     ensures { OnOk result (text.new.items ≡ text.old.items ++ row_line names.now row.now) }
 {

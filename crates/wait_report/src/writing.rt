@@ -14,14 +14,14 @@ use pool_outside::{Sink, WriteFault, write_all_of};
 use run_types::{List, Names};
 use std::alloc::{AllocError, Global};
 
-/// Why no report was written whole: a write failed, or memory was not had.
+/// The reason that the report was not written whole: a write failed, or memory ran out.
 #[derive(Clone, Copy, Debug, PartialEq, Eq)]
 pub enum ReportFault {
     Failed,
     Memory,
 }
 
-/// Puts the lines of the objects.
+/// Appends the lines of the objects.
 fn put_rows(text: &mut Vec<u8>, names: &Names, rows: &[ObjectRow]) -> Result<(), AllocError>
     ensures { OnOk result (text.new.items ≡ text.old.items ++ rows_text names.now rows.now) }
 {
@@ -31,7 +31,7 @@ fn put_rows(text: &mut Vec<u8>, names: &Names, rows: &[ObjectRow]) -> Result<(),
     Ok(())
 }
 
-/// Puts the lines of the cycles.
+/// Appends the lines of the cycles.
 fn put_cycles(
     text: &mut Vec<u8>,
     rows: &[ObjectRow],
@@ -54,8 +54,9 @@ fn put_cycles(
     Ok(())
 }
 
-/// Puts a line for each cycle of objects that each call the next, in rising order of its least name, in time linear in the objects but for a binary
-/// search for each.
+/// Appends a line for each cycle of objects in which each calls the next, in ascending order of its least name.
+/// Requires names in ascending order. It makes a binary search for each object, and its other time is linear in the
+/// number of objects. Returns `Err` if memory runs out.
 pub fn put_each_cycle(
     alloc: Global,
     text: &mut Vec<u8>,
@@ -87,9 +88,10 @@ fn text_of(alloc: Global, rows: &[ObjectRow], names: &Names) -> Result<Vec<u8>, 
     Ok(text)
 }
 
-/// Writes a line for each object, by rising names, and one for each cycle of objects that each call the next. The text
-/// is made whole before it is written: Memory where it has no room, and nothing was then written. Failed only where
-/// the sink's count of faults rose, and a front of the text was then written.
+/// Writes a line for each object, by ascending names, and one for each cycle of objects in which each calls the next.
+/// Requires names in ascending order, and names of classes and methods that are in the table. The text is complete
+/// before it is written. Returns `Memory`, and writes nothing, if memory runs out. Returns `Failed` only if the sink's
+/// count of faults rose. A proper prefix of the text was then written.
 pub fn report<K: Sink>(
     alloc: Global,
     objects: &List<ObjectRow>,

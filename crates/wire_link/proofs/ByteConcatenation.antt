@@ -1,4 +1,4 @@
--- What stands behind bytes that stand behind others, and what is read of values one by one.
+-- Bytes appended to bytes, and values read one by one.
 use Rattle.std.proofs.Common.{◌≡◌, refl, sym, ap, ◌∙◌, ℕ, suc, List, [], ◌∷◌, ◌++◌, append_assoc, Some, None}
 use Rattle.run_types.specs.declared.types.Value.{Value}
 use Rattle.run_types.specs.Partial.{◌>>=◌}

@@ -1,4 +1,4 @@
--- What a wire carries after each call.
+-- The list that a wire carries after each call.
 use Rattle.std.proofs.Common.{◌≡◌, refl, sym, subst, ◌∙◌, List, [], Option}
 use Rattle.std.specs.Prelude.{drop}
 use Rattle.run_types.specs.declared.types.What.{What}

@@ -1,4 +1,4 @@
--- The items of a queue round a row of cells, after one was put last or some of the first were dropped.
+-- The items of a ring buffer after an item was appended, or some of the first were dropped.
 use Rattle.std.proofs.Common.{◌≡◌, refl, sym, ap, ◌∙◌, ℕ, zero, suc, ◌+◌, ◌-◌, ◌<◌, ◌≤◌, List, [], ◌∷◌, ◌++◌, length, Some, None, Bool, true, false, if◌then◌else◌, nat_lt, arith}
 use Rattle.std.specs.Prelude.{drop, get_or, set, slice_get, take}
 use Rattle.std.proofs.lemmas.List.{drop-append-le, drop-take, get_or-append-add, get_or-drop, get_or-take, get_or_append_left, length-append, length-drop, length-set, length-take-le, set-append_left, set-append_right, take-append-le}

@@ -1,4 +1,4 @@
--- Two packets over a wire, on which a frame falls behind: what is kept of the wire, call by call.
+-- An example of two packets over a wire on which a frame is held back: the stored state after each call.
 use Rattle.std.proofs.Common.{◌≡◌, refl, [], Option, Some, None}
 use Rattle.run_types.specs.declared.types.What.{What}
 use Rattle.run_types.specs.declared.types.What.TheVariants as W

@@ -1,4 +1,4 @@
--- The frames on one side after one was put last.
+-- The frames on one side after one was appended.
 use Rattle.std.proofs.Common.{◌≡◌, refl, sym, ap, subst, ◌∙◌, ℕ, suc, ◌<◌, List, [], ◌∷◌, ◌++◌, length, Some, true, false, nat_lt, arith}
 use Rattle.arrayvec.specs.ArrayVec.{ArrayVec}
 use Rattle.run_types.specs.Tables.{Each}

@@ -1,4 +1,4 @@
--- The bytes of frames, and the frame that bytes are of, if they are of one. Numbers have four bytes, the high byte first.
+-- The encoding of frames as bytes, and the decoding of bytes to a frame. Numbers have four bytes, in big-endian order.
 use Rattle.std.specs.Prelude.{◌≡◌, ℕ, suc, zero, ◌^◌, ◌<◌, ◌≤◌, ◌==◌, List, [], ◌∷◌, ◌++◌, length, Option, Some, None, true, false, if◌then◌else◌, nat_le}
 use Rattle.std.specs.Int.{w32, w64, to_be_bytes, from_be_bytes, cast_unsigned, cast_signed}
 use Rattle.arrayvec.specs.ArrayVec.{ArrayVec}
@@ -11,12 +11,12 @@ use Rattle.rendezvous_protocol.specs.declared.packet.Packet.TheVariants as P
 use Rattle.wire_link.specs.declared.frame.Frame.{Frame}
 use Rattle.wire_link.specs.declared.frame.Frame.TheVariants as F
 
--- what is written
+-- encoding
 
 abbrev pub number_bytes : ℕ → List ℕ
 number_bytes n = to_be_bytes w32 n
 
--- a byte for its kind, and eight bytes of two's complement, one of a truth value, four of a name, or nothing
+-- a byte for the kind, and then eight bytes of two's complement, one of a truth value, four of a name, or none
 abbrev pub value_bytes : Value → List ℕ
 value_bytes (V.Int z) = 1 ∷ to_be_bytes w64 (cast_unsigned w64 z)
 value_bytes (V.Bool false) = 2 ∷ 0 ∷ []
@@ -32,7 +32,7 @@ values_bytes (v ∷ vs) = value_bytes v ++ values_bytes vs
 abbrev pub args_bytes : List Value → List ℕ
 args_bytes vs = length vs ∷ values_bytes vs
 
--- a byte for its kind, and its fields in order
+-- a byte for the kind, and the fields in order
 abbrev pub packet_bytes : Packet → List ℕ
 packet_bytes (P.Create number from node class) = 1 ∷ (number_bytes number ++ (number_bytes from ++ (number_bytes node ++ number_bytes class.0)))
 packet_bytes (P.Created number to name) = 2 ∷ (number_bytes number ++ (number_bytes to ++ number_bytes name))
@@ -45,11 +45,11 @@ abbrev pub encoding : Frame → List ℕ
 encoding (F.Data number packet) = 1 ∷ (number_bytes number ++ packet_bytes packet)
 encoding (F.Ack number) = 2 ∷ number_bytes number
 
--- the bytes of a frame as they are kept
+-- the bytes of a frame as they are stored
 abbrev pub bytes_of : Frame → ArrayVec ℕ
 bytes_of f = record { items = encoding f }
 
--- what is read: something, and the bytes behind it
+-- decoding: the item that was read, and the bytes after it
 
 abbrev pub Read : Type 0 → Type 0
 Read X = Option (X × List ℕ)
@@ -90,7 +90,7 @@ read_value_of k rest =
 abbrev pub read_value : List ℕ → Read Value
 read_value bs = read_byte bs >>= λ r. read_value_of r.0 r.1
 
--- so many values
+-- n values
 abbrev pub read_values : ℕ → List ℕ → Read (List Value)
 read_values zero bs = Some ([], bs)
 read_values (suc n) bs = read_value bs >>= λ r. read_values n r.1 >>= λ s. Some (r.0 ∷ s.0, s.1)
@@ -138,23 +138,23 @@ read_frame_of k rest = if k == 1 then read_data rest else (if k == 2 then read_a
 abbrev pub read_frame : List ℕ → Read Frame
 read_frame bs = read_byte bs >>= λ r. read_frame_of r.0 r.1
 
--- what was read, where no byte is left
+-- the item that was read, if no byte is left
 abbrev pub all_read : {X : Type 0} → X → List ℕ → Option X
 all_read x [] = Some x
 all_read x (b ∷ bs) = None
 
--- the frame of which these are the bytes, if they are of one
+-- the frame that these bytes encode, if they encode one
 abbrev pub decoded : List ℕ → Option Frame
 decoded bs = read_frame bs >>= λ r. all_read r.0 r.1
 
--- the frame of data with a number and the packet that was read, where no byte is left
+-- the data frame with a number and the packet that was read, if no byte is left
 abbrev pub with_number : ℕ → Read Packet → Read Frame
 with_number number o = o >>= λ s. Some (F.Data number s.0, s.1)
 
 abbrev pub data_frame : ℕ → Read Packet → Option Frame
 data_frame number o = with_number number o >>= λ r. all_read r.0 r.1
 
--- what has an encoding: numbers of 32 bits, integers of 64, and at most eight values
+-- the frames that have an encoding: numbers of 32 bits, integers of 64, and at most eight values
 
 abbrev pub IsNumber : ℕ → Type 0
 IsNumber n = n < 2 ^ 32
@@ -179,6 +179,6 @@ abbrev pub FrameFits : Frame → Type 0
 FrameFits (F.Data number packet) = IsNumber number × PacketFits packet
 FrameFits (F.Ack number) = IsNumber number
 
--- bytes
+-- a list of bytes
 abbrev pub AreBytes : List ℕ → Type 0
 AreBytes bs = Each (λ b. b < 256) bs

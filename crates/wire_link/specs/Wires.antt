@@ -1,4 +1,4 @@
--- What is kept of a wire in memory: its numbers, copies of packets, and frames as bytes.
+-- The stored state of a wire: its counters, copies of packets, and frames as bytes.
 use Rattle.std.specs.Prelude.{◌≡◌, ℕ, ◌==◌, List, [], ◌∷◌, ◌++◌, length, Option, Some, None, if◌then◌else◌, slice_get, option_map}
 use Rattle.arrayvec.specs.ArrayVec.{ArrayVec}
 use Rattle.run_types.specs.Tables.{Each}
@@ -20,7 +20,7 @@ use Rattle.wire_link.specs.declared.wire.Arrived.{Arrived}
 use Rattle.wire_link.specs.declared.wire.Arrived.TheVariants as R
 use Rattle.wire_link.specs.Bytes.{decoded, encoding}
 
--- the frame of these bytes, where it is one of data
+-- the number and packet of a data frame
 abbrev pub data_in : Option Frame → List (Numbered Packet)
 data_in (Some (F.Data n p)) = (n, p) ∷ []
 data_in (Some (F.Ack n)) = []
@@ -30,7 +30,7 @@ abbrev pub frames_in : List (ArrayVec ℕ) → List (Numbered Packet)
 frames_in [] = []
 frames_in (b ∷ bs) = data_in (decoded b.items) ++ frames_in bs
 
--- the number of these bytes, where they are of an acknowledgement
+-- the number of an acknowledgement
 abbrev pub ack_in : Option Frame → List ℕ
 ack_in (Some (F.Ack n)) = n ∷ []
 ack_in (Some (F.Data n p)) = []
@@ -40,7 +40,7 @@ abbrev pub acks_in : List (ArrayVec ℕ) → List ℕ
 acks_in [] = []
 acks_in (b ∷ bs) = ack_in (decoded b.items) ++ acks_in bs
 
--- the bytes are the encoding of a frame of data, and are read as it; or of an acknowledgement
+-- the bytes are the encoding of a data frame, and decode to it; or of an acknowledgement
 abbrev pub IsData : ArrayVec ℕ → Type 0
 IsData b = (n : ℕ) × (p : Packet) × (decoded b.items ≡ Some (F.Data n p)) × (b.items ≡ encoding (F.Data n p))
 
@@ -51,19 +51,19 @@ abbrev pub view_of : (handed acked next sent : ℕ) → List Packet → List (Ar
 view_of handed acked next sent copies frames acks =
     record { handed = handed; acked = acked; next = next; sent = sent; copies = copies; frames = frames_in frames; acks = acks_in acks }
 
--- all bytes are of frames of their side, and there is a list that the wire carries
+-- The invariant of a wire: all bytes encode frames of their side, and the wire carries some list.
 pub record IsWire (handed acked next sent : ℕ) (copies : List Packet) (frames acks : List (ArrayVec ℕ)) : Type 0 where
   pub sent_frames : Each IsData frames
   pub told_back : Each IsAck acks
   pub carried : (put : List Packet) × Carries (view_of handed acked next sent copies frames acks) put
 
--- what comes to the far end, as it is answered
+-- the arrival at the far end, in the type of the code
 abbrev pub arrived_of : Coming Packet → Arrived
 arrived_of Empty = R.Empty
 arrived_of (Stale n) = R.Stale n
 arrived_of (Next p) = R.Next p
 
--- the first frame of data is taken off its side, if there is one
+-- the first data frame is removed from its side, if there is one
 abbrev pub TakesData : List (ArrayVec ℕ) → List (ArrayVec ℕ) → Option (ℕ × Packet) → Type 0
 TakesData old new None = (frames_in old ≡ []) × (new ≡ old)
 TakesData old new (Some f) = (frames_in old ≡ (f.0, f.1) ∷ frames_in new) × Each IsData new
@@ -72,19 +72,19 @@ abbrev pub TakesAck : List (ArrayVec ℕ) → List (ArrayVec ℕ) → Option ℕ
 TakesAck old new None = (acks_in old ≡ []) × (new ≡ old)
 TakesAck old new (Some n) = (acks_in old ≡ n ∷ acks_in new) × Each IsAck new
 
--- the number is wanted for a list that the wire carries, and comes with what has it exactly where it was never sent
+-- Some carried list wants the number, and `fresh` is its packet exactly if it was never sent.
 pub record IsWanted (v : KeptWire Packet) (number : ℕ) (fresh : Option Packet) : Type 0 where
   pub put : List Packet
   pub carried : Carries v put
   pub wanted : kept_wanted v (length put) ≡ Some number
   pub fresh_is : fresh ≡ (if number == v.sent then slice_get put number else None)
 
--- what is told of what was sent
+-- the report of a frame that was sent
 abbrev pub told_of : ℕ → Sent → What
 told_of n S.Frame = W.Frame n
 told_of n S.Lost = W.Lost n
 
--- what happens on a side
+-- the acts on a side of a wire
 abbrev pub lose_of : Side → WireAct
 lose_of D.Data = A.Lose
 lose_of D.Ack = A.LoseAck

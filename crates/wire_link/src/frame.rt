@@ -1,13 +1,14 @@
-//! What goes over a wire.
+//! The frames of a wire.
 use arrayvec::ArrayVec;
 use rendezvous_protocol::Packet;
 
-/// A packet with its number, or the number up to which packets were handed out.
+/// A frame of a wire: a packet with its number, or an acknowledgement. An acknowledgement has the number of packets
+/// that the far end has received in order.
 #[derive(Clone, Copy)]
 pub enum Frame {
     Data { number: u32, packet: Packet },
     Ack { number: u32 },
 }
 
-/// The bytes of a frame, which are at most 96.
+/// The bytes of a frame, at most 96.
 pub type FrameBytes = ArrayVec<u8, 96>;

@@ -1,4 +1,4 @@
-//! The frame that bytes are of.
+//! Decoding of frames.
 ghost use Rattle.std.specs.Prelude.{◌≡◌, [], option_map};
 ghost use Rattle.wire_link.specs.Bytes.{data_frame, decoded, read_args, read_async, read_byte, read_create, read_created, read_integer, read_number, read_packet, read_request, read_result};
 ghost use Rattle.wire_link.specs.Bytes.{read_truth, read_value};
@@ -64,7 +64,7 @@ fn value(bytes: &[u8]) -> Option<(Value, &[u8])>
     }
 }
 
-/// Reads values into what has none.
+/// Reads values into an empty `args`.
 fn args<'a>(bytes: &'a [u8], args: &mut Args) -> Option<&'a [u8]>
     requires { args.old ≡ [] }
     ensures { option_map (λ r. (args.new, r.now)) result ≡ read_args bytes.now }
@@ -82,7 +82,7 @@ fn args<'a>(bytes: &'a [u8], args: &mut Args) -> Option<&'a [u8]>
     Some(left)
 }
 
-/// The frame with the packet that asks for an object.
+/// The frame with a request for a new object.
 #[inline(never)]
 fn create(place: u32, bytes: &[u8]) -> Option<Frame>
     ensures { result ≡ data_frame place (read_create bytes.now) }
@@ -105,7 +105,7 @@ fn create(place: u32, bytes: &[u8]) -> Option<Frame>
     })
 }
 
-/// The frame with the packet that tells of a new object.
+/// The frame with the name of a new object.
 #[inline(never)]
 fn created(place: u32, bytes: &[u8]) -> Option<Frame>
     ensures { result ≡ data_frame place (read_created bytes.now) }
@@ -196,7 +196,7 @@ fn message(place: u32, bytes: &[u8]) -> Option<Frame>
     })
 }
 
-/// The frame of data with a number, and the packet that bytes are of.
+/// The data frame with this number and the packet that the bytes encode.
 fn data(place: u32, bytes: &[u8]) -> Option<Frame>
     ensures { result ≡ data_frame place (read_packet bytes.now) }
 {
@@ -211,7 +211,7 @@ fn data(place: u32, bytes: &[u8]) -> Option<Frame>
     }
 }
 
-/// The frame that bytes are the encoding of. None exactly where they are of no frame: `theorems` has the law in both directions.
+/// Decodes a frame. None exactly if the bytes are the encoding of no frame: `theorems` has the law in both directions.
 pub fn decode(bytes: &FrameBytes) -> Option<Frame>
     ensures { result ≡ decoded bytes.now.items }
 {

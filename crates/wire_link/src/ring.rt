@@ -1,4 +1,4 @@
-//! A queue in an array, whose first item moves round it.
+//! A ring buffer.
 ghost use Rattle.std.specs.Prelude.{◌≡◌, ◌+◌, ◌<◌, ◌≤◌, ◌==◌, List, [], ◌∷◌, ◌++◌, length, drop, option_map, slice_get};
 ghost use Rattle.wire_link.specs.Rings.{wrap};
 ghost use Rattle.wire_link.specs.Bytes.{FrameFits, bytes_of};
@@ -10,10 +10,10 @@ use arrayvec::ArrayVec;
 use rendezvous_protocol::Packet;
 use std::marker::Model;
 
-/// The frames under way on one side of a wire.
+/// The frames in transit on one side of a wire, at most 16.
 pub type Frames = Ring<FrameBytes, 16>;
 
-/// At most `N` items, of which the first may stand at any place of the array.
+/// A queue of at most `N` items in an array. Its first item may be at any index, and the items continue around the end.
 #[derive(Drop)]
 pub struct Ring<T, const N: usize> {
     cells: [T; N],
@@ -36,7 +36,7 @@ impl<T, const N: usize> Model for Ring<T, N> {
 }
 
 impl<T: Default, const N: usize> Ring<T, N> {
-    /// No items.
+    /// Returns a queue without items.
     pub fn make() -> Self
         ensures { result.items ≡ [] }
     {
@@ -49,7 +49,7 @@ impl<T: Default, const N: usize> Ring<T, N> {
 }
 
 impl<T: Drop, const N: usize> Ring<T, N> {
-    /// Whether there is no room left.
+    /// Reports whether the queue has `N` items.
     pub fn is_full(&self) -> bool
         ensures value { result ≡ (length self.now.items == N) }
         ensures fits { length self.now.items ≤ N }
@@ -57,7 +57,7 @@ impl<T: Drop, const N: usize> Ring<T, N> {
         self.count == N
     }
 
-    /// The item at a place, counted from the first one, if there is one.
+    /// The item at index `place`, counted from 0 at the first. None past the last.
     pub fn get(&self, place: usize) -> Option<&T>
         ensures { option_map (λ r. r.now) result ≡ slice_get self.now.items place }
     {
@@ -68,7 +68,7 @@ impl<T: Drop, const N: usize> Ring<T, N> {
         }
     }
 
-    /// Drops so many of the first items.
+    /// Drops the first `count` items. Requires as many.
     pub fn skip(&mut self, count: usize)
         requires { count ≤ length self.old.items }
         ensures { self.new.items ≡ drop count self.old.items }
@@ -77,7 +77,7 @@ impl<T: Drop, const N: usize> Ring<T, N> {
         self.count -= count;
     }
 
-    /// Puts an item last. There must be room.
+    /// Appends an item. Requires fewer than `N` items.
     pub fn push(&mut self, item: T)
         requires { length self.old.items < N }
         ensures { self.new.items ≡ self.old.items ++ item ∷ [] }
@@ -88,7 +88,7 @@ impl<T: Drop, const N: usize> Ring<T, N> {
     }
 }
 
-/// So many places behind the first, counted round a row of cells.
+/// The index that is `place` cells after `first`, around the end of an array of `size` cells.
 fn wrapped(first: usize, place: usize, size: usize) -> usize
     requires { first ≤ size }
     ensures { result ≡ wrap (first + place) size }
@@ -101,7 +101,7 @@ fn wrapped(first: usize, place: usize, size: usize) -> usize
     }
 }
 
-/// Puts a frame of data last, whose bytes are written where they stay. There must be room.
+/// Appends a data frame, and writes its bytes directly into its cell. Requires fewer than 16 frames.
 pub fn write_data(frames: &mut Frames, number: u32, packet: &Packet)
     requires { length frames.old.items < 16 }
     ensures items { frames.new.items ≡ frames.old.items ++ bytes_of (F.Data number packet.now) ∷ [] }
@@ -113,7 +113,7 @@ pub fn write_data(frames: &mut Frames, number: u32, packet: &Packet)
     frames.count += 1;
 }
 
-/// Puts an acknowledgement last, whose bytes are written where they stay. There must be room.
+/// Appends an acknowledgement, and writes its bytes directly into its cell. Requires fewer than 16 frames.
 pub fn write_ack(frames: &mut Frames, number: u32)
     requires { length frames.old.items < 16 }
     ensures items { frames.new.items ≡ frames.old.items ++ bytes_of (F.Ack number) ∷ [] }

@@ -10,7 +10,7 @@ use crate::reading::decode;
 use crate::ring::{Frames, write_ack, write_data};
 use rendezvous_protocol::Packet;
 
-/// Takes the first frame of data off its side.
+/// Removes the first data frame, and returns its number and packet. None if there is none.
 pub fn take_data(frames: &mut Frames) -> Option<(u32, Packet)>
     requires { Each IsData frames.old.items }
     ensures { TakesData frames.old.items frames.new.items result }
@@ -25,7 +25,7 @@ pub fn take_data(frames: &mut Frames) -> Option<(u32, Packet)>
     }
 }
 
-/// Takes the first acknowledgement off its side.
+/// Removes the first acknowledgement, and returns its number. None if there is none.
 pub fn take_ack(acks: &mut Frames) -> Option<u32>
     requires { Each IsAck acks.old.items }
     ensures { TakesAck acks.old.items acks.new.items result }
@@ -40,7 +40,7 @@ pub fn take_ack(acks: &mut Frames) -> Option<u32>
     }
 }
 
-/// The first frame of data, if there is one.
+/// The number and packet of the first data frame, if there is one.
 pub fn first_data(frames: &Frames) -> Option<(u32, Packet)>
     requires { Each IsData frames.now.items }
     ensures { result ≡ first_of (frames_in frames.now.items) }
@@ -51,7 +51,7 @@ pub fn first_data(frames: &Frames) -> Option<(u32, Packet)>
     }
 }
 
-/// The first acknowledgement, if there is one.
+/// The number of the first acknowledgement, if there is one.
 pub fn first_ack(acks: &Frames) -> Option<u32>
     requires { Each IsAck acks.now.items }
     ensures { result ≡ first_of (acks_in acks.now.items) }
@@ -62,7 +62,7 @@ pub fn first_ack(acks: &Frames) -> Option<u32>
     }
 }
 
-/// Puts a frame of data last, unless the side is full, and says whether it did.
+/// Appends a data frame unless the side is full, and reports whether it did.
 pub fn put_data(frames: &mut Frames, number: u32, packet: &Packet) -> bool
     requires { Each IsData frames.old.items }
     ensures frames { frames_in frames.new.items ≡ push_within (number, packet.now) (frames_in frames.old.items) }
@@ -76,7 +76,7 @@ pub fn put_data(frames: &mut Frames, number: u32, packet: &Packet) -> bool
     true
 }
 
-/// Puts an acknowledgement last, unless the side is full, and says whether it did.
+/// Appends an acknowledgement unless the side is full, and reports whether it did.
 pub fn put_ack(acks: &mut Frames, number: u32) -> bool
     requires { Each IsAck acks.old.items }
     ensures acks { acks_in acks.new.items ≡ push_within number (acks_in acks.old.items) }
@@ -90,7 +90,7 @@ pub fn put_ack(acks: &mut Frames, number: u32) -> bool
     true
 }
 
-/// What a frame of data has.
+/// The number and packet of a data frame.
 fn data_of(frame: Option<Frame>) -> Option<(u32, Packet)>
     ensures { result ≡ first_of (data_in frame) }
 {
@@ -100,7 +100,7 @@ fn data_of(frame: Option<Frame>) -> Option<(u32, Packet)>
     }
 }
 
-/// What an acknowledgement has.
+/// The number of an acknowledgement.
 fn ack_of(frame: Option<Frame>) -> Option<u32>
     ensures { result ≡ first_of (ack_in frame) }
 {

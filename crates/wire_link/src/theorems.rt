@@ -1,4 +1,5 @@
-//! Laws of the bytes of frames, and of what a wire carries after each call, over the definitions alone: each is the contract of a function that does nothing.
+//! Laws of the bytes of frames, and of the list that a wire carries after each call. They speak of the definitions
+//! alone: each law is the contract of a function with an empty body.
 ghost use Rattle.std.specs.Prelude.{◌≡◌, ℕ, ◌==◌, List, [], length, Option, Some, None, if◌then◌else◌, option_map, slice_get};
 ghost use Rattle.run_types.specs.declared.types.What.TheVariants as W;
 ghost use Rattle.mesh_semantics.specs.Wire.{hear, send, take, wire_act};
@@ -10,14 +11,15 @@ ghost use Rattle.wire_link.specs.declared.frame.Frame.{Frame};
 ghost use Rattle.wire_link.specs.declared.wire.Side.{Side};
 ghost use Rattle.wire_link.specs.declared.wire.Sent.{Sent};
 
-/// Bytes are read as a frame exactly where they are its encoding.
+/// Bytes decode to a frame if and only if they are its encoding.
 pub fn encodings_are_read_back()
     ensures read { (f : Frame) → FrameFits f → decoded (encoding f) ≡ Some f }
     ensures written { (bs : List ℕ) (f : Frame) → AreBytes bs → decoded bs ≡ Some f → (encoding f ≡ bs) × FrameFits f }
 {}
 
-/// What the calls of a wire say of what is kept after them, said of every list that the wire carried: it still carries it, the same is told as of the wire that it stands
-/// for, and the same change was made. Here v is kept before the call and w after it.
+/// Each call changes the stored state of a wire as its definition says, for every list that the wire carries. The wire
+/// still carries the list, reports the same, and makes the same change as the wire of the definition. Here `v` is the
+/// state before the call, and `w` the state after it.
 pub fn each_call_carries_what_was_carried()
     ensures arrive { (v w : KeptWire Packet) (put : List Packet) → w ≡ kept_take v → Carries v put → Carries w put × (whole w put ≡ take (whole v put)) }
     ensures send { (v w : KeptWire Packet) (put : List Packet) (number : ℕ) (fresh : Option Packet) (result : Sent) → kept_send number fresh v ≡ (told_of number result, w)

@@ -15,21 +15,21 @@ use crate::sides::{first_ack, first_data, put_ack, put_data, take_ack, take_data
 use rendezvous_protocol::Packet;
 use std::marker::Model;
 
-/// The side of a wire: what goes to the far end, or what comes back.
+/// A side of a wire: data frames go to the far end, and acknowledgements come back.
 #[derive(Clone, Copy)]
 pub enum Side {
     Data,
     Ack,
 }
 
-/// What was sent: a frame, or one that was lost since the wire is full.
+/// The outcome of sending: a frame is in transit, or it was lost since the wire is full.
 #[derive(Clone, Copy)]
 pub enum Sent {
     Frame,
     Lost,
 }
 
-/// What comes to the far end: nothing, a frame that is not the next one, or the next packet.
+/// The arrival at the far end: nothing, a frame that is not the next one, or the next packet.
 #[derive(Clone, Copy)]
 pub enum Arrived {
     Empty,
@@ -37,13 +37,15 @@ pub enum Arrived {
     Next { packet: Packet },
 }
 
-/// What is kept of a link as a wire: it keeps numbers, copies of the at most eight packets that were sent and not acknowledged, and the frames under way as
-/// bytes, at most 16 on each side. No call takes memory.
+/// A link as a wire with the go-back-N protocol: counters, copies of the packets that were sent and not acknowledged,
+/// and the frames in transit. There are at most 8 copies, and at most 16 frames on each side, stored as bytes. No call
+/// allocates.
 ///
-/// A wire keeps no list of what entered; it *carries* lists (`Carries` of `mesh_semantics`). What the calls say of what is kept holds of every list that is
-/// carried: of each call that changes the wire by a clause
-/// of the law `theorems::each_call_carries_what_was_carried`, which says that the list is carried after it, that the same is told and that the change is that of the wire; of the others by
-/// `a_kept_wire_does_what_its_wire_does` of `mesh_semantics`, where a wire that carries a list also carries every longer one that begins with it.
+/// A wire stores no list of the packets that entered it; it *carries* lists (`Carries` of `mesh_semantics`). The
+/// contracts speak of the stored state, and hold for every carried list. For the calls that change the wire,
+/// `theorems::each_call_carries_what_was_carried` says so, with a clause each. The list is still carried, and the
+/// report and the change are those of the definition. For the other calls, `a_kept_wire_does_what_its_wire_does` of
+/// `mesh_semantics` says so. There, a wire that carries a list also carries every longer list that begins with it.
 #[derive(Drop)]
 pub struct Wire {
     handed: u32,
@@ -69,7 +71,8 @@ impl Model for Wire {
 }
 
 impl Wire {
-    /// A wire on which nothing was put. It carries the empty list (`a_kept_wire_does_what_its_wire_does`, `empty`).
+    /// Makes a wire that no packet has entered. It carries the empty list (`a_kept_wire_does_what_its_wire_does`,
+    /// `empty`).
     pub fn make() -> Wire
         ensures { result ≡ empty_kept }
     {
@@ -84,29 +87,30 @@ impl Wire {
         }
     }
 
-    /// How many packets were acknowledged, which is the same for every list that is carried.
+    /// The number of acknowledged packets, which is the same for every carried list.
     pub fn acked(&self) -> u32
         ensures { result ≡ self.now.acked }
     {
         self.acked
     }
 
-    /// How many packets were handed out: of every list that is carried so many of its first ones.
+    /// The number of packets that the far end has handed out. They are the first ones of every carried list.
     pub fn handed(&self) -> u32
         ensures { result ≡ self.now.handed }
     {
         self.handed
     }
 
-    /// How many packets were sent at least once, which is the same for every list that is carried.
+    /// The number of packets that were sent at least once, which is the same for every carried list.
     pub fn sent(&self) -> u32
         ensures { result ≡ self.now.sent }
     {
         self.sent
     }
 
-    /// The number that is wanted where so many packets entered. None exactly where all are acknowledged. Of every list of this length that is carried it is what its wire wants
-    /// (`a_kept_wire_does_what_its_wire_does`, `wanted`); some list is carried.
+    /// The number of the frame to send next, if `put` packets have entered. None exactly if all are acknowledged. The
+    /// wire of every carried list of this length sends it next (`a_kept_wire_does_what_its_wire_does`, `wanted`). Some
+    /// list is carried.
     pub fn wants(&self, put: u32) -> Option<u32>
         ensures wanted { result ≡ kept_wanted self.now put }
         ensures carries { (put : List AnyPacket) × Carries self.now put }
@@ -121,7 +125,8 @@ impl Wire {
         }
     }
 
-    /// What comes to the far end, as on the wire of every list that is carried (`a_kept_wire_does_what_its_wire_does`, `coming`).
+    /// The next arrival at the far end, as on the wire of every carried list (`a_kept_wire_does_what_its_wire_does`,
+    /// `coming`).
     pub fn peek(&self) -> Arrived
         ensures { result ≡ arrived_of (kept_coming self.now) }
     {
@@ -131,8 +136,9 @@ impl Wire {
         }
     }
 
-    /// A number that is wanted for a list that the wire carries is sent, with its packet exactly where it was never sent. Lost exactly where 16 frames are under way. Every list for which
-    /// the number is wanted, and the packet comes as said, is carried after it (`each_call_carries_what_was_carried`, `send`).
+    /// Sends the frame of a number that some carried list wants. `fresh` is its packet exactly if it was never sent.
+    /// Returns `Lost` exactly if 16 frames are in transit. Every list that wants the number, and has this packet, is
+    /// carried after it (`each_call_carries_what_was_carried`, `send`).
     pub fn send(&mut self, number: u32, fresh: Option<Packet>) -> Sent
         requires narrow { number + 1 < 2 ^ 32 }
         requires wanted { IsWanted self.old number fresh }
@@ -148,8 +154,9 @@ impl Wire {
         }
     }
 
-    /// The first frame comes to the far end: the next packet is handed out, another one is dropped, and the far end tells how many it has handed out, unless 16 such numbers are under way.
-    /// Every list is carried after it as before (`each_call_carries_what_was_carried`, `arrive`).
+    /// The first data frame comes to the far end. The next packet is handed out, and any other is dropped. If a frame
+    /// came, the far end acknowledges the number of packets handed out, unless 16 acknowledgements are in transit.
+    /// Every carried list is still carried (`each_call_carries_what_was_carried`, `arrive`).
     pub fn arrive(&mut self) -> Arrived
         ensures arrived { result ≡ arrived_of (kept_coming self.old) }
         ensures change { self.new ≡ kept_take self.old }
@@ -169,8 +176,9 @@ impl Wire {
         }
     }
 
-    /// The first acknowledgement comes back: the copies of what it acknowledges are dropped. None exactly where there is none. Every list is carried after it as before
-    /// (`each_call_carries_what_was_carried`, `ack`).
+    /// The first acknowledgement comes back, and the copies that it acknowledges are dropped. Returns its number, or
+    /// None exactly if there is none. Every carried list is still carried (`each_call_carries_what_was_carried`,
+    /// `ack`).
     pub fn ack(&mut self) -> Option<u32>
         ensures heard { option_map (λ n. (W.Acked n, self.new)) result ≡ kept_hear self.old }
         ensures none { result ≡ None → self.new ≡ self.old }
@@ -183,7 +191,8 @@ impl Wire {
         Some(number)
     }
 
-    /// The first frame of a side is lost. None exactly where there is none. Every list is carried after it as before (`each_call_carries_what_was_carried`, `lose`).
+    /// The first frame of a side is lost. Returns its number, or None exactly if there is none. Every carried list is
+    /// still carried (`each_call_carries_what_was_carried`, `lose`).
     pub fn lose(&mut self, side: Side) -> Option<u32>
         ensures lost { option_map (λ n. (W.Lost n, self.new)) result ≡ kept_act (lose_of side) [] self.old }
         ensures none { result ≡ None → self.new ≡ self.old }
@@ -197,8 +206,8 @@ impl Wire {
         }
     }
 
-    /// The first frame of a side comes twice: a copy of it goes last. None exactly where there is none or the side holds 16. Every list is carried after it as before
-    /// (`each_call_carries_what_was_carried`, `twice`).
+    /// A copy of the first frame of a side is appended to the side. Returns its number, or None exactly if there is
+    /// none, or the side has 16. Every carried list is still carried (`each_call_carries_what_was_carried`, `twice`).
     pub fn twice(&mut self, side: Side) -> Option<u32>
         ensures doubled { option_map (λ n. (W.Frame n, self.new)) result ≡ kept_act (twice_of side) [] self.old }
         ensures none { result ≡ None → self.new ≡ self.old }
@@ -227,8 +236,8 @@ impl Wire {
         }
     }
 
-    /// The bytes of the first frame of a side, which are its encoding, at most 96; they are those of the wire of every list that is carried, since no frame
-    /// depends on it. None exactly where there is none.
+    /// The encoding of the first frame of a side, at most 96 bytes. It is the same for every carried list. None exactly
+    /// if there is no frame.
     pub fn front(&self, side: Side) -> Option<&FrameBytes>
         ensures bytes { option_map (λ b. b.now.items) result ≡ option_map encoding (front_of side self.now) }
         ensures read { option_map (λ b. decoded b.now.items) result ≡ option_map Some (front_of side self.now) }
@@ -245,7 +254,8 @@ impl Wire {
         }
     }
 
-    /// The first frame of a side falls behind the others. None exactly where there is none. Every list is carried after it as before (`each_call_carries_what_was_carried`, `late`).
+    /// The first frame of a side moves after the others. Returns its number, or None exactly if there is none. Every
+    /// carried list is still carried (`each_call_carries_what_was_carried`, `late`).
     pub fn late(&mut self, side: Side) -> Option<u32>
         ensures late { option_map (λ n. (W.Late n, self.new)) result ≡ kept_act (late_of side) [] self.old }
         ensures none { result ≡ None → self.new ≡ self.old }
@@ -276,7 +286,7 @@ fn later(a: u32, b: u32) -> u32
     if a < b { b } else { a }
 }
 
-/// Puts a frame of data on its side; where that is full it is lost.
+/// Appends a data frame to its side. It is lost if the side is full.
 fn launch(frames: &mut Frames, number: u32, packet: &Packet) -> Sent
     requires { Each IsData frames.old.items }
     ensures frames { frames_in frames.new.items ≡ push_within (number, packet.now) (frames_in frames.old.items) }
@@ -290,7 +300,7 @@ fn launch(frames: &mut Frames, number: u32, packet: &Packet) -> Sent
     }
 }
 
-/// Keeps one copy more, if there is one.
+/// Adds a copy, if there is one.
 fn keep(copies: &mut Ring<Packet, 8>, fresh: Option<Packet>)
     requires { (p : AnyPacket) → fresh ≡ Some p → length copies.old.items < 8 }
     ensures { copies.new.items ≡ with_fresh fresh copies.old.items }
@@ -300,7 +310,7 @@ fn keep(copies: &mut Ring<Packet, 8>, fresh: Option<Packet>)
     }
 }
 
-/// Drops the first so many copies.
+/// Drops the first `count` copies.
 fn forget(copies: &mut Ring<Packet, 8>, count: u32)
     requires { count ≤ length copies.old.items }
     ensures { copies.new.items ≡ drop count copies.old.items }
@@ -308,7 +318,7 @@ fn forget(copies: &mut Ring<Packet, 8>, count: u32)
     copies.skip(count as usize);
 }
 
-/// What a frame is where so many packets were handed out.
+/// The arrival of a frame after `handed` packets were handed out.
 fn coming(frame: Option<Frame>, handed: u32) -> Arrived
     ensures { result ≡ arrived_of (coming_in handed (data_in frame)) }
 {

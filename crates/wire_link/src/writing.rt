@@ -1,4 +1,4 @@
-//! The bytes of a frame.
+//! Encoding of frames.
 ghost use Rattle.std.specs.Prelude.{◌≡◌, ◌+◌, ◌≤◌, [], ◌++◌, length};
 ghost use Rattle.arrayvec.specs.ArrayVec.{array_vec_len};
 ghost use Rattle.wire_link.specs.Bytes.{ArgsFit, FrameFits, IsNumber, PacketFits, ValueFits, args_bytes, encoding, number_bytes, packet_bytes, value_bytes};
@@ -9,7 +9,7 @@ use arrayvec::ArrayVec;
 use rendezvous_protocol::Packet;
 use run_types::{Args, Value};
 
-/// Puts bytes behind those that are there.
+/// Appends bytes.
 fn put(bytes: &mut FrameBytes, more: &[u8])
     requires { array_vec_len bytes.old + length more.now ≤ 96 }
     ensures items { bytes.new.items ≡ bytes.old.items ++ more.now }
@@ -20,7 +20,7 @@ fn put(bytes: &mut FrameBytes, more: &[u8])
     }
 }
 
-/// Puts a number.
+/// Appends a number, in 4 bytes.
 fn put_number(bytes: &mut FrameBytes, number: u32)
     requires { array_vec_len bytes.old ≤ 92 }
     ensures items { bytes.new.items ≡ bytes.old.items ++ number_bytes number }
@@ -30,7 +30,7 @@ fn put_number(bytes: &mut FrameBytes, number: u32)
     put(bytes, &number.to_be_bytes());
 }
 
-/// Puts a value.
+/// Appends a value, in at most 9 bytes.
 fn put_value(bytes: &mut FrameBytes, value: Value)
     requires { array_vec_len bytes.old ≤ 87 }
     ensures items { bytes.new.items ≡ bytes.old.items ++ value_bytes value }
@@ -54,7 +54,7 @@ fn put_value(bytes: &mut FrameBytes, value: Value)
     }
 }
 
-/// Puts the count of the values, and the values.
+/// Appends the count of the values, and the values.
 fn put_args(bytes: &mut FrameBytes, args: &Args)
     requires { array_vec_len bytes.old ≤ 23 }
     ensures items { bytes.new.items ≡ bytes.old.items ++ args_bytes args.now }
@@ -67,7 +67,7 @@ fn put_args(bytes: &mut FrameBytes, args: &Args)
     }
 }
 
-/// Puts a packet.
+/// Appends a packet.
 fn put_packet(bytes: &mut FrameBytes, packet: &Packet)
     requires { array_vec_len bytes.old ≤ 5 }
     ensures items { bytes.new.items ≡ bytes.old.items ++ packet_bytes packet.now }
@@ -127,7 +127,7 @@ fn put_packet(bytes: &mut FrameBytes, packet: &Packet)
     }
 }
 
-/// Puts the bytes of a frame of data where no bytes are.
+/// Writes the bytes of a data frame. Requires no bytes before it.
 pub fn put_data_frame(bytes: &mut FrameBytes, number: u32, packet: &Packet)
     requires { bytes.old.items ≡ [] }
     ensures items { bytes.new.items ≡ encoding (F.Data number packet.now) }
@@ -138,7 +138,7 @@ pub fn put_data_frame(bytes: &mut FrameBytes, number: u32, packet: &Packet)
     put_packet(bytes, packet);
 }
 
-/// Puts the bytes of an acknowledgement where no bytes are.
+/// Writes the bytes of an acknowledgement. Requires no bytes before it.
 pub fn put_ack_frame(bytes: &mut FrameBytes, number: u32)
     requires { bytes.old.items ≡ [] }
     ensures items { bytes.new.items ≡ encoding (F.Ack number) }
@@ -148,7 +148,7 @@ pub fn put_ack_frame(bytes: &mut FrameBytes, number: u32)
     put_number(bytes, number);
 }
 
-/// The encoding of a frame; each frame has one.
+/// The encoding of a frame. Every frame has one.
 pub fn encode(frame: &Frame) -> FrameBytes
     ensures items { result.items ≡ encoding frame.now }
     ensures fits { FrameFits frame.now }

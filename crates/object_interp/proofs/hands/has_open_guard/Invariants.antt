@@ -1,4 +1,4 @@
--- What holds of one of all holds of one of those that are left.
+-- The test holds of one guard exactly if it holds of one of the rest.
 use Rattle.std.proofs.Common.{◌≡◌, ◌-◌, []}
 use Rattle.std.specs.List.{list_any}
 use Rattle.run_types.specs.Values.{is_true}

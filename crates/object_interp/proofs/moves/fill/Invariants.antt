@@ -1,4 +1,4 @@
--- So far that many parameters have their values.
+-- The parameters up to here have their values.
 use Rattle.std.proofs.Common.{◌≡◌, length, take}
 use Rattle.run_types.specs.Operands.{padded}
 use Rattle.node_heap.specs.Heaps.{put_top, top_at}

@@ -1,4 +1,4 @@
--- The values so far, and those that are left, are all.
+-- The values up to here, followed by the rest, are all values.
 use Rattle.std.proofs.Common.{◌≡◌, ◌-◌, [], ◌++◌, length}
 use Rattle.run_types.specs.Operands.{taken}
 use Rattle.node_heap.specs.Heaps.{top_at}

@@ -1,4 +1,4 @@
--- The first of all is the first of those that are left.
+-- The first method of the name is the first of the rest.
 use Rattle.std.proofs.Common.{◌≡◌, drop}
 use Rattle.code_semantics.specs.Step.{method_from}
 use Rattle.object_interp.proofs.read.method_place.Given as goal

@@ -1,4 +1,4 @@
--- The operand of a place is the last one of those that are left without the operands above it.
+-- The operand with some others above it is the last operand after those are dropped.
 use Rattle.std.proofs.Common.{◌∙◌}
 use Rattle.node_heap.specs.Heaps.{top_at}
 use Rattle.object_interp.proofs.Operands.{nth_top}

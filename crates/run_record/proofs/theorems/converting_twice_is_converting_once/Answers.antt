@@ -1,4 +1,4 @@
--- What is carried over is read as what it was made from, so that the same is made of it again.
+-- The conversion of a text is read as the same lines, so it converts to itself.
 use Rattle.std.proofs.Common.{◌≡◌, ap, ◌∙◌, None, List, []}
 use Rattle.text_scan.specs.Text.{Text}
 use Rattle.record_parser.specs.Lines.{Told}

@@ -1,4 +1,4 @@
--- The same rows as those of the first form.
+-- The lines of the second form are those of the first form.
 use Rattle.std.proofs.Common.{ap, ◌∙◌}
 use Rattle.run_record.specs.Numbered.{lines_after, names_after}
 use Rattle.run_record.proofs.NameRoundTrip.{lines_back, names_back, record_placed}

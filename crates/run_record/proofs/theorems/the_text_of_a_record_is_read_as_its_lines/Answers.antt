@@ -1,4 +1,4 @@
--- The rows that are read are those of the lines, and their names have their numbers again.
+-- The parsed lines are those of the record, and their names have their numbers again.
 use Rattle.std.proofs.Common.{ap, ◌∙◌}
 use Rattle.run_record.specs.Numbered.{lines_after, names_after}
 use Rattle.run_record.proofs.NameRoundTrip.{lines_back, names_back, record_placed}
