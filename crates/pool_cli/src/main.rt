@@ -21,7 +21,7 @@ use std::alloc::Global;
 use std::env;
 use std::process::ExitCode;
 
-/// Runs the command of these words, and gives the exit status of the process.
+/// Runs the command of these arguments. Returns the exit status of the process.
 fn run<F: Files, K: Sink, E: Sink>(
     alloc: Global,
     words: &[String],
@@ -33,23 +33,26 @@ fn run<F: Files, K: Sink, E: Sink>(
     requires countable { F.opens files.old ≤ 2 ^ 64 - 5 }
     requires allowed { IfSome (request_of (texts_of words.now)) (MayOpen (F.may files.old) (F.opens files.old)) }
 
-    // The number is that of the status with which the call ends: each end has its cause, and what stands on the two sinks.
+    // The exit status is the number of the status with which the
+    // call ends. Each has its cause, and the text on both sinks.
     ensures ends { (status : Status) × (exit_status result ≡ code_of status) × Ends (request_of (texts_of words.now))
         (reading F.told F.opens F.given F.live F.faults files.old files.new)
         (writing K.written K.faults out.old out.new)
         (writing E.written E.faults err.old err.new)
         status }
 
-    // Of the input that was opened last no more than its limit and one read was given.
+    // The input that was opened last has given at most its limit and one read.
     ensures stops_reading { (r : Request) → request_of (texts_of words.now) ≡ Some r → StaysWithin
         (reading F.told F.opens F.given F.live F.faults files.old files.new) r }
 
-    // Words of a command, accepted inputs and no fault in this call give the text whole, or nothing for want of memory.
+    // If the arguments are a command, all inputs are accepted, and no read or
+    // write failed in this call, the whole text was written, or memory ran out.
     ensures complete { (r : Request) → request_of (texts_of words.now) ≡ Some r → IsServable (F.told files.old) r
         → ¬ (Rose (F.faults files.old) (F.faults files.new)) → ¬ (Rose (K.faults out.old) (K.faults out.new)) → ¬ (Rose (E.faults err.old) (E.faults err.new))
         → ((status : Status) × WholeTextWritten status × (exit_status result ≡ code_of status)) ⊎ (exit_status result ≡ 7) }
 
-    // The headline, by itself: where `record` ends with the number of a record, what it wrote is the text of lines that show one run of the program.
+    // The headline: if `record` ends with the exit status of a record,
+    // it has written the text of lines that show one run of the program.
     ensures headline { (p l s : Text) → texts_of words.now ≡ codes "record" ∷ p ∷ l ∷ s ∷ [] → (status : Status) → WholeTextWritten status → exit_status result ≡ code_of status
         → (source : Text) × (bytes : Text) × IfSome (F.told files.old p) (λ t. source ≡ t)
         × (K.written out.new ≡ option_map (λ w. w ++ bytes) (K.written out.old)) × ShowsOneRun source bytes }

@@ -1,4 +1,4 @@
--- What was built of a program is loaded as the program is recorded.
+-- `load` of a built file gives the same record as `record` of the program.
 use Rattle.std.proofs.Common.{◌≡◌, ◌∙◌, refl, sym, ap, subst, List, ◌∷◌, [], Ok}
 use Rattle.text_scan.specs.Text.{Text}
 use Rattle.pool_syntax.specs.Terms.{ProgramTree}

@@ -1,4 +1,4 @@
--- The bytes of the file of a program say this file, which is verified.
+-- The bytes of a program's file decode to this file, which is verified.
 use Rattle.std.proofs.Common.{◌≡◌, refl, sym, subst, true, List}
 use Rattle.text_scan.specs.Text.{Text}
 use Rattle.pool_syntax.specs.Terms.{ProgramTree}

@@ -1,4 +1,4 @@
--- How a call ends: what came of the inputs, and what was written of it.
+-- How a call ends follows from the result for its inputs and from the text that was written.
 use Rattle.std.proofs.Common.{◌≡◌, ◌∙◌, ◌⊎◌, inl, inr, ◌≤◌, ◌||◌, ◌++◌, ℕ, Bool, true, false, List, [], ◌∷◌, length, Option, Some, None, Ok, Err, refl, sym, subst, arith}
 use Rattle.std.proofs.lemmas.List.{append-nil, append_assoc}
 use Rattle.pool_outside.specs.Outside.{Rose}

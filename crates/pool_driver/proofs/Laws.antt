@@ -1,4 +1,6 @@
--- The lemmas that other crates may cite: code of a verified file is spelled and its records are readable, a verified file that is short can be written, a file is no program, and a text with a fault is no verified file.
+-- The lemmas that other crates may cite.
+-- Code of a verified file has names of the language, its records are readable, and a short file can be written.
+-- A file is not a program, and a text with a fault is not a verified file.
 pub use Rattle.pool_driver.proofs.SpelledFiles.{verified_spelled}
 pub use Rattle.pool_driver.proofs.ReadableFiles.{file_reads, file_reads_on_wires}
 pub use Rattle.pool_driver.proofs.WritableFiles.{verified_writable}

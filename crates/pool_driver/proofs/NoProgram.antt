@@ -1,4 +1,4 @@
--- Bytes that say an object code file have no tokens: behind its first word stands a byte that begins no piece.
+-- The bytes of an object code file have no tokens: after their first word comes a byte that begins no token.
 use Rattle.std.proofs.Common.{◌≡◌, refl, subst, ℕ, zero, suc, List, [], ◌∷◌, ◌++◌, length, drop, Bool, true, false, arith}
 use Rattle.std.specs.Prelude.{if◌then◌else◌, ◌==◌}
 use Rattle.run_types.proofs.Laws.{equal}

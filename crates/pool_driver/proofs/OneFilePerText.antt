@@ -1,4 +1,4 @@
--- A text says one file at most, and one with a fault is no verified file.
+-- A text decodes to at most one file, and a text with a fault is not a verified file.
 use Rattle.std.proofs.Common.{◌≡◌, ◌∙◌, ◌⊎◌, inl, inr, ℕ, length, None, Result, Err, refl, sym, subst, arith}
 use Rattle.text_scan.specs.Text.{Text}
 use Rattle.code_semantics.specs.declared.file.UnitFile.{UnitFile}

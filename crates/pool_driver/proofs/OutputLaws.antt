@@ -1,4 +1,4 @@
--- What a request makes of its inputs, one after another.
+-- The output of a request follows from its inputs, one after another.
 use Rattle.std.proofs.Common.{◌≡◌, ◌∙◌, ◌+◌, ◌≤◌, ℕ, zero, suc, List, [], ◌∷◌, length, Option, None, Some, Bool, IsTrue, slice_get, Result, Ok, Err, false, refl, sym, ap, subst, arith}
 use Rattle.text_scan.specs.Text.{Text}
 use Rattle.pool_syntax.specs.TreeOf.{program_of}

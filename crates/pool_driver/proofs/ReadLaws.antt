@@ -1,4 +1,4 @@
--- An input at which a request stops, and what the judges of the inputs say of a text.
+-- The input at which a request stops, and the results of the readers of each input.
 use Rattle.std.proofs.Common.{◌≡◌, ◌∙◌, ◌⊎◌, List, [], Some, None, IfOk, IsOk, IsErr, inl, inr, Result, Ok, Err, ◌≢◌, refl, sym, ap}
 use Rattle.text_scan.specs.Text.{Text}
 use Rattle.pool_syntax.specs.TreeOf.{program_of}

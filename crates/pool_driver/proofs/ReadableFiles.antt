@@ -1,4 +1,5 @@
--- The records of code of a verified file are readable: what is sent is a method of its receiver's class, and so a name, though a send that is not reached may name none.
+-- The records of a verified file are readable.
+-- A send that a run reaches names a method of its receiver's class. A send that no run reaches may name none.
 use Rattle.std.proofs.Common.{◌≡◌, refl, ℕ, ◌≤◌, List, [], ◌∷◌, length, Some, is_some}
 use Rattle.std.specs.Prelude.{◌&&◌}
 use Rattle.run_types.specs.declared.types.NameId.{NameId}

@@ -1,4 +1,4 @@
--- The record of the three texts is one that is read back.
+-- The record of the three texts can be read back.
 use Rattle.std.proofs.Common.{◌≡◌, ℕ, suc, ◌*◌, ◌<◌, ◌≤◌, Bool, List, [], ◌∷◌, slice_get, Some, refl, arith}
 use Rattle.run_types.specs.declared.types.Event.{Event}
 use Rattle.run_types.specs.declared.types.Event.TheVariants as V

@@ -1,4 +1,4 @@
--- From code to terms: what the three texts mean together, and what is shown of their run.
+-- From code to terms: the meaning of the three texts, and the text of their run.
 use Rattle.std.proofs.Common.{◌≡◌, ◌∙◌, ◌++◌, ℕ, List, [], ◌∷◌, map, Option, Some, None, Bool, true, false, Ok, length, ◌<◌, refl, sym, ap, subst, arith}
 use Rattle.text_scan.specs.Text.{Text}
 use Rattle.pool_syntax.specs.Terms.{ClassTree, ProgramTree}

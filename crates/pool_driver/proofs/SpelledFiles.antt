@@ -1,4 +1,5 @@
--- The classes and methods of a verified file are called by names, its strings are strings, and its integers have 64 bits.
+-- The classes and methods of a verified file have names of the
+-- language, its strings are strings, and its integers have 64 bits.
 use Rattle.std.proofs.Common.{◌≡◌, ◌∙◌, refl, sym, ap, subst, IsTrue, ℕ, ℤ, pos, negsuc, zero, suc, List, [], ◌∷◌, length, Option, Some, None, is_some, true, false, arith}
 use Rattle.std.specs.Prelude.{slice_get, FitsSigned}
 use Rattle.std.specs.Int.{w64}

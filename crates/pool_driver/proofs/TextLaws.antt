@@ -1,4 +1,5 @@
--- No text of the table of a parsed program has more than 256 bytes, each of them a byte, and there are no more of them than the program has bytes.
+-- Each text in the table of a parsed program has at most 256 bytes,
+-- and there are at most as many texts as the program has bytes.
 use Rattle.std.proofs.Common.{◌≡◌, ◌∙◌, ◌⊎◌, ◌<◌, ◌≤◌, ◌+◌, ◌-◌, ℕ, zero, suc, Bool, true, false, not, ◌&&◌, ◌||◌, nat_eq, nat_le, List, [], ◌∷◌, ◌++◌, length, take, drop, Option, Some, None, inl, inr, refl, sym, subst, arith}
 use Rattle.std.specs.List.{AllByRecursion as Each}
 use Rattle.std.proofs.lemmas.Bool.{cases_Bool}

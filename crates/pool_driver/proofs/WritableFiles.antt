@@ -1,4 +1,5 @@
--- A verified file that is short can be written: each number of it has four bytes, where its integers have 64 bits and its names are of bytes.
+-- A verified file that is short can be written.
+-- Its numbers fit in four bytes, its integers have 64 bits, and its names consist of bytes.
 use Rattle.std.proofs.Common.{◌≡◌, ◌∙◌, refl, ap, subst, IsTrue, ℕ, ℤ, pos, negsuc, zero, suc, ◌^◌, ◌<◌, ◌≤◌, List, [], ◌∷◌, length, Option, Some, None, is_some, true, false, arith}
 use Rattle.std.specs.Prelude.{slice_get, FitsSigned}
 use Rattle.std.specs.Int.{w64}

@@ -1,4 +1,4 @@
--- How a call of `pool` ends: what came of its inputs, and what was written.
+-- How a call of `pool` ends: the state of its inputs, and the text on its two sinks.
 use Rattle.std.specs.Prelude.{◌≡◌, ℕ, ◌+◌, ◌≤◌, List, [], ◌∷◌, ◌++◌, length, slice_get, Option, Some, None, false}
 use Rattle.pool_outside.specs.Outside.{Rose}
 use Rattle.text_scan.specs.Text.{Text}
@@ -16,12 +16,14 @@ use Rattle.command_inputs.specs.Inputs.{limit_of, one_read, Stops}
 use Rattle.pool_driver.specs.Inputs.{inputs, IsAccepted, HasFault, StopAt, WereAccepted}
 use Rattle.pool_driver.specs.Outputs.{IsOutput}
 
--- of the input that was opened last, the one at this place of the request's, no more than its limit and one read was given
+-- The input that was opened last has given at most its limit and
+-- one read. It has this place among the inputs of the request.
 abbrev pub StaysWithin : Reading → Request → Type 0
 StaysWithin k r =
     (place : ℕ) (input : Input) (name : Text) → slice_get (inputs r) place ≡ Some (input, name) → k.opened ≡ k.opens + (place + 1) → k.given ≤ limit_of input + one_read
 
--- The inputs of the request up to this one were opened, each once and in their order; those before it were read, and are accepted.
+-- The inputs of the request up to this one were opened, each
+-- once and in order. Those before it were read and are accepted.
 pub record Reaches (k : Reading) (r : Request) (input : Input) (name : Text) : Type 0 where
   pub before : List (Input × Text)
   pub behind : List (Input × Text)
@@ -30,14 +32,14 @@ pub record Reaches (k : Reading) (r : Request) (input : Input) (name : Text) : T
   pub accepted : WereAccepted k.told [] before texts
   pub opened : k.opened ≡ k.opens + (length before + 1)
 
--- the first input that is not accepted has this fault, and no read failed
+-- this is the first input that is not accepted; it has this fault, and no read failed
 pub record IsRefused (k : Reading) (r : Request) (input : Input) (fault : Fault) : Type 0 where
   pub name : Text
   pub reached : Reaches k r input name
   pub why : Stops k input name (IsAccepted reached.texts input) (HasFault reached.texts input) fault
   pub calm : AllRead k
 
--- a read of this input failed, and no more than its limit was given
+-- a read of this input failed, after at most its limit was given
 pub record IsUnread (k : Reading) (r : Request) (input : Input) : Type 0 where
   pub name : Text
   pub reached : Reaches k r input name
@@ -50,12 +52,14 @@ last_length [] = 0
 last_length (s ∷ []) = length s
 last_length (s ∷ t ∷ ts) = last_length (t ∷ ts)
 
--- the number of bytes given since the last open, where there was one
+-- the number of bytes that were given since the last open, if there was one
 abbrev pub HasGiven : List Text → ℕ → Type 0
 HasGiven [] given = Unit {0}
 HasGiven (s ∷ ss) given = last_length (s ∷ ss) ≡ given
 
--- All inputs of the request were opened, each once and in their order, and read to their ends; no read failed, each is accepted, and this is what is asked for.
+-- All inputs of the request were opened, each once and in order,
+-- and read to their ends. No read failed, and each is accepted.
+-- The text is the output of the request.
 pub record IsAnswered (k : Reading) (r : Request) (text : Text) (status : Status) : Type 0 where
   pub texts : List Text
   pub accepted : WereAccepted k.told [] (inputs r) texts
@@ -65,13 +69,13 @@ pub record IsAnswered (k : Reading) (r : Request) (text : Text) (status : Status
   pub calm : AllRead k
   pub output : IsOutput r texts text status
 
--- the words are no command, and nothing was opened
+-- the arguments are not a command, and nothing was opened
 pub record IsNoCommand (k : Reading) (words : Option Request) : Type 0 where
   pub none : words ≡ None
   pub opened : k.opened ≡ k.opens
   pub calm : AllRead k
 
--- nothing was opened, and this is the first of a ring's texts that is not accepted, with its fault
+-- nothing was opened; this is the first text of the ring that is not accepted, with its fault
 pub record IsRingRefused (k : Reading) (r : Request) (input : Input) (fault : Fault) : Type 0 where
   pub cells : ℕ
   pub ring : r ≡ of_ring cells
@@ -79,15 +83,16 @@ pub record IsRingRefused (k : Reading) (r : Request) (input : Input) (fault : Fa
   pub opened : k.opened ≡ k.opens
   pub calm : AllRead k
 
--- A line for the error sink, and the status with which it is written.
+-- A line for the error sink, its cause, and the status with which it is written.
 pub data Says (k : Reading) (words : Option Request) (line : Text) (status : Status) : Type 0 where
   usage : IsNoCommand k words → line ≡ usage_line → status ≡ S.Usage → Says k words line status
   refusal : (r : Request) (input : Input) (fault : Fault) → words ≡ Some r → IsRefused k r input fault → line ≡ refusal_line input fault → status ≡ S.Refused → Says k words line status
   ring_refusal : (r : Request) (input : Input) (fault : Fault) → words ≡ Some r → IsRingRefused k r input fault → line ≡ refusal_line input fault → status ≡ S.Refused → Says k words line status
   unread : (r : Request) (input : Input) → words ≡ Some r → IsUnread k r input → line ≡ unread_line input → status ≡ S.ReadFault → Says k words line status
 
--- How a call ends. What is asked for was written whole on the output; or a line on the error sink, and nothing on the output; or one of the two was cut off by a
--- failed write; or memory ran out before anything was written, of words of a command and of others alike, since reading the words takes memory too.
+-- How a call ends. Either the output was written whole, or a line was written to the error sink and no output.
+-- Or a failed write cut one of the two off.
+-- Or memory ran out before anything was written; reading the arguments takes memory too.
 pub data Ends (words : Option Request) (files : Reading) (out err : Writing) (status : Status) : Type 0 where
   whole : (r : Request) (text : Text) → words ≡ Some r → IsAnswered files r text status → Wrote out text → IsIdle err → Ends words files out err status
   said : (line : Text) → Says files words line status → Wrote err line → IsIdle out → Ends words files out err status

@@ -1,4 +1,5 @@
--- The headline by itself: what a call of `record` has written where it ended with the status of a record.
+-- The headline: the text that a call of `record` has written if it ends
+-- with the status of a record, in terms of the transition relation.
 use Rattle.std.specs.Prelude.{◌≡◌, ℕ, List, [], ◌++◌, Some, None, true}
 use Rattle.text_scan.specs.Text.{Text}
 use Rattle.pool_syntax.specs.Terms.{ProgramTree}
@@ -13,8 +14,11 @@ use Rattle.mesh_semantics.specs.Record.{EndsOnce, labels, ends_quiet}
 use Rattle.record_writer.specs.SecondForm.{text2}
 use Rattle.pool_driver.specs.LineKinds.{EachIsOneOfThree}
 
--- The source is a program without class faults, and the bytes are the text of lines: event lines and then one end line. A line shows a transition once, or local ones at least
--- once; or it is a named delay, or idle. The labels of the lines, in order, are one run of the transition relation from the start; before and after each of them the configuration is typed, and no object goes wrong; and where the end is quiet no label is possible.
+-- The source is a program without class faults. The bytes are the text of lines: event lines, and then one end line.
+-- Each line shows one transition, several local ones, a named delay, or idle.
+-- The labels of the lines, in order, are one run of the transition relation from the start.
+-- Before and after each label the configuration is typed, and no object goes wrong.
+-- If the end is quiet, no label is possible.
 pub record ShowsOneRun (source bytes : Text) : Type 0 where
   pub names : List Text
   pub program : ProgramTree

@@ -1,4 +1,4 @@
--- The inputs of a request: their order, names and limits, what is read of them, and when the text of one is accepted or has a fault.
+-- The inputs of a request: their order and names, when the text of an input is accepted, and which fault it has.
 use Rattle.std.specs.Prelude.{◌≡◌, ℕ, ◌+◌, ◌≤◌, List, [], ◌∷◌, ◌++◌, length, slice_get, Some, None, Ok, Bool, IsTrue, ◌⊎◌}
 use Rattle.text_scan.specs.Text.{Text}
 use Rattle.pool_syntax.specs.Terms.{ProgramTree}
@@ -23,7 +23,7 @@ use Rattle.pool_outside.specs.Reading.{Told}
 use Rattle.command_inputs.specs.Inputs.{limit_of, IsReadAs}
 use Rattle.command_inputs.specs.Programs.{IsParsed, IsTextOf, IsTypedText, IsFaultOfText, IsFaultOfClasses}
 
--- the inputs of a request with their names, in the order in which they are read
+-- the inputs of a request with the names of their files, in the order of reading
 abbrev pub inputs : Request → List (Input × Text)
 inputs (of_run show names) = (I.Program, names.program) ∷ (I.Placement, names.placement) ∷ (I.Schedule, names.schedule) ∷ []
 inputs (of_program ask name) = (I.Program, name) ∷ []
@@ -32,7 +32,7 @@ inputs (of_convert name) = (I.Record, name) ∷ []
 inputs (of_check name record_name) = (I.Program, name) ∷ (I.Record, record_name) ∷ []
 inputs (of_load unit_name place_name plan_name) = (I.Unit, unit_name) ∷ (I.Placement, place_name) ∷ (I.Schedule, plan_name) ∷ []
 
--- each open from now on may be of the name of the input at its place
+-- the next opens may be of the inputs, in their order
 abbrev pub MayOpen : (ℕ → Text → Bool) → ℕ → Request → Type 0
 MayOpen may opens r = (place : ℕ) (input : Input) (name : Text) → slice_get (inputs r) place ≡ Some (input, name) → IsTrue (may (opens + place) name)
 
@@ -40,7 +40,7 @@ MayOpen may opens r = (place : ℕ) (input : Input) (name : Text) → slice_get 
 abbrev pub unit_of : List Text → ProgramTree → Code
 unit_of names p = record { names = names; classes = code p }
 
--- a text that is a program without class faults, with its code
+-- the text is a program without class faults, and u is its code
 pub record IsCodeOf (source : Text) (u : Code) : Type 0 where
   pub names : List Text
   pub program : ProgramTree
@@ -48,19 +48,20 @@ pub record IsCodeOf (source : Text) (u : Code) : Type 0 where
   pub typed : faults program ≡ []
   pub coded : u ≡ unit_of names program
 
--- What a text gives the code of: a program without class faults, or a verified object code file. No text is both.
+-- The text has this code: it is a program without class faults, or a verified object code file. No text is both.
 pub data Gives (source : Text) (u : Code) : Type 0 where
   by_program : IsCodeOf source u → Gives source u
   by_file : (f : UnitFile) → IsVerifiedFile source f → u ≡ f.unit → Gives source u
 
--- a text that is a placement for the code that another text gives
+-- the text is a placement for the code of the source
 pub record IsPlacementOf (source s : Text) (l : Placement) : Type 0 where
   pub unit : Code
   pub code : Gives source unit
   pub placed : placement_of unit s ≡ Ok l
 
--- The text is accepted as this input, behind these: a program that has no class fault; an object code file that is verified; a placement for the classes of the program or the
--- file; a schedule for the mesh of the placement; and, behind none or a program, a record of either form.
+-- The text is accepted as this input, given the texts of the inputs before it.
+-- A program has no class fault, an object code file is verified, and a record of either form has no fault.
+-- A placement is for the classes of the code, and a schedule is for the mesh of the placement.
 abbrev pub IsAccepted : List Text → Input → Text → Type 0
 IsAccepted [] I.Program s = (p : ProgramTree) × IsTypedText s p
 IsAccepted (source ∷ []) I.Placement s = (l : Placement) × IsPlacementOf source s l
@@ -70,8 +71,10 @@ IsAccepted [] I.Record s = (record_of s).fault ≡ None
 IsAccepted (source ∷ []) I.Record s = (record_of s).fault ≡ None
 IsAccepted _ _ s = ⊥
 
--- The text has this fault as this input, behind these: a program its first of tokens, grammar and classes; an object code file its first of bytes, names, headings and codes;
--- a placement, a schedule or a record that of its first faulty line.
+-- The text has this fault as this input, given the texts of the inputs before it.
+-- Of a program it is the first fault of tokens, grammar or classes.
+-- Of an object code file it is the first of bytes, names, headings or codes.
+-- Of a placement, a schedule or a record it is the fault of the first faulty line.
 abbrev pub HasFault : List Text → Input → Text → Fault → Type 0
 HasFault [] I.Program s f = IsFaultOfText s f ⊎ ((p : ProgramTree) × IsTextOf s p × IsFaultOfClasses p f)
 HasFault [] I.Unit s (F.Unit f) = IsUnitFault s f
@@ -81,24 +84,24 @@ HasFault [] I.Record s (F.Record f) = (record_of s).fault ≡ Some f
 HasFault (source ∷ []) I.Record s (F.Record f) = (record_of s).fault ≡ Some f
 HasFault _ _ s f = ⊥
 
--- these texts were read under the names of these inputs, behind others, and each is accepted
+-- these texts were read as these inputs, and each is accepted, given the texts before it
 abbrev pub WereAccepted : Told → List Text → List (Input × Text) → List Text → Type 0
 WereAccepted told earlier [] [] = Unit {0}
 WereAccepted told earlier (i ∷ is) (s ∷ ss) = IsReadAs told i.0 i.1 s × IsAccepted earlier i.0 s × WereAccepted told (earlier ++ s ∷ []) is ss
 WereAccepted told earlier _ _ = ⊥
 
--- under the name of each input a text is told, which is within the limit and accepted behind those before it
+-- each input has a file with a text within the limit, which is accepted, given the texts before it
 abbrev pub AreServed : Told → List Text → List (Input × Text) → Type 0
 AreServed told earlier [] = Unit {0}
 AreServed told earlier (i ∷ is) =
     (s : Text) × (told i.1 ≡ Some s) × (length s ≤ limit_of i.0) × IsAccepted earlier i.0 s × AreServed told (earlier ++ s ∷ []) is
 
--- these three texts are accepted, each behind those before it
+-- these three texts are accepted, each given those before it
 abbrev pub AreAccepted : Text → Text → Text → Type 0
 AreAccepted program placement schedule =
     IsAccepted [] I.Program program × IsAccepted (program ∷ []) I.Placement placement × IsAccepted (program ∷ placement ∷ []) I.Schedule schedule
 
--- of these three texts this is the first that is not accepted, and it has this fault
+-- this is the first of the three texts that is not accepted, and it has this fault
 abbrev pub StopAt : Text → Text → Text → Input → Fault → Type 0
 StopAt program placement schedule I.Program f = HasFault [] I.Program program f × (IsAccepted [] I.Program program → ⊥)
 StopAt program placement schedule I.Placement f =
@@ -109,7 +112,7 @@ StopAt program placement schedule I.Schedule f =
 StopAt program placement schedule I.Record f = ⊥
 StopAt program placement schedule I.Unit f = ⊥
 
--- the inputs of a request are served so; of a ring, which has none, the texts are accepted
+-- all inputs of the request are accepted; a ring has no inputs, and its generated texts are accepted
 abbrev pub IsServable : Told → Request → Type 0
 IsServable told (of_run show names) = AreServed told [] (inputs (of_run show names))
 IsServable told (of_program ask name) = AreServed told [] (inputs (of_program ask name))

@@ -1,4 +1,4 @@
--- What a line of a record may show: a transition, a delay of the network by its name, or that nothing was ready.
+-- The three kinds of lines in a record: a transition, a named network delay, or idle.
 use Rattle.std.specs.Prelude.{◌≡◌, ◌<◌, List, [], ◌∷◌, ⊥}
 use Rattle.run_types.specs.declared.types.Label.TheVariants as L
 use Rattle.run_types.specs.declared.types.What.{What}
@@ -6,13 +6,13 @@ use Rattle.run_types.specs.declared.types.What.TheVariants as W
 use Rattle.run_types.specs.declared.types.Line.{Line}
 use Rattle.run_types.specs.declared.types.Line.TheVariants as R
 
--- the line says that a transition was made once, or that local transitions were made at least once
+-- the step is one transition, or one or more local transitions
 abbrev pub IsTransition : What → Type 0
 IsTransition (W.Step (L.Local o) times) = 0 < times
 IsTransition (W.Step label times) = times ≡ 1
 IsTransition _ = ⊥
 
--- the delays: a request or a result is under way between nodes, and on a lossy wire so is its frame
+-- the delays: a request or a result is under way between nodes, or a frame on a lossy wire
 abbrev pub IsDelay : What → Type 0
 IsDelay (W.PostCreate object class node) = Unit {0}
 IsDelay (W.PostCall object receiver method args) = Unit {0}

@@ -1,4 +1,4 @@
--- What a request makes of the texts of its inputs: a text, and the status with which it is written.
+-- The output of a request, as a text and a status, in terms of the texts of its inputs.
 use Rattle.std.specs.Prelude.{◌≡◌, ℕ, List, [], ◌∷◌, ◌++◌, None, ◌⊎◌}
 use Rattle.text_scan.specs.Text.{Text}
 use Rattle.pool_syntax.specs.Terms.{ProgramTree}
@@ -30,32 +30,33 @@ use Rattle.record_check.specs.VerdictText.{verdict_text}
 use Rattle.compiler_correctness.specs.DeclaredKinds.{file_of}
 use Rattle.pool_driver.specs.UnitFiles.{IsVerifiedFile}
 
--- what is shown of the run of the three texts
+-- the text of the run of the three inputs: its lines, its output, or the report of `why`
 abbrev pub shown_text : {source place plan : Text} → Show → Meaning source place plan → Text
 shown_text Sh.Record m = text2 m.names (record_of m).lines
 shown_text Sh.Writes m = writes_text m.names (record_of m).lines
 shown_text Sh.Report m = report_text m.names (rows_of m.program (record_of m).last (record_of m).delay) ++ ends_text m.names (record_of m).lines
 
--- The three texts have a meaning, and this is what is shown of their run, with the status of its record; and the record's lines show one run of the transition relation.
+-- The three texts have a meaning. The text is that of their run, with the status
+-- of its record, and the record's lines show one run of the transition relation.
 pub record IsRunOf (show : Show) (source place plan : Text) (text : Text) (status : Status) : Type 0 where
   pub meaning : Meaning source place plan
   pub written : text ≡ shown_text show meaning
   pub ended : status ≡ status_of (record_of meaning).lines
   pub run : ShowsRun meaning
 
--- what is asked of a program
+-- the canonical text, the listing or the object code file of a program
 abbrev pub asked_text : Ask → List Text → ProgramTree → Text
 asked_text As.Canonical names p = canonical names p
 asked_text As.Listing names p = listing (unit_of names p)
 asked_text As.File names p = file_bytes (file_of names p)
 
--- what was built is an object code file that is verified: that of the program
+-- the bytes that `build` writes are a verified object code file, and it is that of the program
 abbrev pub IsBuilt : Ask → List Text → ProgramTree → Text → Type 0
 IsBuilt As.Canonical names p text = Unit {0}
 IsBuilt As.Listing names p text = Unit {0}
 IsBuilt As.File names p text = IsVerifiedFile text (file_of names p)
 
--- the canonical text, the listing of the code or the object code file of a program, which has no class faults
+-- the source is a program without class faults, and the text is its canonical text, its listing or its object code file
 pub record IsTextFor (ask : Ask) (source : Text) (text : Text) : Type 0 where
   pub names : List Text
   pub program : ProgramTree
@@ -64,26 +65,26 @@ pub record IsTextFor (ask : Ask) (source : Text) (text : Text) : Type 0 where
   pub written : text ≡ asked_text ask names program
   pub built : IsBuilt ask names program text
 
--- the texts of a ring have a meaning, and these are the counts of their run and its end line
+-- the texts of a ring have a meaning, and the text has the counts of their run and its end line
 pub record IsRingOf (k : ℕ) (text : Text) (status : Status) : Type 0 where
   pub meaning : Meaning (ring_program k) ring_placement (ring_schedule k)
   pub written : text ≡ ring_text meaning.names (record_of meaning).lines
   pub ended : status ≡ status_of (record_of meaning).lines
   pub run : ShowsRun meaning
 
--- the record has no fault, and this is the text of its lines in the second form
+-- the record has no fault, and the text has its lines in the second form
 pub record IsCarriedOver (s text : Text) : Type 0 where
   pub faultless : (Rec.record_of s).fault ≡ None
   pub written : text ≡ text2 (names_after [] (Rec.record_of s).told) (lines_after [] (Rec.record_of s).told)
 
--- a record is a run, or is none
+-- the status of a verdict: a run, or not
 abbrev pub status_of_verdict : Verdict → Status
 status_of_verdict V.Yes = S.Done
 status_of_verdict (V.No number redex) = S.DoneFaulted
 status_of_verdict (V.Moving o) = S.DoneFaulted
 
--- The program has no class faults and the record no fault; its lines, read with the program's names, have this verdict and no other; and this is the verdict's line, with its
--- status.
+-- The program has no class faults, and the record has no fault. Its lines, read with the program's
+-- names, have this verdict and no other. The text is the line of the verdict, with its status.
 pub record IsVerdictOn (source s : Text) (text : Text) (status : Status) : Type 0 where
   pub names : List Text
   pub program : ProgramTree
@@ -96,15 +97,15 @@ pub record IsVerdictOn (source s : Text) (text : Text) (status : Status) : Type 
   pub written : text ≡ verdict_text names verdict
   pub ended : status ≡ status_of_verdict verdict
 
--- The three texts have a meaning, the first as an object code file, and this is the text of the lines of their record in the second form, with the status of the record; and
--- the lines show one run of the relation over objects of code.
+-- The three texts have a meaning, with the first as an object code file. The text has the lines of their
+-- record in the second form, with its status. The lines show one run of the relation over objects of code.
 pub record IsLoadOf (source place plan : Text) (text : Text) (status : Status) : Type 0 where
   pub meaning : CodeMeaning source place plan
   pub written : text ≡ text2 meaning.file.unit.names (code_record_of meaning).lines
   pub ended : status ≡ status_of (code_record_of meaning).lines
   pub run : ShowsCodeRun meaning
 
--- what is made of the texts of the inputs, in their order
+-- the output of a request, given the texts of its inputs in order
 abbrev pub IsOutput : Request → List Text → Text → Status → Type 0
 IsOutput (of_run show names) (program ∷ placement ∷ schedule ∷ []) text status = IsRunOf show program placement schedule text status
 IsOutput (of_program ask name) (program ∷ []) text status = IsTextFor ask program text × (status ≡ S.Done)
@@ -114,6 +115,6 @@ IsOutput (of_check name record_name) (program ∷ s ∷ []) text status = IsVerd
 IsOutput (of_load unit_name place_name plan_name) (source ∷ placement ∷ schedule ∷ []) text status = IsLoadOf source placement schedule text status
 IsOutput r _ text status = ⊥
 
--- the status says that a text was written whole
+-- the status says that the whole text was written
 abbrev pub WholeTextWritten : Status → Type 0
 WholeTextWritten status = (status ≡ S.Done) ⊎ ((status ≡ S.DoneFaulted) ⊎ ((status ≡ S.ScheduleOver) ⊎ (status ≡ S.Full)))

@@ -1,4 +1,4 @@
--- What comes of reading inputs, for the functions below the top call.
+-- The possible results of the functions that read inputs and make outputs, below the top-level function.
 use Rattle.std.specs.Prelude.{◌≡◌, ℕ, List, [], true, Some, None, Result, Ok, Err}
 use Rattle.text_scan.specs.Text.{Text}
 use Rattle.pool_syntax.specs.Spelled.{is_spelled}
@@ -60,7 +60,7 @@ use Rattle.pool_outside.specs.Reading.{Reading}
 use Rattle.pool_driver.specs.Ends.{IsRefused, IsRingRefused, IsUnread, IsAnswered}
 use Rattle.run_loop.specs.Writing.{Writing, IsIdle, Writes}
 
--- want of memory is no fault of the text
+-- out of memory is not a fault of the text
 
 abbrev pub stop_of_placement : PlacementFault → InputError
 stop_of_placement Place.Memory = T.Memory
@@ -100,7 +100,7 @@ HasScheduleFault l s f = (g : ScheduleFault) × (f ≡ F.Schedule g) × (Sch.fau
 abbrev pub IsScheduledAs : Placement → Text → Plan → Type 0
 IsScheduledAs l s plan = schedule_of l.width l.height l.cuts s ≡ Ok plan
 
--- the code of a program, which is the only one of its text
+-- the code of a program; a text has only one
 
 pub record IsUnitOf (s : Text) (u : Code) : Type 0 where
   pub code : IsCodeOf s u
@@ -115,7 +115,7 @@ IsAcceptedUnit s = (f : UnitFile) × IsVerifiedFile s f
 abbrev pub HasUnitFault : Text → Fault → Type 0
 HasUnitFault s f = (g : UnitFault) × (f ≡ F.Unit g) × IsUnitFault s g
 
--- a record of either form: its lines, with the table of the texts that they name
+-- a record of either form, with the table of the names in its lines
 
 abbrev pub IsAcceptedRecord : Text → Type 0
 IsAcceptedRecord s = (Rec.record_of s).fault ≡ None
@@ -123,7 +123,7 @@ IsAcceptedRecord s = (Rec.record_of s).fault ≡ None
 abbrev pub HasRecordFault : Text → Fault → Type 0
 HasRecordFault s f = (g : RecordFault) × (f ≡ F.Record g) × ((Rec.record_of s).fault ≡ Some g)
 
--- lines that can be written with the table, and their request numbers
+-- the lines can be written with the table, and these are their request numbers
 pub record IsShowable (r : Recorded) : Type 0 where
   pub writable : All (IsWritable r.names) r.lines
   pub asked : r.asks ≡ asks r.lines
@@ -157,7 +157,8 @@ status_of_output (O.File file) = S.Done
 status_of_output (O.Converted r) = S.Done
 status_of_output (O.Verdict line status) = status
 
--- What can be written: a run whose parts fit one another; a program whose names are those of its table; proper code; a shaped and short file; lines with their request numbers.
+-- The output can be written. A run has inputs that fit each other, and a program has its names in its table.
+-- Code is proper, a file is shaped and short, and lines have their request numbers.
 abbrev pub IsPrintable : Output → Type 0
 IsPrintable (O.Run show loaded) = IsLoaded loaded.unit loaded.placement loaded.schedule
 IsPrintable (O.Ring loaded) = IsLoaded loaded.unit loaded.placement loaded.schedule
@@ -167,25 +168,25 @@ IsPrintable (O.File file) = IsShaped file × IsShort file
 IsPrintable (O.Converted r) = IsShowable r
 IsPrintable (O.Verdict line status) = Unit {0}
 
--- What comes of three texts: what is loaded of them; or the first that is not accepted, with its fault; or memory ran out.
+-- The results for three texts: loaded inputs, the first text that is not accepted with its fault, or out of memory.
 pub data Loads (program placement schedule : Text) (result : Result Loaded InputError) : Type 0 where
   loads : (r : Loaded) → result ≡ Ok r → IsUnitOf program r.unit → IsPlacedAs r.unit placement r.placement → IsScheduledAs r.placement schedule r.schedule → Loads program placement schedule result
   stops : (input : Input) (f : Fault) → result ≡ Err (T.Refused input f) → StopAt program placement schedule input f → Loads program placement schedule result
   lacks : result ≡ Err T.Memory → Loads program placement schedule result
 
--- what comes of the texts of a ring
+-- the results for the texts of a ring
 pub data Rings (k : ℕ) (result : Result Output InputError) : Type 0 where
   rings : (o : Output) → result ≡ Ok o → IsRingOf k (text_of o) (status_of_output o) → IsPrintable o → Rings k result
   stops : (input : Input) (f : Fault) → result ≡ Err (T.Refused input f) → StopAt (ring_program k) ring_placement (ring_schedule k) input f → Rings k result
   lacks : result ≡ Err T.Memory → Rings k result
 
--- what comes of the lines of a record that are judged by a program with these names
+-- the results of the check of a record's lines against a program with these names
 pub data Decides (names : List Text) (p : ProgramTree) (ls : List Line) (result : Result Output InputError) : Type 0 where
   decides : (o : Output) (v : Verdict) → result ≡ Ok o → Judged p ls v → ((w : Verdict) → Judged p ls w → w ≡ v) → text_of o ≡ verdict_text names v → status_of_output o ≡ status_of_verdict v
       → IsPrintable o → Decides names p ls result
   lacks : result ≡ Err T.Memory → Decides names p ls result
 
--- what comes of all inputs of a request
+-- the results for the inputs of a request
 pub data ResultsIn (k : Reading) (r : Request) (result : Result Output InputError) : Type 0 where
   made : (o : Output) → result ≡ Ok o → IsAnswered k r (text_of o) (status_of_output o) → IsPrintable o → ResultsIn k r result
   refused : (input : Input) (f : Fault) → result ≡ Err (T.Refused input f) → IsRefused k r input f → ResultsIn k r result
@@ -193,7 +194,7 @@ pub data ResultsIn (k : Reading) (r : Request) (result : Result Output InputErro
   unread : (input : Input) → result ≡ Err (T.Unread input) → IsUnread k r input → ResultsIn k r result
   memory : result ≡ Err T.Memory → ResultsIn k r result
 
--- a line for the reason was written, whole or a front of it; or nothing for want of memory
+-- a line with the reason was written, or a prefix of it; or memory ran out and nothing was written
 pub data ReportsInputError (k : Writing) (stop : InputError) (status : Status) : Type 0 where
   refusal : (input : Input) (f : Fault) → stop ≡ T.Refused input f → Writes k (refusal_line input f) S.Refused status → ReportsInputError k stop status
   unread : (input : Input) → stop ≡ T.Unread input → Writes k (unread_line input) S.ReadFault status → ReportsInputError k stop status

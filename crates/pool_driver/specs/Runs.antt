@@ -1,4 +1,5 @@
--- What a program, a placement and a schedule mean together, and that their record shows a run; and the same of an object code file in place of a program.
+-- The meaning of a program, a placement and a schedule together, and the claim that their record shows a run.
+-- The same for an object code file instead of a program.
 use Rattle.std.specs.Prelude.{◌≡◌, List, [], Ok, Some}
 use Rattle.text_scan.specs.Text.{Text}
 use Rattle.pool_syntax.specs.Terms.{ProgramTree}
@@ -26,8 +27,8 @@ use Rattle.compiler_correctness.specs.CodeRun.{IsCodeRun}
 use Rattle.pool_driver.specs.UnitFiles.{IsVerifiedFile}
 use Rattle.mesh_semantics.specs.Config.{Config}
 
--- the meaning of the three texts: a program without class faults with the table of its names, a placement of its classes, and a quantum and events on the placement's mesh,
--- whose links are wires or not
+-- The meaning of the three texts: a program without class faults with the table of its names, a placement
+-- of its classes, and a schedule for the placement's mesh. The schedule says whether the links are wires.
 pub record Meaning (source place plan : Text) : Type 0 where
   pub names : List Text
   pub program : ProgramTree
@@ -38,12 +39,13 @@ pub record Meaning (source place plan : Text) : Type 0 where
   pub schedule : Plan
   pub scheduled : schedule_of layout.width layout.height layout.cuts plan ≡ Ok schedule
 
--- their record: the record of the program on the mesh of the placement, over the schedule
+-- the record of the program on the mesh of the placement, over the schedule
 abbrev pub record_of : {source place plan : Text} → Meaning source place plan → M.Record Object
 record_of m = record_over (terms m.program) m.layout m.schedule
 
--- The lines show one run of the transition relation from the start, and their text is one that is read back. Each line that answers a request has the number, above 0,
--- of a line that posts this request. Where links are wires, at the end each has handed out a front of what entered it, in order.
+-- The lines show one run of the transition relation from the start, and their text can be read back.
+-- Each line that answers a request has the number, above 0, of a line that posts this request.
+-- If the links are wires, each has delivered a prefix of the packets that entered it, in order.
 pub record ShowsRun {source place plan : Text} (m : Meaning source place plan) : Type 0 where
   pub first : Configuration
   pub starts : start m.program (root_name m.layout) ≡ Some first
@@ -52,7 +54,8 @@ pub record ShowsRun {source place plan : Text} (m : Meaning source place plan) :
   pub answers : EachAnswersPost (record_of m).lines
   pub wires : KeepsWires (record_of m).delay
 
--- the meaning of an object code file with a placement and a schedule: a verified file, a placement of its classes, and a quantum and events on the placement's mesh
+-- the meaning of an object code file with a placement and a schedule: a verified
+-- file, a placement of its classes, and a schedule for the placement's mesh
 pub record CodeMeaning (source place plan : Text) : Type 0 where
   pub file : UnitFile
   pub is_file : IsVerifiedFile source file
@@ -61,13 +64,14 @@ pub record CodeMeaning (source place plan : Text) : Type 0 where
   pub schedule : Plan
   pub scheduled : schedule_of layout.width layout.height layout.cuts plan ≡ Ok schedule
 
--- their record: the record of the code on the mesh of the placement, over the schedule
+-- the record of the code on the mesh of the placement, over the schedule
 abbrev pub code_record_of : {source place plan : Text} → CodeMeaning source place plan → M.Record Placed
 code_record_of m = record_over (coded m.file.unit) m.layout m.schedule
 
--- The lines show one run of the relation over objects of code from the start, in which no object goes wrong, and their text is one that is read back. Each line that answers a
--- request has the number, above 0, of a line that posts this request. Where links are wires, at the end each has handed out a front of what entered it, in order. No program is
--- named.
+-- The lines show one run of the relation over objects of code,
+-- in which no object goes wrong. Their text can be read back.
+-- Each line that answers a request has the number, above 0, of a line that posts this request.
+-- If the links are wires, each has delivered a prefix of the packets that entered it, in order. No program is named.
 pub record ShowsCodeRun {source place plan : Text} (m : CodeMeaning source place plan) : Type 0 where
   pub first : Config Placed
   pub starts : M.start (coded m.file.unit) m.layout ≡ Some first

@@ -1,4 +1,4 @@
--- Which texts are verified object code files, and the fault of another text.
+-- Which texts are verified object code files, and which fault any other text has.
 use Rattle.std.specs.Prelude.{◌≡◌, ◌⊎◌, length}
 use Rattle.text_scan.specs.Text.{Text}
 use Rattle.code_semantics.specs.declared.file.UnitFile.{UnitFile}
@@ -8,13 +8,14 @@ use Rattle.code_typing.specs.Verified.{IsVerified}
 use Rattle.command_inputs.specs.declared.fault.UnitFault.{UnitFault}
 use Rattle.command_inputs.specs.declared.fault.UnitFault.TheVariants as U
 
--- the text says this file, which is verified
+-- the text decodes to this file, which is verified
 pub record IsVerifiedFile (s : Text) (f : UnitFile) : Type 0 where
   pub said : decode s ≡ Says f
   pub verified : IsVerified f
 
--- The text is no verified file for this fault: its first byte that is not allowed, its first name that stands twice, the first heading of its file that breaks a rule (or that
--- there is no class), or the first code that is not well sorted, where no heading breaks a rule.
+-- The text is not a verified file because of this fault. It is the first bad byte, or the first duplicate name.
+-- Or it is the first heading that breaks a rule; a file without classes has a bad heading 0.
+-- Or it is the first code that is not well sorted, if no heading breaks a rule.
 abbrev pub IsUnitFault : Text → UnitFault → Type 0
 IsUnitFault s (U.BadBytes at) = decode s ≡ BadBytes at
 IsUnitFault s (U.NameTwice place) = decode s ≡ NameTwice place

@@ -1,4 +1,4 @@
--- The unit of a verified file, and the faults in the words of those who find them.
+-- The unit of a verified file, and the faults of files in terms of the decoder and the verifier.
 use Rattle.std.specs.Prelude.{◌≡◌}
 use Rattle.text_scan.specs.Text.{Text}
 use Rattle.object_code.specs.declared.code_fault.CodeFault.{CodeFault}
@@ -13,7 +13,8 @@ use Rattle.command_inputs.specs.declared.fault.UnitFault.{UnitFault}
 use Rattle.command_inputs.specs.declared.fault.UnitFault.TheVariants as U
 use Rattle.pool_driver.specs.UnitFiles.{IsVerifiedFile}
 
--- the unit of a verified file, of which a run can be made and written: the unit is proper, and the file's numbers have the widths of the format
+-- the unit of a verified file, of which a run can be made and written;
+-- the unit is proper, and the numbers of the file have the widths of the format
 pub record IsUnitOfFile (s : Text) (u : Code) : Type 0 where
   pub file : UnitFile
   pub is_file : IsVerifiedFile s file
@@ -22,7 +23,7 @@ pub record IsUnitOfFile (s : Text) (u : Code) : Type 0 where
   pub proper : IsProper u
   pub writable : IsWritable file
 
--- the same faults in the words of those who find them
+-- the faults of the decoder and of the verifier as unit faults
 
 abbrev pub fault_of_bytes : CodeFault → UnitFault
 fault_of_bytes (Bytes.BadBytes at) = U.BadBytes at

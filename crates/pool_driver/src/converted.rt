@@ -1,4 +1,4 @@
-//! Records in either form, read, and written in the second form.
+//! Reads a record of either form, and writes it in the second form.
 ghost use Rattle.std.specs.Prelude.{◌≡◌, ◌<◌, ◌^◌, ◌≤◌, length, OnErr, OnOk};
 ghost use Rattle.std.specs.List.{All};
 ghost use Rattle.record_writer.specs.SecondForm.{lines_text2, text2};
@@ -13,7 +13,7 @@ use run_record::{RecordFault, asks_of, read_record, write_form, write_line2};
 use run_types::{Line, List, Names};
 use std::alloc::{AllocError, Global};
 
-/// The lines of a record, the request number of each, and the texts of their names.
+/// A record: its lines, the request number of each, and the names in them.
 #[derive(Drop)]
 pub struct Recorded {
     pub lines: List<Line>,
@@ -21,7 +21,7 @@ pub struct Recorded {
     pub names: Names,
 }
 
-/// Why a text is no record.
+/// The input error for a fault of a record.
 fn record_stop(fault: RecordFault) -> InputError
     ensures { result ≡ stop_of_record fault }
 {
@@ -34,7 +34,8 @@ fn record_stop(fault: RecordFault) -> InputError
     }
 }
 
-/// Judges the text of a record, and takes the request numbers of its lines.
+/// Reads a record, and computes the request numbers of its lines. At most 64 MiB of bytes.
+/// Reports the first fault of the text, or out of memory.
 pub fn judge_record(alloc: Global, bytes: &[u8]) -> Result<Recorded, InputError>
     requires { length bytes.now ≤ 67108864 }
     ensures { Judges Input.Record IsAcceptedRecord HasRecordFault IsRecordOf bytes.now result }
@@ -50,7 +51,8 @@ pub fn judge_record(alloc: Global, bytes: &[u8]) -> Result<Recorded, InputError>
     }
 }
 
-/// Judges the text of a record that is read with a copy of these names: its lines.
+/// Reads the lines of a record with a copy of these names. Requires at most 64 MiB of bytes and fewer than 2^31 names.
+/// Reports the first fault of the text, or out of memory.
 pub fn judge_lines(alloc: Global, bytes: &[u8], names: &Names) -> Result<List<Line>, InputError>
     requires small { length bytes.now ≤ 67108864 }
     requires few { length names.now < 2 ^ 31 }
@@ -66,7 +68,7 @@ pub fn judge_lines(alloc: Global, bytes: &[u8], names: &Names) -> Result<List<Li
     }
 }
 
-/// Writes lines in the second form, each with its request number.
+/// Writes lines in the second form, each with its request number. The error is a failed write.
 fn write_lines<K: Sink>(
     lines: &[Line],
     asks: &[u32],
@@ -88,7 +90,7 @@ fn write_lines<K: Sink>(
     Ok(())
 }
 
-/// A record in the second form.
+/// The text of a record in the second form.
 #[derive(Clone, Copy)]
 pub struct SecondForm<'a> {
     pub record: &'a Recorded,

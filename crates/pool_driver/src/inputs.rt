@@ -1,4 +1,4 @@
-//! Reads the inputs, each once, and judges each.
+//! Reads the inputs, each once, and checks each.
 ghost use Rattle.pool_driver.specs.Ends.{reading};
 ghost use Rattle.std.specs.Prelude.{◌≡◌, ◌<◌, ◌+◌, ◌-◌, ◌^◌, ◌≤◌, IsTrue, length, true};
 ghost use Rattle.command_inputs.specs.Inputs.{most_bytes, most_of_record, most_of_unit, one_read};
@@ -20,7 +20,7 @@ use run_types::{Line, List, Names, Placement};
 use schedule_reader::{Schedule, ScheduleFault, read_schedule};
 use std::alloc::Global;
 
-/// Why a text is no placement.
+/// The input error for a fault of a placement.
 fn placement_stop(fault: PlacementFault) -> InputError
     ensures { result ≡ stop_of_placement fault }
 {
@@ -33,7 +33,7 @@ fn placement_stop(fault: PlacementFault) -> InputError
     }
 }
 
-/// Why a text is no schedule.
+/// The input error for a fault of a schedule.
 fn schedule_stop(fault: ScheduleFault) -> InputError
     ensures { result ≡ stop_of_schedule fault }
 {
@@ -46,7 +46,7 @@ fn schedule_stop(fault: ScheduleFault) -> InputError
     }
 }
 
-/// Why a text is no verified object code file.
+/// The input error for a fault of an object code file.
 fn unit_stop(fault: UnitFault) -> InputError
     ensures { result ≡ stop_of_unit fault }
 {
@@ -59,7 +59,8 @@ fn unit_stop(fault: UnitFault) -> InputError
     }
 }
 
-/// Reads an object code file, and verifies it: its unit.
+/// Reads an object code file and verifies it. Returns its unit.
+/// Reports the first fault of the file, a failed read, or out of memory. Requires that the file may be opened.
 pub fn read_file<F: Files>(alloc: Global, files: &mut F, name: &str) -> Result<Unit, InputError>
     requires allowed { IsTrue (F.may files.old (F.opens files.old) name.now) }
     requires countable { F.opens files.old < 2 ^ 64 - 1 }
@@ -79,7 +80,8 @@ pub fn read_file<F: Files>(alloc: Global, files: &mut F, name: &str) -> Result<U
     }
 }
 
-/// Reads the placement of a unit.
+/// Reads the placement of a unit. Reports the first fault of the text, a failed read, or out of memory.
+/// Requires that the file may be opened.
 pub fn read_placed<F: Files>(
     alloc: Global,
     files: &mut F,
@@ -105,7 +107,8 @@ pub fn read_placed<F: Files>(
     }
 }
 
-/// Reads the schedule of a placement.
+/// Reads the schedule for a placement. Reports the first fault of the text, a failed read, or out of memory.
+/// Requires that the file may be opened, and a mesh of 1 to 8 columns and 1 to 8 rows.
 pub fn read_scheduled<F: Files>(
     alloc: Global,
     files: &mut F,
@@ -133,7 +136,8 @@ pub fn read_scheduled<F: Files>(
     }
 }
 
-/// Reads a record of either form.
+/// Reads a record of either form. Reports the first fault of the text, a failed read, or out of memory.
+/// Requires that the file may be opened.
 pub fn read_recorded<F: Files>(
     alloc: Global,
     files: &mut F,
@@ -155,6 +159,8 @@ pub fn read_recorded<F: Files>(
 }
 
 /// Reads the lines of a record of either form with a copy of these names.
+/// Reports the first fault of the text, a failed read, or out of memory.
+/// Requires that the file may be opened, and fewer than 2^31 names.
 pub fn read_lines<F: Files>(
     alloc: Global,
     files: &mut F,
@@ -177,7 +183,8 @@ pub fn read_lines<F: Files>(
     judge_lines(alloc, &text, names)
 }
 
-/// Reads a program whose classes have no fault, and makes its code.
+/// Reads a program, checks its classes, and compiles it. Requires that the file may be opened.
+/// Reports the first fault of the text or of its classes, a failed read, or out of memory.
 pub fn read_unit<F: Files>(alloc: Global, files: &mut F, name: &str) -> Result<Unit, InputError>
     requires allowed { IsTrue (F.may files.old (F.opens files.old) name.now) }
     requires countable { F.opens files.old < 2 ^ 64 - 1 }
@@ -194,7 +201,7 @@ pub fn read_unit<F: Files>(alloc: Global, files: &mut F, name: &str) -> Result<U
     code_of(alloc, &parsed)
 }
 
-/// Judges the text of a program, and makes its code.
+/// Reads the text of a program, checks its classes, and compiles it. At most 1 MiB of bytes.
 fn judge_program(alloc: Global, bytes: &[u8]) -> Result<Unit, InputError>
     requires { length bytes.now ≤ 1048576 }
     ensures { Judges Input.Program IsTypedProgram HasTypedFault IsUnitOf bytes.now result }
@@ -206,7 +213,7 @@ fn judge_program(alloc: Global, bytes: &[u8]) -> Result<Unit, InputError>
     code_of(alloc, &parsed)
 }
 
-/// Judges the text of a placement of a unit.
+/// Reads the text of a placement of a unit. At most 1 MiB of bytes.
 fn judge_placement(alloc: Global, bytes: &[u8], unit: &Unit) -> Result<Placement, InputError>
     requires { length bytes.now ≤ 1048576 }
     ensures { Judges Input.Placement (IsAcceptedPlacement unit.now) (HasPlacementFault unit.now) (IsPlacedAs unit.now) bytes.now result }
@@ -217,7 +224,7 @@ fn judge_placement(alloc: Global, bytes: &[u8], unit: &Unit) -> Result<Placement
     }
 }
 
-/// Judges the text of a schedule of a placement.
+/// Reads the text of a schedule for a placement. At most 1 MiB of bytes, and a mesh of 1 to 8 columns and 1 to 8 rows.
 fn judge_schedule(
     alloc: Global,
     bytes: &[u8],
@@ -234,7 +241,8 @@ fn judge_schedule(
     }
 }
 
-/// Judges the texts of a program, a placement and a schedule, one after another, and makes what a run is made of.
+/// Reads the texts of a program, a placement and a schedule, in this order, and returns the inputs of a run.
+/// Reports the first text that is not accepted, with its fault, or out of memory. Each text has at most 1 MiB.
 pub fn load_texts(
     alloc: Global,
     program: &[u8],

@@ -1,4 +1,4 @@
-//! The verdict on a record, as what is asked for.
+//! The verdict on a record, as an output.
 ghost use Rattle.std.specs.Prelude.{◌≡◌, IfOk};
 ghost use Rattle.pool_syntax.specs.TreeOf.{program_of};
 ghost use Rattle.pool_driver.specs.Outputs.{status_of_verdict};
@@ -13,7 +13,7 @@ use run_loop::Status;
 use run_types::{Line, List, Names, Verdict};
 use std::alloc::{AllocError, Global};
 
-/// The status with which a verdict is written.
+/// The status with which a verdict is written: `DoneFaulted` if the record is not a run.
 fn status_of_verdict(verdict: &Verdict) -> Status
     ensures { result ≡ status_of_verdict verdict.now }
 {
@@ -23,7 +23,7 @@ fn status_of_verdict(verdict: &Verdict) -> Status
     }
 }
 
-/// Judges the lines of a record by a program, whose names are these.
+/// Checks the lines of a record against a program with these names. The only error is out of memory.
 pub fn judge(
     alloc: Global,
     program: &Checked<'_>,

@@ -1,4 +1,4 @@
-//! What a command makes of its inputs: each is read and judged before the next is opened.
+//! Makes the output of a command. Each input is read and checked before the next is opened.
 ghost use Rattle.std.specs.Prelude.{◌≡◌, ◌<◌, false, ◌+◌, ◌-◌, ◌^◌, ◌≤◌};
 ghost use Rattle.command_line.specs.Commands.{of_check, of_convert, of_load, of_program, of_run};
 ghost use Rattle.command_line.specs.Requests.{IsSized, names_of, request};
@@ -21,25 +21,25 @@ use pool_outside::Files;
 use run_loop::{Loaded, Status};
 use std::alloc::Global;
 
-/// What is asked for, made or loaded and not yet written.
+/// The output of a command, before it is written.
 #[derive(Drop)]
 pub enum Output {
     Run { show: Show, loaded: Loaded },
-    /// The run whose counts are asked for.
+    /// A run whose counts are written.
     Ring(Loaded),
-    /// The program whose canonical text is asked for.
+    /// A program whose canonical text is written.
     Canonical(Parsed),
-    /// The code whose listing is asked for.
+    /// Code whose listing is written.
     Listing(Unit),
-    /// The object code file whose bytes are asked for.
+    /// An object code file whose bytes are written.
     File(UnitFile),
-    /// The record that is asked for in the second form.
+    /// A record that is written in the second form.
     Converted(Recorded),
-    /// The line of the verdict on a record, with its status.
+    /// The line of a verdict on a record, with its status.
     Verdict { line: Vec<u8>, status: Status },
 }
 
-/// The run of the program, the placement and the schedule of these names.
+/// Reads a program, a placement and a schedule. Returns their run as the output, or the input error.
 fn run_output<F: Files>(
     alloc: Global,
     files: &mut F,
@@ -71,7 +71,7 @@ fn run_output<F: Files>(
     Ok(Output::Run { show, loaded })
 }
 
-/// The program of this name, whose canonical text is asked for.
+/// Reads a program without class faults. Returns its canonical text as the output, or the input error.
 fn canonical_output<F: Files>(
     alloc: Global,
     files: &mut F,
@@ -88,7 +88,7 @@ fn canonical_output<F: Files>(
     }
 }
 
-/// The code of the program of this name, whose listing is asked for.
+/// Reads and compiles a program. Returns the listing of its code as the output, or the input error.
 fn listing_output<F: Files>(alloc: Global, files: &mut F, name: &str) -> Result<Output, InputError>
     requires countable { F.opens files.old ≤ 2 ^ 64 - 5 }
     requires allowed { MayOpen (F.may files.old) (F.opens files.old) (of_program Ask.Listing name.now) }
@@ -101,7 +101,7 @@ fn listing_output<F: Files>(alloc: Global, files: &mut F, name: &str) -> Result<
     }
 }
 
-/// The object code file of the program of this name.
+/// Reads and compiles a program. Returns its object code file as the output, or the input error.
 fn file_output<F: Files>(alloc: Global, files: &mut F, name: &str) -> Result<Output, InputError>
     requires countable { F.opens files.old ≤ 2 ^ 64 - 5 }
     requires allowed { MayOpen (F.may files.old) (F.opens files.old) (of_program Ask.File name.now) }
@@ -118,7 +118,7 @@ fn file_output<F: Files>(alloc: Global, files: &mut F, name: &str) -> Result<Out
     }
 }
 
-/// What is asked of the program of this name.
+/// The output of a command on one program: its canonical text, its listing or its object code file.
 fn program_output<F: Files>(
     alloc: Global,
     files: &mut F,
@@ -137,7 +137,7 @@ fn program_output<F: Files>(
     }
 }
 
-/// The record of this name, which is asked for in the second form.
+/// Reads a record of either form. Returns it in the second form as the output, or the input error.
 fn convert_output<F: Files>(alloc: Global, files: &mut F, name: &str) -> Result<Output, InputError>
     requires countable { F.opens files.old ≤ 2 ^ 64 - 5 }
     requires allowed { MayOpen (F.may files.old) (F.opens files.old) (of_convert name.now) }
@@ -150,7 +150,7 @@ fn convert_output<F: Files>(alloc: Global, files: &mut F, name: &str) -> Result<
     }
 }
 
-/// The verdict on the record of one name, the claim, by the program of the other, which is read and judged first.
+/// Reads a program, and then the record `claim`. Returns the verdict on the record as the output, or the input error.
 fn check_output<F: Files>(
     alloc: Global,
     files: &mut F,
@@ -177,7 +177,7 @@ fn check_output<F: Files>(
     judge(alloc, &checked, &parsed.names, &lines)
 }
 
-/// The run of the object code file, the placement and the schedule of these names.
+/// Reads an object code file, a placement and a schedule. Returns their run as the output, or the input error.
 fn load_output<F: Files>(
     alloc: Global,
     files: &mut F,
@@ -213,7 +213,7 @@ fn load_output<F: Files>(
     })
 }
 
-/// The run of the ring of so many cells.
+/// Generates the inputs of a ring of 2 to 1000 cells, and returns their run as the output.
 fn ring_output(alloc: Global, cells: u32) -> Result<Output, InputError>
     requires { (2 ≤ cells) × (cells ≤ 1000) }
     ensures { Rings cells result }
@@ -233,7 +233,8 @@ fn ring_output(alloc: Global, cells: u32) -> Result<Output, InputError>
     }
 }
 
-/// Makes what a command asks for.
+/// Makes the output of a command. Reports the first input that is not accepted, a failed read, or out of memory.
+/// Requires that no file is open, and that each input of the command may be opened.
 pub fn make_output<F: Files>(
     alloc: Global,
     files: &mut F,

@@ -1,4 +1,4 @@
-//! Makes the code of a program that was read, and its object code file.
+//! Compiles a program that was read, and makes its object code file.
 ghost use Rattle.std.specs.Prelude.{◌≡◌, ◌≢◌, true, [], IfOk, IsOk, IsErr, Err};
 ghost use Rattle.pool_syntax.specs.TreeOf.{program_of};
 ghost use Rattle.pool_grammar.specs.Grammatical.{IsGrammatical};
@@ -19,7 +19,8 @@ use command_inputs::{Input, InputError, Parsed, judge_classes};
 use pool_compile::compile;
 use std::alloc::Global;
 
-/// The code of a program that was read, with a copy of its names, once its classes are judged.
+/// Checks the classes of a program and compiles it. The code has a copy of the names.
+/// Reports the first class fault, or out of memory.
 pub fn code_of(alloc: Global, parsed: &Parsed) -> Result<Unit, InputError>
     requires grammatical { IsGrammatical (program_of parsed.now.program) }
     requires spelled { is_spelled parsed.now.names (program_of parsed.now.program) ≡ true }
@@ -40,7 +41,8 @@ pub fn code_of(alloc: Global, parsed: &Parsed) -> Result<Unit, InputError>
     }
 }
 
-/// The object code file of a program that was read, with a copy of its names, once its classes are judged.
+/// Checks the classes of a program, and makes its object code file with a copy of the names.
+/// Reports the first class fault, or out of memory.
 pub fn file_of_parsed(alloc: Global, parsed: &Parsed) -> Result<UnitFile, InputError>
     requires grammatical { IsGrammatical (program_of parsed.now.program) }
     requires spelled { is_spelled parsed.now.names (program_of parsed.now.program) ≡ true }

@@ -1,4 +1,4 @@
-//! Texts that are written without memory, as `write_gathered` takes them.
+//! Texts that `write_gathered` writes without taking memory.
 ghost use Rattle.std.specs.Prelude.{◌≡◌, true};
 ghost use Rattle.object_code.specs.FileBytes.{file_bytes};
 ghost use Rattle.object_code.specs.Known.{IsKnownUnit};

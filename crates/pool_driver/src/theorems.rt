@@ -1,4 +1,4 @@
-//! Laws of the top call's definitions: each is the contract of a function that does nothing.
+//! Theorems about the definitions in the contract of the top-level function. Each is the contract of a function.
 ghost use Rattle.std.specs.Prelude.{◌≡◌, true, length, [], ◌∷◌, codes, List as ListOf};
 ghost use Rattle.pool_syntax.specs.declared.token.Token.{Token as OneToken};
 ghost use Rattle.pool_grammar.specs.Programs.{IsParsed, IsShallowBelow};
@@ -20,15 +20,16 @@ ghost use Rattle.pool_printer.specs.SameProgram.{IsSameProgram};
 use pool_parser::theorems::a_text_has_one_program;
 use record_check::theorems::{a_run_is_judged_yes, shown_runs_are_runs};
 
-/// A canonical text in which no token stands deeper than 200 is read as a program that is the same but for positions and numbering.
+/// A canonical text whose tokens are nested at most 200 deep is parsed to the same program.
+/// Only positions and the numbers of names may differ.
 pub fn canonical_text_is_read_back()
     ensures { (names : ListOf Text) (p : ProgramTree) → is_spelled names p ≡ true → IsGrammatical p
         → (other : ListOf Text) × (ts : ListOf OneToken) × (q : ProgramTree) × IsSameProgram names p other ts q
         × (IsShallowBelow (toks ts) (length (toks ts)) → IsParsed (canonical names p) other q) }
 {}
 
-/// The bytes that `build` writes of a program are accepted by `load`, with the placements and schedules that `record` accepts of the program and no others; and what `load` writes
-/// then, with its status, is what `record` writes of the program, whether links are wires or not.
+/// `load` accepts the bytes that `build` writes, and then writes the same text with the same status as `record` does.
+/// It accepts the same placements and schedules as `record` does for the program, with or without wires.
 pub fn what_is_built_is_loaded_as_recorded()
     ensures accepted { (source bytes : Text) → IsTextFor FileAsked source bytes → IsAccepted [] UnitRead bytes }
     ensures placements { (source bytes place : Text) → IsTextFor FileAsked source bytes
@@ -45,7 +46,7 @@ pub fn what_is_built_is_loaded_as_recorded()
     a_text_has_one_program();
 }
 
-/// What `record` writes of a program is accepted as a record by `check` with the same program, and is answered with yes and status 0 alone.
+/// `check` accepts the text that `record` writes of the same program, and its only answer is `yes` with status 0.
 pub fn what_is_recorded_is_judged_yes()
     ensures accepted { (source place plan text : Text) (status : AnyStatus) → IsRunOf RecordShown source place plan text status → IsAccepted (source ∷ []) RecordRead text }
     ensures yes { (source place plan text line : Text) (status end : AnyStatus) → IsRunOf RecordShown source place plan text status → IsVerdictOn source text line end

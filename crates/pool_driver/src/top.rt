@@ -1,4 +1,4 @@
-//! The top call.
+//! The top-level function.
 ghost use Rattle.std.specs.Prelude.{◌≡◌, ◌⊎◌, ◌+◌, ◌-◌, ◌^◌, ◌≤◌, ◌<◌, ◌++◌, [], ◌∷◌, Some, codes, false, option_map, IfSome};
 ghost use Rattle.text_scan.specs.Text.{Text};
 ghost use Rattle.pool_outside.specs.Outside.{Rose};
@@ -23,7 +23,7 @@ use std::alloc::{AllocError, Global};
 const USAGE: &[u8] =
     b"usage: pool record|run|why P L S, pool print|code P, pool ring K, pool convert R, pool check P R, pool build P, pool load U L S\n";
 
-/// Writes a piece, and answers the status, or that a write failed.
+/// Writes a text. Returns the status, or `WriteFault` if the write fails.
 fn say<K: Sink>(sink: &mut K, piece: &[u8], status: Status) -> Status
     ensures { Writes (writing K.written K.faults sink.old sink.new) piece.now status result }
 {
@@ -33,7 +33,7 @@ fn say<K: Sink>(sink: &mut K, piece: &[u8], status: Status) -> Status
     }
 }
 
-/// Writes a text that takes no memory, in pieces of 4096 bytes.
+/// Writes a text in pieces of 4096 bytes, without taking memory. Returns `Done`, or `WriteFault` if a write fails.
 fn write_text<T: Text, K: Sink>(text: &T, out: &mut K) -> Status
     requires { T.writable text.now }
     ensures { Writes (writing K.written K.faults out.old out.new) (T.bytes text.now) Status.Done result }
@@ -44,7 +44,7 @@ fn write_text<T: Text, K: Sink>(text: &T, out: &mut K) -> Status
     }
 }
 
-/// Writes what was asked for.
+/// Writes an output. Returns its status, `WriteFault`, or `Memory` with nothing written.
 fn write_output<K: Sink>(alloc: Global, out: &mut K, output: &Output) -> Status
     requires { IsPrintable output.now }
     ensures { Delivers (writing K.written K.faults out.old out.new) (text_of output.now) (status_of_output output.now) result }
@@ -63,7 +63,7 @@ fn write_output<K: Sink>(alloc: Global, out: &mut K, output: &Output) -> Status
     }
 }
 
-/// Writes on the error sink why nothing was made of the inputs.
+/// Writes the line of an input error to `err`. Writes nothing if the error is out of memory.
 fn say_stop<E: Sink>(alloc: Global, err: &mut E, stop: InputError) -> Status
     ensures { ReportsInputError (writing E.written E.faults err.old err.new) stop result }
 {
@@ -80,7 +80,10 @@ fn say_stop<E: Sink>(alloc: Global, err: &mut E, stop: InputError) -> Status
     }
 }
 
-/// Runs a command: the words after the program's name, the files that it may read, and the sinks for its output and its error line.
+/// Runs one command. `words` are the arguments without the program's name.
+/// `files` are the files that the command may read. The output goes to `out`, and a line for an error goes to `err`.
+/// Requires that no file is open, that fewer than 2^64 - 4 were
+/// opened before, and that each input of the command may be opened.
 pub fn pool<F: Files, K: Sink, E: Sink>(
     alloc: Global,
     words: &[String],
@@ -92,23 +95,25 @@ pub fn pool<F: Files, K: Sink, E: Sink>(
     requires countable { F.opens files.old ≤ 2 ^ 64 - 5 }
     requires allowed { IfSome (request_of (texts_of words.now)) (MayOpen (F.may files.old) (F.opens files.old)) }
 
-    // The call ends in one of the ways that the definition lists, each with its cause, and with what stands on the two sinks.
+    // The call ends in one of the ways that the definition lists. Each has its cause, and the text on both sinks.
     ensures ends { Ends (request_of (texts_of words.now))
         (reading F.told F.opens F.given F.live F.faults files.old files.new)
         (writing K.written K.faults out.old out.new)
         (writing E.written E.faults err.old err.new)
         result }
 
-    // Of the input that was opened last no more than its limit and one read was given.
+    // The input that was opened last has given at most its limit and one read.
     ensures stops_reading { (r : Request) → request_of (texts_of words.now) ≡ Some r → StaysWithin
         (reading F.told F.opens F.given F.live F.faults files.old files.new) r }
 
-    // Words of a command, accepted inputs and no fault in this call give the text whole, or nothing for want of memory.
+    // If the arguments are a command, all inputs are accepted, and no read or
+    // write failed in this call, the whole text was written, or memory ran out.
     ensures complete { (r : Request) → request_of (texts_of words.now) ≡ Some r → IsServable (F.told files.old) r
         → ¬ (Rose (F.faults files.old) (F.faults files.new)) → ¬ (Rose (K.faults out.old) (K.faults out.new)) → ¬ (Rose (E.faults err.old) (E.faults err.new))
         → WholeTextWritten result ⊎ (result ≡ Status.Memory) }
 
-    // The headline, by itself: where `record` ends with the status of a record, what it wrote is the text of lines that show one run of the program.
+    // The headline: if `record` ends with the status of a record, it
+    // has written the text of lines that show one run of the program.
     ensures headline { (p l s : Text) → texts_of words.now ≡ codes "record" ∷ p ∷ l ∷ s ∷ [] → WholeTextWritten result
         → (source : Text) × (bytes : Text) × IfSome (F.told files.old p) (λ t. source ≡ t)
         × (K.written out.new ≡ option_map (λ w. w ++ bytes) (K.written out.old)) × ShowsOneRun source bytes }

@@ -1,4 +1,4 @@
-//! The unit of an object code file that is verified.
+//! Decodes and verifies an object code file.
 ghost use Rattle.std.specs.Prelude.{◌≡◌, ◌⊎◌, ◌≤◌, length, IfOk, IfErr};
 ghost use Rattle.command_inputs.specs.declared.fault.UnitFault.TheVariants.{Memory};
 ghost use Rattle.pool_driver.specs.UnitFiles.{IsUnitFault};
@@ -10,7 +10,7 @@ use command_inputs::UnitFault;
 use object_code::{CodeFault, decode};
 use std::alloc::Global;
 
-/// Why bytes are no file.
+/// The unit fault for a fault of the bytes.
 fn of_bytes(fault: CodeFault) -> UnitFault
     ensures { result ≡ fault_of_bytes fault }
 {
@@ -21,7 +21,7 @@ fn of_bytes(fault: CodeFault) -> UnitFault
     }
 }
 
-/// Why a file is not verified.
+/// The unit fault for a file that is not verified.
 fn of_code(fault: VerifyFault) -> UnitFault
     ensures { result ≡ fault_of_code fault }
 {
@@ -32,8 +32,9 @@ fn of_code(fault: VerifyFault) -> UnitFault
     }
 }
 
-/// The unit of the file that the bytes say, once it is verified; else the first fault of the bytes, or of the file's headings and then its codes. At most 16 MiB of bytes.
-/// Memory is a multiple of the bytes.
+/// Decodes an object code file of at most 16 MiB, verifies it, and returns its unit.
+/// Reports the first bad byte or duplicate name, then the first bad heading, then the first bad code; or out of memory.
+/// The memory is proportional to the bytes.
 pub fn read_unit(alloc: Global, bytes: &[u8]) -> Result<Unit, UnitFault>
     requires { length bytes.now ≤ 16777216 }
     ensures ok { IfOk result (λ u. IsUnitOfFile bytes.now u) }

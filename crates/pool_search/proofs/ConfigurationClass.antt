@@ -1,4 +1,4 @@
--- What a configuration is, by what the stepper tells of it.
+-- The kind of a configuration follows from what the stepper reports of it.
 use Rattle.std.proofs.Common.{◌≡◌, ◌≢◌, ◌≤◌, sym, ◌∙◌, ℕ, Option, Some, None, is_some, Bool, true, false, arith}
 use Rattle.std.specs.Prelude.{IfSome, IfNone}
 use Rattle.run_types.specs.declared.types.Label.{Label}

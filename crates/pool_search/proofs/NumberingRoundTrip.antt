@@ -1,4 +1,4 @@
--- A configuration by its numbers is the one that they were made of, or that was made of them.
+-- A configuration that is numbered and restored is the same one.
 use Rattle.std.proofs.Common.{◌≡◌, refl, ap, ap₂, ◌∙◌, ℕ, ◌<◌, List, map, length, get_or, Some}
 use Rattle.std.specs.Option.{option_map, IfSome}
 use Rattle.std.specs.List.{slice_get}

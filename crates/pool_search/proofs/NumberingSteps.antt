@@ -1,4 +1,4 @@
--- One turn of each loop that numbers a configuration, or makes one of its numbers.
+-- One step of each loop that numbers a configuration or restores it.
 use Rattle.std.proofs.Common.{◌≡◌, sym, ap, ap₂, subst, ◌∙◌, ℕ, ◌+◌, ◌<◌, List, [], ◌∷◌, ◌++◌, map, length, take, drop, get_or, Some, IsTrue, arith}
 use Rattle.std.specs.declared.collections.VecDeque.{VecDeque}
 use Rattle.std.specs.Global.{Global}

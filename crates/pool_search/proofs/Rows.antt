@@ -1,4 +1,4 @@
--- Rows: what the definitions make of small tables.
+-- Examples: values of the definitions on small tables.
 use Rattle.std.proofs.Common.{◌≡◌, refl, List, [], ◌∷◌, arith}
 use Rattle.pool_relation.specs.Action.{Object}
 use Rattle.search_states.specs.States.{states}

@@ -1,4 +1,4 @@
--- Transitions that need no choice, and runs, with one more at the end.
+-- Runs, and runs of transitions that need no choice, are extended by one transition at the end.
 use Rattle.std.proofs.Common.{◌≡◌, ap, ◌∙◌, List, [], ◌∷◌, ◌++◌, Some, true}
 use Rattle.run_types.specs.declared.types.Label.{Label}
 use Rattle.pool_syntax.specs.Terms.{ProgramTree}

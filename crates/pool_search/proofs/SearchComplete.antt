@@ -1,4 +1,5 @@
--- A search that has looked at its whole list has seen what any run leads to.
+-- If a search has visited all its entries, its list is closed,
+-- and no run leads to a configuration that the query looks for.
 use Rattle.std.proofs.Common.{◌≡◌, ◌≤◌, ◌+◌, inl, inr, sym, ap, ◌∙◌, subst, ℕ, suc, [], ◌∷◌, ◌++◌, length, take, Some, Bool, true, false, arith}
 use Rattle.std.specs.List.{slice_get}
 use Rattle.std.proofs.lemmas.List.{take_all, take-append-le}

@@ -1,4 +1,4 @@
--- Maps whose keys are in order: a change of the values, and an insertion behind all keys.
+-- A sorted map stays sorted if its values change, or if an entry with a greater key is added.
 use Rattle.std.proofs.Common.{◌≡◌, refl, ap, ◌∙◌, List, [], ◌∷◌, ◌++◌, map, IsTrue, arith}
 use Rattle.std.specs.declared.cmp.Ordering.{Ordering}
 use Rattle.std.specs.declared.cmp.Ordering.TheVariants.{Less, Equal, Greater}

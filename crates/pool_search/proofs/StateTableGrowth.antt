@@ -1,4 +1,4 @@
--- A table of object states that grows: what was numbered before stands for the same.
+-- If a table of object states grows, earlier numbers keep their meaning.
 use Rattle.std.proofs.Common.{◌≡◌, refl, sym, ap, ap₂, subst, ◌∙◌, ℕ, suc, ◌<◌, ◌≤◌, List, [], ◌∷◌, map, length, take, get_or, arith}
 use Rattle.std.specs.List.{All}
 use Rattle.std.proofs.lemmas.List.{get_or-take, length-take, take-take}

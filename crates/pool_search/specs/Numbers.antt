@@ -1,4 +1,4 @@
--- What a configuration stands for that is kept as numbers of object states.
+-- Which configuration of the transition relation a numbered configuration represents, given the table of object states.
 use Rattle.std.specs.Prelude.{◌≡◌, ◌<◌, ℕ, suc, List, [], ◌∷◌, map, length, slice_index_or, None, IsTrue}
 use Rattle.std.specs.List.{All}
 use Rattle.std.specs.FinMap.Entries.{is_sorted}
@@ -12,33 +12,33 @@ use Rattle.pool_semantics.specs.Sound.{Sound}
 use Rattle.pool_search.specs.declared.numbered.Queue.{Queue}
 use Rattle.pool_search.specs.declared.numbered.Numbered.{Numbered}
 
--- what stands for an object behind the last one
+-- the object at a number that the table does not have
 abbrev pub no_object : Object
 no_object = record { class = 0; vars = []; term = Done; fault = None }
 
--- the objects of these numbers, under the names from o on
+-- the objects with these state numbers, named from o on
 abbrev pub objects_from : ℕ → List Object → List ℕ → List (ℕ × Object)
 objects_from o xs [] = []
 objects_from o xs (n ∷ ns) = (o, slice_index_or xs n no_object) ∷ objects_from (suc o) xs ns
 
--- objects that have the names from o on
+-- the objects have the names o, o + 1, ..
 abbrev pub AreNamedFrom : ℕ → List (ℕ × Object) → Type 0
 AreNamedFrom o [] = Unit {0}
 AreNamedFrom o (e ∷ es) = (e.0 ≡ o) × AreNamedFrom (suc o) es
 
--- the messages of a queue, under its pair
+-- the messages of a queue, with its sender and receiver
 abbrev pub queue_messages : Queue → Pair × List Message
 queue_messages q = ((q.sender, q.receiver), map message_of q.mails.items)
 
--- the configuration, where these are the object states
+-- the configuration, if xs are the object states
 abbrev pub numbered : List Object → Numbered → Configuration
 numbered xs e = record { objects = objects_from 0 xs e.objects.items; messages = map queue_messages e.queues.items }
 
--- the same with its next name
+-- the same, with its next free name
 abbrev pub with_next : List Object → Numbered → ℕ × Configuration
 with_next xs e = (e.next, numbered xs e)
 
--- its numbers are those of object states, its queues in order, and it is a typed configuration of the program
+-- the table has each number, the queues are in order, and the configuration is typed
 pub record EntryInvariant (p : ProgramTree) (xs : List Object) (e : Numbered) : Type 0 where
   pub within : All (λ n. n < length xs) e.objects.items
   pub sorted : IsTrue (is_sorted pair_cmp (map queue_messages e.queues.items))

@@ -1,4 +1,4 @@
--- When the answer of a search holds.
+-- When the result of a search is correct, in terms of runs of the transition relation.
 use Rattle.std.specs.Prelude.{◌≤◌}
 use Rattle.pool_syntax.specs.Terms.{ProgramTree}
 use Rattle.pool_search.specs.declared.queries.Query.{Query}
@@ -6,7 +6,8 @@ use Rattle.pool_search.specs.declared.queries.SearchResult.{SearchResult}
 use Rattle.pool_search.specs.declared.queries.SearchResult.TheVariants as F
 use Rattle.pool_search.specs.SearchTargets.{IsWantedStuck, IsWantedFault, LeadsTo, IsFinite}
 
--- the answer holds: its run leads to what is asked for, or no run does; where the search is over nothing is claimed of runs
+-- The run of a result leads to a configuration that the query looks
+-- for. `Finite` says that no run does. `Over` says nothing about runs.
 abbrev pub IsAnswer : ProgramTree → Query → SearchResult → Type 0
 IsAnswer p q (F.Stuck ls) = LeadsTo p ls.items (IsWantedStuck p q)
 IsAnswer p q (F.Fault ls) = LeadsTo p ls.items (IsWantedFault q)

@@ -1,4 +1,4 @@
-//! Whether a configuration is what is asked for.
+//! Decides whether a configuration is one that the query looks for.
 ghost use Rattle.std.specs.Prelude.{◌≡◌, false, true};
 ghost use Rattle.pool_semantics.specs.PlainOf.{configuration_of, program_tree, is_spent};
 ghost use Rattle.pool_search.specs.SearchTargets.{CountsAsStuck, IsWantedStuck, IsWantedFault, IsUnwanted};
@@ -7,7 +7,7 @@ ghost use Rattle.search_laws.specs.Search.{IsFaulty};
 use crate::queries::{Query, Target};
 use pool_semantics::Plain;
 
-/// What a configuration is.
+/// The kind of a configuration, for a query.
 #[derive(Clone, Copy)]
 pub enum Classification {
     Stuck,
@@ -15,7 +15,7 @@ pub enum Classification {
     Neither,
 }
 
-/// Whether it counts as stuck.
+/// Whether the configuration counts as stuck. `all` also counts each unfinished one.
 fn is_stuck(plain: &Plain<'_>, all: bool) -> bool
     requires { is_spent plain.now ≡ false }
     ensures yes { result ≡ true → CountsAsStuck all (program_tree plain.now) (configuration_of plain.now) }
@@ -30,7 +30,7 @@ fn is_stuck(plain: &Plain<'_>, all: bool) -> bool
     plain.waiting(0).is_some()
 }
 
-/// Whether an object met an error.
+/// Whether an object met a run-time error.
 fn is_faulty(plain: &Plain<'_>) -> bool
     ensures yes { result ≡ true → IsFaulty (configuration_of plain.now) }
     ensures no { result ≡ false → ¬ (IsFaulty (configuration_of plain.now)) }
@@ -38,7 +38,7 @@ fn is_faulty(plain: &Plain<'_>) -> bool
     plain.met_error().is_some()
 }
 
-/// What of what is asked for the configuration is.
+/// The kind of a configuration. It is `Stuck` or `Fault` only if the query looks for this; `Stuck` comes first.
 pub fn judge(plain: &Plain<'_>, question: &Query) -> Classification
     requires { is_spent plain.now ≡ false }
     ensures stuck { result ≡ Classification.Stuck → IsWantedStuck (program_tree plain.now) question.now (configuration_of plain.now) }

@@ -1,4 +1,4 @@
-//! Whether two configurations are the same, and a mark for look-ups.
+//! Equality and hashes of numbered configurations.
 ghost use Rattle.std.specs.Prelude.{◌≡◌, map, true};
 ghost use Rattle.pool_semantics.specs.Mails.{message_of};
 ghost use Rattle.pool_search.specs.Numbers.{queue_messages};
@@ -72,7 +72,7 @@ fn same_numbers(left: &[u32], right: &[u32]) -> bool
     left == right
 }
 
-/// Whether two configurations with their next names are the same.
+/// Whether two configurations and their next names are the same.
 pub fn same_numbered(left: &Numbered, right: &Numbered) -> bool
     ensures next { result ≡ true → left.now.next ≡ right.now.next }
     ensures objects { result ≡ true → left.now.objects.items ≡ right.now.objects.items }
@@ -103,7 +103,7 @@ fn mark_queue(queue: &Queue, mark: &mut FoldHasher) {
     }
 }
 
-/// A mark of a configuration. Equal ones have equal marks, and different ones almost always different marks. No proof rests on it.
+/// The hash of a configuration, for look-ups. Equal ones have equal hashes. No proof depends on it.
 pub fn mark(numbered: &Numbered) -> u64 {
     let mut mark = FoldHasher::default();
     mark.write_u32(numbered.next);

@@ -1,4 +1,4 @@
-//! The configurations that a search keeps, and the labels that lead on from them.
+//! The visited set of a search, and the expansion of its entries.
 ghost use Rattle.std.specs.Prelude.{◌≡◌, ◌+◌, ◌<◌, ◌≤◌, Ok, Some, IfOk, IfSome, length, slice_get, min, [], true, false};
 ghost use Rattle.pool_relation.specs.Configuration.{Configuration};
 ghost use Rattle.pool_semantics.specs.PlainOf.{configuration_of, program_tree, is_spent};
@@ -15,43 +15,44 @@ use pool_semantics::{Plain, Refuse};
 use run_types::Label;
 use std::alloc::{AllocError, Global};
 
-/// Where an entry comes from: the number of the entry before it, and the place of the label in the list of labels to try there.
+/// How the search came to an entry: the number of its parent,
+/// and the index of the label in the parent's list of labels.
 #[derive(Clone, Copy)]
 pub struct Origin {
     pub from: u32,
     pub label: u32,
 }
 
-/// The configurations that are kept, with the origin of each.
+/// The visited set, and the origin of each entry.
 #[derive(Drop)]
 pub struct Explored<'a> {
     pub kept: VisitedSet<'a>,
     pub origins: Vec<Origin>,
 }
 
-/// What became of a look at an entry.
+/// The result of a visit of one entry.
 #[derive(Clone, Copy)]
 pub enum Visit {
-    /// It is not what is asked for, and all its labels were tried.
+    /// The query does not look for it, and all its labels were tried.
     Done,
-    /// It is what is asked for.
+    /// The query looks for it.
     Shown,
-    /// A bound was met.
+    /// The search met a bound.
     Over,
 }
 
-/// How a look at all entries ended.
+/// The result of a visit of all entries.
 #[derive(Clone, Copy)]
 pub enum RunEnd {
-    /// None of them is what is asked for.
+    /// The query looks for none of them.
     Whole,
-    /// The one of this number is.
+    /// The query looks for the entry with this number.
     Shown(u32),
-    /// A bound was met.
+    /// The search met a bound.
     Over,
 }
 
-/// The next name after a label; None where there is none left.
+/// The next free name after a label. None if all names of 32 bits are used.
 pub fn name_after(next: u32, label: &Label) -> Option<u32>
     ensures { IfSome result (λ n. n ≡ after next label.now) }
 {
@@ -61,13 +62,13 @@ pub fn name_after(next: u32, label: &Label) -> Option<u32>
     }
 }
 
-/// A place as a number of 32 bits, or the greatest of them.
+/// An index as a number of 32 bits. Larger ones become the greatest number.
 fn number(place: usize) -> u32 {
     u32::try_from(place).unwrap_or(u32::MAX)
 }
 
 impl<'a> Explored<'a> {
-    /// Nothing is kept yet.
+    /// An empty visited set for the program of `plain`. An error means out of memory.
     pub fn make(alloc: Global, plain: &Plain<'a>) -> Result<Explored<'a>, AllocError>
         ensures program { IfOk result (λ e. searched e ≡ program_tree plain.now) }
         ensures none { IfOk result (λ e. entries e ≡ []) }
@@ -79,14 +80,15 @@ impl<'a> Explored<'a> {
         })
     }
 
-    /// How many are kept, or the most that were allowed.
+    /// The number of entries, but at most `most`.
     pub fn count(&self, most: u32) -> u32
         ensures { result ≡ min (length (entries self.now)) most }
     {
         self.kept.len().min(most as usize) as u32
     }
 
-    /// Keeps a configuration, if it is not kept already; false where it is one too many.
+    /// Adds a configuration, unless the set has it. `false` if a bound is met: the set
+    /// is full, or it would have more than `most` entries. An error means out of memory.
     fn keep(
         &mut self,
         plain: &Plain<'a>,
@@ -113,7 +115,7 @@ impl<'a> Explored<'a> {
         }
     }
 
-    /// Keeps what a configuration settles into; false where a bound is met.
+    /// Settles a configuration and adds the result. `false` if a bound is met. An error means out of memory.
     pub fn settle_and_keep(
         &mut self,
         plain: &mut Plain<'a>,
@@ -134,7 +136,8 @@ impl<'a> Explored<'a> {
         self.keep(plain, next, origin, most)
     }
 
-    /// Tries a label of the entry of this origin, which the stepper is at, and is at again; false where a bound is met.
+    /// Tries a label of the entry `origin.from`, where the stepper is, and returns the stepper there.
+    /// `false` if a bound is met. An error means out of memory.
     fn follow(
         &mut self,
         plain: &mut Plain<'a>,
@@ -168,7 +171,7 @@ impl<'a> Explored<'a> {
         Ok(true)
     }
 
-    /// Tries these labels of an entry; false where a bound is met.
+    /// Tries these labels of an entry, where the stepper is. `false` if a bound is met. An error means out of memory.
     fn try_all(
         &mut self,
         plain: &mut Plain<'a>,
@@ -198,7 +201,7 @@ impl<'a> Explored<'a> {
         Ok(true)
     }
 
-    /// Tries all labels of an entry, which the stepper is at; false where a bound is met.
+    /// Tries all labels of an entry, where the stepper is. `false` if a bound is met. An error means out of memory.
     fn expand(
         &mut self,
         alloc: Global,
@@ -220,7 +223,7 @@ impl<'a> Explored<'a> {
         self.try_all(plain, at, next, &labels, most)
     }
 
-    /// Looks at an entry, and tries all its labels if it is not what is asked for.
+    /// Visits an entry: tries all its labels, unless the query looks for it. An error means out of memory.
     fn visit(&mut self, alloc: Global, at: u32, question: &Query) -> Result<Visit, AllocError>
         requires { at < length (entries self.old) }
         ensures program { searched self.new ≡ searched self.old }
@@ -238,7 +241,8 @@ impl<'a> Explored<'a> {
         Ok(Visit::Over)
     }
 
-    /// Looks at the entries one after another, also at those that are added meanwhile.
+    /// Visits the entries in order, and then those that were added meanwhile. This is breadth-first.
+    /// Requires at most `most` entries, the start among them. An error means out of memory.
     pub fn look(&mut self, alloc: Global, question: &Query) -> Result<RunEnd, AllocError>
         requires begun { IsSearchedTo (searched self.old) question.now (entries self.old) 0 }
         requires within { length (entries self.old) ≤ question.now.most }

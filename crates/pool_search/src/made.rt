@@ -1,4 +1,4 @@
-//! Numbers for a configuration.
+//! From a configuration to its numbers.
 ghost use Rattle.std.specs.Prelude.{◌≡◌, ◌-◌, ◌^◌, ◌<◌, ◌≤◌, Ok, None, IfOk, IfSome, IsTrue, length, map, take};
 ghost use Rattle.std.specs.List.{All};
 ghost use Rattle.std.specs.Ordering.{nat_cmp};
@@ -16,7 +16,8 @@ use std::alloc::{AllocError, Global};
 use std::collections::{BTreeMap, VecDeque};
 use stepper_objects::object_state::ObjectState;
 
-/// The numbers of these objects' states; None where the table is full, or the names are not 0, 1, 2, ..
+/// The numbers of the states of these objects; new states are added to the table.
+/// None if the table is full, or if the names are not 0, 1, 2, .. An error means out of memory.
 pub fn numbers_of<'a>(
     alloc: Global,
     table: &mut StateTable<'a>,
@@ -51,7 +52,7 @@ fn mails_of(alloc: Global, queue: &VecDeque<Mail>) -> Result<Vec<Mail>, AllocErr
     Ok(mails)
 }
 
-/// The queues of these messages.
+/// The queues of these messages, in the order of their pairs. An error means out of memory.
 pub fn queues_of(
     alloc: Global,
     messages: &BTreeMap<(u32, u32), VecDeque<Mail>>,

@@ -1,7 +1,7 @@
-//! A configuration as numbers.
+//! A configuration as numbers of object states.
 use pool_semantics::Mail;
 
-/// The messages from a sender to a receiver, the oldest first.
+/// The messages from one sender to one receiver, the oldest first.
 #[derive(Drop)]
 pub struct Queue {
     pub sender: u32,
@@ -9,7 +9,8 @@ pub struct Queue {
     pub mails: Vec<Mail>,
 }
 
-/// A configuration with its next name. Its objects are the numbers of their states, in the order of their names 0, 1, 2, ..
+/// A configuration and the next free name. `objects` has the number
+/// of each object's state, in the order of the names 0, 1, 2, ..
 #[derive(Drop)]
 pub struct Numbered {
     pub next: u32,

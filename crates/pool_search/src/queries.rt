@@ -1,37 +1,37 @@
-//! What is asked of a search, and what it answers.
+//! Queries of a search, and their results.
 use run_types::Label;
 use std::alloc::Global;
 
-/// What is looked for.
+/// The kind of run that a search looks for.
 #[derive(Clone, Copy)]
 pub enum Target {
     /// A run that gets stuck.
     Stuck,
-    /// A run that meets a language error.
+    /// A run that meets a run-time error.
     Fault,
-    /// Either.
+    /// A run of either kind.
     Both,
 }
 
-/// What is asked.
+/// A query: the kind of run, and the bounds of the search.
 #[derive(Clone, Copy)]
 pub struct Query {
     pub wanted: Target,
-    /// Whether a run is stuck, too, where an object stands at `answer` or `select`, or a message was not taken.
+    /// Whether a run also counts as stuck if an object waits at `answer` or `select`, or a message was not accepted.
     pub all: bool,
-    /// How many configurations are kept at most.
+    /// The largest number of configurations that the search keeps.
     pub most: u32,
 }
 
-/// The answer.
+/// The result of a search.
 #[derive(Drop)]
 pub enum SearchResult {
-    /// The labels of a run that gets stuck, from the start on, the first object named 0.
+    /// The labels of a run that gets stuck, from the start. The first object has the name 0.
     Stuck(Vec<Label>),
-    /// The labels of a run that meets a language error, in the same way.
+    /// The labels of a run that meets a run-time error, in the same form.
     Fault(Vec<Label>),
-    /// No run does; so many configurations were kept.
+    /// There is no such run. The number of configurations that the search kept.
     Finite(u32),
-    /// Nothing is known, since a bound was met; so many configurations were kept.
+    /// Unknown, because the search met a bound. The number of configurations that it kept, but at most `most`.
     Over(u32),
 }

@@ -1,4 +1,4 @@
-//! A configuration from its numbers.
+//! From the numbers of a configuration back to the configuration.
 ghost use Rattle.std.specs.Prelude.{◌≡◌, ◌<◌, IfOk, IsTrue, length, map};
 ghost use Rattle.std.specs.List.{All};
 ghost use Rattle.std.specs.FinMap.Entries.{is_sorted};
@@ -15,7 +15,8 @@ use std::alloc::{AllocError, Global};
 use std::collections::{BTreeMap, VecDeque};
 use stepper_objects::object_state::ObjectState;
 
-/// The objects of these numbers, under the names 0, 1, 2, ..
+/// Copies of the objects with these state numbers, under the names 0, 1, 2, .. Requires that the table has each number.
+/// An error means out of memory, or that there are more objects than names.
 pub fn objects_at<'a>(
     alloc: Global,
     table: &StateTable<'a>,
@@ -47,7 +48,8 @@ fn queue_at(alloc: Global, mails: &[Mail]) -> Result<VecDeque<Mail>, AllocError>
     Ok(queue)
 }
 
-/// The messages of these queues.
+/// The messages of these queues. Requires that the queues are
+/// in the order of their pairs. An error means out of memory.
 pub fn messages_at(
     alloc: Global,
     queues: &[Queue],

@@ -1,4 +1,4 @@
-//! The run that leads to an entry, made again from the start with every label that is applied.
+//! Repeats the run that leads to an entry, with each label that is applied.
 ghost use Rattle.std.specs.Prelude.{◌≡◌, Some, IfOk, IfSome, true, false};
 ghost use Rattle.pool_syntax.specs.TreeOf.{program_of};
 ghost use Rattle.pool_relation.specs.Configuration.{Configuration};
@@ -15,7 +15,8 @@ use pool_semantics::{Plain, Refuse};
 use run_types::Label;
 use std::alloc::{AllocError, Global};
 
-/// The places of the labels that lead to an entry, the last first. Nothing rests on them: the run is made again, and its end judged.
+/// The indexes of the labels that lead to an entry, the last first. An error means out of memory.
+/// No proof depends on them: the run is repeated, and its end is classified again.
 pub fn way_to(alloc: Global, origins: &[Origin], at: u32) -> Result<Vec<u32>, AllocError> {
     let mut way = Vec::new(alloc);
     let mut at = at;
@@ -32,7 +33,8 @@ pub fn way_to(alloc: Global, origins: &[Origin], at: u32) -> Result<Vec<u32>, Al
     Ok(way)
 }
 
-/// Applies a label, and then all that needs no choice; false where that is not possible.
+/// Applies a label, and then all transitions that need no choice. Appends each label to `shown`.
+/// `false` if the label is impossible or settling meets its bound. An error means out of memory.
 fn pass(plain: &mut Plain<'_>, label: &Label, shown: &mut Vec<Label>) -> Result<bool, AllocError>
     requires { is_spent plain.old ≡ false }
     ensures program { program_tree plain.new ≡ program_tree plain.old }
@@ -49,7 +51,8 @@ fn pass(plain: &mut Plain<'_>, label: &Label, shown: &mut Vec<Label>) -> Result<
     settle_shown(plain, shown)
 }
 
-/// The same with the label at a place among those to try; the next name after it.
+/// Applies the label at this index among those to try, and settles. Returns the next free name.
+/// None if there is no such label, it is impossible, or a bound is met. An error means out of memory.
 fn pass_at(
     alloc: Global,
     plain: &mut Plain<'_>,
@@ -74,7 +77,8 @@ fn pass_at(
     Ok(name_after(next, label))
 }
 
-/// Goes a way from the start.
+/// Repeats a run from the start. `way` has the indexes of its labels, the last first.
+/// `false` if a label is impossible or a bound is met. An error means out of memory.
 fn retrace(
     alloc: Global,
     plain: &mut Plain<'_>,
@@ -101,7 +105,8 @@ fn retrace(
     Ok(true)
 }
 
-/// The run of a way, if its end is what is asked for.
+/// The run of these indexes as a result. None if the run cannot be repeated, or the query does not look for its end.
+/// An error means out of memory.
 pub fn show(
     alloc: Global,
     program: &Checked<'_>,

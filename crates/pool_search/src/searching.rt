@@ -1,4 +1,4 @@
-//! The search.
+//! The breadth-first search.
 ghost use Rattle.std.specs.Prelude.{◌≡◌, ◌≤◌, ℕ, Ok, Some, IfOk, IfSome, length};
 ghost use Rattle.std.specs.Global.{Global};
 ghost use Rattle.std.specs.declared.vec.Vec.{Vec};
@@ -17,7 +17,7 @@ use class_check::Checked;
 use pool_semantics::Plain;
 use std::alloc::{AllocError, Global};
 
-/// The start, settled and kept; None where a bound is met.
+/// Settles the start and keeps it. None if a bound is met. An error means out of memory.
 fn begin<'a>(
     alloc: Global,
     program: &Checked<'a>,
@@ -36,7 +36,7 @@ fn begin<'a>(
     Ok(Some(explored))
 }
 
-/// The answer of a search that has begun.
+/// The result of a search that has kept its start. An error means out of memory.
 fn answer<'a>(
     alloc: Global,
     program: &Checked<'a>,
@@ -60,9 +60,11 @@ fn answer<'a>(
     }
 }
 
-/// Searches all runs of a program for what is asked for, breadth first, so that a run that is shown passes the fewest configurations that are kept.
-/// It is over where more than `most` configurations would be kept, where too many transitions that need no choice follow one another (1,000,000),
-/// and where no number of 32 bits is left for a name or for the state of an object.
+/// Searches all runs of a program for one that the query looks for. An error means out of memory.
+/// The search is breadth-first, so the run of a result passes the fewest kept configurations.
+/// The result is `Over` if more than `most` configurations would be kept,
+/// or if 1,000,000 transitions that need no choice follow one another.
+/// It is also `Over` if no number of 32 bits is left for an object or for the state of an object.
 pub fn search(
     alloc: Global,
     program: &Checked<'_>,

@@ -1,4 +1,4 @@
-//! Transitions that need no choice are made one after another, and a configuration is kept only where none is left.
+//! Settling: transitions that need no choice are made at once, and only the configuration after them is kept.
 ghost use Rattle.std.specs.Prelude.{◌≡◌, Some, IfOk, IfSome, IfNone, true, false};
 ghost use Rattle.pool_relation.specs.Configuration.{Configuration};
 ghost use Rattle.pool_relation.specs.Transition.{transition, run};
@@ -9,10 +9,11 @@ use pool_semantics::{Plain, Refuse};
 use run_types::Label;
 use std::alloc::AllocError;
 
-/// How many transitions that need no choice are made between two configurations that are kept: a program may have an endless loop.
+/// The largest number of transitions that settling makes. Without a bound, an endless loop of a program would not end.
 pub const SETTLE: u32 = 1_000_000;
 
-/// Makes a transition that needs no choice, if there is one.
+/// Makes one transition that needs no choice, and returns its
+/// label. None if there is none. An error means out of memory.
 fn settle_once(plain: &mut Plain<'_>) -> Result<Option<Label>, AllocError>
     requires { is_spent plain.old ≡ false }
     ensures program { program_tree plain.new ≡ program_tree plain.old }
@@ -31,7 +32,8 @@ fn settle_once(plain: &mut Plain<'_>) -> Result<Option<Label>, AllocError>
     }
 }
 
-/// Makes transitions that need no choice until none is left; false where there are too many.
+/// Makes transitions that need no choice until none is left. `false` after 1,000,000 of them.
+/// An error means out of memory.
 pub fn settle(plain: &mut Plain<'_>) -> Result<bool, AllocError>
     requires { is_spent plain.old ≡ false }
     ensures program { program_tree plain.new ≡ program_tree plain.old }
@@ -48,7 +50,7 @@ pub fn settle(plain: &mut Plain<'_>) -> Result<bool, AllocError>
     Ok(false)
 }
 
-/// The same, where the labels are added to those that led here.
+/// Settles in the same way, and appends each label to `shown`.
 pub fn settle_shown(plain: &mut Plain<'_>, shown: &mut Vec<Label>) -> Result<bool, AllocError>
     requires { is_spent plain.old ≡ false }
     ensures program { program_tree plain.new ≡ program_tree plain.old }

@@ -1,4 +1,4 @@
-//! The list of configurations, each once.
+//! The visited set: configurations of one program.
 ghost use Rattle.std.specs.Prelude.{◌≡◌};
 ghost use Rattle.std.specs.List.{All};
 ghost use Rattle.pool_syntax.specs.TreeOf.{program_of};
@@ -16,14 +16,16 @@ use std::alloc::{AllocError, Global};
 use std::collections::{BTreeMap, HashMap};
 use stepper_objects::object_state::ObjectState;
 
-/// The number of a configuration that was seen before, or was added.
+/// The number of a configuration that was already in the set, or was added.
 #[derive(Clone, Copy)]
 pub enum Entry {
     Seen(u32),
     Added(u32),
 }
 
-/// Configurations of one program, each with its next name. `latest` has the last one of each mark.
+/// Configurations of one program, each with its next free name. `latest` has the last one of each hash.
+/// At most 2^32 configurations and 2^32 - 1 object states fit. A
+/// configuration can be in the set twice after a collision of hashes.
 #[derive(Drop)]
 pub struct VisitedSet<'a> {
     alloc: Global,
@@ -44,7 +46,7 @@ impl<'a> VisitedSet<'a> {
     ghost use Rattle.pool_search.specs.Numbers.{AreNamedFrom, numbered, objects_from};
     ghost use Rattle.pool_search.specs.VisitedConfigurations.{IsFull, kept_list, kept_program};
 
-    /// No configuration, of the program of this one.
+    /// An empty set for the program of `plain`.
     pub fn make(alloc: Global, plain: &Plain<'a>) -> Result<VisitedSet<'a>, AllocError>
         ensures list { IfOk result (λ k. kept_list k ≡ []) }
         ensures program { IfOk result (λ k. kept_program k ≡ program_tree plain.now) }
@@ -65,7 +67,7 @@ impl<'a> VisitedSet<'a> {
         self.entries.len()
     }
 
-    /// The next name of the configuration at this place.
+    /// The next free name of the configuration at this index.
     pub fn next_name(&self, at: usize) -> u32
         requires { at < length (kept_list self.now) }
         ensures { IfSome (slice_get (kept_list self.now) at) (λ e. result ≡ e.0) }
@@ -73,7 +75,7 @@ impl<'a> VisitedSet<'a> {
         self.entries[at].next
     }
 
-    /// The configuration at this place.
+    /// The configuration at this index. An error means out of memory.
     pub fn configuration(&self, at: usize) -> Result<Plain<'a>, AllocError>
         requires { at < length (kept_list self.now) }
         ensures configuration { IfOk result (λ s. IfSome (slice_get (kept_list self.now) at) (λ e. configuration_of s ≡ e.1)) }
@@ -91,7 +93,7 @@ impl<'a> VisitedSet<'a> {
         }))
     }
 
-    /// The place of a configuration with its numbers, if it is the last one of its mark.
+    /// The index of this configuration, if it is the last one of its hash.
     fn seen(&self, mark: u64, found: &Numbered) -> Option<u32>
         ensures { IfSome result (λ i. slice_get (kept_list self.now) i ≡ Some (found.now.next, numbered (states self.now.table) found.now)) }
     {
@@ -104,7 +106,8 @@ impl<'a> VisitedSet<'a> {
         }
     }
 
-    /// Adds a configuration, and gives its place; None where the list has 2^32 of them.
+    /// Adds a configuration, and returns its index. None if the
+    /// set has 2^32 configurations. An error means out of memory.
     fn add(&mut self, mark: u64, found: Numbered) -> Result<Option<u32>, AllocError>
         requires { EntryInvariant (program_of self.old.program.now) (states self.old.table) found }
         ensures added { IfOk result (λ o. IfSome o (λ i. (kept_list self.new ≡ kept_list self.old ++ (found.next, numbered (states self.old.table) found) ∷ []) × (i ≡ length (kept_list self.old)))) }
@@ -121,7 +124,8 @@ impl<'a> VisitedSet<'a> {
         Ok(Some(at))
     }
 
-    /// The numbers of these objects, whose states the table has from now on.
+    /// The state numbers of these objects. New states are added to the table. None if
+    /// the table is full, or the names are not 0, 1, 2, .. An error means out of memory.
     fn numbers(
         &mut self,
         objects: &BTreeMap<u32, ObjectState<'a>>,
@@ -136,8 +140,9 @@ impl<'a> VisitedSet<'a> {
         numbers_of(self.alloc, &mut self.table, objects)
     }
 
-    /// Looks for a configuration, and adds it where it is not there. None where the list or the table of object states is full, or the names of the objects
-    /// are not 0, 1, 2, ..
+    /// Looks a configuration up, and adds it if it was not found. Requires that it is one of the set's program.
+    /// None if the set or the table of object states is full, or if the
+    /// objects are not named 0, 1, 2, .. An error means out of memory.
     pub fn keep(&mut self, plain: &Plain<'a>, next: u32) -> Result<Option<Entry>, AllocError>
         requires fresh { is_spent plain.now ≡ false }
         requires program { program_tree plain.now ≡ kept_program self.old }

@@ -1,4 +1,4 @@
--- The verdict where all labels are possible, by what can move then.
+-- The verdict on a record with only possible labels follows from the objects that can still move.
 use Rattle.std.proofs.Common.{◌≡◌, sym, subst, ◌∙◌, ℕ, ◌<◌, List, Some, None, true, false}
 use Rattle.pool_syntax.specs.Terms.{ProgramTree}
 use Rattle.run_types.specs.declared.types.Label.{Label}

@@ -1,4 +1,5 @@
--- The record of a call between two nodes, judged: as it was written, with one local transition too few, and without its last event.
+-- Examples: verdicts on the record of a call between two nodes, as it was
+-- written, with one local transition too few, and without its last event.
 use Rattle.std.proofs.Common.{◌≡◌, refl, ℕ, zero, suc, ◌*◌, ◌<◌, List, [], ◌∷◌, ◌++◌, Option, Some, None, slice_get, arith}
 use Rattle.run_types.specs.declared.types.Label.TheVariants as L
 use Rattle.run_types.specs.declared.types.What.{What}

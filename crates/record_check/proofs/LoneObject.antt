@@ -1,4 +1,5 @@
--- A lone object: whose name a label tells, and that without a transition it has none under another name.
+-- A configuration with one object: a possible label names this
+-- object, and without a transition under its own name it has none.
 use Rattle.std.proofs.Common.{◌≡◌, ◌≢◌, ◌⊎◌, inl, inr, refl, sym, ap, subst, ◌∙◌, IsTrue, ℕ, zero, suc, List, [], ◌∷◌, Option, Some, None, Bool, true, false, slice_get}
 use Rattle.std.specs.List.{list_any}
 use Rattle.run_types.specs.declared.types.Value.{Value}

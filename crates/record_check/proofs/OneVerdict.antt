@@ -1,4 +1,5 @@
--- Lines have one verdict: a record that is a run has yes alone, the first label that is not possible is one, and the least object that moves is one.
+-- A record has at most one verdict.
+-- A run has only `yes`, the first impossible label is unique, and so is the least object that moves.
 use Rattle.std.proofs.Common.{◌≡◌, refl, sym, ap, ap₂, subst, ◌∙◌, ℕ, zero, suc, ◌<◌, List, [], ◌∷◌, ◌++◌, replicate, Some, None, append_assoc, arith}
 use Rattle.pool_syntax.specs.Terms.{ProgramTree}
 use Rattle.run_types.specs.declared.types.Label.{Label}

@@ -1,4 +1,4 @@
--- The record of a program is a run of it, told by its lines.
+-- The record of a program is a run of it, by its lines alone.
 use Rattle.std.proofs.Common.{◌≡◌, refl, sym, ap, subst, ◌∙◌, IsTrue, ℕ, List, [], ◌∷◌, Option, Some, None}
 use Rattle.run_types.specs.declared.types.Event.{Event}
 use Rattle.run_types.specs.declared.types.Label.{Label}

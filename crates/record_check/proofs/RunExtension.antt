@@ -1,4 +1,4 @@
--- A run goes on: by one more transition, and by one more line.
+-- A run is extended by one transition, and by the transitions of one line.
 use Rattle.std.proofs.Common.{◌≡◌, refl, sym, ap, ◌∙◌, ℕ, zero, suc, ◌+◌, ◌<◌, List, [], ◌∷◌, ◌++◌, length, replicate, take, get_or, Some, append_assoc, append-nil, arith}
 use Rattle.pool_syntax.specs.Terms.{ProgramTree}
 use Rattle.run_types.specs.declared.types.Label.{Label}

@@ -1,4 +1,4 @@
--- Where the labels of a record lead a stepper.
+-- What the checker has found after the labels of a record, in terms of the transition relation.
 use Rattle.std.specs.Prelude.{◌≡◌, List, false}
 use Rattle.pool_syntax.specs.Terms.{ProgramTree}
 use Rattle.run_types.specs.declared.types.Label.{Label}
@@ -11,7 +11,8 @@ use Rattle.record_check.specs.declared.labels.Followed.{Followed}
 use Rattle.record_check.specs.declared.labels.Followed.TheVariants as F
 use Rattle.record_check.specs.RecordJudgement.{LeadsTo, StopsAt}
 
--- to a line that stops, or to the end, where the stepper stands for the last configuration and is not spent
+-- either a line with an impossible transition, or the stepper has
+-- the configuration after all labels and did not run out of memory
 abbrev pub Leads : ProgramTree → List Line → Followed → Type 0
 Leads p ls (F.Stopped s) = (d : Configuration) × (lab : Label) × StopsAt p ls s.number d lab × Shows p d (agent lab) s.redex
 Leads p ls (F.Led plain) = LeadsTo p ls (configuration_of plain) × (program_tree plain ≡ p) × (is_spent plain ≡ false)

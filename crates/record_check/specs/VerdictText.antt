@@ -1,4 +1,4 @@
--- The text of a verdict, with the words that the lines of records have for names, values and language errors.
+-- The text of a verdict; names, values and run-time errors are written as in a record.
 use Rattle.std.specs.Prelude.{◌++◌, List, [], ◌∷◌, codes, decimal, map}
 use Rattle.text_scan.specs.Text.{Text}
 use Rattle.run_types.specs.declared.verdicts.Redex.{Redex}
@@ -7,7 +7,7 @@ use Rattle.record_writer.specs.RecordText.{error_text, item_text, joined, object
 use Rattle.run_types.specs.declared.verdicts.Verdict.{Verdict}
 use Rattle.run_types.specs.declared.verdicts.Verdict.TheVariants as V
 
--- what an object is at
+-- a redex: the next step of an object
 abbrev pub redex_words : List Text → Redex → List Text
 redex_words names R.NoObject = codes "none" ∷ []
 redex_words names R.Finished = codes "finished" ∷ []
@@ -23,12 +23,14 @@ redex_words names (R.Return v) = codes "return" ∷ value_text v ∷ []
 redex_words names (R.Waits p) = codes "waits" ∷ object_text p ∷ []
 redex_words names (R.Fault e) = codes "fault" ∷ error_text e ∷ []
 
--- the record is a run; or the line of this number shows a transition that is not possible, and its object is at this; or the end is quiet, and this object can go on
+-- three verdicts: the record is a run;
+-- the line of this number shows an impossible transition of an object at this redex;
+-- the end is quiet, but this object can make a transition
 abbrev pub verdict_words : List Text → Verdict → List Text
 verdict_words names V.Yes = codes "yes" ∷ []
 verdict_words names (V.No number redex) = codes "no" ∷ decimal number ∷ redex_words names redex
 verdict_words names (V.Moving o) = codes "no" ∷ codes "end" ∷ object_text o ∷ []
 
--- with a line feed
+-- the words with spaces between them, and a line feed
 abbrev pub verdict_text : List Text → Verdict → Text
 verdict_text names v = joined (verdict_words names v) ++ 10 ∷ []

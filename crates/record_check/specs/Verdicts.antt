@@ -1,4 +1,4 @@
--- How far the lines of a record lead.
+-- How far the labels of lines are possible from a configuration, in terms of the transition relation.
 use Rattle.std.specs.Prelude.{◌≡◌, ℕ, ◌<◌, List, ◌∷◌, ◌++◌, replicate, Some, None}
 use Rattle.pool_syntax.specs.Terms.{ProgramTree}
 use Rattle.run_types.specs.declared.types.Label.{Label}
@@ -13,7 +13,7 @@ use Rattle.mesh_semantics.specs.Record.{labels}
 use Rattle.pool_semantics.specs.Shown.{Shows}
 use Rattle.run_types.specs.declared.verdicts.Redex.{Redex}
 
--- fewer transitions of the label than so many lead from c to d, where it is not possible, and its object is at this
+-- fewer than `times` transitions of the label lead from c to d; there it is impossible, and its object has this redex
 pub record StopsAfter (p : ProgramTree) (c : Configuration) (lab : Label) (times : ℕ) (d : Configuration) (redex : Redex) : Type 0 where
   pub made : ℕ
   pub fewer : made < times
@@ -21,7 +21,7 @@ pub record StopsAfter (p : ProgramTree) (c : Configuration) (lab : Label) (times
   pub impossible : transition p d lab ≡ None
   pub shows : Shows p d (agent lab) redex
 
--- the line shows a transition that is not possible, of those that it shows not the first perhaps
+-- this line shows the impossible transition; earlier transitions of the same line may be possible
 pub record StopsLine (p : ProgramTree) (c : Configuration) (l : Line) (number : ℕ) (d : Configuration) (redex : Redex) : Type 0 where
   pub event : Event
   pub label : Label
@@ -29,7 +29,7 @@ pub record StopsLine (p : ProgramTree) (c : Configuration) (l : Line) (number : 
   pub is : l ≡ R.Event number event (W.Step label times)
   pub stops : StopsAfter p c label times d redex
 
--- the lines lead from c to d, in the line of this number, whose next transition is not possible
+-- the lines lead from c to d, up to an impossible transition in the line of this number
 pub record StopsIn (p : ProgramTree) (c : Configuration) (ls : List Line) (number : ℕ) (d : Configuration) (redex : Redex) : Type 0 where
   pub before : List Line
   pub line : Line

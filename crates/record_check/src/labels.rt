@@ -1,4 +1,4 @@
-//! Judges the labels of a record, from the start of its root.
+//! Makes the transitions that the lines of a record show, from the start of the program.
 ghost use Rattle.std.specs.Prelude.{◌≡◌, ◌++◌, List, [], Some, IfOk, IfSome, IfNone};
 ghost use Rattle.pool_syntax.specs.TreeOf.{program_of};
 ghost use Rattle.run_types.specs.declared.types.Label.{Label};
@@ -12,14 +12,14 @@ use pool_semantics::{Plain, agent};
 use run_types::{End, Line, What};
 use std::alloc::{AllocError, Global};
 
-/// Where the labels of a record lead: to a line that stops, or to the end.
+/// How far the labels of a record are possible: up to a line with an impossible transition, or up to the end.
 #[derive(Drop)]
 pub enum Followed<'a> {
     Stopped(Mismatch),
     Led(Plain<'a>),
 }
 
-/// The object of the first label of a line, if it has one.
+/// The object that makes the first transition of a line. None if the line shows no transition.
 fn first_of(line: &Line) -> Option<u32>
     ensures some { IfSome result (λ o. (rest : List Label) → first_agent (labels_of line.now ++ rest) ≡ o) }
     ensures none { IfNone result (labels_of line.now ≡ []) }
@@ -38,7 +38,7 @@ fn first_of(line: &Line) -> Option<u32>
     }
 }
 
-/// The name of the root, told by the lines.
+/// The name of the root object: the object of the first transition, or 0 if no line shows a transition.
 fn root(lines: &[Line]) -> u32
     ensures { result ≡ root lines.now }
 {
@@ -50,7 +50,7 @@ fn root(lines: &[Line]) -> u32
     0
 }
 
-/// Whether the end line says that all was quiet.
+/// Whether an end line says `quiet`.
 pub fn is_quiet(lines: &[Line]) -> bool
     ensures { result ≡ ends_quiet lines.now }
 {
@@ -59,7 +59,9 @@ pub fn is_quiet(lines: &[Line]) -> bool
         .any(|line| matches!(line, Line::End(End::Quiet { .. })))
 }
 
-/// Makes the transitions that the lines of a record show, from the start of its root on.
+/// Makes the transitions that the lines show, from the start of the program.
+/// Returns the first line that shows an impossible transition, or the stepper after the last transition.
+/// An error means out of memory.
 pub fn judge_labels<'a>(
     alloc: Global,
     program: &Checked<'a>,

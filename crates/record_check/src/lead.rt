@@ -1,4 +1,4 @@
-//! How far the labels of lines lead.
+//! Applies the labels of lines to a stepper.
 ghost use Rattle.std.specs.Prelude.{◌≡◌, Some, IfOk, IfSome, IfNone, false, replicate};
 ghost use Rattle.pool_relation.specs.Transition.{run};
 ghost use Rattle.mesh_semantics.specs.Record.{labels, labels_of};
@@ -9,14 +9,15 @@ use pool_semantics::{Plain, Refuse};
 use run_types::{Label, Line, Redex, What};
 use std::alloc::AllocError;
 
-/// A line that shows a transition that is not possible, and what its object is at.
+/// A line that shows an impossible transition: its number, and the redex of the object of this transition.
 #[derive(Clone, Copy)]
 pub struct Mismatch {
     pub number: u32,
     pub redex: Redex,
 }
 
-/// Makes the label's transition so often; the redex where one is not possible.
+/// Applies the label `times` times. Returns the redex of its object at the first time that it is impossible.
+/// An error means out of memory.
 #[tactic(auto, using(crate::proofs::RunExtension::one_more))]
 fn make_times(plain: &mut Plain<'_>, label: &Label, times: u32) -> Result<Option<Redex>, AllocError>
     ensures program { program_tree plain.new ≡ program_tree plain.old }
@@ -34,7 +35,7 @@ fn make_times(plain: &mut Plain<'_>, label: &Label, times: u32) -> Result<Option
     Ok(None)
 }
 
-/// Makes the transitions that a line shows, up to the first that is not possible.
+/// Applies the labels that a line shows, up to the first that is impossible. An error means out of memory.
 fn follow_line(plain: &mut Plain<'_>, line: &Line) -> Result<Option<Mismatch>, AllocError>
     ensures program { program_tree plain.new ≡ program_tree plain.old }
     ensures going_on { IfOk result (λ _. is_spent plain.old ≡ false → is_spent plain.new ≡ false) }
@@ -58,7 +59,8 @@ fn follow_line(plain: &mut Plain<'_>, line: &Line) -> Result<Option<Mismatch>, A
     }
 }
 
-/// Makes the transitions that the lines show, up to the first that is not possible.
+/// Applies the labels that the lines show, up to the first that is impossible.
+/// Returns that line, or None if all labels were applied. An error means out of memory.
 pub fn follow(plain: &mut Plain<'_>, lines: &[Line]) -> Result<Option<Mismatch>, AllocError>
     ensures program { program_tree plain.new ≡ program_tree plain.old }
     ensures going_on { IfOk result (λ _. is_spent plain.old ≡ false → is_spent plain.new ≡ false) }

@@ -1,4 +1,4 @@
-//! A verdict as a line.
+//! The text line of a verdict.
 ghost use Rattle.std.specs.Prelude.{◌≡◌, [], ◌∷◌, ◌++◌, IfOk, OnOk, codes, map};
 ghost use Rattle.record_writer.specs.RecordText.{led, object_text, text_at, value_text};
 ghost use Rattle.record_check.specs.VerdictText.{redex_words, verdict_text, verdict_words};
@@ -9,7 +9,7 @@ use record_writer::{
 use run_types::{Args, NameId, Names, Redex, Verdict};
 use std::alloc::{AllocError, Global};
 
-/// Puts a message: its word, the receiver, the method and the arguments.
+/// Appends a message: its keyword, the receiver, the method and the arguments.
 fn push_message(
     text: &mut Vec<u8>,
     word: &[u8],
@@ -26,7 +26,7 @@ fn push_message(
     push_args(text, args)
 }
 
-/// Puts what an object is at.
+/// Appends a redex.
 fn push_redex(text: &mut Vec<u8>, names: &Names, redex: &Redex) -> Result<(), AllocError>
     ensures { OnOk result (text.new.items ≡ text.old.items ++ led (redex_words names.now redex.now)) }
 {
@@ -66,8 +66,9 @@ fn push_redex(text: &mut Vec<u8>, names: &Names, redex: &Redex) -> Result<(), Al
     }
 }
 
-/// The line of a verdict, with its line feed: `yes`, `no` with the number of the line that is not possible and what its object is at, or `no end` with the object that can
-/// still make a transition. The names are those of the program.
+/// Returns the line of a verdict, with its line feed. `names` are the names of the program.
+/// The line is `yes`, or `no` with the number of the impossible line and the redex of its object,
+/// or `no end` with the object that can still make a transition. An error means out of memory.
 pub fn verdict_line(alloc: Global, verdict: &Verdict, names: &Names) -> Result<Vec<u8>, AllocError>
     ensures { IfOk result (λ line. line.items ≡ verdict_text names.now verdict.now) }
 {

@@ -1,4 +1,4 @@
-//! Laws of judged records: each is the contract of a function that does nothing.
+//! Theorems about records that the checker accepts. Each is the contract of a function with an empty body.
 ghost use Rattle.std.specs.Prelude.{◌≡◌, ℕ, List, [], Some, IsTrue, true};
 ghost use Rattle.run_types.specs.Table.{is_distinct};
 ghost use Rattle.text_scan.specs.Text.{Text};
@@ -25,7 +25,8 @@ ghost use Rattle.run_types.specs.declared.verdicts.Verdict.{Verdict as Verdicts}
 ghost use Rattle.run_types.specs.declared.verdicts.Verdict.TheVariants.{Yes};
 ghost use Rattle.record_check.specs.RecordJudgement.{IsRunOf, Judged};
 
-/// The record of a program without faults on any mesh, with or without wires, is a run of the program, told by its lines alone.
+/// The record of a program without class faults is a run of the program, with or without wires.
+/// Only its lines are needed to see this.
 pub fn a_written_record_is_a_run()
     ensures records { (p : ProgramTree) (l : Placement) (q : ℕ) (es : List Event) → faults p ≡ [] → IsTrue (is_written p) → FitFor (terms p) l → (p ≡ [] → ⊥)
         → IsRunOf p (record_of (terms p) l q es).lines }
@@ -33,23 +34,26 @@ pub fn a_written_record_is_a_run()
         → IsRunOf p (record_on_wires (terms p) l q es).lines }
 {}
 
-/// Lines that show a run from the start, on any mesh and over any delay, are a run of the program, told by them alone.
+/// If lines show a run from the start, on any mesh and with any delay, they are a run of the program.
+/// Only the lines are needed to see this.
 pub fn shown_runs_are_runs()
     ensures { (p : ProgramTree) (l : Placement) (q : ℕ) (c : Configuration) (d : Delay) (r : Record Object) → faults p ≡ [] → IsTrue (is_written p) → start p (root_name l) ≡ Some c
         → IsRunFrom p l q c d r → IsRunOf p r.lines }
 {}
 
-/// A record that is a run has the verdict yes and no other.
+/// The only verdict on a record that is a run is `yes`.
 pub fn a_run_is_judged_yes()
     ensures { (p : ProgramTree) (ls : List Line) (v : Verdicts) → IsRunOf p ls → Judged p ls v → v ≡ Yes }
 {}
 
-/// Lines have one verdict: the first label that is not possible is one, and so is the least object that moves. So each verdict is told exactly where it holds.
+/// A record has at most one verdict.
+/// So the line of a `no` is the first impossible one, and the object of a `no end` is the least that can move.
 pub fn a_record_has_one_verdict()
     ensures { (p : ProgramTree) (ls : List Line) (v w : Verdicts) → Judged p ls v → Judged p ls w → v ≡ w }
 {}
 
-/// What was written of a record of the program, read with a copy of the names with which it was written, whatever their numbers, has the verdict yes and no other.
+/// If the record of a program is written and read back, its only verdict is `yes`.
+/// Reading may give other numbers to the names.
 pub fn what_was_written_is_judged_yes()
     ensures records { (names : List Text) (p : ProgramTree) (l : Placement) (q : ℕ) (es : List Event) (v : Verdicts) → is_distinct names ≡ true → faults p ≡ [] → IsTrue (is_written p)
         → FitFor (terms p) l

@@ -1,4 +1,4 @@
-//! The verdict on a record.
+//! Decides whether a record is a run of its program.
 ghost use Rattle.std.specs.Prelude.{◌≡◌, IfOk, false};
 ghost use Rattle.pool_syntax.specs.TreeOf.{program_of};
 ghost use Rattle.pool_semantics.specs.PlainOf.{configuration_of, program_tree, is_spent};
@@ -10,7 +10,7 @@ use pool_semantics::Plain;
 use run_types::{Line, List, Verdict};
 use std::alloc::{AllocError, Global};
 
-/// The verdict where all labels are possible and lead here.
+/// The verdict on a record with only possible labels. `plain` is the configuration after the last label.
 fn judge_end(plain: &Plain<'_>, lines: &[Line]) -> Verdict
     requires { is_spent plain.now ≡ false }
     ensures { LeadsTo (program_tree plain.now) lines.now (configuration_of plain.now) → Judged (program_tree plain.now) lines.now result }
@@ -24,8 +24,9 @@ fn judge_end(plain: &Plain<'_>, lines: &[Line]) -> Verdict
     }
 }
 
-/// Whether a record is a run of the program, told by its labels and its quiet end; delays are not judged.
-/// Takes time in the number of transitions that the lines show: at most 2^32 steps of the stepper for one line.
+/// Decides whether a record is a run of the program. It checks the labels and the `quiet` end, but no delays.
+/// An error means out of memory.
+/// The time is proportional to the transitions that the lines show. One line shows fewer than 2^32 transitions.
 pub fn check_record(
     alloc: Global,
     program: &Checked<'_>,

@@ -1,4 +1,4 @@
--- Whose request an event's line answers or posts is an object of the configuration before the event.
+-- If an event's line posts or answers a request, the object that asked is in the configuration before the event.
 use Rattle.std.proofs.Common.{◌≡◌, ◌∙◌, refl, sym, subst, ℕ, zero, suc, ◌+◌, ◌==◌, List, [], ◌∷◌, Option, Some, None, Bool, true, false, if◌then◌else◌}
 use Rattle.std.specs.Prelude.{nat_lt}
 use Rattle.std.specs.FinMap.{put}

@@ -1,4 +1,4 @@
--- The objects that the rows of a report call are those that the objects of the configuration call.
+-- The rows of a report call the same objects as the objects of the configuration.
 use Rattle.std.proofs.Common.{◌≡◌, ◌∙◌, ◌==◌, ℕ, Bool, true, false, cond, List, [], ◌∷◌, Option, refl, sym, ap, arith}
 use Rattle.std.specs.Ordering.{nat_cmp}
 use Rattle.std.specs.FinMap.Entries.{find}

@@ -1,4 +1,4 @@
--- What comes of a run of what was loaded, and what is written behind it.
+-- The results of a run of loaded inputs, and the text that is written after the run.
 use Rattle.std.proofs.Common.{◌≡◌, [], Option, Some, Ok, Err, refl, sym, ap, subst}
 use Rattle.text_scan.specs.Text.{Text}
 use Rattle.pool_outside.specs.declared.calls.WriteFault.{WriteFault}

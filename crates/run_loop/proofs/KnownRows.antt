@@ -1,4 +1,4 @@
--- The rows of a sound configuration of code: their names rise, and what they name is known.
+-- The rows of a sound configuration of code have rising names, and each class and method in them is in the table.
 use Rattle.std.proofs.Common.{◌≡◌, ◌<◌, ℕ, zero, suc, Bool, true, false, cond, List, [], ◌∷◌, length, get_or, slice_get, Option, Some, None, refl, sym, ap, subst, arith}
 use Rattle.text_scan.specs.Text.{Text}
 use Rattle.run_types.specs.declared.types.Error.{Error}

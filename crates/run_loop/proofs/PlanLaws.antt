@@ -1,4 +1,4 @@
--- What a text's schedule has of a mesh: its quantum is one of a turn, its events are of the mesh, and they are at most 2,000,000.
+-- A schedule that was read from a text has a quantum in its bounds, and at most 2,000,000 events, each of the mesh.
 use Rattle.std.proofs.Common.{◌≡◌, ◌≤◌, ℕ, Bool, true, false, nat_le, List, [], ◌∷◌, length, Option, Some, None, Result, Ok, Err, refl, subst, arith}
 use Rattle.std.proofs.lemmas.Bool.Decides.{nat_tests}
 use Rattle.text_scan.specs.Text.{Text}

@@ -1,4 +1,4 @@
--- A run under way, and what is the same of the records of its rest.
+-- A run under way: its machine, its table of requests and its written text after some events.
 use Rattle.std.specs.Prelude.{◌≡◌, ℕ, ◌+◌, List, [], ◌++◌, length, drop, Bool, false, is_some}
 use Rattle.std.specs.List.{AllByRecursion}
 use Rattle.text_scan.specs.Text.{Text}

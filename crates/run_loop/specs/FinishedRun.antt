@@ -1,4 +1,4 @@
--- What comes of a run of what was loaded.
+-- The possible results of a run of loaded inputs, and the text that is written with each.
 use Rattle.std.specs.Prelude.{◌≡◌, [], Some, Result, Ok, Err}
 use Rattle.mesh_semantics.specs.Config.{Config}
 use Rattle.mesh_semantics.specs.Record.{start}
@@ -14,8 +14,9 @@ use Rattle.run_loop.specs.RunOutput.{HasRun, shown_record}
 use Rattle.run_loop.specs.Loading.{lines_of}
 use Rattle.run_loop.specs.Writing.{Writing, IsIdle, WroteFront}
 
--- A run from its start has ended, and all that is shown was written but for the end line; or a write failed, and a front of what is shown was written, of a report nothing; or
--- memory was not had, and nothing was written.
+-- The run has ended, and its text was written except the end
+-- line. Or a write failed after a prefix of the text was written.
+-- A report writes nothing before its end. Or memory ran out, and nothing was written.
 pub data HasDriven (show : Show) (r : Loaded) (k : Writing) (result : Result FinishedRun Status) : Type 0 where
   driven : (x : FinishedRun) (c : Config Placed) → result ≡ Ok x → start (coded r.unit) r.placement ≡ Some c
       → HasRun show r.unit r.placement r.schedule c (nothing_sent r.schedule.lossy) x.machine k x.last → HasDriven show r k result

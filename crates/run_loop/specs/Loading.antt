@@ -1,4 +1,4 @@
--- The run of what was loaded, and what is shown of it.
+-- The run of loaded inputs, in terms of objects of code, and the text that is written of it.
 use Rattle.std.specs.Prelude.{List, ◌++◌}
 use Rattle.text_scan.specs.Text.{Text}
 use Rattle.run_types.specs.declared.types.Line.{Line}
@@ -20,7 +20,7 @@ run_of r = record_over (coded r.unit) r.placement r.schedule
 abbrev pub lines_of : Loaded → List Line
 lines_of r = (run_of r).lines
 
--- what is shown of a run: its lines, or where its objects stand at its end, and then the end line
+-- the text of a run: its lines, its output, or the status of each object at its end with the end line
 abbrev pub run_text : Show → Loaded → Text
 run_text Sh.Record r = shown_record Sh.Record r.unit.names (lines_of r)
 run_text Sh.Writes r = shown_record Sh.Writes r.unit.names (lines_of r)

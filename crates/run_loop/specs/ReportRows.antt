@@ -1,4 +1,4 @@
--- The rows of a report as the code makes them, object by object.
+-- The rows of the report of `pool why` for objects of code, in the order in which the code makes them.
 use Rattle.std.specs.Prelude.{ℕ, List, [], ◌∷◌, map, Option, Some, nat_lt, if◌then◌else◌}
 use Rattle.mesh_semantics.specs.Config.{Config, object_of}
 use Rattle.mesh_semantics.specs.Delay.{Delay}
@@ -12,11 +12,11 @@ use Rattle.run_loop.specs.Reports.{row_in}
 abbrev pub rows_in : {S : Type 0} → Language S → Delay → List (ℕ × S) → List ObjectRow
 rows_in g d es = map (row_in g d) es
 
--- the row of the object of a name, where the name is an object's
+-- the row of the object with this name, if there is one
 abbrev pub row_at : Code → Config Placed → Delay → ℕ → Option ObjectRow
 row_at u c d o = object_of c o >>= λ x. Some (row_in (coded u) d (o, x))
 
--- the entries in front whose keys are below a number
+-- the first entries, up to the first key that is not below the number
 abbrev pub below : {X : Type 0} → ℕ → List (ℕ × X) → List (ℕ × X)
 below n [] = []
 below n (e ∷ es) = if nat_lt e.0 n then e ∷ below n es else []

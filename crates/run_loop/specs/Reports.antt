@@ -1,4 +1,4 @@
--- The rows of the report of where the objects of a configuration stand.
+-- The rows of the report of `pool why`: the status of each object of a configuration.
 use Rattle.std.specs.Prelude.{ℕ, List, map}
 use Rattle.pool_syntax.specs.Terms.{ProgramTree}
 use Rattle.run_types.specs.declared.types.Standing.{Standing}
@@ -13,7 +13,7 @@ use Rattle.mesh_semantics.specs.Standing.{standing}
 use Rattle.mesh_of_terms.specs.Terms.{terms}
 use Rattle.wait_report.specs.declared.rows.ObjectRow.{ObjectRow}
 
--- a standing over numbers as one over names
+-- the status of an object, with numbers of names as name identifiers
 abbrev pub standing_word : T.Standing → Standing
 standing_word T.Ready = Z.Ready
 standing_word T.Finished = Z.Finished
@@ -23,7 +23,7 @@ standing_word (T.Creates k node) = Z.Creates (id k) node
 standing_word T.Due = Z.Due
 standing_word T.Awaits = Z.Awaits
 
--- the row of an object by its name, in any language of objects
+-- the row of an object with its name, in any language of objects
 abbrev pub row_in : {S : Type 0} → Language S → Delay → ℕ × S → ObjectRow
 row_in g d e = record { name = e.0; class = id (g.class e.1); standing = standing_word (standing g d e.0 e.1) }
 

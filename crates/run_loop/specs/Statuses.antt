@@ -1,4 +1,4 @@
--- The numbers of the statuses.
+-- The exit status of the process for each status of a call.
 use Rattle.std.specs.Prelude.{ℕ}
 use Rattle.run_loop.specs.declared.status.Status.{Status}
 use Rattle.run_loop.specs.declared.status.Status.TheVariants as S

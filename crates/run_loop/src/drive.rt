@@ -1,4 +1,4 @@
-//! Runs a machine over a schedule, and writes each line as it is made.
+//! Runs a machine over a schedule, and writes each line when its event is made.
 ghost use Rattle.std.specs.Prelude.{◌≡◌, ℕ, ◌||◌, [], OnOk, OnErr, IfOk, is_some};
 ghost use Rattle.run_types.specs.declared.types.Event.{Event as OneEvent};
 ghost use Rattle.run_types.specs.declared.types.Line.TheVariants as R;
@@ -22,14 +22,14 @@ use run_types::{End, Event, Item, Label, Line, Names, What};
 use schedule_reader::Schedule;
 use std::alloc::{AllocError, Global};
 
-/// How a run has ended, and whether a language error was told before.
+/// The end of a run, and whether the run met a run-time error.
 #[derive(Clone, Copy)]
 pub struct RunEnd {
     pub faulted: bool,
     pub end: End,
 }
 
-/// What is written by a step, if it writes.
+/// The item that a step writes. None if the step writes nothing.
 fn item_of(what: &What) -> Option<Item>
     ensures { result ≡ item_of what.now }
 {
@@ -42,7 +42,7 @@ fn item_of(what: &What) -> Option<Item>
     }
 }
 
-/// Writes the item that was written, without quotes, if one was.
+/// Writes the item that the step wrote, without quotes, if there is one.
 fn show_writes<K: Sink>(what: &What, names: &Names, out: &mut K) -> Result<(), WriteFault>
     requires { AreShort names.now (id_of_what what.now) }
     ensures whole { (n : ℕ) (e : OneEvent) → OnOk result (Wrote (writing K.written K.faults out.old out.new) (writes_of names.now (R.Event n e what.now))) }
@@ -54,7 +54,7 @@ fn show_writes<K: Sink>(what: &What, names: &Names, out: &mut K) -> Result<(), W
     }
 }
 
-/// Writes what is shown before the first line.
+/// Writes the text before the first line.
 fn show_first<K: Sink>(show: Show, out: &mut K) -> Result<(), WriteFault>
     ensures whole { OnOk result (Wrote (writing K.written K.faults out.old out.new) (shown_first show)) }
     ensures cut { OnErr result (WroteFront (writing K.written K.faults out.old out.new) (shown_first show)) }
@@ -65,7 +65,7 @@ fn show_first<K: Sink>(show: Show, out: &mut K) -> Result<(), WriteFault>
     }
 }
 
-/// Writes what is shown of an event's line with this request number.
+/// Writes an event's line, with this request number, in the form of `show`.
 fn show_event<K: Sink>(
     show: Show,
     number: u32,
@@ -98,7 +98,7 @@ fn show_end<K: Sink>(show: Show, end: End, names: &Names, out: &mut K) -> Result
     }
 }
 
-/// Whether a step tells a language error.
+/// Whether a step shows a run-time error.
 fn shows_fault(what: &What) -> bool
     ensures { result ≡ shows_fault what.now }
 {
@@ -111,14 +111,14 @@ fn shows_fault(what: &What) -> bool
     )
 }
 
-/// Whether a language error was told so far, with one more step.
+/// Whether the run has met a run-time error, after one more step.
 fn fault_so_far(faulted: bool, what: &What) -> bool
     ensures { (n : ℕ) (e : OneEvent) → result ≡ (faulted || tells_fault (R.Event n e what.now)) }
 {
     faulted || shows_fault(what)
 }
 
-/// The status of a run that ended so, where a language error was told or was not.
+/// The status of a run with this end. `faulted` says whether the run met a run-time error.
 fn status_of_end(faulted: bool, end: End) -> Status
     ensures { result ≡ ended faulted end }
 {
@@ -130,7 +130,7 @@ fn status_of_end(faulted: bool, end: End) -> Status
     }
 }
 
-/// Writes what is shown of the end line, and answers the status of the run.
+/// Writes the end line in the form of `show`. Returns the status of the run, or `WriteFault` if the write fails.
 pub fn finish<K: Sink>(show: Show, last: RunEnd, names: &Names, out: &mut K) -> Status
     ensures { Writes (writing K.written K.faults out.old out.new) (shown_line show names.now 0 (Line.End last.end)) (ended last.faulted last.end) result }
 {
@@ -140,7 +140,7 @@ pub fn finish<K: Sink>(show: Show, last: RunEnd, names: &Names, out: &mut K) -> 
     }
 }
 
-/// A table for the posts of the lines of a run, of which there is none yet.
+/// An empty table of the requests that the lines of a run post. An error means out of memory.
 pub fn make_table(alloc: Global, loaded: &Loaded) -> Result<Asks, AllocError>
     requires { IsLoaded loaded.now.unit loaded.now.placement loaded.now.schedule }
     ensures { IfOk result (λ a. IsTableOf loaded.now.placement a []) }
@@ -149,8 +149,8 @@ pub fn make_table(alloc: Global, loaded: &Loaded) -> Result<Asks, AllocError>
     Asks::make(alloc, placement.width * placement.height, placement.objects)
 }
 
-/// Makes the events of a schedule until all is quiet or a node is full, and writes what is shown of each line as it is made, but for the end line.
-/// The run stops at the first write that fails.
+/// Makes the events of a schedule until all is quiet or a node is full. Requires a machine at its start.
+/// Writes each line in the form of `show`, except the end line. Stops at the first write that fails.
 pub fn drive<K: Sink>(
     machine: &mut Machine<'_>,
     asks: &mut Asks,

@@ -1,4 +1,4 @@
-//! What a run is made of.
+//! The inputs of a run.
 use code_semantics::Unit;
 use run_types::Placement;
 use schedule_reader::Schedule;

@@ -1,4 +1,4 @@
-//! Makes a run of what was loaded, and writes what is asked of it.
+//! Makes a run of loaded inputs, and writes its record, output, report or counts.
 ghost use Rattle.std.specs.Prelude.{◌≡◌, ◌++◌, IfOk};
 ghost use Rattle.run_loop.specs.FinishedRun.{HasDriven};
 ghost use Rattle.run_loop.specs.RunOutput.{IsLoaded, shown_record};
@@ -17,15 +17,15 @@ use pool_outside::{Sink, WriteFault, write_all_of};
 use run_types::{Line, Names};
 use std::alloc::{AllocError, Global};
 
-/// A machine after its run, and how the run has ended.
+/// A machine after its run, and the end of the run.
 #[derive(Drop)]
 pub struct FinishedRun<'a> {
     pub machine: Machine<'a>,
     pub last: RunEnd,
 }
 
-/// Makes the machine and the table of a run, and then the run; all its memory is taken before the first byte is written. `Err` is the status of a call that ends here:
-/// `Memory`, with nothing written, or `WriteFault`.
+/// Makes the machine and the table of requests, and then the run. It takes all memory before it writes the first byte.
+/// The error is the status of the call: `Memory` with nothing written, or `WriteFault`.
 fn run_loaded<'a, K: Sink>(
     alloc: Global,
     out: &mut K,
@@ -56,7 +56,8 @@ fn run_loaded<'a, K: Sink>(
     }
 }
 
-/// Makes a run and writes it; all its memory is taken before the first byte is written.
+/// Makes a run, and writes it in the form of `show`. Returns the status of the run, `WriteFault`, or `Memory`.
+/// All memory is taken before the first byte is written.
 pub fn write_run<K: Sink>(alloc: Global, out: &mut K, show: Show, loaded: &Loaded) -> Status
     requires { IsLoaded loaded.now.unit loaded.now.placement loaded.now.schedule }
     ensures { Delivers (writing K.written K.faults out.old out.new) (shown_record show loaded.now.unit.names (lines_of loaded.now)) (status_of (lines_of loaded.now)) result }
@@ -67,7 +68,9 @@ pub fn write_run<K: Sink>(alloc: Global, out: &mut K, show: Show, loaded: &Loade
     }
 }
 
-/// Makes a run, and writes where its objects stand at its end; all memory is taken before the first byte is written.
+/// Makes a run, and writes the status of each object at its end.
+/// Returns the status of the run, `WriteFault`, or `Memory`.
+/// All memory is taken before the first byte is written.
 pub fn write_why<K: Sink>(alloc: Global, out: &mut K, loaded: &Loaded) -> Status
     requires { IsLoaded loaded.now.unit loaded.now.placement loaded.now.schedule }
     ensures { Delivers (writing K.written K.faults out.old out.new) (run_text Show.Report loaded.now) (status_of (lines_of loaded.now)) result }
@@ -85,7 +88,7 @@ pub fn write_why<K: Sink>(alloc: Global, out: &mut K, loaded: &Loaded) -> Status
     }
 }
 
-/// The lines of the counts of a run.
+/// The lines of the counts of a run: events, transitions and moves. An error means out of memory.
 fn counts_of(alloc: Global, machine: &Machine<'_>) -> Result<Vec<u8>, AllocError>
     ensures { IfOk result (λ t. t.items ≡ counts_text machine.now.done machine.now.transitions machine.now.moves) }
 {
@@ -97,7 +100,7 @@ fn counts_of(alloc: Global, machine: &Machine<'_>) -> Result<Vec<u8>, AllocError
     Ok(text)
 }
 
-/// Writes the counts of a run that has ended, and the end line.
+/// Writes the counts of a finished run, and its end line.
 fn write_counts<K: Sink>(
     alloc: Global,
     machine: &Machine<'_>,
@@ -118,7 +121,8 @@ fn write_counts<K: Sink>(
     }
 }
 
-/// Makes a run, and writes its counts and its end line; all memory is taken before the first byte is written.
+/// Makes a run, and writes its counts and its end line. Returns the status of the run, `WriteFault`, or `Memory`.
+/// All memory is taken before the first byte is written.
 pub fn write_ring<K: Sink>(alloc: Global, out: &mut K, loaded: &Loaded) -> Status
     requires { IsLoaded loaded.now.unit loaded.now.placement loaded.now.schedule }
     ensures { Delivers (writing K.written K.faults out.old out.new) (ring_text loaded.now.unit.names (lines_of loaded.now)) (status_of (lines_of loaded.now)) result }

@@ -1,17 +1,17 @@
-//! How a call ends.
+//! The status of a call.
 ghost use Rattle.std.specs.Prelude.{◌≡◌};
 ghost use Rattle.run_loop.specs.Statuses.{code_of};
 
-/// How a call of `pool` ends.
+/// The status with which a call of `pool` ends.
 #[derive(Clone, Copy, Debug, PartialEq, Eq)]
 pub enum Status {
-    /// The run ended quiet; the text was written; the judged record is a run.
+    /// The run ended quiet, the text was written, or the checked record is a run.
     Done,
-    /// The run ended quiet, and an object met a language error; the judged record is no run.
+    /// The run ended quiet after a run-time error, or the checked record is not a run.
     DoneFaulted,
-    /// An input was refused; its name and its fault stand on `err`.
+    /// An input was rejected. `err` has the line with its name and its fault.
     Refused,
-    /// The schedule was over before the run was quiet.
+    /// The schedule ended before the run was quiet.
     ScheduleOver,
     /// A node was full.
     Full,
@@ -19,9 +19,9 @@ pub enum Status {
     ReadFault,
     /// A write failed.
     WriteFault,
-    /// Memory ran out before anything was written to `out`.
+    /// Out of memory, before anything was written to `out`.
     Memory,
-    /// The words are no command.
+    /// The arguments are not a command.
     Usage,
 }
 

@@ -1,4 +1,4 @@
-//! Laws of reports: each is the contract of a function that does nothing.
+//! Theorems about reports. Each is the contract of a function.
 ghost use Rattle.std.specs.Prelude.{List as ListOf, ℕ};
 ghost use Rattle.pool_syntax.specs.Terms.{ProgramTree};
 ghost use Rattle.pool_relation.specs.Action.{Object};
@@ -11,7 +11,7 @@ ghost use Rattle.run_loop.specs.Reports.{rows_of};
 
 use wait_report::theorems::cycles_are_all_and_no_other;
 
-/// The cycles that a report tells of a configuration are the cycles of calls in it: each is told, and no other.
+/// The report of `pool why` lists exactly the cycles of calls in a configuration.
 pub fn told_cycles_are_the_cycles_of_calls()
     ensures all { (p : ProgramTree) (c : Config Object) (d : Delay) (ns : ListOf ℕ) → IsCycle (called_by (terms p) c d) ns → Contained ns (cycles_in (rows_of p c d)) }
     ensures no_other { (p : ProgramTree) (c : Config Object) (d : Delay) (ns : ListOf ℕ) → Contained ns (cycles_in (rows_of p c d)) → IsCycle (called_by (terms p) c d) ns }

@@ -1,4 +1,4 @@
-//! The report of where the objects stand at the end of a run.
+//! The report of `pool why`: the status of each object at the end of a run.
 ghost use Rattle.std.specs.Prelude.{◌≡◌, ◌<◌, ◌≤◌, ◌+◌, ◌*◌, ◌++◌, IfOk, OnOk};
 ghost use Rattle.mesh_semantics.specs.Config.{Config};
 ghost use Rattle.mesh_semantics.specs.Delay.{Delay};
@@ -21,7 +21,7 @@ use run_types::{Line, List, Names, Placement, object_name};
 use std::alloc::{AllocError, Global};
 use wait_report::{ObjectRow, ReportFault, report};
 
-/// The row of the object of a name. None where no object has the name.
+/// The row of the object with this name. None if no object has the name.
 fn row_at(machine: &Machine<'_>, name: u32) -> Option<ObjectRow>
     ensures { (c : Config Placed) (d : Delay) → MachineRepresents machine.now c d → result ≡ row_at machine.now.unit c d name }
 {
@@ -38,7 +38,7 @@ fn row_at(machine: &Machine<'_>, name: u32) -> Option<ObjectRow>
     }
 }
 
-/// Puts the rows of a node's objects, by rising slot, behind those of the nodes below it.
+/// Appends the rows of a node's objects, by rising slot, after the rows of lower nodes. An error means out of memory.
 fn push_rows(rows: &mut List<ObjectRow>, machine: &Machine<'_>, node: u32) -> Result<(), AllocError>
     requires mesh { node < machine.now.placement.width * machine.now.placement.height }
     requires few { node < 64 }
@@ -57,7 +57,7 @@ fn push_rows(rows: &mut List<ObjectRow>, machine: &Machine<'_>, node: u32) -> Re
     Ok(())
 }
 
-/// The rows of all objects, by rising names.
+/// The rows of all objects, by rising names. An error means out of memory.
 fn rows_in(
     alloc: Global,
     machine: &Machine<'_>,
@@ -78,7 +78,9 @@ fn rows_in(
     Ok(rows)
 }
 
-/// Writes the report of where the objects of a machine stand, and then the end line. All memory of the report is taken before the first byte is written.
+/// Writes the status of each object of a machine, and then the
+/// end line. Requires a machine that represents a configuration.
+/// Returns the status of the run, `WriteFault`, or `Memory`. All memory is taken before the first byte is written.
 pub fn write_report<K: Sink>(
     alloc: Global,
     machine: &Machine<'_>,

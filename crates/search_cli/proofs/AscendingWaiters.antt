@@ -1,4 +1,4 @@
--- Where the objects are in order, the names of those that wait rise.
+-- If the objects are in order, the names of those that wait rise.
 use Rattle.std.proofs.Common.{◌≡◌, ◌<◌, ℕ, zero, suc, List, [], ◌∷◌, length, get_or, Option, Some, None, Bool, IsTrue, refl, sym, ap, arith}
 use Rattle.std.specs.Ordering.{nat_cmp, is_lt}
 use Rattle.std.specs.FinMap.Entries.{is_sorted, below_all}

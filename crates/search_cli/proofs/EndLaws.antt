@@ -1,4 +1,4 @@
--- How a call ends: what came of the program, and what was written of it.
+-- How a call ends follows from the result for its program and from the text that was written.
 use Rattle.std.proofs.Common.{◌≡◌, ◌∙◌, ◌⊎◌, inl, inr, ◌≤◌, ℕ, length, Option, Some, None, Ok, Err, refl, sym, ap, subst, arith}
 use Rattle.pool_outside.specs.Outside.{Rose}
 use Rattle.text_scan.specs.Text.{Text}

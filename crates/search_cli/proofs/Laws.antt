@@ -1,2 +1,2 @@
--- The lemmas that crates above may cite.
+-- The lemmas that other crates may cite.
 pub use Rattle.search_cli.proofs.AscendingWaiters.{waiting_rise}

@@ -1,4 +1,4 @@
--- Labels that lead from the start to a configuration, made one after another.
+-- A run of labels from the start, one label at a time.
 use Rattle.std.proofs.Common.{◌≡◌, ◌∙◌, ◌<◌, ◌≤◌, ◌+◌, ℕ, List, ◌∷◌, length, drop, get_or, Option, Some, None, refl, sym, ap}
 use Rattle.std.proofs.lemmas.List.{drop_all, drop_more}
 use Rattle.run_types.specs.declared.types.Label.{Label}

@@ -1,4 +1,4 @@
--- Steps from a label on.
+-- The steps of a run from a label on.
 use Rattle.std.proofs.Common.{◌≡◌, ◌∙◌, ◌<◌, ◌≤◌, ℕ, suc, ◌+◌, List, [], ◌∷◌, ◌++◌, append_assoc, drop, length, get_or, length-drop, Option, Some, None, Bool, true, false, refl, sym, ap, arith}
 use Rattle.std.proofs.lemmas.List.{drop-drop, drop_more}
 use Rattle.text_scan.specs.Text.{Text}

@@ -1,4 +1,4 @@
--- The text of what a search answers.
+-- The text of the result of a search; steps are written as in a record.
 use Rattle.std.specs.Prelude.{ℕ, List, [], ◌∷◌, ◌++◌, codes, decimal}
 use Rattle.text_scan.specs.Text.{Text}
 use Rattle.run_types.specs.declared.types.Label.{Label}
@@ -7,7 +7,7 @@ use Rattle.wait_report.specs.declared.rows.ObjectRow.{ObjectRow}
 use Rattle.wait_report.specs.Report.{cycles_in, cycles_text, line, standing_words}
 use Rattle.search_cli.specs.Steps.{other_than_local, steps}
 
--- a step: its transition as a record shows it, with how often it comes
+-- a step: its transition as in a record, with the number of times it is made
 abbrev pub step_line : List Text → Label × ℕ → Text
 step_line names s = line (codes "step" ∷ label_words names s.0 s.1)
 
@@ -15,7 +15,7 @@ abbrev pub steps_text : List Text → List (Label × ℕ) → Text
 steps_text names [] = []
 steps_text names (s ∷ rest) = step_line names s ++ steps_text names rest
 
--- an object that waits: its name, its class, and where it stands
+-- an object that waits: its name, its class and its status
 abbrev pub waits_line : List Text → ObjectRow → Text
 waits_line names r = line (codes "waits" ∷ object_text r.name ∷ text_at names r.class ∷ standing_words names r.standing)
 
@@ -23,23 +23,24 @@ abbrev pub waits_text : List Text → List ObjectRow → Text
 waits_text names [] = []
 waits_text names (r ∷ rows) = waits_line names r ++ waits_text names rows
 
--- how a search ends, with a number
+-- the end of a search, with a number
 abbrev pub end_line : Text → ℕ → Text
 end_line word n = line (codes "end" ∷ word ∷ decimal n ∷ [])
 
--- a run that gets stuck, who waits where it does, each cycle of objects that each call the next, and how many of its transitions are not local
+-- a run that gets stuck: its steps, the objects that wait at its end,
+-- the cycles of calls, and the number of transitions that are not local
 abbrev pub stuck_text : List Text → List Label → List ObjectRow → Text
 stuck_text names ls rows =
     steps_text names (steps ls) ++ (waits_text names rows ++ (cycles_text (cycles_in rows) ++ end_line (codes "stuck") (other_than_local ls)))
 
--- a run that meets a language error, and how many of its transitions are not local
+-- a run that meets a run-time error, and the number of its transitions that are not local
 abbrev pub fault_text : List Text → List Label → Text
 fault_text names ls = steps_text names (steps ls) ++ end_line (codes "fault") (other_than_local ls)
 
--- no run gets stuck or meets an error, after so many configurations
+-- no run leads to such a configuration, and the search kept this number of configurations
 abbrev pub finite_text : ℕ → Text
 finite_text kept = end_line (codes "finite") kept
 
--- so many configurations were looked at, and there may be more
+-- the search met a bound after this number of configurations
 abbrev pub over_text : ℕ → Text
 over_text kept = end_line (codes "over") kept

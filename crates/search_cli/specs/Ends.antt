@@ -1,4 +1,4 @@
--- How a call of `search_command` ends: what came of its program, and what was written.
+-- How a call of `search_command` ends: the state of its program file, and the text on its two sinks.
 use Rattle.std.specs.Prelude.{◌≡◌, ◌+◌, ◌≤◌, length, Option, Some, None, codes}
 use Rattle.pool_outside.specs.Outside.{Rose}
 use Rattle.text_scan.specs.Text.{Text}
@@ -18,15 +18,15 @@ use Rattle.search_cli.specs.Words.{Search}
 abbrev pub usage_line : Text
 usage_line = codes "usage: search [stuck|fault] [all] P N\n"
 
--- the program was opened, once, and nothing else was
+-- the program was opened, once, and no other file
 abbrev pub IsOpened : Reading → Type 0
 IsOpened k = k.opened ≡ k.opens + 1
 
--- where the program was opened, no more than its limit and one read was given
+-- if the program was opened, it has given at most its limit and one read
 abbrev pub StaysWithin : Reading → Type 0
 StaysWithin k = IsOpened k → k.given ≤ limit_of I.Program + one_read
 
--- The program was read to its end, no read failed, and this is answered of it.
+-- The program was read to its end, no read failed, and this is the answer for it.
 pub record IsAnswered (k : Reading) (s : Search) (a : Answer) : Type 0 where
   pub source : Text
   pub opened : IsOpened k
@@ -34,32 +34,32 @@ pub record IsAnswered (k : Reading) (s : Search) (a : Answer) : Type 0 where
   pub calm : AllRead k
   pub answer : IsAnswerOn s.question source a
 
--- the words are those of no search, and nothing was opened
+-- the arguments are not a search, and nothing was opened
 pub record IsNoSearch (k : Reading) (words : Option Search) : Type 0 where
   pub none : words ≡ None
   pub opened : k.opened ≡ k.opens
   pub calm : AllRead k
 
--- the program was opened, it is not accepted and has this fault, and no read failed
+-- the program was opened and is not accepted; it has this fault, and no read failed
 pub record IsRefused (k : Reading) (s : Search) (fault : Fault) : Type 0 where
   pub opened : IsOpened k
   pub why : Stops k I.Program s.name IsTypedProgram HasTypedFault fault
   pub calm : AllRead k
 
--- the open or a read of the program failed, and no more than its limit was given
+-- the open or a read of the program failed, after at most its limit was given
 pub record IsUnread (k : Reading) : Type 0 where
   pub opened : IsOpened k
   pub rose : Rose k.faults k.failed
   pub within : k.given ≤ limit_of I.Program
 
--- A line for the error sink, and the status with which it is written.
+-- A line for the error sink, its cause, and the status with which it is written.
 pub data Says (k : Reading) (words : Option Search) (line : Text) (status : Status) : Type 0 where
   usage : IsNoSearch k words → line ≡ usage_line → status ≡ S.Usage → Says k words line status
   refusal : (s : Search) (fault : Fault) → words ≡ Some s → IsRefused k s fault → line ≡ refusal_line I.Program fault → status ≡ S.Refused → Says k words line status
   unread : (s : Search) → words ≡ Some s → IsUnread k → line ≡ unread_line I.Program → status ≡ S.ReadFault → Says k words line status
 
--- How a call ends. The answer was written whole on the output; or a line on the error sink, and nothing on the output; or one of the two was cut off by a failed write; or
--- memory ran out before anything was written.
+-- How a call ends. Either the answer was written whole, or a line was written to the error sink and no answer.
+-- Or a failed write cut one of the two off. Or memory ran out before anything was written.
 pub data Ends (words : Option Search) (files : Reading) (out err : Writing) (status : Status) : Type 0 where
   whole : (s : Search) (a : Answer) → words ≡ Some s → IsAnswered files s a → status ≡ a.status → Wrote out a.text.items → IsIdle err → Ends words files out err status
   said : (line : Text) → Says files words line status → Wrote err line → IsIdle out → Ends words files out err status
@@ -67,7 +67,7 @@ pub data Ends (words : Option Search) (files : Reading) (out err : Writing) (sta
   line_cut : (line : Text) (planned : Status) → Says files words line planned → WroteFront err line → IsIdle out → status ≡ S.WriteFault → Ends words files out err status
   no_memory : IsIdle out → IsIdle err → status ≡ S.Memory → Ends words files out err status
 
--- under the name a text is told that is within the limit, and a program without class faults
+-- the named file has a text within the limit, which is a program without class faults
 pub record IsServed (told : Told) (s : Search) : Type 0 where
   pub text : Text
   pub is : told s.name ≡ Some text

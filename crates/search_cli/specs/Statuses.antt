@@ -1,4 +1,4 @@
--- The exit statuses.
+-- The exit status of the process for each status of a search.
 use Rattle.std.specs.Prelude.{ℕ}
 use Rattle.search_cli.specs.declared.status.Status.{Status}
 use Rattle.search_cli.specs.declared.status.Status.TheVariants as S

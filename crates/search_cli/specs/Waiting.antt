@@ -1,4 +1,5 @@
--- Who waits where nothing can go on: each object that is in a call or is to make one; and, where all are asked for, each that is at an answer or a select.
+-- The objects that wait in a configuration: those in a call or
+-- before a call; with `all`, also those at `answer` or `select`.
 use Rattle.std.specs.Prelude.{ℕ, List, filter_map, Option, Some, None, option_map, Bool, true, false}
 use Rattle.pool_syntax.specs.Terms.{ProgramTree}
 use Rattle.run_types.specs.declared.types.Error.{Error}
@@ -9,7 +10,7 @@ use Rattle.pool_relation.specs.Action.{Object, Action, action}
 use Rattle.pool_relation.specs.Configuration.{Configuration}
 use Rattle.wait_report.specs.declared.rows.ObjectRow.{ObjectRow}
 
--- where an object with this action waits, if it does: in a call that it is in or is to make; or, where all are asked for, at an answer or a select
+-- the status of an object with this action, if it waits
 abbrev pub waiting_at : Bool → Action → Option Standing
 waiting_at all A.Finished = None
 waiting_at all (A.Local term vars) = None
@@ -26,12 +27,12 @@ waiting_at all (A.Return k v) = None
 waiting_at all (A.Waits b m) = Some (Z.Calls b (record { 0 = m }))
 waiting_at all A.Stuck = None
 
--- an object that has met an error waits for nothing
+-- an object with a run-time error does not wait
 abbrev pub waiting_now : Bool → Option Error → Action → Option Standing
 waiting_now all (Some e) a = None
 waiting_now all None a = waiting_at all a
 
--- the row of an object that waits
+-- the row of an object, if it waits
 abbrev pub waiting_row : Bool → ProgramTree → ℕ × Object → Option ObjectRow
 waiting_row all p e =
     option_map (λ s. record { name = e.0; class = record { 0 = e.1.class }; standing = s }) (waiting_now all e.1.fault (action p e.0 e.1))
@@ -39,6 +40,6 @@ waiting_row all p e =
 abbrev pub waiting_in : Bool → ProgramTree → List (ℕ × Object) → List ObjectRow
 waiting_in all p es = filter_map (waiting_row all p) es
 
--- the rows of those that wait in a configuration, by rising names
+-- the rows of the objects that wait in a configuration, by rising names
 abbrev pub waiting_rows : Bool → ProgramTree → Configuration → List ObjectRow
 waiting_rows all p c = waiting_in all p c.objects

@@ -1,4 +1,4 @@
-//! What a search answers, as text.
+//! The text of the result of a search.
 ghost use Rattle.std.specs.Prelude.{◌≡◌, ◌++◌, IfOk, OnOk};
 ghost use Rattle.search_cli.specs.AnswerText.{end_line, fault_text, finite_text, over_text, stuck_text, waits_line, waits_text};
 ghost use Rattle.wait_report.specs.Calls.{names_of, Rising};
@@ -9,7 +9,7 @@ use run_types::{Label, Names};
 use std::alloc::{AllocError, Global};
 use wait_report::{ObjectRow, put_each_cycle, put_row};
 
-/// Puts the line of an object that waits.
+/// Appends the line of an object that waits.
 fn push_waits(text: &mut Vec<u8>, names: &Names, row: &ObjectRow) -> Result<(), AllocError>
     ensures { OnOk result (text.new.items ≡ text.old.items ++ waits_line names.now row.now) }
 {
@@ -17,7 +17,7 @@ fn push_waits(text: &mut Vec<u8>, names: &Names, row: &ObjectRow) -> Result<(), 
     put_row(text, names, row)
 }
 
-/// Puts the lines of the objects that wait.
+/// Appends the lines of the objects that wait.
 fn push_waiting(text: &mut Vec<u8>, names: &Names, rows: &[ObjectRow]) -> Result<(), AllocError>
     ensures { OnOk result (text.new.items ≡ text.old.items ++ waits_text names.now rows.now) }
 {
@@ -27,7 +27,7 @@ fn push_waiting(text: &mut Vec<u8>, names: &Names, rows: &[ObjectRow]) -> Result
     Ok(())
 }
 
-/// Puts the line that tells how a search ends.
+/// Appends the end line, with its keyword and its number.
 fn push_end(text: &mut Vec<u8>, word: &[u8], count: usize) -> Result<(), AllocError>
     ensures { OnOk result (text.new.items ≡ text.old.items ++ end_line word.now count) }
 {
@@ -37,7 +37,9 @@ fn push_end(text: &mut Vec<u8>, word: &[u8], count: usize) -> Result<(), AllocEr
     text.extend_from_slice(b"\n")
 }
 
-/// The text of a run that gets stuck, with the objects that wait there.
+/// The text of a run that gets stuck: its steps, the objects
+/// that wait at its end, the cycles of calls, and the end line.
+/// Requires rows with rising names. An error means out of memory.
 pub fn stuck_text(
     alloc: Global,
     names: &Names,
@@ -55,7 +57,7 @@ pub fn stuck_text(
     Ok(text)
 }
 
-/// The text of a run that meets a language error.
+/// The text of a run that meets a run-time error: its steps, and the end line. An error means out of memory.
 pub fn fault_text(alloc: Global, names: &Names, labels: &[Label]) -> Result<Vec<u8>, AllocError>
     ensures { IfOk result (λ text. text.items ≡ fault_text names.now labels.now) }
 {
@@ -65,7 +67,8 @@ pub fn fault_text(alloc: Global, names: &Names, labels: &[Label]) -> Result<Vec<
     Ok(text)
 }
 
-/// The text where no run gets stuck or meets an error, after so many configurations.
+/// The text of a complete search without such a run. `kept` is
+/// the number of configurations. An error means out of memory.
 pub fn finite_text(alloc: Global, kept: usize) -> Result<Vec<u8>, AllocError>
     ensures { IfOk result (λ text. text.items ≡ finite_text kept) }
 {
@@ -74,7 +77,7 @@ pub fn finite_text(alloc: Global, kept: usize) -> Result<Vec<u8>, AllocError>
     Ok(text)
 }
 
-/// The text where so many configurations were looked at, and there may be more.
+/// The text of a search that met a bound. `kept` is the number of configurations. An error means out of memory.
 pub fn over_text(alloc: Global, kept: usize) -> Result<Vec<u8>, AllocError>
     ensures { IfOk result (λ text. text.items ≡ over_text kept) }
 {

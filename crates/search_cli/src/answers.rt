@@ -1,4 +1,4 @@
-//! What is answered of a program.
+//! Searches a program, and makes the answer.
 ghost use Rattle.pool_outside.specs.Reading.{reading};
 ghost use Rattle.std.specs.Prelude.{◌≡◌, ◌+◌, ◌-◌, ◌^◌, ◌<◌, ◌≤◌, IfOk, IsTrue};
 ghost use Rattle.pool_syntax.specs.TreeOf.{program_of};
@@ -20,14 +20,14 @@ use pool_search::{Query, SearchResult, search};
 use run_types::{Label, Names};
 use std::alloc::{AllocError, Global};
 
-/// The text of an answer, and the status with which it is written.
+/// The text of a search's result, and the status with which it is written.
 #[derive(Drop)]
 pub struct Answer {
     pub text: Vec<u8>,
     pub status: Status,
 }
 
-/// The answer of a run that gets stuck, with those that wait where it does.
+/// The answer for a run that gets stuck, with the objects that wait at its end. An error means out of memory.
 fn stuck_answer(
     alloc: Global,
     program: &Checked<'_>,
@@ -47,7 +47,7 @@ fn stuck_answer(
     })
 }
 
-/// What a search of the program answers.
+/// Searches the program, and returns the answer. An error means out of memory.
 fn answer_of(
     alloc: Global,
     program: &Checked<'_>,
@@ -74,7 +74,8 @@ fn answer_of(
     }
 }
 
-/// Reads the program of a name, judges it, and searches it.
+/// Reads a program, checks its classes, and searches it. Requires that the file may be opened.
+/// Reports the first fault of the text or of its classes, a failed read, or out of memory.
 pub fn make_answer<F: Files>(
     alloc: Global,
     files: &mut F,

@@ -29,7 +29,7 @@ use std::alloc::Global;
 use std::env;
 use std::process::ExitCode;
 
-/// Runs the search of these words, and gives the exit status of the process.
+/// Runs the search of these arguments. Returns the exit status of the process.
 fn run<F: Files, K: Sink, E: Sink>(
     alloc: Global,
     words: &[String],
@@ -41,18 +41,20 @@ fn run<F: Files, K: Sink, E: Sink>(
     requires countable { F.opens files.old < 2 ^ 64 - 1 }
     requires allowed { IfSome (search_of (texts_of words.now)) (λ s. IsTrue (F.may files.old (F.opens files.old) s.name)) }
 
-    // The number is that of the status with which the call ends: each end has its cause, and what stands on the two sinks.
+    // The exit status is the number of the status with which the
+    // call ends. Each has its cause, and the text on both sinks.
     ensures ends { (status : Status) × (exit_status result ≡ code_of status) × Ends (search_of (texts_of words.now))
         (reading F.told F.opens F.given F.live F.faults files.old files.new)
         (writing K.written K.faults out.old out.new)
         (writing E.written E.faults err.old err.new)
         status }
 
-    // Of the program no more than its limit and one read was given.
+    // The program has given at most its limit and one read.
     ensures stops_reading { StaysWithin
         (reading F.told F.opens F.given F.live F.faults files.old files.new) }
 
-    // Words of a search, an accepted program and no fault in this call give an answer whole, or nothing for want of memory.
+    // If the arguments are a search, the program is accepted, and no read or
+    // write failed in this call, the whole answer was written, or memory ran out.
     ensures complete { (s : Search) → search_of (texts_of words.now) ≡ Some s → IsServed (F.told files.old) s
         → ¬ (Rose (F.faults files.old) (F.faults files.new)) → ¬ (Rose (K.faults out.old) (K.faults out.new)) → ¬ (Rose (E.faults err.old) (E.faults err.new))
         → ((status : Status) × WholeTextWritten status × (exit_status result ≡ code_of status)) ⊎ (exit_status result ≡ 7) }

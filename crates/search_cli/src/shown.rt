@@ -1,4 +1,4 @@
-//! The configuration to which a run leads.
+//! The configuration at the end of a run.
 ghost use Rattle.std.specs.Prelude.{◌≡◌, IfOk};
 ghost use Rattle.pool_syntax.specs.TreeOf.{program_of};
 ghost use Rattle.pool_search.specs.SearchTargets.{LeadsTo};
@@ -10,7 +10,8 @@ use pool_semantics::{Plain, Refuse};
 use run_types::Label;
 use std::alloc::{AllocError, Global};
 
-/// Makes the run of these labels from the start of the program.
+/// Makes the transitions of these labels from the start of the program. Requires that each is possible.
+/// An error means out of memory.
 pub fn replay<'a>(
     alloc: Global,
     program: &Checked<'a>,

@@ -1,25 +1,25 @@
-//! How a call ends.
+//! The status of a call.
 ghost use Rattle.std.specs.Prelude.{◌≡◌};
 ghost use Rattle.search_cli.specs.Statuses.{code_of};
 
-/// How a call of `search_command` ends.
+/// The status with which a call of `search_command` ends.
 #[derive(Clone, Copy, Debug, PartialEq, Eq)]
 pub enum Status {
-    /// No run leads to what is looked for.
+    /// No run leads to a configuration that the search looks for.
     Finite,
-    /// A run that leads there stands on the output.
+    /// The output has a run that leads to such a configuration.
     Shown,
-    /// The program was refused; its fault stands on `err`.
+    /// The program was rejected. `err` has its fault.
     Refused,
-    /// As many configurations were kept as were allowed, and there are more; or objects go on without end on their own.
+    /// The search met a bound: on kept configurations, on transitions without a choice, or on numbers of 32 bits.
     Over,
     /// A read failed.
     ReadFault,
     /// A write failed.
     WriteFault,
-    /// Memory ran out before anything was written.
+    /// Out of memory, before anything was written.
     Memory,
-    /// The words are those of no search.
+    /// The arguments are not a search.
     Usage,
 }
 

@@ -1,4 +1,4 @@
-//! The steps of a run.
+//! The lines of the steps of a run.
 ghost use Rattle.std.specs.Prelude.{◌≡◌, ◌<◌, ◌≤◌, [], ◌∷◌, ◌++◌, length, OnOk, map};
 ghost use Rattle.record_writer.specs.RecordText.{label_words, led, object_text, text_at, value_text};
 ghost use Rattle.search_cli.specs.AnswerText.{step_line, steps_text};
@@ -12,7 +12,7 @@ use record_writer::{
 use run_types::{Args, Label, NameId, Names};
 use std::alloc::AllocError;
 
-/// Puts a word and two objects' names.
+/// Appends a keyword and the names of two objects.
 fn push_pair(text: &mut Vec<u8>, word: &[u8], one: u32, other: u32) -> Result<(), AllocError>
     ensures { OnOk result (text.new.items ≡ text.old.items ++ led (word.now ∷ object_text one ∷ object_text other ∷ [])) }
 {
@@ -21,7 +21,7 @@ fn push_pair(text: &mut Vec<u8>, word: &[u8], one: u32, other: u32) -> Result<()
     push_object(text, other)
 }
 
-/// Puts a message: a word, two objects' names, a method and its arguments.
+/// Appends a message: a keyword, the names of two objects, a method and its arguments.
 fn push_message(
     text: &mut Vec<u8>,
     names: &Names,
@@ -38,7 +38,7 @@ fn push_message(
     push_args(text, args)
 }
 
-/// Puts a word and an object's name.
+/// Appends a keyword and the name of an object.
 fn push_about(text: &mut Vec<u8>, word: &[u8], object: u32) -> Result<(), AllocError>
     ensures { OnOk result (text.new.items ≡ text.old.items ++ led (word.now ∷ object_text object ∷ [])) }
 {
@@ -46,7 +46,7 @@ fn push_about(text: &mut Vec<u8>, word: &[u8], object: u32) -> Result<(), AllocE
     push_object(text, object)
 }
 
-/// Puts a transition as a record shows it, with how often it comes.
+/// Appends a transition in the words of a record, with the number of times it is made.
 fn push_label(
     text: &mut Vec<u8>,
     names: &Names,
@@ -109,7 +109,7 @@ fn push_label(
     }
 }
 
-/// Puts the line of a step.
+/// Appends the line of a step.
 fn push_step(
     text: &mut Vec<u8>,
     names: &Names,
@@ -123,7 +123,7 @@ fn push_step(
     text.extend_from_slice(b"\n")
 }
 
-/// The object of a local transition.
+/// The object of a local transition. None for other labels.
 fn local_of(label: &Label) -> Option<u32>
     ensures { result ≡ local_of label.now }
 {
@@ -145,7 +145,7 @@ fn is_same_object(one: Option<u32>, other: Option<u32>) -> bool
     }
 }
 
-/// How many local transitions of this object come first.
+/// The number of local transitions of this object at the front of the labels.
 fn leading_locals(object: Option<u32>, labels: &[Label]) -> usize
     ensures count { result ≡ leading_locals object labels.now }
     ensures within { result ≤ length labels.now }
@@ -160,7 +160,7 @@ fn leading_locals(object: Option<u32>, labels: &[Label]) -> usize
     count
 }
 
-/// Puts the lines of the steps of a run.
+/// Appends the lines of the steps of a run. Local transitions of one object in a row share a line.
 pub fn push_steps(text: &mut Vec<u8>, names: &Names, labels: &[Label]) -> Result<(), AllocError>
     ensures { OnOk result (text.new.items ≡ text.old.items ++ steps_text names.now (steps labels.now)) }
 {
@@ -174,7 +174,7 @@ pub fn push_steps(text: &mut Vec<u8>, names: &Names, labels: &[Label]) -> Result
     Ok(())
 }
 
-/// How many of the labels are not local transitions.
+/// The number of labels that are not local transitions.
 pub fn other_than_local(labels: &[Label]) -> usize
     ensures { result ≡ other_than_local labels.now }
 {

@@ -1,4 +1,4 @@
-//! The top call.
+//! The top-level function.
 ghost use Rattle.pool_outside.specs.Reading.{reading};
 ghost use Rattle.pool_outside.specs.Writing.{writing};
 ghost use Rattle.std.specs.Prelude.{◌≡◌, ◌⊎◌, ◌-◌, ◌^◌, ◌<◌, Some, false, Result, Err, IfSome, IsTrue};
@@ -19,7 +19,7 @@ use std::alloc::Global;
 /// The usage line.
 const USAGE: &[u8] = b"usage: search [stuck|fault] [all] P N\n";
 
-/// Writes a piece, and answers the status, or that a write failed.
+/// Writes a text. Returns the status, or `WriteFault` if the write fails.
 fn say<K: Sink>(sink: &mut K, piece: &[u8], status: Status) -> Status
     ensures { Writes (writing K.written K.faults sink.old sink.new) piece.now status result }
 {
@@ -29,7 +29,7 @@ fn say<K: Sink>(sink: &mut K, piece: &[u8], status: Status) -> Status
     }
 }
 
-/// Writes on the error sink why nothing is answered.
+/// Writes the line of an input error to `err`. Writes nothing if the error is out of memory.
 fn say_stop<E: Sink>(alloc: Global, err: &mut E, stop: InputError) -> Status
     ensures { ReportsInputError (writing E.written E.faults err.old err.new) stop result }
 {
@@ -46,7 +46,9 @@ fn say_stop<E: Sink>(alloc: Global, err: &mut E, stop: InputError) -> Status
     }
 }
 
-/// Searches all runs of a program: the words after the program's name, the files that it may read, and the sinks for its answer and its error line.
+/// Searches all runs of a program. `words` are the arguments without the program's name.
+/// `files` are the files that the search may read. The answer goes to `out`, and a line for an error goes to `err`.
+/// Requires that no file is open, that fewer than 2^64 - 1 were opened before, and that the program may be opened.
 pub fn search_command<F: Files, K: Sink, E: Sink>(
     alloc: Global,
     words: &[String],
@@ -58,18 +60,19 @@ pub fn search_command<F: Files, K: Sink, E: Sink>(
     requires countable { F.opens files.old < 2 ^ 64 - 1 }
     requires allowed { IfSome (search_of (texts_of words.now)) (λ s. IsTrue (F.may files.old (F.opens files.old) s.name)) }
 
-    // The call ends in one of the ways that the definition lists, each with its cause, and with what stands on the two sinks.
+    // The call ends in one of the ways that the definition lists. Each has its cause, and the text on both sinks.
     ensures ends { Ends (search_of (texts_of words.now))
         (reading F.told F.opens F.given F.live F.faults files.old files.new)
         (writing K.written K.faults out.old out.new)
         (writing E.written E.faults err.old err.new)
         result }
 
-    // Of the program no more than its limit and one read was given.
+    // The program has given at most its limit and one read.
     ensures stops_reading { StaysWithin
         (reading F.told F.opens F.given F.live F.faults files.old files.new) }
 
-    // Words of a search, an accepted program and no fault in this call give an answer whole, or nothing for want of memory.
+    // If the arguments are a search, the program is accepted, and no read or
+    // write failed in this call, the whole answer was written, or memory ran out.
     ensures complete { (s : Search) → search_of (texts_of words.now) ≡ Some s → IsServed (F.told files.old) s
         → ¬ (Rose (F.faults files.old) (F.faults files.new)) → ¬ (Rose (K.faults out.old) (K.faults out.new)) → ¬ (Rose (E.faults err.old) (E.faults err.new))
         → WholeTextWritten result ⊎ (result ≡ Status.Memory) }

@@ -1,4 +1,4 @@
-//! Who waits.
+//! The objects that wait in a configuration.
 ghost use Rattle.std.specs.Prelude.{◌≡◌, ◌++◌, IfOk, OnOk, option_map};
 ghost use Rattle.pool_syntax.specs.TreeOf.{program_of};
 ghost use Rattle.stepper_objects.specs.ObjectStates.{thing_object, things};
@@ -16,7 +16,8 @@ use stepper_objects::act::Act;
 use stepper_objects::object_state::ObjectState;
 use wait_report::ObjectRow;
 
-/// Where an object of this name waits, if it does: in a call that it is in or is to make, or, where `all` are asked for, at an answer or a select.
+/// The status of an object that waits. It waits in a call, or at a call that it is to make.
+/// With `all`, it also waits at `answer` or `select`. None for other objects, and after a run-time error.
 fn standing<'a>(
     all: bool,
     program: &'a Program,
@@ -43,7 +44,7 @@ fn standing<'a>(
     }
 }
 
-/// The row of an object of this name, if it waits.
+/// The row of an object, if it waits.
 fn waiting_row<'a>(
     all: bool,
     program: &'a Program,
@@ -79,7 +80,8 @@ fn waiting_in<'a>(
     Ok(rows)
 }
 
-/// The rows of the objects that wait in a call or, where `all` are asked for, at an answer or a select; by rising names.
+/// The rows of the objects that wait, by rising names. With `all`, also of those at `answer` or `select`.
+/// An error means out of memory.
 pub fn waiting_rows(
     alloc: Global,
     plain: &Plain<'_>,

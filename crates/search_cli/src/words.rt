@@ -1,4 +1,4 @@
-//! The words of a search.
+//! Reads the arguments of a search.
 ghost use Rattle.std.specs.Prelude.{◌≡◌, [], ◌∷◌, option_map};
 ghost use Rattle.text_scan.specs.Lines.{decimal_of};
 ghost use Rattle.search_cli.specs.Words.{is_dashed, most_of, search_for, search_of, texts_of, wanted_of};
@@ -7,19 +7,19 @@ ghost use Rattle.search_cli.specs.AskedSearch.{search};
 use pool_search::{Query, Target};
 use text_scan::{Decimal, decimal};
 
-/// The fewest and the most configurations that may be kept.
+/// The smallest and the largest bound on the number of kept configurations.
 const FEWEST: u64 = 1;
 
 const MOST: u64 = 10_000_000;
 
-/// What is asked of the program of a name.
+/// A query, and the file name of the program.
 #[derive(Clone, Copy)]
 pub struct Asked<'a> {
     pub question: Query,
     pub name: &'a str,
 }
 
-/// Whether a word begins with `-`.
+/// Whether an argument begins with `-`.
 fn is_dashed(word: &str) -> bool
     ensures { result ≡ is_dashed word.now }
 {
@@ -29,7 +29,7 @@ fn is_dashed(word: &str) -> bool
     }
 }
 
-/// What a search looks for.
+/// The kind of run that the search looks for. None for other arguments.
 fn wanted_of(word: &str) -> Option<Target>
     ensures { result ≡ wanted_of word.now }
 {
@@ -40,7 +40,7 @@ fn wanted_of(word: &str) -> Option<Target>
     }
 }
 
-/// How many configurations may be kept.
+/// The bound on the number of kept configurations. None if the argument is not a number from 1 to 10,000,000.
 fn most_of(word: &str) -> Option<u32>
     ensures { result ≡ most_of (decimal_of word.now) }
 {
@@ -57,7 +57,7 @@ fn most_of(word: &str) -> Option<u32>
     }
 }
 
-/// The search for this of the program of a name, where the other word is a number.
+/// The search for this kind of run. None if the name begins with `-` or the other argument is not a bound.
 fn search_for<'a>(wanted: Target, all: bool, name: &'a str, word: &str) -> Option<Asked<'a>>
     ensures { option_map search result ≡ search_for wanted all name.entry.now word.now }
 {
@@ -73,7 +73,7 @@ fn search_for<'a>(wanted: Target, all: bool, name: &'a str, word: &str) -> Optio
     }
 }
 
-/// The search of three words: the first of them asks for all, or for one thing.
+/// The search of three arguments: `all` or a kind of run, and then a name and a bound.
 fn search_of_three<'a>(first: &str, name: &'a str, word: &str) -> Option<Asked<'a>>
     ensures { option_map search result ≡ search_of (first.now ∷ name.entry.now ∷ word.now ∷ []) }
 {
@@ -86,7 +86,7 @@ fn search_of_three<'a>(first: &str, name: &'a str, word: &str) -> Option<Asked<'
     }
 }
 
-/// The search of four words: one thing is asked for, and all.
+/// The search of four arguments: a kind of run, `all`, a name and a bound.
 fn search_of_four<'a>(first: &str, second: &str, name: &'a str, word: &str) -> Option<Asked<'a>>
     ensures { option_map search result ≡ search_of (first.now ∷ second.now ∷ name.entry.now ∷ word.now ∷ []) }
 {
@@ -99,7 +99,7 @@ fn search_of_four<'a>(first: &str, second: &str, name: &'a str, word: &str) -> O
     }
 }
 
-/// The search of the words, where they are those of one.
+/// The search of the arguments. None if they are not a search.
 pub fn read_words<'a>(words: &'a [String]) -> Option<Asked<'a>>
     ensures { option_map search result ≡ search_of (texts_of words.now) }
 {

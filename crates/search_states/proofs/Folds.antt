@@ -1,4 +1,4 @@
--- Functions that read a list item by item: of a copy, and of two lists that are compared.
+-- One step of the loops that copy a list, and of the loops that compare two lists.
 use Rattle.std.proofs.Common.{◌≡◌, ℕ, ◌+◌, ◌<◌, List, [], ◌∷◌, ◌++◌, length, get_or, drop, sym, ap, ap₂, ◌∙◌}
 use Rattle.std.proofs.lemmas.List.{drop_more}
 

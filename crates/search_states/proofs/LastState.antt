@@ -1,4 +1,4 @@
--- The state that was added last.
+-- The state that was added last has the last number.
 use Rattle.std.proofs.Common.{◌≡◌, refl, ap, ◌∙◌, ℕ, List, [], ◌∷◌, ◌++◌, map, length, Some}
 use Rattle.std.specs.List.{slice_get}
 use Rattle.pool_relation.specs.Action.{Object}

@@ -1,4 +1,4 @@
--- Lists in pairs have as many items, and at each place items that are a pair.
+-- Lists with related items have the same length, and at each index related items.
 use Rattle.std.proofs.Common.{◌≡◌, ℕ, zero, suc, ◌<◌, List, [], ◌∷◌, length, get_or, refl, sym, ap, subst₂, arith}
 use Rattle.search_states.specs.Equal.{Paired}
 

@@ -1,4 +1,4 @@
--- Each value is equal to itself, so no variant is left out of what is compared.
+-- Each value is equal to itself, so the definitions of equality leave out no variant.
 use Rattle.std.proofs.Common.{List, [], ◌∷◌, refl}
 use Rattle.stepper_terms.specs.declared.contexts.ExpressionContext.{ExpressionContext}
 use Rattle.stepper_terms.specs.declared.contexts.ExpressionContext.TheVariants as P

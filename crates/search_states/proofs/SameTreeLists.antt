@@ -1,4 +1,4 @@
--- Lists with the same tree have as many items, and at each place items with the same tree.
+-- Lists with the same tree have the same length, and at each index items with the same tree.
 use Rattle.std.proofs.Common.{◌≡◌, ℕ, ◌<◌, List, [], ◌∷◌, length, map, get_or, refl, sym, ap, ◌∙◌, arith}
 use Rattle.std.proofs.lemmas.Grind.{common_steps}
 use Rattle.std.proofs.lemmas.List.{length-map, get_or-map}

@@ -1,4 +1,4 @@
--- When two parts of an object's work stand for the same, whatever is in them and around them.
+-- When two parts of a work represent the same part of a term, in every context and with every content.
 use Rattle.std.specs.Prelude.{◌≡◌, ℕ, List, Option}
 use Rattle.pool_syntax.specs.Terms.{Store, Expression, Statements, Alternatives}
 use Rattle.stepper_terms.specs.declared.contexts.ExpressionContext.{ExpressionContext}
@@ -9,7 +9,7 @@ use Rattle.stepper_terms.specs.declared.contexts.Stage.{Stage}
 use Rattle.stepper_terms.specs.declared.contexts.Activation.{Activation}
 use Rattle.stepper_terms.specs.Parts.{placed, nested, guarded, slotted, caller_at, caller_of, around, inside, wrapped, layers, Content}
 
--- a place, and places inside one another
+-- one context of an expression, and nested contexts
 abbrev pub AlikePlace : ExpressionContext → ExpressionContext → Type 0
 AlikePlace k j = (e : Expression) → placed k e ≡ placed j e
 
@@ -24,7 +24,7 @@ AlikeGuards gs hs = (alts : Alternatives) → guarded gs alts ≡ guarded hs alt
 abbrev pub AlikeSlot : StatementContext → StatementContext → Type 0
 AlikeSlot s t = (ss : Statements) (e : Expression) → slotted s ss e ≡ slotted t ss e
 
--- where a method stands, how far it is, and the method
+-- the suspended caller of a method, the stage of the method, and its activation
 abbrev pub AlikeOuter : SuspendedCall → SuspendedCall → Type 0
 AlikeOuter o q = (caller_at o ≡ caller_at q) × ((k : Option ℕ) (m : ℕ) (t : Store) (b : Statements × Expression × Statements) → around o k m t b ≡ around q k m t b)
 
@@ -34,6 +34,6 @@ AlikeStage s t = (o q : SuspendedCall) → caller_at o ≡ caller_at q → (call
 abbrev pub AlikeCall : Activation → Activation → Type 0
 AlikeCall a b = (c : Content) → wrapped a c ≡ wrapped b c
 
--- methods inside one another
+-- nested activations
 abbrev pub AlikeCalls : List Activation → List Activation → Type 0
 AlikeCalls xs ys = (c : Content) → layers xs c ≡ layers ys c

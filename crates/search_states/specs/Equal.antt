@@ -1,4 +1,5 @@
--- When two parts of an object's work are equal but for where their lists and the text behind their references lie: each part of the one is that of the other.
+-- When two parts of a work are equal, part by part.
+-- Only the addresses of their lists and of the program text may differ.
 use Rattle.std.specs.Prelude.{◌≡◌, List, [], ◌∷◌}
 use Rattle.pool_syntax.specs.TreeOf.{alternatives_of, expression_of, expressions_of, statements_of}
 use Rattle.stepper_terms.specs.declared.contexts.ExpressionContext.{ExpressionContext}
@@ -22,7 +23,7 @@ use Rattle.stepper_terms.specs.declared.contexts.Activation.{Activation}
 use Rattle.stepper_terms.specs.declared.contexts.Continuation.{Continuation}
 use Rattle.stepper_objects.specs.declared.object_state.ObjectState.{ObjectState}
 
--- lists with as many items, in pairs
+-- lists of the same length with related items
 abbrev pub Paired : {X : Type 0} → (X → X → Type 0) → List X → List X → Type 0
 Paired Is [] [] = Unit {0}
 Paired Is (x ∷ xs) (y ∷ ys) = Is x y × Paired Is xs ys

@@ -1,4 +1,4 @@
-//! Whether two works are the same: the methods under way, and what comes next.
+//! Equality of two works: the activations of methods, and the focus.
 ghost use Rattle.std.specs.Prelude.{◌≡◌, true};
 ghost use Rattle.stepper_terms.specs.Parts.{stopped, term_of};
 ghost use Rattle.search_states.specs.Alike.{AlikeCall, AlikeCalls, AlikeOuter, AlikeStage};

@@ -1,4 +1,4 @@
-//! Whether two parts of a term are the same.
+//! Equality of the parts of a work.
 ghost use Rattle.std.specs.Prelude.{◌≡◌, [], ◌∷◌, true};
 ghost use Rattle.stepper_terms.specs.Parts.{left, ready, segment, task};
 ghost use Rattle.search_states.specs.Alike.{AlikeGuards, AlikePlace, AlikePlaces, AlikeSlot};

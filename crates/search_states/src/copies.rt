@@ -1,4 +1,4 @@
-//! Copies of objects. All program text is shared.
+//! Copies of objects. A copy shares the program text with its original.
 ghost use Rattle.std.specs.Prelude.{◌≡◌, IfOk};
 ghost use Rattle.stepper_objects.specs.ObjectStates.{thing_object};
 ghost use Rattle.stepper_terms.specs.Parts.{left, ready, segment, stopped, task, term_of};
@@ -297,7 +297,7 @@ fn copied_work<'a>(alloc: Global, work: &Continuation<'a>) -> Result<Continuatio
     Ok(Continuation { calls, next })
 }
 
-/// A copy of an object.
+/// Returns a copy of an object. An error means out of memory.
 pub fn copy<'a>(alloc: Global, thing: &ObjectState<'a>) -> Result<ObjectState<'a>, AllocError>
     ensures { IfOk result (λ t. thing_object t ≡ thing_object thing.now) }
 {

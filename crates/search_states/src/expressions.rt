@@ -1,4 +1,4 @@
-//! Expressions.
+//! Equality of expressions.
 ghost use Rattle.std.specs.Prelude.{◌≡◌, true};
 ghost use Rattle.pool_syntax.specs.TreeOf.{expression_of, expressions_of};
 

@@ -1,4 +1,4 @@
-//! A mark of an object's state, for look-ups: equal states have equal marks, and different ones most often different marks. No proof rests on it.
+//! Hashes of object states, for look-ups. No proof depends on them.
 use run_types::Value;
 use std::hash::{FoldHasher, Hasher};
 use stepper_objects::object_state::ObjectState;
@@ -219,7 +219,7 @@ fn mark_call(call: &Activation<'_>, state_hash: &mut FoldHasher) {
     mark_outer(&call.outer, state_hash);
 }
 
-/// A mark of the object's state. Equal states have equal marks.
+/// The hash of an object's state. States with equal parts have equal hashes.
 pub fn state_hash(thing: &ObjectState<'_>) -> u64 {
     let mut state_hash = FoldHasher::default();
     state_hash.write_u32(thing.class);

@@ -1,10 +1,10 @@
-//! Names at their tokens.
+//! Equality of names with their tokens.
 ghost use Rattle.std.specs.Prelude.{◌≡◌, true};
 
 use pool_syntax::Named;
 use run_types::List;
 
-/// Whether two names and their tokens are the same.
+/// Whether two names are the same, at the same token.
 pub fn same_named(left: Named, right: Named) -> bool
     ensures same { result ≡ true → left ≡ right }
     ensures different { left ≡ right → result ≡ true }
@@ -12,7 +12,7 @@ pub fn same_named(left: Named, right: Named) -> bool
     left.name.0 == right.name.0 && left.pos == right.pos
 }
 
-/// Whether two lists of names are the same.
+/// Whether two lists have the same names at the same tokens.
 pub fn same_names(left: &[Named], right: &[Named]) -> bool
     ensures same { result ≡ true → left.now ≡ right.now }
     ensures different { left.now ≡ right.now → result ≡ true }
@@ -28,7 +28,7 @@ pub fn same_names(left: &[Named], right: &[Named]) -> bool
     true
 }
 
-/// Whether two alternatives have the same answer list, or none.
+/// Whether two answer lists are the same, or both are missing.
 pub fn same_answer(left: &Option<List<Named>>, right: &Option<List<Named>>) -> bool
     ensures same { result ≡ true → left.now ≡ right.now }
     ensures different { left.now ≡ right.now → result ≡ true }

@@ -1,4 +1,4 @@
-//! Statements.
+//! Equality of statements.
 ghost use Rattle.std.specs.Prelude.{◌≡◌, true};
 ghost use Rattle.pool_syntax.specs.TreeOf.{alternatives_of, expression_of, statement_of, statements_of};
 

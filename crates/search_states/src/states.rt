@@ -1,4 +1,4 @@
-//! Whether two objects are in the same state.
+//! Equality of object states.
 ghost use Rattle.std.specs.Prelude.{◌≡◌, true};
 ghost use Rattle.search_states.specs.Equal.{EqualThing};
 ghost use Rattle.stepper_objects.specs.ObjectStates.{thing_object};
@@ -25,8 +25,8 @@ fn same_fault(left: Option<Error>, right: Option<Error>) -> bool
     }
 }
 
-/// Whether two objects are in the same state. Two that differ only in what no state shows may be called
-/// different, those whose parts are equal not.
+/// Whether two objects are in the same state. `true` is always correct.
+/// `false` is possible for equal states that are represented by different parts.
 pub fn same(left: &ObjectState<'_>, right: &ObjectState<'_>) -> bool
     ensures same { result ≡ true → thing_object left.now ≡ thing_object right.now }
     ensures different { EqualThing left.now right.now → result ≡ true }

@@ -1,4 +1,4 @@
-//! Each object state once, by numbers.
+//! A table that gives numbers to object states, so that a search stores each state once.
 ghost use Rattle.std.specs.Prelude.{◌≡◌, ◌-◌, ◌^◌, ◌≤◌, [], Ok, None, Some, IfOk, IfSome, option_map, length, slice_get, take, true};
 ghost use Rattle.stepper_objects.specs.ObjectStates.{thing_object};
 ghost use Rattle.search_states.specs.States.{states};
@@ -10,7 +10,8 @@ use std::alloc::{AllocError, Global};
 use std::collections::HashMap;
 use stepper_objects::object_state::ObjectState;
 
-/// A table of object states, which contracts see as the list of its objects. A state is found by its mark.
+/// A table of fewer than 2^32 object states, numbered from 0. Contracts see it as the list of its objects.
+/// It finds a state by its hash.
 #[derive(Drop)]
 pub struct StateTable<'a> {
     alloc: Global,
@@ -19,7 +20,7 @@ pub struct StateTable<'a> {
 }
 
 impl<'a> StateTable<'a> {
-    /// A table without states.
+    /// An empty table.
     pub fn make(alloc: Global) -> StateTable<'a>
         ensures { states result ≡ [] }
     {
@@ -30,14 +31,14 @@ impl<'a> StateTable<'a> {
         }
     }
 
-    /// The object of this number; None exactly behind the last one.
+    /// The object with this number. None if the table has no such number.
     pub fn get(&self, number: u32) -> Option<&ObjectState<'a>>
         ensures { option_map (λ t. thing_object t.now) result ≡ slice_get (states self.now) number }
     {
         self.things.as_slice().get(number as usize)
     }
 
-    /// Whether the object of this number is in the state of the thing.
+    /// Whether the object with this number is in the same state as `thing`.
     fn is_at(&self, number: u32, thing: &ObjectState<'_>) -> bool
         ensures { result ≡ true → slice_get (states self.now) number ≡ Some (thing_object thing.now) }
     {
@@ -59,7 +60,7 @@ impl<'a> StateTable<'a> {
         None
     }
 
-    /// Adds a state; None where the table has 2^32 - 1 of them.
+    /// Adds a state and returns its number. None if the table has 2^32 - 1 states. An error means out of memory.
     fn add(&mut self, state_hash: u64, thing: &ObjectState<'a>) -> Result<Option<u32>, AllocError>
         ensures found { IfOk result (λ o. IfSome o (λ n. slice_get (states self.new) n ≡ Some (thing_object thing.now))) }
         ensures grows { take (length (states self.old)) (states self.new) ≡ states self.old }
@@ -80,7 +81,8 @@ impl<'a> StateTable<'a> {
         Ok(Some(number))
     }
 
-    /// The number of the object's state, which is added where it is not there; None where the table has 2^32 - 1 states.
+    /// The number of an object's state. Adds the state if it is not in the table.
+    /// None if it is new and the table has 2^32 - 1 states. An error means out of memory.
     pub fn number_of(&mut self, thing: &ObjectState<'a>) -> Result<Option<u32>, AllocError>
         ensures found { IfOk result (λ o. IfSome o (λ n. slice_get (states self.new) n ≡ Some (thing_object thing.now))) }
         ensures grows { take (length (states self.old)) (states self.new) ≡ states self.old }

@@ -1,11 +1,11 @@
-//! Each byte of a file changed to each other value, and each front of it.
+//! Changes each byte of a file to each other value, and cuts the file after each byte.
 use crate::layer_answers::told;
 use crate::rows::FILE;
 use std::alloc::{AllocError, Global};
 use std::test::Fail;
 use test_oracle::{Told, judged, read};
 
-/// The most letters of a report.
+/// The report stops growing after this number of bytes.
 const LONG: usize = 2000;
 
 fn digit(byte: u8) -> Option<u8> {
@@ -16,7 +16,7 @@ fn digit(byte: u8) -> Option<u8> {
     }
 }
 
-/// The bytes of rows in two digits each.
+/// The bytes of rows, in two digits each.
 fn bytes_of(alloc: Global, rows: &str) -> Result<Vec<u8>, AllocError> {
     let mut bytes = Vec::new(alloc);
     for row in rows.lines() {
@@ -35,7 +35,7 @@ fn bytes_of(alloc: Global, rows: &str) -> Result<Vec<u8>, AllocError> {
     Ok(bytes)
 }
 
-/// What the small reader and the small judge say of bytes.
+/// The verdict of the oracle on these bytes.
 fn expected(alloc: Global, bytes: &[u8]) -> Result<Told, AllocError> {
     match read(alloc, bytes)? {
         Ok(file) => judged(alloc, &file),
@@ -43,7 +43,7 @@ fn expected(alloc: Global, bytes: &[u8]) -> Result<Told, AllocError> {
     }
 }
 
-/// How many bytes were refused, doubled a name, had a wrong heading or code, and were good.
+/// The number of verdicts of each kind.
 #[derive(Clone, Copy)]
 struct Seen {
     bad: u32,
@@ -66,7 +66,7 @@ impl Seen {
     }
 }
 
-/// Compares what is told of some bytes with what is expected, and adds to the report where they differ.
+/// Compares the verdict of the compiler's crates with that of the oracle, and reports a difference.
 fn compare(
     alloc: Global,
     report: &mut String,
@@ -87,7 +87,7 @@ fn compare(
     Ok(())
 }
 
-/// What differs among all changes of one byte, and all fronts.
+/// The differences for all changes of one byte, and for all prefixes of the file.
 fn changed(alloc: Global, seen: &mut Seen, file: &[u8]) -> Result<String, AllocError> {
     let mut report = String::new(alloc);
     let mut bytes = Vec::from_slice(alloc, file)?;

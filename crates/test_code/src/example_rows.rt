@@ -1,6 +1,6 @@
-//! Programs, each with the verdict on its file.
+//! Programs whose object code files are verified.
 
-/// A program is its name, a line feed, and its text; between two stands a line of `=`.
+/// Each program has a line with its name, and then its text. A line with `===` separates two programs.
 pub const PROGRAMS: &str = r##"a sum
 class Main var x : Int body x := 2 + 3; write x end
 ===

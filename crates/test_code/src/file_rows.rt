@@ -1,8 +1,8 @@
-//! Object code files by their bytes, each with its verdict: the first stands for
-//! `class A var x : Int var o : A method v(p : Int) begin end method r() : A begin result nil end body end class B body write "s p" end`, and in the others
-//! something is written by hand in another way.
+//! Object code files as bytes, each with its verdict. The first is the file of this program:
+//! `class A var x : Int var o : A method v(p : Int) begin end method r() : A begin result nil end body end class B body write "s p" end`.
+//! Each other file differs from it in something that is written by hand.
 
-/// A row is the verdict, a bar, the bytes in two digits each, a bar, and what is looked at.
+/// A row has the verdict, a bar, the bytes in two digits each, a bar, and the subject of the row.
 pub const FILES: &str = "good|\
     504f4f4c55010000000800000001410000000178000000016f00000001760000000170000000017200000001420000000373207000000002000000000000000201030000000000000002000000030000\
     00010000000101000000000200000002030f0000000500000000000000000103000000000000000100000002030f00000000000000011700000006000000000000000000000000000000021400000007\

@@ -12,7 +12,7 @@ use pool_parser::parse;
 use std::alloc::{AllocError, Global};
 use std::test::Fail;
 
-/// The most bytes of a file that is read.
+/// The largest size of a file that is read, in bytes.
 const MOST_BYTES: usize = 67108864;
 
 fn told(alloc: Global, file: &UnitFile) -> Result<String, AllocError>
@@ -75,7 +75,7 @@ fn told_of_text(alloc: Global, text: &[u8]) -> Result<String, AllocError> {
     told(alloc, &file)
 }
 
-/// Adds a row of which another verdict is told, and that verdict.
+/// Adds a row with a wrong verdict, and that verdict.
 fn push_wrong(wrong: &mut String, row: &str, told: &str) -> Result<(), AllocError> {
     write!(wrong, "{row}\n  told: {told}\n")
 }

@@ -1,4 +1,4 @@
-//! What the layers say of bytes.
+//! The verdict of the crates under test on the bytes of a file.
 ghost use Rattle.code_semantics.specs.Shaped.{IsShaped, IsShort};
 
 use code_semantics::UnitFile;
@@ -8,10 +8,10 @@ use pool_outside::MemSink;
 use std::alloc::{AllocError, Global};
 use test_oracle::Told;
 
-/// The most bytes of a file that is read.
+/// The largest size of a file that is read, in bytes.
 const MOST_BYTES: usize = 67108864;
 
-/// Whether the file is written as these bytes.
+/// Whether the file is encoded as these bytes.
 fn is_written(alloc: Global, file: &UnitFile, bytes: &[u8]) -> Result<bool, AllocError>
     requires shaped { IsShaped file.now }
     requires short { IsShort file.now }
@@ -20,7 +20,7 @@ fn is_written(alloc: Global, file: &UnitFile, bytes: &[u8]) -> Result<bool, Allo
     Ok(encode(file, &mut sink).is_ok() && sink.written() == bytes)
 }
 
-/// What the layers say of bytes: a file that is written as they are, and what is said of it.
+/// The verdict of the decoder, the encoder and the verifier on these bytes. An error means out of memory.
 pub fn told(alloc: Global, bytes: &[u8]) -> Result<Told, AllocError> {
     if bytes.len() > MOST_BYTES {
         return Ok(Told::Memory);

@@ -1,6 +1,6 @@
-//! Programs, each on a line of its own, with its listing below it and an empty line behind.
+//! Programs on a line each, with their listings. An empty line separates two cases.
 
-/// One case for each kind of expression and statement, and the ways in which they stand in one another.
+/// One case for each kind of expression and statement, and for the ways to nest them.
 pub const LISTINGS: &str = "class Main var x : Int body x := 2 + 3; write x end
 class Main 1
 body 2

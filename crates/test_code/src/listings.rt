@@ -1,4 +1,4 @@
-//! Listings of texts.
+//! Listings of programs.
 ghost use Rattle.std.specs.Prelude.{◌≤◌, length};
 
 use crate::listing_rows::LISTINGS;
@@ -11,7 +11,8 @@ use pool_parser::parse;
 use std::alloc::{AllocError, Global};
 use std::test::Fail;
 
-// What is written of the listing of a text's program, in pieces of at most seven bytes, and whether it was written whole.
+// The listing of a program, written in pieces of at most seven
+// bytes to a sink of `room` bytes; and whether all was written.
 fn listed(alloc: Global, text: &[u8], room: usize) -> Result<Option<(Vec<u8>, bool)>, AllocError>
     requires { length text.now ≤ 1048576 }
 {
@@ -33,7 +34,7 @@ fn listed(alloc: Global, text: &[u8], room: usize) -> Result<Option<(Vec<u8>, bo
     Ok(Some((sink.written().to_vec(alloc)?, whole)))
 }
 
-// Whether a case's program has its listing.
+// Whether the program of a case has the listing of the case.
 fn holds(alloc: Global, case: &str) -> Result<bool, AllocError> {
     let Some((program, wanted)) = case.split_once('\n') else {
         return Ok(false);

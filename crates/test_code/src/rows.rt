@@ -1,6 +1,6 @@
-//! A file of two classes by hand, with an instruction of each kind, and a send that is not reached.
+//! An object code file of two classes, written by hand, with each kind of instruction and a send that is not reached.
 
-/// Bytes in two digits each; what stands behind a `#` is a comment.
+/// Bytes in two digits each. A `#` begins a comment.
 pub const FILE: &str = r"
 50 4F 4F 4C 55 01
 00 00 00 06                                  # names

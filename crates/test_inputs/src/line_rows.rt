@@ -1,6 +1,6 @@
-//! Lines of records, written by hand from the format, each of which stands as the first of two lines.
+//! Lines of records, written by hand from the format. In each row the line is the first of two.
 //!
-//! A row is what is told of the record, as of whole records, a bar and the record.
+//! A row has the expected output for the record, a bar, and the record. The output is that of `record_rows`.
 
 /// Lines that are not about an object.
 pub const EVENTS: &str = r##"-- Turns and moves.

@@ -1,10 +1,10 @@
-//! Names, lists and values that are kept.
+//! Tests of names, arguments and lists.
 use crate::page::Page;
 use crate::programs::places;
 use run_record::read_record;
 use run_types::{Args, List, Names, Value};
 
-/// Puts the numbers of two texts, and the places of texts in a copy of their table.
+/// Appends the numbers of two added texts, and the numbers of two texts in a copy of their table.
 fn texts_kept(told: &mut Page) {
     let mut names = Names::make(told.alloc);
     for text in ["Main", "m"] {
@@ -19,7 +19,7 @@ fn texts_kept(told: &mut Page) {
     }
 }
 
-/// Puts the values of arguments, and those of a list.
+/// Appends the values of arguments, and those of a list.
 fn values_kept(told: &mut Page) {
     let mut args = Args::make();
     args.add(Value::Int(7));
@@ -33,7 +33,7 @@ fn values_kept(told: &mut Page) {
     }
 }
 
-/// Puts the fault of a record, and the places that texts then have in a table that had one.
+/// Appends the fault of a record, and then the numbers of texts in its table. The table had one text before.
 fn places_behind(told: &mut Page) {
     let mut names = Names::make(told.alloc);
     let _ = names.add(b"put");

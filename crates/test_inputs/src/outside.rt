@@ -1,4 +1,4 @@
-//! Files and sinks in memory and over the system, with failing calls.
+//! Tests of files and sinks, in memory and over the system, with calls that fail.
 ghost use Rattle.std.specs.Prelude.{◌≡◌, ◌+◌, ◌-◌, ◌^◌, ◌<◌, IsTrue};
 
 use crate::page::{Page, bytes_of};
@@ -23,7 +23,7 @@ fn texts(alloc: Global) -> Vec<NamedText> {
     texts
 }
 
-/// Puts the length of what is read, and a short text itself, or the fault.
+/// Appends the length of a file, with its text if it is short; or the fault.
 fn read<F: Files>(told: &mut Page, files: &mut F, name: &str, limit: usize)
     requires allowed { IsTrue (F.may files.old (F.opens files.old) name.now) }
     requires countable { F.opens files.old < 2 ^ 64 - 1 }
@@ -42,7 +42,7 @@ fn read<F: Files>(told: &mut Page, files: &mut F, name: &str, limit: usize)
     }
 }
 
-/// Puts whether each of these pieces is written whole.
+/// Appends, for each piece, whether it was written whole.
 fn write<K: Sink>(told: &mut Page, sink: &mut K, pieces: &str) {
     for piece in pieces.split(',') {
         let is_whole = write_all_of(sink, piece.as_bytes()).is_ok();
@@ -68,7 +68,7 @@ fn texts_are_read_whole(rt: HostRuntime) {
     assert!(rt; told.text.as_str() == " 7seven b Failed TooLong Failed 100000 0 7seven b");
 }
 
-/// Puts what a sink in memory takes of pieces.
+/// Appends the results of writes to a sink in memory, and the text in the sink.
 fn write_in_memory(told: &mut Page) {
     // writes 0 to 2 take three, three and one byte, write 3 fails, and write 4 fills the room
     let mut failing = Vec::new(told.alloc);

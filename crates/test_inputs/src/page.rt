@@ -1,22 +1,23 @@
-//! A page that texts are put on, and the texts of rows.
+//! A page for the output of a test, and the notation of rows.
 //!
-//! In a row `~` is a line feed, `^` a carriage return, `>` a tab, `?` the sign `>` and a grave accent the byte 255; `[N:PART]` is the part N times, with its number
-//! from 0 in place of a `$`.
+//! In a row `~` is a line feed, `^` a carriage return, and `>` a
+//! tab. `?` is the sign `>`, and a grave accent is the byte 255.
+//! `[N:PART]` repeats the part N times. A `$` in the part becomes the number of the repetition, from 0.
 use std::alloc::{AllocError, Global};
 
-/// A text. What there is no memory for is left out, so that the text is then not the wanted one.
+/// A text. If memory runs out, a part of it is missing, and the test fails.
 #[derive(Drop)]
 pub struct Page {
     pub alloc: Global,
     pub text: String,
 }
 
-/// The word of this number, from 0, between single spaces; none where there are fewer.
+/// The word with this number, from 0. Words have single spaces between them. Empty if there are fewer words.
 pub fn word(words: &str, number: usize) -> &str {
     words.split(' ').nth(number).unwrap_or("")
 }
 
-/// The number that such a word spells, or the greatest one.
+/// The number that this word spells, or the greatest number of 32 bits.
 pub fn size(words: &str, number: usize) -> u32 {
     word(words, number).parse().unwrap_or(u32::MAX)
 }
@@ -33,7 +34,7 @@ impl Page {
         let _ = self.text.push_str(words);
     }
 
-    /// Puts a number behind these words.
+    /// Appends a number after these words.
     pub fn number(&mut self, before: &str, number: u64) {
         let _ = write!(self.text, "{before}{number}");
     }
@@ -45,14 +46,14 @@ impl Page {
         }
     }
 
-    /// Puts the name of a fault and its numbers, each behind a space, of what `Debug` shows of it.
+    /// Appends the name of a fault and its numbers, each after a space. `shown` is its `Debug` text.
     pub fn fault(&mut self, shown: Result<String, AllocError>) {
         if let Ok(shown) = shown {
             self.fault_words(shown.as_str());
         }
     }
 
-    /// Puts the part with a number in place of its `$`.
+    /// Appends the part, with a number instead of its `$`.
     pub fn numbered(&mut self, part: &str, number: u64) {
         match part.split_once('$') {
             Some((before, after)) => {
@@ -63,7 +64,7 @@ impl Page {
         }
     }
 
-    /// Puts what stands behind the colon as often as the number before it says.
+    /// Appends the text after the colon, as many times as the number before it says.
     fn repeated(&mut self, part: &str) {
         let (count, part) = part.split_once(':').unwrap_or(("", ""));
         for number in 0..count.parse::<u64>().unwrap_or(0) {
@@ -72,7 +73,7 @@ impl Page {
     }
 }
 
-/// The bytes of a row's text, with its repeated parts spelled out.
+/// The bytes that a row's text represents.
 pub fn bytes_of(alloc: Global, row: &str) -> Vec<u8> {
     let mut page = Page::make(alloc);
     for piece in row.split('[') {

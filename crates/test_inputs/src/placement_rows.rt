@@ -1,10 +1,12 @@
-//! Placements and what is told of each, written by hand from the format.
+//! Placements and the expected output of each, written by hand from the format.
 //!
-//! A row is what is told, a bar and a text; of a value these are the width, the height, the objects, frames and cells of a node, and the place of each class. A line
-//! that begins with two dashes is a heading.
+//! A row has the expected output, a bar, and a text. The output of a placement has its width and height,
+//! the objects, frames and cells of a node, and the place of each class; then cut links and routes.
+//! A line that begins with two dashes is a heading.
 
-/// Blocks of rows, each behind the program whose classes are placed. In the first the second of three classes has the most variables, 2; in the others no class has one, the only
-/// class has 16, one of two has 64, and there are 256 classes.
+/// Blocks of rows, each after the program whose classes are placed. The first program has
+/// three classes, and the second of them has the most variables, 2. The others are: a class
+/// without variables, a class with 16, two classes of which one has 64, and 256 classes.
 pub const PLACEMENTS: &str =
     r##"class Cell var next : Cell method link(c : Cell) begin next := c end body write "Word"; answer(link) end class Log var x, y : Int body end class Main var log : Log body log := new Log end
 -- The mesh line.

@@ -1,4 +1,4 @@
-//! Placements of texts.
+//! Tests of the reader of placements.
 ghost use Rattle.std.specs.Prelude.{◌≤◌, length};
 
 use crate::page::{Page, bytes_of};
@@ -9,7 +9,7 @@ use code_semantics::Unit;
 use placement_reader::read_placement;
 use run_types::{Place, Placement};
 
-/// Puts the width, the height and the three counts, the place of each class, each cut link, and each route.
+/// Appends the width, the height and the three counts, the place of each class, each cut link, and each route.
 fn value(told: &mut Page, placement: &Placement) {
     let _ = write!(
         told.text,
@@ -31,7 +31,7 @@ fn value(told: &mut Page, placement: &Placement) {
     }
 }
 
-/// Puts the placement of a text, or the fault.
+/// Appends the placement of a text, or the fault.
 pub fn placement(told: &mut Page, text: &[u8], unit: &Unit)
     requires { length text.now ≤ 1048576 }
 {
@@ -41,7 +41,7 @@ pub fn placement(told: &mut Page, text: &[u8], unit: &Unit)
     }
 }
 
-/// Puts the rows of a block of whose text another thing is told, for the classes of the program before them.
+/// Appends the rows of a block with another output than expected. The block begins with the program for its placements.
 fn wrong_of(wrong: &mut Page, block: &str) {
     let (program, rows) = block.split_once('\n').unwrap_or((block, "no rows"));
     let text = bytes_of(wrong.alloc, program);

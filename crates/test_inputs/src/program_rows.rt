@@ -1,6 +1,7 @@
-//! Texts of programs and what is told of each, and lines, words and numbers of texts, written by hand.
+//! Programs, lines, words and numbers with the expected output of each, written by hand.
 
-/// A row is what is told, a bar and a text: of a program how many variables, methods and statements each class has, and its class fault or its canonical text.
+/// A row has the expected output, a bar, and a text. The output of a program has the numbers of
+/// variables, methods and statements of each class, and its class fault or its canonical text.
 pub const PROGRAMS: &str = "-- Tokens.
 BadByte 22 | class Main body write `
 IntegerTooLarge 22 | class Main body write 9223372036854775808 end
@@ -25,15 +26,18 @@ Unexpected 6 | class A body if x then end
 0 0 2 UnknownVariable 4 | class Main body write x; write true + 1 end
 0 1 0 UnknownVariable 9 | class A method m() begin post write x end body end";
 
-/// A row is the tokens of a text, each behind its place, and the places of the texts `x`, `ab`, `endx`, the empty one and `end`; a bar; and the text.
+/// A row has the expected output, a bar, and a text. The output has each token after its
+/// place, and then the numbers of the texts `x`, `ab`, `endx`, the empty one and `end`.
 pub const TOKENS: &str =
     "0 #0 2 := 5 !! 7 == 9  12 11 #1 21 \"1 25 ( 26 #2 30 ) 31 end 35 \"3 37 <= 39 - 40 #0 41 END 0 1 2 3 - | \
     x := !!==12ab # one^~\"ab\"(endx)end \"\"<=-x";
 
-/// A row is where each line of a text begins and ends, and where the next one begins; a dash where there is none; a bar; and the text.
+/// A row has the bounds of each line of a text, each with the start
+/// of the next line; a dash if there is no line; a bar; and the text.
 pub const LINES: &str = "0 1 3 3 3 4 4 5 7 7 9 9 - | a^~~^^~b^";
 
-/// A row is where each word of a line begins and ends; a dash behind the last one, and one at the line's end; a bar; and the line.
+/// A row has the bounds of each word of a line, a dash after the
+/// last one, and one for the line's end; a bar; and the line.
 pub const WORDS: &str = "2 6 8 9 10 12 - - | [1: ]>mesh  2>#3 ";
 
 /// A row is the number that a word spells, a bar and the word.

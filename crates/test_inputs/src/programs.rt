@@ -1,4 +1,4 @@
-//! Programs of texts: their tokens, what they declare, their class faults, their canonical texts and their units.
+//! Tests of programs: their tokens, their classes, their class faults, their canonical texts and their units.
 ghost use Rattle.std.specs.Prelude.{◌≡◌, ◌≤◌, length, true};
 ghost use Rattle.pool_lexer.specs.TokenLists.{EndsInEnd};
 ghost use Rattle.pool_syntax.specs.Tokens.{toks};
@@ -23,10 +23,10 @@ use run_types::{Names, Value};
 const KEYWORDS: &str =
     "class var method local begin result post end body if then else fi while do od answer select when write new self nil true false not and or Int Bool";
 
-/// The signs, in the order of theirs.
+/// The signs, in the order of their enum.
 const SIGNS: &str = ":= : ; , ( ) ! !! == != < <= > >= + - * / %";
 
-/// Puts the canonical text, written in pieces of at most three bytes.
+/// Appends the canonical text, written in pieces of at most three bytes.
 fn canonical(told: &mut Page, program: &Program, names: &Names)
     requires { is_spelled names.now (program_of program.now) ≡ true }
 {
@@ -38,7 +38,8 @@ fn canonical(told: &mut Page, program: &Program, names: &Names)
     }
 }
 
-/// Puts how many variables, methods and statements each class has, and the class fault or the canonical text; gives the unit.
+/// Appends the numbers of variables, methods and statements of each class, and the class fault or the canonical text.
+/// Returns the unit of a program without class faults.
 fn judged(told: &mut Page, program: &Program, names: &Names) -> Option<Unit>
     requires grammatical { IsGrammatical (program_of program.now) }
     requires spelled { is_spelled names.now (program_of program.now) ≡ true }
@@ -60,7 +61,7 @@ fn judged(told: &mut Page, program: &Program, names: &Names) -> Option<Unit>
     }
 }
 
-/// Puts what the program of tokens has, or the first fault; gives the unit.
+/// Appends the output for the program of these tokens, or the first fault. Returns its unit.
 fn parsed(told: &mut Page, read: &Tokens) -> Option<Unit>
     requires ended { EndsInEnd (toks read.now.list) }
     requires size { length read.now.list ≤ 67108865 }
@@ -75,7 +76,7 @@ fn parsed(told: &mut Page, read: &Tokens) -> Option<Unit>
     }
 }
 
-/// Puts what a text's program has, or the first fault; gives the unit.
+/// Appends the output for the program of a text, or the first fault. Returns its unit.
 pub fn read(told: &mut Page, text: &[u8]) -> Option<Unit>
     requires { length text.now ≤ 1048576 }
 {
@@ -88,7 +89,7 @@ pub fn read(told: &mut Page, text: &[u8]) -> Option<Unit>
     }
 }
 
-/// Puts the place of each text in a table, or a dash.
+/// Appends the number of each text in a table. A dash means that the table does not have it.
 pub fn places(told: &mut Page, names: &Names, texts: &str) {
     for text in texts.split(',') {
         match names.find(text.as_bytes()) {
@@ -98,7 +99,7 @@ pub fn places(told: &mut Page, names: &Names, texts: &str) {
     }
 }
 
-/// Puts where a token begins, and the token: a name or a string by the place of its text.
+/// Appends the place of a token, and the token. A name or a string is the number of its text.
 fn token(told: &mut Page, token: Token) {
     told.number(" ", u64::from(token.at));
     told.put(" ");
@@ -112,7 +113,7 @@ fn token(told: &mut Page, token: Token) {
     }
 }
 
-/// Puts the tokens of a text, and the places of some texts among those of its names and strings.
+/// Appends the tokens of a text, and the numbers of some texts in its table.
 pub fn listed(told: &mut Page, text: &[u8])
     requires { length text.now ≤ 1048576 }
 {

@@ -1,8 +1,9 @@
-//! Records and what is told of each, written by hand from the format.
+//! Records and the expected output of each, written by hand from the format.
 //!
-//! A row is what is told, a bar and a text. Of lines these are told, with a semicolon between them: of an event its number, its node or, behind what happens on its
-//! wire, its two nodes, and what shows, with objects by their numbers, names and strings by their places in the table, and the times of a transition; of an end its kind
-//! and its numbers.
+//! A row has the expected output, a bar, and a text. The output of a record has its lines with semicolons between them.
+//! An event line has its number; its node, or the act on its wire with its two nodes; and what it shows.
+//! Objects are numbers, names and strings are their numbers in the table, and a transition has the number of times.
+//! An end line has its kind and its numbers.
 
 /// Whole records.
 pub const RECORDS: &str = "-- Events and an end.
@@ -102,8 +103,11 @@ OutOfOrder 1 | 2 turn 0 pass~3 turn 0 pass~
 BadLine 3 | 1 turn 0 pass~end quiet 1~x~end quiet 1~
 OutOfOrder 3 | 1 turn 0 pass~end quiet 1~2 turn 0 pass~x~";
 
-/// Lines that are written. A row is what is told of the line, a bar, a number, the room of the sink, how many bytes it takes at a time, a bar and the text, in which the
-/// number stands in place of the `$`; behind what is told of a line that does not fit stands what is written of it.
+/// Lines that are written. A row has the expected output for
+/// the line, a bar, three numbers, a bar, and the line's text.
+/// The numbers are the one that replaces the `$` of the text, the
+/// bytes of room in the sink, and the bytes it takes at a time.
+/// If the line does not fit, the expected output ends with the text that was written.
 pub const WRITTEN: &str = r##"-- Transitions.
 3 7: local 131075 *7 | 3 600 256 | $ turn 7 local 2.3 7
 3 7: new 0 65536 #0 *1 | 3 600 256 | $ turn 7 new 0.0 1.0 put

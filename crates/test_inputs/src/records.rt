@@ -1,4 +1,4 @@
-//! Records of texts, what their lines show, and lines as they are written.
+//! Tests of the reader and the writer of records.
 ghost use Rattle.std.specs.Prelude.{◌≡◌, ◌≤◌, length};
 ghost use Rattle.record_writer.specs.Writable.{IsWritable, id_of_line};
 
@@ -14,7 +14,7 @@ use run_types::{End, Line, Names};
 
 const KINDS: &str = "heap frames cells";
 
-/// Puts how a run ends, and whether the line shows a transition.
+/// Appends the end of a run, and `step` if the line shows a transition.
 fn end(told: &mut Page, end: End, is_step: bool) {
     let done = match end {
         End::Quiet { done } => {
@@ -36,7 +36,7 @@ fn end(told: &mut Page, end: End, is_step: bool) {
     told.put(if is_step { " step" } else { "" });
 }
 
-/// Puts what a line says; its transition, where it shows one, is that of `label_of`.
+/// Appends the contents of a line. If it shows a transition, this is that of `label_of`.
 fn line_told(told: &mut Page, line: &Line) {
     let shown = match *line {
         Line::Event {
@@ -60,7 +60,7 @@ fn line_told(told: &mut Page, line: &Line) {
     }
 }
 
-/// Puts the lines of a text's record, or the fault.
+/// Appends the lines of the record of a text, or the fault.
 pub fn record(told: &mut Page, text: &[u8])
     requires { length text.now ≤ 1048576 }
 {
@@ -96,7 +96,8 @@ fn renumbered(line: &Line, number: u32) -> Line
     }
 }
 
-/// Puts what is written of a line to a sink with so much room, which takes so many bytes at a time, unless it is this text.
+/// Writes a line to a sink with this room, which takes `takes`
+/// bytes at a time. Appends the written text if it is not `wanted`.
 fn write(told: &mut Page, line: &Line, names: &Names, wanted: &str, room: usize, takes: usize)
     requires takes { 1 ≤ takes }
     requires writable { IsWritable names.now line.now }
@@ -112,8 +113,8 @@ fn write(told: &mut Page, line: &Line, names: &Names, wanted: &str, room: usize,
     }
 }
 
-/// Puts what the first line of a record says with the number that stands first, and what is written of it, unless it is this text: to a sink with the room that stands
-/// second, which takes as many bytes at a time as stand third.
+/// Gives the first line of a record another number, appends its contents, and writes it. Appends the written text
+/// if it is not `wanted`. `numbers` are this number, the room of the sink, and the bytes that it takes at a time.
 fn write_first(told: &mut Page, record: &str, numbers: &str, wanted: &str) {
     let takes = size(numbers, 2) as usize;
     if takes < 1 || record.len() > 1048576 {
@@ -136,7 +137,8 @@ fn write_first(told: &mut Page, record: &str, numbers: &str, wanted: &str) {
     }
 }
 
-/// Puts the line that is written behind the text's bar, with the first number before it in place of the `$`, and what is written of it, unless it is that text.
+/// Reads the line after the bar of a text and writes it. The numbers before the bar
+/// are those of `write_first`, and the first of them replaces the `$` in the line.
 pub fn written(told: &mut Page, text: &[u8]) {
     let (numbers, line) = str::from_utf8(text)
         .unwrap_or("")

@@ -1,4 +1,4 @@
-//! The readers, and the rows of whose text a reader tells another thing.
+//! The readers under test, and the rows with another output than expected.
 use crate::page::{Page, bytes_of};
 use crate::placements::placement;
 use crate::programs::{listed, read};
@@ -9,10 +9,10 @@ use code_semantics::Unit;
 use run_types::Placement;
 use std::alloc::Global;
 
-/// The most bytes of a text that a reader is given.
+/// The largest size of a text that is read, in bytes.
 const MOST_BYTES: usize = 1048576;
 
-/// What reads a text, and tells of it.
+/// A reader of texts, with the inputs that it needs.
 #[derive(Clone, Copy)]
 pub enum Reader<'a> {
     Lines,
@@ -27,7 +27,7 @@ pub enum Reader<'a> {
     Written,
 }
 
-/// Puts what the reader tells of a text.
+/// Appends the output of the reader for a text.
 fn tell(told: &mut Page, reader: Reader<'_>, text: &[u8]) {
     if text.len() > MOST_BYTES {
         return;
@@ -48,7 +48,7 @@ fn tell(told: &mut Page, reader: Reader<'_>, text: &[u8]) {
     }
 }
 
-/// What the reader tells of a row's text.
+/// The output of the reader for a row's text.
 fn told_of(alloc: Global, reader: Reader<'_>, text: &str) -> Page {
     let mut told = Page::make(alloc);
     tell(&mut told, reader, &bytes_of(alloc, text));
@@ -56,7 +56,7 @@ fn told_of(alloc: Global, reader: Reader<'_>, text: &str) -> Page {
 }
 
 impl Page {
-    /// Puts a row of whose text another thing is told, and that thing. A row is what is to be told, a bar and a text.
+    /// Appends a row and its output, if this is not the expected one. A row has the expected output, a bar, and a text.
     fn row(&mut self, reader: Reader<'_>, row: &str) {
         let (wanted, text) = row.split_once(" | ").unwrap_or(("a row", row));
         let told = told_of(self.alloc, reader, text);
@@ -65,7 +65,7 @@ impl Page {
         }
     }
 
-    /// Puts the rows of whose text another thing is told; a line that begins with two dashes is none.
+    /// Appends the rows with another output than expected. A line that begins with two dashes is not a row.
     pub fn rows(&mut self, reader: Reader<'_>, rows: &str) {
         for row in rows.lines() {
             if !row.starts_with("--") {

@@ -1,8 +1,8 @@
-//! Lines, words and numbers of texts.
+//! Output for the lines, words and numbers of a text.
 use crate::page::Page;
 use text_scan::{Decimal, decimal, next_line, next_word};
 
-/// Puts where each line begins and ends, and where the next one begins; a dash where there is none.
+/// Appends the bounds of each line, each with the start of the next line. A dash means that there is no line.
 pub fn lines(told: &mut Page, text: &[u8]) {
     let mut from = 0;
     for start in 0..text.len() + 1 {
@@ -20,7 +20,7 @@ pub fn lines(told: &mut Page, text: &[u8]) {
     }
 }
 
-/// Puts where each word begins and ends; a dash where there is none, and another one at the text's end.
+/// Appends the bounds of each word. A dash means that there is no word, and one more is for the end of the text.
 pub fn words(told: &mut Page, text: &[u8]) {
     let mut from = 0;
     for start in 0..text.len() + 1 {
@@ -37,7 +37,7 @@ pub fn words(told: &mut Page, text: &[u8]) {
     }
 }
 
-/// Puts the number that the text spells, if it spells one.
+/// Appends the number that the text spells, or why it is none.
 pub fn decimals(told: &mut Page, text: &[u8]) {
     match decimal(text) {
         Decimal::Value(number) => told.number(" ", number),

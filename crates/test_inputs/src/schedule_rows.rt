@@ -1,10 +1,12 @@
-//! Schedules and what is told of each, written by hand from the format.
+//! Schedules and the expected output of each, written by hand from the format.
 //!
-//! A row is what is told, a bar and a text; of a value these are the quantum, the number of events, the first twelve of them, and
-//! behind two points the last one, where it is none of these. A turn is its node, and a move on a link its two nodes; what happens on
-//! a wire stands before these, and behind the number of events whether links are wires. A line that begins with two dashes is a heading.
+//! A row has the expected output, a bar, and a text. The output of a schedule has
+//! its quantum, the number of events, `lossy` if its links are wires, and its
+//! first twelve events. If there are more, two points and the last event follow.
+//! A turn is its node. An event on a link is its two nodes, after the act if it is on a wire.
+//! A line that begins with two dashes is a heading.
 
-/// Blocks of rows, each behind the width and the height of its mesh, of which the link from 0 to 1 is cut where it says so.
+/// Blocks of rows, each after the width and the height of its mesh. After `cut`, the mesh has no link from 0 to 1.
 pub const SCHEDULES: &str = "2 2
 -- The quantum line.
 -- The quantum at its limits, and one past them.

@@ -1,4 +1,4 @@
-//! Schedules of texts.
+//! Tests of the reader of schedules.
 ghost use Rattle.std.specs.Prelude.{◌≡◌, ◌≤◌, length};
 
 use crate::page::{Page, bytes_of, size, word};
@@ -8,13 +8,13 @@ use run_types::{Event, LinkId, List, Placement};
 use schedule_reader::{Schedule, read_schedule};
 use std::alloc::Global;
 
-/// How many events of a schedule are told.
+/// The number of events of a schedule that are in the output.
 const TOLD: u32 = 12;
 
-/// What happens on a wire.
+/// The acts on a wire, in the order of their enum.
 const ACTS: &str = "send ack lose twice late lose-ack twice-ack late-ack";
 
-/// A placement of this width and height, of which nothing else counts, without the link from 0 to 1 if it is cut.
+/// A placement with this width and height, without the link from 0 to 1 if it is cut. Its other parts do not matter.
 fn mesh(alloc: Global, width: u32, height: u32, is_cut: bool) -> Placement
     ensures width { result.width ≡ width }
     ensures height { result.height ≡ height }
@@ -35,7 +35,7 @@ fn mesh(alloc: Global, width: u32, height: u32, is_cut: bool) -> Placement
     }
 }
 
-/// Puts a turn's node, or a link's two nodes, behind what happens on its wire.
+/// Appends the node of a turn, or the two nodes of a link, after the act if it is on a wire.
 pub fn event(told: &mut Page, event: Event) {
     let (before, from, to) = match event {
         Event::Turn { node } => return told.number(" ", u64::from(node)),
@@ -48,7 +48,8 @@ pub fn event(told: &mut Page, event: Event) {
     told.number("-", u64::from(to));
 }
 
-/// Puts the quantum, the number of events, whether it is lossy, and the first events; behind two points the last, where it is none of these.
+/// Appends the quantum, the number of events, `lossy` for wires, and the
+/// first events. If there are more, appends two points and the last one.
 fn value(told: &mut Page, schedule: &Schedule) {
     let last = schedule.len();
     told.number(" ", u64::from(schedule.quantum()));
@@ -63,7 +64,7 @@ fn value(told: &mut Page, schedule: &Schedule) {
     }
 }
 
-/// Puts the schedule of a text for a mesh, or the fault.
+/// Appends the schedule of a text for a mesh, or the fault.
 pub fn schedule(told: &mut Page, text: &[u8], mesh: &Placement)
     requires { length text.now ≤ 1048576 }
 {
@@ -76,7 +77,7 @@ pub fn schedule(told: &mut Page, text: &[u8], mesh: &Placement)
     }
 }
 
-/// Puts the event whose number is the text, from 0, of a schedule on four nodes.
+/// Appends the event with this number, from 0, of a schedule on four nodes.
 pub fn numbered_event(told: &mut Page, text: &[u8]) {
     let number = size(str::from_utf8(text).unwrap_or(""), 0);
     let bytes = bytes_of(told.alloc, ROUNDS);
@@ -95,7 +96,7 @@ pub fn numbered_event(told: &mut Page, text: &[u8]) {
     }
 }
 
-/// Puts the rows of a block of whose text another thing is told, for the mesh before them.
+/// Appends the rows of a block with another output than expected. The block begins with its mesh.
 fn wrong_of(wrong: &mut Page, block: &str) {
     let (head, rows) = block.split_once('\n').unwrap_or((block, "no rows"));
     let is_cut = word(head, 2) == "cut";

@@ -1,11 +1,11 @@
-//! What a line shows, in parts.
+//! The contents of a line in parts.
 use crate::page::{Page, word};
 use run_types::{Args, Error, Item, Label, NameId, Value, What};
 
-/// The errors of a run.
+/// The run-time errors, in the order of their enum.
 const ERRORS: &str = "NilDestination NilOperand Overflow ZeroDivisor NoOpenGuard";
 
-/// A word, two numbers, the place of a text, a value or values, and an error.
+/// A keyword, two numbers, the number of a text, a value or values, and an error.
 #[derive(Clone, Copy)]
 pub struct Shown {
     word: &'static str,
@@ -17,7 +17,7 @@ pub struct Shown {
     error: Option<Error>,
 }
 
-/// The parts of what shows a word, and a number behind it if there is one.
+/// The parts of a keyword, with a number after it if there is one.
 fn begun(word: &'static str, one: Option<u32>) -> Shown {
     Shown {
         word,
@@ -30,7 +30,7 @@ fn begun(word: &'static str, one: Option<u32>) -> Shown {
     }
 }
 
-/// The parts of what shows two objects, a method and its arguments.
+/// The parts of a message: two objects, a method and its arguments.
 fn message(word: &'static str, one: u32, other: u32, name: NameId, args: Args) -> Shown {
     Shown {
         word,
@@ -107,7 +107,7 @@ pub fn of_label(label: &Label) -> Shown {
     }
 }
 
-/// The parts of what is shown, where it is no transition.
+/// The parts of a line that shows no transition.
 pub fn of_what(what: What) -> Shown {
     match what {
         What::Step { .. } => begun("step", None),
@@ -167,7 +167,7 @@ impl Page {
         }
     }
 
-    /// Puts the word, the numbers, the text's place, the values and the error's name.
+    /// Appends the keyword, the numbers, the number of the text, the values and the name of the error.
     pub fn shown(&mut self, parts: &Shown) {
         self.put(" ");
         self.put(parts.word);

@@ -1,4 +1,4 @@
--- A machine that has made an event still stands for a configuration, on the same mesh.
+-- A machine still represents a configuration on the same mesh after an event.
 use Rattle.std.proofs.Common.{◌≡◌, ◌∙◌}
 use Rattle.run_types.specs.declared.types.Event.{Event}
 use Rattle.run_types.specs.declared.types.Line.{Line}

@@ -1,4 +1,4 @@
--- An event of a schedule without wires is of the mesh, and is served by every machine.
+-- An event of a schedule without wires is of the mesh, and every machine can make it.
 use Rattle.std.proofs.Common.{◌≡◌, ◌∙◌, Bool, true, false, sym}
 use Rattle.run_types.specs.declared.types.Event.{Event}
 use Rattle.run_types.specs.declared.types.Event.TheVariants as V

@@ -1,4 +1,4 @@
--- A number that is wanted may be sent with any packet: the wire carries a list that has the packet there.
+-- A frame number that the wire wants may be sent with any packet: some list of entered packets has the packet there.
 use Rattle.std.proofs.Common.{◌≡◌, refl, sym, ap, ◌∙◌, ℕ, zero, suc, ◌+◌, ◌-◌, ◌<◌, ◌≤◌, ◌==◌, List, [], ◌∷◌, length, Option, Some, None, Bool, true, false, if◌then◌else◌, arith}
 use Rattle.std.specs.Prelude.{slice_get}
 use Rattle.std.proofs.lemmas.List.{length-take-le}

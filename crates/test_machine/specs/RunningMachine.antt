@@ -1,4 +1,4 @@
--- A machine of a placement that stands for some configuration.
+-- A machine that represents some configuration on the mesh of a placement.
 use Rattle.std.specs.Prelude.{◌≡◌}
 use Rattle.run_types.specs.declared.types.Placement.{Placement}
 use Rattle.mesh_semantics.specs.Config.{Config}

@@ -1,4 +1,5 @@
-//! The bytes of frames, worked out by hand: a byte for the side, the number, a byte for the kind of packet, and its fields.
+//! Tests of the bytes of frames, worked out by hand. A frame has a byte for the
+//! side, its number, a byte for the kind of packet, and the fields of the packet.
 use crate::steps::{Step, answer};
 use rendezvous_protocol::Packet;
 use run_types::{Args, NameId, Value};
@@ -21,7 +22,7 @@ fn call() -> Packet {
     }
 }
 
-/// Whether the bytes are of the frame, and are read as one that has these bytes.
+/// Whether the frame is encoded as these bytes, and they are decoded to a frame with the same bytes.
 fn has_bytes(frame: &Frame, wanted: &[u8]) -> bool {
     let bytes = encode(frame);
     let Some(read) = decode(&bytes) else {
@@ -30,7 +31,7 @@ fn has_bytes(frame: &Frame, wanted: &[u8]) -> bool {
     (bytes.as_slice() == wanted) & (encode(&read).as_slice() == wanted)
 }
 
-/// The bytes of the first frame of a side, which are none where there is no frame.
+/// The bytes of the first frame of a side. Empty if there is no frame.
 fn front(wire: &Wire, side: Side) -> &[u8] {
     match wire.front(side) {
         Some(bytes) => bytes.as_slice(),

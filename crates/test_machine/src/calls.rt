@@ -3,7 +3,7 @@ ghost use Rattle.std.specs.Prelude.{◌≡◌, ◌<◌, length};
 
 use cell_pool::CellPool;
 
-/// A call of a pool. `Double` writes twice the value in its place.
+/// A call of a pool. `Double` doubles the value at its place.
 #[derive(Clone, Copy)]
 pub enum Call {
     PushBack,
@@ -17,7 +17,7 @@ pub enum Call {
     Free,
 }
 
-/// The value, place or count that the call gives or gives back, and None where it gives none or its place is not there.
+/// The value, place or count that the call returns. None if it returns none, or its place is not there.
 pub fn answer(pool: &mut CellPool<u64>, call: Call, queue: usize, number: u64) -> Option<u64>
     requires { queue < length pool.old.lists }
     ensures { length pool.new.lists ≡ length pool.old.lists }

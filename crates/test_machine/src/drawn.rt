@@ -1,4 +1,4 @@
-//! A long series of steps that are drawn, on a wire and on plain lists.
+//! Long series of drawn steps, on a wire and on plain lists.
 use crate::plain::Plain;
 use crate::steps::{Step, answer, is_same};
 use rand_core::utils::NextWord;
@@ -6,7 +6,7 @@ use rand_pcg::Pcg32;
 use std::test::Fail;
 use wire_link::{Side, Wire};
 
-// For each series one of how many words lets a packet enter, and the steps.
+// Each series has a number K and its steps: one of K words lets a packet enter.
 const ROWS: &[(u32, u32)] = &[(2, 40_000), (5, 30_000), (30, 30_000)];
 
 fn step_of(word: u32) -> Step {
@@ -27,7 +27,7 @@ fn step_of(word: u32) -> Step {
     }
 }
 
-// How many packets were handed out in order; 0 where an answer was another one.
+// The number of packets that were delivered in order. 0 if an answer of the wire was wrong.
 fn handed_in(draw: &mut Pcg32, every: u32, steps: u32) -> u32 {
     let mut wire = Wire::make();
     let mut plain = Plain::make();

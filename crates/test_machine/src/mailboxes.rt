@@ -1,11 +1,12 @@
-//! A mailbox of few cells, worked out by hand.
+//! Tests of a mailbox of few cells, worked out by hand.
 ghost use Rattle.std.specs.Prelude.{◌≡◌, ◌≤◌, length};
 
 use mailbox::{Mailbox, Message};
 use run_types::{Args, List, NameId, Value};
 use std::test::Fail;
 
-// What is asked of a mailbox, and its answer: a message is put, or comes back; the first one with a name is taken from its place; or none has a name.
+// A call of a mailbox with its result: a message is stored, or comes back; the
+// first one with a name is taken from this place; or no message has a name.
 #[derive(Clone, Copy)]
 enum Step {
     Put,
@@ -14,7 +15,7 @@ enum Step {
     Nothing,
 }
 
-// A step, the slot, the message by its sender, its method and its call, and how many messages are there after it.
+// A step, the slot, the message by its sender, its method and its call, and the number of messages after the step.
 type Row = (Step, u32, u32, u32, Option<u32>, u32);
 
 const ROWS: &[Row] = &[
@@ -66,7 +67,7 @@ fn is_answered(mailbox: &mut Mailbox, names: &List<NameId>, row: &Row) -> bool
     }
 }
 
-/// Whether the mailbox answers as each row says, and then has so many messages.
+/// Whether the mailbox answers as each row says, and has the right number of messages after each.
 fn are_answered(mailbox: &mut Mailbox, names: &List<NameId>, rows: &[Row]) -> bool
     requires { 2 ≤ length mailbox.old.boxes }
 {

@@ -1,4 +1,4 @@
-//! A wire as plain lists. What entered behind k packets has the number k, and a frame is its number.
+//! A wire as plain lists. Packets have numbers from 0 in their order, and a frame is the number of its packet.
 use crate::steps::{Kind, Step, Told, name_of, of_kind};
 use arrayvec::ArrayVec;
 use wire_link::Side;
@@ -16,7 +16,7 @@ pub struct Plain {
     acks: Frames,
 }
 
-// Puts a number last, if there is one and room for it, and tells it; else `Idle`.
+// Appends a number and returns it, if there is one and room for it. Otherwise `Idle`.
 fn put(frames: &mut Frames, kind: Kind, number: Option<u32>) -> Told {
     match number {
         Some(number) if frames.try_push(number).is_ok() => Told(kind, number),

@@ -1,4 +1,4 @@
-//! Pools of few cells, with answers that were worked out by hand.
+//! Tests of pools of few cells, with answers that were worked out by hand.
 use crate::calls::{Call, answer};
 use cell_pool::CellPool;
 use std::alloc::Global;
@@ -69,7 +69,7 @@ const ONE_CELL: &[Row] = &[
     (Call::Free, 0, 0, Some(1)),
 ];
 
-/// Whether a pool of so many cells and two queues answers as the rows say.
+/// Whether a pool with this number of cells and two queues answers as the rows say.
 fn is_answered(alloc: Global, cells: usize, rows: &[Row]) -> bool {
     let Ok(mut pool) = CellPool::make(alloc, cells, 2) else {
         return false;

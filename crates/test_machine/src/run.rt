@@ -1,4 +1,4 @@
-//! The record of a call between two nodes.
+//! Test of the record of a call between two nodes.
 ghost use Rattle.std.specs.Prelude.{◌≡◌, ◌≤◌, IfSome, false, length, true};
 ghost use Rattle.code_semantics.specs.Proper.{IsProper};
 ghost use Rattle.code_semantics.specs.Suits.{Suits};
@@ -61,12 +61,12 @@ const RECORD: &[u8] = b"1 turn 0 post create 0.0 Server 1
 end quiet 12
 ";
 
-/// Writes a line of the kinds above; whether it was written.
+/// Writes a line of the kinds above. Returns whether it was written.
 fn write(line: &Line, names: &Names, sink: &mut MemSink) -> bool {
     is_writable(line, names) && write_line(line, names, sink).is_ok()
 }
 
-/// Makes the events of a schedule until all is quiet, and writes the line of each, and then how the run ended.
+/// Makes the events of a schedule until all is quiet. Writes the line of each, and then the end line.
 fn write_run(
     machine: &mut Machine<'_>,
     placement: &Placement,
@@ -105,7 +105,7 @@ fn write_run(
     write(&Line::End(end), names, sink)
 }
 
-/// Writes the record of a run of the unit; whether each line was written.
+/// Writes the record of a run of the unit. Returns whether each line was written.
 fn runs(
     alloc: Global,
     unit: &Unit,
@@ -124,7 +124,7 @@ fn runs(
     }
 }
 
-/// The same of a run by the schedule of a text.
+/// The same for a run with the schedule of a text.
 fn runs_planned(
     alloc: Global,
     unit: &Unit,
@@ -142,7 +142,7 @@ fn runs_planned(
     }
 }
 
-/// The same of a run by the placement and the schedule.
+/// The same for a run with the placement and the schedule above.
 fn runs_placed(alloc: Global, unit: &Unit, sink: &mut MemSink) -> bool
     requires proper { IsProper unit.now }
 {
@@ -164,7 +164,7 @@ fn code_of(alloc: Global, program: &Program, names: &Names) -> Option<Unit>
     compile(alloc, &checked).ok()
 }
 
-/// The code of the program of these tokens.
+/// The code of the program with these tokens.
 fn code_of_tokens(alloc: Global, read: &Tokens) -> Option<Unit>
     requires ended { EndsInEnd (toks read.now.list) }
     requires size { length read.now.list ≤ 67108865 }
@@ -187,7 +187,7 @@ fn unit_of(alloc: Global) -> Option<Unit>
     }
 }
 
-/// Writes the record of the run; whether each line was written.
+/// Writes the record of the run. Returns whether each line was written.
 fn is_written(alloc: Global, sink: &mut MemSink) -> bool {
     match unit_of(alloc) {
         Some(unit) => runs_placed(alloc, &unit, sink),

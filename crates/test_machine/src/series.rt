@@ -1,4 +1,4 @@
-//! Long series of calls that are drawn, on a pool and on a plain list.
+//! Long series of drawn calls, on a pool and on a plain list.
 ghost use Rattle.std.specs.Prelude.{◌≡◌, ◌<◌, IfSome, length};
 
 use crate::calls::{Call, answer};
@@ -8,7 +8,7 @@ use rand_pcg::Pcg32;
 use std::alloc::Global;
 use std::test::Fail;
 
-// The cells, the queues, one more than the greatest number that is drawn, and the calls.
+// The number of cells, the number of queues, an upper bound of the drawn numbers, and the number of calls.
 const ROWS: &[(usize, usize, u32, u32)] = &[
     (0, 1, 4, 100),
     (0, 5, 4, 200),
@@ -21,7 +21,7 @@ const ROWS: &[(usize, usize, u32, u32)] = &[
     (1000, 400, 10, 100_000),
 ];
 
-// More pushes than other calls, so that each pool is full now and then.
+// More pushes than other calls, so that each pool is full at times.
 fn call_of(word: u32) -> Call {
     match word % 14 {
         0..3 => Call::PushBack,
@@ -36,14 +36,14 @@ fn call_of(word: u32) -> Call {
     }
 }
 
-// What a pool is seen as: the values of all queues in one list, each with its queue, and the number of cells.
+// A pool as a plain list: the values of all queues, each with its queue, and the number of cells.
 #[derive(Drop)]
 struct Plain {
     values: Vec<(usize, u64)>,
     cells: usize,
 }
 
-// How many values of a queue stand before the first that is the number, and whether it is there.
+// The number of values of a queue before the first one with this number, and whether there is such a value.
 fn before(values: &[(usize, u64)], queue: usize, number: Option<u64>) -> (u64, bool) {
     let mut place = 0u64;
     for (at, value) in values {
@@ -57,7 +57,7 @@ fn before(values: &[(usize, u64)], queue: usize, number: Option<u64>) -> (u64, b
     (place, false)
 }
 
-// Where the value stands in the list that has so many of its queue before it.
+// The index of the value at this place of its queue.
 fn index_of(values: &[(usize, u64)], queue: usize, place: u64) -> Option<usize>
     ensures { IfSome result (λ i. i < length values.now) }
 {
@@ -97,7 +97,7 @@ impl Plain {
         }
     }
 
-    // The answer of a call for a value that is there.
+    // The answer of a call for a value at a place.
     fn at(&mut self, call: Call, queue: usize, place: u64) -> Option<u64> {
         let index = index_of(&self.values, queue, place)?;
         let value = self.values[index].1;
@@ -112,7 +112,7 @@ impl Plain {
     }
 }
 
-// Whether each queue holds the same values.
+// Whether the pool and the list have the same values in each queue.
 fn is_same(pool: &mut CellPool<u64>, plain: &mut Plain, queues: usize) -> bool
     requires { length pool.old.lists ≡ queues }
 {
@@ -127,7 +127,7 @@ fn is_same(pool: &mut CellPool<u64>, plain: &mut Plain, queues: usize) -> bool
     true
 }
 
-// Whether a pool answers each of the calls as the list, and then has the same values.
+// Whether the pool answers each of the calls as the list does, and has the same values at the end.
 fn is_answered(
     alloc: Global,
     draw: &mut Pcg32,

@@ -1,10 +1,10 @@
-//! What is asked of a wire, and what it answers.
+//! Steps of a wire, and its answers.
 ghost use Rattle.std.specs.Prelude.{◌≡◌, ◌==◌, Some, None, if◌then◌else◌};
 
 use rendezvous_protocol::Packet;
 use wire_link::{Arrived, Sent, Side, Wire};
 
-/// What is asked of a wire.
+/// A step of a wire.
 #[derive(Clone, Copy)]
 pub enum Step {
     Wants,
@@ -16,7 +16,7 @@ pub enum Step {
     Late(Side),
 }
 
-/// What it answers.
+/// The kind of an answer.
 #[derive(Clone, Copy)]
 pub enum Kind {
     Idle,
@@ -29,11 +29,11 @@ pub enum Kind {
     Late,
 }
 
-/// An answer with its number: that of a frame, the name in the packet that is handed out where it is `Next`, and 0 where it is `Idle`.
+/// An answer with its number: that of a frame, or of `Next` the name in the delivered packet, or of `Idle` 0.
 #[derive(Clone, Copy)]
 pub struct Told(pub Kind, pub u32);
 
-/// The answer of this kind, which is `Idle` where there is no number.
+/// The answer of this kind, or `Idle` if there is no number.
 pub fn of_kind(kind: Kind, number: Option<u32>) -> Told {
     match number {
         Some(number) => Told(kind, number),
@@ -45,12 +45,12 @@ pub fn is_same(left: Told, right: Told) -> bool {
     left.0 as u8 == right.0 as u8 && left.1 == right.1
 }
 
-/// The name in the packet that entered behind so many.
+/// The name in the packet with this number, from 0.
 pub fn name_of(number: u32) -> u32 {
     number.saturating_add(70)
 }
 
-/// The packet that entered behind so many.
+/// The packet with this number, from 0.
 pub fn packet(number: u32) -> Packet {
     Packet::Created {
         number: 5,
@@ -59,7 +59,7 @@ pub fn packet(number: u32) -> Packet {
     }
 }
 
-// The packet, where it has the number of the first one that was never sent.
+// The packet, if its number is the first that was never sent.
 fn fresh(wire: &Wire, number: u32, packet: Packet) -> Option<Packet>
     ensures { result ≡ (if number == wire.now.sent then Some packet else None) }
 {
@@ -95,7 +95,7 @@ fn arrive(wire: &mut Wire) -> Told {
     }
 }
 
-/// What a wire answers where so many packets entered.
+/// The answer of a wire to this step, after `entered` packets entered.
 pub fn answer(wire: &mut Wire, entered: u32, step: Step) -> Told {
     match step {
         Step::Wants => of_kind(Kind::Wants, wire.wants(entered)),

@@ -1,4 +1,4 @@
-//! Tables of placements with routes and missing links, written by hand from the rules of paths.
+//! Tests of routing tables with routes and missing links, written by hand from the rules of paths.
 ghost use Rattle.std.specs.Prelude.{◌≡◌, ◌*◌, ◌<◌};
 ghost use Rattle.run_types.specs.RoutedPlacements.{IsRouted};
 
@@ -13,8 +13,9 @@ use std::alloc::Global;
 use std::test::Fail;
 use table_routing::Table;
 
-/// A placement, with ` / ` for each line feed, and what its table says: at each node the next one to each goal, with a dash at itself, and
-/// then the links; or the least pair without route.
+/// A row has a placement, with ` / ` for each line feed, a bar, and the output of
+/// its table. The output has at each node the next node to each goal, with a dash at
+/// the node itself, and then the links. Without a route it has the least such pair.
 const TABLES: &str = "mesh 1 1 | - / links
 mesh 2 1 | - 1 / 0 - / links 0-1 1-0
 mesh 1 3 | - 1 1 / 0 - 2 / 1 1 - / links 0-1 1-0 1-2 2-1
@@ -54,7 +55,7 @@ fn unit_of(alloc: Global) -> Option<Unit> {
     compile(alloc, &checked).ok()
 }
 
-/// Adds the next node on the way to a goal, and a dash at the goal itself.
+/// Appends the next node on the way to a goal, or a dash at the goal itself.
 fn put_next(told: &mut String, next: Option<u32>) {
     let _ = match next {
         Some(next) => write!(told, "{next} "),
@@ -62,7 +63,7 @@ fn put_next(told: &mut String, next: Option<u32>) {
     };
 }
 
-/// Adds what the table says at a node, and to the links those that leave it.
+/// Appends the row of a node in the table, and appends to the links those that leave the node.
 fn put_node(told: &mut String, links: &mut String, table: &Table<'_>, nodes: u32, at: u32)
     requires nodes { nodes ≡ table.now.width * table.now.height }
     requires at { at < nodes }
@@ -76,7 +77,7 @@ fn put_node(told: &mut String, links: &mut String, table: &Table<'_>, nodes: u32
     let _ = told.push_str("/ ");
 }
 
-/// What the table of a placement says; what there is no memory for is left out.
+/// The output of the table of a placement. If memory runs out, a part of it is missing.
 fn table_told(alloc: Global, placement: &Placement) -> String
     requires { IsRouted placement.now }
 {
@@ -92,7 +93,7 @@ fn table_told(alloc: Global, placement: &Placement) -> String
     told
 }
 
-/// What is told of a placement.
+/// The output of a placement.
 fn told(alloc: Global, unit: &Unit, placement: &str) -> String {
     let mut text = String::new(alloc);
     for line in placement.split(" / ") {

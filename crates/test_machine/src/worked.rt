@@ -1,4 +1,4 @@
-//! Two packets, of which the first falls behind the second.
+//! Test of two packets whose first frame arrives after the second one.
 use crate::steps::{Kind, Step, Told, answer, is_same};
 use std::test::Fail;
 use wire_link::{Side, Wire};

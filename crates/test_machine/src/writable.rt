@@ -1,4 +1,4 @@
-//! Which lines of a run may be written, told at run time.
+//! Decides at run time which lines of a run may be written.
 ghost use Rattle.std.specs.Prelude.{◌≡◌, true};
 ghost use Rattle.record_writer.specs.Writable.{AreShort, IsShort, IsWritable, id_of_label, id_of_what};
 
@@ -38,7 +38,7 @@ fn is_writable_what(what: &What, names: &Names) -> bool
     }
 }
 
-/// Whether a line is one of a call without strings, and its name, if it has one, is a short text of the table.
+/// Whether a line is of a call without strings, and its name, if it has one, is a short text of the table.
 pub fn is_writable(line: &Line, names: &Names) -> bool
     ensures { result ≡ true → IsWritable names.now line.now }
 {

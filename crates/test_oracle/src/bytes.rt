@@ -1,4 +1,4 @@
-//! The bytes of a file, in the words of the format.
+//! Writes the bytes of an object code file.
 use crate::types::{Class, Code, File, Method, Sort, Step, number_of};
 use std::alloc::{AllocError, Global};
 
@@ -41,7 +41,7 @@ fn kinds(bytes: &mut Vec<u8>, kinds: &[Sort]) -> Result<(), AllocError> {
     Ok(())
 }
 
-/// An alternative without names is plain.
+/// The alternatives of a select. One without names is plain.
 fn ways(bytes: &mut Vec<u8>, step: &Step) -> Result<(), AllocError> {
     count(bytes, step.ways.len())?;
     for way in &step.ways {
@@ -105,7 +105,7 @@ fn class(bytes: &mut Vec<u8>, class: &Class) -> Result<(), AllocError> {
     code(bytes, &class.body)
 }
 
-/// The bytes of a file.
+/// The bytes of a file. An error means out of memory.
 pub fn bytes_of(alloc: Global, file: &File) -> Result<Vec<u8>, AllocError> {
     let mut bytes = Vec::from_slice(alloc, b"POOLU\x01")?;
     count(&mut bytes, file.names.len())?;

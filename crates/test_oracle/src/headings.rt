@@ -1,4 +1,4 @@
-//! A small judge of object code files: their headings in order, and then their codes.
+//! A small verifier of object code files: first their headings in order, and then their codes.
 use crate::sorts::{Frame, is_sorted};
 use crate::types::{Class, File, Method, Sort, Told, number_of};
 use std::alloc::{AllocError, Global};
@@ -76,7 +76,7 @@ fn is_heading(file: &File, place: usize, class: &Class) -> bool {
         && are_kinds(file, &class.vars)
 }
 
-/// The first code of a class that is not well sorted; its body has the number of its methods.
+/// The first code of a class that is not well sorted. The body has the number after the last method.
 fn bad_code(alloc: Global, file: &File, class: &Class) -> Result<Option<u32>, AllocError> {
     for (place, method) in class.methods.iter().enumerate() {
         let frame = Frame {
@@ -102,7 +102,8 @@ fn bad_code(alloc: Global, file: &File, class: &Class) -> Result<Option<u32>, Al
     }
 }
 
-/// What is to be said of a file.
+/// The verdict on a file: its first bad heading, then its first
+/// bad code, otherwise `Good`. An error means out of memory.
 pub fn judged(alloc: Global, file: &File) -> Result<Told, AllocError> {
     if file.classes.is_empty() {
         return Ok(Told::Header(0));

@@ -1,4 +1,4 @@
-//! A small reader of object code files. Where a byte is not allowed it notes the place, and reads no further.
+//! A small reader of object code files. At the first byte that is not allowed, it notes the place and reads no further.
 use crate::types::{Class, Code, File, Method, Sort, Step, Told, Way, number_of};
 use std::alloc::{AllocError, Global};
 
@@ -10,7 +10,7 @@ struct Reader<'a> {
 }
 
 impl<'a> Reader<'a> {
-    /// The next byte, which is not less than one and not more than the other.
+    /// The next byte. It must be from `least` to `most`.
     fn byte(&mut self, least: u8, most: u8) -> u8 {
         if self.bad.is_some() {
             return least;
@@ -31,7 +31,7 @@ impl<'a> Reader<'a> {
         self.byte(0, 255)
     }
 
-    /// The next number. Where a byte of it is wanting the bytes end there.
+    /// The next number, of four bytes. If one of them is missing, the file ends there and the place is noted.
     fn number(&mut self) -> u32 {
         let high = [self.any(), self.any()];
         let low = [self.any(), self.any()];
@@ -196,7 +196,7 @@ impl<'a> Reader<'a> {
     }
 }
 
-/// The first name that an earlier one equals.
+/// The first name that is equal to an earlier one.
 fn twice(names: &[Vec<u8>]) -> Option<u32> {
     for (place, name) in names.iter().enumerate() {
         for earlier in names.iter().take(place) {
@@ -208,7 +208,8 @@ fn twice(names: &[Vec<u8>]) -> Option<u32> {
     None
 }
 
-/// The file that bytes say, or why they say none.
+/// Reads the bytes of a file. Returns the file, or the verdict with the first bad byte or the first duplicate name.
+/// The outer error means out of memory.
 pub fn read(alloc: Global, bytes: &[u8]) -> Result<Result<File, Told>, AllocError> {
     let mut reader = Reader {
         bytes,

@@ -1,8 +1,9 @@
-//! Whether a code is well sorted, by passes over all places until nothing new is reached.
+//! Checks that code is well sorted, in passes over all its places until nothing new is reached.
 use crate::types::{Class, Code, File, Method, Sort, Step};
 use std::alloc::{AllocError, Global};
 
-/// Where a code stands: the kinds of its parameters and locals, and the sort that its value needs. A body has no value.
+/// The context of a code: its file and class, the kinds of its parameters and locals, and the sort of its value.
+/// A body has no value.
 #[derive(Clone, Copy)]
 pub struct Frame<'a> {
     pub file: &'a File,
@@ -32,7 +33,8 @@ fn are_methods(class: &Class, names: &[u32]) -> bool {
     true
 }
 
-/// Whether what an instruction names is there. Of a send that names a text which is no name, that is all that is asked, unless it is reached.
+/// Whether the instruction names what is there. For a send, only the name and the number of arguments are checked here;
+/// `apply` checks its method if the send is reached.
 fn is_there(frame: &Frame<'_>, size: usize, step: &Step) -> bool {
     let number = step.first as usize;
     match step.byte {
@@ -56,7 +58,8 @@ fn is_there(frame: &Frame<'_>, size: usize, step: &Step) -> bool {
     }
 }
 
-/// Whether all that is named is there, and a body has its Halt and a method its Ret where they belong.
+/// Whether each instruction names what is there, and the
+/// instructions that end a body or a method are where they belong.
 fn is_proper(frame: &Frame<'_>, steps: &[Step]) -> bool {
     for step in steps {
         let allowed = match frame.value {
@@ -74,7 +77,7 @@ fn is_proper(frame: &Frame<'_>, steps: &[Step]) -> bool {
     }
 }
 
-/// The place after a silent instruction.
+/// The place after a silent instruction. None after other instructions.
 fn behind(steps: &[Step], at: usize) -> Option<usize> {
     let step = steps.get(at)?;
     match step.byte {
@@ -84,7 +87,7 @@ fn behind(steps: &[Step], at: usize) -> Option<usize> {
     }
 }
 
-/// Whether each chain of silent instructions ends: it is no longer than the code.
+/// Whether each chain of silent instructions ends. A chain that ends is at most as long as the code.
 fn chains_end(steps: &[Step]) -> bool {
     for start in 0..steps.len() {
         let mut at = Some(start);
@@ -102,7 +105,7 @@ fn chains_end(steps: &[Step]) -> bool {
     true
 }
 
-/// Takes the last operand, and says whether it can stand where this sort is needed.
+/// Takes the last operand. Returns whether it has the required sort.
 fn take(stack: &mut Vec<Sort>, need: Sort) -> bool {
     match stack.pop() {
         Some(sort) => sort == need || sort == Sort::Nil,
@@ -119,7 +122,7 @@ fn take_all(stack: &mut Vec<Sort>, needs: &[Sort]) -> bool {
     true
 }
 
-/// Takes two operands that can be compared.
+/// Takes two operands. Returns whether they can be compared.
 fn take_alike(stack: &mut Vec<Sort>) -> bool {
     match (stack.pop(), stack.pop()) {
         (Some(one), Some(other)) => {
@@ -156,7 +159,7 @@ fn outcome(method: &Method) -> Sort {
     method.result.unwrap_or(Sort::Nothing)
 }
 
-/// The method that is sent with so many arguments, which stand on its destination.
+/// The method of a send with this number of arguments, whose destination is below them on the stack.
 fn sent<'a>(frame: &Frame<'a>, step: &Step, stack: &[Sort]) -> Option<&'a Method> {
     let place = stack
         .len()
@@ -173,7 +176,7 @@ fn sent<'a>(frame: &Frame<'a>, step: &Step, stack: &[Sort]) -> Option<&'a Method
     }
 }
 
-/// Takes the arguments and the destination.
+/// Takes the arguments and the destination, and pushes the result of a call.
 fn take_sent(frame: &Frame<'_>, step: &Step, stack: &mut Vec<Sort>) -> Result<bool, AllocError> {
     let Some(method) = sent(frame, step, stack) else {
         return Ok(false);
@@ -194,7 +197,7 @@ fn take_called(frame: &Frame<'_>, step: &Step, stack: &mut Vec<Sort>) -> Result<
     Ok(taken)
 }
 
-/// Whether the value stands alone.
+/// Whether the stack has the value and nothing else.
 fn is_value(frame: &Frame<'_>, stack: &[Sort]) -> bool {
     match (stack, frame.value) {
         ([sort], Some(need)) => *sort == need || *sort == Sort::Nil,
@@ -217,7 +220,8 @@ fn take_into(stack: &mut Vec<Sort>, sort: Option<&Sort>) -> bool {
     }
 }
 
-/// Makes of a stack what an instruction leaves of it, and says whether it can take it.
+/// Applies an instruction to a stack. Returns whether the operands
+/// have the required sorts. An error means out of memory.
 pub fn apply(frame: &Frame<'_>, step: &Step, stack: &mut Vec<Sort>) -> Result<bool, AllocError> {
     let number = step.first as usize;
     match step.byte {
@@ -269,7 +273,7 @@ fn nexts(alloc: Global, at: usize, step: &Step) -> Result<Vec<usize>, AllocError
     Ok(places)
 }
 
-/// The stacks with which places are reached.
+/// The stack with which each place is reached, if it is reached.
 #[derive(Drop)]
 struct Reached {
     stacks: Vec<Option<Vec<Sort>>>,
@@ -277,7 +281,8 @@ struct Reached {
 }
 
 impl Reached {
-    /// Notes that a place is reached with a stack, and says whether it was with no other.
+    /// Notes that a place is reached with a stack. `false` if it
+    /// was reached with another one, or there is no such place.
     fn note(&mut self, at: usize, stack: &Vec<Sort>, alloc: Global) -> Result<bool, AllocError> {
         match self.stacks.get_mut(at) {
             None => Ok(false),
@@ -290,7 +295,8 @@ impl Reached {
         }
     }
 
-    /// Goes on from a place, if it is reached; whether all is as it should be.
+    /// Applies the instruction of a place that is reached, and notes
+    /// the next places. `false` if the code is not well sorted.
     fn go_on(
         &mut self,
         alloc: Global,
@@ -313,7 +319,7 @@ impl Reached {
         Ok(true)
     }
 
-    /// The most operands of a place.
+    /// The largest number of operands at a place.
     fn longest(&self) -> usize {
         let mut longest = 0;
         for stack in &self.stacks {
@@ -325,7 +331,7 @@ impl Reached {
     }
 }
 
-/// The stacks that are reached; `None` where a place has two, or cannot take its own.
+/// The stacks of the places that are reached. None if a place has two, or its instruction cannot be applied.
 fn spread(alloc: Global, frame: &Frame<'_>, steps: &[Step]) -> Result<Option<Reached>, AllocError> {
     let mut reached = Reached {
         stacks: Vec::new(alloc),
@@ -352,7 +358,8 @@ fn spread(alloc: Global, frame: &Frame<'_>, steps: &[Step]) -> Result<Option<Rea
     Ok(Some(reached))
 }
 
-/// The most operands of a place that is reached; `None` where a place has two stacks, or cannot take its own.
+/// The largest number of operands at a place that is reached. An error means out of memory.
+/// None if a place is reached with two stacks, or its instruction cannot be applied.
 pub fn longest_of(
     alloc: Global,
     frame: &Frame<'_>,
@@ -364,7 +371,7 @@ pub fn longest_of(
     }
 }
 
-/// Whether a code is well sorted, and its frames have its words.
+/// Whether a code is well sorted, and states the right number of words for its frames. An error means out of memory.
 pub fn is_sorted(alloc: Global, frame: &Frame<'_>, code: &Code) -> Result<bool, AllocError> {
     if !is_proper(frame, &code.steps) || !chains_end(&code.steps) {
         return Ok(false);

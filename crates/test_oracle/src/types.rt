@@ -1,6 +1,6 @@
-//! What the bytes of a file say, as the small reader has it.
+//! The contents of an object code file, as the small reader has them.
 
-/// A size as a number.
+/// A size as a number of 32 bits. Larger ones become the greatest number.
 pub fn number_of(size: usize) -> u32 {
     match u32::try_from(size) {
         Ok(number) => number,
@@ -8,7 +8,7 @@ pub fn number_of(size: usize) -> u32 {
     }
 }
 
-/// A kind, or the sort of an operand; `Nothing` is what a call without result leaves.
+/// A kind, or the sort of an operand. `Nothing` is the sort of a call without a result.
 #[derive(Clone, Copy, PartialEq)]
 pub enum Sort {
     Int,
@@ -25,7 +25,7 @@ pub struct Way {
     pub at: u32,
 }
 
-/// An instruction by its byte, with its first two numbers, its names and its alternatives.
+/// An instruction: its byte, its first two numbers, its names and its alternatives.
 #[derive(Drop)]
 pub struct Step {
     pub byte: u8,
@@ -35,14 +35,14 @@ pub struct Step {
     pub ways: Vec<Way>,
 }
 
-/// The words of a frame, and the instructions.
+/// The instructions of a body or a method, and the number of words of its frames.
 #[derive(Drop)]
 pub struct Code {
     pub words: u32,
     pub steps: Vec<Step>,
 }
 
-/// A method: its temps are the kinds of its parameters and then its locals.
+/// A method. `temps` are the kinds of its parameters, and then of its locals.
 #[derive(Drop)]
 pub struct Method {
     pub name: u32,
@@ -61,7 +61,7 @@ pub struct Class {
     pub body: Code,
 }
 
-/// The table of names, and the classes.
+/// An object code file: the table of names, and the classes.
 #[derive(Drop)]
 pub struct File {
     pub names: Vec<Vec<u8>>,
@@ -69,7 +69,7 @@ pub struct File {
 }
 
 impl File {
-    /// The class of this name.
+    /// The class with this name.
     pub fn class(&self, name: u32) -> Option<&Class> {
         for class in &self.classes {
             if class.name == name {
@@ -81,7 +81,7 @@ impl File {
 }
 
 impl Class {
-    /// The method of this name.
+    /// The method with this name.
     pub fn method(&self, name: u32) -> Option<&Method> {
         for method in &self.methods {
             if method.name == name {
@@ -92,7 +92,7 @@ impl Class {
     }
 }
 
-/// What is said of a file.
+/// The verdict on a file.
 #[derive(Clone, Copy, Debug, PartialEq)]
 pub enum Told {
     BadBytes(u32),
@@ -100,7 +100,7 @@ pub enum Told {
     Header(u32),
     Code(u32, u32),
     Good,
-    /// Bytes that the file that was read does not have.
+    /// The file that was read is written as other bytes.
     OtherBytes,
     Memory,
 }

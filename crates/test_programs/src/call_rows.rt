@@ -1,7 +1,7 @@
-//! Words, inputs that are refused, records and texts, and what is answered: worked out by hand from the rules of placed machines.
-//! How a row reads, stands at the head of `calls`.
+//! Commands, rejected inputs, records and texts, with the expected result of each call.
+//! They are worked out by hand from the rules of placed machines. The head of `calls` explains the rows.
 
-/// Calls, and what is answered.
+/// Calls with their results.
 pub const ANSWERS: &str = "\
 -- Words that are no command.
 == [0] | 64 | mesh 1 1 | quantum 5~turn 0 3 | class Main body write 1 end |  | \

@@ -1,39 +1,42 @@
-//! Calls of `pool` over texts in memory, as rows tell of them.
+//! Calls of `pool` over texts in memory, as rows describe them.
 //!
-//! A row's fields are the words, the status, the placement, the schedule, the program, the output and the error line; one that is left out
-//! at the end is empty. The texts stand under the names `L`, `S` and `P`. What a field spells, is said at `spell`. Of several statuses one
-//! is answered, and where two points stand in the output or in the error line, anything may be written.
+//! The fields of a row are the arguments, the status, the placement,
+//! the schedule, the program, the output and the error line.
+//! Fields that are missing at the end are empty. The texts have the file names `L`, `S`
+//! and `P`. `spell` explains the text of a field. If there are several statuses, one of
+//! them is expected. Two points in the output or in the error line match any text.
 //!
-//! A table has such rows as frames, in a line that begins with two signs of equality, where `[N]` stands for a field of a row of the table,
-//! and ` || ` stands between two frames. A line that begins with two dashes and has no bar is a heading.
+//! A table has frames and rows. The frames are in a line that begins with `==`, with ` || ` between
+//! two frames. A frame is a row of this form, in which `[N]` is field N of a row of the table.
+//! A line that begins with two dashes and has no bar is a heading.
 use crate::printed::is_printed;
 use crate::spelled::{field, spell};
 use pool_driver::{Status, pool};
 use pool_outside::{MemFiles, MemSink, NamedText, PieceFiles};
 use std::alloc::Global;
 
-/// What the files and the sinks of a call do, and how much of what its row says is then written.
+/// The behaviour of the files and the sinks in a call, and the amount of text that is then written.
 #[derive(Clone, Copy)]
 pub struct Case {
-    /// Whether each read gives one byte, and no call of the files fails.
+    /// If true, each read gives one byte, and no call of the files fails.
     pub by_bytes: bool,
-    /// Whether a write fails, or a sink has too little room: the status is then 6.
+    /// Whether a write fails, or a sink has too little room. The status is then 6.
     pub is_cut: bool,
-    /// How many bytes of the program there are at most.
+    /// The largest number of bytes of the program; the rest is cut off.
     pub program: usize,
-    /// The number of the call of the files that fails.
+    /// The number of the call of the files that fails, from 0.
     pub call: u64,
-    /// The numbers of the writes that fail, on the output and on the error sink.
+    /// The numbers of the writes that fail, on the output and on the error sink, from 0.
     pub writes: (u64, u64),
-    /// The rooms of the two sinks.
+    /// The room of the two sinks, in bytes.
     pub rooms: (usize, usize),
-    /// The most bytes that a write takes.
+    /// The largest number of bytes that a write takes.
     pub takes: usize,
-    /// How many bytes of the row's output and of its error line are written at most.
+    /// The largest numbers of bytes that are written of the row's output and of its error line.
     pub written: (usize, usize),
 }
 
-/// The most bytes of an input, and one more.
+/// One more than the largest size of an input, in bytes.
 const LONGEST: usize = 1048577;
 
 /// The number of a call that is not made.
@@ -51,7 +54,7 @@ pub const CALM: Case = Case {
     written: (65536, 200),
 };
 
-/// The words of a line.
+/// The arguments in a line.
 fn words_of(alloc: Global, line: &str) -> Vec<String> {
     let mut words = Vec::new(alloc);
     for word in line.split_ascii_whitespace() {
@@ -60,7 +63,7 @@ fn words_of(alloc: Global, line: &str) -> Vec<String> {
     words
 }
 
-/// Adds the text that a field spells, or a front of it, under this name.
+/// Adds the text of a field under this name, cut off after `most` bytes.
 fn add(alloc: Global, texts: &mut Vec<NamedText>, name: &str, spelled: &str, most: usize) {
     let mut text = spell(alloc, spelled, "").into_bytes();
     text.truncate(most);
@@ -84,12 +87,12 @@ fn only(alloc: Global, number: u64) -> Vec<u64> {
     numbers
 }
 
-/// A sink with so much room, of which a write takes so many bytes at most, and this write fails.
+/// A sink with this room, which takes at most `takes` bytes in a write, and on which this write fails.
 pub fn sink(alloc: Global, room: usize, takes: usize, write: u64) -> Option<MemSink> {
     MemSink::make(alloc, room, takes.max(1), only(alloc, write)).ok()
 }
 
-/// Whether this is written as a field spells it, or as a front of that with so many bytes.
+/// Whether these bytes are the text of a field, cut off after `most` bytes.
 pub fn is_written(alloc: Global, bytes: &[u8], spelled: &str, most: usize) -> bool {
     let text = spell(alloc, spelled, "");
     match text.split_once("..") {
@@ -110,7 +113,7 @@ fn is_among(status: u8, statuses: &str) -> bool {
     false
 }
 
-/// Whether a call with this status wrote on its sinks what a row says, in this case.
+/// Whether the status and the text on the two sinks are those of the row, in this case.
 fn is_told(
     alloc: Global,
     row: &str,
@@ -125,7 +128,7 @@ fn is_told(
         && is_written(alloc, err.written(), field(row, 6), case.written.1)
 }
 
-/// Whether a call with these sinks is answered as a row says, in this case.
+/// Whether a call with these sinks has the result of the row, in this case.
 fn is_answered(alloc: Global, row: &str, case: Case, mut out: MemSink, mut err: MemSink) -> bool {
     let words = words_of(alloc, field(row, 0));
     let texts = texts_of(alloc, row, case.program);
@@ -139,7 +142,7 @@ fn is_answered(alloc: Global, row: &str, case: Case, mut out: MemSink, mut err: 
     is_told(alloc, row, case, status, &out, &err)
 }
 
-/// Whether a line of a table is no row.
+/// Whether a line of a table is a heading.
 pub fn is_heading(line: &str) -> bool {
     line.starts_with("-- ") && !line.contains(" | ")
 }

@@ -1,10 +1,11 @@
-//! What is answered where a call of the files fails, or a write of a sink, in turn for each call and each room, with reads of one byte,
-//! and with each front of a program.
+//! Tests of failures: each call of the files, each write and each
+//! room of a sink, reads of one byte, and each prefix of a program.
 use crate::calls::{CALM, Case, NEVER, holds};
 use std::alloc::Global;
 use std::test::Fail;
 
-/// The frames of a write of 1, and of a call between two nodes. The fields are the status, the output and the error line.
+/// The frames of a program that writes 1, and of a call between two
+/// nodes. The fields are the status, the output and the error line.
 const ONE: &str =
     "record P L S | [0] | mesh 1 1 | quantum 5~turn 0 3 | class Main body write 1 end | [1] | [2]";
 
@@ -17,7 +18,7 @@ const TWICE: &str = "record P L S | [0] | mesh 2 1~place Server at 1~ | \
 const SHORT: &str =
     "record P L S | [0] | mesh 1 1 | quantum 5~turn 0 3 | class Main var x : Bool body if x | [1] | [2]";
 
-/// What they are answered where nothing fails.
+/// The results if nothing fails.
 const WRITTEN: &str = "0 | record 2~1 turn 0 write 0.0 1~end quiet 1~";
 
 const CALLED: &str =
@@ -27,16 +28,17 @@ const CALLED: &str =
 
 const UNEXPECTED: &str = "2 |  | pool: program: Unexpected at token 9~";
 
-/// What is answered where a call of the files fails. For each input one call opens it, one gives its bytes, and one gives its end.
+/// The results if a call of the files fails. For each input one
+/// call opens it, one gives its bytes, and one gives its end.
 const NO_PROGRAM: &str = "5 |  | pool: program: read fault~";
 
 const NO_PLACEMENT: &str = "5 |  | pool: placement: read fault~";
 
 const NO_SCHEDULE: &str = "5 |  | pool: schedule: read fault~";
 
-/// A row of the write of 1, the call of the files that fails, the writes that fail once on the output and on the error sink, and would
-/// succeed if they were tried again, and how much is written before them. Each line of the record is written by itself, and of a line a
-/// write takes ten bytes.
+/// Each entry has a row, the call of the files that fails, the writes that fail on the output and on the error sink,
+/// and the number of bytes that are written before. Such a write fails once, and would succeed if it was tried again.
+/// Each line of the record is written by itself, and a write takes ten bytes of it.
 const WRITES: [(&str, u64, u64, u64, usize); 9] = [
     (WRITTEN, NEVER, 0, NEVER, 0),
     (WRITTEN, NEVER, 1, NEVER, 9),
@@ -49,7 +51,7 @@ const WRITES: [(&str, u64, u64, u64, usize); 9] = [
     (NO_PLACEMENT, 4, NEVER, 2, 20),
 ];
 
-/// Where the sinks have so much room, of the length of what is written.
+/// A case with this room in both sinks, for an output of this length.
 fn with_room(call: u64, room: usize, length: usize) -> Case {
     Case {
         is_cut: room < length,
@@ -61,7 +63,8 @@ fn with_room(call: u64, room: usize, length: usize) -> Case {
     }
 }
 
-/// Whether a row holds in each room of its sinks: what is written is a front of so many bytes.
+/// Whether a row holds for each room of the sinks from `least` to
+/// `length`. A prefix of the output is then written that fills the room.
 fn holds_in_each_room(
     alloc: Global,
     frame: &str,
@@ -78,7 +81,7 @@ fn holds_in_each_room(
     true
 }
 
-/// The length of what is written stands behind it.
+/// Each entry ends with the length of the output.
 #[test]
 fn each_room_takes_a_front_of_what_is_written(rt: HostRuntime) -> Result<(), Fail> {
     for (frame, row, length) in [
@@ -94,7 +97,7 @@ fn each_room_takes_a_front_of_what_is_written(rt: HostRuntime) -> Result<(), Fai
     Ok(())
 }
 
-/// With the least room of the sinks, and the length of the line that is told.
+/// Each entry ends with the smallest room of the sinks, and the length of the error line.
 #[test]
 fn each_failing_call_of_the_files_is_told(rt: HostRuntime) -> Result<(), Fail> {
     for (frame, row, first, least, length) in [
@@ -130,7 +133,8 @@ fn no_write_is_made_after_a_failed_one(rt: HostRuntime) -> Result<(), Fail> {
     Ok(())
 }
 
-/// A front that has the first class, whole, and at most the line feed behind it, is a program of its own: the class has 86 bytes of the 158.
+/// The prefixes with the first class and at most the line feed
+/// after it are programs. The class has 86 of the 158 bytes.
 #[test]
 fn each_front_of_a_program_is_refused_but_its_first_class(rt: HostRuntime) -> Result<(), Fail> {
     for program in 0..158_usize {

@@ -1,6 +1,7 @@
-//! Texts of programs and what is told of each, written by hand from the grammar and the rules of well-formed classes. How a row reads, stands at the head of `calls`.
+//! Programs with the expected fault of each, written by hand from the grammar and the rules of well-formed classes.
+//! The head of `calls` explains the rows.
 
-/// What is told, and a text.
+/// A row has the expected fault or `accepted`, and a text.
 pub const FAULTS: &str = "\
 == record P L S | 2 | mesh 1 1~ | quantum 1~ | [1] |  | pool: program: [0]~ || print P | 2 |  |  | [1] |  | pool: program: [0]~
 -- White space, comments and tokens.

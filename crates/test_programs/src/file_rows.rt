@@ -1,7 +1,8 @@
-//! Object code files of programs, and object code files that are run without a program, or refused: by hand from the format of the files.
-//! How a row reads, stands at the head of `calls`. A byte 10 of a file is spelled as a line feed.
+//! Object code files of programs, and object code files that are run without a program or rejected.
+//! They are written by hand from the format of the files. The head of
+//! `calls` explains the rows. A byte 10 of a file is written as a line feed.
 
-/// Files that are made, and files that are run.
+/// Files that are built, and files that are run.
 pub const FILES: &str = "\
 -- A program and its file. The second has a kind of each form, and the third post statements.
 == build P | 0 |  |  | [0] | [1]

@@ -1,6 +1,6 @@
-//! Tokens that begin a program, and the tokens that may come next, written by hand from the grammar.
+//! Tokens that begin a program, with the tokens that may come next, written by hand from the grammar.
 
-/// A row is the tokens, a bar and what may come next. A line that begins with two dashes is a heading.
+/// A row has the tokens, a bar, and the tokens that may come next. A line that begins with two dashes is a heading.
 pub const FRONTS: &str = r##"-- program, class
  | class
 class | NAME

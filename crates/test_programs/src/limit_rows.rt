@@ -1,6 +1,6 @@
-//! The last that is allowed of a limit, and the first that is refused. How a row reads, stands at the head of `calls`.
+//! The last value that a limit allows, and the first that it rejects. The head of `calls` explains the rows.
 
-/// Limits of a placement, of brackets and of names.
+/// Limits of placements, of nested brackets and of names.
 pub const LIMITS: &str = "\
 == [0] | [1] | [2] | [3] | [4] | [5] | [6]
 -- Words of a placement: 64 nodes of 1 * 16 + 2000 * 96 + cells * 24.
@@ -16,7 +16,7 @@ record P L S | 0 | mesh 1 1 | quantum 5~turn 0 3 | class [64:M] body write 1 end
 record P L S | 2 | mesh 1 1 | quantum 5~turn 0 3 | class [65:M] body write 1 end |  | pool: program: TooLong at byte 6~
 ";
 
-/// Inputs of the greatest sizes: none of them is answered with want of memory.
+/// Inputs of the largest sizes. No call of them runs out of memory.
 pub const LONGEST: &str = "\
 == [0] | [1] | [2] | [3] | [4] | [5] | [6]
 -- A program of 1,048,576 bytes, and one of a byte more; the schedule has 1,048,576 bytes.

@@ -1,7 +1,7 @@
-//! Texts of programs and their canonical texts, written by hand from the grammar and the rules of the canonical text.
-//! How a row reads, stands at the head of `calls`.
+//! Programs and their canonical texts, written by hand from the grammar and the rules of the canonical text.
+//! The head of `calls` explains the rows.
 
-/// Texts and their canonical texts.
+/// Programs and their canonical texts.
 pub const PRINTS: &str = "\
 -- Expressions behind `write`.
 == canonical | class A body write [0] end | class A~body write [1] end~ || canonical | class A~body write [1] end~ | class A~body write [1] end~

@@ -1,4 +1,4 @@
-//! The canonical texts that are printed, whether the classes fit or not, and the tokens that may not come next.
+//! Tests of canonical texts, with and without class faults, and of the tokens that may not come next.
 use crate::calls::{NEVER, is_heading, is_written, sink};
 use crate::front_rows::FRONTS;
 use crate::spelled::{field, spell};
@@ -13,7 +13,7 @@ const EACH_TOKEN: &str =
     "class var method local begin result post end body if then else fi while do od answer select when write new self nil true false not and or Int \
     Bool := : ; , ( ) ! !! == != < <= > >= + - * / % x 1 \"s\" END";
 
-/// The tokens for which a word of a row stands.
+/// The tokens that a word of a row represents.
 fn tokens_of(word: &str) -> &str {
     match word {
         "NAME" => "x",
@@ -36,7 +36,7 @@ fn may_come(words: &str, token: &str) -> bool {
     false
 }
 
-/// Whether the parser finds that the token at this place may not stand there.
+/// Whether the parser reports the token at this place as unexpected.
 fn is_unexpected(alloc: Global, text: &str, place: usize) -> bool {
     if text.len() > 1000 {
         return false;
@@ -50,7 +50,7 @@ fn is_unexpected(alloc: Global, text: &str, place: usize) -> bool {
     }
 }
 
-/// Whether the token is unexpected behind the front of a row exactly where it is not among those that may come next.
+/// Whether the parser rejects the token after a row's tokens exactly if it is not among those that may come next.
 fn is_told_behind(alloc: Global, row: &str, token: &str) -> bool {
     let front = field(row, 0);
     let place = front.split_ascii_whitespace().count();
@@ -60,7 +60,7 @@ fn is_told_behind(alloc: Global, row: &str, token: &str) -> bool {
     is_unexpected(alloc, text.as_str(), place) != may_come(field(row, 1), token)
 }
 
-/// Whether a line of the fronts is a heading, or each token is told rightly behind its front.
+/// Whether a line of `FRONTS` is a heading, or the parser is right about each token after its tokens.
 fn is_right_front(alloc: Global, row: &str) -> bool {
     if is_heading(row) {
         return true;
@@ -73,7 +73,7 @@ fn is_right_front(alloc: Global, row: &str) -> bool {
     true
 }
 
-/// Whether a text is printed as this canonical text. Whether the classes fit is not asked.
+/// Whether a program is printed as this canonical text. It may have class faults.
 pub fn is_printed(alloc: Global, text: &str, canonical: &str) -> bool {
     let text = spell(alloc, text, "");
     if text.len() > 1048576 {

@@ -1,5 +1,5 @@
-//! Programs that run, and what they show: worked out by hand from the rules of the language, of placements and of schedules.
-//! How a row reads, stands at the head of `calls`.
+//! Programs with their runs, worked out by hand from the rules of the language, of placements and of schedules.
+//! The head of `calls` explains the rows.
 
 /// Runs on placements of one and more nodes.
 pub const RUNS: &str = "\

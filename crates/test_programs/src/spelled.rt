@@ -1,13 +1,14 @@
-//! The texts that rows spell. What there is no memory for is left out of a text, and then the row that is told of does not hold.
+//! The notation of texts in rows. If memory runs out, a part of a text is missing, and its row does not hold.
 use std::alloc::Global;
 
-/// The field of a row at this place, from 0: bars with a space on both sides stand between them. A field that is not there is empty.
+/// The field of a row at this index, from 0. Fields are separated
+/// by a bar with spaces on both sides. Empty if there is none.
 pub fn field(row: &str, place: usize) -> &str {
     row.split(" | ").nth(place).unwrap_or("")
 }
 
-/// The text that is spelled: `~` is a line feed, `^` a carriage return, `[N:PART]` the part N times, with its number from 0 in place of
-/// a `$`, and `[N]` the field of a row at the place N.
+/// The text of a notation: `~` is a line feed, and `^` a carriage return. `[N:PART]` repeats the part
+/// N times, and a `$` in it becomes the number of the repetition, from 0. `[N]` is field N of the row.
 pub fn spell(alloc: Global, spelled: &str, row: &str) -> String {
     let mut text = String::new(alloc);
     for piece in spelled.split('[') {
@@ -32,7 +33,7 @@ fn put(text: &mut String, spelled: &str) {
     }
 }
 
-/// What stands in brackets.
+/// Appends the text of a notation in brackets.
 fn put_part(text: &mut String, part: &str, row: &str) {
     match part.split_once(':') {
         Some((count, part)) => put_often(text, count.parse::<usize>().unwrap_or(0), part),

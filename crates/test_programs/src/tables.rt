@@ -1,4 +1,4 @@
-//! The tables of rows.
+//! Tests of the tables of rows.
 use crate::call_rows::ANSWERS;
 use crate::calls::{CALM, Case, holds, is_heading};
 use crate::fault_rows::FAULTS;
@@ -9,11 +9,11 @@ use crate::run_rows::RUNS;
 use std::alloc::Global;
 use std::test::Fail;
 
-/// The frames of a program of which is told that it is accepted. No turn of it is made.
+/// The frames for a program that is accepted. Its run has no turn.
 const ACCEPTED: &str =
     "record P L S | 0 3 | mesh 1 1~ | quantum 1~ | [1] | record 2~.. || print P | 0 |  |  | [1] | class ..~";
 
-/// A case with room for the greatest outputs.
+/// A case with room for the largest outputs.
 const AMPLE: Case = Case {
     rooms: (67108864, 200),
     takes: 65536,
@@ -39,7 +39,7 @@ fn is_right(alloc: Global, frames: &str, row: &str, case: Case) -> bool {
     true
 }
 
-/// The first row of a table, behind its frames, that does not hold.
+/// The first row of a table that does not hold. The table begins with its frames.
 fn first_wrong_of(alloc: Global, table: &'static str, case: Case) -> Option<&'static str> {
     let (frames, rows) = table.split_once('\n').unwrap_or((table, ""));
     let frames = frames.strip_prefix("== ").unwrap_or(frames);

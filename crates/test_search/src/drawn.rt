@@ -1,9 +1,9 @@
-//! Small programs, drawn.
+//! Small drawn programs.
 use rand_core::utils::NextWord;
 use rand_pcg::Lcg64Xsh32;
 use std::alloc::{AllocError, Global};
 
-/// What a body may do.
+/// Statements of a body.
 const PIECES: [&str; 12] = [
     "answer(hit)",
     "answer(tell)",
@@ -19,20 +19,20 @@ const PIECES: [&str; 12] = [
     "answer(rest, hit)",
 ];
 
-/// How the two objects come to know each other.
+/// Ways to make the two objects known to each other.
 const LINKS: [&str; 3] = [
     "p ! set(q); q ! set(p)",
     "p !! set(q); q !! set(p)",
     "p ! set(q)",
 ];
 
-/// What the first object does at last.
+/// The last statement of the root object.
 const LAST: [&str; 4] = ["", "; write p ! hit(3)", "; p !! tell(2)", "; q ! rest()"];
 
-/// What is left of a method that has its value.
+/// The post statements of a method, after its value.
 const POSTS: [&str; 2] = ["", "post n := k "];
 
-/// A class that knows the other one, with a drawn body.
+/// A class with a drawn body, which knows an object of the other class.
 fn class(
     alloc: Global,
     generator: &mut Lcg64Xsh32,
@@ -51,7 +51,7 @@ fn class(
     Ok(text)
 }
 
-/// The program of this number.
+/// The drawn program with this number.
 pub fn program(alloc: Global, draw: u64) -> Result<String, AllocError> {
     let mut generator = Lcg64Xsh32::new(draw, 23);
     let mut text = class(alloc, &mut generator, "P", "Q")?;

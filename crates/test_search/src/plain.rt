@@ -1,5 +1,5 @@
-//! A plain search through all runs: every label, in every order. Two configurations are one where each object has done the same, label by label: so nothing is compared but
-//! numbers of labels, and no state.
+//! A plain search through all runs: every label, in every order. Two configurations count as the same if each
+//! object has made the same labels in the same order. So the search compares only labels, and no states.
 ghost use Rattle.std.specs.Prelude.{◌≡◌, false, IfOk, IfSome};
 ghost use Rattle.pool_semantics.specs.PlainOf.{is_spent};
 
@@ -10,18 +10,18 @@ use run_types::{Args, Item, Label, NameId, Redex};
 use std::alloc::{AllocError, Global};
 use std::collections::BTreeSet;
 
-/// What some run leads to.
+/// What the runs of a program lead to.
 #[derive(Clone, Copy, Debug, PartialEq, Eq, Drop)]
 pub struct Met {
-    /// An end with an object in a call.
+    /// A run ends with an object in a call.
     pub stuck: bool,
-    /// An end with an object in a call or at an answer, or with a message.
+    /// A run ends with an object in a call, at `answer` or at `select`, or with a message that was not taken.
     pub unfinished: bool,
-    /// A language error.
+    /// A run meets a run-time error.
     pub faulty: bool,
 }
 
-/// The configuration to which labels lead; None where one of them is not possible.
+/// The configuration to which these labels lead. None if one of them is impossible. An error means out of memory.
 pub fn made<'a>(
     alloc: Global,
     program: &Checked<'a>,
@@ -40,7 +40,7 @@ pub fn made<'a>(
     Ok(Some(plain))
 }
 
-/// The objects of a label: the one that makes the transition, and the other one if there is one.
+/// The objects of a label: first the one that makes the transition, and then the other one, or the same again.
 fn objects_of(label: &Label) -> (u32, u32) {
     match *label {
         Label::Local { object }
@@ -71,7 +71,7 @@ fn objects_of(label: &Label) -> (u32, u32) {
     }
 }
 
-/// Puts a message: a letter for its kind, the other object, the method and the arguments.
+/// Appends a message: a letter for its kind, the other object, the method and the arguments.
 fn put_message(
     text: &mut Vec<u8>,
     word: &[u8],
@@ -85,7 +85,7 @@ fn put_message(
     push_args(text, args)
 }
 
-/// Puts what is written.
+/// Appends an item that is written.
 fn put_item(text: &mut Vec<u8>, item: Item) -> Result<(), AllocError> {
     match item {
         Item::Value(value) => push_value(text, value),
@@ -93,7 +93,7 @@ fn put_item(text: &mut Vec<u8>, item: Item) -> Result<(), AllocError> {
     }
 }
 
-/// Puts what one object sees of a label.
+/// Appends the part of a label that one object sees.
 fn put(text: &mut Vec<u8>, label: &Label) -> Result<(), AllocError> {
     match label {
         Label::Local { .. } => push_word(text, b"l"),
@@ -148,7 +148,7 @@ fn put(text: &mut Vec<u8>, label: &Label) -> Result<(), AllocError> {
     }
 }
 
-/// Whether the object sees the label: a message is sent without its receiver, and taken without its sender.
+/// Whether the object sees the label. The receiver does not see a send, and the sender does not see a take.
 fn sees(object: u32, label: &Label) -> bool {
     let (agent, other) = objects_of(label);
     match label {
@@ -157,7 +157,7 @@ fn sees(object: u32, label: &Label) -> bool {
     }
 }
 
-/// What each object has done, one after another.
+/// The labels that each object has seen, object by object.
 fn done(alloc: Global, labels: &[Label], count: u32) -> Result<Vec<u8>, AllocError> {
     let mut text = Vec::new(alloc);
     for object in 0..count {
@@ -171,7 +171,7 @@ fn done(alloc: Global, labels: &[Label], count: u32) -> Result<Vec<u8>, AllocErr
     Ok(text)
 }
 
-/// How many objects there are after these labels.
+/// The number of objects after these labels.
 fn objects_after(labels: &[Label]) -> u32 {
     let mut count = 1_u32;
     for label in labels {
@@ -182,7 +182,7 @@ fn objects_after(labels: &[Label]) -> u32 {
     count
 }
 
-/// How many messages were sent and not taken.
+/// The number of messages that were sent and not taken.
 fn untaken(labels: &[Label]) -> u32 {
     let mut count = 0_u32;
     for label in labels {
@@ -195,7 +195,7 @@ fn untaken(labels: &[Label]) -> u32 {
     count
 }
 
-/// Adds what is met in a configuration, where no label is possible, or some are.
+/// Notes what a configuration is. `ended` says that no label is possible.
 fn look(plain: &Plain<'_>, count: u32, untaken: u32, ended: bool, met: &mut Met) {
     if ended && untaken > 0 {
         met.unfinished = true;
@@ -219,7 +219,7 @@ fn look(plain: &Plain<'_>, count: u32, untaken: u32, ended: bool, met: &mut Met)
     }
 }
 
-/// Looks at the configuration to which labels lead, and gives the longer runs that lead on from there.
+/// Notes what the configuration after these labels is, and returns the runs that are one label longer.
 fn expand(
     alloc: Global,
     program: &Checked<'_>,
@@ -245,7 +245,7 @@ fn expand(
     Ok(longer)
 }
 
-/// Searches all runs, up to this number of configurations; None where there are more.
+/// Searches all runs. None if there are `most` configurations or more. An error means out of memory.
 pub fn search_plainly(
     alloc: Global,
     program: &Checked<'_>,

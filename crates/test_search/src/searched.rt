@@ -1,4 +1,4 @@
-//! Answers of the search on drawn programs.
+//! Tests of the search on drawn programs, against the plain search.
 use crate::drawn::program;
 use crate::plain::{made, search_plainly};
 use class_check::Checked;
@@ -7,7 +7,8 @@ use pool_search::{Query, SearchResult, Target, search};
 use std::alloc::{AllocError, Global};
 use std::test::Fail;
 
-/// What a search finds: whether there is a run, which the stepper makes label by label. None where it is over, or where the run is none.
+/// Whether the search finds a run, which the stepper then repeats label
+/// by label. None if the search met a bound, or the run is impossible.
 fn found(
     alloc: Global,
     program: &Checked<'_>,
@@ -28,7 +29,7 @@ fn found(
     }
 }
 
-/// Whether both searches of the program say the same.
+/// Whether both searches of the program have the same results.
 fn agrees(alloc: Global, program: &Checked<'_>) -> Result<bool, AllocError> {
     let Some(met) = search_plainly(alloc, program, 100_000)? else {
         return Ok(false);
@@ -41,7 +42,7 @@ fn agrees(alloc: Global, program: &Checked<'_>) -> Result<bool, AllocError> {
     )
 }
 
-/// Whether the program of this number is one, and both searches of it say the same.
+/// Whether the text with this number is a program without class faults, and both searches of it have the same results.
 fn holds(alloc: Global, draw: u64) -> Result<bool, AllocError> {
     let text = program(alloc, draw)?;
     if text.len() > 1_048_576 {

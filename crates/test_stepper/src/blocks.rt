@@ -1,4 +1,4 @@
-//! The programs of the rows, each with what is told of its runs.
+//! Tests of the programs of the rows, with their runs and records.
 ghost use Rattle.std.specs.Prelude.{◌≤◌, length};
 ghost use Rattle.pool_lexer.specs.TokenLists.{EndsInEnd};
 ghost use Rattle.pool_syntax.specs.Tokens.{toks};
@@ -14,7 +14,7 @@ use pool_parser::parse;
 use run_types::Names;
 use std::alloc::Global;
 
-/// The first row of a program's run, or of its records, that does not hold; none is empty.
+/// The first row of a program's run, or of its records, that does not hold. Empty if there is none.
 fn first_wrong_row(
     alloc: Global,
     checked: &Checked<'_>,
@@ -30,7 +30,7 @@ fn first_wrong_row(
     }
 }
 
-/// The same with a table of names of its own, in which those of labels and records go last.
+/// The same with a copy of the table of names. The names of labels and records are added to the copy.
 fn first_wrong_by(
     alloc: Global,
     checked: &Checked<'_>,
@@ -43,7 +43,7 @@ fn first_wrong_by(
     }
 }
 
-/// The same of the program of these tokens; all rows where it is none.
+/// The same for the program of these tokens. All rows if they are not a program.
 fn first_wrong_of(alloc: Global, tokens: &Tokens, rows: &'static str) -> &'static str
     requires ended { EndsInEnd (toks tokens.now.list) }
     requires size { length tokens.now.list ≤ 67108865 }
@@ -58,7 +58,7 @@ fn first_wrong_of(alloc: Global, tokens: &Tokens, rows: &'static str) -> &'stati
     }
 }
 
-/// The same of the program of this text.
+/// The same for the program of this text.
 fn first_wrong_in(alloc: Global, text: &str, rows: &'static str) -> &'static str {
     if text.len() > 10000 {
         return rows;
@@ -69,7 +69,7 @@ fn first_wrong_in(alloc: Global, text: &str, rows: &'static str) -> &'static str
     }
 }
 
-/// The first row that does not hold; none is empty.
+/// The first row of all programs that does not hold. Empty if there is none.
 fn first_wrong(alloc: Global) -> &'static str {
     for block in RUNS.split("\n\n").chain(JUDGED.split("\n\n")) {
         let (text, rows) = block.split_once("\n--\n").unwrap_or(("", block));

@@ -1,11 +1,11 @@
-//! Verdicts on records that are put together of lines.
+//! Verdicts on records that are composed of numbered lines.
 use crate::texts::{is_told, lines_of};
 use class_check::Checked;
 use record_check::check_record;
 use run_types::Names;
 use std::alloc::Global;
 
-/// The line of this number, from 1; none is empty.
+/// The line with this number, from 1. Empty if there is none.
 fn line_at<'a>(lines: &'a str, number: &str) -> &'a str {
     match number.parse::<usize>() {
         Ok(number) => lines.lines().nth(number.saturating_sub(1)).unwrap_or(""),
@@ -13,7 +13,7 @@ fn line_at<'a>(lines: &'a str, number: &str) -> &'a str {
     }
 }
 
-/// The record of the lines of these numbers, with its end.
+/// The record with the lines of these numbers, and its end.
 fn record_of(alloc: Global, lines: &str, numbers: &str) -> String {
     let mut record = String::new(alloc);
     let mut done = 0_u32;
@@ -29,7 +29,7 @@ fn record_of(alloc: Global, lines: &str, numbers: &str) -> String {
     record
 }
 
-/// Whether the record of the row has the verdict that the row tells.
+/// Whether the record of the row has the verdict of the row.
 fn is_judged(
     alloc: Global,
     checked: &Checked<'_>,
@@ -48,7 +48,7 @@ fn is_judged(
     }
 }
 
-/// The first of the rows that is judged otherwise; none is empty.
+/// The first row with another verdict. Empty if there is none.
 pub fn first_misjudged<'a>(
     alloc: Global,
     checked: &Checked<'_>,

@@ -1,9 +1,12 @@
-//! Records, altered in one place, with the verdict on each, worked out by hand from the rules of the transition relation.
+//! Records that are altered in one place, with the verdict on each,
+//! worked out by hand from the rules of the transition relation.
 //!
-//! A block is a program, a line `--`, lines of records, a line `--`, and rows; an empty line ends it. The lines are those of the format but for the
-//! numbers of events, which are put in. The first of them are a record; those behind stand in the place of one of them.
-//! A row is `LINES END -> VERDICT`: the record has the lines of these numbers, from 1, and ends so; its verdict is written as its line is. The first row
-//! of a block is the record as it is; in the others a line is left out, stands twice, stands behind the next one, or is another line.
+//! A block has a program, a line `--`, lines of records, a line `--`, and rows. An empty line
+//! ends it. The lines are in the format of records, but without the numbers of events, which
+//! the test adds. The first lines are a record, and each of the others replaces one of them.
+//! A row is `LINES END -> VERDICT`. The record has the lines of these numbers, from 1, and this
+//! end. The verdict is in the format of its line. The first row of a block is the record as it
+//! is. In each other row a line is missing, doubled, moved after the next one, or replaced.
 pub const JUDGED: &str = r##"# A call between two nodes. Of the delays nothing is asked.
 class Server method twice(n : Int) : Int begin result n + n end body answer(twice) end
 class Main var s : Server body s := new Server; write s ! twice(21) end

@@ -1,10 +1,11 @@
 //! Runs of the plain stepper, label by label, written by hand from the rules of the transition relation.
 //!
-//! A run is a program, a line `--`, a line `root O` with the name of its first object, and a step a line; an empty line ends it.
-//! A step is one of three. `LABEL` is made, `local O K` K times. `LABEL -> REDEX` is refused with this redex. `O -> REDEX` tells
-//! what the object O does next. Labels and redexes are written as in records and verdicts, with `node.slot` as an object's name.
-//! Among the redexes `send P m args` is a call that waits for its answer, `async P m args` an asynchronous send, `waits P` a call
-//! that P serves, and `none` stands for an object that is not there.
+//! A run has a program, a line `--`, a line `root O` with the name of its first object, and a step in each
+//! line. An empty line ends it. There are three kinds of steps. `LABEL` is possible and made; `local O K` is
+//! made K times. `LABEL -> REDEX` is impossible, and the object has this redex. `O -> REDEX` is the redex of
+//! the object O. Labels and redexes are in the format of records and verdicts, with `node.slot` as the name
+//! of an object. The redex `send P m args` is a call that waits for its answer, `async P m args` is an
+//! asynchronous send, `waits P` is a call that P serves, and `none` means that there is no such object.
 
 /// The runs, in seven parts, each with its heading.
 pub const RUNS: &str =

@@ -1,4 +1,4 @@
-//! The plain stepper over the steps of a run.
+//! Runs the plain stepper over the steps of a run.
 use crate::texts::{is_told, lines_of};
 use class_check::Checked;
 use pool_semantics::{Plain, Refuse, agent};
@@ -6,7 +6,7 @@ use run_record::{Steps, label_of};
 use run_types::{Label, Line, Names, Verdict};
 use std::alloc::Global;
 
-/// What the first line shows.
+/// The transition that the first line shows.
 fn first_of(lines: &[Line]) -> Option<Steps> {
     label_of(lines.first()?)
 }
@@ -23,7 +23,7 @@ fn no_alternative(words: &str) -> Option<Steps> {
     }
 }
 
-/// The label of these words, and how often it is made; a name alone is that of an object, for which this is its local transition.
+/// The label of these words, and the number of times it is made. A single name means a local transition of this object.
 fn steps_of(alloc: Global, names: &mut Names, words: &str) -> Option<Steps> {
     let (before, behind) = if words.contains(' ') {
         ("", "")
@@ -38,7 +38,8 @@ fn steps_of(alloc: Global, names: &mut Names, words: &str) -> Option<Steps> {
     }
 }
 
-/// Makes the label as often as is told: yes, or no with the redex where it is refused. Want of memory is a verdict that no step has.
+/// Makes the label the given number of times. Returns yes, or no with the redex if it is impossible.
+/// Out of memory is a verdict that no step has.
 fn make(plain: &mut Plain<'_>, steps: &Steps) -> Verdict {
     for _ in 0..steps.times {
         match plain.apply(&steps.label) {
@@ -50,7 +51,7 @@ fn make(plain: &mut Plain<'_>, steps: &Steps) -> Verdict {
     Verdict::Yes
 }
 
-/// Whether the stepper does what the step says: makes a label, refuses it, or tells what an object does next.
+/// Whether the stepper agrees with the step: it makes the label, rejects it, or has this redex for the object.
 fn is_done(alloc: Global, plain: &mut Plain<'_>, names: &mut Names, step: &str) -> bool {
     let (words, redex) = step.split_once(" -> ").unwrap_or((step, ""));
     let Some(steps) = steps_of(alloc, names, words) else {
@@ -70,7 +71,7 @@ fn is_done(alloc: Global, plain: &mut Plain<'_>, names: &mut Names, step: &str) 
     }
 }
 
-/// The first of the steps that is not done; none is empty.
+/// The first step with which the stepper does not agree. Empty if there is none.
 fn first_step<'a>(
     alloc: Global,
     plain: &mut Plain<'_>,
@@ -85,7 +86,7 @@ fn first_step<'a>(
     ""
 }
 
-/// The same of a run, which begins with its root.
+/// The same for a run, which begins with its root.
 pub fn first_not_done<'a>(
     alloc: Global,
     checked: &Checked<'_>,

@@ -1,5 +1,5 @@
-//! Codes that are drawn: blocks, each reached with its own stack of sorts, in a drawn order, with instructions between them that are
-//! not reached. An instruction for which there is no memory is left out.
+//! Drawn codes. A code consists of blocks in a drawn order, each reached with a stack of sorts of its own.
+//! Between the blocks are instructions that are not reached. If memory runs out, an instruction is missing.
 use crate::draw::Draw;
 use std::alloc::Global;
 use std::mem;
@@ -7,23 +7,23 @@ use test_oracle::{
     Class, Code, File, Frame, Method, Sort, Step, Way, apply, is_string, longest_of, number_of,
 };
 
-/// The codes of a file so far, and the one that is under way.
+/// The finished codes of a file, and the code under construction.
 #[derive(Drop)]
 struct Coding<'a> {
     alloc: Global,
     draw: Draw,
     frame: Frame<'a>,
-    /// The sorts of operands with which blocks are reached.
+    /// The sorts of operands in the stacks of blocks.
     sorts: Vec<Sort>,
-    /// Stacks, one behind the other, and where there the stack of each block starts and ends.
+    /// The stacks of all blocks in one list, and the start and end of each block's stack in it.
     stacks: Vec<Sort>,
     entries: Vec<(usize, usize)>,
-    /// The instructions of the blocks, where each block starts among them, and where the last one ends.
+    /// The instructions of the blocks, and the start of each block in them, and the end of the last one.
     steps: Vec<Step>,
     starts: Vec<usize>,
-    /// The operands behind the instructions.
+    /// The stack after the instructions so far.
     stack: Vec<Sort>,
-    /// The instructions in the order in which they stand in the code, and where each block starts among those.
+    /// The instructions in the order of the code, and the start of each block in them.
     laid: Vec<Step>,
     places: Vec<usize>,
     codes: Vec<Code>,
@@ -40,7 +40,7 @@ fn step(alloc: Global, byte: u8, first: u32, second: u32) -> Step {
 }
 
 impl<'a> Coding<'a> {
-    /// Adds an instruction where it can take the stack.
+    /// Adds an instruction, if it can be applied to the stack.
     fn add_step(&mut self, one: Step) {
         let mut stack = Vec::new(self.alloc);
         let _ = stack.extend_from_slice(&self.stack);
@@ -50,12 +50,12 @@ impl<'a> Coding<'a> {
         }
     }
 
-    /// Adds an instruction of at most two numbers where it can take the stack.
+    /// Adds an instruction of at most two numbers, if it can be applied to the stack.
     fn add(&mut self, byte: u8, first: u32, second: u32) {
         self.add_step(step(self.alloc, byte, first, second));
     }
 
-    /// The same with a drawn number.
+    /// The same with a drawn number, one of `most` from `least`.
     fn add_drawn(&mut self, byte: u8, least: usize, most: usize) {
         let number = self.draw.below(most).saturating_add(least);
         self.add(byte, number_of(number), 0);
@@ -73,7 +73,7 @@ impl<'a> Coding<'a> {
         }
     }
 
-    /// Pushes an operand of a kind, or of nil.
+    /// Pushes an operand of this sort, or nil if the sort is not a kind.
     fn push(&mut self, sort: Sort) {
         let var = self.draw.below(self.frame.class.vars.len());
         let temp = self.draw.below(self.frame.temps.len());
@@ -109,7 +109,7 @@ impl<'a> Coding<'a> {
         }
     }
 
-    /// A call of a method of the own class or of another one, or a message.
+    /// Adds a call of a method of the own class or of another one, or an asynchronous send.
     fn add_call(&mut self) {
         let classes = &self.frame.file.classes;
         let Some(class) = classes.get(self.draw.below(classes.len())) else {
@@ -149,7 +149,7 @@ impl<'a> Coding<'a> {
         self.add_step(one);
     }
 
-    /// A text that is written, if the one that is drawn may be.
+    /// Adds the instruction that writes a drawn text, or another one if the text is not a string.
     fn add_text(&mut self) {
         let number = number_of(self.draw.below(self.frame.file.names.len()));
         if is_string(self.frame.file, number) {
@@ -159,7 +159,7 @@ impl<'a> Coding<'a> {
         }
     }
 
-    /// An instruction of any kind, if it can take the stack.
+    /// Adds an instruction of any kind, if it can be applied to the stack.
     fn add_any(&mut self) {
         let vars = self.frame.class.vars.len();
         let temps = self.frame.temps.len();
@@ -182,7 +182,7 @@ impl<'a> Coding<'a> {
         }
     }
 
-    /// Where the stack of a block starts and ends.
+    /// The start and end of a block's stack in the list of stacks.
     fn entry(&self, block: usize) -> (usize, usize) {
         self.entries.get(block).copied().unwrap_or((0, 0))
     }
@@ -193,7 +193,7 @@ impl<'a> Coding<'a> {
         self.stacks.get(start..end).unwrap_or(&[])
     }
 
-    /// How many operands of the stack are those with which a block is reached.
+    /// The number of operands at the bottom of the stack that agree with the stack of a block.
     fn fitting(&self, block: usize) -> usize {
         let wanted = self.wanted(block);
         for place in 0..self.stack.len() {
@@ -204,7 +204,7 @@ impl<'a> Coding<'a> {
         self.stack.len()
     }
 
-    /// Takes operands off, and pushes others, until the stack is the one with which a block is reached.
+    /// Pops operands and pushes others, until the stack is that of a block.
     fn fit(&mut self, block: usize) {
         let same = self.fitting(block);
         for _ in same..self.stack.len() {
@@ -217,7 +217,7 @@ impl<'a> Coding<'a> {
         }
     }
 
-    /// A drawn stack with which a block is reached, or that of an earlier block.
+    /// Draws the stack of the next block, which may be that of an earlier block.
     fn draw_entry(&mut self) {
         let most = if self.draw.once_in(15) { 50 } else { 4 };
         let start = self.stacks.len();
@@ -233,7 +233,7 @@ impl<'a> Coding<'a> {
         let _ = self.entries.push(entry);
     }
 
-    /// The stacks with which blocks are reached: the first and the last without operands.
+    /// Draws the stacks of the blocks. The first and the last block have no operands.
     fn draw_entries(&mut self) {
         self.stacks.clear();
         self.entries.clear();
@@ -254,7 +254,7 @@ impl<'a> Coding<'a> {
         }
     }
 
-    /// Ends a method with its value, or a body.
+    /// Adds the end of a method with its value, or the end of a body.
     fn leave(&mut self) {
         let Some(value) = self.frame.value else {
             return self.add(23, 0, 0);
@@ -267,7 +267,7 @@ impl<'a> Coding<'a> {
         self.add(15, 0, 0);
     }
 
-    /// Goes on in one of the blocks that are reached with one stack, by a select.
+    /// Adds a select that continues in blocks with the same stack as this one.
     fn select(&mut self, block: usize) {
         let mut one = step(self.alloc, 22, 0, 0);
         for _ in 0..self.draw.below(3).saturating_add(1) {
@@ -279,7 +279,7 @@ impl<'a> Coding<'a> {
         self.add_step(one);
     }
 
-    /// Ends a block.
+    /// Adds the end of a block: a jump, a branch, a select, or the end of the code.
     fn end(&mut self) {
         let block = self.draw.below(self.entries.len());
         let way = self.draw.below(6);
@@ -298,7 +298,8 @@ impl<'a> Coding<'a> {
         self.add(4, number_of(block), 0);
     }
 
-    /// The instructions of a block: what is silent in it stands behind one that is not.
+    /// Draws the instructions of a block. It begins with one that
+    /// is not silent, so that no chain of silent ones is endless.
     fn draw_block(&mut self, number: usize) {
         let _ = self.starts.push(self.steps.len());
         let (start, end) = self.entry(number);
@@ -317,7 +318,7 @@ impl<'a> Coding<'a> {
         }
     }
 
-    /// Puts the instructions of a block behind those that stand in the code.
+    /// Appends the instructions of a block to the code.
     fn lay(&mut self, block: usize) {
         if let Some(place) = self.places.get_mut(block) {
             *place = self.laid.len();
@@ -330,7 +331,8 @@ impl<'a> Coding<'a> {
         }
     }
 
-    /// Puts instructions that are not reached behind those, none of them silent: they want operands, and the sends may name any text.
+    /// Appends instructions that are not reached. None is silent.
+    /// They have too few operands, and a send may name any text.
     fn lay_unreached(&mut self) {
         for _ in 0..self.draw.below(3) {
             let text = number_of(self.draw.below(self.frame.file.names.len()));
@@ -346,7 +348,7 @@ impl<'a> Coding<'a> {
         }
     }
 
-    /// The blocks one behind the other, the first one first and the last one last.
+    /// Appends all blocks to the code: the first one first, the last one last, and the others in a drawn order.
     fn lay_all(&mut self) {
         let last = self.entries.len().saturating_sub(1);
         let order = self.draw.shuffled(self.alloc, last.saturating_sub(1));
@@ -383,7 +385,7 @@ impl<'a> Coding<'a> {
         let _ = self.codes.push(Code { words, steps });
     }
 
-    /// Adds the codes of the methods of each class, and then its body's.
+    /// Adds the codes of each class: first those of its methods, and then that of its body.
     fn add_codes(&mut self, file: &'a File) {
         for class in &file.classes {
             for method in &class.methods {
@@ -395,12 +397,12 @@ impl<'a> Coding<'a> {
     }
 }
 
-/// Where a block starts.
+/// The start of a block.
 fn at(starts: &[usize], block: usize) -> usize {
     starts.get(block).copied().unwrap_or(0)
 }
 
-/// Puts the places of blocks where their numbers stood.
+/// Replaces the numbers of blocks in jumps, branches and selects by the places of the blocks.
 fn put_places(steps: &mut Vec<Step>, places: &[usize]) {
     for one in steps {
         if one.byte == 4 || one.byte == 12 {
@@ -424,7 +426,7 @@ fn sorts_of(alloc: Global, file: &File) -> Vec<Sort> {
     sorts
 }
 
-/// The drawn codes of a file: of each class those of its methods, and then its body's.
+/// The drawn codes of a file. For each class, first those of its methods, and then that of its body.
 pub fn codes_of(alloc: Global, draw: Draw, file: &File) -> Vec<Code> {
     let Some(class) = file.classes.first() else {
         return Vec::new(alloc);

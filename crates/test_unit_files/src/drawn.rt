@@ -1,10 +1,10 @@
-//! Files that are drawn: their names, their classes with kinds, and then their codes.
+//! Drawn object code files: their names, their classes with kinds, and then their codes.
 use crate::code::codes_of;
 use crate::draw::Draw;
 use std::alloc::Global;
 use test_oracle::{Class, Code, File, Method, Sort, number_of};
 
-/// Texts, of which the first thirteen are names of the language.
+/// The texts of the table. The first thirteen are names of the language.
 const TEXTS: [&[u8]; 20] = [
     b"A",
     b"_",
@@ -28,10 +28,11 @@ const TEXTS: [&[u8]; 20] = [
     b"nil",
 ];
 
-/// How many of the texts are names.
+/// The number of texts that are names.
 const NAMES: usize = 13;
 
-/// A file under way, the numbers of the names in its table, and the sorts of its kinds. What there is no memory for is left out.
+/// A file under construction, the numbers of the names in its table,
+/// and its kinds. If memory runs out, a part of it is missing.
 #[derive(Drop)]
 struct Filing {
     alloc: Global,
@@ -59,7 +60,7 @@ impl Filing {
         let _ = self.file.names.push(bytes);
     }
 
-    /// The table of all texts in a drawn order.
+    /// Adds all texts to the table in a drawn order.
     fn add_texts(&mut self) {
         for text in &self.draw.shuffled(self.alloc, TEXTS.len()) {
             self.add_text(*text);
@@ -92,7 +93,7 @@ impl Filing {
         }
     }
 
-    /// Adds a class without codes, whose methods have names that stand one behind the other in the table.
+    /// Adds a class without codes. Its methods have consecutive names of the table.
     fn add_class(&mut self, name: u32) {
         let vars = self.draw.below(4);
         let first = self.draw.below(4);
@@ -110,7 +111,7 @@ impl Filing {
         let _ = self.file.classes.push(one);
     }
 
-    /// Adds the classes, whose kinds are known before.
+    /// Adds the classes. The kinds with their names are known before.
     fn add_classes(&mut self) {
         let _ = self.kinds.push(Sort::Int);
         let _ = self.kinds.push(Sort::Bool);
@@ -125,7 +126,7 @@ impl Filing {
     }
 }
 
-/// Puts the codes of the classes, one behind the other, where they belong.
+/// Puts the codes into the methods and bodies of the classes, in order.
 fn put_codes(file: &mut File, codes: Vec<Code>) {
     let mut codes = codes.into_iter();
     for class in &mut file.classes {
@@ -140,7 +141,7 @@ fn put_codes(file: &mut File, codes: Vec<Code>) {
     }
 }
 
-/// The file of a number.
+/// The drawn file with this number.
 pub fn file_of(alloc: Global, number: u64) -> File {
     let mut filing = Filing {
         alloc,

@@ -1,4 +1,4 @@
-//! Files that no program gave: each is verified, and run over a drawn placement and schedule.
+//! Tests of files that no program produced: each is verified, and run over a drawn placement and schedule.
 use crate::draw::Draw;
 use crate::drawn::file_of;
 use crate::shown::status_of;
@@ -12,13 +12,13 @@ use std::alloc::Global;
 use std::mem;
 use test_oracle::{File, Told, bytes_of, judged};
 
-/// How many files are drawn.
+/// The number of drawn files.
 const FILES: u64 = 200;
 
-/// The most bytes of a file or a record that is read.
+/// The largest size of a file or a record that is read, in bytes.
 const MOST_BYTES: usize = 67108864;
 
-/// Whether the bytes of a file are verified.
+/// Whether these bytes are a verified file.
 fn are_verified(alloc: Global, bytes: &[u8]) -> bool {
     if bytes.len() > MOST_BYTES {
         return false;
@@ -29,7 +29,7 @@ fn are_verified(alloc: Global, bytes: &[u8]) -> bool {
     }
 }
 
-/// Whether the file of a number is verified.
+/// Whether the oracle and the verifier accept the drawn file with this number.
 fn is_verified(alloc: Global, number: u64) -> bool {
     let file = file_of(alloc, number);
     match bytes_of(alloc, &file) {
@@ -45,7 +45,7 @@ fn drawn_files_are_verified(rt: HostRuntime) {
     }
 }
 
-/// A text that is drawn. What there is no memory for is left out.
+/// A drawn text. If memory runs out, a part of it is missing.
 #[derive(Drop)]
 struct Writing {
     draw: Draw,
@@ -57,27 +57,27 @@ impl Writing {
         let _ = self.text.push_str(words);
     }
 
-    /// Puts words and, behind them, one of so many numbers from the least one.
+    /// Appends the words and a drawn number, one of `most` from `least`. Returns the number.
     fn put_number(&mut self, words: &str, least: usize, most: usize) -> usize {
         let number = self.draw.below(most).saturating_add(least);
         let _ = write!(self.text, "{words}{number}");
         number
     }
 
-    /// Puts a line with one of so many numbers.
+    /// Appends a line with such a number.
     fn put_line(&mut self, words: &str, least: usize, most: usize) {
         self.put_number(words, least, most);
         self.put("\n");
     }
 
-    /// Puts a limit one of six times.
+    /// Appends a limit, once in six times.
     fn put_limit(&mut self, word: &str) {
         if self.draw.once_in(6) {
             self.put_line(word, 1, 40);
         }
     }
 
-    /// Puts the place of a class one of two times.
+    /// Appends the place of a class, once in two times.
     fn put_place(&mut self, name: &[u8], nodes: usize) {
         if !self.draw.once_in(2) {
             return;
@@ -91,7 +91,7 @@ impl Writing {
         }
     }
 
-    /// A mesh of at most nine nodes, limits for some of them, and places for half of the classes.
+    /// Appends a mesh of at most nine nodes, limits for some of them, and places for half of the classes.
     fn put_placement(&mut self, file: &File) {
         let width = self.put_number("mesh ", 1, 3);
         let height = self.put_number(" ", 1, 3);
@@ -106,7 +106,7 @@ impl Writing {
         }
     }
 
-    /// Turns of node 0 and rounds, and then more of them; one of four is over lossy wires.
+    /// Appends turns of node 0 and rounds, and at last more rounds. One schedule of four is for lossy wires.
     fn put_schedule(&mut self) {
         self.put_line("quantum ", 1, 30);
         if self.draw.once_in(4) {
@@ -148,7 +148,7 @@ fn texts_of(alloc: Global, number: u64, file: &File) -> Vec<NamedText> {
     texts
 }
 
-/// The words of the call.
+/// The arguments of the call.
 fn words(alloc: Global) -> Vec<String> {
     let mut words = Vec::new(alloc);
     for word in "load U L S".split(' ') {
@@ -159,7 +159,7 @@ fn words(alloc: Global) -> Vec<String> {
     words
 }
 
-/// The texts of the names of a file.
+/// The table of the names of a file.
 fn names_of(alloc: Global, file: &File) -> Names {
     let mut names = Names::make(alloc);
     for name in &file.names {
@@ -170,7 +170,7 @@ fn names_of(alloc: Global, file: &File) -> Names {
     names
 }
 
-/// The status that a record shows; `None` where it is not read without fault, or shows a value of a wrong sort.
+/// The status that a record shows. None if the record has a fault, or shows a value of a wrong sort.
 fn status_shown(alloc: Global, file: &File, record: &[u8]) -> Option<u8> {
     let mut names = names_of(alloc, file);
     if record.len() > MOST_BYTES || names.count() > 1000 {
@@ -182,7 +182,7 @@ fn status_shown(alloc: Global, file: &File, record: &[u8]) -> Option<u8> {
     }
 }
 
-/// The status of `load` over these texts; `None` where it writes on the error sink, or its status is not what its record shows.
+/// The status of `load` over these texts. None if it writes to the error sink, or its status is not that of its record.
 fn status_of_call(
     alloc: Global,
     file: &File,
@@ -200,7 +200,7 @@ fn status_of_call(
     }
 }
 
-/// The status of a run of the file of a number; `None` where it is not what its record shows.
+/// The status of a run of the drawn file with this number. None if it is not the status that its record shows.
 fn status_of_run(alloc: Global, number: u64) -> Option<u8> {
     let file = file_of(alloc, number);
     let out = MemSink::make(alloc, 4194304, 65536, Vec::new(alloc));

@@ -1,4 +1,4 @@
-//! Whether the values that a record shows are of the sorts that its file declares, and the status that it shows.
+//! Checks that the values in a record have the sorts that its file declares, and finds the status that it shows.
 use run_record::label_of;
 use run_types::{Args, End, Label, Line, NameId, Value, What};
 use std::alloc::Global;
@@ -19,7 +19,7 @@ struct Served {
     method: u32,
 }
 
-/// What a record has shown of its objects.
+/// The objects and calls that a record has shown so far, and the number of its run-time errors.
 #[derive(Drop)]
 struct Shown<'a> {
     file: &'a File,
@@ -29,7 +29,7 @@ struct Shown<'a> {
 }
 
 impl<'a> Shown<'a> {
-    /// The class of an object: the last one, unless the object was shown to be made.
+    /// The class of an object. An object that the record did not create is the root, of the last class.
     fn class(&self, object: u32) -> Option<&'a Class> {
         for made in &self.made {
             if made.object == object {
@@ -55,7 +55,7 @@ impl<'a> Shown<'a> {
         }
     }
 
-    /// Whether the receiver has the method, with so many parameters of such sorts.
+    /// Whether the receiver has the method, with this number of parameters of these sorts.
     fn are_taken(&self, receiver: u32, name: NameId, args: &Args) -> bool {
         let Some(method) = self.method(receiver, name.0) else {
             return false;
@@ -69,7 +69,7 @@ impl<'a> Shown<'a> {
         values.len() == method.params as usize
     }
 
-    /// Whether the caller is served by a method of the receiver that gives such a value; it is served no longer.
+    /// Whether a method of the receiver serves the caller and returns values of this sort. The call is then over.
     fn is_given(&mut self, receiver: u32, caller: u32, value: Value) -> bool {
         let mut place = None;
         for (at, served) in self.served.iter().enumerate() {
@@ -90,7 +90,7 @@ impl<'a> Shown<'a> {
         }
     }
 
-    /// Whether a transition is of right sorts, and what it shows of its objects is noted.
+    /// Notes a transition. Returns whether its values have the right sorts.
     fn takes(&mut self, label: &Label) -> bool {
         match label {
             Label::New { name, class, .. } => {
@@ -138,7 +138,7 @@ impl<'a> Shown<'a> {
         }
     }
 
-    /// Whether what a line shows is of right sorts.
+    /// Notes a line. Returns whether its values have the right sorts.
     fn shows(&mut self, line: &Line) -> bool {
         if let Some(steps) = label_of(line) {
             return self.takes(&steps.label);
@@ -161,7 +161,7 @@ impl<'a> Shown<'a> {
         }
     }
 
-    /// Whether what each of these lines shows is of right sorts.
+    /// Notes these lines. Returns whether their values have the right sorts.
     fn shows_each(&mut self, lines: &[Line]) -> bool {
         for line in lines {
             if !self.shows(line) {
@@ -172,7 +172,7 @@ impl<'a> Shown<'a> {
     }
 }
 
-/// The status of a record with this end and so many faults.
+/// The status of a record with this end and this number of run-time errors.
 fn status_at(end: End, faults: u32) -> u8 {
     match end {
         End::Quiet { .. } => { if faults == 0 { 0 } else { 1 } }
@@ -181,7 +181,7 @@ fn status_at(end: End, faults: u32) -> u8 {
     }
 }
 
-/// The status that lines show; `None` where the last of them is no end, or one shows a value of a wrong sort.
+/// The status that lines show. None if the last of them is not an end, or one shows a value of a wrong sort.
 pub fn status_of(alloc: Global, file: &File, lines: &[Line]) -> Option<u8> {
     let mut shown = Shown {
         file,

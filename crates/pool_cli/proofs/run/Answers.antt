@@ -1,4 +1,4 @@
--- The ends of `pool`, at the numbers of the statuses.
+-- The results of `run` follow from those of `pool`, with the exit status of each.
 use Rattle.std.proofs.Common.{◌≡◌, ◌∙◌, ◌⊎◌, ◌≤◌, ℕ, arith, inl, inr, refl, ap, subst, sym}
 use Rattle.run_loop.specs.declared.status.Status.{Status}
 use Rattle.run_loop.specs.declared.status.Status.TheVariants as S

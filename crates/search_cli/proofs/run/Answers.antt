@@ -1,4 +1,4 @@
--- The ends of `search_command`, at the numbers of the statuses.
+-- The results of `run` follow from those of `search_command`, with the exit status of each.
 use Rattle.std.proofs.Common.{◌∙◌, inl, inr, ap}
 use Rattle.search_cli.specs.Statuses.{code_of}
 use Rattle.search_cli.proofs.run.Goals as goal

@@ -1,4 +1,4 @@
--- Reading what was written gives the lines again, and they are a run.
+-- A written record is read back as the same lines, and they are a run.
 use Rattle.std.proofs.Common.{◌≡◌, ap, subst, ◌∙◌, List, true}
 use Rattle.run_types.specs.Table.{is_distinct}
 use Rattle.text_scan.specs.Text.{Text}
