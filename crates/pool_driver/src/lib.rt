@@ -1,4 +1,4 @@
-//! The top-level function of `pool`: from words, files and two sinks to an exit status.
+//! The top-level function of `pool`: from arguments, files and two sinks to an exit status.
 //!
 //! Reads and verifies object code files.
 //!

@@ -1,4 +1,4 @@
-//! The program `search`: from words, a program's text and two sinks to the text of an answer and an exit status.
+//! The program `search`: from arguments, a program's text and two sinks to the text of an answer and an exit status.
 //!
 //! Does not know: how the search works.
 #![tactic(auto)]
