@@ -69,8 +69,8 @@ pub fn quiet_has_no_transition()
 /// The record of a checked program shows a run of the transition relation from the start: its labels lead to its last
 /// configuration, which is sound with its delay. It has event lines and then one end line. After each prefix of the
 /// labels the configuration is typed and no object goes wrong. Each event line is that of the act of its event at a
-/// sound configuration. The acts of the lines before it lead to that configuration. If the line is idle, nothing was
-/// ready there. If the record ends quiet, no label is possible. All of this holds over wires too; at the end each wire
+/// sound configuration. The acts of the lines before it lead to that configuration. If the line is idle, its event had
+/// nothing to do there. If the record ends quiet, no label is possible. All of this holds over wires too; at the end each wire
 /// has handed out a prefix of the packets that entered.
 pub fn records_are_runs()
     ensures records { (p : ProgramTree) (l : Placement) (q : ℕ) (es : List Event) (c : Configuration) → faults p ≡ [] → IsTrue (is_written p) → FitFor (terms p) l

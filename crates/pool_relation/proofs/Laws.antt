@@ -22,7 +22,8 @@ pub use Rattle.pool_relation.proofs.preservation.NewObject.{new_object_typed}
 pub use Rattle.pool_relation.proofs.preservation.Messages.{fit_values_of, offers, first_fits, taken_fit, serving_typed}
 pub use Rattle.pool_relation.proofs.FaultlessObject.{running_is}
 -- typed terms
-pub use Rattle.pool_relation.proofs.typing.TypedTerm.{is_broken, Holds, Nothing, Methods, Waits, TypedExpression, TypedStatements, fits_outcome, gives, past, has_no_sort, fits_need, fit_operands, takes, is_destination, TypedArguments, TypedStatement, TypedAlternatives}
+pub use Rattle.pool_relation.proofs.typing.TypedTerm.{is_broken, Holds, Nothing, Methods, Waits, TypedExpression, TypedStatements, past, TypedArguments, TypedStatement, TypedAlternatives}
+unfoldable pub use Rattle.pool_relation.proofs.typing.TypedTerm.{fits_outcome, gives, has_no_sort, fits_need, fit_operands, takes, is_destination}
 pub use Rattle.pool_relation.proofs.typing.Weakening.{nothing_below, statements_weaker}
 pub use Rattle.pool_relation.proofs.typing.AddedObjects.{Grows}
 pub use Rattle.pool_relation.proofs.typing.MethodStart.{running_scope}

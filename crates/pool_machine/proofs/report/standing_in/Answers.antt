@@ -14,19 +14,19 @@ returns-then-is_on_way c =
 pub standing-requires-clause-unit : goal.standing-requires-clause-unit
 standing-requires-clause-unit c =
     let f : Found c.args.nodes.now c.args.name = found_at c.args.nodes.now c.args.name (slot_found c.args.nodes.now c.args.name (sym c.has_object.ensures ∙ c.if-not-has_object.false))
-    c.index-nodes-node.result c.index-nodes-node.is in
+    c.index-nodes-node.result (rw c.node_of-node.ensures.node at c.index-nodes-node.is) in
     (c.requires.kept.parts.each (node_of c.args.name) c.index-nodes-node.result f.node_is).of_unit
 
 pub standing-requires-clause-slot : goal.standing-requires-clause-slot
 standing-requires-clause-slot c =
     let f : Found c.args.nodes.now c.args.name = found_at c.args.nodes.now c.args.name (slot_found c.args.nodes.now c.args.name (sym c.has_object.ensures ∙ c.if-not-has_object.false))
-    c.index-nodes-node.result c.index-nodes-node.is in
-    slice_get_within c.index-nodes-node.result.state.slots (slot_of c.args.name) f.slot f.slot_is
+    c.index-nodes-node.result (rw c.node_of-node.ensures.node at c.index-nodes-node.is) in
+    rw c.slot_of.ensures.slot (slice_get_within c.index-nodes-node.result.state.slots (slot_of c.args.name) f.slot f.slot_is)
 
 pub returns : goal.returns
 returns c =
     let f : Found c.args.nodes.now c.args.name = found_at c.args.nodes.now c.args.name (slot_found c.args.nodes.now c.args.name (sym c.has_object.ensures ∙ c.if-not-has_object.false))
-    c.index-nodes-node.result c.index-nodes-node.is in
+    c.index-nodes-node.result (rw c.node_of-node.ensures.node at c.index-nodes-node.is) in
     slot_told c.args.unit.now c.args.placement.now c.args.nodes.now c.args.links.now c.args.name f c.requires.kept.parts (told_standing c.standing.result)
     (none_on_mesh c.args.unit.now c.args.placement.now c.args.nodes.now c.args.links.now c.requires.kept c.args.name c.args.mesh.now.width c.args.mesh.now.height c.requires.mesh.width c.requires.mesh.height (c.is_on_way.ensures.no c.if-is_on_way.false))
-    c.standing.ensures
+    (λ s e. c.standing.ensures s (rw c.slot_of.ensures.slot e))
