@@ -18,8 +18,8 @@ loop-slot-preserved c = λ c' d s h.
     let so_far = c.loop-slot.invariant c' d s h in
     elim c.match-row_at.branch [
       | in-Some+in-Ok w ↦ next_one u c' d l s.sound c.loop-slot.rows c.match-row_at.rows n _ w.in-Some.row (later (c.args.node * 65536) c.loop-slot.slot) so_far
-          (w.rows-is ∙ w.in-Ok.ensures.ok) (sym w.in-Some.is ∙ c.row_at.ensures c' d s)
-      | in-None w ↦ next_same u c' d c.loop-slot.rows c.match-row_at.rows n _ (later (c.args.node * 65536) c.loop-slot.slot) so_far w.rows-is (sym w.in-None.is ∙ c.row_at.ensures c' d s)
+          (w.rows-is ∙ w.in-Ok.ensures.ok) (sym w.in-Some.is ∙ (rw c.object_name.ensures at (c.row_at.ensures c' d s)))
+      | in-None w ↦ next_same u c' d c.loop-slot.rows c.match-row_at.rows n _ (later (c.args.node * 65536) c.loop-slot.slot) so_far w.rows-is (sym w.in-None.is ∙ (rw c.object_name.ensures at (c.row_at.ensures c' d s)))
     ]
 
 pub returns : goal.returns
