@@ -1,5 +1,5 @@
 -- The three kinds of lines in a record: a transition, a named network delay, or idle.
-use Rattle.std.specs.Prelude.{◌≡◌, ◌<◌, List, [], ◌∷◌, ⊥}
+use Rattle.std.specs.Prelude.{◌≡◌, ◌<◌, List, [], ◌∷◌}
 use Rattle.run_types.specs.declared.types.Label.TheVariants as L
 use Rattle.run_types.specs.declared.types.What.{What}
 use Rattle.run_types.specs.declared.types.What.TheVariants as W

@@ -46,7 +46,8 @@ pub fn what_is_built_is_loaded_as_recorded()
     a_text_has_one_program();
 }
 
-/// `check` accepts the text that `record` writes of the same program, and its only answer is `yes` with status 0.
+/// The text that `record` writes is an accepted record, and the only verdict on it and the same program is `yes`, with
+/// status 0. (A text of more than 64 MiB is rejected before it is read as a record.)
 pub fn what_is_recorded_is_judged_yes()
     ensures accepted { (source place plan text : Text) (status : AnyStatus) → IsRunOf RecordShown source place plan text status → IsAccepted (source ∷ []) RecordRead text }
     ensures yes { (source place plan text line : Text) (status end : AnyStatus) → IsRunOf RecordShown source place plan text status → IsVerdictOn source text line end
