@@ -103,7 +103,7 @@ module _ (names : List Text) (o : ℕ) where
       ∙ ap (λ l. expression_lines names o e ++ l) (quiet_alternatives more.now) ∙ append-nil (expression_lines names o e)
   in_slotted L.Value rest e = refl
 
-  -- in what is left of a method under way
+  -- in the rest of a method under way
   abbrev pub left_lines : Statements × Expression × Statements → Text
   left_lines b = statements_lines names o b.0 ++ (expression_lines names o b.1 ++ statements_lines names o b.2)
 

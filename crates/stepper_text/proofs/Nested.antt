@@ -1,4 +1,4 @@
--- A part under evaluation in its places: what stands before it, the part, and what stands behind it.
+-- The text of an expression is the text before its part under evaluation, the part, and the text after it.
 use Rattle.std.proofs.Common.{◌≡◌, refl, sym, ap, ◌∙◌, ℕ, List, [], ◌∷◌, ◌++◌, false, true, Bool, append_assoc, append-nil, codes, nat_le}
 use Rattle.text_scan.specs.Text.{Text}
 use Rattle.run_types.specs.Table.{text_at}
@@ -18,7 +18,7 @@ use Rattle.stepper_terms.specs.Parts.{nested, operand, operands, placed}
 use Rattle.term_text.specs.Marked.{marked, marked_arguments, marked_level, marked_more}
 use Rattle.stepper_text.specs.Around.{after, afters, before, befores, closed, done_arguments, nested_level, opened, operand_text, place_level}
 
--- parentheses round a text, or none
+-- parentheses around a text, or none
 pub enclosed_is : (need l : ℕ) (t : Text) → enclosed need l t ≡ opened need l ++ (t ++ closed need l)
 enclosed_is need l t = by (nat_le need l) refl
   where
@@ -47,7 +47,7 @@ left_is_low op.Not = refl
 pub left_operand : (names : List Text) (o : Op) (v : Operand) → text_in names (left_need o) (operand v) ≡ operand_text v
 left_operand names o v = rw (left_is_low o) refl
 
--- arguments of which one is under evaluation are no values
+-- arguments, one of which is under evaluation, are no values
 pub not_values : (vs : List Operand) (e : Expression) (es : Expressions) → is_value e ≡ false → are_values (operands vs (T.Arg e es)) ≡ false
 not_values [] e es h = rw h refl
 not_values (v ∷ vs) e es h = not_values vs e es h
@@ -67,7 +67,7 @@ arguments_placed names (v ∷ vs) e es h =
     ap (λ t. operand_text v ++ t) (more_placed names vs e es h)
     ∙ sym (append_assoc (operand_text v) (word (codes ",") ++ done_arguments vs) (marked names e ++ more_arguments names es))
 
--- a front, then a call's arguments of which one is under evaluation
+-- a front, and then a call's arguments, one of which is under evaluation
 call_placed : (names : List Text) (front : Text) (m : ℕ) (vs : List Operand) (e : Expression) (es : Expressions) → is_value e ≡ false
     → front ++ called names m (marked_arguments names (operands vs (T.Arg e es)))
     ≡ (front ++ (led (text_at names m ∷ codes "(" ∷ []) ++ done_arguments vs)) ++ (marked names e ++ (more_arguments names es ++ word (codes ")")))

@@ -1,4 +1,4 @@
--- The redex, the statement that comes next, and a statement with a part under evaluation, as the definition of marked terms has them.
+-- The text of the redex, and of a statement with a part under evaluation, is as the definition of marked terms has it.
 use Rattle.std.proofs.Common.{◌≡◌, refl, sym, ap, ap₂, ◌∙◌, ℕ, List, [], ◌∷◌, ◌++◌, false, true, append_assoc, append-nil, codes, nat_le}
 use Rattle.text_scan.specs.Text.{Text}
 use Rattle.run_types.specs.Table.{text_at}

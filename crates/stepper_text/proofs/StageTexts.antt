@@ -1,4 +1,4 @@
--- The text of what is left in a method under way, from the stepper's parts.
+-- The text of a method under way, from the stepper's parts.
 use Rattle.std.proofs.Common.{◌≡◌, refl, sym, ap, ◌∙◌, ℕ, List, [], ◌∷◌, ◌++◌, Option, Some, None, false, true, append-nil, codes}
 use Rattle.text_scan.specs.Text.{Text}
 use Rattle.pool_syntax.specs.TreeOf.{expression_of, statements_of}
@@ -27,7 +27,7 @@ use Rattle.stepper_text.proofs.Nested.{not_value}
 use Rattle.stepper_text.proofs.Slotted.{all_values, ready_is, task_is}
 use Rattle.stepper_text.proofs.UnderWay.{running_is}
 
--- the redex is no value, and its brackets are as good as parentheses
+-- the redex is no value, and needs no parentheses in its brackets
 ready_open : (r : Ready) → is_value (ready r) ≡ false
 ready_open (R.Me p) = refl
 ready_open (R.Variable x p) = refl
@@ -48,7 +48,7 @@ ready_low (R.Call m vs p) = refl
 ready_low (R.Send to m vs p) = rw (all_values vs.items) refl
 ready_low (R.Wait b m) = refl
 
--- the redex, and a method under way, in these places of a statement
+-- the redex, and a method under way, in these contexts of a statement
 evaluates : (names : List Text) (s : StatementContext) (ks : List ExpressionContext) (r : Ready) (rest : Statements)
     → running_text names s ks (boxed (ready_text names r)) rest ≡ marked_statements names (bottom (slotted s rest (nested ks (ready r))))
 evaluates names s ks r rest =
@@ -58,7 +58,7 @@ waits : (names : List Text) (s : StatementContext) (ks : List ExpressionContext)
     → running_text names s ks (braced names m) rest ≡ marked_statements names (bottom (slotted s rest (nested ks (T.Frame m t b.0 b.1 b.2))))
 waits names s ks m t b rest = sym (running_is names s ks (T.Frame m t b.0 b.1 b.2) rest refl refl)
 
--- a part in these places of a statement, in a method under way at this stage
+-- a part in these contexts of a statement, in a method under way at this stage
 abbrev going : List Text → Stage → StatementContext → Text → Text
 going names (A.Body e qs) s inner = going_text (is_value_slot s) inner (bare_text names (expression_of e.now)) (later_text names (statements_of qs.now))
 going names (A.Post v) s inner = result_line (word (value_text v.value)) (word (codes "post") ++ inner)
@@ -91,7 +91,7 @@ slot_stage names w (A.Post v) (L.Loop k body) ks x rest inner h is = ap (λ t. r
 slot_stage names w (A.Post v) (L.Guard done at more) ks x rest inner h is = ap (λ t. result_line (word (value_text v.value)) (word (codes "post") ++ t)) is
 slot_stage names w (A.Post v) L.Value ks x rest inner h is = ap (λ t. result_line (word (value_text v.value)) (word (codes "post") ++ t)) is
 
--- what comes next, in a method under way at this stage
+-- the redex, in a method under way at this stage
 now_stage : (names : List Text) (w : SuspendedCall) (st : Stage) (n : Focus) → stage_at names w st (at_now n) ≡ staged names w st (stopped n)
 now_stage names w (A.Body e qs) (N.Expression r ks s gs) = slot_stage names w (A.Body e qs) s ks.items (ready r) (left gs.items) _ (ready_open r) (evaluates names s ks.items r (left gs.items))
 now_stage names w (A.Post v) (N.Expression r ks s gs) = slot_stage names w (A.Post v) s ks.items (ready r) (left gs.items) _ (ready_open r) (evaluates names s ks.items r (left gs.items))

@@ -1,4 +1,4 @@
--- A statement with a part under evaluation, with its text.
+-- The text of a statement with a part under evaluation.
 use Rattle.std.proofs.Common.{◌≡◌, refl, sym, ap, ◌∙◌, ℕ, ◌+◌, ◌-◌, ◌<◌, ◌≤◌, List, [], ◌∷◌, ◌++◌, length, get_or, drop, false, true, append_assoc, codes, arith}
 use Rattle.std.proofs.lemmas.List.{at_drop_more}
 use Rattle.text_scan.specs.Text.{Text}
@@ -56,7 +56,7 @@ running_is names s ks e rest h low =
     ∙ ap (λ t. slot_before names s (nested_level ks 8) ++ (t ++ (slot_after names s (nested_level ks 8) ++ behind))) parts
     ∙ simp append_assoc
 
--- statements behind statements
+-- statements after statements
 pub more_append : (names : List Text) (a b : Statements) → more_statements names (append a b) ≡ more_statements names a ++ more_statements names b
 more_append names T.Done b = refl
 more_append names (T.Then s ss) b =
@@ -66,7 +66,7 @@ more_append names (T.Then s ss) b =
 pub one_more_segment : (names : List Text) (g : Segment) (gs : List Segment) → more_statements names (left (g ∷ gs)) ≡ more_statements names (left gs) ++ more_statements names (segment g)
 one_more_segment names g gs = more_append names (left gs) (segment g)
 
--- one segment more was put, from the last on
+-- one more segment was appended, from the last on
 pub segment_put : (names : List Text) (gs : List Segment) (i : ℕ) (g : Segment) (base now new : Text) → 0 < i → i ≤ length gs → g ≡ get_or gs (i - 1) g
     → now ≡ base ++ more_statements names (left (drop i gs)) → new ≡ now ++ more_statements names (segment g)
     → new ≡ base ++ more_statements names (left (drop (i - 1) gs))

@@ -25,7 +25,7 @@ use Rattle.stepper_text.proofs.MethodLines.{in_bottom, in_guarded, in_inside, in
 use Rattle.stepper_text.proofs.StageTexts.{first_stage, first_text, staged}
 
 module _ (names : List Text) (o : ℕ) where
-  -- nothing is under way in what comes next
+  -- nothing is under way in the redex
   ready_quiet : (r : Ready) → expression_lines names o (ready r) ≡ []
   ready_quiet (R.Me p) = refl
   ready_quiet (R.Variable x p) = refl
@@ -54,7 +54,7 @@ module _ (names : List Text) (o : ℕ) where
   now_quiet (N.Value v) = refl
   now_quiet N.Over = refl
 
-  -- a method under way: its line, and those of what is under way in it
+  -- a method under way: its line, and those of the methods under way in it
   level_is : (w : SuspendedCall) (st : Stage) (m : ℕ) (t : Store) (c : Content) (at : At) → stage_at names w st at ≡ staged names w st c
       → content_lines names o (around w (caller_of st w) m t (inside w st c)) ≡ (head_text names o m st w ++ (bindings names t ++ ended (stage_at names w st at))) ++ content_lines names o c
   level_is (O.Expression ks s gs) (A.Body e qs) m t c at is =

@@ -1,4 +1,4 @@
--- For the code: the text of what is left in a body or in a method under way, from the parts in which the stepper keeps it.
+-- The text of the statement under evaluation, and of those after it, by the stepper's contexts.
 use Rattle.std.specs.Prelude.{ℕ, List, [], ◌∷◌, ◌++◌, codes, Option, Some, None}
 use Rattle.text_scan.specs.Text.{Text}
 use Rattle.run_types.specs.Table.{text_at}
@@ -31,7 +31,7 @@ abbrev pub operands_text : List Operand → Text
 operands_text [] = []
 operands_text (v ∷ vs) = operand_text v ++ more_operands vs
 
--- the redex as it stands; its operands have no parentheses
+-- the redex; its operands have no parentheses
 abbrev pub ready_text : List Text → Ready → Text
 ready_text names (R.Me p) = word (codes "self")
 ready_text names (R.Variable x p) = word (text_at names x.0)
@@ -48,7 +48,7 @@ guards_text names [] = []
 guards_text names (g ∷ gs) =
     word (codes "when") ++ (operand_text g.guard ++ (answer_text names g.alt.now.answer ++ (word (codes "then") ++ (statements_text names (statements_of g.alt.now.work) ++ guards_text names gs))))
 
--- what stands before the expression of this level in a statement
+-- the text of a statement before its expression of this level
 abbrev pub slot_before : List Text → StatementContext → ℕ → Text
 slot_before names (L.Assign n) l = led (text_at names n.name.0 ∷ codes ":=" ∷ [])
 slot_before names L.Write l = word (codes "write")
@@ -64,7 +64,7 @@ slot_before names L.Value l = []
 abbrev pub again : List Text → Expression → Statements → Text
 again names e body = statements_text names (append body (T.Then (T.While e body) T.Done))
 
--- what stands behind it, up to the statement's end
+-- the text after it, to the statement's end
 abbrev pub slot_after : List Text → StatementContext → ℕ → Text
 slot_after names (L.Assign n) l = []
 slot_after names L.Write l = []
@@ -78,7 +78,7 @@ slot_after names (L.Guard done at more) l =
     answer_text names at.now.answer ++ (word (codes "then") ++ (statements_text names (statements_of at.now.work) ++ (alternatives_text names (alternatives more.now) ++ word (codes "end"))))
 slot_after names L.Value l = []
 
--- the statement that comes next, without its brackets
+-- a statement that is the redex, without its brackets
 abbrev pub task_text : List Text → Task → Text
 task_text names (K.Assign n v) = led (text_at names n.name.0 ∷ codes ":=" ∷ []) ++ operand_text v
 task_text names (K.Write v) = word (codes "write") ++ operand_text v
@@ -94,12 +94,12 @@ task_text names (K.While k body) =
 task_text names (K.Answer ns) = word (codes "answer") ++ names_text names ns.now
 task_text names (K.Select gs) = word (codes "select") ++ (guards_text names gs.items ++ word (codes "end"))
 
--- the statements behind it; behind the value of a method there are none
+-- the statements after it; after the value of a method there are none
 abbrev pub slot_rest : List Text → StatementContext → Statements → Text
 slot_rest names L.Value rest = []
 slot_rest names _ rest = more_statements names rest
 
--- a redex between its brackets, or a method under way between its braces, in these places of a statement, and the statements behind it
+-- a statement with a redex in brackets, or a method under way in braces, in these contexts; and the statements after it
 abbrev pub running_text : List Text → StatementContext → List ExpressionContext → Text → Statements → Text
 running_text names s ks core rest =
     slot_before names s (nested_level ks 8) ++ (befores names ks 8 ++ (core ++ (afters names ks 8 ++ (slot_after names s (nested_level ks 8) ++ slot_rest names s rest))))

@@ -1,4 +1,4 @@
--- For the code: what stands in a body or in a method under way, and the lines of all methods under way.
+-- The text of a body or of a method under way, and the lines of all methods under way, by the stepper's parts.
 use Rattle.std.specs.Prelude.{ℕ, List, [], ◌∷◌, ◌++◌, codes, Option, Some, None, Bool, true, false, if◌then◌else◌}
 use Rattle.text_scan.specs.Text.{Text}
 use Rattle.run_types.specs.Table.{text_at}
@@ -30,7 +30,8 @@ use Rattle.stepper_terms.specs.declared.contexts.Segment.{Segment}
 use Rattle.stepper_terms.specs.declared.contexts.Task.{Task}
 use Rattle.stepper_text.specs.Contents.{ready_text, running_text, task_text}
 
--- the redex in these places of a statement, or a method under way there; the statement that comes next; a served method; the value of a method; or the end. With the statements behind it
+-- The content of a body or of a method under way, with the statements after it: an expression that is the redex, or a method under way, in these
+-- contexts; a statement that is the redex; a served method; the value of the method; or the end.
 pub data At : Type 0 where
   Evaluates : (slot : StatementContext) (places : List ExpressionContext) (redex : Ready) (rest : List Segment) → At
   Waits : (slot : StatementContext) (places : List ExpressionContext) (method : ℕ) (rest : List Segment) → At
@@ -47,7 +48,7 @@ seen (I.Serving m rest) = Serves m.0 rest.now
 seen (I.Value v) = HasValue v
 seen I.Over = Ended
 
--- as a body, or as post statements
+-- the text of a body, or of post statements
 abbrev pub at_text : List Text → At → Text
 at_text names (Evaluates s ks r rest) = running_text names s ks (boxed (ready_text names r)) (left rest)
 at_text names (Waits s ks m rest) = running_text names s ks (braced names m) (left rest)
@@ -59,15 +60,15 @@ at_text names Ended = []
 abbrev pub inner_text : List Text → Inner → Text
 inner_text names inner = at_text names (seen inner)
 
--- post statements that are not begun
+-- post statements that have not begun
 abbrev pub later_text : List Text → Statements → Text
 later_text names qs = post_text qs (statements_text names qs)
 
--- the value of a method, and what comes behind it
+-- the value of a method, and its post statements
 abbrev pub result_line : Text → Text → Text
 result_line value later = result_text value ++ later
 
--- the end of a method that is done, with this value
+-- a method that is done, with this value
 abbrev pub done_text : Value → Text
 done_text v = boxed (result_text (word (value_text v)))
 
@@ -84,11 +85,11 @@ is_at_value _ = false
 abbrev pub is_in_value : Inner → Bool
 is_in_value inner = is_at_value (seen inner)
 
--- the statement that is under evaluation, and then the value; or the value that is under evaluation
+-- statements under evaluation and then the value, or the value under evaluation
 abbrev pub going_text : Bool → Text → Text → Text → Text
 going_text in_value inner value later = if in_value then result_line inner later else inner ++ result_line value later
 
--- in a method that is at its statements or its value, with the text of its value, and of its post statements; `last` is what is left of these where it is done
+-- a method at its statements or at its value, with the texts of its value and of its post statements; `last` is the text of these if it is done
 abbrev pub body_at : List Text → Text → Text → Text → At → Text
 body_at names value later last (HasValue v) = done_text v.value ++ last
 body_at names value later last Ended = done_text V.Nil ++ last
@@ -97,7 +98,7 @@ body_at names value later last at = going_text (is_at_value at) (at_text names a
 abbrev pub body_text : List Text → Text → Text → Text → Inner → Text
 body_text names value later last inner = body_at names value later last (seen inner)
 
--- in a method whose value was evaluated, and whose post statements are under way
+-- a method at its post statements
 abbrev pub post_at : List Text → Value → At → Text
 post_at names v (HasValue w) = done_text v
 post_at names v Ended = done_text v
@@ -114,7 +115,7 @@ stage_at names o (A.Post v) at = post_at names v.value at
 abbrev pub stage_text : List Text → SuspendedCall → Stage → Inner → Text
 stage_text names o st inner = stage_at names o st (seen inner)
 
--- the first words of a method's line: whether it is an own one, is for a caller, or for no one
+-- the first words of a method's line: it is an own call, or serves a caller, or no one
 abbrev pub head_text : List Text → ℕ → ℕ → Stage → SuspendedCall → Text
 head_text names o m st (O.Expression ks s gs) = codes "own" ++ led (object_text o ∷ text_at names m ∷ [])
 head_text names o m (A.Body e qs) (O.Statement (Some k) gs) = codes "serve" ++ led (object_text o ∷ text_at names m ∷ object_text k ∷ [])
@@ -125,7 +126,7 @@ head_text names o m (A.Post v) (O.Statement k gs) = codes "take" ++ led (object_
 abbrev pub level_line : List Text → ℕ → Activation → At → Text
 level_line names o a at = head_text names o a.method.0 a.stage a.outer ++ (bindings names a.temps.items ++ ended (stage_at names a.outer a.stage at))
 
--- what comes next in a body or a method under way, or the method under way in it
+-- the content of a body or a method, from the methods under way in it and the redex
 abbrev pub at_now : Focus → At
 at_now (N.Expression r ks s gs) = Evaluates s ks.items r gs.items
 at_now (N.Statement k gs) = Comes k gs.items
@@ -145,7 +146,7 @@ abbrev pub level_lines : List Text → ℕ → List Activation → Focus → Tex
 level_lines names o [] n = []
 level_lines names o (a ∷ more) n = level_line names o a (at_first more n) ++ level_lines names o more n
 
--- the body, and all methods under way
+-- the lines of the body and of all methods under way
 abbrev pub work_lines : List Text → ℕ → Continuation → Text
 work_lines names o w =
     (codes "body" ++ (led (object_text o ∷ []) ++ ended (at_text names (at_first w.calls.items w.next)))) ++ level_lines names o w.calls.items w.next

@@ -1,8 +1,8 @@
-//! What stands in a body, or in a method under way.
+//! The content of a body or of a method under way.
 use run_types::NameId;
 use stepper_terms::contexts::{ExpressionContext, Operand, Ready, Segment, StatementContext, Task};
 
-/// What stands in a body, or in a method under way, with what is behind it.
+/// The content of a body or of a method under way, with the statements after it.
 #[derive(Clone, Copy)]
 pub enum Inner<'b, 'a> {
     /// A statement or a value with the redex in it.
@@ -31,5 +31,6 @@ pub enum Inner<'b, 'a> {
     },
     /// The value of the method.
     Value(Operand),
+    /// The end.
     Over,
 }

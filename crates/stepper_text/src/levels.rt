@@ -1,4 +1,4 @@
-//! The line of a method under way.
+//! The lines of a body and of the methods under way in it.
 ghost use Rattle.std.specs.Prelude.{◌≡◌, ◌++◌, ◌∷◌, [], OnOk};
 ghost use Rattle.pool_syntax.specs.TreeOf.{expression_of, statements_of};
 ghost use Rattle.stepper_terms.specs.Parts.{behind, caller_at};
@@ -16,7 +16,7 @@ use stepper_terms::contexts::{
 };
 use term_text::{push_bindings, push_expression, push_mark, push_statements, push_unmark};
 
-/// Appends it as a body, or as post statements.
+/// Appends the text of a body, or of post statements.
 pub fn push_inner(
     text: &mut Vec<u8>,
     names: &Names,
@@ -47,7 +47,7 @@ pub fn push_inner(
     }
 }
 
-/// Appends the post statements that are not begun.
+/// Appends the post statements that have not begun.
 fn push_later(text: &mut Vec<u8>, names: &Names, post: &[Stmt]) -> Result<(), AllocError>
     ensures { OnOk result (text.new.items ≡ text.old.items ++ later_text names.now (statements_of post.now)) }
 {
@@ -60,7 +60,7 @@ fn push_later(text: &mut Vec<u8>, names: &Names, post: &[Stmt]) -> Result<(), Al
     }
 }
 
-/// Appends the end of a method that is done, with its value.
+/// Appends the value of a method that is done.
 fn push_done_value(text: &mut Vec<u8>, value: Value) -> Result<(), AllocError>
     ensures { OnOk result (text.new.items ≡ text.old.items ++ done_text value) }
 {
@@ -70,6 +70,7 @@ fn push_done_value(text: &mut Vec<u8>, value: Value) -> Result<(), AllocError>
     push_unmark(text)
 }
 
+/// Reports whether it is the value of a method.
 fn is_value_slot(slot: &StatementContext<'_>) -> bool
     ensures { result ≡ is_value_slot slot.now }
 {
@@ -79,7 +80,7 @@ fn is_value_slot(slot: &StatementContext<'_>) -> bool
     }
 }
 
-/// Whether the value of a method is under evaluation.
+/// Reports whether the value of the method is under evaluation.
 fn is_in_value(inner: &Inner<'_, '_>) -> bool
     ensures { result ≡ is_in_value inner.now }
 {
@@ -90,7 +91,7 @@ fn is_in_value(inner: &Inner<'_, '_>) -> bool
     }
 }
 
-/// Appends what is left in a method that is at its statements or at its value.
+/// Appends the text of a method that is at its statements or at its value.
 fn push_body(
     text: &mut Vec<u8>,
     names: &Names,
@@ -126,7 +127,7 @@ fn push_body(
     }
 }
 
-/// Appends what is left in a method whose value was evaluated.
+/// Appends the text of a method that is at its post statements.
 fn push_post_stage(
     text: &mut Vec<u8>,
     names: &Names,
@@ -147,7 +148,7 @@ fn push_post_stage(
     }
 }
 
-/// The post statements that are left behind the value of a method that is done: those of one that a caller waits for.
+/// The post statements that are left of a method that is done: those of a method that serves a caller.
 fn last_post<'a>(outer: &SuspendedCall<'_>, post: &'a [Stmt]) -> &'a [Stmt]
     ensures { statements_of result.now ≡ behind (caller_at outer.now) (statements_of post.entry.now) }
 {
@@ -160,7 +161,7 @@ fn last_post<'a>(outer: &SuspendedCall<'_>, post: &'a [Stmt]) -> &'a [Stmt]
     }
 }
 
-/// Appends what is left in a method under way.
+/// Appends the text of a method under way.
 fn push_stage(
     text: &mut Vec<u8>,
     names: &Names,
@@ -228,7 +229,7 @@ pub fn push_level(
     text.extend_from_slice(b"\n")
 }
 
-/// What comes next in a body or in a method under way, or the method under way in it.
+/// The content of a body or of a method, from the methods under way in it and the redex.
 fn inner_of<'b, 'a>(calls: &'b [Activation<'a>], next: &'b Focus<'a>) -> Inner<'b, 'a>
     ensures { seen result ≡ at_first calls.entry.now next.entry.now }
 {
@@ -284,7 +285,7 @@ fn push_levels<'b, 'a>(
     Ok(())
 }
 
-/// Appends the lines of the body and of all methods under way.
+/// Appends the lines of the body and of all methods under way. An error means out of memory.
 pub fn push_work(
     text: &mut Vec<u8>,
     names: &Names,

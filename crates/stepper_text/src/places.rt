@@ -1,4 +1,4 @@
-//! What stands before and behind the part of an expression that is under evaluation.
+//! The text around the part of an expression that is under evaluation.
 ghost use Rattle.std.specs.Prelude.{◌≡◌, ◌++◌, [], ◌∷◌, OnOk};
 ghost use Rattle.pool_printer.specs.Canonical.{left_need, operator_level, right_need};
 ghost use Rattle.stepper_text.specs.Around.{after, afters, before, befores, closed, done_arguments, nested_level, opened, operand_text, place_level};
@@ -19,7 +19,7 @@ pub fn push_operand(text: &mut Vec<u8>, operand: &Operand) -> Result<(), AllocEr
     push_value(text, operand.value)
 }
 
-/// Appends a parenthesis where the level is lower than what is needed.
+/// Appends the parenthesis before a part of this level, if the place requires a higher one.
 pub fn push_opened(text: &mut Vec<u8>, need: u8, level: u8) -> Result<(), AllocError>
     ensures { OnOk result (text.new.items ≡ text.old.items ++ opened need level) }
 {
@@ -30,6 +30,7 @@ pub fn push_opened(text: &mut Vec<u8>, need: u8, level: u8) -> Result<(), AllocE
     }
 }
 
+/// Appends the parenthesis after it.
 pub fn push_closed(text: &mut Vec<u8>, need: u8, level: u8) -> Result<(), AllocError>
     ensures { OnOk result (text.new.items ≡ text.old.items ++ closed need level) }
 {
@@ -40,7 +41,7 @@ pub fn push_closed(text: &mut Vec<u8>, need: u8, level: u8) -> Result<(), AllocE
     }
 }
 
-/// Appends evaluated arguments, a comma behind each.
+/// Appends evaluated arguments, a comma after each.
 pub fn push_done(text: &mut Vec<u8>, done: &[Operand]) -> Result<(), AllocError>
     ensures { OnOk result (text.new.items ≡ text.old.items ++ done_arguments done.now) }
 {
@@ -51,7 +52,7 @@ pub fn push_done(text: &mut Vec<u8>, done: &[Operand]) -> Result<(), AllocError>
     Ok(())
 }
 
-/// Appends what stands before a part of this level.
+/// Appends the text before a part of this level.
 fn push_before(
     text: &mut Vec<u8>,
     names: &Names,
@@ -92,7 +93,7 @@ fn push_before(
     }
 }
 
-/// Appends what stands behind it.
+/// Appends the text after it.
 fn push_after(
     text: &mut Vec<u8>,
     names: &Names,
@@ -125,7 +126,7 @@ fn push_after(
     }
 }
 
-/// The level of an expression with a part in this place.
+/// The level of an expression with a part in this context.
 fn place_level(place: &ExpressionContext<'_>) -> u8
     ensures { result ≡ place_level place.now }
 {
@@ -139,7 +140,7 @@ fn place_level(place: &ExpressionContext<'_>) -> u8
     }
 }
 
-/// The level of a part of this level in these places.
+/// The level of the whole expression, for a part of this level in these contexts.
 pub fn nested_level(places: &[ExpressionContext<'_>], level: u8) -> u8
     ensures { result ≡ nested_level places.now level }
 {
@@ -149,7 +150,7 @@ pub fn nested_level(places: &[ExpressionContext<'_>], level: u8) -> u8
     }
 }
 
-/// Appends what stands before a part of this level in all of these places.
+/// Appends the text before a part of this level in all of these contexts.
 pub fn push_befores(
     text: &mut Vec<u8>,
     names: &Names,
@@ -169,7 +170,7 @@ pub fn push_befores(
     Ok(())
 }
 
-/// Appends what stands behind it in all of them.
+/// Appends the text after it in all of them.
 pub fn push_afters(
     text: &mut Vec<u8>,
     names: &Names,

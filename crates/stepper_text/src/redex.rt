@@ -1,4 +1,4 @@
-//! The redex, and the statement that comes next.
+//! The redex: an expression or a statement.
 ghost use Rattle.std.specs.Prelude.{◌≡◌, ◌++◌, OnOk};
 ghost use Rattle.pool_syntax.specs.TreeOf.{expression_of, statements_of};
 ghost use Rattle.stepper_text.specs.Contents.{again, guards_text, more_operands, operands_text, ready_text, task_text};
@@ -152,7 +152,7 @@ pub fn push_again(
     }
 }
 
-/// Appends the statement that comes next.
+/// Appends the statement that is the redex.
 pub fn push_task(text: &mut Vec<u8>, names: &Names, task: &Task<'_>) -> Result<(), AllocError>
     ensures { OnOk result (text.new.items ≡ text.old.items ++ task_text names.now task.now) }
 {

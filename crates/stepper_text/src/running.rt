@@ -1,4 +1,4 @@
-//! What is left in a body or in a method under way: the statement that is under evaluation, and those behind it.
+//! The statement under evaluation, and those after it.
 ghost use Rattle.std.specs.Prelude.{◌≡◌, ◌++◌, ◌∷◌, [], OnOk};
 ghost use Rattle.pool_syntax.specs.TreeOf.{statements_of};
 ghost use Rattle.stepper_terms.specs.Parts.{left, segment};
@@ -16,7 +16,7 @@ use std::alloc::AllocError;
 use stepper_terms::contexts::{ExpressionContext, Ready, Segment, StatementContext, Task};
 use term_text::{push_mark, push_more_statements, push_unmark};
 
-/// Appends the name of a method under way between braces.
+/// Appends the name of a method under way in braces.
 pub fn push_braced(text: &mut Vec<u8>, names: &Names, method: NameId) -> Result<(), AllocError>
     ensures { OnOk result (text.new.items ≡ text.old.items ++ braced names.now method.0) }
 {
@@ -52,7 +52,7 @@ pub fn push_segments(
     Ok(())
 }
 
-/// Appends the statements behind a statement that is under evaluation.
+/// Appends the statements after a statement under evaluation.
 fn push_slot_rest(
     text: &mut Vec<u8>,
     names: &Names,
@@ -67,7 +67,7 @@ fn push_slot_rest(
     }
 }
 
-/// Appends what stands before the redex, or before a method under way.
+/// Appends the text before the redex, or before a method under way.
 fn push_front(
     text: &mut Vec<u8>,
     names: &Names,
@@ -80,7 +80,7 @@ fn push_front(
     push_befores(text, names, places, 8)
 }
 
-/// Appends what stands behind it.
+/// Appends the text after it.
 fn push_back(
     text: &mut Vec<u8>,
     names: &Names,
@@ -96,7 +96,7 @@ fn push_back(
     push_slot_rest(text, names, slot, rest)
 }
 
-/// Appends a statement with the redex in it, and what is behind it.
+/// Appends a statement with the redex in it, and the statements after it.
 pub fn push_running(
     text: &mut Vec<u8>,
     names: &Names,
@@ -114,7 +114,7 @@ pub fn push_running(
     push_back(text, names, slot, places, rest)
 }
 
-/// Appends a statement with a method under way in it, and what is behind it.
+/// Appends a statement with a method under way in it, and the statements after it.
 pub fn push_within(
     text: &mut Vec<u8>,
     names: &Names,
@@ -130,7 +130,7 @@ pub fn push_within(
     push_back(text, names, slot, places, rest)
 }
 
-/// Appends the statement that comes next between brackets, and what is behind it.
+/// Appends the statement that is the redex in brackets, and the statements after it.
 pub fn push_next(
     text: &mut Vec<u8>,
     names: &Names,

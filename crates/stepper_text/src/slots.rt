@@ -1,4 +1,4 @@
-//! A statement with a part under evaluation: what stands before the part, and behind it.
+//! The text of a statement around the part that is under evaluation.
 ghost use Rattle.std.specs.Prelude.{◌≡◌, ◌++◌, OnOk};
 ghost use Rattle.stepper_text.specs.Contents.{slot_after, slot_before};
 
@@ -12,7 +12,7 @@ use term_text::{
     push_alternatives, push_answer, push_call, push_else, push_more_arguments, push_statements,
 };
 
-/// Appends what stands before an expression of this level.
+/// Appends the text of the statement before its expression of this level.
 pub fn push_slot_before(
     text: &mut Vec<u8>,
     names: &Names,
@@ -52,7 +52,7 @@ pub fn push_slot_before(
     }
 }
 
-/// Appends what stands behind it, up to the statement's end.
+/// Appends the text after it, to the statement's end.
 pub fn push_slot_after(
     text: &mut Vec<u8>,
     names: &Names,

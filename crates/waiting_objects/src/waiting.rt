@@ -3,8 +3,9 @@ ghost use Rattle.std.specs.Prelude.{◌≡◌, ◌++◌, IfOk, OnOk, option_map}
 ghost use Rattle.pool_syntax.specs.TreeOf.{program_of};
 ghost use Rattle.stepper_objects.specs.ObjectStates.{thing_object, things};
 ghost use Rattle.pool_semantics.specs.PlainOf.{configuration_of, program_tree};
-ghost use Rattle.search_cli.specs.Waiting.{waiting_at, waiting_in, waiting_now, waiting_row, waiting_rows};
+ghost use Rattle.waiting_objects.specs.Waiting.{waiting_at, waiting_in, waiting_now, waiting_row, waiting_rows};
 ghost use Rattle.pool_relation.specs.Action.{action};
+ghost use Rattle.wait_report.specs.Calls.{names_of, Rising};
 ghost use Rattle.stepper_objects.specs.Acts.{acted};
 
 use pool_semantics::Plain;
@@ -87,8 +88,12 @@ pub fn waiting_rows(
     plain: &Plain<'_>,
     all: bool,
 ) -> Result<Vec<ObjectRow>, AllocError>
-    ensures { IfOk result (λ rows. rows.items ≡ waiting_rows all (program_tree plain.now) (configuration_of plain.now)) }
+    ensures rows { IfOk result (λ rows. rows.items ≡ waiting_rows all (program_tree plain.now) (configuration_of plain.now)) }
+    ensures rising { IfOk result (λ rows. Rising (names_of rows.items)) }
 {
     let state = plain.state();
+
+    // The keys of the map rise; its length says so.
+    let _count = state.objects.len();
     waiting_in(alloc, all, state.program, &state.objects)
 }

@@ -1,8 +1,8 @@
 use Rattle.std.proofs.Common.{◌≡◌, ◌++◌}
 use Rattle.pool_syntax.specs.TreeOf.{program_of}
 use Rattle.stepper_objects.specs.ObjectStates.{things}
-use Rattle.search_cli.specs.Waiting.{waiting_in}
-use Rattle.search_cli.proofs.waiting.waiting_in.Given as goal
+use Rattle.waiting_objects.specs.Waiting.{waiting_in}
+use Rattle.waiting_objects.proofs.waiting.waiting_in.Given as goal
 
 abbrev pub invariant-loop-name : goal.invariant-loop-name
 invariant-loop-name l =
