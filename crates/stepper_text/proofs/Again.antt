@@ -1,5 +1,5 @@
 -- The unfolded body of a loop.
-use Rattle.std.proofs.Common.{◌≡◌, refl, sym, ap, ◌∙◌, List, [], ◌∷◌, ◌++◌, append_assoc, append-nil, codes, length, ◌<◌, arith}
+use Rattle.std.proofs.Common.{◌≡◌, sym, ap, ◌∙◌, List, [], ◌∷◌, ◌++◌, append_assoc, append-nil, codes, length, ◌<◌, arith}
 use Rattle.text_scan.specs.Text.{Text}
 use Rattle.pool_syntax.specs.declared.tree.Stmt.{Stmt}
 use Rattle.pool_syntax.specs.TreeOf.{statement_of, statements_of}

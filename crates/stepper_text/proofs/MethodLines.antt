@@ -7,7 +7,7 @@ use Rattle.pool_syntax.specs.declared.tree.Stmt.{Stmt, Row_of-Alt, end_of-Alt, m
 use Rattle.pool_syntax.specs.declared.tree.Alt.{Alt}
 use Rattle.pool_syntax.specs.TreeOf.{expression_of, expression_row, expressions_of, statement_of, statements_of, alternative_row}
 use Rattle.pool_syntax.specs.Terms as T
-use Rattle.pool_syntax.specs.Terms.{Store, Expression, Expressions, Statements, Alternatives}
+use Rattle.pool_syntax.specs.Terms.{Expression, Expressions, Statements, Alternatives}
 use Rattle.stepper_terms.specs.declared.contexts.Operand.{Operand}
 use Rattle.stepper_terms.specs.declared.contexts.Guarded.{Guarded}
 use Rattle.stepper_terms.specs.declared.contexts.ExpressionContext.{ExpressionContext}

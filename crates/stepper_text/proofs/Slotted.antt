@@ -1,10 +1,10 @@
 -- The text of the redex, and of a statement with a part under evaluation, is as the definition of marked terms has it.
-use Rattle.std.proofs.Common.{◌≡◌, refl, sym, ap, ap₂, ◌∙◌, ℕ, List, [], ◌∷◌, ◌++◌, false, true, append_assoc, append-nil, codes, nat_le}
+use Rattle.std.proofs.Common.{◌≡◌, refl, sym, ap, ap₂, ◌∙◌, List, [], ◌∷◌, ◌++◌, false, true, append_assoc, codes, nat_le}
 use Rattle.text_scan.specs.Text.{Text}
 use Rattle.run_types.specs.Table.{text_at}
-use Rattle.pool_syntax.specs.TreeOf.{expression_of, expressions_of, statements_of}
+use Rattle.pool_syntax.specs.TreeOf.{statements_of}
 use Rattle.pool_syntax.specs.Terms as T
-use Rattle.pool_syntax.specs.Terms.{Expression, Expressions, Statements}
+use Rattle.pool_syntax.specs.Terms.{Expression, Statements}
 use Rattle.pool_relation.specs.Reducible.{are_values, guards_are_values, is_value}
 use Rattle.run_types.specs.declared.types.Op.{Op}
 use Rattle.run_types.specs.declared.types.Op.TheVariants as op
@@ -16,8 +16,8 @@ use Rattle.stepper_terms.specs.declared.contexts.Ready.TheVariants as R
 use Rattle.stepper_terms.specs.declared.contexts.Task.{Task}
 use Rattle.stepper_terms.specs.declared.contexts.Task.TheVariants as K
 use Rattle.stepper_terms.specs.Parts.{guarded, operand, operands, ready, task}
-use Rattle.pool_printer.specs.Canonical.{left_need, right_need}
-use Rattle.term_text.specs.Words.{operator_text, alternatives_text, answer_text, arguments_text, bare_text, more_arguments, statement_text, statements_text, text_in, word}
+use Rattle.pool_printer.specs.Canonical.{right_need}
+use Rattle.term_text.specs.Words.{operator_text, alternatives_text, answer_text, arguments_text, more_arguments, statements_text, text_in, word}
 use Rattle.term_text.specs.Marked.{boxed, marked, marked_guards, marked_statement}
 use Rattle.stepper_text.specs.Around.{operand_text}
 use Rattle.stepper_text.specs.Contents.{guards_text, more_operands, operands_text, ready_text, task_text}

@@ -1,5 +1,5 @@
 -- The text of a method under way, from the stepper's parts.
-use Rattle.std.proofs.Common.{◌≡◌, refl, sym, ap, ◌∙◌, ℕ, List, [], ◌∷◌, ◌++◌, Option, Some, None, false, true, append-nil, codes}
+use Rattle.std.proofs.Common.{◌≡◌, refl, sym, ap, ◌∙◌, ℕ, List, [], ◌∷◌, ◌++◌, Option, Some, None, false, append-nil, codes}
 use Rattle.text_scan.specs.Text.{Text}
 use Rattle.pool_syntax.specs.TreeOf.{expression_of, statements_of}
 use Rattle.pool_syntax.specs.Terms as T

@@ -1,9 +1,9 @@
 -- The text of a statement with a part under evaluation.
-use Rattle.std.proofs.Common.{◌≡◌, refl, sym, ap, ◌∙◌, ℕ, ◌+◌, ◌-◌, ◌<◌, ◌≤◌, List, [], ◌∷◌, ◌++◌, length, get_or, drop, false, true, append_assoc, codes, arith}
+use Rattle.std.proofs.Common.{◌≡◌, refl, sym, ap, ◌∙◌, ℕ, ◌+◌, ◌-◌, ◌<◌, ◌≤◌, List, [], ◌∷◌, ◌++◌, length, get_or, drop, false, append_assoc, codes, arith}
 use Rattle.std.proofs.lemmas.List.{at_drop_more}
 use Rattle.text_scan.specs.Text.{Text}
 use Rattle.run_types.specs.Table.{text_at}
-use Rattle.pool_syntax.specs.TreeOf.{expression_of, expressions_of, statements_of}
+use Rattle.pool_syntax.specs.TreeOf.{expressions_of, statements_of}
 use Rattle.pool_syntax.specs.Terms as T
 use Rattle.pool_syntax.specs.Terms.{Expression, Statements, append}
 use Rattle.pool_relation.specs.Reducible.{is_value}

@@ -1,5 +1,5 @@
 -- The lines of an object's work are those of its term.
-use Rattle.std.proofs.Common.{◌≡◌, refl, sym, ap, ap₂, ◌∙◌, ℕ, List, [], ◌∷◌, ◌++◌, Option, Some, None, codes}
+use Rattle.std.proofs.Common.{◌≡◌, refl, sym, ap, ap₂, ◌∙◌, ℕ, List, [], ◌∷◌, ◌++◌, Some, None, codes}
 use Rattle.text_scan.specs.Text.{Text}
 use Rattle.run_types.specs.Table.{text_at}
 use Rattle.pool_syntax.specs.Terms as T
@@ -17,7 +17,7 @@ use Rattle.stepper_terms.specs.declared.contexts.Focus.{Focus}
 use Rattle.stepper_terms.specs.declared.contexts.Focus.TheVariants as N
 use Rattle.stepper_terms.specs.declared.contexts.Activation.{Activation}
 use Rattle.stepper_terms.specs.declared.contexts.Continuation.{Continuation}
-use Rattle.stepper_terms.specs.Parts.{around, bottom, caller_of, inside, layers, left, nested, ready, slotted, stopped, task, term_of, Content}
+use Rattle.stepper_terms.specs.Parts.{around, caller_of, inside, layers, left, nested, ready, stopped, task, term_of, Content}
 use Rattle.term_text.specs.Levels.{bindings, ended, expression_lines, statement_lines, term_lines}
 use Rattle.stepper_text.specs.Inners.{at_first, head_text, level_line, level_lines, stage_at, work_lines, At}
 use Rattle.stepper_text.specs.ContentLines.{content_lines}

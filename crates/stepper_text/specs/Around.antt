@@ -9,8 +9,6 @@ use Rattle.record_writer.specs.RecordText.{led, value_text}
 use Rattle.stepper_terms.specs.declared.contexts.Operand.{Operand}
 use Rattle.stepper_terms.specs.declared.contexts.ExpressionContext.{ExpressionContext}
 use Rattle.stepper_terms.specs.declared.contexts.ExpressionContext.TheVariants as P
-use Rattle.stepper_terms.specs.declared.contexts.Ready.{Ready}
-use Rattle.stepper_terms.specs.declared.contexts.Ready.TheVariants as R
 
 -- the parenthesis before a part of this level, if the place requires a higher one
 abbrev pub opened : ℕ → ℕ → Text

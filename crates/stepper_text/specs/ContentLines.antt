@@ -1,5 +1,5 @@
 -- The lines of the methods under way in the content of a body or of a method.
-use Rattle.std.specs.Prelude.{ℕ, List, [], ◌++◌}
+use Rattle.std.specs.Prelude.{ℕ, List, []}
 use Rattle.text_scan.specs.Text.{Text}
 use Rattle.stepper_terms.specs.Parts.{Content, Running, Valued, Over}
 use Rattle.term_text.specs.Levels.{expression_lines, statements_lines}

@@ -1,5 +1,5 @@
 -- The text of the statement under evaluation, and of those after it, by the stepper's contexts.
-use Rattle.std.specs.Prelude.{ℕ, List, [], ◌∷◌, ◌++◌, codes, Option, Some, None}
+use Rattle.std.specs.Prelude.{ℕ, List, [], ◌∷◌, ◌++◌, codes}
 use Rattle.text_scan.specs.Text.{Text}
 use Rattle.run_types.specs.Table.{text_at}
 use Rattle.pool_syntax.specs.TreeOf.{expression_of, expressions_of, statements_of}
@@ -15,10 +15,8 @@ use Rattle.stepper_terms.specs.declared.contexts.Ready.{Ready}
 use Rattle.stepper_terms.specs.declared.contexts.Ready.TheVariants as R
 use Rattle.stepper_terms.specs.declared.contexts.Task.{Task}
 use Rattle.stepper_terms.specs.declared.contexts.Task.TheVariants as K
-use Rattle.stepper_terms.specs.Parts.{alternatives, guarded, loop_of, ready, task}
-use Rattle.pool_printer.specs.Canonical.{left_need, right_need}
-use Rattle.term_text.specs.Words.{operator_text, alternatives_text, answer_text, arguments_text, bare_text, braced, called, else_text, more_arguments, more_statements, names_text, statement_text, statements_text, string_text, word}
-use Rattle.term_text.specs.Marked.{boxed, marked}
+use Rattle.stepper_terms.specs.Parts.{alternatives}
+use Rattle.term_text.specs.Words.{operator_text, alternatives_text, answer_text, arguments_text, bare_text, called, else_text, more_arguments, more_statements, names_text, statements_text, string_text, word}
 use Rattle.stepper_text.specs.Around.{afters, befores, closed, done_arguments, nested_level, opened, operand_text}
 
 -- evaluated arguments, a comma before each

@@ -1,5 +1,5 @@
 -- The text of a body or of a method under way, and the lines of all methods under way, by the stepper's parts.
-use Rattle.std.specs.Prelude.{ℕ, List, [], ◌∷◌, ◌++◌, codes, Option, Some, None, Bool, true, false, if◌then◌else◌}
+use Rattle.std.specs.Prelude.{ℕ, List, [], ◌∷◌, ◌++◌, codes, Some, None, Bool, true, false, if◌then◌else◌}
 use Rattle.text_scan.specs.Text.{Text}
 use Rattle.run_types.specs.Table.{text_at}
 use Rattle.run_types.specs.declared.types.Value.{Value}

@@ -1,11 +1,10 @@
 -- Text that is put behind other text.
-use Rattle.std.proofs.Common.{◌≡◌, refl, sym, ap, ◌∙◌, ℕ, ◌+◌, ◌<◌, List, [], ◌∷◌, ◌++◌, length, drop, get_or, Result, Ok, Err, append_assoc, arith}
+use Rattle.std.proofs.Common.{◌≡◌, sym, ap, ◌∙◌, ◌+◌, ◌<◌, List, [], ◌∷◌, ◌++◌, length, drop, get_or, Result, Ok, Err, append_assoc, arith}
 use Rattle.std.specs.Prelude.{OnOk}
 use Rattle.text_scan.specs.Text.{Text}
 use Rattle.pool_syntax.specs.declared.tree.Expr.{Expr}
-use Rattle.pool_syntax.specs.declared.tree.Stmt.{Stmt}
-use Rattle.pool_syntax.specs.TreeOf.{expression_of, expressions_of, statement_of, statements_of}
-use Rattle.term_text.specs.Words.{arguments_text, bare_text, more_arguments, more_statements, statement_text, statements_text}
+use Rattle.pool_syntax.specs.TreeOf.{expression_of, expressions_of}
+use Rattle.term_text.specs.Words.{arguments_text, bare_text, more_arguments}
 
 pub on_ok : {T E P Q : Type 0} (r : Result T E) → (P → Q) → OnOk r P → OnOk r Q
 on_ok (Ok x) f p = f p

@@ -1,12 +1,12 @@
 -- Worked rows of the text of terms.
-use Rattle.std.proofs.Common.{◌≡◌, refl, ℕ, List, [], ◌∷◌, ◌++◌, Option, Some, None, codes, pos, negsuc}
+use Rattle.std.proofs.Common.{◌≡◌, refl, ℕ, List, [], ◌∷◌, Some, None, codes, negsuc}
 use Rattle.std.specs.Fmt.{digits}
 use Rattle.text_scan.specs.Text.{Text}
 use Rattle.run_types.specs.declared.types.Value.TheVariants as V
 use Rattle.run_types.specs.declared.types.Op.TheVariants as op
 use Rattle.pool_syntax.specs.Terms as T
-use Rattle.pool_syntax.specs.Terms.{Expression, Statement, Statements}
-use Rattle.mesh_of_terms.proofs.Laws.{args, at, block, call, infix_of, int, it, me, names, new, no, nothing, number, own, prefix_of, send, set, yes}
+use Rattle.pool_syntax.specs.Terms.{Expression, Statement}
+use Rattle.mesh_of_terms.proofs.Laws.{at, block, call, infix_of, int, it, me, names, no, number, prefix_of, send, set, yes}
 use Rattle.term_text.specs.Marked.{marked_statements}
 use Rattle.term_text.specs.Levels.{term_lines}
 

@@ -8,7 +8,6 @@ use Rattle.run_types.specs.declared.types.Label.TheVariants as L
 use Rattle.run_types.specs.declared.types.Event.{Event}
 use Rattle.run_types.specs.declared.types.Event.TheVariants.{Turn, Link}
 use Rattle.run_types.specs.declared.types.End.TheVariants.{Quiet}
-use Rattle.run_types.specs.declared.types.Line.{Line}
 use Rattle.pool_relation.specs.Configuration.{Configuration}
 use Rattle.pool_relation.specs.Transition.{start}
 use Rattle.mesh_semantics.specs.Act.{id}

@@ -1,5 +1,5 @@
 -- The lines of a term: its body, and each method under way, the outermost first, with the text of what is left of it.
-use Rattle.std.specs.Prelude.{ℕ, List, [], ◌∷◌, ◌++◌, Option, Some, None, codes, map}
+use Rattle.std.specs.Prelude.{ℕ, List, [], ◌∷◌, ◌++◌, Option, Some, None, codes}
 use Rattle.text_scan.specs.Text.{Text}
 use Rattle.run_types.specs.Table.{text_at}
 use Rattle.run_types.specs.declared.types.Value.{Value}

@@ -1,7 +1,6 @@
 -- The text of a record that is followed: the first configuration, then each line with what it changed, up to the first impossible line.
-use Rattle.std.specs.Prelude.{ℕ, List, [], ◌∷◌, ◌++◌, Option, Some, None, codes}
+use Rattle.std.specs.Prelude.{List, [], ◌∷◌, ◌++◌, Some, None, codes}
 use Rattle.text_scan.specs.Text.{Text}
-use Rattle.run_types.specs.declared.types.What.{What}
 use Rattle.run_types.specs.declared.types.What.TheVariants as W
 use Rattle.run_types.specs.declared.types.Line.{Line}
 use Rattle.run_types.specs.declared.types.Line.TheVariants as R

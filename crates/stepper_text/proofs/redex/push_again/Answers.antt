@@ -1,4 +1,4 @@
-use Rattle.std.proofs.Common.{◌≡◌, sym, ap, ◌∙◌, ◌<◌, ◌++◌, [], ◌∷◌, codes, length, arith, rules}
+use Rattle.std.proofs.Common.{sym, ap, ◌∙◌, ◌<◌, ◌++◌, codes, length, rules}
 use Rattle.pool_syntax.specs.Terms as T
 use Rattle.pool_syntax.specs.TreeOf.{expression_of, statements_of}
 use Rattle.term_text.specs.Words.{statement_text, statements_text, word}

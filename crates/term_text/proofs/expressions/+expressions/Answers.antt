@@ -1,4 +1,4 @@
-use Rattle.std.proofs.Common.{refl, sym, ap, ◌∙◌, [], ◌∷◌, ◌++◌, codes, arith}
+use Rattle.std.proofs.Common.{sym, ap, ◌∙◌, ◌++◌, codes}
 use Rattle.pool_syntax.specs.TreeOf.{expression_of, expressions_of}
 use Rattle.pool_syntax.proofs.Laws.{call_tree, send_tree}
 use Rattle.term_text.specs.Words.{arguments_text, bare_text, called, text_in, word}

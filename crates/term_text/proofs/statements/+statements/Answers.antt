@@ -1,8 +1,8 @@
-use Rattle.std.proofs.Common.{refl, sym, ap, ◌∙◌, [], ◌∷◌, ◌++◌, codes, arith}
+use Rattle.std.proofs.Common.{sym, ap, ◌∙◌, ◌++◌, codes}
 use Rattle.pool_syntax.specs.Terms.{Select}
 use Rattle.pool_syntax.specs.TreeOf.{alternatives_of, expression_of, statement_of, statements_of}
 use Rattle.pool_syntax.proofs.Laws.{if_tree, select_tree, while_tree}
-use Rattle.term_text.specs.Words.{alternatives_text, bare_text, else_text, statement_text, statements_text, word}
+use Rattle.term_text.specs.Words.{bare_text, else_text, statement_text, statements_text, word}
 use Rattle.term_text.proofs.Putting.{on_ok, then}
 use Rattle.term_text.proofs.statements.+statements.Goals as goal
 
