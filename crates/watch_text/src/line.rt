@@ -1,13 +1,12 @@
 //! The lines of a record, event lines led by the word `event`.
-ghost use Rattle.std.specs.Prelude.{◌≡◌, ◌++◌, ◌∷◌, [], OnOk, decimal, map};
-ghost use Rattle.record_writer.specs.RecordText.{end_words, event_words, full_text, label_words, led, object_text, text_at, value_text, what_words, wire_words};
+ghost use Rattle.std.specs.Prelude.{◌≡◌, ◌++◌, ◌∷◌, [], OnOk, decimal};
+ghost use Rattle.record_writer.specs.RecordText.{end_words, event_words, full_text, label_words, led, what_words, wire_words};
 ghost use Rattle.run_types.specs.declared.types.Line.TheVariants as R;
 ghost use Rattle.term_text.specs.Watched.{told_line};
 
-use record_writer::{
-    push_args, push_error, push_item, push_name, push_number, push_object, push_value, push_word,
-};
-use run_types::{Args, End, Event, FullKind, Label, Line, NameId, Names, What, WireAct};
+use label_text::{push_about, push_label, push_message, push_pair};
+use record_writer::{push_name, push_number, push_value, push_word};
+use run_types::{End, Event, FullKind, Line, Names, What, WireAct};
 use std::alloc::AllocError;
 
 /// Appends the words of a wire event.
@@ -63,40 +62,6 @@ fn push_event(text: &mut Vec<u8>, event: Event) -> Result<(), AllocError>
     }
 }
 
-/// Appends a keyword and the names of two objects.
-fn push_pair(text: &mut Vec<u8>, word: &[u8], one: u32, other: u32) -> Result<(), AllocError>
-    ensures { OnOk result (text.new.items ≡ text.old.items ++ led (word.now ∷ object_text one ∷ object_text other ∷ [])) }
-{
-    push_word(text, word)?;
-    push_object(text, one)?;
-    push_object(text, other)
-}
-
-/// Appends a message: a keyword, the names of two objects, a method and its arguments.
-fn push_message(
-    text: &mut Vec<u8>,
-    names: &Names,
-    word: &[u8],
-    one: u32,
-    other: u32,
-    method: NameId,
-    args: &Args,
-) -> Result<(), AllocError>
-    ensures { OnOk result (text.new.items ≡ text.old.items ++ led (word.now ∷ object_text one ∷ object_text other ∷ text_at names.now method ∷ map value_text args.now)) }
-{
-    push_pair(text, word, one, other)?;
-    push_name(text, names, method)?;
-    push_args(text, args)
-}
-
-/// Appends a keyword and the name of an object.
-fn push_about(text: &mut Vec<u8>, word: &[u8], object: u32) -> Result<(), AllocError>
-    ensures { OnOk result (text.new.items ≡ text.old.items ++ led (word.now ∷ object_text object ∷ [])) }
-{
-    push_word(text, word)?;
-    push_object(text, object)
-}
-
 /// Appends a keyword and a number.
 fn push_numbered(text: &mut Vec<u8>, word: &[u8], number: u32) -> Result<(), AllocError>
     ensures { OnOk result (text.new.items ≡ text.old.items ++ led (word.now ∷ decimal number ∷ [])) }
@@ -105,75 +70,12 @@ fn push_numbered(text: &mut Vec<u8>, word: &[u8], number: u32) -> Result<(), All
     push_number(text, number)
 }
 
-/// Appends a transition with the number of times it is made.
-fn push_label(
-    text: &mut Vec<u8>,
-    names: &Names,
-    label: &Label,
-    times: u32,
-) -> Result<(), AllocError>
-    ensures { OnOk result (text.new.items ≡ text.old.items ++ led (label_words names.now label.now times)) }
-{
-    match label {
-        Label::Local { object } => {
-            push_about(text, b"local", *object)?;
-            push_number(text, times)
-        }
-        Label::New {
-            object,
-            name,
-            class,
-        } => {
-            push_pair(text, b"new", *object, *name)?;
-            push_name(text, names, *class)
-        }
-        Label::Answer {
-            receiver,
-            caller,
-            method,
-            args,
-        } => push_message(text, names, b"answer", *receiver, *caller, *method, args),
-        Label::Return {
-            receiver,
-            caller,
-            value,
-        } => {
-            push_pair(text, b"return", *receiver, *caller)?;
-            push_value(text, *value)
-        }
-        Label::Send {
-            object,
-            receiver,
-            method,
-            args,
-        } => push_message(text, names, b"send", *object, *receiver, *method, args),
-        Label::Take {
-            receiver,
-            sender,
-            method,
-            args,
-        } => push_message(text, names, b"take", *receiver, *sender, *method, args),
-        Label::Write { object, item } => {
-            push_about(text, b"write", *object)?;
-            push_item(text, names, *item)
-        }
-        Label::Pick { object, alt } => {
-            push_about(text, b"pick", *object)?;
-            push_number(text, *alt)
-        }
-        Label::Fault { object, error } => {
-            push_about(text, b"fault", *object)?;
-            push_error(text, *error)
-        }
-    }
-}
-
 /// Appends the content of a line.
 fn push_what(text: &mut Vec<u8>, names: &Names, what: &What) -> Result<(), AllocError>
     ensures { OnOk result (text.new.items ≡ text.old.items ++ led (what_words names.now what.now)) }
 {
     match what {
-        What::Step { label, times } => push_label(text, names, label, *times),
+        What::Step { label, times } => push_label(text, names, label, *times as usize),
         What::PostCreate {
             object,
             class,
