@@ -2,7 +2,6 @@
 use Rattle.std.proofs.Common.{◌≡◌, refl, sym, ap, ap₂, ◌∙◌, ℕ, List, [], ◌∷◌, ◌++◌, map, Bool, true, false, if◌then◌else◌, nat_le, Option, Some, None, codes, append-nil, append_assoc}
 use Rattle.text_scan.specs.Text.{Text}
 use Rattle.text_scan.specs.declared.keywords.Keyword.TheVariants as word_of
-use Rattle.run_types.specs.Table.{text_at}
 use Rattle.run_types.specs.declared.types.Op.{Op}
 use Rattle.run_types.specs.declared.types.Op.TheVariants as op
 use Rattle.pool_syntax.specs.declared.token.Sign.TheVariants as sign

@@ -1,5 +1,5 @@
 -- A transition changes no object but those that are written after it, and no messages but those of its pair.
-use Rattle.std.proofs.Common.{◌≡◌, ◌≢◌, refl, sym, ap, ◌∙◌, ℕ, zero, suc, List, [], ◌∷◌, ◌++◌, length, Option, Some, None, is_none, is_some, not, ◌&&◌, ◌==◌, replicate, arith}
+use Rattle.std.proofs.Common.{◌≡◌, ◌≢◌, sym, ap, ◌∙◌, ℕ, zero, suc, List, [], ◌∷◌, ◌++◌, length, Option, Some, None, is_none, is_some, not, ◌&&◌, ◌==◌, replicate}
 use Rattle.run_types.specs.Message.{Message}
 use Rattle.run_types.specs.Tables.{Pair}
 use Rattle.run_types.specs.declared.types.Label.{Label}

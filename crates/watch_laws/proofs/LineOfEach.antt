@@ -10,7 +10,7 @@ use Rattle.pool_relation.specs.Reducible.{is_done, is_value}
 use Rattle.pool_relation.specs.Typed.{are_sound, are_sound_alternatives, are_sound_statements, has_room, is_sound, is_sound_statement, is_store_of, is_value_of}
 use Rattle.pool_relation.specs.UnderWay.{Activity, Own, Serving, in_expression, in_expressions, in_guards, in_statement, in_statements}
 use Rattle.record_writer.specs.RecordText.{joined, led, object_text}
-use Rattle.term_text.specs.Levels.{arguments_lines, bindings, ended, expression_lines, guards_lines, own_line, served_line, statement_lines, statements_lines}
+use Rattle.term_text.specs.Levels.{arguments_lines, bindings, expression_lines, guards_lines, own_line, served_line, statement_lines, statements_lines}
 use Rattle.term_text.specs.Marked.{method_text}
 use Rattle.term_text.specs.Words.{word}
 use Rattle.watch_laws.specs.MethodLines.{HasLineOfEach, method_words}

@@ -1,5 +1,5 @@
 -- The text of an object and of a pair in a configuration, and which of them a line of a record writes.
-use Rattle.std.specs.Prelude.{◌≡◌, ◌≢◌, ℕ, List, [], ◌∷◌, ◌++◌, Option, Some, None, option_map}
+use Rattle.std.specs.Prelude.{◌≢◌, ℕ, List, [], ◌∷◌, Option, None, option_map}
 use Rattle.text_scan.specs.Text.{Text}
 use Rattle.run_types.specs.Tables.{Pair}
 use Rattle.run_types.specs.declared.types.What.TheVariants as W
