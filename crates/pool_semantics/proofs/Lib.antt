@@ -16,3 +16,4 @@ pub mod Alternatives
 pub mod ChoiceFreeSteps
 pub mod WaitingObjects
 pub mod AddedObject
+pub mod Laws

@@ -4,3 +4,4 @@ pub mod LoneObject
 pub mod OneVerdict
 pub mod RecordIsRun
 mod JudgedRows
+pub mod Laws

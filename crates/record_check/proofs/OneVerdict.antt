@@ -39,11 +39,11 @@ no_further p ls n d lab s rest =
     ∙ (ap (λ xs. labels s.before ++ xs) (append_assoc (replicate s.made lab) (lab ∷ r.0) rest) ∙ sym (append_assoc (labels s.before) (replicate s.made lab) (lab ∷ (r.0 ++ rest)))) in
     ap (run p s.from) all ∙ (joined p s.from d front (lab ∷ (r.0 ++ rest)) s.leads ∙ ap (λ o. o >>= λ e. run p e (r.0 ++ rest)) s.impossible)
 
-no_run : (p : ProgramTree) (ls : List Line) (n : ℕ) (d : Configuration) (lab : Label) (s : StopsAt p ls n d lab) → run p s.from (labels ls) ≡ None
+pub no_run : (p : ProgramTree) (ls : List Line) (n : ℕ) (d : Configuration) (lab : Label) (s : StopsAt p ls n d lab) → run p s.from (labels ls) ≡ None
 no_run p ls n d lab s = ap (run p s.from) (ap labels s.whole ∙ labels_split s.before _) ∙ no_further p ls n d lab s (labels s.behind)
 
 -- the start is one
-same_start : (p : ProgramTree) (n : ℕ) (c d : Configuration) → start p n ≡ Some c → start p n ≡ Some d → c ≡ d
+pub same_start : (p : ProgramTree) (n : ℕ) (c d : Configuration) → start p n ≡ Some c → start p n ≡ Some d → c ≡ d
 same_start p n c d h k = same_some (sym h ∙ k)
 
 only_run : (p : ProgramTree) (ls : List Line) (n : ℕ) (d e : Configuration) (lab : Label) → StopsAt p ls n d lab → LeadsTo p ls e → ⊥

@@ -39,7 +39,7 @@ fn first_of(line: &Line) -> Option<u32>
 }
 
 /// The name of the root object: the object of the first transition, or 0 if no line shows a transition.
-fn root(lines: &[Line]) -> u32
+pub fn root(lines: &[Line]) -> u32
     ensures { result ≡ root lines.now }
 {
     for line in lines {

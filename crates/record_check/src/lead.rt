@@ -36,7 +36,7 @@ fn make_times(plain: &mut Plain<'_>, label: &Label, times: u32) -> Result<Option
 }
 
 /// Applies the labels that a line shows, up to the first that is impossible. An error means out of memory.
-fn follow_line(plain: &mut Plain<'_>, line: &Line) -> Result<Option<Mismatch>, AllocError>
+pub fn follow_line(plain: &mut Plain<'_>, line: &Line) -> Result<Option<Mismatch>, AllocError>
     ensures program { program_tree plain.new ≡ program_tree plain.old }
     ensures going_on { IfOk result (λ _. is_spent plain.old ≡ false → is_spent plain.new ≡ false) }
     ensures leads { IfOk result (λ r. IfNone r (run (program_tree plain.old) (configuration_of plain.old) (labels_of line.now) ≡ Some (configuration_of plain.new))) }

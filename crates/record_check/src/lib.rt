@@ -9,5 +9,7 @@ mod line;
 pub mod theorems;
 mod verdict;
 
+pub use labels::root;
+pub use lead::{Mismatch, follow_line};
 pub use line::verdict_line;
-pub use verdict::check_record;
+pub use verdict::{check_record, judge_end};

@@ -11,7 +11,7 @@ use run_types::{Line, List, Verdict};
 use std::alloc::{AllocError, Global};
 
 /// The verdict on a record with only possible labels. `plain` is the configuration after the last label.
-fn judge_end(plain: &Plain<'_>, lines: &[Line]) -> Verdict
+pub fn judge_end(plain: &Plain<'_>, lines: &[Line]) -> Verdict
     requires { is_spent plain.now ≡ false }
     ensures { LeadsTo (program_tree plain.now) lines.now (configuration_of plain.now) → Judged (program_tree plain.now) lines.now result }
 {

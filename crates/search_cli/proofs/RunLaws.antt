@@ -6,8 +6,6 @@ use Rattle.pool_syntax.specs.Terms.{ProgramTree}
 use Rattle.run_types.specs.Partial.{◌>>=◌}
 use Rattle.pool_relation.specs.Configuration.{Configuration}
 use Rattle.pool_relation.specs.Transition.{run, start, transition}
-use Rattle.search_laws.specs.Search.{IsInOrder}
-use Rattle.search_laws.proofs.Laws.{sorted_after, start_sorted}
 use Rattle.pool_search.specs.SearchTargets.{LeadsTo}
 
 -- so many of the labels were made, and the others are left
@@ -15,11 +13,10 @@ pub record IsUnderWay (p : ProgramTree) (ls : List Label) (at : ℕ) (c : Config
   pub first : Configuration
   pub starts : start p 0 ≡ Some first
   pub left : run p first ls ≡ run p c (drop at ls)
-  pub in_order : IsInOrder c
 
 module _ (p : ProgramTree) (ls : List Label) where
   pub begun : (c : Configuration) → start p 0 ≡ Some c → IsUnderWay p ls 0 c
-  begun c s = record { first = c; starts = s; left = refl; in_order = start_sorted p c s }
+  begun c s = record { first = c; starts = s; left = refl }
 
   next_left : (at : ℕ) (l : Label) → at < length ls → l ≡ get_or ls at l → drop at ls ≡ l ∷ drop (at + 1) ls
   next_left at l inside is = drop_more ls at l inside ∙ ap (λ x. x ∷ drop (at + 1) ls) (sym is)
@@ -29,7 +26,6 @@ module _ (p : ProgramTree) (ls : List Label) where
     first = h.first;
     starts = h.starts;
     left = h.left ∙ ap (run p c) (next_left at l inside is) ∙ ap (λ (o : Option Configuration). o >>= λ e. run p e (drop (at + 1) ls)) step;
-    in_order = sorted_after p c d l h.in_order step;
   }
 
   pub is_possible : (P : Configuration → Type 0) (at : ℕ) (l : Label) (c : Configuration) → LeadsTo p ls P → at < length ls → l ≡ get_or ls at l → IsUnderWay p ls at c → transition p c l ≡ None → ⊥
@@ -41,13 +37,13 @@ module _ (p : ProgramTree) (ls : List Label) where
       ∙ ap (λ (o : Option Configuration). o >>= λ e. run p e (drop (at + 1) ls)) none in
       cc
 
-  pub led : (at : ℕ) (c : Configuration) → length ls ≤ at → IsUnderWay p ls at c → LeadsTo p ls (λ d. (d ≡ c) × IsInOrder d)
+  pub led : (at : ℕ) (c : Configuration) → length ls ≤ at → IsUnderWay p ls at c → LeadsTo p ls (λ d. d ≡ c)
   led at c over h = record {
     first = h.first;
     last = c;
     starts = h.starts;
     leads = h.left ∙ ap (run p c) (drop_all at ls over);
-    holds = (refl, h.in_order);
+    holds = refl;
   }
 
   -- they lead to one configuration alone

@@ -2,9 +2,10 @@
 use Rattle.std.specs.Prelude.{ℕ, List, [], ◌∷◌, ◌++◌, codes, decimal}
 use Rattle.text_scan.specs.Text.{Text}
 use Rattle.run_types.specs.declared.types.Label.{Label}
-use Rattle.record_writer.specs.RecordText.{label_words, object_text, text_at}
+use Rattle.record_writer.specs.RecordText.{label_words}
 use Rattle.wait_report.specs.declared.rows.ObjectRow.{ObjectRow}
-use Rattle.wait_report.specs.Report.{cycles_in, cycles_text, line, standing_words}
+use Rattle.wait_report.specs.Report.{cycles_in, cycles_text, line}
+use Rattle.waiting_objects.specs.WaitsText.{waits_text}
 use Rattle.search_cli.specs.Steps.{other_than_local, steps}
 
 -- a step: its transition as in a record, with the number of times it is made
@@ -14,14 +15,6 @@ step_line names s = line (codes "step" ∷ label_words names s.0 s.1)
 abbrev pub steps_text : List Text → List (Label × ℕ) → Text
 steps_text names [] = []
 steps_text names (s ∷ rest) = step_line names s ++ steps_text names rest
-
--- an object that waits: its name, its class and its status
-abbrev pub waits_line : List Text → ObjectRow → Text
-waits_line names r = line (codes "waits" ∷ object_text r.name ∷ text_at names r.class ∷ standing_words names r.standing)
-
-abbrev pub waits_text : List Text → List ObjectRow → Text
-waits_text names [] = []
-waits_text names (r ∷ rows) = waits_line names r ++ waits_text names rows
 
 -- the end of a search, with a number
 abbrev pub end_line : Text → ℕ → Text

@@ -8,7 +8,7 @@ use Rattle.pool_search.specs.declared.queries.Query.{Query}
 use Rattle.pool_search.specs.SearchTargets.{LeadsTo, IsWantedStuck, IsWantedFault, IsFinite}
 use Rattle.command_inputs.specs.Programs.{IsParsed}
 use Rattle.search_cli.specs.AnswerText.{fault_text, finite_text, over_text, stuck_text}
-use Rattle.search_cli.specs.Waiting.{waiting_rows}
+use Rattle.waiting_objects.specs.Waiting.{waiting_rows}
 use Rattle.search_cli.specs.declared.answers.Answer.{Answer}
 use Rattle.search_cli.specs.declared.status.Status.{Status}
 use Rattle.search_cli.specs.declared.status.Status.TheVariants as S

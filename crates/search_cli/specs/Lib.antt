@@ -3,7 +3,6 @@ pub mod Words
 pub mod Answers
 pub mod Ends
 pub mod Steps
-pub mod Waiting
 pub mod AnswerText
 -- Internal: what it does not.
 pub mod AskedSearch

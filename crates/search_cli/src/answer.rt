@@ -1,31 +1,14 @@
 //! The text of the result of a search.
 ghost use Rattle.std.specs.Prelude.{◌≡◌, ◌++◌, IfOk, OnOk};
-ghost use Rattle.search_cli.specs.AnswerText.{end_line, fault_text, finite_text, over_text, stuck_text, waits_line, waits_text};
+ghost use Rattle.search_cli.specs.AnswerText.{end_line, fault_text, finite_text, over_text, stuck_text};
 ghost use Rattle.wait_report.specs.Calls.{names_of, Rising};
 
 use crate::steps::{other_than_local, push_steps};
 use record_writer::{push_count, push_word};
 use run_types::{Label, Names};
 use std::alloc::{AllocError, Global};
-use wait_report::{ObjectRow, put_each_cycle, put_row};
-
-/// Appends the line of an object that waits.
-fn push_waits(text: &mut Vec<u8>, names: &Names, row: &ObjectRow) -> Result<(), AllocError>
-    ensures { OnOk result (text.new.items ≡ text.old.items ++ waits_line names.now row.now) }
-{
-    text.extend_from_slice(b"waits ")?;
-    put_row(text, names, row)
-}
-
-/// Appends the lines of the objects that wait.
-fn push_waiting(text: &mut Vec<u8>, names: &Names, rows: &[ObjectRow]) -> Result<(), AllocError>
-    ensures { OnOk result (text.new.items ≡ text.old.items ++ waits_text names.now rows.now) }
-{
-    for row in rows {
-        push_waits(text, names, row)?;
-    }
-    Ok(())
-}
+use wait_report::{ObjectRow, put_each_cycle};
+use waiting_objects::push_waiting;
 
 /// Appends the end line, with its keyword and its number.
 fn push_end(text: &mut Vec<u8>, word: &[u8], count: usize) -> Result<(), AllocError>

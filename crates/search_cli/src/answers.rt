@@ -11,7 +11,6 @@ ghost use Rattle.search_cli.specs.Answers.{Answers, IsAnswerOn};
 use crate::answer::{fault_text, finite_text, over_text, stuck_text};
 use crate::shown::replay;
 use crate::status::Status;
-use crate::waiting::waiting_rows;
 use crate::words::Asked;
 use class_check::Checked;
 use command_inputs::{Input, InputError, judge_classes, read_parsed};
@@ -19,6 +18,7 @@ use pool_outside::Files;
 use pool_search::{Query, SearchResult, search};
 use run_types::{Label, Names};
 use std::alloc::{AllocError, Global};
+use waiting_objects::waiting_rows;
 
 /// The text of a search's result, and the status with which it is written.
 #[derive(Drop)]

@@ -9,7 +9,6 @@ mod shown;
 mod status;
 mod steps;
 mod top;
-mod waiting;
 mod words;
 
 ghost use Rattle.pool_outside.specs.Reading.{reading};

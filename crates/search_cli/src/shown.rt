@@ -2,7 +2,6 @@
 ghost use Rattle.std.specs.Prelude.{◌≡◌, IfOk};
 ghost use Rattle.pool_syntax.specs.TreeOf.{program_of};
 ghost use Rattle.pool_search.specs.SearchTargets.{LeadsTo};
-ghost use Rattle.search_laws.specs.Search.{IsInOrder};
 ghost use Rattle.pool_semantics.specs.PlainOf.{configuration_of, program_tree};
 
 use class_check::Checked;
@@ -19,7 +18,7 @@ pub fn replay<'a>(
 ) -> Result<Plain<'a>, AllocError>
     requires { LeadsTo (program_of program.now.program.now) labels.now (λ d. Unit {0}) }
     ensures program { IfOk result (λ s. program_tree s ≡ program_of program.now.program.now) }
-    ensures last { IfOk result (λ s. LeadsTo (program_of program.now.program.now) labels.now (λ d. (d ≡ configuration_of s) × IsInOrder d)) }
+    ensures last { IfOk result (λ s. LeadsTo (program_of program.now.program.now) labels.now (λ d. d ≡ configuration_of s)) }
 {
     let mut plain = Plain::make(alloc, program, 0)?;
     for label in labels {

@@ -1,0 +1,2 @@
+-- The lemmas that other crates cite.
+pub use Rattle.pool_semantics.proofs.PairMessages.{list_found, list_missing}

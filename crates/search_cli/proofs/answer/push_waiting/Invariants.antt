@@ -1,6 +1,0 @@
-use Rattle.std.proofs.Common.{◌≡◌, ◌++◌, drop}
-use Rattle.search_cli.specs.AnswerText.{waits_text}
-use Rattle.search_cli.proofs.answer.push_waiting.Given as goal
-
-abbrev pub invariant-loop-row : goal.invariant-loop-row
-invariant-loop-row l = l.fn.text.items ++ waits_text l.names l.rows ≡ l.text.items ++ waits_text l.names (drop l.row-index l.rows)

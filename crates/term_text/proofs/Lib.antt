@@ -1,0 +1,4 @@
+pub mod Putting
+mod Rows
+mod WatchedRow
+pub mod Laws

@@ -1,0 +1,18 @@
+//! The text of terms with the redex marked, and of objects and configurations; it writes expressions and statements of a program.
+//!
+//! Does not know: the stepper and files.
+#![tactic(auto)]
+
+mod expressions;
+mod parts;
+mod statements;
+
+pub use expressions::{
+    left_need, operator_level, push_arguments, push_call, push_enclosed, push_expression,
+    push_more_arguments, push_operator, right_need,
+};
+pub use parts::{push_bindings, push_mark, push_names, push_unmark};
+pub use statements::{
+    push_alternatives, push_answer, push_else, push_more_statements, push_select, push_statement,
+    push_statements,
+};

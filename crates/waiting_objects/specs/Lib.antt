@@ -1,0 +1,3 @@
+-- Believed: what a top call's contract reaches.
+pub mod Waiting
+pub mod WaitsText

@@ -1,0 +1,4 @@
+pub mod Kept
+pub mod Split
+pub mod CanonicalWords
+pub mod LineOfEach

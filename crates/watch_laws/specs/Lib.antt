@@ -1,0 +1,4 @@
+-- Internal: what it does not.
+pub mod Views
+pub mod Spelled
+pub mod MethodLines

@@ -1,0 +1,10 @@
+//! Follows the lines of a record on the stepper, and makes the text that shows the run configuration by configuration.
+//!
+//! Does not know: files, words of commands, and who wrote the record.
+#![tactic(auto)]
+
+mod follow;
+mod line;
+mod watched;
+
+pub use watched::{Watched, watch_record};
