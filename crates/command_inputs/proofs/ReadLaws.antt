@@ -1,5 +1,5 @@
 -- The outcomes of reading inputs: an error is passed on, and a text that was read is checked.
-use Rattle.std.proofs.Common.{◌≡◌, ℕ, List, IfOk, MatchResult, Result, Ok, Err, true, ◌≢◌, refl, ap, subst}
+use Rattle.std.proofs.Common.{◌≡◌, ◌∙◌, ℕ, List, Some, None, IfOk, MatchResult, Result, Ok, Err, true, ◌≢◌, refl, sym, ap, subst}
 use Rattle.text_scan.specs.Text.{Text}
 use Rattle.pool_grammar.specs.Grammatical.{IsGrammatical}
 use Rattle.pool_syntax.specs.Spelled.{is_spelled}
@@ -14,7 +14,12 @@ use Rattle.pool_outside.specs.Reading.{Reading, AllRead, Told}
 use Rattle.command_inputs.specs.declared.program.Parsed.{Parsed}
 use Rattle.command_inputs.specs.Programs.{IsFaultOfText, IsParsed}
 use Rattle.command_inputs.specs.Readers as R
-use Rattle.command_inputs.specs.Readers.{IsAnyProgram, IsProgramOf, Judges, Reads}
+use Rattle.command_inputs.specs.Readers.{HasRecordFault, IsAcceptedRecord, IsAnyProgram, IsProgramOf, Judges, Opening, Reads, ReadsInput, stop_of_record}
+use Rattle.command_inputs.specs.declared.fault.Fault.TheVariants as Why
+use Rattle.run_record.specs.ReaderFacts.{ReportsFault}
+use Rattle.run_record.specs.Records.{record_of}
+use Rattle.run_record.specs.declared.fault.RecordFault.{RecordFault}
+use Rattle.run_record.specs.declared.fault.RecordFault.TheVariants as Lines
 use Rattle.command_inputs.specs.Inputs.{Stops, WasRead, too_long, faulty}
 
 -- what is accepted and what is a fault, by other words
@@ -48,6 +53,28 @@ module _ {A B : Type 0} (k : Reading) (input : Input) (name : Text) (P Q : Text 
       by s w c (R.fits b e i) = R.read s b e w i c
       by s w c (R.fails f e x n) = R.refused f e (faulty s w x n) c
       by s w c (R.forgets e) = R.memory e
+
+-- the same of a reader
+module _ {A B : Type 0} (o : Opening) (input : Input) (name : Text) (P Q : Text → Type 0) (F G : Text → Fault → Type 0) (Is : Text → A → Type 0) where
+  pub input_passed_on : (To : Text → B → Type 0) (stop : InputError) → ((s : Text) (f : Fault) → F s f → G s f) → ((s : Text) → Q s → P s)
+      → ReadsInput o input name P F Is (Err stop) → ReadsInput o input name Q G To (Err stop)
+  input_passed_on To stop fault accept h = record {
+    reads = passed_on o.effect input name P Q F G Is To stop fault accept h.reads;
+    opened_once = h.opened_once;
+    unread_within = h.unread_within;
+    same_texts = h.same_texts;
+    same_leave = h.same_leave;
+  }
+
+  pub input_judged : (To : Text → B → Type 0) (a : A) (result : Result B InputError) → ReadsInput o input name P F Is (Ok a) → ((s : Text) → Is s a → Judges input Q G To s result)
+      → ReadsInput o input name Q G To result
+  input_judged To a result h judges = record {
+    reads = judged o.effect input name P Q F G Is To a result h.reads judges;
+    opened_once = h.opened_once;
+    unread_within = h.unread_within;
+    same_texts = h.same_texts;
+    same_leave = h.same_leave;
+  }
 
 -- a judge that reads nothing, and refuses for a fault what is not accepted
 pub judges_refusal : {B : Type 0} (input : Input) (Q : Text → Type 0) (G : Text → Fault → Type 0) (To : Text → B → Type 0) (s : Text) (stop : InputError)
@@ -98,3 +125,15 @@ since {A} k told opens faults input name P F Is result t n r =
     from (R.refused f e w c) = R.refused f e (stops f w) c
     from (R.unread e r w) = R.unread e r w
     from (R.memory e) = R.memory e
+
+-- what the reader of a record says of a text
+module _ {A : Type 0} (To : Text → A → Type 0) where
+  record_fails : (s : Text) (f : RecordFault) (stop : InputError) → stop ≡ T.Refused I.Record (Why.Record f) → (record_of s).fault ≡ Some f
+      → Judges I.Record IsAcceptedRecord HasRecordFault To s (Err stop)
+  record_fails s f stop e told = R.fails (Why.Record f) (ap Err e) (f, refl, told) (λ q. let z : None ≡ Some f = sym q ∙ told in cc)
+
+  pub record_refused : (s : Text) (f : RecordFault) (stop : InputError) → stop ≡ stop_of_record f → ReportsFault f (record_of s).fault → Judges I.Record IsAcceptedRecord HasRecordFault To s (Err stop)
+  record_refused s (Lines.BadLine line) stop e told = record_fails s (Lines.BadLine line) stop e told
+  record_refused s (Lines.OutOfOrder line) stop e told = record_fails s (Lines.OutOfOrder line) stop e told
+  record_refused s (Lines.WrongAsk line) stop e told = record_fails s (Lines.WrongAsk line) stop e told
+  record_refused s Lines.Memory stop e told = R.forgets (ap Err e)

@@ -1,5 +1,5 @@
--- The outcomes of reading an input, and of parsing and checking a program that was read.
-use Rattle.std.specs.Prelude.{◌≡◌, ◌≤◌, List, [], true, Result, Ok, Err}
+-- The outcomes of reading an input, and of parsing and checking a program or a record that was read.
+use Rattle.std.specs.Prelude.{◌≡◌, ℕ, ◌+◌, ◌≤◌, List, [], Bool, Some, None, true, Result, Ok, Err}
 use Rattle.pool_outside.specs.Outside.{Rose}
 use Rattle.text_scan.specs.Text.{Text}
 use Rattle.pool_syntax.specs.Terms.{ProgramTree}
@@ -17,8 +17,13 @@ use Rattle.command_inputs.specs.declared.fault.Fault.{Fault}
 use Rattle.command_inputs.specs.declared.fault.Fault.TheVariants as F
 use Rattle.command_inputs.specs.declared.fault.InputError.{InputError}
 use Rattle.command_inputs.specs.declared.fault.InputError.TheVariants as T
-use Rattle.pool_outside.specs.Reading.{Reading, AllRead}
-use Rattle.command_inputs.specs.Inputs.{limit_of, WasRead, Stops}
+use Rattle.pool_outside.specs.Reading.{Reading, AllRead, Told, reading}
+use Rattle.run_types.specs.declared.types.Line.{Line}
+use Rattle.run_record.specs.declared.fault.RecordFault.{RecordFault}
+use Rattle.run_record.specs.declared.fault.RecordFault.TheVariants as RecordFaults
+use Rattle.run_record.specs.Numbered.{lines_after}
+use Rattle.run_record.specs.Records.{record_of}
+use Rattle.command_inputs.specs.Inputs.{limit_of, one_read, WasRead, Stops}
 use Rattle.command_inputs.specs.Programs.{IsParsed, IsTextOf}
 use Rattle.command_inputs.specs.declared.program.Parsed.{Parsed}
 
@@ -31,6 +36,10 @@ stop_of_tokens f = T.Refused I.Program (F.Lex f)
 abbrev pub stop_of_grammar : SyntaxFault → InputError
 stop_of_grammar Syntax.Memory = T.Memory
 stop_of_grammar f = T.Refused I.Program (F.Syntax f)
+
+abbrev pub stop_of_record : RecordFault → InputError
+stop_of_record RecordFaults.Memory = T.Memory
+stop_of_record f = T.Refused I.Record (F.Record f)
 
 -- The text of an input before any check: every text is accepted, and none has a fault.
 
@@ -56,6 +65,18 @@ pub record IsProgramOf (s : Text) (read : Parsed) : Type 0 where
 abbrev pub IsTypedProgramOf : Text → Parsed → Type 0
 IsTypedProgramOf s parsed = IsProgramOf s parsed × (faults (program_of parsed.program) ≡ [])
 
+-- a record of either form
+
+abbrev pub IsAcceptedRecord : Text → Type 0
+IsAcceptedRecord s = (record_of s).fault ≡ None
+
+abbrev pub HasRecordFault : Text → Fault → Type 0
+HasRecordFault s f = (g : RecordFault) × (f ≡ F.Record g) × ((record_of s).fault ≡ Some g)
+
+-- the lines of a record, read with these names
+abbrev pub AreLinesOf : List Text → Text → List Line → Type 0
+AreLinesOf names s ls = ((record_of s).fault ≡ None) × (ls ≡ lines_after names (record_of s).told)
+
 -- The outcome of a check of a text: the meaning of the text; or the fault of a text that is not accepted; or out of
 -- memory.
 pub data Judges {A : Type 0} (input : Input) (Accepted : Text → Type 0) (Faulty : Text → Fault → Type 0) (Is : Text → A → Type 0) (s : Text) (result : Result A InputError) : Type 0 where
@@ -70,3 +91,24 @@ pub data Reads {A : Type 0} (k : Reading) (input : Input) (name : Text) (Accepte
   refused : (f : Fault) → result ≡ Err (T.Refused input f) → Stops k input name Accepted Faulty f → AllRead k → Reads k input name Accepted Faulty Is result
   unread : result ≡ Err (T.Unread input) → Rose k.faults k.failed → k.given ≤ limit_of input → Reads k input name Accepted Faulty Is result
   memory : result ≡ Err T.Memory → Reads k input name Accepted Faulty Is result
+
+-- the effect of a call on files; what the files hold after it; and which names may be opened, before and after it
+pub record Opening : Type 0 where
+  pub effect : Reading
+  pub holds : Told
+  pub may : ℕ → Text → Bool
+  pub may_after : ℕ → Text → Bool
+
+-- the same, from the functions that tell it of files, and the files before and after the call
+abbrev pub opening : {S : Type 0} → (S → Told) → (S → ℕ → Text → Bool) → (S → ℕ) → (S → ℕ) → (S → Bool) → (S → ℕ) → S → S → Opening
+opening texts may opens given live count old new =
+    record { effect = reading texts opens given live count old new; holds = texts new; may = may old; may_after = may new }
+
+-- What a reader of an input does. Its result is one of the outcomes of `Reads`. The file was opened once, and has given at
+-- most the limit of the input and one read. What the files hold, and which names may be opened, is as before.
+pub record ReadsInput {A : Type 0} (o : Opening) (input : Input) (name : Text) (Accepted : Text → Type 0) (Faulty : Text → Fault → Type 0) (Is : Text → A → Type 0) (result : Result A InputError) : Type 0 where
+  pub reads : Reads o.effect input name Accepted Faulty Is result
+  pub opened_once : o.effect.opened ≡ o.effect.opens + 1
+  pub unread_within : o.effect.given ≤ limit_of input + one_read
+  pub same_texts : o.holds ≡ o.effect.told
+  pub same_leave : o.may_after ≡ o.may

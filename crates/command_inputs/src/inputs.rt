@@ -1,9 +1,8 @@
 //! Reads an input once and whole, and checks a program.
-ghost use Rattle.pool_outside.specs.Reading.{reading};
-ghost use Rattle.std.specs.Prelude.{◌≡◌, ◌<◌, ◌+◌, ◌-◌, ◌^◌, ◌≤◌, IsTrue};
-ghost use Rattle.command_inputs.specs.Inputs.{limit_of, most_bytes, one_read};
+ghost use Rattle.std.specs.Prelude.{◌≡◌, ◌<◌, ◌-◌, ◌^◌, IsTrue};
+ghost use Rattle.command_inputs.specs.Inputs.{limit_of};
 ghost use Rattle.command_inputs.specs.Programs.{IsFaultOfText, HasTypedFault, IsTypedProgram};
-ghost use Rattle.command_inputs.specs.Readers.{HasNoFault, IsAnyProgram, IsAnyText, IsProgramOf, IsTypedProgramOf, Reads};
+ghost use Rattle.command_inputs.specs.Readers.{HasNoFault, IsAnyProgram, IsAnyText, IsProgramOf, IsTypedProgramOf, ReadsInput, opening};
 
 use crate::fault::{Fault, Input, InputError};
 use crate::program::{Parsed, judge_classes, read_program};
@@ -31,11 +30,7 @@ pub fn read_input<F: Files>(
 ) -> Result<Vec<u8>, InputError>
     requires allowed { IsTrue (F.may files.old (F.opens files.old) name.now) }
     requires countable { F.opens files.old < 2 ^ 64 - 1 }
-    ensures reads { Reads (reading F.told F.opens F.given F.live F.faults files.old files.new) input name.now IsAnyText HasNoFault (λ s text. text.items ≡ s) result }
-    ensures opened_once { F.opens files.new ≡ F.opens files.old + 1 }
-    ensures unread_within { F.given files.new ≤ limit_of input + one_read }
-    ensures same_texts { F.told files.new ≡ F.told files.old }
-    ensures same_leave { F.may files.new ≡ F.may files.old }
+    ensures { ReadsInput (opening F.told F.may F.opens F.given F.live F.faults files.old files.new) input name.now IsAnyText HasNoFault (λ s text. text.items ≡ s) result }
 {
     match read_whole(alloc, files, name, limit_of(input)) {
         Ok(text) => Ok(text),
@@ -53,11 +48,7 @@ pub fn read_input<F: Files>(
 pub fn read_parsed<F: Files>(alloc: Global, files: &mut F, name: &str) -> Result<Parsed, InputError>
     requires allowed { IsTrue (F.may files.old (F.opens files.old) name.now) }
     requires countable { F.opens files.old < 2 ^ 64 - 1 }
-    ensures reads { Reads (reading F.told F.opens F.given F.live F.faults files.old files.new) Input.Program name.now IsAnyProgram IsFaultOfText IsProgramOf result }
-    ensures opened_once { F.opens files.new ≡ F.opens files.old + 1 }
-    ensures unread_within { F.given files.new ≤ most_bytes + one_read }
-    ensures same_texts { F.told files.new ≡ F.told files.old }
-    ensures same_leave { F.may files.new ≡ F.may files.old }
+    ensures { ReadsInput (opening F.told F.may F.opens F.given F.live F.faults files.old files.new) Input.Program name.now IsAnyProgram IsFaultOfText IsProgramOf result }
 {
     // A `match` instead of `?` keeps the clause of the error.
     let text = match read_input(alloc, files, Input::Program, name) {
@@ -71,11 +62,7 @@ pub fn read_parsed<F: Files>(alloc: Global, files: &mut F, name: &str) -> Result
 pub fn read_typed<F: Files>(alloc: Global, files: &mut F, name: &str) -> Result<Parsed, InputError>
     requires allowed { IsTrue (F.may files.old (F.opens files.old) name.now) }
     requires countable { F.opens files.old < 2 ^ 64 - 1 }
-    ensures reads { Reads (reading F.told F.opens F.given F.live F.faults files.old files.new) Input.Program name.now IsTypedProgram HasTypedFault IsTypedProgramOf result }
-    ensures opened_once { F.opens files.new ≡ F.opens files.old + 1 }
-    ensures unread_within { F.given files.new ≤ most_bytes + one_read }
-    ensures same_texts { F.told files.new ≡ F.told files.old }
-    ensures same_leave { F.may files.new ≡ F.may files.old }
+    ensures { ReadsInput (opening F.told F.may F.opens F.given F.live F.faults files.old files.new) Input.Program name.now IsTypedProgram HasTypedFault IsTypedProgramOf result }
 {
     // A `match` instead of `?` keeps the clause of the error.
     let parsed = match read_parsed(alloc, files, name) {

@@ -13,6 +13,7 @@ use Rattle.run_types.specs.declared.types.Event.{Event}
 use Rattle.run_types.specs.declared.types.Placement.{Placement}
 use Rattle.run_types.proofs.Laws.{first, second, not_true, neither}
 use Rattle.mesh_semantics.specs.Config.{Config}
+use Rattle.mesh_semantics.specs.Delay.{no_delay}
 use Rattle.mesh_semantics.specs.Record.{start}
 use Rattle.mesh_semantics.specs.RecordOf.{record_of, record_on_wires}
 use Rattle.code_semantics.specs.declared.file.UnitFile.{UnitFile}
@@ -35,8 +36,10 @@ use Rattle.pool_syntax.specs.Typing.{faults}
 use Rattle.compiler_correctness.proofs.DerivedChoices.{derived_choices}
 use Rattle.compiler_correctness.specs.CodeRun.{IsCodeRun}
 use Rattle.compiler_correctness.specs.DeclaredKinds.{file_of}
+use Rattle.compiler_correctness.specs.ReachedCode.{IsReachedWhole}
+use Rattle.code_typing.specs.Sorts.{Declared, declared_at}
 use Rattle.code_typing.specs.Verified.{IsVerified}
-use Rattle.compiler_correctness.proofs.CompiledFiles.{program_has_choices, file_is_shaped, file_is_verified}
+use Rattle.compiler_correctness.proofs.CompiledFiles.{program_has_choices, file_is_reached, file_is_shaped, file_is_verified}
 use Rattle.compiler_correctness.proofs.TypeSafety.{record_is_code_run}
 
 -- a table of distinct texts has none twice
@@ -78,11 +81,16 @@ pub program_verified : (names : List Text) (p : ProgramTree) → IsCheckedProgra
     → IsVerified (file_of names p)
 program_verified names p c some spelled short chosen = file_is_verified names p some c.faultless c.written spelled short chosen
 
+-- each place of its codes is reached
+program_reached : (names : List Text) (p : ProgramTree) → IsCheckedProgram p → p ≢ [] → is_spelled names p ≡ true → AreShort (code p) → program_has_choices p ≡ true
+    → (j : ℕ) (k : Declared) → declared_at (file_of names p) j ≡ Some k → IsReachedWhole (file_of names p) k
+program_reached names p c some spelled short chosen = file_is_reached names p some c.faultless c.written spelled short chosen
+
 -- the record of its code has the lines of the program's, and is a run of the relation over code
 pub loads_as_recorded : (names : List Text) (p : ProgramTree) (l : Placement) (q : ℕ) (es : List Event) → IsCheckedProgram p → p ≢ [] → is_spelled names p ≡ true → AreShort (code p)
     → program_has_choices p ≡ true → Suits l (file_of names p).unit
     → ((record_of (terms p) l q es).lines ≡ (record_of (coded (file_of names p).unit) l q es).lines)
-    × ((c : Config Placed) × (start (coded (file_of names p).unit) l ≡ Some c) × IsCodeRun (file_of names p) l c (record_of (coded (file_of names p).unit) l q es))
+    × ((c : Config Placed) × (start (coded (file_of names p).unit) l ≡ Some c) × IsCodeRun (file_of names p) l q c no_delay (record_of (coded (file_of names p).unit) l q es))
 loads_as_recorded names p l q es c some spelled short chosen suits =
     let good = program_verified names p c some spelled short chosen in (
       (code_record p (file_of names p).unit c refl l q es (suits_fits p (file_of names p).unit l refl suits)).lines,
@@ -100,6 +108,11 @@ grammatical_choices p m = ∥∥₁_elim m (hlevel props) (λ g. derived_choices
 pub grammatical_verified : (names : List Text) (p : ProgramTree) → ∥ IsGrammatical p ∥₁ → faults p ≡ [] → is_spelled names p ≡ true → AreShort (code p) → IsVerified (file_of names p)
 grammatical_verified names p m none spelled short =
     program_verified names p (grammatical_checked p m none) (some_class p m) spelled short (grammatical_choices p m)
+
+pub grammatical_reached : (names : List Text) (p : ProgramTree) → ∥ IsGrammatical p ∥₁ → faults p ≡ [] → is_spelled names p ≡ true → AreShort (code p)
+    → (j : ℕ) (k : Declared) → declared_at (file_of names p) j ≡ Some k → IsReachedWhole (file_of names p) k
+grammatical_reached names p m none spelled short =
+    program_reached names p (grammatical_checked p m none) (some_class p m) spelled short (grammatical_choices p m)
 
 pub grammatical_loads : (names : List Text) (p : ProgramTree) (l : Placement) (q : ℕ) (es : List Event) → ∥ IsGrammatical p ∥₁ → faults p ≡ []
     → Suits l (file_of names p).unit → (record_of (terms p) l q es).lines ≡ (record_of (coded (file_of names p).unit) l q es).lines

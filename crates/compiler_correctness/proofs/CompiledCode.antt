@@ -24,10 +24,11 @@ use Rattle.pool_compile.specs.Code.{Numbering, more, expression_words, statement
 use Rattle.pool_compile.proofs.Laws.{Has, front, back, has_all}
 use Rattle.code_typing.specs.Sorts.{Stack, CodeScope, value_sort, fits_sort, left_by}
 use Rattle.code_typing.specs.Verified.{IsText, last_instr, EndsRight, IsWellSorted}
+use Rattle.compiler_correctness.specs.ReachedCode.{EachIsReached}
 use Rattle.compiler_correctness.specs.DeclaredKinds.{kinds_of, method_kinds, file_of}
 use Rattle.run_types.specs.Partial.{◌>>=◌}
 use Rattle.compiler_correctness.proofs.Stacks.{S, AllFine, join, fine_here, reached_is, after_one, Good, good_seq, good_one, good_nil}
-use Rattle.compiler_correctness.proofs.OperandDepth.{more_is, Comes, comes_stack, AllAtMost, join_at_most, at_most_at, Met, Span, span_nil, span_seq, span_one}
+use Rattle.compiler_correctness.proofs.OperandDepth.{more_is, Comes, comes_stack, AllAtMost, AllCome, come_at, join_at_most, join_come, at_most_at, Met, Span, span_nil, span_seq, span_one}
 use Rattle.compiler_correctness.proofs.DeclarationLookup.{known_sort}
 use Rattle.compiler_correctness.proofs.PlainCode.{IsPlain, ArePlain, plain_at, statements_plain, expression_plain}
 use Rattle.compiler_correctness.proofs.CompiledStacks.{G, CG, num, whole, fits_of_need, have_choices, expression_good, statements_good, expression_span, statements_span}
@@ -83,6 +84,10 @@ module _ (g : CodeScope) (c : List Instr) (ok : AllFine g c 0 c) (some : 0 < len
     no_circle = calm;
   }
 
+  -- each place is reached, if this is so of the code as a piece
+  each_reached : AllCome g c ok some 0 c → EachIsReached g c
+  each_reached h at lt = subst (Comes g c ok some) (let z : 0 + at ≡ at = omega arith in z) (come_at g c ok some 0 c at lt h)
+
   -- with nothing below
   counted : (at : ℕ) (l : List Instr) (n : ℕ) → Span g c ok some at l (0 + n) → Span g c ok some at l n
   counted at l n x = subst (Span g c ok some at l) (let z : 0 + n ≡ n = omega arith in z) x
@@ -132,6 +137,7 @@ module _ (names : List Text) (p : ProgramTree) (known : (c : ℕ) → Known p (c
   pub body_sorted : TypedStatements Nothing (G names p known kt own [] tt None refl [] (omega arith)) kt.body → IsTrue (have_choices kt.body) → are_spelled_statements names kt.body ≡ true
       → length (class_code kt).body.code ≤ 2 ^ 32 → IsProperCode (file_of names p).unit (Some (class_code kt)) 0 (class_code kt).body.code
       → IsWellSorted (CG names p known kt own [] tt None refl [] (omega arith)) (class_code kt).body.frame_words (class_code kt).body.code
+      × EachIsReached (CG names p known kt own [] tt None refl [] (omega arith)) (class_code kt).body.code
   body_sorted t k s short proper =
       let n = num names p known kt own [] tt None refl [] (omega arith) in
       let cg = CG names p known kt own [] tt None refl [] (omega arith) in
@@ -146,15 +152,17 @@ module _ (names : List Text) (p : ProgramTree) (known : (c : ℕ) → Known p (c
       let some : 0 < length c = omega (arith, l) in
       let x0 = statements_span names p known kt own [] tt None refl [] (omega arith) c ok some kt.body 0 t k ff z0 (omega (arith, l)) ([], (0, (refl, refl))) in
       let x = counted cg c ok some 0 first (statements_words kt.body) x0 in
-      let plain = statements_plain names n kt.body 0 s in
-      sorted_code cg c ok some (statements_words kt.body) (class_code kt).body.frame_words
-      (join_at_most cg c ok some (statements_words kt.body) 0 first (I.Halt ∷ []) x.within (x.last, tt)) x.met (omega arith) short
-      (λ at i e. (proper.exists at i e, text_at first I.Halt i at plain tt (at_of first I.Halt at i e))) (
-        last_of first I.Halt,
-        λ at e. never_at first I.Halt I.Ret at plain (λ h. h) (λ i. let z : I.Halt ≡ I.Ret = i in cc) (at_of first I.Halt at I.Ret e),
-        λ at e. never_at first I.Halt I.Post at plain (λ h. h) (λ i. let z : I.Halt ≡ I.Post = i in cc) (at_of first I.Halt at I.Post e),
+      let plain = statements_plain names n kt.body 0 s in (
+        sorted_code cg c ok some (statements_words kt.body) (class_code kt).body.frame_words
+            (join_at_most cg c ok some (statements_words kt.body) 0 first (I.Halt ∷ []) x.within (x.last, tt)) x.met (omega arith) short
+            (λ at i e. (proper.exists at i e, text_at first I.Halt i at plain tt (at_of first I.Halt at i e))) (
+              last_of first I.Halt,
+              λ at e. never_at first I.Halt I.Ret at plain (λ h. h) (λ i. let z : I.Halt ≡ I.Ret = i in cc) (at_of first I.Halt at I.Ret e),
+              λ at e. never_at first I.Halt I.Post at plain (λ h. h) (λ i. let z : I.Halt ≡ I.Post = i in cc) (at_of first I.Halt at I.Post e),
+            )
+            proper.no_circle,
+        each_reached cg c ok some (join_come cg c ok some 0 first (I.Halt ∷ []) x.each (x.ends, tt)),
       )
-      proper.no_circle
 
   -- the value of a method stands alone before its Ret
   value_fits : (mt : MethodTree) (s : Sort) (e : Expression) (g : Typing.Scope) → g.program ≡ p → OutcomeKnown p mt.outcome → is_broken (sort_of g e) ≡ false
@@ -296,7 +304,7 @@ module _ (names : List Text) (p : ProgramTree) (known : (c : ℕ) → Known p (c
         → IsTrue (gives p (Some mt) given) → IsTrue (is_value_for mt.outcome mt.value) → IsTrue (have_choices mt.body) → IsTrue (have_choices mt.post)
         → are_spelled_statements names mt.body ≡ true → are_spelled_statements names mt.post ≡ true → length (parts ++ I.Ret ∷ []) ≤ 2 ^ 32
         → IsProperCode (file_of names p).unit (Some (class_code kt)) (length temps) (parts ++ I.Ret ∷ [])
-        → IsWellSorted cg (method_code_of (names_of kt.vars) mt).frame_words (parts ++ I.Ret ∷ [])
+        → IsWellSorted cg (method_code_of (names_of kt.vars) mt).frame_words (parts ++ I.Ret ∷ []) × EachIsReached cg (parts ++ I.Ret ∷ [])
     pieces_sorted t v r kn it valued k kr s sr short proper =
         let c = parts ++ I.Ret ∷ [] in
         let l = length-append parts (I.Ret ∷ []) in
@@ -330,25 +338,27 @@ module _ (names : List Text) (p : ProgramTree) (known : (c : ℕ) → Known p (c
         let m = more (statements_words mt.body) (more (expression_words mt.value) held) in
         let both = span_seq cg c ok some middle value last_part (expression_words mt.value) held (more (expression_words mt.value) held) y w o2.0 o2.1 o2.2 in
         let whole_span = span_seq cg c ok some 0 first (value ++ last_part) (statements_words mt.body) (more (expression_words mt.value) held) m x both o1.0 o1.1 o1.2 in
-        let kl = kinds_length temps in
-        sorted_code cg c ok some m (method_code_of (names_of kt.vars) mt).frame_words (join_at_most cg c ok some m 0 parts (I.Ret ∷ []) whole_span.within (whole_span.last, tt)) whole_span.met
-        (ap (λ z. z + m) (sym kl)) short
-        (λ at i e. (
-          subst (λ z. Exists (file_of names p).unit (Some (class_code kt)) z c i) (sym kl) (proper.exists at i e),
-          piece_text i I.Ret tt (either_piece at i s sr e),
-        )) (
-          last_of parts I.Ret,
-          λ at e. no_halt (either_piece at I.Halt s sr e),
+        let kl = kinds_length temps in (
+          sorted_code cg c ok some m (method_code_of (names_of kt.vars) mt).frame_words (join_at_most cg c ok some m 0 parts (I.Ret ∷ []) whole_span.within (whole_span.last, tt)) whole_span.met
+              (ap (λ z. z + m) (sym kl)) short
+              (λ at i e. (
+                subst (λ z. Exists (file_of names p).unit (Some (class_code kt)) z c i) (sym kl) (proper.exists at i e),
+                piece_text i I.Ret tt (either_piece at i s sr e),
+              )) (
+                last_of parts I.Ret,
+                λ at e. no_halt (either_piece at I.Halt s sr e),
+              )
+              proper.no_circle,
+          each_reached cg c ok some (join_come cg c ok some 0 parts (I.Ret ∷ []) whole_span.each (whole_span.ends, tt)),
         )
-        proper.no_circle
 
     -- the code of a method
     pub method_sorted : TypedStatements Nothing g mt.body → TypedExpression Nothing g 0 mt.value → TypedStatements Nothing (behind_value g) mt.post → OutcomeKnown p mt.outcome
         → IsTrue (gives p (Some mt) given) → IsTrue (is_value_for mt.outcome mt.value) → IsTrue (have_choices mt.body) → IsTrue (have_choices mt.post)
         → are_spelled_statements names mt.body ≡ true → are_spelled_statements names mt.post ≡ true → length (method_code_of (names_of kt.vars) mt).code ≤ 2 ^ 32
         → IsProperCode (file_of names p).unit (Some (class_code kt)) (length temps) (method_code_of (names_of kt.vars) mt).code
-        → IsWellSorted cg (method_code_of (names_of kt.vars) mt).frame_words (method_code_of (names_of kt.vars) mt).code
+        → IsWellSorted cg (method_code_of (names_of kt.vars) mt).frame_words (method_code_of (names_of kt.vars) mt).code × EachIsReached cg (method_code_of (names_of kt.vars) mt).code
     method_sorted t v r kn it valued k kr s sr short proper =
-        subst (IsWellSorted cg (method_code_of (names_of kt.vars) mt).frame_words) (sym in_pieces)
+        subst (λ (z : List Instr). IsWellSorted cg (method_code_of (names_of kt.vars) mt).frame_words z × EachIsReached cg z) (sym in_pieces)
         (pieces_sorted t v r kn it valued k kr s sr (subst (λ z. length z ≤ 2 ^ 32) in_pieces short)
         (subst (IsProperCode (file_of names p).unit (Some (class_code kt)) (length temps)) in_pieces proper))

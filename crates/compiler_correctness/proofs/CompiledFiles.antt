@@ -27,6 +27,7 @@ use Rattle.pool_compile.specs.Small.{AreShortMethods, IsShortClass, AreShort}
 use Rattle.pool_compile.proofs.Laws.{program_proper, nil_left, no_fault, method_parts, class_parts as parts_of_class}
 use Rattle.code_typing.specs.Sorts.{Declared, declared_at, scope_by}
 use Rattle.code_typing.specs.Verified.{KindExists, ResultExists, IsMethodHeading, IsHeading, HasWellSorted, IsWellSorted, IsVerified}
+use Rattle.compiler_correctness.specs.ReachedCode.{EachIsReached, IsReachedWhole}
 use Rattle.compiler_correctness.specs.DeclaredKinds.{kinds_of, method_kinds, class_kinds, file_of}
 use Rattle.compiler_correctness.proofs.ShapedKinds.{class_parts}
 use Rattle.compiler_correctness.proofs.DeclarationLookup.{map_at, map_back, declared_of, class_from_there}
@@ -234,6 +235,7 @@ module _ (names : List Text) (p : ProgramTree) where
             }
 
         m_sorted : IsWellSorted (scope_by (file_of names p) (declared_of k) (Some (method_kinds m))) (method_code_of (names_of k.vars) m).frame_words (method_code_of (names_of k.vars) m).code
+            × EachIsReached (scope_by (file_of names p) (declared_of k) (Some (method_kinds m))) (method_code_of (names_of k.vars) m).code
         m_sorted =
             let l = proper_class.methods i (method_code_of (names_of k.vars) m) (map_at (method_code_of (names_of k.vars)) k.methods i m e) in
             let c = m_checked in
@@ -260,16 +262,30 @@ module _ (names : List Text) (p : ProgramTree) where
                 (subst (λ (x : MethodCode). IsMethodHeading (file_of names p) (class_code k) i x (method_kinds a.0)) a.2 (m_heading i a.0 a.1));
           }
 
+      b_sorted : IsWellSorted (scope_by (file_of names p) (declared_of k) None) (class_code k).body.frame_words (class_code k).body.code
+          × EachIsReached (scope_by (file_of names p) (declared_of k) None) (class_code k).body.code
+      b_sorted =
+          let s = (short_at p j k short at).0 in
+          body_sorted names p known k own checked.body (chosen_at p j k chosen at).0 words.body (omega (arith, s)) proper_class.body
+
+      -- what holds of the codes of the methods of the tree holds of those of the file
+      each_method : (P : MethodKinds → MethodCode → Type 0) → ((i : ℕ) (m : MethodTree) → slice_get k.methods i ≡ Some m → P (method_kinds m) (method_code_of (names_of k.vars) m))
+          → (i : ℕ) (m : MethodCode) (s : MethodKinds) → slice_get (class_code k).methods i ≡ Some m → slice_get (class_kinds k).methods i ≡ Some s → P s m
+      each_method P of i m s e g =
+          let a = map_back (method_code_of (names_of k.vars)) k.methods i m e in
+          let same : method_kinds a.0 ≡ s = same_some (sym (map_at method_kinds k.methods i a.0 a.1) ∙ g) in
+          subst (λ (x : MethodKinds). P x m) same (subst (λ (x : MethodCode). P (method_kinds a.0) x) a.2 (of i a.0 a.1))
+
       sorted : HasWellSorted (file_of names p) (declared_of k)
       sorted = record {
-        methods = λ i m s e g.
-            let a = map_back (method_code_of (names_of k.vars)) k.methods i m e in
-            let same : method_kinds a.0 ≡ s = same_some (sym (map_at method_kinds k.methods i a.0 a.1) ∙ g) in
-            subst (λ (x : MethodKinds). IsWellSorted (scope_by (file_of names p) (declared_of k) (Some x)) m.frame_words m.code) same
-            (subst (λ (x : MethodCode). IsWellSorted (scope_by (file_of names p) (declared_of k) (Some (method_kinds a.0))) x.frame_words x.code) a.2 (m_sorted i a.0 a.1));
-        body =
-            let s = (short_at p j k short at).0 in
-            body_sorted names p known k own checked.body (chosen_at p j k chosen at).0 words.body (omega (arith, s)) proper_class.body;
+        methods = each_method (λ s m. IsWellSorted (scope_by (file_of names p) (declared_of k) (Some s)) m.frame_words m.code) (λ i m e. (m_sorted i m e).0);
+        body = b_sorted.0;
+      }
+
+      reached : IsReachedWhole (file_of names p) (declared_of k)
+      reached = record {
+        methods = each_method (λ s m. EachIsReached (scope_by (file_of names p) (declared_of k) (Some s)) m.code) (λ i m e. (m_sorted i m e).1);
+        body = b_sorted.1;
       }
 
     -- a class of the file is that of a tree
@@ -279,6 +295,10 @@ module _ (names : List Text) (p : ProgramTree) where
         let a = map_back class_code p j d.code parts.0 in
         let same : class_kinds a.0 ≡ d.kinds = same_some (sym (map_at class_kinds p j a.0 a.1) ∙ parts.1) in
         (a.0, a.1, ap (λ c. record { code = c; kinds = class_kinds a.0 }) a.2 ∙ ap (λ q. record { code = d.code; kinds = q }) same)
+
+    -- each place of its codes is reached
+    pub file_is_reached : (j : ℕ) (d : Declared) → declared_at (file_of names p) j ≡ Some d → IsReachedWhole (file_of names p) d
+    file_is_reached j d e = let t = tree_of j d e in subst (IsReachedWhole (file_of names p)) t.2 (reached j t.0 t.1)
 
     -- the file of the program is verified
     pub file_is_verified : IsVerified (file_of names p)

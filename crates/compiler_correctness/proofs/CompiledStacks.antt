@@ -27,7 +27,7 @@ use Rattle.code_semantics.specs.declared.unit.AltCode.{AltCode}
 use Rattle.run_types.specs.declared.types.Kind.TheVariants as K
 use Rattle.pool_compile.specs.Code.{more, expression_words, expressions_words, guards_words, statement_words, statements_words, works_words, Numbering, name, push, load, store, number_of, names_of, class_code, expression_code, expressions_code, guards_code, statement_code, statements_code, alternatives_code, alternatives_at}
 use Rattle.code_semantics.specs.ReachedPlaces.{nexts, IsAmong}
-use Rattle.compiler_correctness.proofs.OperandDepth.{more_is, Comes, comes_stack, comes_next, AtMost, AllAtMost, more_at_most, join_at_most, Met, Span, span_nil, span_seq, span_one, span_tail}
+use Rattle.compiler_correctness.proofs.OperandDepth.{more_is, Comes, comes_stack, comes_next, AtMost, AllAtMost, more_at_most, join_at_most, AllCome, join_come, Met, Span, span_nil, span_seq, span_one, span_tail}
 use Rattle.code_typing.specs.Sorts.{Stack, CodeScope, kind_sort, result_sort, temps_by, scope_by, has_value, fits_sort, is_alike, pop_fitting, pop_alike, pop_value, pop_arguments, pop_any, pop_sent, push_sort, asked_of, operated_sorts, is_comparison, left_by}
 use Rattle.compiler_correctness.specs.DeclaredKinds.{kinds_of, file_of}
 use Rattle.compiler_correctness.proofs.Stacks.{S, Led, AllFine, join, after_one, Good, good_seq, good_one, good_nil, good_as}
@@ -946,6 +946,7 @@ module _ (names : List Text) (p : ProgramTree) (known : (c : ℕ) → Known p (c
                 join_at_most CG c ok some (length base + n) yes first (jump ∷ second) (more_at_most CG c ok some (length base + statements_words these) (length base + n) yes first (omega (arith, i0, o1)) f.within)
                     (base_at n j gf.1, more_at_most CG c ok some (length base + statements_words those) (length base + n) other second (omega (arith, i1, o1)) s.within),
               );
+              each = join_come CG c ok some at test (branch ∷ (first ++ jump ∷ second)) x.each (x.ends, join_come CG c ok some yes first (jump ∷ second) f.each (f.ends, s.each));
               last = subst (AtMost CG c ok some (length base + n)) end (λ u v. let y = s.last u v in omega (arith, y, i1, o1));
               ends = subst (Comes CG c ok some) end s.ends;
               met = met_more (expression_words e) (more (statements_words these) (statements_words those)) x.met (met_more (statements_words these) (statements_words those) f.met s.met);
@@ -985,6 +986,7 @@ module _ (names : List Text) (p : ProgramTree) (known : (c : ℕ) → Known p (c
                   join_at_most CG c ok some (length base + n) go turn (jump ∷ []) (more_at_most CG c ok some (length base + statements_words ss) (length base + n) go turn (let o = outer.1 in omega (arith, o)) f.within) (base_at n j gf.1, tt),
                 ),
               );
+              each = (a, join_come CG c ok some (suc at) test (branch ∷ (turn ++ jump ∷ [])) x.each (x.ends, join_come CG c ok some go turn (jump ∷ []) f.each (f.ends, tt)));
               last = λ u v. base_at n (at + length (I.Loop ∷ (test ++ branch ∷ (turn ++ jump ∷ [])))) (statement_good (T.While e ss) at t has z lt).1 u v;
               ends = subst (Comes CG c ok some) end cj;
               met = met_more (expression_words e) (statements_words ss) x.met f.met;
@@ -1015,6 +1017,7 @@ module _ (names : List Text) (p : ProgramTree) (known : (c : ℕ) → Known p (c
             record {
               within = join_at_most CG c ok some (length base + n) at gs (i ∷ works) (more_at_most CG c ok some (length base + guards_words alts) (length base + n) at gs (let o = outer.0 in omega (arith, o)) x.within)
                   (λ u v. let y = x.last u v in let o = outer.0 in omega (arith, y, o), more_at_most CG c ok some (length base + works_words alts) (length base + n) go works (let o = outer.1 in omega (arith, o)) w.0);
+              each = join_come CG c ok some at gs (i ∷ works) x.each (x.ends, w.2);
               last = λ u v. base_at n (at + length (gs ++ i ∷ works)) (statement_good (T.Select alts) at t has z lt).1 u v;
               ends = subst (Comes CG c ok some) end some_work.1;
               met = met_more (guards_words alts) (works_words alts) x.met some_work.0;
@@ -1042,8 +1045,8 @@ module _ (names : List Text) (p : ProgramTree) (known : (c : ℕ) → Known p (c
 
         works_span : (alts : Alternatives) (h at last : ℕ) → TypedAlternatives Nothing G h alts → IsTrue (works_have_choices alts) → Has c at (alternatives_code num at last alts) → S CG c at ≡ Some base
             → at + length (alternatives_code num at last alts) < length c → ((to : ℕ) → IsAmong to (map (λ a. a.at) (alternatives_at num at alts)) → Arrives to)
-            → AllAtMost CG c ok some (length base + works_words alts) at (alternatives_code num at last alts) × Works last alts
-        works_span T.NoAlts h at last t k has z lt come = (tt, tt)
+            → AllAtMost CG c ok some (length base + works_words alts) at (alternatives_code num at last alts) × Works last alts × AllCome CG c ok some at (alternatives_code num at last alts)
+        works_span T.NoAlts h at last t k has z lt come = (tt, tt, tt)
         works_span (T.Alt e n ss alts) h at last t k has z lt come =
             let w = statements_code num at ss in
             let j = at + length w in
@@ -1061,4 +1064,5 @@ module _ (names : List Text) (p : ProgramTree) (known : (c : ℕ) → Known p (c
               join_at_most CG c ok some (length base + n) at w (I.Jump last ∷ rest) (more_at_most CG c ok some (length base + statements_words ss) (length base + n) at w (let u = o.0 in omega (arith, u)) f.within)
                   (base_at n j gf.1, more_at_most CG c ok some (length base + works_words alts) (length base + n) (suc j) rest (let u = o.1 in omega (arith, u)) r.0),
               (work_met (statements_words ss) last alts f.met r.1, comes_next CG c ok some j (I.Jump last) last f.ends b.0 (inl refl)),
+              join_come CG c ok some at w (I.Jump last ∷ rest) f.each (f.ends, r.2),
             )

@@ -5,6 +5,7 @@ pub use Rattle.compiler_correctness.proofs.Records.{code_simulates, code_start, 
 pub use Rattle.compiler_correctness.proofs.SuitsImpliesFits.{suits_fits}
 pub use Rattle.compiler_correctness.proofs.ParsedIsText.{parsed_checked}
 pub use Rattle.compiler_correctness.proofs.ReachableHasCode.{has_code}
+pub use Rattle.compiler_correctness.proofs.OneMachine.{machine_has_code}
 -- the file of a program is shaped, and verified
 pub use Rattle.compiler_correctness.proofs.CompiledFiles.{file_is_shaped}
 pub use Rattle.compiler_correctness.proofs.CompileThenLoad.{grammatical_verified, read_back}

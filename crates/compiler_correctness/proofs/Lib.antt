@@ -4,6 +4,7 @@ pub mod ArgumentsFit
 pub mod Simulation
 pub mod Records
 pub mod ReachableHasCode
+pub mod OneMachine
 pub mod SuitsImpliesFits
 pub mod DerivedTexts
 pub mod ParsedIsText

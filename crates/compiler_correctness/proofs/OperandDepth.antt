@@ -52,13 +52,28 @@ module _ (g : CodeScope) (c : List Instr) (ok : AllFine g c 0 c) (some : 0 < len
   at_most_at n at (i ∷ l) zero lt h = subst (AtMost n) (let z : at ≡ at + 0 = omega arith in z) h.0
   at_most_at n at (i ∷ l) (suc j) lt h = subst (AtMost n) (let z : suc at + j ≡ at + suc j = omega arith in z) (at_most_at n (suc at) l j (omega (arith, lt)) h.1)
 
+  -- each place of a piece of code is reached
+  abbrev pub AllCome : ℕ → List Instr → Type 0
+  AllCome q [] = Unit {0}
+  AllCome q (i ∷ is) = Comes q × AllCome (suc q) is
+
+  pub join_come : (at : ℕ) (a b : List Instr) → AllCome at a → AllCome (at + length a) b → AllCome at (a ++ b)
+  join_come at [] b x y = subst (λ m. AllCome m b) (let e : at + 0 ≡ at = omega arith in e) y
+  join_come at (i ∷ a) b x y = (x.0, join_come (suc at) a b x.1 (subst (λ m. AllCome m b) (let e : at + suc (length a) ≡ suc at + length a = omega arith in e) y))
+
+  pub come_at : (at : ℕ) (l : List Instr) (j : ℕ) → j < length l → AllCome at l → Comes (at + j)
+  come_at at [] j lt h = absurd (omega (arith, lt))
+  come_at at (i ∷ l) zero lt h = subst Comes (let z : at ≡ at + 0 = omega arith in z) h.0
+  come_at at (i ∷ l) (suc j) lt h = subst Comes (let z : suc at + j ≡ at + suc j = omega arith in z) (come_at (suc at) l j (omega (arith, lt)) h.1)
+
   -- so many operands stand somewhere
   abbrev pub Met : ℕ → Type 0
   Met n = (q : ℕ) × (h : Comes q) × (length h.0 ≡ n)
 
-  -- code in which n operands stand at once, and not more, and that comes to its end
+  -- code in which n operands stand at once, and not more, of which each place is reached, and that comes to its end
   pub record Span (at : ℕ) (l : List Instr) (n : ℕ) : Type 0 where
     pub within : AllAtMost n at l
+    pub each : AllCome at l
     pub last : AtMost n (at + length l)
     pub ends : Comes (at + length l)
     pub met : Met n
@@ -68,6 +83,7 @@ module _ (g : CodeScope) (c : List Instr) (ok : AllFine g c 0 c) (some : 0 < len
       let e : at ≡ at + 0 = omega arith in
       record {
         within = tt;
+        each = tt;
         last = subst (AtMost (length h.0)) e (own at h);
         ends = subst Comes e h;
         met = (at, h, refl);
@@ -83,6 +99,7 @@ module _ (g : CodeScope) (c : List Instr) (ok : AllFine g c 0 c) (some : 0 < len
       let e : (at + length a) + length b ≡ at + length (a ++ b) = omega (arith, l) in
       record {
         within = join_at_most k at a b (more_at_most m k at a p x.within) (more_at_most n k (at + length a) b q y.within);
+        each = join_come at a b x.each y.each;
         last = subst (AtMost k) e (λ t z. let i = y.last t z in omega (arith, i, q));
         ends = subst Comes e y.ends;
         met = by which;
@@ -100,6 +117,7 @@ module _ (g : CodeScope) (c : List Instr) (ok : AllFine g c 0 c) (some : 0 < len
       let to : Comes (suc at) = comes_next at i (suc at) h e (subst (IsAmong (suc at)) (sym next) (inl refl)) in
       record {
         within = ((λ t k. let y : length s ≡ length t = ap (λ (x : Stack). length x) (same_some (sym before ∙ k)) in omega (arith, y, p)), tt);
+        each = (h, tt);
         last = subst (AtMost n) z (λ t k. let y : length r ≡ length t = ap (λ (x : Stack). length x) (same_some (sym after ∙ k)) in omega (arith, y, q));
         ends = subst Comes z to;
         met = by to which;
@@ -117,6 +135,7 @@ module _ (g : CodeScope) (c : List Instr) (ok : AllFine g c 0 c) (some : 0 < len
       let z : suc (at + length a) ≡ at + length (a ++ i ∷ []) = omega (arith, l) in
       record {
         within = join_at_most n at a (i ∷ []) x.within (x.last, tt);
+        each = join_come at a (i ∷ []) x.each (x.ends, tt);
         last = λ t k. let y : length r ≡ length t = ap (λ (x : Stack). length x) (same_some (sym after ∙ k)) in omega (arith, y, le);
         ends = subst Comes z (comes_next (at + length a) i (suc (at + length a)) x.ends e (subst (IsAmong (suc (at + length a))) (sym next) (inl refl)));
         met = x.met;

@@ -15,17 +15,19 @@ use Rattle.code_semantics.specs.Kinds.{code_kind}
 use Rattle.code_semantics.specs.Shaped.{IsShaped}
 use Rattle.code_semantics.specs.Step.{code_made}
 use Rattle.run_types.proofs.Laws.{decide, same_some, given_by, find_put_same, find_put_other}
-use Rattle.mesh_semantics.proofs.Laws.{record_shows, fit_of, placed_start_sound, with_wires}
+use Rattle.mesh_semantics.proofs.Laws.{record_shows, fit_of, lines_made, no_wires_kept, placed_start_sound, with_wires}
 use Rattle.run_types.specs.Partial.{◌>>=◌}
 use Rattle.mesh_semantics.specs.Config.{Config, object_of, messages_of, put_object}
-use Rattle.mesh_semantics.specs.Delay.{no_delay, no_delay_on_wires}
+use Rattle.mesh_semantics.specs.Delay.{Delay, no_delay, no_delay_on_wires}
 use Rattle.mesh_semantics.specs.FitFor.{FitFor}
 use Rattle.mesh_semantics.specs.EventSoundness.{ShowsRun}
+use Rattle.mesh_semantics.specs.MadeLines.{AreMade, LabelsLead}
 use Rattle.mesh_semantics.specs.Moves.{move, moves}
 use Rattle.mesh_semantics.specs.Record.{Record, start, root_name, with_root, record_from}
 use Rattle.mesh_semantics.specs.RecordOf.{record_of, record_on_wires}
 use Rattle.run_types.specs.Tables.{Each}
 use Rattle.mesh_semantics.specs.Sound.{IsSound}
+use Rattle.mesh_semantics.specs.Wired.{KeepsWires}
 use Rattle.code_semantics.specs.OfUnit.{AreFramesOf}
 use Rattle.mesh_of_code.specs.Coded.{Placed, placed, kind_of, unless_served, class_number, last_code, coded}
 use Rattle.mesh_of_code.specs.CodeInvariant.{Names}
@@ -142,12 +144,14 @@ module _ (f : UnitFile) (shaped : IsShaped f) (good : IsVerified f) where
       let a = given_by (move (coded f.unit) c x) (λ d. moves (coded f.unit) d (xs ++ ys)) z h in
       let r = by_way a.0 z xs ys a.2 in (r.0, subst (λ (m : Option (Config Placed)). (m >>= λ d. moves (coded f.unit) d xs) ≡ Some r.0) (sym a.1) r.1, r.2)
 
-  runs : (l : Placement) (c : Config Placed) (r : Record Placed) → IsTypedCode f c → ShowsRun (coded f.unit) (IsTypedCode f) l c r → IsCodeRun f l c r
-  runs l c r w t = record {
+  runs : (l : Placement) (q : ℕ) (c : Config Placed) (d : Delay) (r : Record Placed) → IsTypedCode f c → ShowsRun (coded f.unit) (IsTypedCode f) l c r
+      → AreMade (coded f.unit) (IsTypedCode f) l q (LabelsLead (coded f.unit) c) c d r.lines → IsCodeRun f l q c d r
+  runs l q c d r w t made = record {
     lines = t.lines;
     leads = t.leads;
     sound = t.sound;
     fronts = λ front rest e. way front rest (ap (moves (coded f.unit) c) e ∙ t.leads);
+    made = made;
     rests = t.rests;
   }
     where
@@ -162,25 +166,23 @@ module _ (f : UnitFile) (shaped : IsShaped f) (good : IsVerified f) where
       by None e i = absurd (let t : None ≡ Some c = i in cc)
       by (Some x) e i = placed_start_sound (coded f.unit) (IsTypedCode f) l fit x c e (root_rests f.unit x e) h (start_typed l c h)
 
-  -- the record over code is a run of its relation, right all the way, and where it ends quiet there is no transition
+  -- the record from a sound configuration over code is a run of its relation, right all the way, and where it ends quiet there is no transition
+  runs_from : (l : Placement) (q : ℕ) (es : List Event) (c : Config Placed) (d : Delay) → FitFor (coded f.unit) l → IsSound (coded f.unit) (IsTypedCode f) l c d → KeepsWires d
+      → IsCodeRun f l q c d (record_from (coded f.unit) l q c d 0 es)
+  runs_from l q es c d fit sound wired =
+      let law = verified_lawful f shaped good in
+      let fits = fit_of (coded f.unit) l fit in
+      runs l q c d (record_from (coded f.unit) l q c d 0 es) sound.state.typed (record_shows (coded f.unit) (IsTypedCode f) law l fits q es c d 0 sound)
+      (lines_made (coded f.unit) (IsTypedCode f) law l fits q es c d 0 sound wired)
+
   pub record_is_code_run : (l : Placement) (q : ℕ) (es : List Event) → FitFor (coded f.unit) l
-      → (c : Config Placed) × (start (coded f.unit) l ≡ Some c) × IsCodeRun f l c (record_of (coded f.unit) l q es)
+      → (c : Config Placed) × (start (coded f.unit) l ≡ Some c) × IsCodeRun f l q c no_delay (record_of (coded f.unit) l q es)
   record_is_code_run l q es fit =
       let s = start_there f.unit (verified_is_proper f shaped good) l in
-      let sound = start_is_sound l s.0 fit s.1 in (
-        s.0,
-        s.1,
-        rw s.1 (runs l s.0 (record_from (coded f.unit) l q s.0 no_delay 0 es) sound.state.typed
-            (record_shows (coded f.unit) (IsTypedCode f) (verified_lawful f shaped good) l (fit_of (coded f.unit) l fit) q es s.0 no_delay 0 sound)),
-      )
+      (s.0, s.1, rw s.1 (runs_from l q es s.0 no_delay fit (start_is_sound l s.0 fit s.1) tt))
 
   pub record_is_code_run_on_wires : (l : Placement) (q : ℕ) (es : List Event) → FitFor (coded f.unit) l
-      → (c : Config Placed) × (start (coded f.unit) l ≡ Some c) × IsCodeRun f l c (record_on_wires (coded f.unit) l q es)
+      → (c : Config Placed) × (start (coded f.unit) l ≡ Some c) × IsCodeRun f l q c no_delay_on_wires (record_on_wires (coded f.unit) l q es)
   record_is_code_run_on_wires l q es fit =
       let s = start_there f.unit (verified_is_proper f shaped good) l in
-      let sound = with_wires (coded f.unit) (IsTypedCode f) l s.0 no_delay [] (start_is_sound l s.0 fit s.1) in (
-        s.0,
-        s.1,
-        rw s.1 (runs l s.0 (record_from (coded f.unit) l q s.0 no_delay_on_wires 0 es) sound.state.typed
-            (record_shows (coded f.unit) (IsTypedCode f) (verified_lawful f shaped good) l (fit_of (coded f.unit) l fit) q es s.0 no_delay_on_wires 0 sound)),
-      )
+      (s.0, s.1, rw s.1 (runs_from l q es s.0 no_delay_on_wires fit (with_wires (coded f.unit) (IsTypedCode f) l s.0 no_delay [] (start_is_sound l s.0 fit s.1)) no_wires_kept))

@@ -4,6 +4,8 @@ use Rattle.run_types.specs.declared.types.Label.{Label}
 use Rattle.run_types.specs.declared.types.Placement.{Placement}
 use Rattle.code_semantics.specs.declared.file.UnitFile.{UnitFile}
 use Rattle.mesh_semantics.specs.Config.{Config, object_of}
+use Rattle.mesh_semantics.specs.Delay.{Delay}
+use Rattle.mesh_semantics.specs.MadeLines.{AreMade, LabelsLead}
 use Rattle.mesh_semantics.specs.Moves.{move, moves}
 use Rattle.mesh_semantics.specs.Record.{Record, EndsOnce, labels, ends_quiet}
 use Rattle.mesh_semantics.specs.Sound.{IsSound}
@@ -22,11 +24,14 @@ pub record GoesBy (f : UnitFile) (c z : Config Placed) (front rest : List Label)
   pub from : moves (coded f.unit) between rest ≡ Some z
   pub right : IsRightCode f between
 
--- a record of a run from c: event lines and then one end line; its labels are a run of the relation over code to its last configuration, which is
--- sound with its delay; the configuration after each prefix of the labels is right; and if the record ends quiet, no label is possible
-pub record IsCodeRun (f : UnitFile) (l : Placement) (c : Config Placed) (r : Record Placed) : Type 0 where
+-- A record of a run from c with its delay d, with turns of at most q local transitions. It has event lines and then
+-- one end line. Its labels are a run of the relation over code to its last configuration, which is sound with its
+-- delay. The configuration after each prefix of the labels is right. Each event line was made where the lines before it
+-- lead. If the record ends quiet, no label is possible there.
+pub record IsCodeRun (f : UnitFile) (l : Placement) (q : ℕ) (c : Config Placed) (d : Delay) (r : Record Placed) : Type 0 where
   pub lines : EndsOnce r.lines
   pub leads : moves (coded f.unit) c (labels r.lines) ≡ Some r.last
   pub sound : IsSound (coded f.unit) (IsTypedCode f) l r.last r.delay
   pub fronts : (front rest : List Label) → front ++ rest ≡ labels r.lines → GoesBy f c r.last front rest
+  pub made : AreMade (coded f.unit) (IsTypedCode f) l q (LabelsLead (coded f.unit) c) c d r.lines
   pub rests : ends_quiet r.lines ≡ true → (lab : Label) → move (coded f.unit) r.last lab ≡ None

@@ -9,3 +9,4 @@ pub mod StandsAlike
 pub mod HasCode
 pub mod SpelledUnit
 pub mod ReadsBack
+pub mod ReachedCode

@@ -24,9 +24,13 @@ ghost use Rattle.mesh_semantics.specs.Record.{root_name, start};
 ghost use Rattle.mesh_semantics.specs.RecordOf.{record_of, record_on_wires};
 ghost use Rattle.mesh_semantics.specs.Simulates.{Both, Simulates, Related, SameAct, SameRecord};
 ghost use Rattle.mesh_semantics.specs.Cycles.{cycles};
+ghost use Rattle.mesh_semantics.specs.Sound.{IsSound};
+ghost use Rattle.node_semantics.specs.Machine.{Machine};
+ghost use Rattle.node_semantics.specs.WiresStandFor.{StandsFor};
 ghost use Rattle.mesh_of_terms.specs.Terms.{terms, plain};
 ghost use Rattle.mesh_of_terms.specs.RunOf.{TypedTerms};
 ghost use Rattle.mesh_of_code.specs.Coded.{Placed, coded};
+ghost use Rattle.mesh_of_code.specs.CodeInvariant.{IsOfCode};
 ghost use Rattle.compiler_correctness.specs.CheckedProgram.{IsCheckedProgram};
 ghost use Rattle.compiler_correctness.specs.HasCode.{HasCode};
 ghost use Rattle.compiler_correctness.specs.Matches.{Matches};
@@ -90,4 +94,14 @@ pub fn events_of_code_are_those_of_terms()
 pub fn what_a_run_reaches_has_code()
     ensures { (p : ProgramTree) (u : Code) (l : Placement) (first : Configuration) (labs : List Label) (c : Config Object) → IsCheckedProgram p → u.classes ≡ code p → IsProper u
         → X.start p (root_name l) ≡ Some first → run p first labs ≡ Some (plain c) → HasCode p u l c }
+{}
+
+/// Each machine represents a sound configuration of the code. Take any sound configuration of the program, with its
+/// delay, and code that corresponds to it. If the machine represents this code with the delay, the code is of the unit,
+/// and sound with the delay. So the theorems about events of a machine apply to every sound configuration of the
+/// program that it represents, whether a run reaches it or not.
+pub fn what_a_machine_stands_for_has_code()
+    ensures { (p : ProgramTree) (u : Code) (l : Placement) (m : Machine Placed) (first : Config Placed) (d : Delay) (c : Config Object) (e : Config Placed) (f : Delay)
+        → IsCheckedProgram p → u.classes ≡ code p → IsSound (coded u) (IsOfCode u) l first d → StandsFor (coded u) l m first d
+        → IsSound (terms p) (TypedTerms p) l c f → Related (Matches p u) c e → StandsFor (coded u) l m e f → IsSound (coded u) (IsOfCode u) l e f }
 {}

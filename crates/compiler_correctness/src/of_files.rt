@@ -10,6 +10,7 @@ ghost use Rattle.run_types.specs.declared.types.Event.{Event};
 ghost use Rattle.run_types.specs.declared.types.Placement.{Placement};
 ghost use Rattle.run_types.specs.Asks.{EachAnswersPost};
 ghost use Rattle.mesh_semantics.specs.Config.{Config, object_of};
+ghost use Rattle.mesh_semantics.specs.Delay.{no_delay, no_delay_on_wires};
 ghost use Rattle.mesh_semantics.specs.FitFor.{FitFor};
 ghost use Rattle.mesh_semantics.specs.Lawful.{Lawful};
 ghost use Rattle.mesh_semantics.specs.Record.{start};
@@ -26,7 +27,9 @@ ghost use Rattle.mesh_of_terms.specs.Terms.{terms};
 ghost use Rattle.mesh_of_code.specs.Coded.{Placed, coded};
 ghost use Rattle.compiler_correctness.specs.CodeRun.{IsCodeRun};
 ghost use Rattle.compiler_correctness.specs.DeclaredKinds.{file_of};
+ghost use Rattle.compiler_correctness.specs.ReachedCode.{IsReachedWhole};
 ghost use Rattle.compiler_correctness.specs.TypedCode.{IsTypedCode, GoesWrong};
+ghost use Rattle.code_typing.specs.Sorts.{Declared, declared_at};
 ghost use Rattle.code_typing.specs.Verdict.{Good, verdict};
 ghost use Rattle.code_typing.specs.Verified.{IsVerified};
 
@@ -48,12 +51,14 @@ pub fn no_object_of_code_goes_wrong()
 
 /// The record of a verified file is a run of the transition relation over its objects.
 /// Each configuration of the run is typed, and no object goes wrong.
+/// Each event line is that of the act of its event at a sound configuration.
+/// The acts of the lines before it lead to that configuration. If the line is idle, its event had nothing to do there.
 /// If the record ends quiet, no transition is possible.
 pub fn records_of_verified_code_are_runs()
     ensures records { (f : UnitFile) (l : Placement) (q : ℕ) (es : List Event) → IsShaped f → IsVerified f → FitFor (coded f.unit) l
-        → (c : Config Placed) × (start (coded f.unit) l ≡ Some c) × IsCodeRun f l c (record_of (coded f.unit) l q es) }
+        → (c : Config Placed) × (start (coded f.unit) l ≡ Some c) × IsCodeRun f l q c no_delay (record_of (coded f.unit) l q es) }
     ensures on_wires { (f : UnitFile) (l : Placement) (q : ℕ) (es : List Event) → IsShaped f → IsVerified f → FitFor (coded f.unit) l
-        → (c : Config Placed) × (start (coded f.unit) l ≡ Some c) × IsCodeRun f l c (record_on_wires (coded f.unit) l q es) }
+        → (c : Config Placed) × (start (coded f.unit) l ≡ Some c) × IsCodeRun f l q c no_delay_on_wires (record_on_wires (coded f.unit) l q es) }
 {}
 
 /// Each line of the record of a verified file that answers a request
@@ -71,6 +76,13 @@ pub fn files_of_programs_are_verified()
     ensures shaped { (names : List Text) (p : ProgramTree) → IsShaped (file_of names p) }
     ensures verified { (names : List Text) (p : ProgramTree) → ∥ IsGrammatical p ∥₁ → faults p ≡ [] → is_spelled names p ≡ true → AreShort (code p) → IsVerified (file_of names p) }
     ensures good { (names : List Text) (p : ProgramTree) → ∥ IsGrammatical p ∥₁ → faults p ≡ [] → is_spelled names p ≡ true → AreShort (code p) → verdict (file_of names p) ≡ Good }
+{}
+
+/// Each place of the code of a program of the grammar without class faults is reached from the start of its code.
+/// The conditions are those of `files_of_programs_are_verified`. So each place has exactly one stack of sorts.
+pub fn each_place_of_compiled_code_is_reached()
+    ensures { (names : List Text) (p : ProgramTree) → ∥ IsGrammatical p ∥₁ → faults p ≡ [] → is_spelled names p ≡ true → AreShort (code p)
+        → (j : ℕ) (k : Declared) → declared_at (file_of names p) j ≡ Some k → IsReachedWhole (file_of names p) k }
 {}
 
 /// If the names of a file are distinct, its encoding decodes to that file.

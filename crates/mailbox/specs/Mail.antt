@@ -1,6 +1,5 @@
 -- The mailbox of a node as contracts see it: the messages of each slot, and the number of cells.
-use Rattle.std.specs.Prelude.{ℕ, ◌+◌, ◌==◌, Bool, List, [], ◌∷◌, length, get_or, set, refl}
-use Rattle.std.specs.Coded.{Coded, code_by, coded×, coded_list, coded_ℕ}
+use Rattle.std.specs.Prelude.{ℕ, ◌+◌, ◌==◌, Bool, List, [], ◌∷◌, length, get_or, set}
 use Rattle.std.specs.List.{list_any}
 use Rattle.run_types.specs.declared.types.NameId.{NameId}
 
@@ -12,10 +11,6 @@ pub record Mail (X : Type 0) : Type 0 where
 module _ {X : Type 0} where
   abbrev pub mail : List (List X) → ℕ → Mail X
   mail boxes cells = record { boxes = boxes; cells = cells }
-
-  -- how the logic encodes it
-  abbrev pub mail_code : Coded X → Coded (Mail X)
-  mail_code c = code_by (List (List X) × ℕ) (coded× (coded_list (coded_list c)) coded_ℕ) (λ m. (m.boxes, m.cells)) (λ p. mail p.0 p.1) (λ _. refl)
 
   -- the messages of one slot
   abbrev pub box_of : Mail X → ℕ → List X

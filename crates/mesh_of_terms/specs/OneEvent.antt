@@ -13,7 +13,7 @@ use Rattle.mesh_semantics.specs.Delay.{Delay}
 use Rattle.mesh_semantics.specs.Record.{labels, shown}
 use Rattle.mesh_semantics.specs.Sound.{IsSound}
 use Rattle.mesh_of_terms.specs.TypedTerms.{TypedTerms}
-use Rattle.mesh_of_terms.specs.LineOf.{FindsNothing}
+use Rattle.mesh_semantics.specs.MadeLines.{FindsNothing}
 use Rattle.mesh_semantics.specs.Act.{Acted, Acts, Full, Nothing}
 
 -- the configuration of the relation, if there is one
@@ -27,7 +27,7 @@ pub record IsIdleAt (p : ProgramTree) (l : Placement) (c : Configuration) (befor
   pub delay : Delay
   pub leads : run p c (labels before) ≡ Some (plain config)
   pub sound : IsSound (terms p) (TypedTerms p) l config delay
-  pub nothing : FindsNothing p config delay e
+  pub nothing : FindsNothing (terms p) config delay e
 
 -- the act of an event of a sound configuration has a line or a limit; the labels of the line are a run to the
 -- configuration after it, which is sound

@@ -93,7 +93,7 @@ silent (W.Step label times) h = absurd h
 silent _ h = refl
 
 module _ {S : Type 0} (g : Language S) where
-  moves_append : (c e : Config S) (xs ys : List Label) → moves g c xs ≡ Some e → moves g c (xs ++ ys) ≡ moves g e ys
+  pub moves_append : (c e : Config S) (xs ys : List Label) → moves g c xs ≡ Some e → moves g c (xs ++ ys) ≡ moves g e ys
   moves_append c e [] ys h = let same : c ≡ e = same_some h in ap (λ z. moves g z ys) same
   moves_append c e (x ∷ xs) ys h =
       let a = given_by (move g c x) (λ z. moves g z xs) e h in

@@ -8,6 +8,7 @@ pub use Rattle.mesh_semantics.proofs.PlacementFit.{fit_of}
 pub use Rattle.mesh_semantics.proofs.FifoTraffic.{in_order}
 pub use Rattle.mesh_semantics.proofs.SoundStart.{placed_start_sound, with_wires}
 pub use Rattle.mesh_semantics.proofs.EventSoundness.{turn_there, act_kept, act_answers, record_shows, turn_is}
+pub use Rattle.mesh_semantics.proofs.MadeLines.{lines_made, made_as}
 pub use Rattle.mesh_semantics.proofs.AnsweredPosts.{each_answers_post, each_answers_post_on_wires}
 pub use Rattle.mesh_semantics.proofs.WireLaws.{Wanted, wanted_is, IsOfWire, TellsOfWire, tells_of_wire, facts_empty, happen_facts, happened_facts, happened_put, act_facts, take_facts, enter_facts, act_put, take_put, next_is_head, length_behind}
 pub use Rattle.mesh_semantics.proofs.LinkEntries.{Behind, PutsBehind, turn_enters, move_enters}

@@ -22,6 +22,7 @@ pub mod SoundStart
 pub mod EventSoundness
 pub mod AnsweredPosts
 pub mod Idle
+pub mod MadeLines
 pub mod PlacementFit
 pub mod FlatTraffic
 pub mod FifoTraffic

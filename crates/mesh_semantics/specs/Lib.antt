@@ -10,6 +10,7 @@ pub mod Record
 pub mod Standing
 pub mod Sound
 pub mod Wired
+pub mod MadeLines
 -- Internal: what it does not.
 pub mod Traffic
 pub mod Happenings

@@ -14,6 +14,7 @@ ghost use Rattle.run_types.specs.declared.types.Placement.{Placement};
 ghost use Rattle.mesh_semantics.specs.Language.{Language};
 ghost use Rattle.mesh_semantics.specs.Config.{Config};
 ghost use Rattle.mesh_semantics.specs.Moves.{move};
+ghost use Rattle.mesh_semantics.specs.MadeLines.{AreMade, LabelsLead};
 ghost use Rattle.run_types.specs.Tables.{Pair};
 ghost use Rattle.run_types.specs.PathFacts.{Ways};
 ghost use Rattle.run_types.specs.Routes.{without_route};
@@ -124,6 +125,14 @@ pub fn quiet_has_no_transition<S, K>()
 pub fn records_show_runs<S, K>()
     ensures { (g : Language S) (kept : K → Config S) (l : Placement) (q : ℕ) (c : Config S) (d : Delay) (done : ℕ) (es : List Event) → Lawful g (IsGiven kept) → FitFor g l
         → IsSound g (IsGiven kept) l c d → ShowsRun g (IsGiven kept) l c (record_from g l q c d done es) }
+{}
+
+/// Each event line of a record from a sound configuration is that of the act of its event at a sound configuration.
+/// The acts and the labels of the lines before it lead to that configuration. If the line is idle, nothing is to be
+/// done there: no object of the node is ready, nothing comes off the link, or nothing is to be done on the wire.
+pub fn each_line_is_made_where_the_lines_before_lead<S, K>()
+    ensures { (g : Language S) (kept : K → Config S) (l : Placement) (q : ℕ) (c : Config S) (d : Delay) (done : ℕ) (es : List Event) → Lawful g (IsGiven kept) → FitFor g l
+        → IsSound g (IsGiven kept) l c d → KeepsWires d → AreMade g (IsGiven kept) l q (LabelsLead g c) c d (record_from g l q c d done es).lines }
 {}
 
 /// Each line of a record that answers a request has the number of the line that posted this request. That number is

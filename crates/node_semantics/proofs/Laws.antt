@@ -19,3 +19,4 @@ pub use Rattle.node_semantics.proofs.PostedLinks.{decide_link}
 pub use Rattle.node_semantics.proofs.LinkTests.{any_on_links}
 pub use Rattle.node_semantics.proofs.KeptNumbers.{fits_kept}
 pub use Rattle.node_semantics.proofs.SettledNumber.{settled_is}
+pub use Rattle.node_semantics.proofs.OneConfiguration.{objects_same, messages_same}

@@ -37,4 +37,5 @@ pub mod SameLines
 pub mod OutstandingNumbers
 pub mod ClassAndFault
 pub mod StrongerInvariant
+pub mod OneConfiguration
 pub mod Laws

@@ -8,7 +8,7 @@ ghost use Rattle.run_types.specs.declared.types.Placement.{Placement};
 ghost use Rattle.run_types.specs.Tables.{pair_cmp, list_at, Each};
 ghost use Rattle.run_types.specs.LinkTables.{leaving};
 ghost use Rattle.mesh_semantics.specs.Language.{Language};
-ghost use Rattle.mesh_semantics.specs.Config.{Config, object_of};
+ghost use Rattle.mesh_semantics.specs.Config.{Config, messages_of, object_of};
 ghost use Rattle.run_types.specs.PathFacts.{In};
 ghost use Rattle.mesh_semantics.specs.Delay.{Delay, cell_count, no_delay, no_delay_on_wires};
 ghost use Rattle.mesh_semantics.specs.NumberedPackets.{NumberedPacket};
@@ -54,6 +54,15 @@ pub fn a_machine_does_what_it_stands_for<S, K>()
 pub fn a_machine_is_quiet_as_what_it_stands_for<S, K>()
     ensures { (g : Language S) (kept : K → Config S) (l : Placement) (m : Machine S) (c : Config S) (d : Delay)
         → Lawful g (IsGiven kept) → Requests g (IsGiven kept) → IsSound g (IsGiven kept) l c d → StandsFor g l m c d → is_machine_quiet g m ≡ is_quiet g c d }
+{}
+
+/// A machine represents at most one sound configuration: two that it represents have the same objects and the same
+/// messages. The two may be sound for different properties.
+pub fn a_machine_stands_for_one_configuration<S, K, N>()
+    ensures objects { (g : Language S) (kept : K → Config S) (other : N → Config S) (l : Placement) (m : Machine S) (c e : Config S) (d f : Delay) (o : ℕ)
+        → IsSound g (IsGiven kept) l c d → IsSound g (IsGiven other) l e f → StandsFor g l m c d → StandsFor g l m e f → object_of c o ≡ object_of e o }
+    ensures messages { (g : Language S) (kept : K → Config S) (other : N → Config S) (l : Placement) (m : Machine S) (c e : Config S) (d f : Delay) (s r : ℕ)
+        → IsSound g (IsGiven kept) l c d → IsSound g (IsGiven other) l e f → StandsFor g l m c d → StandsFor g l m e f → messages_of c s r ≡ messages_of e s r }
 {}
 
 /// Over a schedule a machine writes the lines of the record, for any request numbers that are fresh along its run. The

@@ -11,7 +11,6 @@ ghost use Rattle.node_heap.specs.Heaps.{object_at};
 ghost use Rattle.node_state.specs.Views.{arrivals_of, refreshed, slot_at};
 
 use crate::ReadySet;
-use crate::choice::first_possible;
 use code_semantics::Unit;
 use mailbox::Mailbox;
 use node_heap::Heap;
@@ -36,54 +35,56 @@ pub struct NodeParts {
     pub made: List<u32>,
 }
 
-/// Reports whether the object of a slot can make a step with the messages that have arrived.
-fn can_step_now(unit: &Unit, parts: &NodeParts, slot: u32) -> bool
-    requires proper { IsProper unit.now }
-    requires slot { slot < length parts.now.heap.objects }
-    requires boxes { slot < length parts.now.mailbox.boxes }
-    requires fits { FitsUnit unit.now (object_at parts.now.heap slot) }
-    requires rests { IsAtStep unit.now (object_at parts.now.heap slot) }
-    ensures { result ≡ can_step (arrivals (arrivals_of (box_of parts.now.mailbox slot))) (kind_of (code_kind unit.now (object_at parts.now.heap slot))) }
-{
-    if can_step_alone(unit, &parts.heap, slot) {
-        return true;
+impl NodeParts {
+    /// Reports whether the object of a slot can make a step with the messages that have arrived.
+    fn can_step_now(&self, unit: &Unit, slot: u32) -> bool
+        requires proper { IsProper unit.now }
+        requires slot { slot < length self.now.heap.objects }
+        requires boxes { slot < length self.now.mailbox.boxes }
+        requires fits { FitsUnit unit.now (object_at self.now.heap slot) }
+        requires rests { IsAtStep unit.now (object_at self.now.heap slot) }
+        ensures { result ≡ can_step (arrivals (arrivals_of (box_of self.now.mailbox slot))) (kind_of (code_kind unit.now (object_at self.now.heap slot))) }
+    {
+        if can_step_alone(unit, &self.heap, slot) {
+            return true;
+        }
+        self.first_possible(unit, slot).is_some()
     }
-    first_possible(unit, &parts.heap, &parts.mailbox, slot).is_some()
-}
 
-/// Reports whether a slot is ready: it has no outstanding request, its object has met no error, and the object can make
-/// a step.
-fn can_go_now(unit: &Unit, parts: &NodeParts, slot: u32) -> bool
-    requires proper { IsProper unit.now }
-    requires slot { slot < length parts.now.heap.objects }
-    requires boxes { slot < length parts.now.mailbox.boxes }
-    requires requests { slot < length parts.now.outstanding }
-    requires faults { slot < length parts.now.faults }
-    requires fits { FitsUnit unit.now (object_at parts.now.heap slot) }
-    requires rests { IsAtStep unit.now (object_at parts.now.heap slot) }
-    ensures { result ≡ can_go (coded unit.now) parts.now.id (slot, slot_at parts.now slot) }
-{
-    if parts.outstanding.number_of(slot).is_some() {
-        return false;
+    /// Reports whether a slot is ready: it has no outstanding request, its object has met no error, and the object can
+    /// make a step.
+    fn can_go_now(&self, unit: &Unit, slot: u32) -> bool
+        requires proper { IsProper unit.now }
+        requires slot { slot < length self.now.heap.objects }
+        requires boxes { slot < length self.now.mailbox.boxes }
+        requires requests { slot < length self.now.outstanding }
+        requires faults { slot < length self.now.faults }
+        requires fits { FitsUnit unit.now (object_at self.now.heap slot) }
+        requires rests { IsAtStep unit.now (object_at self.now.heap slot) }
+        ensures { result ≡ can_go (coded unit.now) self.now.id (slot, slot_at self.now slot) }
+    {
+        if self.outstanding.number_of(slot).is_some() {
+            return false;
+        }
+        if self.faults.items()[slot as usize].is_some() {
+            return false;
+        }
+        self.can_step_now(unit, slot)
     }
-    if parts.faults.items()[slot as usize].is_some() {
-        return false;
-    }
-    can_step_now(unit, parts, slot)
-}
 
-/// Updates the ready bit of a slot. Every change of a slot ends with it.
-pub fn refresh(unit: &Unit, parts: &mut NodeParts, slot: u32)
-    requires proper { IsProper unit.now }
-    requires slot { slot < length parts.old.heap.objects }
-    requires boxes { slot < length parts.old.mailbox.boxes }
-    requires requests { slot < length parts.old.outstanding }
-    requires faults { slot < length parts.old.faults }
-    requires bits { slot < length parts.old.ready }
-    requires fits { FitsUnit unit.now (object_at parts.old.heap slot) }
-    requires rests { IsAtStep unit.now (object_at parts.old.heap slot) }
-    ensures { parts.new ≡ refreshed unit.now parts.old slot }
-{
-    let bit = can_go_now(unit, parts, slot);
-    parts.ready.set(slot, bit);
+    /// Updates the ready bit of a slot. Every change of a slot ends with it.
+    pub fn refresh(&mut self, unit: &Unit, slot: u32)
+        requires proper { IsProper unit.now }
+        requires slot { slot < length self.old.heap.objects }
+        requires boxes { slot < length self.old.mailbox.boxes }
+        requires requests { slot < length self.old.outstanding }
+        requires faults { slot < length self.old.faults }
+        requires bits { slot < length self.old.ready }
+        requires fits { FitsUnit unit.now (object_at self.old.heap slot) }
+        requires rests { IsAtStep unit.now (object_at self.old.heap slot) }
+        ensures { self.new ≡ refreshed unit.now self.old slot }
+    {
+        let bit = self.can_go_now(unit, slot);
+        self.ready.set(slot, bit);
+    }
 }

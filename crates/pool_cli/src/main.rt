@@ -3,17 +3,18 @@
 //! Does not know: what each command does.
 #![tactic(auto)]
 
-ghost use Rattle.run_loop.specs.Writing.{writing};
+ghost use Rattle.command_shell.specs.Writing.{writing};
 ghost use Rattle.std.specs.Prelude.{◌≡◌, ◌⊎◌, ◌-◌, ◌^◌, ◌≤◌, ◌<◌, ◌++◌, [], ◌∷◌, Some, false, codes, option_map, IfSome};
 ghost use Rattle.text_scan.specs.Text.{Text};
 ghost use Rattle.std.specs.Process.{exit_status};
 ghost use Rattle.pool_outside.specs.Outside.{Rose};
 ghost use Rattle.pool_driver.specs.Commands.{Request, request_of, texts_of};
-ghost use Rattle.pool_driver.specs.Ends.{Ends, StaysWithin, reading};
-ghost use Rattle.run_loop.specs.Statuses.{code_of};
+ghost use Rattle.command_shell.specs.Ends.{StaysWithin, WholeTextWritten};
+ghost use Rattle.command_shell.specs.Programs.{MayOpen};
+ghost use Rattle.pool_driver.specs.Ends.{Ends, reading};
+ghost use Rattle.command_shell.specs.Statuses.{code_of};
 ghost use Rattle.pool_driver.specs.Headline.{ShowsOneRun};
-ghost use Rattle.pool_driver.specs.Inputs.{IsServable, MayOpen};
-ghost use Rattle.pool_driver.specs.Outputs.{WholeTextWritten};
+ghost use Rattle.pool_driver.specs.Inputs.{IsServable, inputs};
 
 use pool_driver::{Status, pool};
 use pool_outside::{Files, Sink, StdFiles, StdSink, args_after_program_name};
@@ -31,7 +32,7 @@ fn run<F: Files, K: Sink, E: Sink>(
 ) -> ExitCode
     requires not_live { F.live files.old ≡ false }
     requires countable { F.opens files.old ≤ 2 ^ 64 - 5 }
-    requires allowed { IfSome (request_of (texts_of words.now)) (MayOpen (F.may files.old) (F.opens files.old)) }
+    requires allowed { IfSome (request_of (texts_of words.now)) (λ r. MayOpen (F.may files.old) (F.opens files.old) (inputs r)) }
 
     // The exit status is the number of the status with which the
     // call ends. Each has its cause, and the text on both sinks.
@@ -43,7 +44,7 @@ fn run<F: Files, K: Sink, E: Sink>(
 
     // The input that was opened last has given at most its limit and one read.
     ensures stops_reading { (r : Request) → request_of (texts_of words.now) ≡ Some r → StaysWithin
-        (reading F.told F.opens F.given F.live F.faults files.old files.new) r }
+        (reading F.told F.opens F.given F.live F.faults files.old files.new) (inputs r) }
 
     // If the arguments are a command, all inputs are accepted, and no read or
     // write failed in this call, the whole text was written, or memory ran out.

@@ -22,7 +22,7 @@ use Rattle.pool_driver.proofs.OneFilePerText.{said_once}
 use Rattle.command_line.specs.declared.command.Ask.TheVariants as As
 use Rattle.command_line.specs.declared.command.Show.TheVariants as Sh
 use Rattle.command_inputs.specs.declared.fault.Input.TheVariants as I
-use Rattle.run_loop.specs.declared.status.Status.{Status}
+use Rattle.command_shell.specs.declared.status.Status.{Status}
 use Rattle.run_loop.specs.Shown.{record_over, status_of}
 use Rattle.pool_driver.specs.Inputs.{Gives, IsAccepted, IsPlacementOf, by_file, by_program, unit_of}
 use Rattle.pool_driver.specs.Outputs.{IsLoadOf, IsRunOf, IsTextFor}
@@ -71,13 +71,13 @@ module _ (source place text : Text) (m : Meaning source place text) (bytes : Tex
 module _ (one_program : (s : Text) (names others : List Text) (p q : ProgramTree) → IsParsed s names p → IsParsed s others q → (names ≡ others) × (p ≡ q))
     (source bytes : Text) (b : IsTextFor As.File source bytes) where
   -- the code that the program gives, and its bytes
-  source_gives : (u : Code) → Gives source u → u ≡ unit_of b.names b.program
+  pub source_gives : (u : Code) → Gives source u → u ≡ unit_of b.names b.program
   source_gives u (by_program c) =
       let same = one_program source c.names b.names c.program b.program c.parsed b.parsed in
       c.coded ∙ ap (λ (ns : List Text). unit_of ns c.program) same.0 ∙ ap (unit_of b.names) same.1
   source_gives u (by_file f h e) = absurd (no_program source f b.names b.parsed.0 h.said b.parsed.1)
 
-  bytes_give : (u : Code) → Gives bytes u → u ≡ unit_of b.names b.program
+  pub bytes_give : (u : Code) → Gives bytes u → u ≡ unit_of b.names b.program
   bytes_give u (by_program c) = absurd (no_program bytes (file_of b.names b.program) c.names c.parsed.0 b.built.said c.parsed.1)
   bytes_give u (by_file f h e) = e ∙ ap (λ (g : UnitFile). g.unit) (said_once bytes f (file_of b.names b.program) h.said b.built.said)
 

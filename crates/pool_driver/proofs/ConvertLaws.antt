@@ -5,7 +5,7 @@ use Rattle.text_scan.specs.Text.{Text}
 use Rattle.run_types.specs.declared.types.Line.{Line}
 use Rattle.run_types.specs.Asks.{asks, asks_from}
 use Rattle.record_writer.specs.SecondForm.{form_text, line_text2, lines_text2, text2}
-use Rattle.run_loop.specs.Writing.{Writing, Wrote, WroteFront}
+use Rattle.command_shell.specs.Writing.{Writing, Wrote, WroteFront}
 use Rattle.run_loop.proofs.Laws.{Follows, front_of_both, front_of_first, then, wrote_both}
 
 -- so many lines were written, and the rest is left

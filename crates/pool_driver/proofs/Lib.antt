@@ -9,6 +9,7 @@ pub mod HeadlineLaws
 pub mod LineKindLaws
 pub mod BuiltFiles
 pub mod BuildThenLoad
+pub mod SameFirstFault
 pub mod SpelledFiles
 pub mod ReadableFiles
 pub mod WritableFiles

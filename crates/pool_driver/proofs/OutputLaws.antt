@@ -1,5 +1,5 @@
 -- The output of a request follows from its inputs, one after another.
-use Rattle.std.proofs.Common.{◌≡◌, ◌∙◌, ◌+◌, ◌≤◌, ℕ, zero, suc, List, [], ◌∷◌, length, Option, None, Some, Bool, IsTrue, slice_get, Result, Ok, Err, false, refl, sym, ap, subst, arith}
+use Rattle.std.proofs.Common.{◌≡◌, ◌∙◌, ◌+◌, ℕ, List, [], ◌∷◌, length, Result, Ok, Err, false, refl, sym, ap, subst}
 use Rattle.text_scan.specs.Text.{Text}
 use Rattle.pool_syntax.specs.TreeOf.{program_of}
 use Rattle.pool_syntax.specs.Typing.{faults}
@@ -10,105 +10,32 @@ use Rattle.run_types.specs.declared.types.Placement.{Placement}
 use Rattle.code_semantics.specs.declared.unit.Unit.{Unit as Code}
 use Rattle.placement_reader.specs.Placements.{placement_of}
 use Rattle.schedule_reader.specs.Schedules.{schedule_of}
-use Rattle.command_line.specs.declared.command.Ask.{Ask}
-use Rattle.command_line.specs.declared.command.Show.{Show}
 use Rattle.command_inputs.specs.declared.fault.Fault.{Fault}
-use Rattle.command_inputs.specs.declared.fault.Input.{Input}
 use Rattle.command_inputs.specs.declared.fault.Input.TheVariants as I
 use Rattle.command_inputs.specs.declared.fault.InputError.{InputError}
 use Rattle.pool_driver.specs.declared.outputs.Output.{Output}
-use Rattle.command_line.specs.Commands.{FileNames, Request, of_run, of_program, of_ring, of_convert, of_check, of_load}
-use Rattle.pool_driver.specs.Inputs.{Gives, by_file, by_program, inputs, MayOpen, IsAccepted, HasFault, IsPlacementOf}
-use Rattle.command_inputs.specs.Inputs.{limit_of, most_bytes, most_of_record, most_of_unit, one_read, IsReadAs}
+use Rattle.command_line.specs.Commands.{Request, of_ring, of_check}
+use Rattle.pool_driver.specs.Inputs.{Gives, by_file, by_program, IsAccepted, HasFault, IsPlacementOf}
+use Rattle.command_inputs.specs.Inputs.{IsReadAs}
 use Rattle.pool_driver.specs.UnitOfFile.{IsUnitOfFile}
 use Rattle.pool_driver.proofs.NoProgram.{no_program}
 use Rattle.pool_driver.proofs.OneFilePerText.{said_once}
 use Rattle.code_semantics.specs.declared.file.UnitFile.{UnitFile}
-use Rattle.pool_driver.specs.Ends.{Reaches, StaysWithin}
+use Rattle.command_shell.specs.Results as Results
+use Rattle.command_shell.proofs.Laws.{none_opened}
 use Rattle.pool_outside.specs.Reading.{AllRead, Reading}
 use Rattle.command_inputs.specs.declared.fault.InputError.TheVariants as T
 use Rattle.run_loop.specs.declared.loaded.Loaded.{Loaded}
 use Rattle.pool_gen.specs.Ring.{ring_placement, ring_program, ring_schedule}
 use Rattle.pool_driver.specs.Readers as D
 use Rattle.command_inputs.specs.Readers as J
-use Rattle.pool_driver.specs.Readers.{AreLinesOf, HasPlacementFault, HasRecordFault, HasScheduleFault, HasUnitFault, IsAcceptedPlacement, IsAcceptedSchedule, IsPlacedAs, IsScheduledAs, IsUnitOf, Loads, ResultsIn, Rings, Decides}
-use Rattle.command_inputs.specs.Readers.{IsProgramOf, Judges}
+use Rattle.pool_driver.specs.Readers.{HasPlacementFault, HasScheduleFault, HasUnitFault, IsAcceptedPlacement, IsAcceptedSchedule, IsPlacedAs, IsScheduledAs, IsUnitOf, Loads, ResultsIn, Rings, Decides}
+use Rattle.command_inputs.specs.Readers.{AreLinesOf, HasRecordFault, IsProgramOf, Judges}
 use Rattle.command_inputs.specs.Programs.{HasTypedFault, IsTypedProgram}
 
 -- for the same request
 pub makes_for : (k : Reading) (q r : Request) (result : Result Output InputError) → q ≡ r → ResultsIn k q result → ResultsIn k r result
 makes_for k q r result e h = subst (λ (x : Request). ResultsIn k x result) e h
-
--- the open at a place may be of the name of the input there
-pub may_at : (may later : ℕ → Text → Bool) (r : Request) (opens now place : ℕ) (input : Input) (name : Text) → MayOpen may opens r → later ≡ may → now ≡ opens + place
-    → slice_get (inputs r) place ≡ Some (input, name) → IsTrue (later now name)
-may_at may later r opens now place input name h same count at =
-    subst (λ (f : ℕ → Text → Bool). IsTrue (f now name)) (sym same) (subst (λ (k : ℕ). IsTrue (may k name)) (sym count) (h place input name at))
-
-pub none_opened : (opens : ℕ) → opens ≡ opens + 0
-none_opened opens = omega arith
-
-pub two_opened : (opens one two : ℕ) → one ≡ opens + 1 → two ≡ one + 1 → two ≡ opens + 2
-two_opened opens one two a b = omega arith
-
-pub three_opened : (opens one two three : ℕ) → one ≡ opens + 1 → two ≡ one + 1 → three ≡ two + 1 → three ≡ opens + 3
-three_opened opens one two three a b c = omega arith
-
--- the inputs of a run, one after another
-
-abbrev pub reaches_program : (k : Reading) (show : Show) (names : FileNames) → k.opened ≡ k.opens + 1 → Reaches k (of_run show names) I.Program names.program
-reaches_program k show names h =
-    record { before = []; behind = (I.Placement, names.placement) ∷ (I.Schedule, names.schedule) ∷ []; texts = []; place = refl; accepted = tt; opened = h }
-
-abbrev pub reaches_asked : (k : Reading) (ask : Ask) (name : Text) → k.opened ≡ k.opens + 1 → Reaches k (of_program ask name) I.Program name
-reaches_asked k ask name h = record { before = []; behind = []; texts = []; place = refl; accepted = tt; opened = h }
-
-abbrev pub reaches_placement : (k : Reading) (show : Show) (names : FileNames) (s : Text) → IsReadAs k.told I.Program names.program s → IsAccepted [] I.Program s → k.opened ≡ k.opens + 2
-    → Reaches k (of_run show names) I.Placement names.placement
-reaches_placement k show names s read accepted h =
-    record { before = (I.Program, names.program) ∷ []; behind = (I.Schedule, names.schedule) ∷ []; texts = s ∷ []; place = refl; accepted = (read, accepted, tt); opened = h }
-
-abbrev pub reaches_schedule : (k : Reading) (show : Show) (names : FileNames) (s t : Text) → IsReadAs k.told I.Program names.program s → IsAccepted [] I.Program s
-    → IsReadAs k.told I.Placement names.placement t → IsAccepted (s ∷ []) I.Placement t → k.opened ≡ k.opens + 3 → Reaches k (of_run show names) I.Schedule names.schedule
-reaches_schedule k show names s t read accepted read_second placed h = record {
-  before = (I.Program, names.program) ∷ (I.Placement, names.placement) ∷ [];
-  behind = [];
-  texts = s ∷ t ∷ [];
-  place = refl;
-  accepted = (read, accepted, (read_second, placed, tt));
-  opened = h;
-}
-
-abbrev pub reaches_record : (k : Reading) (name : Text) → k.opened ≡ k.opens + 1 → Reaches k (of_convert name) I.Record name
-reaches_record k name h = record { before = []; behind = []; texts = []; place = refl; accepted = tt; opened = h }
-
-abbrev pub reaches_judge : (k : Reading) (name other : Text) → k.opened ≡ k.opens + 1 → Reaches k (of_check name other) I.Program name
-reaches_judge k name other h = record { before = []; behind = (I.Record, other) ∷ []; texts = []; place = refl; accepted = tt; opened = h }
-
-abbrev pub reaches_judged : (k : Reading) (name other s : Text) → IsReadAs k.told I.Program name s → IsAccepted [] I.Program s → k.opened ≡ k.opens + 2
-    → Reaches k (of_check name other) I.Record other
-reaches_judged k name other s read accepted h =
-    record { before = (I.Program, name) ∷ []; behind = []; texts = s ∷ []; place = refl; accepted = (read, accepted, tt); opened = h }
-
-abbrev pub reaches_file : (k : Reading) (file place plan : Text) → k.opened ≡ k.opens + 1 → Reaches k (of_load file place plan) I.Unit file
-reaches_file k file place plan h =
-    record { before = []; behind = (I.Placement, place) ∷ (I.Schedule, plan) ∷ []; texts = []; place = refl; accepted = tt; opened = h }
-
-abbrev pub reaches_file_placement : (k : Reading) (file place plan s : Text) → IsReadAs k.told I.Unit file s → IsAccepted [] I.Unit s → k.opened ≡ k.opens + 2
-    → Reaches k (of_load file place plan) I.Placement place
-reaches_file_placement k file place plan s read accepted h =
-    record { before = (I.Unit, file) ∷ []; behind = (I.Schedule, plan) ∷ []; texts = s ∷ []; place = refl; accepted = (read, accepted, tt); opened = h }
-
-abbrev pub reaches_file_schedule : (k : Reading) (file place plan s t : Text) → IsReadAs k.told I.Unit file s → IsAccepted [] I.Unit s
-    → IsReadAs k.told I.Placement place t → IsAccepted (s ∷ []) I.Placement t → k.opened ≡ k.opens + 3 → Reaches k (of_load file place plan) I.Schedule plan
-reaches_file_schedule k file place plan s t read accepted read_second placed h = record {
-  before = (I.Unit, file) ∷ (I.Placement, place) ∷ [];
-  behind = [];
-  texts = s ∷ t ∷ [];
-  place = refl;
-  accepted = (read, accepted, (read_second, placed, tt));
-  opened = h;
-}
 
 -- a file that is refused
 pub file_fault : (s : Text) (f : Fault) → HasUnitFault s f → HasFault [] I.Unit s f
@@ -120,65 +47,6 @@ judged_fault source s f h = subst (λ (x : Fault). HasFault (source ∷ []) I.Re
 -- a record that is refused
 pub record_fault : (s : Text) (f : Fault) → HasRecordFault s f → HasFault [] I.Record s f
 record_fault s f h = subst (λ (x : Fault). HasFault [] I.Record s x) (sym h.1) h.2
-
--- no more than the limit of the input that was opened last, of which only these three numbers speak
-
-abbrev Within : ℕ → ℕ → ℕ → Request → Type 0
-Within opens opened given r = StaysWithin (record { told = λ name. None; opens = opens; opened = opened; given = given; live = false; faults = 0; failed = 0 }) r
-
-abbrev input_in : Input → Option (Input × Text) → Input
-input_in d None = d
-input_in d (Some i) = i.0
-
-within_limit : (given : ℕ) (input other : Input) (name name' : Text) → ◌≡◌ {A = Option (Input × Text)} (Some (other, name')) (Some (input, name)) → given ≤ limit_of other + one_read → given ≤ limit_of input + one_read
-within_limit given input other name name' e h = subst (λ (i : Input). given ≤ limit_of i + one_read) (ap (input_in other) e) h
-
-module _ (opens opened given : ℕ) where
-  pub run_within : (show : Show) (names : FileNames) → given ≤ most_bytes + one_read → Within opens opened given (of_run show names)
-  run_within show names h zero input name e n = within_limit given input I.Program name names.program e h
-  run_within show names h (suc zero) input name e n = within_limit given input I.Placement name names.placement e h
-  run_within show names h (suc (suc zero)) input name e n = within_limit given input I.Schedule name names.schedule e h
-  run_within show names h (suc (suc (suc place))) input name e n = absurd (cc)
-
-  pub program_within : (ask : Ask) (name : Text) → given ≤ most_bytes + one_read → Within opens opened given (of_program ask name)
-  program_within ask named h zero input name e n = within_limit given input I.Program name named e h
-  program_within ask named h (suc place) input name e n = absurd (cc)
-
-  pub file_within : (file place plan : Text) → opened ≡ opens + 1 → given ≤ most_of_unit + one_read → Within opens opened given (of_load file place plan)
-  file_within file place plan one h zero input name e n = within_limit given input I.Unit name file e h
-  file_within file place plan one h (suc zero) input name e n = absurd (omega (arith, one, n))
-  file_within file place plan one h (suc (suc zero)) input name e n = absurd (omega (arith, one, n))
-  file_within file place plan one h (suc (suc (suc at))) input name e n = absurd (cc)
-
-  pub load_within : (file place plan : Text) → given ≤ most_bytes + one_read → Within opens opened given (of_load file place plan)
-  load_within file place plan h zero input name e n = within_limit given input I.Unit name file e (omega (arith, h))
-  load_within file place plan h (suc zero) input name e n = within_limit given input I.Placement name place e h
-  load_within file place plan h (suc (suc zero)) input name e n = within_limit given input I.Schedule name plan e h
-  load_within file place plan h (suc (suc (suc at))) input name e n = absurd (cc)
-
-  pub ring_within : (cells : ℕ) → Within opens opened given (of_ring cells)
-  ring_within cells place input name e n = absurd (cc)
-
-  pub convert_within : (name : Text) → given ≤ most_of_record + one_read → Within opens opened given (of_convert name)
-  convert_within named h zero input name e n = within_limit given input I.Record name named e h
-  convert_within named h (suc place) input name e n = absurd (cc)
-
-  pub judge_within : (name other : Text) → opened ≡ opens + 1 → given ≤ most_bytes + one_read → Within opens opened given (of_check name other)
-  judge_within named other one h zero input name e n = within_limit given input I.Program name named e h
-  judge_within named other one h (suc zero) input name e n = absurd (omega (arith, one, n))
-  judge_within named other one h (suc (suc place)) input name e n = absurd (cc)
-
-  pub judged_within : (name other : Text) → opened ≡ opens + 2 → given ≤ most_of_record + one_read → Within opens opened given (of_check name other)
-  judged_within named other two h zero input name e n = absurd (omega (arith, two, n))
-  judged_within named other two h (suc zero) input name e n = within_limit given input I.Record name other e h
-  judged_within named other two h (suc (suc place)) input name e n = absurd (cc)
-
-  pub stays_for : (q r : Request) → q ≡ r → Within opens opened given q → Within opens opened given r
-  stays_for q r e h = subst (Within opens opened given) e h
-
-  -- where nothing was opened
-  pub none_within : (r : Request) → opened ≡ opens → Within opens opened given r
-  none_within r same place input name e n = absurd (omega (arith, same, n))
 
 -- a program that was read and compiled
 pub accepts : (s : Text) (u : Code) → IsUnitOf s u → IsAccepted [] I.Program s
@@ -305,15 +173,15 @@ ring_stops k stop (D.lacks e) = let same : stop ≡ T.Memory = cc in D.lacks (ap
 -- a ring opens nothing
 pub ring_makes : (k : Reading) (cells : ℕ) (result : Result Output InputError) → k.opened ≡ k.opens → k.live ≡ false → k.failed ≡ k.faults → Rings cells result → ResultsIn k (of_ring cells) result
 ring_makes k cells result opened ended calm (D.rings o e is printable) =
-    D.made o e (record { texts = []; accepted = tt; opened = opened ∙ none_opened k.opens; given = tt; ended = ended; calm = calm; output = is }) printable
-ring_makes k cells result opened ended calm (D.stops i f e w) = D.ring_refused i f e (record { cells = cells; ring = refl; why = w; opened = opened; calm = calm })
-ring_makes k cells result opened ended calm (D.lacks e) = D.memory e
+    Results.made o e (record { texts = []; accepted = tt; opened = opened ∙ none_opened k.opens; given = tt; ended = ended; calm = calm; output = is }) printable
+ring_makes k cells result opened ended calm (D.stops i f e w) = Results.unmade i f e (record { why = w; opened = opened; calm = calm })
+ring_makes k cells result opened ended calm (D.lacks e) = Results.memory e
 
 -- what comes of a program and a record, one after the other
 pub check_makes : (k : Reading) (name other s t : Text) (read : Parsed) (ls : List Line) (result : Result Output InputError) → IsReadAs k.told I.Program name s → IsProgramOf s read
     → faults (program_of read.program) ≡ [] → IsReadAs k.told I.Record other t → AreLinesOf read.names t ls → k.opened ≡ k.opens + 2 → length t ≡ k.given → k.live ≡ false → AllRead k
     → Decides read.names (program_of read.program) ls result → ResultsIn k (of_check name other) result
-check_makes k name other s t read ls result first is typed second lines opened given ended calm (D.decides o v e j only text status printable) = D.made o e (record {
+check_makes k name other s t read ls result first is typed second lines opened given ended calm (D.decides o v e j only text status printable) = Results.made o e (record {
   texts = s ∷ t ∷ [];
   accepted = (first, (program_of read.program, ((read.names, is.parsed), typed)), (second, lines.0, tt));
   opened = opened;
@@ -333,4 +201,4 @@ check_makes k name other s t read ls result first is typed second lines opened g
     ended = status;
   };
 }) printable
-check_makes k name other s t read ls result first is typed second lines opened given ended calm (D.lacks e) = D.memory e
+check_makes k name other s t read ls result first is typed second lines opened given ended calm (D.lacks e) = Results.memory e

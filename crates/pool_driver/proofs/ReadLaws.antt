@@ -1,4 +1,4 @@
--- The input at which a request stops, and the results of the readers of each input.
+-- The results of the readers of each input.
 use Rattle.std.proofs.Common.{◌≡◌, ◌∙◌, ◌⊎◌, List, [], Some, None, IfOk, IsOk, IsErr, inl, inr, Result, Ok, Err, ◌≢◌, refl, sym, ap}
 use Rattle.text_scan.specs.Text.{Text}
 use Rattle.pool_syntax.specs.TreeOf.{program_of}
@@ -20,10 +20,6 @@ use Rattle.schedule_reader.specs.declared.fault.ScheduleFault.TheVariants as Tim
 use Rattle.schedule_reader.specs.Schedules as Sch
 use Rattle.schedule_reader.specs.ReaderFacts as ReaderFactss
 use Rattle.schedule_reader.specs.Schedules.{schedule_of}
-use Rattle.run_record.specs.ReaderFacts.{ReportsFault}
-use Rattle.run_record.specs.Records as Rec
-use Rattle.run_record.specs.declared.fault.RecordFault.{RecordFault}
-use Rattle.run_record.specs.declared.fault.RecordFault.TheVariants as Lines
 use Rattle.command_inputs.specs.declared.fault.UnitFault.{UnitFault}
 use Rattle.command_inputs.specs.declared.fault.UnitFault.TheVariants as Filed
 use Rattle.pool_driver.specs.UnitFiles.{IsUnitFault}
@@ -33,27 +29,11 @@ use Rattle.command_inputs.specs.declared.fault.Fault.{Fault}
 use Rattle.command_inputs.specs.declared.fault.Fault.TheVariants as Why
 use Rattle.command_inputs.specs.declared.fault.InputError.{InputError}
 use Rattle.command_inputs.specs.declared.fault.InputError.TheVariants as T
-use Rattle.command_line.specs.Commands.{Request}
-use Rattle.pool_driver.specs.Inputs.{IsAccepted, HasFault, unit_of}
-use Rattle.pool_outside.specs.Reading.{Reading}
-use Rattle.pool_driver.specs.Ends.{Reaches}
-use Rattle.pool_driver.specs.Readers as R
+use Rattle.pool_driver.specs.Inputs.{unit_of}
 use Rattle.command_inputs.specs.Readers as J
-use Rattle.pool_driver.specs.Readers.{HasPlacementFault, HasRecordFault, HasScheduleFault, HasUnitFault, IsAcceptedPlacement, IsAcceptedRecord, IsAcceptedSchedule, IsAcceptedUnit, IsPlacedAs, IsScheduledAs, IsUnitOf, ResultsIn, stop_of_placement, stop_of_record, stop_of_schedule, stop_of_unit}
-use Rattle.command_inputs.proofs.Laws.{stops_as, judges_refusal}
-use Rattle.command_inputs.specs.Readers.{IsProgramOf, Judges, Reads}
-
-module _ {A : Type 0} (k : Reading) (input : Input) (name : Text) (P : Text → Type 0) (F : Text → Fault → Type 0) (Is : Text → A → Type 0) where
-  -- an input at which a request stops
-  pub stops_at : (r : Request) (stop : InputError) (reached : Reaches k r input name) → ((s : Text) (f : Fault) → F s f → HasFault reached.texts input s f) → ((s : Text) → IsAccepted reached.texts input s → P s)
-      → Reads k input name P F Is (Err stop) → ResultsIn k r (Err stop)
-  stops_at r stop reached fault accept (J.read s a e w i c) = absurd (cc)
-  stops_at r stop reached fault accept (J.refused f e w c) =
-      let same : stop ≡ T.Refused input f = cc in
-      R.refused input f (ap Err same) (record { name = name; reached = reached; why = stops_as k input name P (IsAccepted reached.texts input) F (HasFault reached.texts input) f fault accept w; calm = c })
-  stops_at r stop reached fault accept (J.unread e rose w) =
-      let same : stop ≡ T.Unread input = cc in R.unread input (ap Err same) (record { name = name; reached = reached; rose = rose; within = w })
-  stops_at r stop reached fault accept (J.memory e) = let same : stop ≡ T.Memory = cc in R.memory (ap Err same)
+use Rattle.pool_driver.specs.Readers.{HasPlacementFault, HasScheduleFault, HasUnitFault, IsAcceptedPlacement, IsAcceptedSchedule, IsAcceptedUnit, IsPlacedAs, IsScheduledAs, IsUnitOf, stop_of_placement, stop_of_schedule, stop_of_unit}
+use Rattle.command_inputs.proofs.Laws.{judges_refusal}
+use Rattle.command_inputs.specs.Readers.{IsProgramOf, Judges}
 
 -- what the compiler says of a program that was read
 pub unit_judged : (s : Text) (read : Parsed) (result : Result Code InputError) → IsProgramOf s read → IfOk result (λ u. u ≡ unit_of read.names (program_of read.program)) → IfOk result (λ u. IsProper u)
@@ -101,19 +81,6 @@ schedule_refused l s (Timed.NoSuchLink line) stop e told = schedule_fails l s (T
 schedule_refused l s (Timed.OutOfRange line) stop e told = schedule_fails l s (Timed.OutOfRange line) stop e told
 schedule_refused l s (Timed.TooManyEvents count) stop e told = schedule_fails l s (Timed.TooManyEvents count) stop e told
 schedule_refused l s Timed.Memory stop e told = J.forgets (ap Err e)
-
--- and the reader of a record
-
-module _ {A : Type 0} (To : Text → A → Type 0) where
-  record_fails : (s : Text) (f : RecordFault) (stop : InputError) → stop ≡ T.Refused I.Record (Why.Record f) → (Rec.record_of s).fault ≡ Some f
-      → Judges I.Record IsAcceptedRecord HasRecordFault To s (Err stop)
-  record_fails s f stop e told = J.fails (Why.Record f) (ap Err e) (f, refl, told) (λ q. let z : None ≡ Some f = sym q ∙ told in cc)
-
-  pub record_refused : (s : Text) (f : RecordFault) (stop : InputError) → stop ≡ stop_of_record f → ReportsFault f (Rec.record_of s).fault → Judges I.Record IsAcceptedRecord HasRecordFault To s (Err stop)
-  record_refused s (Lines.BadLine line) stop e told = record_fails s (Lines.BadLine line) stop e told
-  record_refused s (Lines.OutOfOrder line) stop e told = record_fails s (Lines.OutOfOrder line) stop e told
-  record_refused s (Lines.WrongAsk line) stop e told = record_fails s (Lines.WrongAsk line) stop e told
-  record_refused s Lines.Memory stop e told = J.forgets (ap Err e)
 
 -- and of an object code file
 

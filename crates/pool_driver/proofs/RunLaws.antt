@@ -265,7 +265,7 @@ module _ (source place text : Text) (f : UnitFile) (l : Placement) (plan : Plan)
   code_over d = record_at (coded f.unit) l plan.quantum (M.start (coded f.unit) l) d plan.events
 
   abbrev IsCodeRunOver : Delay → Type 0
-  IsCodeRunOver d = (c : Config Placed) × (M.start (coded f.unit) l ≡ Some c) × IsCodeRun f l c (code_over d)
+  IsCodeRunOver d = (c : Config Placed) × (M.start (coded f.unit) l ≡ Some c) × IsCodeRun f l plan.quantum c d (code_over d)
 
   file_on : IsPlanOn l plan
   file_on = plan_is_on l text plan scheduled

@@ -1,101 +1,36 @@
--- How a call of `pool` ends: the state of its inputs, and the text on its two sinks.
-use Rattle.std.specs.Prelude.{◌≡◌, ℕ, ◌+◌, ◌≤◌, List, [], ◌∷◌, ◌++◌, length, slice_get, Option, Some, None, false}
-use Rattle.pool_outside.specs.Outside.{Rose}
+-- How a call of `pool` ends, by the definition for programs.
+use Rattle.std.specs.Prelude.{ℕ, Option}
 use Rattle.text_scan.specs.Text.{Text}
-use Rattle.run_loop.specs.declared.status.Status.{Status}
-use Rattle.run_loop.specs.declared.status.Status.TheVariants as S
-use Rattle.pool_outside.specs.Reading.{Reading, AllRead}
-pub use Rattle.pool_outside.specs.Reading.{reading}
-use Rattle.pool_outside.specs.Writing.{Writing, IsIdle, Wrote, WroteFront}
 use Rattle.command_inputs.specs.declared.fault.Input.{Input}
 use Rattle.command_inputs.specs.declared.fault.Fault.{Fault}
+use Rattle.command_inputs.specs.FaultText.{usage_line}
 use Rattle.command_line.specs.Commands.{Request, of_ring}
+use Rattle.command_shell.specs.declared.status.Status.{Status}
+use Rattle.command_shell.specs.Programs.{Program}
+use Rattle.command_shell.specs.Ends as Shell
 use Rattle.pool_gen.specs.Ring.{ring_placement, ring_program, ring_schedule}
-use Rattle.command_inputs.specs.FaultText.{refusal_line, unread_line, usage_line}
-use Rattle.command_inputs.specs.Inputs.{limit_of, one_read, Stops}
-use Rattle.pool_driver.specs.Inputs.{inputs, IsAccepted, HasFault, StopAt, WereAccepted}
+use Rattle.pool_outside.specs.Reading.{Reading}
+pub use Rattle.pool_outside.specs.Reading.{reading}
+use Rattle.pool_outside.specs.Writing.{Writing}
+use Rattle.pool_driver.specs.Inputs.{inputs, IsAccepted, HasFault, StopAt}
 use Rattle.pool_driver.specs.Outputs.{IsOutput}
 
--- The input that was opened last has given at most its limit and
--- one read. It has this place among the inputs of the request.
-abbrev pub StaysWithin : Reading → Request → Type 0
-StaysWithin k r =
-    (place : ℕ) (input : Input) (name : Text) → slice_get (inputs r) place ≡ Some (input, name) → k.opened ≡ k.opens + (place + 1) → k.given ≤ limit_of input + one_read
+-- of the generated texts of a ring this is the first that is not accepted, with its fault; no other command generates texts
+abbrev pub IsUnfit : Request → Input → Fault → Type 0
+IsUnfit (of_ring k) input fault = StopAt (ring_program k) ring_placement (ring_schedule k) input fault
+IsUnfit _ input fault = ⊥
 
--- The inputs of the request up to this one were opened, each
--- once and in order. Those before it were read and are accepted.
-pub record Reaches (k : Reading) (r : Request) (input : Input) (name : Text) : Type 0 where
-  pub before : List (Input × Text)
-  pub behind : List (Input × Text)
-  pub texts : List Text
-  pub place : inputs r ≡ before ++ (input, name) ∷ behind
-  pub accepted : WereAccepted k.told [] before texts
-  pub opened : k.opened ≡ k.opens + (length before + 1)
+-- the program `pool`
+abbrev pub pool_program : Program
+pool_program = record {
+  Request = Request;
+  inputs = inputs;
+  IsAccepted = IsAccepted;
+  HasFault = HasFault;
+  IsUnfit = IsUnfit;
+  IsOutput = IsOutput;
+  usage = usage_line;
+}
 
--- this is the first input that is not accepted; it has this fault, and no read failed
-pub record IsRefused (k : Reading) (r : Request) (input : Input) (fault : Fault) : Type 0 where
-  pub name : Text
-  pub reached : Reaches k r input name
-  pub why : Stops k input name (IsAccepted reached.texts input) (HasFault reached.texts input) fault
-  pub calm : AllRead k
-
--- a read of this input failed, after at most its limit was given
-pub record IsUnread (k : Reading) (r : Request) (input : Input) : Type 0 where
-  pub name : Text
-  pub reached : Reaches k r input name
-  pub rose : Rose k.faults k.failed
-  pub within : k.given ≤ limit_of input
-
--- the length of the last text
-abbrev pub last_length : List Text → ℕ
-last_length [] = 0
-last_length (s ∷ []) = length s
-last_length (s ∷ t ∷ ts) = last_length (t ∷ ts)
-
--- the number of bytes that were given since the last open, if there was one
-abbrev pub HasGiven : List Text → ℕ → Type 0
-HasGiven [] given = Unit {0}
-HasGiven (s ∷ ss) given = last_length (s ∷ ss) ≡ given
-
--- All inputs of the request were opened, each once and in order,
--- and read to their ends. No read failed, and each is accepted.
--- The text is the output of the request.
-pub record IsAnswered (k : Reading) (r : Request) (text : Text) (status : Status) : Type 0 where
-  pub texts : List Text
-  pub accepted : WereAccepted k.told [] (inputs r) texts
-  pub opened : k.opened ≡ k.opens + length (inputs r)
-  pub given : HasGiven texts k.given
-  pub ended : k.live ≡ false
-  pub calm : AllRead k
-  pub output : IsOutput r texts text status
-
--- the arguments are not a command, and nothing was opened
-pub record IsNoCommand (k : Reading) (words : Option Request) : Type 0 where
-  pub none : words ≡ None
-  pub opened : k.opened ≡ k.opens
-  pub calm : AllRead k
-
--- nothing was opened; this is the first text of the ring that is not accepted, with its fault
-pub record IsRingRefused (k : Reading) (r : Request) (input : Input) (fault : Fault) : Type 0 where
-  pub cells : ℕ
-  pub ring : r ≡ of_ring cells
-  pub why : StopAt (ring_program cells) ring_placement (ring_schedule cells) input fault
-  pub opened : k.opened ≡ k.opens
-  pub calm : AllRead k
-
--- A line for the error sink, its cause, and the status with which it is written.
-pub data Says (k : Reading) (words : Option Request) (line : Text) (status : Status) : Type 0 where
-  usage : IsNoCommand k words → line ≡ usage_line → status ≡ S.Usage → Says k words line status
-  refusal : (r : Request) (input : Input) (fault : Fault) → words ≡ Some r → IsRefused k r input fault → line ≡ refusal_line input fault → status ≡ S.Refused → Says k words line status
-  ring_refusal : (r : Request) (input : Input) (fault : Fault) → words ≡ Some r → IsRingRefused k r input fault → line ≡ refusal_line input fault → status ≡ S.Refused → Says k words line status
-  unread : (r : Request) (input : Input) → words ≡ Some r → IsUnread k r input → line ≡ unread_line input → status ≡ S.ReadFault → Says k words line status
-
--- How a call ends. Either the output was written whole, or a line was written to the error sink and no output.
--- Or a failed write cut one of the two off.
--- Or memory ran out before anything was written; reading the arguments takes memory too.
-pub data Ends (words : Option Request) (files : Reading) (out err : Writing) (status : Status) : Type 0 where
-  whole : (r : Request) (text : Text) → words ≡ Some r → IsAnswered files r text status → Wrote out text → IsIdle err → Ends words files out err status
-  said : (line : Text) → Says files words line status → Wrote err line → IsIdle out → Ends words files out err status
-  cut : (r : Request) (text : Text) (planned : Status) → words ≡ Some r → IsAnswered files r text planned → WroteFront out text → IsIdle err → status ≡ S.WriteFault → Ends words files out err status
-  line_cut : (line : Text) (planned : Status) → Says files words line planned → WroteFront err line → IsIdle out → status ≡ S.WriteFault → Ends words files out err status
-  no_memory : IsIdle out → IsIdle err → status ≡ S.Memory → Ends words files out err status
+abbrev pub Ends : Option Request → Reading → Writing → Writing → Status → Type 0
+Ends words files out err status = Shell.Ends pool_program words files out err status

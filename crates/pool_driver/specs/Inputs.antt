@@ -1,5 +1,5 @@
 -- The inputs of a request: their order and names, when the text of an input is accepted, and which fault it has.
-use Rattle.std.specs.Prelude.{◌≡◌, ℕ, ◌+◌, ◌≤◌, List, [], ◌∷◌, ◌++◌, length, slice_get, Some, None, Ok, Bool, IsTrue, ◌⊎◌}
+use Rattle.std.specs.Prelude.{◌≡◌, List, [], ◌∷◌, Some, None, Ok, ◌⊎◌}
 use Rattle.text_scan.specs.Text.{Text}
 use Rattle.pool_syntax.specs.Terms.{ProgramTree}
 use Rattle.pool_syntax.specs.Typing.{faults}
@@ -20,7 +20,7 @@ use Rattle.command_inputs.specs.declared.fault.Fault.TheVariants as F
 use Rattle.run_record.specs.Records.{record_of}
 use Rattle.command_line.specs.Commands.{Request, of_run, of_program, of_ring, of_convert, of_check, of_load}
 use Rattle.pool_outside.specs.Reading.{Told}
-use Rattle.command_inputs.specs.Inputs.{limit_of, IsReadAs}
+use Rattle.command_shell.specs.Programs.{AreServed}
 use Rattle.command_inputs.specs.Programs.{IsParsed, IsTextOf, IsTypedText, IsFaultOfText, IsFaultOfClasses}
 
 -- the inputs of a request with the names of their files, in the order of reading
@@ -31,10 +31,6 @@ inputs (of_ring k) = []
 inputs (of_convert name) = (I.Record, name) ∷ []
 inputs (of_check name record_name) = (I.Program, name) ∷ (I.Record, record_name) ∷ []
 inputs (of_load unit_name place_name plan_name) = (I.Unit, unit_name) ∷ (I.Placement, place_name) ∷ (I.Schedule, plan_name) ∷ []
-
--- the next opens may be of the inputs, in their order
-abbrev pub MayOpen : (ℕ → Text → Bool) → ℕ → Request → Type 0
-MayOpen may opens r = (place : ℕ) (input : Input) (name : Text) → slice_get (inputs r) place ≡ Some (input, name) → IsTrue (may (opens + place) name)
 
 -- the code of a program, with the table of its names
 abbrev pub unit_of : List Text → ProgramTree → Code
@@ -84,18 +80,6 @@ HasFault [] I.Record s (F.Record f) = (record_of s).fault ≡ Some f
 HasFault (source ∷ []) I.Record s (F.Record f) = (record_of s).fault ≡ Some f
 HasFault _ _ s f = ⊥
 
--- these texts were read as these inputs, and each is accepted, given the texts before it
-abbrev pub WereAccepted : Told → List Text → List (Input × Text) → List Text → Type 0
-WereAccepted told earlier [] [] = Unit {0}
-WereAccepted told earlier (i ∷ is) (s ∷ ss) = IsReadAs told i.0 i.1 s × IsAccepted earlier i.0 s × WereAccepted told (earlier ++ s ∷ []) is ss
-WereAccepted told earlier _ _ = ⊥
-
--- each input has a file with a text within the limit, which is accepted, given the texts before it
-abbrev pub AreServed : Told → List Text → List (Input × Text) → Type 0
-AreServed told earlier [] = Unit {0}
-AreServed told earlier (i ∷ is) =
-    (s : Text) × (told i.1 ≡ Some s) × (length s ≤ limit_of i.0) × IsAccepted earlier i.0 s × AreServed told (earlier ++ s ∷ []) is
-
 -- these three texts are accepted, each given those before it
 abbrev pub AreAccepted : Text → Text → Text → Type 0
 AreAccepted program placement schedule =
@@ -114,9 +98,9 @@ StopAt program placement schedule I.Unit f = ⊥
 
 -- all inputs of the request are accepted; a ring has no inputs, and its generated texts are accepted
 abbrev pub IsServable : Told → Request → Type 0
-IsServable told (of_run show names) = AreServed told [] (inputs (of_run show names))
-IsServable told (of_program ask name) = AreServed told [] (inputs (of_program ask name))
-IsServable told (of_convert name) = AreServed told [] (inputs (of_convert name))
-IsServable told (of_check name record_name) = AreServed told [] (inputs (of_check name record_name))
-IsServable told (of_load unit_name place_name plan_name) = AreServed told [] (inputs (of_load unit_name place_name plan_name))
+IsServable told (of_run show names) = AreServed IsAccepted told [] (inputs (of_run show names))
+IsServable told (of_program ask name) = AreServed IsAccepted told [] (inputs (of_program ask name))
+IsServable told (of_convert name) = AreServed IsAccepted told [] (inputs (of_convert name))
+IsServable told (of_check name record_name) = AreServed IsAccepted told [] (inputs (of_check name record_name))
+IsServable told (of_load unit_name place_name plan_name) = AreServed IsAccepted told [] (inputs (of_load unit_name place_name plan_name))
 IsServable told (of_ring k) = AreAccepted (ring_program k) ring_placement (ring_schedule k)

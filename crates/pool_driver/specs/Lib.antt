@@ -10,3 +10,4 @@ pub mod UnitFiles
 pub mod Commands
 pub mod Readers
 pub mod UnitOfFile
+pub mod FirstFault

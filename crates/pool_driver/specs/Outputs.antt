@@ -7,8 +7,9 @@ use Rattle.object_code.specs.FileBytes.{file_bytes}
 use Rattle.object_code.specs.Listing.{listing}
 use Rattle.pool_printer.specs.Canonical.{canonical}
 use Rattle.record_writer.specs.SecondForm.{text2}
-use Rattle.run_loop.specs.declared.status.Status.{Status}
-use Rattle.run_loop.specs.declared.status.Status.TheVariants as S
+use Rattle.command_shell.specs.declared.status.Status.{Status}
+use Rattle.command_shell.specs.declared.status.Status.TheVariants as S
+use Rattle.command_shell.specs.Verdicts.{status_of_verdict}
 use Rattle.command_line.specs.declared.command.Show.{Show}
 use Rattle.command_line.specs.declared.command.Show.TheVariants as Sh
 use Rattle.command_line.specs.declared.command.Ask.{Ask}
@@ -24,7 +25,6 @@ use Rattle.run_loop.specs.Shown.{ends_text, ring_text, status_of, writes_text}
 use Rattle.pool_gen.specs.Ring.{ring_placement, ring_program, ring_schedule}
 use Rattle.wait_report.specs.Report.{report_text}
 use Rattle.run_types.specs.declared.verdicts.Verdict.{Verdict}
-use Rattle.run_types.specs.declared.verdicts.Verdict.TheVariants as V
 use Rattle.record_check.specs.RecordJudgement.{Judged}
 use Rattle.record_check.specs.VerdictText.{verdict_text}
 use Rattle.compiler_correctness.specs.DeclaredKinds.{file_of}
@@ -77,12 +77,6 @@ pub record IsCarriedOver (s text : Text) : Type 0 where
   pub faultless : (Rec.record_of s).fault ≡ None
   pub written : text ≡ text2 (names_after [] (Rec.record_of s).told) (lines_after [] (Rec.record_of s).told)
 
--- the status of a verdict: a run, or not
-abbrev pub status_of_verdict : Verdict → Status
-status_of_verdict V.Yes = S.Done
-status_of_verdict (V.No number redex) = S.DoneFaulted
-status_of_verdict (V.Moving o) = S.DoneFaulted
-
 -- The program has no class faults, and the record has no fault. Its lines, read with the program's
 -- names, have this verdict and no other. The text is the line of the verdict, with its status.
 pub record IsVerdictOn (source s : Text) (text : Text) (status : Status) : Type 0 where
@@ -114,7 +108,3 @@ IsOutput (of_convert name) (s ∷ []) text status = IsCarriedOver s text × (sta
 IsOutput (of_check name record_name) (program ∷ s ∷ []) text status = IsVerdictOn program s text status
 IsOutput (of_load unit_name place_name plan_name) (source ∷ placement ∷ schedule ∷ []) text status = IsLoadOf source placement schedule text status
 IsOutput r _ text status = ⊥
-
--- the status says that the whole text was written
-abbrev pub WholeTextWritten : Status → Type 0
-WholeTextWritten status = (status ≡ S.Done) ⊎ ((status ≡ S.DoneFaulted) ⊎ ((status ≡ S.ScheduleOver) ⊎ (status ≡ S.Full)))

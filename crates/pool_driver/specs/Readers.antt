@@ -24,8 +24,6 @@ use Rattle.std.specs.List.{All}
 use Rattle.run_types.specs.Asks.{asks}
 use Rattle.record_writer.specs.SecondForm.{text2}
 use Rattle.record_writer.specs.Writable.{IsWritable}
-use Rattle.run_record.specs.declared.fault.RecordFault.{RecordFault}
-use Rattle.run_record.specs.declared.fault.RecordFault.TheVariants as RecordFaults
 use Rattle.run_record.specs.Numbered.{lines_after, names_after}
 use Rattle.run_record.specs.Records as Rec
 use Rattle.pool_driver.specs.declared.converted.Recorded.{Recorded}
@@ -38,10 +36,10 @@ use Rattle.command_inputs.specs.declared.fault.InputError.{InputError}
 use Rattle.command_inputs.specs.declared.fault.InputError.TheVariants as T
 use Rattle.pool_driver.specs.declared.outputs.Output.{Output}
 use Rattle.pool_driver.specs.declared.outputs.Output.TheVariants as O
-use Rattle.run_loop.specs.declared.status.Status.{Status}
-use Rattle.run_loop.specs.declared.status.Status.TheVariants as S
+use Rattle.command_shell.specs.declared.status.Status.{Status}
+use Rattle.command_shell.specs.declared.status.Status.TheVariants as S
+use Rattle.command_shell.specs.Verdicts.{status_of_verdict}
 use Rattle.command_line.specs.Commands.{Request}
-use Rattle.command_inputs.specs.FaultText.{refusal_line, unread_line}
 use Rattle.pool_driver.specs.Inputs.{IsCodeOf, StopAt}
 use Rattle.pool_driver.specs.UnitFiles.{IsUnitFault, IsVerifiedFile}
 use Rattle.code_semantics.specs.declared.file.UnitFile.{UnitFile}
@@ -50,25 +48,21 @@ use Rattle.command_inputs.specs.declared.fault.UnitFault.TheVariants as Filed
 use Rattle.run_loop.specs.RunOutput.{IsLoaded}
 use Rattle.run_loop.specs.Shown.{ring_text, status_of}
 use Rattle.run_loop.specs.Loading.{lines_of, run_text}
-use Rattle.pool_driver.specs.Outputs.{IsRingOf, status_of_verdict}
+use Rattle.pool_driver.specs.Outputs.{IsRingOf}
 use Rattle.run_types.specs.declared.verdicts.Verdict.{Verdict}
 use Rattle.record_check.specs.RecordJudgement.{Judged}
 use Rattle.record_check.specs.VerdictText.{verdict_text}
 use Rattle.pool_gen.specs.Ring.{ring_placement, ring_program, ring_schedule}
 use Rattle.pool_syntax.specs.Terms.{ProgramTree}
 use Rattle.pool_outside.specs.Reading.{Reading}
-use Rattle.pool_driver.specs.Ends.{IsRefused, IsRingRefused, IsUnread, IsAnswered}
-use Rattle.run_loop.specs.Writing.{Writing, IsIdle, Writes}
+use Rattle.pool_driver.specs.Ends.{pool_program}
+use Rattle.command_shell.specs.Results as Results
 
 -- out of memory is not a fault of the text
 
 abbrev pub stop_of_placement : PlacementFault → InputError
 stop_of_placement Place.Memory = T.Memory
 stop_of_placement f = T.Refused I.Placement (F.Placement f)
-
-abbrev pub stop_of_record : RecordFault → InputError
-stop_of_record RecordFaults.Memory = T.Memory
-stop_of_record f = T.Refused I.Record (F.Record f)
 
 abbrev pub stop_of_schedule : ScheduleFault → InputError
 stop_of_schedule Timed.Memory = T.Memory
@@ -117,12 +111,6 @@ HasUnitFault s f = (g : UnitFault) × (f ≡ F.Unit g) × IsUnitFault s g
 
 -- a record of either form, with the table of the names in its lines
 
-abbrev pub IsAcceptedRecord : Text → Type 0
-IsAcceptedRecord s = (Rec.record_of s).fault ≡ None
-
-abbrev pub HasRecordFault : Text → Fault → Type 0
-HasRecordFault s f = (g : RecordFault) × (f ≡ F.Record g) × ((Rec.record_of s).fault ≡ Some g)
-
 -- the lines can be written with the table, and these are their request numbers
 pub record IsShowable (r : Recorded) : Type 0 where
   pub writable : All (IsWritable r.names) r.lines
@@ -133,10 +121,6 @@ pub record IsRecordOf (s : Text) (r : Recorded) : Type 0 where
   pub lines : r.lines ≡ lines_after [] (Rec.record_of s).told
   pub names : r.names ≡ names_after [] (Rec.record_of s).told
   pub showable : IsShowable r
-
--- the lines of a record, read with these names
-abbrev pub AreLinesOf : List Text → Text → List Line → Type 0
-AreLinesOf names s ls = ((Rec.record_of s).fault ≡ None) × (ls ≡ lines_after names (Rec.record_of s).told)
 
 -- the text of an output, and its status
 abbrev pub text_of : Output → Text
@@ -187,15 +171,5 @@ pub data Decides (names : List Text) (p : ProgramTree) (ls : List Line) (result 
   lacks : result ≡ Err T.Memory → Decides names p ls result
 
 -- the results for the inputs of a request
-pub data ResultsIn (k : Reading) (r : Request) (result : Result Output InputError) : Type 0 where
-  made : (o : Output) → result ≡ Ok o → IsAnswered k r (text_of o) (status_of_output o) → IsPrintable o → ResultsIn k r result
-  refused : (input : Input) (f : Fault) → result ≡ Err (T.Refused input f) → IsRefused k r input f → ResultsIn k r result
-  ring_refused : (input : Input) (f : Fault) → result ≡ Err (T.Refused input f) → IsRingRefused k r input f → ResultsIn k r result
-  unread : (input : Input) → result ≡ Err (T.Unread input) → IsUnread k r input → ResultsIn k r result
-  memory : result ≡ Err T.Memory → ResultsIn k r result
-
--- a line with the reason was written, or a prefix of it; or memory ran out and nothing was written
-pub data ReportsInputError (k : Writing) (stop : InputError) (status : Status) : Type 0 where
-  refusal : (input : Input) (f : Fault) → stop ≡ T.Refused input f → Writes k (refusal_line input f) S.Refused status → ReportsInputError k stop status
-  unread : (input : Input) → stop ≡ T.Unread input → Writes k (unread_line input) S.ReadFault status → ReportsInputError k stop status
-  memory : status ≡ S.Memory → IsIdle k → ReportsInputError k stop status
+abbrev pub ResultsIn : Reading → Request → Result Output InputError → Type 0
+ResultsIn k r result = Results.ResultsIn pool_program text_of status_of_output IsPrintable k r result

@@ -68,14 +68,14 @@ pub record CodeMeaning (source place plan : Text) : Type 0 where
 abbrev pub code_record_of : {source place plan : Text} → CodeMeaning source place plan → M.Record Placed
 code_record_of m = record_over (coded m.file.unit) m.layout m.schedule
 
--- The lines show one run of the relation over objects of code,
--- in which no object goes wrong. Their text can be read back.
+-- The lines show one run of the relation over objects of code, in which no object goes wrong.
+-- Each event line was made where the lines before it lead. Their text can be read back.
 -- Each line that answers a request has the number, above 0, of a line that posts this request.
 -- If the links are wires, each has delivered a prefix of the packets that entered it, in order. No program is named.
 pub record ShowsCodeRun {source place plan : Text} (m : CodeMeaning source place plan) : Type 0 where
   pub first : Config Placed
   pub starts : M.start (coded m.file.unit) m.layout ≡ Some first
-  pub run : IsCodeRun m.file m.layout first (code_record_of m)
+  pub run : IsCodeRun m.file m.layout m.schedule.quantum first (nothing_sent m.schedule.lossy) (code_record_of m)
   pub readable : IsRecord m.file.unit.names (code_record_of m).lines
   pub answers : EachAnswersPost (code_record_of m).lines
   pub wires : KeepsWires (code_record_of m).delay

@@ -1,15 +1,15 @@
 //! Reads a record of either form, and writes it in the second form.
-ghost use Rattle.std.specs.Prelude.{◌≡◌, ◌<◌, ◌^◌, ◌≤◌, length, OnErr, OnOk};
+ghost use Rattle.std.specs.Prelude.{◌≡◌, ◌≤◌, length, OnErr, OnOk};
 ghost use Rattle.std.specs.List.{All};
 ghost use Rattle.record_writer.specs.SecondForm.{lines_text2, text2};
 ghost use Rattle.record_writer.specs.Writable.{IsWritable};
-ghost use Rattle.run_loop.specs.Writing.{Wrote, WroteFront, writing};
-ghost use Rattle.pool_driver.specs.Readers.{AreLinesOf, HasRecordFault, IsAcceptedRecord, IsRecordOf, IsShowable, stop_of_record};
-ghost use Rattle.command_inputs.specs.Readers.{Judges};
+ghost use Rattle.command_shell.specs.Writing.{Wrote, WroteFront, writing};
+ghost use Rattle.pool_driver.specs.Readers.{IsRecordOf, IsShowable};
+ghost use Rattle.command_inputs.specs.Readers.{HasRecordFault, IsAcceptedRecord, Judges};
 
-use command_inputs::{Fault, Input, InputError};
+use command_inputs::{Input, InputError, record_stop};
 use pool_outside::{Sink, Text, WriteFault};
-use run_record::{RecordFault, asks_of, read_record, write_form, write_line2};
+use run_record::{asks_of, read_record, write_form, write_line2};
 use run_types::{Line, List, Names};
 use std::alloc::{AllocError, Global};
 
@@ -19,19 +19,6 @@ pub struct Recorded {
     pub lines: List<Line>,
     pub asks: List<u32>,
     pub names: Names,
-}
-
-/// The input error for a fault of a record.
-fn record_stop(fault: RecordFault) -> InputError
-    ensures { result ≡ stop_of_record fault }
-{
-    match fault {
-        RecordFault::Memory => InputError::Memory,
-        _ => InputError::Refused {
-            input: Input::Record,
-            fault: Fault::Record(fault),
-        },
-    }
 }
 
 /// Reads a record, and computes the request numbers of its lines. At most 64 MiB of bytes.
@@ -48,23 +35,6 @@ pub fn judge_record(alloc: Global, bytes: &[u8]) -> Result<Recorded, InputError>
     match asks_of(alloc, &lines) {
         Ok(asks) => Ok(Recorded { lines, asks, names }),
         Err(AllocError) => Err(InputError::Memory),
-    }
-}
-
-/// Reads the lines of a record with a copy of these names. Requires at most 64 MiB of bytes and fewer than 2^31 names.
-/// Reports the first fault of the text, or out of memory.
-pub fn judge_lines(alloc: Global, bytes: &[u8], names: &Names) -> Result<List<Line>, InputError>
-    requires small { length bytes.now ≤ 67108864 }
-    requires few { length names.now < 2 ^ 31 }
-    ensures { Judges Input.Record IsAcceptedRecord HasRecordFault (AreLinesOf names.now) bytes.now result }
-{
-    let mut copy = match names.copy() {
-        Ok(copy) => copy,
-        Err(AllocError) => return Err(InputError::Memory),
-    };
-    match read_record(alloc, bytes, &mut copy) {
-        Ok(lines) => Ok(lines),
-        Err(fault) => Err(record_stop(fault)),
     }
 }
 

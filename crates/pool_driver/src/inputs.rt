@@ -1,14 +1,12 @@
 //! Reads the inputs, each once, and checks each.
-ghost use Rattle.pool_driver.specs.Ends.{reading};
-ghost use Rattle.std.specs.Prelude.{◌≡◌, ◌<◌, ◌+◌, ◌-◌, ◌^◌, ◌≤◌, IsTrue, length, true};
-ghost use Rattle.command_inputs.specs.Inputs.{most_bytes, most_of_record, most_of_unit, one_read};
+ghost use Rattle.std.specs.Prelude.{◌≡◌, ◌<◌, ◌-◌, ◌^◌, ◌≤◌, IsTrue, length};
 ghost use Rattle.pool_driver.specs.UnitOfFile.{IsUnitOfFile};
-ghost use Rattle.pool_driver.specs.Readers.{AreLinesOf, HasPlacementFault, HasRecordFault, HasScheduleFault, HasUnitFault, IsAcceptedPlacement, IsAcceptedRecord, IsAcceptedSchedule, IsAcceptedUnit};
+ghost use Rattle.pool_driver.specs.Readers.{HasPlacementFault, HasScheduleFault, HasUnitFault, IsAcceptedPlacement, IsAcceptedSchedule, IsAcceptedUnit};
 ghost use Rattle.pool_driver.specs.Readers.{IsPlacedAs, IsRecordOf, IsScheduledAs, IsUnitOf, Loads, stop_of_placement, stop_of_schedule, stop_of_unit};
-ghost use Rattle.command_inputs.specs.Readers.{Judges, Reads};
+ghost use Rattle.command_inputs.specs.Readers.{HasRecordFault, IsAcceptedRecord, Judges, ReadsInput, opening};
 ghost use Rattle.command_inputs.specs.Programs.{HasTypedFault, IsTypedProgram};
 
-use crate::converted::{Recorded, judge_lines, judge_record};
+use crate::converted::{Recorded, judge_record};
 use crate::program::code_of;
 use crate::unit_reader::read_unit as read_verified;
 use code_semantics::Unit;
@@ -16,7 +14,7 @@ use command_inputs::{Fault, Input, InputError, UnitFault, read_input, read_parse
 use placement_reader::{PlacementFault, read_placement};
 use pool_outside::Files;
 use run_loop::Loaded;
-use run_types::{Line, List, Names, Placement};
+use run_types::Placement;
 use schedule_reader::{Schedule, ScheduleFault, read_schedule};
 use std::alloc::Global;
 
@@ -64,20 +62,13 @@ fn unit_stop(fault: UnitFault) -> InputError
 pub fn read_file<F: Files>(alloc: Global, files: &mut F, name: &str) -> Result<Unit, InputError>
     requires allowed { IsTrue (F.may files.old (F.opens files.old) name.now) }
     requires countable { F.opens files.old < 2 ^ 64 - 1 }
-    ensures reads { Reads (reading F.told F.opens F.given F.live F.faults files.old files.new) Input.Unit name.now IsAcceptedUnit HasUnitFault IsUnitOfFile result }
-    ensures opened_once { F.opens files.new ≡ F.opens files.old + 1 }
-    ensures unread_within { F.given files.new ≤ most_of_unit + one_read }
-    ensures same_texts { F.told files.new ≡ F.told files.old }
-    ensures same_leave { F.may files.new ≡ F.may files.old }
+    ensures { ReadsInput (opening F.told F.may F.opens F.given F.live F.faults files.old files.new) Input.Unit name.now IsAcceptedUnit HasUnitFault IsUnitOfFile result }
 {
     let text = match read_input(alloc, files, Input::Unit, name) {
         Ok(text) => text,
         Err(stop) => return Err(stop),
     };
-    match read_verified(alloc, &text) {
-        Ok(unit) => Ok(unit),
-        Err(fault) => Err(unit_stop(fault)),
-    }
+    judge_unit(alloc, &text)
 }
 
 /// Reads the placement of a unit. Reports the first fault of the text, a failed read, or out of memory.
@@ -90,21 +81,13 @@ pub fn read_placed<F: Files>(
 ) -> Result<Placement, InputError>
     requires allowed { IsTrue (F.may files.old (F.opens files.old) name.now) }
     requires countable { F.opens files.old < 2 ^ 64 - 1 }
-    ensures reads { Reads (reading F.told F.opens F.given F.live F.faults files.old files.new) Input.Placement name.now
-        (IsAcceptedPlacement unit.now) (HasPlacementFault unit.now) (IsPlacedAs unit.now) result }
-    ensures opened_once { F.opens files.new ≡ F.opens files.old + 1 }
-    ensures unread_within { F.given files.new ≤ most_bytes + one_read }
-    ensures same_texts { F.told files.new ≡ F.told files.old }
-    ensures same_leave { F.may files.new ≡ F.may files.old }
+    ensures { ReadsInput (opening F.told F.may F.opens F.given F.live F.faults files.old files.new) Input.Placement name.now (IsAcceptedPlacement unit.now) (HasPlacementFault unit.now) (IsPlacedAs unit.now) result }
 {
     let text = match read_input(alloc, files, Input::Placement, name) {
         Ok(text) => text,
         Err(stop) => return Err(stop),
     };
-    match read_placement(alloc, &text, unit) {
-        Ok(placement) => Ok(placement),
-        Err(fault) => Err(placement_stop(fault)),
-    }
+    judge_placement(alloc, &text, unit)
 }
 
 /// Reads the schedule for a placement. Reports the first fault of the text, a failed read, or out of memory.
@@ -119,21 +102,13 @@ pub fn read_scheduled<F: Files>(
     requires countable { F.opens files.old < 2 ^ 64 - 1 }
     requires width { (1 ≤ placement.now.width) × (placement.now.width ≤ 8) }
     requires height { (1 ≤ placement.now.height) × (placement.now.height ≤ 8) }
-    ensures reads { Reads (reading F.told F.opens F.given F.live F.faults files.old files.new) Input.Schedule name.now
-        (IsAcceptedSchedule placement.now) (HasScheduleFault placement.now) (IsScheduledAs placement.now) result }
-    ensures opened_once { F.opens files.new ≡ F.opens files.old + 1 }
-    ensures unread_within { F.given files.new ≤ most_bytes + one_read }
-    ensures same_texts { F.told files.new ≡ F.told files.old }
-    ensures same_leave { F.may files.new ≡ F.may files.old }
+    ensures { ReadsInput (opening F.told F.may F.opens F.given F.live F.faults files.old files.new) Input.Schedule name.now (IsAcceptedSchedule placement.now) (HasScheduleFault placement.now) (IsScheduledAs placement.now) result }
 {
     let text = match read_input(alloc, files, Input::Schedule, name) {
         Ok(text) => text,
         Err(stop) => return Err(stop),
     };
-    match read_schedule(alloc, &text, placement) {
-        Ok(schedule) => Ok(schedule),
-        Err(fault) => Err(schedule_stop(fault)),
-    }
+    judge_schedule(alloc, &text, placement)
 }
 
 /// Reads a record of either form. Reports the first fault of the text, a failed read, or out of memory.
@@ -145,11 +120,7 @@ pub fn read_recorded<F: Files>(
 ) -> Result<Recorded, InputError>
     requires allowed { IsTrue (F.may files.old (F.opens files.old) name.now) }
     requires countable { F.opens files.old < 2 ^ 64 - 1 }
-    ensures reads { Reads (reading F.told F.opens F.given F.live F.faults files.old files.new) Input.Record name.now IsAcceptedRecord HasRecordFault IsRecordOf result }
-    ensures opened_once { F.opens files.new ≡ F.opens files.old + 1 }
-    ensures unread_within { F.given files.new ≤ most_of_record + one_read }
-    ensures same_texts { F.told files.new ≡ F.told files.old }
-    ensures same_leave { F.may files.new ≡ F.may files.old }
+    ensures { ReadsInput (opening F.told F.may F.opens F.given F.live F.faults files.old files.new) Input.Record name.now IsAcceptedRecord HasRecordFault IsRecordOf result }
 {
     let text = match read_input(alloc, files, Input::Record, name) {
         Ok(text) => text,
@@ -158,47 +129,29 @@ pub fn read_recorded<F: Files>(
     judge_record(alloc, &text)
 }
 
-/// Reads the lines of a record of either form with a copy of these names.
-/// Reports the first fault of the text, a failed read, or out of memory.
-/// Requires that the file may be opened, and fewer than 2^31 names.
-pub fn read_lines<F: Files>(
-    alloc: Global,
-    files: &mut F,
-    name: &str,
-    names: &Names,
-) -> Result<List<Line>, InputError>
-    requires allowed { IsTrue (F.may files.old (F.opens files.old) name.now) }
-    requires countable { F.opens files.old < 2 ^ 64 - 1 }
-    requires few { length names.now < 2 ^ 31 }
-    ensures reads { Reads (reading F.told F.opens F.given F.live F.faults files.old files.new) Input.Record name.now IsAcceptedRecord HasRecordFault (AreLinesOf names.now) result }
-    ensures opened_once { F.opens files.new ≡ F.opens files.old + 1 }
-    ensures unread_within { F.given files.new ≤ most_of_record + one_read }
-    ensures same_texts { F.told files.new ≡ F.told files.old }
-    ensures same_leave { F.may files.new ≡ F.may files.old }
-{
-    let text = match read_input(alloc, files, Input::Record, name) {
-        Ok(text) => text,
-        Err(stop) => return Err(stop),
-    };
-    judge_lines(alloc, &text, names)
-}
-
 /// Reads a program, checks its classes, and compiles it. Requires that the file may be opened.
 /// Reports the first fault of the text or of its classes, a failed read, or out of memory.
 pub fn read_unit<F: Files>(alloc: Global, files: &mut F, name: &str) -> Result<Unit, InputError>
     requires allowed { IsTrue (F.may files.old (F.opens files.old) name.now) }
     requires countable { F.opens files.old < 2 ^ 64 - 1 }
-    ensures reads { Reads (reading F.told F.opens F.given F.live F.faults files.old files.new) Input.Program name.now IsTypedProgram HasTypedFault IsUnitOf result }
-    ensures opened_once { F.opens files.new ≡ F.opens files.old + 1 }
-    ensures unread_within { F.given files.new ≤ most_bytes + one_read }
-    ensures same_texts { F.told files.new ≡ F.told files.old }
-    ensures same_leave { F.may files.new ≡ F.may files.old }
+    ensures { ReadsInput (opening F.told F.may F.opens F.given F.live F.faults files.old files.new) Input.Program name.now IsTypedProgram HasTypedFault IsUnitOf result }
 {
     let parsed = match read_parsed(alloc, files, name) {
         Ok(parsed) => parsed,
         Err(stop) => return Err(stop),
     };
     code_of(alloc, &parsed)
+}
+
+/// Reads the bytes of an object code file, and verifies it. At most 16 MiB of bytes.
+fn judge_unit(alloc: Global, bytes: &[u8]) -> Result<Unit, InputError>
+    requires { length bytes.now ≤ 16777216 }
+    ensures { Judges Input.Unit IsAcceptedUnit HasUnitFault IsUnitOfFile bytes.now result }
+{
+    match read_verified(alloc, bytes) {
+        Ok(unit) => Ok(unit),
+        Err(fault) => Err(unit_stop(fault)),
+    }
 }
 
 /// Reads the text of a program, checks its classes, and compiles it. At most 1 MiB of bytes.

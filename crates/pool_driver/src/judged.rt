@@ -1,27 +1,16 @@
 //! The verdict on a record, as an output.
-ghost use Rattle.std.specs.Prelude.{◌≡◌, IfOk};
+ghost use Rattle.std.specs.Prelude.{IfOk};
 ghost use Rattle.pool_syntax.specs.TreeOf.{program_of};
-ghost use Rattle.pool_driver.specs.Outputs.{status_of_verdict};
 ghost use Rattle.pool_driver.specs.Readers.{Decides};
 
 use crate::outputs::Output;
 use class_check::Checked;
 use command_inputs::InputError;
+use command_shell::status_of_verdict;
 use record_check::theorems::a_record_has_one_verdict;
 use record_check::{check_record, verdict_line};
-use run_loop::Status;
-use run_types::{Line, List, Names, Verdict};
+use run_types::{Line, List, Names};
 use std::alloc::{AllocError, Global};
-
-/// The status with which a verdict is written: `DoneFaulted` if the record is not a run.
-fn status_of_verdict(verdict: &Verdict) -> Status
-    ensures { result ≡ status_of_verdict verdict.now }
-{
-    match verdict {
-        Verdict::Yes => Status::Done,
-        Verdict::No { .. } | Verdict::Moving { .. } => Status::DoneFaulted,
-    }
-}
 
 /// Checks the lines of a record against a program with these names. The only error is out of memory.
 pub fn judge(

@@ -16,5 +16,5 @@ mod top;
 mod unit_reader;
 pub mod unit_theorems;
 
-pub use run_loop::Status;
+pub use command_shell::Status;
 pub use top::pool;

@@ -2,23 +2,24 @@
 ghost use Rattle.std.specs.Prelude.{◌≡◌, ◌<◌, false, ◌+◌, ◌-◌, ◌^◌, ◌≤◌};
 ghost use Rattle.command_line.specs.Commands.{of_check, of_convert, of_load, of_program, of_run};
 ghost use Rattle.command_line.specs.Requests.{IsSized, names_of, request};
-ghost use Rattle.pool_driver.specs.Ends.{StaysWithin, reading};
-ghost use Rattle.pool_driver.specs.Inputs.{MayOpen};
+ghost use Rattle.pool_outside.specs.Reading.{reading};
+ghost use Rattle.command_shell.specs.Ends.{StaysWithin};
+ghost use Rattle.command_shell.specs.Programs.{MayOpen};
+ghost use Rattle.pool_driver.specs.Inputs.{inputs};
 ghost use Rattle.command_inputs.specs.Inputs.{most_bytes, most_of_record, one_read};
 ghost use Rattle.pool_driver.specs.Readers.{ResultsIn, Rings};
 
 use crate::converted::Recorded;
-use crate::inputs::{
-    load_texts, read_file, read_lines, read_placed, read_recorded, read_scheduled, read_unit,
-};
+use crate::inputs::{load_texts, read_file, read_placed, read_recorded, read_scheduled, read_unit};
 use crate::judged::judge;
 use crate::program::file_of_parsed;
 use code_semantics::{Unit, UnitFile};
-use command_inputs::{InputError, Parsed, judge_classes, read_parsed, read_typed};
+use command_inputs::{InputError, Parsed, judge_classes, read_lines, read_parsed, read_typed};
 use command_line::{Ask, Command, Files as FileNames, Show};
+use command_shell::Status;
 use pool_gen::ring;
 use pool_outside::Files;
-use run_loop::{Loaded, Status};
+use run_loop::Loaded;
 use std::alloc::Global;
 
 /// The output of a command, before it is written.
@@ -47,7 +48,7 @@ fn run_output<F: Files>(
     names: FileNames<'_>,
 ) -> Result<Output, InputError>
     requires countable { F.opens files.old ≤ 2 ^ 64 - 5 }
-    requires allowed { MayOpen (F.may files.old) (F.opens files.old) (of_run show (names_of names)) }
+    requires allowed { MayOpen (F.may files.old) (F.opens files.old) (inputs (of_run show (names_of names))) }
     ensures makes { ResultsIn (reading F.told F.opens F.given F.live F.faults files.old files.new) (of_run show (names_of names.entry)) result }
     ensures unread_within { F.given files.new ≤ most_bytes + one_read }
 {
@@ -78,7 +79,7 @@ fn canonical_output<F: Files>(
     name: &str,
 ) -> Result<Output, InputError>
     requires countable { F.opens files.old ≤ 2 ^ 64 - 5 }
-    requires allowed { MayOpen (F.may files.old) (F.opens files.old) (of_program Ask.Canonical name.now) }
+    requires allowed { MayOpen (F.may files.old) (F.opens files.old) (inputs (of_program Ask.Canonical name.now)) }
     ensures makes { ResultsIn (reading F.told F.opens F.given F.live F.faults files.old files.new) (of_program Ask.Canonical name.now) result }
     ensures unread_within { F.given files.new ≤ most_bytes + one_read }
 {
@@ -91,7 +92,7 @@ fn canonical_output<F: Files>(
 /// Reads and compiles a program. Returns the listing of its code as the output, or the input error.
 fn listing_output<F: Files>(alloc: Global, files: &mut F, name: &str) -> Result<Output, InputError>
     requires countable { F.opens files.old ≤ 2 ^ 64 - 5 }
-    requires allowed { MayOpen (F.may files.old) (F.opens files.old) (of_program Ask.Listing name.now) }
+    requires allowed { MayOpen (F.may files.old) (F.opens files.old) (inputs (of_program Ask.Listing name.now)) }
     ensures makes { ResultsIn (reading F.told F.opens F.given F.live F.faults files.old files.new) (of_program Ask.Listing name.now) result }
     ensures unread_within { F.given files.new ≤ most_bytes + one_read }
 {
@@ -104,7 +105,7 @@ fn listing_output<F: Files>(alloc: Global, files: &mut F, name: &str) -> Result<
 /// Reads and compiles a program. Returns its object code file as the output, or the input error.
 fn file_output<F: Files>(alloc: Global, files: &mut F, name: &str) -> Result<Output, InputError>
     requires countable { F.opens files.old ≤ 2 ^ 64 - 5 }
-    requires allowed { MayOpen (F.may files.old) (F.opens files.old) (of_program Ask.File name.now) }
+    requires allowed { MayOpen (F.may files.old) (F.opens files.old) (inputs (of_program Ask.File name.now)) }
     ensures makes { ResultsIn (reading F.told F.opens F.given F.live F.faults files.old files.new) (of_program Ask.File name.now) result }
     ensures unread_within { F.given files.new ≤ most_bytes + one_read }
 {
@@ -126,7 +127,7 @@ fn program_output<F: Files>(
     name: &str,
 ) -> Result<Output, InputError>
     requires countable { F.opens files.old ≤ 2 ^ 64 - 5 }
-    requires allowed { MayOpen (F.may files.old) (F.opens files.old) (of_program ask name.now) }
+    requires allowed { MayOpen (F.may files.old) (F.opens files.old) (inputs (of_program ask name.now)) }
     ensures makes { ResultsIn (reading F.told F.opens F.given F.live F.faults files.old files.new) (of_program ask name.now) result }
     ensures unread_within { F.given files.new ≤ most_bytes + one_read }
 {
@@ -140,7 +141,7 @@ fn program_output<F: Files>(
 /// Reads a record of either form. Returns it in the second form as the output, or the input error.
 fn convert_output<F: Files>(alloc: Global, files: &mut F, name: &str) -> Result<Output, InputError>
     requires countable { F.opens files.old ≤ 2 ^ 64 - 5 }
-    requires allowed { MayOpen (F.may files.old) (F.opens files.old) (of_convert name.now) }
+    requires allowed { MayOpen (F.may files.old) (F.opens files.old) (inputs (of_convert name.now)) }
     ensures makes { ResultsIn (reading F.told F.opens F.given F.live F.faults files.old files.new) (of_convert name.now) result }
     ensures unread_within { F.given files.new ≤ most_of_record + one_read }
 {
@@ -158,9 +159,9 @@ fn check_output<F: Files>(
     claim: &str,
 ) -> Result<Output, InputError>
     requires countable { F.opens files.old ≤ 2 ^ 64 - 5 }
-    requires allowed { MayOpen (F.may files.old) (F.opens files.old) (of_check program.now claim.now) }
+    requires allowed { MayOpen (F.may files.old) (F.opens files.old) (inputs (of_check program.now claim.now)) }
     ensures makes { ResultsIn (reading F.told F.opens F.given F.live F.faults files.old files.new) (of_check program.now claim.now) result }
-    ensures unread_within { StaysWithin (reading F.told F.opens F.given F.live F.faults files.old files.new) (of_check program.now claim.now) }
+    ensures unread_within { StaysWithin (reading F.told F.opens F.given F.live F.faults files.old files.new) (inputs (of_check program.now claim.now)) }
 {
     let parsed = match read_parsed(alloc, files, program) {
         Ok(parsed) => parsed,
@@ -186,9 +187,9 @@ fn load_output<F: Files>(
     plan: &str,
 ) -> Result<Output, InputError>
     requires countable { F.opens files.old ≤ 2 ^ 64 - 5 }
-    requires allowed { MayOpen (F.may files.old) (F.opens files.old) (of_load file.now place.now plan.now) }
+    requires allowed { MayOpen (F.may files.old) (F.opens files.old) (inputs (of_load file.now place.now plan.now)) }
     ensures makes { ResultsIn (reading F.told F.opens F.given F.live F.faults files.old files.new) (of_load file.now place.now plan.now) result }
-    ensures unread_within { StaysWithin (reading F.told F.opens F.given F.live F.faults files.old files.new) (of_load file.now place.now plan.now) }
+    ensures unread_within { StaysWithin (reading F.told F.opens F.given F.live F.faults files.old files.new) (inputs (of_load file.now place.now plan.now)) }
 {
     let unit = match read_file(alloc, files, file) {
         Ok(unit) => unit,
@@ -241,11 +242,11 @@ pub fn make_output<F: Files>(
     command: Command<'_>,
 ) -> Result<Output, InputError>
     requires countable { F.opens files.old ≤ 2 ^ 64 - 5 }
-    requires allowed { MayOpen (F.may files.old) (F.opens files.old) (request command) }
+    requires allowed { MayOpen (F.may files.old) (F.opens files.old) (inputs (request command)) }
     requires not_live { F.live files.old ≡ false }
     requires sized { IsSized command }
     ensures makes { ResultsIn (reading F.told F.opens F.given F.live F.faults files.old files.new) (request command.entry) result }
-    ensures unread_within { StaysWithin (reading F.told F.opens F.given F.live F.faults files.old files.new) (request command.entry) }
+    ensures unread_within { StaysWithin (reading F.told F.opens F.given F.live F.faults files.old files.new) (inputs (request command.entry)) }
 {
     match command {
         Command::Run { show, files: names } => run_output(alloc, files, show, names),

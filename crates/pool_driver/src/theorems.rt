@@ -1,5 +1,5 @@
 //! Theorems about the definitions in the contract of the top-level function. Each is the contract of a function.
-ghost use Rattle.std.specs.Prelude.{◌≡◌, true, length, [], ◌∷◌, codes, List as ListOf};
+ghost use Rattle.std.specs.Prelude.{◌≡◌, ◌≤◌, true, length, [], ◌∷◌, codes, List as ListOf};
 ghost use Rattle.pool_syntax.specs.declared.token.Token.{Token as OneToken};
 ghost use Rattle.pool_grammar.specs.Programs.{IsParsed, IsShallowBelow};
 ghost use Rattle.pool_grammar.specs.Grammatical.{IsGrammatical};
@@ -9,9 +9,13 @@ ghost use Rattle.text_scan.specs.Text.{Text};
 ghost use Rattle.pool_syntax.specs.Tokens.{toks};
 ghost use Rattle.command_line.specs.declared.command.Ask.TheVariants.{File as FileAsked};
 ghost use Rattle.command_line.specs.declared.command.Show.TheVariants.{Record as RecordShown};
-ghost use Rattle.command_inputs.specs.declared.fault.Input.TheVariants.{Placement as PlacementRead, Record as RecordRead, Schedule as ScheduleRead, Unit as UnitRead};
-ghost use Rattle.run_loop.specs.declared.status.Status.{Status as AnyStatus};
-ghost use Rattle.run_loop.specs.declared.status.Status.TheVariants.{Done};
+ghost use Rattle.command_inputs.specs.declared.fault.Fault.{Fault as AnyFault};
+ghost use Rattle.command_inputs.specs.declared.fault.Input.{Input as AnyInput};
+ghost use Rattle.command_inputs.specs.declared.fault.Input.TheVariants.{Placement as PlacementRead, Program as ProgramRead, Record as RecordRead, Schedule as ScheduleRead, Unit as UnitRead};
+ghost use Rattle.command_inputs.specs.Inputs.{limit_of};
+ghost use Rattle.command_shell.specs.declared.status.Status.{Status as AnyStatus};
+ghost use Rattle.command_shell.specs.declared.status.Status.TheVariants.{Done};
+ghost use Rattle.pool_driver.specs.FirstFault.{StopsFirst};
 ghost use Rattle.pool_driver.specs.Inputs.{IsAccepted};
 ghost use Rattle.pool_driver.specs.Outputs.{IsLoadOf, IsRunOf, IsTextFor, IsVerdictOn};
 ghost use Rattle.pool_printer.specs.Canonical.{canonical};
@@ -42,6 +46,25 @@ pub fn what_is_built_is_loaded_as_recorded()
         → IsLoadOf bytes place plan text status }
     ensures recorded { (source bytes place plan text : Text) (status : AnyStatus) → IsTextFor FileAsked source bytes → IsLoadOf bytes place plan text status
         → IsRunOf RecordShown source place plan text status }
+{
+    a_text_has_one_program();
+}
+
+/// `load` of the bytes that `build` writes stops at the same input, for the same fault, as `record` of the program does.
+/// The program and the bytes must be within their limits, so that neither is `TooLong`. Then the input is the placement
+/// or the schedule, and there is at most one such input and fault.
+pub fn what_is_built_is_refused_as_recorded()
+    ensures refused { (source bytes place plan : Text) (input : AnyInput) (f : AnyFault) → IsTextFor FileAsked source bytes
+        → length source ≤ limit_of ProgramRead → length bytes ≤ limit_of UnitRead
+        → StopsFirst [] (ProgramRead ∷ PlacementRead ∷ ScheduleRead ∷ []) (source ∷ place ∷ plan ∷ []) input f
+        → StopsFirst [] (UnitRead ∷ PlacementRead ∷ ScheduleRead ∷ []) (bytes ∷ place ∷ plan ∷ []) input f }
+    ensures only { (source bytes place plan : Text) (input : AnyInput) (f : AnyFault) → IsTextFor FileAsked source bytes
+        → length source ≤ limit_of ProgramRead → length bytes ≤ limit_of UnitRead
+        → StopsFirst [] (UnitRead ∷ PlacementRead ∷ ScheduleRead ∷ []) (bytes ∷ place ∷ plan ∷ []) input f
+        → StopsFirst [] (ProgramRead ∷ PlacementRead ∷ ScheduleRead ∷ []) (source ∷ place ∷ plan ∷ []) input f }
+    ensures one { (source bytes place plan : Text) (i j : AnyInput) (f g : AnyFault) → IsTextFor FileAsked source bytes → length source ≤ limit_of ProgramRead
+        → StopsFirst [] (ProgramRead ∷ PlacementRead ∷ ScheduleRead ∷ []) (source ∷ place ∷ plan ∷ []) i f
+        → StopsFirst [] (ProgramRead ∷ PlacementRead ∷ ScheduleRead ∷ []) (source ∷ place ∷ plan ∷ []) j g → (i ≡ j) × (f ≡ g) }
 {
     a_text_has_one_program();
 }

@@ -3,35 +3,26 @@ ghost use Rattle.std.specs.Prelude.{◌≡◌, ◌⊎◌, ◌+◌, ◌-◌, ◌^
 ghost use Rattle.text_scan.specs.Text.{Text};
 ghost use Rattle.pool_outside.specs.Outside.{Rose};
 ghost use Rattle.command_line.specs.Commands.{Request, request_of, texts_of};
-ghost use Rattle.pool_driver.specs.Ends.{Ends, StaysWithin, reading};
+ghost use Rattle.command_shell.specs.Ends.{StaysWithin, WholeTextWritten};
+ghost use Rattle.command_shell.specs.Programs.{MayOpen};
+ghost use Rattle.pool_driver.specs.Ends.{Ends, reading};
 ghost use Rattle.pool_driver.specs.Headline.{ShowsOneRun};
-ghost use Rattle.pool_driver.specs.Inputs.{IsServable, MayOpen};
-ghost use Rattle.pool_driver.specs.Outputs.{WholeTextWritten};
-ghost use Rattle.run_loop.specs.Writing.{Delivers, Writes, writing};
-ghost use Rattle.pool_driver.specs.Readers.{IsPrintable, ReportsInputError, status_of_output, text_of};
+ghost use Rattle.pool_driver.specs.Inputs.{IsServable, inputs};
+ghost use Rattle.command_shell.specs.Writing.{Delivers, Writes, writing};
+ghost use Rattle.pool_driver.specs.Readers.{IsPrintable, status_of_output, text_of};
 
 use crate::converted::SecondForm;
 use crate::outputs::{Output, make_output};
 use crate::texts::{CanonicalText, FileBytes, Listing};
-use command_inputs::{InputError, line_of_refusal, line_of_unread};
 use command_line::{Show, read_words};
-use pool_outside::{Files, Sink, Text, write_all_of, write_gathered};
-use run_loop::{Status, write_ring, write_run, write_why};
+use command_shell::{Status, say, say_stop};
+use pool_outside::{Files, Sink, Text, write_gathered};
+use run_loop::{write_ring, write_run, write_why};
 use std::alloc::{AllocError, Global};
 
 /// The usage line.
 const USAGE: &[u8] =
     b"usage: pool record|run|why P L S, pool print|code P, pool ring K, pool convert R, pool check P R, pool build P, pool load U L S\n";
-
-/// Writes a text. Returns the status, or `WriteFault` if the write fails.
-fn say<K: Sink>(sink: &mut K, piece: &[u8], status: Status) -> Status
-    ensures { Writes (writing K.written K.faults sink.old sink.new) piece.now status result }
-{
-    match write_all_of(sink, piece) {
-        Ok(()) => status,
-        Err(_) => Status::WriteFault,
-    }
-}
 
 /// Writes a text in pieces of 4096 bytes, without taking memory. Returns `Done`, or `WriteFault` if a write fails.
 fn write_text<T: Text, K: Sink>(text: &T, out: &mut K) -> Status
@@ -63,23 +54,6 @@ fn write_output<K: Sink>(alloc: Global, out: &mut K, output: &Output) -> Status
     }
 }
 
-/// Writes the line of an input error to `err`. Writes nothing if the error is out of memory.
-fn say_stop<E: Sink>(alloc: Global, err: &mut E, stop: InputError) -> Status
-    ensures { ReportsInputError (writing E.written E.faults err.old err.new) stop result }
-{
-    match stop {
-        InputError::Memory => Status::Memory,
-        InputError::Refused { input, fault } => match line_of_refusal(alloc, input, fault) {
-            Ok(line) => say(err, &line, Status::Refused),
-            Err(_) => Status::Memory,
-        },
-        InputError::Unread { input } => match line_of_unread(alloc, input) {
-            Ok(line) => say(err, &line, Status::ReadFault),
-            Err(_) => Status::Memory,
-        },
-    }
-}
-
 /// Runs one command. `words` are the arguments without the program's name.
 /// `files` are the files that the command may read. The output goes to `out`, and a line for an error goes to `err`.
 /// Requires that no file is open, that fewer than 2^64 - 4 were
@@ -93,7 +67,7 @@ pub fn pool<F: Files, K: Sink, E: Sink>(
 ) -> Status
     requires not_live { F.live files.old ≡ false }
     requires countable { F.opens files.old ≤ 2 ^ 64 - 5 }
-    requires allowed { IfSome (request_of (texts_of words.now)) (MayOpen (F.may files.old) (F.opens files.old)) }
+    requires allowed { IfSome (request_of (texts_of words.now)) (λ r. MayOpen (F.may files.old) (F.opens files.old) (inputs r)) }
 
     // The call ends in one of the ways that the definition lists. Each has its cause, and the text on both sinks.
     ensures ends { Ends (request_of (texts_of words.now))
@@ -104,7 +78,7 @@ pub fn pool<F: Files, K: Sink, E: Sink>(
 
     // The input that was opened last has given at most its limit and one read.
     ensures stops_reading { (r : Request) → request_of (texts_of words.now) ≡ Some r → StaysWithin
-        (reading F.told F.opens F.given F.live F.faults files.old files.new) r }
+        (reading F.told F.opens F.given F.live F.faults files.old files.new) (inputs r) }
 
     // If the arguments are a command, all inputs are accepted, and no read or
     // write failed in this call, the whole text was written, or memory ran out.

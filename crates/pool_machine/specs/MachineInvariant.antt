@@ -22,25 +22,25 @@ pub record AreEmpty (u : Code) (l : Placement) (size : ℕ) (nodes : List NodeOf
 
 abbrev pub machine_view : Inside → MachineOf
 machine_view m = record {
-  unit = m.unit.now;
-  placement = m.placement.now;
+  unit = m.plan.unit.now;
+  placement = m.plan.placement.now;
   nodes = m.nodes.items;
-  links = m.links.links;
-  wires = wires_in m.wires;
+  links = m.network.links.links;
+  wires = wires_in m.network.wires;
   done = m.done;
   moves = m.moves;
   transitions = m.transitions;
 }
 
 pub record MachineInvariant (m : Inside) : Type 0 where
-  pub mesh : IsMeshOf m.placement.now m.mesh
-  pub table : m.table ≡ m.placement.now
-  pub kept : WiredMachineInvariant m.unit.now m.placement.now m.nodes.items m.links (wires_in m.wires)
-  pub quiet : m.quiet ≡ is_machine_quiet (coded m.unit.now) (machine_on m.nodes.items m.links.links (wires_in m.wires))
+  pub mesh : IsMeshOf m.plan.placement.now m.mesh
+  pub table : m.plan.table ≡ m.plan.placement.now
+  pub kept : WiredMachineInvariant m.plan.unit.now m.plan.placement.now m.nodes.items m.network.links (wires_in m.network.wires)
+  pub quiet : m.quiet ≡ is_machine_quiet (coded m.plan.unit.now) (machine_on m.nodes.items m.network.links.links (wires_in m.network.wires))
   -- no node has made more objects of a class than there were events
   pub counts : EachCount (λ k. k ≤ m.done) m.nodes.items
   -- no more packets have entered a wire than there were events
-  pub entered : EachEntered (λ k. k ≤ m.done) (wires_in m.wires) m.links.links
+  pub entered : EachEntered (λ k. k ≤ m.done) (wires_in m.network.wires) m.network.links.links
   pub moves : m.moves ≤ m.done
   -- an event makes fewer than 2 ^ 32 transitions
   pub transitions : m.transitions ≤ m.done * 4294967295

@@ -19,8 +19,8 @@ use crate::counts::{moved_by, shown_by};
 use crate::quiet::{is_quiet_now, quiet_after};
 use crate::report::{class_in, has_faulted, standing_in};
 use crate::step::step;
-use crate::types::{EventOutcome, OpenFault, Outcome, StepOutcome};
-use crate::wires::{Wires, make_wires};
+use crate::types::{EventOutcome, Network, OpenFault, Outcome, Plan};
+use crate::wires::make_wires;
 use code_semantics::Unit;
 use mesh_routing::{Links, Mesh};
 use pool_node::{Node, StepOutput};
@@ -34,13 +34,10 @@ use table_routing::Table;
 /// configuration of code, with its delay, that the machine represents. Only `make` allocates.
 #[derive(Drop)]
 pub struct Machine<'a> {
-    unit: &'a Unit,
-    placement: &'a Placement,
+    plan: Plan<'a>,
     mesh: Mesh,
-    table: Table<'a>,
     nodes: Vec<Node>,
-    links: Links<Packet>,
-    wires: Option<Wires>,
+    network: Network,
     // Whether the machine is quiet, so that an idle event need not search all nodes and links again.
     quiet: bool,
     done: u32,
@@ -159,15 +156,18 @@ impl<'a> Machine<'a> {
         };
         let root = root_of(placement.places.items());
         nodes[root as usize].start_root(unit);
-        let quiet = is_quiet_now(unit, nodes.as_slice(), &links, &wires);
-        Ok(Machine {
+        let network = Network { links, wires };
+        let quiet = is_quiet_now(unit, nodes.as_slice(), &network);
+        let plan = Plan {
             unit,
             placement,
-            mesh,
             table,
+        };
+        Ok(Machine {
+            plan,
+            mesh,
             nodes,
-            links,
-            wires,
+            network,
             quiet,
             done: 0,
             moves: 0,
@@ -175,10 +175,7 @@ impl<'a> Machine<'a> {
         })
     }
 
-    /// Makes an event: a turn of a node, a move of the head of a link, or another event on a wire. A turn makes up to
-    /// `quantum` local transitions. Requires a node or a link of the placement, and a lossy machine for an event on a
-    /// wire. Requires a quantum of 1 to 10000, and fewer than 2^32 - 1 events so far. Returns `Full` exactly if the
-    /// step would exceed a limit of a node. The machine is then unchanged.
+    /// `event_into` with a buffer of its own.
     pub fn event(&mut self, event: Event, quantum: u32) -> Outcome
         requires mesh { IsOfMesh self.old.placement event }
         requires served { IsServed (is_some self.old.wires) event }
@@ -192,7 +189,11 @@ impl<'a> Machine<'a> {
         outcome_told(told, event, &room)
     }
 
-    /// Makes an event as `event` does. The content of its line goes into the output buffer `room`.
+    /// Makes an event: a turn of a node, a move of the head of a link, or another event on a wire. A turn makes up to
+    /// `quantum` local transitions. Requires a node or a link of the placement, and a lossy machine for an event on a
+    /// wire. Requires a quantum of 1 to 10000, and fewer than 2^32 - 1 events so far. Returns `Full` exactly if the
+    /// step would exceed a limit of a node. The machine is then unchanged. The content of the line goes into the buffer
+    /// `room`.
     pub fn event_into(&mut self, event: Event, quantum: u32, room: &mut StepOutput) -> EventOutcome
         requires mesh { IsOfMesh self.old.placement event }
         requires served { IsServed (is_some self.old.wires) event }
@@ -202,27 +203,26 @@ impl<'a> Machine<'a> {
             → IsOutcome event self.old (answer_of result event room.new.what) self.new (act (coded self.old.unit) self.old.placement quantum c d event) }
     {
         let did = step(
-            self.unit,
-            self.placement,
-            &self.table,
+            &self.plan,
             self.nodes.as_mut_slice(),
-            &mut self.links,
-            &mut self.wires,
+            &mut self.network,
             &event,
             quantum,
             room,
         );
         match did {
-            StepOutcome::Full { kind, node } => EventOutcome::Full { kind, node },
-            StepOutcome::Line => {
+            Err(limit) => EventOutcome::Full {
+                kind: limit.kind,
+                node: limit.node,
+            },
+            Ok(()) => {
                 self.done += 1;
                 self.moves += moved_by(&event, &room.what);
                 self.transitions += shown_by(&room.what);
                 self.quiet = quiet_after(
-                    self.unit,
+                    self.plan.unit,
                     self.nodes.as_slice(),
-                    &self.links,
-                    &self.wires,
+                    &self.network,
                     &room.what,
                     self.quiet,
                 );
@@ -281,11 +281,11 @@ impl<'a> Machine<'a> {
         ensures { (c : Config Placed) (d : Delay) → MachineRepresents self.now c d → option_map told_standing result ≡ standing_at self.now.unit c d name }
     {
         standing_in(
-            self.unit,
-            self.placement,
+            self.plan.unit,
+            self.plan.placement,
             &self.mesh,
             self.nodes.as_slice(),
-            &self.links,
+            &self.network.links,
             name,
         )
     }
@@ -294,6 +294,6 @@ impl<'a> Machine<'a> {
     pub fn class_of(&self, name: u32) -> Option<NameId>
         ensures { (c : Config Placed) (d : Delay) → MachineRepresents self.now c d → option_map (λ k. k.0) result ≡ class_at self.now.unit c name }
     {
-        class_in(self.unit, self.nodes.as_slice(), name)
+        class_in(self.plan.unit, self.nodes.as_slice(), name)
     }
 }

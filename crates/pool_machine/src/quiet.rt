@@ -8,25 +8,19 @@ ghost use Rattle.pool_machine.specs.Parts.{AreOfUnit};
 ghost use Rattle.pool_machine.specs.OnWires.{machine_on, wires_in};
 
 use crate::report::can_step;
-use crate::wires::{Wires, is_acknowledged};
+use crate::types::Network;
+use crate::wires::is_acknowledged;
 use code_semantics::Unit;
-use mesh_routing::Links;
 use pool_node::Node;
-use rendezvous_protocol::Packet;
 use run_types::What;
 
 /// Reports whether all links are empty, every packet that a wire handed out is acknowledged, and no object can step.
-pub(crate) fn is_quiet_now(
-    unit: &Unit,
-    nodes: &[Node],
-    links: &Links<Packet>,
-    wires: &Option<Wires>,
-) -> bool
+pub(crate) fn is_quiet_now(unit: &Unit, nodes: &[Node], network: &Network) -> bool
     requires units { AreOfUnit unit.now nodes.now }
-    requires filled { no_entry_empty links.now.links ≡ true }
-    ensures { result ≡ is_machine_quiet (coded unit.now) (machine_on nodes.now links.now.links (wires_in wires.now)) }
+    requires filled { no_entry_empty network.now.links.links ≡ true }
+    ensures { result ≡ is_machine_quiet (coded unit.now) (machine_on nodes.now network.now.links.links (wires_in network.now.wires)) }
 {
-    links.is_empty() && is_acknowledged(wires) && !can_step(unit, nodes)
+    network.links.is_empty() && is_acknowledged(&network.wires) && !can_step(unit, nodes)
 }
 
 /// Reports whether the machine is quiet after an event with this line. `before` is the answer before the event: without
@@ -34,21 +28,20 @@ pub(crate) fn is_quiet_now(
 pub(crate) fn quiet_after(
     unit: &Unit,
     nodes: &[Node],
-    links: &Links<Packet>,
-    wires: &Option<Wires>,
+    network: &Network,
     what: &What,
     before: bool,
 ) -> bool
     requires units { AreOfUnit unit.now nodes.now }
-    requires filled { no_entry_empty links.now.links ≡ true }
-    ensures { (wires_in wires.now ≡ None → what.now ≡ W.Idle → before ≡ is_machine_quiet (coded unit.now) (machine_on nodes.now links.now.links (wires_in wires.now)))
-        → result ≡ is_machine_quiet (coded unit.now) (machine_on nodes.now links.now.links (wires_in wires.now)) }
+    requires filled { no_entry_empty network.now.links.links ≡ true }
+    ensures { (wires_in network.now.wires ≡ None → what.now ≡ W.Idle → before ≡ is_machine_quiet (coded unit.now) (machine_on nodes.now network.now.links.links (wires_in network.now.wires)))
+        → result ≡ is_machine_quiet (coded unit.now) (machine_on nodes.now network.now.links.links (wires_in network.now.wires)) }
 {
-    match wires {
-        Some(_) => is_quiet_now(unit, nodes, links, wires),
+    match network.wires {
+        Some(_) => is_quiet_now(unit, nodes, network),
         None => match *what {
             What::Idle => before,
-            _ => is_quiet_now(unit, nodes, links, wires),
+            _ => is_quiet_now(unit, nodes, network),
         },
     }
 }

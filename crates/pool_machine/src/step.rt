@@ -7,53 +7,47 @@ ghost use Rattle.pool_machine.specs.OnWires.{WiredMachineInvariant, EachEntered,
 
 use crate::moves::move_link;
 use crate::turns::turn;
-use crate::types::StepOutcome;
+use crate::types::{Limit, Network, Plan};
 use crate::wired::move_on_wire;
-use crate::wires::{Wires, act_at};
-use code_semantics::Unit;
-use mesh_routing::Links;
+use crate::wires::act_at;
 use pool_node::{Node, StepOutput};
-use rendezvous_protocol::Packet;
-use run_types::{Event, Placement};
-use table_routing::Table;
+use run_types::{Event, LinkId};
 
 /// Makes an event as the definition of nodes, links and wires says, for some request number that is not outstanding.
 pub(crate) fn step(
-    unit: &Unit,
-    placement: &Placement,
-    table: &Table<'_>,
+    plan: &Plan<'_>,
     nodes: &mut [Node],
-    links: &mut Links<Packet>,
-    wires: &mut Option<Wires>,
+    network: &mut Network,
     event: &Event,
     quantum: u32,
     room: &mut StepOutput,
-) -> StepOutcome
-    requires kept { WiredMachineInvariant unit.now placement.now nodes.old links.old (wires_in wires.old) }
-    requires table { table.now ≡ placement.now }
-    requires event { IsOfMesh placement.now event.now }
-    requires served { IsServed (is_some (wires_in wires.old)) event.now }
+) -> Result<(), Limit>
+    requires kept { WiredMachineInvariant plan.now.unit.now plan.now.placement.now nodes.old network.old.links (wires_in network.old.wires) }
+    requires table { plan.now.table ≡ plan.now.placement.now }
+    requires event { IsOfMesh plan.now.placement.now event.now }
+    requires served { IsServed (is_some (wires_in network.old.wires)) event.now }
     requires quantum { 1 ≤ quantum }
     requires countable { EachCount (λ k. k < 2 ^ 32 - 1) nodes.old }
-    requires few { EachEntered (λ k. k < 2 ^ 32 - 1) (wires_in wires.old) links.old.links }
-    ensures act { EventMakes unit.now placement.now quantum event.now (did_of result room.new.what) nodes.old links.old (wires_in wires.old) nodes.new links.new (wires_in wires.new) }
-    ensures parts { NodesAreWellFormed unit.now placement.now nodes.new links.new }
+    requires few { EachEntered (λ k. k < 2 ^ 32 - 1) (wires_in network.old.wires) network.old.links.links }
+    ensures act { EventMakes plan.now.unit.now plan.now.placement.now quantum event.now (did_of result room.new.what) nodes.old network.old.links (wires_in network.old.wires) nodes.new network.new.links (wires_in network.new.wires) }
+    ensures parts { NodesAreWellFormed plan.now.unit.now plan.now.placement.now nodes.new network.new.links }
     ensures counts { (most : ℕ) → EachCount (λ k. k ≤ most) nodes.old → EachCount (λ k. k ≤ most + 1) nodes.new }
-    ensures there { HaveWires placement.now (wires_in wires.new) }
-    ensures lossy { is_some (wires_in wires.new) ≡ is_some (wires_in wires.old) }
+    ensures there { HaveWires plan.now.placement.now (wires_in network.new.wires) }
+    ensures lossy { is_some (wires_in network.new.wires) ≡ is_some (wires_in network.old.wires) }
 {
     match *event {
-        Event::Turn { node } => turn(unit, placement, table, nodes, links, node, quantum, room),
-        Event::Link { from, to } => match wires {
-            Some(wires) => move_on_wire(
-                unit, placement, table, nodes, links, wires, from, to, room,
-            ),
-            None => move_link(unit, placement, table, nodes, links, from, to, room),
-        },
-        Event::Wire { act, from, to } => match wires {
+        Event::Turn { node } => turn(plan, nodes, &mut network.links, node, quantum, room),
+        Event::Link { from, to } => {
+            let link = LinkId { from, to };
+            match &mut network.wires {
+                Some(wires) => move_on_wire(plan, nodes, &mut network.links, wires, link, room),
+                None => move_link(plan, nodes, &mut network.links, link, room),
+            }
+        }
+        Event::Wire { act, from, to } => match &mut network.wires {
             Some(wires) => {
-                room.what = act_at(wires, links, act, from, to);
-                StepOutcome::Line
+                room.what = act_at(wires, &network.links, act, from, to);
+                Ok(())
             }
             None => unreachable!(),
         },

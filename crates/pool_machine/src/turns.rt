@@ -12,12 +12,11 @@ ghost use Rattle.rendezvous_protocol.specs.Packets.{numbered};
 ghost use Rattle.pool_machine.specs.DidOf.{did_of};
 ghost use Rattle.pool_machine.specs.Parts.{NodesInvariant, NodesAreWellFormed, EachCount, IsDid, machine_from};
 
-use crate::types::StepOutcome;
-use code_semantics::Unit;
+use crate::types::{Limit, Plan};
 use mesh_routing::Links;
-use pool_node::{Node, StepOutput, TurnOutcome};
+use pool_node::{Node, NodePlan, StepOutput, TurnOutcome};
 use rendezvous_protocol::{Packet, goal};
-use run_types::{Placement, What};
+use run_types::What;
 use table_routing::Table;
 
 /// Appends a packet that leaves a node to the first link of its path.
@@ -39,37 +38,40 @@ pub(crate) fn post(table: &Table<'_>, links: &mut Links<Packet>, at: u32, packet
 
 /// Makes a turn of a node, and appends the packet that leaves it to its link.
 pub(crate) fn turn(
-    unit: &Unit,
-    placement: &Placement,
-    table: &Table<'_>,
+    plan: &Plan<'_>,
     nodes: &mut [Node],
     links: &mut Links<Packet>,
     node: u32,
     quantum: u32,
     room: &mut StepOutput,
-) -> StepOutcome
-    requires kept { NodesInvariant unit.now placement.now nodes.old links.old }
-    requires table { table.now ≡ placement.now }
-    requires node { node < placement.now.width * placement.now.height }
+) -> Result<(), Limit>
+    requires kept { NodesInvariant plan.now.unit.now plan.now.placement.now nodes.old links.old }
+    requires table { plan.now.table ≡ plan.now.placement.now }
+    requires node { node < plan.now.placement.now.width * plan.now.placement.now.height }
     requires quantum { 1 ≤ quantum }
     requires countable { EachCount (λ k. k < 2 ^ 32 - 1) nodes.old }
     ensures act { (fresh : ℕ) × IsFresh (machine_from nodes.old links.old.links) fresh (Ev.Turn node)
         × IsDid (did_of result room.new.what) nodes.old links.old nodes.new links.new
-        (machine_act (coded unit.now) placement.now quantum fresh (machine_from nodes.old links.old.links) (Ev.Turn node)) }
-    ensures parts { NodesAreWellFormed unit.now placement.now nodes.new links.new }
+        (machine_act (coded plan.now.unit.now) plan.now.placement.now quantum fresh (machine_from nodes.old links.old.links) (Ev.Turn node)) }
+    ensures parts { NodesAreWellFormed plan.now.unit.now plan.now.placement.now nodes.new links.new }
     ensures counts { (most : ℕ) → EachCount (λ k. k ≤ most) nodes.old → EachCount (λ k. k ≤ most + 1) nodes.new }
 {
     let leaving = links.leaving(node);
-    match nodes[node as usize].turn_into(unit, placement, quantum, leaving, room) {
-        TurnOutcome::Line => StepOutcome::Line,
+    let node_plan = NodePlan {
+        unit: plan.unit,
+        placement: plan.placement,
+        leaving,
+    };
+    match nodes[node as usize].turn_into(&node_plan, quantum, room) {
+        TurnOutcome::Line => Ok(()),
         TurnOutcome::Leaves => {
-            post(table, links, node, &room.packet);
-            StepOutcome::Line
+            post(&plan.table, links, node, &room.packet);
+            Ok(())
         }
-        TurnOutcome::Full { kind } => StepOutcome::Full { kind, node },
+        TurnOutcome::Full { kind } => Err(Limit { kind, node }),
         TurnOutcome::Idle => {
             room.what = What::Idle;
-            StepOutcome::Line
+            Ok(())
         }
     }
 }

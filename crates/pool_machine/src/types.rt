@@ -1,5 +1,25 @@
-//! The outcomes and errors of a machine.
-use run_types::{FullKind, Line};
+//! The parts of a machine, its outcomes and its errors.
+use crate::wires::Wires;
+use code_semantics::Unit;
+use mesh_routing::Links;
+use rendezvous_protocol::Packet;
+use run_types::{FullKind, Line, Placement};
+use table_routing::Table;
+
+/// What a run does not change: the unit, the placement, and the table of routes.
+#[derive(Drop)]
+pub(crate) struct Plan<'a> {
+    pub unit: &'a Unit,
+    pub placement: &'a Placement,
+    pub table: Table<'a>,
+}
+
+/// What is between the nodes: the packets on the links, and the wires, if links are wires.
+#[derive(Drop)]
+pub(crate) struct Network {
+    pub links: Links<Packet>,
+    pub wires: Option<Wires>,
+}
 
 /// The reason that a machine was not made: memory ran out.
 #[derive(Clone, Copy, Debug, PartialEq, Eq)]
@@ -22,9 +42,9 @@ pub enum EventOutcome {
     Full { kind: FullKind, node: u32 },
 }
 
-/// The outcome of an event with an output buffer, without the number of its line.
+/// The limit that a step would exceed, and its node. The step then changes nothing.
 #[derive(Clone, Copy)]
-pub(crate) enum StepOutcome {
-    Line,
-    Full { kind: FullKind, node: u32 },
+pub(crate) struct Limit {
+    pub kind: FullKind,
+    pub node: u32,
 }

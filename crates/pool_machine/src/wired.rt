@@ -11,56 +11,53 @@ ghost use Rattle.pool_machine.specs.Parts.{NodesInvariant, NodesAreWellFormed};
 ghost use Rattle.pool_machine.specs.OnWires.{IsDidOn, has_wire, machine_on};
 
 use crate::moves::move_link;
-use crate::types::StepOutcome;
+use crate::types::{Limit, Plan};
 use crate::wires::{Wires, arrive_at, peek_at};
-use code_semantics::Unit;
 use mesh_routing::Links;
 use pool_node::{Node, StepOutput};
 use rendezvous_protocol::Packet;
-use run_types::{Placement, What};
-use table_routing::Table;
+use run_types::{LinkId, What};
 use wire_link::Arrived;
 
 /// The first data frame of a link's wire comes to the far end. If it has the next packet, the head of the link moves.
 /// Any other frame is dropped.
 pub(crate) fn move_on_wire(
-    unit: &Unit,
-    placement: &Placement,
-    table: &Table<'_>,
+    plan: &Plan<'_>,
     nodes: &mut [Node],
     links: &mut Links<Packet>,
     wires: &mut Wires,
-    from: u32,
-    to: u32,
+    link: LinkId,
     room: &mut StepOutput,
-) -> StepOutcome
-    requires kept { NodesInvariant unit.now placement.now nodes.old links.old }
-    requires table { table.now ≡ placement.now }
-    requires link { IsLink placement.now (from, to) }
-    requires there { has_wire wires.old.entries (from, to) ≡ true }
+) -> Result<(), Limit>
+    requires kept { NodesInvariant plan.now.unit.now plan.now.placement.now nodes.old links.old }
+    requires table { plan.now.table ≡ plan.now.placement.now }
+    requires link { IsLink plan.now.placement.now (link.from, link.to) }
+    requires there { has_wire wires.old.entries (link.from, link.to) ≡ true }
     ensures act { IsDidOn (did_of result room.new.what) nodes.old links.old (Some wires.old.entries) nodes.new links.new (Some wires.new.entries)
-        (kept_move (coded unit.now) placement.now (machine_on nodes.old links.old.links (Some wires.old.entries)) (numbered_wires wires.old.entries) from to
-        (kept_coming (kept_at (numbered_wires wires.old.entries) (from, to)))) }
-    ensures parts { NodesAreWellFormed unit.now placement.now nodes.new links.new }
+        (kept_move (coded plan.now.unit.now) plan.now.placement.now (machine_on nodes.old links.old.links (Some wires.old.entries)) (numbered_wires wires.old.entries) link.from link.to
+        (kept_coming (kept_at (numbered_wires wires.old.entries) (link.from, link.to)))) }
+    ensures parts { NodesAreWellFormed plan.now.unit.now plan.now.placement.now nodes.new links.new }
     ensures counts { map (λ n. n.state.made) nodes.new ≡ map (λ n. n.state.made) nodes.old }
     ensures there { (k : Pair) → has_wire wires.old.entries k ≡ true → has_wire wires.new.entries k ≡ true }
 {
-    match peek_at(wires, from, to) {
+    match peek_at(wires, link.from, link.to) {
         Arrived::Empty => {
             room.what = What::Idle;
-            StepOutcome::Line
+            Ok(())
         }
         Arrived::Stale { number } => {
-            arrive_at(wires, from, to);
+            arrive_at(wires, link.from, link.to);
             room.what = What::Stale { number };
-            StepOutcome::Line
+            Ok(())
         }
         Arrived::Next { .. } => {
-            let did = move_link(unit, placement, table, nodes, links, from, to, room);
-            if let StepOutcome::Line = did {
-                arrive_at(wires, from, to);
+            match move_link(plan, nodes, links, link, room) {
+                Ok(()) => {
+                    arrive_at(wires, link.from, link.to);
+                    Ok(())
+                }
+                Err(limit) => Err(limit),
             }
-            did
         }
     }
 }

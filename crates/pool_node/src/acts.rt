@@ -17,10 +17,10 @@ ghost use Rattle.pool_node.specs.ActOf.{act_of};
 ghost use Rattle.pool_node.specs.NodeSteps.{IsLine, IsMoved, IsSet, IsTurned, lacks_cell, packet_by, posted};
 ghost use Rattle.rendezvous_protocol.specs.Packets.{numbered};
 
-use crate::types::{StepOutput, TurnOutcome};
+use crate::types::{NodePlan, Returning, Sending, StepOutput, TurnOutcome};
 use code_semantics::Unit;
 use mailbox::Message;
-use node_state::{NodeParts, ask_in, deliver_in, fault_in, go_on_in, return_in, settle_in};
+use node_state::NodeParts;
 use rendezvous_protocol::Packet;
 use run_types::{
     Args, Error, FullKind, Item, Label, NameId, Placement, Value, What, node_of, object_name,
@@ -37,13 +37,13 @@ pub(crate) fn name_of(parts: &NodeParts, slot: u32) -> u32
 }
 
 /// Reports whether no cell is free for a message.
-pub(crate) fn no_cell(placement: &Placement, parts: &NodeParts, leaving: u32) -> bool
+pub(crate) fn no_cell(plan: &NodePlan<'_>, parts: &NodeParts) -> bool
     requires whole { NodeInvariant parts.now }
-    requires cells { message_count (slots_of parts.now) + leaving ≤ placement.now.cells }
-    ensures { result ≡ not (nat_lt (message_count (slots_of parts.now) + leaving) placement.now.cells) }
+    requires cells { message_count (slots_of parts.now) + plan.now.leaving ≤ plan.now.placement.now.cells }
+    ensures { result ≡ not (nat_lt (message_count (slots_of parts.now) + plan.now.leaving) plan.now.placement.now.cells) }
 {
-    let cells = placement.cells;
-    parts.mailbox.count() + leaving >= cells
+    let cells = plan.placement.cells;
+    parts.mailbox.count() + plan.leaving >= cells
 }
 
 /// The line of a step with this label.
@@ -69,7 +69,7 @@ pub(crate) fn write_turn(
     ensures { (l : OnePlacement) (q leaving : ℕ) → IsSet unit.now l leaving parts.old → IsTurned unit.now l q leaving (act_of result room.new) parts.old parts.new slot }
 {
     let object = name_of(parts, slot);
-    go_on_in(unit, parts, slot);
+    parts.go_on(unit, slot);
     room.what = step(Label::Write { object, item });
     TurnOutcome::Line
 }
@@ -90,22 +90,22 @@ pub(crate) fn fault_turn(
     ensures { (l : OnePlacement) (q leaving : ℕ) → IsSet unit.now l leaving parts.old → IsTurned unit.now l q leaving (act_of result room.new) parts.old parts.new slot }
 {
     let object = name_of(parts, slot);
-    fault_in(unit, parts, slot, error);
+    parts.fault(unit, slot, error);
     room.what = step(Label::Fault { object, error });
     TurnOutcome::Line
 }
 
 /// Reports whether a message to this object lacks a cell. A message needs a cell if it goes to an existing object of
 /// this node, or leaves the node.
-fn lacks(placement: &Placement, parts: &NodeParts, to: u32, leaving: u32) -> bool
+fn lacks(plan: &NodePlan<'_>, parts: &NodeParts, to: u32) -> bool
     requires whole { NodeInvariant parts.now }
-    requires cells { message_count (slots_of parts.now) + leaving ≤ placement.now.cells }
-    ensures { result ≡ lacks_cell placement.now leaving (node_of parts.now) to }
+    requires cells { message_count (slots_of parts.now) + plan.now.leaving ≤ plan.now.placement.now.cells }
+    ensures { result ≡ lacks_cell plan.now.placement.now plan.now.leaving (node_of parts.now) to }
 {
     if node_of(to) == parts.id && slot_of(to) >= parts.heap.objects() {
         return false;
     }
-    no_cell(placement, parts, leaving)
+    no_cell(plan, parts)
 }
 
 /// Appends a message to those of this object of the node, if it exists.
@@ -117,7 +117,7 @@ pub(crate) fn deliver_to(unit: &Unit, parts: &mut NodeParts, to: u32, message: M
 {
     let slot = slot_of(to);
     if slot < parts.heap.objects() {
-        deliver_in(unit, parts, slot, message);
+        parts.deliver(unit, slot, message);
     }
 }
 
@@ -175,29 +175,26 @@ fn post(
 
 /// Sends an asynchronous message, unless it lacks a cell.
 pub(crate) fn async_turn(
-    unit: &Unit,
-    placement: &Placement,
+    plan: &NodePlan<'_>,
     parts: &mut NodeParts,
     slot: u32,
-    to: u32,
-    method: NameId,
-    args: Args,
-    leaving: u32,
+    sending: Sending,
     room: &mut StepOutput,
 ) -> TurnOutcome
-    requires set { IsSet unit.now placement.now leaving parts.old }
+    requires set { IsSet plan.now.unit.now plan.now.placement.now plan.now.leaving parts.old }
     requires slot { slot < length parts.old.heap.objects }
     requires free { get_or parts.old.outstanding slot None ≡ None }
-    requires kind { code_kind unit.now (object_at parts.old.heap slot) ≡ C.Async to method args }
-    ensures { (q : ℕ) → IsTurned unit.now placement.now q leaving (act_of result room.new) parts.old parts.new slot }
+    requires kind { code_kind plan.now.unit.now (object_at parts.old.heap slot) ≡ C.Async sending.to sending.method sending.args }
+    ensures { (q : ℕ) → IsTurned plan.now.unit.now plan.now.placement.now q plan.now.leaving (act_of result room.new) parts.old parts.new slot }
 {
-    if lacks(placement, parts, to, leaving) {
+    let Sending { to, method, args } = sending;
+    if lacks(plan, parts, to) {
         return TurnOutcome::Full {
             kind: FullKind::Cells,
         };
     }
     let from = name_of(parts, slot);
-    go_on_in(unit, parts, slot);
+    parts.go_on(plan.unit, slot);
     let message = Message {
         from,
         method,
@@ -211,35 +208,32 @@ pub(crate) fn async_turn(
         args,
     };
     room.what = step(label);
-    post(unit, parts, to, message, room)
+    post(plan.unit, parts, to, message, room)
 }
 
 /// Posts a call, unless it lacks a cell.
 pub(crate) fn call_turn(
-    unit: &Unit,
-    placement: &Placement,
+    plan: &NodePlan<'_>,
     parts: &mut NodeParts,
     slot: u32,
-    to: u32,
-    method: NameId,
-    args: Args,
-    leaving: u32,
+    sending: Sending,
     room: &mut StepOutput,
 ) -> TurnOutcome
-    requires set { IsSet unit.now placement.now leaving parts.old }
+    requires set { IsSet plan.now.unit.now plan.now.placement.now plan.now.leaving parts.old }
     requires slot { slot < length parts.old.heap.objects }
     requires free { get_or parts.old.outstanding slot None ≡ None }
-    requires kind { code_kind unit.now (object_at parts.old.heap slot) ≡ C.Send to method args }
-    ensures { (q : ℕ) → IsTurned unit.now placement.now q leaving (act_of result room.new) parts.old parts.new slot }
+    requires kind { code_kind plan.now.unit.now (object_at parts.old.heap slot) ≡ C.Send sending.to sending.method sending.args }
+    ensures { (q : ℕ) → IsTurned plan.now.unit.now plan.now.placement.now q plan.now.leaving (act_of result room.new) parts.old parts.new slot }
 {
-    if lacks(placement, parts, to, leaving) {
+    let Sending { to, method, args } = sending;
+    if lacks(plan, parts, to) {
         return TurnOutcome::Full {
             kind: FullKind::Cells,
         };
     }
     let from = name_of(parts, slot);
     let goal = parts.goals.items()[slot as usize];
-    let number = ask_in(unit, parts, slot, goal);
+    let number = parts.ask(plan.unit, slot, goal);
     let message = Message {
         from,
         method,
@@ -252,27 +246,28 @@ pub(crate) fn call_turn(
         method,
         args,
     };
-    post(unit, parts, to, message, room)
+    post(plan.unit, parts, to, message, room)
 }
 
 /// Returns a value to a caller, unless its packet lacks a cell.
 pub(crate) fn return_turn(
-    unit: &Unit,
-    placement: &Placement,
+    plan: &NodePlan<'_>,
     parts: &mut NodeParts,
     slot: u32,
-    caller: u32,
-    number: u32,
-    value: Value,
-    leaving: u32,
+    returning: Returning,
     room: &mut StepOutput,
 ) -> TurnOutcome
-    requires set { IsSet unit.now placement.now leaving parts.old }
+    requires set { IsSet plan.now.unit.now plan.now.placement.now plan.now.leaving parts.old }
     requires slot { slot < length parts.old.heap.objects }
     requires free { get_or parts.old.outstanding slot None ≡ None }
-    requires kind { code_kind unit.now (object_at parts.old.heap slot) ≡ C.Return caller number value }
-    ensures { (q : ℕ) → IsTurned unit.now placement.now q leaving (act_of result room.new) parts.old parts.new slot }
+    requires kind { code_kind plan.now.unit.now (object_at parts.old.heap slot) ≡ C.Return returning.caller returning.number returning.value }
+    ensures { (q : ℕ) → IsTurned plan.now.unit.now plan.now.placement.now q plan.now.leaving (act_of result room.new) parts.old parts.new slot }
 {
+    let Returning {
+        caller,
+        number,
+        value,
+    } = returning;
     let receiver = name_of(parts, slot);
     let label = Label::Return {
         receiver,
@@ -280,17 +275,17 @@ pub(crate) fn return_turn(
         value,
     };
     if node_of(caller) == parts.id {
-        return_in(unit, parts, slot);
-        settle_if_out(unit, parts, number, value);
+        parts.end_method(plan.unit, slot);
+        settle_if_out(plan.unit, parts, number, value);
         room.what = step(label);
         return TurnOutcome::Line;
     }
-    if no_cell(placement, parts, leaving) {
+    if no_cell(plan, parts) {
         return TurnOutcome::Full {
             kind: FullKind::Cells,
         };
     }
-    return_in(unit, parts, slot);
+    parts.end_method(plan.unit, slot);
     room.what = step(label);
     room.packet = Packet::Result {
         number,
@@ -307,6 +302,6 @@ pub(crate) fn settle_if_out(unit: &Unit, parts: &mut NodeParts, number: u32, val
     ensures { IsMoved unit.now parts.old parts.new (record (node_of parts.old).state { slots = settled (coded unit.now) number value (slots_of parts.old) }) }
 {
     if parts.outstanding.is_out(number) {
-        let _slot = settle_in(unit, parts, number, value);
+        let _slot = parts.settle(unit, number, value);
     }
 }

@@ -14,4 +14,4 @@ mod turn;
 mod types;
 
 pub use node::Node;
-pub use types::{Act, StepOutput, TurnOutcome};
+pub use types::{Act, NodePlan, StepOutput, TurnOutcome};

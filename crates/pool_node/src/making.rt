@@ -13,10 +13,10 @@ ghost use Rattle.pool_node.specs.ActOf.{act_of};
 ghost use Rattle.pool_node.specs.NodeSteps.{IsSet, IsTurned};
 
 use crate::acts::{name_of, no_cell, step};
-use crate::types::{StepOutput, TurnOutcome};
+use crate::types::{NodePlan, StepOutput, TurnOutcome};
 use code_semantics::Unit;
 use node_heap::HeapFull;
-use node_state::{NodeParts, add_in, ask_in, give_in};
+use node_state::NodeParts;
 use rendezvous_protocol::Packet;
 use run_types::{FullKind, Label, Place, Placement, Value, What};
 
@@ -68,10 +68,10 @@ fn create_here(
         → IsTurned unit.now l q leaving (act_of result room.new) parts.old parts.new slot }
 {
     let object = name_of(parts, slot);
-    match add_in(unit, parts, class) {
+    match parts.add(unit, class) {
         Ok(new) => {
             let name = name_of(parts, new);
-            give_in(unit, parts, slot, Value::Ref(name));
+            parts.give(unit, slot, Value::Ref(name));
             count_in(parts, class);
             let label = Label::New {
                 object,
@@ -92,34 +92,32 @@ fn create_here(
 
 /// Posts a request for a new object to another node, unless its packet lacks a cell.
 fn create_there(
-    unit: &Unit,
-    placement: &Placement,
+    plan: &NodePlan<'_>,
     parts: &mut NodeParts,
     slot: u32,
     class: u32,
     goal: u32,
-    leaving: u32,
     room: &mut StepOutput,
 ) -> TurnOutcome
-    requires set { IsSet unit.now placement.now leaving parts.old }
+    requires set { IsSet plan.now.unit.now plan.now.placement.now plan.now.leaving parts.old }
     requires slot { slot < length parts.old.heap.objects }
     requires free { get_or parts.old.outstanding slot None ≡ None }
-    requires kind { (k : OneName) × (code_kind unit.now (object_at parts.old.heap slot) ≡ C.New k) × (class_from 0 unit.now.classes k ≡ Some class) }
-    requires class { class < length unit.now.classes }
+    requires kind { (k : OneName) × (code_kind plan.now.unit.now (object_at parts.old.heap slot) ≡ C.New k) × (class_from 0 plan.now.unit.now.classes k ≡ Some class) }
+    requires class { class < length plan.now.unit.now.classes }
     requires few { get_or parts.old.made class 0 < 2 ^ 32 - 1 }
-    requires goal { goal_for placement.now parts.old.id (get_or parts.old.made class 0) (slice_get placement.now.places class) ≡ goal }
+    requires goal { goal_for plan.now.placement.now parts.old.id (get_or parts.old.made class 0) (slice_get plan.now.placement.now.places class) ≡ goal }
     requires other { goal ≢ parts.old.id }
-    ensures { (q : ℕ) → IsTurned unit.now placement.now q leaving (act_of result room.new) parts.old parts.new slot }
+    ensures { (q : ℕ) → IsTurned plan.now.unit.now plan.now.placement.now q plan.now.leaving (act_of result room.new) parts.old parts.new slot }
 {
-    if no_cell(placement, parts, leaving) {
+    if no_cell(plan, parts) {
         return TurnOutcome::Full {
             kind: FullKind::Cells,
         };
     }
     let object = name_of(parts, slot);
-    let number = ask_in(unit, parts, slot, goal);
+    let number = parts.ask(plan.unit, slot, goal);
     count_in(parts, class);
-    let name = unit.classes.items()[class as usize].name;
+    let name = plan.unit.classes.items()[class as usize].name;
     room.packet = Packet::Create {
         number,
         from: object,
@@ -136,26 +134,24 @@ fn create_there(
 
 /// Makes a new object of this class on this node, or posts a request for it to another node.
 pub(crate) fn create_turn(
-    unit: &Unit,
-    placement: &Placement,
+    plan: &NodePlan<'_>,
     parts: &mut NodeParts,
     slot: u32,
     class: u32,
-    leaving: u32,
     room: &mut StepOutput,
 ) -> TurnOutcome
-    requires set { IsSet unit.now placement.now leaving parts.old }
+    requires set { IsSet plan.now.unit.now plan.now.placement.now plan.now.leaving parts.old }
     requires slot { slot < length parts.old.heap.objects }
     requires free { get_or parts.old.outstanding slot None ≡ None }
-    requires kind { (k : OneName) × (code_kind unit.now (object_at parts.old.heap slot) ≡ C.New k) × (class_from 0 unit.now.classes k ≡ Some class) }
-    requires class { class < length unit.now.classes }
+    requires kind { (k : OneName) × (code_kind plan.now.unit.now (object_at parts.old.heap slot) ≡ C.New k) × (class_from 0 plan.now.unit.now.classes k ≡ Some class) }
+    requires class { class < length plan.now.unit.now.classes }
     requires few { get_or parts.old.made class 0 < 2 ^ 32 - 1 }
-    ensures { (q : ℕ) → IsTurned unit.now placement.now q leaving (act_of result room.new) parts.old parts.new slot }
+    ensures { (q : ℕ) → IsTurned plan.now.unit.now plan.now.placement.now q plan.now.leaving (act_of result room.new) parts.old parts.new slot }
 {
-    let goal = goal_of(placement, parts, class);
+    let goal = goal_of(plan.placement, parts, class);
     if goal == parts.id {
-        create_here(unit, parts, slot, class, room)
+        create_here(plan.unit, parts, slot, class, room)
     } else {
-        create_there(unit, placement, parts, slot, class, goal, leaving, room)
+        create_there(plan, parts, slot, class, goal, room)
     }
 }

@@ -10,7 +10,7 @@ ghost use Rattle.node_state.specs.Changes.{IsAdded};
 use crate::acts::name_of;
 use crate::receipt::class_named;
 use code_semantics::Unit;
-use node_state::{NodeParts, add_in};
+use node_state::NodeParts;
 use run_types::List;
 use std::alloc::{AllocError, Global};
 
@@ -57,7 +57,7 @@ pub(crate) fn start_in(unit: &Unit, parts: &mut NodeParts) -> u32
     let classes = unit.classes.items();
     let name = classes[classes.len() - 1].name;
     if let Some(place) = class_named(unit, name) {
-        let _placed = add_in(unit, parts, place).is_ok();
+        let _placed = parts.add(unit, place).is_ok();
     }
     object
 }

@@ -21,7 +21,7 @@ use crate::making_node::{filled, most_vars_of, start_in};
 use crate::receipt::receipt_of;
 use crate::standing::{any_fault, standing_of};
 use crate::turn::{first_ready, turn_of};
-use crate::types::{Act, StepOutput, TurnOutcome};
+use crate::types::{Act, NodePlan, StepOutput, TurnOutcome};
 use code_semantics::Unit;
 use mailbox::Mailbox;
 use node_heap::{Heap, HeapLimits};
@@ -115,31 +115,29 @@ impl Node {
     }
 
     /// Makes a turn: one ready object makes up to `quantum` local transitions, or one other step. It is the next ready
-    /// object after the one that stepped last, in cyclic order of slots. `leaving` is the number of packets on the
-    /// links that leave the node. Returns `Idle` exactly if no object is ready. Returns `Full` exactly if the step
-    /// would exceed a limit: the first of heap, frames and cells. The node is then unchanged.
+    /// object after the one that stepped last, in cyclic order of slots. Returns `Idle` exactly if no object is ready.
+    /// Returns `Full` exactly if the step would exceed a limit: the first of heap, frames and cells. The node is then
+    /// unchanged.
     pub fn turn_into(
         &mut self,
-        unit: &Unit,
-        placement: &Placement,
+        plan: &NodePlan<'_>,
         quantum: u32,
-        leaving: u32,
         room: &mut StepOutput,
     ) -> TurnOutcome
-        requires unit { IsOfUnit unit.now self.old }
-        requires placement { IsOfPlacement unit.now placement.now self.old }
+        requires unit { IsOfUnit plan.now.unit.now self.old }
+        requires placement { IsOfPlacement plan.now.unit.now plan.now.placement.now self.old }
         requires quantum { 1 ≤ quantum }
-        requires cells { message_count self.old.state.slots + leaving ≤ self.old.most_cells }
+        requires cells { message_count self.old.state.slots + plan.now.leaving ≤ self.old.most_cells }
         requires countable { Each (λ k. k < 2 ^ 32 - 1) self.old.state.made }
         ensures act { (fresh : ℕ) × IsUnused fresh self.old.state
-            × IsActOf (act_of result room.new) self.old self.new (turn_act (coded unit.now) placement.now quantum self.old.id leaving fresh self.old.state) }
-        ensures unit { IsOfUnit unit.now self.new }
+            × IsActOf (act_of result room.new) self.old self.new (turn_act (coded plan.now.unit.now) plan.now.placement.now quantum self.old.id plan.now.leaving fresh self.old.state) }
+        ensures unit { IsOfUnit plan.now.unit.now self.new }
         ensures counts { (most : ℕ) → Each (λ k. k ≤ most) self.old.state.made → Each (λ k. k ≤ most + 1) self.new.state.made }
     {
-        turn_of(unit, placement, &mut self.parts, quantum, leaving, room)
+        turn_of(plan, &mut self.parts, quantum, room)
     }
 
-    /// Makes a turn as `turn_into` does, without an output buffer of the caller.
+    /// `turn_into` with a buffer of its own.
     pub fn turn(&mut self, unit: &Unit, placement: &Placement, quantum: u32, leaving: u32) -> Act
         requires unit { IsOfUnit unit.now self.old }
         requires placement { IsOfPlacement unit.now placement.now self.old }
@@ -151,34 +149,36 @@ impl Node {
         ensures unit { IsOfUnit unit.now self.new }
         ensures counts { (most : ℕ) → Each (λ k. k ≤ most) self.old.state.made → Each (λ k. k ≤ most + 1) self.new.state.made }
     {
+        let plan = NodePlan {
+            unit,
+            placement,
+            leaving,
+        };
         let mut room = StepOutput::make();
-        let told = self.turn_into(unit, placement, quantum, leaving, &mut room);
+        let told = self.turn_into(&plan, quantum, &mut room);
         act_told(told, &room)
     }
 
-    /// Receives a packet at its goal. `leaving` is the number of packets on the links that leave the node. Returns
-    /// `Full` exactly if the receipt would exceed a limit: the first of heap, frames and cells. The node is then
-    /// unchanged. It never returns `Idle`.
+    /// Receives a packet at its goal. Returns `Full` exactly if the receipt would exceed a limit: the first of heap,
+    /// frames and cells. The node is then unchanged. It never returns `Idle`.
     pub fn receive_into(
         &mut self,
-        unit: &Unit,
-        placement: &Placement,
+        plan: &NodePlan<'_>,
         packet: Packet,
-        leaving: u32,
         room: &mut StepOutput,
     ) -> TurnOutcome
-        requires unit { IsOfUnit unit.now self.old }
-        requires placement { IsOfPlacement unit.now placement.now self.old }
-        requires cells { message_count self.old.state.slots + leaving ≤ self.old.most_cells }
-        requires packet { IsReceivable (coded unit.now) self.old.id self.old.state (numbered packet).number (numbered packet).packet }
-        ensures act { IsActOf (act_of result room.new) self.old self.new (receipt_act (coded unit.now) placement.now self.old.id leaving (numbered packet) self.old.state) }
-        ensures unit { IsOfUnit unit.now self.new }
+        requires unit { IsOfUnit plan.now.unit.now self.old }
+        requires placement { IsOfPlacement plan.now.unit.now plan.now.placement.now self.old }
+        requires cells { message_count self.old.state.slots + plan.now.leaving ≤ self.old.most_cells }
+        requires packet { IsReceivable (coded plan.now.unit.now) self.old.id self.old.state (numbered packet).number (numbered packet).packet }
+        ensures act { IsActOf (act_of result room.new) self.old self.new (receipt_act (coded plan.now.unit.now) plan.now.placement.now self.old.id plan.now.leaving (numbered packet) self.old.state) }
+        ensures unit { IsOfUnit plan.now.unit.now self.new }
         ensures made { self.new.state.made ≡ self.old.state.made }
     {
-        receipt_of(unit, placement, &mut self.parts, packet, leaving, room)
+        receipt_of(plan, &mut self.parts, packet, room)
     }
 
-    /// Receives a packet as `receive_into` does, without an output buffer of the caller.
+    /// `receive_into` with a buffer of its own.
     pub fn receive(
         &mut self,
         unit: &Unit,
@@ -194,8 +194,13 @@ impl Node {
         ensures unit { IsOfUnit unit.now self.new }
         ensures made { self.new.state.made ≡ self.old.state.made }
     {
+        let plan = NodePlan {
+            unit,
+            placement,
+            leaving,
+        };
         let mut room = StepOutput::make();
-        let told = self.receive_into(unit, placement, packet, leaving, &mut room);
+        let told = self.receive_into(&plan, packet, &mut room);
         act_told(told, &room)
     }
 

@@ -17,11 +17,11 @@ ghost use Rattle.node_state.specs.Views.{NodeInvariant, arrival_of, node_of, slo
 ghost use Rattle.pool_node.specs.NodeSteps.{ReportsAct, IsSet, settled_number};
 
 use crate::acts::{deliver_to, name_of, no_cell, settle_if_out, step};
-use crate::types::{StepOutput, TurnOutcome};
+use crate::types::{Creating, NodePlan, StepOutput, TurnOutcome};
 use code_semantics::Unit;
 use mailbox::Message;
 use node_heap::HeapFull;
-use node_state::{NodeParts, add_in};
+use node_state::NodeParts;
 use rendezvous_protocol::Packet;
 use run_types::{FullKind, Label, NameId, Placement, Value, What};
 
@@ -41,39 +41,40 @@ pub(crate) fn class_named(unit: &Unit, class: NameId) -> Option<u32>
 
 /// Makes an object of this class for an object of another node. The new name leaves as a packet.
 fn receive_create(
-    unit: &Unit,
-    placement: &Placement,
+    plan: &NodePlan<'_>,
     parts: &mut NodeParts,
-    number: u32,
-    from: u32,
-    class: u32,
-    name: NameId,
-    leaving: u32,
+    creating: Creating,
     room: &mut StepOutput,
 ) -> TurnOutcome
-    requires set { IsSet unit.now placement.now leaving parts.old }
-    requires class { class < length unit.now.classes }
-    requires named { class_from 0 unit.now.classes name ≡ Some class }
+    requires set { IsSet plan.now.unit.now plan.now.placement.now plan.now.leaving parts.old }
+    requires class { creating.class < length plan.now.unit.now.classes }
+    requires named { class_from 0 plan.now.unit.now.classes creating.name ≡ Some creating.class }
     ensures { (goal : ℕ)
-        → ReportsAct unit.now placement.now leaving (act_of result room.new) parts.old parts.new
-        (receipt (coded unit.now) parts.old.id (node_of parts.old).state (Some number) (D.Create from goal name.0)) }
+        → ReportsAct plan.now.unit.now plan.now.placement.now plan.now.leaving (act_of result room.new) parts.old parts.new
+        (receipt (coded plan.now.unit.now) parts.old.id (node_of parts.old).state (Some creating.number) (D.Create creating.from goal creating.name.0)) }
 {
-    if parts.heap.objects() >= placement.objects {
+    let Creating {
+        number,
+        from,
+        class,
+        name,
+    } = creating;
+    if parts.heap.objects() >= plan.placement.objects {
         return TurnOutcome::Full {
             kind: FullKind::Heap,
         };
     }
-    if parts.heap.frames() >= placement.frames {
+    if parts.heap.frames() >= plan.placement.frames {
         return TurnOutcome::Full {
             kind: FullKind::Frames,
         };
     }
-    if no_cell(placement, parts, leaving) {
+    if no_cell(plan, parts) {
         return TurnOutcome::Full {
             kind: FullKind::Cells,
         };
     }
-    match add_in(unit, parts, class) {
+    match parts.add(plan.unit, class) {
         Ok(new) => {
             let object = name_of(parts, new);
             let label = Label::New {
@@ -115,20 +116,18 @@ fn receive_value(
 
 /// Appends an arrived message to those of its receiver, unless it lacks a cell.
 fn receive_message(
-    unit: &Unit,
-    placement: &Placement,
+    plan: &NodePlan<'_>,
     parts: &mut NodeParts,
     to: u32,
     message: Message,
-    leaving: u32,
     room: &mut StepOutput,
 ) -> TurnOutcome
-    requires set { IsSet unit.now placement.now leaving parts.old }
+    requires set { IsSet plan.now.unit.now plan.now.placement.now plan.now.leaving parts.old }
     requires there { DObjectNames.slot_of to < length parts.old.heap.objects }
-    ensures { ReportsAct unit.now placement.now leaving (act_of result room.new) parts.old parts.new
+    ensures { ReportsAct plan.now.unit.now plan.now.placement.now plan.now.leaving (act_of result room.new) parts.old parts.new
         (N.Acts (W.Arrive message.from to message.method) None (deliver to (arrival_of message) (node_of parts.old).state)) }
 {
-    if no_cell(placement, parts, leaving) {
+    if no_cell(plan, parts) {
         return TurnOutcome::Full {
             kind: FullKind::Cells,
         };
@@ -138,23 +137,21 @@ fn receive_message(
         receiver: to,
         method: message.method,
     };
-    deliver_to(unit, parts, to, message);
+    deliver_to(plan.unit, parts, to, message);
     TurnOutcome::Line
 }
 
 /// Receives a packet of any kind.
 fn received(
-    unit: &Unit,
-    placement: &Placement,
+    plan: &NodePlan<'_>,
     parts: &mut NodeParts,
     packet: Packet,
-    leaving: u32,
     room: &mut StepOutput,
 ) -> TurnOutcome
-    requires set { IsSet unit.now placement.now leaving parts.old }
-    requires packet { IsReceivable (coded unit.now) parts.old.id (node_of parts.old).state (numbered packet).number (numbered packet).packet }
-    ensures { ReportsAct unit.now placement.now leaving (act_of result room.new) parts.old parts.new
-        (receipt (coded unit.now) parts.old.id (node_of parts.old).state (numbered packet).number (numbered packet).packet) }
+    requires set { IsSet plan.now.unit.now plan.now.placement.now plan.now.leaving parts.old }
+    requires packet { IsReceivable (coded plan.now.unit.now) parts.old.id (node_of parts.old).state (numbered packet).number (numbered packet).packet }
+    ensures { ReportsAct plan.now.unit.now plan.now.placement.now plan.now.leaving (act_of result room.new) parts.old parts.new
+        (receipt (coded plan.now.unit.now) parts.old.id (node_of parts.old).state (numbered packet).number (numbered packet).packet) }
 {
     match packet {
         Packet::Create {
@@ -162,19 +159,25 @@ fn received(
             from,
             node: _,
             class,
-        } => match class_named(unit, class) {
-            Some(place) => receive_create(
-                unit, placement, parts, number, from, place, class, leaving, room,
-            ),
+        } => match class_named(plan.unit, class) {
+            Some(place) => {
+                let creating = Creating {
+                    number,
+                    from,
+                    class: place,
+                    name: class,
+                };
+                receive_create(plan, parts, creating, room)
+            }
             None => TurnOutcome::Idle,
         },
         Packet::Created { number, to, name } => {
             let what = What::Created { object: to, name };
-            receive_value(unit, parts, number, Value::Ref(name), what, room)
+            receive_value(plan.unit, parts, number, Value::Ref(name), what, room)
         }
         Packet::Result { number, to, value } => {
             let what = What::Result { object: to, value };
-            receive_value(unit, parts, number, value, what, room)
+            receive_value(plan.unit, parts, number, value, what, room)
         }
         Packet::Request {
             number,
@@ -189,7 +192,7 @@ fn received(
                 args,
                 call: Some(number),
             };
-            receive_message(unit, placement, parts, to, message, leaving, room)
+            receive_message(plan, parts, to, message, room)
         }
         Packet::Async {
             from,
@@ -203,33 +206,31 @@ fn received(
                 args,
                 call: None,
             };
-            receive_message(unit, placement, parts, to, message, leaving, room)
+            receive_message(plan, parts, to, message, room)
         }
     }
 }
 
 /// Receives a packet within the limits of the node.
 pub(crate) fn receipt_of(
-    unit: &Unit,
-    placement: &Placement,
+    plan: &NodePlan<'_>,
     parts: &mut NodeParts,
     packet: Packet,
-    leaving: u32,
     room: &mut StepOutput,
 ) -> TurnOutcome
     requires whole { NodeInvariant parts.old }
-    requires unit { IsOfUnit unit.now (node_of parts.old) }
-    requires placement { IsOfPlacement unit.now placement.now (node_of parts.old) }
-    requires cells { message_count (slots_of parts.old) + leaving ≤ placement.now.cells }
-    requires packet { IsReceivable (coded unit.now) parts.old.id (node_of parts.old).state (numbered packet).number (numbered packet).packet }
+    requires unit { IsOfUnit plan.now.unit.now (node_of parts.old) }
+    requires placement { IsOfPlacement plan.now.unit.now plan.now.placement.now (node_of parts.old) }
+    requires cells { message_count (slots_of parts.old) + plan.now.leaving ≤ plan.now.placement.now.cells }
+    requires packet { IsReceivable (coded plan.now.unit.now) parts.old.id (node_of parts.old).state (numbered packet).number (numbered packet).packet }
     ensures act { IsActOf (act_of result room.new) (node_of parts.old) (node_of parts.new)
-        (receipt_act (coded unit.now) placement.now parts.old.id leaving (numbered packet) (node_of parts.old).state) }
+        (receipt_act (coded plan.now.unit.now) plan.now.placement.now parts.old.id plan.now.leaving (numbered packet) (node_of parts.old).state) }
     ensures whole { NodeInvariant parts.new }
-    ensures unit { IsOfUnit unit.now (node_of parts.new) }
+    ensures unit { IsOfUnit plan.now.unit.now (node_of parts.new) }
 {
     // Called for its contract: the frames are within their limit.
     let _frames = parts.heap.frames();
-    let told = received(unit, placement, parts, packet, leaving, room);
+    let told = received(plan, parts, packet, room);
     // Called for its contract: the frames are within their limit.
     let _frames = parts.heap.frames();
     told

@@ -9,10 +9,10 @@ ghost use Rattle.pool_node.specs.ActOf.{act_of};
 ghost use Rattle.pool_node.specs.NodeSteps.{IsSet, IsTurned, taken_label};
 
 use crate::acts::{name_of, step};
-use crate::types::{StepOutput, TurnOutcome};
+use crate::types::{NodePlan, StepOutput, TurnOutcome};
 use code_semantics::Unit;
 use mailbox::Message;
-use node_state::{NodeParts, called_place, first_possible, pick_in, serve_in};
+use node_state::NodeParts;
 use object_interp::plain_alt;
 use run_types::{FullKind, Label, Placement};
 
@@ -45,78 +45,75 @@ fn label_of(object: u32, message: &Message) -> Label
 
 /// Accepts the message at index `place` through alternative `alt`, unless there is no frame for its method.
 fn serve_turn(
-    unit: &Unit,
-    placement: &Placement,
+    plan: &NodePlan<'_>,
     parts: &mut NodeParts,
     slot: u32,
     alt: u32,
     place: usize,
     room: &mut StepOutput,
 ) -> TurnOutcome
-    requires set { (leaving : ℕ) × IsSet unit.now placement.now leaving parts.old }
+    requires set { IsSet plan.now.unit.now plan.now.placement.now plan.now.leaving parts.old }
     requires slot { slot < length parts.old.heap.objects }
     requires free { get_or parts.old.outstanding slot None ≡ None }
-    requires choosing { IsChoosing (code_kind unit.now (object_at parts.old.heap slot)) }
-    requires first { first_of_these (box_of parts.old.mailbox slot) 1 (offers_at unit.now (object_at parts.old.heap slot)) ≡ Some alt }
-    requires place { place_called (box_of parts.old.mailbox slot) (open_names (offer_at (offers_at unit.now (object_at parts.old.heap slot)) alt)) ≡ Some place }
-    ensures { (q leaving : ℕ) → IsSet unit.now placement.now leaving parts.old → IsTurned unit.now placement.now q leaving (act_of result room.new) parts.old parts.new slot }
+    requires choosing { IsChoosing (code_kind plan.now.unit.now (object_at parts.old.heap slot)) }
+    requires first { first_of_these (box_of parts.old.mailbox slot) 1 (offers_at plan.now.unit.now (object_at parts.old.heap slot)) ≡ Some alt }
+    requires place { place_called (box_of parts.old.mailbox slot) (open_names (offer_at (offers_at plan.now.unit.now (object_at parts.old.heap slot)) alt)) ≡ Some place }
+    ensures { (q : ℕ) → IsTurned plan.now.unit.now plan.now.placement.now q plan.now.leaving (act_of result room.new) parts.old parts.new slot }
 {
-    if parts.heap.frames() >= placement.frames {
+    if parts.heap.frames() >= plan.placement.frames {
         return TurnOutcome::Full {
             kind: FullKind::Frames,
         };
     }
     let object = name_of(parts, slot);
-    let message = serve_in(unit, parts, slot, alt, place);
+    let message = parts.serve(plan.unit, slot, alt, place);
     room.what = step(label_of(object, &message));
     TurnOutcome::Line
 }
 
 /// Chooses alternative `alt`, which is the first possible one.
 fn choose(
-    unit: &Unit,
-    placement: &Placement,
+    plan: &NodePlan<'_>,
     parts: &mut NodeParts,
     slot: u32,
     alt: u32,
     room: &mut StepOutput,
 ) -> TurnOutcome
-    requires set { (leaving : ℕ) × IsSet unit.now placement.now leaving parts.old }
+    requires set { IsSet plan.now.unit.now plan.now.placement.now plan.now.leaving parts.old }
     requires slot { slot < length parts.old.heap.objects }
     requires free { get_or parts.old.outstanding slot None ≡ None }
-    requires choosing { IsChoosing (code_kind unit.now (object_at parts.old.heap slot)) }
-    requires first { first_of_these (box_of parts.old.mailbox slot) 1 (offers_at unit.now (object_at parts.old.heap slot)) ≡ Some alt }
-    ensures { (q leaving : ℕ) → IsSet unit.now placement.now leaving parts.old → IsTurned unit.now placement.now q leaving (act_of result room.new) parts.old parts.new slot }
+    requires choosing { IsChoosing (code_kind plan.now.unit.now (object_at parts.old.heap slot)) }
+    requires first { first_of_these (box_of parts.old.mailbox slot) 1 (offers_at plan.now.unit.now (object_at parts.old.heap slot)) ≡ Some alt }
+    ensures { (q : ℕ) → IsTurned plan.now.unit.now plan.now.placement.now q plan.now.leaving (act_of result room.new) parts.old parts.new slot }
 {
-    if plain_alt(unit, &parts.heap, slot, alt) {
+    if plain_alt(plan.unit, &parts.heap, slot, alt) {
         let object = name_of(parts, slot);
-        pick_in(unit, parts, slot, alt);
+        parts.pick(plan.unit, slot, alt);
         room.what = step(Label::Pick { object, alt });
         return TurnOutcome::Line;
     }
-    match called_place(unit, &parts.heap, &parts.mailbox, slot, alt) {
-        Some(place) => serve_turn(unit, placement, parts, slot, alt, place, room),
+    match parts.called_place(plan.unit, slot, alt) {
+        Some(place) => serve_turn(plan, parts, slot, alt, place, room),
         None => TurnOutcome::Idle,
     }
 }
 
 /// Chooses the first possible alternative.
 pub(crate) fn choose_turn(
-    unit: &Unit,
-    placement: &Placement,
+    plan: &NodePlan<'_>,
     parts: &mut NodeParts,
     slot: u32,
     room: &mut StepOutput,
 ) -> TurnOutcome
-    requires set { (leaving : ℕ) × IsSet unit.now placement.now leaving parts.old }
+    requires set { IsSet plan.now.unit.now plan.now.placement.now plan.now.leaving parts.old }
     requires slot { slot < length parts.old.heap.objects }
     requires free { get_or parts.old.outstanding slot None ≡ None }
-    requires choosing { IsChoosing (code_kind unit.now (object_at parts.old.heap slot)) }
-    requires possible { is_some (first_of_these (box_of parts.old.mailbox slot) 1 (offers_at unit.now (object_at parts.old.heap slot))) ≡ true }
-    ensures { (q leaving : ℕ) → IsSet unit.now placement.now leaving parts.old → IsTurned unit.now placement.now q leaving (act_of result room.new) parts.old parts.new slot }
+    requires choosing { IsChoosing (code_kind plan.now.unit.now (object_at parts.old.heap slot)) }
+    requires possible { is_some (first_of_these (box_of parts.old.mailbox slot) 1 (offers_at plan.now.unit.now (object_at parts.old.heap slot))) ≡ true }
+    ensures { (q : ℕ) → IsTurned plan.now.unit.now plan.now.placement.now q plan.now.leaving (act_of result room.new) parts.old parts.new slot }
 {
-    match first_possible(unit, &parts.heap, &parts.mailbox, slot) {
-        Some(alt) => choose(unit, placement, parts, slot, alt, room),
+    match parts.first_possible(plan.unit, slot) {
+        Some(alt) => choose(plan, parts, slot, alt, room),
         None => TurnOutcome::Idle,
     }
 }

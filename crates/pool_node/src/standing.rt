@@ -15,7 +15,7 @@ ghost use Rattle.node_state.specs.OfUnit.{IsOfUnit};
 ghost use Rattle.node_state.specs.Views.{NodeInvariant, arrivals_of, node_of, slot_at, slots_of};
 
 use code_semantics::Unit;
-use node_state::{NodeParts, first_possible};
+use node_state::NodeParts;
 use object_interp::{Hand, Need, at_hand};
 use run_types::{Error, Standing};
 
@@ -78,7 +78,7 @@ fn choosing(unit: &Unit, parts: &NodeParts, slot: u32) -> Standing
     requires choosing { IsChoosing (code_kind unit.now (object_at parts.now.heap slot)) }
     ensures { told_standing result ≡ chosen_standing (can_step (arrivals (arrivals_of (box_of parts.now.mailbox slot))) (kind_of (code_kind unit.now (object_at parts.now.heap slot)))) }
 {
-    if first_possible(unit, &parts.heap, &parts.mailbox, slot).is_some() {
+    if parts.first_possible(unit, slot).is_some() {
         Standing::Ready
     } else {
         Standing::Awaits

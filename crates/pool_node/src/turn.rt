@@ -22,80 +22,77 @@ ghost use Rattle.pool_node.specs.Bits.{bit_in_turn};
 use crate::acts::{async_turn, call_turn, fault_turn, name_of, return_turn, write_turn};
 use crate::making::create_turn;
 use crate::serving::choose_turn;
-use crate::types::{StepOutput, TurnOutcome};
+use crate::types::{NodePlan, Returning, Sending, StepOutput, TurnOutcome};
 use code_semantics::Unit;
-use node_state::{NodeParts, refresh};
+use node_state::NodeParts;
 use object_interp::{Burst, Need, burst};
 use run_types::{FullKind, Label, Placement, What};
 
 /// Makes the step of an object with this request.
 fn need_turn(
-    unit: &Unit,
-    placement: &Placement,
+    plan: &NodePlan<'_>,
     parts: &mut NodeParts,
     slot: u32,
     need: Need,
-    leaving: u32,
     room: &mut StepOutput,
 ) -> TurnOutcome
-    requires set { IsSet unit.now placement.now leaving parts.old }
+    requires set { IsSet plan.now.unit.now plan.now.placement.now plan.now.leaving parts.old }
     requires slot { slot < length parts.old.heap.objects }
     requires free { get_or parts.old.outstanding slot None ≡ None }
-    requires steps { can_step (arrivals (arrivals_of (box_of parts.old.mailbox slot))) (kind_of (code_kind unit.now (object_at parts.old.heap slot))) ≡ true }
-    requires hand { H.At need ≡ hand_of unit.now (code_kind unit.now (object_at parts.old.heap slot)) }
+    requires steps { can_step (arrivals (arrivals_of (box_of parts.old.mailbox slot))) (kind_of (code_kind plan.now.unit.now (object_at parts.old.heap slot))) ≡ true }
+    requires hand { H.At need ≡ hand_of plan.now.unit.now (code_kind plan.now.unit.now (object_at parts.old.heap slot)) }
     requires countable { Each (λ k. k < 2 ^ 32 - 1) parts.old.made }
-    ensures { (q : ℕ) → IsTurned unit.now placement.now q leaving (act_of result room.new) parts.old parts.new slot }
+    ensures { (q : ℕ) → IsTurned plan.now.unit.now plan.now.placement.now q plan.now.leaving (act_of result room.new) parts.old parts.new slot }
 {
     match need {
-        Need::New { class } => create_turn(unit, placement, parts, slot, class, leaving, room),
+        Need::New { class } => create_turn(plan, parts, slot, class, room),
         Need::Send { to, method, args } => {
-            call_turn(
-                unit, placement, parts, slot, to, method, args, leaving, room,
-            )
+            call_turn(plan, parts, slot, Sending { to, method, args }, room)
         }
         Need::Async { to, method, args } => {
-            async_turn(
-                unit, placement, parts, slot, to, method, args, leaving, room,
-            )
+            async_turn(plan, parts, slot, Sending { to, method, args }, room)
         }
-        Need::Write { item } => write_turn(unit, parts, slot, item, room),
-        Need::Answer => choose_turn(unit, placement, parts, slot, room),
-        Need::Select => choose_turn(unit, placement, parts, slot, room),
+        Need::Write { item } => write_turn(plan.unit, parts, slot, item, room),
+        Need::Answer => choose_turn(plan, parts, slot, room),
+        Need::Select => choose_turn(plan, parts, slot, room),
         Need::Return {
             caller,
             number,
             value,
-        } => return_turn(
-            unit, placement, parts, slot, caller, number, value, leaving, room,
-        ),
-        Need::Fault { error } => fault_turn(unit, parts, slot, error, room),
+        } => {
+            let returning = Returning {
+                caller,
+                number,
+                value,
+            };
+            return_turn(plan, parts, slot, returning, room)
+        }
+        Need::Fault { error } => fault_turn(plan.unit, parts, slot, error, room),
         Need::Halted => TurnOutcome::Idle,
     }
 }
 
 /// Makes the step of a ready object: up to `quantum` local transitions, or its request.
 fn slot_turn(
-    unit: &Unit,
-    placement: &Placement,
+    plan: &NodePlan<'_>,
     parts: &mut NodeParts,
     slot: u32,
     quantum: u32,
-    leaving: u32,
     room: &mut StepOutput,
 ) -> TurnOutcome
-    requires set { IsSet unit.now placement.now leaving parts.old }
+    requires set { IsSet plan.now.unit.now plan.now.placement.now plan.now.leaving parts.old }
     requires slot { slot < length parts.old.heap.objects }
     requires free { get_or parts.old.outstanding slot None ≡ None }
     requires fault { get_or parts.old.faults slot None ≡ None }
-    requires steps { can_step (arrivals (arrivals_of (box_of parts.old.mailbox slot))) (kind_of (code_kind unit.now (object_at parts.old.heap slot))) ≡ true }
+    requires steps { can_step (arrivals (arrivals_of (box_of parts.old.mailbox slot))) (kind_of (code_kind plan.now.unit.now (object_at parts.old.heap slot))) ≡ true }
     requires quantum { 1 ≤ quantum }
     requires countable { Each (λ k. k < 2 ^ 32 - 1) parts.old.made }
-    ensures { IsTurned unit.now placement.now quantum leaving (act_of result room.new) parts.old parts.new slot }
+    ensures { IsTurned plan.now.unit.now plan.now.placement.now quantum plan.now.leaving (act_of result room.new) parts.old parts.new slot }
 {
     let object = name_of(parts, slot);
-    match burst(unit, &mut parts.heap, slot, quantum) {
+    match burst(plan.unit, &mut parts.heap, slot, quantum) {
         Burst::Local { steps } => {
-            refresh(unit, parts, slot);
+            parts.refresh(plan.unit, slot);
             room.what = What::Step {
                 label: Label::Local { object },
                 times: steps,
@@ -105,7 +102,7 @@ fn slot_turn(
         Burst::FramesFull => TurnOutcome::Full {
             kind: FullKind::Frames,
         },
-        Burst::At(need) => need_turn(unit, placement, parts, slot, need, leaving, room),
+        Burst::At(need) => need_turn(plan, parts, slot, need, room),
     }
 }
 
@@ -147,31 +144,29 @@ fn keep_last(parts: &mut NodeParts, told: TurnOutcome, before: Option<u32>)
 
 /// Makes the step of the slot whose turn it is.
 fn step_of(
-    unit: &Unit,
-    placement: &Placement,
+    plan: &NodePlan<'_>,
     parts: &mut NodeParts,
     slot: u32,
     quantum: u32,
-    leaving: u32,
     room: &mut StepOutput,
 ) -> TurnOutcome
     requires whole { NodeInvariant parts.old }
-    requires unit { IsOfUnit unit.now (node_of parts.old) }
-    requires placement { IsOfPlacement unit.now placement.now (node_of parts.old) }
+    requires unit { IsOfUnit plan.now.unit.now (node_of parts.old) }
+    requires placement { IsOfPlacement plan.now.unit.now plan.now.placement.now (node_of parts.old) }
     requires quantum { 1 ≤ quantum }
-    requires cells { message_count (slots_of parts.old) + leaving ≤ placement.now.cells }
+    requires cells { message_count (slots_of parts.old) + plan.now.leaving ≤ plan.now.placement.now.cells }
     requires countable { Each (λ k. k < 2 ^ 32 - 1) parts.old.made }
     requires turn { bit_in_turn parts.old.last (take (length parts.old.heap.objects) parts.old.ready) ≡ Some slot }
     ensures act { (fresh : ℕ) × IsUnused fresh (node_of parts.old).state
-        × IsActOf (act_of result room.new) (node_of parts.old) (node_of parts.new) (turn_act (coded unit.now) placement.now quantum parts.old.id leaving fresh (node_of parts.old).state) }
+        × IsActOf (act_of result room.new) (node_of parts.old) (node_of parts.new) (turn_act (coded plan.now.unit.now) plan.now.placement.now quantum parts.old.id plan.now.leaving fresh (node_of parts.old).state) }
     ensures whole { NodeInvariant parts.new }
-    ensures unit { IsOfUnit unit.now (node_of parts.new) }
+    ensures unit { IsOfUnit plan.now.unit.now (node_of parts.new) }
 {
     let before = parts.last;
     // Called for its contract: the frames are within their limit.
     let _frames = parts.heap.frames();
     parts.last = Some(slot);
-    let told = slot_turn(unit, placement, parts, slot, quantum, leaving, room);
+    let told = slot_turn(plan, parts, slot, quantum, room);
     keep_last(parts, told, before);
     // Called for its contract: the frames are within their limit.
     let _frames = parts.heap.frames();
@@ -180,26 +175,24 @@ fn step_of(
 
 /// Makes a turn of a node.
 pub(crate) fn turn_of(
-    unit: &Unit,
-    placement: &Placement,
+    plan: &NodePlan<'_>,
     parts: &mut NodeParts,
     quantum: u32,
-    leaving: u32,
     room: &mut StepOutput,
 ) -> TurnOutcome
     requires whole { NodeInvariant parts.old }
-    requires unit { IsOfUnit unit.now (node_of parts.old) }
-    requires placement { IsOfPlacement unit.now placement.now (node_of parts.old) }
+    requires unit { IsOfUnit plan.now.unit.now (node_of parts.old) }
+    requires placement { IsOfPlacement plan.now.unit.now plan.now.placement.now (node_of parts.old) }
     requires quantum { 1 ≤ quantum }
-    requires cells { message_count (slots_of parts.old) + leaving ≤ placement.now.cells }
+    requires cells { message_count (slots_of parts.old) + plan.now.leaving ≤ plan.now.placement.now.cells }
     requires countable { Each (λ k. k < 2 ^ 32 - 1) parts.old.made }
     ensures act { (fresh : ℕ) × IsUnused fresh (node_of parts.old).state
-        × IsActOf (act_of result room.new) (node_of parts.old) (node_of parts.new) (turn_act (coded unit.now) placement.now quantum parts.old.id leaving fresh (node_of parts.old).state) }
+        × IsActOf (act_of result room.new) (node_of parts.old) (node_of parts.new) (turn_act (coded plan.now.unit.now) plan.now.placement.now quantum parts.old.id plan.now.leaving fresh (node_of parts.old).state) }
     ensures whole { NodeInvariant parts.new }
-    ensures unit { IsOfUnit unit.now (node_of parts.new) }
+    ensures unit { IsOfUnit plan.now.unit.now (node_of parts.new) }
 {
     match slot_in_turn(parts) {
-        Some(slot) => step_of(unit, placement, parts, slot, quantum, leaving, room),
+        Some(slot) => step_of(plan, parts, slot, quantum, room),
         None => TurnOutcome::Idle,
     }
 }

@@ -2,8 +2,43 @@
 ghost use Rattle.std.specs.Prelude.{◌≡◌};
 ghost use Rattle.run_types.specs.declared.types.What.TheVariants as W;
 
+use code_semantics::Unit;
 use rendezvous_protocol::Packet;
-use run_types::{FullKind, What};
+use run_types::{Args, FullKind, NameId, Placement, Value, What};
+
+/// What a step of a node reads and does not change: the unit, the placement, and the number of packets on the links
+/// that leave the node.
+#[derive(Clone, Copy)]
+pub struct NodePlan<'a> {
+    pub unit: &'a Unit,
+    pub placement: &'a Placement,
+    pub leaving: u32,
+}
+
+/// A message that an object sends.
+#[derive(Clone, Copy)]
+pub(crate) struct Sending {
+    pub to: u32,
+    pub method: NameId,
+    pub args: Args,
+}
+
+/// A value that a method returns to its caller, whose request has this number.
+#[derive(Clone, Copy)]
+pub(crate) struct Returning {
+    pub caller: u32,
+    pub number: u32,
+    pub value: Value,
+}
+
+/// A request of another node's object for a new object: its number, the object, and the class by index and name.
+#[derive(Clone, Copy)]
+pub(crate) struct Creating {
+    pub number: u32,
+    pub from: u32,
+    pub class: u32,
+    pub name: NameId,
+}
 
 /// The output buffer of a step: the content of its line, and the packet that leaves the node.
 #[derive(Drop)]

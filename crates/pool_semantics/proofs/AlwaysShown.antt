@@ -9,15 +9,15 @@ use Rattle.pool_relation.specs.Configuration.{Configuration, object_of}
 use Rattle.pool_relation.specs.Typed.{CanTake, GoesWrong}
 use Rattle.run_types.specs.declared.verdicts.Redex.{Redex}
 use Rattle.pool_semantics.specs.Sound.{Sound}
-use Rattle.pool_semantics.specs.Shown.{are_few, shown, shown_of, shown_if, shown_at}
+use Rattle.pool_semantics.specs.Shown.{are_at_most_eight, shown, shown_of, shown_if, shown_at}
 use Rattle.pool_relation.proofs.Laws.{few_parameters}
 use Rattle.pool_semantics.proofs.TypedFacts.{nobody_goes_wrong}
 
-no_few : (vs : List Value) → length vs ≤ 8 → are_few vs ≡ true
-no_few vs h = let e : length vs - 8 ≡ 0 = omega arith in eq-eqb (length vs - 8) 0 e
+are_bounded : (vs : List Value) → length vs ≤ 8 → are_at_most_eight vs ≡ true
+are_bounded vs h = let e : length vs - 8 ≡ 0 = omega arith in eq-eqb (length vs - 8) 0 e
 
-can_take : (p : ProgramTree) (c : Configuration) (b m : ℕ) (vs : List Value) → Sound p c → are_few vs ≡ false → CanTake p c b m (length vs) → ⊥
-can_take p c b m vs s f t = let e = no_few vs (few_parameters p t.0.class m (length vs) t.1 s.faultless t.3) in grind (arith, e)
+can_take : (p : ProgramTree) (c : Configuration) (b m : ℕ) (vs : List Value) → Sound p c → are_at_most_eight vs ≡ false → CanTake p c b m (length vs) → ⊥
+can_take p c b m vs s f t = let e = are_bounded vs (few_parameters p t.0.class m (length vs) t.1 s.faultless t.3) in grind (arith, e)
 
 -- what is not shown goes wrong
 hidden : (p : ProgramTree) (c : Configuration) (o : ℕ) (a : Action) → Sound p c → shown a ≡ None → GoesWrong p c o a
@@ -25,8 +25,8 @@ hidden p c o A.Finished s h = absurd (grind arith)
 hidden p c o (A.Local t v) s h = absurd (grind arith)
 hidden p c o (A.Fault e) s h = absurd (grind arith)
 hidden p c o (A.New k) s h = absurd (grind arith)
-hidden p c o (A.Send b m vs) s h = let f : are_few vs ≡ false = grind arith in can_take p c b m vs s f
-hidden p c o (A.Async b m vs) s h = let f : are_few vs ≡ false = grind arith in can_take p c b m vs s f
+hidden p c o (A.Send b m vs) s h = let f : are_at_most_eight vs ≡ false = grind arith in can_take p c b m vs s f
+hidden p c o (A.Async b m vs) s h = let f : are_at_most_eight vs ≡ false = grind arith in can_take p c b m vs s f
 hidden p c o (A.Write i) s h = absurd (grind arith)
 hidden p c o (A.Answer names) s h = absurd (grind arith)
 hidden p c o (A.Select cs) s h = absurd (grind arith)

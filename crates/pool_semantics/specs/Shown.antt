@@ -10,8 +10,8 @@ use Rattle.run_types.specs.declared.verdicts.Redex.{Redex}
 use Rattle.run_types.specs.declared.verdicts.Redex.TheVariants as R
 
 -- whether there are at most 8 values
-abbrev pub are_few : List Value → Bool
-are_few vs = length vs - 8 == 0
+abbrev pub are_at_most_eight : List Value → Bool
+are_at_most_eight vs = length vs - 8 == 0
 
 -- the form of an action; None if the object is stuck, or if it has more than 8 arguments for another object
 abbrev pub shown : Action → Option Redex
@@ -19,8 +19,8 @@ shown A.Finished = Some R.Finished
 shown (A.Local term vars) = Some R.Local
 shown (A.Fault e) = Some (R.Fault e)
 shown (A.New c) = Some (R.New (record { 0 = c }))
-shown (A.Send b m vs) = if are_few vs then Some (R.Send b (record { 0 = m }) vs) else None
-shown (A.Async b m vs) = if are_few vs then Some (R.Async b (record { 0 = m }) vs) else None
+shown (A.Send b m vs) = if are_at_most_eight vs then Some (R.Send b (record { 0 = m }) vs) else None
+shown (A.Async b m vs) = if are_at_most_eight vs then Some (R.Async b (record { 0 = m }) vs) else None
 shown (A.Write i) = Some (R.Write i)
 shown (A.Answer names) = Some R.Answer
 shown (A.Select choices) = Some R.Select

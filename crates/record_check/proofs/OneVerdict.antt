@@ -19,7 +19,7 @@ use Rattle.run_types.specs.declared.verdicts.Verdict.{Verdict}
 use Rattle.run_types.specs.declared.verdicts.Verdict.TheVariants as V
 use Rattle.record_check.specs.RecordJudgement.{root, IsRunOf, LeadsTo, StopsAt, StillMoves, Judged}
 
-labels_split : (xs ys : List Line) → labels (xs ++ ys) ≡ labels xs ++ labels ys
+pub labels_split : (xs ys : List Line) → labels (xs ++ ys) ≡ labels xs ++ labels ys
 labels_split [] ys = refl
 labels_split (x ∷ xs) ys = ap (λ ls. labels_of x ++ ls) (labels_split xs ys) ∙ sym (append_assoc (labels_of x) (labels xs) (labels ys))
 

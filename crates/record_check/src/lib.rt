@@ -10,6 +10,6 @@ pub mod theorems;
 mod verdict;
 
 pub use labels::root;
-pub use lead::{Mismatch, follow_line};
+pub use lead::{Mismatch, follow, follow_line};
 pub use line::verdict_line;
 pub use verdict::{check_record, judge_end};

@@ -4,8 +4,8 @@ use denote.Bor.{Bor}
 use Rattle.text_scan.specs.Text.{Text}
 use Rattle.run_types.specs.declared.types.Value.{Value}
 use Rattle.text_scan.specs.Lines.{at_front}
-use Rattle.record_parser.specs.declared.fields.Few.{Few}
-use Rattle.record_parser.specs.declared.fields.Few.TheVariants as F
+use Rattle.record_parser.specs.declared.fields.FirstFields.{FirstFields}
+use Rattle.record_parser.specs.declared.fields.FirstFields.TheVariants as F
 use Rattle.record_parser.specs.Fields.{object_of, parts, value_of, values_within}
 use Rattle.run_types.specs.Partial.{◌>>=◌}
 use Rattle.record_parser.specs.TextParts.{AreFields}
@@ -47,7 +47,7 @@ four_words a b c [] f h = absurd (omega arith)
 four_words a b c (d ∷ ps) f h = refl
 
 -- words that are no three say nothing of three words
-pub not_three : {A : Type 0} (ws : List Text) (few : Few) (f : Text → Text → Text → Option A)
+pub not_three : {A : Type 0} (ws : List Text) (few : FirstFields) (f : Text → Text → Text → Option A)
     → AreFields ws few → ((a b c : Bor Text) → few ≡ F.Three a b c → ⊥) → None ≡ for_three ws f
 not_three ws (F.One a) f e other = sym (ap (λ vs. for_three vs f) e)
 not_three ws (F.Two a b) f e other = sym (ap (λ vs. for_three vs f) e)

@@ -2,8 +2,8 @@
 use Rattle.std.specs.Prelude.{◌≡◌, ℕ, List, [], ◌∷◌, option_map, Option, Some, None}
 use Rattle.text_scan.specs.Text.{Text}
 use Rattle.record_parser.specs.declared.fields.Front.{Front}
-use Rattle.record_parser.specs.declared.fields.Few.{Few}
-use Rattle.record_parser.specs.declared.fields.Few.TheVariants as F
+use Rattle.record_parser.specs.declared.fields.FirstFields.{FirstFields}
+use Rattle.record_parser.specs.declared.fields.FirstFields.TheVariants as F
 use Rattle.record_parser.specs.Fields.{fields, parts}
 
 -- the parts of the rest after a separator, if there was one
@@ -15,7 +15,7 @@ parts_left s (Some t) = parts s t
 abbrev pub IsCut : ℕ → List Text → Front → Type 0
 IsCut s ps c = ps ≡ c.first.now ∷ parts_left s (option_map (λ t. t.now) c.rest)
 
-abbrev pub AreFields : List Text → Few → Type 0
+abbrev pub AreFields : List Text → FirstFields → Type 0
 AreFields ws (F.One a) = ws ≡ a.now ∷ []
 AreFields ws (F.Two a b) = ws ≡ a.now ∷ b.now ∷ []
 AreFields ws (F.Three a b c) = ws ≡ a.now ∷ b.now ∷ c.now ∷ []

@@ -33,7 +33,7 @@ pub fn cut(separator: u8, text: &[u8]) -> Front<'_>
 
 /// The words of a text. If there are more than three, the last text has all words after the third.
 #[derive(Clone, Copy)]
-pub enum Few<'a> {
+pub enum FirstFields<'a> {
     One(&'a [u8]),
     Two(&'a [u8], &'a [u8]),
     Three(&'a [u8], &'a [u8], &'a [u8]),
@@ -41,20 +41,20 @@ pub enum Few<'a> {
 }
 
 /// Splits a text into words at each space. An empty word counts.
-pub fn few_fields(text: &[u8]) -> Few<'_>
+pub fn first_fields(text: &[u8]) -> FirstFields<'_>
     ensures { AreFields (fields text.now) result }
 {
     let one = cut(b' ', text);
     let Some(behind_one) = one.rest else {
-        return Few::One(one.first);
+        return FirstFields::One(one.first);
     };
     let two = cut(b' ', behind_one);
     let Some(behind_two) = two.rest else {
-        return Few::Two(one.first, two.first);
+        return FirstFields::Two(one.first, two.first);
     };
     let three = cut(b' ', behind_two);
     match three.rest {
-        None => Few::Three(one.first, two.first, three.first),
-        Some(rest) => Few::More(one.first, two.first, three.first, rest),
+        None => FirstFields::Three(one.first, two.first, three.first),
+        Some(rest) => FirstFields::More(one.first, two.first, three.first, rest),
     }
 }

@@ -5,7 +5,7 @@ ghost use Rattle.record_parser.specs.Lines.{end_of, end_of_two, event_of, full_o
 ghost use Rattle.record_parser.specs.Shown.{what_of};
 ghost use Rattle.record_parser.specs.ReadLineView.{told};
 
-use crate::fields::{Few, cut, few_fields};
+use crate::fields::{FirstFields, cut, first_fields};
 use crate::shown::what_in;
 use crate::spelled::count;
 use run_types::{End, Event, FullKind, Line, WireAct};
@@ -82,11 +82,11 @@ fn full_in(full: &[u8], kind: &[u8], node: &[u8], left: &[u8]) -> Option<ReadLin
 fn end_in(words: &[u8]) -> Option<ReadLine<'static>>
     ensures { option_map told result ≡ end_of (fields words.now) }
 {
-    match few_fields(words) {
-        Few::One(_) => None,
-        Few::Two(how, number) => end_of_two(how, number),
-        Few::Three(_, _, _) => None,
-        Few::More(full, kind, node, left) => full_in(full, kind, node, left),
+    match first_fields(words) {
+        FirstFields::One(_) => None,
+        FirstFields::Two(how, number) => end_of_two(how, number),
+        FirstFields::Three(_, _, _) => None,
+        FirstFields::More(full, kind, node, left) => full_in(full, kind, node, left),
     }
 }
 

@@ -6,7 +6,7 @@ ghost use Rattle.record_parser.specs.Shown.{arrive_of, created_of, delay_of, fau
 ghost use Rattle.record_parser.specs.Shown.{pick_of, post_by, post_of, result_of, return_of, shown_by, step_of, what_of, write_of};
 ghost use Rattle.record_parser.specs.ReadView.{shown};
 
-use crate::fields::{Few, cut, few_fields};
+use crate::fields::{FirstFields, cut, first_fields};
 use crate::spelled::{begins_with, count, error, name, object, positive, string, value};
 use run_types::{Args, Item, Label, NameId, What};
 
@@ -60,7 +60,7 @@ fn one_step<'a>(label: Label, text: Option<&'a [u8]>) -> Read<'a>
 fn local_in(words: &[u8]) -> Option<Read<'_>>
     ensures { option_map shown result ≡ local_of (fields words.now) }
 {
-    let Few::Two(one, two) = few_fields(words) else {
+    let FirstFields::Two(one, two) = first_fields(words) else {
         return None;
     };
     let object = object(one)?;
@@ -77,7 +77,7 @@ fn local_in(words: &[u8]) -> Option<Read<'_>>
 fn new_in(words: &[u8]) -> Option<Read<'_>>
     ensures { option_map shown result ≡ new_of (fields words.now) }
 {
-    let Few::Three(one, two, three) = few_fields(words) else {
+    let FirstFields::Three(one, two, three) = first_fields(words) else {
         return None;
     };
     let maker = object(one)?;
@@ -94,7 +94,7 @@ fn new_in(words: &[u8]) -> Option<Read<'_>>
 fn return_in(words: &[u8]) -> Option<Read<'_>>
     ensures { option_map shown result ≡ return_of (fields words.now) }
 {
-    let Few::Three(one, two, three) = few_fields(words) else {
+    let FirstFields::Three(one, two, three) = first_fields(words) else {
         return None;
     };
     let receiver = object(one)?;
@@ -111,7 +111,7 @@ fn return_in(words: &[u8]) -> Option<Read<'_>>
 fn pick_in(words: &[u8]) -> Option<Read<'_>>
     ensures { option_map shown result ≡ pick_of (fields words.now) }
 {
-    let Few::Two(one, two) = few_fields(words) else {
+    let FirstFields::Two(one, two) = first_fields(words) else {
         return None;
     };
     let object = object(one)?;
@@ -122,7 +122,7 @@ fn pick_in(words: &[u8]) -> Option<Read<'_>>
 fn fault_in(words: &[u8]) -> Option<Read<'_>>
     ensures { option_map shown result ≡ fault_of (fields words.now) }
 {
-    let Few::Two(one, two) = few_fields(words) else {
+    let FirstFields::Two(one, two) = first_fields(words) else {
         return None;
     };
     let object = object(one)?;
@@ -133,7 +133,7 @@ fn fault_in(words: &[u8]) -> Option<Read<'_>>
 fn arrive_in(words: &[u8]) -> Option<Read<'_>>
     ensures { option_map shown result ≡ arrive_of (fields words.now) }
 {
-    let Few::Three(one, two, three) = few_fields(words) else {
+    let FirstFields::Three(one, two, three) = first_fields(words) else {
         return None;
     };
     let sender = object(one)?;
@@ -152,7 +152,7 @@ fn arrive_in(words: &[u8]) -> Option<Read<'_>>
 fn created_in(words: &[u8]) -> Option<Read<'_>>
     ensures { option_map shown result ≡ created_of (fields words.now) }
 {
-    let Few::Two(one, two) = few_fields(words) else {
+    let FirstFields::Two(one, two) = first_fields(words) else {
         return None;
     };
     let maker = object(one)?;
@@ -169,7 +169,7 @@ fn created_in(words: &[u8]) -> Option<Read<'_>>
 fn result_in(words: &[u8]) -> Option<Read<'_>>
     ensures { option_map shown result ≡ result_of (fields words.now) }
 {
-    let Few::Two(one, two) = few_fields(words) else {
+    let FirstFields::Two(one, two) = first_fields(words) else {
         return None;
     };
     let object = object(one)?;
@@ -237,11 +237,11 @@ fn message_from<'a>(
 fn message_in(kind: Message, words: &[u8]) -> Option<Read<'_>>
     ensures { option_map shown result ≡ message_of kind (fields words.now) }
 {
-    match few_fields(words) {
-        Few::One(_) => None,
-        Few::Two(_, _) => None,
-        Few::Three(one, two, three) => message_from(kind, one, two, three, None),
-        Few::More(one, two, three, rest) => message_from(kind, one, two, three, Some(rest)),
+    match first_fields(words) {
+        FirstFields::One(_) => None,
+        FirstFields::Two(_, _) => None,
+        FirstFields::Three(one, two, three) => message_from(kind, one, two, three, None),
+        FirstFields::More(one, two, three, rest) => message_from(kind, one, two, three, Some(rest)),
     }
 }
 
@@ -276,7 +276,7 @@ fn write_in(words: &[u8]) -> Option<Read<'_>>
 fn create_in(words: &[u8]) -> Option<Read<'_>>
     ensures { option_map shown result ≡ create_of (fields words.now) }
 {
-    let Few::Three(one, two, three) = few_fields(words) else {
+    let FirstFields::Three(one, two, three) = first_fields(words) else {
         return None;
     };
     let maker = object(one)?;
@@ -349,11 +349,11 @@ fn step_in<'a>(word: &[u8], words: &'a [u8]) -> Option<Read<'a>>
 fn only_count(words: &[u8]) -> Option<u32>
     ensures { result ≡ only_count (fields words.now) }
 {
-    match few_fields(words) {
-        Few::One(one) => count(one),
-        Few::Two(_, _) => None,
-        Few::Three(_, _, _) => None,
-        Few::More(_, _, _, _) => None,
+    match first_fields(words) {
+        FirstFields::One(one) => count(one),
+        FirstFields::Two(_, _) => None,
+        FirstFields::Three(_, _, _) => None,
+        FirstFields::More(_, _, _, _) => None,
     }
 }
 

@@ -37,13 +37,13 @@ use Rattle.run_record.specs.declared.asks.Asks.{Asks}
 use Rattle.run_record.specs.Table.{AreInTable, HasLast, InTable}
 use Rattle.command_line.specs.declared.command.Show.{Show}
 use Rattle.command_line.specs.declared.command.Show.TheVariants as Sh
-use Rattle.run_loop.specs.declared.status.Status.{Status}
-use Rattle.run_loop.specs.declared.status.Status.TheVariants as S
+use Rattle.command_shell.specs.declared.status.Status.{Status}
+use Rattle.command_shell.specs.declared.status.Status.TheVariants as S
 use Rattle.run_loop.specs.RunOutput.{Drives, HasRun, IsLoaded, run, run_from, shown_first, shown_line, shown_lines, shown_record, stopped, tells_fault, IsTableOf}
 use Rattle.run_loop.proofs.RunUnderWay.{GoesTo, IsGoing}
 use Rattle.pool_outside.specs.declared.calls.WriteFault.{WriteFault}
-use Rattle.run_loop.specs.Writing.{Writing, IsIdle, Wrote, WroteFront, Delivers, Writes}
-use Rattle.run_loop.specs.Writing as D
+use Rattle.command_shell.specs.Writing.{Writing, IsIdle, Wrote, WroteFront, Delivers, Writes}
+use Rattle.command_shell.specs.Writing as D
 use Rattle.run_loop.specs.declared.drive.RunEnd.{RunEnd}
 use Rattle.run_loop.proofs.AskerLaws.{act_there}
 use Rattle.wait_report.specs.declared.rows.ObjectRow.{ObjectRow}

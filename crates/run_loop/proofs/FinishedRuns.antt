@@ -12,14 +12,14 @@ use Rattle.command_line.specs.declared.command.Show.{Show}
 use Rattle.command_line.specs.declared.command.Show.TheVariants as Sh
 use Rattle.run_loop.specs.declared.loaded.Loaded.{Loaded}
 use Rattle.run_loop.specs.declared.run.FinishedRun.{FinishedRun}
-use Rattle.run_loop.specs.declared.status.Status.{Status}
-use Rattle.run_loop.specs.declared.status.Status.TheVariants as S
+use Rattle.command_shell.specs.declared.status.Status.{Status}
+use Rattle.command_shell.specs.declared.status.Status.TheVariants as S
 use Rattle.run_loop.specs.FinishedRun.{HasDriven, driven, halted, lacks}
 use Rattle.run_loop.specs.RunOutput.{Drives, HasRun, run, run_from, shown_record, stopped}
 use Rattle.run_loop.specs.Loading.{lines_of, run_of}
 use Rattle.run_loop.specs.Shown.{status_of}
-use Rattle.run_loop.specs.Writing as D
-use Rattle.run_loop.specs.Writing.{Writing, Delivers, WroteFront}
+use Rattle.command_shell.specs.Writing as D
+use Rattle.command_shell.specs.Writing.{Writing, Delivers, WroteFront}
 use Rattle.run_loop.proofs.DriveLaws.{front_of_first}
 
 module _ (r : Loaded) where

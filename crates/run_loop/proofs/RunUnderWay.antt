@@ -16,7 +16,7 @@ use Rattle.record_writer.specs.Writable.{IsWritable}
 use Rattle.run_record.specs.declared.asks.Asks.{Asks}
 use Rattle.command_line.specs.declared.command.Show.{Show}
 use Rattle.command_line.specs.declared.command.Show.TheVariants as Sh
-use Rattle.run_loop.specs.Writing.{Writing, Wrote}
+use Rattle.command_shell.specs.Writing.{Writing, Wrote}
 use Rattle.run_loop.specs.Shown.{events_in, moves_in, status_after}
 use Rattle.run_loop.specs.RunOutput.{shown_lines, shown_record, IsTableOf, run_from}
 

@@ -8,11 +8,11 @@ use Rattle.command_line.specs.declared.command.Show.{Show}
 use Rattle.command_line.specs.declared.command.Show.TheVariants as Sh
 use Rattle.run_loop.specs.declared.loaded.Loaded.{Loaded}
 use Rattle.run_loop.specs.declared.run.FinishedRun.{FinishedRun}
-use Rattle.run_loop.specs.declared.status.Status.{Status}
-use Rattle.run_loop.specs.declared.status.Status.TheVariants as S
+use Rattle.command_shell.specs.declared.status.Status.{Status}
+use Rattle.command_shell.specs.declared.status.Status.TheVariants as S
 use Rattle.run_loop.specs.RunOutput.{HasRun, shown_record}
 use Rattle.run_loop.specs.Loading.{lines_of}
-use Rattle.run_loop.specs.Writing.{Writing, IsIdle, WroteFront}
+use Rattle.command_shell.specs.Writing.{Writing, IsIdle, WroteFront}
 
 -- The run has ended, and its text was written except the end
 -- line. Or a write failed after a prefix of the text was written.

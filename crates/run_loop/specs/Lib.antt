@@ -2,8 +2,6 @@
 pub mod Shown
 pub mod Reports
 -- Internal: what it does not.
-pub mod Statuses
-pub mod Writing
 pub mod ReportRows
 pub mod RunOutput
 pub mod Loading

@@ -31,7 +31,7 @@ use Rattle.command_line.specs.declared.command.Show.{Show}
 use Rattle.command_line.specs.declared.command.Show.TheVariants as Sh
 use Rattle.run_loop.specs.declared.drive.RunEnd.{RunEnd}
 use Rattle.pool_outside.specs.declared.calls.WriteFault.{WriteFault}
-use Rattle.run_loop.specs.Writing.{Writing, Wrote, WroteFront}
+use Rattle.command_shell.specs.Writing.{Writing, Wrote, WroteFront}
 use Rattle.run_loop.specs.Shown.{ended, end_text, events_in, moves_in, record_over, shows_fault, status_of, writes_of}
 
 -- the item that a step writes

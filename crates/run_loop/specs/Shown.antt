@@ -17,8 +17,8 @@ use Rattle.mesh_semantics.specs.Record.{record_at}
 use Rattle.pool_machine.specs.SentPackets.{moved, nothing_sent}
 use Rattle.schedule_reader.specs.Schedules.{Plan}
 use Rattle.record_writer.specs.RecordText.{line_text, text_at, value_text}
-use Rattle.run_loop.specs.declared.status.Status.{Status}
-use Rattle.run_loop.specs.declared.status.Status.TheVariants as S
+use Rattle.command_shell.specs.declared.status.Status.{Status}
+use Rattle.command_shell.specs.declared.status.Status.TheVariants as S
 
 -- the record over a schedule, from the start with nothing on its way; the links are wires if the schedule is lossy
 abbrev pub record_over : {S : Type 0} → Language S → Placement → Plan → M.Record S

@@ -8,12 +8,12 @@ ghost use Rattle.mesh_of_code.specs.Coded.{Placed};
 ghost use Rattle.pool_machine.specs.Answers.{MachineRepresents};
 ghost use Rattle.record_writer.specs.Writable.{AreShort, IsWritable, id_of_what};
 ghost use Rattle.run_loop.specs.RunOutput.{Drives, HasBegun, IsLoaded, IsTableOf, item_of, shown_first, shown_line, tells_fault};
-ghost use Rattle.run_loop.specs.Writing.{Wrote, WroteFront, writing, Writes};
+ghost use Rattle.command_shell.specs.Writing.{Wrote, WroteFront, writing, Writes};
 ghost use Rattle.run_loop.specs.Shown.{ended, shows_fault, writes_of};
 
 use crate::loaded::Loaded;
-use crate::status::Status;
 use command_line::Show;
+use command_shell::Status;
 use pool_machine::{EventOutcome, Machine, StepOutput};
 use pool_outside::{Sink, WriteFault};
 use record_writer::write_event2;

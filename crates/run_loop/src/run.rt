@@ -4,14 +4,14 @@ ghost use Rattle.run_loop.specs.FinishedRun.{HasDriven};
 ghost use Rattle.run_loop.specs.RunOutput.{IsLoaded, shown_record};
 ghost use Rattle.run_loop.specs.Loading.{lines_of, run_text};
 ghost use Rattle.run_loop.specs.Shown.{counts_text, end_text, ended, ring_text, status_of};
-ghost use Rattle.run_loop.specs.Writing.{Delivers, writing};
+ghost use Rattle.command_shell.specs.Writing.{Delivers, writing};
 
 use crate::drive::{RunEnd, drive, finish, make_table};
 use crate::loaded::Loaded;
-use crate::status::Status;
 use crate::why::write_report;
 use command_inputs::{push_count, push_place};
 use command_line::Show;
+use command_shell::Status;
 use pool_machine::{Machine, OpenFault};
 use pool_outside::{Sink, WriteFault, write_all_of};
 use run_types::{Line, Names};

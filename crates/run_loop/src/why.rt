@@ -8,13 +8,13 @@ ghost use Rattle.code_semantics.specs.Suits.{Suits};
 ghost use Rattle.pool_machine.specs.Answers.{MachineRepresents};
 ghost use Rattle.wait_report.specs.Report.{report_text};
 ghost use Rattle.run_loop.specs.RunOutput.{IsUnderWay};
-ghost use Rattle.run_loop.specs.Writing.{Delivers, writing};
+ghost use Rattle.command_shell.specs.Writing.{Delivers, writing};
 ghost use Rattle.run_loop.specs.ReportRows.{row_at, rows_below, rows_in};
 ghost use Rattle.run_loop.specs.Shown.{ended, end_text};
 
 use crate::drive::{RunEnd, finish};
-use crate::status::Status;
 use command_line::Show;
+use command_shell::Status;
 use pool_machine::Machine;
 use pool_outside::Sink;
 use run_types::{Line, List, Names, Placement, object_name};

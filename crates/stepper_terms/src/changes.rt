@@ -22,6 +22,10 @@ use run_types::{NameId, Value};
 use std::alloc::{AllocError, Global};
 use std::mem;
 
+/// The largest number of methods that are under way in one object. It bounds the memory that a record of few lines can
+/// ask for.
+const MOST_CALLS: usize = 1_000_000;
+
 /// Sets the first variable of this name to the value. If there is none, nothing changes.
 pub fn set(bindings: &mut Vec<Binding>, name: u32, value: Value)
     ensures { bindings.new.items ≡ set_value bindings.old.items name value }
@@ -189,11 +193,15 @@ impl<'a> Continuation<'a> {
         Ok(())
     }
 
-    /// Makes this method the innermost one.
+    /// Makes this method the innermost one. Reports `AllocError` if memory runs out, or if 1,000,000 methods are under
+    /// way.
     #[inline(always)]
     fn stack(&mut self, call: Activation<'a>) -> Result<(), AllocError>
         ensures { OnOk result ((self.new.calls.items ≡ self.old.calls.items ++ call.entry ∷ []) × (self.new.next ≡ self.old.next)) }
     {
+        if self.calls.len() >= MOST_CALLS {
+            return Err(AllocError);
+        }
         self.calls.push(call)?;
         Ok(())
     }

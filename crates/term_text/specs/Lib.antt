@@ -1,4 +1,4 @@
--- Internal: what it does not.
+-- Believed: what a top call's contract reaches.
 pub mod Words
 pub mod Marked
 pub mod Levels

@@ -1,3 +1,5 @@
 pub mod MachineAfterEvent
+pub mod NodeWithRoot
+pub mod PostedRequests
 pub mod ScheduleEvents
 pub mod WantedNumbers

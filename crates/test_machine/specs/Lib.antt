@@ -1,2 +1,3 @@
 -- Internal: what it does not.
+pub mod LoneObject
 pub mod RunningMachine

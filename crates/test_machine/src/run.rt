@@ -177,11 +177,12 @@ fn code_of_tokens(alloc: Global, read: &Tokens) -> Option<Unit>
     }
 }
 
-/// The code of the program.
-fn unit_of(alloc: Global) -> Option<Unit>
+/// The code of the program of a text.
+pub fn unit_of(alloc: Global, text: &[u8]) -> Option<Unit>
+    requires { length text.now ≤ 67108864 }
     ensures { IfSome result IsProper }
 {
-    match tokens(alloc, PROGRAM) {
+    match tokens(alloc, text) {
         Ok(read) => code_of_tokens(alloc, &read),
         Err(_) => None,
     }
@@ -189,7 +190,7 @@ fn unit_of(alloc: Global) -> Option<Unit>
 
 /// Writes the record of the run. Returns whether each line was written.
 fn is_written(alloc: Global, sink: &mut MemSink) -> bool {
-    match unit_of(alloc) {
+    match unit_of(alloc, PROGRAM) {
         Some(unit) => runs_placed(alloc, &unit, sink),
         None => false,
     }

@@ -12,7 +12,7 @@ use Rattle.run_types.proofs.Laws.{given_by, same_some}
 use Rattle.term_text.specs.Watched.{followed_text, shown_change, told_line}
 
 -- a run of two lists of labels passes through a configuration
-through : (p : ProgramTree) (c d : Configuration) (ls ms : List Label) → run p c (ls ++ ms) ≡ Some d → (b : Configuration) × (run p c ls ≡ Some b) × (run p b ms ≡ Some d)
+pub through : (p : ProgramTree) (c d : Configuration) (ls ms : List Label) → run p c (ls ++ ms) ≡ Some d → (b : Configuration) × (run p c ls ≡ Some b) × (run p b ms ≡ Some d)
 through p c d [] ms e = (c, refl, e)
 through p c d (l ∷ ls) ms e =
     let a = given_by (transition p c l) _ d e in

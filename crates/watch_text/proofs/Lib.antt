@@ -1,3 +1,5 @@
 pub mod Stopping
 pub mod AppendedWords
+pub mod JoinedLines
 pub mod WatchedEnds
+pub mod PartOfAll

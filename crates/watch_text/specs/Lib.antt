@@ -1,3 +1,4 @@
--- Internal: what it does not.
+-- Believed: what a top call's contract reaches.
 pub mod WatchedRun
+-- Internal: what it does not.
 pub mod Steps

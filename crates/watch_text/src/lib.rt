@@ -5,6 +5,9 @@
 
 mod follow;
 mod line;
+mod part;
+pub mod theorems;
 mod watched;
 
+pub use part::watch_lines;
 pub use watched::{Watched, watch_record};

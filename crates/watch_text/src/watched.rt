@@ -32,7 +32,7 @@ pub struct Watched {
 }
 
 /// Appends the first line, and the configuration of the stepper.
-fn push_start(text: &mut Vec<u8>, names: &Names, plain: &Plain<'_>) -> Result<(), AllocError>
+pub fn push_start(text: &mut Vec<u8>, names: &Names, plain: &Plain<'_>) -> Result<(), AllocError>
     ensures { OnOk result (text.new.items ≡ text.old.items ++ (line (codes "watch" ∷ []) ++ configuration_text names.now (program_tree plain.now) (configuration_of plain.now))) }
 {
     text.extend_from_slice(b"watch\n")?;
@@ -80,7 +80,7 @@ fn push_verdict(
 }
 
 /// Appends the end of the text after the last line, and returns the verdict. All labels were applied.
-fn push_end(
+pub fn push_end(
     alloc: Global,
     text: &mut Vec<u8>,
     names: &Names,
@@ -98,7 +98,7 @@ fn push_end(
 }
 
 /// Appends the end of the text after an impossible line, and returns the verdict.
-fn push_stop(
+pub fn push_stop(
     alloc: Global,
     text: &mut Vec<u8>,
     names: &Names,

@@ -1,9 +1,9 @@
 -- The results of `run` follow from those of `pool`, with the exit status of each.
 use Rattle.std.proofs.Common.{◌≡◌, ◌∙◌, ◌⊎◌, ◌≤◌, ℕ, arith, inl, inr, refl, ap, subst, sym}
-use Rattle.run_loop.specs.declared.status.Status.{Status}
-use Rattle.run_loop.specs.declared.status.Status.TheVariants as S
-use Rattle.run_loop.specs.Statuses.{code_of}
-use Rattle.pool_driver.specs.Outputs.{WholeTextWritten}
+use Rattle.command_shell.specs.declared.status.Status.{Status}
+use Rattle.command_shell.specs.declared.status.Status.TheVariants as S
+use Rattle.command_shell.specs.Statuses.{code_of}
+use Rattle.command_shell.specs.Ends.{WholeTextWritten}
 use Rattle.pool_cli.proofs.run.Goals as goal
 
 pub returns-clause-ends : goal.returns-clause-ends

@@ -18,7 +18,7 @@ ghost use Rattle.pool_semantics.specs.SearchQueries.{free_label, free_at};
 
 use crate::plain::Plain;
 use crate::plain::mail::Mail;
-use crate::plain::redex::few_args;
+use crate::plain::redex::redex_args;
 use crate::plain::state::State;
 use run_types::Label;
 use std::alloc::AllocError;
@@ -34,7 +34,7 @@ fn free_label(object: u32, work: &Continuation<'_>, act: &Act<'_>) -> Option<Lab
     match *act {
         Act::Local(_) => Some(Label::Local { object }),
         Act::Fault(error) => Some(Label::Fault { object, error }),
-        Act::Async { to, method } => match few_args(work) {
+        Act::Async { to, method } => match redex_args(work) {
             None => None,
             Some(args) => Some(Label::Send {
                 object,
@@ -100,7 +100,7 @@ fn push_own(
             })?;
             Ok(())
         }
-        Act::Send { to, method } => match few_args(work) {
+        Act::Send { to, method } => match redex_args(work) {
             None => Ok(()),
             Some(args) => {
                 into.push(Label::Answer {

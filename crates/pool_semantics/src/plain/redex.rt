@@ -4,7 +4,7 @@ ghost use Rattle.stepper_terms.specs.Reduced.{values};
 ghost use Rattle.stepper_terms.specs.Arguments.{now_args, now_names, now_choices};
 ghost use Rattle.pool_relation.specs.Action.{Object};
 ghost use Rattle.stepper_objects.specs.Acts.{acted};
-ghost use Rattle.pool_semantics.specs.Shown.{are_few, shown};
+ghost use Rattle.pool_semantics.specs.Shown.{are_at_most_eight, shown};
 
 use run_types::{Args, Redex};
 use stepper_objects::act::Act;
@@ -12,10 +12,10 @@ use stepper_terms::contexts::{Continuation, Focus, Operand, Ready, Task};
 
 /// The values of these operands. None if they are more than 8.
 #[tactic(auto, using(stepper_terms::proofs::Laws::length_values))]
-fn few(operands: &[Operand]) -> Option<Args>
+fn args_of(operands: &[Operand]) -> Option<Args>
     ensures some { IfSome result (λ a. a ≡ values operands.now) }
-    ensures few { IfSome result (λ _. are_few (values operands.now) ≡ true) }
-    ensures many { IfNone result (are_few (values operands.now) ≡ false) }
+    ensures bounded { IfSome result (λ _. are_at_most_eight (values operands.now) ≡ true) }
+    ensures many { IfNone result (are_at_most_eight (values operands.now) ≡ false) }
 {
     if operands.len() > 8 {
         return None;
@@ -30,22 +30,22 @@ fn few(operands: &[Operand]) -> Option<Args>
 }
 
 /// The arguments of the redex. None if they are more than 8.
-pub fn few_args(work: &Continuation<'_>) -> Option<Args>
+pub fn redex_args(work: &Continuation<'_>) -> Option<Args>
     ensures some { IfSome result (λ a. a ≡ now_args work.now.next) }
-    ensures few { IfSome result (λ _. are_few (now_args work.now.next) ≡ true) }
-    ensures many { IfNone result (are_few (now_args work.now.next) ≡ false) }
+    ensures bounded { IfSome result (λ _. are_at_most_eight (now_args work.now.next) ≡ true) }
+    ensures many { IfNone result (are_at_most_eight (now_args work.now.next) ≡ false) }
 {
     match &work.next {
         Focus::Expression { redex, .. } => match redex {
-            Ready::Call { args, .. } => few(args.as_slice()),
-            Ready::Send { args, .. } => few(args.as_slice()),
-            _ => few(&[]),
+            Ready::Call { args, .. } => args_of(args.as_slice()),
+            Ready::Send { args, .. } => args_of(args.as_slice()),
+            _ => args_of(&[]),
         },
         Focus::Statement { task, .. } => match task {
-            Task::Async { args, .. } => few(args.as_slice()),
-            _ => few(&[]),
+            Task::Async { args, .. } => args_of(args.as_slice()),
+            _ => args_of(&[]),
         },
-        _ => few(&[]),
+        _ => args_of(&[]),
     }
 }
 
@@ -59,11 +59,11 @@ pub fn show(work: &Continuation<'_>, act: &Act<'_>) -> Option<Redex>
         Act::Local(_) => Some(Redex::Local),
         Act::Fault(error) => Some(Redex::Fault { error }),
         Act::New(class) => Some(Redex::New { class }),
-        Act::Send { to, method } => match few_args(work) {
+        Act::Send { to, method } => match redex_args(work) {
             None => None,
             Some(args) => Some(Redex::Send { to, method, args }),
         },
-        Act::Async { to, method } => match few_args(work) {
+        Act::Async { to, method } => match redex_args(work) {
             None => None,
             Some(args) => Some(Redex::Async { to, method, args }),
         },

@@ -4,7 +4,7 @@ use Rattle.run_record.specs.Numbered.{lines_after, names_after}
 use Rattle.run_record.specs.Records.{record_of}
 use Rattle.command_inputs.specs.Readers as R
 use Rattle.pool_driver.specs.Readers.{IsRecordOf}
-use Rattle.pool_driver.proofs.ReadLaws.{record_refused}
+use Rattle.command_inputs.proofs.Laws.{record_refused}
 use Rattle.pool_driver.proofs.converted.judge_record.Goals as goal
 
 pub returns-in-Ok-asks_of : goal.returns-in-Ok-asks_of

@@ -1,14 +1,14 @@
 use Rattle.std.proofs.Common.{◌∙◌, ℕ, List, subst}
 use Rattle.command_inputs.specs.declared.fault.Input.TheVariants as I
-use Rattle.pool_driver.specs.Readers.{HasRecordFault, IsAcceptedRecord, IsRecordOf}
-use Rattle.command_inputs.specs.Readers.{Judges}
-use Rattle.command_inputs.proofs.Laws.{passed_on, judged}
+use Rattle.command_inputs.specs.Readers.{HasRecordFault, IsAcceptedRecord, Judges}
+use Rattle.command_inputs.proofs.Laws.{input_passed_on, input_judged}
+use Rattle.pool_driver.specs.Readers.{IsRecordOf}
 use Rattle.pool_driver.proofs.inputs.read_recorded.Goals as goal
 
-pub returns-in-Err-clause-reads : goal.returns-in-Err-clause-reads
-returns-in-Err-clause-reads g c = passed_on _ _ _ _ _ _ _ _ _ c.in-Err.stop (λ s f h. absurd h) (λ s q. tt) c.in-Err.ensures.reads
+pub returns-in-Err : goal.returns-in-Err
+returns-in-Err g c = input_passed_on _ _ _ _ _ _ _ _ _ c.in-Err.stop (λ s f h. absurd h) (λ s q. tt) c.in-Err.ensures
 
-pub returns-clause-reads : goal.returns-clause-reads
-returns-clause-reads g c =
-    judged _ _ _ _ _ _ _ _ _ c.in-Ok.text c.judge_record.result c.in-Ok.ensures.reads (λ s is.
+pub returns : goal.returns
+returns g c =
+    input_judged _ _ _ _ _ _ _ _ _ c.in-Ok.text c.judge_record.result c.in-Ok.ensures (λ s is.
     subst (λ (z : List ℕ). Judges I.Record IsAcceptedRecord HasRecordFault IsRecordOf z c.judge_record.result) (c.deref.ensures.value ∙ is) c.judge_record.ensures)

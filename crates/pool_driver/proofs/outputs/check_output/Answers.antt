@@ -5,13 +5,14 @@ use Rattle.pool_syntax.specs.Typing.{faults}
 use Rattle.command_inputs.specs.declared.fault.Input.TheVariants as I
 use Rattle.command_inputs.specs.declared.fault.InputError.TheVariants as T
 use Rattle.command_line.specs.Commands.{of_check}
-use Rattle.pool_driver.specs.Readers.{Decides}
+use Rattle.pool_driver.specs.Ends.{pool_program}
+use Rattle.pool_driver.specs.Inputs.{inputs}
+use Rattle.pool_driver.specs.Readers.{Decides, IsPrintable, status_of_output, text_of}
 use Rattle.command_inputs.specs.Readers.{IsTypedProgramOf}
 use Rattle.command_inputs.specs.Programs.{HasTypedFault, IsTypedProgram}
-use Rattle.pool_driver.proofs.OutputLaws.{check_makes, judge_within, judged_fault, judged_within, may_at, none_opened, reaches_judge, reaches_judged, two_opened}
-use Rattle.pool_driver.proofs.ReadLaws.{stops_at}
-use Rattle.command_inputs.proofs.Laws.{judged, judges_refusal, since, was_read}
-use Rattle.pool_driver.proofs.TextLaws.{parsed_few}
+use Rattle.command_shell.proofs.Laws.{may_at, none_opened, opened_within, reaches_first, reaches_second, stops_at, two_opened}
+use Rattle.pool_driver.proofs.OutputLaws.{check_makes, judged_fault}
+use Rattle.command_inputs.proofs.Laws.{judged, judges_refusal, parsed_few, since, was_read}
 use Rattle.pool_driver.proofs.outputs.check_output.Goals as goal
 
 few : (n m : ℕ) → n ≤ m → m ≤ 1048576 → n < 2 ^ 31
@@ -20,7 +21,7 @@ few n m a b = omega (arith, a, b)
 pub read_parsed-requires-clause-allowed : goal.read_parsed-requires-clause-allowed
 read_parsed-requires-clause-allowed g c =
     let name = c.args.program.now in
-    may_at (g.F.Files.may c.args.files.now) (g.F.Files.may c.args.files.now) (of_check name c.args.claim.now) (g.F.Files.opens c.args.files.now) (g.F.Files.opens c.args.files.now) 0 I.Program name c.requires.allowed refl (none_opened (g.F.Files.opens c.args.files.now)) refl
+    may_at (g.F.Files.may c.args.files.now) (g.F.Files.may c.args.files.now) (inputs (of_check name c.args.claim.now)) (g.F.Files.opens c.args.files.now) (g.F.Files.opens c.args.files.now) 0 I.Program name c.requires.allowed refl (none_opened (g.F.Files.opens c.args.files.now)) refl
 
 pub judge_classes-requires-clause-grammatical : goal.judge_classes-requires-clause-grammatical
 judge_classes-requires-clause-grammatical g c = (was_read _ _ _ _ _ _ c.in-Ok.parsed c.in-Ok.ensures.reads).2.grammatical
@@ -31,7 +32,7 @@ judge_classes-requires-clause-spelled g c = (was_read _ _ _ _ _ _ c.in-Ok.parsed
 pub read_lines-requires-clause-allowed : goal.read_lines-requires-clause-allowed
 read_lines-requires-clause-allowed g c =
     let other = c.args.claim.now in
-    may_at (g.F.Files.may c.args.files.now) (g.F.Files.may c.read_parsed.new.files) (of_check c.args.program.now other) (g.F.Files.opens c.args.files.now) (g.F.Files.opens c.read_parsed.new.files) 1 I.Record other c.requires.allowed c.in-Ok.ensures.same_leave c.in-Ok.ensures.opened_once refl
+    may_at (g.F.Files.may c.args.files.now) (g.F.Files.may c.read_parsed.new.files) (inputs (of_check c.args.program.now other)) (g.F.Files.opens c.args.files.now) (g.F.Files.opens c.read_parsed.new.files) 1 I.Record other c.requires.allowed c.in-Ok.ensures.same_leave c.in-Ok.ensures.opened_once refl
 
 pub read_lines-requires-clause-few : goal.read_lines-requires-clause-few
 read_lines-requires-clause-few g c =
@@ -40,11 +41,11 @@ read_lines-requires-clause-few g c =
 
 pub returns-in-Err-clause-makes : goal.returns-in-Err-clause-makes
 returns-in-Err-clause-makes g c =
-    stops_at _ _ _ _ _ _ (of_check c.args.program.now c.args.claim.now) c.in-Err.stop (reaches_judge _ c.args.program.now c.args.claim.now c.in-Err.ensures.opened_once)
+    stops_at pool_program text_of status_of_output IsPrintable _ _ _ _ _ _ (of_check c.args.program.now c.args.claim.now) c.in-Err.stop (reaches_first pool_program _ _ _ _ _ refl c.in-Err.ensures.opened_once)
     (λ s f h. inl h) (λ s q. (q.0, q.1.0)) c.in-Err.ensures.reads
 
 pub returns-in-Err-clause-unread_within : goal.returns-in-Err-clause-unread_within
-returns-in-Err-clause-unread_within g c = judge_within _ _ _ c.args.program.now c.args.claim.now c.in-Err.ensures.opened_once c.in-Err.ensures.unread_within
+returns-in-Err-clause-unread_within g c = opened_within _ _ _ (inputs (of_check c.args.program.now c.args.claim.now)) 0 I.Program c.args.program.now refl c.in-Err.ensures.opened_once c.in-Err.ensures.unread_within
 
 pub returns-in-Err-judge_classes-clause-makes : goal.returns-in-Err-judge_classes-clause-makes
 returns-in-Err-judge_classes-clause-makes g c =
@@ -55,10 +56,10 @@ returns-in-Err-judge_classes-clause-makes g c =
     (λ i f e. let why = h.refused i f (ap Err e) in (why.0, inr (program_of c.in-Ok.parsed.program, (c.in-Ok.parsed.names, is.parsed), why.1)))
     (λ i e. h.no_read i (ap Err e))
     (λ q. let z = h.only (ap faults (is.only q.1.0.0 q.0 q.1.0.1).1 ∙ q.1.1) refl in let same : stop ≡ T.Memory = cc in same)) in
-    stops_at _ _ _ _ _ _ (of_check c.args.program.now c.args.claim.now) stop (reaches_judge _ c.args.program.now c.args.claim.now c.in-Ok.ensures.opened_once) (λ s f x. x) (λ s q. q) reads
+    stops_at pool_program text_of status_of_output IsPrintable _ _ _ _ _ _ (of_check c.args.program.now c.args.claim.now) stop (reaches_first pool_program _ _ _ _ _ refl c.in-Ok.ensures.opened_once) (λ s f x. x) (λ s q. q) reads
 
 pub returns-in-Err-judge_classes-clause-unread_within : goal.returns-in-Err-judge_classes-clause-unread_within
-returns-in-Err-judge_classes-clause-unread_within g c = judge_within _ _ _ c.args.program.now c.args.claim.now c.in-Ok.ensures.opened_once c.in-Ok.ensures.unread_within
+returns-in-Err-judge_classes-clause-unread_within g c = opened_within _ _ _ (inputs (of_check c.args.program.now c.args.claim.now)) 0 I.Program c.args.program.now refl c.in-Ok.ensures.opened_once c.in-Ok.ensures.unread_within
 
 pub returns-in-Err-read_lines-clause-makes : goal.returns-in-Err-read_lines-clause-makes
 returns-in-Err-read_lines-clause-makes g c =
@@ -66,15 +67,15 @@ returns-in-Err-read_lines-clause-makes g c =
     let w = was_read _ _ _ _ _ _ read c.in-Ok.ensures.reads in
     let typed = c.in-Ok-judge_classes.ensures.typed refl in
     let opened = two_opened (g.F.Files.opens c.args.files.now) (g.F.Files.opens c.read_parsed.new.files) (g.F.Files.opens c.read_lines.new.files) c.in-Ok.ensures.opened_once c.in-Err-read_lines.ensures.opened_once in
-    stops_at _ _ _ _ _ _ (of_check c.args.program.now c.args.claim.now) c.in-Err-read_lines.stop
-    (reaches_judged _ c.args.program.now c.args.claim.now w.0 w.1.0 (program_of read.program, ((read.names, w.2.parsed), typed)) opened)
+    stops_at pool_program text_of status_of_output IsPrintable _ _ _ _ _ _ (of_check c.args.program.now c.args.claim.now) c.in-Err-read_lines.stop
+    (reaches_second pool_program _ _ _ _ _ _ w.0 refl w.1.0 (program_of read.program, ((read.names, w.2.parsed), typed)) opened)
     (judged_fault w.0) (λ s q. q)
     (since _ (g.F.Files.told c.args.files.now) (g.F.Files.opens c.args.files.now) (g.F.Files.faults c.args.files.now) _ _ _ _ _ _ c.in-Ok.ensures.same_texts w.3 c.in-Err-read_lines.ensures.reads)
 
 pub returns-in-Err-read_lines-clause-unread_within : goal.returns-in-Err-read_lines-clause-unread_within
 returns-in-Err-read_lines-clause-unread_within g c =
     let opened = two_opened (g.F.Files.opens c.args.files.now) (g.F.Files.opens c.read_parsed.new.files) (g.F.Files.opens c.read_lines.new.files) c.in-Ok.ensures.opened_once c.in-Err-read_lines.ensures.opened_once in
-    judged_within _ _ _ c.args.program.now c.args.claim.now opened c.in-Err-read_lines.ensures.unread_within
+    opened_within _ _ _ (inputs (of_check c.args.program.now c.args.claim.now)) 1 I.Record c.args.claim.now refl opened c.in-Err-read_lines.ensures.unread_within
 
 pub returns-clause-makes : goal.returns-clause-makes
 returns-clause-makes g c =
@@ -91,4 +92,4 @@ returns-clause-makes g c =
 pub returns-clause-unread_within : goal.returns-clause-unread_within
 returns-clause-unread_within g c =
     let opened = two_opened (g.F.Files.opens c.args.files.now) (g.F.Files.opens c.read_parsed.new.files) (g.F.Files.opens c.read_lines.new.files) c.in-Ok.ensures.opened_once c.in-Ok-read_lines.ensures.opened_once in
-    judged_within _ _ _ c.args.program.now c.args.claim.now opened c.in-Ok-read_lines.ensures.unread_within
+    opened_within _ _ _ (inputs (of_check c.args.program.now c.args.claim.now)) 1 I.Record c.args.claim.now refl opened c.in-Ok-read_lines.ensures.unread_within

@@ -7,12 +7,13 @@ use Rattle.command_inputs.specs.declared.fault.InputError.TheVariants as T
 use Rattle.command_line.specs.declared.command.Ask.TheVariants as As
 use Rattle.pool_driver.specs.declared.outputs.Output.TheVariants as O
 use Rattle.command_line.specs.Commands.{of_program}
-use Rattle.pool_driver.specs.Inputs.{IsAccepted}
-use Rattle.pool_driver.specs.Readers as R
+use Rattle.pool_driver.specs.Inputs.{IsAccepted, inputs}
+use Rattle.command_shell.specs.Results as R
+use Rattle.pool_driver.specs.Ends.{pool_program}
+use Rattle.pool_driver.specs.Readers.{IsPrintable, status_of_output, text_of}
 use Rattle.command_inputs.specs.Readers.{IsTypedProgramOf}
 use Rattle.command_inputs.specs.Programs.{HasTypedFault, IsTypedProgram}
-use Rattle.pool_driver.proofs.OutputLaws.{may_at, none_opened, reaches_asked}
-use Rattle.pool_driver.proofs.ReadLaws.{stops_at}
+use Rattle.command_shell.proofs.Laws.{may_at, none_opened, reaches_first, stops_at}
 use Rattle.command_inputs.proofs.Laws.{judged, judges_refusal, was_read}
 use Rattle.pool_driver.proofs.BuiltFiles.{file_is_built}
 use Rattle.pool_driver.proofs.TextLaws.{parsed_listed}
@@ -20,7 +21,7 @@ use Rattle.pool_driver.proofs.outputs.file_output.Goals as goal
 
 pub read_parsed-requires-clause-allowed : goal.read_parsed-requires-clause-allowed
 read_parsed-requires-clause-allowed g c =
-    may_at (g.F.Files.may c.args.files.now) (g.F.Files.may c.args.files.now) (of_program As.File c.args.name.now) (g.F.Files.opens c.args.files.now) (g.F.Files.opens c.args.files.now) 0 I.Program c.args.name.now c.requires.allowed refl (none_opened (g.F.Files.opens c.args.files.now)) refl
+    may_at (g.F.Files.may c.args.files.now) (g.F.Files.may c.args.files.now) (inputs (of_program As.File c.args.name.now)) (g.F.Files.opens c.args.files.now) (g.F.Files.opens c.args.files.now) 0 I.Program c.args.name.now c.requires.allowed refl (none_opened (g.F.Files.opens c.args.files.now)) refl
 
 pub file_of_parsed-requires-clause-grammatical : goal.file_of_parsed-requires-clause-grammatical
 file_of_parsed-requires-clause-grammatical g c = (was_read _ _ _ _ _ _ c.in-Ok.parsed c.in-Ok.ensures.reads).2.grammatical
@@ -35,7 +36,7 @@ file_of_parsed-requires-clause-few g c =
 
 pub returns-in-Err-clause-makes : goal.returns-in-Err-clause-makes
 returns-in-Err-clause-makes g c =
-    stops_at _ _ _ _ _ _ (of_program As.File c.args.name.now) c.in-Err.stop (reaches_asked _ As.File c.args.name.now c.in-Err.ensures.opened_once) (λ s f h. inl h) (λ s q. (q.0, q.1.0)) c.in-Err.ensures.reads
+    stops_at pool_program text_of status_of_output IsPrintable _ _ _ _ _ _ (of_program As.File c.args.name.now) c.in-Err.stop (reaches_first pool_program _ _ _ _ _ refl c.in-Err.ensures.opened_once) (λ s f h. inl h) (λ s q. (q.0, q.1.0)) c.in-Err.ensures.reads
 
 pub returns-clause-makes : goal.returns-clause-makes
 returns-clause-makes g c =
@@ -46,7 +47,7 @@ returns-clause-makes g c =
     (λ i f e. let why = h.refused i f (ap Err e) in (why.0, inr (program_of c.in-Ok.parsed.program, (c.in-Ok.parsed.names, is.parsed), why.1)))
     (λ i e. h.no_read i (ap Err e))
     (λ q. let z = h.only (ap faults (is.only q.1.0.0 q.0 q.1.0.1).1 ∙ q.1.1) refl in let same : stop ≡ T.Memory = cc in same)) in
-    stops_at _ _ _ _ _ _ (of_program As.File c.args.name.now) stop (reaches_asked _ As.File c.args.name.now c.in-Ok.ensures.opened_once) (λ s f x. x) (λ s q. q) reads
+    stops_at pool_program text_of status_of_output IsPrintable _ _ _ _ _ _ (of_program As.File c.args.name.now) stop (reaches_first pool_program _ _ _ _ _ refl c.in-Ok.ensures.opened_once) (λ s f x. x) (λ s q. q) reads
 
 pub returns-in-Ok-file_of_parsed-clause-makes : goal.returns-in-Ok-file_of_parsed-clause-makes
 returns-in-Ok-file_of_parsed-clause-makes g c =

@@ -4,15 +4,18 @@ use Rattle.command_inputs.specs.declared.fault.Input.TheVariants as I
 use Rattle.command_line.specs.declared.command.Ask.TheVariants as As
 use Rattle.pool_driver.specs.declared.outputs.Output.TheVariants as O
 use Rattle.command_line.specs.Commands.{of_program}
-use Rattle.pool_driver.specs.Readers as R
-use Rattle.pool_driver.proofs.OutputLaws.{accepts, may_at, none_opened, reaches_asked}
-use Rattle.pool_driver.proofs.ReadLaws.{stops_at}
+use Rattle.command_shell.specs.Results as R
+use Rattle.pool_driver.specs.Ends.{pool_program}
+use Rattle.pool_driver.specs.Inputs.{inputs}
+use Rattle.pool_driver.specs.Readers.{IsPrintable, status_of_output, text_of}
+use Rattle.command_shell.proofs.Laws.{may_at, none_opened, reaches_first, stops_at}
+use Rattle.pool_driver.proofs.OutputLaws.{accepts}
 use Rattle.command_inputs.proofs.Laws.{was_read}
 use Rattle.pool_driver.proofs.outputs.listing_output.Goals as goal
 
 pub read_unit-requires-clause-allowed : goal.read_unit-requires-clause-allowed
 read_unit-requires-clause-allowed g c =
-    may_at (g.F.Files.may c.args.files.now) (g.F.Files.may c.args.files.now) (of_program As.Listing c.args.name.now) (g.F.Files.opens c.args.files.now) (g.F.Files.opens c.args.files.now) 0 I.Program c.args.name.now c.requires.allowed refl (none_opened (g.F.Files.opens c.args.files.now)) refl
+    may_at (g.F.Files.may c.args.files.now) (g.F.Files.may c.args.files.now) (inputs (of_program As.Listing c.args.name.now)) (g.F.Files.opens c.args.files.now) (g.F.Files.opens c.args.files.now) 0 I.Program c.args.name.now c.requires.allowed refl (none_opened (g.F.Files.opens c.args.files.now)) refl
 
 pub returns-in-Ok-clause-makes : goal.returns-in-Ok-clause-makes
 returns-in-Ok-clause-makes g c =
@@ -31,4 +34,4 @@ returns-in-Ok-clause-makes g c =
 
 pub returns-in-Err-clause-makes : goal.returns-in-Err-clause-makes
 returns-in-Err-clause-makes g c =
-    stops_at _ _ _ _ _ _ (of_program As.Listing c.args.name.now) c.in-Err.stop (reaches_asked _ As.Listing c.args.name.now c.in-Err.ensures.opened_once) (λ s f h. h) (λ s q. q) c.in-Err.ensures.reads
+    stops_at pool_program text_of status_of_output IsPrintable _ _ _ _ _ _ (of_program As.Listing c.args.name.now) c.in-Err.stop (reaches_first pool_program _ _ _ _ _ refl c.in-Err.ensures.opened_once) (λ s f h. h) (λ s q. q) c.in-Err.ensures.reads

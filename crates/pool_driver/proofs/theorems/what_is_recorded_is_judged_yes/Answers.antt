@@ -12,7 +12,7 @@ use Rattle.run_types.specs.declared.verdicts.Verdict.{Verdict}
 use Rattle.run_types.specs.declared.verdicts.Verdict.TheVariants as V
 use Rattle.record_check.specs.RecordJudgement.{Judged}
 use Rattle.record_check.specs.VerdictText.{verdict_text}
-use Rattle.pool_driver.specs.Outputs.{status_of_verdict}
+use Rattle.command_shell.specs.Verdicts.{status_of_verdict}
 use Rattle.pool_driver.specs.Runs.{Meaning, ShowsRun, record_of}
 use Rattle.pool_driver.proofs.theorems.what_is_recorded_is_judged_yes.Goals as goal
 

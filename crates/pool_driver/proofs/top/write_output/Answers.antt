@@ -5,8 +5,8 @@ use Rattle.command_line.specs.declared.command.Show.TheVariants as Sh
 use Rattle.pool_driver.specs.declared.outputs.Output.{Output}
 use Rattle.pool_driver.specs.declared.outputs.Output.TheVariants as O
 use Rattle.pool_driver.specs.Readers.{IsPrintable, status_of_output, text_of}
-use Rattle.run_loop.specs.Writing.{Delivers, Writing, written}
-use Rattle.pool_driver.proofs.EndLaws.{writes_as}
+use Rattle.command_shell.specs.Writing.{Delivers, Writing, written}
+use Rattle.command_shell.proofs.Laws.{writes_as}
 use Rattle.pool_driver.proofs.top.write_output.Goals as goal
 
 pub write_text-requires-in-Listing : goal.write_text-requires-in-Listing

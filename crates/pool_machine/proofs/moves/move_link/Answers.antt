@@ -13,9 +13,9 @@ use Rattle.pool_machine.proofs.moves.move_link.Goals as goal
 
 pub returns-in_default-clause-act : goal.returns-in_default-clause-act
 returns-in_default-clause-act c =
-    let a = c.args.from in
-    let b = c.args.to in
+    let a = c.args.link.from in
+    let b = c.args.link.to in
     let nodes = c.args.nodes.now in
     let links = c.args.links.now in
     let none = no_first (list_at pair_cmp (a, b) links.links) (sym c.head.ensures ∙ ap option_copied c.in_default.is) in
-    subst (λ (xs : List Packet). IsDid (D.Line W.Idle) nodes links nodes links (move_in (coded c.args.unit.now) c.args.placement.now (machine_from nodes links.links) a b (map numbered xs))) (sym none) (refl, refl)
+    subst (λ (xs : List Packet). IsDid (D.Line W.Idle) nodes links nodes links (move_in (coded c.args.plan.now.unit.now) c.args.plan.now.placement.now (machine_from nodes links.links) a b (map numbered xs))) (sym none) (refl, refl)

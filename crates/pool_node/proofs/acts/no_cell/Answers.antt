@@ -12,5 +12,5 @@ overflow_add-result c = let k = messages_seen c.args.parts.now c.requires.whole 
 pub returns : goal.returns
 returns c =
     let k = messages_seen c.args.parts.now c.requires.whole in
-    let e : c.count.result + c.args.leaving ≡ message_count (slots_of c.args.parts.now) + c.args.leaving = omega (arith, k) in
-    le_not c.args.placement.now.cells (c.count.result + c.args.leaving) ∙ ap (λ (n : ℕ). not (nat_lt n c.args.placement.now.cells)) e
+    let e : c.count.result + c.args.plan.now.leaving ≡ message_count (slots_of c.args.parts.now) + c.args.plan.now.leaving = omega (arith, k) in
+    le_not c.args.plan.now.placement.now.cells (c.count.result + c.args.plan.now.leaving) ∙ ap (λ (n : ℕ). not (nat_lt n c.args.plan.now.placement.now.cells)) e

@@ -4,8 +4,8 @@ use Rattle.pool_node.proofs.acts.settle_if_out.Goals as goal
 
 pub returns-then-is_out : goal.returns-then-is_out
 returns-then-is_out c =
-    settled_moved c.args.unit.now c.args.parts.now c.requires.unit c.args.number c.args.value c.settle_in-slot.new.parts c.settle_in-slot.result
-    c.settle_in-slot.ensures.slot c.settle_in-slot.ensures.number c.settle_in-slot.ensures.changed
+    settled_moved c.args.unit.now c.args.parts.now c.requires.unit c.args.number c.args.value c.settle-slot.new.self c.settle-slot.result
+    c.settle-slot.ensures.slot c.settle-slot.ensures.number c.settle-slot.ensures.changed
 
 pub returns-else-is_out : goal.returns-else-is_out
 returns-else-is_out c =

@@ -6,5 +6,5 @@ use Rattle.pool_node.proofs.acts.write_turn.Goals as goal
 
 pub returns : goal.returns
 returns c = λ l q leaving set.
-    write_made c.args.unit.now l leaving c.args.parts.now set c.args.slot c.requires.slot q c.go_on_in.new.parts c.args.item c.step-room.result c.requires.kind c.go_on_in.ensures
+    write_made c.args.unit.now l leaving c.args.parts.now set c.args.slot c.requires.slot q c.go_on.new.self c.args.item c.step-room.result c.requires.kind c.go_on.ensures
     (c.step-room.ensures ∙ ap (λ o. W.Step (L.Write o c.args.item) 1) c.name_of-object.ensures)

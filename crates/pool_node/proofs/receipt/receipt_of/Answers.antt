@@ -5,4 +5,4 @@ use Rattle.pool_node.proofs.receipt.receipt_of.Goals as goal
 
 pub returns-clause-act : goal.returns-clause-act
 returns-clause-act c =
-    (made_acts c.args.unit.now c.args.placement.now c.args.leaving c.args.parts.now c.received-told.new.parts c.requires.whole c.requires.unit c.requires.placement (omega arith) _ (act_of c.received-told.result c.received-told.new.room) c.received-told.ensures).0
+    (made_acts c.args.plan.now.unit.now c.args.plan.now.placement.now c.args.plan.now.leaving c.args.parts.now c.received-told.new.parts c.requires.whole c.requires.unit c.requires.placement (omega arith) _ (act_of c.received-told.result c.received-told.new.room) c.received-told.ensures).0

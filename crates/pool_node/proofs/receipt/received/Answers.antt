@@ -12,18 +12,18 @@ use Rattle.pool_node.proofs.PacketReceipt.{named_there, object_there}
 use Rattle.pool_node.proofs.receipt.received.Goals as goal
 
 pub receive_create-requires-clause-class : goal.receive_create-requires-clause-class
-receive_create-requires-clause-class c = class_below c.args.unit.now c.in-Create.class c.in-Some.place (sym c.class_named.ensures ∙ c.in-Some.is)
+receive_create-requires-clause-class c = class_below c.args.plan.now.unit.now c.in-Create.class c.in-Some.place (sym c.class_named.ensures ∙ c.in-Some.is)
 
 pub receive_message-requires-clause-there : goal.receive_message-requires-clause-there
-receive_message-requires-clause-there c = object_there c.args.parts.now c.in-Request.to (subst (λ (z : Packet). IsReceivable (coded c.args.unit.now) c.args.parts.now.id (node_of c.args.parts.now).state (numbered z).number (numbered z).packet) c.in-Request.is c.requires.packet).1.2
+receive_message-requires-clause-there c = object_there c.args.parts.now c.in-Request.to (subst (λ (z : Packet). IsReceivable (coded c.args.plan.now.unit.now) c.args.parts.now.id (node_of c.args.parts.now).state (numbered z).number (numbered z).packet) c.in-Request.is c.requires.packet).1.2
 
 pub receive_message-requires-in-Async-clause-there : goal.receive_message-requires-in-Async-clause-there
-receive_message-requires-in-Async-clause-there c = object_there c.args.parts.now c.in-Async.to (subst (λ (z : Packet). IsReceivable (coded c.args.unit.now) c.args.parts.now.id (node_of c.args.parts.now).state (numbered z).number (numbered z).packet) c.in-Async.is c.requires.packet).1.1
+receive_message-requires-in-Async-clause-there c = object_there c.args.parts.now c.in-Async.to (subst (λ (z : Packet). IsReceivable (coded c.args.plan.now.unit.now) c.args.parts.now.id (node_of c.args.parts.now).state (numbered z).number (numbered z).packet) c.in-Async.is c.requires.packet).1.1
 
 pub returns-in-Some : goal.returns-in-Some
 returns-in-Some c =
-    subst (λ (z : Packet). ReportsAct c.args.unit.now c.args.placement.now c.args.leaving (act_of c.receive_create.result c.receive_create.new.room) c.args.parts.now c.receive_create.new.parts
-    (receipt (coded c.args.unit.now) c.args.parts.now.id (node_of c.args.parts.now).state (numbered z).number (numbered z).packet)) (sym c.in-Create.is) (c.receive_create.ensures c.in-Create.node)
+    subst (λ (z : Packet). ReportsAct c.args.plan.now.unit.now c.args.plan.now.placement.now c.args.plan.now.leaving (act_of c.receive_create.result c.receive_create.new.room) c.args.parts.now c.receive_create.new.parts
+    (receipt (coded c.args.plan.now.unit.now) c.args.parts.now.id (node_of c.args.parts.now).state (numbered z).number (numbered z).packet)) (sym c.in-Create.is) (c.receive_create.ensures c.in-Create.node)
 
 pub returns-in-None : goal.returns-in-None
-returns-in-None c = named_there 0 c.args.unit.now.classes c.in-Create.class (subst (λ (z : Packet). IsReceivable (coded c.args.unit.now) c.args.parts.now.id (node_of c.args.parts.now).state (numbered z).number (numbered z).packet) c.in-Create.is c.requires.packet).1.2 (sym c.class_named.ensures ∙ c.in-None.is)
+returns-in-None c = named_there 0 c.args.plan.now.unit.now.classes c.in-Create.class (subst (λ (z : Packet). IsReceivable (coded c.args.plan.now.unit.now) c.args.parts.now.id (node_of c.args.parts.now).state (numbered z).number (numbered z).packet) c.in-Create.is c.requires.packet).1.2 (sym c.class_named.ensures ∙ c.in-None.is)

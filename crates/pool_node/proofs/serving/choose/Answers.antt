@@ -6,16 +6,16 @@ use Rattle.pool_node.proofs.AnswerStep.{pick_made, some_way}
 use Rattle.pool_node.proofs.serving.choose.Goals as goal
 
 pub plain_alt-requires-clause-fits : goal.plain_alt-requires-clause-fits
-plain_alt-requires-clause-fits c = (slot_real c.args.unit.now c.args.parts.now c.requires.set.1.unit c.args.slot c.requires.slot).fits
+plain_alt-requires-clause-fits c = (slot_real c.args.plan.now.unit.now c.args.parts.now c.requires.set.unit c.args.slot c.requires.slot).fits
 
 pub called_place-requires-clause-fits : goal.called_place-requires-clause-fits
-called_place-requires-clause-fits c = (slot_real c.args.unit.now c.args.parts.now c.requires.set.1.unit c.args.slot c.requires.slot).fits
+called_place-requires-clause-fits c = (slot_real c.args.plan.now.unit.now c.args.parts.now c.requires.set.unit c.args.slot c.requires.slot).fits
 
 pub returns-then-plain_alt : goal.returns-then-plain_alt
-returns-then-plain_alt c = λ q leaving set.
-    pick_made c.args.unit.now c.args.placement.now leaving c.args.parts.now set c.args.slot c.requires.slot c.args.alt c.requires.choosing c.requires.first q c.pick_in.new.parts c.step-room.result (sym c.plain_alt.ensures ∙ c.if-plain_alt.true) c.pick_in.ensures
+returns-then-plain_alt c = λ q.
+    pick_made c.args.plan.now.unit.now c.args.plan.now.placement.now c.args.plan.now.leaving c.args.parts.now c.requires.set c.args.slot c.requires.slot c.args.alt c.requires.choosing c.requires.first q c.pick.new.self c.step-room.result (sym c.plain_alt.ensures ∙ c.if-plain_alt.true) c.pick.ensures
     (c.step-room.ensures ∙ ap (λ o. W.Step (L.Pick o c.args.alt) 1) c.name_of-object.ensures)
 
 pub returns-in-None : goal.returns-in-None
-returns-in-None c = λ q leaving set.
-    absurd (some_way c.args.unit.now c.args.placement.now leaving c.args.parts.now set c.args.slot c.requires.slot c.args.alt c.requires.choosing c.requires.first (sym c.plain_alt.ensures ∙ c.if-plain_alt.false) (sym c.called_place.ensures ∙ c.in-None.is))
+returns-in-None c = λ q.
+    absurd (some_way c.args.plan.now.unit.now c.args.plan.now.placement.now c.args.plan.now.leaving c.args.parts.now c.requires.set c.args.slot c.requires.slot c.args.alt c.requires.choosing c.requires.first (sym c.plain_alt.ensures ∙ c.if-plain_alt.false) (sym c.called_place.ensures ∙ c.in-None.is))

@@ -3,4 +3,4 @@ use Rattle.record_parser.proofs.LeadingBytes.{not_three}
 use Rattle.record_parser.proofs.shown.new_in.Goals as goal
 
 pub returns-in_default : goal.returns-in_default
-returns-in_default c = not_three (fields c.args.words.now) c.few_fields.result _ c.few_fields.ensures c.in_default.not-Three
+returns-in_default c = not_three (fields c.args.words.now) c.first_fields.result _ c.first_fields.ensures c.in_default.not-Three

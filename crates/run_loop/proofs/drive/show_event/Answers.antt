@@ -2,7 +2,7 @@ use Rattle.std.proofs.Common.{sym, subst, OnOk, OnErr}
 use Rattle.run_types.specs.declared.types.Line.TheVariants as R
 use Rattle.command_line.specs.declared.command.Show.{Show}
 use Rattle.run_loop.specs.RunOutput.{shown_line}
-use Rattle.run_loop.specs.Writing.{Wrote, WroteFront, writing}
+use Rattle.command_shell.specs.Writing.{Wrote, WroteFront, writing}
 use Rattle.run_loop.proofs.drive.show_event.Goals as goal
 
 pub returns-in-Writes-clause-whole : goal.returns-in-Writes-clause-whole

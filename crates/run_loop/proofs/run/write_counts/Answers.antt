@@ -1,6 +1,6 @@
 use Rattle.std.proofs.Common.{◌∙◌, refl, subst}
-use Rattle.run_loop.specs.Writing.{Wrote, WroteFront}
-use Rattle.run_loop.specs.Writing as R
+use Rattle.command_shell.specs.Writing.{Wrote, WroteFront}
+use Rattle.command_shell.specs.Writing as R
 use Rattle.run_loop.proofs.DriveLaws.{front_of_first, then_writes}
 use Rattle.run_loop.proofs.run.write_counts.Goals as goal
 

@@ -5,8 +5,8 @@ use Rattle.wait_report.specs.declared.rows.ObjectRow.{ObjectRow}
 use Rattle.wait_report.specs.Calls.{Rising, names_of}
 use Rattle.wait_report.specs.Report.{report_text}
 use Rattle.wait_report.specs.KnownRows.{AreKnown}
-use Rattle.run_loop.specs.Writing.{Wrote, WroteFront}
-use Rattle.run_loop.specs.Writing as R
+use Rattle.command_shell.specs.Writing.{Wrote, WroteFront}
+use Rattle.command_shell.specs.Writing as R
 use Rattle.run_loop.proofs.DriveLaws.{front_of_first, then_writes}
 use Rattle.run_loop.proofs.KnownRows.{rows_known, rows_rise}
 use Rattle.run_loop.proofs.WhyLaws.{do_rise}

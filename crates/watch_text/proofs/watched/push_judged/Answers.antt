@@ -8,8 +8,10 @@ use Rattle.pool_semantics.specs.PlainOf.{configuration_of, program_tree}
 use Rattle.record_check.specs.RecordJudgement.{Judged, LeadsTo}
 use Rattle.record_check.specs.VerdictText.{verdict_text}
 use Rattle.record_check.specs.Verdicts.{StopsIn}
+use Rattle.term_text.specs.Watched.{followed_text}
 use Rattle.watch_text.specs.WatchedRun.{waiting_text}
-use Rattle.watch_text.proofs.WatchedEnds.{ends_at, ends_before, stopped_judged, stopped_none}
+use Rattle.watch_text.proofs.JoinedLines.{none_in}
+use Rattle.watch_text.proofs.WatchedEnds.{ends_at, ends_before, stopped_judged}
 use Rattle.watch_text.proofs.watched.push_judged.Goals as goal
 
 pub returns-in-Ok-None-clause-judged : goal.returns-in-Ok-None-clause-judged
@@ -35,7 +37,7 @@ returns-in-Ok-None-clause-text c =
     let now = c.push_followed.new.text.items in
     let leads : run p from (labels ls) ≡ Some to = subst (λ o. IfNone o (run p from (labels ls) ≡ Some to)) c.in-Ok-None.field-0-is c.in-Ok-None.ensures.leads in
     if_ok_then c.push_end.result _ _
-    (λ v e. ends_at names p from to ls c.args.text.now.items now _ v leads c.in-Ok-None.ensures.text
+    (λ v e. ends_at names p from to ls c.args.text.now.items (followed_text names p from ls) now _ v leads c.in-Ok-None.ensures.text
     (e ∙ ap (λ (q : ProgramTree). now ++ (waiting_text names q to ++ verdict_text names v)) c.push_followed.ensures.program))
     c.push_end.ensures.text
 
@@ -61,5 +63,5 @@ returns-in-Ok-Some-clause-text c =
     let stop = c.in-Ok-Some.stop in
     let stops : StopsIn p from ls stop.number to stop.redex = subst (λ o. IfSome o (λ s. StopsIn p from ls s.number to s.redex)) c.in-Ok-Some.field-0-is c.in-Ok-Some.ensures.stops in
     if_ok_then c.push_stop.result _ _
-    (λ v e. ends_before names p from to ls c.args.text.now.items c.push_followed.new.text.items _ v (stopped_none names p from to ls stop.number stop.redex c.requires.starts stops) c.in-Ok-Some.ensures.text e)
+    (λ v e. ends_before names p from to ls c.args.text.now.items (followed_text names p from ls) c.push_followed.new.text.items _ v (none_in p from to ls stop.number stop.redex stops) c.in-Ok-Some.ensures.text e)
     c.push_stop.ensures.text

@@ -1,6 +1,6 @@
 use Rattle.std.proofs.Common.{◌∙◌, ℕ, List, length, ap, ap₂, refl, subst, sym}
 use Rattle.record_writer.specs.SecondForm.{lines_text2}
-use Rattle.run_loop.specs.Writing.{Writing, WroteFront}
+use Rattle.command_shell.specs.Writing.{Writing, WroteFront}
 use Rattle.pool_driver.proofs.ConvertLaws.{asks_long, first_front, form_front, on_err}
 use Rattle.pool_driver.proofs.converted.SecondFormText.write_to.Goals as goal
 

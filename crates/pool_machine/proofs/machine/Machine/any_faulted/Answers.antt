@@ -15,5 +15,5 @@ use Rattle.pool_machine.proofs.machine.Machine.any_faulted.Goals as goal
 pub returns : goal.returns
 returns c =
     subst (λ (v : MachineOf). (e : Config Placed) (d : Delay) → MachineRepresents v e d → c.has_faulted.result ≡ list_any (λ (x : ℕ × Placed). is_some x.1.fault) e.objects) c.self.view_is
-    (λ e d s. c.has_faulted.ensures ∙ ap (λ (ns : List NodeOf). any_faulted (coded c.self.inside.unit.now) (machine_from ns c.self.inside.links.links)) c.as_slice.ensures.value
-    ∙ faults_told c.self.inside.unit.now c.self.inside.placement.now c.self.inside.nodes.items c.self.inside.links c.self.invariant.kept.parts e d s.sound (state_of c.self.inside.unit.now c.self.inside.placement.now c.self.inside.nodes.items c.self.inside.links.links (wires_in c.self.inside.wires) e d s.stands))
+    (λ e d s. c.has_faulted.ensures ∙ ap (λ (ns : List NodeOf). any_faulted (coded c.self.inside.plan.unit.now) (machine_from ns c.self.inside.network.links.links)) c.as_slice.ensures.value
+    ∙ faults_told c.self.inside.plan.unit.now c.self.inside.plan.placement.now c.self.inside.nodes.items c.self.inside.network.links c.self.invariant.kept.parts e d s.sound (state_of c.self.inside.plan.unit.now c.self.inside.plan.placement.now c.self.inside.nodes.items c.self.inside.network.links.links (wires_in c.self.inside.network.wires) e d s.stands))

@@ -31,55 +31,55 @@ step-did-requires-clause-countable c =
 pub step-did-requires-clause-few : goal.step-did-requires-clause-few
 step-did-requires-clause-few c =
     let done : c.self.inside.done < 4294967295 = subst (λ (v : MachineOf). v.done < 4294967295) (sym c.self.view_is) c.requires.few in
-    entered_below c.self.inside.done 4294967295 (wires_in c.self.inside.wires) c.self.inside.links.links done c.self.invariant.entered
+    entered_below c.self.inside.done 4294967295 (wires_in c.self.inside.network.wires) c.self.inside.network.links.links done c.self.invariant.entered
 
 pub quiet_after-self-inside-requires-clause-units : goal.quiet_after-self-inside-requires-clause-units
 quiet_after-self-inside-requires-clause-units c =
     let back : (with_items c.self.inside.nodes c.step-did.new.nodes).items ≡ c.step-did.new.nodes =
-    with_items_is c.self.inside.nodes c.step-did.new.nodes (c.in-Line.ensures.parts.count ∙ sym c.self.invariant.kept.parts.count ∙ sym c.self.inside.nodes.ok.0) in
-    subst (AreOfUnit c.self.inside.unit.now) (sym (c.as_slice.ensures.value ∙ back))
-    (are_of_unit c.self.inside.unit.now c.self.inside.placement.now c.step-did.new.nodes c.step-did.new.links c.in-Line.ensures.parts)
+    with_items_is c.self.inside.nodes c.step-did.new.nodes (c.in-Ok.ensures.parts.count ∙ sym c.self.invariant.kept.parts.count ∙ sym c.self.inside.nodes.ok.0) in
+    subst (AreOfUnit c.self.inside.plan.unit.now) (sym (c.as_slice.ensures.value ∙ back))
+    (are_of_unit c.self.inside.plan.unit.now c.self.inside.plan.placement.now c.step-did.new.nodes c.step-did.new.network.links c.in-Ok.ensures.parts)
 
 pub invariant_of-self : goal.invariant_of-self
 invariant_of-self c =
-    let u = c.self.inside.unit.now in
-    let l = c.self.inside.placement.now in
+    let u = c.self.inside.plan.unit.now in
+    let l = c.self.inside.plan.placement.now in
     let nodes = c.self.inside.nodes.items in
-    let ws = wires_in c.self.inside.wires in
-    let ws' = wires_in c.step-did.new.wires in
+    let ws = wires_in c.self.inside.network.wires in
+    let ws' = wires_in c.step-did.new.network.wires in
     let inside : IsOfMesh l c.args.event = subst (λ (v : MachineOf). IsOfMesh v.placement c.args.event) (sym c.self.view_is) c.requires.mesh in
-    let acted = subst (λ (ns : List NodeOf). EventMakes u l c.args.quantum c.args.event (D.Full c.in-Full.kind c.in-Full.node) ns c.self.inside.links ws c.step-did.new.nodes c.step-did.new.links ws') c.as_mut_slice.ensures.value c.in-Full.ensures.act in
+    let acted = subst (λ (ns : List NodeOf). EventMakes u l c.args.quantum c.args.event (D.Full c.in-Err.limit.kind c.in-Err.limit.node) ns c.self.inside.network.links ws c.step-did.new.nodes c.step-did.new.network.links ws') c.as_mut_slice.ensures.value c.in-Err.ensures.act in
     let back : (with_items c.self.inside.nodes c.step-did.new.nodes).items ≡ c.step-did.new.nodes =
-    with_items_is c.self.inside.nodes c.step-did.new.nodes (c.in-Full.ensures.parts.count ∙ sym c.self.invariant.kept.parts.count ∙ sym c.self.inside.nodes.ok.0) in
-    let same = same_nodes u l nodes c.self.inside.links ws c.self.invariant.kept c.args.quantum c.args.event inside c.step-did.new.nodes c.step-did.new.links ws' c.in-Full.kind c.in-Full.node acted in
-    let links = same_links u l nodes c.self.inside.links ws c.self.invariant.kept c.args.quantum c.args.event inside c.step-did.new.nodes c.step-did.new.links ws' c.in-Full.kind c.in-Full.node acted in
-    let wires = same_wires u l nodes c.self.inside.links ws c.self.invariant.kept c.args.quantum c.args.event inside c.step-did.new.nodes c.step-did.new.links ws' c.in-Full.kind c.in-Full.node acted in
+    with_items_is c.self.inside.nodes c.step-did.new.nodes (c.in-Err.ensures.parts.count ∙ sym c.self.invariant.kept.parts.count ∙ sym c.self.inside.nodes.ok.0) in
+    let same = same_nodes u l nodes c.self.inside.network.links ws c.self.invariant.kept c.args.quantum c.args.event inside c.step-did.new.nodes c.step-did.new.network.links ws' c.in-Err.limit.kind c.in-Err.limit.node acted in
+    let links = same_links u l nodes c.self.inside.network.links ws c.self.invariant.kept c.args.quantum c.args.event inside c.step-did.new.nodes c.step-did.new.network.links ws' c.in-Err.limit.kind c.in-Err.limit.node acted in
+    let wires = same_wires u l nodes c.self.inside.network.links ws c.self.invariant.kept c.args.quantum c.args.event inside c.step-did.new.nodes c.step-did.new.network.links ws' c.in-Err.limit.kind c.in-Err.limit.node acted in
     record {
       mesh = c.self.invariant.mesh;
       table = c.self.invariant.table;
-      kept = subst (λ (ns : List NodeOf). WiredMachineInvariant u l ns c.step-did.new.links ws') (sym back)
-          (kept_full u l nodes c.self.inside.links ws c.self.invariant.kept c.args.quantum c.args.event inside c.step-did.new.nodes c.step-did.new.links ws' c.in-Full.kind c.in-Full.node acted);
+      kept = subst (λ (ns : List NodeOf). WiredMachineInvariant u l ns c.step-did.new.network.links ws') (sym back)
+          (kept_full u l nodes c.self.inside.network.links ws c.self.invariant.kept c.args.quantum c.args.event inside c.step-did.new.nodes c.step-did.new.network.links ws' c.in-Err.limit.kind c.in-Err.limit.node acted);
       quiet = c.self.invariant.quiet
-          ∙ ap (λ (ns : List NodeOf). is_machine_quiet (coded u) (machine_on ns c.self.inside.links.links ws)) (sym (back ∙ same))
+          ∙ ap (λ (ns : List NodeOf). is_machine_quiet (coded u) (machine_on ns c.self.inside.network.links.links ws)) (sym (back ∙ same))
           ∙ ap₂ (λ (z : LinksOf Packet) (w : Option LinkWires). is_machine_quiet (coded u) (machine_on (with_items c.self.inside.nodes c.step-did.new.nodes).items z.links w)) (sym links) (sym wires);
       counts = subst (EachCount (λ k. k ≤ c.self.inside.done)) (sym (back ∙ same)) c.self.invariant.counts;
-      entered = subst (λ z. EachEntered (λ k. k ≤ c.self.inside.done) z c.step-did.new.links.links) (sym wires)
+      entered = subst (λ z. EachEntered (λ k. k ≤ c.self.inside.done) z c.step-did.new.network.links.links) (sym wires)
           (subst (λ z. EachEntered (λ k. k ≤ c.self.inside.done) ws z.links) (sym links) c.self.invariant.entered);
       moves = c.self.invariant.moves;
       transitions = c.self.invariant.transitions;
     }
 
-pub invariant_of-self-in-Line : goal.invariant_of-self-in-Line
-invariant_of-self-in-Line c =
-    let u = c.self.inside.unit.now in
-    let l = c.self.inside.placement.now in
+pub invariant_of-self-in-Ok : goal.invariant_of-self-in-Ok
+invariant_of-self-in-Ok c =
+    let u = c.self.inside.plan.unit.now in
+    let l = c.self.inside.plan.placement.now in
     let nodes = c.self.inside.nodes.items in
-    let ws = wires_in c.self.inside.wires in
-    let ws' = wires_in c.step-did.new.wires in
+    let ws = wires_in c.self.inside.network.wires in
+    let ws' = wires_in c.step-did.new.network.wires in
     let inside : IsOfMesh l c.args.event = subst (λ (v : MachineOf). IsOfMesh v.placement c.args.event) (sym c.self.view_is) c.requires.mesh in
-    let acted = subst (λ (ns : List NodeOf). EventMakes u l c.args.quantum c.args.event (D.Line c.step-did.new.room.what) ns c.self.inside.links ws c.step-did.new.nodes c.step-did.new.links ws') c.as_mut_slice.ensures.value c.in-Line.ensures.act in
+    let acted = subst (λ (ns : List NodeOf). EventMakes u l c.args.quantum c.args.event (D.Line c.step-did.new.room.what) ns c.self.inside.network.links ws c.step-did.new.nodes c.step-did.new.network.links ws') c.as_mut_slice.ensures.value c.in-Ok.ensures.act in
     let back : (with_items c.self.inside.nodes c.step-did.new.nodes).items ≡ c.step-did.new.nodes =
-    with_items_is c.self.inside.nodes c.step-did.new.nodes (c.in-Line.ensures.parts.count ∙ sym c.self.invariant.kept.parts.count ∙ sym c.self.inside.nodes.ok.0) in
+    with_items_is c.self.inside.nodes c.step-did.new.nodes (c.in-Ok.ensures.parts.count ∙ sym c.self.invariant.kept.parts.count ∙ sym c.self.inside.nodes.ok.0) in
     let moves = c.self.invariant.moves in
     let one = c.moved_by.ensures.one in
     let transitions = c.self.invariant.transitions in
@@ -87,49 +87,49 @@ invariant_of-self-in-Line c =
     record {
       mesh = c.self.invariant.mesh;
       table = c.self.invariant.table;
-      kept = subst (λ (ns : List NodeOf). WiredMachineInvariant u l ns c.step-did.new.links ws') (sym back)
-          (kept_line u l nodes c.self.inside.links ws c.self.invariant.kept c.args.quantum c.args.event inside c.step-did.new.nodes c.step-did.new.links ws' c.in-Line.ensures.parts c.in-Line.ensures.there c.step-did.new.room.what acted);
+      kept = subst (λ (ns : List NodeOf). WiredMachineInvariant u l ns c.step-did.new.network.links ws') (sym back)
+          (kept_line u l nodes c.self.inside.network.links ws c.self.invariant.kept c.args.quantum c.args.event inside c.step-did.new.nodes c.step-did.new.network.links ws' c.in-Ok.ensures.parts c.in-Ok.ensures.there c.step-did.new.room.what acted);
       quiet = c.quiet_after-self-inside.ensures
           (λ none idle. c.self.invariant.quiet
-          ∙ same_quiet u l nodes c.self.inside.links ws c.self.invariant.kept c.args.quantum c.args.event inside c.step-did.new.nodes c.step-did.new.links ws' c.in-Line.ensures.parts c.in-Line.ensures.lossy none c.step-did.new.room.what acted idle
-          ∙ ap (λ (ns : List NodeOf). is_machine_quiet (coded u) (machine_on ns c.step-did.new.links.links ws')) (sym (c.as_slice.ensures.value ∙ back)))
-          ∙ ap (λ (ns : List NodeOf). is_machine_quiet (coded u) (machine_on ns c.step-did.new.links.links ws')) c.as_slice.ensures.value;
-      counts = subst (EachCount (λ k. k ≤ c.self.inside.done + 1)) (sym back) (c.in-Line.ensures.counts c.self.inside.done (subst (EachCount (λ k. k ≤ c.self.inside.done)) (sym c.as_mut_slice.ensures.value) c.self.invariant.counts));
-      entered = entered_line u l nodes c.self.inside.links ws c.self.invariant.kept c.args.quantum c.args.event inside c.step-did.new.nodes c.step-did.new.links ws' c.in-Line.ensures.lossy c.step-did.new.room.what acted c.self.inside.done c.self.invariant.entered;
+          ∙ same_quiet u l nodes c.self.inside.network.links ws c.self.invariant.kept c.args.quantum c.args.event inside c.step-did.new.nodes c.step-did.new.network.links ws' c.in-Ok.ensures.parts c.in-Ok.ensures.lossy none c.step-did.new.room.what acted idle
+          ∙ ap (λ (ns : List NodeOf). is_machine_quiet (coded u) (machine_on ns c.step-did.new.network.links.links ws')) (sym (c.as_slice.ensures.value ∙ back)))
+          ∙ ap (λ (ns : List NodeOf). is_machine_quiet (coded u) (machine_on ns c.step-did.new.network.links.links ws')) c.as_slice.ensures.value;
+      counts = subst (EachCount (λ k. k ≤ c.self.inside.done + 1)) (sym back) (c.in-Ok.ensures.counts c.self.inside.done (subst (EachCount (λ k. k ≤ c.self.inside.done)) (sym c.as_mut_slice.ensures.value) c.self.invariant.counts));
+      entered = entered_line u l nodes c.self.inside.network.links ws c.self.invariant.kept c.args.quantum c.args.event inside c.step-did.new.nodes c.step-did.new.network.links ws' c.in-Ok.ensures.lossy c.step-did.new.room.what acted c.self.inside.done c.self.invariant.entered;
       moves = omega (arith, moves, one);
       transitions = omega (arith, transitions, few);
     }
 
-pub returns-in-Full : goal.returns-in-Full
-returns-in-Full c =
-    let u = c.self.inside.unit.now in
-    let l = c.self.inside.placement.now in
-    let ws = wires_in c.self.inside.wires in
-    let ws' = wires_in c.step-did.new.wires in
+pub returns-in-Err : goal.returns-in-Err
+returns-in-Err c =
+    let u = c.self.inside.plan.unit.now in
+    let l = c.self.inside.plan.placement.now in
+    let ws = wires_in c.self.inside.network.wires in
+    let ws' = wires_in c.step-did.new.network.wires in
     let inside : IsOfMesh l c.args.event = subst (λ (v : MachineOf). IsOfMesh v.placement c.args.event) (sym c.self.view_is) c.requires.mesh in
-    let acted = subst (λ (ns : List NodeOf). EventMakes u l c.args.quantum c.args.event (D.Full c.in-Full.kind c.in-Full.node) ns c.self.inside.links ws c.step-did.new.nodes c.step-did.new.links ws') c.as_mut_slice.ensures.value c.in-Full.ensures.act in
+    let acted = subst (λ (ns : List NodeOf). EventMakes u l c.args.quantum c.args.event (D.Full c.in-Err.limit.kind c.in-Err.limit.node) ns c.self.inside.network.links ws c.step-did.new.nodes c.step-did.new.network.links ws') c.as_mut_slice.ensures.value c.in-Err.ensures.act in
     let back : (with_items c.self.inside.nodes c.step-did.new.nodes).items ≡ c.step-did.new.nodes =
-    with_items_is c.self.inside.nodes c.step-did.new.nodes (c.in-Full.ensures.parts.count ∙ sym c.self.invariant.kept.parts.count ∙ sym c.self.inside.nodes.ok.0) in
-    subst (λ (v : MachineOf). (e : Config Placed) (d : Delay) → MachineRepresents v e d → IsOutcome c.args.event v (O.Full c.in-Full.kind c.in-Full.node)
-    (record (machine_view c.self.inside) { nodes = (with_items c.self.inside.nodes c.step-did.new.nodes).items; links = c.step-did.new.links.links; wires = ws' }) (act (coded v.unit) v.placement c.args.quantum e d c.args.event)) c.self.view_is
-    (subst (λ (ns : List NodeOf). (e : Config Placed) (d : Delay) → MachineRepresents (machine_view c.self.inside) e d → IsOutcome c.args.event (machine_view c.self.inside) (O.Full c.in-Full.kind c.in-Full.node)
-    (record (machine_view c.self.inside) { nodes = ns; links = c.step-did.new.links.links; wires = ws' }) (act (coded u) l c.args.quantum e d c.args.event)) (sym back)
-    (full_outcome (machine_view c.self.inside) c.self.inside.links refl c.self.invariant.kept.parts c.args.quantum c.args.event inside c.step-did.new.nodes c.step-did.new.links ws' c.in-Full.kind c.in-Full.node acted))
+    with_items_is c.self.inside.nodes c.step-did.new.nodes (c.in-Err.ensures.parts.count ∙ sym c.self.invariant.kept.parts.count ∙ sym c.self.inside.nodes.ok.0) in
+    subst (λ (v : MachineOf). (e : Config Placed) (d : Delay) → MachineRepresents v e d → IsOutcome c.args.event v (O.Full c.in-Err.limit.kind c.in-Err.limit.node)
+    (record (machine_view c.self.inside) { nodes = (with_items c.self.inside.nodes c.step-did.new.nodes).items; links = c.step-did.new.network.links.links; wires = ws' }) (act (coded v.unit) v.placement c.args.quantum e d c.args.event)) c.self.view_is
+    (subst (λ (ns : List NodeOf). (e : Config Placed) (d : Delay) → MachineRepresents (machine_view c.self.inside) e d → IsOutcome c.args.event (machine_view c.self.inside) (O.Full c.in-Err.limit.kind c.in-Err.limit.node)
+    (record (machine_view c.self.inside) { nodes = ns; links = c.step-did.new.network.links.links; wires = ws' }) (act (coded u) l c.args.quantum e d c.args.event)) (sym back)
+    (full_outcome (machine_view c.self.inside) c.self.inside.network.links refl c.self.invariant.kept.parts c.args.quantum c.args.event inside c.step-did.new.nodes c.step-did.new.network.links ws' c.in-Err.limit.kind c.in-Err.limit.node acted))
 
-pub returns-in-Line : goal.returns-in-Line
-returns-in-Line c =
-    let u = c.self.inside.unit.now in
-    let l = c.self.inside.placement.now in
-    let ws = wires_in c.self.inside.wires in
-    let ws' = wires_in c.step-did.new.wires in
+pub returns-in-Ok : goal.returns-in-Ok
+returns-in-Ok c =
+    let u = c.self.inside.plan.unit.now in
+    let l = c.self.inside.plan.placement.now in
+    let ws = wires_in c.self.inside.network.wires in
+    let ws' = wires_in c.step-did.new.network.wires in
     let inside : IsOfMesh l c.args.event = subst (λ (v : MachineOf). IsOfMesh v.placement c.args.event) (sym c.self.view_is) c.requires.mesh in
-    let acted = subst (λ (ns : List NodeOf). EventMakes u l c.args.quantum c.args.event (D.Line c.step-did.new.room.what) ns c.self.inside.links ws c.step-did.new.nodes c.step-did.new.links ws') c.as_mut_slice.ensures.value c.in-Line.ensures.act in
+    let acted = subst (λ (ns : List NodeOf). EventMakes u l c.args.quantum c.args.event (D.Line c.step-did.new.room.what) ns c.self.inside.network.links ws c.step-did.new.nodes c.step-did.new.network.links ws') c.as_mut_slice.ensures.value c.in-Ok.ensures.act in
     let back : (with_items c.self.inside.nodes c.step-did.new.nodes).items ≡ c.step-did.new.nodes =
-    with_items_is c.self.inside.nodes c.step-did.new.nodes (c.in-Line.ensures.parts.count ∙ sym c.self.invariant.kept.parts.count ∙ sym c.self.inside.nodes.ok.0) in
+    with_items_is c.self.inside.nodes c.step-did.new.nodes (c.in-Ok.ensures.parts.count ∙ sym c.self.invariant.kept.parts.count ∙ sym c.self.inside.nodes.ok.0) in
     subst (λ (v : MachineOf). (e : Config Placed) (d : Delay) → MachineRepresents v e d → IsOutcome c.args.event v (O.Line (R.Event (c.self.inside.done + 1) c.args.event c.step-did.new.room.what))
     (record (machine_view c.self.inside) {
       nodes = (with_items c.self.inside.nodes c.step-did.new.nodes).items;
-      links = c.step-did.new.links.links;
+      links = c.step-did.new.network.links.links;
       wires = ws';
       done = c.self.inside.done + 1;
       moves = c.self.inside.moves + c.moved_by.result;
@@ -139,13 +139,13 @@ returns-in-Line c =
     (subst (λ (ns : List NodeOf). (e : Config Placed) (d : Delay) → MachineRepresents (machine_view c.self.inside) e d → IsOutcome c.args.event (machine_view c.self.inside) (O.Line (R.Event (c.self.inside.done + 1) c.args.event c.step-did.new.room.what))
     (record (machine_view c.self.inside) {
       nodes = ns;
-      links = c.step-did.new.links.links;
+      links = c.step-did.new.network.links.links;
       wires = ws';
       done = c.self.inside.done + 1;
       moves = c.self.inside.moves + c.moved_by.result;
       transitions = c.self.inside.transitions + c.shown_by.result;
     })
     (act (coded u) l c.args.quantum e d c.args.event)) (sym back)
-    (line_outcome (machine_view c.self.inside) c.self.inside.links refl c.self.invariant.kept.parts c.args.quantum c.args.event inside c.step-did.new.nodes c.step-did.new.links ws' c.step-did.new.room.what acted c.in-Line.ensures.lossy
+    (line_outcome (machine_view c.self.inside) c.self.inside.network.links refl c.self.invariant.kept.parts c.args.quantum c.args.event inside c.step-did.new.nodes c.step-did.new.network.links ws' c.step-did.new.room.what acted c.in-Ok.ensures.lossy
     (c.self.inside.moves + c.moved_by.result) (c.self.inside.transitions + c.shown_by.result)
     (ap (λ n. c.self.inside.moves + n) c.moved_by.ensures.count) (ap (λ n. c.self.inside.transitions + n) c.shown_by.ensures.count)))

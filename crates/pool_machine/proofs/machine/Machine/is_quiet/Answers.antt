@@ -13,4 +13,4 @@ pub returns : goal.returns
 returns c =
     subst (λ (v : MachineOf). (e : Config Placed) (d : Delay) → MachineRepresents v e d → c.self.inside.quiet ≡ is_quiet (coded v.unit) e d) c.self.view_is
     (λ e d s. c.self.invariant.quiet
-    ∙ quiet_is c.self.inside.unit.now c.self.inside.placement.now c.self.inside.nodes.items c.self.inside.links c.self.invariant.kept.parts (wires_in c.self.inside.wires) e d s.sound s.stands)
+    ∙ quiet_is c.self.inside.plan.unit.now c.self.inside.plan.placement.now c.self.inside.nodes.items c.self.inside.network.links c.self.invariant.kept.parts (wires_in c.self.inside.network.wires) e d s.sound s.stands)

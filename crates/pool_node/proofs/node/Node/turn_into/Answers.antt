@@ -9,5 +9,5 @@ use Rattle.pool_node.proofs.node.Node.turn_into.Goals as goal
 
 pub returns-clause-counts : goal.returns-clause-counts
 returns-clause-counts c = λ most h.
-    counts_after (coded c.args.unit.now) c.args.placement.now c.args.quantum c.self.inside.parts.id c.args.leaving c.turn_of.ensures.act.0 (act_of c.turn_of.result c.turn_of.new.room)
+    counts_after (coded c.args.plan.now.unit.now) c.args.plan.now.placement.now c.args.quantum c.self.inside.parts.id c.args.plan.now.leaving c.turn_of.ensures.act.0 (act_of c.turn_of.result c.turn_of.new.room)
     (node_of c.self.inside.parts) (node_of c.turn_of.new.parts) c.turn_of.ensures.act.2 most (subst (λ (n : NodeOf). Each (λ (k : ℕ). k ≤ most) n.state.made) (sym c.self.view_is) h)

@@ -1,0 +1,4 @@
+pub mod EndLaws
+pub mod ReadingLaws
+pub mod ReachLaws
+pub mod Laws

@@ -1,0 +1,46 @@
+//! The status of a call.
+ghost use Rattle.std.specs.Prelude.{◌≡◌};
+ghost use Rattle.command_shell.specs.Statuses.{code_of};
+
+/// The status with which a call of `pool` or `explore` ends. A search uses `Done`, `DoneFaulted` and `ScheduleOver` too.
+#[derive(Clone, Copy, Debug, PartialEq, Eq)]
+pub enum Status {
+    /// The run ended quiet, the text was written, the record is a run, or no run leads to what a search looks for.
+    Done,
+    /// The run ended quiet after a run-time error, the record is not a run, or the output has a run that a search looks
+    /// for.
+    DoneFaulted,
+    /// An input was rejected. `err` has the line with its name and its fault.
+    Refused,
+    /// The schedule ended before the run was quiet, or a search met its bound.
+    ScheduleOver,
+    /// A node was full.
+    Full,
+    /// A read failed.
+    ReadFault,
+    /// A write failed.
+    WriteFault,
+    /// Out of memory, before anything was written to `out`.
+    Memory,
+    /// The arguments are not a command.
+    Usage,
+}
+
+impl Status {
+    /// The exit status of the process.
+    pub fn code(&self) -> u8
+        ensures { result ≡ code_of self.now }
+    {
+        match self {
+            Status::Done => 0,
+            Status::DoneFaulted => 1,
+            Status::Refused => 2,
+            Status::ScheduleOver => 3,
+            Status::Full => 4,
+            Status::ReadFault => 5,
+            Status::WriteFault => 6,
+            Status::Memory => 7,
+            Status::Usage => 64,
+        }
+    }
+}

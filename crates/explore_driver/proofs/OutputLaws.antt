@@ -1,0 +1,122 @@
+-- The output of a command follows from its inputs, one after another.
+use Rattle.std.proofs.Common.{◌≡◌, ◌∙◌, ◌+◌, inl, inr, List, [], ◌∷◌, length, Result, Ok, false, refl, sym, subst}
+use Rattle.text_scan.specs.Text.{Text}
+use Rattle.pool_syntax.specs.Terms.{ProgramTree}
+use Rattle.pool_syntax.specs.TreeOf.{program_of}
+use Rattle.pool_syntax.specs.Typing.{faults}
+use Rattle.run_types.specs.declared.types.Line.{Line}
+use Rattle.run_types.specs.declared.verdicts.Verdict.{Verdict}
+use Rattle.run_types.specs.declared.verdicts.Verdict.TheVariants as V
+use Rattle.command_inputs.specs.declared.fault.Fault.{Fault}
+use Rattle.command_inputs.specs.declared.fault.Input.TheVariants as I
+use Rattle.command_inputs.specs.declared.fault.InputError.{InputError}
+use Rattle.command_inputs.specs.declared.program.Parsed.{Parsed}
+use Rattle.command_inputs.specs.Inputs.{IsReadAs}
+use Rattle.command_inputs.specs.Readers.{AreLinesOf, IsProgramOf}
+use Rattle.command_shell.specs.declared.status.Status.{Status}
+use Rattle.command_shell.specs.Ends.{Reaches, WholeTextWritten}
+use Rattle.command_shell.specs.Results as D
+use Rattle.command_shell.specs.Verdicts.{status_of_verdict}
+use Rattle.pool_outside.specs.Reading.{AllRead, Reading}
+use Rattle.pool_search.specs.declared.queries.Query.{Query}
+use Rattle.record_check.specs.RecordJudgement.{Judged}
+use Rattle.search_text.specs.declared.answers.Outcome.{Outcome}
+use Rattle.search_text.specs.declared.answers.Outcome.TheVariants as O
+use Rattle.search_text.specs.Answers.{Answers}
+use Rattle.explore_driver.specs.declared.outputs.Output.{Output}
+use Rattle.explore_driver.specs.declared.words.Shown.{Shown}
+use Rattle.explore_driver.specs.declared.words.Shown.TheVariants as Sh
+use Rattle.explore_driver.specs.Ends.{IsAccepted, explore_program}
+use Rattle.explore_driver.specs.Outputs.{IsOutput, IsTextOf, status_of_outcome}
+use Rattle.explore_driver.specs.Results.{ResultsIn}
+use Rattle.explore_driver.specs.Words.{Request, of_search, of_watch}
+
+-- the inputs of a command, one after another
+
+abbrev pub reaches_program : (k : Reading) (q : Query) (name : Text) → k.opened ≡ k.opens + 1 → Reaches explore_program k (of_search q name) I.Program name
+reaches_program k q name h = record { before = []; behind = []; texts = []; place = refl; accepted = tt; opened = h }
+
+abbrev pub reaches_watched : (k : Reading) (shown : Shown) (name other : Text) → k.opened ≡ k.opens + 1 → Reaches explore_program k (of_watch shown name other) I.Program name
+reaches_watched k shown name other h = record { before = []; behind = (I.Record, other) ∷ []; texts = []; place = refl; accepted = tt; opened = h }
+
+abbrev pub reaches_record : (k : Reading) (shown : Shown) (name other s : Text) → IsReadAs k.told I.Program name s → IsAccepted [] I.Program s → k.opened ≡ k.opens + 2
+    → Reaches explore_program k (of_watch shown name other) I.Record other
+reaches_record k shown name other s read accepted h =
+    record { before = (I.Program, name) ∷ []; behind = []; texts = s ∷ []; place = refl; accepted = (read, accepted, tt); opened = h }
+
+-- for the same request
+pub makes_for : (k : Reading) (q r : Request) (result : Result Output InputError) → q ≡ r → ResultsIn k q result → ResultsIn k r result
+makes_for k q r result e h = subst (λ (x : Request). ResultsIn k x result) e h
+
+-- what comes of a program
+pub search_makes : (k : Reading) (q : Query) (name s : Text) (read : Parsed) (o : Output) (outcome : Outcome) → IsReadAs k.told I.Program name s → IsProgramOf s read
+    → faults (program_of read.program) ≡ [] → k.opened ≡ k.opens + 1 → length s ≡ k.given → k.live ≡ false → AllRead k → Answers read.names (program_of read.program) q o.text.items outcome
+    → o.status ≡ status_of_outcome outcome → ResultsIn k (of_search q name) (Ok o)
+search_makes k q name s read o outcome first is typed opened given ended calm answers status = D.made o refl (record {
+  texts = s ∷ [];
+  accepted = (first, (program_of read.program, ((read.names, is.parsed), typed)), tt);
+  opened = opened;
+  given = given;
+  ended = ended;
+  calm = calm;
+  output = record {
+    names = read.names;
+    program = program_of read.program;
+    parsed = is.parsed;
+    typed = typed;
+    outcome = outcome;
+    answers = answers;
+    ended = status;
+  };
+}) tt
+
+-- the verdict of a text that shows lines is right for them
+pub judged_by : (shown : Shown) (p : ProgramTree) (names : List Text) (ls : List Line) (text : Text) (v : Verdict) → IsTextOf shown p names ls text v → Judged p ls v
+judged_by Sh.Whole p names ls text v h = h.judged
+judged_by (Sh.Lines first last) p names ls text v h = h.judged
+
+-- what comes of a program and a record, one after the other
+pub watch_makes : (k : Reading) (shown : Shown) (name other s t : Text) (read : Parsed) (ls : List Line) (o : Output) (v : Verdict) → IsReadAs k.told I.Program name s → IsProgramOf s read
+    → faults (program_of read.program) ≡ [] → IsReadAs k.told I.Record other t → AreLinesOf read.names t ls → k.opened ≡ k.opens + 2 → length t ≡ k.given → k.live ≡ false → AllRead k
+    → IsTextOf shown (program_of read.program) read.names ls o.text.items v → ((w : Verdict) → Judged (program_of read.program) ls w → w ≡ v) → o.status ≡ status_of_verdict v
+    → ResultsIn k (of_watch shown name other) (Ok o)
+watch_makes k shown name other s t read ls o v first is typed second lines opened given ended calm shows only status = D.made o refl (record {
+  texts = s ∷ t ∷ [];
+  accepted = (first, (program_of read.program, ((read.names, is.parsed), typed)), (second, lines.0, tt));
+  opened = opened;
+  given = given;
+  ended = ended;
+  calm = calm;
+  output = record {
+    names = read.names;
+    program = program_of read.program;
+    parsed = is.parsed;
+    typed = typed;
+    faultless = lines.0;
+    verdict = v;
+    shows = subst (λ (xs : List Line). IsTextOf shown (program_of read.program) read.names xs o.text.items v) lines.1 shows;
+    only = λ w h. only w (subst (λ (xs : List Line). Judged (program_of read.program) xs w) (sym lines.1) h);
+    ended = status;
+  };
+}) tt
+
+-- an output is written with a status that says so
+
+outcome_whole : (outcome : Outcome) → WholeTextWritten (status_of_outcome outcome)
+outcome_whole O.Finite = inl refl
+outcome_whole O.Shown = inr (inl refl)
+outcome_whole O.Over = inr (inr (inl refl))
+
+verdict_whole : (v : Verdict) → WholeTextWritten (status_of_verdict v)
+verdict_whole V.Yes = inl refl
+verdict_whole (V.No number redex) = inr (inl refl)
+verdict_whole (V.Moving o) = inr (inl refl)
+
+pub output_whole : (r : Request) (texts : List Text) (text : Text) (s : Status) → IsOutput r texts text s → WholeTextWritten s
+output_whole (of_search q name) [] text s h = absurd h
+output_whole (of_search q name) (p ∷ []) text s h = subst WholeTextWritten (sym h.ended) (outcome_whole h.outcome)
+output_whole (of_search q name) (p ∷ l ∷ ls) text s h = absurd h
+output_whole (of_watch shown name other) [] text s h = absurd h
+output_whole (of_watch shown name other) (p ∷ []) text s h = absurd h
+output_whole (of_watch shown name other) (p ∷ t ∷ []) text s h = subst WholeTextWritten (sym h.ended) (verdict_whole h.verdict)
+output_whole (of_watch shown name other) (p ∷ t ∷ u ∷ us) text s h = absurd h

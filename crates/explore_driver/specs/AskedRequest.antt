@@ -1,0 +1,21 @@
+-- The request that the parsed arguments of the code represent.
+use Rattle.std.specs.Prelude.{◌≤◌}
+use Rattle.explore_driver.specs.declared.words.Asked.{Asked}
+use Rattle.explore_driver.specs.declared.words.Asked.TheVariants as A
+use Rattle.explore_driver.specs.declared.words.Shown.{Shown}
+use Rattle.explore_driver.specs.declared.words.Shown.TheVariants as Sh
+use Rattle.explore_driver.specs.Words.{Request, of_search, of_watch}
+
+-- the request, with names as texts
+abbrev pub request : Asked → Request
+request (A.Search question name) = of_search question name.now
+request (A.Watch shown program record_name) = of_watch shown program.now record_name.now
+
+-- the first line is at least 1 and no later than the last
+abbrev pub IsOrdered : Shown → Type 0
+IsOrdered Sh.Whole = Unit {0}
+IsOrdered (Sh.Lines first last) = (1 ≤ first) × (first ≤ last)
+
+abbrev pub IsSized : Asked → Type 0
+IsSized (A.Search question name) = Unit {0}
+IsSized (A.Watch shown program record_name) = IsOrdered shown

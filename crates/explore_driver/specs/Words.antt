@@ -1,0 +1,71 @@
+-- The commands of `explore`, and the arguments of the command line that are each of them.
+use Rattle.std.specs.Prelude.{ℕ, List, [], ◌∷◌, ◌&&◌, ◌||◌, nat_eq, nat_le, Option, Some, None, option_map, option_and_then, Bool, true, false, if◌then◌else◌, bytes_eq, codes, map, string_bytes, String}
+use Rattle.text_scan.specs.Text.{Text}
+use Rattle.text_scan.specs.Lines.{decimal_of}
+use Rattle.text_scan.specs.declared.spans.Decimal.{Decimal}
+use Rattle.text_scan.specs.declared.spans.Decimal.TheVariants as Number
+use Rattle.pool_search.specs.declared.queries.Query.{Query}
+use Rattle.pool_search.specs.declared.queries.Target.{Target}
+use Rattle.pool_search.specs.declared.queries.Target.TheVariants as W
+use Rattle.explore_driver.specs.declared.words.Shown.{Shown}
+use Rattle.explore_driver.specs.declared.words.Shown.TheVariants as Sh
+
+-- A command: a search of the program of this name; or the record of this name, watched as a run of the program, whole or
+-- from one line up to another.
+pub data Request : Type 0 where
+  of_search : (question : Query) (name : Text) → Request
+  of_watch : (shown : Shown) (name record_name : Text) → Request
+
+-- an argument that begins with `-` is not a name
+abbrev pub is_dashed : Text → Bool
+is_dashed [] = false
+is_dashed (b ∷ bs) = nat_eq b 45
+
+-- the kind of run that a search looks for
+abbrev pub wanted_of : Text → Option Target
+wanted_of w = if bytes_eq w (codes "stuck") then Some W.Stuck else (if bytes_eq w (codes "fault") then Some W.Fault else None)
+
+-- a bound from 1 to 10,000,000
+abbrev pub most_of : Decimal → Option ℕ
+most_of Number.NotDigits = None
+most_of Number.TooLarge = None
+most_of (Number.Value k) = if nat_le 1 k && nat_le k 10000000 then Some k else None
+
+abbrev pub search_for : Target → Bool → Text → Text → Option Request
+search_for wanted all name n =
+    if is_dashed name then None
+    else option_map (λ most. of_search (record { wanted = wanted; all = all; most = most }) name) (most_of (decimal_of n))
+
+-- `stuck` or `fault`, or neither for both; then `all`, which is optional; then the name of a file, and a bound
+abbrev pub search_of : List Text → Option Request
+search_of [] = None
+search_of (a ∷ []) = None
+search_of (name ∷ n ∷ []) = search_for W.Both false name n
+search_of (a ∷ name ∷ n ∷ []) =
+    if bytes_eq a (codes "all") then search_for W.Both true name n else option_and_then (λ wanted. search_for wanted false name n) (wanted_of a)
+search_of (a ∷ b ∷ name ∷ n ∷ []) = if bytes_eq b (codes "all") then option_and_then (λ wanted. search_for wanted true name n) (wanted_of a) else None
+search_of (a ∷ b ∷ c ∷ d ∷ e ∷ ws) = None
+
+-- the lines from the first number up to the last
+abbrev pub lines_of : Text → Text → Decimal → Decimal → Option Request
+lines_of name record_name (Number.Value first) (Number.Value last) = if nat_le 1 first && nat_le first last then Some (of_watch (Sh.Lines first last) name record_name) else None
+lines_of name record_name _ _ = None
+
+-- the names of a program and a record; then the numbers of two lines, which are optional
+abbrev pub watch_of : List Text → Option Request
+watch_of [] = None
+watch_of (a ∷ []) = None
+watch_of (name ∷ record_name ∷ []) = if is_dashed name || is_dashed record_name then None else Some (of_watch Sh.Whole name record_name)
+watch_of (a ∷ b ∷ c ∷ []) = None
+watch_of (name ∷ record_name ∷ first ∷ last ∷ []) =
+    if is_dashed name || is_dashed record_name then None else lines_of name record_name (decimal_of first) (decimal_of last)
+watch_of (a ∷ b ∷ c ∷ d ∷ e ∷ ws) = None
+
+-- the command that the first argument names
+abbrev pub request_of : List Text → Option Request
+request_of [] = None
+request_of (c ∷ ws) = if bytes_eq c (codes "search") then search_of ws else (if bytes_eq c (codes "watch") then watch_of ws else None)
+
+-- the arguments as texts
+abbrev pub texts_of : {A : Type 0} → List (String A) → List Text
+texts_of words = map string_bytes words

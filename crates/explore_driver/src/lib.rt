@@ -1,0 +1,10 @@
+//! The top-level function of `explore`: from arguments, files and two sinks to an exit status.
+//!
+//! Does not know: the system's files and standard streams.
+#![tactic(auto)]
+
+mod outputs;
+mod top;
+mod words;
+
+pub use top::explore;

@@ -1,0 +1,59 @@
+//! The top-level function.
+ghost use Rattle.std.specs.Prelude.{◌≡◌, ◌⊎◌, ◌-◌, ◌^◌, ◌≤◌, Some, false, IfSome};
+ghost use Rattle.pool_outside.specs.Outside.{Rose};
+ghost use Rattle.pool_outside.specs.Reading.{reading};
+ghost use Rattle.command_shell.specs.Ends.{StaysWithin, WholeTextWritten};
+ghost use Rattle.command_shell.specs.Programs.{MayOpen};
+ghost use Rattle.command_shell.specs.Writing.{writing};
+ghost use Rattle.explore_driver.specs.Ends.{Ends, IsServable, inputs};
+ghost use Rattle.explore_driver.specs.Words.{Request, request_of, texts_of};
+
+use crate::outputs::make_output;
+use crate::words::read_words;
+use command_shell::{Status, say, say_stop};
+use pool_outside::{Files, Sink};
+use std::alloc::Global;
+
+/// The usage line.
+const USAGE: &[u8] = b"usage: explore search [stuck|fault] [all] P N, explore watch P R [A B]\n";
+
+/// Runs one command. `words` are the arguments without the program's name.
+/// `files` are the files that the command may read. The output goes to `out`, and a line for an error goes to `err`.
+/// Requires that no file is open, that fewer than 2^64 - 4 were
+/// opened before, and that each input of the command may be opened.
+pub fn explore<F: Files, K: Sink, E: Sink>(
+    alloc: Global,
+    words: &[String],
+    files: &mut F,
+    out: &mut K,
+    err: &mut E,
+) -> Status
+    requires not_live { F.live files.old ≡ false }
+    requires countable { F.opens files.old ≤ 2 ^ 64 - 5 }
+    requires allowed { IfSome (request_of (texts_of words.now)) (λ r. MayOpen (F.may files.old) (F.opens files.old) (inputs r)) }
+
+    // The call ends in one of the ways that the definition lists. Each has its cause, and the text on both sinks.
+    ensures ends { Ends (request_of (texts_of words.now))
+        (reading F.told F.opens F.given F.live F.faults files.old files.new)
+        (writing K.written K.faults out.old out.new)
+        (writing E.written E.faults err.old err.new)
+        result }
+
+    // The input that was opened last has given at most its limit and one read.
+    ensures stops_reading { (r : Request) → request_of (texts_of words.now) ≡ Some r → StaysWithin
+        (reading F.told F.opens F.given F.live F.faults files.old files.new) (inputs r) }
+
+    // If the arguments are a command, all inputs are accepted, and no read or
+    // write failed in this call, the whole text was written, or memory ran out.
+    ensures complete { (r : Request) → request_of (texts_of words.now) ≡ Some r → IsServable (F.told files.old) r
+        → ¬ (Rose (F.faults files.old) (F.faults files.new)) → ¬ (Rose (K.faults out.old) (K.faults out.new)) → ¬ (Rose (E.faults err.old) (E.faults err.new))
+        → WholeTextWritten result ⊎ (result ≡ Status.Memory) }
+{
+    match read_words(words) {
+        Some(asked) => match make_output(alloc, files, &asked) {
+            Ok(output) => say(out, &output.text, output.status),
+            Err(stop) => say_stop(alloc, err, stop),
+        },
+        None => say(err, USAGE, Status::Usage),
+    }
+}

@@ -1,0 +1,246 @@
+//! Reads the arguments of a command.
+ghost use Rattle.std.specs.Prelude.{◌≡◌, [], ◌∷◌, option_map, IfSome};
+ghost use Rattle.text_scan.specs.Lines.{decimal_of};
+ghost use Rattle.explore_driver.specs.Words.{is_dashed, lines_of, most_of, request_of, search_for, search_of, texts_of, wanted_of, watch_of};
+ghost use Rattle.explore_driver.specs.AskedRequest.{IsSized, request};
+
+use pool_search::{Query, Target};
+use text_scan::{Decimal, decimal};
+
+/// The smallest and the largest bound on the number of kept configurations.
+const FEWEST: u64 = 1;
+
+const MOST: u64 = 10_000_000;
+
+/// The lines of a record that are shown. They are counted from 1.
+#[derive(Clone, Copy)]
+pub enum Shown {
+    /// All of them.
+    Whole,
+    /// Those from `first` up to `last`.
+    Lines { first: u64, last: u64 },
+}
+
+/// A command, with the names of its files.
+#[derive(Clone, Copy)]
+pub enum Asked<'a> {
+    /// Search the runs of the program.
+    Search {
+        question: Query,
+        name: &'a str,
+    },
+    /// Show the record as a run of the program.
+    Watch {
+        shown: Shown,
+        program: &'a str,
+        record: &'a str,
+    },
+}
+
+/// Whether an argument begins with `-`.
+fn is_dashed(word: &str) -> bool
+    ensures { result ≡ is_dashed word.now }
+{
+    match word.as_bytes() {
+        [first, ..] => *first == b'-',
+        [] => false,
+    }
+}
+
+/// The kind of run that the search looks for. None for other arguments.
+fn wanted_of(word: &str) -> Option<Target>
+    ensures { result ≡ wanted_of word.now }
+{
+    match word {
+        "stuck" => Some(Target::Stuck),
+        "fault" => Some(Target::Fault),
+        _ => None,
+    }
+}
+
+/// The bound on the number of kept configurations. None if the argument is not a number from 1 to 10,000,000.
+fn most_of(word: &str) -> Option<u32>
+    ensures { result ≡ most_of (decimal_of word.now) }
+{
+    match decimal(word.as_bytes()) {
+        Decimal::Value(k) => {
+            if FEWEST <= k && k <= MOST {
+                Some(k as u32)
+            } else {
+                None
+            }
+        }
+        Decimal::NotDigits => None,
+        Decimal::TooLarge => None,
+    }
+}
+
+/// The search for this kind of run. None if the name begins with `-` or the other argument is not a bound.
+fn search_for<'a>(wanted: Target, all: bool, name: &'a str, word: &str) -> Option<Asked<'a>>
+    ensures request { option_map request result ≡ search_for wanted all name.entry.now word.now }
+    ensures sized { IfSome result (λ asked. IsSized asked) }
+{
+    if is_dashed(name) {
+        return None;
+    }
+    match most_of(word) {
+        Some(most) => Some(Asked::Search {
+            question: Query { wanted, all, most },
+            name,
+        }),
+        None => None,
+    }
+}
+
+/// The search of three arguments: `all` or a kind of run, and then a name and a bound.
+fn search_of_three<'a>(first: &str, name: &'a str, word: &str) -> Option<Asked<'a>>
+    ensures request { option_map request result ≡ search_of (first.now ∷ name.entry.now ∷ word.now ∷ []) }
+    ensures sized { IfSome result (λ asked. IsSized asked) }
+{
+    if first == "all" {
+        return search_for(Target::Both, true, name, word);
+    }
+    match wanted_of(first) {
+        Some(wanted) => search_for(wanted, false, name, word),
+        None => None,
+    }
+}
+
+/// The search of four arguments: a kind of run, `all`, a name and a bound.
+fn search_of_four<'a>(first: &str, second: &str, name: &'a str, word: &str) -> Option<Asked<'a>>
+    ensures request { option_map request result ≡ search_of (first.now ∷ second.now ∷ name.entry.now ∷ word.now ∷ []) }
+    ensures sized { IfSome result (λ asked. IsSized asked) }
+{
+    if second != "all" {
+        return None;
+    }
+    match wanted_of(first) {
+        Some(wanted) => search_for(wanted, true, name, word),
+        None => None,
+    }
+}
+
+/// The search of the arguments after the first. None if they are not a search.
+fn search_of<'a>(words: &'a [String]) -> Option<Asked<'a>>
+    ensures request { option_map request result ≡ search_of (texts_of words.now) }
+    ensures sized { IfSome result (λ asked. IsSized asked) }
+{
+    match words {
+        [name, most] => search_for(Target::Both, false, name.as_str(), most.as_str()),
+        [first, name, most] => search_of_three(first.as_str(), name.as_str(), most.as_str()),
+        [first, second, name, most] => search_of_four(
+            first.as_str(),
+            second.as_str(),
+            name.as_str(),
+            most.as_str(),
+        ),
+        _ => None,
+    }
+}
+
+/// The lines from one number up to another. None if one of them is not a number, the first is 0, or the last is smaller
+/// than the first.
+fn lines_of<'a>(
+    program: &'a str,
+    record: &'a str,
+    first: Decimal,
+    last: Decimal,
+) -> Option<Asked<'a>>
+    ensures request { option_map request result ≡ lines_of program.entry.now record.entry.now first last }
+    ensures sized { IfSome result (λ asked. IsSized asked) }
+{
+    match first {
+        Decimal::Value(first) => match last {
+            Decimal::Value(last) => {
+                if 1 <= first && first <= last {
+                    Some(Asked::Watch {
+                        shown: Shown::Lines { first, last },
+                        program,
+                        record,
+                    })
+                } else {
+                    None
+                }
+            }
+            _ => None,
+        },
+        _ => None,
+    }
+}
+
+/// The record of two names, whole. None if a name begins with `-`.
+fn watch_of_two<'a>(program: &'a str, record: &'a str) -> Option<Asked<'a>>
+    ensures request { option_map request result ≡ watch_of (program.entry.now ∷ record.entry.now ∷ []) }
+    ensures sized { IfSome result (λ asked. IsSized asked) }
+{
+    if is_dashed(program) || is_dashed(record) {
+        return None;
+    }
+    Some(Asked::Watch {
+        shown: Shown::Whole,
+        program,
+        record,
+    })
+}
+
+/// Some lines of the record of two names. None if a name begins with `-`, or the other arguments are not numbers of lines.
+fn watch_of_four<'a>(
+    program: &'a str,
+    record: &'a str,
+    first: &str,
+    last: &str,
+) -> Option<Asked<'a>>
+    ensures request { option_map request result ≡ watch_of (program.entry.now ∷ record.entry.now ∷ first.now ∷ last.now ∷ []) }
+    ensures sized { IfSome result (λ asked. IsSized asked) }
+{
+    if is_dashed(program) || is_dashed(record) {
+        return None;
+    }
+    lines_of(
+        program,
+        record,
+        decimal(first.as_bytes()),
+        decimal(last.as_bytes()),
+    )
+}
+
+/// The record to be watched of the arguments after the first. None if they are not one.
+fn watch_of<'a>(words: &'a [String]) -> Option<Asked<'a>>
+    ensures request { option_map request result ≡ watch_of (texts_of words.now) }
+    ensures sized { IfSome result (λ asked. IsSized asked) }
+{
+    match words {
+        [program, record] => watch_of_two(program.as_str(), record.as_str()),
+        [_, _, _] => None,
+        [program, record, first, last] => watch_of_four(
+            program.as_str(),
+            record.as_str(),
+            first.as_str(),
+            last.as_str(),
+        ),
+        _ => None,
+    }
+}
+
+/// The command that the word names, with the arguments after it. None if they are not a command.
+fn command_of<'a>(word: &str, words: &'a [String]) -> Option<Asked<'a>>
+    ensures request { option_map request result ≡ request_of (word.now ∷ texts_of words.now) }
+    ensures sized { IfSome result (λ asked. IsSized asked) }
+{
+    match word {
+        "search" => search_of(words),
+        "watch" => watch_of(words),
+        _ => None,
+    }
+}
+
+/// The command of the arguments. None if they are not a command.
+pub fn read_words<'a>(words: &'a [String]) -> Option<Asked<'a>>
+    ensures request { option_map request result ≡ request_of (texts_of words.now) }
+    ensures sized { IfSome result (λ asked. IsSized asked) }
+{
+    match words.split_first() {
+        Some((word, rest)) => command_of(word.as_str(), rest),
+        None => None,
+    }
+}

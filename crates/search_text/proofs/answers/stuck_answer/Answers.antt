@@ -1,0 +1,27 @@
+use Rattle.std.proofs.Common.{◌∙◌, List, ap, sym, subst, refl}
+use Rattle.pool_syntax.specs.Terms.{ProgramTree}
+use Rattle.pool_syntax.specs.TreeOf.{program_of}
+use Rattle.pool_semantics.specs.PlainOf.{configuration_of}
+use Rattle.wait_report.specs.declared.rows.ObjectRow.{ObjectRow}
+use Rattle.wait_report.specs.Calls.{Rising, names_of}
+use Rattle.waiting_objects.specs.Waiting.{waiting_rows}
+use Rattle.search_text.specs.AnswerText.{stuck_text}
+use Rattle.search_text.specs.Answers as A
+use Rattle.search_text.proofs.RunLaws.{one_last}
+use Rattle.search_text.proofs.answers.stuck_answer.Goals as goal
+
+pub replay-requires : goal.replay-requires
+replay-requires c = let h = c.requires in record { first = h.first; last = h.last; starts = h.starts; leads = h.leads; holds = tt }
+
+pub stuck_text-requires : goal.stuck_text-requires
+stuck_text-requires c = subst (λ (rows : List ObjectRow). Rising (names_of rows)) (sym c.deref.ensures.value) c.in_ok-rows.ensures.rising
+
+pub returns : goal.returns
+returns c =
+    let p = program_of c.args.program.now.program.now in
+    let q = c.args.question.now in
+    let led = c.in_ok-plain.ensures.last in
+    let last = one_last p c.args.labels.now _ _ c.requires led ∙ led.holds in
+    A.stuck c.args.labels.now c.requires
+    (c.in_ok-text.ensures ∙ ap (stuck_text c.args.names.now c.args.labels.now)
+    (c.deref.ensures.value ∙ c.in_ok-rows.ensures.rows ∙ ap (λ (t : ProgramTree). waiting_rows q.all t (configuration_of c.in_ok-plain.plain)) c.in_ok-plain.ensures.program ∙ ap (waiting_rows q.all p) (sym last))) refl

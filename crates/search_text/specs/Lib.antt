@@ -1,0 +1,6 @@
+-- Believed: what a top call's contract reaches.
+pub mod Answers
+pub mod Steps
+pub mod AnswerText
+-- Internal: what it does not.
+pub mod LeadingSteps

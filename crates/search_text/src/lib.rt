@@ -1,0 +1,11 @@
+//! Searches the runs of a program, and makes the text of the result.
+//!
+//! Does not know: how the search works, and files.
+#![tactic(auto)]
+
+mod answer;
+mod answers;
+mod shown;
+mod steps;
+
+pub use answers::{Answer, Outcome, answer_of};
