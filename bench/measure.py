@@ -8,14 +8,14 @@ TIMES = 3
 Run = collections.namedtuple('Run', 'status clock used memory')
 
 
-def program_of(words):
-    """The path of the program that the words name, or of the one that `./pool` builds on first use."""
+def program_of(words, name='pool'):
+    """The path of the program that the words name, or of the one of this name that its script builds on first use."""
     if len(words) > 1:
         return os.path.realpath(words[1])
-    pool = os.path.join(HERE, '..', 'pool')
-    if os.system(pool + ' >/dev/null 2>&1') >> 8 != 64:
-        sys.exit(words[0] + ': ./pool does not run')
-    return os.path.join(HERE, '..', '.pool', 'pool')
+    script = os.path.join(HERE, '..', name)
+    if os.system(script + ' >/dev/null 2>&1') >> 8 != 64:
+        sys.exit(f'{words[0]}: ./{name} does not run')
+    return os.path.join(HERE, '..', '.pool', name)
 
 
 def compiled(folder, source, *flags):
