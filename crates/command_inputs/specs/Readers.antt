@@ -21,11 +21,12 @@ use Rattle.pool_outside.specs.Reading.{Reading, AllRead, Told, reading}
 use Rattle.run_types.specs.declared.types.Line.{Line}
 use Rattle.run_record.specs.declared.fault.RecordFault.{RecordFault}
 use Rattle.run_record.specs.declared.fault.RecordFault.TheVariants as RecordFaults
-use Rattle.run_record.specs.Numbered.{lines_after}
+use Rattle.run_record.specs.Numbered.{lines_after, names_after}
 use Rattle.run_record.specs.Records.{record_of}
 use Rattle.command_inputs.specs.Inputs.{limit_of, one_read, WasRead, Stops}
 use Rattle.command_inputs.specs.Programs.{IsParsed, IsTextOf}
 use Rattle.command_inputs.specs.declared.program.Parsed.{Parsed}
+use Rattle.command_inputs.specs.declared.record.NamedLines.{NamedLines}
 
 -- out of memory is no fault of the text
 
@@ -76,6 +77,10 @@ HasRecordFault s f = (g : RecordFault) × (f ≡ F.Record g) × ((record_of s).f
 -- the lines of a record, read with these names
 abbrev pub AreLinesOf : List Text → Text → List Line → Type 0
 AreLinesOf names s ls = ((record_of s).fault ≡ None) × (ls ≡ lines_after names (record_of s).told)
+
+-- the same, and the table of names after the record
+abbrev pub AreNamedLinesOf : List Text → Text → NamedLines → Type 0
+AreNamedLinesOf names s read = AreLinesOf names s read.lines × (read.names ≡ names_after names (record_of s).told)
 
 -- The outcome of a check of a text: the meaning of the text; or the fault of a text that is not accepted; or out of
 -- memory.

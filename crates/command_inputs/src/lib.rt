@@ -13,4 +13,4 @@ pub use fault::{
 };
 pub use inputs::{read_input, read_parsed, read_typed};
 pub use program::{Parsed, judge_classes, read_program};
-pub use record::{read_lines, record_stop};
+pub use record::{NamedLines, read_lines, read_named_lines, record_stop};

@@ -20,7 +20,7 @@ pub enum Status {
     ReadFault,
     /// A write failed.
     WriteFault,
-    /// Out of memory, before anything was written to `out`.
+    /// Out of memory. No command but `follow` has written to `out` before.
     Memory,
     /// The arguments are not a command.
     Usage,

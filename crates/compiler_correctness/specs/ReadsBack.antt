@@ -2,7 +2,7 @@
 use Rattle.std.specs.Prelude.{◌≡◌, List, None}
 use Rattle.run_types.specs.declared.types.Line.{Line}
 use Rattle.text_scan.specs.Text.{Text}
-use Rattle.record_writer.specs.PlainTexts.{record_text}
+use Rattle.record_writer.specs.RecordText.{record_text}
 use Rattle.record_writer.specs.SecondForm.{text2}
 use Rattle.run_record.specs.Numbered.{lines_after}
 use Rattle.run_record.specs.Records.{record_of}

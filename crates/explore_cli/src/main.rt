@@ -11,7 +11,7 @@ ghost use Rattle.command_shell.specs.Ends.{StaysWithin, WholeTextWritten};
 ghost use Rattle.command_shell.specs.Programs.{MayOpen};
 ghost use Rattle.command_shell.specs.Statuses.{code_of};
 ghost use Rattle.command_shell.specs.Writing.{writing};
-ghost use Rattle.explore_driver.specs.Ends.{Ends, IsServable, inputs};
+ghost use Rattle.explore_driver.specs.Ends.{Ends, IsServable, files_of, inputs};
 ghost use Rattle.explore_driver.specs.Words.{Request, request_of, texts_of};
 
 use command_shell::Status;
@@ -31,7 +31,7 @@ fn run<F: Files, K: Sink, E: Sink>(
 ) -> ExitCode
     requires not_live { F.live files.old ≡ false }
     requires countable { F.opens files.old ≤ 2 ^ 64 - 5 }
-    requires allowed { IfSome (request_of (texts_of words.now)) (λ r. MayOpen (F.may files.old) (F.opens files.old) (inputs r)) }
+    requires allowed { IfSome (request_of (texts_of words.now)) (λ r. MayOpen (F.may files.old) (F.opens files.old) (files_of r)) }
 
     // The exit status is the number of the status with which the
     // call ends. Each has its cause, and the text on both sinks.
@@ -47,6 +47,7 @@ fn run<F: Files, K: Sink, E: Sink>(
 
     // If the arguments are a command, all inputs are accepted, and no read or
     // write failed in this call, the whole text was written, or memory ran out.
+    // A stream that is followed must have an end line, and no fault before it.
     ensures complete { (r : Request) → request_of (texts_of words.now) ≡ Some r → IsServable (F.told files.old) r
         → ¬ (Rose (F.faults files.old) (F.faults files.new)) → ¬ (Rose (K.faults out.old) (K.faults out.new)) → ¬ (Rose (E.faults err.old) (E.faults err.new))
         → ((status : Status) × WholeTextWritten status × (exit_status result ≡ code_of status)) ⊎ (exit_status result ≡ 7) }

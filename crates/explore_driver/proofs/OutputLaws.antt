@@ -1,18 +1,28 @@
 -- The output of a command follows from its inputs, one after another.
-use Rattle.std.proofs.Common.{◌≡◌, ◌∙◌, ◌+◌, inl, inr, List, [], ◌∷◌, length, Result, Ok, false, refl, sym, subst}
+use Rattle.std.proofs.Common.{◌≡◌, ◌∙◌, ◌+◌, ℕ, inl, inr, List, [], ◌∷◌, length, Result, Ok, Err, false, refl, sym, ap, subst}
 use Rattle.text_scan.specs.Text.{Text}
 use Rattle.pool_syntax.specs.Terms.{ProgramTree}
 use Rattle.pool_syntax.specs.TreeOf.{program_of}
 use Rattle.pool_syntax.specs.Typing.{faults}
 use Rattle.run_types.specs.declared.types.Line.{Line}
+use Rattle.run_types.specs.declared.types.Line.TheVariants as R
+use Rattle.mesh_semantics.specs.Record.{EndsOnce}
+use Rattle.run_record.specs.Readable.{IsRecordFrom}
 use Rattle.run_types.specs.declared.verdicts.Verdict.{Verdict}
 use Rattle.run_types.specs.declared.verdicts.Verdict.TheVariants as V
 use Rattle.command_inputs.specs.declared.fault.Fault.{Fault}
 use Rattle.command_inputs.specs.declared.fault.Input.TheVariants as I
+use Rattle.command_inputs.specs.declared.fault.Input.{Input}
 use Rattle.command_inputs.specs.declared.fault.InputError.{InputError}
+use Rattle.command_inputs.specs.declared.fault.InputError.TheVariants as T
 use Rattle.command_inputs.specs.declared.program.Parsed.{Parsed}
+use Rattle.command_inputs.specs.declared.record.NamedLines.{NamedLines}
 use Rattle.command_inputs.specs.Inputs.{IsReadAs}
-use Rattle.command_inputs.specs.Readers.{AreLinesOf, IsProgramOf}
+use Rattle.command_inputs.specs.Readers.{AreLinesOf, AreNamedLinesOf, IsAnyProgram, IsProgramOf, IsTypedProgramOf, Reads}
+use Rattle.command_inputs.specs.Programs.{HasTypedFault, IsFaultOfClasses, IsFaultOfText, IsTypedProgram}
+use Rattle.command_inputs.proofs.Laws.{judged, judges_refusal}
+use Rattle.run_record.specs.Numbered.{lines_after}
+use Rattle.run_record.specs.Records.{record_of}
 use Rattle.command_shell.specs.declared.status.Status.{Status}
 use Rattle.command_shell.specs.Ends.{Reaches, WholeTextWritten}
 use Rattle.command_shell.specs.Results as D
@@ -27,9 +37,9 @@ use Rattle.explore_driver.specs.declared.outputs.Output.{Output}
 use Rattle.explore_driver.specs.declared.words.Shown.{Shown}
 use Rattle.explore_driver.specs.declared.words.Shown.TheVariants as Sh
 use Rattle.explore_driver.specs.Ends.{IsAccepted, explore_program}
-use Rattle.explore_driver.specs.Outputs.{IsOutput, IsTextOf, status_of_outcome}
+use Rattle.explore_driver.specs.Outputs.{IsFilledText, IsOutput, IsTextOf, status_of_outcome}
 use Rattle.explore_driver.specs.Results.{ResultsIn}
-use Rattle.explore_driver.specs.Words.{Request, of_search, of_watch}
+use Rattle.explore_driver.specs.Words.{Request, of_fill, of_follow, of_search, of_watch}
 
 -- the inputs of a command, one after another
 
@@ -43,6 +53,16 @@ abbrev pub reaches_record : (k : Reading) (shown : Shown) (name other s : Text) 
     → Reaches explore_program k (of_watch shown name other) I.Record other
 reaches_record k shown name other s read accepted h =
     record { before = (I.Program, name) ∷ []; behind = []; texts = s ∷ []; place = refl; accepted = (read, accepted, tt); opened = h }
+
+-- The program of a request whose classes have a fault, after it was read.
+pub class_stops : (k : Reading) (name : Text) (read : Parsed) (stop : InputError) → Reads k I.Program name IsAnyProgram IsFaultOfText IsProgramOf (Ok read)
+    → ((i : Input) (f : Fault) → stop ≡ T.Refused i f → (i ≡ I.Program) × IsFaultOfClasses (program_of read.program) f) → ((i : Input) → stop ≡ T.Unread i → ⊥)
+    → (faults (program_of read.program) ≡ [] → stop ≡ T.Memory) → Reads k I.Program name IsTypedProgram HasTypedFault IsTypedProgramOf (Err stop)
+class_stops k name read stop reads refused unread only = judged _ _ _ _ _ _ _ _ IsTypedProgramOf read _ reads (λ s is.
+    judges_refusal I.Program IsTypedProgram HasTypedFault IsTypedProgramOf s stop
+    (λ i f e. let why = refused i f e in (why.0, inr (program_of read.program, (read.names, is.parsed), why.1)))
+    unread
+    (λ q. only (ap faults (is.only q.1.0.0 q.0 q.1.0.1).1 ∙ q.1.1)))
 
 -- for the same request
 pub makes_for : (k : Reading) (q r : Request) (result : Result Output InputError) → q ≡ r → ResultsIn k q result → ResultsIn k r result
@@ -74,6 +94,7 @@ search_makes k q name s read o outcome first is typed opened given ended calm an
 pub judged_by : (shown : Shown) (p : ProgramTree) (names : List Text) (ls : List Line) (text : Text) (v : Verdict) → IsTextOf shown p names ls text v → Judged p ls v
 judged_by Sh.Whole p names ls text v h = h.judged
 judged_by (Sh.Lines first last) p names ls text v h = h.judged
+judged_by Sh.Waits p names ls text v h = h.judged
 
 -- what comes of a program and a record, one after the other
 pub watch_makes : (k : Reading) (shown : Shown) (name other s t : Text) (read : Parsed) (ls : List Line) (o : Output) (v : Verdict) → IsReadAs k.told I.Program name s → IsProgramOf s read
@@ -100,6 +121,37 @@ watch_makes k shown name other s t read ls o v first is typed second lines opene
   };
 }) tt
 
+-- the lines of a record have one end line, the last
+pub ends_once : (names : List Text) (last : ℕ) (ls : List Line) → IsRecordFrom names last ls → EndsOnce ls
+ends_once names last [] h = absurd h
+ends_once names last (R.Event n e what ∷ ls) h = ends_once names n ls h.4
+ends_once names last (R.End e ∷ []) h = tt
+ends_once names last (R.End e ∷ l ∷ ls) h = absurd h
+
+-- what comes of a program and a record that is filled in
+pub fill_makes : (k : Reading) (name other s t : Text) (read : Parsed) (lines : NamedLines) (o : Output) (v : Verdict) → IsReadAs k.told I.Program name s → IsProgramOf s read
+    → faults (program_of read.program) ≡ [] → IsReadAs k.told I.Record other t → AreNamedLinesOf read.names t lines → k.opened ≡ k.opens + 2 → length t ≡ k.given → k.live ≡ false → AllRead k
+    → IsFilledText (program_of read.program) lines.names lines.lines o.text.items v → o.status ≡ status_of_verdict v → ResultsIn k (of_fill name other) (Ok o)
+fill_makes k name other s t read lines o v first is typed second named opened given ended calm filled status = D.made o refl (record {
+  texts = s ∷ t ∷ [];
+  accepted = (first, (program_of read.program, ((read.names, is.parsed), typed)), (second, named.0.0, tt));
+  opened = opened;
+  given = given;
+  ended = ended;
+  calm = calm;
+  output = record {
+    names = read.names;
+    program = program_of read.program;
+    parsed = is.parsed;
+    typed = typed;
+    faultless = named.0.0;
+    verdict = v;
+    filled = subst (λ (ns : List Text). IsFilledText (program_of read.program) ns (lines_after read.names (record_of t).told) o.text.items v) named.1
+        (subst (λ (ls : List Line). IsFilledText (program_of read.program) lines.names ls o.text.items v) named.0.1 filled);
+    ended = status;
+  };
+}) tt
+
 -- an output is written with a status that says so
 
 outcome_whole : (outcome : Outcome) → WholeTextWritten (status_of_outcome outcome)
@@ -107,7 +159,7 @@ outcome_whole O.Finite = inl refl
 outcome_whole O.Shown = inr (inl refl)
 outcome_whole O.Over = inr (inr (inl refl))
 
-verdict_whole : (v : Verdict) → WholeTextWritten (status_of_verdict v)
+pub verdict_whole : (v : Verdict) → WholeTextWritten (status_of_verdict v)
 verdict_whole V.Yes = inl refl
 verdict_whole (V.No number redex) = inr (inl refl)
 verdict_whole (V.Moving o) = inr (inl refl)
@@ -120,3 +172,8 @@ output_whole (of_watch shown name other) [] text s h = absurd h
 output_whole (of_watch shown name other) (p ∷ []) text s h = absurd h
 output_whole (of_watch shown name other) (p ∷ t ∷ []) text s h = subst WholeTextWritten (sym h.ended) (verdict_whole h.verdict)
 output_whole (of_watch shown name other) (p ∷ t ∷ u ∷ us) text s h = absurd h
+output_whole (of_fill name other) [] text s h = absurd h
+output_whole (of_fill name other) (p ∷ []) text s h = absurd h
+output_whole (of_fill name other) (p ∷ t ∷ []) text s h = subst WholeTextWritten (sym h.ended) (verdict_whole h.verdict)
+output_whole (of_fill name other) (p ∷ t ∷ u ∷ us) text s h = absurd h
+output_whole (of_follow name other) texts text s h = absurd h

@@ -5,7 +5,7 @@ use Rattle.pool_syntax.specs.Terms.{ProgramTree}
 use Rattle.pool_syntax.specs.Typing.{faults}
 use Rattle.run_types.specs.declared.types.Line.{Line}
 use Rattle.run_types.specs.declared.verdicts.Verdict.{Verdict}
-use Rattle.run_record.specs.Numbered.{lines_after}
+use Rattle.run_record.specs.Numbered.{lines_after, names_after}
 use Rattle.run_record.specs.Records.{record_of}
 use Rattle.command_inputs.specs.Programs.{IsParsed}
 use Rattle.command_shell.specs.declared.status.Status.{Status}
@@ -16,10 +16,13 @@ use Rattle.record_check.specs.RecordJudgement.{Judged}
 use Rattle.search_text.specs.declared.answers.Outcome.{Outcome}
 use Rattle.search_text.specs.declared.answers.Outcome.TheVariants as O
 use Rattle.search_text.specs.Answers.{Answers}
+use Rattle.record_fill.specs.Filled.{IsFilled}
+use Rattle.record_writer.specs.RecordText.{record_text}
 use Rattle.watch_text.specs.WatchedRun.{IsWatched, IsWatchedPart}
+use Rattle.watch_text.specs.Waits.{IsWaits}
 use Rattle.explore_driver.specs.declared.words.Shown.{Shown}
 use Rattle.explore_driver.specs.declared.words.Shown.TheVariants as Sh
-use Rattle.explore_driver.specs.Words.{Request, of_search, of_watch}
+use Rattle.explore_driver.specs.Words.{Request, of_fill, of_search, of_watch}
 
 -- the status with which the answer of a search is written
 abbrev pub status_of_outcome : Outcome → Status
@@ -37,10 +40,11 @@ pub record IsAnswerOn (q : Query) (source text : Text) (status : Status) : Type 
   pub answers : Answers names program q text outcome
   pub ended : status ≡ status_of_outcome outcome
 
--- the text shows the lines as a run of the program, whole or in part, with the verdict on them
+-- the text shows the lines as a run of the program, whole or in part, or who waits after them, with the verdict on them
 abbrev pub IsTextOf : Shown → ProgramTree → List Text → List Line → Text → Verdict → Type 0
 IsTextOf Sh.Whole p names ls text verdict = IsWatched p names ls text verdict
 IsTextOf (Sh.Lines first last) p names ls text verdict = IsWatchedPart p names ls first last text verdict
+IsTextOf Sh.Waits p names ls text verdict = IsWaits p names ls text verdict
 
 -- The source is a program without class faults, and the record has no fault. The text shows its lines, read with the
 -- program's names, with the only verdict that is right for them.
@@ -55,8 +59,25 @@ pub record IsWatchOn (shown : Shown) (source s text : Text) (status : Status) : 
   pub only : (v : Verdict) → Judged program (lines_after names (record_of s).told) v → v ≡ verdict
   pub ended : status ≡ status_of_verdict verdict
 
--- the output of a command, given the texts of its inputs in order
+-- the text is that of the lines with local transitions filled in, with the verdict on them
+abbrev pub IsFilledText : ProgramTree → List Text → List Line → Text → Verdict → Type 0
+IsFilledText p names ls text verdict = (fs : List Line) × IsFilled p ls fs verdict × (text ≡ record_text names fs)
+
+-- The source is a program without class faults, and the record has no fault. The text has its lines, read with the program's
+-- names, with local transitions filled in, in the first form. The verdict is that on the filled record.
+pub record IsFillOn (source s text : Text) (status : Status) : Type 0 where
+  pub names : List Text
+  pub program : ProgramTree
+  pub parsed : IsParsed source names program
+  pub typed : faults program ≡ []
+  pub faultless : (record_of s).fault ≡ None
+  pub verdict : Verdict
+  pub filled : IsFilledText program (names_after names (record_of s).told) (lines_after names (record_of s).told) text verdict
+  pub ended : status ≡ status_of_verdict verdict
+
+-- the output of a command, given the texts of its inputs in order; that of a stream has a definition of its own
 abbrev pub IsOutput : Request → List Text → Text → Status → Type 0
 IsOutput (of_search q name) (source ∷ []) text status = IsAnswerOn q source text status
 IsOutput (of_watch shown name record_name) (source ∷ s ∷ []) text status = IsWatchOn shown source s text status
+IsOutput (of_fill name record_name) (source ∷ s ∷ []) text status = IsFillOn source s text status
 IsOutput _ _ text status = ⊥

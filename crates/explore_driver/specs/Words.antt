@@ -10,11 +10,13 @@ use Rattle.pool_search.specs.declared.queries.Target.TheVariants as W
 use Rattle.explore_driver.specs.declared.words.Shown.{Shown}
 use Rattle.explore_driver.specs.declared.words.Shown.TheVariants as Sh
 
--- A command: a search of the program of this name; or the record of this name, watched as a run of the program, whole or
--- from one line up to another.
+-- A command: a search of the program of this name; the record of this name, shown as a run of the program; the record
+-- with local transitions filled in; or the stream of this name, followed as a run of the program.
 pub data Request : Type 0 where
   of_search : (question : Query) (name : Text) → Request
   of_watch : (shown : Shown) (name record_name : Text) → Request
+  of_fill : (name record_name : Text) → Request
+  of_follow : (name stream_name : Text) → Request
 
 -- an argument that begins with `-` is not a name
 abbrev pub is_dashed : Text → Bool
@@ -51,20 +53,44 @@ abbrev pub lines_of : Text → Text → Decimal → Decimal → Option Request
 lines_of name record_name (Number.Value first) (Number.Value last) = if nat_le 1 first && nat_le first last then Some (of_watch (Sh.Lines first last) name record_name) else None
 lines_of name record_name _ _ = None
 
+-- the names of a program and a record
+abbrev pub pair_of : (Text → Text → Request) → List Text → Option Request
+pair_of made (name ∷ record_name ∷ []) = if is_dashed name || is_dashed record_name then None else Some (made name record_name)
+pair_of made _ = None
+
 -- the names of a program and a record; then the numbers of two lines, which are optional
 abbrev pub watch_of : List Text → Option Request
 watch_of [] = None
 watch_of (a ∷ []) = None
-watch_of (name ∷ record_name ∷ []) = if is_dashed name || is_dashed record_name then None else Some (of_watch Sh.Whole name record_name)
+watch_of (name ∷ record_name ∷ []) = pair_of (of_watch Sh.Whole) (name ∷ record_name ∷ [])
 watch_of (a ∷ b ∷ c ∷ []) = None
 watch_of (name ∷ record_name ∷ first ∷ last ∷ []) =
     if is_dashed name || is_dashed record_name then None else lines_of name record_name (decimal_of first) (decimal_of last)
 watch_of (a ∷ b ∷ c ∷ d ∷ e ∷ ws) = None
 
+-- the standard input, by its name as a file
+abbrev pub standard_input : Text
+standard_input = codes "/dev/stdin"
+
+-- the names of a program and a stream; without the second the stream is the standard input
+abbrev pub follow_of : List Text → Option Request
+follow_of (name ∷ []) = pair_of of_follow (name ∷ standard_input ∷ [])
+follow_of ws = pair_of of_follow ws
+
+-- the command of this word, with the arguments after it
+abbrev pub command_of : Text → List Text → Option Request
+command_of c ws =
+    if bytes_eq c (codes "search") then search_of ws
+    else if bytes_eq c (codes "watch") then watch_of ws
+    else if bytes_eq c (codes "waits") then pair_of (of_watch Sh.Waits) ws
+    else if bytes_eq c (codes "fill") then pair_of of_fill ws
+    else if bytes_eq c (codes "follow") then follow_of ws
+    else None
+
 -- the command that the first argument names
 abbrev pub request_of : List Text → Option Request
 request_of [] = None
-request_of (c ∷ ws) = if bytes_eq c (codes "search") then search_of ws else (if bytes_eq c (codes "watch") then watch_of ws else None)
+request_of (c ∷ ws) = command_of c ws
 
 -- the arguments as texts
 abbrev pub texts_of : {A : Type 0} → List (String A) → List Text

@@ -3,6 +3,7 @@
 //! Does not know: the system's files and standard streams.
 #![tactic(auto)]
 
+mod follow;
 mod outputs;
 mod top;
 mod words;

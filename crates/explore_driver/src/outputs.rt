@@ -1,26 +1,33 @@
 //! Makes the output of a command. Each input is read and checked before the next is opened.
-ghost use Rattle.std.specs.Prelude.{◌≡◌, ◌-◌, ◌^◌, ◌≤◌, IfOk};
+ghost use Rattle.std.specs.Prelude.{◌≡◌, ◌++◌, ◌-◌, ◌^◌, ◌≤◌, IfOk, OnOk};
+ghost use Rattle.mesh_semantics.specs.Record.{EndsOnce};
+ghost use Rattle.record_writer.specs.RecordText.{record_text};
 ghost use Rattle.command_shell.specs.Ends.{StaysWithin};
 ghost use Rattle.command_shell.specs.Programs.{MayOpen};
 ghost use Rattle.pool_outside.specs.Reading.{reading};
 ghost use Rattle.pool_syntax.specs.TreeOf.{program_of};
 ghost use Rattle.explore_driver.specs.AskedRequest.{IsOrdered, IsSized, request};
 ghost use Rattle.explore_driver.specs.Ends.{inputs};
-ghost use Rattle.explore_driver.specs.Outputs.{IsTextOf, status_of_outcome};
+ghost use Rattle.explore_driver.specs.Outputs.{IsFilledText, IsTextOf, status_of_outcome};
 ghost use Rattle.explore_driver.specs.Results.{ResultsIn};
-ghost use Rattle.explore_driver.specs.Words.{of_search, of_watch};
+ghost use Rattle.explore_driver.specs.Words.{of_fill, of_search, of_watch};
 
 use crate::words::{Asked, Shown};
 use class_check::Checked;
-use command_inputs::{InputError, judge_classes, read_lines, read_parsed};
+use command_inputs::{
+    InputError, NamedLines, judge_classes, read_lines, read_named_lines, read_parsed,
+};
 use command_shell::{Status, status_of_verdict};
+use label_text::push_line;
 use pool_outside::Files;
 use pool_search::Query;
 use record_check::theorems::a_record_has_one_verdict;
+use record_fill::fill_record;
+use run_record::theorems::what_is_read_is_readable;
 use run_types::{Line, Names};
 use search_text::{Outcome, answer_of};
 use std::alloc::{AllocError, Global};
-use watch_text::{Watched, watch_lines, watch_record};
+use watch_text::{Watched, report_waits, watch_lines, watch_record};
 
 /// The text of an output, and the status with which it is written.
 #[derive(Drop)]
@@ -85,6 +92,7 @@ fn watched(
         Shown::Lines { first, last } => {
             watch_lines(alloc, program, names, lines, first as usize, last as usize)
         }
+        Shown::Waits => report_waits(alloc, program, names, lines),
     }
 }
 
@@ -125,6 +133,66 @@ fn watch_output<F: Files>(
     }
 }
 
+/// Appends the lines of a record in the first form. An error means out of memory.
+fn push_lines(text: &mut Vec<u8>, names: &Names, lines: &[Line]) -> Result<(), AllocError>
+    ensures { OnOk result (text.new.items ≡ text.old.items ++ record_text names.now lines.now) }
+{
+    for line in lines {
+        push_line(text, names, line)?;
+    }
+    Ok(())
+}
+
+/// Fills in the local transitions of the lines. Returns the text of the filled record, and the verdict on it.
+/// Requires one end line, the last. An error means out of memory.
+fn filled(alloc: Global, program: &Checked<'_>, read: &NamedLines) -> Result<Watched, AllocError>
+    requires { EndsOnce read.now.lines }
+    ensures { IfOk result (λ w. IsFilledText (program_of program.now.program.now) read.now.names read.now.lines w.text.items w.verdict) }
+{
+    let filled = fill_record(alloc, program, read.lines.items())?;
+    let mut text = Vec::new(alloc);
+    push_lines(&mut text, &read.names, filled.lines.items())?;
+    Ok(Watched {
+        text,
+        verdict: filled.verdict,
+    })
+}
+
+/// Reads a program, and then the record `claim`. Returns the record with local transitions filled in as the output, or the
+/// input error.
+fn fill_output<F: Files>(
+    alloc: Global,
+    files: &mut F,
+    program: &str,
+    claim: &str,
+) -> Result<Output, InputError>
+    requires countable { F.opens files.old ≤ 2 ^ 64 - 5 }
+    requires allowed { MayOpen (F.may files.old) (F.opens files.old) (inputs (of_fill program.now claim.now)) }
+    ensures makes { ResultsIn (reading F.told F.opens F.given F.live F.faults files.old files.new) (of_fill program.now claim.now) result }
+    ensures unread_within { StaysWithin (reading F.told F.opens F.given F.live F.faults files.old files.new) (inputs (of_fill program.now claim.now)) }
+{
+    what_is_read_is_readable();
+    let parsed = match read_parsed(alloc, files, program) {
+        Ok(parsed) => parsed,
+        Err(stop) => return Err(stop),
+    };
+    let checked = match judge_classes(alloc, &parsed) {
+        Ok(checked) => checked,
+        Err(stop) => return Err(stop),
+    };
+    let read = match read_named_lines(alloc, files, claim, &parsed.names) {
+        Ok(read) => read,
+        Err(stop) => return Err(stop),
+    };
+    match filled(alloc, &checked, &read) {
+        Ok(filled) => Ok(Output {
+            status: status_of_verdict(&filled.verdict),
+            text: filled.text,
+        }),
+        Err(AllocError) => Err(InputError::Memory),
+    }
+}
+
 /// Makes the output of a command. Reports the first input that is not accepted, a failed read, or out of memory.
 /// Requires that each input of the command may be opened.
 pub fn make_output<F: Files>(
@@ -145,5 +213,6 @@ pub fn make_output<F: Files>(
             program,
             record,
         } => watch_output(alloc, files, *shown, program, record),
+        Asked::Fill { program, record } => fill_output(alloc, files, program, record),
     }
 }

@@ -5,22 +5,79 @@ ghost use Rattle.pool_outside.specs.Reading.{reading};
 ghost use Rattle.command_shell.specs.Ends.{StaysWithin, WholeTextWritten};
 ghost use Rattle.command_shell.specs.Programs.{MayOpen};
 ghost use Rattle.command_shell.specs.Writing.{writing};
-ghost use Rattle.explore_driver.specs.Ends.{Ends, IsServable, inputs};
+ghost use Rattle.explore_driver.specs.AskedRequest.{IsSized, IsSizedCommand, request, wanted};
+ghost use Rattle.explore_driver.specs.Ends.{Ends, IsServable, files_of, inputs};
 ghost use Rattle.explore_driver.specs.Words.{Request, request_of, texts_of};
 
+use crate::follow::follow;
 use crate::outputs::make_output;
-use crate::words::read_words;
+use crate::words::{Asked, Command, read_words};
 use command_shell::{Status, say, say_stop};
 use pool_outside::{Files, Sink};
 use std::alloc::Global;
 
 /// The usage line.
-const USAGE: &[u8] = b"usage: explore search [stuck|fault] [all] P N, explore watch P R [A B]\n";
+const USAGE: &[u8] =
+    b"usage: explore search [stuck|fault] [all] P N, explore watch P R [A B], explore waits|fill P R, explore follow P [R]\n";
+
+/// Makes the output of a command, and writes it, or the line of an error.
+fn make<F: Files, K: Sink, E: Sink>(
+    alloc: Global,
+    asked: &Asked<'_>,
+    files: &mut F,
+    out: &mut K,
+    err: &mut E,
+) -> Status
+    requires sized { IsSized asked.now }
+    requires countable { F.opens files.old ≤ 2 ^ 64 - 5 }
+    requires allowed { MayOpen (F.may files.old) (F.opens files.old) (inputs (request asked.now)) }
+    ensures ends { Ends (Some (request asked.now))
+        (reading F.told F.opens F.given F.live F.faults files.old files.new)
+        (writing K.written K.faults out.old out.new)
+        (writing E.written E.faults err.old err.new)
+        result }
+    ensures stops_reading { StaysWithin (reading F.told F.opens F.given F.live F.faults files.old files.new) (inputs (request asked.now)) }
+    ensures complete { IsServable (F.told files.old) (request asked.now)
+        → ¬ (Rose (F.faults files.old) (F.faults files.new)) → ¬ (Rose (K.faults out.old) (K.faults out.new)) → ¬ (Rose (E.faults err.old) (E.faults err.new))
+        → WholeTextWritten result ⊎ (result ≡ Status.Memory) }
+{
+    match make_output(alloc, files, asked) {
+        Ok(output) => say(out, &output.text, output.status),
+        Err(stop) => say_stop(alloc, err, stop),
+    }
+}
+
+/// Runs one command.
+fn serve<F: Files, K: Sink, E: Sink>(
+    alloc: Global,
+    command: &Command<'_>,
+    files: &mut F,
+    out: &mut K,
+    err: &mut E,
+) -> Status
+    requires sized { IsSizedCommand command.now }
+    requires countable { F.opens files.old ≤ 2 ^ 64 - 5 }
+    requires allowed { MayOpen (F.may files.old) (F.opens files.old) (files_of (wanted command.now)) }
+    ensures ends { Ends (Some (wanted command.now))
+        (reading F.told F.opens F.given F.live F.faults files.old files.new)
+        (writing K.written K.faults out.old out.new)
+        (writing E.written E.faults err.old err.new)
+        result }
+    ensures stops_reading { StaysWithin (reading F.told F.opens F.given F.live F.faults files.old files.new) (inputs (wanted command.now)) }
+    ensures complete { IsServable (F.told files.old) (wanted command.now)
+        → ¬ (Rose (F.faults files.old) (F.faults files.new)) → ¬ (Rose (K.faults out.old) (K.faults out.new)) → ¬ (Rose (E.faults err.old) (E.faults err.new))
+        → WholeTextWritten result ⊎ (result ≡ Status.Memory) }
+{
+    match command {
+        Command::Make(asked) => make(alloc, asked, files, out, err),
+        Command::Follow { program, stream } => follow(alloc, files, program, stream, out, err),
+    }
+}
 
 /// Runs one command. `words` are the arguments without the program's name.
 /// `files` are the files that the command may read. The output goes to `out`, and a line for an error goes to `err`.
 /// Requires that no file is open, that fewer than 2^64 - 4 were
-/// opened before, and that each input of the command may be opened.
+/// opened before, and that each file of the command may be opened.
 pub fn explore<F: Files, K: Sink, E: Sink>(
     alloc: Global,
     words: &[String],
@@ -30,9 +87,11 @@ pub fn explore<F: Files, K: Sink, E: Sink>(
 ) -> Status
     requires not_live { F.live files.old ≡ false }
     requires countable { F.opens files.old ≤ 2 ^ 64 - 5 }
-    requires allowed { IfSome (request_of (texts_of words.now)) (λ r. MayOpen (F.may files.old) (F.opens files.old) (inputs r)) }
+    requires allowed { IfSome (request_of (texts_of words.now)) (λ r. MayOpen (F.may files.old) (F.opens files.old) (files_of r)) }
 
     // The call ends in one of the ways that the definition lists. Each has its cause, and the text on both sinks.
+    // Whatever was read of a stream that is followed, its lines before the last one are a front of a run, and the
+    // text on `out` is what this front writes.
     ensures ends { Ends (request_of (texts_of words.now))
         (reading F.told F.opens F.given F.live F.faults files.old files.new)
         (writing K.written K.faults out.old out.new)
@@ -45,15 +104,13 @@ pub fn explore<F: Files, K: Sink, E: Sink>(
 
     // If the arguments are a command, all inputs are accepted, and no read or
     // write failed in this call, the whole text was written, or memory ran out.
+    // A stream that is followed must have an end line, and no fault before it.
     ensures complete { (r : Request) → request_of (texts_of words.now) ≡ Some r → IsServable (F.told files.old) r
         → ¬ (Rose (F.faults files.old) (F.faults files.new)) → ¬ (Rose (K.faults out.old) (K.faults out.new)) → ¬ (Rose (E.faults err.old) (E.faults err.new))
         → WholeTextWritten result ⊎ (result ≡ Status.Memory) }
 {
     match read_words(words) {
-        Some(asked) => match make_output(alloc, files, &asked) {
-            Ok(output) => say(out, &output.text, output.status),
-            Err(stop) => say_stop(alloc, err, stop),
-        },
+        Some(command) => serve(alloc, &command, files, out, err),
         None => say(err, USAGE, Status::Usage),
     }
 }

@@ -1,8 +1,8 @@
 //! Reads the arguments of a command.
 ghost use Rattle.std.specs.Prelude.{◌≡◌, [], ◌∷◌, option_map, IfSome};
 ghost use Rattle.text_scan.specs.Lines.{decimal_of};
-ghost use Rattle.explore_driver.specs.Words.{is_dashed, lines_of, most_of, request_of, search_for, search_of, texts_of, wanted_of, watch_of};
-ghost use Rattle.explore_driver.specs.AskedRequest.{IsSized, request};
+ghost use Rattle.explore_driver.specs.Words.{command_of, follow_of, is_dashed, lines_of, most_of, of_fill, of_follow, of_watch, pair_of, request_of, search_for, search_of, texts_of, wanted_of, watch_of};
+ghost use Rattle.explore_driver.specs.AskedRequest.{IsOrdered, IsSized, IsSizedCommand, request, wanted};
 
 use pool_search::{Query, Target};
 use text_scan::{Decimal, decimal};
@@ -12,16 +12,21 @@ const FEWEST: u64 = 1;
 
 const MOST: u64 = 10_000_000;
 
-/// The lines of a record that are shown. They are counted from 1.
+/// The standard input, by its name as a file.
+const STANDARD_INPUT: &str = "/dev/stdin";
+
+/// What is shown of a record. Lines are counted from 1.
 #[derive(Clone, Copy)]
 pub enum Shown {
-    /// All of them.
+    /// All lines.
     Whole,
-    /// Those from `first` up to `last`.
+    /// The lines from `first` up to `last`.
     Lines { first: u64, last: u64 },
+    /// The status of each object after the last line.
+    Waits,
 }
 
-/// A command, with the names of its files.
+/// A command whose output is a text, with the names of its files.
 #[derive(Clone, Copy)]
 pub enum Asked<'a> {
     /// Search the runs of the program.
@@ -35,6 +40,19 @@ pub enum Asked<'a> {
         program: &'a str,
         record: &'a str,
     },
+    /// Fill in the local transitions of the record.
+    Fill {
+        program: &'a str,
+        record: &'a str,
+    },
+}
+
+/// A command: one whose output is a text that is made before it is written, or to follow a stream.
+#[derive(Clone, Copy)]
+pub enum Command<'a> {
+    Make(Asked<'a>),
+    /// Follow the stream as a run of the program.
+    Follow { program: &'a str, stream: &'a str },
 }
 
 /// Whether an argument begins with `-`.
@@ -168,16 +186,17 @@ fn lines_of<'a>(
     }
 }
 
-/// The record of two names, whole. None if a name begins with `-`.
-fn watch_of_two<'a>(program: &'a str, record: &'a str) -> Option<Asked<'a>>
-    ensures request { option_map request result ≡ watch_of (program.entry.now ∷ record.entry.now ∷ []) }
+/// What is shown of the record of two names. None if a name begins with `-`.
+fn watch_of_two<'a>(shown: Shown, program: &'a str, record: &'a str) -> Option<Asked<'a>>
+    requires { IsOrdered shown }
+    ensures request { option_map request result ≡ pair_of (of_watch shown) (program.entry.now ∷ record.entry.now ∷ []) }
     ensures sized { IfSome result (λ asked. IsSized asked) }
 {
     if is_dashed(program) || is_dashed(record) {
         return None;
     }
     Some(Asked::Watch {
-        shown: Shown::Whole,
+        shown,
         program,
         record,
     })
@@ -210,7 +229,7 @@ fn watch_of<'a>(words: &'a [String]) -> Option<Asked<'a>>
     ensures sized { IfSome result (λ asked. IsSized asked) }
 {
     match words {
-        [program, record] => watch_of_two(program.as_str(), record.as_str()),
+        [program, record] => watch_of_two(Shown::Whole, program.as_str(), record.as_str()),
         [_, _, _] => None,
         [program, record, first, last] => watch_of_four(
             program.as_str(),
@@ -222,22 +241,89 @@ fn watch_of<'a>(words: &'a [String]) -> Option<Asked<'a>>
     }
 }
 
-/// The command that the word names, with the arguments after it. None if they are not a command.
-fn command_of<'a>(word: &str, words: &'a [String]) -> Option<Asked<'a>>
-    ensures request { option_map request result ≡ request_of (word.now ∷ texts_of words.now) }
+/// The status of the objects after the record of the arguments after the first. None if they are not one.
+fn waits_of<'a>(words: &'a [String]) -> Option<Asked<'a>>
+    ensures request { option_map request result ≡ pair_of (of_watch Shown.Waits) (texts_of words.now) }
     ensures sized { IfSome result (λ asked. IsSized asked) }
 {
+    match words {
+        [program, record] => watch_of_two(Shown::Waits, program.as_str(), record.as_str()),
+        _ => None,
+    }
+}
+
+/// The record to be filled of the arguments after the first. None if they are not one.
+fn fill_of<'a>(words: &'a [String]) -> Option<Asked<'a>>
+    ensures request { option_map request result ≡ pair_of of_fill (texts_of words.now) }
+    ensures sized { IfSome result (λ asked. IsSized asked) }
+{
+    let [program, record] = words else {
+        return None;
+    };
+    if is_dashed(program.as_str()) || is_dashed(record.as_str()) {
+        return None;
+    }
+    Some(Asked::Fill {
+        program: program.as_str(),
+        record: record.as_str(),
+    })
+}
+
+/// The stream of two names. None if a name begins with `-`.
+fn follow_of_two<'a>(program: &'a str, stream: &'a str) -> Option<Command<'a>>
+    ensures request { option_map wanted result ≡ pair_of of_follow (program.entry.now ∷ stream.entry.now ∷ []) }
+    ensures sized { IfSome result (λ command. IsSizedCommand command) }
+{
+    if is_dashed(program) || is_dashed(stream) {
+        return None;
+    }
+    Some(Command::Follow { program, stream })
+}
+
+/// The stream to be followed of the arguments after the first: without a second name it is the standard input. None if they
+/// are not one.
+fn follow_of<'a>(words: &'a [String]) -> Option<Command<'a>>
+    ensures request { option_map wanted result ≡ follow_of (texts_of words.now) }
+    ensures sized { IfSome result (λ command. IsSizedCommand command) }
+{
+    match words {
+        [program] => follow_of_two(program.as_str(), STANDARD_INPUT),
+        [program, stream] => follow_of_two(program.as_str(), stream.as_str()),
+        _ => None,
+    }
+}
+
+/// The command of this output.
+fn text_command(asked: Option<Asked<'_>>) -> Option<Command<'_>>
+    requires { IfSome asked (λ a. IsSized a) }
+    ensures request { option_map wanted result ≡ option_map request asked.entry }
+    ensures sized { IfSome result (λ command. IsSizedCommand command) }
+{
+    match asked {
+        Some(asked) => Some(Command::Make(asked)),
+        None => None,
+    }
+}
+
+/// The command that the word names, with the arguments after it. None if they are not a command.
+fn command_of<'a>(word: &str, words: &'a [String]) -> Option<Command<'a>>
+    ensures request { option_map wanted result ≡ command_of word.now (texts_of words.now) }
+    ensures sized { IfSome result (λ command. IsSizedCommand command) }
+{
     match word {
-        "search" => search_of(words),
-        "watch" => watch_of(words),
+        "search" => text_command(search_of(words)),
+        "watch" => text_command(watch_of(words)),
+        "waits" => text_command(waits_of(words)),
+        "fill" => text_command(fill_of(words)),
+        "follow" => follow_of(words),
         _ => None,
     }
 }
 
 /// The command of the arguments. None if they are not a command.
-pub fn read_words<'a>(words: &'a [String]) -> Option<Asked<'a>>
-    ensures request { option_map request result ≡ request_of (texts_of words.now) }
-    ensures sized { IfSome result (λ asked. IsSized asked) }
+pub fn read_words<'a>(words: &'a [String]) -> Option<Command<'a>>
+    ensures request { option_map wanted result ≡ request_of (texts_of words.now) }
+    ensures sized { IfSome result (λ command. IsSizedCommand command) }
 {
     match words.split_first() {
         Some((word, rest)) => command_of(word.as_str(), rest),

@@ -1,2 +1,3 @@
 -- The lemmas that other crates cite.
 pub use Rattle.pool_semantics.proofs.PairMessages.{list_found, list_missing}
+pub use Rattle.pool_semantics.proofs.SoundSteps.{sound_now}

@@ -11,6 +11,7 @@ pub mod SoundSteps
 pub mod CanMove
 pub mod Least
 pub mod MoverSearch
+pub mod MoverSets
 pub mod LabelLists
 pub mod Alternatives
 pub mod ChoiceFreeSteps

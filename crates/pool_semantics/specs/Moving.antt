@@ -1,6 +1,8 @@
 -- Objects that can make a transition: alone, by the answer of a call, or by the take of a message.
-use Rattle.std.specs.Prelude.{◌≡◌, ℕ, ◌≤◌, List, Option, Some, None, is_some, min, IfSome, IsSomeAnd, Bool, true, false, not}
+use Rattle.std.specs.Prelude.{◌≡◌, ◌⊎◌, ℕ, ◌≤◌, List, Option, Some, None, is_some, min, IfSome, IsSomeAnd, Bool, true, false, not}
 use Rattle.std.specs.List.{list_any}
+use Rattle.std.specs.Ordering.{nat_cmp}
+use Rattle.std.specs.BTreeSet.{BTreeSet, contains}
 use Rattle.run_types.specs.declared.types.Value.{Value}
 use Rattle.pool_syntax.specs.Terms.{ProgramTree}
 use Rattle.run_types.specs.Message.{Message}
@@ -69,3 +71,9 @@ abbrev pub lesser : Option ℕ → Option ℕ → Option ℕ
 lesser None r = r
 lesser (Some a) None = Some a
 lesser (Some a) (Some b) = Some (min a b)
+
+-- t has the numbers of s, those with the property P, and no others
+pub record Adds (P : ℕ → Type 0) (s t : BTreeSet ℕ) : Type 0 where
+  pub kept : (b : ℕ) → contains nat_cmp s b ≡ true → contains nat_cmp t b ≡ true
+  pub added : (b : ℕ) → P b → contains nat_cmp t b ≡ true
+  pub only : (b : ℕ) → contains nat_cmp t b ≡ true → (contains nat_cmp s b ≡ true) ⊎ P b

@@ -2,6 +2,7 @@
 mod items;
 mod labels;
 mod mail;
+mod movers;
 mod moving;
 mod objects;
 mod redex;

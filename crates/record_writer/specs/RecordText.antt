@@ -123,3 +123,7 @@ line_words names (R.End end) = end_words end
 -- a line, with its line feed
 abbrev pub line_text : List Text → Line → Text
 line_text names l = joined (line_words names l) ++ 10 ∷ []
+
+abbrev pub record_text : List Text → List Line → Text
+record_text names [] = []
+record_text names (l ∷ ls) = line_text names l ++ record_text names ls

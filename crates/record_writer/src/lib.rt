@@ -13,6 +13,6 @@ mod write;
 pub use asked::{asker, asker_of, is_asked, poster};
 pub use words::{
     push_args, push_count, push_error, push_item, push_name, push_number, push_object,
-    push_object_name, push_value, push_word,
+    push_object_name, push_value, push_word, text_of,
 };
 pub use write::{write_event2, write_form, write_item, write_line, write_line2};

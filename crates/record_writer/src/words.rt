@@ -91,7 +91,7 @@ pub fn push_args(text: &mut Vec<u8>, args: &Args) -> Result<(), AllocError>
 }
 
 /// The text of a name, or no bytes if the table does not have it.
-fn text_of(names: &Names, id: NameId) -> &[u8]
+pub fn text_of(names: &Names, id: NameId) -> &[u8]
     ensures { result.now ≡ text_at names.now id }
 {
     if (id.0 as usize) < names.count() {

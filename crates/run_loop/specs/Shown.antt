@@ -1,8 +1,6 @@
 -- The text that is written of a record, and the status with which its run ends.
 use Rattle.std.specs.Prelude.{ℕ, ◌+◌, codes, decimal, length, List, [], ◌∷◌, ◌++◌, Bool, true, false, ◌||◌, if◌then◌else◌}
 use Rattle.text_scan.specs.Text.{Text}
-use Rattle.run_types.specs.declared.types.Item.{Item}
-use Rattle.run_types.specs.declared.types.Item.TheVariants as I
 use Rattle.run_types.specs.declared.types.Label.TheVariants as L
 use Rattle.run_types.specs.declared.types.What.{What}
 use Rattle.run_types.specs.declared.types.What.TheVariants as W
@@ -16,7 +14,7 @@ use Rattle.mesh_semantics.specs.Record as M
 use Rattle.mesh_semantics.specs.Record.{record_at}
 use Rattle.pool_machine.specs.SentPackets.{moved, nothing_sent}
 use Rattle.schedule_reader.specs.Schedules.{Plan}
-use Rattle.record_writer.specs.RecordText.{line_text, text_at, value_text}
+use Rattle.record_writer.specs.RecordText.{line_text}
 use Rattle.command_shell.specs.declared.status.Status.{Status}
 use Rattle.command_shell.specs.declared.status.Status.TheVariants as S
 
@@ -43,21 +41,6 @@ status_after faulted (R.End e ∷ ls) = ended faulted e
 
 abbrev pub status_of : List Line → Status
 status_of lines = status_after false lines
-
--- the text of an item with a line feed; a string has no quotes
-abbrev pub written_text : List Text → Item → Text
-written_text names (I.Value v) = value_text v ++ 10 ∷ []
-written_text names (I.Text id) = text_at names id ++ 10 ∷ []
-
--- the text of the item that a line writes; the end line is written whole
-abbrev pub writes_of : List Text → Line → Text
-writes_of names (R.Event number e (W.Step (L.Write o item) times)) = written_text names item
-writes_of names (R.Event number e what) = []
-writes_of names (R.End e) = line_text names (R.End e)
-
-abbrev pub writes_text : List Text → List Line → Text
-writes_text names [] = []
-writes_text names (l ∷ ls) = writes_of names l ++ writes_text names ls
 
 -- the text of the end line, and nothing for other lines
 abbrev pub end_text : List Text → Line → Text

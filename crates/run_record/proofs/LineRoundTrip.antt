@@ -21,7 +21,7 @@ use Rattle.run_record.specs.declared.parsed_line.RecordVersion.{RecordVersion}
 use Rattle.run_record.specs.declared.parsed_line.RecordVersion.TheVariants as form
 use Rattle.record_writer.specs.SecondForm.{form_text}
 use Rattle.record_writer.specs.RecordText.{event_words, full_text, joined, led, line_text, line_words, what_words}
-use Rattle.record_writer.specs.PlainTexts.{record_text}
+use Rattle.record_writer.specs.RecordText.{record_text}
 use Rattle.record_parser.specs.Fields.{begins_with, count_of, fields, parts}
 use Rattle.run_types.specs.Partial.{◌>>=◌}
 use Rattle.run_record.specs.Numbered.{what_with}

@@ -16,7 +16,8 @@ pub mod theorems;
 
 pub use asks::Asks;
 pub use fault::RecordFault;
+pub use numbered::numbered_in;
 pub use posts::{Posts, asks_of};
-pub use read::read_record;
+pub use read::{done_of, is_end, read_record};
 pub use record_writer::{write_form, write_item, write_line, write_line2};
 pub use steps::{Steps, label_of};

@@ -1,6 +1,7 @@
 //! Lines with the numbers of their names in the table.
 ghost use Rattle.std.specs.Prelude.{◌≡◌, ◌+◌, ◌<◌, ◌≤◌, ◌^◌, length, IfOk, OnErr, OnOk};
 ghost use Rattle.run_record.specs.Numbered.{item_with, label_with, line_with, numbered, what_with, with_name};
+ghost use Rattle.run_types.specs.Table.{name_of};
 ghost use Rattle.record_parser.specs.ReadLineView.{told};
 
 use record_parser::ReadLine;
@@ -117,6 +118,28 @@ fn line_with(id: NameId, line: &Line) -> Line
             what: what_with(id, what),
         },
         Line::End(end) => Line::End(*end),
+    }
+}
+
+/// The number of a text in the table, or the number of texts if the table does not have it.
+fn number_in(names: &Names, text: &[u8]) -> NameId
+    requires { length names.now < 2 ^ 32 }
+    ensures { result.0 ≡ name_of names.now text.now }
+{
+    match names.find(text) {
+        Some(id) => id,
+        None => NameId(names.count() as u32),
+    }
+}
+
+/// The line with the number of its name in the table. A name that is not in the table has the number of its names.
+pub fn numbered_in(names: &Names, read: &ReadLine<'_>) -> Line
+    requires { length names.now < 2 ^ 32 }
+    ensures { result ≡ numbered names.now (told read.now) }
+{
+    match read.text {
+        None => read.line,
+        Some(text) => line_with(number_in(names, text), &read.line),
     }
 }
 

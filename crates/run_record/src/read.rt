@@ -20,7 +20,8 @@ use record_parser::cut;
 use run_types::{End, Line, List, Names};
 use std::alloc::Global;
 
-fn done_of(end: End) -> u32
+/// The number of events that the end line has.
+pub fn done_of(end: End) -> u32
     ensures { result ≡ done_of end }
 {
     match end {
@@ -49,7 +50,8 @@ fn last_after(last: u32, line: &Line) -> u32
     }
 }
 
-fn is_end(line: &Line) -> bool
+/// Whether the line is an end line.
+pub fn is_end(line: &Line) -> bool
     ensures { result ≡ is_end line.now }
 {
     match line {

@@ -3,7 +3,7 @@ ghost use Rattle.std.specs.Prelude.{◌≡◌, List, None, true};
 ghost use Rattle.run_types.specs.Table.{is_distinct};
 ghost use Rattle.text_scan.specs.Text.{Text};
 ghost use Rattle.run_types.specs.declared.types.Line.{Line};
-ghost use Rattle.record_writer.specs.PlainTexts.{record_text};
+ghost use Rattle.record_writer.specs.RecordText.{record_text};
 ghost use Rattle.record_writer.specs.SecondForm.{text2};
 ghost use Rattle.run_record.specs.Numbered.{lines_after, names_after};
 ghost use Rattle.run_record.specs.Records.{record_of};

@@ -1,5 +1,6 @@
 pub mod Stopping
-pub mod AppendedWords
 pub mod JoinedLines
 pub mod WatchedEnds
 pub mod PartOfAll
+pub mod ObjectStandings
+pub mod ReportEnds

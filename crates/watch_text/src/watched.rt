@@ -67,7 +67,7 @@ fn push_waits(
 }
 
 /// Appends the line of a verdict.
-fn push_verdict(
+pub fn push_verdict(
     alloc: Global,
     text: &mut Vec<u8>,
     names: &Names,

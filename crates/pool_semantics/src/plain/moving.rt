@@ -62,7 +62,7 @@ impl<'a> State<'a> {
 
     /// The object that can make a transition by this object's next action: itself, or the object that answers its
     /// call.
-    fn moved_by(&self, object: u32) -> Option<u32>
+    pub(crate) fn moved_by(&self, object: u32) -> Option<u32>
         ensures { IsTheOne (MovesBy (program_of self.now.program.now) (configuration self.now) object) result }
     {
         match self.acting(object) {
@@ -75,7 +75,7 @@ impl<'a> State<'a> {
     }
 
     /// The receiver, if it can take a message of the queue.
-    fn taker(&self, receiver: u32, queue: &VecDeque<Mail>) -> Option<u32>
+    pub(crate) fn taker(&self, receiver: u32, queue: &VecDeque<Mail>) -> Option<u32>
         ensures { IsTheOne (λ b. (b ≡ receiver) × Takes (program_of self.now.program.now) (configuration self.now) b (queued queue.now)) result }
     {
         match self.acting(receiver) {

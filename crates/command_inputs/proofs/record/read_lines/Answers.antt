@@ -1,13 +1,10 @@
-use Rattle.std.proofs.Common.{◌∙◌, ℕ, List, subst}
-use Rattle.command_inputs.specs.declared.fault.Input.TheVariants as I
-use Rattle.command_inputs.specs.Readers.{AreLinesOf, HasRecordFault, IsAcceptedRecord, Judges}
-use Rattle.command_inputs.proofs.ReadLaws.{input_passed_on, input_judged}
+use Rattle.std.proofs.Common.{refl}
+use Rattle.command_inputs.specs.Readers as R
+use Rattle.command_inputs.proofs.ReadLaws.{input_judged, input_passed_on}
 use Rattle.command_inputs.proofs.record.read_lines.Goals as goal
 
-pub returns-in-Err : goal.returns-in-Err
-returns-in-Err g c = input_passed_on _ _ _ _ _ _ _ _ _ c.in-Err.stop (λ s f h. absurd h) (λ s q. tt) c.in-Err.ensures
+pub returns-in-Ok : goal.returns-in-Ok
+returns-in-Ok g c = input_judged _ _ _ _ _ _ _ _ _ c.in-Ok.read _ c.in-Ok.ensures (λ s is. R.fits _ refl is.0)
 
-pub returns : goal.returns
-returns g c =
-    input_judged _ _ _ _ _ _ _ _ _ c.in-Ok.text c.judge_lines.result c.in-Ok.ensures (λ s is.
-    subst (λ (z : List ℕ). Judges I.Record IsAcceptedRecord HasRecordFault (AreLinesOf c.args.names.now) z c.judge_lines.result) (c.deref.ensures.value ∙ is) c.judge_lines.ensures)
+pub returns-in-Err : goal.returns-in-Err
+returns-in-Err g c = input_passed_on _ _ _ _ _ _ _ _ _ c.in-Err.stop (λ s f h. h) (λ s q. q) c.in-Err.ensures

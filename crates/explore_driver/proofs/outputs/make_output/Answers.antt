@@ -29,3 +29,13 @@ returns-in-Watch-clause-makes g c = makes_for _ _ _ c.watch_output.result (sym (
 
 pub returns-in-Watch-clause-unread_within : goal.returns-in-Watch-clause-unread_within
 returns-in-Watch-clause-unread_within g c = stays_for _ _ _ _ _ (ap inputs (sym (ap request c.in-Watch.is))) c.watch_output.ensures.unread_within
+
+pub fill_output-requires-clause-allowed : goal.fill_output-requires-clause-allowed
+fill_output-requires-clause-allowed g c =
+    subst (λ (r : Request). MayOpen (g.F.Files.may c.args.files.now) (g.F.Files.opens c.args.files.now) (inputs r)) (ap request c.in-Fill.is) c.requires.allowed
+
+pub returns-in-Fill-clause-makes : goal.returns-in-Fill-clause-makes
+returns-in-Fill-clause-makes g c = makes_for _ _ _ c.fill_output.result (sym (ap request c.in-Fill.is)) c.fill_output.ensures.makes
+
+pub returns-in-Fill-clause-unread_within : goal.returns-in-Fill-clause-unread_within
+returns-in-Fill-clause-unread_within g c = stays_for _ _ _ _ _ (ap inputs (sym (ap request c.in-Fill.is))) c.fill_output.ensures.unread_within

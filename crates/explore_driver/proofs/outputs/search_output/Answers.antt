@@ -1,19 +1,15 @@
-use Rattle.std.proofs.Common.{◌≡◌, ◌∙◌, Err, ap, inl, inr, refl, subst}
+use Rattle.std.proofs.Common.{◌≡◌, ◌∙◌, Err, ap, inl, refl, subst}
 use Rattle.pool_syntax.specs.Terms.{ProgramTree}
 use Rattle.pool_syntax.specs.TreeOf.{program_of}
-use Rattle.pool_syntax.specs.Typing.{faults}
-use Rattle.command_inputs.specs.declared.fault.Fault.{Fault}
 use Rattle.command_inputs.specs.declared.fault.Input.TheVariants as I
 use Rattle.command_inputs.specs.declared.fault.InputError.TheVariants as T
-use Rattle.command_inputs.specs.Programs.{HasTypedFault, IsTypedProgram}
-use Rattle.command_inputs.specs.Readers.{IsTypedProgramOf}
-use Rattle.command_inputs.proofs.Laws.{judged, judges_refusal, was_read}
+use Rattle.command_inputs.proofs.Laws.{was_read}
 use Rattle.command_shell.proofs.Laws.{may_at, none_opened, opened_within, stops_at}
 use Rattle.explore_driver.specs.Ends.{explore_program, inputs}
 use Rattle.explore_driver.specs.Results.{IsWritable, status_of, text_of}
 use Rattle.explore_driver.specs.Words.{of_search}
 use Rattle.search_text.specs.Answers.{Answers}
-use Rattle.explore_driver.proofs.OutputLaws.{reaches_program, search_makes}
+use Rattle.explore_driver.proofs.OutputLaws.{class_stops, reaches_program, search_makes}
 use Rattle.explore_driver.proofs.outputs.search_output.Goals as goal
 
 pub read_parsed-requires-clause-allowed : goal.read_parsed-requires-clause-allowed
@@ -41,11 +37,8 @@ pub returns-in-Err-judge_classes-clause-makes : goal.returns-in-Err-judge_classe
 returns-in-Err-judge_classes-clause-makes g c =
     let stop = c.in-Err-judge_classes.stop in
     let h = c.in-Err-judge_classes.ensures in
-    let reads = judged _ _ _ _ _ _ _ _ IsTypedProgramOf c.in-Ok.parsed _ c.in-Ok.ensures.reads (λ s is.
-    judges_refusal I.Program IsTypedProgram HasTypedFault IsTypedProgramOf s stop
-    (λ i f e. let why = h.refused i f (ap Err e) in (why.0, inr (program_of c.in-Ok.parsed.program, (c.in-Ok.parsed.names, is.parsed), why.1)))
-    (λ i e. h.no_read i (ap Err e))
-    (λ q. let z = h.only (ap faults (is.only q.1.0.0 q.0 q.1.0.1).1 ∙ q.1.1) refl in let same : stop ≡ T.Memory = cc in same)) in
+    let reads = class_stops _ _ c.in-Ok.parsed stop c.in-Ok.ensures.reads (λ i f e. h.refused i f (ap Err e)) (λ i e. h.no_read i (ap Err e))
+    (λ typed. let z = h.only typed refl in let same : stop ≡ T.Memory = cc in same) in
     stops_at explore_program text_of status_of IsWritable _ _ _ _ _ _ (of_search c.args.question.now c.args.name.now) stop
     (reaches_program _ c.args.question.now c.args.name.now c.in-Ok.ensures.opened_once) (λ s f x. x) (λ s q. q) reads
 

@@ -1,13 +1,10 @@
-use Rattle.std.proofs.Common.{◌≡◌, ◌∙◌, ◌<◌, ◌≤◌, ◌^◌, ℕ, Err, ap, arith, inl, inr, length, [], ◌∷◌, refl, subst, sym}
+use Rattle.std.proofs.Common.{◌≡◌, ◌∙◌, ◌<◌, ◌≤◌, ◌^◌, ℕ, Err, ap, arith, inl, length, [], ◌∷◌, refl, subst, sym}
 use Rattle.pool_syntax.specs.Terms.{ProgramTree}
 use Rattle.pool_syntax.specs.TreeOf.{program_of}
-use Rattle.pool_syntax.specs.Typing.{faults}
 use Rattle.command_inputs.specs.declared.fault.Fault.{Fault}
 use Rattle.command_inputs.specs.declared.fault.Input.TheVariants as I
 use Rattle.command_inputs.specs.declared.fault.InputError.TheVariants as T
-use Rattle.command_inputs.specs.Programs.{HasTypedFault, IsTypedProgram}
-use Rattle.command_inputs.specs.Readers.{IsTypedProgramOf}
-use Rattle.command_inputs.proofs.Laws.{judged, judges_refusal, parsed_few, since, was_read}
+use Rattle.command_inputs.proofs.Laws.{parsed_few, since, was_read}
 use Rattle.command_shell.proofs.Laws.{may_at, none_opened, opened_within, stops_at, two_opened}
 use Rattle.explore_driver.specs.Ends.{explore_program, inputs}
 use Rattle.explore_driver.specs.Results.{IsWritable, status_of, text_of}
@@ -15,7 +12,7 @@ use Rattle.command_inputs.specs.Readers.{HasRecordFault}
 use Rattle.explore_driver.specs.Ends.{HasFault}
 use Rattle.explore_driver.specs.Outputs.{IsTextOf}
 use Rattle.explore_driver.specs.Words.{of_watch}
-use Rattle.explore_driver.proofs.OutputLaws.{judged_by, reaches_record, reaches_watched, watch_makes}
+use Rattle.explore_driver.proofs.OutputLaws.{class_stops, judged_by, reaches_record, reaches_watched, watch_makes}
 use Rattle.explore_driver.proofs.outputs.watch_output.Goals as goal
 
 few : (n m : ℕ) → n ≤ m → m ≤ 1048576 → n < 2 ^ 31
@@ -60,11 +57,8 @@ pub returns-in-Err-judge_classes-clause-makes : goal.returns-in-Err-judge_classe
 returns-in-Err-judge_classes-clause-makes g c =
     let stop = c.in-Err-judge_classes.stop in
     let h = c.in-Err-judge_classes.ensures in
-    let reads = judged _ _ _ _ _ _ _ _ IsTypedProgramOf c.in-Ok.parsed _ c.in-Ok.ensures.reads (λ s is.
-    judges_refusal I.Program IsTypedProgram HasTypedFault IsTypedProgramOf s stop
-    (λ i f e. let why = h.refused i f (ap Err e) in (why.0, inr (program_of c.in-Ok.parsed.program, (c.in-Ok.parsed.names, is.parsed), why.1)))
-    (λ i e. h.no_read i (ap Err e))
-    (λ q. let z = h.only (ap faults (is.only q.1.0.0 q.0 q.1.0.1).1 ∙ q.1.1) refl in let same : stop ≡ T.Memory = cc in same)) in
+    let reads = class_stops _ _ c.in-Ok.parsed stop c.in-Ok.ensures.reads (λ i f e. h.refused i f (ap Err e)) (λ i e. h.no_read i (ap Err e))
+    (λ typed. let z = h.only typed refl in let same : stop ≡ T.Memory = cc in same) in
     stops_at explore_program text_of status_of IsWritable _ _ _ _ _ _ (of_watch c.args.shown c.args.program.now c.args.claim.now) stop
     (reaches_watched _ c.args.shown c.args.program.now c.args.claim.now c.in-Ok.ensures.opened_once) (λ s f x. x) (λ s q. q) reads
 

@@ -1,0 +1,2 @@
+-- Believed: what a top call's contract reaches.
+pub mod WrittenText
