@@ -5,9 +5,13 @@ tree. Beside the trees of parser.py there are: ('own', method, store, body, valu
 that is being answered; and the statement ('serve', method, caller or None, store, body, value, post), a method under way for a caller or
 for nobody. A store is a list of [name, value], the innermost first.
 """
+import re
+
 from parser import LEVELS, parse
 
 LIMIT = 2**63
+# A word of a line; a string is one word, with its spaces.
+WORD = re.compile(r'"[^"]*"|[^ ]+')
 
 
 class Stop(Exception):
@@ -399,7 +403,7 @@ TRANSITIONS = {"local", "new", "write", "send", "answer", "take", "return", "pic
 
 def transition_of(line):
     """The words of the transition that an event line shows, and how often it is made; None where it shows none."""
-    words = line.split(" ")[1:]
+    words = WORD.findall(line)[1:]
     # (an event: of a node, of a link or a wire, or what a lossy wire does with a frame or an acknowledgement)
     at = 2 if words[0] == "turn" else 4 if words[1] == "ack" else 3
     words = words[at:]
