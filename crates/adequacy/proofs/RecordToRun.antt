@@ -17,7 +17,7 @@ use Rattle.pool_relation.proofs.Laws.{joined, Put, New, Old, put_cases}
 use Rattle.mesh_of_terms.specs.Terms.{terms, plain}
 use Rattle.mesh_of_terms.specs.RunOf.{IsRunFrom}
 use Rattle.mesh_of_terms.proofs.Laws.{runs_from, runs_from_on_wires}
-use Rattle.search_laws.specs.Search.{IsReached, IsStuck, IsUnfinished, IsFaulty}
+use Rattle.reachability.specs.Search.{IsReached, IsStuck, IsUnfinished, IsFaulty}
 use Rattle.adequacy.specs.Ends.{IsPlaced, EndsInACall, EndsUnfinished, ShowsAnError}
 
 -- the record of a program that is placed is a run from its start

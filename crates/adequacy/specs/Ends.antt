@@ -13,7 +13,7 @@ use Rattle.pool_syntax.specs.Written.{is_written}
 use Rattle.mesh_semantics.specs.FitFor.{FitFor}
 use Rattle.mesh_semantics.specs.Record.{Record, labels, root_name, ends_quiet}
 use Rattle.mesh_of_terms.specs.Terms.{terms, plain}
-use Rattle.search_laws.specs.Search.{WaitsAt, HasLeftOver}
+use Rattle.reachability.specs.Search.{WaitsAt, HasLeftOver}
 
 -- a program without faults on a placement that fits it, with its start there
 pub record IsPlaced (p : ProgramTree) (l : Placement) : Type 0 where

@@ -7,7 +7,7 @@ ghost use Rattle.run_types.specs.declared.types.Placement.{Placement};
 ghost use Rattle.pool_relation.specs.Configuration.{Configuration};
 ghost use Rattle.mesh_semantics.specs.RecordOf.{record_of, record_on_wires};
 ghost use Rattle.mesh_of_terms.specs.Terms.{terms};
-ghost use Rattle.search_laws.specs.Search.{IsReached, IsStuck, IsUnfinished, IsFaulty, IsIn, IsClosedAfterSettling};
+ghost use Rattle.reachability.specs.Search.{IsReached, IsStuck, IsUnfinished, IsFaulty, IsIn, IsClosedAfterSettling};
 ghost use Rattle.search_laws.specs.Renamed.{IsNameless};
 ghost use Rattle.adequacy.specs.Ends.{IsPlaced, EndsInACall, EndsUnfinished, ShowsAnError};
 

@@ -8,7 +8,7 @@ use Rattle.pool_relation.specs.Configuration.{Configuration, object_of}
 use Rattle.pool_relation.specs.Progress.{HasOwnTransition}
 use Rattle.pool_relation.specs.Transition.{transition}
 use Rattle.pool_semantics.specs.declared.plain.waits.Waiting.{Waiting}
-use Rattle.search_laws.specs.Search.{IsAtEnd, IsStuck, IsFaulty, WaitsAt}
+use Rattle.reachability.specs.Search.{IsAtEnd, IsStuck, IsFaulty, WaitsAt}
 use Rattle.pool_search.specs.SearchTargets.{CountsAsStuck}
 
 -- what counts as stuck has no transition

@@ -6,7 +6,7 @@ use Rattle.run_types.specs.Partial.{◌>>=◌}
 use Rattle.pool_relation.specs.Configuration.{Configuration}
 use Rattle.pool_relation.specs.Transition.{transition, run}
 use Rattle.pool_relation.proofs.Laws.{joined}
-use Rattle.search_laws.specs.Search.{needs_no_choice, Settles, Settled, Goes}
+use Rattle.reachability.specs.Search.{needs_no_choice, Settles, Settled, Goes}
 
 pub settles_more : (p : ProgramTree) (c d e : Configuration) (l : Label) → Settles p c d → needs_no_choice l ≡ true → transition p d l ≡ Some e → Settles p c e
 settles_more p c d e l Settled kind step = Goes l kind step Settled

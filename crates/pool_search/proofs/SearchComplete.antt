@@ -8,9 +8,9 @@ use Rattle.std.proofs.Math.Seq.{take-suc}
 use Rattle.pool_syntax.specs.Terms.{ProgramTree}
 use Rattle.run_types.specs.Tables.{Each}
 use Rattle.pool_relation.specs.Configuration.{Configuration}
-use Rattle.search_laws.specs.Search.{IsReached, IsIn, IsInOrder, IsClosedAfterSettling}
+use Rattle.reachability.specs.Search.{IsReached, IsIn, IsInOrder, IsClosedAfterSettling}
 use Rattle.search_laws.specs.Renamed.{IsNameless}
-use Rattle.search_laws.specs.Labels.{AllLeadInto, AreTried, labels_to_try}
+use Rattle.reachability.specs.Labels.{AllLeadInto, AreTried, labels_to_try}
 use Rattle.search_laws.proofs.Laws.{whole_by_trying, never_stuck_after_settling, never_unfinished_after_settling, never_faulty_after_settling}
 use Rattle.pool_search.specs.declared.queries.Query.{Query}
 use Rattle.pool_search.specs.SearchTargets.{CountsAsStuck, IsUnwanted}

@@ -4,7 +4,7 @@ use Rattle.run_types.specs.declared.types.Label.{Label}
 use Rattle.pool_syntax.specs.Terms.{ProgramTree}
 use Rattle.pool_relation.specs.Configuration.{Configuration}
 use Rattle.pool_relation.specs.Transition.{run, start}
-use Rattle.search_laws.specs.Search.{IsReached, IsStuck, IsUnfinished, IsFaulty, IsClosedAfterSettling}
+use Rattle.reachability.specs.Search.{IsReached, IsStuck, IsUnfinished, IsFaulty, IsClosedAfterSettling}
 use Rattle.pool_search.specs.declared.queries.Target.{Target}
 use Rattle.pool_search.specs.declared.queries.Target.TheVariants as W
 use Rattle.pool_search.specs.declared.queries.Query.{Query}

@@ -2,7 +2,7 @@
 ghost use Rattle.std.specs.Prelude.{◌≡◌, false, true};
 ghost use Rattle.pool_semantics.specs.PlainOf.{configuration_of, program_tree, is_spent};
 ghost use Rattle.pool_search.specs.SearchTargets.{CountsAsStuck, IsWantedStuck, IsWantedFault, IsUnwanted};
-ghost use Rattle.search_laws.specs.Search.{IsFaulty};
+ghost use Rattle.reachability.specs.Search.{IsFaulty};
 
 use crate::queries::{Query, Target};
 use pool_semantics::Plain;

@@ -2,8 +2,8 @@
 ghost use Rattle.std.specs.Prelude.{◌≡◌, ◌+◌, ◌<◌, ◌≤◌, Ok, Some, IfOk, IfSome, length, slice_get, min, [], true, false};
 ghost use Rattle.pool_relation.specs.Configuration.{Configuration};
 ghost use Rattle.pool_semantics.specs.PlainOf.{configuration_of, program_tree, is_spent};
-ghost use Rattle.search_laws.specs.Search.{Settles, after, IsIn};
-ghost use Rattle.search_laws.specs.Labels.{labels_to_try, AllLeadInto};
+ghost use Rattle.reachability.specs.Search.{Settles, after, IsIn};
+ghost use Rattle.reachability.specs.Labels.{labels_to_try, AllLeadInto};
 ghost use Rattle.pool_search.specs.Entries.{entries, searched};
 ghost use Rattle.pool_search.specs.Progress.{Grows, IsSearchedTo, HasTried, HasSearched};
 

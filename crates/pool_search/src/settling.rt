@@ -3,7 +3,7 @@ ghost use Rattle.std.specs.Prelude.{◌≡◌, Some, IfOk, IfSome, IfNone, true,
 ghost use Rattle.pool_relation.specs.Configuration.{Configuration};
 ghost use Rattle.pool_relation.specs.Transition.{transition, run};
 ghost use Rattle.pool_semantics.specs.PlainOf.{configuration_of, program_tree, is_spent};
-ghost use Rattle.search_laws.specs.Search.{needs_no_choice, Settles};
+ghost use Rattle.reachability.specs.Search.{needs_no_choice, Settles};
 
 use pool_semantics::{Plain, Refuse};
 use run_types::Label;

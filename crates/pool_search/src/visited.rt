@@ -42,7 +42,7 @@ impl<'a> VisitedSet<'a> {
     ghost use Rattle.std.specs.FinMap.Entries.{is_sorted};
     ghost use Rattle.stepper_objects.specs.ObjectStates.{things};
     ghost use Rattle.pool_semantics.specs.PlainOf.{configuration_of, program_tree, is_spent};
-    ghost use Rattle.search_laws.specs.Search.{IsInOrder};
+    ghost use Rattle.reachability.specs.Search.{IsInOrder};
     ghost use Rattle.pool_search.specs.Numbers.{AreNamedFrom, numbered, objects_from};
     ghost use Rattle.pool_search.specs.VisitedConfigurations.{IsFull, kept_list, kept_program};
 

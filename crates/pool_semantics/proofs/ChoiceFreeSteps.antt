@@ -21,7 +21,7 @@ use Rattle.pool_relation.specs.Configuration.{Configuration, object_of, put_obje
 use Rattle.pool_relation.specs.Transition.{running, local_step, posts, returns, waits_on, writes, fails, done, returned, given, transition}
 use Rattle.pool_relation.specs.Typed.{CanTake, GoesWrong}
 use Rattle.pool_relation.proofs.Laws.{running_is}
-use Rattle.search_laws.specs.Search.{needs_no_choice}
+use Rattle.reachability.specs.Search.{needs_no_choice}
 use Rattle.stepper_objects.specs.declared.object_state.ObjectState.{ObjectState}
 use Rattle.stepper_objects.specs.ObjectStates.{thing_object}
 use Rattle.pool_semantics.specs.Moving.{IsTheOne}

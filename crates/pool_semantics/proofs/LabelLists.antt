@@ -9,7 +9,7 @@ use Rattle.run_types.specs.Tables.{Pair}
 use Rattle.pool_relation.specs.Reducible.{Choice}
 use Rattle.pool_relation.specs.Action as A
 use Rattle.pool_relation.specs.Action.{Object, Action}
-use Rattle.search_laws.specs.Labels.{own_labels, picks, takes}
+use Rattle.reachability.specs.Labels.{own_labels, picks, takes}
 use Rattle.stepper_objects.specs.declared.act.Act.{Act}
 use Rattle.stepper_objects.specs.declared.act.Act.TheVariants as C
 use Rattle.stepper_objects.specs.Acts.{acted}

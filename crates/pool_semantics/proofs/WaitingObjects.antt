@@ -20,7 +20,7 @@ use Rattle.pool_relation.specs.Action.{Object, Action, action}
 use Rattle.pool_relation.specs.Configuration.{Configuration, object_of}
 use Rattle.pool_relation.specs.Transition.{running}
 use Rattle.pool_relation.proofs.Laws.{running_is}
-use Rattle.search_laws.specs.Search.{is_in_call, is_left_over, WaitsAt, StaysAt, HasLeftOver, AnObject, AMessage, IsFaulty}
+use Rattle.reachability.specs.Search.{is_in_call, is_left_over, WaitsAt, StaysAt, HasLeftOver, AnObject, AMessage, IsFaulty}
 use Rattle.stepper_objects.specs.declared.object_state.ObjectState.{ObjectState}
 use Rattle.pool_semantics.specs.declared.plain.mail.Mail.{Mail}
 use Rattle.pool_semantics.specs.Mails.{posts}

@@ -9,7 +9,7 @@ use Rattle.pool_relation.specs.Action as A
 use Rattle.pool_relation.specs.Action.{Action, action}
 use Rattle.pool_relation.specs.Configuration.{Configuration}
 use Rattle.pool_relation.specs.Transition.{running}
-use Rattle.search_laws.specs.Search.{WaitsAt}
+use Rattle.reachability.specs.Search.{WaitsAt}
 
 -- the label of this action of the object o, if it needs no choice
 abbrev pub free_label : ℕ → Action → Option Label

@@ -24,8 +24,8 @@ use Rattle.pool_relation.specs.Action.{Object, Action, action}
 use Rattle.pool_relation.specs.Configuration.{Configuration, object_of, messages_of}
 use Rattle.pool_relation.specs.Transition.{running, local_step, makes, calls, posts, returns, waits_on, writes, fails, picked, plain_choice, offer, names_method, first_message, transition}
 use Rattle.pool_relation.proofs.Laws.{running_is}
-use Rattle.search_laws.specs.Search.{names_next, IsAtEnd}
-use Rattle.search_laws.specs.Labels.{IsAmong, picks, own_labels, object_labels, takes, message_labels, labels_to_try}
+use Rattle.reachability.specs.Search.{names_next, IsAtEnd}
+use Rattle.reachability.specs.Labels.{IsAmong, picks, own_labels, object_labels, takes, message_labels, labels_to_try}
 use Rattle.search_laws.proofs.OneLabel.{same_item}
 use Rattle.search_laws.proofs.NextName.{at_end_by_next}
 

@@ -11,8 +11,8 @@ use Rattle.run_types.proofs.Laws.{same_some, first, second}
 use Rattle.pool_relation.specs.Action.{Object, action}
 use Rattle.pool_relation.specs.Configuration.{Configuration}
 use Rattle.pool_relation.specs.Transition.{transition, run}
-use Rattle.search_laws.specs.Search.{is_in_call, WaitsAt, IsFaulty, IsIn, IsInOrder, needs_no_choice, Settles, Settled, Goes, IsClosedAfterSettling}
-use Rattle.search_laws.specs.Labels.{IsAmong, labels_to_try, LeadsInto, AllLeadInto, AreTried, IsTried}
+use Rattle.reachability.specs.Search.{is_in_call, WaitsAt, IsFaulty, IsIn, IsInOrder, needs_no_choice, Settles, Settled, Goes, IsClosedAfterSettling}
+use Rattle.reachability.specs.Labels.{IsAmong, labels_to_try, LeadsInto, AllLeadInto, AreTried, IsTried}
 use Rattle.search_laws.proofs.ReducedSearch.{first_of}
 use Rattle.search_laws.proofs.AllLabels.{all_labels}
 

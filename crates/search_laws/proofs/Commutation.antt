@@ -16,7 +16,7 @@ use Rattle.pool_relation.specs.Configuration.{Configuration, object_of, put_obje
 use Rattle.pool_relation.specs.Progress.{agent}
 use Rattle.pool_relation.specs.Transition.{without_fault, running, local_step, posts, returns, waits_on, writes, fails, names_method, first_message, without_first, done, returned, given, transition}
 use Rattle.pool_relation.proofs.Laws.{running_is, Put, New, Old, put_cases}
-use Rattle.search_laws.specs.Search.{needs_no_choice, IsInOrder}
+use Rattle.reachability.specs.Search.{needs_no_choice, IsInOrder}
 use Rattle.search_laws.proofs.RenamedTransition.{unequal}
 use Rattle.search_laws.proofs.RenamedRun.{makes_none}
 use Rattle.search_laws.proofs.OneLabel.{partner, Fits, same_item, agent_fits, partner_fits, local_own, writes_own, fails_own, posts_own, returns_own, waits_own}

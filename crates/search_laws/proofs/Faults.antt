@@ -8,7 +8,7 @@ use Rattle.pool_relation.specs.Action.{Object, action}
 use Rattle.pool_relation.specs.Configuration.{Configuration, object_of, put_object}
 use Rattle.pool_relation.specs.Transition.{running, local_step, posts, returns, waits_on, writes, fails, done, returned, given, transition}
 use Rattle.pool_relation.proofs.Laws.{running_is}
-use Rattle.search_laws.specs.Search.{needs_no_choice}
+use Rattle.reachability.specs.Search.{needs_no_choice}
 use Rattle.search_laws.proofs.PutsCommute.{at_another}
 
 module _ (p : ProgramTree) (c e : Configuration) (q : ℕ) (z : Object) (there : object_of c q ≡ Some z) (met : z.fault ≢ None) where

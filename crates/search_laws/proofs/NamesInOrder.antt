@@ -10,7 +10,7 @@ use Rattle.run_types.proofs.Laws.{equal, equals, differ}
 use Rattle.pool_relation.specs.Configuration.{Configuration, object_of}
 use Rattle.pool_relation.specs.Transition.{transition, run}
 use Rattle.search_laws.specs.Renamed.{Renaming, renamed_label}
-use Rattle.search_laws.specs.Search.{after, names_next, in_order}
+use Rattle.reachability.specs.Search.{after, names_next, in_order}
 use Rattle.search_laws.proofs.RenamedTransition.{unequal, to_one}
 use Rattle.search_laws.proofs.RenamedRun.{makes_none, Keeps, KeepsAll, Adds, AddsOne, others_keep, new_adds}
 

@@ -11,7 +11,7 @@ use Rattle.run_types.proofs.Laws.{equals}
 use Rattle.pool_relation.specs.Action.{Object, action}
 use Rattle.pool_relation.specs.Configuration.{Configuration, object_of, put_object}
 use Rattle.pool_relation.specs.Transition.{running, makes, given, new_object, transition}
-use Rattle.search_laws.specs.Search.{IsAtEnd, names_next}
+use Rattle.reachability.specs.Search.{IsAtEnd, names_next}
 
 module _ (p : ProgramTree) (c : Configuration) (n : ℕ) (unused : object_of c n ≡ None) where
   new_under_any : (o m : ℕ) (k : NameId) → transition p c (L.New o n k) ≡ None → transition p c (L.New o m k) ≡ None

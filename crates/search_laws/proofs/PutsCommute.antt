@@ -11,7 +11,7 @@ use Rattle.run_types.specs.Tables.{Pair, pair_cmp, put_list}
 use Rattle.run_types.proofs.Laws.{true_T, pair_total, one_pair}
 use Rattle.pool_relation.specs.Action.{Object}
 use Rattle.pool_relation.specs.Configuration.{Configuration, object_of, put_object, put_messages}
-use Rattle.search_laws.specs.Search.{IsInOrder}
+use Rattle.reachability.specs.Search.{IsInOrder}
 use Rattle.pool_relation.proofs.Laws.{Put, New, Old, put_cases, objects_in_order, messages_in_order}
 
 pub sorted_put : (c : Configuration) (o : ℕ) (y : Object) → IsInOrder c → IsInOrder (put_object c o y)

@@ -8,7 +8,7 @@ use Rattle.pool_syntax.specs.Terms.{ProgramTree}
 use Rattle.run_types.specs.Partial.{◌>>=◌}
 use Rattle.pool_relation.specs.Configuration.{Configuration}
 use Rattle.pool_relation.specs.Transition.{transition, run}
-use Rattle.search_laws.specs.Search.{IsAtEnd, after, names_next, in_order, IsIn}
+use Rattle.reachability.specs.Search.{IsAtEnd, after, names_next, in_order, IsIn}
 use Rattle.search_laws.proofs.RenamedRun.{makes_none}
 
 -- a label that makes no object leaves the next name

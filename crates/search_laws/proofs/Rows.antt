@@ -17,9 +17,9 @@ use Rattle.run_types.specs.Partial.{◌>>=◌}
 use Rattle.run_types.proofs.Laws.{same_some}
 use Rattle.pool_relation.specs.Configuration.{Configuration}
 use Rattle.pool_relation.specs.Transition.{transition, run, start}
-use Rattle.search_laws.specs.Search.{IsReached, IsStuck, IsFaulty, WaitsAt, IsIn, Settles, Settled}
+use Rattle.reachability.specs.Search.{IsReached, IsStuck, IsFaulty, WaitsAt, IsIn, Settles, Settled}
 use Rattle.search_laws.specs.Renamed.{IsNameless}
-use Rattle.search_laws.specs.Labels.{labels_to_try, IsTried}
+use Rattle.reachability.specs.Labels.{labels_to_try, IsTried}
 use Rattle.search_laws.proofs.AllLabels.{at_end_by_trying}
 use Rattle.search_laws.proofs.ChoiceFreeRuns.{never_stuck_after_settling}
 use Rattle.search_laws.proofs.AllLabelsTried.{settles_by, whole_by_trying, nobody_waits, nobody_faulty}

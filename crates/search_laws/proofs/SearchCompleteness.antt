@@ -22,7 +22,7 @@ use Rattle.pool_relation.specs.Action.{Object, Action, action}
 use Rattle.pool_relation.specs.Configuration.{Configuration, object_of, messages_of}
 use Rattle.pool_relation.specs.Transition.{new_object, transition, run, last_class, start}
 use Rattle.search_laws.specs.Renamed.{Renaming, renamed_value, renamed_item, renamed_class, renamed_program, renamed_object, renamed_message, renamed_label, IsRenamed, IsNameless}
-use Rattle.search_laws.specs.Search.{IsReached, IsAtEnd, is_in_call, IsStuck, is_left_over, HasLeftOver, AnObject, AMessage, IsUnfinished, IsFaulty, after, names_next, in_order, IsIn}
+use Rattle.reachability.specs.Search.{IsReached, IsAtEnd, is_in_call, IsStuck, is_left_over, HasLeftOver, AnObject, AMessage, IsUnfinished, IsFaulty, after, names_next, in_order, IsIn}
 use Rattle.search_laws.specs.ClosedLists.{IsClosed, IsClosedSearch}
 use Rattle.search_laws.proofs.RenamedAction.{renamed_action, action_renamed}
 use Rattle.search_laws.proofs.RenamedTransition.{Alike, Neither, Both, unequal, to_one, same_names, made, transition_renamed}

@@ -6,7 +6,7 @@ use Rattle.run_types.specs.Partial.{◌>>=◌}
 use Rattle.pool_relation.specs.Configuration.{Configuration}
 use Rattle.pool_relation.specs.Transition.{run, last_class, start}
 use Rattle.search_laws.specs.Renamed.{Renaming, renamed_program, renamed_label, IsRenamed, IsNameless}
-use Rattle.search_laws.specs.Search.{IsReached, IsAtEnd, IsStuck, IsUnfinished, IsIn}
+use Rattle.reachability.specs.Search.{IsReached, IsAtEnd, IsStuck, IsUnfinished, IsIn}
 use Rattle.search_laws.proofs.RenamedTransition.{Alike, Neither, Both}
 use Rattle.search_laws.proofs.RenamedRun.{run_renamed}
 use Rattle.search_laws.proofs.NamesInOrder.{swap_first, swapped, same_all, arranged}

@@ -4,7 +4,7 @@ use Rattle.run_types.specs.declared.types.Label.{Label}
 use Rattle.pool_syntax.specs.Terms.{ProgramTree}
 use Rattle.pool_relation.specs.Configuration.{Configuration}
 use Rattle.pool_relation.specs.Transition.{transition, start}
-use Rattle.search_laws.specs.Search.{after, names_next, IsIn}
+use Rattle.reachability.specs.Search.{after, names_next, IsIn}
 
 -- no label that names new objects in order leads out of the list
 abbrev pub IsClosed : ProgramTree → List (ℕ × Configuration) → Type 0

@@ -1,6 +1,3 @@
--- Believed: what a top call's contract reaches.
-pub mod Search
 -- Internal: what it does not.
 pub mod Renamed
 pub mod ClosedLists
-pub mod Labels

@@ -7,8 +7,8 @@ ghost use Rattle.pool_syntax.specs.TreeOf.{program_of};
 ghost use Rattle.pool_relation.specs.Configuration.{Configuration, object_of};
 ghost use Rattle.pool_relation.specs.Transition.{transition};
 ghost use Rattle.search_laws.specs.Renamed.{Renaming, renamed_program, renamed_label, IsRenamed, IsNameless};
-ghost use Rattle.search_laws.specs.Labels.{IsAmong, labels_to_try, IsTried};
-ghost use Rattle.search_laws.specs.Search.{IsReached, IsAtEnd, IsStuck, IsUnfinished, IsFaulty, IsIn, IsClosedAfterSettling, names_next};
+ghost use Rattle.reachability.specs.Labels.{IsAmong, labels_to_try, IsTried};
+ghost use Rattle.reachability.specs.Search.{IsReached, IsAtEnd, IsStuck, IsUnfinished, IsFaulty, IsIn, IsClosedAfterSettling, names_next};
 ghost use Rattle.search_laws.specs.ClosedLists.{IsClosedSearch};
 
 /// A one-to-one renaming of objects keeps transitions. The renamed label is possible in the renamed configuration

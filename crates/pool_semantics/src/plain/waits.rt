@@ -6,7 +6,7 @@ ghost use Rattle.pool_syntax.specs.declared.tree.Named.{Named};
 ghost use Rattle.pool_relation.specs.Reducible.{Choice};
 ghost use Rattle.pool_relation.specs.Action.{Object, action};
 ghost use Rattle.pool_relation.specs.Configuration.{object_of};
-ghost use Rattle.search_laws.specs.Search.{is_left_over, WaitsAt, StaysAt, HasLeftOver, IsFaulty};
+ghost use Rattle.reachability.specs.Search.{is_left_over, WaitsAt, StaysAt, HasLeftOver, IsFaulty};
 ghost use Rattle.stepper_objects.specs.Acts.{acted};
 ghost use Rattle.pool_semantics.specs.Moving.{IsTheOne, IsLeast};
 ghost use Rattle.pool_semantics.specs.PlainOf.{configuration_of, program_tree, is_spent};

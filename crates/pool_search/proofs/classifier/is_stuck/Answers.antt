@@ -1,6 +1,6 @@
 use Rattle.std.proofs.Common.{subst, sym, ◌∙◌, Bool}
 use Rattle.pool_semantics.specs.PlainOf.{configuration_of, program_tree}
-use Rattle.search_laws.specs.Search.{IsUnfinished}
+use Rattle.reachability.specs.Search.{IsUnfinished}
 use Rattle.pool_search.specs.SearchTargets.{CountsAsStuck}
 use Rattle.pool_search.proofs.ConfigurationClass.{not_stuck, stuck_by_waiting, not_stuck_by_waiting, ended_by}
 use Rattle.pool_search.proofs.classifier.is_stuck.Goals as goal

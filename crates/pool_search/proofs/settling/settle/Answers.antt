@@ -3,7 +3,7 @@ use Rattle.std.specs.Prelude.{IfSome}
 use Rattle.pool_syntax.specs.Terms.{ProgramTree}
 use Rattle.pool_relation.specs.Transition.{transition}
 use Rattle.pool_semantics.specs.PlainOf.{configuration_of, program_tree}
-use Rattle.search_laws.specs.Search.{needs_no_choice, Settled}
+use Rattle.reachability.specs.Search.{needs_no_choice, Settled}
 use Rattle.pool_search.proofs.RunExtension.{settles_more}
 use Rattle.pool_search.proofs.settling.settle.Goals as goal
 

@@ -1,6 +1,6 @@
 use Rattle.std.proofs.Common.{◌≡◌, false}
 use Rattle.pool_semantics.specs.PlainOf.{configuration_of, program_tree, is_spent}
-use Rattle.search_laws.specs.Search.{Settles}
+use Rattle.reachability.specs.Search.{Settles}
 use Rattle.pool_search.proofs.settling.settle.Given as goal
 
 -- so far only such transitions were made

@@ -1,7 +1,7 @@
 use Rattle.std.proofs.Common.{subst, sym, arith}
 use Rattle.pool_search.specs.VisitedConfigurations.{kept_list}
 use Rattle.pool_semantics.specs.PlainOf.{configuration_of}
-use Rattle.search_laws.specs.Search.{IsIn}
+use Rattle.reachability.specs.Search.{IsIn}
 use Rattle.pool_search.specs.Progress.{Grows}
 use Rattle.pool_search.proofs.ListGrowth.{in_at, in_last, as_it_is}
 use Rattle.pool_search.proofs.EntryExpansion.{grows_by_one}

@@ -1,5 +1,5 @@
 use Rattle.std.proofs.Common.{◌≡◌, ◌++◌}
-use Rattle.search_laws.specs.Labels.{message_labels}
+use Rattle.reachability.specs.Labels.{message_labels}
 use Rattle.pool_semantics.specs.Mails.{posts}
 use Rattle.pool_semantics.specs.Plains.{configuration}
 use Rattle.pool_semantics.proofs.plain.Plain.labels.Given as goal

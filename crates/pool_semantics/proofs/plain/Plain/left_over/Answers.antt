@@ -1,5 +1,5 @@
 use Rattle.pool_syntax.specs.TreeOf.{program_of}
-use Rattle.search_laws.specs.Search.{AnObject}
+use Rattle.reachability.specs.Search.{AnObject}
 use Rattle.pool_semantics.specs.Plains.{configuration}
 use Rattle.pool_semantics.proofs.WaitingObjects.{nothing_left, message_left, nothing_posted, some_posted}
 use Rattle.pool_semantics.proofs.SoundSteps.{typed_now}

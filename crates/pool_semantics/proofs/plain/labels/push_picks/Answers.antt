@@ -2,7 +2,7 @@ use Rattle.std.proofs.Common.{◌≡◌, ◌≤◌, ◌∙◌, ◌+◌, ◌<◌,
 use Rattle.run_types.specs.declared.types.Label.TheVariants as L
 use Rattle.stepper_terms.specs.Arguments.{now_choices}
 use Rattle.stepper_terms.specs.Reduced.{choices}
-use Rattle.search_laws.specs.Labels.{picks}
+use Rattle.reachability.specs.Labels.{picks}
 use Rattle.pool_semantics.proofs.LabelLists.{grown, one_pick, no_picks, length_choices}
 use Rattle.pool_semantics.proofs.plain.labels.push_picks.Goals as goal
 

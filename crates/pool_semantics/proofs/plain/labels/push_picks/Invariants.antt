@@ -1,6 +1,6 @@
 use Rattle.std.proofs.Common.{◌≡◌, ◌≤◌, ◌-◌, ◌++◌, suc, length, drop}
 use Rattle.stepper_terms.specs.Reduced.{choices}
-use Rattle.search_laws.specs.Labels.{picks}
+use Rattle.reachability.specs.Labels.{picks}
 use Rattle.pool_semantics.proofs.plain.labels.push_picks.Given as goal
 
 abbrev pub invariant-loop-alt : goal.invariant-loop-alt

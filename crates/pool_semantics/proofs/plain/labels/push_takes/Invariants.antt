@@ -1,5 +1,5 @@
 use Rattle.std.proofs.Common.{◌≡◌, ◌≤◌, ◌-◌, ◌++◌, length, map, drop}
-use Rattle.search_laws.specs.Labels.{takes}
+use Rattle.reachability.specs.Labels.{takes}
 use Rattle.pool_semantics.specs.Mails.{message_of, queued}
 use Rattle.pool_semantics.proofs.plain.labels.push_takes.Given as goal
 

@@ -2,7 +2,7 @@ use Rattle.std.proofs.Common.{◌≡◌, ◌∙◌, ◌++◌, ap, sym, subst, is
 use Rattle.pool_syntax.specs.TreeOf.{program_of}
 use Rattle.run_types.proofs.Laws.{same_some}
 use Rattle.pool_relation.specs.Action.{Action, action}
-use Rattle.search_laws.specs.Labels.{own_labels}
+use Rattle.reachability.specs.Labels.{own_labels}
 use Rattle.stepper_terms.specs.Arguments.{now_args, now_names, now_choices}
 use Rattle.stepper_objects.specs.Acts.{acted}
 use Rattle.stepper_objects.specs.ObjectStates.{thing_object}

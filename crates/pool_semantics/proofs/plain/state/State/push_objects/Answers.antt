@@ -6,7 +6,7 @@ use Rattle.std.proofs.lemmas.Map.Iter.{rest_more, btree_map_turn}
 use Rattle.pool_syntax.specs.TreeOf.{program_of}
 use Rattle.pool_relation.specs.Action.{action}
 use Rattle.pool_relation.specs.Configuration.{object_of}
-use Rattle.search_laws.specs.Labels.{own_labels, object_labels}
+use Rattle.reachability.specs.Labels.{own_labels, object_labels}
 use Rattle.stepper_objects.specs.declared.object_state.ObjectState.{ObjectState}
 use Rattle.stepper_objects.specs.ObjectStates.{thing_object, things}
 use Rattle.pool_semantics.specs.Plains.{configuration}

@@ -1,6 +1,6 @@
 use Rattle.std.proofs.Common.{◌≡◌, ◌++◌}
 use Rattle.pool_syntax.specs.TreeOf.{program_of}
-use Rattle.search_laws.specs.Labels.{object_labels}
+use Rattle.reachability.specs.Labels.{object_labels}
 use Rattle.stepper_objects.specs.ObjectStates.{things}
 use Rattle.pool_semantics.specs.Plains.{configuration}
 use Rattle.pool_semantics.proofs.plain.state.State.push_objects.Given as goal

@@ -1,6 +1,6 @@
 use Rattle.std.proofs.Common.{◌∙◌, ap, sym}
 use Rattle.pool_syntax.specs.TreeOf.{program_of}
-use Rattle.search_laws.specs.Search.{is_left_over}
+use Rattle.reachability.specs.Search.{is_left_over}
 use Rattle.stepper_terms.specs.Arguments.{now_args, now_names, now_choices}
 use Rattle.stepper_objects.specs.ObjectStates.{thing_object}
 use Rattle.pool_semantics.specs.Plains.{configuration}

@@ -10,7 +10,7 @@ use Rattle.pool_relation.specs.Action as A
 use Rattle.pool_relation.specs.Action.{Object, Action, action}
 use Rattle.pool_relation.specs.Configuration.{Configuration}
 use Rattle.pool_relation.specs.Transition.{transition, start}
-use Rattle.search_laws.specs.Search.{after, IsIn, IsInOrder, Settles}
+use Rattle.reachability.specs.Search.{after, IsIn, IsInOrder, Settles}
 
 -- the label is in the list
 abbrev pub IsAmong : Label → List Label → Type 0

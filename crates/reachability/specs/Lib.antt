@@ -1,0 +1,4 @@
+-- Believed: what a top call's contract reaches.
+pub mod Search
+-- Internal: what it does not.
+pub mod Labels
