@@ -19,3 +19,4 @@ mod NestingRows
 mod WayRows
 mod JudgementRows
 pub mod RecordToRun
+pub mod DeadCycles

@@ -1,5 +1,5 @@
 -- A run leads to each configuration that a record shows.
-use Rattle.std.proofs.Common.{◌≡◌, refl, sym, ap, ◌∙◌, ℕ, List, [], ◌∷◌, ◌++◌, Some}
+use Rattle.std.proofs.Common.{◌≡◌, refl, sym, ap, ◌∙◌, ℕ, List, [], ◌∷◌, ◌++◌, Some, true}
 use Rattle.run_types.specs.declared.types.Error.{Error}
 use Rattle.run_types.specs.declared.types.Event.{Event}
 use Rattle.run_types.specs.declared.types.Label.{Label}
@@ -17,8 +17,13 @@ use Rattle.pool_relation.proofs.Laws.{joined, Put, New, Old, put_cases}
 use Rattle.mesh_of_terms.specs.Terms.{terms, plain}
 use Rattle.mesh_of_terms.specs.RunOf.{IsRunFrom}
 use Rattle.mesh_of_terms.proofs.Laws.{runs_from, runs_from_on_wires}
+use Rattle.mesh_semantics.specs.Record.{ends_quiet}
+use Rattle.mesh_semantics.specs.Cycles.{cycles}
 use Rattle.reachability.specs.Search.{IsReached, IsStuck, IsUnfinished, IsFaulty}
-use Rattle.adequacy.specs.Ends.{IsPlaced, EndsInACall, EndsUnfinished, ShowsAnError}
+use Rattle.reachability.specs.Outcomes.{written, EndsWith}
+use Rattle.search_laws.specs.Dead.{HasDead}
+use Rattle.adequacy.specs.Ends.{IsPlaced, EndsInACall, EndsUnfinished, ShowsAnError, ComesToDead}
+use Rattle.adequacy.proofs.DeadCycles.{no_cycle}
 
 -- the record of a program that is placed is a run from its start
 pub as_run : (p : ProgramTree) (l : Placement) (q : ℕ) (es : List Event) (h : IsPlaced p l) → IsRunFrom p l q h.first no_delay (record_of (terms p) l q es)
@@ -37,6 +42,10 @@ module _ (p : ProgramTree) (l : Placement) (q : ℕ) (h : IsPlaced p l) (d : Del
   never_left_over none ends =
       none (plain r.last) (record { root = root_name l; first = h.first; labels = labels r.lines; starts = h.starts; leads = run_of.leads })
       (record { at_end = run_of.rests ends.quiet; left = ends.left })
+
+  -- where it ends quiet, its labels lead to an end of a run, which writes what the record shows
+  pub quiet_ends : ends_quiet r.lines ≡ true → EndsWith p (written (labels r.lines)) (plain r.last)
+  quiet_ends quiet = record { root = root_name l; first = h.first; labels = labels r.lines; starts = h.starts; leads = run_of.leads; at_end = run_of.rests quiet; writes = refl }
 
   -- after its error an object is faulty
   faulty : (a b : Configuration) (o : ℕ) (e : Error) → transition p a (L.Fault o e) ≡ Some b → IsFaulty b
@@ -71,3 +80,14 @@ module _ (p : ProgramTree) (l : Placement) (q : ℕ) (h : IsPlaced p l) (d : Del
     where
       one : (a b : Configuration) (k : Label) → transition p a k ≡ Some b → run p a (k ∷ []) ≡ Some b
       one a b k t = rw t refl
+
+  -- if no run leads to a dead object, nor does a prefix of the record
+  pub never_to_dead : ((e : Configuration) → IsReached p e → ¬ (HasDead p e)) → ¬ (ComesToDead p l r)
+  never_to_dead none comes =
+      none comes.between (record { root = root_name l; first = comes.first; labels = comes.front; starts = comes.starts; leads = comes.leads }) comes.dead
+
+  -- and the configuration at its end has no cycle of calls
+  pub never_a_cycle : ((e : Configuration) → IsReached p e → ¬ (HasDead p e)) → cycles (terms p) r.last r.delay ≡ []
+  never_a_cycle none =
+      no_cycle p r.last r.delay
+      (none (plain r.last) (record { root = root_name l; first = h.first; labels = labels r.lines; starts = h.starts; leads = run_of.leads }))

@@ -7,7 +7,8 @@ use Rattle.run_types.specs.declared.types.Label.{Label}
 use Rattle.pool_syntax.specs.Terms.{ProgramTree}
 use Rattle.pool_relation.specs.Configuration.{Configuration}
 use Rattle.reachability.specs.Search.{IsInOrder}
-use Rattle.reachability.specs.Labels.{AllLeadInto, labels_to_try}
+use Rattle.reachability.specs.Labels.{labels_to_try}
+use Rattle.search_laws.specs.Tried.{AllLeadInto}
 use Rattle.pool_search.specs.declared.queries.Query.{Query}
 use Rattle.pool_search.specs.SearchTargets.{IsUnwanted}
 use Rattle.pool_search.specs.Progress.{Entries, Grows, HasTried, HasSearched}

@@ -7,7 +7,8 @@ use Rattle.pool_syntax.specs.Terms.{ProgramTree}
 use Rattle.run_types.specs.Tables.{Each}
 use Rattle.pool_relation.specs.Configuration.{Configuration}
 use Rattle.reachability.specs.Search.{IsIn, IsInOrder}
-use Rattle.reachability.specs.Labels.{LeadsInto, AllLeadInto, AreTried, labels_to_try}
+use Rattle.reachability.specs.Labels.{labels_to_try}
+use Rattle.search_laws.specs.Tried.{LeadsInto, AllLeadInto, AreTried}
 use Rattle.pool_search.specs.Progress.{Entries, Grows, IsLabelTried}
 
 pub in_grown : (n : ℕ) (c : Configuration) (es fs : Entries) → IsIn n c es → IsIn n c (es ++ fs)

@@ -10,7 +10,8 @@ use Rattle.run_types.specs.Tables.{Each}
 use Rattle.pool_relation.specs.Configuration.{Configuration}
 use Rattle.reachability.specs.Search.{IsReached, IsIn, IsInOrder, IsClosedAfterSettling}
 use Rattle.search_laws.specs.Renamed.{IsNameless}
-use Rattle.reachability.specs.Labels.{AllLeadInto, AreTried, labels_to_try}
+use Rattle.reachability.specs.Labels.{labels_to_try}
+use Rattle.search_laws.specs.Tried.{AllLeadInto, AreTried}
 use Rattle.search_laws.proofs.Laws.{whole_by_trying, never_stuck_after_settling, never_unfinished_after_settling, never_faulty_after_settling}
 use Rattle.pool_search.specs.declared.queries.Query.{Query}
 use Rattle.pool_search.specs.SearchTargets.{CountsAsStuck, IsUnwanted}

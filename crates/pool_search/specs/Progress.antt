@@ -6,7 +6,7 @@ use Rattle.run_types.specs.Tables.{Each}
 use Rattle.pool_relation.specs.Configuration.{Configuration}
 use Rattle.pool_relation.specs.Transition.{transition, start}
 use Rattle.reachability.specs.Search.{IsIn, IsInOrder, Settles}
-use Rattle.reachability.specs.Labels.{LeadsInto, AreTried}
+use Rattle.search_laws.specs.Tried.{LeadsInto, AreTried}
 use Rattle.pool_search.specs.declared.queries.Query.{Query}
 use Rattle.pool_search.specs.SearchTargets.{IsUnwanted}
 

@@ -3,7 +3,8 @@ ghost use Rattle.std.specs.Prelude.{◌≡◌, ◌+◌, ◌<◌, ◌≤◌, Ok, 
 ghost use Rattle.pool_relation.specs.Configuration.{Configuration};
 ghost use Rattle.pool_semantics.specs.PlainOf.{configuration_of, program_tree, is_spent};
 ghost use Rattle.reachability.specs.Search.{Settles, after, IsIn};
-ghost use Rattle.reachability.specs.Labels.{labels_to_try, AllLeadInto};
+ghost use Rattle.reachability.specs.Labels.{labels_to_try};
+ghost use Rattle.search_laws.specs.Tried.{AllLeadInto};
 ghost use Rattle.pool_search.specs.Entries.{entries, searched};
 ghost use Rattle.pool_search.specs.Progress.{Grows, IsSearchedTo, HasTried, HasSearched};
 

@@ -15,6 +15,7 @@ pub mod MoverSets
 pub mod LabelLists
 pub mod Alternatives
 pub mod ChoiceFreeSteps
+pub mod SilentSteps
 pub mod WaitingObjects
 pub mod AddedObject
 pub mod Laws

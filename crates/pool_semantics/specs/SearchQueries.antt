@@ -24,6 +24,14 @@ free_label o _ = None
 abbrev pub free_at : ProgramTree → Configuration → ℕ → Option Label
 free_at p c o = running c o >>= λ x. free_label o (action p o x)
 
+-- the same, but no write
+abbrev pub unless_write : Option Label → Option Label
+unless_write (Some (L.Write o item)) = None
+unless_write l = l
+
+abbrev pub silent_at : ProgramTree → Configuration → ℕ → Option Label
+silent_at p c o = unless_write (free_at p c o)
+
 -- the receiver and the method, if the action is a call or the wait of one
 abbrev pub call_of : Action → Option (ℕ × ℕ)
 call_of (A.Send b m args) = Some (b, m)

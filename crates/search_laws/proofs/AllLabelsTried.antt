@@ -12,7 +12,8 @@ use Rattle.pool_relation.specs.Action.{Object, action}
 use Rattle.pool_relation.specs.Configuration.{Configuration}
 use Rattle.pool_relation.specs.Transition.{transition, run}
 use Rattle.reachability.specs.Search.{is_in_call, WaitsAt, IsFaulty, IsIn, IsInOrder, needs_no_choice, Settles, Settled, Goes, IsClosedAfterSettling}
-use Rattle.reachability.specs.Labels.{IsAmong, labels_to_try, LeadsInto, AllLeadInto, AreTried, IsTried}
+use Rattle.reachability.specs.Labels.{IsAmong, labels_to_try}
+use Rattle.search_laws.specs.Tried.{LeadsInto, AllLeadInto, AreTried, IsTried}
 use Rattle.search_laws.proofs.ReducedSearch.{first_of}
 use Rattle.search_laws.proofs.AllLabels.{all_labels}
 

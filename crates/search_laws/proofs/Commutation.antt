@@ -10,7 +10,7 @@ use Rattle.run_types.specs.Values.{is_same}
 use Rattle.run_types.specs.Message.{Message}
 use Rattle.run_types.specs.Partial.{◌>>=◌, ◌>>◌, require}
 use Rattle.run_types.specs.Same.{are_same, is_same_item, error_number}
-use Rattle.run_types.proofs.Laws.{first, second, both, equal, equals, decide, given_by, required, same_some, same_value, same_values, same_error, put_list_same, put_list_other, value_itself, values_itself, item_itself}
+use Rattle.run_types.proofs.Laws.{first, second, both, equal, equals, decide, given_by, required, same_some, same_value, same_values, same_error, put_list_same, put_list_other, value_itself, values_itself, item_itself, neither}
 use Rattle.pool_relation.specs.Action.{Object, action}
 use Rattle.pool_relation.specs.Configuration.{Configuration, object_of, put_object, messages_of, put_messages}
 use Rattle.pool_relation.specs.Progress.{agent}
@@ -35,24 +35,24 @@ there_after c q b z t = by (put_cases c q z b)
 
 -- one object changes
 module _ (o : ℕ) (x y : Object) where
-  abbrev OneKeeps : Configuration → Type 0
+  abbrev pub OneKeeps : Configuration → Type 0
   OneKeeps d = (object_of d o ≡ Some x) × IsInOrder d
 
-  abbrev one_inside : ℕ → Bool
+  abbrev pub one_inside : ℕ → Bool
   one_inside q = q == o
 
-  abbrev one_change : Configuration → Configuration
+  abbrev pub one_change : Configuration → Configuration
   one_change d = put_object d o y
 
-  one_apart : Apart OneKeeps one_inside one_change
+  pub one_apart : Apart OneKeeps one_inside (λ r. true) one_change
   one_apart = record {
     present = λ c h q e. ap is_some (ap (object_of c) (equal q o e) ∙ h.0);
     others = λ c h q n. at_another c o q y (unequal q o n);
     all = λ c h q. still_there c o y (ap is_some h.0) q;
     put = λ c h q z n. ((at_another c q o z (λ i. unequal q o n (sym i)) ∙ h.0, sorted_put c q z h.1), sym (either_order c o q y z h.1 (unequal q o n)));
-    sent = λ c h q r n. refl;
-    send = λ c h q r ms n. ((h.0, sorted_messages c q r ms h.1), refl);
-    take = λ c h s r names first e. record { same = e; keeps = (h.0, sorted_messages c s r (without_first names (messages_of c s r)) h.1); order = refl };
+    sent = λ c h q r n free. refl;
+    send = λ c h q r ms n free. ((h.0, sorted_messages c q r ms h.1), refl);
+    take = λ c h s r names first free e. record { same = e; keeps = (h.0, sorted_messages c s r (without_first names (messages_of c s r)) h.1); order = refl };
   }
 
 -- one object changes and posts a message
@@ -128,7 +128,7 @@ module _ (o b : ℕ) (x y : Object) (m : Message) where
       by (inl i) (inr j) = taken_there c s r names first h e (λ g. j g.1)
       by (inr i) j = taken_there c s r names first h e (λ g. i g.0)
 
-  post_apart : Apart PostKeeps (one_inside o x y) post_change
+  post_apart : Apart PostKeeps (one_inside o x y) (λ r. true) post_change
   post_apart = record {
     present = λ c h q e. ap is_some (ap (object_of c) (equal q o e) ∙ h.0);
     others = λ c h q n. at_another c o q y (unequal q o n);
@@ -137,25 +137,20 @@ module _ (o b : ℕ) (x y : Object) (m : Message) where
       (at_another c q o z (λ i. unequal q o n (sym i)) ∙ h.0, there_after c q b z h.1, sorted_put c q z h.2),
       ap (λ d. put_messages d o b (messages_of c o b ++ m ∷ [])) (sym (either_order c o q y z h.2 (unequal q o n))),
     );
-    sent = λ c h q r n. other_pair c q r (λ e. unequal q o n e.0);
-    send = λ c h q r ms n. ((h.0, h.1, sorted_messages c q r ms h.2), other_put c q r ms h.2 (λ e. unequal q o n e.0));
-    take = λ c h s r names first e. taken c s r names first h e;
+    sent = λ c h q r n free. other_pair c q r (λ e. unequal q o n e.0);
+    send = λ c h q r ms n free. ((h.0, h.1, sorted_messages c q r ms h.2), other_put c q r ms h.2 (λ e. unequal q o n e.0));
+    take = λ c h s r names first free e. taken c s r names first h e;
   }
 
 -- two objects change
-neither : (u v : Bool) → (u || v) ≡ false → (u ≡ false) × (v ≡ false)
-neither false false h = (refl, refl)
-neither false true h = absurd (cc)
-neither true v h = absurd (cc)
-
 module _ (b o : ℕ) (y y' x x' : Object) where
-  abbrev TwoKeep : Configuration → Type 0
+  abbrev pub TwoKeep : Configuration → Type 0
   TwoKeep d = (object_of d b ≡ Some y) × (object_of d o ≡ Some x) × IsInOrder d
 
-  abbrev two_inside : ℕ → Bool
+  abbrev pub two_inside : ℕ → Bool
   two_inside q = q == b || q == o
 
-  abbrev two_change : Configuration → Configuration
+  abbrev pub two_change : Configuration → Configuration
   two_change d = put_object (put_object d b y') o x'
 
   two_there : (c : Configuration) → TwoKeep c → (q : ℕ) → two_inside q ≡ true → is_some (object_of c q) ≡ true
@@ -166,7 +161,7 @@ module _ (b o : ℕ) (y y' x x' : Object) where
       by false i true j = ap is_some (ap (object_of c) (equal q o j) ∙ h.1)
       by false i false j = absurd (let z : (false || false) ≡ true = sym (ap (λ t. t || (q == o)) i ∙ ap (λ t. false || t) j) ∙ e in cc)
 
-  two_apart : Apart TwoKeep two_inside two_change
+  pub two_apart : Apart TwoKeep two_inside (λ r. true) two_change
   two_apart = record {
     present = two_there;
     others = λ c h q n.
@@ -182,9 +177,9 @@ module _ (b o : ℕ) (y y' x x' : Object) where
           (at_another c q b z (λ e. m (sym e)) ∙ h.0, at_another c q o z (λ e. w (sym e)) ∙ h.1, sorted_put c q z h.2),
           sym (either_order (put_object c b y') o q x' z (sorted_put c b y' h.2) w ∙ ap (λ d. put_object d o x') (either_order c b q y' z h.2 m)),
         );
-    sent = λ c h q r n. refl;
-    send = λ c h q r ms n. ((h.0, h.1, sorted_messages c q r ms h.2), refl);
-    take = λ c h s r names first e. record { same = e; keeps = (h.0, h.1, sorted_messages c s r (without_first names (messages_of c s r)) h.2); order = refl };
+    sent = λ c h q r n free. refl;
+    send = λ c h q r ms n free. ((h.0, h.1, sorted_messages c q r ms h.2), refl);
+    take = λ c h s r names first free e. record { same = e; keeps = (h.0, h.1, sorted_messages c s r (without_first names (messages_of c s r)) h.2); order = refl };
   }
 
 -- an object with one label of its own takes part in no other
@@ -215,14 +210,14 @@ pub record Alone (p : ProgramTree) (c : Configuration) (k : Label) : Type 0 wher
 abbrev Commutes : ProgramTree → Configuration → Configuration → Label → Label → Type 0
 Commutes p d e k l = Alone p d k × ((x : Configuration) × (transition p d k ≡ Some x) × (transition p e l ≡ Some x))
 
-module _ (p : ProgramTree) (k : Label) (Keeps : Configuration → Type 0) (inside : ℕ → Bool) (change : Configuration → Configuration) (a : Apart Keeps inside change)
+module _ (p : ProgramTree) (k : Label) (Keeps : Configuration → Type 0) (inside : ℕ → Bool) (change : Configuration → Configuration) (a : Apart Keeps inside (λ r. true) change)
     (closed_agent : (c : Configuration) → Keeps c → (l : Label) → l ≢ k → inside (agent l) ≡ true → transition p c l ≡ None)
     (closed_partner : (c : Configuration) → Keeps c → (l : Label) → l ≢ k → inside (partner l) ≡ true → transition p c l ≡ None)
     (again : (d : Configuration) → Keeps d → transition p d k ≡ Some (change d)) (sorts : (d : Configuration) → Keeps d → IsInOrder d) (kind : needs_no_choice k ≡ true) where
   goes : (c d e : Configuration) (l : Label) → Keeps c → transition p c k ≡ Some e → transition p c l ≡ Some d → l ≢ k → Commutes p d e k l
-  goes c d e l h i j n = by (transition p c l) (transition p (change c) l) j refl (follows p k Keeps inside change a closed_agent closed_partner c h l n)
+  goes c d e l h i j n = by (transition p c l) (transition p (change c) l) j refl (follows p k Keeps inside (λ r. true) change a (λ r. refl) closed_agent closed_partner c h l n)
     where
-      by : (u v : Option Configuration) → u ≡ Some d → v ≡ transition p (change c) l → Follows p k Keeps inside change a closed_agent closed_partner u v → Commutes p d e k l
+      by : (u v : Option Configuration) → u ≡ Some d → v ≡ transition p (change c) l → Follows p Keeps inside (λ r. true) change a u v → Commutes p d e k l
       by u v g f Nothing = absurd (cc)
       by u v g f (Beside {d = b} keeps) =
           let is : change c ≡ e = same_some (sym (again c h) ∙ i) in

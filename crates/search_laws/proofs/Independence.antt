@@ -24,21 +24,25 @@ pub record Takes (Keeps : Configuration → Type 0) (change : Configuration → 
   pub keeps : Keeps (put_messages c s r (without_first names (messages_of c s r)))
   pub order : change (put_messages c s r (without_first names (messages_of c s r))) ≡ put_messages (change c) s r (without_first names (messages_of (change c) s r))
 
--- the step changes only the objects inside and the messages that they send, and nothing that others do keeps it from being made
-pub record Apart (Keeps : Configuration → Type 0) (inside : ℕ → Bool) (change : Configuration → Configuration) : Type 0 where
+-- The step changes only the objects inside, the messages that they send, and the messages to receivers that are not
+-- free. Nothing that other objects do prevents it.
+pub record Apart (Keeps : Configuration → Type 0) (inside : ℕ → Bool) (free : ℕ → Bool) (change : Configuration → Configuration) : Type 0 where
   pub present : (c : Configuration) → Keeps c → (q : ℕ) → inside q ≡ true → is_some (object_of c q) ≡ true
   pub others : (c : Configuration) → Keeps c → (q : ℕ) → inside q ≡ false → object_of (change c) q ≡ object_of c q
   pub all : (c : Configuration) → Keeps c → (q : ℕ) → is_some (object_of (change c) q) ≡ is_some (object_of c q)
   pub put : (c : Configuration) → Keeps c → (q : ℕ) (z : Object) → inside q ≡ false → Keeps (put_object c q z) × (change (put_object c q z) ≡ put_object (change c) q z)
-  pub sent : (c : Configuration) → Keeps c → (q r : ℕ) → inside q ≡ false → messages_of (change c) q r ≡ messages_of c q r
-  pub send : (c : Configuration) → Keeps c → (q r : ℕ) (ms : List Message) → inside q ≡ false
+  pub sent : (c : Configuration) → Keeps c → (q r : ℕ) → inside q ≡ false → free r ≡ true → messages_of (change c) q r ≡ messages_of c q r
+  pub send : (c : Configuration) → Keeps c → (q r : ℕ) (ms : List Message) → inside q ≡ false → free r ≡ true
       → Keeps (put_messages c q r ms) × (change (put_messages c q r ms) ≡ put_messages (change c) q r ms)
-  pub take : (c : Configuration) → Keeps c → (s r : ℕ) (names : List Named) (first : Message) → first_message names (messages_of c s r) ≡ Some first
+  pub take : (c : Configuration) → Keeps c → (s r : ℕ) (names : List Named) (first : Message) → free r ≡ true → first_message names (messages_of c s r) ≡ Some first
       → Takes Keeps change c s r names first
 
-module _ (p : ProgramTree) (k : Label) (Keeps : Configuration → Type 0) (inside : ℕ → Bool) (change : Configuration → Configuration) (a : Apart Keeps inside change)
-    (closed_agent : (c : Configuration) → Keeps c → (l : Label) → l ≢ k → inside (agent l) ≡ true → transition p c l ≡ None)
-    (closed_partner : (c : Configuration) → Keeps c → (l : Label) → l ≢ k → inside (partner l) ≡ true → transition p c l ≡ None) where
+-- the receiver of the message of a label, or else the agent of the label
+abbrev pub receiver : Label → ℕ
+receiver (L.Send o b m args) = b
+receiver l = agent l
+
+module _ (p : ProgramTree) (Keeps : Configuration → Type 0) (inside free : ℕ → Bool) (change : Configuration → Configuration) (a : Apart Keeps inside free change) where
   -- what is possible before the step is possible after it, and leads to the same
   pub data Follows : Option Configuration → Option Configuration → Type 0 where
     Nothing : {b : Option Configuration} → Follows None b
@@ -92,52 +96,52 @@ module _ (p : ProgramTree) (k : Label) (Keeps : Configuration → Type 0) (insid
         by None (Some y) e = absurd (cc)
         by (Some x) None e = absurd (cc)
 
-    posted : (q b : ℕ) (z : Object) (m : Message) → inside q ≡ false
+    posted : (q b : ℕ) (z : Object) (m : Message) → inside q ≡ false → free b ≡ true
         → Follows (Some (put_messages (put_object c q z) q b (messages_of c q b ++ m ∷ []))) (Some (put_messages (put_object (change c) q z) q b (messages_of (change c) q b ++ m ∷ [])))
-    posted q b z m n =
+    posted q b z m n w =
         let i = a.put c h q z n in
-        let j = a.send (put_object c q z) i.0 q b (messages_of c q b ++ m ∷ []) n in
+        let j = a.send (put_object c q z) i.0 q b (messages_of c q b ++ m ∷ []) n w in
         subst (λ d. Follows (Some (put_messages (put_object c q z) q b (messages_of c q b ++ m ∷ []))) (Some d))
-        (j.1 ∙ ap (λ d. put_messages d q b (messages_of c q b ++ m ∷ [])) i.1 ∙ ap (λ ms. put_messages (put_object (change c) q z) q b (ms ++ m ∷ [])) (sym (a.sent c h q b n)))
+        (j.1 ∙ ap (λ d. put_messages d q b (messages_of c q b ++ m ∷ [])) i.1 ∙ ap (λ ms. put_messages (put_object (change c) q z) q b (ms ++ m ∷ [])) (sym (a.sent c h q b n w)))
         (Beside j.0)
 
-    taken_by : (s b : ℕ) (z : Object) (names : List Named) (first : Message) → first_message names (messages_of c s b) ≡ Some first → inside b ≡ false
+    taken_by : (s b : ℕ) (z : Object) (names : List Named) (first : Message) → first_message names (messages_of c s b) ≡ Some first → inside b ≡ false → free b ≡ true
         → Follows (Some (put_messages (put_object c b z) s b (without_first names (messages_of c s b))))
         (Some (put_messages (put_object (change c) b z) s b (without_first names (messages_of (change c) s b))))
-    taken_by s b z names first e n =
+    taken_by s b z names first e n w =
         let i = a.put c h b z n in
-        let j = a.take (put_object c b z) i.0 s b names first e in
+        let j = a.take (put_object c b z) i.0 s b names first w e in
         subst (λ d. Follows (Some (put_messages (put_object c b z) s b (without_first names (messages_of c s b)))) (Some d))
         (j.order ∙ ap (λ d. put_messages d s b (without_first names (messages_of d s b))) i.1)
         (Beside j.keeps)
 
-    beside : (l : Label) → inside (agent l) ≡ false → inside (partner l) ≡ false → Follows (transition p c l) (transition p (change c) l)
-    beside (L.Local q) n m = along (running c q) (running (change c) q) _ _ (runs q n) (λ z i. along (local_step z (action p q z)) (local_step z (action p q z)) _ _ refl (λ y j. one q y n))
-    beside (L.New q new k) n m =
+    pub beside : (l : Label) → inside (agent l) ≡ false → inside (partner l) ≡ false → free (receiver l) ≡ true → Follows (transition p c l) (transition p (change c) l)
+    beside (L.Local q) n m open_r = along (running c q) (running (change c) q) _ _ (runs q n) (λ z i. along (local_step z (action p q z)) (local_step z (action p q z)) _ _ refl (λ y j. one q y n))
+    beside (L.New q new k) n m open_r =
         along (running c q) (running (change c) q) _ _ (runs q n)
         (λ z i. wanted (makes (action p q z) k.0 && is_none (object_of c new)) (makes (action p q z) k.0 && is_none (object_of (change c) new)) _ _
         (ap (λ b. makes (action p q z) k.0 && b) (none_same new))
         (λ t. along (class_of p k.0) (class_of p k.0) _ _ refl (λ class j. two q new (given z (V.Ref new)) (new_object class) n (fresh new (last_of (makes (action p q z) k.0) _ t)))))
-    beside (L.Answer b q v args) n m =
+    beside (L.Answer b q v args) n m open_r =
         along (running c q) (running (change c) q) _ _ (runs q m)
         (λ z i. along (running c b) (running (change c) b) _ _ (runs b n)
         (λ w j. wanted (calls (action p q z) b v.0 args) (calls (action p q z) b v.0 args) _ _ refl
         (λ t. along (offer (action p b w) v.0) (offer (action p b w) v.0) _ _ refl
         (λ off g. wanted (not (has_message off.names (messages_of c q b))) (not (has_message off.names (messages_of (change c) q b))) _ _
-        (ap (λ ms. not (has_message off.names ms)) (a.sent c h q b m))
+        (ap (λ ms. not (has_message off.names ms)) (a.sent c h q b m open_r))
         (λ u. along (method_of p w.class v.0 (length args)) (method_of p w.class v.0 (length args)) _ _ refl
         (λ method f. two q b (refilled z (AsExpression (T.Wait b v.0))) (serving w method (Some q) args off.work) m n))))))
-    beside (L.Return b q v) n m =
+    beside (L.Return b q v) n m open_r =
         along (running c b) (running (change c) b) _ _ (runs b n)
         (λ z i. along (running c q) (running (change c) q) _ _ (runs q m)
         (λ w j. wanted (returns (action p b z) q v && waits_on (action p q w) b) (returns (action p b z) q v && waits_on (action p q w) b) _ _ refl
         (λ t. two b q (returned z) (given w v) n m)))
-    beside (L.Send q b v args) n m =
+    beside (L.Send q b v args) n m open_r =
         along (running c q) (running (change c) q) _ _ (runs q n)
         (λ z i. wanted (posts (action p q z) b v.0 args && is_some (object_of c b)) (posts (action p q z) b v.0 args && is_some (object_of (change c) b)) _ _
         (ap (λ t. posts (action p q z) b v.0 args && t) (a.all c h b))
-        (λ t. posted q b (done z) (record { method = v.0; args = args }) n))
-    beside (L.Take b s v args) n m =
+        (λ t. posted q b (done z) (record { method = v.0; args = args }) n open_r))
+    beside (L.Take b s v args) n m open_r =
         along (running c b) (running (change c) b) _ _ (runs b n)
         (λ z i. along (offer (action p b z) v.0) (offer (action p b z) v.0) _ _ refl
         (λ off g. took z off.names off.work (first_message off.names (messages_of c s b)) refl))
@@ -153,24 +157,29 @@ module _ (p : ProgramTree) (k : Label) (Keeps : Configuration → Type 0) (insid
             Some (put_messages (put_object (change c) b (serving z method None args work)) s b (without_first names (messages_of (change c) s b)))))) (sym e) Nothing
         took z names work (Some first) e =
             along (first_message names (messages_of c s b)) (first_message names (messages_of (change c) s b)) _ _
-            ((a.take c h s b names first e).same ∙ sym e)
+            ((a.take c h s b names first open_r e).same ∙ sym e)
             (λ g i. wanted (g.method == v.0 && are_same g.args args) (g.method == v.0 && are_same g.args args) _ _ refl
             (λ t. along (method_of p z.class v.0 (length args)) (method_of p z.class v.0 (length args)) _ _ refl
-            (λ method f. taken_by s b (serving z method None args work) names g i n)))
-    beside (L.Write q item) n m =
+            (λ method f. taken_by s b (serving z method None args work) names g i n open_r)))
+    beside (L.Write q item) n m open_r =
         along (running c q) (running (change c) q) _ _ (runs q n)
         (λ z i. wanted (writes (action p q z) item) (writes (action p q z) item) _ _ refl (λ t. one q (done z) n))
-    beside (L.Pick q i) n m =
+    beside (L.Pick q i) n m open_r =
         along (running c q) (running (change c) q) _ _ (runs q n)
         (λ z g. along (picked (action p q z) i) (picked (action p q z) i) _ _ refl (λ work j. one q (refilled z (AsStatements work)) n))
-    beside (L.Fault q e) n m =
+    beside (L.Fault q e) n m open_r =
         along (running c q) (running (change c) q) _ _ (runs q n)
         (λ z i. wanted (fails (action p q z) e) (fails (action p q z) e) _ _ refl (λ t. one q (record z { fault = Some e }) n))
 
-    pub follows : (l : Label) → l ≢ k → Follows (transition p c l) (transition p (change c) l)
+module _ (p : ProgramTree) (k : Label) (Keeps : Configuration → Type 0) (inside free : ℕ → Bool) (change : Configuration → Configuration) (a : Apart Keeps inside free change)
+    (all_free : (r : ℕ) → free r ≡ true)
+    (closed_agent : (c : Configuration) → Keeps c → (l : Label) → l ≢ k → inside (agent l) ≡ true → transition p c l ≡ None)
+    (closed_partner : (c : Configuration) → Keeps c → (l : Label) → l ≢ k → inside (partner l) ≡ true → transition p c l ≡ None) where
+  module _ (c : Configuration) (h : Keeps c) where
+    pub follows : (l : Label) → l ≢ k → Follows p Keeps inside free change a (transition p c l) (transition p (change c) l)
     follows l n = by (inside (agent l)) refl (inside (partner l)) refl
       where
-        by : (x : Bool) → inside (agent l) ≡ x → (y : Bool) → inside (partner l) ≡ y → Follows (transition p c l) (transition p (change c) l)
-        by true i y j = subst (λ o. Follows o (transition p (change c) l)) (sym (closed_agent c h l n i)) Nothing
-        by false i true j = subst (λ o. Follows o (transition p (change c) l)) (sym (closed_partner c h l n j)) Nothing
-        by false i false j = beside l i j
+        by : (x : Bool) → inside (agent l) ≡ x → (y : Bool) → inside (partner l) ≡ y → Follows p Keeps inside free change a (transition p c l) (transition p (change c) l)
+        by true i y j = subst (λ o. Follows p Keeps inside free change a o (transition p (change c) l)) (sym (closed_agent c h l n i)) Nothing
+        by false i true j = subst (λ o. Follows p Keeps inside free change a o (transition p (change c) l)) (sym (closed_partner c h l n j)) Nothing
+        by false i false j = beside p Keeps inside free change a c h l i j (all_free (receiver l))

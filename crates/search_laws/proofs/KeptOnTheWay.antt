@@ -7,7 +7,7 @@ use Rattle.run_types.specs.Partial.{◌>>=◌}
 use Rattle.pool_relation.specs.Configuration.{Configuration}
 use Rattle.pool_relation.specs.Transition.{transition, run, last_class, start}
 use Rattle.search_laws.specs.Renamed.{Renaming, renamed_program, renamed_label, IsRenamed, IsNameless}
-use Rattle.reachability.specs.Search.{IsReached, IsFaulty, after, names_next, in_order, IsIn, IsClosedAfterSettling}
+use Rattle.reachability.specs.Search.{IsReached, needs_no_choice, IsFaulty, after, names_next, in_order, IsIn, IsClosedAfterSettling}
 use Rattle.search_laws.proofs.RenamedTransition.{Alike, Neither, Both}
 use Rattle.search_laws.proofs.RenamedRun.{run_renamed, makes_none}
 use Rattle.search_laws.proofs.NamesInOrder.{swap_first, swapped, same_all, arranged}
@@ -16,6 +16,8 @@ use Rattle.search_laws.proofs.ReducedSearch.{stays, both_hold, First, first_of, 
 use Rattle.run_types.proofs.Laws.{second, first as first_holds}
 use Rattle.search_laws.proofs.Commutation.{Alone, alone_makes_none, same_label, commutes}
 use Rattle.search_laws.proofs.Faults.{fault_stays}
+use Rattle.search_laws.specs.Dead.{HasDead}
+use Rattle.search_laws.proofs.Dead.{still_has_dead, dead_kept}
 use Rattle.search_laws.proofs.ChoiceFreeRuns.{settles, start_sorted, sorted_after}
 
 module _ (p : ProgramTree) (Alone : Configuration → Label → Type 0)
@@ -104,47 +106,61 @@ module _ (p : ProgramTree) (Alone : Configuration → Label → Type 0)
       let w = all_lead n c d f ls s o r q in
       one_has es closed (length w.labels) n f w.to w.labels (omega arith) i w.orders w.leads w.holds
 
+-- a property that such transitions keep, and for which names do not matter: if no configuration of a list that is whole
+-- after such transitions has it, no run leads to a configuration that has it
+module _ (Q : Configuration → Type 0) (p : ProgramTree) (kept : (c e : Configuration) (k : Label) → needs_no_choice k ≡ true → transition p c k ≡ Some e → Q c → Q e)
+    (named : (g : Renaming) (d x : Configuration) → IsRenamed g.to d x → Q d → Q x) where
+  pub never_after_settling : (es : List (ℕ × Configuration)) → IsNameless p → IsClosedAfterSettling p es
+      → ((n : ℕ) (c : Configuration) → IsIn n c es → ¬ (Q c)) → (d : Configuration) → IsReached p d → ¬ (Q d)
+  never_after_settling es less whole none d reached holds = by (last_class p) refl reached.starts
+    where
+      go : (k : ClassTree) → last_class p ≡ Some k → run p (lone reached.root k) reached.labels ≡ Some d → ⊥
+      go k e r =
+          let a = arranged p (lone reached.root k) d reached.labels 1 (swapped same_all reached.root 0) (below_start k reached.root) r in
+          let z : (swapped same_all reached.root 0).to reached.root ≡ 0 = swap_first reached.root 0 in
+          let first : a.names.to reached.root ≡ 0 = a.keeps reached.root (omega arith) ∙ z in
+          let alike = run_renamed a.names p (lone reached.root k) (lone 0 k) reached.labels (lone_renamed a.names p k reached.root less e first) in
+          let starts : start p 0 ≡ Some (lone 0 k) = ap (λ o. o >>= λ c. Some (lone 0 c)) e in
+          let begins = whole.begins (lone 0 k) starts in
+          there a.names (run p (lone reached.root k) reached.labels) r (run (renamed_program a.names.to p) (lone 0 k) (map (renamed_label a.names.to) reached.labels)) alike
+          (λ x i h.
+          let s = found_in p (Alone p) (same_label p) (alone_makes_none p) (commutes p) Q (λ c e k a t q. kept c e k a.kind t q) es
+          (λ n c y l i j t. let b = whole.closed n c y l i j t in (b.0, settles p y b.0 (sorted_after p c y l (whole.in_order n c i) t) b.1, b.2))
+          1 (lone 0 k) x begins.0 (map (renamed_label a.names.to) reached.labels) (settles p (lone 0 k) begins.0 (start_sorted p (lone 0 k) starts) begins.1) begins.2 a.orders
+          (ap (λ q. run q (lone 0 k) (map (renamed_label a.names.to) reached.labels)) (sym (less a.names.to)) ∙ i) h in
+          none s.next s.seen s.is_in s.holds)
+        where
+          there : (g : Renaming) (u : Option Configuration) → u ≡ Some d → (v : Option Configuration) → Alike g.to u v
+              → ((x : Configuration) → v ≡ Some x → Q x → ⊥) → ⊥
+          there g u i v Neither never = absurd (cc)
+          there g u i v (Both {c = c} {d = x} same) never =
+              let is : c ≡ d = cc in
+              let here : IsRenamed g.to d x = subst (λ (y : Configuration). IsRenamed g.to y x) is same in
+              never x refl (named g d x here holds)
+
+      by : (o : Option ClassTree) → last_class p ≡ o → (o >>= λ k. Some (lone reached.root k)) ≡ Some reached.first → ⊥
+      by None i s = absurd (cc)
+      by (Some k) i s =
+          let is : lone reached.root k ≡ reached.first = cc in
+          go k i (ap (λ c. run p c reached.labels) is ∙ reached.leads)
+
 -- an error that was met stays
-alone_keeps_faults : (p : ProgramTree) (c e : Configuration) (k : Label) → Alone p c k → transition p c k ≡ Some e → IsFaulty c → IsFaulty e
-alone_keeps_faults p c e k a i faulty =
+keeps_faults : (p : ProgramTree) (c e : Configuration) (k : Label) → needs_no_choice k ≡ true → transition p c k ≡ Some e → IsFaulty c → IsFaulty e
+keeps_faults p c e k a i faulty =
     record {
       name = faulty.name;
       object = faulty.object;
-      there = fault_stays p c e k a.kind i faulty.name faulty.object faulty.there faulty.met;
+      there = fault_stays p c e k a i faulty.name faulty.object faulty.there faulty.met;
       met = faulty.met;
     }
 
--- where a list is whole after such transitions and none of it is faulty, no run whatever leads to a faulty configuration
+-- if no configuration of a list that is whole after such transitions is faulty, no run leads to a faulty configuration
 pub never_faulty_after_settling : (p : ProgramTree) (es : List (ℕ × Configuration)) → IsNameless p → IsClosedAfterSettling p es
     → ((n : ℕ) (c : Configuration) → IsIn n c es → ¬ (IsFaulty c)) → (d : Configuration) → IsReached p d → ¬ (IsFaulty d)
-never_faulty_after_settling p es less whole none d reached faulty = by (last_class p) refl reached.starts
-  where
-    go : (k : ClassTree) → last_class p ≡ Some k → run p (lone reached.root k) reached.labels ≡ Some d → ⊥
-    go k e r =
-        let a = arranged p (lone reached.root k) d reached.labels 1 (swapped same_all reached.root 0) (below_start k reached.root) r in
-        let z : (swapped same_all reached.root 0).to reached.root ≡ 0 = swap_first reached.root 0 in
-        let first : a.names.to reached.root ≡ 0 = a.keeps reached.root (omega arith) ∙ z in
-        let alike = run_renamed a.names p (lone reached.root k) (lone 0 k) reached.labels (lone_renamed a.names p k reached.root less e first) in
-        let starts : start p 0 ≡ Some (lone 0 k) = ap (λ o. o >>= λ c. Some (lone 0 c)) e in
-        let begins = whole.begins (lone 0 k) starts in
-        there a.names (run p (lone reached.root k) reached.labels) r (run (renamed_program a.names.to p) (lone 0 k) (map (renamed_label a.names.to) reached.labels)) alike
-        (λ x i h.
-        let s = found_in p (Alone p) (same_label p) (alone_makes_none p) (commutes p) IsFaulty (alone_keeps_faults p) es
-        (λ n c y l i j t. let b = whole.closed n c y l i j t in (b.0, settles p y b.0 (sorted_after p c y l (whole.in_order n c i) t) b.1, b.2))
-        1 (lone 0 k) x begins.0 (map (renamed_label a.names.to) reached.labels) (settles p (lone 0 k) begins.0 (start_sorted p (lone 0 k) starts) begins.1) begins.2 a.orders
-        (ap (λ q. run q (lone 0 k) (map (renamed_label a.names.to) reached.labels)) (sym (less a.names.to)) ∙ i) h in
-        none s.next s.seen s.is_in s.holds)
-      where
-        there : (g : Renaming) (u : Option Configuration) → u ≡ Some d → (v : Option Configuration) → Alike g.to u v
-            → ((x : Configuration) → v ≡ Some x → IsFaulty x → ⊥) → ⊥
-        there g u i v Neither never = absurd (cc)
-        there g u i v (Both {c = c} {d = x} same) never =
-            let is : c ≡ d = cc in
-            let named : IsRenamed g.to d x = subst (λ (y : Configuration). IsRenamed g.to y x) is same in
-            never x refl (fault_kept g d x named faulty)
+never_faulty_after_settling p es less whole none d reached = never_after_settling IsFaulty p (keeps_faults p) fault_kept es less whole none d reached
 
-    by : (o : Option ClassTree) → last_class p ≡ o → (o >>= λ k. Some (lone reached.root k)) ≡ Some reached.first → ⊥
-    by None i s = absurd (cc)
-    by (Some k) i s =
-        let is : lone reached.root k ≡ reached.first = cc in
-        go k i (ap (λ c. run p c reached.labels) is ∙ reached.leads)
+-- the same of a configuration with a dead object
+pub never_dead_after_settling : (p : ProgramTree) (es : List (ℕ × Configuration)) → IsNameless p → IsClosedAfterSettling p es
+    → ((n : ℕ) (c : Configuration) → IsIn n c es → ¬ (HasDead p c)) → (d : Configuration) → IsReached p d → ¬ (HasDead p d)
+never_dead_after_settling p es less whole none d reached =
+    never_after_settling (HasDead p) p (λ c e k a t. still_has_dead p c e k t) (λ g u x same. dead_kept g p u x less same) es less whole none d reached

@@ -7,5 +7,18 @@ pub use Rattle.search_laws.proofs.NextName.{at_end_by_next}
 -- transitions that need no choice
 pub use Rattle.search_laws.proofs.Commutation.{Alone, commutes}
 pub use Rattle.search_laws.proofs.ChoiceFreeRuns.{sorted_after, start_sorted, never_stuck_after_settling, never_unfinished_after_settling}
-pub use Rattle.search_laws.proofs.KeptOnTheWay.{never_faulty_after_settling}
+pub use Rattle.search_laws.proofs.KeptOnTheWay.{never_faulty_after_settling, never_dead_after_settling}
 pub use Rattle.search_laws.proofs.AllLabelsTried.{settles_by, whole_by_trying}
+-- dead objects
+pub use Rattle.search_laws.proofs.Dead.{dead_for_good, stuck_is_dead, not_dead}
+pub use Rattle.search_laws.proofs.DeadByList.{nobody_dead, dead_by_list}
+pub use Rattle.search_laws.proofs.GoesOn.{all_go_on, all_go_on_by_choices}
+pub use Rattle.search_laws.proofs.Known.{known_reached}
+pub use Rattle.search_laws.proofs.Caught.{caught_is_dead}
+pub use Rattle.search_laws.proofs.CaughtWalk.{caught_tells, is_told_caught}
+-- what is written
+pub use Rattle.search_laws.proofs.Outcomes.{every_end_is_kept, nothing_else_is_written, nothing_else_whatever_the_names}
+pub use Rattle.search_laws.proofs.ChosenOutcomes.{every_end_is_kept_by_choices, nothing_else_by_choices, whatever_the_names_by_choices}
+-- stubborn sets
+pub use Rattle.search_laws.proofs.PutOff.{in_the_end_by_places}
+pub use Rattle.search_laws.proofs.ByChoices.{for_ends, never_faulty_by_choices, nobody_dead_by_choices, dead_by_choices}

@@ -16,7 +16,24 @@ pub mod ChoiceFreeRuns
 pub mod SettledSearch
 pub mod KeptOnTheWay
 pub mod Faults
+pub mod Dead
+pub mod Known
+pub mod Choices
+pub mod PutOff
+pub mod ByChoices
+pub mod GoesOn
+pub mod DeadByList
+pub mod Caught
+pub mod CaughtWalk
 pub mod Laws
 pub mod AllLabels
 pub mod AllLabelsTried
+pub mod Outcomes
+pub mod Alike
+pub mod Unknown
+pub mod Outside
+pub mod Guarded
+pub mod Enough
+pub mod ChosenOutcomes
+pub mod OneObject
 mod Rows

@@ -21,7 +21,7 @@ swap a b q = if q == a then b else (if q == b then a else q)
 pub swap_first : (a b : ℕ) → swap a b a ≡ b
 swap_first a b = ap (λ t. if t then b else (if a == b then a else a)) (equals a)
 
-swap_kept : (a b q : ℕ) → q ≢ a → q ≢ b → swap a b q ≡ q
+pub swap_kept : (a b q : ℕ) → q ≢ a → q ≢ b → swap a b q ≡ q
 swap_kept a b q h i = ap (λ t. if t then b else (if q == b then a else q)) (differ q a h) ∙ ap (λ t. if t then a else q) (differ q b i)
 
 swap_second : (a b : ℕ) → swap a b b ≡ a

@@ -27,6 +27,13 @@ at_another c o q y n = by (put_cases c o y q)
     by (New e i) = absurd (n e)
     by (Old m i) = i
 
+pub at_itself : (c : Configuration) (o : ℕ) (y : Object) → object_of (put_object c o y) o ≡ Some y
+at_itself c o y = by (put_cases c o y o)
+  where
+    by : Put c o y o → object_of (put_object c o y) o ≡ Some y
+    by (New e i) = i
+    by (Old m i) = absurd (m refl)
+
 -- the same objects are there where one that is there changes
 pub still_there : (c : Configuration) (o : ℕ) (y : Object) → is_some (object_of c o) ≡ true → (q : ℕ) → is_some (object_of (put_object c o y) q) ≡ is_some (object_of c q)
 still_there c o y t q = by (put_cases c o y q)

@@ -35,7 +35,7 @@ pub data Alike (f : ℕ → ℕ) : Option Configuration → Option Configuration
   Neither : Alike f None None
   Both : {c d : Configuration} → IsRenamed f c d → Alike f (Some c) (Some d)
 
-abbrev renamed_offer : (ℕ → ℕ) → Offer → Offer
+abbrev pub renamed_offer : (ℕ → ℕ) → Offer → Offer
 renamed_offer f v = record { names = v.names; work = renamed_statements f v.work }
 
 -- the messages of a pair are those that were put
@@ -76,22 +76,22 @@ module _ (f : Renaming) where
   has_kept names [] = refl
   has_kept names (m ∷ ms) = ap (λ b. names_method names m.method || b) (has_kept names ms)
 
-  first_renamed : (names : List Named) (ms : List Message) → first_message names (map (renamed_message f.to) ms) ≡ option_map (renamed_message f.to) (first_message names ms)
+  pub first_renamed : (names : List Named) (ms : List Message) → first_message names (map (renamed_message f.to) ms) ≡ option_map (renamed_message f.to) (first_message names ms)
   first_renamed names [] = refl
   first_renamed names (m ∷ ms) =
       either_way (option_map (renamed_message f.to)) (names_method names m.method) (names_method names m.method) _ _ (Some m) (first_message names ms) refl refl (first_renamed names ms)
 
-  without_renamed : (names : List Named) (ms : List Message) → without_first names (map (renamed_message f.to) ms) ≡ map (renamed_message f.to) (without_first names ms)
+  pub without_renamed : (names : List Named) (ms : List Message) → without_first names (map (renamed_message f.to) ms) ≡ map (renamed_message f.to) (without_first names ms)
   without_renamed names [] = refl
   without_renamed names (m ∷ ms) =
       either_way (map (renamed_message f.to)) (names_method names m.method) (names_method names m.method) _ _ ms (m ∷ without_first names ms) refl refl
       (ap (λ r. renamed_message f.to m ∷ r) (without_renamed names ms))
 
   -- objects as they change
-  filled : (x : Object) (part : Contractum) → refilled (renamed_object f.to x) (renamed_part f.to part) ≡ renamed_object f.to (refilled x part)
+  pub filled : (x : Object) (part : Contractum) → refilled (renamed_object f.to x) (renamed_part f.to part) ≡ renamed_object f.to (refilled x part)
   filled x part = ap (λ s. record (renamed_object f.to x) { term = s }) (statements_filled f.to x.term part)
 
-  served : (y : Object) (m : MethodTree) (caller : Option ℕ) (args : List Value) (work : Statements)
+  pub served : (y : Object) (m : MethodTree) (caller : Option ℕ) (args : List Value) (work : Statements)
       → serving (renamed_object f.to y) (renamed_method f.to m) (renamed_name f.to caller) (map (renamed_value f.to) args) (renamed_statements f.to work)
       ≡ renamed_object f.to (serving y m caller args work)
   served y m caller args work =
@@ -120,7 +120,7 @@ module _ (f : Renaming) where
   left_kept (At (R.Accept names) t) = refl
   left_kept (At (R.Choose cs) t) = refl
 
-  gave : (x : Object) → returned (renamed_object f.to x) ≡ renamed_object f.to (returned x)
+  pub gave : (x : Object) → returned (renamed_object f.to x) ≡ renamed_object f.to (returned x)
   gave x =
       ap (λ w. refilled (renamed_object f.to x) (AsStatements w)) (ap work_left (statements_found f.to [] x.term) ∙ left_kept (statements_redex [] x.term))
       ∙ filled x (AsStatements (work_left (statements_redex [] x.term)))
@@ -129,7 +129,7 @@ module _ (f : Renaming) where
   made k = ap (λ s. record { class = k.name.name.0; vars = s; term = renamed_statements f.to k.body; fault = None }) (nil_store_renamed f.to same_names k.vars)
 
   -- what is tested of an action
-  local_renamed : (x : Object) (a : Action) → local_step (renamed_object f.to x) (renamed_action f.to a) ≡ option_map (renamed_object f.to) (local_step x a)
+  pub local_renamed : (x : Object) (a : Action) → local_step (renamed_object f.to x) (renamed_action f.to a) ≡ option_map (renamed_object f.to) (local_step x a)
   local_renamed x (A.Local term vars) = refl
   local_renamed x A.Finished = refl
   local_renamed x (A.Fault e) = refl
@@ -259,7 +259,7 @@ module _ (f : Renaming) where
   only_if true v = refl
   only_if false v = refl
 
-  offer_renamed : (a : Action) (m : ℕ) → offer (renamed_action f.to a) m ≡ option_map (renamed_offer f.to) (offer a m)
+  pub offer_renamed : (a : Action) (m : ℕ) → offer (renamed_action f.to a) m ≡ option_map (renamed_offer f.to) (offer a m)
   offer_renamed (A.Answer names) m = only_if (names_method names m) (record { names = names; work = T.Done })
   offer_renamed (A.Select cs) m = select_renamed cs m
   offer_renamed (A.Send b n args) m = refl
@@ -288,7 +288,7 @@ module _ (f : Renaming) where
   at_renamed (c ∷ cs) zero = refl
   at_renamed (c ∷ cs) (suc i) = at_renamed cs i
 
-  picked_renamed : (a : Action) (i : ℕ) → picked (renamed_action f.to a) i ≡ option_map (renamed_statements f.to) (picked a i)
+  pub picked_renamed : (a : Action) (i : ℕ) → picked (renamed_action f.to a) i ≡ option_map (renamed_statements f.to) (picked a i)
   picked_renamed (A.Select cs) zero = refl
   picked_renamed (A.Select cs) (suc i) = ap plain_choice (at_renamed cs i) ∙ plain_renamed (slice_get cs i)
   picked_renamed (A.Answer names) i = refl

@@ -1,6 +1,6 @@
--- Worked programs, which compute: one that is stuck, and one with three configurations to keep that is never stuck or
--- faulty.
-use Rattle.std.proofs.Common.{◌≡◌, inl, inr, refl, sym, ap, ◌∙◌, subst, ℕ, pos, List, [], ◌∷◌, ◌++◌, Option, Some, None}
+-- Worked programs, which compute: one that is stuck, one with three configurations to keep that is never stuck or
+-- faulty, and callers that are caught or dead.
+use Rattle.std.proofs.Common.{◌≡◌, true, false, inl, inr, refl, sym, ap, ◌∙◌, subst, ℕ, pos, List, [], ◌∷◌, ◌++◌, Option, Some, None}
 use Rattle.run_types.specs.declared.types.Value.{Value}
 use Rattle.run_types.specs.declared.types.Value.TheVariants as V
 use Rattle.run_types.specs.declared.types.NameId.{NameId}
@@ -12,14 +12,20 @@ use Rattle.run_types.specs.declared.types.Kind.{Kind}
 use Rattle.run_types.specs.declared.types.Kind.TheVariants as K
 use Rattle.pool_syntax.specs.declared.tree.Named.{Named}
 use Rattle.pool_syntax.specs.declared.tree.Var.{Var}
-use Rattle.pool_syntax.specs.Terms.{Expression, Literal, Me, Variable, Create, Infix, Send, NoArgs, Arg, Assign, Write, Answer, Done, Then, MethodTree, ClassTree, ProgramTree}
+use Rattle.pool_syntax.specs.Terms.{Expression, Literal, Me, Variable, Create, Infix, Send, NoArgs, Arg, Assign, Write, Do, While, Answer, Done, Then, MethodTree, ClassTree, ProgramTree}
 use Rattle.run_types.specs.Partial.{◌>>=◌}
 use Rattle.run_types.proofs.Laws.{same_some}
 use Rattle.pool_relation.specs.Configuration.{Configuration}
 use Rattle.pool_relation.specs.Transition.{transition, run, start}
 use Rattle.reachability.specs.Search.{IsReached, IsStuck, IsFaulty, WaitsAt, IsIn, Settles, Settled}
 use Rattle.search_laws.specs.Renamed.{IsNameless}
-use Rattle.reachability.specs.Labels.{labels_to_try, IsTried}
+use Rattle.reachability.specs.Labels.{labels_to_try}
+use Rattle.search_laws.specs.Tried.{IsTried}
+use Rattle.search_laws.specs.Dead.{IsDead, HasDead}
+use Rattle.search_laws.specs.Caught.{is_caught}
+use Rattle.search_laws.proofs.Dead.{stuck_is_dead}
+use Rattle.search_laws.proofs.Caught.{caught_is_dead}
+use Rattle.search_laws.proofs.CaughtWalk.{is_told_caught}
 use Rattle.search_laws.proofs.AllLabels.{at_end_by_trying}
 use Rattle.search_laws.proofs.ChoiceFreeRuns.{never_stuck_after_settling}
 use Rattle.search_laws.proofs.AllLabelsTried.{settles_by, whole_by_trying, nobody_waits, nobody_faulty}
@@ -171,3 +177,56 @@ never_stuck = never_stuck_after_settling program kept nameless (whole_by_trying 
 
 never_faulty : (d : Configuration) → IsReached program d → ¬ (IsFaulty d)
 never_faulty = never_faulty_after_settling program kept nameless (whole_by_trying program kept is_tried) none_faulty
+
+-- an object that calls itself is caught, so it is dead
+itself_caught : is_caught itself (reached itself (L.Local 0 ∷ [])) 0 ≡ true
+itself_caught = refl
+
+itself_dead : IsDead itself (reached itself (L.Local 0 ∷ [])) 0
+itself_dead = caught_is_dead itself (reached itself (L.Local 0 ∷ [])) 0 (is_told_caught itself (reached itself (L.Local 0 ∷ [])) 0 itself_caught)
+
+-- Endless 5, Main 6: the same beside an object that goes on for ever
+abbrev endless : ClassTree
+endless = record { name = named 5; vars = []; methods = []; body = Then (While (Literal (V.Bool true) 0) Done) Done }
+
+abbrev beside : ProgramTree
+beside = endless ∷ record { name = named 6; vars = []; methods = ask ∷ []; body = Then (Do (Create 5 0)) (Then (Write (Send (Me 0) 1 NoArgs 0)) Done) } ∷ []
+
+abbrev called : List Label
+called = L.New 0 1 (name 5) ∷ L.Local 0 ∷ L.Local 0 ∷ []
+
+goes_on : transition beside (reached beside called) (L.Local 1) ≡ Some (reached beside (called ++ L.Local 1 ∷ []))
+goes_on = refl
+
+beside_caught : is_caught beside (reached beside called) 0 ≡ true
+beside_caught = refl
+
+-- Gate 7, enter 1, leave 8, Main 9, g 4: the called object is at an answer to another method. So the caller is not
+-- caught, but since no label is possible, it is dead.
+abbrev leave : MethodTree
+leave = record { name = named 8; params = []; locals = []; outcome = None; outcome_pos = 0; body = Done; value = Literal V.Nil 0; post = Done }
+
+abbrev gated : ProgramTree
+gated =
+    record { name = named 7; vars = []; methods = ask ∷ leave ∷ []; body = Then (Answer (named 8 ∷ [])) Done }
+    ∷ record { name = named 9; vars = var 4 (K.Class (name 7)) ∷ []; methods = []; body = Then (Assign 4 0 (Create 7 0)) (Then (Write (Send (read 4) 1 NoArgs 0)) Done) } ∷ []
+
+abbrev before_gate : List Label
+before_gate = L.New 0 1 (name 7) ∷ L.Local 0 ∷ L.Local 0 ∷ []
+
+gate_not_caught : is_caught gated (reached gated before_gate) 0 ≡ false
+gate_not_caught = refl
+
+gate_dead : HasDead gated (reached gated before_gate)
+gate_dead =
+    stuck_is_dead gated (reached gated before_gate)
+    (record { at_end = at_end_by_trying gated (reached gated before_gate) 2 refl (refl, tt); name = 0; waits = record { object = _; there = refl; sound = refl; waits = refl } })
+
+-- Empty 5, Main 9, e 4: the caller of an object that has finished is caught
+abbrev finished : ProgramTree
+finished =
+    record { name = named 5; vars = []; methods = ask ∷ []; body = Done }
+    ∷ record { name = named 9; vars = var 4 (K.Class (name 5)) ∷ []; methods = []; body = Then (Assign 4 0 (Create 5 0)) (Then (Write (Send (read 4) 1 NoArgs 0)) Done) } ∷ []
+
+finished_caught : is_caught finished (reached finished (L.New 0 1 (name 5) ∷ L.Local 0 ∷ L.Local 0 ∷ [])) 0 ≡ true
+finished_caught = refl

@@ -170,7 +170,7 @@ item_back : (f : Renaming) (i : Item) → renamed_item f.to (renamed_item f.from
 item_back f (I.Value v) = ap I.Value (values_back f v)
 item_back f (I.Text s) = refl
 
-label_back : (f : Renaming) (l : Label) → renamed_label f.to (renamed_label f.from l) ≡ l
+pub label_back : (f : Renaming) (l : Label) → renamed_label f.to (renamed_label f.from l) ≡ l
 label_back f (L.Local o) = ap L.Local (f.to_from o)
 label_back f (L.New o n k) = ap (λ a. L.New a (f.to (f.from n)) k) (f.to_from o) ∙ ap (λ a. L.New o a k) (f.to_from n)
 label_back f (L.Answer b o m args) =
@@ -201,7 +201,7 @@ at_end_kept f p d e less same ended l =
     nothing u v i Neither = refl
     nothing u v i (Both r) = absurd (cc)
 
-call_kept : (f : ℕ → ℕ) (a : Action) → is_in_call (renamed_action f a) ≡ is_in_call a
+pub call_kept : (f : ℕ → ℕ) (a : Action) → is_in_call (renamed_action f a) ≡ is_in_call a
 call_kept f A.Finished = refl
 call_kept f (A.Local term vars) = refl
 call_kept f (A.Fault e) = refl
@@ -215,7 +215,7 @@ call_kept f (A.Return k v) = refl
 call_kept f (A.Waits b m) = refl
 call_kept f A.Stuck = refl
 
-left_over_kept : (f : ℕ → ℕ) (a : Action) → is_left_over (renamed_action f a) ≡ is_left_over a
+pub left_over_kept : (f : ℕ → ℕ) (a : Action) → is_left_over (renamed_action f a) ≡ is_left_over a
 left_over_kept f A.Finished = refl
 left_over_kept f (A.Local term vars) = refl
 left_over_kept f (A.Fault e) = refl
@@ -245,7 +245,7 @@ stuck_kept f p d e less same stuck =
       };
     }
 
-some_kept : (f : ℕ → ℕ) (ms : List Message) → has_some (map (renamed_message f) ms) ≡ has_some ms
+pub some_kept : (f : ℕ → ℕ) (ms : List Message) → has_some (map (renamed_message f) ms) ≡ has_some ms
 some_kept f [] = refl
 some_kept f (m ∷ ms) = refl
 

@@ -1,3 +1,10 @@
 -- Internal: what it does not.
 pub mod Renamed
 pub mod ClosedLists
+pub mod Dead
+pub mod Caught
+pub mod Stubborn
+pub mod PutOff
+pub mod Outcomes
+pub mod Moves
+pub mod Tried

@@ -11,18 +11,7 @@ use Rattle.pool_syntax.specs.Terms.{If, While, Answer, Select, Serve, Statements
 use Rattle.run_types.specs.Message.{Message}
 use Rattle.pool_relation.specs.Action.{Object}
 use Rattle.pool_relation.specs.Configuration.{Configuration, object_of, messages_of}
-
--- a one-to-one map of all names onto all names, with its inverse
-pub record Renaming : Type 0 where
-  pub to : ℕ → ℕ
-  pub from : ℕ → ℕ
-  pub from_to : (n : ℕ) → from (to n) ≡ n
-  pub to_from : (n : ℕ) → to (from n) ≡ n
-
--- the value, with each name mapped
-abbrev pub renamed_value : (ℕ → ℕ) → Value → Value
-renamed_value f (V.Ref n) = V.Ref (f n)
-renamed_value f v = v
+pub use Rattle.reachability.specs.Renaming.{Renaming, renamed_value, renamed_item}
 
 abbrev pub renamed_store : (ℕ → ℕ) → Store → Store
 renamed_store f [] = []
@@ -85,10 +74,6 @@ renamed_object f x = record { class = x.class; vars = renamed_store f x.vars; te
 
 abbrev pub renamed_message : (ℕ → ℕ) → Message → Message
 renamed_message f m = record { method = m.method; args = map (renamed_value f) m.args }
-
-abbrev pub renamed_item : (ℕ → ℕ) → Item → Item
-renamed_item f (I.Value v) = I.Value (renamed_value f v)
-renamed_item f (I.Text s) = I.Text s
 
 abbrev pub renamed_label : (ℕ → ℕ) → Label → Label
 renamed_label f (L.Local o) = L.Local (f o)

@@ -1,4 +1,5 @@
-//! What a search over all runs may leave out: names of objects, and orders of transitions that need no choice.
+//! What a search over all runs may leave out (names of objects, orders of transitions that need no choice, and labels
+//! outside a stubborn set), and what it tells: the ends of runs, their outputs, errors and dead objects.
 //!
 //! Definitions and laws only.
 //!

@@ -1,15 +1,26 @@
 //! The theorems about searches. Each is the contract of a function with an empty body.
-ghost use Rattle.std.specs.Prelude.{◌≡◌, ℕ, List, None, Some, true};
+ghost use Rattle.std.specs.Prelude.{◌≡◌, ℕ, List, Option, None, Some, map, true};
 ghost use Rattle.pool_syntax.specs.declared.tree.Program.{Program};
+ghost use Rattle.run_types.specs.declared.types.Item.{Item};
 ghost use Rattle.run_types.specs.declared.types.Label.{Label};
 ghost use Rattle.pool_syntax.specs.Terms.{ProgramTree};
 ghost use Rattle.pool_syntax.specs.TreeOf.{program_of};
-ghost use Rattle.pool_relation.specs.Configuration.{Configuration, object_of};
-ghost use Rattle.pool_relation.specs.Transition.{transition};
-ghost use Rattle.search_laws.specs.Renamed.{Renaming, renamed_program, renamed_label, IsRenamed, IsNameless};
-ghost use Rattle.reachability.specs.Labels.{IsAmong, labels_to_try, IsTried};
-ghost use Rattle.reachability.specs.Search.{IsReached, IsAtEnd, IsStuck, IsUnfinished, IsFaulty, IsIn, IsClosedAfterSettling, names_next};
+ghost use Rattle.run_types.specs.Message.{Message};
+ghost use Rattle.pool_relation.specs.Action.{Object};
+ghost use Rattle.pool_relation.specs.Configuration.{Configuration, object_of, put_object};
+ghost use Rattle.pool_relation.specs.Transition.{transition, run};
+ghost use Rattle.search_laws.specs.Renamed.{Renaming, renamed_item, renamed_program, renamed_label, IsRenamed, IsNameless};
+ghost use Rattle.reachability.specs.Labels.{IsAmong, labels_to_try};
+ghost use Rattle.search_laws.specs.Tried.{IsTried};
+ghost use Rattle.reachability.specs.Search.{Settles, WaitsAt, IsReached, IsAtEnd, IsStuck, IsUnfinished, IsFaulty, IsIn, IsClosedAfterSettling, names_next};
+ghost use Rattle.reachability.specs.Outcomes.{EndsWith, IsOneOf, all_name_none};
 ghost use Rattle.search_laws.specs.ClosedLists.{IsClosedSearch};
+ghost use Rattle.search_laws.specs.Dead.{IsDead, HasDead, CanGoOn, beside, IsClosedBeside, IsReachedInOrder};
+ghost use Rattle.search_laws.specs.Stubborn.{IsStubborn, IsAwaited, is_served, IsWholeForEnds};
+ghost use Rattle.search_laws.specs.PutOff.{IsClosedByChoices, IsWholeByChoices};
+ghost use Rattle.search_laws.specs.Caught.{IsCaught, is_caught};
+ghost use Rattle.search_laws.specs.Outcomes.{Passed, IsWholeWith, IsWholeWithChoices, IsKeptEnd, EndsAlike, HasAllEnds};
+ghost use Rattle.search_laws.specs.Moves.{by_moves, Rests, posted, HaveReceivers};
 
 /// A one-to-one renaming of objects keeps transitions. The renamed label is possible in the renamed configuration
 /// exactly if the label is possible, and then leads to the renamed configuration after it.
@@ -32,8 +43,9 @@ pub fn one_name_shows_the_end()
         → ((l : Label) → names_next n l ≡ true → transition p c l ≡ None) → IsAtEnd p c }
 {}
 
-/// A closed list misses nothing: if none of its configurations is stuck, unfinished or faulty, no run leads to such a
-/// configuration. A list is closed if it has the start and no label leaves it that names new objects in order.
+/// A closed list misses nothing: if none of its configurations is stuck, unfinished or faulty, or has a dead object, no
+/// run leads to such a configuration. A list is closed if it has the start and no label leaves it that names new
+/// objects in order.
 pub fn a_whole_list_misses_nothing()
     ensures stuck { (p : ProgramTree) (es : List (ℕ × Configuration)) (d : Configuration) → IsNameless p → IsClosedSearch p es
         → ((n : ℕ) (c : Configuration) → IsIn n c es → ¬ (IsStuck p c)) → IsReached p d → ¬ (IsStuck p d) }
@@ -41,11 +53,13 @@ pub fn a_whole_list_misses_nothing()
         → ((n : ℕ) (c : Configuration) → IsIn n c es → ¬ (IsUnfinished p c)) → IsReached p d → ¬ (IsUnfinished p d) }
     ensures faulty { (p : ProgramTree) (es : List (ℕ × Configuration)) (d : Configuration) → IsNameless p → IsClosedSearch p es
         → ((n : ℕ) (c : Configuration) → IsIn n c es → ¬ (IsFaulty c)) → IsReached p d → ¬ (IsFaulty d) }
+    ensures dead { (p : ProgramTree) (es : List (ℕ × Configuration)) (d : Configuration) → IsNameless p → IsClosedSearch p es
+        → ((n : ℕ) (c : Configuration) → IsIn n c es → ¬ (HasDead p c)) → IsReached p d → ¬ (HasDead p d) }
 {}
 
 /// A search may follow transitions without choice in one order and keep only the configurations after them. If none of
-/// those is stuck, unfinished or faulty, no run leads to such a configuration. The transitions without choice are
-/// local ones, writes, asynchronous sends, returns and errors.
+/// those is stuck, unfinished or faulty, or has a dead object, no run leads to such a configuration. The transitions
+/// without choice are local ones, writes, asynchronous sends, returns and errors.
 pub fn some_transitions_need_no_choice()
     ensures stuck { (p : ProgramTree) (es : List (ℕ × Configuration)) (d : Configuration) → IsNameless p → IsClosedAfterSettling p es
         → ((n : ℕ) (c : Configuration) → IsIn n c es → ¬ (IsStuck p c)) → IsReached p d → ¬ (IsStuck p d) }
@@ -53,6 +67,8 @@ pub fn some_transitions_need_no_choice()
         → ((n : ℕ) (c : Configuration) → IsIn n c es → ¬ (IsUnfinished p c)) → IsReached p d → ¬ (IsUnfinished p d) }
     ensures faulty { (p : ProgramTree) (es : List (ℕ × Configuration)) (d : Configuration) → IsNameless p → IsClosedAfterSettling p es
         → ((n : ℕ) (c : Configuration) → IsIn n c es → ¬ (IsFaulty c)) → IsReached p d → ¬ (IsFaulty d) }
+    ensures dead { (p : ProgramTree) (es : List (ℕ × Configuration)) (d : Configuration) → IsNameless p → IsClosedAfterSettling p es
+        → ((n : ℕ) (c : Configuration) → IsIn n c es → ¬ (HasDead p c)) → IsReached p d → ¬ (HasDead p d) }
 {}
 
 /// `labels_to_try` is complete: it contains each possible label that gives a new object the next name.
@@ -63,4 +79,103 @@ pub fn no_other_label_is_possible()
 /// A list of which all labels were tried is closed.
 pub fn a_tried_list_is_whole()
     ensures { (p : ProgramTree) (es : List (ℕ × Configuration)) → IsTried p es → IsClosedAfterSettling p es }
+{}
+
+/// A search can tell everything that runs write until no label is possible. It keeps with each configuration what was
+/// written on the way to it. It may follow transitions without choice in one order, except writes. If only one object
+/// writes in the configurations that are kept, it may also follow the writes of this object. A list that is whole for
+/// such a search has the end of each run, with what the run wrote, both under other names of objects. Ends that differ
+/// only in names are of one kind. So each run wrote, under other names, one of the outputs at the ends in the list. If
+/// these outputs name no object, it wrote exactly one of them.
+pub fn each_end_wrote_one_of_these()
+    ensures kept { (p : ProgramTree) (s : Option ℕ) (es : List Passed) (w : List Item) (d : Configuration) → IsNameless p → IsWholeWith p s es → EndsWith p w d → IsKeptEnd p es w d }
+    ensures alike { (f : Renaming) (p : ProgramTree) (c d : Configuration) → IsNameless p → IsRenamed f.to c d → IsAtEnd p c → EndsAlike p c d }
+    ensures nothing_else { (p : ProgramTree) (s : Option ℕ) (es : List Passed) (vs : List (List Item)) → IsNameless p → IsWholeWith p s es → HasAllEnds p es vs
+        → (w : List Item) (d : Configuration) → EndsWith p w d → (f : Renaming) × IsOneOf (map (renamed_item f.to) w) vs }
+    ensures whatever_the_names { (p : ProgramTree) (s : Option ℕ) (es : List Passed) (vs : List (List Item)) → IsNameless p → IsWholeWith p s es → HasAllEnds p es vs
+        → all_name_none vs ≡ true → (w : List Item) (d : Configuration) → EndsWith p w d → IsOneOf w vs }
+{}
+
+/// A dead object stays dead and does not change in any run.
+pub fn the_dead_stay_dead()
+    ensures { (p : ProgramTree) (c d : Configuration) (ls : List Label) (o : ℕ) → IsDead p c o → run p c ls ≡ Some d → IsDead p d o × (object_of d o ≡ object_of c o) }
+{}
+
+/// A caught object is dead: it waits in a cycle of calls, or along calls for an object that has finished or met an
+/// error. A stuck configuration has a dead object, since no label is possible.
+pub fn who_is_caught_is_dead()
+    ensures caught { (p : ProgramTree) (c : Configuration) (o : ℕ) → IsCaught p c o → IsDead p c o }
+    ensures stuck { (p : ProgramTree) (c : Configuration) → IsStuck p c → HasDead p c }
+{}
+
+/// A walk along the calls from an object tells exactly whether it is caught.
+pub fn a_walk_tells_the_caught()
+    ensures told { (p : ProgramTree) (c : Configuration) (o : ℕ) → IsCaught p c o → is_caught p c o ≡ true }
+    ensures true_of { (p : ProgramTree) (c : Configuration) (o : ℕ) → is_caught p c o ≡ true → IsCaught p c o }
+{}
+
+/// A closed list shows which objects are dead. If each object that waits in a configuration of the list can go on, no
+/// reached configuration has a dead object, and each object that waits in one can go on. Suppose instead that no label
+/// leaves the list or changes an object in it. If the object waits in a reached configuration of the list, it is dead.
+pub fn a_list_tells_the_dead()
+    ensures nobody { (p : ProgramTree) (es : List (ℕ × Configuration)) (d : Configuration) → IsNameless p → IsClosedAfterSettling p es
+        → ((n : ℕ) (c : Configuration) (o : ℕ) → IsIn n c es → WaitsAt p c o → CanGoOn p c o) → IsReached p d → ¬ (HasDead p d) }
+    ensures each_goes_on { (p : ProgramTree) (es : List (ℕ × Configuration)) (d : Configuration) (o : ℕ) → IsNameless p → IsClosedAfterSettling p es
+        → ((n : ℕ) (c : Configuration) (q : ℕ) → IsIn n c es → WaitsAt p c q → CanGoOn p c q) → IsReached p d → WaitsAt p d o → CanGoOn p d o }
+    ensures dead { (p : ProgramTree) (o n : ℕ) (es : List (ℕ × Configuration)) (c : Configuration) → IsNameless p → IsClosedBeside p o es → IsIn n c es
+        → IsReachedInOrder p n c → WaitsAt p c o → IsDead p c o }
+{}
+
+/// A search for ends may try only the labels of a stubborn set. If no configuration of its list is stuck or unfinished,
+/// no run leads to such a configuration. In a stubborn set one label stays possible, whatever other labels come first.
+/// Each label of it that is possible after other labels could also come before them.
+pub fn a_choice_of_labels_shows_every_end()
+    ensures stuck { (p : ProgramTree) (es : List (ℕ × Configuration)) (d : Configuration) → IsNameless p → IsWholeForEnds p es
+        → ((n : ℕ) (c : Configuration) → IsIn n c es → ¬ (IsStuck p c)) → IsReached p d → ¬ (IsStuck p d) }
+    ensures unfinished { (p : ProgramTree) (es : List (ℕ × Configuration)) (d : Configuration) → IsNameless p → IsWholeForEnds p es
+        → ((n : ℕ) (c : Configuration) → IsIn n c es → ¬ (IsUnfinished p c)) → IsReached p d → ¬ (IsUnfinished p d) }
+{}
+
+/// The labels of an object at `answer` or `select` are a stubborn set, if one of them is possible, and if only objects
+/// know its name that wait for it, have finished or have met an error. No other object can call it, send to it or learn
+/// its name before one of these labels.
+pub fn the_labels_of_one_are_enough()
+    ensures { (p : ProgramTree) (n b : ℕ) (c : Configuration) → IsNameless p → (h : IsAwaited p n b c) → (s : IsStubborn p n c (is_served b)) × (s.one ≡ h.one) }
+{}
+
+/// A search that keeps what was written may try only the labels of a stubborn set, if they write nothing. The
+/// conclusions are those of `each_end_wrote_one_of_these`.
+pub fn a_choice_of_labels_shows_all_that_is_written()
+    ensures kept { (p : ProgramTree) (es : List Passed) (w : List Item) (d : Configuration) → IsNameless p → IsWholeWithChoices p es → EndsWith p w d → IsKeptEnd p es w d }
+    ensures nothing_else { (p : ProgramTree) (es : List Passed) (vs : List (List Item)) → IsNameless p → IsWholeWithChoices p es → HasAllEnds p es vs
+        → (w : List Item) (d : Configuration) → EndsWith p w d → (f : Renaming) × IsOneOf (map (renamed_item f.to) w) vs }
+    ensures whatever_the_names { (p : ProgramTree) (es : List Passed) (vs : List (List Item)) → IsNameless p → IsWholeWithChoices p es → HasAllEnds p es vs
+        → all_name_none vs ≡ true → (w : List Item) (d : Configuration) → EndsWith p w d → IsOneOf w vs }
+{}
+
+/// A search with stubborn sets also finds faulty configurations and dead objects, if it puts off no label for ever.
+/// From each configuration of its list, labels that were tried lead to a configuration in which all labels were tried.
+/// The list then serves a search for ends too. If no configuration of it is faulty, no run leads to a faulty one. If
+/// each object that waits in it can go on, no reached configuration has a dead object. If no label that was tried
+/// leaves a part of it or changes an object in that part, and the object waits in a reached configuration of the part,
+/// it is dead.
+pub fn choices_that_lead_on_show_what_stays()
+    ensures ends { (p : ProgramTree) (es : List (ℕ × Configuration)) → IsWholeByChoices p es → IsWholeForEnds p es }
+    ensures faulty { (p : ProgramTree) (es : List (ℕ × Configuration)) (d : Configuration) → IsNameless p → IsWholeByChoices p es
+        → ((n : ℕ) (c : Configuration) → IsIn n c es → ¬ (IsFaulty c)) → IsReached p d → ¬ (IsFaulty d) }
+    ensures nobody { (p : ProgramTree) (es : List (ℕ × Configuration)) (d : Configuration) → IsNameless p → IsWholeByChoices p es
+        → ((n : ℕ) (c : Configuration) (o : ℕ) → IsIn n c es → WaitsAt p c o → CanGoOn p c o) → IsReached p d → ¬ (HasDead p d) }
+    ensures each_goes_on { (p : ProgramTree) (es : List (ℕ × Configuration)) (d : Configuration) (o : ℕ) → IsNameless p → IsWholeByChoices p es
+        → ((n : ℕ) (c : Configuration) (q : ℕ) → IsIn n c es → WaitsAt p c q → CanGoOn p c q) → IsReached p d → WaitsAt p d o → CanGoOn p d o }
+    ensures dead { (p : ProgramTree) (o n : ℕ) (es : List (ℕ × Configuration)) (c : Configuration) → IsNameless p → IsClosedByChoices p (beside o) es → IsIn n c es
+        → IsReachedInOrder p n c → WaitsAt p c o → IsDead p c o }
+{}
+
+/// Each transition is made of moves of single objects. The state and the name of an object determine its state after a
+/// move. After some moves of one object that need no choice, and no return, the object has a new state and has sent
+/// some messages. Transitions that need no choice lead to the configuration with that state and those messages.
+pub fn transitions_are_moves_of_objects()
+    ensures moves { (p : ProgramTree) (c : Configuration) (l : Label) → transition p c l ≡ by_moves p c l }
+    ensures by_itself { (p : ProgramTree) (o : ℕ) (c : Configuration) (x z : Object) (ms : List (ℕ × Message)) → HaveReceivers (put_object c o x) ms → Rests p o x ms z
+        → Settles p (put_object c o x) (put_object (posted c o ms) o z) }
 {}

@@ -5,7 +5,7 @@ ghost use Rattle.run_types.specs.declared.types.Label.{Label};
 ghost use Rattle.pool_relation.specs.Action.{Object, action};
 ghost use Rattle.pool_relation.specs.Configuration.{Configuration, object_of};
 ghost use Rattle.pool_relation.specs.Transition.{transition};
-ghost use Rattle.reachability.specs.Labels.{own_labels, object_labels, message_labels, labels_to_try, picks, takes};
+ghost use Rattle.reachability.specs.Labels.{own_labels, object_labels, message_labels, labels_to_try, picks, takes, is_silent};
 ghost use Rattle.reachability.specs.Search.{needs_no_choice};
 ghost use Rattle.stepper_terms.specs.Arguments.{now_args, now_names, now_choices};
 ghost use Rattle.stepper_objects.specs.Acts.{acted};
@@ -14,7 +14,7 @@ ghost use Rattle.pool_semantics.specs.PlainOf.{configuration_of, program_tree, i
 ghost use Rattle.pool_semantics.specs.Plains.{configuration};
 ghost use Rattle.pool_semantics.specs.Shown.{shown};
 ghost use Rattle.pool_semantics.specs.Sound.{Sound};
-ghost use Rattle.pool_semantics.specs.SearchQueries.{free_label, free_at};
+ghost use Rattle.pool_semantics.specs.SearchQueries.{free_label, free_at, silent_at};
 
 use crate::plain::Plain;
 use crate::plain::mail::Mail;
@@ -175,6 +175,17 @@ impl<'a> State<'a> {
             Some((thing, act)) => free_label(object, &thing.work, &act),
         }
     }
+
+    /// The same, but None if the label is a write.
+    fn silent_at(&self, object: u32) -> Option<Label>
+        requires { Sound (program_of self.now.program.now) (configuration self.now) }
+        ensures { result ≡ silent_at (program_of self.now.program.now) (configuration self.now) object }
+    {
+        match self.free_at(object) {
+            Some(Label::Write { .. }) => None,
+            label => label,
+        }
+    }
 }
 
 impl<'a> Plain<'a> {
@@ -201,6 +212,23 @@ impl<'a> Plain<'a> {
     {
         for (object, _thing) in &self.state.objects {
             let label = self.state.free_at(*object);
+            if label.is_some() {
+                return label;
+            }
+        }
+        None
+    }
+
+    /// A possible transition that needs no choice and writes nothing, so that its order in a run does not matter for
+    /// what is written. None exactly if there is none.
+    pub fn without_write(&self) -> Option<Label>
+        requires { is_spent self.now ≡ false }
+        ensures silent { IfSome result (λ l. is_silent l ≡ true) }
+        ensures possible { IfSome result (λ l. (d : Configuration) × (transition (program_tree self.now) (configuration_of self.now) l ≡ Some d)) }
+        ensures none { IfNone result ((l : Label) → is_silent l ≡ true → transition (program_tree self.now) (configuration_of self.now) l ≡ None) }
+    {
+        for (object, _thing) in &self.state.objects {
+            let label = self.state.silent_at(*object);
             if label.is_some() {
                 return label;
             }

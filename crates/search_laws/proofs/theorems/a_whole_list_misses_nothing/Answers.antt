@@ -1,3 +1,4 @@
+use Rattle.search_laws.proofs.Dead.{never_dead}
 use Rattle.search_laws.proofs.SearchCompleteness.{never_stuck, never_unfinished, never_faulty}
 use Rattle.search_laws.proofs.theorems.a_whole_list_misses_nothing.Goals as goal
 
@@ -9,3 +10,6 @@ returns-clause-unfinished c = λ p es d less whole none reached. never_unfinishe
 
 pub returns-clause-faulty : goal.returns-clause-faulty
 returns-clause-faulty c = λ p es d less whole none reached. never_faulty p es less whole none d reached
+
+pub returns-clause-dead : goal.returns-clause-dead
+returns-clause-dead c = λ p es d less whole none reached. never_dead p es less whole none d reached

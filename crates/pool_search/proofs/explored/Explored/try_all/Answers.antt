@@ -3,7 +3,7 @@ use Rattle.std.proofs.lemmas.List.{take_more}
 use Rattle.pool_syntax.specs.Terms.{ProgramTree}
 use Rattle.pool_relation.specs.Configuration.{Configuration}
 use Rattle.pool_semantics.specs.PlainOf.{configuration_of}
-use Rattle.reachability.specs.Labels.{AllLeadInto}
+use Rattle.search_laws.specs.Tried.{AllLeadInto}
 use Rattle.pool_search.specs.Entries.{entries, searched}
 use Rattle.pool_search.specs.Progress.{HasTried}
 use Rattle.pool_search.proofs.ListGrowth.{and_then}

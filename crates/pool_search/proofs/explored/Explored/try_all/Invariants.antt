@@ -1,6 +1,6 @@
 use Rattle.std.proofs.Common.{◌≡◌, false, take}
 use Rattle.pool_semantics.specs.PlainOf.{configuration_of, program_tree, is_spent}
-use Rattle.reachability.specs.Labels.{AllLeadInto}
+use Rattle.search_laws.specs.Tried.{AllLeadInto}
 use Rattle.pool_search.specs.Entries.{entries, searched}
 use Rattle.pool_search.specs.Progress.{Grows}
 use Rattle.pool_search.proofs.explored.Explored.try_all.Given as goal

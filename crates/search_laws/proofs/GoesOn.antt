@@ -1,0 +1,92 @@
+-- If each object that waits in a configuration of a whole list can go on, so can each object that waits in a reached
+-- configuration.
+use Rattle.std.proofs.Common.{◌≡◌, refl, sym, ap, ◌∙◌, subst, ℕ, List, [], ◌∷◌, ◌++◌, map, Option, Some, Bool, true, false, ◌||◌}
+use Rattle.run_types.specs.declared.types.Label.{Label}
+use Rattle.pool_syntax.specs.Terms.{ProgramTree}
+use Rattle.pool_relation.specs.Configuration.{Configuration}
+use Rattle.pool_relation.specs.Transition.{transition, run}
+use Rattle.pool_relation.proofs.Laws.{joined}
+use Rattle.search_laws.specs.Renamed.{Renaming, renamed_program, renamed_label, IsRenamed, IsNameless}
+use Rattle.reachability.specs.Search.{IsReached, WaitsAt, IsIn, IsClosedAfterSettling}
+use Rattle.search_laws.specs.Dead.{some_changes, CanGoOn}
+use Rattle.search_laws.proofs.RenamedTransition.{Alike, Neither, Both}
+use Rattle.search_laws.proofs.RenamedRun.{run_renamed}
+use Rattle.search_laws.proofs.ReducedSearch.{joined_step}
+use Rattle.search_laws.proofs.Dead.{unchanged_by, some_renamed, labels_back, waits_kept}
+use Rattle.search_laws.specs.PutOff.{IsWholeByChoices}
+use Rattle.search_laws.proofs.ByChoices.{comes_in_order, found_by_choices, as_choices}
+
+-- a run leads from x to y
+record Toward (p : ProgramTree) (x y : Configuration) : Type 0 where
+  labels : List Label
+  leads : run p x labels ≡ Some y
+
+-- from d, under other names, a run leads into the list
+record LeadsIn (p : ProgramTree) (es : List (ℕ × Configuration)) (d : Configuration) : Type 0 where
+  names : Renaming
+  other : Configuration
+  same : IsRenamed names.to d other
+  next : ℕ
+  seen : Configuration
+  is_in : IsIn next seen es
+  toward : Toward p other seen
+
+one_more : (p : ProgramTree) (x c e : Configuration) (k : Label) → transition p c k ≡ Some e → Toward p x c → Toward p x e
+one_more p x c e k t h = record { labels = h.labels ++ k ∷ []; leads = joined p x c h.labels (k ∷ []) h.leads ∙ joined_step p c e e k [] t refl }
+
+leads_in : (p : ProgramTree) (es : List (ℕ × Configuration)) → IsNameless p → IsWholeByChoices p es → (d : Configuration) → IsReached p d → LeadsIn p es d
+leads_in p es less whole d reached =
+    let r = comes_in_order p less d reached in
+    let s = found_by_choices (Toward p r.to) p (λ c e k t h. one_more p r.to c e k t h) es whole r.first r.to r.labels r.starts r.orders r.leads (record { labels = []; leads = refl }) in
+    record { names = r.names; other = r.to; same = r.same; next = s.next; seen = s.seen; is_in = s.is_in; toward = s.holds }
+
+-- a run from d with the names mapped back, for a run from the renamed configuration to g
+record Back (f : Renaming) (p : ProgramTree) (d g : Configuration) (ls : List Label) : Type 0 where
+  to : Configuration
+  leads : run p d (map (renamed_label f.from) ls) ≡ Some to
+  same : IsRenamed f.to to g
+
+module _ (f : Renaming) (p : ProgramTree) (d e : Configuration) (less : IsNameless p) (same : IsRenamed f.to d e) where
+  back : (g : Configuration) (ls : List Label) → run p e ls ≡ Some g → Back f p d g ls
+  back g ls r = by (run p d (map (renamed_label f.from) ls)) (run (renamed_program f.to p) e (map (renamed_label f.to) (map (renamed_label f.from) ls))) refl there (run_renamed f p d e (map (renamed_label f.from) ls) same)
+    where
+      there : run (renamed_program f.to p) e (map (renamed_label f.to) (map (renamed_label f.from) ls)) ≡ Some g
+      there = ap (λ q. run q e (map (renamed_label f.to) (map (renamed_label f.from) ls))) (less f.to) ∙ ap (run p e) (labels_back f ls) ∙ r
+
+      by : (u v : Option Configuration) → run p d (map (renamed_label f.from) ls) ≡ u → v ≡ Some g → Alike f.to u v → Back f p d g ls
+      by u v i j Neither = absurd (cc)
+      by u v i j (Both {c = c} {d = b} s) = let is : b ≡ g = cc in record { to = c; leads = i; same = subst (λ (y : Configuration). IsRenamed f.to c y) is s }
+
+  on_back : (o : ℕ) → CanGoOn p e (f.to o) → CanGoOn p d o
+  on_back o on =
+      let b = back on.last on.labels on.leads in
+      record { last = b.to; labels = map (renamed_label f.from) on.labels; leads = b.leads; changed = sym (some_renamed f o (map (renamed_label f.from) on.labels)) ∙ ap (some_changes (f.to o)) (labels_back f on.labels) ∙ on.changed }
+
+some_joined : (o : ℕ) (ls ms : List Label) → some_changes o ms ≡ true → some_changes o (ls ++ ms) ≡ true
+some_joined o [] ms h = h
+some_joined o (l ∷ ls) ms h = either _ _ (some_joined o ls ms h)
+  where
+    either : (a b : Bool) → b ≡ true → (a || b) ≡ true
+    either true b i = refl
+    either false b i = i
+
+-- if each object that waits in the list can go on, so can each that waits in a reached configuration
+pub all_go_on_by_choices : (p : ProgramTree) (es : List (ℕ × Configuration)) → IsNameless p → IsWholeByChoices p es → ((n : ℕ) (c : Configuration) (o : ℕ) → IsIn n c es → WaitsAt p c o → CanGoOn p c o)
+    → (d : Configuration) (o : ℕ) → IsReached p d → WaitsAt p d o → CanGoOn p d o
+all_go_on_by_choices p es less whole on d o reached waits =
+    let h = leads_in p es less whole d reached in
+    on_back h.names p d h.other less h.same o (by h.other h.names (waits_kept h.names p d h.other less h.same o waits) h.next h.seen h.is_in h.toward)
+  where
+    by : (x : Configuration) (g : Renaming) → WaitsAt p x (g.to o) → (n : ℕ) (e : Configuration) → IsIn n e es → Toward p x e → CanGoOn p x (g.to o)
+    by x g w n e i t = at (some_changes (g.to o) t.labels) refl
+      where
+        at : (b : Bool) → some_changes (g.to o) t.labels ≡ b → CanGoOn p x (g.to o)
+        at true j = record { last = e; labels = t.labels; leads = t.leads; changed = j }
+        at false j =
+            let there = unchanged_by p x e t.labels (g.to o) w.object w.there t.leads j in
+            let r = on n e (g.to o) i (record { object = w.object; there = there; sound = w.sound; waits = w.waits }) in
+            record { last = r.last; labels = t.labels ++ r.labels; leads = joined p x e t.labels r.labels t.leads ∙ r.leads; changed = some_joined (g.to o) t.labels r.labels r.changed }
+
+pub all_go_on : (p : ProgramTree) (es : List (ℕ × Configuration)) → IsNameless p → IsClosedAfterSettling p es → ((n : ℕ) (c : Configuration) (o : ℕ) → IsIn n c es → WaitsAt p c o → CanGoOn p c o)
+    → (d : Configuration) (o : ℕ) → IsReached p d → WaitsAt p d o → CanGoOn p d o
+all_go_on p es less whole = all_go_on_by_choices p es less (as_choices p es whole)

@@ -1,0 +1,43 @@
+-- Lists of a search with stubborn sets that puts off no label for ever: from each configuration, labels that were tried
+-- lead on to a configuration in which all labels were tried.
+use Rattle.std.specs.Prelude.{◌≡◌, ℕ, List, Some, Bool, true, ◌<◌}
+use Rattle.run_types.specs.declared.types.Label.{Label}
+use Rattle.pool_syntax.specs.Terms.{ProgramTree}
+use Rattle.pool_relation.specs.Configuration.{Configuration}
+use Rattle.pool_relation.specs.Transition.{transition, start}
+use Rattle.reachability.specs.Search.{IsIn, IsInOrder, after, names_next}
+use Rattle.search_laws.specs.Stubborn.{IsStubborn}
+use Rattle.search_laws.specs.Dead.{SettlesFreely}
+
+-- if the label is possible, it is free, and leads into the list after some free transitions that need no choice
+abbrev pub LeadsFreely : ProgramTree → (Label → Bool) → List (ℕ × Configuration) → ℕ → Configuration → Label → Type 0
+LeadsFreely p free es n c l = (d : Configuration) → names_next n l ≡ true → transition p c l ≡ Some d
+    → (free l ≡ true) × ((e : Configuration) × SettlesFreely p free d e × IsIn (after n l) e es)
+
+-- All labels were tried in c, or all labels of a stubborn set. In the second case, the label of it that stays possible
+-- leads to another configuration of the list of which the same holds.
+pub data IsTriedInTheEnd (p : ProgramTree) (free : Label → Bool) (es : List (ℕ × Configuration)) : ℕ → Configuration → Type 0 where
+  Every : {n : ℕ} {c : Configuration} → ((l : Label) → LeadsFreely p free es n c l) → IsTriedInTheEnd p free es n c
+  Chosen : {n : ℕ} {c : Configuration} (chosen : Label → Bool) (stubborn : IsStubborn p n c chosen) → ((l : Label) → chosen l ≡ true → LeadsFreely p free es n c l)
+      → (d e : Configuration) → transition p c stubborn.one ≡ Some d → SettlesFreely p free d e → IsIn n e es → IsTriedInTheEnd p free es n e → IsTriedInTheEnd p free es n c
+
+-- the same holds of each configuration of the list, so that no label is put off for ever
+pub record IsClosedByChoices (p : ProgramTree) (free : Label → Bool) (es : List (ℕ × Configuration)) : Type 0 where
+  pub in_order : (n : ℕ) (c : Configuration) → IsIn n c es → IsInOrder c
+  pub in_the_end : (n : ℕ) (c : Configuration) → IsIn n c es → IsTriedInTheEnd p free es n c
+
+-- all labels
+abbrev pub any : Label → Bool
+any l = true
+
+-- the start leads into such a list, with all labels free
+pub record IsWholeByChoices (p : ProgramTree) (es : List (ℕ × Configuration)) : Type 0 where
+  pub begins : (c : Configuration) → start p 0 ≡ Some c → (e : Configuration) × SettlesFreely p any c e × IsIn 1 e es
+  pub closed : IsClosedByChoices p any es
+
+-- The same for a list with places, as a search knows it that appends what it reaches. The label that stays possible
+-- leads to a later place.
+pub data IsTriedAt (p : ProgramTree) (free : Label → Bool) (es : List (ℕ × Configuration)) (At : ℕ → ℕ → Configuration → Type 0) (i n : ℕ) (c : Configuration) : Type 0 where
+  AllThere : ((l : Label) → LeadsFreely p free es n c l) → IsTriedAt p free es At i n c
+  SomeThere : (chosen : Label → Bool) (stubborn : IsStubborn p n c chosen) → ((l : Label) → chosen l ≡ true → LeadsFreely p free es n c l)
+      → (d e : Configuration) → transition p c stubborn.one ≡ Some d → SettlesFreely p free d e → (j : ℕ) → i < j → At j n e → IsTriedAt p free es At i n c
