@@ -10,4 +10,4 @@ mod judge;
 mod read;
 
 pub use fault::PlacementFault;
-pub use read::read_placement;
+pub use read::{read_placement, read_routed};

@@ -1,5 +1,5 @@
 //! Reads a placement.
-ghost use Rattle.std.specs.Prelude.{◌≡◌, ◌+◌, ◌*◌, ◌≤◌, [], length, drop, unwrap_or, IfOk, IfErr, IfNone, IfSome, OnOk, Ok, Some, None};
+ghost use Rattle.std.specs.Prelude.{◌≡◌, ◌+◌, ◌*◌, ◌≤◌, [], length, drop, unwrap_or, IfOk, IfErr, IfSome, OnOk, Ok, Some, None};
 ghost use Rattle.std.specs.List.{All};
 ghost use Rattle.text_scan.specs.Lines.{lines, words as line_words};
 ghost use Rattle.text_scan.specs.ContentLines.{kept_from};
@@ -19,7 +19,7 @@ use crate::judge::{is_from_one, judge};
 use code_semantics::{ClassCode, Unit};
 use run_types::{LinkId, List, Place, Placement, Route};
 use std::alloc::{AllocError, Global};
-use table_routing::{Table, TableFault};
+use table_routing::{RoutedPlacement, TableFault};
 use text_scan::{count_lines, next_content_line};
 
 /// The largest number of words of memory of all nodes together.
@@ -247,22 +247,26 @@ fn words(placement: &Placement, vars: u32) -> u64
     nodes * (objects + others)
 }
 
-/// The fault of a placement in which a pair of nodes has no route.
-fn route_fault(alloc: Global, placement: &Placement) -> Option<PlacementFault>
-    requires { IsRouted placement.now }
-    ensures none { IfNone result (without_route placement.now ≡ None) }
-    ensures some { IfSome result (λ f. ReportsFault f (fault_in (connected (without_route placement.now) placement.now))) }
+/// Makes the routes of a placement. Reports the first pair of nodes that has no route, or out of memory.
+fn routed(alloc: Global, placement: Placement) -> Result<RoutedPlacement, PlacementFault>
+    requires { IsRouted placement }
+    ensures ok { IfOk result (λ p. (p ≡ placement) × (without_route placement ≡ None)) }
+    ensures err { IfErr result (λ f. ReportsFault f (fault_in (connected (without_route placement) placement))) }
 {
-    match Table::make(alloc, placement) {
-        Ok(_) => None,
-        Err(TableFault::NoRoute { from, to }) => Some(PlacementFault::NoRoute { from, to }),
-        Err(TableFault::Memory) => Some(PlacementFault::Memory),
+    match RoutedPlacement::make(alloc, placement) {
+        Ok(routed) => Ok(routed),
+        Err(TableFault::NoRoute { from, to }) => Err(PlacementFault::NoRoute { from, to }),
+        Err(TableFault::Memory) => Err(PlacementFault::Memory),
     }
 }
 
-/// Parses a placement, of at most 67,108,864 bytes, for the classes of a unit. Returns the placement, which fits the
-/// unit, or the first fault of the text, or `Memory` if memory runs out.
-pub fn read_placement(alloc: Global, bytes: &[u8], unit: &Unit) -> Result<Placement, PlacementFault>
+/// Parses a placement, of at most 67,108,864 bytes, for the classes of a unit, and makes its routes. Returns the first
+/// fault of the text, or `Memory` if memory runs out.
+pub fn read_routed(
+    alloc: Global,
+    bytes: &[u8],
+    unit: &Unit,
+) -> Result<RoutedPlacement, PlacementFault>
     requires { length bytes.now ≤ 67108864 }
     ensures ok { IfOk result (λ p. placement_of unit.now bytes.now ≡ Ok p) }
     ensures suits { IfOk result (λ p. Suits p unit.now) }
@@ -286,8 +290,22 @@ pub fn read_placement(alloc: Global, bytes: &[u8], unit: &Unit) -> Result<Placem
     if words > MOST_WORDS {
         return Err(PlacementFault::TooLarge { words });
     }
-    match route_fault(alloc, &placement) {
-        Some(fault) => Err(fault),
-        None => Ok(placement),
+    match routed(alloc, placement) {
+        Ok(routed) => Ok(routed),
+        Err(fault) => Err(fault),
+    }
+}
+
+/// Parses a placement, of at most 67,108,864 bytes, for the classes of a unit. Returns the placement, which fits the
+/// unit, or the first fault of the text, or `Memory` if memory runs out.
+pub fn read_placement(alloc: Global, bytes: &[u8], unit: &Unit) -> Result<Placement, PlacementFault>
+    requires { length bytes.now ≤ 67108864 }
+    ensures ok { IfOk result (λ p. placement_of unit.now bytes.now ≡ Ok p) }
+    ensures suits { IfOk result (λ p. Suits p unit.now) }
+    ensures err { IfErr result (λ f. ReportsFault f (fault_in (placement_of unit.now bytes.now))) }
+{
+    match read_routed(alloc, bytes, unit) {
+        Ok(routed) => Ok(routed.into_placement()),
+        Err(fault) => Err(fault),
     }
 }

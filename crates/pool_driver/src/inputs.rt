@@ -11,12 +11,12 @@ use crate::program::code_of;
 use crate::unit_reader::read_unit as read_verified;
 use code_semantics::Unit;
 use command_inputs::{Fault, Input, InputError, UnitFault, read_input, read_parsed, read_program};
-use placement_reader::{PlacementFault, read_placement};
+use placement_reader::{PlacementFault, read_routed};
 use pool_outside::Files;
 use run_loop::Loaded;
-use run_types::Placement;
 use schedule_reader::{Schedule, ScheduleFault, read_schedule};
 use std::alloc::Global;
+use table_routing::RoutedPlacement;
 
 /// The input error for a fault of a placement.
 fn placement_stop(fault: PlacementFault) -> InputError
@@ -71,14 +71,14 @@ pub fn read_file<F: Files>(alloc: Global, files: &mut F, name: &str) -> Result<U
     judge_unit(alloc, &text)
 }
 
-/// Reads the placement of a unit. Reports the first fault of the text, a failed read, or out of memory.
-/// Requires that the file may be opened.
+/// Reads the placement of a unit, and makes its routes. Reports the first fault of the text, a failed read, or out of
+/// memory. Requires that the file may be opened.
 pub fn read_placed<F: Files>(
     alloc: Global,
     files: &mut F,
     name: &str,
     unit: &Unit,
-) -> Result<Placement, InputError>
+) -> Result<RoutedPlacement, InputError>
     requires allowed { IsTrue (F.may files.old (F.opens files.old) name.now) }
     requires countable { F.opens files.old < 2 ^ 64 - 1 }
     ensures { ReadsInput (opening F.told F.may F.opens F.given F.live F.faults files.old files.new) Input.Placement name.now (IsAcceptedPlacement unit.now) (HasPlacementFault unit.now) (IsPlacedAs unit.now) result }
@@ -96,7 +96,7 @@ pub fn read_scheduled<F: Files>(
     alloc: Global,
     files: &mut F,
     name: &str,
-    placement: &Placement,
+    placement: &RoutedPlacement,
 ) -> Result<Schedule, InputError>
     requires allowed { IsTrue (F.may files.old (F.opens files.old) name.now) }
     requires countable { F.opens files.old < 2 ^ 64 - 1 }
@@ -166,12 +166,12 @@ fn judge_program(alloc: Global, bytes: &[u8]) -> Result<Unit, InputError>
     code_of(alloc, &parsed)
 }
 
-/// Reads the text of a placement of a unit. At most 1 MiB of bytes.
-fn judge_placement(alloc: Global, bytes: &[u8], unit: &Unit) -> Result<Placement, InputError>
+/// Reads the text of a placement of a unit, and makes its routes. At most 1 MiB of bytes.
+fn judge_placement(alloc: Global, bytes: &[u8], unit: &Unit) -> Result<RoutedPlacement, InputError>
     requires { length bytes.now ≤ 1048576 }
     ensures { Judges Input.Placement (IsAcceptedPlacement unit.now) (HasPlacementFault unit.now) (IsPlacedAs unit.now) bytes.now result }
 {
-    match read_placement(alloc, bytes, unit) {
+    match read_routed(alloc, bytes, unit) {
         Ok(placement) => Ok(placement),
         Err(fault) => Err(placement_stop(fault)),
     }
@@ -181,14 +181,14 @@ fn judge_placement(alloc: Global, bytes: &[u8], unit: &Unit) -> Result<Placement
 fn judge_schedule(
     alloc: Global,
     bytes: &[u8],
-    placement: &Placement,
+    placement: &RoutedPlacement,
 ) -> Result<Schedule, InputError>
     requires small { length bytes.now ≤ 1048576 }
     requires width { (1 ≤ placement.now.width) × (placement.now.width ≤ 8) }
     requires height { (1 ≤ placement.now.height) × (placement.now.height ≤ 8) }
     ensures { Judges Input.Schedule (IsAcceptedSchedule placement.now) (HasScheduleFault placement.now) (IsScheduledAs placement.now) bytes.now result }
 {
-    match read_schedule(alloc, bytes, placement) {
+    match read_schedule(alloc, bytes, placement.placement()) {
         Ok(schedule) => Ok(schedule),
         Err(fault) => Err(schedule_stop(fault)),
     }

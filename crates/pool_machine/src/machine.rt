@@ -7,7 +7,6 @@ ghost use Rattle.code_semantics.specs.Suits.{Suits};
 ghost use Rattle.mesh_semantics.specs.Config.{Config};
 ghost use Rattle.mesh_semantics.specs.Delay.{Delay};
 ghost use Rattle.mesh_semantics.specs.Act.{act, is_quiet, object_count};
-ghost use Rattle.run_types.specs.RoutedPlacements.{IsRouted};
 ghost use Rattle.mesh_semantics.specs.Record.{last_place, root_node};
 ghost use Rattle.mesh_of_code.specs.Coded.{Placed, coded};
 ghost use Rattle.pool_node.specs.Acts.{told_standing};
@@ -31,7 +30,7 @@ use std::marker::Model;
 use table_routing::Table;
 
 /// The machine of a unit on the nodes of a placement, with the links between them. Contracts speak of every sound
-/// configuration of code, with its delay, that the machine represents. Only `make` allocates.
+/// configuration of code, with its delay, that the machine represents. Only `make` and `on_table` allocate.
 #[derive(Drop)]
 pub struct Machine<'a> {
     plan: Plan<'a>,
@@ -99,17 +98,6 @@ fn root_of(places: &[Place]) -> u32
     }
 }
 
-/// The routing table of a placement in which each pair of nodes has a route.
-fn table_of<'a>(alloc: Global, placement: &'a Placement) -> Result<Table<'a>, AllocError>
-    requires { IsRouted placement.now }
-    ensures { IfOk result (λ t. t ≡ placement.now) }
-{
-    match Table::make(alloc, placement) {
-        Ok(table) => Ok(table),
-        Err(_) => Err(AllocError),
-    }
-}
-
 /// The outcome of an event and its output buffer, as one value.
 fn outcome_told(told: EventOutcome, event: Event, room: &StepOutput) -> Outcome
     ensures { answer_seen result ≡ answer_of told event room.now.what }
@@ -141,6 +129,25 @@ impl<'a> Machine<'a> {
         requires suits { Suits placement.now unit.now }
         ensures { IfOk result (λ m. IsStart unit.now placement.now lossy m) }
     {
+        match Table::make(alloc, placement) {
+            Ok(table) => Machine::on_table(alloc, unit, table, lossy),
+            Err(_) => Err(OpenFault::Memory),
+        }
+    }
+
+    /// Makes a machine as `make` does, for the placement of a routing table and with its routes. Requires a proper unit
+    /// that fits the placement. Returns `Memory` if memory runs out.
+    pub fn on_table(
+        alloc: Global,
+        unit: &'a Unit,
+        table: Table<'a>,
+        lossy: bool,
+    ) -> Result<Machine<'a>, OpenFault>
+        requires proper { IsProper unit.now }
+        requires suits { Suits table unit.now }
+        ensures { IfOk result (λ m. IsStart unit.now table.entry lossy m) }
+    {
+        let placement = table.placement();
         let mesh = Mesh::make(placement.width, placement.height);
         let Ok(mut nodes) = all_nodes(alloc, unit, placement) else {
             return Err(OpenFault::Memory);
@@ -149,9 +156,6 @@ impl<'a> Machine<'a> {
             return Err(OpenFault::Memory);
         };
         let Ok(wires) = make_wires(alloc, &mesh, lossy) else {
-            return Err(OpenFault::Memory);
-        };
-        let Ok(table) = table_of(alloc, placement) else {
             return Err(OpenFault::Memory);
         };
         let root = root_of(placement.places.items());

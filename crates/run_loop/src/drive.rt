@@ -146,7 +146,7 @@ pub fn make_table(alloc: Global, loaded: &Loaded) -> Result<Asks, AllocError>
     requires { IsLoaded loaded.now.unit loaded.now.placement loaded.now.schedule }
     ensures { IfOk result (λ a. IsTableOf loaded.now.placement a []) }
 {
-    let placement = &loaded.placement;
+    let placement = loaded.placement.placement();
     Asks::make(alloc, placement.width * placement.height, placement.objects)
 }
 

@@ -16,6 +16,7 @@ use pool_machine::{Machine, OpenFault};
 use pool_outside::{Sink, WriteFault, write_all_of};
 use run_types::{Line, Names};
 use std::alloc::{AllocError, Global};
+use table_routing::Table;
 
 /// A machine after its run, and the end of the run.
 #[derive(Drop)]
@@ -40,7 +41,8 @@ fn run_loaded<'a, K: Sink>(
         Err(AllocError) => return Err(Status::Memory),
     };
     let lossy = loaded.schedule.lossy();
-    match Machine::make(alloc, &loaded.unit, &loaded.placement, lossy) {
+    let table = Table::of(&loaded.placement);
+    match Machine::on_table(alloc, &loaded.unit, table, lossy) {
         Ok(mut machine) => match drive(
             &mut machine,
             &mut asks,
@@ -79,7 +81,7 @@ pub fn write_why<K: Sink>(alloc: Global, out: &mut K, loaded: &Loaded) -> Status
         Ok(ran) => write_report(
             alloc,
             &ran.machine,
-            &loaded.placement,
+            loaded.placement.placement(),
             &loaded.unit.names,
             ran.last,
             out,

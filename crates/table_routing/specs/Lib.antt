@@ -1,3 +1,4 @@
 -- Internal: what it does not.
 pub mod Tables
+pub mod RoutesOf
 pub mod TableInvariant

@@ -4,7 +4,11 @@
 #![tactic(auto)]
 
 mod fault;
+mod held;
+mod routed;
+mod routes;
 mod table;
 
 pub use fault::TableFault;
+pub use routed::RoutedPlacement;
 pub use table::Table;

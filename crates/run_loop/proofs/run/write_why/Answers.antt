@@ -1,4 +1,4 @@
-use Rattle.std.proofs.Common.{refl, sym, ap, subst}
+use Rattle.std.proofs.Common.{◌∙◌, refl, sym, ap, subst}
 use Rattle.run_types.specs.declared.types.Placement.{Placement}
 use Rattle.code_semantics.specs.declared.unit.Unit.{Unit as Code}
 use Rattle.code_semantics.specs.Proper.{IsProper}
@@ -19,7 +19,7 @@ write_report-requires-clause-suits g c =
     subst (λ (x : Placement). Suits x c.in-Ok.ran.machine.unit) (sym w.2.placement) (subst (Suits c.args.loaded.now.placement) (sym w.2.unit) c.requires.suits)
 
 pub write_report-requires-clause-same : goal.write_report-requires-clause-same
-write_report-requires-clause-same g c = let w = was_driven c.args.loaded.now Sh.Report _ c.in-Ok.ran c.in-Ok.ensures in sym w.2.placement
+write_report-requires-clause-same g c = let w = was_driven c.args.loaded.now Sh.Report _ c.in-Ok.ran c.in-Ok.ensures in c.placement.ensures ∙ sym w.2.placement
 
 pub write_report-requires-clause-table : goal.write_report-requires-clause-table
 write_report-requires-clause-table g c =

@@ -1,107 +1,12 @@
-use Rattle.std.proofs.Common.{◌≡◌, ◌<◌, List, [], refl, sym, ap, ap₂, ◌*◌, subst, ◌∙◌, length, set, arith}
-use Rattle.run_types.specs.declared.types.Place.{Place}
-use Rattle.mesh_semantics.specs.Record.{last_place, root_node}
-use Rattle.node_semantics.specs.Node.{NodeState}
-use Rattle.node_semantics.specs.Machine.{is_machine_quiet}
-use Rattle.mesh_of_code.specs.Coded.{Placed, coded}
-use Rattle.mesh_of_code.proofs.Laws.{code_fits, code_start_sound}
-use Rattle.rendezvous_protocol.specs.declared.packet.Packet.{Packet}
-use Rattle.mesh_routing.specs.Links.{LinksOf}
-use Rattle.node_state.specs.NodeOf.{NodeOf}
-use Rattle.pool_machine.specs.Parts.{AreOfUnit}
-use Rattle.pool_machine.proofs.ChangedNodes.{are_of_unit, element}
-use Rattle.pool_machine.specs.OnWires.{machine_on, wires_in}
-use Rattle.pool_machine.proofs.NewWires.{made_lossy, sound_start}
-use Rattle.pool_machine.proofs.StartOfMachines.{counts_start, entered_start, root_inside, stands_start, wired_start}
+use Rattle.std.proofs.Common.{sym, subst}
+use Rattle.std.specs.Prelude.{IfOk}
+use Rattle.run_types.specs.declared.types.Placement.{Placement}
+use Rattle.code_semantics.specs.Suits.{Suits}
+use Rattle.pool_machine.specs.Answers.{IsStart}
 use Rattle.pool_machine.proofs.machine.Machine.make.Goals as goal
 
-pub index_mut-requires : goal.index_mut-requires
-index_mut-requires c =
-    let root : c.root_of-root.result ≡ root_node (last_place c.args.placement.now.places) = c.root_of-root.ensures ∙ ap (λ (ps : List Place). root_node (last_place ps)) c.items.ensures in
-    let below : c.root_of-root.result < length c.in-Ok.nodes.items =
-    subst (λ i. i < length c.in-Ok.nodes.items) (sym root) (subst (λ n. root_node (last_place c.args.placement.now.places) < n) (sym c.in-Ok.ensures.count) (root_inside c.args.unit.now c.args.placement.now c.requires.suits)) in
-    subst (λ n. c.root_of-root.result < n) (sym c.in-Ok.nodes.ok.0) below
+pub on_table-requires-clause-suits : goal.on_table-requires-clause-suits
+on_table-requires-clause-suits c = subst (λ (p : Placement). Suits p c.args.unit.now) (sym c.in-Ok.ensures.ok.0) c.requires.suits
 
-pub start_root-requires-clause-unit : goal.start_root-requires-clause-unit
-start_root-requires-clause-unit c =
-    let root : c.root_of-root.result ≡ root_node (last_place c.args.placement.now.places) = c.root_of-root.ensures ∙ ap (λ (ps : List Place). root_node (last_place ps)) c.items.ensures in
-    let below : c.root_of-root.result < length c.in-Ok.nodes.items =
-    subst (λ i. i < length c.in-Ok.nodes.items) (sym root) (subst (λ n. root_node (last_place c.args.placement.now.places) < n) (sym c.in-Ok.ensures.count) (root_inside c.args.unit.now c.args.placement.now c.requires.suits)) in
-    let here = element c.in-Ok.nodes.items c.root_of-root.result c.index_mut.result.now below c.index_mut.ensures.value in
-    let node = c.in-Ok.ensures.each c.root_of-root.result c.index_mut.result.now here in
-    node.node.of_unit
-
-pub start_root-requires-clause-empty : goal.start_root-requires-clause-empty
-start_root-requires-clause-empty c =
-    let root : c.root_of-root.result ≡ root_node (last_place c.args.placement.now.places) = c.root_of-root.ensures ∙ ap (λ (ps : List Place). root_node (last_place ps)) c.items.ensures in
-    let below : c.root_of-root.result < length c.in-Ok.nodes.items =
-    subst (λ i. i < length c.in-Ok.nodes.items) (sym root) (subst (λ n. root_node (last_place c.args.placement.now.places) < n) (sym c.in-Ok.ensures.count) (root_inside c.args.unit.now c.args.placement.now c.requires.suits)) in
-    let here = element c.in-Ok.nodes.items c.root_of-root.result c.index_mut.result.now below c.index_mut.ensures.value in
-    let node = c.in-Ok.ensures.each c.root_of-root.result c.index_mut.result.now here in
-    ap (λ (x : NodeState Placed). x.slots) node.state
-
-pub is_quiet_now-quiet-requires-clause-units : goal.is_quiet_now-quiet-requires-clause-units
-is_quiet_now-quiet-requires-clause-units c =
-    let root : c.root_of-root.result ≡ root_node (last_place c.args.placement.now.places) = c.root_of-root.ensures ∙ ap (λ (ps : List Place). root_node (last_place ps)) c.items.ensures in
-    let below : c.root_of-root.result < length c.in-Ok.nodes.items =
-    subst (λ i. i < length c.in-Ok.nodes.items) (sym root) (subst (λ n. root_node (last_place c.args.placement.now.places) < n) (sym c.in-Ok.ensures.count) (root_inside c.args.unit.now c.args.placement.now c.requires.suits)) in
-    let here = element c.in-Ok.nodes.items c.root_of-root.result c.index_mut.result.now below c.index_mut.ensures.value in
-    let y = c.start_root.ensures.root in
-    let width : c.in-Ok-make.links.width ≡ c.args.placement.now.width = ap (λ (z : LinksOf Packet). z.width) c.in-Ok-make.ensures ∙ c.make-mesh.ensures.width in
-    let height : c.in-Ok-make.links.height ≡ c.args.placement.now.height = ap (λ (z : LinksOf Packet). z.height) c.in-Ok-make.ensures ∙ c.make-mesh.ensures.height in
-    let cells : c.in-Ok-make.links.cells ≡ c.args.placement.now.cells = ap (λ (z : LinksOf Packet). z.cells) c.in-Ok-make.ensures in
-    let empty : c.in-Ok-make.links.links ≡ [] = ap (λ (z : LinksOf Packet). z.links) c.in-Ok-make.ensures in
-    let kept = wired_start c.args.unit.now c.args.placement.now c.requires.proper c.requires.suits c.in-Ok.nodes.items c.in-Ok.ensures c.root_of-root.result root c.index_mut.result.now here y.0 y.1 c.start_root.new.self y.2 c.start_root.ensures.unit c.in-Ok-make.links width height cells empty
-    c.args.lossy (wires_in c.in-Ok-make_wires.wires) c.make-mesh.result.width (c.make-mesh.result.width * c.make-mesh.result.height) c.make-mesh.ensures.width (ap₂ (λ w h. w * h) c.make-mesh.ensures.width c.make-mesh.ensures.height) c.in-Ok-make_wires.ensures in
-    subst (AreOfUnit c.args.unit.now) (sym c.as_slice.ensures.value)
-    (are_of_unit c.args.unit.now c.args.placement.now (set c.in-Ok.nodes.items c.root_of-root.result c.start_root.new.self) c.in-Ok-make.links kept.parts)
-
-pub invariant_of-result : goal.invariant_of-result
-invariant_of-result c =
-    let root : c.root_of-root.result ≡ root_node (last_place c.args.placement.now.places) = c.root_of-root.ensures ∙ ap (λ (ps : List Place). root_node (last_place ps)) c.items.ensures in
-    let below : c.root_of-root.result < length c.in-Ok.nodes.items =
-    subst (λ i. i < length c.in-Ok.nodes.items) (sym root) (subst (λ n. root_node (last_place c.args.placement.now.places) < n) (sym c.in-Ok.ensures.count) (root_inside c.args.unit.now c.args.placement.now c.requires.suits)) in
-    let here = element c.in-Ok.nodes.items c.root_of-root.result c.index_mut.result.now below c.index_mut.ensures.value in
-    let y = c.start_root.ensures.root in
-    let width : c.in-Ok-make.links.width ≡ c.args.placement.now.width = ap (λ (z : LinksOf Packet). z.width) c.in-Ok-make.ensures ∙ c.make-mesh.ensures.width in
-    let height : c.in-Ok-make.links.height ≡ c.args.placement.now.height = ap (λ (z : LinksOf Packet). z.height) c.in-Ok-make.ensures ∙ c.make-mesh.ensures.height in
-    let cells : c.in-Ok-make.links.cells ≡ c.args.placement.now.cells = ap (λ (z : LinksOf Packet). z.cells) c.in-Ok-make.ensures in
-    let empty : c.in-Ok-make.links.links ≡ [] = ap (λ (z : LinksOf Packet). z.links) c.in-Ok-make.ensures in
-    record {
-      mesh = record { width = c.make-mesh.ensures.width; height = c.make-mesh.ensures.height };
-      table = c.in-Ok-table_of.ensures;
-      kept = wired_start c.args.unit.now c.args.placement.now c.requires.proper c.requires.suits c.in-Ok.nodes.items c.in-Ok.ensures c.root_of-root.result root c.index_mut.result.now here y.0 y.1 c.start_root.new.self y.2 c.start_root.ensures.unit c.in-Ok-make.links width height cells empty
-          c.args.lossy (wires_in c.in-Ok-make_wires.wires) c.make-mesh.result.width (c.make-mesh.result.width * c.make-mesh.result.height) c.make-mesh.ensures.width (ap₂ (λ w h. w * h) c.make-mesh.ensures.width c.make-mesh.ensures.height) c.in-Ok-make_wires.ensures;
-      quiet = c.is_quiet_now-quiet.ensures ∙ ap (λ (ns : List NodeOf). is_machine_quiet (coded c.args.unit.now) (machine_on ns c.in-Ok-make.links.links (wires_in c.in-Ok-make_wires.wires))) c.as_slice.ensures.value;
-      counts = counts_start c.args.unit.now c.args.placement.now c.requires.proper c.requires.suits c.in-Ok.nodes.items c.in-Ok.ensures c.root_of-root.result root c.index_mut.result.now here y.0 y.1 c.start_root.new.self y.2 c.start_root.ensures.unit c.in-Ok-make.links width height cells empty;
-      entered = entered_start c.args.unit.now c.args.placement.now c.requires.proper c.requires.suits c.in-Ok.nodes.items c.in-Ok.ensures c.root_of-root.result root c.index_mut.result.now here y.0 y.1 c.start_root.new.self y.2 c.start_root.ensures.unit c.in-Ok-make.links width height cells empty
-          c.args.lossy (wires_in c.in-Ok-make_wires.wires) c.make-mesh.result.width (c.make-mesh.result.width * c.make-mesh.result.height) c.make-mesh.ensures.width (ap₂ (λ w h. w * h) c.make-mesh.ensures.width c.make-mesh.ensures.height) c.in-Ok-make_wires.ensures;
-      moves = omega arith;
-      transitions = omega arith;
-    }
-
-pub returns : goal.returns
-returns c =
-    let root : c.root_of-root.result ≡ root_node (last_place c.args.placement.now.places) = c.root_of-root.ensures ∙ ap (λ (ps : List Place). root_node (last_place ps)) c.items.ensures in
-    let below : c.root_of-root.result < length c.in-Ok.nodes.items =
-    subst (λ i. i < length c.in-Ok.nodes.items) (sym root) (subst (λ n. root_node (last_place c.args.placement.now.places) < n) (sym c.in-Ok.ensures.count) (root_inside c.args.unit.now c.args.placement.now c.requires.suits)) in
-    let here = element c.in-Ok.nodes.items c.root_of-root.result c.index_mut.result.now below c.index_mut.ensures.value in
-    let y = c.start_root.ensures.root in
-    let width : c.in-Ok-make.links.width ≡ c.args.placement.now.width = ap (λ (z : LinksOf Packet). z.width) c.in-Ok-make.ensures ∙ c.make-mesh.ensures.width in
-    let height : c.in-Ok-make.links.height ≡ c.args.placement.now.height = ap (λ (z : LinksOf Packet). z.height) c.in-Ok-make.ensures ∙ c.make-mesh.ensures.height in
-    let cells : c.in-Ok-make.links.cells ≡ c.args.placement.now.cells = ap (λ (z : LinksOf Packet). z.cells) c.in-Ok-make.ensures in
-    let empty : c.in-Ok-make.links.links ≡ [] = ap (λ (z : LinksOf Packet). z.links) c.in-Ok-make.ensures in
-    record {
-      unit = refl;
-      placement = refl;
-      lossy = made_lossy c.make-mesh.result.width (c.make-mesh.result.width * c.make-mesh.result.height) c.args.lossy (wires_in c.in-Ok-make_wires.wires) c.in-Ok-make_wires.ensures;
-      done = refl;
-      moves = refl;
-      transitions = refl;
-      stands = λ e is. record {
-        sound = sound_start c.args.unit.now c.args.placement.now e c.args.lossy
-            (code_start_sound c.args.unit.now c.requires.proper c.args.placement.now (code_fits c.args.unit.now c.args.placement.now c.requires.suits) e is);
-        stands = stands_start c.args.unit.now c.args.placement.now c.requires.proper c.requires.suits c.in-Ok.nodes.items c.in-Ok.ensures c.root_of-root.result root c.index_mut.result.now here y.0 y.1 c.start_root.new.self y.2 c.start_root.ensures.unit c.in-Ok-make.links width height cells empty
-            c.args.lossy (wires_in c.in-Ok-make_wires.wires) c.make-mesh.result.width (c.make-mesh.result.width * c.make-mesh.result.height) c.make-mesh.ensures.width (ap₂ (λ w h. w * h) c.make-mesh.ensures.width c.make-mesh.ensures.height) c.in-Ok-make_wires.ensures e is;
-      };
-    }
+pub returns-in-Ok : goal.returns-in-Ok
+returns-in-Ok c = subst (λ (p : Placement). IfOk c.on_table.result (λ m. IsStart c.args.unit.now p c.args.lossy m)) c.in-Ok.ensures.ok.0 c.on_table.ensures

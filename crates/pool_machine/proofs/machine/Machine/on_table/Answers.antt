@@ -1,0 +1,121 @@
+use Rattle.std.proofs.Common.{◌≡◌, ◌<◌, List, Some, [], refl, sym, ap, ap₂, ◌*◌, subst, ◌∙◌, length, set, arith}
+use Rattle.run_types.specs.declared.types.Place.{Place}
+use Rattle.run_types.specs.declared.types.Placement.{Placement}
+use Rattle.code_semantics.specs.Suits.{Suits}
+use Rattle.mesh_semantics.specs.Record.{last_place, root_node, start}
+use Rattle.node_semantics.specs.Node.{NodeState}
+use Rattle.node_semantics.specs.Machine.{is_machine_quiet}
+use Rattle.mesh_of_code.specs.Coded.{Placed, coded}
+use Rattle.mesh_of_code.proofs.Laws.{code_fits, code_start_sound}
+use Rattle.rendezvous_protocol.specs.declared.packet.Packet.{Packet}
+use Rattle.mesh_routing.specs.Links.{LinksOf}
+use Rattle.node_state.specs.NodeOf.{NodeOf}
+use Rattle.pool_machine.specs.Parts.{AreOfUnit}
+use Rattle.pool_machine.proofs.ChangedNodes.{are_of_unit, element}
+use Rattle.pool_machine.specs.OnWires.{machine_on, wires_in}
+use Rattle.pool_machine.proofs.NewWires.{made_lossy, sound_start}
+use Rattle.pool_machine.proofs.StartOfMachines.{counts_start, entered_start, root_inside, stands_start, wired_start}
+use Rattle.pool_machine.proofs.machine.Machine.on_table.Goals as goal
+
+pub index_mut-requires : goal.index_mut-requires
+index_mut-requires c =
+    let l = c.placement-placement.result.now in
+    let suits : Suits l c.args.unit.now = subst (λ (p : Placement). Suits p c.args.unit.now) (sym c.placement-placement.ensures) c.requires.suits in
+    let root : c.root_of-root.result ≡ root_node (last_place l.places) = c.root_of-root.ensures ∙ ap (λ (ps : List Place). root_node (last_place ps)) c.items.ensures in
+    let below : c.root_of-root.result < length c.in-Ok.nodes.items =
+    subst (λ i. i < length c.in-Ok.nodes.items) (sym root) (subst (λ n. root_node (last_place l.places) < n) (sym c.in-Ok.ensures.count) (root_inside c.args.unit.now l suits)) in
+    subst (λ n. c.root_of-root.result < n) (sym c.in-Ok.nodes.ok.0) below
+
+pub start_root-requires-clause-unit : goal.start_root-requires-clause-unit
+start_root-requires-clause-unit c =
+    let l = c.placement-placement.result.now in
+    let suits : Suits l c.args.unit.now = subst (λ (p : Placement). Suits p c.args.unit.now) (sym c.placement-placement.ensures) c.requires.suits in
+    let root : c.root_of-root.result ≡ root_node (last_place l.places) = c.root_of-root.ensures ∙ ap (λ (ps : List Place). root_node (last_place ps)) c.items.ensures in
+    let below : c.root_of-root.result < length c.in-Ok.nodes.items =
+    subst (λ i. i < length c.in-Ok.nodes.items) (sym root) (subst (λ n. root_node (last_place l.places) < n) (sym c.in-Ok.ensures.count) (root_inside c.args.unit.now l suits)) in
+    let here = element c.in-Ok.nodes.items c.root_of-root.result c.index_mut.result.now below c.index_mut.ensures.value in
+    let node = c.in-Ok.ensures.each c.root_of-root.result c.index_mut.result.now here in
+    node.node.of_unit
+
+pub start_root-requires-clause-empty : goal.start_root-requires-clause-empty
+start_root-requires-clause-empty c =
+    let l = c.placement-placement.result.now in
+    let suits : Suits l c.args.unit.now = subst (λ (p : Placement). Suits p c.args.unit.now) (sym c.placement-placement.ensures) c.requires.suits in
+    let root : c.root_of-root.result ≡ root_node (last_place l.places) = c.root_of-root.ensures ∙ ap (λ (ps : List Place). root_node (last_place ps)) c.items.ensures in
+    let below : c.root_of-root.result < length c.in-Ok.nodes.items =
+    subst (λ i. i < length c.in-Ok.nodes.items) (sym root) (subst (λ n. root_node (last_place l.places) < n) (sym c.in-Ok.ensures.count) (root_inside c.args.unit.now l suits)) in
+    let here = element c.in-Ok.nodes.items c.root_of-root.result c.index_mut.result.now below c.index_mut.ensures.value in
+    let node = c.in-Ok.ensures.each c.root_of-root.result c.index_mut.result.now here in
+    ap (λ (x : NodeState Placed). x.slots) node.state
+
+pub is_quiet_now-quiet-requires-clause-units : goal.is_quiet_now-quiet-requires-clause-units
+is_quiet_now-quiet-requires-clause-units c =
+    let l = c.placement-placement.result.now in
+    let suits : Suits l c.args.unit.now = subst (λ (p : Placement). Suits p c.args.unit.now) (sym c.placement-placement.ensures) c.requires.suits in
+    let root : c.root_of-root.result ≡ root_node (last_place l.places) = c.root_of-root.ensures ∙ ap (λ (ps : List Place). root_node (last_place ps)) c.items.ensures in
+    let below : c.root_of-root.result < length c.in-Ok.nodes.items =
+    subst (λ i. i < length c.in-Ok.nodes.items) (sym root) (subst (λ n. root_node (last_place l.places) < n) (sym c.in-Ok.ensures.count) (root_inside c.args.unit.now l suits)) in
+    let here = element c.in-Ok.nodes.items c.root_of-root.result c.index_mut.result.now below c.index_mut.ensures.value in
+    let y = c.start_root.ensures.root in
+    let width : c.in-Ok-make.links.width ≡ l.width = ap (λ (z : LinksOf Packet). z.width) c.in-Ok-make.ensures ∙ c.make-mesh.ensures.width in
+    let height : c.in-Ok-make.links.height ≡ l.height = ap (λ (z : LinksOf Packet). z.height) c.in-Ok-make.ensures ∙ c.make-mesh.ensures.height in
+    let cells : c.in-Ok-make.links.cells ≡ l.cells = ap (λ (z : LinksOf Packet). z.cells) c.in-Ok-make.ensures in
+    let empty : c.in-Ok-make.links.links ≡ [] = ap (λ (z : LinksOf Packet). z.links) c.in-Ok-make.ensures in
+    let kept = wired_start c.args.unit.now l c.requires.proper suits c.in-Ok.nodes.items c.in-Ok.ensures c.root_of-root.result root c.index_mut.result.now here y.0 y.1 c.start_root.new.self y.2 c.start_root.ensures.unit c.in-Ok-make.links width height cells empty
+    c.args.lossy (wires_in c.in-Ok-make_wires.wires) c.make-mesh.result.width (c.make-mesh.result.width * c.make-mesh.result.height) c.make-mesh.ensures.width (ap₂ (λ w h. w * h) c.make-mesh.ensures.width c.make-mesh.ensures.height) c.in-Ok-make_wires.ensures in
+    subst (AreOfUnit c.args.unit.now) (sym c.as_slice.ensures.value)
+    (are_of_unit c.args.unit.now l (set c.in-Ok.nodes.items c.root_of-root.result c.start_root.new.self) c.in-Ok-make.links kept.parts)
+
+pub invariant_of-result : goal.invariant_of-result
+invariant_of-result c =
+    let l = c.placement-placement.result.now in
+    let suits : Suits l c.args.unit.now = subst (λ (p : Placement). Suits p c.args.unit.now) (sym c.placement-placement.ensures) c.requires.suits in
+    let root : c.root_of-root.result ≡ root_node (last_place l.places) = c.root_of-root.ensures ∙ ap (λ (ps : List Place). root_node (last_place ps)) c.items.ensures in
+    let below : c.root_of-root.result < length c.in-Ok.nodes.items =
+    subst (λ i. i < length c.in-Ok.nodes.items) (sym root) (subst (λ n. root_node (last_place l.places) < n) (sym c.in-Ok.ensures.count) (root_inside c.args.unit.now l suits)) in
+    let here = element c.in-Ok.nodes.items c.root_of-root.result c.index_mut.result.now below c.index_mut.ensures.value in
+    let y = c.start_root.ensures.root in
+    let width : c.in-Ok-make.links.width ≡ l.width = ap (λ (z : LinksOf Packet). z.width) c.in-Ok-make.ensures ∙ c.make-mesh.ensures.width in
+    let height : c.in-Ok-make.links.height ≡ l.height = ap (λ (z : LinksOf Packet). z.height) c.in-Ok-make.ensures ∙ c.make-mesh.ensures.height in
+    let cells : c.in-Ok-make.links.cells ≡ l.cells = ap (λ (z : LinksOf Packet). z.cells) c.in-Ok-make.ensures in
+    let empty : c.in-Ok-make.links.links ≡ [] = ap (λ (z : LinksOf Packet). z.links) c.in-Ok-make.ensures in
+    record {
+      mesh = record { width = c.make-mesh.ensures.width; height = c.make-mesh.ensures.height };
+      table = sym c.placement-placement.ensures;
+      kept = wired_start c.args.unit.now l c.requires.proper suits c.in-Ok.nodes.items c.in-Ok.ensures c.root_of-root.result root c.index_mut.result.now here y.0 y.1 c.start_root.new.self y.2 c.start_root.ensures.unit c.in-Ok-make.links width height cells empty
+          c.args.lossy (wires_in c.in-Ok-make_wires.wires) c.make-mesh.result.width (c.make-mesh.result.width * c.make-mesh.result.height) c.make-mesh.ensures.width (ap₂ (λ w h. w * h) c.make-mesh.ensures.width c.make-mesh.ensures.height) c.in-Ok-make_wires.ensures;
+      quiet = c.is_quiet_now-quiet.ensures ∙ ap (λ (ns : List NodeOf). is_machine_quiet (coded c.args.unit.now) (machine_on ns c.in-Ok-make.links.links (wires_in c.in-Ok-make_wires.wires))) c.as_slice.ensures.value;
+      counts = counts_start c.args.unit.now l c.requires.proper suits c.in-Ok.nodes.items c.in-Ok.ensures c.root_of-root.result root c.index_mut.result.now here y.0 y.1 c.start_root.new.self y.2 c.start_root.ensures.unit c.in-Ok-make.links width height cells empty;
+      entered = entered_start c.args.unit.now l c.requires.proper suits c.in-Ok.nodes.items c.in-Ok.ensures c.root_of-root.result root c.index_mut.result.now here y.0 y.1 c.start_root.new.self y.2 c.start_root.ensures.unit c.in-Ok-make.links width height cells empty
+          c.args.lossy (wires_in c.in-Ok-make_wires.wires) c.make-mesh.result.width (c.make-mesh.result.width * c.make-mesh.result.height) c.make-mesh.ensures.width (ap₂ (λ w h. w * h) c.make-mesh.ensures.width c.make-mesh.ensures.height) c.in-Ok-make_wires.ensures;
+      moves = omega arith;
+      transitions = omega arith;
+    }
+
+pub returns : goal.returns
+returns c =
+    let l = c.placement-placement.result.now in
+    let suits : Suits l c.args.unit.now = subst (λ (p : Placement). Suits p c.args.unit.now) (sym c.placement-placement.ensures) c.requires.suits in
+    let root : c.root_of-root.result ≡ root_node (last_place l.places) = c.root_of-root.ensures ∙ ap (λ (ps : List Place). root_node (last_place ps)) c.items.ensures in
+    let below : c.root_of-root.result < length c.in-Ok.nodes.items =
+    subst (λ i. i < length c.in-Ok.nodes.items) (sym root) (subst (λ n. root_node (last_place l.places) < n) (sym c.in-Ok.ensures.count) (root_inside c.args.unit.now l suits)) in
+    let here = element c.in-Ok.nodes.items c.root_of-root.result c.index_mut.result.now below c.index_mut.ensures.value in
+    let y = c.start_root.ensures.root in
+    let width : c.in-Ok-make.links.width ≡ l.width = ap (λ (z : LinksOf Packet). z.width) c.in-Ok-make.ensures ∙ c.make-mesh.ensures.width in
+    let height : c.in-Ok-make.links.height ≡ l.height = ap (λ (z : LinksOf Packet). z.height) c.in-Ok-make.ensures ∙ c.make-mesh.ensures.height in
+    let cells : c.in-Ok-make.links.cells ≡ l.cells = ap (λ (z : LinksOf Packet). z.cells) c.in-Ok-make.ensures in
+    let empty : c.in-Ok-make.links.links ≡ [] = ap (λ (z : LinksOf Packet). z.links) c.in-Ok-make.ensures in
+    record {
+      unit = refl;
+      placement = c.placement-placement.ensures;
+      lossy = made_lossy c.make-mesh.result.width (c.make-mesh.result.width * c.make-mesh.result.height) c.args.lossy (wires_in c.in-Ok-make_wires.wires) c.in-Ok-make_wires.ensures;
+      done = refl;
+      moves = refl;
+      transitions = refl;
+      stands = λ e told. let is = subst (λ (p : Placement). start (coded c.args.unit.now) p ≡ Some e) (sym c.placement-placement.ensures) told in record {
+        sound = sound_start c.args.unit.now l e c.args.lossy
+            (code_start_sound c.args.unit.now c.requires.proper l (code_fits c.args.unit.now l suits) e is);
+        stands = stands_start c.args.unit.now l c.requires.proper suits c.in-Ok.nodes.items c.in-Ok.ensures c.root_of-root.result root c.index_mut.result.now here y.0 y.1 c.start_root.new.self y.2 c.start_root.ensures.unit c.in-Ok-make.links width height cells empty
+            c.args.lossy (wires_in c.in-Ok-make_wires.wires) c.make-mesh.result.width (c.make-mesh.result.width * c.make-mesh.result.height) c.make-mesh.ensures.width (ap₂ (λ w h. w * h) c.make-mesh.ensures.width c.make-mesh.ensures.height) c.in-Ok-make_wires.ensures e is;
+      };
+    }
